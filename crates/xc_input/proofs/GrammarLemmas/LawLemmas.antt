@@ -17,7 +17,7 @@ use Rattle.xc_input.proofs.GrammarLemmas.SheetGrammar.{AreItems, AreOthers}
 use Rattle.xc_input.specs.Limits.{most_items}
 use Rattle.xc_input.specs.Text.{IsEntry}
 use Rattle.std.specs.List.{AllZip, before_first, after_first}
-use Rattle.xc_input.proofs.OptionLemmas.Uses.{UsesBehind}
+use Rattle.xc_input.proofs.OptionLemmas.Uses.{AreFresh}
 use Rattle.std.proofs.lemmas.Bool.Decides.{nat_tests}
 use Rattle.std.proofs.lemmas.List.{append-nil, length-map}
 use Rattle.std.specs.List.{list_any}
@@ -279,32 +279,26 @@ module _ (kind : Kind) (names : List (List ℕ)) (primaries : ℕ) (seen token :
       grind (arith, nat_tests, cut-at COLON name u.colour n.no_colon, use-parts name i u n p q)
 
 -- tokens with no fault are uses
-pub uses-good : (kind : Kind) (names : List (List ℕ)) (primaries : ℕ) (seen : List ℕ) (ts : List (List ℕ))
-    → first (option_checks (context kind names primaries) seen ts) ≡ None
-    → UsesBehind (context kind names primaries) seen ts (map (written names) ts)
-uses-good kind names primaries seen [] e = refl
-uses-good kind names primaries seen (t ∷ ts) e =
-    grind (
-      arith,
-      nat_tests,
-      uses-good kind names primaries (seen ++ item_number names (before COLON t) ∷ []) ts,
-      split (token_checks (context kind names primaries) seen t)
-          (option_checks (context kind names primaries) (seen ++ item_number names (before COLON t) ∷ []) ts) e,
-      use-good kind names primaries seen t,
-    )
+pub uses-good : (c : Context) (seen : List ℕ) (ts : List (List ℕ)) → first (option_checks c seen ts) ≡ None
+    → AllZip (IsUse c) ts (map (written c.names) ts) × AreFresh seen (map (written c.names) ts)
+uses-good c seen [] e = (tt, tt)
+uses-good c seen (t ∷ ts) e =
+    let later = seen ++ item_number c.names (before COLON t) ∷ [] in
+    let s = split (token_checks c seen t) (option_checks c later ts) e in
+    let u = use-good c.kind c.names c.primaries seen t s.0 in
+    let r = uses-good c later ts s.1 in ((u.0, r.0), (u.1, r.1))
 
-pub good-uses : (kind : Kind) (names : List (List ℕ)) (primaries : ℕ) (seen : List ℕ) (ts : List (List ℕ))
-    (us : List Written) → UsesBehind (context kind names primaries) seen ts us → (us ≡ map (written names) ts)
-    × (first (option_checks (context kind names primaries) seen ts) ≡ None)
-good-uses kind names primaries seen [] us h = (h, refl)
-good-uses kind names primaries seen (t ∷ ts) us h =
-    grind (
-      arith,
-      nat_tests,
-      good-uses kind names primaries (seen ++ item_number names (before COLON t) ∷ []) ts h.1,
-      good-use kind names primaries seen t h.0 h.3 h.4,
-      first-all (token_checks (context kind names primaries) seen t)
-          (option_checks (context kind names primaries) (seen ++ item_number names (before COLON t) ∷ []) ts),
+pub good-uses : (c : Context) (seen : List ℕ) (ts : List (List ℕ)) (us : List Written) → AllZip (IsUse c) ts us
+    → AreFresh seen us → (us ≡ map (written c.names) ts) × (first (option_checks c seen ts) ≡ None)
+good-uses c seen [] [] z f = (refl, refl)
+good-uses c seen [] (u ∷ us) z f = absurd z
+good-uses c seen (t ∷ ts) [] z f = absurd z
+good-uses c seen (t ∷ ts) (u ∷ us) z f =
+    let g = good-use c.kind c.names c.primaries seen t u z.0 f.0 in
+    let r = good-uses c (seen ++ u.item ∷ []) ts us z.1 f.1 in (
+      λ i. g.0 i ∷ r.0 i,
+      first-all (token_checks c seen t) (option_checks c (seen ++ (written c.names t).item ∷ []) ts) g.1
+          (ap (λ (v : Written). first (option_checks c (seen ++ v.item ∷ []) ts)) (sym g.0) ∙ r.1),
     )
 
 -- THE LINES

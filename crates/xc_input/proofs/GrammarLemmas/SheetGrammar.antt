@@ -1,5 +1,5 @@
 -- The grammar line by line, as a text is read: what was read before a line goes on to the next.
-use Rattle.std.specs.Prelude.{◌≡◌, ◌≢◌, ℕ, ◌-◌, ◌≤◌, map, length, List, true, false, AllPairs, take}
+use Rattle.std.specs.Prelude.{◌≡◌, ℕ, ◌-◌, ◌≤◌, map, length, List, true, false, take}
 use Rattle.std.specs.Prelude.{◌+◌, ◌++◌, Some}
 use Rattle.std.specs.List.{AllZip, before_first, after_first}
 use Rattle.xc_input.specs.declared.kind.Kind.{Kind}
@@ -8,11 +8,10 @@ use Rattle.xc_input.specs.Problem.{Puzzle}
 use Rattle.xc_input.specs.inner.Stages.{Row}
 use Rattle.xc_input.proofs.OptionLemmas.Items.{AllNew}
 use Rattle.xc_input.specs.Limits.{most_items}
-use Rattle.xc_input.specs.Tokens.{tokens, is_bar}
-use Rattle.xc_input.specs.Sheets.{Entry, Written}
+use Rattle.xc_input.specs.Tokens.{is_bar}
+use Rattle.xc_input.specs.Sheets.{Entry}
 use Rattle.xc_input.specs.Named.{Named}
-use Rattle.xc_input.specs.Faults.{Context}
-use Rattle.xc_input.specs.Text.{IsEntry, IsUse}
+use Rattle.xc_input.specs.Text.{IsEntry}
 use Rattle.xc_input.specs.inner.Sheets.{Sheet, names_of}
 
 -- the problem of a sheet
@@ -41,7 +40,3 @@ pub record AreOthers (kind : Kind) (earlier : List Entry) (parts : List (List �
   pub secondary : AllZip (IsEntry kind true) parts others
   pub new : AllNew (names_of earlier) (names_of others)
   pub few : length earlier + length others ≤ most_items
-
--- tokens stand for uses, each of an item of its own
-abbrev pub AreUses : Context → List (List ℕ) → List Written → Type 0
-AreUses c tokens us = AllZip (IsUse c) tokens us × AllPairs (λ u v. u.item ≢ v.item) us

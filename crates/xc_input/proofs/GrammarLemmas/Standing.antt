@@ -24,7 +24,7 @@ use Rattle.xc_input.proofs.GrammarLemmas.LawLemmas.{with_kept, stage_by, AreClea
 use Rattle.xc_input.proofs.GrammarLemmas.LawLemmas.{uses-good, good-uses}
 use Rattle.xc_input.proofs.FaultLemmas.Checks.{names_of-length}
 use Rattle.xc_input.proofs.OptionLemmas.Items.{all-new, new-distinct}
-use Rattle.xc_input.proofs.OptionLemmas.Uses.{uses-behind, behind-uses}
+use Rattle.xc_input.proofs.OptionLemmas.Uses.{fresh-uses, distinct-uses}
 
 -- OPTION LINES
 module _ (kind : Kind) (sheet : Sheet) where
@@ -33,9 +33,8 @@ module _ (kind : Kind) (sheet : Sheet) where
       → AllZip (IsOptionLine (said kind sheet)) ls (written_in sheet ls)
   good-lines [] a = tt
   good-lines (l ∷ ls) a =
-      let u = behind-uses (said kind sheet) (tokens l.1) (map (written (names_of sheet.entries)) (tokens l.1))
-      (uses-good kind (names_of sheet.entries) sheet.primaries [] (tokens l.1) a.0) in
-      ((refl, u.0, u.1), good-lines ls a.1)
+      let u = uses-good (said kind sheet) [] (tokens l.1) a.0 in
+      ((refl, u.0, distinct-uses (map (written (names_of sheet.entries)) (tokens l.1)) u.1), good-lines ls a.1)
 
   lines-good : (ls : List (ℕ × List ℕ)) (ws : List (ℕ × List Written)) → AllZip (IsOptionLine (said kind sheet)) ls ws
       → (ws ≡ written_in sheet ls)
@@ -44,8 +43,7 @@ module _ (kind : Kind) (sheet : Sheet) where
   lines-good [] (w ∷ ws) z = absurd z
   lines-good (l ∷ ls) [] z = absurd z
   lines-good (l ∷ ls) (w ∷ ws) z =
-      let v = good-uses kind (names_of sheet.entries) sheet.primaries [] (tokens l.1) w.1
-      (uses-behind (said kind sheet) (tokens l.1) w.1 (z.0.1, z.0.2)) in
+      let v = good-uses (said kind sheet) [] (tokens l.1) w.1 z.0.1 (fresh-uses w.1 z.0.2) in
       let rest = lines-good ls ws z.1 in
       ((λ i. (z.0.0 i, v.0 i) ∷ rest.0 i), (v.1, rest.1))
 
@@ -66,7 +64,7 @@ have-items kind ps sheet h =
       bounds = (λ i. bounds_in (take (count i) (h.all i))) ∙ ap bounds_in (take-append_seam h.first h.others);
       count = omega (arith, ap length h.all, length-append h.first h.others, count);
       distinct = subst (λ es. AllPairs (λ x y. x ≢ y) (names_of es)) (sym h.all)
-          (new-distinct [] (names_of (h.first ++ h.others)) h.new (λ i j d lt within. absurd (omega (arith, within))));
+          (new-distinct (names_of (h.first ++ h.others)) h.new);
       few = omega (arith, names_of-length sheet.entries, ap length h.all, h.few);
     }
 
@@ -124,7 +122,7 @@ stands-clear kind lines named ignored h =
     let rest = h.option_lines in
     let entries = h.items.primary ++ h.items.secondary in
     let s : Sheet = record { entries = entries; primaries = length h.items.primary; options = []; colours = [] } in
-    let new = all-new [] (names_of entries) (λ k d within. refl)
+    let new = all-new (names_of entries)
     (subst (AllPairs (λ x y. x ≢ y)) h.items.names h.items.distinct) in
     let row = good-row kind [] ps h.items.primary h.items.secondary h.items.before_bar h.items.behind_bar new
     (omega (arith, h.items.few, ap length h.items.names, names_of-length entries)) in

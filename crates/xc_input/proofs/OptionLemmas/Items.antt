@@ -1,11 +1,10 @@
 -- Items of the item line, each behind those before it.
 use Rattle.std.proofs.Common.{◌≡◌, ◌≢◌, ℕ, suc, ◌+◌, List, [], ◌∷◌, ◌++◌, None, Bool, true}
-use Rattle.std.proofs.Common.{false, cond, not, nat_eq, take, drop, get_or, refl}
-use Rattle.std.proofs.Common.{sym, ap, subst, ◌∙◌, append_assoc, append-nil, arith, if◌then◌else◌, All}
+use Rattle.std.proofs.Common.{false, cond, not, nat_eq, take, drop, refl}
+use Rattle.std.proofs.Common.{ap, ◌∙◌, arith, if◌then◌else◌}
 use Rattle.std.proofs.Common.{AllPairs, inl, inr}
 use Rattle.std.proofs.lemmas.Bool.Decides.{nat_tests}
 use Rattle.std.proofs.lemmas.List.Folds.{list_any-append}
-use Rattle.std.proofs.lemmas.List.Quantifiers.{all_pairs_push}
 use Rattle.std.proofs.lemmas.Slice.Eq.{bytes_eq-Decides}
 use Rattle.std.specs.List.{list_any, AllZip, position, position_or_len, before_first, after_first}
 use Rattle.xc_input.specs.declared.kind.Kind.{Kind}
@@ -16,12 +15,15 @@ use Rattle.xc_input.specs.Text.{IsEntry}
 use Rattle.xc_input.proofs.FaultLemmas.Checks.{no-place, last-place}
 use Rattle.std.proofs.lemmas.Bool.{or_parts}
 use Rattle.xc_input.proofs.TokenLemmas.TableNames.{apart}
+use Rattle.xc_input.proofs.OptionLemmas.Fresh.{AllFresh, all-fresh, fresh-distinct}
 use Rattle.xc_input.proofs.TokenLemmas.Separators.{BAR}
 
--- each is another than those before
+-- names, each another than those before
+abbrev IsNew : List (List ℕ) → List ℕ → Type 0
+IsNew names name = place names name ≡ None
+
 abbrev pub AllNew : List (List ℕ) → List (List ℕ) → Type 0
-AllNew earlier [] = Unit {0}
-AllNew earlier (x ∷ xs) = (place earlier x ≡ None) × AllNew (earlier ++ x ∷ []) xs
+AllNew earlier names = AllFresh (λ n. n) IsNew earlier names
 
 -- THE FIRST BAR
 pub before-cons : (p : List ℕ) (ps : List (List ℕ)) (t : Bool) → is_bar p ≡ t
@@ -68,20 +70,8 @@ absent-is p xs h = grind (arith, nat_tests, last-place p xs h)
 still-new : (names : List (List ℕ)) (x y : List ℕ) → place names y ≡ None → x ≢ y → place (names ++ x ∷ []) y ≡ None
 still-new names x y none differ = grind (arith, nat_tests, bytes_eq-Decides, absent-is, list_any-append, no-place)
 
-pub all-new : (earlier xs : List (List ℕ)) → All (λ x. place earlier x ≡ None) xs → AllPairs (λ x y. x ≢ y) xs
-    → AllNew earlier xs
-all-new earlier [] a p = tt
-all-new earlier (x ∷ xs) a p =
-    let later : AllPairs (λ x y. x ≢ y) xs =
-    λ i j d lt within. p (suc i) (suc j) d (omega (arith, lt)) (omega (arith, within)) in
-    let new : All (λ y. place (earlier ++ x ∷ []) y ≡ None) xs = λ k d within.
-    still-new earlier x (get_or xs k d) (a (suc k) d (omega (arith, within)))
-    (p 0 (suc k) d (omega arith) (omega (arith, within))) in
-    (a 0 x (omega arith), all-new (earlier ++ x ∷ []) xs new later)
+pub all-new : (names : List (List ℕ)) → AllPairs (λ x y. x ≢ y) names → AllNew [] names
+all-new names = all-fresh (λ n. n) IsNew still-new apart [] names (λ k d within. refl)
 
-pub new-distinct : (earlier xs : List (List ℕ)) → AllNew earlier xs → AllPairs (λ x y. x ≢ y) earlier
-    → AllPairs (λ x y. x ≢ y) (earlier ++ xs)
-new-distinct earlier [] h p = subst (AllPairs (λ x y. x ≢ y)) (sym (append-nil earlier)) p
-new-distinct earlier (x ∷ xs) h p =
-    subst (AllPairs (λ a b. a ≢ b)) (append_assoc earlier (x ∷ []) xs)
-    (new-distinct (earlier ++ x ∷ []) xs h.1 (all_pairs_push (λ a b. a ≢ b) earlier x p (apart earlier x h.0)))
+pub new-distinct : (names : List (List ℕ)) → AllNew [] names → AllPairs (λ x y. x ≢ y) names
+new-distinct names = fresh-distinct (λ n. n) IsNew still-new apart names

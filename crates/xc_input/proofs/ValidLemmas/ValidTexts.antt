@@ -1,6 +1,6 @@
 -- What stands for a text is sound.
-use Rattle.std.proofs.Common.{◌≡◌, ◌≢◌, ℕ, ◌+◌, ◌*◌, ◌-◌, ◌^◌, ◌<◌, ◌≤◌, List, [], ◌∷◌, ◌++◌, Option, None, Some}
-use Rattle.std.proofs.Common.{Bool, true, false, nat_eq, nat_le, not, is_none, map, length, All, AllPairs, refl}
+use Rattle.std.proofs.Common.{◌≡◌, ◌≢◌, ℕ, ◌+◌, ◌*◌, ◌-◌, ◌^◌, ◌<◌, ◌≤◌, List, [], ◌∷◌, ◌++◌}
+use Rattle.std.proofs.Common.{Bool, true, false, nat_eq, nat_le, not, map, length, All, AllPairs, refl}
 use Rattle.std.proofs.Common.{ap, ◌∙◌, sym, subst, arith, if◌then◌else◌, inl, inr, length-append}
 use Rattle.std.specs.Prelude.{flat_map}
 use Rattle.std.specs.List.{list_all, list_any, AllZip, AllByRecursion as Each, before_first, after_first}
@@ -22,7 +22,7 @@ use Rattle.xc_input.specs.declared.kind.Kind.{Kind}
 use Rattle.xc_input.specs.declared.problem.Bounds.{Bounds}
 use Rattle.xc_input.specs.declared.problem.Use.{Use}
 use Rattle.xc_input.specs.Problem.{Puzzle, AreSoundBounds, IsSoundUse, IsSoundOption, item_count, use_count}
-use Rattle.xc_input.specs.Words.{has, place, are_digits, number}
+use Rattle.xc_input.specs.Words.{has, are_digits, number}
 use Rattle.xc_input.specs.Tokens.{tokens, parts, is_bar, is_skipped, split_bars, is_space}
 use Rattle.xc_input.specs.Sheets.{Entry, Written, with_colour, colour_number, number_uses}
 use Rattle.xc_input.specs.Limits.{greatest_bound}
