@@ -116,15 +116,9 @@ module _ {kind : Kind} {names : List (List ℕ)} {primary : ℕ} {line : List (L
       pub all_added : uses ≡ old ++ numbered met (map (written names) line)
       all_added = b.added ∙ ap (λ us. old ++ us) (in_turn met b.us) ∙ ap (λ us. old ++ numbered met us) (sym behind_all)
 
-      pub all_known : colours ≡ with_uses met (map (written names) line)
-      all_known = b.known ∙ ap (with_uses met) (sym behind_all)
-
     -- the uses of the line alone
-    pub late : drop (length old) uses ≡ numbered_in_turn met b.us
+    late : drop (length old) uses ≡ numbered_in_turn met b.us
     late = ap (drop (length old)) b.added ∙ drop-append_seam old (numbered_in_turn met b.us)
-
-    pub late_markable : All (λ u. IsMarkable (length marks) u.item) (drop (length old) uses)
-    late_markable = subst (All (λ (u : Use). IsMarkable (length marks) u.item)) (sym late) b.markable
 
     pub late_marked : AreMarks marks (map (λ u. u.item) (drop (length old) uses))
     late_marked = subst (AreMarks marks) (sym (ap (map (λ (u : Use). u.item)) late ∙ in_turn_items met b.us)) b.marked

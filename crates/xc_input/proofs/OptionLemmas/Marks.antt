@@ -1,7 +1,7 @@
 -- Marks at the items of a line.
 use Rattle.std.proofs.Common.{◌≡◌, ℕ, zero, suc, ◌+◌, ◌-◌, ◌<◌, ◌≤◌, List, [], ◌∷◌, ◌++◌, Bool, true, false}
 use Rattle.std.proofs.Common.{true≢false, nat_eq, length, map, get_or, set, take, drop, All, refl, ap, ◌∙◌, sym}
-use Rattle.std.proofs.Common.{subst, arith, length-set, Option, None, Some, position, IfSome}
+use Rattle.std.proofs.Common.{subst, arith, length-set, Some, position}
 use Rattle.std.proofs.lemmas.Bool.Decides.{nat_tests}
 use Rattle.std.proofs.Math.Bool.{or-true}
 use Rattle.std.proofs.lemmas.Grind.{get_or-set_at}
@@ -66,13 +66,6 @@ pub mark-at : (marks : List Bool) (names : List (List ℕ)) (name : List ℕ) (s
     → AreMarks marks seen → length marks ≡ length names → position (bytes_eq name) names ≡ Some place
     → get_or marks place false ≡ list_any (λ i. nat_eq i (place + 1)) seen
 mark-at marks names name seen place are count e = grind (arith, nat_tests, in-range (bytes_eq name) names place e)
-
--- a place among as many names as marks is that of a mark
-pub place-marked : (marks : List Bool) (names : List (List ℕ)) (name : List ℕ) (at : Option ℕ)
-    → length marks ≡ length names → at ≡ position (bytes_eq name) names → IfSome at (λ k. k < length marks)
-place-marked marks names name None count e = tt
-place-marked marks names name (Some k) count e =
-    let within : k < length names = in-range (bytes_eq name) names k (sym e) in omega (arith, within, count)
 
 written : (new old : List Bool) → length new ≡ length old → take (length new) (new ++ drop (length new) old) ≡ new
 written [] old e = refl
