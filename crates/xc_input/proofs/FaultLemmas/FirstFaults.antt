@@ -35,7 +35,7 @@ use Rattle.std.specs.List.{before_first}
 use Rattle.std.proofs.lemmas.Slice.Zip.{AllZip-long}
 use Rattle.xc_input.specs.Text.{IsEntry}
 use Rattle.xc_input.proofs.GrammarLemmas.LawLemmas.{fault_from, end_fault, fault_or, said, start, more, S, P, row-good}
-use Rattle.xc_input.proofs.GrammarLemmas.LawLemmas.{by-part, by-line, by-first-line, clear, unskipped, count-next}
+use Rattle.xc_input.proofs.GrammarLemmas.LawLemmas.{by-part, by-line, by-first-line, clear, count-next}
 use Rattle.xc_input.proofs.GrammarLemmas.LawLemmas.{stage-behind, stage_by, stage-by, IsClearText, lines-clear}
 use Rattle.xc_input.proofs.GrammarLemmas.LawLemmas.{clear-lines}
 
@@ -221,7 +221,7 @@ start-is kind n before (line ∷ lines) hn hb =
     (λ f. start-is kind (n + 1) (before ++ line ∷ []) lines (length-snoc n before line hn)
     (content-same before line [] f hb))
     (λ f. rest-is kind line (n + 1) (before ++ line ∷ []) lines [] (start kind line) []
-    (context-is kind (parts line) (unskipped kind no_stage line (clear kind no_stage line e) f))
+    (context-is kind (parts line) ((clear kind no_stage line e).1 f))
     (length-snoc n before line hn) (content-more before line [] f hb) refl) in
     fault_or-same (n + 1) (first (stage_checks kind no_stage line)) _ _ next
     ∙ (λ i. fault_or (hn i + 1) (same i) (fault_behind kind (before ++ line ∷ []) lines))

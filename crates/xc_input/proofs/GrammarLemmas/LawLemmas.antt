@@ -24,7 +24,7 @@ use Rattle.std.specs.List.{list_any}
 use Rattle.xc_input.specs.Problem.{use_count}
 use Rattle.xc_input.specs.declared.kind.Kind.{Kind}
 use Rattle.xc_input.specs.declared.fault.FaultKind.{FaultKind}
-use Rattle.xc_input.specs.declared.fault.FaultKind.TheVariants.{NoItems, NulByte, TwoBars, UnknownItem}
+use Rattle.xc_input.specs.declared.fault.FaultKind.TheVariants.{NoItems, NulByte, UnknownItem}
 use Rattle.xc_input.specs.declared.fault.FaultKind.TheVariants.{EmptyName, NameTooLong, BadByteInName}
 use Rattle.xc_input.specs.declared.fault.FaultKind.TheVariants.{RepeatedInOption, ColourOnPrimary, BadColour}
 use Rattle.xc_input.specs.declared.fault.FaultKind.TheVariants.{ColourNotHere, TooManyUses}
@@ -34,7 +34,7 @@ use Rattle.xc_input.specs.Tokens.{tokens, parts, is_bar, is_skipped}
 use Rattle.std.proofs.lemmas.List.Sums.{sum_by-append}
 use Rattle.xc_input.specs.Sheets.{Entry, Written}
 use Rattle.xc_input.specs.inner.Sheets.{Sheet, names_of, with_uses}
-use Rattle.xc_input.specs.Faults.{first, is_plain, item_checks, is_bad_colour, has_primary}
+use Rattle.xc_input.specs.Faults.{first, is_plain, is_bad_colour, has_primary}
 use Rattle.xc_input.specs.inner.Stages.{entry, Row, no_row, part_checks, with_part, row_checks, row_of, item_number}
 use Rattle.xc_input.specs.inner.Stages.{token_checks, option_checks, written, context, Stage, no_stage, content_checks}
 use Rattle.xc_input.specs.inner.Stages.{whole_checks, line_checks, with_line, stage_from}
@@ -69,19 +69,9 @@ fault_or n fault later = option_or (option_map (λ k. (line_number n, k)) fault)
 abbrev pub P : Row → ℕ
 P row = unwrap_or row.bar (length row.entries)
 
--- a step at a bar, and at another part
+-- a row
 abbrev pub R : List Entry → Option ℕ → Row
 R entries bar = record { entries = entries; bar = bar }
-
-pub at-bar : (kind : Kind) (entries : List Entry) (bar : Option ℕ) (p : List ℕ) → is_bar p ≡ true
-    → (first (part_checks kind (R entries bar) p) ≡ (if is_some bar then Some TwoBars else None))
-    × (with_part kind (R entries bar) p ≡ R entries (Some (length entries)))
-at-bar kind entries bar p e = grind (arith, nat_tests)
-
-pub at-word : (kind : Kind) (entries : List Entry) (bar : Option ℕ) (p : List ℕ) → is_bar p ≡ false
-    → (first (part_checks kind (R entries bar) p) ≡ first (item_checks kind (names_of entries) (is_some bar) p))
-    × (with_part kind (R entries bar) p ≡ R (entries ++ entry kind (is_some bar) p ∷ []) bar)
-at-word kind entries bar p e = (rw e, rw e)
 
 -- what holds of the items so far with one part more: it is a bar, or stands for an item
 pub by-part : (kind : Kind) (entries : List Entry) (bar : Option ℕ) (p : List ℕ) (Q : Row → Type 0)
@@ -91,8 +81,8 @@ pub by-part : (kind : Kind) (entries : List Entry) (bar : Option ℕ) (p : List 
 by-part kind entries bar p Q a b = cases (is_bar p) refl
   where
     cases : (t : Bool) → is_bar p ≡ t → Q (with_part kind (R entries bar) p)
-    cases true f = subst Q (sym (at-bar kind entries bar p f).1) (a f)
-    cases false f = subst Q (sym (at-word kind entries bar p f).1) (b f)
+    cases true f = rw f (a f)
+    cases false f = rw f (b f)
 
 -- parts with no fault stand for items, those behind the bar
 others-good : (kind : Kind) (es : List Entry) (n : ℕ) (ps : List (List ℕ)) → length es ≤ most_items
@@ -169,9 +159,8 @@ word-step : (kind : Kind) (es : List Entry) (bar : Option ℕ) (p : List ℕ) (e
     → IsEntry kind (is_some bar) p e → place (names_of es) e.name ≡ None → length es < most_items
     → (first (part_checks kind (R es bar) p) ≡ None) × (with_part kind (R es bar) p ≡ R (es ++ e ∷ []) bar)
 word-step kind es bar p e b i new few =
-    let w = at-word kind es bar p b in
     let g = good-item kind (names_of es) (is_some bar) p e i new (omega (arith, few, names_of-length es)) in
-    (w.0 ∙ g.1, w.1 ∙ ap (λ e. R (es ++ e ∷ []) bar) (sym g.0))
+    (rw b g.1, rw b (ap (λ e. R (es ++ e ∷ []) bar) (sym g.0)))
 
 go-on : (kind : Kind) (row next : Row) (p : List ℕ) (ps : List (List ℕ)) → first (part_checks kind row p) ≡ None
     → with_part kind row p ≡ next → first (row_checks kind next ps) ≡ None
@@ -212,9 +201,8 @@ good-row kind es [] [] (x ∷ ys) y z f m = absurd z
 good-row kind es [] (x ∷ xs) ys y z f m = absurd y
 good-row kind es (p ∷ ps) [] ys y z f m =
     let b = bar-first kind p ps y in
-    let w = at-bar kind es None p b in
     let r = good-others kind es (length es) ps ys (rw (after-cons p ps true b) at z) f m in
-    let o = go-on kind (R es None) (R es (Some (length es))) p ps w.0 w.1 r.0 in
+    let o = go-on kind (R es None) (R es (Some (length es))) p ps (rw b) (rw b) r.0 in
     (o.0, ap (λ (row : Row). row.entries) (o.1 ∙ r.1), omega (arith, ap P (o.1 ∙ r.1)))
 good-row kind es (p ∷ ps) (x ∷ xs) ys y z f m =
     let b = word-first kind p ps x xs y in
@@ -316,24 +304,11 @@ none-from : (kind : Kind) (n : ℕ) (stage : Stage) (line : List ℕ) (lines : L
 none-from kind n stage line lines e = grind (arith, nat_tests)
 
 -- a line with no fault
-abbrev pub IsClear : Kind → Stage → List ℕ → Type 0
-IsClear kind stage line = (has 0 line ≡ false)
-    × ((is_skipped line ≡ true) ⊎ ((is_skipped line ≡ false) × (first (content_checks kind stage line) ≡ None)))
-
 pub clear : (kind : Kind) (stage : Stage) (line : List ℕ) → first (line_checks kind stage line) ≡ None
-    → IsClear kind stage line
+    → (has 0 line ≡ false) × (is_skipped line ≡ false → first (content_checks kind stage line) ≡ None)
 clear kind stage line e =
     let a = split ((NulByte, has 0 line) ∷ []) (if is_skipped line then [] else content_checks kind stage line) e in
-    let P : Bool → Type 0 = λ t. is_skipped line ≡ t → first (if t then [] else content_checks kind stage line) ≡ None
-    → (is_skipped line ≡ true) ⊎ ((is_skipped line ≡ false) × (first (content_checks kind stage line) ≡ None)) in
-    let h : P (is_skipped line) =
-    (elim (is_skipped line) as P [ true ↦ λ f g. inl f | false ↦ λ f g. inr (f, g) ]) in
-    (fails ((NulByte, has 0 line) ∷ []) a.0 NulByte, h refl a.1)
-
-pub unskipped : (kind : Kind) (stage : Stage) (line : List ℕ) → IsClear kind stage line → is_skipped line ≡ false
-    → first (content_checks kind stage line) ≡ None
-unskipped kind stage line (z, inl f) g = absurd (cc)
-unskipped kind stage line (z, inr h) g = h.1
+    (fails ((NulByte, has 0 line) ∷ []) a.0 NulByte, λ f. rw f at a.1)
 
 skipped-clear : (kind : Kind) (stage : Stage) (line : List ℕ) → has 0 line ≡ false → is_skipped line ≡ true
     → first (line_checks kind stage line) ≡ None
@@ -507,7 +482,7 @@ behind-clear kind n sheet ignored (line ∷ lines) l e =
     let b = clear kind (S sheet ignored) line a.0 in
     let us = written_by sheet line in
     let checks = λ (f : is_skipped line ≡ false). split (option_checks (said kind sheet) [] (tokens line))
-    (whole_checks sheet line) (unskipped kind (S sheet ignored) line b f) in
+    (whole_checks sheet line) (b.1 f) in
     by-line kind (line_number (n + 1)) sheet ignored line
     (λ st. fault_from kind (n + 1) st lines ≡ None
     → (list_any (has 0) (line ∷ lines) ≡ false) × AreClear kind sheet (content_from (n + 1) (line ∷ lines)))
@@ -583,7 +558,7 @@ lines-clear kind n (line ∷ lines) e =
     → (list_any (has 0) (line ∷ lines) ≡ false) × IsClearText kind (content_from (n + 1) (line ∷ lines)))
     (λ f q. let r = lines-clear kind (n + 1) lines q in (or_from (has 0 line) _ b.0 r.0, rw f r.1))
     (λ f q. let r = behind-clear kind (n + 1) (start kind line) [] lines (omega arith) q in
-    (or_from (has 0 line) _ b.0 r.0, rw f (unskipped kind no_stage line b f, r.1))) a.1
+    (or_from (has 0 line) _ b.0 r.0, rw f (b.1 f, r.1))) a.1
 
 pub clear-lines : (kind : Kind) (n : ℕ) (lines : List (List ℕ)) → list_any (has 0) lines ≡ false
     → IsClearText kind (content_from (n + 1) lines) → fault_from kind n no_stage lines ≡ None
