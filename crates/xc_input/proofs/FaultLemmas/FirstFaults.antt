@@ -1,7 +1,7 @@
 -- For `line`, `finish` and the laws: the first fault of a text is the first one of its lines as they are read.
 use Rattle.std.proofs.lemmas.Bool.Decides.{nat_tests}
 use Rattle.std.proofs.Common.{◌≡◌, ℕ, ◌+◌, List, [], ◌∷◌, ◌++◌, Option, None, Some, Bool, true, false, ◌||◌, ◌&&◌, cond}
-use Rattle.std.proofs.Common.{not, nat_le, is_some, length, map, filter, sum_by, refl, ap, ◌∙◌, sym, subst}
+use Rattle.std.proofs.Common.{not, nat_le, is_some, length, map, refl, ap, ◌∙◌, sym, subst}
 use Rattle.std.proofs.Common.{arith, if◌then◌else◌, append_assoc, append-nil}
 use Rattle.std.proofs.lemmas.Grind.{common_steps}
 use Rattle.std.proofs.lemmas.List.{map-append, length-map}
@@ -157,17 +157,7 @@ content-more before line done f h = content-snoc before line false f ∙ ap (λ 
 uses-snoc : (c : Context) (os : List (List ℕ)) (line : List ℕ) (t : Bool) → is_kept c line ≡ t
     → kept_uses c (os ++ line ∷ []) ≡ kept_uses c os + (if t then length (tokens line) else 0)
 uses-snoc c os line t f =
-    let split = ap (sum_uses) (filter-append (is_kept c) os (line ∷ [])
-    ∙ ap (λ b. filter (is_kept c) os ++ cond b (line ∷ []) []) f) in
-    split ∙ sum_by-append (λ l. length (tokens l)) (filter (is_kept c) os) (cond t (line ∷ []) [])
-    ∙ ap (λ n. kept_uses c os + n) (one t)
-  where
-    sum_uses : List (List ℕ) → ℕ
-    sum_uses ls = sum_by (λ l. length (tokens l)) ls
-
-    one : (b : Bool) → sum_by (λ l. length (tokens l)) (cond b (line ∷ []) []) ≡ (if b then length (tokens line) else 0)
-    one true = omega arith
-    one false = refl
+    grind (arith, nat_tests, filter-append (is_kept c), sum_by-append (λ (l : List ℕ). length (tokens l)))
 
 -- THE LINES BEHIND THE ITEM LINE
 module _ (kind : Kind) (items : List ℕ) where

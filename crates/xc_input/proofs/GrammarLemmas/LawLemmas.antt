@@ -1,5 +1,5 @@
--- For `finish` and the laws: the grammar relates lines to a problem exactly where they have no fault, and then to the
--- one that the lines give.
+-- For `finish` and the laws: what parts, tokens and lines give, and that they have no fault exactly where they stand
+-- for items, uses and options.
 use Rattle.std.proofs.Common.{◌≡◌, ℕ, ◌+◌, ◌<◌, ◌≤◌, List, [], ◌∷◌, ◌++◌, Option, None, Some, Bool, true, false, ◌&&◌}
 use Rattle.std.proofs.Common.{not, nat_lt, nat_eq, is_some, unwrap_or, length, refl, ap, ◌∙◌, sym, subst}
 use Rattle.std.proofs.Common.{arith, if◌then◌else◌, inl, inr, ◌⊎◌, append_assoc, map}

@@ -1,4 +1,4 @@
--- The grammar line by line, as a text is read: what was read before a line goes on to the next.
+-- The problem of a sheet, and the items that parts of the item line stand for.
 use Rattle.std.specs.Prelude.{◌≡◌, ℕ, ◌-◌, ◌≤◌, map, length, List, true, false, take}
 use Rattle.std.specs.Prelude.{◌+◌, ◌++◌, Some}
 use Rattle.std.specs.List.{AllZip, before_first, after_first}

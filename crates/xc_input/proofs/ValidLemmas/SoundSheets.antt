@@ -9,7 +9,6 @@ use Rattle.std.proofs.Common.{sym, ◌∙◌}
 use Rattle.std.proofs.lemmas.List.Elements.{All-from_recursion}
 use Rattle.std.specs.List.{AllByRecursion, after_first}
 use Rattle.xc_input.specs.declared.kind.Kind.{Kind}
-use Rattle.xc_input.specs.declared.problem.Bounds.{Bounds}
 use Rattle.xc_input.specs.declared.problem.Item.{Item}
 use Rattle.xc_input.specs.declared.problem.Use.{Use}
 use Rattle.xc_input.specs.ItemBounds.{bounds_of, secondary_bounds}
@@ -20,12 +19,8 @@ use Rattle.xc_input.specs.inner.Sheets.{names_of}
 use Rattle.xc_input.specs.inner.Vectors.{IsOptional}
 use Rattle.xc_input.specs.inner.Builders.{entry_of}
 use Rattle.xc_input.proofs.GrammarLemmas.SheetGrammar.{AreItems, named_of}
-use Rattle.xc_input.proofs.ValidLemmas.ValidTexts.{each-zip}
+use Rattle.xc_input.proofs.ValidLemmas.ValidTexts.{entry_bounds, each-zip}
 use Rattle.xc_input.proofs.lists.EachElement.{each_of_all}
-
--- the bounds of an item
-abbrev entry_bounds : Entry → Bounds
-entry_bounds e = record { low = e.low; high = e.high }
 
 -- THE PROBLEM THAT VECTORS HOLD
 pub item-names : (items : List Item) → names_of (map entry_of items) ≡ map (λ x. x.name.items) items

@@ -85,11 +85,12 @@ high-below prefix low high (inl h) = subst (λ n. n ≤ greatest_bound) h.2 (num
 high-below prefix low high (inr h) = subst (λ n. n ≤ greatest_bound) h.6 (number-below h.1 h.4)
 
 -- ITEMS
-abbrev bounds_in : Entry → Bounds
-bounds_in e = record { low = e.low; high = e.high }
+-- the bounds of an item
+abbrev pub entry_bounds : Entry → Bounds
+entry_bounds e = record { low = e.low; high = e.high }
 
 primary-good : (kind : Kind) (token : List ℕ) (e : Entry) → IsEntry kind false token e
-    → AreSoundBounds (bounds_in e) × (e.high ≤ greatest_bound)
+    → AreSoundBounds (entry_bounds e) × (e.high ≤ greatest_bound)
 primary-good kind token e (n, inl h) =
     let l : e.low ≡ 1 = h.1 in let k : e.high ≡ 1 = h.2 in ((omega arith, omega arith), omega arith)
 primary-good kind token e (n, inr h) = ((h.7, h.6), high-below h.0 e.low e.high h.5)
@@ -263,11 +264,12 @@ module _ (kind : Kind) (lines : List (List ℕ)) (named : Named) (ignored : List
       (recursion_from_All IsUnbroken _ (All-drop IsUnbroken _ ps parts-unbroken)) h.items.behind_bar)))
 
   bounds-good : Each (λ b. AreSoundBounds b × (b.high ≤ greatest_bound)) named.puzzle.bounds
-  bounds-good = subst (Each _) (sym h.items.bounds) (each-map _ bounds_in _ (each-zip (IsEntry kind false) IsUnbroken _
-      (λ t e u. primary-good kind t e) (before_first is_bar ps) _ front-unbroken h.items.before_bar))
+  bounds-good = subst (Each _) (sym h.items.bounds) (each-map _ entry_bounds _
+      (each-zip (IsEntry kind false) IsUnbroken _ (λ t e u. primary-good kind t e) (before_first is_bar ps) _
+      front-unbroken h.items.before_bar))
 
   primaries : length named.puzzle.bounds ≡ length h.items.primary
-  primaries = ap length h.items.bounds ∙ length-map h.items.primary bounds_in
+  primaries = ap length h.items.bounds ∙ length-map h.items.primary entry_bounds
 
   items : length named.names ≡ item_count named.puzzle
   items = omega (
