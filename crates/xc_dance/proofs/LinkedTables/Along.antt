@@ -45,9 +45,9 @@ along_first p off q vs t e =
     let none : q - off ≡ 0 = omega (arith, e) in
     record { from = omega (arith, e); to = omega (arith, e); trail = ap (λ n. after_uses p (drop n vs) t) none }
 
-along_next : (p : Puzzle) (off q : ℕ) (vs : List Use) (s t : List Move) → IsAlong p off vs s t q → q < off + length vs →
+along_next : {p : Puzzle} {off q : ℕ} {vs : List Use} {s t : List Move} → IsAlong p off vs s t q → q < off + length vs →
     IsAlong p off vs s (after_use p (use_at_place off vs q) t) (q + 1)
-along_next p off q vs s t a h =
+along_next {p} {off} {q} {vs} {t} a h =
     let k = q - off in
     let v = use_at_place off vs q in
     let next : q + 1 - off ≡ k + 1 = (let f = a.from in omega (arith, f)) in
@@ -55,8 +55,7 @@ along_next p off q vs s t a h =
     record {
       from = let f = a.from in omega (arith, f);
       to = omega (arith, h);
-      trail = ap (λ n. after_uses p (drop n vs) (after_use p v t)) next ∙ sym (first_use p vs k no_use t here)
-          ∙ a.trail;
+      trail = ap (λ n. after_uses p (drop n vs) (after_use p v t)) next ∙ sym (first_use p _ _ no_use t here) ∙ a.trail;
     }
 
 -- behind the last one all were
@@ -85,16 +84,15 @@ next_at p x off q vs s t seg a h =
     let here : k < length vs = (let f = a.from in omega (arith, h, f)) in
     let node : slice_get (layout p) q ≡ Some (used x v) = ap (slice_get (layout p)) (sym at)
     ∙ seg.node k v (slice_get-get_or vs k no_use here) in
-    let cells = use_cells p t x v q node in
-    let on = along_next p off q vs s t a h in
+    let cells = use_cells _ t _ _ _ node in
+    let on = along_next a h in
     record {
       u = v;
       node = node;
       within = cells.within;
       item = sym cells.top;
       on = on;
-      stands = λ room can. stood_before p room (drop (q + 1 - off) vs) (after_use p v t)
-          (subst (CanStand p room) (sym on.trail) can);
+      stands = λ room can. stood_before _ _ (drop (q + 1 - off) vs) _ (subst (CanStand p room) (sym on.trail) can);
     }
 
 -- ---- Behind the node by which option x uses item i, from the place behind it up to the spacer
@@ -107,9 +105,9 @@ pub record Behind (p : Puzzle) (i x place : ℕ) (s t : List Move) (q : ℕ) : T
   -- the spacer: all were committed
   pub end : SPACER ≤ top_at p t q → (t ≡ after_uses p (uses_behind p i x) s) × (q ≡ spacer_place p x)
 
-pub behind_at : (p : Puzzle) (i x place q : ℕ) (s t : List Move) → IsLaid p → IsUseAt p i x place →
+pub behind_at : {p : Puzzle} {i x place q : ℕ} {s t : List Move} → IsLaid p → IsUseAt p i x place →
     IsAlong p (place + 1) (uses_behind p i x) s t q → Behind p i x place s t q
-behind_at p i x place q s t laid held a =
+behind_at {p} {i} {x} {place} {q} {s} {t} laid held a =
     let us = uses_of p x in
     let vs = uses_behind p i x in
     let k = place_in i us in
@@ -128,8 +126,7 @@ behind_at p i x place q s t laid held a =
           let at : q ≡ place + 1 + length vs = omega (arith, ltb-false q (place + 1 + length vs) e, a.to) in
           let is : q ≡ spacer_place p x = at ∙ all ∙ sym o.end in
           let cells =
-          spacer_cells p t x (x - 1) q (omega (arith, held.known.0))
-          (ap (slice_get (layout p)) is ∙ o.behind) in
+          spacer_cells p t x (x - 1) q (omega (arith, held.known.0)) (ap (slice_get (layout p)) is ∙ o.behind) in
           grind (arith, common_steps, along_end)
     ] refl
 
@@ -141,19 +138,19 @@ pub record Before (p : Puzzle) (i x place : ℕ) (s t : List Move) (q : ℕ) : T
   pub end : place ≤ q → t ≡ after_uses p (uses_before p i x) s
 
 -- the uses before end at it
-before_all : (p : Puzzle) (i x place : ℕ) → OptionNodes p x (x - 1) → IsUseAt p i x place →
+before_all : {p : Puzzle} {i x place : ℕ} → OptionNodes p x (x - 1) → IsUseAt p i x place →
     start_at p (x - 1) + length (uses_before p i x) ≡ place
-before_all p i x place o held =
-    let stands = place_at_use p i x (x - 1) place o held in
+before_all {p} {i} {x} o held =
+    let stands = place_at_use _ _ _ _ _ o held in
     let d = length-take (place_in i (uses_of p x)) (uses_of p x) in
     let h = held.holds in
     omega (arith, d, h, stands)
 
-pub before_at : (p : Puzzle) (i x place q : ℕ) (s t : List Move) → IsUseAt p i x place →
+pub before_at : {p : Puzzle} {i x place q : ℕ} {s t : List Move} → IsUseAt p i x place →
     IsAlong p (start_at p (x - 1)) (uses_before p i x) s t q → Before p i x place s t q
-before_at p i x place q s t held a =
-    let o = option_nodes p x held.known in
-    let all = before_all p i x place o held in
+before_at held a =
+    let o = option_nodes _ _ held.known in
+    let all = before_all o held in
     let to = a.to in
     grind (arith, common_steps, along_end, before_segment, next_at)
 
@@ -163,22 +160,22 @@ pub record Leads (p : Puzzle) (x place end : ℕ) (t : List Move) : Type 0 where
   pub behind : place < end
   pub first : get_or (nodes_after p t).ulink end 0 ≡ start_at p (x - 1)
 
-pub leads : (p : Puzzle) (i x place end : ℕ) (t : List Move) → IsUseAt p i x place →
+pub leads : {p : Puzzle} {i x place end : ℕ} (t : List Move) → IsUseAt p i x place →
     end ≡ spacer_place p x → Leads p x place end t
-leads p i x place end t held e =
-    let o = option_nodes p x held.known in
-    let stands = place_at_use p i x (x - 1) place o held in
+leads {p} {x} t held e =
+    let o = option_nodes _ _ held.known in
+    let stands = place_at_use _ _ _ _ _ o held in
     let is = e ∙ o.end in
     let at = ap (slice_get (layout p)) e ∙ o.behind in
-    let cells = spacer_cells p t x (x - 1) end (omega (arith, held.known.0)) at in
+    let cells = spacer_cells _ t x (x - 1) _ (omega (arith, held.known.0)) at in
     record { within = cells.within; behind = omega (arith, stands, is, held.holds); first = cells.ulink }
 
 -- ---- A step of the walk: the next use is committed
 
 -- the tables of linked tables in state s, of problem p
-pub nodes_told : (n : Nodes) (a s : Linked) (p : Puzzle) → n ≡ nodes_after a.puzzle a.trail → a ≡ s → s.puzzle ≡ p →
+pub nodes_told : {n : Nodes} {a s : Linked} {p : Puzzle} → n ≡ nodes_after a.puzzle a.trail → a ≡ s → s.puzzle ≡ p →
     n ≡ nodes_after p s.trail
-nodes_told n a s p e is same = e ∙ ap (λ (s : Linked). nodes_after s.puzzle s.trail) is
+nodes_told {s} e is same = e ∙ ap (λ (s : Linked). nodes_after s.puzzle s.trail) is
     ∙ ap (λ q. nodes_after q s.trail) same
 
 -- what is asked for a commit of the use of item j at place q
@@ -186,11 +183,10 @@ abbrev pub MayCommit : Puzzle → ℕ → List Move → ℕ → ℕ → Type 0
 MayCommit p room t q j = (o : ℕ) × ((u : Use) × (slice_get (layout p) q ≡ Some (used o u)) × (u.item ≡ j)
     × CanStand p room (after_use p u t))
 
-pub may_commit : (p : Puzzle) (x off : ℕ) (vs : List Use) (s : List Move) (now : Linked) (room q j : ℕ) →
+pub may_commit : {p : Puzzle} {x off : ℕ} {vs : List Use} {s : List Move} (now : Linked) {room q j : ℕ} →
     IsNext p x off vs s now.trail q → now.puzzle ≡ p → now.room ≡ room →
     j ≡ top_at p now.trail q → CanStand p room (after_uses p vs s) → MayCommit now.puzzle now.room now.trail q j
-may_commit p x off vs s now room q j n same big is can =
-    subst (λ a. MayCommit a now.room now.trail q j) (sym same)
+may_commit {p} {x} now {room} {q} {j} n same big is can = subst (λ a. MayCommit a now.room now.trail q j) (sym same)
     (subst (λ r. MayCommit p r now.trail q j) (sym big) (x, (n.u, n.node, n.item ∙ sym is, n.stands room can)))
 
 -- what a commit there is to make of it
@@ -205,10 +201,10 @@ pub record Committed (p : Puzzle) (off : ℕ) (vs : List Use) (s : List Move) (k
   pub room : new.room ≡ k
   pub along : IsAlong p off vs s new.trail q
 
-pub one_committed : (p : Puzzle) (x off : ℕ) (vs : List Use) (s : List Move) (now new : Linked) (room q j : ℕ) →
+pub one_committed : {p : Puzzle} {x off : ℕ} {vs : List Use} {s : List Move} (now new : Linked) {room q j : ℕ} →
     IsNext p x off vs s now.trail q → now.puzzle ≡ p → now.room ≡ room →
     j ≡ top_at p now.trail q → Commits now q j new → Committed p off vs s room new (q + 1)
-one_committed p x off vs s now new room q j n same big is made =
+one_committed {p} {x} {off} {vs} {s} now new {room} {q} n same big is made =
     let at : slice_get (layout now.puzzle) q ≡ Some (used x n.u) = ap (λ a. slice_get (layout a) q) same ∙ n.node in
     let done = made x n.u at (n.item ∙ sym is) in
     let trail : new.trail ≡ after_use p n.u now.trail = ap (λ (d : Dancing). d.trail) done
@@ -220,9 +216,8 @@ one_committed p x off vs s now new room q j n same big is made =
     }
 
 -- at the end
-pub whole : (p : Puzzle) (room : ℕ) (now : Linked) (t : List Move) → now.puzzle ≡ p → now.room ≡ room →
+pub whole : (p : Puzzle) (room : ℕ) (now : Linked) {t : List Move} → now.puzzle ≡ p → now.room ≡ room →
     now.trail ≡ t → dancing_of now ≡ record { puzzle = p; trail = t; room = room }
-whole p room now t e r h =
-    ap (λ q. let d : Dancing = record { puzzle = q; trail = now.trail; room = now.room } in d) e
+whole p room now e r h = ap (λ q. let d : Dancing = record { puzzle = q; trail = now.trail; room = now.room } in d) e
     ∙ ap (λ k. let d : Dancing = record { puzzle = p; trail = now.trail; room = k } in d) r
     ∙ ap (λ l. let d : Dancing = record { puzzle = p; trail = l; room = room } in d) h

@@ -57,10 +57,10 @@ pub record Unhidden (t u : Nodes) (q : ℕ) : Type 0 where
   pub can : CanUnhide t q
   pub done : unhidden t q ≡ u
 
-pub unhide_open : (p : Puzzle) (col : Node → ℕ) (ln : ℕ → Line) (j o : ℕ) → IsLaid p → 0 < j → j ≤ item_count p → 0 < o
+pub unhide_open : {p : Puzzle} (col : Node → ℕ) (ln : ℕ → Line) {j o : ℕ} → IsLaid p → 0 < j → j ≤ item_count p → 0 < o
     → IsReturner p j (ln j) o → is_mark p col o j ≡ false →
     Unhidden (nodes_from p ln col) (nodes_from p (with_line ln j (mended (ln j) o)) col) (link_place p j o)
-unhide_open p col ln j o laid pos le o_pos m unmarked =
+unhide_open {p} col ln {j} {o} laid pos le o_pos m unmarked =
     let q = link_place p j o in
     let t : Nodes = nodes_from p ln col in
     let c = node_cells p ln col j o laid pos le o_pos m.name m.above m.below in
@@ -79,21 +79,19 @@ unhide_open p col ln j o laid pos le o_pos m unmarked =
       done =
           unhidden-open t q unmarked ∙ same_nodes (relinked t q) (nodes_from p (with_line ln j (mended (ln j) o)) col)
           (ap (λ i. set t.top i (get_or t.top i 0 + 1)) c.item ∙ ap (λ n. set t.top j (n + 1)) c.len
-          ∙ sym (set_top p ln j (mended (ln j) o) laid pos le))
-          (ap (λ k. set t.ulink k q) c.down
+          ∙ sym (set_top p ln j (mended (ln j) o) laid pos le)) (ap (λ k. set t.ulink k q) c.down
           ∙ sym (set_link p (λ k x. (ln k).up x) (fixed_up p) j ((ln j).down o) o laid c.below))
           (ap (λ k. set t.dlink k q) c.up
-          ∙ sym (set_link p (λ k x. (ln k).down x) (fixed_down p) j ((ln j).up o) o laid c.above))
-          refl;
+          ∙ sym (set_link p (λ k x. (ln k).down x) (fixed_down p) j ((ln j).up o) o laid c.above)) refl;
     }
 
-pub unhide_marked : (p : Puzzle) (col : Node → ℕ) (ln : ℕ → Line) (j o : ℕ) → IsLaid p → 0 < j → j ≤ item_count p
+pub unhide_marked : {p : Puzzle} (col : Node → ℕ) (ln : ℕ → Line) {j o : ℕ} → IsLaid p → 0 < j → j ≤ item_count p
     → 0 < o → IsName p j o → is_mark p col o j ≡ true
     → Unhidden (nodes_from p ln col) (nodes_from p ln col) (link_place p j o)
-unhide_marked p col ln j o laid pos le o_pos name marked =
+unhide_marked {p} col ln {j} {o} laid pos le o_pos name marked =
     let here = laid.there j o pos le name in
     let within = slice_get_within (layout p) (link_place p j o) here.node here.at in
-    let item = get_item p ln j o here o_pos in
+    let item = get_item _ ln _ _ here o_pos in
     grind (arith, common_steps, eqb-true, size_from, unhidden-marked)
 
 -- ---- some items in turn
@@ -111,7 +109,7 @@ pub record Returning (p : Puzzle) (col : Node → ℕ) (ln : ℕ → Line) (o j 
   pub returner : is_mark p col o j ≡ false → IsReturner p j (ln j) o
 
 apart_in : (j k : ℕ) (js : List ℕ) → IsApart j js → is_in k js ≡ true → j ≢ k
-apart_in j k js apart e h = false≢true (sym (out_of j js apart) ∙ ap (λ m. is_in m js) h ∙ e)
+apart_in j k js apart e h = false≢true (sym (out_of _ _ apart) ∙ ap (λ m. is_in m js) h ∙ e)
 
 pub record UnhiddenAll (t u : Nodes) (qs : List ℕ) : Type 0 where
   pub can : CanUnhideAll t qs
@@ -123,18 +121,16 @@ pub unhidden_walk : (p : Puzzle) (col : Node → ℕ) (ln : ℕ → Line) (o : �
 unhidden_walk p col ln o [] laid pos apart h = record { can = tt; done = refl }
 unhidden_walk p col ln o (j ∷ js) laid pos apart h =
     let q = link_place p j o in
-    let qs = map (λ j. link_place p j o) js in
     let t : Nodes = nodes_from p ln col in
     let here = h j (is_in-first j js) in
-    let first : Unhidden t (nodes_from p (back_one p col o ln j) col) q =
-    elim (is_mark p col o j) as
+    let first : Unhidden t (nodes_from p (back_one p col o ln j) col) q = elim (is_mark p col o j) as
     (λ b. is_mark p col o j ≡ b → Unhidden t (nodes_from p (cond b ln (with_line ln j (mended (ln j) o))) col) q) [
-      | true ↦ λ e. unhide_marked p col ln j o laid here.pos here.le pos here.name e
-      | false ↦ λ e. unhide_open p col ln j o laid here.pos here.le pos (here.returner e) e
+      | true ↦ λ e. unhide_marked col ln laid here.pos here.le pos here.name e
+      | false ↦ λ e. unhide_open col ln laid here.pos here.le pos (here.returner e) e
     ] refl in
     let rest = unhidden_walk p col (back_one p col o ln j) o js laid pos apart.1 (λ k e.
-    let r = h k (in_more j k js e) in
-    let same : back_one p col o ln j k ≡ ln k = one_other mended p col o ln j k (apart_in j k js apart.0 e) in
+    let r = h k (in_more j _ _ e) in
+    let same : back_one p col o ln j k ≡ ln k = one_other mended p col o ln _ _ (apart_in _ _ _ apart.0 e) in
     record {
       pos = r.pos;
       le = r.le;
@@ -178,16 +174,12 @@ pub down_kept : (p : Puzzle) (ln : ℕ → Line) (i : ℕ) (l : Line) → ((x : 
 down_kept p ln i l h =
     map_same (dlink_in p (with_line ln i l)) (dlink_in p ln) (layout p) (λ _ n _. grind (arith, common_steps, eqb-true))
 
-raised_is : (p : Puzzle) (col : Node → ℕ) (ln : ℕ → Line) (i o : ℕ) → IsLaid p → Placed p i ((ln i).down o) →
+raised_is : {p : Puzzle} (col : Node → ℕ) (ln : ℕ → Line) {i : ℕ} (o : ℕ) → IsLaid p → Placed p i ((ln i).down o) →
     with_ulink (nodes_from p ln col) (link_place p i ((ln i).down o)) (link_place p i o) ≡ nodes_from p
     (with_line ln i (raised (ln i) o)) col
-raised_is p col ln i o laid h =
-    same_nodes (with_ulink (nodes_from p ln col) (link_place p i ((ln i).down o)) (link_place p i o))
-    (nodes_from p (with_line ln i (raised (ln i) o)) col)
-    (top_kept p ln i (raised (ln i) o) refl)
-    (sym (set_link p (λ k x. (ln k).up x) (fixed_up p) i ((ln i).down o) o laid h))
-    (down_kept p ln i (raised (ln i) o) (λ x. refl))
-    refl
+raised_is {p} col ln {i} o laid h = same_nodes _
+    _ (top_kept p ln i (raised (ln i) o) refl) (sym (set_link _ (λ k x. (ln k).up x) (fixed_up p) _ _ o laid h))
+    (down_kept p ln i (raised (ln i) o) (λ x. refl)) refl
 
 -- ---- one step
 
@@ -210,9 +202,9 @@ pub record Opened (p : Puzzle) (t : List Move) (spans : List Span) (covered : Bo
   pub others : (j : ℕ) → 0 < j → j ≤ item_count p → j ≢ i
       → Regaining (line_of p t j) (ln1 j) (to_come p t covered i j os)
 
-opened_covered : (p : Puzzle) (t : List Move) (spans : List Span) (i : ℕ) (ln : ℕ → Line) (o : ℕ) (os : List ℕ)
+opened_covered : {p : Puzzle} {t : List Move} (spans : List Span) {i : ℕ} {ln : ℕ → Line} {o : ℕ} {os : List ℕ}
     → BringingBack p t true i ln (o ∷ os) → Opened p t spans true i ln o os
-opened_covered p t spans i ln o os h = grind (arith, common_steps, false≢true)
+opened_covered spans h = grind (arith, common_steps, false≢true)
 
 apart_behind : (js ks : List ℕ) → AllApart (js ++ ks) → AllApart ks
 apart_behind [] ks h = h
@@ -222,10 +214,10 @@ in_behind : (j : ℕ) (js ks : List ℕ) → is_in j ks ≡ true → is_in j (js
 in_behind j [] ks e = e
 in_behind j (i ∷ js) ks e = ap (λ b. eqb i j || b) (in_behind j js ks e) ∙ or-true (eqb i j)
 
-opened_open : (p : Puzzle) (t : List Move) (spans : List Span) (i : ℕ) (ln : ℕ → Line) (o : ℕ) (os : List ℕ)
+opened_open : {p : Puzzle} {t : List Move} {spans : List Span} {i : ℕ} {ln : ℕ → Line} {o : ℕ} {os : List ℕ}
     → AreLegal p t → IsFitted p spans → is_open i t ≡ true → 0 < o → Named p i o → is_in o (listed_numbers p t i) ≡ true
     → BringingBack p t false i ln (o ∷ os) → Opened p t spans false i ln o os
-opened_open p t spans i ln o os legal fit opened o_pos named within h =
+opened_open {p} {t} {spans} {i} {ln} {o} {os} legal fit opened o_pos named within h =
     let col = color_in p t in
     let laid = fit.laid in
     let js = other_items p o i in
@@ -234,11 +226,9 @@ opened_open p t spans i ln o os legal fit opened o_pos named within h =
     let back = reverse js in
     let apart : AllApart back = apart_reverse js (others_apart p o i fit.fit) in
     let comes : (j : ℕ) → leaves p col i j o ≡ true → 0 < j → j ≤ item_count p → j ≢ i
-    → NextBack (line_of p t j) (ln j) o (filter (leaves p col i j) os) = λ j e pos le ne.
-    next_back (line_of p t j) (ln j) o (filter (leaves p col i j) os)
-    (subst (Regaining (line_of p t j) (ln j))
-    (ap (λ b. cond b (o ∷ filter (leaves p col i j) os) (filter (leaves p col i j) os)) e)
-    (h.others j pos le ne)) in
+    → NextBack (line_of p t j) (ln j) o (filter (leaves p col i j) os) = λ j e pos le ne. next_back
+    (line_of p t j) (ln j) o (filter (leaves p col i j) os) (subst (Regaining (line_of p t j) (ln j))
+    (ap (λ b. cond b (o ∷ filter (leaves p col i j) os) (filter (leaves p col i j) os)) e) (h.others j pos le ne)) in
     let returning : (j : ℕ) → is_in j js ≡ true → Returning p col ln o j = λ j in_js.
     let both = and_parts _ _ (sym (in_others p o i j (fit.fit.distinct o)) ∙ in_js) in
     let j_named : Named p j o = both.1 in
@@ -252,8 +242,7 @@ opened_open p t spans i ln o os legal fit opened o_pos named within h =
           let leave : leaves p col i j o ≡ true = ap₂ (λ a b. a && not b) in_js un in
           let nb = comes j leave r.0 r.1 ne in
           let met = met_at p t i legal laid fit.fit opened j o r.0 r.1 within j_named in
-          let j_open : is_open j t ≡ true =
-          elim (is_open j t) as (λ b. is_open j t ≡ b → b ≡ true)
+          let j_open : is_open j t ≡ true = elim (is_open j t) as (λ b. is_open j t ≡ b → b ≡ true)
           [ true ↦ λ f. refl | false ↦ λ f. absurd (false≢true (sym un ∙ met.shut f)) ] refl in
           let st : Stands (listed_numbers p t j) o = stands_in o (listed_numbers p t j) (met.opened j_open).1 in
           let good : IsGood p j (line_of p t j) (st.ys ++ o ∷ st.zs) =
@@ -271,8 +260,7 @@ opened_open p t spans i ln o os legal fit opened o_pos named within h =
     } in
     let w = unhidden_walk p col ln o back laid o_pos apart (λ j e. returning j (sym (in_reverse j js) ∙ e)) in
     let before = before_use i (uses_of p o) in
-    let mid =
-    unhidden_walk p col ln o (reverse before) laid o_pos
+    let mid = unhidden_walk p col ln o (reverse before) laid o_pos
     (apart_reverse before (apart_behind (behind_use i (uses_of p o)) before (others_apart p o i fit.fit)))
     (λ j e. returning j (in_behind j (behind_use i (uses_of p o)) before (sym (in_reverse j before) ∙ e))) in
     let place : ℕ → ℕ = λ j. link_place p j o in
@@ -291,12 +279,10 @@ opened_open p t spans i ln o os legal fit opened o_pos named within h =
             (ap (fold unhidden t0) (map_reverse place before) ∙ mid.done),
       );
       done = ap (fold unhidden t0) nodes ∙ w.done;
-      own =
-          at i ∙ ap (λ b. cond (b && not (is_mark p col o i)) (mended (ln i) o) (ln i))
+      own = at i ∙ ap (λ b. cond (b && not (is_mark p col o i)) (mended (ln i) o) (ln i))
           (out_of i js (own_apart p i o fit.fit));
       cost = grind (arith, common_steps, costs-are, others_are, unhidden_color, unmarked-reverse, unmarked_items);
-      others = λ j pos le ne.
-          elim (leaves p col i j o) as
+      others = λ j pos le ne. elim (leaves p col i j o) as
           (λ b. leaves p col i j o ≡ b → Regaining (line_of p t j) (ln1 j) (filter (leaves p col i j) os)) [
             | true ↦ λ e. subst (λ (l : Line). Regaining (line_of p t j) l (filter (leaves p col i j) os))
                 (sym (at j ∙ ap (λ b. cond b (mended (ln j) o) (ln j)) e)) (comes j e pos le ne).next
@@ -315,56 +301,49 @@ pub record BringBackStep (p : Puzzle) (t : List Move) (spans : List Span) (cover
   pub cost : bring_back_cost spans covered (nodes_from p ln (color_in p t)) (link_place p i o) ≡ 1 + back_writes p
       (color_in p t) covered i o
 
-by_opened : (p : Puzzle) (t : List Move) (spans : List Span) (covered : Bool) (i : ℕ) (ln : ℕ → Line) (o : ℕ)
-    (os : List ℕ) → IsFitted p spans → 0 < i → i ≤ item_count p → is_in o (listed_numbers p t i) ≡ true
+by_opened : {p : Puzzle} {t : List Move} {spans : List Span} {covered : Bool} {i : ℕ} {ln : ℕ → Line} {o : ℕ}
+    {os : List ℕ} → IsFitted p spans → 0 < i → i ≤ item_count p → is_in o (listed_numbers p t i) ≡ true
     → BringingBack p t covered i ln (o ∷ os) → Opened p t spans covered i ln o os
     → BringBackStep p t spans covered i ln o os
-by_opened p t spans covered i ln o os fit pos le within h m1 =
+by_opened {p} {t} {covered} {i} {ln} {o} {os} fit pos le within h m1 =
     let col = color_in p t in
     let laid = fit.laid in
     let x = link_place p i o in
     let l : Line = line_of p t i in
     let ln1 : ℕ → Line = m1.ln1 in
-    let t0 : Nodes = nodes_from p ln col in
     let t1 : Nodes = nodes_from p ln1 col in
-    let st : Stands (listed_numbers p t i) o = stands_in o (listed_numbers p t i) within in
-    let good : IsGood p i l (st.ys ++ o ∷ st.zs) = subst (IsGood p i l) st.is (all_good p t fit.fit i pos le) in
-    let m : IsMember p i l o = member p i l st.ys o st.zs pos le good in
+    let st : Stands (listed_numbers p t i) o = stands_in _ _ within in
+    let good : IsGood p i l (st.ys ++ o ∷ st.zs) = subst (IsGood p i l) st.is (all_good _ t fit.fit i pos le) in
+    let m : IsMember p i l o = member _ _ _ _ _ _ pos le good in
     let down_is : (ln1 i).down o ≡ l.down o = ap (λ (k : Line). k.down o) m1.own ∙ h.own_down o in
     let here = laid.there i o pos le m.name in
     let below : Placed p i ((ln1 i).down o) =
     laid.there i ((ln1 i).down o) pos le (subst (IsName p i) (sym down_is) m.below) in
     let w : Line = raised (ln1 i) o in
     let ln' : ℕ → Line = with_line ln1 i w in
-    let at_i : ln' i ≡ w = line_here ln1 i w in
+    let at_i : ln' i ≡ w = line_here ln1 _ _ in
     let x_in = slice_get_within (layout p) x here.node here.at in
     let d_in = slice_get_within (layout p) (link_place p i ((ln1 i).down o)) below.node below.at in
     let down_long : length t1.dlink ≡ length (layout p) = length-map (layout p) (dlink_in p ln1) in
     let up_long : length t1.ulink ≡ length (layout p) = length-map (layout p) (ulink_in p ln1) in
-    let leads : get_or t1.dlink x 0 ≡ link_place p i ((ln1 i).down o) = get_down p ln1 i o here in
+    let leads : get_or t1.dlink x 0 ≡ link_place p i ((ln1 i).down o) = get_down _ ln1 _ _ here in
     record {
       ln' = ln';
       can = record {
         unhide = m1.can;
         place = subst (λ (u : Nodes). x < length u.dlink) (sym m1.done) (omega (arith, x_in, down_long));
-        below =
-            subst (λ (u : Nodes). get_or u.dlink x 0 < length u.ulink) (sym m1.done)
+        below = subst (λ (u : Nodes). get_or u.dlink x 0 < length u.ulink) (sym m1.done)
             (omega (arith, d_in, up_long, leads));
       };
       done = ap (λ (u : Nodes). with_ulink u (get_or u.dlink x 0) x) m1.done ∙ ap (λ k. with_ulink t1 k x) leads
-          ∙ raised_is p col ln1 i o laid below;
+          ∙ raised_is col ln1 _ laid below;
       bringing = record {
-        others =
-            λ j jpos jle ne. subst (λ (k : Line). Regaining (line_of p t j) k (to_come p t covered i j os))
-            (sym (line_there ln1 i j w ne)) (m1.others j jpos jle ne);
+        others = λ j jpos jle ne. subst (λ (k : Line). Regaining (line_of p t j) k (to_come p t covered i j os))
+            (sym (line_there ln1 _ _ w ne)) (m1.others j jpos jle ne);
         own_down = λ y. ap (λ (k : Line). k.down y) at_i ∙ ap (λ (k : Line). k.down y) m1.own ∙ h.own_down y;
-        own_up = λ y e.
-            ap (λ (k : Line). k.up y) at_i
-            ∙ by_first (put_at (ln1 i).up ((ln1 i).down o) o y ≡ l.up y) ((ln1 i).down o) y
-            (λ s. put_at-same (ln1 i).up ((ln1 i).down o) o y (sym s) ∙ sym m.down_back ∙ ap l.up (sym down_is ∙ s))
-            (λ ne.
-            put_at-other (ln1 i).up ((ln1 i).down o) o y (λ s. ne (sym s))
-            ∙ ap (λ (k : Line). k.up y) m1.own
+        own_up = λ y e. ap (λ (k : Line). k.up y) at_i ∙ by_first (put_at (ln1 i).up ((ln1 i).down o) o y ≡ l.up y)
+            ((ln1 i).down o) y (λ s. put_at-same (ln1 i).up _ o _ (sym s) ∙ sym m.down_back ∙ ap l.up (sym down_is ∙ s))
+            (λ ne. put_at-other (ln1 i).up ((ln1 i).down o) o y (λ s. ne (sym s)) ∙ ap (λ (k : Line). k.up y) m1.own
             ∙ h.own_up y (ap (λ b. b || is_below l y os) (ne_eqb (l.down o) y (λ s. ne (down_is ∙ s))) ∙ e));
       };
       len = ap (λ (k : Line). k.len) at_i ∙ ap (λ (k : Line). k.len) m1.own;
@@ -376,8 +355,7 @@ pub bring_back_step : (p : Puzzle) (t : List Move) (spans : List Span) (covered 
     → is_in o (listed_numbers p t i) ≡ true
     → BringingBack p t covered i ln (o ∷ os) → BringBackStep p t spans covered i ln o os
 bring_back_step p t spans true i ln o os legal fit pos le shut within h =
-    by_opened p t spans true i ln o os fit pos le within h (opened_covered p t spans i ln o os h)
+    by_opened fit pos le within h (opened_covered spans h)
 bring_back_step p t spans false i ln o os legal fit pos le opened within h =
-    by_opened p t spans false i ln o os fit pos le within h
-    (opened_open p t spans i ln o os legal fit opened (in_above 0 o (listed_numbers p t i) (rises_listed p t i) within)
-    (element_of (Named p i) o (listed_numbers p t i) (numbers_named p t i) within) within h)
+    by_opened fit pos le within h (opened_open legal fit opened (in_above _ _ _ (rises_listed p t i) within)
+    (element_of (Named p i) _ _ (numbers_named p t i) within) within h)

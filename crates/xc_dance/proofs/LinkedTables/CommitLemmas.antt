@@ -32,42 +32,39 @@ in_list_held p t i x e = grind (arith, common_steps, element_of, numbers_named, 
 
 pub in_list_name : (p : Puzzle) (t : List Move) (i x : ℕ) → is_in x (listed_numbers p t i) ≡ true → (0 < x)
     × (is_some (colour_in (uses_of p x) i) ≡ true)
-in_list_name p t i x e = (in_above 0 x (listed_numbers p t i) (rises_listed p t i) e, in_list_held p t i x e)
+in_list_name p t i x e = (in_above _ _ _ (rises_listed p t i) e, in_list_held p t i x e)
 
-listed_name : (p : Puzzle) (t : List Move) (i x : ℕ) → (x ≡ 0) ⊎ Contains (listed_numbers p t i) x → IsName p i x
-listed_name p t i x (inl z) = inl z
-listed_name p t i x (inr h) = inr (in_list_name p t i x (contained (listed_numbers p t i) x h))
+listed_name : (p : Puzzle) (t : List Move) (i : ℕ) {x : ℕ} → (x ≡ 0) ⊎ Contains (listed_numbers p t i) x → IsName p i x
+listed_name p t i (inl z) = inl z
+listed_name p t i (inr h) = inr (in_list_name p t _ _ (contained _ _ h))
 
-pub listed_within : (p : Puzzle) (t : List Move) (i x q : ℕ) → IsLaid p → IsItem p i → IsListedAt p t i x q →
+pub listed_within : {p : Puzzle} {t : List Move} {i x q : ℕ} → IsLaid p → IsItem p i → IsListedAt p t i x q →
     q < length (nodes_after p t).dlink
-listed_within p t i x q laid item at =
-    let place = node_within p i x laid item.0 item.1 (listed_name p t i x at.listed) in
+listed_within {p} {t} laid item at =
+    let place = node_within _ _ _ laid item.0 item.1 (listed_name p t _ at.listed) in
     let long = length-map (layout p) (dlink_in p (line_of p t)) in
     let is = at.at in
     omega (arith, place, long, is)
 
-down_at : (p : Puzzle) (t : List Move) (i x : ℕ) → IsLaid p → IsItem p i → (x ≡ 0) ⊎ Contains (listed_numbers p t i) x →
+down_at : {p : Puzzle} (t : List Move) (i : ℕ) {x : ℕ} → IsLaid p → IsItem p i → (x ≡ 0) ⊎ Contains (listed_numbers p t i) x →
     get_or (nodes_after p t).dlink (link_place p i x) 0 ≡ link_place p i (first_above 0 x (listed_numbers p t i))
-down_at p t i x laid item (inl z) =
-    ap (λ k. get_or (nodes_after p t).dlink (link_place p i k) 0) z
-    ∙ own_down p t i laid item.0 item.1
-    ∙ ap (λ k. link_place p i (first_above 0 k (listed_numbers p t i))) (sym z)
-down_at p t i x laid item (inr h) =
-    let e = contained (listed_numbers p t i) x h in
-    let is = in_list_name p t i x e in
-    use_down p t i x laid item.0 item.1 is.0 is.1 e
+down_at {p} t i laid item (inl z) = ap (λ k. get_or (nodes_after p t).dlink (link_place p i k) 0) z
+    ∙ own_down _ t _ laid item.0 item.1 ∙ ap (λ k. link_place p i (first_above 0 k (listed_numbers p t i))) (sym z)
+down_at {p} t i laid item (inr h) =
+    let e = contained _ _ h in
+    let is = in_list_name p t _ _ e in
+    use_down _ t _ _ laid item.0 item.1 is.0 is.1 e
 
 -- DLINK of a node in an item's list leads to the next one there
-pub listed_down : (p : Puzzle) (t : List Move) (i x q : ℕ) → IsLaid p → IsItem p i → IsListedAt p t i x q →
+pub listed_down : {p : Puzzle} {t : List Move} {i x q : ℕ} → IsLaid p → IsItem p i → IsListedAt p t i x q →
     get_or (nodes_after p t).dlink q 0 ≡ link_place p i (first_above 0 x (listed_numbers p t i))
-listed_down p t i x q laid item at = ap (λ k. get_or (nodes_after p t).dlink k 0) at.at
-    ∙ down_at p t i x laid item at.listed
+listed_down {p} {t} laid item at = ap (λ k. get_or (nodes_after p t).dlink k 0) at.at ∙ down_at t _ laid item at.listed
 
-pub use_name : (p : Puzzle) (i x q : ℕ) → IsUseAt p i x q → IsName p i x
-use_name p i x q u = inr (u.known.0, held_of i (uses_of p x) u.holds)
+pub use_name : {p : Puzzle} {i x q : ℕ} → IsUseAt p i x q → IsName p i x
+use_name u = inr (u.known.0, held_of _ _ u.holds)
 
-pub use_node : (p : Puzzle) (i x q : ℕ) → IsUseAt p i x q → IsNodeOf p i q
-use_node p i x q u = record { number = x; name = use_name p i x q u; at = u.at }
+pub use_node : {p : Puzzle} {i x q : ℕ} → IsUseAt p i x q → IsNodeOf p i q
+use_node {x} u = record { number = x; name = use_name u; at = u.at }
 
 pub named_back : (x : ℕ) → unwrap_or (named x) 0 ≡ x
 named_back x = grind (arith, common_steps)
@@ -75,38 +72,36 @@ named_back x = grind (arith, common_steps)
 -- ---- the use of a secondary item
 
 -- COLOR of a node of an open item, which isn't marked, is its use's colour
-pub open_colour : (p : Puzzle) (t : List Move) (q o : ℕ) (u : Use) → slice_get (layout p) q ≡ Some (used o u) →
+pub open_colour : (p : Puzzle) (t : List Move) (q : ℕ) {o : ℕ} {u : Use} → slice_get (layout p) q ≡ Some (used o u) →
     is_open u.item t ≡ true → get_or (nodes_after p t).color q 0 ≡ u.colour
-open_colour p t q o u at e =
-    get_map (color_in p t) (layout p) q (used o u) at ∙ ap (λ b. cond b MARK u.colour)
-    (open_unmarked p t u.item o u.colour e)
+open_colour p t q {o} {u} at e =
+    get_map (color_in p t) (layout p) q _ at ∙ ap (λ b. cond b MARK u.colour) (open_unmarked p t u.item o u.colour e)
 
 pub after_open : (p : Puzzle) (u : Use) (t : List Move) → primary_count p < u.item → is_open u.item t ≡ true →
     after_use p u t ≡ cond (eqb u.colour 0) (Cover u.item) (Purify u.item u.colour) ∷ t
 after_open p u t high e = grind (arith, common_steps, le-leb)
 
-pub use_item : (p : Puzzle) (q o j : ℕ) (u : Use) → IsLaid p → slice_get (layout p) q ≡ Some (used o u) →
+pub use_item : {p : Puzzle} (q : ℕ) {o j : ℕ} {u : Use} → IsLaid p → slice_get (layout p) q ≡ Some (used o u) →
     u.item ≡ j → IsItem p j
-use_item p q o j u laid at item = subst (λ i. IsItem p i) item (laid.nodes.ranged q (used o u) u.item o at refl)
+use_item {p} q {o} {u} laid at item = subst (λ i. IsItem p i) item (laid.nodes.ranged q (used o u) u.item o at refl)
 
-pub colour_within : (p : Puzzle) (t : List Move) (q o : ℕ) (u : Use) → slice_get (layout p) q ≡ Some (used o u) →
+pub colour_within : (p : Puzzle) (t : List Move) (q : ℕ) {o : ℕ} {u : Use} → slice_get (layout p) q ≡ Some (used o u) →
     q < length (nodes_after p t).color
-colour_within p t q o u at = let here = slice_get_within (layout p) q (used o u) at in
+colour_within p t q {o} {u} at = let here = slice_get_within (layout p) q (used o u) at in
     let long = length-map (layout p) (color_in p t) in omega (arith, here, long)
 
-pub committed_open : (p : Puzzle) (t : List Move) (q o j k : ℕ) (u : Use) →
+pub committed_open : (p : Puzzle) (t : List Move) (q : ℕ) {o j k : ℕ} {u : Use} →
     slice_get (layout p) q ≡ Some (used o u) → u.item ≡ j → primary_count p < j → is_open j t ≡ true →
-    k ≡ get_or (nodes_after p t).color q 0 →
-    cond (eqb k 0) (Cover j) (Purify j k) ∷ t ≡ after_use p u t
-committed_open p t q o j k u at item high still read =
+    k ≡ get_or (nodes_after p t).color q 0 → cond (eqb k 0) (Cover j) (Purify j k) ∷ t ≡ after_use p u t
+committed_open p t q {u} at item high still read =
     let is : is_open u.item t ≡ true = ap (λ i. is_open i t) item ∙ still in
-    ap₂ (λ i n. cond (eqb n 0) (Cover i) (Purify i n) ∷ t) (sym item) (read ∙ open_colour p t q o u at is)
-    ∙ sym (after_open p u t (omega (arith, high, item)) is)
+    ap₂ (λ i n. cond (eqb n 0) (Cover i) (Purify i n) ∷ t) (sym item) (read ∙ open_colour p t q at is)
+    ∙ sym (after_open p u _ (omega (arith, high, item)) is)
 
 -- the moves of such a use, of which a Cover may be still to be made
-pub still_covers : (j k : ℕ) (t new : List Move) (r : Bool) → r ≡ eqb k 0 → new ≡ cond (eqb k 0) t (Purify j k ∷ t) →
+pub still_covers : (j k : ℕ) (t : List Move) {new : List Move} {r : Bool} → r ≡ eqb k 0 → new ≡ cond (eqb k 0) t (Purify j k ∷ t) →
     cond (eqb k 0) (Cover j) (Purify j k) ∷ t ≡ cond r (Cover j ∷ new) new
-still_covers j k t new r e f = by_colour (eqb k 0) r e f
+still_covers j k t {new} {r} e f = by_colour (eqb k 0) r e f
   where
     by_colour : (b r : Bool) → r ≡ b → new ≡ cond b t (Purify j k ∷ t) →
         cond b (Cover j) (Purify j k) ∷ t ≡ cond r (Cover j ∷ new) new

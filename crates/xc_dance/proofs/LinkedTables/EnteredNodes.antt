@@ -60,7 +60,7 @@ last_from P l (x ∷ xs) h a =
 
 -- the last member is one of them, if there is one
 pub grown_last : (P : ℕ → Type 0) (xs : List ℕ) → P 0 → AllByRecursion P xs → P ((grown_all xs).up 0)
-grown_last P xs h a = last_from P blank xs h a
+grown_last P xs h a = last_from P _ _ h a
 
 -- a list that rises to its last
 pub last_high : (l : Line) (a : ℕ) (xs : List ℕ) → IsLinkedFrom l a xs → a ≤ l.up 0
@@ -90,7 +90,7 @@ linked_from l xs (y ∷ ys) h r none =
     ∙ none x (omega (arith, lt, last, high))))
 
 pub grown_linked : (xs : List ℕ) → Rises 0 xs → IsLinkedFrom (grown_all xs) 0 xs
-grown_linked xs r = linked_from blank [] xs (refl, refl) r (λ x h. refl)
+grown_linked xs r = linked_from blank [] _ (refl, refl) r (λ x h. refl)
 
 -- ---- the options whose nodes of an item are among the first nodes
 
@@ -121,9 +121,9 @@ held-append j (used o u ∷ ms) ns = grind (arith, common_steps, held-append j m
 held-append j (_ ∷ ms) ns = grind (arith, common_steps, held-append j ms ns)
 
 -- what one node more adds
-pub held_more : (j k : ℕ) (ns : List Node) (n : Node) → slice_get ns k ≡ Some n
+pub held_more : (j k : ℕ) (ns : List Node) {n : Node} → slice_get ns k ≡ Some n
     → held j (take (k + 1) ns) ≡ held j (take k ns) ++ held j (n ∷ [])
-held_more j k ns n e = ap (held j) (take_more-get ns k n e) ∙ held-append j (take k ns) (n ∷ [])
+held_more j k ns {n} e = ap (held j) (take_more-get ns k _ e) ∙ held-append j (take k ns) (n ∷ [])
 
 -- a fact of each option by its node
 pub held_each : (P : ℕ → Type 0) (j : ℕ) (ns : List Node)
@@ -171,11 +171,9 @@ one_use j o (u ∷ us) d = grind (arith, common_steps, absent_none, eqb-true, on
 pub options_hold : (j : ℕ) (os : List Numbered) → AllByRecursion (λ (x : Numbered). AreDistinct x.uses) os
     → held j (flat_map nodes_of os) ≡ map (λ (o : Numbered). o.number) (holding j os)
 options_hold j [] d = refl
-options_hold j (x ∷ os) d =
-    held-append j (nodes_of x) (flat_map nodes_of os)
-    ∙ ap (λ l. l ++ held j (flat_map nodes_of os))
-    (held-append j (map (used x.number) x.uses) (spacer x.number ∷ [])
-    ∙ append-nil (held j (map (used x.number) x.uses)) ∙ one_use j x.number x.uses d.0)
+options_hold j (x ∷ os) d = held-append j (nodes_of x) (flat_map nodes_of os)
+    ∙ ap (λ l. l ++ held j (flat_map nodes_of os)) (held-append j (map (used x.number) x.uses) (spacer x.number ∷ [])
+    ∙ append-nil (held j (map (used x.number) x.uses)) ∙ one_use j x.number _ d.0)
     ∙ elim (is_some (colour_in x.uses j)) as
     (λ b. cond b (x.number ∷ []) [] ++ held j (flat_map nodes_of os) ≡ map (λ (o : Numbered). o.number)
     (cond b (x ∷ holding j os) (holding j os))) [
@@ -188,9 +186,9 @@ owns_none j [] ns = refl
 owns_none j (i ∷ js) ns = owns_none j js ns
 
 -- in the end each item's list is that of all options
-pub held_all : (p : Puzzle) (j : ℕ) → IsFit p → held j (layout p) ≡ listed_numbers p [] j
-held_all p j fit = owns_none j (range_with_len 1 (item_count p)) (tail_from 0 p.options)
-    ∙ options_hold j (numbered_options p) (distinct_options p fit)
+pub held_all : {p : Puzzle} (j : ℕ) → IsFit p → held j (layout p) ≡ listed_numbers p [] j
+held_all {p} j fit = owns_none j (range_with_len 1 (item_count p)) (tail_from 0 p.options)
+    ∙ options_hold j _ (distinct_options fit)
 
 -- ---- a use's node enters its item's list: so does its option the item's line
 
@@ -221,32 +219,28 @@ entered-is p ln col q o u laid e here head last item =
     let downs = column p down (fixed_down p) in
     let i = get_or tops q 0 in
     let is_q : link_place p j o ≡ q = laid.unique q (used o u) j o e refl in
-    let is_i : i ≡ j = get_map (top_in ln) (layout p) q (used o u) e in
+    let is_i : i ≡ j = get_map (top_in ln) (layout p) q _ e in
     let is_u : get_or ups i 0 ≡ link_place p j v =
-    ap (λ k. get_or ups k 0) is_i ∙ get_link p up (fixed_up p) j 0 head in
-    let count : get_or tops j 0 ≡ (ln j).len = get_len p ln j laid item.0 item.1 in
+    ap (λ k. get_or ups k 0) is_i ∙ get_link _ up (fixed_up p) _ _ head in
+    let count : get_or tops j 0 ≡ (ln j).len = get_len _ ln _ laid item.0 item.1 in
     let more = grown (ln j) o in
     let once = put_link up j (put_at (up j) o v) in
-    same_nodes (entered (nodes_from p ln col) q) (nodes_from p (with_line ln j more) col)
-    (ap (λ k. set tops k (get_or tops k 0 + 1)) is_i ∙ ap (λ n. set tops j (n + 1)) count
-    ∙ sym (set_top p ln j more laid item.0 item.1))
-    (ap (λ k. set (set ups q (get_or ups i 0)) k q) is_i
-    ∙ ap (λ w. set (set ups q w) j q) is_u
-    ∙ ap (λ k. set (set ups k (link_place p j v)) j k) (sym is_q)
-    ∙ ap (λ l. set l j (link_place p j o)) (sym (set_link p up (fixed_up p) j o v laid here))
-    ∙ sym (set_link p once (fixed_up p) j 0 o laid head)
+    same_nodes _ _ (ap (λ k. set tops k (get_or tops k 0 + 1)) is_i ∙ ap (λ n. set tops j (n + 1)) count
+    ∙ sym (set_top _ ln _ more laid item.0 item.1)) (ap (λ k. set (set ups q (get_or ups i 0)) k q) is_i
+    ∙ ap (λ w. set (set ups q w) j q) is_u ∙ ap (λ k. set (set ups k (link_place p j v)) j k) (sym is_q)
+    ∙ ap (λ l. set l j (link_place p j o)) (sym (set_link _ up (fixed_up p) _ _ v laid here))
+    ∙ sym (set_link _ once (fixed_up p) _ _ o laid head)
     ∙ column_same p (put_link up j (put_at (put_at (up j) o v) 0 o)) (put_link once j (put_at (once j) 0 o))
     (fixed_up p) (written_twice up j (put_at (up j) o v) o))
     (ap (λ w. set downs w q) is_u ∙ ap (set downs (link_place p j v)) (sym is_q)
-    ∙ sym (set_link p down (fixed_down p) j v o laid last))
-    refl
+    ∙ sym (set_link _ down (fixed_down p) _ _ o laid last)) refl
 
 -- ---- the nodes so far
 
 use_name : (p : Puzzle) (k o j : ℕ) (u : Use) → IsFit p → slice_get (layout p) k ≡ Some (used o u) → u.item ≡ j
     → IsName p j o
 use_name p k o j u fit e same =
-    let nodes = (is_laid p fit).nodes in
+    let nodes = (is_laid _ fit).nodes in
     inr (
       nodes.numbered k o u e,
       ap (λ i. is_some (colour_in (uses_of p o) i)) (sym same) ∙ ap is_some (nodes.coloured k o u e),
@@ -261,14 +255,13 @@ line_then p q o u e k =
     let j = u.item in
     let l : Line = grown (lines_of ns j) o in
     let m : Line = lines_of ns k in
-    let make : Bool → Line =
-    λ b. record {
+    let make : Bool → Line = λ b. record {
       len = cond b l.len m.len;
       up = λ x. cond b (l.up x) (m.up x);
       down = λ x. cond b (l.down x) (m.down x);
     } in
     let next : held k (take (q + 1) (layout p)) ≡ held k ns ++ cond (eqb j k) (o ∷ []) [] =
-    held_more k q (layout p) (used o u) e in
+    held_more k q (layout p) e in
     grind (arith, common_steps, append-nil, eq-eqb, eqb-false, eqb-true, grown_more, ne_eqb)
 
 -- what entering the node at q asks, and what it gives
@@ -322,13 +315,12 @@ use_step p q o u fit limits e =
 pub spacer_step : (p : Puzzle) (q n : ℕ) → slice_get (layout p) q ≡ Some (spacer n) →
     nodes_from p (lines_of (take q (layout p))) (color_in p []) ≡ nodes_from p (lines_of (take (q + 1) (layout p)))
     (color_in p [])
-spacer_step p q n e =
-    nodes_same p (lines_of (take q (layout p))) (lines_of (take (q + 1) (layout p))) (color_in p [])
-    (λ k. ap grown_all (sym (held_more k q (layout p) (spacer n) e ∙ append-nil (held k (take q (layout p))))))
+spacer_step p q n e = nodes_same _ (lines_of (take q (layout p))) (lines_of (take (q + 1) (layout p))) (color_in p [])
+    (λ k. ap grown_all (sym (held_more k q (layout p) e ∙ append-nil (held k (take q (layout p))))))
 
 pub spacer_top : (p : Puzzle) (ln : ℕ → Line) (col : Node → ℕ) (q n : ℕ) → slice_get (layout p) q ≡ Some (spacer n)
     → slice_index (nodes_from p ln col).top q ≡ SPACER + n
-spacer_top p ln col q n e = get_map (top_in ln) (layout p) q (spacer n) e
+spacer_top p ln col q n e = get_map (top_in ln) (layout p) q _ e
 
 -- ---- once every node is entered, the table is that of no moves
 
@@ -337,15 +329,14 @@ along : (xs : List ℕ) → Rises 0 xs → Swept (grown_all xs) (grown_all xs) 0
 along xs r =
     let l = grown_all xs in
     let s : Swept l (cuts l (filter (λ x. false) xs)) 0 xs (stay (λ x. false) xs) =
-    swept l 0 xs (λ x. false) (grown_linked xs r) in
+    swept _ _ _ (λ x. false) (grown_linked _ r) in
     subst (λ ks. Swept l l 0 xs ks) (stay_all xs)
     (subst (λ ys. Swept l (cuts l ys) 0 xs (stay (λ x. false) xs)) (leave_none xs) s)
 
 -- before the first use's node, all lists are empty
 pub none_entered : (p : Puzzle)
     → nodes_from p blanks (color_in p []) ≡ nodes_from p (lines_of (take (item_count p + 1) (layout p))) (color_in p [])
-none_entered p =
-    nodes_same p blanks (lines_of (take (item_count p + 1) (layout p))) (color_in p [])
+none_entered p = nodes_same _ blanks (lines_of (take (item_count p + 1) (layout p))) (color_in p [])
     (λ j. ap grown_all (sym (held_none p j)))
 
 abbrev whole : Puzzle → ℕ → Line
@@ -353,43 +344,39 @@ whole p j = grown_all (listed_numbers p [] j)
 
 up_is : (p : Puzzle) (j o : ℕ) → is_in o (listed_numbers p [] j) ≡ true → 0 < o → (whole p j).up o ≡ up_of p [] j o
 up_is p j zero e pos = absurd (omega (arith, pos))
-up_is p j (suc o) e pos = (along (listed_numbers p [] j) (rises_listed p [] j)).up_in (suc o) e
+up_is p j (suc o) e pos = (along _ (rises_listed p [] j)).up_in (suc o) e
 
 down_is : (p : Puzzle) (j o : ℕ) → is_in o (listed_numbers p [] j) ≡ true → 0 < o
     → (whole p j).down o ≡ down_of p [] j o
 down_is p j zero e pos = absurd (omega (arith, pos))
-down_is p j (suc o) e pos =
-    (along (listed_numbers p [] j) (rises_listed p [] j)).down_in (suc o) (λ z. omega (arith, z)) e
+down_is p j (suc o) e pos = (along _ (rises_listed p [] j)).down_in (suc o) (λ z. omega (arith, z)) e
 
-in_list : (p : Puzzle) (q o : ℕ) (u : Use) → IsFit p → slice_get (layout p) q ≡ Some (used o u)
+in_list : {p : Puzzle} (q : ℕ) {o : ℕ} {u : Use} → IsFit p → slice_get (layout p) q ≡ Some (used o u)
     → is_in o (listed_numbers p [] u.item) ≡ true
-in_list p q o u fit e = ap (is_in o) (sym (held_all p u.item fit)) ∙ held_in (layout p) q o u e
+in_list {p} q {o} {u} fit e = ap (is_in o) (sym (held_all u.item fit)) ∙ held_in (layout p) q _ _ e
 
 top_is : (p : Puzzle) (n : Node) → top_in (whole p) n ≡ top_in (line_of p []) n
-top_is p (own i) = grown_len (listed_numbers p [] i) ∙ length-map (listed p [] i) (λ o. o.number)
+top_is p (own i) = grown_len _ ∙ length-map (listed p [] i) (λ o. o.number)
 top_is p _ = refl
 
-ulink_is : (p : Puzzle) (q : ℕ) (n : Node) → IsFit p → slice_get (layout p) q ≡ Some n
+ulink_is : {p : Puzzle} (q : ℕ) (n : Node) → IsFit p → slice_get (layout p) q ≡ Some n
     → ulink_in p (whole p) n ≡ ulink_in p (line_of p []) n
-ulink_is p q (own i) fit e = ap (link_place p i) (along (listed_numbers p [] i) (rises_listed p [] i)).last
-ulink_is p q (used o u) fit e =
-    ap (link_place p u.item) (up_is p u.item o (in_list p q o u fit e) ((is_laid p fit).nodes.numbered q o u e))
-ulink_is p q _ fit e = refl
+ulink_is {p} q (own i) fit e = ap (link_place p i) (along _ (rises_listed p [] i)).last
+ulink_is {p} q (used o u) fit e =
+    ap (link_place p u.item) (up_is p u.item _ (in_list _ fit e) ((is_laid _ fit).nodes.numbered q o u e))
+ulink_is q _ fit e = refl
 
-dlink_is : (p : Puzzle) (q : ℕ) (n : Node) → IsFit p → slice_get (layout p) q ≡ Some n
+dlink_is : {p : Puzzle} (q : ℕ) (n : Node) → IsFit p → slice_get (layout p) q ≡ Some n
     → dlink_in p (whole p) n ≡ dlink_in p (line_of p []) n
-dlink_is p q (own i) fit e = ap (link_place p i) (along (listed_numbers p [] i) (rises_listed p [] i)).first
-dlink_is p q (used o u) fit e =
-    ap (link_place p u.item) (down_is p u.item o (in_list p q o u fit e) ((is_laid p fit).nodes.numbered q o u e))
-dlink_is p q _ fit e = refl
+dlink_is {p} q (own i) fit e = ap (link_place p i) (along _ (rises_listed p [] i)).first
+dlink_is {p} q (used o u) fit e =
+    ap (link_place p u.item) (down_is p u.item _ (in_list _ fit e) ((is_laid _ fit).nodes.numbered q o u e))
+dlink_is q _ fit e = refl
 
 pub all_entered : (p : Puzzle) (n : ℕ) → IsFit p → length (layout p) ≤ n
     → nodes_from p (lines_of (take n (layout p))) (color_in p []) ≡ nodes_after p []
-all_entered p n fit le =
-    nodes_same p (lines_of (take n (layout p))) (whole p) (color_in p [])
-    (λ j. ap (λ ns. lines_of ns j) (take_all n (layout p) le) ∙ ap grown_all (held_all p j fit))
-    ∙ same_nodes (nodes_from p (whole p) (color_in p [])) (nodes_after p [])
-    (map_same (top_in (line_of p [])) (top_in (whole p)) (layout p) (λ q m e. top_is p m))
-    (map_same (ulink_in p (line_of p [])) (ulink_in p (whole p)) (layout p) (λ q m e. ulink_is p q m fit e))
-    (map_same (dlink_in p (line_of p [])) (dlink_in p (whole p)) (layout p) (λ q m e. dlink_is p q m fit e))
-    refl
+all_entered p n fit le = nodes_same _ (lines_of (take n (layout p))) (whole p) (color_in p [])
+    (λ j. ap (λ ns. lines_of ns j) (take_all n (layout p) le) ∙ ap grown_all (held_all j fit))
+    ∙ same_nodes _ _ (map_same (top_in (line_of p [])) (top_in (whole p)) (layout p) (λ q m e. top_is p m))
+    (map_same (ulink_in p (line_of p [])) (ulink_in p (whole p)) (layout p) (λ q m e. ulink_is _ _ fit e))
+    (map_same (dlink_in p (line_of p [])) (dlink_in p (whole p)) (layout p) (λ q m e. dlink_is _ _ fit e)) refl

@@ -55,9 +55,9 @@ set_suc f (m ∷ ns) zero n e = ap (λ v. v ∷ filled f ns 0) (ap f (sym (same_
 set_suc f (m ∷ ns) (suc k) n e = ap (λ l. f m ∷ l) (set_suc f ns k n e)
 
 -- one cell more
-pub filled_more : {X : Type 0} (f : X → ℕ) (ns : List X) (k : ℕ) (n : X) (v : ℕ) → slice_get ns k ≡ Some n → v ≡ f n
+pub filled_more : {X : Type 0} (f : X → ℕ) (ns : List X) (k : ℕ) {n : X} {v : ℕ} → slice_get ns k ≡ Some n → v ≡ f n
     → set (filled f ns k) k v ≡ filled f ns (k + 1)
-filled_more f ns k n v e is = grind (arith, common_steps, set_suc)
+filled_more f ns k e is = grind (arith, common_steps, set_suc)
 
 -- ---- the node table as it is laid node by node
 
@@ -76,23 +76,22 @@ rows_more p ns n = λ i. record {
 }
 
 -- one node more
-pub laid_more : (p : Puzzle) (k : ℕ) (n : Node) (r : Row) → slice_get (layout p) k ≡ Some n → r ≡ row_of p n
+pub laid_more : (p : Puzzle) (k : ℕ) {n : Node} (r : Row) → slice_get (layout p) k ≡ Some n → r ≡ row_of p n
     → with_row (laid_to p k) r ≡ laid_to p (k + 1)
-laid_more p k n r e is =
-    ap (with_row (laid_to p k)) is
+laid_more p k {n} r e is = ap (with_row (laid_to p k)) is
     ∙ ap (λ (t : Nodes). let l : Laying = record { count = length (layout p); nodes = t } in l)
-    (rows_more p (take k (layout p)) n ∙ ap (rows_of p) (sym (take_more-get (layout p) k n e)))
+    (rows_more p (take k (layout p)) n ∙ ap (rows_of p) (sym (take_more-get _ _ _ e)))
 
-pub laid_none : (p : Puzzle) (c : ℕ) → c ≡ length (layout p) → no_rows c ≡ laid_to p 0
-laid_none p c e = ap no_rows e
+pub laid_none : (p : Puzzle) {c : ℕ} → c ≡ length (layout p) → no_rows c ≡ laid_to p 0
+laid_none p e = ap no_rows e
 
 pub laid_all : (p : Puzzle) → (laid_to p (length (layout p))).nodes ≡ nodes_from p blanks (color_in p [])
 laid_all p = ap (rows_of p) (take-length (layout p))
 
 -- there is room for the next one
-pub laid_room : (p : Puzzle) (k : ℕ) (n : Node) → slice_get (layout p) k ≡ Some n
+pub laid_room : (p : Puzzle) (k : ℕ) {n : Node} → slice_get (layout p) k ≡ Some n
     → length (laid_to p k).nodes.top < (laid_to p k).count
-laid_room p k n e =
+laid_room p k {n} e =
     let within = slice_get_within (layout p) k n e in
     let count = length-map (take k (layout p)) (top_in blanks) in
     omega (arith, within, count, length-take-le k (layout p) (omega (arith, within)))
@@ -113,11 +112,11 @@ down_next p o us lt e =
 pub own_row : (p : Puzzle) (i : ℕ) → i ≤ item_count p → (n : Node) × (slice_get (layout p) i ≡ Some n)
     × (let r : Row = record { top = 0; ulink = i; dlink = i; color = 0 } in r ≡ row_of p n)
 own_row p zero le = (unused, refl, refl)
-own_row p (suc i) le = (own (suc i), head_is p (suc i) (omega arith) le, refl)
+own_row p (suc i) le = (own (suc i), head_is _ (suc i) (omega arith) le, refl)
 
-pub spacer_row : (p : Puzzle) (o above below : ℕ) → above ≡ fixed_up p (spacer o) → below ≡ fixed_down p (spacer o) →
+pub spacer_row : (p : Puzzle) (o : ℕ) {above below : ℕ} → above ≡ fixed_up p (spacer o) → below ≡ fixed_down p (spacer o) →
     (let r : Row = record { top = SPACER + o; ulink = above; dlink = below; color = 0 } in r ≡ row_of p (spacer o))
-spacer_row p o above below e f =
+spacer_row p o e f =
     let row : ℕ → ℕ → Row = λ a b. record { top = SPACER + o; ulink = a; dlink = b; color = 0 } in ap₂ row e f
 
 -- ---- the item table as it is filled place by place
@@ -129,12 +128,12 @@ pub column_none : (f : ℕ → ℕ) (n : ℕ) → replicate n 0 ≡ filled f (ra
 column_none f n = ap zeros (sym (length-range_with_len 0 n)) ∙ filled_none f (range_with_len 0 n)
 
 pub column_len : (f : ℕ → ℕ) (n k : ℕ) → length (filled f (range_with_len 0 n) k) ≡ n
-column_len f n k = length-filled f (range_with_len 0 n) k ∙ length-range_with_len 0 n
+column_len f n k = length-filled f _ _ ∙ length-range_with_len 0 n
 
 pub column_more : (f : ℕ → ℕ) (n k v : ℕ) → k < n → v ≡ f k
     → set (filled f (range_with_len 0 n) k) k v ≡ filled f (range_with_len 0 n) (k + 1)
 column_more f n k v lt is =
-    let z : 0 + k ≡ k = omega arith in filled_more f (range_with_len 0 n) k k v (range_get 0 n k lt ∙ ap Some z) is
+    let z : 0 + k ≡ k = omega arith in filled_more f _ _ (range_get 0 _ _ lt ∙ ap Some z) is
 
 pub column_all : (f : ℕ → ℕ) (n k : ℕ) → n ≤ k → filled f (range_with_len 0 n) k ≡ map f (range_with_len 0 n)
 column_all f n k le =
@@ -159,9 +158,9 @@ low_high [] k a = omega arith
 low_high (b ∷ bs) zero a = a.0.0
 low_high (b ∷ bs) (suc k) a = low_high bs k a.1
 
-pub low_most : (p : Puzzle) (i : ℕ) → IsValid p → low_at p i ≤ high_at p i
-low_most p zero valid = omega arith
-low_most p (suc k) valid = low_high p.bounds k (recursion_from_All AreSoundBounds p.bounds valid.bounds)
+pub low_most : {p : Puzzle} (i : ℕ) → IsValid p → low_at p i ≤ high_at p i
+low_most zero valid = omega arith
+low_most {p} (suc k) valid = low_high _ _ (recursion_from_All AreSoundBounds p.bounds valid.bounds)
 
 -- ---- the rings of items before any move: who stands beside whom
 
@@ -174,8 +173,7 @@ none_below other i a (suc n) le =
 
 below_in : (other i a n : ℕ) → a < i → i ≤ a + n → last_below other i (range_with_len a n) ≡ i - 1
 below_in other i a zero lt le = absurd (omega (arith, lt, le))
-below_in other i a (suc n) lt le =
-    last_below-more other i a (range_with_len (a + 1) n) lt
+below_in other i a (suc n) lt le = last_below-more _ _ _ _ lt
     ∙ elim (ltb (a + 1) i) as (λ b. ltb (a + 1) i ≡ b → last_below a i (range_with_len (a + 1) n) ≡ i - 1) [
       | true ↦ λ e. below_in a i (a + 1) n (ltb-true (a + 1) i e) (omega (arith, le))
       | false ↦ λ e. let ge =
@@ -268,8 +266,8 @@ last_secondary : (other a n : ℕ) → n ≢ 0 → last_of other (range_with_len
 last_secondary other a zero ne = absurd (ne refl)
 last_secondary other a (suc n) ne = last_in other a n ∙ omega arith
 
-pub left_head : (p : Puzzle) (i : ℕ) → i ≡ 0 → primary_count p ≡ llink_at p [] i
-left_head p i e =
+pub left_head : (p : Puzzle) {i : ℕ} → i ≡ 0 → primary_count p ≡ llink_at p [] i
+left_head p e =
     sym (ap (llink_at p []) e ∙ ap (last_of 0) (low_ring p 0 (omega arith)) ∙ last_primary (primary_count p))
 
 -- the first secondary item, or the head of the secondary items where there is none
@@ -291,8 +289,8 @@ left_inner p i nz ne le =
       none_below,
     )
 
-pub right_last : (p : Puzzle) (i : ℕ) → i ≡ primary_count p → 0 ≡ rlink_at p [] i
-right_last p i e = grind (arith, common_steps, by_size, inner_right, low_right, low_ring, none_above)
+pub right_last : (p : Puzzle) {i : ℕ} → i ≡ primary_count p → 0 ≡ rlink_at p [] i
+right_last p e = grind (arith, common_steps, by_size, inner_right, low_right, low_ring, none_above)
 
 first_secondary : (a n : ℕ) → first_of (a + n) (range_with_len a n) ≡ a
 first_secondary a zero = omega arith

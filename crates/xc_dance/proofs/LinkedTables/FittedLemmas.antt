@@ -44,14 +44,13 @@ at_place P (us ∷ os) (suc k) nil a = at_place P os k nil a.1
 
 at_option : (P : List Use → Type 0) (p : Puzzle) (o : ℕ) → P [] → AllByRecursion P p.options → P (uses_of p o)
 at_option P p zero nil a = nil
-at_option P p (suc k) nil a = at_place P p.options k nil a
+at_option P p (suc k) nil a = at_place P _ _ nil a
 
 abbrev InRange : Puzzle → Use → Type 0
 InRange p u = (0 < u.item) × (u.item ≤ item_count p)
 
 sound_items : (p : Puzzle) (us : List Use) → IsSoundOption p us → AllByRecursion (InRange p) us
-sound_items p us s =
-    each_weaker (IsSoundUse p) (InRange p) us (λ u h. (let a = h.0.0 in omega (arith, a), h.0.1))
+sound_items p us s = each_weaker (IsSoundUse p) (InRange p) _ (λ u h. (let a = h.0.0 in omega (arith, a), h.0.1))
     (recursion_from_All (IsSoundUse p) us s.sound)
 
 -- the rules of a problem say nothing of the colours: they are to be below the mark
@@ -61,14 +60,12 @@ is_fit p valid colours few small near =
     let sound : AllByRecursion (IsSoundOption p) p.options =
     recursion_from_All (IsSoundOption p) p.options valid.options in
     record {
-      distinct =
-          λ o. at_option AreDistinct p o tt
-          (each_weaker (IsSoundOption p) AreDistinct p.options (λ us s. distinct_from us s.distinct) sound);
-      items =
-          λ o. at_option (λ us. AllByRecursion (InRange p) us) p o tt
-          (each_weaker (IsSoundOption p) (λ us. AllByRecursion (InRange p) us) p.options (sound_items p) sound);
+      distinct = λ o. at_option AreDistinct p o tt
+          (each_weaker (IsSoundOption p) AreDistinct _ (λ us s. distinct_from _ s.distinct) sound);
+      items = λ o. at_option (λ us. AllByRecursion (InRange p) us) p o tt
+          (each_weaker (IsSoundOption p) (λ us. AllByRecursion (InRange p) us) _ (sound_items p) sound);
       colours = λ o. at_option (λ us. AllByRecursion (λ u. u.colour < MARK) us) p o tt
-          (each_weaker (λ us. All (λ u. u.colour < MARK) us) (λ us. AllByRecursion (λ u. u.colour < MARK) us) p.options
+          (each_weaker (λ us. All (λ u. u.colour < MARK) us) (λ us. AllByRecursion (λ u. u.colour < MARK) us) _
           (λ us h. recursion_from_All (λ u. u.colour < MARK) us h)
           (recursion_from_All (λ us. All (λ u. u.colour < MARK) us) p.options colours));
       few = few;
@@ -88,18 +85,16 @@ high_most [] k a = omega arith
 high_most (b ∷ bs) zero a = a.0
 high_most (b ∷ bs) (suc k) a = high_most bs k a.1
 
-high_small : (p : Puzzle) (i : ℕ) → IsWithinLimits p → high_at p i < 2 ^ 31
-high_small p zero limits = omega arith
-high_small p (suc k) limits = let h =
+high_small : {p : Puzzle} (i : ℕ) → IsWithinLimits p → high_at p i < 2 ^ 31
+high_small zero limits = omega arith
+high_small {p} (suc k) limits = let h =
     high_most p.bounds k (recursion_from_All (λ (b : Bounds). b.high ≤ 999999999) p.bounds limits.bounds) in
     omega (arith, h)
 
-pub fitted : (p : Puzzle) (spans : List Span) → IsWithinLimits p → IsFit p → spans ≡ spans_of p → IsFitted p spans
-fitted p spans limits fit is =
-    subst (IsFitted p) (sym is)
-    (record {
-      laid = is_laid p fit;
-      spanned = has_spans p fit;
-      fit = fit;
-      bounds = λ i. high_small p i limits;
-    })
+pub fitted : {p : Puzzle} {spans : List Span} → IsWithinLimits p → IsFit p → spans ≡ spans_of p → IsFitted p spans
+fitted {p} limits fit is = subst (IsFitted p) (sym is) (record {
+  laid = is_laid _ fit;
+  spanned = has_spans _ fit;
+  fit = fit;
+  bounds = λ i. high_small i limits;
+})

@@ -46,27 +46,22 @@ pub record IsMember (p : Puzzle) (j : ℕ) (l : Line) (o : ℕ) : Type 0 where
 
 pub member_cells : (p : Puzzle) (col : Node → ℕ) (ln : ℕ → Line) (j o : ℕ) → IsLaid p → IsMember p j (ln j) o
     → NodeCells p ln col j o
-member_cells p col ln j o laid m = node_cells p ln col j o laid m.item.0 m.item.1 m.pos m.name m.above m.below
+member_cells p col ln j o laid m = node_cells _ ln _ _ _ laid m.item.0 m.item.1 m.pos m.name m.above m.below
 
 pub unlinked-is : (p : Puzzle) (col : Node → ℕ) (ln : ℕ → Line) (j o : ℕ) → IsLaid p → IsMember p j (ln j) o →
     unlinked (nodes_from p ln col) (link_place p j o) ≡ nodes_from p (with_line ln j (cut (ln j) o)) col
 unlinked-is p col ln j o laid m =
-    let c = member_cells p col ln j o laid m in
+    let c = member_cells _ col ln _ _ laid m in
     let t : Nodes = nodes_from p ln col in
-    same_nodes (unlinked t (link_place p j o)) (nodes_from p (with_line ln j (cut (ln j) o)) col)
-    (ap (λ i. set t.top i (get_or t.top i 0 - 1)) c.item ∙ ap (λ n. set t.top j (n - 1)) c.len
-    ∙ sym (set_top p ln j (cut (ln j) o) laid m.item.0 m.item.1))
-    (ap₂ (set t.ulink) c.down c.up
-    ∙ sym (set_link p (λ k x. (ln k).up x) (fixed_up p) j ((ln j).down o) ((ln j).up o) laid c.below))
-    (ap₂ (set t.dlink) c.up c.down
-    ∙ sym (set_link p (λ k x. (ln k).down x) (fixed_down p) j ((ln j).up o) ((ln j).down o) laid c.above))
-    refl
+    same_nodes _ _ (ap (λ i. set t.top i (get_or t.top i 0 - 1)) c.item ∙ ap (λ n. set t.top j (n - 1)) c.len
+    ∙ sym (set_top _ ln _ (cut (ln j) o) laid m.item.0 m.item.1)) (ap₂ (set t.ulink) c.down c.up
+    ∙ sym (set_link _ (λ k x. (ln k).up x) (fixed_up p) _ _ ((ln j).up o) laid c.below)) (ap₂ (set t.dlink) c.up c.down
+    ∙ sym (set_link _ (λ k x. (ln k).down x) (fixed_down p) _ _ ((ln j).down o) laid c.above)) refl
 
 pub linked-is : (p : Puzzle) (col : Node → ℕ) (ln : ℕ → Line) (j o : ℕ) → IsLaid p → IsMember p j (ln j) o
     → IsLinked (nodes_from p ln col) (link_place p j o)
 linked-is p col ln j o laid m =
     let c = member_cells p col ln j o laid m in
-    let t : Nodes = nodes_from p ln col in
     let q = link_place p j o in
     let some = m.some in
     let not_head : j ≢ q = λ e. omega (arith, e, m.item.1, behind_items p j o m.pos) in
@@ -177,12 +172,12 @@ lower l a (y ∷ ys) o zs h = lower l y ys o zs h.3
 
 cut_anywhere : (l : Line) (a : ℕ) (ys : List ℕ) (o : ℕ) (zs : List ℕ) → IsLinkedFrom l a (ys ++ o ∷ zs)
     → IsLinkedFrom (cut l o) a (ys ++ zs)
-cut_anywhere l a [] o zs h = cut-linked l a o zs h
+cut_anywhere l a [] o zs h = cut-linked l _ _ _ h
 cut_anywhere l a (y ∷ ys) o zs h =
     let lt : a < y = h.0 in
-    let hi : y ≤ l.up o = higher l y ys o zs h.3 in
-    let y_o : y < o = above l y ys o zs h.3 in
-    let lo : (l.down o ≡ 0) ⊎ (o < l.down o) = lower l y ys o zs h.3 in (
+    let hi : y ≤ l.up o = higher l _ _ _ _ h.3 in
+    let y_o : y < o = above l _ _ _ _ h.3 in
+    let lo : (l.down o ≡ 0) ⊎ (o < l.down o) = lower l y _ _ _ h.3 in (
       lt,
       put_at-other l.down (l.up o) (l.down o) a (λ e. omega arith) ∙ h.1,
       put_at-other l.up (l.down o) (l.up o) y (λ e. omega arith) ∙ h.2,
@@ -194,9 +189,9 @@ each_without : {X : Type 0} (P : X → Type 0) (ys : List X) (o : X) (zs : List 
 each_without P [] o zs h = h.1
 each_without P (y ∷ ys) o zs h = (h.0, each_without P ys o zs h.1)
 
-pub good_cut : (p : Puzzle) (j : ℕ) (l : Line) (ys : List ℕ) (o : ℕ) (zs : List ℕ) → IsGood p j l (ys ++ o ∷ zs)
+pub good_cut : {p : Puzzle} {j : ℕ} {l : Line} (ys : List ℕ) (o : ℕ) (zs : List ℕ) → IsGood p j l (ys ++ o ∷ zs)
     → IsGood p j (cut l o) (ys ++ zs)
-good_cut p j l ys o zs g = grind (arith, common_steps, cut_anywhere, each_without, length-append)
+good_cut ys o zs g = grind (arith, common_steps, cut_anywhere, each_without, length-append)
 
 -- ---- all items
 
@@ -210,11 +205,9 @@ pub all_good_cut : (p : Puzzle) (ln : ℕ → Line) (lists : ℕ → List ℕ) (
     → j ≤ item_count p → lists j ≡ ys ++ o ∷ zs → AllGood p ln lists →
     AllGood p (with_line ln j (cut (ln j) o)) (with_list lists j (ys ++ zs))
 all_good_cut p ln lists j ys o zs pos le is good k kpos kle =
-    let own : IsGood p j (cut (ln j) o) (ys ++ zs) =
-    good_cut p j (ln j) ys o zs (subst (IsGood p j (ln j)) is (good j pos le)) in
+    let own : IsGood p j (cut (ln j) o) (ys ++ zs) = good_cut _ _ _ (subst (IsGood p j (ln j)) is (good j pos le)) in
     let l : Line = cut (ln j) o in
-    let make : Bool → Line =
-    λ b. record {
+    let make : Bool → Line = λ b. record {
       len = cond b l.len (ln k).len;
       up = λ x. cond b (l.up x) ((ln k).up x);
       down = λ x. cond b (l.down x) ((ln k).down x);
@@ -254,14 +247,14 @@ line_after p t m j ks c =
     let xs = listed_numbers p t j in
     let l : Line = cuts (line_of p t j) (filter c.test xs) in
     let s : Swept (line_of p t j) l 0 xs (listed_numbers p (m ∷ t) j) =
-    subst (Swept (line_of p t j) l 0 xs) (sym c.stay_is) (swept (line_of p t j) 0 xs c.test (stands p t j)) in
+    subst (Swept (line_of p t j) l 0 xs) (sym c.stay_is) (swept _ _ _ c.test (stands p t j)) in
     let long : length (listed_numbers p t j) ≡ length (listed p t j) = length-map (listed p t j) (λ o. o.number) in
     let long' : length (listed_numbers p (m ∷ t) j) ≡ length (listed p (m ∷ t) j) =
     length-map (listed p (m ∷ t) j) (λ o. o.number) in
     let len : l.len ≡ 0 + length (stay c.test xs) = swept_len (line_of p t j) xs c.test 0 (omega (arith, long)) in
     let stay_len : length (listed_numbers p (m ∷ t) j) ≡ length (stay c.test xs) = ap length c.stay_is in
-    line_is l (line_of p (m ∷ t) j) (omega (arith, long', len, stay_len)) (up_after p t m j l s)
-    (down_after p t m j l s) ∙ ap (cuts (line_of p t j)) (sym c.cut_is)
+    line_is l (line_of p (m ∷ t) j) (omega (arith, long', len, stay_len)) (up_after p t m j _ s)
+    (down_after p t m j _ s) ∙ ap (cuts (line_of p t j)) (sym c.cut_is)
 
 -- ---- tables of the same lines
 
@@ -281,12 +274,9 @@ pub tables_same : (p : Puzzle) (ln rn : ℕ → Line) (col now : Node → ℕ) �
 tables_same p ln rn col now laid h colours =
     let at : (k : ℕ) (n : Node) → slice_get (layout p) k ≡ Some n → (j x : ℕ) → slot_of n ≡ Some (j, x) → rn j ≡ ln j =
     λ k n e j x f. h j (laid.nodes.ranged k n j x e f) in
-    same_nodes (nodes_from p rn now) (nodes_from p ln col)
-    (map_same (top_in ln) (top_in rn) (layout p) (λ k n e. top_same p ln rn k n (at k n e)))
+    same_nodes _ _ (map_same (top_in ln) (top_in rn) (layout p) (λ k n e. top_same p ln rn k _ (at k n e)))
     (map_same (ulink_in p ln) (ulink_in p rn) (layout p)
     (λ k n e. link_same p (λ j x. (ln j).up x) (λ j x. (rn j).up x) (fixed_up p n) (slot_of n)
-    (λ j x f. ap (λ (l : Line). l.up x) (at k n e j x f))))
-    (map_same (dlink_in p ln) (dlink_in p rn) (layout p)
+    (λ j x f. ap (λ (l : Line). l.up x) (at k n e j x f)))) (map_same (dlink_in p ln) (dlink_in p rn) (layout p)
     (λ k n e. link_same p (λ j x. (ln j).down x) (λ j x. (rn j).down x) (fixed_down p n) (slot_of n)
-    (λ j x f. ap (λ (l : Line). l.down x) (at k n e j x f))))
-    (map_same col now (layout p) colours)
+    (λ j x f. ap (λ (l : Line). l.down x) (at k n e j x f)))) (map_same col now (layout p) colours)

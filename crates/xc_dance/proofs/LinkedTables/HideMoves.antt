@@ -80,11 +80,11 @@ follow_up p ln i a [] laid pos le named h = (refl, ap (link_place p i) h.1)
 follow_up p ln i a (o ∷ xs) laid pos le named h =
     let links = map (ulink_in p ln) (layout p) in
     let q0 = link_place p i ((ln i).up 0) in
-    let here = laid.there i o pos le (inr (above_zero (ln i) a xs o h, named.0)) in
+    let here = laid.there i o pos le (inr (above_zero (ln i) _ _ _ h, named.0)) in
     let rest = follow_up p ln i o xs laid pos le named.1 h.3 in (
       followed_push links (length xs) q0 ∙ ap₂ (λ qs q. qs ++ q ∷ []) rest.0 rest.1
           ∙ sym (reverse-append (link_place p i o ∷ []) (map (link_place p i) xs)),
-      led_push links (length xs) q0 ∙ ap (λ q. get_or links q 0) rest.1 ∙ get_up p ln i o here
+      led_push links (length xs) q0 ∙ ap (λ q. get_or links q 0) rest.1 ∙ get_up _ ln _ _ here
           ∙ ap (link_place p i) h.2,
     )
 
@@ -92,34 +92,31 @@ follow_up p ln i a (o ∷ xs) laid pos le named h =
 pub own_placed : (p : Puzzle) (i : ℕ) → IsLaid p → 0 < i → i ≤ item_count p → Placed p i 0
 own_placed p i laid pos le = laid.there i 0 pos le (inl refl)
 
-pub long_is : (p : Puzzle) (t : List Move) (i : ℕ) → IsLaid p → 0 < i → i ≤ item_count p
+pub long_is : {p : Puzzle} (t : List Move) {i : ℕ} → IsLaid p → 0 < i → i ≤ item_count p
     → get_or (nodes_after p t).top i 0 ≡ length (listed_numbers p t i)
-long_is p t i laid pos le = get_len p (line_of p t) i laid pos le ∙ sym (length-map (listed p t i) (λ o. o.number))
+long_is {p} t {i} laid pos le = get_len _ (line_of p t) _ laid pos le ∙ sym (length-map (listed p t i) (λ o. o.number))
 
-pub list_is : (p : Puzzle) (t : List Move) (i : ℕ) → IsLaid p → 0 < i → i ≤ item_count p
+pub list_is : {p : Puzzle} (t : List Move) {i : ℕ} → IsLaid p → 0 < i → i ≤ item_count p
     → list_of (nodes_after p t) i ≡ map (link_place p i) (listed_numbers p t i)
-list_is p t i laid pos le =
-    ap₂ (followed (nodes_after p t).dlink) (long_is p t i laid pos le)
-    (get_down p (line_of p t) i 0 (own_placed p i laid pos le))
-    ∙ follow_down p (line_of p t) (line_of p t i) i 0 (listed_numbers p t i) [] laid pos le
+list_is {p} t {i} laid pos le = ap₂ (followed (nodes_after p t).dlink) (long_is t laid pos le)
+    (get_down _ (line_of p t) _ _ (own_placed _ _ laid pos le))
+    ∙ follow_down _ (line_of p t) (line_of p t i) _ 0 _ _ laid pos le
     (subst (AllByRecursion (Named p i)) (sym (append-nil (listed_numbers p t i))) (numbers_named p t i))
     (subst (IsLinkedFrom (line_of p t i) 0) (sym (append-nil (listed_numbers p t i))) (stands p t i)) (λ x. refl)
 
-pub back_is : (p : Puzzle) (t : List Move) (i : ℕ) → IsLaid p → 0 < i → i ≤ item_count p
+pub back_is : {p : Puzzle} (t : List Move) {i : ℕ} → IsLaid p → 0 < i → i ≤ item_count p
     → list_back (nodes_after p t) i ≡ reverse (map (link_place p i) (listed_numbers p t i))
-back_is p t i laid pos le =
-    ap₂ (followed (nodes_after p t).ulink) (long_is p t i laid pos le)
-    (get_up p (line_of p t) i 0 (own_placed p i laid pos le))
-    ∙ (follow_up p (line_of p t) i 0 (listed_numbers p t i) laid pos le (numbers_named p t i) (stands p t i)).0
+back_is {p} t {i} laid pos le = ap₂ (followed (nodes_after p t).ulink) (long_is t laid pos le)
+    (get_up _ (line_of p t) _ _ (own_placed _ _ laid pos le))
+    ∙ (follow_up _ (line_of p t) _ _ _ laid pos le (numbers_named p t i) (stands p t i)).0
 
-pub in_table : (p : Puzzle) (t : List Move) (i : ℕ) → IsLaid p → 0 < i → i ≤ item_count p
+pub in_table : {p : Puzzle} (t : List Move) {i : ℕ} → IsLaid p → 0 < i → i ≤ item_count p
     → i < length (nodes_after p t).top
-in_table p t i laid pos le = grind (arith, common_steps, slice_get_within)
+in_table t laid pos le = grind (arith, common_steps, slice_get_within)
 
-pub few_in : (p : Puzzle) (t : List Move) (i : ℕ) → IsLaid p → IsFit p → 0 < i → i ≤ item_count p
+pub few_in : {p : Puzzle} (t : List Move) {i : ℕ} → IsLaid p → IsFit p → 0 < i → i ≤ item_count p
     → get_or (nodes_after p t).top i 0 < 2 ^ 30
-few_in p t i laid fit pos le =
-    omega (arith, long_is p t i laid pos le, numbers_few p t i, fit.few)
+few_in {p} t {i} laid fit pos le = omega (arith, long_is t laid pos le, numbers_few p t i, fit.few)
 
 -- ---- a walk down an open item's list leads from the node table after moves to that after one move more, and the walk
 -- back up from there to the one before
@@ -162,29 +159,26 @@ module _ (p : Puzzle) (t : List Move) (spans : List Span) (m : Move) (i : ℕ) (
   -- what leaves each line is what the move takes from it
   hides_cut : (j : ℕ) → (0 < j) × (j ≤ item_count p) → SameCut p t m j (filter (leaves p (color_in p t) i j) going)
   hides_cut j r =
-      let of = leavers_of p t i keep in
+      let of = leavers_of _ _ _ _ in
       elim (eqb j i) as (λ b. eqb j i ≡ b → SameCut p t m j (filter (leaves p (color_in p t) i j) going)) [
         | true ↦ λ e. subst (λ k. SameCut p t m k (filter (leaves p (color_in p t) i k) going))
-            (sym (eqb-true j i e)) (cut_own p t m i going f.fit of.rise h.own)
-        | false ↦ λ e.
-            cut_others p t i legal f.laid f.fit opened m j going r of h.takes (eqb-false j i e)
+            (sym (eqb-true j i e)) (cut_own _ _ _ _ f.fit of.rise h.own)
+        | false ↦ λ e. cut_others p t i legal f.laid f.fit opened m j going r of h.takes (eqb-false j i e)
       ] refl
 
   hides_table : nodes_after p (m ∷ t) ≡ walked_table p (color_in p t) start i keep (line_of p t) (listed_numbers p t i)
-  hides_table =
-      tables_same p (left_list p (color_in p t) i (line_of p t) going) (line_of p (m ∷ t))
+  hides_table = tables_same _ (left_list p (color_in p t) i (line_of p t) going) (line_of p (m ∷ t))
       (marked_list p i keep start (listed_numbers p t i)) (color_in p (m ∷ t)) f.laid
-      (λ j r. line_after p t m j (filter (leaves p (color_in p t) i j) going) (hides_cut j r)
-      ∙ sym (list_at p (color_in p t) i (line_of p t) going j (each_apart p i going f.fit)))
-      h.colours
+      (λ j r. line_after _ _ _ _ _ (hides_cut j r)
+      ∙ sym (list_at _ (color_in p t) _ (line_of p t) _ j (each_apart _ i going f.fit))) h.colours
 
   hides_cost : step_costs p (color_in p t) i keep (listed_numbers p t i) ≡ hide_writes p t m i keep
   hides_cost =
-      let all = leaving_is p t m (λ j. filter (leaves p (color_in p t) i j) going) hides_cut in
+      let all = leaving_is _ _ _ _ hides_cut in
       omega (
         arith,
         all,
-        exchanged p (color_in p t) i going f.fit,
+        exchanged _ (color_in p t) i going f.fit,
         costs_split p (color_in p t) i keep (listed_numbers p t i),
       )
 
@@ -193,9 +187,8 @@ module _ (p : Puzzle) (t : List Move) (spans : List Span) (m : Move) (i : ℕ) (
       (hide_writes p t m i keep)
   hide_step =
       let xs = listed_numbers p t i in
-      let w =
-      listed_walk p (color_in p t) start spans i keep (line_of p t) (listed_numbers p t) 0 xs f.laid f.spanned pos le
-      (all_good p t f.fit) (stands p t i) (each_ready p t i legal f.laid f.fit opened keep xs pos le (λ x e. e))
+      let w = listed_walk _ (color_in p t) _ _ _ _ (line_of p t) (listed_numbers p t) _ _ f.laid f.spanned pos le
+      (all_good _ t f.fit) (stands p t i) (each_ready p t i legal f.laid f.fit opened keep xs pos le (λ x e. e))
       (rises_listed p t i) h.passed in
       let L : Nodes → ℕ → Type 0 = Listed p (color_in p t) start spans i keep (line_of p t) 0 xs in
       subst (λ u. L u (hide_writes p t m i keep)) (sym hides_table)
@@ -207,30 +200,28 @@ module _ (p : Puzzle) (t : List Move) (spans : List Span) (m : Move) (i : ℕ) (
       let fit = f.fit in
       let s = hide_step in
       let next = m ∷ t in
-      let down = list_is p t i laid pos le in
+      let down = list_is t laid pos le in
       let up : list_back (nodes_after p next) i ≡ reverse (map (link_place p i) (listed_numbers p t i)) =
-      back_is p next i laid pos le ∙ ap (λ ks. reverse (map (link_place p i) ks)) h.own in
+      back_is next laid pos le ∙ ap (λ ks. reverse (map (link_place p i) ks)) h.own in
       let first : get_or (nodes_after p t).dlink i 0 ≡ link_place p i ((line_of p t i).down 0) =
-      get_down p (line_of p t) i 0 (own_placed p i laid pos le) in
+      get_down _ (line_of p t) _ _ (own_placed _ _ laid pos le) in
       let last : get_or (nodes_after p next).ulink i 0 ≡ link_place p i ((line_of p t i).up 0) =
-      get_up p (line_of p next) i 0 (own_placed p i laid pos le) ∙ ap (λ ks. link_place p i (last_of 0 ks)) h.own in
+      get_up _ (line_of p next) _ _ (own_placed _ _ laid pos le) ∙ ap (λ ks. link_place p i (last_of 0 ks)) h.own in
       let t0 : Nodes = nodes_from p (line_of p t) start in
       record {
         can = record {
-          place = in_table p t i laid pos le;
-          size = size_from p (line_of p t) start;
-          few = few_in p t i laid fit pos le;
-          walk =
-              subst (λ q. IsWalk spans keep t0 q (list_of (nodes_after p t) i)) (sym first)
+          place = in_table t laid pos le;
+          size = size_from _ (line_of p t) start;
+          few = few_in t laid fit pos le;
+          walk = subst (λ q. IsWalk spans keep t0 q (list_of (nodes_after p t) i)) (sym first)
               (subst (IsWalk spans keep t0 (link_place p i ((line_of p t i).down 0))) (sym down) s.walk);
         };
         done = ap (fold (left_node spans keep) t0) down ∙ s.done;
         can_back = record {
-          place = in_table p next i laid pos le;
-          size = size_from p (line_of p next) (color_in p next);
-          few = few_in p next i laid fit pos le;
-          walk =
-              subst (λ q. IsWalkBack spans keep (nodes_after p next) q (list_back (nodes_after p next) i)) (sym last)
+          place = in_table next laid pos le;
+          size = size_from _ (line_of p next) (color_in p next);
+          few = few_in next laid fit pos le;
+          walk = subst (λ q. IsWalkBack spans keep (nodes_after p next) q (list_back (nodes_after p next) i)) (sym last)
               (subst (IsWalkBack spans keep (nodes_after p next) (link_place p i ((line_of p t i).up 0))) (sym up)
               s.back);
         };
@@ -246,18 +237,18 @@ module _ (p : Puzzle) (t : List Move) (spans : List Span) (m : Move) (i : ℕ) (
 pub cover_hides : (p : Puzzle) (t : List Move) (i : ℕ) → Hides p t (Cover i) i None (color_in p t)
 cover_hides p t i = grind (arith, common_steps, cover_colours, marked_none, own_cover, takes_cover)
 
-purify_passed : (p : Puzzle) (t : List Move) (i c : ℕ) → IsLaid p → 0 < i → i ≤ item_count p
+purify_passed : {p : Puzzle} (t : List Move) {i : ℕ} (c : ℕ) → IsLaid p → 0 < i → i ≤ item_count p
     → Passed p i (color_in p t) (purify_start p t i c) (listed_numbers p t i)
-purify_passed p t i c laid pos le =
+purify_passed t c laid pos le =
     grind (arith, common_steps, color_other, element_of, eq-eqb, in_above, ne_eqb, numbers_named, rises_listed)
 
 pub purify_hides : (p : Puzzle) (t : List Move) (i c : ℕ) → AreLegal p t → IsLaid p → 0 < i → i ≤ item_count p
     → is_open i t ≡ true → Hides p t (Purify i c) i (Some c) (purify_start p t i c)
 purify_hides p t i c legal laid pos le opened = record {
-  passed = purify_passed p t i c laid pos le;
-  takes = takes_purify p t i c legal opened;
+  passed = purify_passed t _ laid pos le;
+  takes = takes_purify _ _ _ _ legal opened;
   own = own_purify p t i c;
-  colours = purify_colours p t i c laid;
+  colours = purify_colours t i c laid;
 }
 
 -- ---- Purify's own node
@@ -278,11 +269,10 @@ kept_marked : (p : Puzzle) (t : List Move) (i c : ℕ) → AreLegal p t → is_o
 kept_marked p t i c legal opened =
     let os = listed p t i in
     let kept : List Numbered = filter (λ o. is_kept p i (Some c) o.number) os in
-    ap length (sym (filter_numbers (is_kept p i (Some c)) os))
-    ∙ length-map kept (λ o. o.number)
-    ∙ ap length (filter_same (λ o. is_kept p i (Some c) o.number) (λ o. not (is_other_colour c (colour_at o i))) os
-    (each_weaker (IsOption p) (λ o. is_kept p i (Some c) o.number ≡ not (is_other_colour c (colour_at o i))) os
-    (λ o is. ap (λ us. not (is_other_colour c (colour_in us i))) is.1) (listed_options p t i legal opened)))
+    ap length (sym (filter_numbers (is_kept p i (Some c)) os)) ∙ length-map kept (λ o. o.number)
+    ∙ ap length (filter_same (λ o. is_kept p i (Some c) o.number) (λ o. not (is_other_colour c (colour_at o i))) _
+    (each_weaker (IsOption p) (λ o. is_kept p i (Some c) o.number ≡ not (is_other_colour c (colour_at o i))) _
+    (λ o is. ap (λ us. not (is_other_colour c (colour_in us i))) is.1) (listed_options _ _ _ legal opened)))
 
 -- a Cover keeps none
 pub cover_writes : (p : Puzzle) (t : List Move) (i : ℕ) → hide_writes p t (Cover i) i None + 2 ≡ cost_of p t (Cover i)

@@ -29,7 +29,7 @@ uses_from : (all os : List (List Use)) (n : ℕ) → ((j : ℕ) → slice_get al
 uses_from all [] n h = tt
 uses_from all (us ∷ os) n h =
     let z : n ≡ n + 0 = omega arith in
-    let here : numbered_get all (n + 1) ≡ Some us = numbered_at all (n + 1) n refl ∙ ap (slice_get all) z ∙ h 0 in (
+    let here : numbered_get all (n + 1) ≡ Some us = numbered_at _ (n + 1) n refl ∙ ap (slice_get all) z ∙ h 0 in (
       (omega arith, ap (λ o. unwrap_or o []) here),
       uses_from all os (n + 1) (λ j. let s : (n + 1) + j ≡ n + suc j = omega arith in ap (slice_get all) s ∙ h (suc j)),
     )
@@ -38,49 +38,48 @@ pub options_numbered : (p : Puzzle) → AllByRecursion (IsOption p) (numbered_op
 options_numbered p =
     uses_from p.options p.options 0 (λ j. let z : 0 + j ≡ j = omega arith in ap (slice_get p.options) z)
 
-pub distinct_options : (p : Puzzle) → IsFit p
+pub distinct_options : {p : Puzzle} → IsFit p
     → AllByRecursion (λ (x : Numbered). AreDistinct x.uses) (numbered_options p)
-distinct_options p fit =
-    each_weaker (IsOption p) (λ x. AreDistinct x.uses) (numbered_options p)
+distinct_options {p} fit = each_weaker (IsOption p) (λ x. AreDistinct x.uses) _
     (λ x is. subst AreDistinct is.1 (fit.distinct x.number)) (options_numbered p)
 
 -- ---- the places of the node table
 
 -- a member of an item's list has its node there
 pub placed : (p : Puzzle) (j x : ℕ) → 0 < j → j ≤ item_count p → IsName p j x → Placed p j x
-placed p j zero pos le name = record { node = own j; at = head_is p j pos le; slot = refl }
+placed p j zero pos le name = record { node = own j; at = head_is _ _ pos le; slot = refl }
 placed p j (suc m) pos le (inl z) = absurd (omega (arith, z))
 placed p j (suc m) pos le (inr held) =
-    let w = held_node p j (suc m) held.0 held.1 in
+    let w = held_node _ _ _ held.0 held.1 in
     record { node = _; at = w.node; slot = ap (λ i. let s : ℕ × ℕ = (i, suc m) in Some s) w.held.item }
 
 -- and stands at no other place
-slot_place : (p : Puzzle) (q : ℕ) (n : Node) (j x : ℕ) → IsFit p → IsAt p q n → slot_of n ≡ Some (j, x)
+slot_place : {p : Puzzle} (q : ℕ) (n : Node) {j : ℕ} (x : ℕ) → IsFit p → IsAt p q n → slot_of n ≡ Some (j, x)
     → link_place p j x ≡ q
-slot_place p q (own i) j x fit s f = ap₂ (link_place p) (sym (ap item_of f)) (sym (ap member_of f)) ∙ s.2
-slot_place p q (used o u) j x fit s f =
-    ap₂ (link_place p) (sym (ap item_of f)) (sym (ap member_of f)) ∙ use_at p o s.0 s.1 u fit s.2 s.3 ∙ s.4
-slot_place p q _ j x fit s f = cc
+slot_place {p} q (own i) x fit s f = ap₂ (link_place p) (sym (ap item_of f)) (sym (ap member_of f)) ∙ s.2
+slot_place {p} q (used o u) x fit s f =
+    ap₂ (link_place p) (sym (ap item_of f)) (sym (ap member_of f)) ∙ use_at _ _ _ _ _ fit s.2 s.3 ∙ s.4
+slot_place q _ x fit s f = cc
 
-slot_range : (p : Puzzle) (q : ℕ) (n : Node) (j x : ℕ) → IsFit p → IsAt p q n → slot_of n ≡ Some (j, x)
+slot_range : {p : Puzzle} (q : ℕ) (n : Node) {j : ℕ} (x : ℕ) → IsFit p → IsAt p q n → slot_of n ≡ Some (j, x)
     → (0 < j) × (j ≤ item_count p)
-slot_range p q (own i) j x fit s f = let a : i ≡ j = ap item_of f in (omega (arith, a, s.0), omega (arith, a, s.1))
-slot_range p q (used o u) j x fit s f =
+slot_range q (own i) {j} x fit s f = let a : i ≡ j = ap item_of f in (omega (arith, a, s.0), omega (arith, a, s.1))
+slot_range {p} q (used o u) {j} x fit s f =
     let a : u.item ≡ j = ap item_of f in
-    let r = each_at (λ v. (0 < v.item) × (v.item ≤ item_count p)) (uses_of p o) s.1 u (fit.items o) s.3 in
+    let r = each_at (λ v. (0 < v.item) × (v.item ≤ item_count p)) _ _ _ (fit.items o) s.3 in
     (omega (arith, a, r.0), omega (arith, a, r.1))
-slot_range p q _ j x fit s f = cc
+slot_range q _ x fit s f = cc
 
 -- the places of a fit problem
 pub is_laid : (p : Puzzle) → IsFit p → IsLaid p
 is_laid p fit = record {
-  unique = λ q n j x e f. slot_place p q n j x fit (is_at p q n e) f;
+  unique = λ q n j x e f. slot_place _ _ _ fit (is_at _ _ _ e) f;
   there = placed p;
   head = head_is p;
   nodes = record {
-    ranged = λ q n j x e f. slot_range p q n j x fit (is_at p q n e) f;
+    ranged = λ q n j x e f. slot_range _ _ _ fit (is_at _ _ _ e) f;
     numbered = λ q o u e. let s = is_at p q (used o u) e in omega (arith, s.2);
-    coloured = λ q o u e. let s = is_at p q (used o u) e in (found_use (uses_of p o) s.1 u (fit.distinct o) s.3).1;
+    coloured = λ q o u e. let s = is_at p q _ e in (found_use _ _ _ (fit.distinct o) s.3).1;
   };
   small = fit.small;
 }

@@ -51,7 +51,7 @@ ready_by p col lists o (j ∷ js) h apart =
       here.2,
       here.3,
       apart.0,
-      ready_by p col lists o js (λ k e. h k (in_more j k js e)) apart.1,
+      ready_by p col lists o js (λ k e. h k (in_more j _ _ e)) apart.1,
     )
 
 eqb_turn : (a b : ℕ) → eqb a b ≡ eqb b a
@@ -60,7 +60,7 @@ eqb_turn a b = grind (arith, common_steps, eq-eqb, eqb-false, eqb-true, ne_eqb)
 test_is : (p : Puzzle) (i : ℕ) (keep : Option ℕ) (x c : ℕ) → colour_in (uses_of p x) i ≡ Some c
     → is_kept_colour keep c ≡ is_kept p i keep x
 test_is p i None x c e = refl
-test_is p i (Some d) x c e = eqb_turn c d ∙ sym (not-not (eqb d c)) ∙ sym (ap (λ o. not (is_other_colour d o)) e)
+test_is p i (Some d) x c e = eqb_turn _ _ ∙ sym (not-not (eqb d c)) ∙ sym (ap (λ o. not (is_other_colour d o)) e)
 
 -- options of item i's list, in order
 pub record AreOf (p : Puzzle) (t : List Move) (i : ℕ) (gs : List ℕ) : Type 0 where
@@ -76,26 +76,23 @@ pub record TakesOut (p : Puzzle) (t : List Move) (m : Move) (i : ℕ) (gs : List
       → listed_numbers p (m ∷ t) j ≡ cond (is_open j t) (stay (λ x. is_in x gs) (listed_numbers p t j))
       (listed_numbers p t j)
 
-leaves_by : (p : Puzzle) (t : List Move) (i j x : ℕ) → IsFit p
-    → leaves p (color_in p t) i j x ≡
+leaves_by : {p : Puzzle} (t : List Move) (i j x : ℕ) → IsFit p → leaves p (color_in p t) i j x ≡
     ((not (eqb j i) && is_some (colour_in (uses_of p x) j)) && not (is_mark p (color_in p t) x j))
-leaves_by p t i j x fit = ap (λ b. b && not (is_mark p (color_in p t) x j)) (in_others p x i j (fit.distinct x))
+leaves_by {p} t i j x fit = ap (λ b. b && not (is_mark p (color_in p t) x j)) (in_others p x i j (fit.distinct x))
 
 -- none leaves the list that is walked
 pub leaves_own : (p : Puzzle) (t : List Move) (i : ℕ) (gs : List ℕ) → IsFit p → Rises 0 gs
     → filter (leaves p (color_in p t) i i) gs ≡ []
-leaves_own p t i gs fit rise =
-    none_in (leaves p (color_in p t) i i) 0 gs (Rises-filter (leaves p (color_in p t) i i) 0 gs rise)
-    (λ x e. leaves_by p t i i x fit
-    ∙ ap (λ b. (not b && is_some (colour_in (uses_of p x) i)) && not (is_mark p (color_in p t) x i))
-    (eq-eqb i i refl))
+leaves_own p t i gs fit rise = none_in (leaves p (color_in p t) i i) 0 gs
+    (Rises-filter (leaves p (color_in p t) i i) 0 gs rise) (λ x e. leaves_by t i i x fit
+    ∙ ap (λ b. (not b && is_some (colour_in (uses_of p x) i)) && not (is_mark p (color_in p t) x i)) (eq-eqb i i refl))
 
 -- so its own line loses none, where the move takes none from it
-pub cut_own : (p : Puzzle) (t : List Move) (m : Move) (i : ℕ) (gs : List ℕ) → IsFit p → Rises 0 gs
+pub cut_own : {p : Puzzle} (t : List Move) (m : Move) (i : ℕ) (gs : List ℕ) → IsFit p → Rises 0 gs
     → listed_numbers p (m ∷ t) i ≡ listed_numbers p t i → SameCut p t m i (filter (leaves p (color_in p t) i i) gs)
-cut_own p t m i gs fit rise same = record {
+cut_own {p} t m i gs fit rise same = record {
   test = λ x. false;
-  cut_is = leaves_own p t i gs fit rise ∙ sym (leave_none (listed_numbers p t i));
+  cut_is = leaves_own _ t _ _ fit rise ∙ sym (leave_none (listed_numbers p t i));
   stay_is = same ∙ sym (stay_all (listed_numbers p t i));
 }
 
@@ -109,12 +106,11 @@ module _ (p : Puzzle) (t : List Move) (i : ℕ) (legal : AreLegal p t) (laid : I
   -- an option of the list, and another item that it holds
   pub met_at : (j x : ℕ) → 0 < j → j ≤ item_count p → is_in x (listed_numbers p t i) ≡ true → Named p j x → Met p t x j
   met_at j x pos le within named =
-      let list : listed p t i ≡ holding i (left p t) = listed_open p t legal i opened in
-      let each : AllByRecursion (λ o. Named p j o.number → Met p t o.number j) (left p t) =
-      each_both (IsOption p) (λ o. holds o j ≡ true → Met p t o.number j)
-      (λ o. Named p j o.number → Met p t o.number j) (left p t)
+      let list : listed p t i ≡ holding i (left p t) = listed_open _ _ legal _ opened in
+      let each : AllByRecursion (λ o. Named p j o.number → Met p t o.number j) (left p t) = each_both
+      (IsOption p) (λ o. holds o j ≡ true → Met p t o.number j) (λ o. Named p j o.number → Met p t o.number j) _
       (λ o is h n. h (ap (λ us. is_some (colour_in us j)) (sym is.1) ∙ n)) (options_left p t)
-      (each_met p t j legal fit) in
+      (each_met _ j legal fit) in
       let listed_each : AllByRecursion (λ x. Named p j x → Met p t x j) (map (λ o. o.number) (holding i (left p t))) =
       grind (arith, common_steps, each-filter, each-map) in
       grind (arith, common_steps, element_of)
@@ -122,14 +118,11 @@ module _ (p : Puzzle) (t : List Move) (i : ℕ) (legal : AreLegal p t) (laid : I
   -- its other uses are ready to leave
   pub ready_at : (x : ℕ) → is_in x (listed_numbers p t i) ≡ true
       → AreReady p (color_in p t) (listed_numbers p t) x (other_items p x i)
-  ready_at x within =
-      ready_by p (color_in p t) (listed_numbers p t) x (other_items p x i)
-      (λ j e.
+  ready_at x within = ready_by p (color_in p t) (listed_numbers p t) x (other_items p x i) (λ j e.
       let named : Named p j x = (and_parts _ _ (sym (in_others p x i j (fit.distinct x)) ∙ e)).1 in
-      let r = item_range p (uses_of p x) j (fit.items x) named in
+      let r = item_range p _ _ (fit.items x) named in
       let m = met_at j x r.0 r.1 within named in
-      (r.0, r.1, named, λ un. grind (arith, common_steps, false≢true, stands_in)))
-      (others_apart p x i fit)
+      (r.0, r.1, named, λ un. grind (arith, common_steps, false≢true, stands_in))) (others_apart _ x i fit)
 
   -- its own node isn't marked, and tells whether it is kept
   own_ready : (keep : Option ℕ) (x : ℕ) → 0 < i → i ≤ item_count p → is_in x (listed_numbers p t i) ≡ true
@@ -151,25 +144,24 @@ module _ (p : Puzzle) (t : List Move) (i : ℕ) (legal : AreLegal p t) (laid : I
   each_ready keep [] pos le h = tt
   each_ready keep (x ∷ xs) pos le h =
       let within : is_in x (listed_numbers p t i) ≡ true = h x (is_in-first x xs) in (
-        element_of (Named p i) x (listed_numbers p t i) (numbers_named p t i) within,
+        element_of (Named p i) _ _ (numbers_named p t i) within,
         ready_at x within,
-        own_apart p i x fit,
+        own_apart _ i x fit,
         own_ready keep x pos le within,
-        each_ready keep xs pos le (λ z e. h z (in_more x z xs e)),
+        each_ready keep xs pos le (λ z e. h z (in_more x _ _ e)),
       )
 
   -- each leaves the lists of the other open items that it is in
   leaves_at : (j x : ℕ) → InRange p j → j ≢ i → is_in x (listed_numbers p t i) ≡ true
       → leaves p (color_in p t) i j x ≡ (is_open j t && is_in x (listed_numbers p t j))
   leaves_at j x r ne within =
-      let there = element_of (Named p j) x (listed_numbers p t j) (numbers_named p t j) in
+      let there = element_of (Named p j) x _ (numbers_named p t j) in
       let met : Named p j x → Met p t x j = met_at j x r.0 r.1 within in
-      leaves_by p t i j x fit ∙ rw (ne_eqb j i ne) (grind (arith, common_steps))
+      leaves_by t i j x fit ∙ rw (ne_eqb j i ne) (grind (arith, common_steps))
 
   pub leaves_are : (j : ℕ) (gs : List ℕ) → InRange p j → AreOf p t i gs → j ≢ i →
       filter (leaves p (color_in p t) i j) gs ≡ filter (λ x. is_open j t && is_in x gs) (listed_numbers p t j)
-  leaves_are j gs r of ne =
-      same_members 0 _ _ (Rises-filter (leaves p (color_in p t) i j) 0 gs of.rise)
+  leaves_are j gs r of ne = same_members _ _ _ (Rises-filter (leaves p (color_in p t) i j) 0 gs of.rise)
       (Rises-filter (λ x. is_open j t && is_in x gs) 0 (listed_numbers p t j) (rises_listed p t j))
       (λ x. in_filter (leaves p (color_in p t) i j) x gs ∙ grind (arith, common_steps, and-false, leaves_at)
       ∙ sym (in_filter (λ x. is_open j t && is_in x gs) x (listed_numbers p t j)))
@@ -287,10 +279,8 @@ costs_split p col i keep (o ∷ xs) = grind (arith, common_steps, costs_split p 
 pub leaving_is : (p : Puzzle) (t : List Move) (m : Move) (k : ℕ → List ℕ)
     → ((j : ℕ) → (0 < j) × (j ≤ item_count p) → SameCut p t m j (k j))
     → leaving p t m ≡ total (λ j. length (k j)) 1 (item_count p)
-leaving_is p t m k cuts =
-    sum_is_total (λ j. length (listed p t j) - length (listed p (m ∷ t) j)) 1 (item_count p)
-    ∙ total_same (λ j. length (listed p t j) - length (listed p (m ∷ t) j)) (λ j. length (k j)) 1 (item_count p)
-    (λ j u v.
+leaving_is p t m k cuts = sum_is_total (λ j. length (listed p t j) - length (listed p (m ∷ t) j)) _ _ ∙ total_same
+    (λ j. length (listed p t j) - length (listed p (m ∷ t) j)) (λ j. length (k j)) 1 (item_count p) (λ j u v.
     let c = cuts j (omega (arith, u), omega (arith, v)) in
     let a : length (listed_numbers p t j) ≡ length (listed p t j) = length-map (listed p t j) (λ o. o.number) in
     let b : length (listed_numbers p (m ∷ t) j) ≡ length (listed p (m ∷ t) j) =
@@ -306,11 +296,11 @@ goes_is : (gone : List Numbered) (x : ℕ) → goes gone x ≡ is_in x (map (λ 
 goes_is [] x = refl
 goes_is (o ∷ os) x = ap (λ b. eqb o.number x || b) (goes_is os x)
 
-pub takes_listed : (p : Puzzle) (t : List Move) (m : Move) (i : ℕ) (gone : List Numbered) (gs : List ℕ)
+pub takes_listed : (p : Puzzle) (t : List Move) (m : Move) (i : ℕ) (gone : List Numbered) {gs : List ℕ}
     → map (λ o. o.number) gone ≡ gs
     → ((j : ℕ) → j ≢ i → listed p (m ∷ t) j ≡ cond (is_open j t) (without gone (listed p t j)) (listed p t j))
     → TakesOut p t m i gs
-takes_listed p t m i gone gs is h = grind (arith, common_steps, filter_agree, goes_is, without_numbers)
+takes_listed p t m i gone is h = grind (arith, common_steps, filter_agree, goes_is, without_numbers)
 
 pub listed_options : (p : Puzzle) (t : List Move) (i : ℕ) → AreLegal p t → is_open i t ≡ true
     → AllByRecursion (IsOption p) (listed p t i)
@@ -319,7 +309,7 @@ listed_options p t i legal opened = grind (arith, common_steps, each-filter, lis
 -- ---- Cover
 
 pub leavers_all : (p : Puzzle) (i : ℕ) (xs : List ℕ) → leavers p i None xs ≡ xs
-leavers_all p i xs = stay_all xs
+leavers_all p i xs = stay_all _
 
 pub takes_cover : (p : Puzzle) (t : List Move) (i : ℕ)
     → TakesOut p t (Cover i) i (leavers p i None (listed_numbers p t i))
@@ -336,11 +326,10 @@ others_numbers : (p : Puzzle) (i c : ℕ) (os : List Numbered) → AllByRecursio
     → map (λ o. o.number) (other_colours i c os) ≡ leavers p i (Some c) (map (λ o. o.number) os)
 others_numbers p i c os a =
     let f : ℕ → Bool = λ x. not (is_kept p i (Some c) x) in
-    ap (map (λ o. o.number)) (filter_same (λ o. is_other_colour c (colour_at o i)) (λ o. f o.number) os
-    (each_weaker (IsOption p) (λ o. is_other_colour c (colour_at o i) ≡ f o.number) os
+    ap (map (λ o. o.number)) (filter_same (λ o. is_other_colour c (colour_at o i)) (λ o. f o.number) _
+    (each_weaker (IsOption p) (λ o. is_other_colour c (colour_at o i) ≡ f o.number) _
     (λ o is. sym (not-not (is_other_colour c (colour_in (uses_of p o.number) i))
-    ∙ ap (λ us. is_other_colour c (colour_in us i)) is.1)) a))
-    ∙ filter_numbers f os
+    ∙ ap (λ us. is_other_colour c (colour_in us i)) is.1)) a)) ∙ filter_numbers f os
 
 pub takes_purify : (p : Puzzle) (t : List Move) (i c : ℕ) → AreLegal p t → is_open i t ≡ true
     → TakesOut p t (Purify i c) i (leavers p i (Some c) (listed_numbers p t i))
@@ -366,12 +355,8 @@ take_numbers (o ∷ os) = refl
 pub takes_tweak : (p : Puzzle) (t : List Move) (i : ℕ) → is_open i t ≡ true
     → TakesOut p t (Tweak i) i (first_alone (listed_numbers p t i))
 takes_tweak p t i opened =
-    takes_listed p t (Tweak i) i (take 1 (listed p t i)) (first_alone (listed_numbers p t i))
-    (take_numbers (listed p t i))
-    (λ j ne.
-    ap (λ b. cond b (drop 1 (listed p t i))
-    (cond (is_open i t && is_open j t) (without (take 1 (listed p t i)) (listed p t j)) (listed p t j)))
-    (ne_eqb j i ne)
+    takes_listed p t (Tweak i) i _ (take_numbers (listed p t i)) (λ j ne. ap (λ b. cond b (drop 1 (listed p t i))
+    (cond (is_open i t && is_open j t) (without (take 1 (listed p t i)) (listed p t j)) (listed p t j))) (ne_eqb j i ne)
     ∙ ap (λ b. cond (b && is_open j t) (without (take 1 (listed p t i)) (listed p t j)) (listed p t j)) opened)
 
 -- a closed item's Tweak takes none out of other lists

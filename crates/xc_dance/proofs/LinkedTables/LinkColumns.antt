@@ -97,9 +97,8 @@ pub unhidden-hidden : (t : Nodes) (q : ℕ) → (eqb (get_or t.color q 0) MARK �
     → unhidden (hidden t q) q ≡ t
 unhidden-hidden t q h =
     elim (eqb (get_or t.color q 0) MARK) as (λ b. eqb (get_or t.color q 0) MARK ≡ b → unhidden (hidden t q) q ≡ t) [
-      | true ↦ λ e. ap (λ u. unhidden u q) (hidden-marked t q e) ∙ unhidden-marked t q e
-      | false ↦ λ e. ap (λ u. unhidden u q) (hidden-open t q e) ∙ unhidden-open (unlinked t q) q e
-          ∙ relinked-unlinked t q (h e)
+      | true ↦ λ e. ap (λ u. unhidden u q) (hidden-marked t q e) ∙ unhidden-marked _ _ e
+      | false ↦ λ e. ap (λ u. unhidden u q) (hidden-open t q e) ∙ unhidden-open _ _ e ∙ relinked-unlinked _ _ (h e)
     ] refl
 
 -- each step of a walk can be undone
@@ -127,22 +126,22 @@ column p f fixed = map (λ n. link_at p f (fixed n) (slot_of n)) (layout p)
 abbrev pub put_link : (ℕ → ℕ → ℕ) → ℕ → (ℕ → ℕ) → ℕ → ℕ → ℕ
 put_link f j g k x = cond (eqb k j) (g x) (f k x)
 
-at_slot : (p : Puzzle) (f : ℕ → ℕ → ℕ) (fixed : ℕ) (s : Option (ℕ × ℕ)) (j x : ℕ) → s ≡ Some (j, x)
+at_slot : (p : Puzzle) (f : ℕ → ℕ → ℕ) (fixed : ℕ) {s : Option (ℕ × ℕ)} {j : ℕ} (x : ℕ) → s ≡ Some (j, x)
     → link_at p f fixed s ≡ link_place p j (f j x)
-at_slot p f fixed s j x e = ap (link_at p f fixed) e
+at_slot p f fixed x e = ap (link_at p f fixed) e
 
 pub get_link : (p : Puzzle) (f : ℕ → ℕ → ℕ) (fixed : Node → ℕ) (j x : ℕ) → Placed p j x
     → get_or (column p f fixed) (link_place p j x) 0 ≡ link_place p j (f j x)
-get_link p f fixed j x h = get_map (λ n. link_at p f (fixed n) (slot_of n)) (layout p) (link_place p j x) h.node h.at
-    ∙ at_slot p f (fixed h.node) (slot_of h.node) j x h.slot
+get_link p f fixed j x h = get_map (λ n. link_at p f (fixed n) (slot_of n)) (layout p) (link_place p j x) _ h.at
+    ∙ at_slot p f (fixed h.node) _ h.slot
 
 pub get_up : (p : Puzzle) (ln : ℕ → Line) (j x : ℕ) → Placed p j x
     → get_or (map (ulink_in p ln) (layout p)) (link_place p j x) 0 ≡ link_place p j ((ln j).up x)
-get_up p ln j x h = get_link p (λ k y. (ln k).up y) (fixed_up p) j x h
+get_up p ln j x h = get_link _ (λ k y. (ln k).up y) (fixed_up p) _ _ h
 
 pub get_down : (p : Puzzle) (ln : ℕ → Line) (j x : ℕ) → Placed p j x
     → get_or (map (dlink_in p ln) (layout p)) (link_place p j x) 0 ≡ link_place p j ((ln j).down x)
-get_down p ln j x h = get_link p (λ k y. (ln k).down y) (fixed_down p) j x h
+get_down p ln j x h = get_link _ (λ k y. (ln k).down y) (fixed_down p) _ _ h
 
 other_slot : (p : Puzzle) (f : ℕ → ℕ → ℕ) (j x v : ℕ) (fixed : ℕ) (s : Option (ℕ × ℕ)) → (s ≡ Some (j, x) → ⊥) →
     link_at p (put_link f j (put_at (f j) x v)) fixed s ≡ link_at p f fixed s
@@ -151,20 +150,18 @@ other_slot p f j x v fixed (Some s) ne = grind (arith, common_steps, eqb-true, p
 
 pub set_link : (p : Puzzle) (f : ℕ → ℕ → ℕ) (fixed : Node → ℕ) (j x v : ℕ) → IsLaid p → Placed p j x →
     column p (put_link f j (put_at (f j) x v)) fixed ≡ set (column p f fixed) (link_place p j x) (link_place p j v)
-set_link p f fixed j x v laid h =
-    map_put (λ n. link_at p f (fixed n) (slot_of n))
+set_link p f fixed j x v laid h = map_put (λ n. link_at p f (fixed n) (slot_of n))
     (λ n. link_at p (put_link f j (put_at (f j) x v)) (fixed n) (slot_of n)) (layout p) (link_place p j x)
     (link_place p j v)
-    (λ q n at ne. other_slot p f j x v (fixed n) (slot_of n) (λ e. ne (sym (laid.unique q n j x at e))))
-    (λ n at.
-    let same : n ≡ h.node = same_at (layout p) (link_place p j x) n h.node at h.at in
-    at_slot p (put_link f j (put_at (f j) x v)) (fixed n) (slot_of n) j x (ap slot_of same ∙ h.slot)
+    (λ q n at ne. other_slot p f j x v (fixed n) (slot_of n) (λ e. ne (sym (laid.unique q n j x at e)))) (λ n at.
+    let same : n ≡ h.node = same_at (layout p) (link_place p j x) _ _ at h.at in
+    at_slot p (put_link f j (put_at (f j) x v)) (fixed n) _ (ap slot_of same ∙ h.slot)
     ∙ ap (link_place p j) (let e : eqb j j ≡ true = eq-eqb j j refl in rw e (put_at-same (f j) x v x refl)))
 
 -- ---- counts
 
-own_slot : (n : Node) (j : ℕ) → n ≡ own j → slot_of n ≡ Some (j, 0)
-own_slot n j e = ap slot_of e
+own_slot : {n : Node} {j : ℕ} → n ≡ own j → slot_of n ≡ Some (j, 0)
+own_slot e = ap slot_of e
 
 top_other : (ln : ℕ → Line) (j : ℕ) (l : Line) (n : Node) → (n ≡ own j → ⊥) → top_in (with_line ln j l) n ≡ top_in ln n
 top_other ln j l (own i) ne = let no : eqb i j ≡ false = ne_eqb i j (λ e. ne (ap own e)) in rw no refl
@@ -172,16 +169,14 @@ top_other ln j l _ ne = refl
 
 pub set_top : (p : Puzzle) (ln : ℕ → Line) (j : ℕ) (l : Line) → IsLaid p → 0 < j → j ≤ item_count p
     → map (top_in (with_line ln j l)) (layout p) ≡ set (map (top_in ln) (layout p)) j l.len
-set_top p ln j l laid pos le =
-    map_put (top_in ln) (top_in (with_line ln j l)) (layout p) j l.len
-    (λ q n at ne. top_other ln j l n (λ e. ne (sym (laid.unique q n j 0 at (own_slot n j e)))))
-    (λ n at.
-    let same : n ≡ own j = same_at (layout p) j n (own j) at (laid.head j pos le) in
+set_top p ln j l laid pos le = map_put (top_in ln) (top_in (with_line ln j l)) (layout p) j l.len
+    (λ q n at ne. top_other ln j l n (λ e. ne (sym (laid.unique q n j 0 at (own_slot e))))) (λ n at.
+    let same : n ≡ own j = same_at (layout p) j _ _ at (laid.head j pos le) in
     ap (top_in (with_line ln j l)) same ∙ (let e : eqb j j ≡ true = eq-eqb j j refl in rw e refl))
 
 pub get_len : (p : Puzzle) (ln : ℕ → Line) (j : ℕ) → IsLaid p → 0 < j → j ≤ item_count p
     → get_or (map (top_in ln) (layout p)) j 0 ≡ (ln j).len
-get_len p ln j laid pos le = get_map (top_in ln) (layout p) j (own j) (laid.head j pos le)
+get_len p ln j laid pos le = get_map (top_in ln) (layout p) j _ (laid.head j pos le)
 
 abbrev pub item_of : Option (ℕ × ℕ) → ℕ
 item_of None = 0
@@ -192,15 +187,14 @@ member_of None = 0
 member_of (Some s) = s.1
 
 -- the item of a node
-item_at : (ln : ℕ → Line) (n : Node) (j o : ℕ) → slot_of n ≡ Some (j, o) → 0 < o → top_in ln n ≡ j
-item_at ln (own i) j o e pos = let z : 0 ≡ o = ap member_of e in absurd (omega arith)
-item_at ln (used k u) j o e pos = ap item_of e
-item_at ln _ j o e pos = cc
+item_at : (ln : ℕ → Line) (n : Node) {j o : ℕ} → slot_of n ≡ Some (j, o) → 0 < o → top_in ln n ≡ j
+item_at ln (own i) {o} e pos = let z : 0 ≡ o = ap member_of e in absurd (omega arith)
+item_at ln (used k u) e pos = ap item_of e
+item_at ln _ e pos = cc
 
 pub get_item : (p : Puzzle) (ln : ℕ → Line) (j o : ℕ) → Placed p j o → 0 < o
     → get_or (map (top_in ln) (layout p)) (link_place p j o) 0 ≡ j
-get_item p ln j o h pos =
-    get_map (top_in ln) (layout p) (link_place p j o) h.node h.at ∙ item_at ln h.node j o h.slot pos
+get_item p ln j o h pos = get_map (top_in ln) (layout p) (link_place p j o) _ h.at ∙ item_at ln _ h.slot pos
 
 pub size_from : (p : Puzzle) (ln : ℕ → Line) (col : Node → ℕ)
     → HasSize (nodes_from p ln col) (length (nodes_from p ln col).top)
@@ -224,14 +218,14 @@ node_cells p ln col j o laid pos le o_pos name name_up name_down =
     let above = laid.there j ((ln j).up o) pos le name_up in
     let below = laid.there j ((ln j).down o) pos le name_down in
     let long : length (map (top_in ln) (layout p)) ≡ length (layout p) = length-map (layout p) (top_in ln) in
-    let up = get_up p ln j o here in
-    let down = get_down p ln j o here in
-    let item = get_item p ln j o here o_pos in
+    let up = get_up _ ln _ _ here in
+    let down = get_down _ ln _ _ here in
+    let item = get_item _ ln _ _ here o_pos in
     let q_in = slice_get_within (layout p) q here.node here.at in
     let u_in = slice_get_within (layout p) (link_place p j ((ln j).up o)) above.node above.at in
     let d_in = slice_get_within (layout p) (link_place p j ((ln j).down o)) below.node below.at in
     let j_in = slice_get_within (layout p) j (own j) (laid.head j pos le) in
-    let len = get_len p ln j laid pos le in
+    let len = get_len _ ln _ laid pos le in
     grind (arith, common_steps)
 
 -- columns of links that lead the same way
@@ -260,7 +254,7 @@ without_at (y ∷ ys) q zs r ne (a ∷ as') bs e =
     record { ys = y ∷ s.ys; zs = s.zs; is = ap (λ l. y ∷ l) s.is }
 
 pub Stands-without : (ys : List ℕ) (q : ℕ) (zs : List ℕ) (r : ℕ) → r ≢ q → Stands (ys ++ q ∷ zs) r → Stands (ys ++ zs) r
-Stands-without ys q zs r ne s = without_at ys q zs r ne s.ys s.zs s.is
+Stands-without ys q zs r ne s = without_at _ _ _ _ ne _ _ s.is
 
 HasSize-unlinked : (t : Nodes) (q : ℕ) → HasSize t (length t.top) → HasSize (unlinked t q) (length (unlinked t q).top)
 HasSize-unlinked t q h = grind (arith, common_steps)

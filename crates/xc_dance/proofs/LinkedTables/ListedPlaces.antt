@@ -20,12 +20,12 @@ use Rattle.xc_dance.proofs.LinkedTables.CommitLemmas.{in_list_name}
 use Rattle.xc_dance.proofs.LinkedTables.PassedOptions.{sound_fit}
 
 -- an option in an item's list uses the item
-pub listed_use : (p : Puzzle) (t : List Move) (i x : ℕ) → IsFit p → Contains (listed_numbers p t i) x →
+pub listed_use : {p : Puzzle} (t : List Move) (i x : ℕ) → IsFit p → Contains (listed_numbers p t i) x →
     IsUseAt p i x (link_place p i x)
-listed_use p t i x fit h =
-    let is = in_list_name p t i x (contained (listed_numbers p t i) x h) in
+listed_use {p} t i x fit h =
+    let is = in_list_name p t _ _ (contained _ _ h) in
     let us = uses_of p x in
-    let w = held_node p i x is.0 is.1 in
+    let w = held_node p _ _ is.0 is.1 in
     record {
       known = w.known;
       holds = slice_get_within us (place_in i us) w.held.use_of w.held.at;
@@ -34,14 +34,14 @@ listed_use p t i x fit h =
     }
 
 -- the place of an item's own node is below those of options
-pub own_place : (p : Puzzle) (t : List Move) (i x q : ℕ) → IsListedAt p t i x q → q ≤ item_count p → x ≡ 0
-own_place p t i zero q at le = refl
-own_place p t i (suc m) q at le = absurd (omega (arith, at.at, le))
+pub own_place : {p : Puzzle} {t : List Move} {i : ℕ} (x : ℕ) {q : ℕ} → IsListedAt p t i x q → q ≤ item_count p → x ≡ 0
+own_place zero at le = refl
+own_place (suc m) at le = absurd (omega (arith, at.at, le))
 
 -- and an option's is behind them
-pub option_place : (p : Puzzle) (t : List Move) (i x q : ℕ) → IsItem p i → IsListedAt p t i x q → item_count p < q →
+pub option_place : {p : Puzzle} {t : List Move} {i x q : ℕ} → IsItem p i → IsListedAt p t i x q → item_count p < q →
     Contains (listed_numbers p t i) x
-option_place p t i x q item at gt = by_listed at.listed
+option_place {p} {t} {i} {x} {q} item at gt = by_listed at.listed
   where
     by_listed : (x ≡ 0) ⊎ Contains (listed_numbers p t i) x → Contains (listed_numbers p t i) x
     by_listed (inl z) =
@@ -51,8 +51,8 @@ option_place p t i x q item at gt = by_listed at.listed
 
 -- ---- what a dance finds next, by a problem that was read: at an item's own node, or at an option's
 
-pub fit_state : (s : Dancing) (a : Named) → s.puzzle ≡ a.puzzle → IsSound a → IsFit s.puzzle
-fit_state s a same sound = subst IsFit (sym same) (sound_fit a sound)
+pub fit_state : (s : Dancing) {a : Named} → s.puzzle ≡ a.puzzle → IsSound a → IsFit s.puzzle
+fit_state s same sound = subst IsFit (sym same) (sound_fit _ sound)
 
 abbrev pub list_of : Dancing → ℕ → List ℕ
 list_of s i = listed_numbers s.puzzle s.trail i
@@ -63,7 +63,7 @@ pub next_of_own : (s : Dancing) (a : Named) (i x q items : ℕ) (n : Option ℕ)
     next_above x (list_of s i) ≡ n
 next_of_own s a i x q items n same count at le is =
     let all = count ∙ ap item_count (sym same) in
-    let own = own_place s.puzzle s.trail i x q at (omega (arith, le, all)) in
+    let own = own_place _ at (omega (arith, le, all)) in
     ap (λ y. next_above y (list_of s i)) own ∙ sym is
 
 -- an option's use stands there
@@ -73,9 +73,9 @@ pub option_use : (s : Dancing) (a : Named) (i x q items : ℕ) → s.puzzle ≡ 
 option_use s a i x q items same sound count item at gt =
     let all = count ∙ ap item_count (sym same) in
     let above : item_count s.puzzle < q = omega (arith, gt, all) in
-    let fit = fit_state s a same sound in
-    let h = option_place s.puzzle s.trail i x q item at above in
-    let u = subst (IsUseAt s.puzzle i x) (sym at.at) (listed_use s.puzzle s.trail i x fit h) in
+    let fit = fit_state s same sound in
+    let h = option_place item at above in
+    let u = subst (IsUseAt s.puzzle i x) (sym at.at) (listed_use s.trail _ _ fit h) in
     (h, subst (λ (p : Puzzle). IsUseAt p i x q) same u)
 
 -- the one below it
@@ -84,20 +84,18 @@ pub next_of_option : (s : Dancing) (a : Named) (i x q items o : ℕ) (n : Option
     ((j y : ℕ) → IsUseAt a.puzzle j y q → o ≡ y) → n ≡ next_above o (list_of s i) →
     next_above x (list_of s i) ≡ n
 next_of_option s a i x q items o n same sound count item at gt number is =
-    let u = option_use s a i x q items same sound count item at gt in
+    let u = option_use s _ _ _ _ _ same sound count item at gt in
     ap (λ y. next_above y (list_of s i)) (sym (number i x u.1)) ∙ sym is
 
 -- the option that is next uses the item
 pub next_use : (s : Dancing) (a : Named) (i x o : ℕ) → s.puzzle ≡ a.puzzle → IsSound a →
     next_above x (list_of s i) ≡ Some o → IsUseAt a.puzzle i o (link_place a.puzzle i o)
-next_use s a i x o same sound is =
-    subst (λ (p : Puzzle). IsUseAt p i o (link_place p i o)) same
-    (listed_use s.puzzle s.trail i o (fit_state s a same sound) (next_contained x o (list_of s i) is))
+next_use s a i x o same sound is = subst (λ (p : Puzzle). IsUseAt p i o (link_place p i o)) same
+    (listed_use s.trail _ _ (fit_state s same sound) (next_contained x _ (list_of s i) is))
 
 -- its place, or the item's own node, tells what is next
 pub place_tells : (s : Dancing) (i x r : ℕ) → IsItem s.puzzle i →
     r ≡ link_place s.puzzle i (first_above 0 x (list_of s i)) → option_at s.puzzle i r ≡ next_above x (list_of s i)
 place_tells s i x r item is =
     let p = s.puzzle in
-    ap (option_at p i) is ∙ option_there p i (first_above 0 x (list_of s i)) item.1 (above_name p s.trail i x)
-    ∙ above_named x (list_of s i)
+    ap (option_at p i) is ∙ option_there _ _ _ item.1 (above_name p s.trail i x) ∙ above_named x (list_of s i)

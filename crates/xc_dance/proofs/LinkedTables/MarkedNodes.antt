@@ -58,7 +58,7 @@ holding_in j (x ∷ os) = grind (arith, common_steps, each_weaker, false≢true,
 pub in_open : (p : Puzzle) (t : List Move) (j : ℕ) → AreLegal p t → is_open j t ≡ true
     → AllByRecursion (λ o. holds o j ≡ true → is_in o.number (listed_numbers p t j) ≡ true) (left p t)
 in_open p t j legal opened =
-    let same : listed p t j ≡ holding j (left p t) = listed_open p t legal j opened in
+    let same : listed p t j ≡ holding j (left p t) = listed_open _ _ legal _ opened in
     subst (λ (os : List Numbered). AllByRecursion
     (λ o. holds o j ≡ true → is_in o.number (map (λ x. x.number) os) ≡ true) (left p t)) (sym same)
     (holding_in j (left p t))
@@ -101,12 +101,11 @@ purified_marked p (Purify k d ∷ t) j c legal e =
           let opened : is_open j t ≡ true = ap (λ i. is_open i t) same ∙ legal.0.1 in
           kept (λ o. holds o j ≡ true → is_marked p (Purify k d ∷ t) j o.number c ≡ true) p t (Purify k d)
           (each_weaker (λ o. holds o j ≡ true → is_in o.number (listed_numbers p t j) ≡ true)
-          (λ o. holds o j ≡ true → is_marked p (Purify k d ∷ t) j o.number c ≡ true) (left p t)
-          (λ o h held. rw (item, colour, h held) refl) (in_open p t j legal.1 opened))
-      | false ↦ λ f g.
-          kept (λ o. holds o j ≡ true → is_marked p (Purify k d ∷ t) j o.number c ≡ true) p t (Purify k d)
+          (λ o. holds o j ≡ true → is_marked p (Purify k d ∷ t) j o.number c ≡ true) _
+          (λ o h held. rw (item, colour, h held) refl) (in_open p _ _ legal.1 opened))
+      | false ↦ λ f g. kept (λ o. holds o j ≡ true → is_marked p (Purify k d ∷ t) j o.number c ≡ true) p t (Purify k d)
           (each_weaker (λ o. holds o j ≡ true → is_marked p t j o.number c ≡ true)
-          (λ o. holds o j ≡ true → is_marked p (Purify k d ∷ t) j o.number c ≡ true) (left p t)
+          (λ o. holds o j ≡ true → is_marked p (Purify k d ∷ t) j o.number c ≡ true) _
           (λ o h held. ap (cond ((eqb k j && eqb d c) && is_in o.number (listed_numbers p t j)) true) (h held)
           ∙ true_either _) (purified_marked p t j c legal.1 g))
     ] refl e
@@ -120,14 +119,14 @@ purified_marked p (Spend k ∷ t) j c legal e = purified_marked p t j c legal.1 
 pub color_is : (p : Puzzle) (t : List Move) (o j c : ℕ) → 0 < o → colour_in (uses_of p o) j ≡ Some c →
     get_or (map (color_in p t) (layout p)) (link_place p j o) 0 ≡ cond (is_marked p t j o c) MARK c
 color_is p t o j c pos has =
-    let w = held_node p j o pos (ap is_some has) in
+    let w = held_node p _ _ pos (ap is_some has) in
     let u = w.held.use_of in
-    get_map (color_in p t) (layout p) (link_place p j o) (used o u) w.node
+    get_map (color_in p t) (layout p) (link_place p j o) _ w.node
     ∙ ap₂ (λ i k. cond (is_marked p t i o k) MARK k) w.held.item (same_Some u.colour c (sym w.held.colour ∙ has))
 
 pub mark_is : (p : Puzzle) (t : List Move) (o j c : ℕ) → 0 < o → colour_in (uses_of p o) j ≡ Some c →
     is_mark p (color_in p t) o j ≡ eqb (cond (is_marked p t j o c) MARK c) MARK
-mark_is p t o j c pos has = ap (λ v. eqb v MARK) (color_is p t o j c pos has)
+mark_is p t o j c pos has = ap (λ v. eqb v MARK) (color_is _ t _ _ _ pos has)
 
 -- ---- closed items
 
@@ -147,7 +146,7 @@ colour_some us j e =
     [ None ↦ λ f. absurd (false≢true f) | Some c ↦ λ f. (c, refl) ] e
 
 agrees_same : (c d : ℕ) → agrees c (Some d) ≡ true → d ≡ c
-agrees_same c d e = sym (eqb-true c d (and_right (nat_lt 0 c) (eqb c d) e))
+agrees_same c d e = sym (eqb-true c d (and_right _ _ e))
 
 -- an option left: each item that it holds is open and has it in its list, unmarked; or is purified, and the node is
 -- marked
@@ -161,20 +160,16 @@ colour_small [] j c a e = cc
 colour_small (u ∷ us) j c a e =
     let rest = colour_small us j c a.1 in grind (arith, common_steps, same_Some)
 
-pub each_met : (p : Puzzle) (t : List Move) (j : ℕ) → AreLegal p t → IsFit p
+pub each_met : {p : Puzzle} (t : List Move) (j : ℕ) → AreLegal p t → IsFit p
     → AllByRecursion (λ o. holds o j ≡ true → Met p t o.number j) (left p t)
-each_met p t j legal fit =
-    elim (is_open j t) as (λ b. is_open j t ≡ b
+each_met {p} t j legal fit = elim (is_open j t) as (λ b. is_open j t ≡ b
     → AllByRecursion (λ o. holds o j ≡ true → Met p t o.number j) (left p t)) [
-      | true ↦ λ e.
-          each_both (IsOption p) (λ o. holds o j ≡ true → is_in o.number (listed_numbers p t j) ≡ true)
-          (λ o. holds o j ≡ true → Met p t o.number j) (left p t)
-          (λ o is h held.
+      | true ↦ λ e. each_both (IsOption p) (λ o. holds o j ≡ true → is_in o.number (listed_numbers p t j) ≡ true)
+          (λ o. holds o j ≡ true → Met p t o.number j) (left p t) (λ o is h held.
           let named : Named p j o.number = ap (λ us. is_some (colour_in us j)) is.1 ∙ held in
           let c = colour_some (uses_of p o.number) j named in
           let small : c.0 < MARK = colour_small (uses_of p o.number) j c.0 (fit.colours o.number) c.1 in
-          let m : is_mark p (color_in p t) o.number j ≡ false =
-          mark_is p t o.number j c.0 is.0 c.1
+          let m : is_mark p (color_in p t) o.number j ≡ false = mark_is p t o.number j c.0 is.0 c.1
           ∙ ap (λ b. eqb (cond b MARK c.0) MARK) (open_unmarked p t j o.number c.0 e)
           ∙ ne_eqb c.0 MARK (λ f. omega (arith, small, f)) in
           record { opened = λ _. (m, h held); shut = λ f. absurd (false≢true (sym f ∙ e)) })
@@ -183,20 +178,17 @@ each_met p t j legal fit =
           elim (closed j t e) [
             | inl covered ↦ each_weaker (λ o. holds o j ≡ false) (λ o. holds o j ≡ true → Met p t o.number j) (left p t)
                 (λ o no held. absurd (false≢true (sym no ∙ held))) (left_free p t j covered)
-            | inr has ↦
-                each_both (IsOption p) (λ o. (holds o j ≡ true → is_marked p t j o.number has.0 ≡ true)
+            | inr has ↦ each_both (IsOption p) (λ o. (holds o j ≡ true → is_marked p t j o.number has.0 ≡ true)
                 × (agrees has.0 (colour_at o j) ≡ true)) (λ o. holds o j ≡ true → Met p t o.number j) (left p t)
                 (λ o is h held.
                 let named : Named p j o.number = ap (λ us. is_some (colour_in us j)) is.1 ∙ held in
                 let c = colour_some (uses_of p o.number) j named in
                 let at : colour_at o j ≡ Some c.0 = ap (λ us. colour_in us j) (sym is.1) ∙ c.1 in
                 let same : c.0 ≡ has.0 = agrees_same has.0 c.0 (ap (agrees has.0) (sym at) ∙ h.1) in
-                let m : is_mark p (color_in p t) o.number j ≡ true =
-                mark_is p t o.number j c.0 is.0 c.1
+                let m : is_mark p (color_in p t) o.number j ≡ true = mark_is p t o.number j c.0 is.0 c.1
                 ∙ ap (λ b. eqb (cond b MARK c.0) MARK) (ap (is_marked p t j o.number) same ∙ h.0 held) in
                 record { opened = λ f. absurd (false≢true (sym e ∙ f)); shut = λ _. m })
-                (options_left p t)
-                (each_both (λ o. holds o j ≡ true → is_marked p t j o.number has.0 ≡ true)
+                (options_left p t) (each_both (λ o. holds o j ≡ true → is_marked p t j o.number has.0 ≡ true)
                 (λ o. agrees has.0 (colour_at o j) ≡ true) _ (left p t) (λ o a b. (a, b))
                 (purified_marked p t j has.0 legal has.1) (left_agrees p t j has.0 has.1))
           ]
@@ -244,12 +236,12 @@ marks true false k v = refl
 marks false true k v = refl
 marks false false k v = refl
 
-pub purify_colours : (p : Puzzle) (t : List Move) (i c : ℕ) → IsLaid p → (k : ℕ) (n : Node)
+pub purify_colours : {p : Puzzle} (t : List Move) (i c : ℕ) → IsLaid p → (k : ℕ) (n : Node)
     → slice_get (layout p) k ≡ Some n
     → color_in p (Purify i c ∷ t) n ≡ marked_list p i (Some c) (purify_start p t i c) (listed_numbers p t i) n
-purify_colours p t i c laid k unused at = grind (arith, common_steps, marked_at, marks)
-purify_colours p t i c laid k (spacer m) at = grind (arith, common_steps, marked_at, marks)
-purify_colours p t i c laid k (own j) at =
+purify_colours t i c laid k unused at = grind (arith, common_steps, marked_at, marks)
+purify_colours t i c laid k (spacer m) at = grind (arith, common_steps, marked_at, marks)
+purify_colours t i c laid k (own j) at =
     grind (arith, common_steps, eq-eqb, eqb-false, eqb-true, marked_at, marks, ne_eqb, not-not, not_in, rises_listed)
-purify_colours p t i c laid k (used o u) at =
+purify_colours t i c laid k (used o u) at =
     grind (arith, common_steps, eq-eqb, eqb-false, eqb-true, marked_at, marks, ne_eqb, not-not, not_in, rises_listed)

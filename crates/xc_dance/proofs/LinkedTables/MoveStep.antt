@@ -40,13 +40,11 @@ pub record IsStill (t : List Move) (m : Move) : Type 0 where
   pub spent : (q : ℕ) → spends q (m ∷ t) ≡ spends q t
 
 pub still_items : (p : Puzzle) (t : List Move) (m : Move) → IsStill t m → items_after p (m ∷ t) ≡ items_after p t
-still_items p t m s =
-    same_items (items_after p (m ∷ t)) (items_after p t)
+still_items p t m s = same_items _ _
     (row_same (llink_at p t) (llink_at p (m ∷ t)) (item_count p + 2) (λ q h. still_llink p t m q s.covered))
     (row_same (rlink_at p t) (rlink_at p (m ∷ t)) (item_count p + 2) (λ q h. still_rlink p t m q s.covered))
     (row_same (bound_at p t) (bound_at p (m ∷ t)) (primary_count p + 1)
-    (λ q h. ap (λ n. cond (eqb q 0) 0 (high_at p q - n)) (s.spent q)))
-    refl
+    (λ q h. ap (λ n. cond (eqb q 0) 0 (high_at p q - n)) (s.spent q))) refl
 
 -- ---- whether an item is covered, read from its ring
 
@@ -104,17 +102,17 @@ off_is p t i legal pos le =
     let n = item_count p + 2 in
     let l = llink_at p t i in
     let within : i < n = omega (arith, le) in
-    let get_l : get_or (items_after p t).llink i 0 ≡ l = row_get (llink_at p t) n i within in
+    let get_l : get_or (items_after p t).llink i 0 ≡ l = row_get (llink_at p t) _ _ within in
     let both : (l < n) × (eqb (rlink_at p t l) i ≡ not (is_covered i t)) =
     elim (is_covered i t) as (λ b. is_covered i t ≡ b → (l < n) × (eqb (rlink_at p t l) i ≡ not b)) [
-      | true ↦ λ e. let h = past_covered p t i legal pos le e in (h.place, ne_eqb (rlink_at p t l) i h.past)
+      | true ↦ λ e. let h = past_covered p _ _ legal pos le e in (h.place, ne_eqb (rlink_at p t l) i h.past)
       | false ↦ λ e. (
-        (link_beside p false t i within (λ _ _. e)).place,
-        eq-eqb (rlink_at p t l) i (link_back p false t i within (λ _ _. e)),
+        (link_beside p false t _ within (λ _ _. e)).place,
+        eq-eqb (rlink_at p t l) i (link_back p false t _ within (λ _ _. e)),
       )
     ] refl in
     let get_r : get_or (items_after p t).rlink (get_or (items_after p t).llink i 0) 0 ≡ rlink_at p t l =
-    ap (λ k. get_or (items_after p t).rlink k 0) get_l ∙ row_get (rlink_at p t) n l both.0 in
+    ap (λ k. get_or (items_after p t).rlink k 0) get_l ∙ row_get (rlink_at p t) _ _ both.0 in
     grind (arith, common_steps, row_len)
 
 -- ---- the tables after moves let the next legal move be made, and are then those after it; and back
@@ -137,17 +135,17 @@ pub record MoveStep (p : Puzzle) (t : List Move) (spans : List Span) (m : Move) 
   pub cost_back : (x : ℕ) → IsTakenOff p t m x
       → unmade_cost spans (nodes_after p (m ∷ t)) (items_after p (m ∷ t)) m x ≡ cost_of p t m
 
-covered_step : (p : Puzzle) (t : List Move) (spans : List Span) (i : ℕ) → AreLegal p t → IsLegal p t (Cover i)
+covered_step : {p : Puzzle} (t : List Move) {spans : List Span} (i : ℕ) → AreLegal p t → IsLegal p t (Cover i)
     → IsFitted p spans → MoveStep p t spans (Cover i)
-covered_step p t spans i legal may f =
+covered_step {p} t {spans} i legal may f =
     let pos : 0 < i = let h = may.0.0 in omega (arith, h) in
     let w = walk_made p t spans (Cover i) i None (color_in p t) legal f pos may.0.1 may.1 (cover_hides p t i) in
     let r = ring_step p t i may in
     grind (arith, common_steps, cover_writes)
 
-purified_step : (p : Puzzle) (t : List Move) (spans : List Span) (i c : ℕ) → AreLegal p t → IsLegal p t (Purify i c)
+purified_step : {p : Puzzle} (t : List Move) {spans : List Span} (i c : ℕ) → AreLegal p t → IsLegal p t (Purify i c)
     → IsFitted p spans → MoveStep p t spans (Purify i c)
-purified_step p t spans i c legal may f =
+purified_step {p} t {spans} i c legal may f =
     let pos : 0 < i = let h = may.0.0 in omega (arith, h) in
     let w = purify_made p t spans i c legal f pos may.0.1 may.1 in
     let still = still_items p t (Purify i c) (record { covered = λ q. refl; spent = λ q. refl }) in
@@ -167,19 +165,18 @@ spent_cut p t i j =
     }
 
 spent_nodes : (p : Puzzle) (t : List Move) (i : ℕ) → IsLaid p → nodes_after p (Spend i ∷ t) ≡ nodes_after p t
-spent_nodes p t i laid =
-    tables_same p (line_of p t) (line_of p (Spend i ∷ t)) (color_in p t) (color_in p (Spend i ∷ t)) laid
-    (λ j r. line_after p t (Spend i) j [] (spent_cut p t i j)) (λ k n at. spent_colours p t i n)
+spent_nodes p t i laid = tables_same _ (line_of p t) (line_of p (Spend i ∷ t)) (color_in p t)
+    (color_in p (Spend i ∷ t)) laid (λ j r. line_after _ _ _ _ _ (spent_cut p t i j)) (λ k n at. spent_colours p t i n)
 
-spent_step : (p : Puzzle) (t : List Move) (spans : List Span) (i : ℕ) → AreLegal p t → IsLegal p t (Spend i)
+spent_step : {p : Puzzle} (t : List Move) {spans : List Span} (i : ℕ) → AreLegal p t → IsLegal p t (Spend i)
     → IsFitted p spans → MoveStep p t spans (Spend i)
-spent_step p t spans i legal may f =
+spent_step {p} t i legal may f =
     let s = spend_step p t i may (f.bounds i) in
     grind (arith, common_steps, spent_nodes)
 
-tweaked_step : (p : Puzzle) (t : List Move) (spans : List Span) (i : ℕ) → AreLegal p t → IsLegal p t (Tweak i)
+tweaked_step : {p : Puzzle} (t : List Move) {spans : List Span} (i : ℕ) → AreLegal p t → IsLegal p t (Tweak i)
     → IsFitted p spans → MoveStep p t spans (Tweak i)
-tweaked_step p t spans i legal may f =
+tweaked_step {p} t {spans} i legal may f =
     let next = Tweak i ∷ t in
     let pos : 0 < i = let h = may.0.0 in omega (arith, h) in
     let le : i ≤ item_count p = may.0.1 in
@@ -189,12 +186,12 @@ tweaked_step p t spans i legal may f =
     let still = still_items p t (Tweak i) (record { covered = λ q. refl; spent = λ q. refl }) in
     grind (arith, common_steps)
 
-pub move_step : (p : Puzzle) (t : List Move) (spans : List Span) (m : Move) → AreLegal p t → IsLegal p t m
+pub move_step : {p : Puzzle} (t : List Move) {spans : List Span} (m : Move) → AreLegal p t → IsLegal p t m
     → IsFitted p spans → MoveStep p t spans m
-move_step p t spans (Cover i) legal may f = covered_step p t spans i legal may f
-move_step p t spans (Purify i c) legal may f = purified_step p t spans i c legal may f
-move_step p t spans (Tweak i) legal may f = tweaked_step p t spans i legal may f
-move_step p t spans (Spend i) legal may f = spent_step p t spans i legal may f
+move_step t (Cover i) legal may f = covered_step _ _ legal may f
+move_step t (Purify i c) legal may f = purified_step _ _ _ legal may f
+move_step t (Tweak i) legal may f = tweaked_step _ _ legal may f
+move_step t (Spend i) legal may f = spent_step _ _ legal may f
 
 -- ---- the tables of a keeper from one move to the next
 
@@ -232,8 +229,8 @@ pub newest_one : (p : Puzzle) (t : List Move) (m : Move) → cost_of_newest 1 p 
 newest_one p t m = let z = none_newest p t in omega (arith, z)
 
 -- a move more on the trail
-pub one_more_move : (old new : List Move) (m : Move) → new ≡ old ++ m ∷ [] → reverse new ≡ m ∷ reverse old
-one_more_move old new m e = ap reverse e ∙ reverse-append old (m ∷ [])
+pub one_more_move : (old : List Move) {new : List Move} (m : Move) → new ≡ old ++ m ∷ [] → reverse new ≡ m ∷ reverse old
+one_more_move old m e = ap reverse e ∙ reverse-append old (m ∷ [])
 
 -- ---- the nodes taken off
 
@@ -242,11 +239,11 @@ abbrev pub FirstLed : Puzzle → List Move → Move → Type 0
 FirstLed p t (Tweak i) = get_or (nodes_after p t).dlink i 0 ≡ link_place p i (first_of 0 (listed_numbers p t i))
 FirstLed p t _ = Unit {0}
 
-pub first_led : (p : Puzzle) (t : List Move) (spans : List Span) (m : Move) → IsLegal p t m → IsFitted p spans
+pub first_led : {p : Puzzle} (t : List Move) {spans : List Span} (m : Move) → IsLegal p t m → IsFitted p spans
     → FirstLed p t m
-first_led p t spans (Tweak i) may f = let pos : 0 < i = let h = may.0.0 in omega (arith, h) in
-    get_down p (line_of p t) i 0 (own_placed p i f.laid pos may.0.1)
-first_led p t spans _ may f = tt
+first_led {p} t (Tweak i) may f = let pos : 0 < i = let h = may.0.0 in omega (arith, h) in
+    get_down _ (line_of p t) _ _ (own_placed _ _ f.laid pos may.0.1)
+first_led t _ may f = tt
 
 pub taken_few : (p : Puzzle) (t : List Move) → length (taken_nodes p t) ≤ length t
 taken_few p [] = omega arith
@@ -258,11 +255,11 @@ pub taken_short : (p : Puzzle) (xs : List ℕ) (moves : List Move) → reverse x
 taken_short p xs moves e = grind (arith, common_steps, taken_few)
 
 -- the node is the first that item i's own node leads to
-pub taken_then : (p : Puzzle) (t : List Move) (nodes : Nodes) (old new : List ℕ) (m : Move) → FirstLed p t m
+pub taken_then : (p : Puzzle) (t : List Move) {nodes : Nodes} (old : List ℕ) {new : List ℕ} (m : Move) → FirstLed p t m
     → nodes ≡ nodes_after p t → reverse old ≡ taken_nodes p t → new ≡ noted old nodes m
     → reverse new ≡ taken_nodes p (m ∷ t)
-taken_then p t nodes old new (Tweak i) led a b e = grind (arith, common_steps)
-taken_then p t nodes old new _ led a b e = grind (arith, common_steps)
+taken_then p t old (Tweak i) led a b e = grind (arith, common_steps)
+taken_then p t old _ led a b e = grind (arith, common_steps)
 
 pub record Recalled (p : Puzzle) (t : List Move) (m : Move) (new : List ℕ) (x : ℕ) : Type 0 where
   pub off : IsTakenOff p t m x

@@ -14,13 +14,12 @@ use Rattle.xc_dance.proofs.links.Links.commit_before.Goals as goal
 use Rattle.xc_dance.proofs.links.Links.commit_before.Goals.{After-self, After-self-in-loop-q}
 
 first_nodes : (c : After-self) → c.self.inside.nodes ≡ nodes_after c.args.self.now.puzzle c.args.self.now.trail
-first_nodes c = nodes_told _ _ _ _ c.self.invariant.nodes c.self.view_is refl
+first_nodes c = nodes_told c.self.invariant.nodes c.self.view_is refl
 
 -- where the spacer leads
 led : (c : After-self) (x : ℕ) → IsUseAt c.args.self.now.puzzle c.args.i x c.args.place →
     Leads c.args.self.now.puzzle x c.args.place c.args.end c.args.self.now.trail
-led c x held =
-    leads c.args.self.now.puzzle c.args.i x c.args.place c.args.end c.args.self.now.trail held (c.requires.end x held)
+led c x held = leads _ held (c.requires.end x held)
 
 pub ulink-first-requires : goal.ulink-first-requires
 ulink-first-requires c =
@@ -35,7 +34,7 @@ ulink-first-requires c =
 -- the walk begins at the option's first node
 first_is : (c : After-self) (first x : ℕ) → first ≡ slice_index c.self.inside.nodes.ulink c.args.end →
     IsUseAt c.args.self.now.puzzle c.args.i x c.args.place → first ≡ start_at c.args.self.now.puzzle (x - 1)
-first_is c first x e held = e ∙ ap (λ (n : Nodes). get_or n.ulink c.args.end 0) (first_nodes c) ∙ (led c x held).first
+first_is c first x e held = e ∙ ap (λ (n : Nodes). get_or n.ulink c.args.end 0) (first_nodes c) ∙ (led c _ held).first
 
 pub loop-q-init : goal.loop-q-init
 loop-q-init c =
@@ -46,14 +45,13 @@ loop-q-init c =
       puzzle = refl;
       room = refl;
       written = refl;
-      along = λ x held.
-          along_first s.puzzle (start_at s.puzzle (x - 1)) first (uses_before s.puzzle c.args.i x) s.trail
+      along = λ x held. along_first s.puzzle _ _ (uses_before s.puzzle c.args.i x) s.trail
           (is x c.ulink-first.ensures held);
     }
 
 nodes_is : (c : After-self-in-loop-q) → c.self-in-loop-q.inside.nodes
     ≡ nodes_after c.args.self.now.puzzle c.loop-q.self.trail
-nodes_is c = nodes_told _ _ _ _ c.self-in-loop-q.invariant.nodes c.self-in-loop-q.view_is c.loop-q.invariant.puzzle
+nodes_is c = nodes_told c.self-in-loop-q.invariant.nodes c.self-in-loop-q.view_is c.loop-q.invariant.puzzle
 
 pub top-j-requires : goal.top-j-requires
 top-j-requires c =
@@ -68,24 +66,18 @@ top-j-requires c =
     omega (arith, within, behind, test, long)
 
 -- the next use
-next : (c : After-self-in-loop-q) (x : ℕ) → IsUseAt c.args.self.now.puzzle c.args.i x c.args.place →
+next : (c : After-self-in-loop-q) {x : ℕ} → IsUseAt c.args.self.now.puzzle c.args.i x c.args.place →
     IsNext c.args.self.now.puzzle x (start_at c.args.self.now.puzzle (x - 1))
     (uses_before c.args.self.now.puzzle c.args.i x) c.args.self.now.trail c.loop-q.self.trail c.loop-q.q
-next c x held =
-    let s = c.args.self.now in
-    (before_at s.puzzle c.args.i x c.args.place c.loop-q.q s.trail c.loop-q.self.trail held
-    (c.loop-q.invariant.along x held)).node c.loop-q-test.true
+next c {x} held = (before_at held (c.loop-q.invariant.along x held)).node c.loop-q-test.true
 
 pub commit_node-requires : goal.commit_node-requires
 commit_node-requires c =
     let here = (goal.at.commit_node-requires c).After-self-in-loop-q in
-    let s = c.args.self.now in
-    let x = c.requires.can.0 in
     let is = c.top-j.ensures ∙ ap (λ (n : Nodes). get_or n.top c.loop-q.q 0) (nodes_is here) in
     record {
-      node = may_commit s.puzzle x (start_at s.puzzle (x - 1)) (uses_before s.puzzle c.args.i x)
-          s.trail c.loop-q.self s.room c.loop-q.q c.top-j.result
-          (next here x c.requires.can.1) c.loop-q.invariant.puzzle c.loop-q.invariant.room is c.requires.can.2;
+      node = may_commit c.loop-q.self
+          (next here c.requires.can.1) c.loop-q.invariant.puzzle c.loop-q.invariant.room is c.requires.can.2;
     }
 
 pub loop-q-preserved : goal.loop-q-preserved
@@ -95,10 +87,8 @@ loop-q-preserved c =
     let is = c.top-j.ensures ∙ ap (λ (n : Nodes). get_or n.top c.loop-q.q 0) (nodes_is here) in
     let step : (x : ℕ) → IsUseAt s.puzzle c.args.i x c.args.place →
     Committed s.puzzle (start_at s.puzzle (x - 1)) (uses_before s.puzzle c.args.i x)
-    s.trail s.room c.commit_node.new.self (c.loop-q.q + 1)
-    = λ x held. one_committed s.puzzle x (start_at s.puzzle (x - 1)) (uses_before s.puzzle c.args.i x)
-    s.trail c.loop-q.self c.commit_node.new.self s.room c.loop-q.q c.top-j.result
-    (next here x held) c.loop-q.invariant.puzzle c.loop-q.invariant.room is c.commit_node.ensures.committed in
+    s.trail s.room c.commit_node.new.self (c.loop-q.q + 1) = λ x held. one_committed c.loop-q.self _
+    (next here held) c.loop-q.invariant.puzzle c.loop-q.invariant.room is c.commit_node.ensures.committed in
     record {
       puzzle = (step c.requires.can.0 c.requires.can.1).puzzle;
       room = (step c.requires.can.0 c.requires.can.1).room;
@@ -109,7 +99,5 @@ loop-q-preserved c =
 
 pub returns-clause-committed : goal.returns-clause-committed
 returns-clause-committed c = λ x held.
-    let s = c.args.self.now in
-    let all = (before_at s.puzzle c.args.i x c.args.place c.loop-q.q s.trail c.loop-q.self.trail held
-    (c.loop-q.invariant.along x held)).end c.loop-q-test.false in
-    whole s.puzzle s.room c.loop-q.self _ c.loop-q.invariant.puzzle c.loop-q.invariant.room all
+    let all = (before_at held (c.loop-q.invariant.along x held)).end c.loop-q-test.false in
+    whole _ _ c.loop-q.self c.loop-q.invariant.puzzle c.loop-q.invariant.room all

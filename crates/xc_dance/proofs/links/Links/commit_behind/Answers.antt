@@ -25,7 +25,7 @@ begun : (c : After-self) → Behind c.args.self.now.puzzle c.args.i c.requires.0
     c.args.self.now.trail (c.args.place + 1)
 begun c =
     let s = c.args.self.now in
-    behind_at s.puzzle c.args.i c.requires.0 c.args.place (c.args.place + 1) s.trail s.trail (laid c) c.requires.1
+    behind_at (laid c) c.requires.1
     (along_first s.puzzle (c.args.place + 1) (c.args.place + 1) (uses_behind s.puzzle c.args.i c.requires.0)
     s.trail refl)
 
@@ -51,13 +51,11 @@ found : (c : After-self-in-loop-self) (x : ℕ) → IsUseAt c.args.self.now.puzz
 found c x held =
     let p = c.args.self.now.puzzle in
     let laid : IsLaid p = subst (λ (s : Linked). IsLaid s.puzzle) c.self.view_is c.self.invariant.fitted.laid in
-    behind_at p c.args.i x c.args.place c.loop-self.q c.args.self.now.trail c.loop-self.self.trail laid held
-    (c.loop-self.invariant.along x held)
+    behind_at laid held (c.loop-self.invariant.along x held)
 
 nodes_is : (c : After-self-in-loop-self) → c.self-in-loop-self.inside.nodes
     ≡ nodes_after c.args.self.now.puzzle c.loop-self.self.trail
-nodes_is c = nodes_told _ _ _ _ c.self-in-loop-self.invariant.nodes c.self-in-loop-self.view_is
-    c.loop-self.invariant.puzzle
+nodes_is c = nodes_told c.self-in-loop-self.invariant.nodes c.self-in-loop-self.view_is c.loop-self.invariant.puzzle
 
 at_top : (c : After-self-in-loop-self) → c.loop-self.q < length c.self-in-loop-self.inside.nodes.top
 at_top c =
@@ -79,25 +77,22 @@ pub top-j-requires : goal.top-j-requires
 top-j-requires c = at_top (goal.at.top-j-requires c).After-self-in-loop-self
 
 -- the next use, where TOP isn't that of a spacer
-next : (c : After-self-in-loop-self) (x : ℕ) → IsUseAt c.args.self.now.puzzle c.args.i x c.args.place →
+next : (c : After-self-in-loop-self) {x : ℕ} → IsUseAt c.args.self.now.puzzle c.args.i x c.args.place →
     get_or c.self-in-loop-self.inside.nodes.top c.loop-self.q 0 < SPACER →
     IsNext c.args.self.now.puzzle x (c.args.place + 1) (uses_behind c.args.self.now.puzzle c.args.i x)
     c.args.self.now.trail c.loop-self.self.trail c.loop-self.q
-next c x held low = let is = top_is c in (found c x held).node (omega (arith, is, low))
+next c {x} held low = let is = top_is c in (found c x held).node (omega (arith, is, low))
 
 pub commit_node-requires : goal.commit_node-requires
 commit_node-requires c =
     let here = (goal.at.commit_node-requires c).After-self-in-loop-self in
-    let s = c.args.self.now in
-    let x = c.requires.0 in
     let told = c.top.ensures in
     let test = c.loop-self-test.true in
     let low : get_or c.self-in-loop-self.inside.nodes.top c.loop-self.q 0 < SPACER = omega (arith, told, test) in
     let is = c.top-j.ensures ∙ top_is here in
     record {
-      node = may_commit s.puzzle x (c.args.place + 1) (uses_behind s.puzzle c.args.i x)
-          s.trail c.loop-self.self s.room c.loop-self.q c.top-j.result
-          (next here x c.requires.1 low) c.loop-self.invariant.puzzle c.loop-self.invariant.room is c.requires.2;
+      node = may_commit c.loop-self.self
+          (next here c.requires.1 low) c.loop-self.invariant.puzzle c.loop-self.invariant.room is c.requires.2;
     }
 
 pub overflow_add-q-in-loop-self : goal.overflow_add-q-in-loop-self
@@ -122,10 +117,8 @@ loop-self-preserved c =
     let is = c.top-j.ensures ∙ top_is here in
     let step : (x : ℕ) → IsUseAt s.puzzle c.args.i x c.args.place →
     Committed s.puzzle (c.args.place + 1) (uses_behind s.puzzle c.args.i x)
-    s.trail s.room c.commit_node.new.self (c.loop-self.q + 1)
-    = λ x held. one_committed s.puzzle x (c.args.place + 1) (uses_behind s.puzzle c.args.i x)
-    s.trail c.loop-self.self c.commit_node.new.self s.room c.loop-self.q c.top-j.result
-    (next here x held low) c.loop-self.invariant.puzzle c.loop-self.invariant.room is c.commit_node.ensures.committed in
+    s.trail s.room c.commit_node.new.self (c.loop-self.q + 1) = λ x held. one_committed c.loop-self.self _
+    (next here held low) c.loop-self.invariant.puzzle c.loop-self.invariant.room is c.commit_node.ensures.committed in
     record {
       puzzle = (step c.requires.0 c.requires.1).puzzle;
       room = (step c.requires.0 c.requires.1).room;
@@ -143,4 +136,4 @@ returns-clause-committed c = λ x held.
     let test = c.loop-self-test.false in
     let high : SPACER ≤ top_at s.puzzle c.loop-self.self.trail c.loop-self.q = omega (arith, is, told, test) in
     let end = (found here x held).end high in
-    (whole s.puzzle s.room c.loop-self.self _ c.loop-self.invariant.puzzle c.loop-self.invariant.room end.0, end.1)
+    (whole s.puzzle s.room c.loop-self.self c.loop-self.invariant.puzzle c.loop-self.invariant.room end.0, end.1)

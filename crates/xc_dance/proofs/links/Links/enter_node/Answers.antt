@@ -15,25 +15,23 @@ use Rattle.xc_dance.proofs.LinkedTables.CommitLemmas.{use_item, colour_within, c
 use Rattle.xc_dance.proofs.links.Links.enter_node.Goals as goal
 use Rattle.xc_dance.proofs.links.Links.enter_node.Goals.{After-self}
 
-node_at : (c : After-self) (o : ℕ) (u : Use) → slice_get (layout c.args.self.now.puzzle) c.args.q ≡ Some (used o u) →
+node_at : (c : After-self) {o : ℕ} {u : Use} → slice_get (layout c.args.self.now.puzzle) c.args.q ≡ Some (used o u) →
     slice_get (layout c.self.inside.fixed) c.args.q ≡ Some (used o u)
-node_at c o u at = ap (λ (s : Linked). slice_get (layout s.puzzle) c.args.q) c.self.view_is ∙ at
+node_at c at = ap (λ (s : Linked). slice_get (layout s.puzzle) c.args.q) c.self.view_is ∙ at
 
 pub is_open-requires : goal.is_open-requires
 is_open-requires c =
     let here = (goal.at.is_open-requires c).After-self in
     let n = c.requires.node in
     subst (λ (s : Linked). IsItem s.puzzle c.args.j) c.self.view_is
-    (use_item c.self.inside.fixed c.args.q n.0 c.args.j n.1.0 c.self.invariant.fitted.laid
-    (node_at here n.0 n.1.0 n.1.1) n.1.2)
+    (use_item c.args.q c.self.invariant.fitted.laid (node_at here n.1.1) n.1.2)
 
 pub color-colour-requires : goal.color-colour-requires
 color-colour-requires c =
     let here = (goal.at.color-colour-requires c).After-self in
     let n = c.requires.node in
     subst (λ (t : Nodes). c.args.q < length t.color) (sym c.self.invariant.nodes)
-    (colour_within c.self.inside.fixed (reverse c.self.inside.trail.items)
-    c.args.q n.0 n.1.0 (node_at here n.0 n.1.0 n.1.1))
+    (colour_within _ (reverse c.self.inside.trail.items) _ (node_at here n.1.1))
 
 pub returns-then-is_open-clause-covers : goal.returns-then-is_open-clause-covers
 returns-then-is_open-clause-covers c = λ o u at item.
@@ -48,11 +46,7 @@ returns-then-is_open-clause-covers c = λ o u at item.
     let open_there = ap (λ (s : Linked). is_open j s.trail) c.self.view_is in
     let still : is_open j t ≡ true = open_there ∙ sym c.is_open.ensures ∙ c.if-is_open.true in
     let read = c.color-colour.ensures ∙ ap (λ (n : Nodes). get_or n.color c.args.q 0) c.self.invariant.nodes in
-    let moves = subst
-    (λ (s : Linked). cond (eqb k 0) (Cover j) (Purify j k) ∷ s.trail ≡ after_use s.puzzle u s.trail)
-    c.self.view_is
-    (committed_open p t c.args.q o j k u (node_at here o u at) item high still read) in
+    let moves = subst (λ (s : Linked). cond (eqb k 0) (Cover j) (Purify j k) ∷ s.trail ≡ after_use s.puzzle u s.trail)
+    c.self.view_is (committed_open _ _ _ (node_at here at) item high still read) in
     let done = ap (λ (d : Dancing). d.trail) c.purify_coloured.ensures.purified in
-    sym moves
-    ∙ still_covers j k c.args.self.now.trail c.purify_coloured.new.self.trail c.purify_coloured.result
-    c.purify_coloured.ensures.plain done
+    sym moves ∙ still_covers _ _ _ c.purify_coloured.ensures.plain done

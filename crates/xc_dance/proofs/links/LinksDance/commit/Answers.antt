@@ -13,7 +13,7 @@ commit_behind-end-requires c =
     let behind = uses_behind s.puzzle c.args.i x in
     let before = uses_before s.puzzle c.args.i x in
     let can = subst (CanStand s.puzzle s.room) (after_uses-append s.puzzle behind before s.trail) c.requires.can.2 in
-    (x, c.requires.can.1, stood_before s.puzzle s.room before (after_uses s.puzzle behind s.trail) can)
+    (x, c.requires.can.1, stood_before _ _ before _ can)
 
 pub commit_before-requires-clause-can : goal.commit_before-requires-clause-can
 commit_before-requires-clause-can c =

@@ -15,26 +15,22 @@ use Rattle.xc_dance.proofs.links.LinksDance.node_below.Goals.{After-self}
 item : (c : After-self) → IsItem c.self.inside.fixed c.args.i
 item c = subst (λ (s : Linked). IsItem s.puzzle c.args.i) (sym c.self.view_is) c.requires.item
 
-at : (c : After-self) (x : ℕ) → IsListedAt c.args.self.now.puzzle c.args.self.now.trail c.args.i x c.args.place →
+at : (c : After-self) {x : ℕ} → IsListedAt c.args.self.now.puzzle c.args.self.now.trail c.args.i x c.args.place →
     IsListedAt c.self.inside.fixed (reverse c.self.inside.trail.items) c.args.i x c.args.place
-at c x h = subst (λ (s : Linked). IsListedAt s.puzzle s.trail c.args.i x c.args.place) (sym c.self.view_is) h
+at c {x} h = subst (λ (s : Linked). IsListedAt s.puzzle s.trail c.args.i x c.args.place) (sym c.self.view_is) h
 
 pub dlink-requires : goal.dlink-requires
 dlink-requires c =
     let here = (goal.at.dlink-requires c).After-self in
-    let p = c.self.inside.fixed in
-    let t : List Move = reverse c.self.inside.trail.items in
     let l = c.requires.place in
     subst (λ (n : Nodes). c.args.place < length n.dlink) (sym c.self.invariant.nodes)
-    (listed_within p t c.args.i l.0 c.args.place c.self.invariant.fitted.laid (item here) (at here l.0 l.1))
+    (listed_within c.self.invariant.fitted.laid (item here) (at here l.1))
 
 pub returns-clause-place : goal.returns-clause-place
 returns-clause-place c = λ x h.
     let here = (goal.at.returns-clause-place c).After-self in
-    let p = c.self.inside.fixed in
-    let t : List Move = reverse c.self.inside.trail.items in
     c.dlink.ensures ∙ ap (λ (n : Nodes). get_or n.dlink c.args.place 0) c.self.invariant.nodes
-    ∙ listed_down p t c.args.i x c.args.place c.self.invariant.fitted.laid (item here) (at here x h)
+    ∙ listed_down c.self.invariant.fitted.laid (item here) (at here h)
     ∙ ap (λ (s : Linked). link_place s.puzzle c.args.i (first_above 0 x (listed_numbers s.puzzle s.trail c.args.i)))
     c.self.view_is
 
@@ -44,10 +40,8 @@ returns-clause-option c = λ x h.
     let p = c.self.inside.fixed in
     let t : List Move = reverse c.self.inside.trail.items in
     let down = c.dlink.ensures ∙ ap (λ (n : Nodes). get_or n.dlink c.args.place 0) c.self.invariant.nodes
-    ∙ listed_down p t c.args.i x c.args.place c.self.invariant.fitted.laid (item here) (at here x h) in
+    ∙ listed_down c.self.invariant.fitted.laid (item here) (at here h) in
     ap (λ (s : Linked). option_at s.puzzle c.args.i c.dlink.result) (sym c.self.view_is)
     ∙ ap (option_at p c.args.i) down
-    ∙ option_there p c.args.i (first_above 0 x (listed_numbers p t c.args.i))
-    (item here).1 (above_name p t c.args.i x)
-    ∙ above_named x (listed_numbers p t c.args.i)
+    ∙ option_there _ _ _ (item here).1 (above_name p t c.args.i x) ∙ above_named x (listed_numbers p t c.args.i)
     ∙ ap (λ (s : Linked). next_above x (listed_numbers s.puzzle s.trail c.args.i)) c.self.view_is

@@ -5,9 +5,8 @@ use Rattle.xc_dance.proofs.links.LinksDance.option_of.Goals as goal
 
 pub option_at-requires-clause-node : goal.option_at-requires-clause-node
 option_at-requires-clause-node c = let u = c.requires.place in
-    use_node c.args.self.now.puzzle c.args.i u.0 c.args.place u.1
+    use_node u.1
 
 pub returns : goal.returns
-returns c = λ x u.
-    c.unwrap_or.ensures ∙ ap (λ o. unwrap_or o 0) (c.option_at.ensures x
-    (use_name c.args.self.now.puzzle c.args.i x c.args.place u) u.at) ∙ named_back x
+returns c = λ x u. c.unwrap_or.ensures
+    ∙ ap (λ o. unwrap_or o 0) (c.option_at.ensures x (use_name u) u.at) ∙ named_back x

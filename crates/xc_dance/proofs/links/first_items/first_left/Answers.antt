@@ -4,7 +4,7 @@ use Rattle.xc_dance.proofs.LinkedTables.FirstTables.{left_head, left_first, left
 use Rattle.xc_dance.proofs.links.first_items.first_left.Goals as goal
 
 pub returns-then-i-eq0 : goal.returns-then-i-eq0
-returns-then-i-eq0 c = c.primary.ensures.value ∙ left_head c.args.problem.now.puzzle c.args.i c.if-i-eq0.true
+returns-then-i-eq0 c = c.primary.ensures.value ∙ left_head c.args.problem.now.puzzle c.if-i-eq0.true
 
 pub returns-then-i-primary : goal.returns-then-i-primary
 returns-then-i-primary c = grind (arith, common_steps, left_first)

@@ -4,7 +4,7 @@ use Rattle.xc_dance.proofs.LinkedTables.FirstTables.{right_last, right_head, rig
 use Rattle.xc_dance.proofs.links.first_items.first_right.Goals as goal
 
 pub returns-then-i-primary : goal.returns-then-i-primary
-returns-then-i-primary c = right_last c.args.problem.now.puzzle c.args.i (c.if-i-primary.true ∙ c.primary.ensures.value)
+returns-then-i-primary c = right_last c.args.problem.now.puzzle (c.if-i-primary.true ∙ c.primary.ensures.value)
 
 pub returns-then-i-items : goal.returns-then-i-items
 returns-then-i-items c = grind (arith, common_steps, right_head)

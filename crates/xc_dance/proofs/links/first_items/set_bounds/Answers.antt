@@ -27,7 +27,7 @@ low_here c = sym (ap (λ (b : Option Bounds). (unwrap_or b (record { low = 0; hi
 pub overflow_sub-item : goal.overflow_sub-item
 overflow_sub-item c =
     let at = (goal.at.overflow_sub-item c).After-item-item in
-    omega (arith, low_here at, high_here at, low_most c.args.problem.now.puzzle (c.loop-i.i + 1) c.requires.valid)
+    omega (arith, low_here at, high_here at, low_most (c.loop-i.i + 1) c.requires.valid)
 
 pub set-requires-in-loop-i : goal.set-requires-in-loop-i
 set-requires-in-loop-i c = grind (arith, common_steps, column_len)

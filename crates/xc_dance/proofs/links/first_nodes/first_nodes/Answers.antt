@@ -4,8 +4,7 @@ use Rattle.xc_dance.proofs.LinkedTables.FirstTables.{laid_none, laid_all}
 use Rattle.xc_dance.proofs.links.first_nodes.first_nodes.Goals as goal
 
 pub lay_items-requires : goal.lay_items-requires
-lay_items-requires c =
-    c.in_ok-rows.ensures ∙ laid_none c.args.problem.now.puzzle c.node_count-count.result c.node_count-count.ensures
+lay_items-requires c = c.in_ok-rows.ensures ∙ laid_none _ c.node_count-count.ensures
 
 pub link_uses-requires-clause-before : goal.link_uses-requires-clause-before
 link_uses-requires-clause-before c =

@@ -9,7 +9,7 @@ pub lay-requires : goal.lay-requires
 lay-requires c =
     let p = c.args.problem.now.puzzle in
     let at = own_row p c.loop-i.i (omega (arith, c.loop-i-test.true, c.items-i-end.ensures.value)) in
-    subst (λ (t : Laying). length t.nodes.top < t.count) (sym c.loop-i.invariant) (laid_room p c.loop-i.i at.0 at.1)
+    subst (λ (t : Laying). length t.nodes.top < t.count) (sym c.loop-i.invariant) (laid_room _ _ at.1)
 
 pub loop-i-preserved : goal.loop-i-preserved
 loop-i-preserved c =
@@ -17,4 +17,4 @@ loop-i-preserved c =
     let i = c.loop-i.i in
     let row : Row = record { top = 0; ulink = i; dlink = i; color = 0 } in
     let at = own_row p i (omega (arith, c.loop-i-test.true, c.items-i-end.ensures.value)) in
-    c.lay.ensures ∙ ap (λ (t : Laying). with_row t row) c.loop-i.invariant ∙ laid_more p i at.0 row at.1 at.2
+    c.lay.ensures ∙ ap (λ (t : Laying). with_row t row) c.loop-i.invariant ∙ laid_more _ _ _ at.1 at.2

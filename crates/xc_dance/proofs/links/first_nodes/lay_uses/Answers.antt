@@ -27,17 +27,14 @@ node : (c : In-loop-u) → slice_get (layout c.args.problem.now.puzzle) (place_n
 node c =
     let p = c.args.problem.now.puzzle in
     let us = c.option-u-items.result.now in
-    let fits =
-    option_fits p c.args.o us c.requires.limits c.requires.option
-    (uses_here p (c.args.o + 1) us c.option-u-items.ensures.value) in
-    use_here p c.args.o c.loop-u.u-index (place_now c) us (use_now c) fits.at
-    (slice_get-get_or us c.loop-u.u-index _ c.loop-u-test.true) refl
+    let fits = option_fits _ _ _ c.requires.limits c.requires.option
+    (uses_here p (c.args.o + 1) _ c.option-u-items.ensures.value) in
+    use_here _ _ _ (place_now c) _ _ fits.at (slice_get-get_or us c.loop-u.u-index _ c.loop-u-test.true) refl
 
 pub lay-requires : goal.lay-requires
 lay-requires c =
     let here = (goal.at.lay-requires c).In-loop-u in
-    subst (λ (t : Laying). length t.nodes.top < t.count) (sym c.loop-u.invariant)
-    (laid_room c.args.problem.now.puzzle (place_now here) (used (c.args.o + 1) (use_now here)) (node here))
+    subst (λ (t : Laying). length t.nodes.top < t.count) (sym c.loop-u.invariant) (laid_room _ _ (node here))
 
 pub loop-u-preserved : goal.loop-u-preserved
 loop-u-preserved c =
@@ -47,15 +44,13 @@ loop-u-preserved c =
     let row : Row = record { top = u.item; ulink = u.item; dlink = u.item; color = u.colour } in
     let next : place_now here + 1 ≡ spacer_place p c.args.o + 1 + (c.loop-u.u-index + 1) = omega arith in
     c.lay.ensures ∙ ap (λ (t : Laying). with_row t row) c.loop-u.invariant
-    ∙ laid_more p (place_now here) (used (c.args.o + 1) u) row (node here) refl ∙ ap (laid_to p) next
+    ∙ laid_more _ _ row (node here) refl ∙ ap (laid_to p) next
 
 pub returns : goal.returns
 returns c =
     let p = c.args.problem.now.puzzle in
-    let us = c.option-u-items.result.now in
-    let fits =
-    option_fits p c.args.o us c.requires.limits c.requires.option
-    (uses_here p (c.args.o + 1) us c.option-u-items.ensures.value) in
+    let fits = option_fits _ _ _ c.requires.limits c.requires.option
+    (uses_here p (c.args.o + 1) _ c.option-u-items.ensures.value) in
     let end : spacer_place p c.args.o + 1 + c.loop-u.u-index ≡ spacer_place p (c.args.o + 1) =
     omega (arith, fits.next, c.loop-u-test.false, c.loop-u.auto.u-index-end) in
     c.loop-u.invariant ∙ ap (laid_to p) end

@@ -21,16 +21,16 @@ abbrev so_far : Puzzle → ℕ → Nodes
 so_far p q = nodes_from p (lines_of (take q (layout p))) (color_in p [])
 
 -- the node at q is a use's where its TOP is small, and a spacer's where it isn't
-step : (p : Puzzle) (q : ℕ) (n : Node) → IsFit p → IsWithinLimits p → item_count p + 1 ≤ q
+step : {p : Puzzle} (q : ℕ) (n : Node) → IsFit p → IsWithinLimits p → item_count p + 1 ≤ q
     → slice_get (layout p) q ≡ Some n
     → (slice_index (so_far p q).top q < SPACER → (o : ℕ) × (u : Use) × UseStep p (so_far p q) q o u)
     × (SPACER ≤ slice_index (so_far p q).top q → so_far p q ≡ so_far p (q + 1))
-step p q unused fit limits from e = absurd (omega (arith, is_at p q unused e, from))
-step p q (own i) fit limits from e = let s = is_at p q (own i) e in absurd (omega (arith, s.1, s.2, from))
-step p q (spacer n) fit limits from e =
+step {p} q unused fit limits from e = absurd (omega (arith, is_at p q unused e, from))
+step {p} q (own i) fit limits from e = let s = is_at p q (own i) e in absurd (omega (arith, s.1, s.2, from))
+step {p} q (spacer n) fit limits from e =
     let top = spacer_top p (lines_of (take q (layout p))) (color_in p []) q n e in
     (λ small. absurd (omega (arith, top, small)), λ large. spacer_step p q n e)
-step p q (used o u) fit limits from e =
+step {p} q (used o u) fit limits from e =
     let s = use_step p q o u fit limits e in
     (λ small. (o, u, s), λ large. absurd (omega (arith, large, s.is_item, s.item_small)))
 
@@ -47,8 +47,7 @@ use_here c =
     let q = c.loop-q.q in
     let at = slice_get-get_or (layout p) q unused (omega (arith, c.loop-q-test.true, c.requires.count)) in
     let top = ap (λ (t : Nodes). slice_index t.top q) c.loop-q.invariant in
-    let s =
-    (step p q _ c.requires.fit c.requires.limits (omega (arith, c.loop-q.auto.q, c.items-q.ensures.value)) at).0
+    let s = (step q _ c.requires.fit c.requires.limits (omega (arith, c.loop-q.auto.q, c.items-q.ensures.value)) at).0
     (omega (arith, top, c.top.ensures, c.if-top-lt-SPACER.true)) in
     (s.0, s.1, subst (λ (t : Nodes). UseStep p t q s.0 s.1) (sym c.loop-q.invariant) s.2)
 
@@ -71,13 +70,10 @@ loop-q-preserved c =
     let from : item_count p + 1 ≤ q = omega (arith, c.loop-q.auto.q, c.items-q.ensures.value) in
     let top = ap (λ (t : Nodes). slice_index t.top q) c.loop-q.invariant in
     elim c.if-top-lt-SPACER.branch [
-      | then-top-lt-SPACER w ↦
-          (let s = (step p q n c.requires.fit c.requires.limits from at).0
+      | then-top-lt-SPACER w ↦ (let s = (step _ _ c.requires.fit c.requires.limits from at).0
           (omega (arith, top, c.top.ensures, w.if-top-lt-SPACER)) in
           w.nodes-is ∙ w.enter.ensures ∙ ap (λ (t : Nodes). entered t q) c.loop-q.invariant ∙ s.2.done)
-      | else-top-lt-SPACER w ↦
-          w.nodes-is ∙ c.loop-q.invariant
-          ∙ (step p q n c.requires.fit c.requires.limits from at).1
+      | else-top-lt-SPACER w ↦ w.nodes-is ∙ c.loop-q.invariant ∙ (step _ _ c.requires.fit c.requires.limits from at).1
           (omega (arith, top, c.top.ensures, w.if-top-lt-SPACER))
     ]
 

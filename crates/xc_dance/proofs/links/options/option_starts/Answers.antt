@@ -12,8 +12,7 @@ fits : (c : After-option) → OptionFits c.args.problem.now.puzzle c.loop-o.o c.
 fits c =
     let p = c.args.problem.now.puzzle in
     let within : c.loop-o.o < option_count p = omega (arith, c.loop-o-test.true, c.options-o-end.ensures.value) in
-    option_fits p c.loop-o.o c.option.result.now c.requires within
-    (uses_here p (c.loop-o.o + 1) _ c.option.ensures.value)
+    option_fits _ _ _ c.requires within (uses_here p (c.loop-o.o + 1) _ c.option.ensures.value)
 
 pub overflow_cast-start : goal.overflow_cast-start
 overflow_cast-start c =

@@ -12,11 +12,10 @@ use Rattle.xc_dance.proofs.links.steps.hide.Goals.{After-get_at}
 use Rattle.xc_dance.specs.declared.links.nodes.TheConstants.{SPACER}
 
 -- the walk up to the spacer, and the one from the first node on
-parts : (spans : List Span) (t : Nodes) (p : ℕ) → CanHideNode spans t p →
+parts : {spans : List Span} {t : Nodes} {p : ℕ} → CanHideNode spans t p →
     CanHideAll t (places (p + 1) (span_at spans p).end)
     × CanHideAll (fold hidden t (places (p + 1) (span_at spans p).end)) (places (span_at spans p).first p)
-parts spans t p can =
-    CanAll-append hidden CanHide t (places (p + 1) (span_at spans p).end) (places (span_at spans p).first p) can.steps
+parts can = CanAll-append hidden CanHide _ _ _ can.steps
 
 -- what TOP tells
 told : (c : After-get_at) → (let s = span_at c.args.spans.now c.args.p in
@@ -68,11 +67,9 @@ pub hide_range-below-requires-clause-can : goal.hide_range-below-requires-clause
 hide_range-below-requires-clause-can c =
     let at = (goal.at.hide_range-below-requires-clause-can c).After-get_at in
     let t : Nodes = columns c.loop-top.top c.loop-top.links c.args.color.now in
-    subst (λ a. CanHideAll t (places a c.args.p))
-    (sym (leads at c.loop-top-test.false c.up_at-first.result c.up_at-first.ensures))
+    subst (λ a. CanHideAll t (places a c.args.p)) (sym (leads at c.loop-top-test.false _ c.up_at-first.ensures))
     (subst (λ (u : Nodes). CanHideAll u (places (span_at c.args.spans.now c.args.p).first c.args.p))
-    (sym ((told at).is (high at c.loop-top-test.false)))
-    (parts c.args.spans.now (columns c.args.top.now c.args.links.now c.args.color.now) c.args.p c.requires.can).1)
+    (sym ((told at).is (high at c.loop-top-test.false))) (parts c.requires.can).1)
 
 pub hide_range-below-requires-clause-unmarked : goal.hide_range-below-requires-clause-unmarked
 hide_range-below-requires-clause-unmarked c = λ m q from below.
@@ -82,23 +79,19 @@ hide_range-below-requires-clause-unmarked c = λ m q from below.
     ((c.requires.unmarked m).others c.args.p c.requires.span).1 q (omega (arith, first, from)) below
 
 -- both walks
-whole : (c : After-get_at) → SPACER ≤ c.get_at.result → (first : ℕ)
-    → first ≡ get_or (columns c.loop-top.top c.loop-top.links c.args.color.now).ulink c.loop-top.q 0
-    → (u : Nodes) (m : ℕ) →
+whole : (c : After-get_at) → SPACER ≤ c.get_at.result → {first : ℕ} → first ≡ get_or
+    (columns c.loop-top.top c.loop-top.links c.args.color.now).ulink c.loop-top.q 0 → {u : Nodes} {m : ℕ} →
     u ≡ fold hidden (columns c.loop-top.top c.loop-top.links c.args.color.now) (places first c.args.p)
     → m ≡ hide_costs (columns c.loop-top.top c.loop-top.links c.args.color.now) (places first c.args.p) →
     Reached hidden hide_cost (columns c.args.top.now c.args.links.now c.args.color.now)
     (others_of c.args.spans.now c.args.p) u (c.loop-top.above + m)
-whole c met first is u m done cost =
-    both_reached _ _ u m (steps_end ((told c).none (high c met)) c.loop-top.invariant.walk)
-    (ap (λ a. places a c.args.p) (leads c met first is)) done cost
+whole c met is done cost = both_reached _ _ _ _ (steps_end ((told c).none (high c met)) c.loop-top.invariant.walk)
+    (ap (λ a. places a c.args.p) (leads c met _ is)) done cost
 
 pub returns-clause-done : goal.returns-clause-done
-returns-clause-done c =
-    (whole (goal.at.returns-clause-done c).After-get_at c.loop-top-test.false _ c.up_at-first.ensures _ _
+returns-clause-done c = (whole (goal.at.returns-clause-done c).After-get_at c.loop-top-test.false c.up_at-first.ensures
     c.hide_range-below.ensures.done c.hide_range-below.ensures.cost).done
 
 pub returns-clause-cost : goal.returns-clause-cost
-returns-clause-cost c =
-    (whole (goal.at.returns-clause-cost c).After-get_at c.loop-top-test.false _ c.up_at-first.ensures _ _
+returns-clause-cost c = (whole (goal.at.returns-clause-cost c).After-get_at c.loop-top-test.false c.up_at-first.ensures
     c.hide_range-below.ensures.done c.hide_range-below.ensures.cost).cost

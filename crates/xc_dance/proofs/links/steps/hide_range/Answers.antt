@@ -5,8 +5,7 @@ use Rattle.xc_dance.proofs.LinkedTables.Walks.{places_more, step_can, step_on}
 use Rattle.xc_dance.proofs.links.steps.hide_range.Goals as goal
 
 pub hide_one-count-requires-clause-can : goal.hide_one-count-requires-clause-can
-hide_one-count-requires-clause-can c = let q = c.loop-q.q in
-    step_can q (places (q + 1) c.args.b) (places_more q c.args.b c.loop-q-test.true) c.loop-q.invariant.walk
+hide_one-count-requires-clause-can c = step_can _ _ (places_more _ _ c.loop-q-test.true) c.loop-q.invariant.walk
 
 pub loop-q-preserved : goal.loop-q-preserved
 loop-q-preserved c = grind (arith, common_steps, places_more, step_on)

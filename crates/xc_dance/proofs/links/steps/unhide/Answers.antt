@@ -17,18 +17,16 @@ both : (p first end : ℕ) → reverse (others p first end) ≡ reverse (places 
 both p first end = reverse-append (places (p + 1) end) (places first p)
 
 -- the walk down to the spacer, and the one from the last node on
-parts : (spans : List Span) (t : Nodes) (p : ℕ) → CanUnhideNode spans t p →
-    CanUnhideAll t (reverse (places (span_at spans p).first p))
-    × CanUnhideAll (fold unhidden t (reverse (places (span_at spans p).first p)))
-    (reverse (places (p + 1) (span_at spans p).end))
-parts spans t p can =
+parts : {spans : List Span} {t : Nodes} {p : ℕ} → CanUnhideNode spans t p →
+    CanUnhideAll t (reverse (places (span_at spans p).first p)) × CanUnhideAll
+    (fold unhidden t (reverse (places (span_at spans p).first p))) (reverse (places (p + 1) (span_at spans p).end))
+parts {spans} {t} {p} can =
     let s = span_at spans p in
-    CanAll-append unhidden CanUnhide t (reverse (places s.first p)) (reverse (places (p + 1) s.end))
-    (subst (CanUnhideAll t) (both p s.first s.end) can.steps)
+    CanAll-append unhidden CanUnhide _ _ _ (subst (CanUnhideAll t) (both p s.first s.end) can.steps)
 
 -- the next place down
 next : (first q : ℕ) → 0 < first → first ≤ q → reverse (places first (q + 1)) ≡ q ∷ reverse (places first (q - 1 + 1))
-next first q pos le = let same : q - 1 + 1 ≡ q = omega (arith, pos, le) in reverse-places first q le
+next first q pos le = let same : q - 1 + 1 ≡ q = omega (arith, pos, le) in reverse-places _ _ le
     ∙ ap (λ b. q ∷ reverse (places first b)) (sym same)
 
 -- what TOP tells
@@ -86,10 +84,9 @@ unhide_range-above-requires-clause-can c =
     let at = (goal.at.unhide_range-above-requires-clause-can c).After-get_at in
     let t : Nodes = columns c.loop-top.top c.loop-top.links c.args.color.now in
     subst (λ b. CanUnhideAll t (reverse (places (c.args.p + 1) b)))
-    (sym (leads at c.loop-top-test.false c.down_at.result c.down_at.ensures))
+    (sym (leads at c.loop-top-test.false _ c.down_at.ensures))
     (subst (λ (u : Nodes). CanUnhideAll u (reverse (places (c.args.p + 1) (span_at c.args.spans.now c.args.p).end)))
-    (sym ((told at).is (high at c.loop-top-test.false)))
-    (parts c.args.spans.now (columns c.args.top.now c.args.links.now c.args.color.now) c.args.p c.requires.can).1)
+    (sym ((told at).is (high at c.loop-top-test.false))) (parts c.requires.can).1)
 
 pub unhide_range-above-requires-clause-unmarked : goal.unhide_range-above-requires-clause-unmarked
 unhide_range-above-requires-clause-unmarked c = λ m q from below.
@@ -99,28 +96,27 @@ unhide_range-above-requires-clause-unmarked c = λ m q from below.
     ((c.requires.unmarked m).others c.args.p c.requires.span).0 q from (omega (arith, end, below))
 
 -- both walks
-whole : (c : After-get_at) → SPACER ≤ c.get_at.result → (end : ℕ) → end ≡ (span_at c.args.spans.now c.args.p).end
-    → (u : Nodes) (m : ℕ) →
+whole : (c : After-get_at) → SPACER ≤ c.get_at.result → {end : ℕ} → end ≡ (span_at c.args.spans.now c.args.p).end
+    → {u : Nodes} {m : ℕ} →
     u ≡ fold unhidden (columns c.loop-top.top c.loop-top.links c.args.color.now) (reverse (places (c.args.p + 1) end))
-    → m ≡ unhide_costs (columns c.loop-top.top c.loop-top.links c.args.color.now)
-    (reverse (places (c.args.p + 1) end)) →
-    Reached unhidden hide_cost (columns c.args.top.now c.args.links.now c.args.color.now)
+    → m ≡ unhide_costs (columns c.loop-top.top c.loop-top.links c.args.color.now) (reverse (places (c.args.p + 1) end))
+    → Reached unhidden hide_cost (columns c.args.top.now c.args.links.now c.args.color.now)
     (reverse (others_of c.args.spans.now c.args.p)) u (c.loop-top.below + m)
-whole c met end is u m done cost =
+whole c met is {u} {m} done cost =
     let s = span_at c.args.spans.now c.args.p in
     subst (λ qs. Reached unhidden hide_cost (columns c.args.top.now c.args.links.now c.args.color.now) qs u
     (c.loop-top.below + m)) (sym (both c.args.p s.first s.end))
-    (both_reached _ _ u m (steps_end ((told c).none (high c met)) c.loop-top.invariant.walk)
+    (both_reached _ _ _ _ (steps_end ((told c).none (high c met)) c.loop-top.invariant.walk)
     (ap (λ b. reverse (places (c.args.p + 1) b)) is) done cost)
 
 pub returns-clause-done : goal.returns-clause-done
 returns-clause-done c =
     let at = (goal.at.returns-clause-done c).After-get_at in
-    (whole at c.loop-top-test.false _ (leads at c.loop-top-test.false c.down_at.result c.down_at.ensures) _ _
+    (whole at c.loop-top-test.false (leads at c.loop-top-test.false _ c.down_at.ensures)
     c.unhide_range-above.ensures.done c.unhide_range-above.ensures.cost).done
 
 pub returns-clause-cost : goal.returns-clause-cost
 returns-clause-cost c =
     let at = (goal.at.returns-clause-cost c).After-get_at in
-    (whole at c.loop-top-test.false _ (leads at c.loop-top-test.false c.down_at.result c.down_at.ensures) _ _
+    (whole at c.loop-top-test.false (leads at c.loop-top-test.false _ c.down_at.ensures)
     c.unhide_range-above.ensures.done c.unhide_range-above.ensures.cost).cost

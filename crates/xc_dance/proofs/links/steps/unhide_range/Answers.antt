@@ -5,9 +5,7 @@ use Rattle.xc_dance.proofs.LinkedTables.Walks.{last_first, step_can, step_on}
 use Rattle.xc_dance.proofs.links.steps.unhide_range.Goals as goal
 
 pub unhide_one-count-requires-clause-can : goal.unhide_one-count-requires-clause-can
-unhide_one-count-requires-clause-can c = let q = c.loop-q.q in
-    step_can (q - 1) (reverse (places c.args.a (q - 1))) (last_first c.args.a q c.loop-q-test.true)
-    c.loop-q.invariant.walk
+unhide_one-count-requires-clause-can c = step_can _ _ (last_first _ _ c.loop-q-test.true) c.loop-q.invariant.walk
 
 pub loop-q-preserved : goal.loop-q-preserved
 loop-q-preserved c = grind (arith, common_steps, last_first, step_on)
