@@ -63,8 +63,7 @@ pub along_end : (p : Puzzle) (off q : ℕ) (vs : List Use) (s t : List Move) →
     q ≡ off + length vs → t ≡ after_uses p vs s
 along_end p off q vs s t a e =
     let d = length-drop (q - off) vs in
-    let none : drop (q - off) vs ≡ [] = nil_from_length (drop (q - off) vs) (omega (arith, d, e)) in
-    ap (λ us. after_uses p us t) (sym none) ∙ a.trail
+    ap (λ us. after_uses p us t) (sym (nil_from_length (drop (q - off) vs) (omega (arith, d, e)))) ∙ a.trail
 
 -- the node at place q is of the next use, u
 pub record IsNext (p : Puzzle) (x off : ℕ) (vs : List Use) (s t : List Move) (q : ℕ) : Type 0 where
@@ -82,8 +81,7 @@ next_at p x off q vs s t seg a h =
     let v = use_at_place off vs q in
     let at : off + k ≡ q = (let f = a.from in omega (arith, f)) in
     let here : k < length vs = (let f = a.from in omega (arith, h, f)) in
-    let node : slice_get (layout p) q ≡ Some (used x v) = ap (slice_get (layout p)) (sym at)
-    ∙ seg.node k v (slice_get-get_or vs k no_use here) in
+    let node = ap (slice_get (layout p)) (sym at) ∙ seg.node k v (slice_get-get_or vs k no_use here) in
     let cells = use_cells _ t _ _ _ node in
     let on = along_next a h in
     record {
@@ -141,18 +139,13 @@ pub record Before (p : Puzzle) (i x place : ℕ) (s t : List Move) (q : ℕ) : T
 before_all : {p : Puzzle} {i x place : ℕ} → OptionNodes p x (x - 1) → IsUseAt p i x place →
     start_at p (x - 1) + length (uses_before p i x) ≡ place
 before_all {p} {i} {x} o held =
-    let stands = place_at_use _ _ _ _ _ o held in
-    let d = length-take (place_in i (uses_of p x)) (uses_of p x) in
-    let h = held.holds in
-    omega (arith, d, h, stands)
+    omega (arith, length-take (place_in i (uses_of p x)) (uses_of p x), held.holds, place_at_use _ _ _ _ _ o held)
 
 pub before_at : {p : Puzzle} {i x place q : ℕ} {s t : List Move} → IsUseAt p i x place →
     IsAlong p (start_at p (x - 1)) (uses_before p i x) s t q → Before p i x place s t q
 before_at held a =
     let o = option_nodes _ _ held.known in
-    let all = before_all o held in
-    let to = a.to in
-    grind (arith, common_steps, along_end, before_segment, next_at)
+    grind (arith, common_steps, along_end, before_segment, next_at, a.to, before_all o held)
 
 -- ULINK of the spacer leads to where that walk begins
 pub record Leads (p : Puzzle) (x place end : ℕ) (t : List Move) : Type 0 where
@@ -165,10 +158,8 @@ pub leads : {p : Puzzle} {i x place end : ℕ} (t : List Move) → IsUseAt p i x
 leads {p} {x} t held e =
     let o = option_nodes _ _ held.known in
     let stands = place_at_use _ _ _ _ _ o held in
-    let is = e ∙ o.end in
-    let at = ap (slice_get (layout p)) e ∙ o.behind in
-    let cells = spacer_cells _ t x (x - 1) _ (omega (arith, held.known.0)) at in
-    record { within = cells.within; behind = omega (arith, stands, is, held.holds); first = cells.ulink }
+    let cells = spacer_cells _ t x (x - 1) _ (omega (arith, held.known.0)) (ap (slice_get (layout p)) e ∙ o.behind) in
+    record { within = cells.within; behind = omega (arith, stands, e ∙ o.end, held.holds); first = cells.ulink }
 
 -- ---- A step of the walk: the next use is committed
 
@@ -205,10 +196,8 @@ pub one_committed : {p : Puzzle} {x off : ℕ} {vs : List Use} {s : List Move} (
     IsNext p x off vs s now.trail q → now.puzzle ≡ p → now.room ≡ room →
     j ≡ top_at p now.trail q → Commits now q j new → Committed p off vs s room new (q + 1)
 one_committed {p} {x} {off} {vs} {s} now new {room} {q} n same big is made =
-    let at : slice_get (layout now.puzzle) q ≡ Some (used x n.u) = ap (λ a. slice_get (layout a) q) same ∙ n.node in
-    let done = made x n.u at (n.item ∙ sym is) in
-    let trail : new.trail ≡ after_use p n.u now.trail = ap (λ (d : Dancing). d.trail) done
-    ∙ ap (λ a. after_use a n.u now.trail) same in
+    let done = made x n.u (ap (λ a. slice_get (layout a) q) same ∙ n.node) (n.item ∙ sym is) in
+    let trail = ap (λ (d : Dancing). d.trail) done ∙ ap (λ a. after_use a n.u now.trail) same in
     record {
       puzzle = ap (λ (d : Dancing). d.puzzle) done ∙ same;
       room = ap (λ (d : Dancing). d.room) done ∙ big;

@@ -64,17 +64,15 @@ unhide_open {p} col ln {j} {o} laid pos le o_pos m unmarked =
     let q = link_place p j o in
     let t : Nodes = nodes_from p ln col in
     let c = node_cells p ln col j o laid pos le o_pos m.name m.above m.below in
-    let item = c.item in
     let few : (ln j).len < 2 ^ 31 = m.few in
-    let count : get_or t.top (get_or t.top q 0) 0 ≡ (ln j).len = ap (λ k. get_or t.top k 0) c.item ∙ c.len in
     record {
       can =
           record {
             size = size_from p ln col;
             place = c.names.place;
-            use_of = omega (arith, item, le, laid.small);
+            use_of = omega (arith, c.item, le, laid.small);
             places = λ _. c.names;
-            few = λ _. omega (arith, count, few);
+            few = λ _. omega (arith, ap (λ k. get_or t.top k 0) c.item ∙ c.len, few);
           };
       done =
           unhidden-open t q unmarked ∙ same_nodes (relinked t q) (nodes_from p (with_line ln j (mended (ln j) o)) col)
@@ -91,8 +89,7 @@ pub unhide_marked : {p : Puzzle} (col : Node → ℕ) (ln : ℕ → Line) {j o :
 unhide_marked {p} col ln {j} {o} laid pos le o_pos name marked =
     let here = laid.there j o pos le name in
     let within = slice_get_within (layout p) (link_place p j o) here.node here.at in
-    let item = get_item _ ln _ _ here o_pos in
-    grind (arith, common_steps, eqb-true, size_from, unhidden-marked)
+    grind (arith, common_steps, eqb-true, size_from, unhidden-marked, get_item _ ln _ _ here o_pos)
 
 -- ---- some items in turn
 
@@ -239,23 +236,18 @@ opened_open {p} {t} {spans} {i} {ln} {o} {os} legal fit opened o_pos named withi
       le = r.1;
       name = inr (o_pos, j_named);
       returner = λ un.
-          let leave : leaves p col i j o ≡ true = ap₂ (λ a b. a && not b) in_js un in
-          let nb = comes j leave r.0 r.1 ne in
+          let nb = comes j (ap₂ (λ a b. a && not b) in_js un) r.0 r.1 ne in
           let met = met_at p t i legal laid fit.fit opened j o r.0 r.1 within j_named in
           let j_open : is_open j t ≡ true = elim (is_open j t) as (λ b. is_open j t ≡ b → b ≡ true)
           [ true ↦ λ f. refl | false ↦ λ f. absurd (false≢true (sym un ∙ met.shut f)) ] refl in
           let st : Stands (listed_numbers p t j) o = stands_in o (listed_numbers p t j) (met.opened j_open).1 in
-          let good : IsGood p j (line_of p t j) (st.ys ++ o ∷ st.zs) =
-          subst (IsGood p j (line_of p t j)) st.is (all_good p t fit.fit j r.0 r.1) in
+          let good = subst (IsGood p j (line_of p t j)) st.is (all_good p t fit.fit j r.0 r.1) in
           let m : IsMember p j (line_of p t j) o = member p j (line_of p t j) st.ys o st.zs r.0 r.1 good in
-          let count = (h.others j r.0 r.1 ne).len in
-          let all : (line_of p t j).len ≡ length (st.ys ++ o ∷ st.zs) = good.len in
-          let most : length (st.ys ++ o ∷ st.zs) < 2 ^ 31 = good.few in
           record {
             name = m.name;
             above = subst (IsName p j) (sym nb.up) m.above;
             below = subst (IsName p j) (sym nb.down) m.below;
-            few = omega (arith, count, all, most);
+            few = omega (arith, (h.others j r.0 r.1 ne).len, good.len, good.few);
           };
     } in
     let w = unhidden_walk p col ln o back laid o_pos apart (λ j e. returning j (sym (in_reverse j js) ∙ e)) in
@@ -268,8 +260,7 @@ opened_open {p} {t} {spans} {i} {ln} {o} {os} legal fit opened o_pos named withi
     let at : (j : ℕ) → ln1 j ≡ cond (leaves p col i j o) (mended (ln j) o) (ln j) = λ j.
     all_at mended p col o ln back j apart
     ∙ ap (λ b. cond (b && not (is_mark p col o j)) (mended (ln j) o) (ln j)) (in_reverse j js) in
-    let nodes : reverse (others_of spans x) ≡ map (λ j. link_place p j o) back =
-    ap reverse (others_are p spans o i fit.spanned o_pos named) ∙ map_reverse (λ j. link_place p j o) js in
+    let nodes = ap reverse (others_are p spans o i fit.spanned o_pos named) ∙ map_reverse (λ j. link_place p j o) js in
     record {
       ln1 = ln1;
       can = λ e. (
@@ -313,19 +304,16 @@ by_opened {p} {t} {covered} {i} {ln} {o} {os} fit pos le within h m1 =
     let ln1 : ℕ → Line = m1.ln1 in
     let t1 : Nodes = nodes_from p ln1 col in
     let st : Stands (listed_numbers p t i) o = stands_in _ _ within in
-    let good : IsGood p i l (st.ys ++ o ∷ st.zs) = subst (IsGood p i l) st.is (all_good _ t fit.fit i pos le) in
-    let m : IsMember p i l o = member _ _ _ _ _ _ pos le good in
+    let m : IsMember p i l o = member _ _ _ _ _ _ pos le (subst (IsGood p i l) st.is (all_good _ t fit.fit i pos le)) in
     let down_is : (ln1 i).down o ≡ l.down o = ap (λ (k : Line). k.down o) m1.own ∙ h.own_down o in
     let here = laid.there i o pos le m.name in
-    let below : Placed p i ((ln1 i).down o) =
-    laid.there i ((ln1 i).down o) pos le (subst (IsName p i) (sym down_is) m.below) in
+    let below = laid.there i ((ln1 i).down o) pos le (subst (IsName p i) (sym down_is) m.below) in
     let w : Line = raised (ln1 i) o in
     let ln' : ℕ → Line = with_line ln1 i w in
     let at_i : ln' i ≡ w = line_here ln1 _ _ in
     let x_in = slice_get_within (layout p) x here.node here.at in
     let d_in = slice_get_within (layout p) (link_place p i ((ln1 i).down o)) below.node below.at in
     let down_long : length t1.dlink ≡ length (layout p) = length-map (layout p) (dlink_in p ln1) in
-    let up_long : length t1.ulink ≡ length (layout p) = length-map (layout p) (ulink_in p ln1) in
     let leads : get_or t1.dlink x 0 ≡ link_place p i ((ln1 i).down o) = get_down _ ln1 _ _ here in
     record {
       ln' = ln';
@@ -333,7 +321,7 @@ by_opened {p} {t} {covered} {i} {ln} {o} {os} fit pos le within h m1 =
         unhide = m1.can;
         place = subst (λ (u : Nodes). x < length u.dlink) (sym m1.done) (omega (arith, x_in, down_long));
         below = subst (λ (u : Nodes). get_or u.dlink x 0 < length u.ulink) (sym m1.done)
-            (omega (arith, d_in, up_long, leads));
+            (omega (arith, d_in, length-map (layout p) (ulink_in p ln1), leads));
       };
       done = ap (λ (u : Nodes). with_ulink u (get_or u.dlink x 0) x) m1.done ∙ ap (λ k. with_ulink t1 k x) leads
           ∙ raised_is col ln1 _ laid below;

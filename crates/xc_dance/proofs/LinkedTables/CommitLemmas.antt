@@ -42,12 +42,11 @@ pub listed_within : {p : Puzzle} {t : List Move} {i x q : ℕ} → IsLaid p → 
     q < length (nodes_after p t).dlink
 listed_within {p} {t} laid item at =
     let place = node_within _ _ _ laid item.0 item.1 (listed_name p t _ at.listed) in
-    let long = length-map (layout p) (dlink_in p (line_of p t)) in
-    let is = at.at in
-    omega (arith, place, long, is)
+    omega (arith, place, length-map (layout p) (dlink_in p (line_of p t)), at.at)
 
-down_at : {p : Puzzle} (t : List Move) (i : ℕ) {x : ℕ} → IsLaid p → IsItem p i → (x ≡ 0) ⊎ Contains (listed_numbers p t i) x →
-    get_or (nodes_after p t).dlink (link_place p i x) 0 ≡ link_place p i (first_above 0 x (listed_numbers p t i))
+down_at : {p : Puzzle} (t : List Move) (i : ℕ) {x : ℕ} → IsLaid p → IsItem p i
+    → (x ≡ 0) ⊎ Contains (listed_numbers p t i) x
+    → get_or (nodes_after p t).dlink (link_place p i x) 0 ≡ link_place p i (first_above 0 x (listed_numbers p t i))
 down_at {p} t i laid item (inl z) = ap (λ k. get_or (nodes_after p t).dlink (link_place p i k) 0) z
     ∙ own_down _ t _ laid item.0 item.1 ∙ ap (λ k. link_place p i (first_above 0 k (listed_numbers p t i))) (sym z)
 down_at {p} t i laid item (inr h) =
@@ -99,8 +98,8 @@ committed_open p t q {u} at item high still read =
     ∙ sym (after_open p u _ (omega (arith, high, item)) is)
 
 -- the moves of such a use, of which a Cover may be still to be made
-pub still_covers : (j k : ℕ) (t : List Move) {new : List Move} {r : Bool} → r ≡ eqb k 0 → new ≡ cond (eqb k 0) t (Purify j k ∷ t) →
-    cond (eqb k 0) (Cover j) (Purify j k) ∷ t ≡ cond r (Cover j ∷ new) new
+pub still_covers : (j k : ℕ) (t : List Move) {new : List Move} {r : Bool} → r ≡ eqb k 0
+    → new ≡ cond (eqb k 0) t (Purify j k ∷ t) → cond (eqb k 0) (Cover j) (Purify j k) ∷ t ≡ cond r (Cover j ∷ new) new
 still_covers j k t {new} {r} e f = by_colour (eqb k 0) r e f
   where
     by_colour : (b r : Bool) → r ≡ b → new ≡ cond b t (Purify j k ∷ t) →

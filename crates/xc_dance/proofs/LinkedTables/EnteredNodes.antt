@@ -220,13 +220,11 @@ entered-is p ln col q o u laid e here head last item =
     let i = get_or tops q 0 in
     let is_q : link_place p j o ≡ q = laid.unique q (used o u) j o e refl in
     let is_i : i ≡ j = get_map (top_in ln) (layout p) q _ e in
-    let is_u : get_or ups i 0 ≡ link_place p j v =
-    ap (λ k. get_or ups k 0) is_i ∙ get_link _ up (fixed_up p) _ _ head in
+    let is_u = ap (λ k. get_or ups k 0) is_i ∙ get_link _ up (fixed_up p) _ _ head in
     let count : get_or tops j 0 ≡ (ln j).len = get_len _ ln _ laid item.0 item.1 in
-    let more = grown (ln j) o in
     let once = put_link up j (put_at (up j) o v) in
     same_nodes _ _ (ap (λ k. set tops k (get_or tops k 0 + 1)) is_i ∙ ap (λ n. set tops j (n + 1)) count
-    ∙ sym (set_top _ ln _ more laid item.0 item.1)) (ap (λ k. set (set ups q (get_or ups i 0)) k q) is_i
+    ∙ sym (set_top _ ln _ (grown (ln j) o) laid item.0 item.1)) (ap (λ k. set (set ups q (get_or ups i 0)) k q) is_i
     ∙ ap (λ w. set (set ups q w) j q) is_u ∙ ap (λ k. set (set ups k (link_place p j v)) j k) (sym is_q)
     ∙ ap (λ l. set l j (link_place p j o)) (sym (set_link _ up (fixed_up p) _ _ v laid here))
     ∙ sym (set_link _ once (fixed_up p) _ _ o laid head)
@@ -260,9 +258,7 @@ line_then p q o u e k =
       up = λ x. cond b (l.up x) (m.up x);
       down = λ x. cond b (l.down x) (m.down x);
     } in
-    let next : held k (take (q + 1) (layout p)) ≡ held k ns ++ cond (eqb j k) (o ∷ []) [] =
-    held_more k q (layout p) e in
-    grind (arith, common_steps, append-nil, eq-eqb, eqb-false, eqb-true, grown_more, ne_eqb)
+    grind (arith, common_steps, append-nil, eq-eqb, eqb-false, eqb-true, grown_more, ne_eqb, held_more k q (layout p) e)
 
 -- what entering the node at q asks, and what it gives
 pub record UseStep (p : Puzzle) (t : Nodes) (q o : ℕ) (u : Use) : Type 0 where
@@ -287,16 +283,12 @@ use_step p q o u fit limits e =
     let long : length tops ≡ length (layout p) = length-map (layout p) (top_in ln) in
     let here = laid.there j o range.0 range.1 (use_name p q o j u fit e refl) in
     let head = laid.there j 0 range.0 range.1 (inl refl) in
-    let name : IsName p j ((ln j).up 0) =
-    grown_last (IsName p j) (held j ns) (inl refl)
-    (held_each (IsName p j) j ns
+    let name : IsName p j ((ln j).up 0) = grown_last (IsName p j) (held j ns) (inl refl) (held_each (IsName p j) j ns
     (λ k x v f same. use_name p k x j v fit (get_taken q k (layout p) (used x v) f) same)) in
     let last = laid.there j ((ln j).up 0) range.0 range.1 name in
     let is_i : get_or tops q 0 ≡ j = get_map (top_in ln) (layout p) q (used o u) e in
-    let is_u : get_or ups (get_or tops q 0) 0 ≡ link_place p j ((ln j).up 0) =
-    ap (λ k. get_or ups k 0) is_i ∙ get_link p (λ k x. (ln k).up x) (fixed_up p) j 0 head in
-    let count : get_or tops (get_or tops q 0) 0 ≡ (ln j).len =
-    ap (λ k. get_or tops k 0) is_i ∙ get_len p ln j laid range.0 range.1 in
+    let is_u = ap (λ k. get_or ups k 0) is_i ∙ get_link p (λ k x. (ln k).up x) (fixed_up p) j 0 head in
+    let count = ap (λ k. get_or tops k 0) is_i ∙ get_len p ln j laid range.0 range.1 in
     let within = slice_get_within (layout p) q (used o u) e in
     let size = length-take-le q (layout p) (omega (arith, within)) in
     let few = lines_few j ns in
@@ -306,9 +298,8 @@ use_step p q o u fit limits e =
       item = omega (arith, is_i, long, slice_get_within (layout p) j (own j) (laid.head j range.0 range.1));
       last = omega (arith, is_u, long, slice_get_within (layout p) (link_place p j ((ln j).up 0)) last.node last.at);
       few = omega (arith, count, few, size, layout_small p limits, within);
-      done = entered-is p ln (color_in p []) q o u laid e here head last range
-          ∙ nodes_same p (with_line ln j (grown (ln j) o)) (lines_of (take (q + 1) (layout p))) (color_in p [])
-          (line_then p q o u e);
+      done = entered-is p ln (color_in p []) q o u laid e here head last range ∙ nodes_same p
+          (with_line ln j (grown (ln j) o)) (lines_of (take (q + 1) (layout p))) (color_in p []) (line_then p q o u e);
     }
 
 -- a spacer enters no list
@@ -328,8 +319,7 @@ spacer_top p ln col q n e = get_map (top_in ln) (layout p) q _ e
 along : (xs : List ℕ) → Rises 0 xs → Swept (grown_all xs) (grown_all xs) 0 xs xs
 along xs r =
     let l = grown_all xs in
-    let s : Swept l (cuts l (filter (λ x. false) xs)) 0 xs (stay (λ x. false) xs) =
-    swept _ _ _ (λ x. false) (grown_linked _ r) in
+    let s = swept _ _ _ (λ x. false) (grown_linked _ r) in
     subst (λ ks. Swept l l 0 xs ks) (stay_all xs)
     (subst (λ ys. Swept l (cuts l ys) 0 xs (stay (λ x. false) xs)) (leave_none xs) s)
 

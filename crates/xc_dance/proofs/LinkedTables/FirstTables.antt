@@ -114,8 +114,9 @@ pub own_row : (p : Puzzle) (i : ℕ) → i ≤ item_count p → (n : Node) × (s
 own_row p zero le = (unused, refl, refl)
 own_row p (suc i) le = (own (suc i), head_is _ (suc i) (omega arith) le, refl)
 
-pub spacer_row : (p : Puzzle) (o : ℕ) {above below : ℕ} → above ≡ fixed_up p (spacer o) → below ≡ fixed_down p (spacer o) →
-    (let r : Row = record { top = SPACER + o; ulink = above; dlink = below; color = 0 } in r ≡ row_of p (spacer o))
+pub spacer_row : (p : Puzzle) (o : ℕ) {above below : ℕ} → above ≡ fixed_up p (spacer o)
+    → below ≡ fixed_down p (spacer o)
+    → (let r : Row = record { top = SPACER + o; ulink = above; dlink = below; color = 0 } in r ≡ row_of p (spacer o))
 spacer_row p o e f =
     let row : ℕ → ℕ → Row = λ a b. record { top = SPACER + o; ulink = a; dlink = b; color = 0 } in ap₂ row e f
 
@@ -136,8 +137,7 @@ column_more f n k v lt is =
     let z : 0 + k ≡ k = omega arith in filled_more f _ _ (range_get 0 _ _ lt ∙ ap Some z) is
 
 pub column_all : (f : ℕ → ℕ) (n k : ℕ) → n ≤ k → filled f (range_with_len 0 n) k ≡ map f (range_with_len 0 n)
-column_all f n k le =
-    let size = length-range_with_len 0 n in filled_all f (range_with_len 0 n) k (omega (arith, size, le))
+column_all f n k le = filled_all f (range_with_len 0 n) k (omega (arith, length-range_with_len 0 n, le))
 
 pub rings_linked : (p : Puzzle) (k : ℕ) → item_count p + 2 ≤ k → linked_to p k ≡ bound_to p 1
 rings_linked p k le = grind (arith, common_steps, column_all, same_items)
@@ -168,8 +168,7 @@ low_most {p} (suc k) valid = low_high _ _ (recursion_from_All AreSoundBounds p.b
 
 none_below : (other i a n : ℕ) → i ≤ a → last_below other i (range_with_len a n) ≡ other
 none_below other i a zero le = refl
-none_below other i a (suc n) le =
-    let no : ltb a i ≡ false = le-ltb a i le in rw no (none_below other i (a + 1) n (omega arith))
+none_below other i a (suc n) le = rw (le-ltb a i le) (none_below other i (a + 1) n (omega arith))
 
 below_in : (other i a n : ℕ) → a < i → i ≤ a + n → last_below other i (range_with_len a n) ≡ i - 1
 below_in other i a zero lt le = absurd (omega (arith, lt, le))
@@ -191,8 +190,7 @@ above_in other i a (suc n) le lt =
 
 none_above : (other i a n : ℕ) → a + n ≤ i + 1 → first_above other i (range_with_len a n) ≡ other
 none_above other i a zero le = refl
-none_above other i a (suc n) le = let no : ltb i a ≡ false = le-ltb i a (omega (arith, le)) in
-    rw no (none_above other i (a + 1) n (omega (arith, le)))
+none_above other i a (suc n) le = rw (le-ltb i a (omega (arith, le))) (none_above other i (a + 1) n (omega (arith, le)))
 
 last_in : (other a n : ℕ) → last_of other (range_with_len a (suc n)) ≡ a + n
 last_in other a zero = last_of-more other a [] ∙ omega arith

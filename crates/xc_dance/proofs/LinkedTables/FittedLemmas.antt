@@ -57,8 +57,7 @@ sound_items p us s = each_weaker (IsSoundUse p) (InRange p) _ (λ u h. (let a = 
 pub is_fit : (p : Puzzle) → IsValid p → All (λ us. All (λ u. u.colour < MARK) us) p.options → length p.options < 2 ^ 30
     → item_count p < 2 ^ 31 → length (layout p) < 2 ^ 31 → IsFit p
 is_fit p valid colours few small near =
-    let sound : AllByRecursion (IsSoundOption p) p.options =
-    recursion_from_All (IsSoundOption p) p.options valid.options in
+    let sound = recursion_from_All (IsSoundOption p) p.options valid.options in
     record {
       distinct = λ o. at_option AreDistinct p o tt
           (each_weaker (IsSoundOption p) AreDistinct _ (λ us s. distinct_from _ s.distinct) sound);

@@ -61,11 +61,8 @@ unlinked-is p col ln j o laid m =
 pub linked-is : (p : Puzzle) (col : Node → ℕ) (ln : ℕ → Line) (j o : ℕ) → IsLaid p → IsMember p j (ln j) o
     → IsLinked (nodes_from p ln col) (link_place p j o)
 linked-is p col ln j o laid m =
-    let c = member_cells p col ln j o laid m in
-    let q = link_place p j o in
-    let some = m.some in
-    let not_head : j ≢ q = λ e. omega (arith, e, m.item.1, behind_items p j o m.pos) in
-    grind (arith, common_steps, get_down, get_up)
+    let not_head : j ≢ (link_place p j o) = λ e. omega (arith, e, m.item.1, behind_items p j o m.pos) in
+    grind (arith, common_steps, get_down, get_up, m.some, member_cells p col ln j o laid m)
 
 -- ---- a step of hide
 
@@ -87,7 +84,6 @@ step_open p col ln j o laid m few color =
     let size = size_from p ln col in
     let is : hidden tb q ≡ unlinked tb q = hidden-open tb q color in
     let item = c.item in
-    let count : get_or tb.top (get_or tb.top q 0) 0 ≡ (ln j).len = ap (λ k. get_or tb.top k 0) c.item ∙ c.len in
     record {
       can =
           record {
@@ -98,10 +94,9 @@ step_open p col ln j o laid m few color =
             some = λ ne. linked.some;
           };
       undone = unhidden-hidden tb q (λ e. linked);
-      back =
-          subst (λ (u : Nodes). CanUnhide u q) (sym is)
+      back = subst (λ (u : Nodes). CanUnhide u q) (sym is)
           (CanUnhide-unlinked tb q size c.names linked (omega (arith, item, m.item.1, laid.small))
-          (omega (arith, count, few)));
+          (omega (arith, ap (λ k. get_or tb.top k 0) c.item ∙ c.len, few)));
       done = is ∙ unlinked-is p col ln j o laid m;
     }
 
@@ -126,8 +121,7 @@ pub record IsGood (p : Puzzle) (j : ℕ) (l : Line) (xs : List ℕ) : Type 0 whe
 up_name : (p : Puzzle) (j : ℕ) (l : Line) (a : ℕ) (ys : List ℕ) (o : ℕ) (zs : List ℕ) → IsName p j a
     → IsLinkedFrom l a (ys ++ o ∷ zs) → AllByRecursion (Named p j) (ys ++ o ∷ zs) → IsName p j (l.up o)
 up_name p j l a [] o zs n h named = subst (IsName p j) (sym h.2) n
-up_name p j l a (y ∷ ys) o zs n h named =
-    up_name p j l y ys o zs (inr (let lt : a < y = h.0 in omega arith, named.0)) h.3 named.1
+up_name p j l a (y ∷ ys) o zs n h named = up_name p j l y ys o zs (inr (omega (arith, h.0), named.0)) h.3 named.1
 
 down_name : (p : Puzzle) (j : ℕ) (l : Line) (a : ℕ) (ys : List ℕ) (o : ℕ) (zs : List ℕ)
     → IsLinkedFrom l a (ys ++ o ∷ zs) → AllByRecursion (Named p j) (ys ++ o ∷ zs) → IsName p j (l.down o)
@@ -174,11 +168,10 @@ cut_anywhere : (l : Line) (a : ℕ) (ys : List ℕ) (o : ℕ) (zs : List ℕ) �
     → IsLinkedFrom (cut l o) a (ys ++ zs)
 cut_anywhere l a [] o zs h = cut-linked l _ _ _ h
 cut_anywhere l a (y ∷ ys) o zs h =
-    let lt : a < y = h.0 in
     let hi : y ≤ l.up o = higher l _ _ _ _ h.3 in
     let y_o : y < o = above l _ _ _ _ h.3 in
     let lo : (l.down o ≡ 0) ⊎ (o < l.down o) = lower l y _ _ _ h.3 in (
-      lt,
+      h.0,
       put_at-other l.down (l.up o) (l.down o) a (λ e. omega arith) ∙ h.1,
       put_at-other l.up (l.down o) (l.up o) y (λ e. omega arith) ∙ h.2,
       cut_anywhere l y ys o zs h.3,
@@ -246,14 +239,11 @@ pub line_after : (p : Puzzle) (t : List Move) (m : Move) (j : ℕ) (ks : List �
 line_after p t m j ks c =
     let xs = listed_numbers p t j in
     let l : Line = cuts (line_of p t j) (filter c.test xs) in
-    let s : Swept (line_of p t j) l 0 xs (listed_numbers p (m ∷ t) j) =
-    subst (Swept (line_of p t j) l 0 xs) (sym c.stay_is) (swept _ _ _ c.test (stands p t j)) in
+    let s = subst (Swept (line_of p t j) l 0 xs) (sym c.stay_is) (swept _ _ _ c.test (stands p t j)) in
     let long : length (listed_numbers p t j) ≡ length (listed p t j) = length-map (listed p t j) (λ o. o.number) in
-    let long' : length (listed_numbers p (m ∷ t) j) ≡ length (listed p (m ∷ t) j) =
-    length-map (listed p (m ∷ t) j) (λ o. o.number) in
+    let long' = length-map (listed p (m ∷ t) j) (λ o. o.number) in
     let len : l.len ≡ 0 + length (stay c.test xs) = swept_len (line_of p t j) xs c.test 0 (omega (arith, long)) in
-    let stay_len : length (listed_numbers p (m ∷ t) j) ≡ length (stay c.test xs) = ap length c.stay_is in
-    line_is l (line_of p (m ∷ t) j) (omega (arith, long', len, stay_len)) (up_after p t m j _ s)
+    line_is l (line_of p (m ∷ t) j) (omega (arith, long', len, ap length c.stay_is)) (up_after p t m j _ s)
     (down_after p t m j _ s) ∙ ap (cuts (line_of p t j)) (sym c.cut_is)
 
 -- ---- tables of the same lines

@@ -173,14 +173,12 @@ module _ (p : Puzzle) (t : List Move) (spans : List Span) (m : Move) (i : ℕ) (
       ∙ sym (list_at _ (color_in p t) _ (line_of p t) _ j (each_apart _ i going f.fit))) h.colours
 
   hides_cost : step_costs p (color_in p t) i keep (listed_numbers p t i) ≡ hide_writes p t m i keep
-  hides_cost =
-      let all = leaving_is _ _ _ _ hides_cut in
-      omega (
-        arith,
-        all,
-        exchanged _ (color_in p t) i going f.fit,
-        costs_split p (color_in p t) i keep (listed_numbers p t i),
-      )
+  hides_cost = omega (
+    arith,
+    leaving_is _ _ _ _ hides_cut,
+    exchanged _ (color_in p t) i going f.fit,
+    costs_split p (color_in p t) i keep (listed_numbers p t i),
+  )
 
   -- the walk down i's list and the walk back lead to the tables after the move m, and to those before it
   hide_step : Listed p (color_in p t) start spans i keep (line_of p t) 0 (listed_numbers p t i) (nodes_after p (m ∷ t))
@@ -201,10 +199,8 @@ module _ (p : Puzzle) (t : List Move) (spans : List Span) (m : Move) (i : ℕ) (
       let s = hide_step in
       let next = m ∷ t in
       let down = list_is t laid pos le in
-      let up : list_back (nodes_after p next) i ≡ reverse (map (link_place p i) (listed_numbers p t i)) =
-      back_is next laid pos le ∙ ap (λ ks. reverse (map (link_place p i) ks)) h.own in
-      let first : get_or (nodes_after p t).dlink i 0 ≡ link_place p i ((line_of p t i).down 0) =
-      get_down _ (line_of p t) _ _ (own_placed _ _ laid pos le) in
+      let up = back_is next laid pos le ∙ ap (λ ks. reverse (map (link_place p i) ks)) h.own in
+      let first = get_down _ (line_of p t) _ _ (own_placed _ _ laid pos le) in
       let last : get_or (nodes_after p next).ulink i 0 ≡ link_place p i ((line_of p t i).up 0) =
       get_up _ (line_of p next) _ _ (own_placed _ _ laid pos le) ∙ ap (λ ks. link_place p i (last_of 0 ks)) h.own in
       let t0 : Nodes = nodes_from p (line_of p t) start in
@@ -282,20 +278,15 @@ pub purify_made : (p : Puzzle) (t : List Move) (spans : List Span) (i c : ℕ) �
     → i ≤ item_count p → is_open i t ≡ true → PurifyMade p t spans i c
 purify_made p t spans i c legal f pos le opened =
     let laid = f.laid in
-    let w =
-    walk_made p t spans (Purify i c) i (Some c) (purify_start p t i c) legal f pos le opened
+    let w = walk_made p t spans (Purify i c) i (Some c) (purify_start p t i c) legal f pos le opened
     (purify_hides p t i c legal laid pos le opened) in
     let t0 : Nodes = nodes_after p t in
     let t1 : Nodes = nodes_from p (line_of p t) (purify_start p t i c) in
     let next : Nodes = nodes_after p (Purify i c ∷ t) in
-    let start : with_colour t0 i c ≡ t1 =
-    coloured_is p (color_in p t) (line_of p t) i 0 c laid (own_placed p i laid pos le) in
+    let start = coloured_is p (color_in p t) (line_of p t) i 0 c laid (own_placed p i laid pos le) in
     let within : i < length (layout p) = slice_get_within (layout p) i (own i) (laid.head i pos le) in
     let long : length (map (color_in p t) (layout p)) ≡ length (layout p) = length-map (layout p) (color_in p t) in
-    let long' : length (map (purify_start p t i c) (layout p)) ≡ length (layout p) =
-    length-map (layout p) (purify_start p t i c) in
-    let marked = kept_marked p t i c legal opened in
+    let long' = length-map (layout p) (purify_start p t i c) in
     let none : get_or t0.color i 0 ≡ 0 = get_map (color_in p t) (layout p) i (own i) (laid.head i pos le)
     ∙ ap (λ o. unwrap_or o 0) (open_unpurified i t opened) in
-    let back : fold (back_node spans (Some c)) next (list_back next i) ≡ t1 = w.undone in
-    grind (arith, common_steps, same_nodes, written_back)
+    grind (arith, common_steps, same_nodes, written_back, w.undone, kept_marked p t i c legal opened)

@@ -131,11 +131,8 @@ module _ (p : Puzzle) (t : List Move) (i : ℕ) (legal : AreLegal p t) (laid : I
       let x_pos : 0 < x = in_above 0 x (listed_numbers p t i) (rises_listed p t i) within in
       let named : Named p i x = element_of (Named p i) x (listed_numbers p t i) (numbers_named p t i) within in
       let c = colour_some (uses_of p x) i named in
-      let small : c.0 < MARK = colour_small (uses_of p x) i c.0 (fit.colours x) c.1 in
-      let is : own_color p (color_in p t) i x ≡ c.0 =
-      color_is p t x i c.0 x_pos c.1
-      ∙ ap (λ b. cond b MARK c.0) (open_unmarked p t i x c.0 opened) in
-      grind (arith, common_steps, ne_eqb, test_is)
+      let is = color_is p t x i c.0 x_pos c.1 ∙ ap (λ b. cond b MARK c.0) (open_unmarked p t i x c.0 opened) in
+      grind (arith, common_steps, ne_eqb, test_is, colour_small (uses_of p x) i c.0 (fit.colours x) c.1)
 
   -- options of the list, one after another
   pub each_ready : (keep : Option ℕ) (xs : List ℕ) → 0 < i → i ≤ item_count p
@@ -209,8 +206,7 @@ total_none k v a (suc n) h = grind (arith, common_steps, ne_eqb, total_none k v 
 -- one number alone counts
 pub total_point : (k v a n : ℕ) → a ≤ k → k < a + n → total (λ j. cond (eqb k j) v 0) a n ≡ v
 total_point k v a zero u w = absurd (omega (arith, u, w))
-total_point k v a (suc n) u w =
-    let rest = total_point k v (a + 1) n in grind (arith, common_steps, eqb-false, eqb-true, total_none)
+total_point k v a (suc n) u w = grind (arith, common_steps, eqb-false, eqb-true, total_none, total_point k v (a + 1) n)
 
 -- the members that pass a test and the others are all
 pub parts : (f : ℕ → Bool) (xs : List ℕ) → length (filter f xs) + length (filter (λ x. not (f x)) xs) ≡ length xs
@@ -254,11 +250,8 @@ pub exchanged : (p : Puzzle) (col : Node → ℕ) (i : ℕ) (os : List ℕ) → 
 exchanged p col i [] fit = sym (total_zero 1 (item_count p))
 exchanged p col i (o ∷ os) fit =
     let n = item_count p in
-    let here : gone_count p col i o ≡ total (λ j. cond (leaves p col i j o) 1 0) 1 n =
-    counted_over n (λ j. not (is_mark p col o j)) (other_items p o i) (others_apart p o i fit)
-    (λ k e.
-    let named : is_some (colour_in (uses_of p o) k) ≡ true =
-    (and_parts _ _ (sym (in_others p o i k (fit.distinct o)) ∙ e)).1 in
+    let here = counted_over n (λ j. not (is_mark p col o j)) (other_items p o i) (others_apart p o i fit) (λ k e.
+    let named = (and_parts _ _ (sym (in_others p o i k (fit.distinct o)) ∙ e)).1 in
     let r = item_range p (uses_of p o) k (fit.items o) named in
     (omega (arith, r.0), omega (arith, r.1))) in
     let sum = total_plus (λ j. cond (leaves p col i j o) 1 0) (λ j. length (filter (leaves p col i j) os)) 1 n in
@@ -283,12 +276,8 @@ leaving_is p t m k cuts = sum_is_total (λ j. length (listed p t j) - length (li
     (λ j. length (listed p t j) - length (listed p (m ∷ t) j)) (λ j. length (k j)) 1 (item_count p) (λ j u v.
     let c = cuts j (omega (arith, u), omega (arith, v)) in
     let a : length (listed_numbers p t j) ≡ length (listed p t j) = length-map (listed p t j) (λ o. o.number) in
-    let b : length (listed_numbers p (m ∷ t) j) ≡ length (listed p (m ∷ t) j) =
-    length-map (listed p (m ∷ t) j) (λ o. o.number) in
-    let gone : length (k j) ≡ length (filter c.test (listed_numbers p t j)) = ap length c.cut_is in
-    let left : length (listed_numbers p (m ∷ t) j) ≡ length (filter (λ x. not (c.test x)) (listed_numbers p t j)) =
-    ap length c.stay_is in
-    omega (arith, a, b, gone, left, parts c.test (listed_numbers p t j)))
+    let b = length-map (listed p (m ∷ t) j) (λ o. o.number) in
+    omega (arith, a, b, ap length c.cut_is, ap length c.stay_is, parts c.test (listed_numbers p t j)))
 
 -- ---- what each move takes out of the lists of the other items, in option numbers
 

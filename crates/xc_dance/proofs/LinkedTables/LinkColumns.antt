@@ -213,7 +213,6 @@ pub record NodeCells (p : Puzzle) (ln : ℕ → Line) (col : Node → ℕ) (j o 
 pub node_cells : (p : Puzzle) (ln : ℕ → Line) (col : Node → ℕ) (j o : ℕ) → IsLaid p → 0 < j → j ≤ item_count p → 0 < o
     → IsName p j o → IsName p j ((ln j).up o) → IsName p j ((ln j).down o) → NodeCells p ln col j o
 node_cells p ln col j o laid pos le o_pos name name_up name_down =
-    let q = link_place p j o in
     let here = laid.there j o pos le name in
     let above = laid.there j ((ln j).up o) pos le name_up in
     let below = laid.there j ((ln j).down o) pos le name_down in
@@ -221,12 +220,10 @@ node_cells p ln col j o laid pos le o_pos name name_up name_down =
     let up = get_up _ ln _ _ here in
     let down = get_down _ ln _ _ here in
     let item = get_item _ ln _ _ here o_pos in
-    let q_in = slice_get_within (layout p) q here.node here.at in
+    let q_in = slice_get_within (layout p) (link_place p j o) here.node here.at in
     let u_in = slice_get_within (layout p) (link_place p j ((ln j).up o)) above.node above.at in
     let d_in = slice_get_within (layout p) (link_place p j ((ln j).down o)) below.node below.at in
-    let j_in = slice_get_within (layout p) j (own j) (laid.head j pos le) in
-    let len = get_len _ ln _ laid pos le in
-    grind (arith, common_steps)
+    grind (arith, common_steps, get_len _ ln _ laid pos le, slice_get_within (layout p) j (own j) (laid.head j pos le))
 
 -- columns of links that lead the same way
 pub column_same : (p : Puzzle) (f g : ℕ → ℕ → ℕ) (fixed : Node → ℕ) → ((j x : ℕ) → g j x ≡ f j x)

@@ -44,9 +44,7 @@ pub option_place : {p : Puzzle} {t : List Move} {i x q : ℕ} → IsItem p i →
 option_place {p} {t} {i} {x} {q} item at gt = by_listed at.listed
   where
     by_listed : (x ≡ 0) ⊎ Contains (listed_numbers p t i) x → Contains (listed_numbers p t i) x
-    by_listed (inl z) =
-        let own : q ≡ i = at.at ∙ ap (link_place p i) z in
-        let most = item.1 in absurd (omega (arith, own, most, gt))
+    by_listed (inl z) = let most = item.1 in absurd (omega (arith, at.at ∙ ap (link_place p i) z, most, gt))
     by_listed (inr h) = h
 
 -- ---- what a dance finds next, by a problem that was read: at an item's own node, or at an option's
@@ -62,20 +60,16 @@ pub next_of_own : (s : Dancing) (a : Named) (i x q items : ℕ) (n : Option ℕ)
     items ≡ item_count a.puzzle → IsListedAt s.puzzle s.trail i x q → q ≤ items → n ≡ next_above 0 (list_of s i) →
     next_above x (list_of s i) ≡ n
 next_of_own s a i x q items n same count at le is =
-    let all = count ∙ ap item_count (sym same) in
-    let own = own_place _ at (omega (arith, le, all)) in
-    ap (λ y. next_above y (list_of s i)) own ∙ sym is
+    ap (λ y. next_above y (list_of s i)) (own_place _ at (omega (arith, le, count ∙ ap item_count (sym same)))) ∙ sym is
 
 -- an option's use stands there
 pub option_use : (s : Dancing) (a : Named) (i x q items : ℕ) → s.puzzle ≡ a.puzzle → IsSound a →
     items ≡ item_count a.puzzle → IsItem s.puzzle i → IsListedAt s.puzzle s.trail i x q → items < q →
     Contains (list_of s i) x × IsUseAt a.puzzle i x q
 option_use s a i x q items same sound count item at gt =
-    let all = count ∙ ap item_count (sym same) in
-    let above : item_count s.puzzle < q = omega (arith, gt, all) in
-    let fit = fit_state s same sound in
+    let above : item_count s.puzzle < q = omega (arith, gt, count ∙ ap item_count (sym same)) in
     let h = option_place item at above in
-    let u = subst (IsUseAt s.puzzle i x) (sym at.at) (listed_use s.trail _ _ fit h) in
+    let u = subst (IsUseAt s.puzzle i x) (sym at.at) (listed_use s.trail _ _ (fit_state s same sound) h) in
     (h, subst (λ (p : Puzzle). IsUseAt p i x q) same u)
 
 -- the one below it

@@ -57,11 +57,9 @@ holding_in j (x ∷ os) = grind (arith, common_steps, each_weaker, false≢true,
 -- an option left that holds an open item is in its list
 pub in_open : (p : Puzzle) (t : List Move) (j : ℕ) → AreLegal p t → is_open j t ≡ true
     → AllByRecursion (λ o. holds o j ≡ true → is_in o.number (listed_numbers p t j) ≡ true) (left p t)
-in_open p t j legal opened =
-    let same : listed p t j ≡ holding j (left p t) = listed_open _ _ legal _ opened in
-    subst (λ (os : List Numbered). AllByRecursion
-    (λ o. holds o j ≡ true → is_in o.number (map (λ x. x.number) os) ≡ true) (left p t)) (sym same)
-    (holding_in j (left p t))
+in_open p t j legal opened = subst (λ (os : List Numbered). AllByRecursion
+    (λ o. holds o j ≡ true → is_in o.number (map (λ x. x.number) os) ≡ true) (left p t))
+    (sym (listed_open _ _ legal _ opened)) (holding_in j (left p t))
 
 pub stands_in : (x : ℕ) (xs : List ℕ) → is_in x xs ≡ true → Stands xs x
 stands_in x [] e = absurd (false≢true e)
@@ -98,11 +96,10 @@ purified_marked p (Purify k d ∷ t) j c legal e =
           let same : j ≡ k = eqb-true j k f in
           let item : eqb k j ≡ true = eq-eqb k j (sym same) in
           let colour : eqb d c ≡ true = eq-eqb d c (same_Some d c g) in
-          let opened : is_open j t ≡ true = ap (λ i. is_open i t) same ∙ legal.0.1 in
           kept (λ o. holds o j ≡ true → is_marked p (Purify k d ∷ t) j o.number c ≡ true) p t (Purify k d)
           (each_weaker (λ o. holds o j ≡ true → is_in o.number (listed_numbers p t j) ≡ true)
           (λ o. holds o j ≡ true → is_marked p (Purify k d ∷ t) j o.number c ≡ true) _
-          (λ o h held. rw (item, colour, h held) refl) (in_open p _ _ legal.1 opened))
+          (λ o h held. rw (item, colour, h held) refl) (in_open p _ _ legal.1 (ap (λ i. is_open i t) same ∙ legal.0.1)))
       | false ↦ λ f g. kept (λ o. holds o j ≡ true → is_marked p (Purify k d ∷ t) j o.number c ≡ true) p t (Purify k d)
           (each_weaker (λ o. holds o j ≡ true → is_marked p t j o.number c ≡ true)
           (λ o. holds o j ≡ true → is_marked p (Purify k d ∷ t) j o.number c ≡ true) _
@@ -157,8 +154,7 @@ pub record Met (p : Puzzle) (t : List Move) (o j : ℕ) : Type 0 where
 pub colour_small : (us : List Use) (j c : ℕ) → AllByRecursion (λ u. u.colour < MARK) us → colour_in us j ≡ Some c
     → c < MARK
 colour_small [] j c a e = cc
-colour_small (u ∷ us) j c a e =
-    let rest = colour_small us j c a.1 in grind (arith, common_steps, same_Some)
+colour_small (u ∷ us) j c a e = grind (arith, common_steps, same_Some, colour_small us j c a.1)
 
 pub each_met : {p : Puzzle} (t : List Move) (j : ℕ) → AreLegal p t → IsFit p
     → AllByRecursion (λ o. holds o j ≡ true → Met p t o.number j) (left p t)
@@ -169,9 +165,8 @@ each_met {p} t j legal fit = elim (is_open j t) as (λ b. is_open j t ≡ b
           let named : Named p j o.number = ap (λ us. is_some (colour_in us j)) is.1 ∙ held in
           let c = colour_some (uses_of p o.number) j named in
           let small : c.0 < MARK = colour_small (uses_of p o.number) j c.0 (fit.colours o.number) c.1 in
-          let m : is_mark p (color_in p t) o.number j ≡ false = mark_is p t o.number j c.0 is.0 c.1
-          ∙ ap (λ b. eqb (cond b MARK c.0) MARK) (open_unmarked p t j o.number c.0 e)
-          ∙ ne_eqb c.0 MARK (λ f. omega (arith, small, f)) in
+          let m = mark_is p t o.number j c.0 is.0 c.1 ∙ ap (λ b. eqb (cond b MARK c.0) MARK)
+          (open_unmarked p t j o.number c.0 e) ∙ ne_eqb c.0 MARK (λ f. omega (arith, small, f)) in
           record { opened = λ _. (m, h held); shut = λ f. absurd (false≢true (sym f ∙ e)) })
           (options_left p t) (in_open p t j legal e)
       | false ↦ λ e.
@@ -181,8 +176,7 @@ each_met {p} t j legal fit = elim (is_open j t) as (λ b. is_open j t ≡ b
             | inr has ↦ each_both (IsOption p) (λ o. (holds o j ≡ true → is_marked p t j o.number has.0 ≡ true)
                 × (agrees has.0 (colour_at o j) ≡ true)) (λ o. holds o j ≡ true → Met p t o.number j) (left p t)
                 (λ o is h held.
-                let named : Named p j o.number = ap (λ us. is_some (colour_in us j)) is.1 ∙ held in
-                let c = colour_some (uses_of p o.number) j named in
+                let c = colour_some (uses_of p o.number) j (ap (λ us. is_some (colour_in us j)) is.1 ∙ held) in
                 let at : colour_at o j ≡ Some c.0 = ap (λ us. colour_in us j) (sym is.1) ∙ c.1 in
                 let same : c.0 ≡ has.0 = agrees_same has.0 c.0 (ap (agrees has.0) (sym at) ∙ h.1) in
                 let m : is_mark p (color_in p t) o.number j ≡ true = mark_is p t o.number j c.0 is.0 c.1

@@ -73,8 +73,7 @@ past_covered p (Cover k ∷ t) i legal pos le e =
           let same : i ≡ k = eqb-true i k f in
           let un_i : is_covered i t ≡ false = ap (λ j. is_covered j t) same ∙ un in (
             (link_beside p false t i (omega (arith, le)) (λ _ _. un_i)).place,
-            λ h. link_other p true t k k_pos k_le un
-                (sym (ap (λ b. cond b (rlink_at p t k) (rlink_at p t l))
+            λ h. link_other p true t k k_pos k_le un (sym (ap (λ b. cond b (rlink_at p t k) (rlink_at p t l))
                 (eq-eqb l (llink_at p t k) (ap (llink_at p t) same))) ∙ h ∙ same),
           )
       | false ↦ λ f g.
@@ -86,8 +85,7 @@ past_covered p (Cover k ∷ t) i legal pos le e =
                 [ true ↦ r_ne | false ↦ before.past ],
           )
     ] refl e in
-    let leads : rlink_at p (Cover k ∷ t) (llink_at p (Cover k ∷ t) i) ≡ next =
-    ap (rlink_at p (Cover k ∷ t)) gone ∙ link_next p true t k k_pos k_le un l beyond.0 in
+    let leads = ap (rlink_at p (Cover k ∷ t)) gone ∙ link_next p true t k k_pos k_le un l beyond.0 in
     record { place = omega (arith, gone, beyond.0); past = λ h. beyond.1 (sym leads ∙ h) }
 past_covered p (m ∷ t) i legal pos le e = still_past p t m i (λ q. refl) (past_covered p t i legal.1 pos le e)
 
@@ -111,8 +109,7 @@ off_is p t i legal pos le =
         eq-eqb (rlink_at p t l) i (link_back p false t _ within (λ _ _. e)),
       )
     ] refl in
-    let get_r : get_or (items_after p t).rlink (get_or (items_after p t).llink i 0) 0 ≡ rlink_at p t l =
-    ap (λ k. get_or (items_after p t).rlink k 0) get_l ∙ row_get (rlink_at p t) _ _ both.0 in
+    let get_r = ap (λ k. get_or (items_after p t).rlink k 0) get_l ∙ row_get (rlink_at p t) _ _ both.0 in
     grind (arith, common_steps, row_len)
 
 -- ---- the tables after moves let the next legal move be made, and are then those after it; and back
@@ -140,16 +137,14 @@ covered_step : {p : Puzzle} (t : List Move) {spans : List Span} (i : ℕ) → Ar
 covered_step {p} t {spans} i legal may f =
     let pos : 0 < i = let h = may.0.0 in omega (arith, h) in
     let w = walk_made p t spans (Cover i) i None (color_in p t) legal f pos may.0.1 may.1 (cover_hides p t i) in
-    let r = ring_step p t i may in
-    grind (arith, common_steps, cover_writes)
+    grind (arith, common_steps, cover_writes, ring_step p t i may)
 
 purified_step : {p : Puzzle} (t : List Move) {spans : List Span} (i c : ℕ) → AreLegal p t → IsLegal p t (Purify i c)
     → IsFitted p spans → MoveStep p t spans (Purify i c)
 purified_step {p} t {spans} i c legal may f =
     let pos : 0 < i = let h = may.0.0 in omega (arith, h) in
-    let w = purify_made p t spans i c legal f pos may.0.1 may.1 in
     let still = still_items p t (Purify i c) (record { covered = λ q. refl; spent = λ q. refl }) in
-    grind (arith, common_steps)
+    grind (arith, common_steps, purify_made p t spans i c legal f pos may.0.1 may.1)
 
 -- a Spend changes no list
 spent_colours : (p : Puzzle) (t : List Move) (i : ℕ) (n : Node) → color_in p (Spend i ∷ t) n ≡ color_in p t n
@@ -170,21 +165,16 @@ spent_nodes p t i laid = tables_same _ (line_of p t) (line_of p (Spend i ∷ t))
 
 spent_step : {p : Puzzle} (t : List Move) {spans : List Span} (i : ℕ) → AreLegal p t → IsLegal p t (Spend i)
     → IsFitted p spans → MoveStep p t spans (Spend i)
-spent_step {p} t i legal may f =
-    let s = spend_step p t i may (f.bounds i) in
-    grind (arith, common_steps, spent_nodes)
+spent_step {p} t i legal may f = grind (arith, common_steps, spent_nodes, spend_step p t i may (f.bounds i))
 
 tweaked_step : {p : Puzzle} (t : List Move) {spans : List Span} (i : ℕ) → AreLegal p t → IsLegal p t (Tweak i)
     → IsFitted p spans → MoveStep p t spans (Tweak i)
 tweaked_step {p} t {spans} i legal may f =
-    let next = Tweak i ∷ t in
     let pos : 0 < i = let h = may.0.0 in omega (arith, h) in
     let le : i ≤ item_count p = may.0.1 in
     let w = tweak_made p t spans (is_covered i t) i legal f pos le may.2 (open_or_covered i t may.1) in
-    let off = off_is p t i legal pos le in
-    let off' = off_is p next i (may, legal) pos le in
     let still = still_items p t (Tweak i) (record { covered = λ q. refl; spent = λ q. refl }) in
-    grind (arith, common_steps)
+    grind (arith, common_steps, off_is p (Tweak i ∷ t) i (may, legal) pos le, off_is p t i legal pos le)
 
 pub move_step : {p : Puzzle} (t : List Move) {spans : List Span} (m : Move) → AreLegal p t → IsLegal p t m
     → IsFitted p spans → MoveStep p t spans m

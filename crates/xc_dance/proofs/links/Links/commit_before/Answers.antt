@@ -25,11 +25,9 @@ pub ulink-first-requires : goal.ulink-first-requires
 ulink-first-requires c =
     let here = (goal.at.ulink-first-requires c).After-self in
     let s = c.args.self.now in
-    let within = (led here c.requires.can.0 c.requires.can.1).within in
-    let long : length c.self.inside.nodes.ulink ≡ length (layout s.puzzle) =
-    ap (λ (n : Nodes). length n.ulink) (first_nodes here)
-    ∙ length-map (layout s.puzzle) (ulink_in s.puzzle (line_of s.puzzle s.trail)) in
-    omega (arith, within, long)
+    let long : length c.self.inside.nodes.ulink ≡ length (layout s.puzzle) = ap (λ (n : Nodes). length n.ulink)
+    (first_nodes here) ∙ length-map (layout s.puzzle) (ulink_in s.puzzle (line_of s.puzzle s.trail)) in
+    omega (arith, (led here c.requires.can.0 c.requires.can.1).within, long)
 
 -- the walk begins at the option's first node
 first_is : (c : After-self) (first x : ℕ) → first ≡ slice_index c.self.inside.nodes.ulink c.args.end →
@@ -39,14 +37,12 @@ first_is c first x e held = e ∙ ap (λ (n : Nodes). get_or n.ulink c.args.end 
 pub loop-q-init : goal.loop-q-init
 loop-q-init c =
     let s = c.args.self.now in
-    let first = c.ulink-first.result in
-    let is = first_is (goal.at.loop-q-init c).After-self first in
     record {
       puzzle = refl;
       room = refl;
       written = refl;
       along = λ x held. along_first s.puzzle _ _ (uses_before s.puzzle c.args.i x) s.trail
-          (is x c.ulink-first.ensures held);
+          ((first_is (goal.at.loop-q-init c).After-self c.ulink-first.result) x c.ulink-first.ensures held);
     }
 
 nodes_is : (c : After-self-in-loop-q) → c.self-in-loop-q.inside.nodes
@@ -57,13 +53,10 @@ pub top-j-requires : goal.top-j-requires
 top-j-requires c =
     let p = c.args.self.now.puzzle in
     let spacer = led (goal.at.top-j-requires c).After-self c.requires.can.0 c.requires.can.1 in
-    let within = spacer.within in
-    let behind = spacer.behind in
-    let test = c.loop-q-test.true in
     let nodes = nodes_is (goal.at.top-j-requires c).After-self-in-loop-q in
     let long : length c.self-in-loop-q.inside.nodes.top ≡ length (layout p) =
     ap (λ (n : Nodes). length n.top) nodes ∙ length-map (layout p) (top_in (line_of p c.loop-q.self.trail)) in
-    omega (arith, within, behind, test, long)
+    omega (arith, spacer.within, spacer.behind, c.loop-q-test.true, long)
 
 -- the next use
 next : (c : After-self-in-loop-q) {x : ℕ} → IsUseAt c.args.self.now.puzzle c.args.i x c.args.place →

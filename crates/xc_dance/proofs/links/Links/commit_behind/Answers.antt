@@ -32,9 +32,7 @@ begun c =
 pub overflow_add-q : goal.overflow_add-q
 overflow_add-q c =
     let here = (goal.at.overflow_add-q c).After-self in
-    let within = (begun here).within in
-    let near = (fit here).near in
-    omega (arith, within, near)
+    omega (arith, (begun here).within, (fit here).near)
 
 pub loop-self-init : goal.loop-self-init
 loop-self-init c = record {
@@ -60,11 +58,9 @@ nodes_is c = nodes_told c.self-in-loop-self.invariant.nodes c.self-in-loop-self.
 at_top : (c : After-self-in-loop-self) → c.loop-self.q < length c.self-in-loop-self.inside.nodes.top
 at_top c =
     let p = c.args.self.now.puzzle in
-    let within = (found c c.requires.0 c.requires.1).within in
     let long : length c.self-in-loop-self.inside.nodes.top ≡ length (layout p) =
-    ap (λ (n : Nodes). length n.top) (nodes_is c) ∙ length-map (layout p)
-    (top_in (line_of p c.loop-self.self.trail)) in
-    omega (arith, within, long)
+    ap (λ (n : Nodes). length n.top) (nodes_is c) ∙ length-map (layout p) (top_in (line_of p c.loop-self.self.trail)) in
+    omega (arith, (found c c.requires.0 c.requires.1).within, long)
 
 top_is : (c : After-self-in-loop-self) → get_or c.self-in-loop-self.inside.nodes.top c.loop-self.q 0
     ≡ top_at c.args.self.now.puzzle c.loop-self.self.trail c.loop-self.q
@@ -99,8 +95,7 @@ pub overflow_add-q-in-loop-self : goal.overflow_add-q-in-loop-self
 overflow_add-q-in-loop-self c =
     let within = (found (goal.at.overflow_add-q-in-loop-self c).After-self-in-loop-self c.requires.0
     c.requires.1).within in
-    let near = (fit (goal.at.overflow_add-q-in-loop-self c).After-self).near in
-    omega (arith, within, near)
+    omega (arith, within, (fit (goal.at.overflow_add-q-in-loop-self c).After-self).near)
 
 pub loop-self-smaller : goal.loop-self-smaller
 loop-self-smaller c =
@@ -132,8 +127,7 @@ returns-clause-committed c = λ x held.
     let here = (goal.at.returns-clause-committed c).After-self-in-loop-self in
     let s = c.args.self.now in
     let is = top_is here in
-    let told = c.top.ensures in
     let test = c.loop-self-test.false in
-    let high : SPACER ≤ top_at s.puzzle c.loop-self.self.trail c.loop-self.q = omega (arith, is, told, test) in
+    let high : SPACER ≤ top_at s.puzzle c.loop-self.self.trail c.loop-self.q = omega (arith, is, c.top.ensures, test) in
     let end = (found here x held).end high in
     (whole s.puzzle s.room c.loop-self.self c.loop-self.invariant.puzzle c.loop-self.invariant.room end.0, end.1)

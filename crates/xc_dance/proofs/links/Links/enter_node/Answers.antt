@@ -21,28 +21,23 @@ node_at c at = ap (λ (s : Linked). slice_get (layout s.puzzle) c.args.q) c.self
 
 pub is_open-requires : goal.is_open-requires
 is_open-requires c =
-    let here = (goal.at.is_open-requires c).After-self in
     let n = c.requires.node in
     subst (λ (s : Linked). IsItem s.puzzle c.args.j) c.self.view_is
-    (use_item c.args.q c.self.invariant.fitted.laid (node_at here n.1.1) n.1.2)
+    (use_item c.args.q c.self.invariant.fitted.laid (node_at ((goal.at.is_open-requires c).After-self) n.1.1) n.1.2)
 
 pub color-colour-requires : goal.color-colour-requires
 color-colour-requires c =
     let here = (goal.at.color-colour-requires c).After-self in
-    let n = c.requires.node in
     subst (λ (t : Nodes). c.args.q < length t.color) (sym c.self.invariant.nodes)
-    (colour_within _ (reverse c.self.inside.trail.items) _ (node_at here n.1.1))
+    (colour_within _ (reverse c.self.inside.trail.items) _ (node_at here c.requires.node.1.1))
 
 pub returns-then-is_open-clause-covers : goal.returns-then-is_open-clause-covers
 returns-then-is_open-clause-covers c = λ o u at item.
     let here = (goal.at.returns-then-is_open-clause-covers c).After-self in
-    let p = c.self.inside.fixed in
     let t : List Move = reverse c.self.inside.trail.items in
     let j = c.args.j in
     let k = c.color-colour.result in
-    let primary = c.primary.ensures in
-    let above = c.if-j-primary.false in
-    let high : primary_count p < j = omega (arith, primary, above) in
+    let high : primary_count c.self.inside.fixed < j = omega (arith, c.primary.ensures, c.if-j-primary.false) in
     let open_there = ap (λ (s : Linked). is_open j s.trail) c.self.view_is in
     let still : is_open j t ≡ true = open_there ∙ sym c.is_open.ensures ∙ c.if-is_open.true in
     let read = c.color-colour.ensures ∙ ap (λ (n : Nodes). get_or n.color c.args.q 0) c.self.invariant.nodes in

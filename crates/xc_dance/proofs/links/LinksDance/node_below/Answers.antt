@@ -22,9 +22,8 @@ at c {x} h = subst (λ (s : Linked). IsListedAt s.puzzle s.trail c.args.i x c.ar
 pub dlink-requires : goal.dlink-requires
 dlink-requires c =
     let here = (goal.at.dlink-requires c).After-self in
-    let l = c.requires.place in
     subst (λ (n : Nodes). c.args.place < length n.dlink) (sym c.self.invariant.nodes)
-    (listed_within c.self.invariant.fitted.laid (item here) (at here l.1))
+    (listed_within c.self.invariant.fitted.laid (item here) (at here c.requires.place.1))
 
 pub returns-clause-place : goal.returns-clause-place
 returns-clause-place c = λ x h.

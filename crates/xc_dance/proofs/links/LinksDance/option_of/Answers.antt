@@ -4,8 +4,7 @@ use Rattle.xc_dance.proofs.LinkedTables.CommitLemmas.{use_name, use_node, named_
 use Rattle.xc_dance.proofs.links.LinksDance.option_of.Goals as goal
 
 pub option_at-requires-clause-node : goal.option_at-requires-clause-node
-option_at-requires-clause-node c = let u = c.requires.place in
-    use_node u.1
+option_at-requires-clause-node c = use_node c.requires.place.1
 
 pub returns : goal.returns
 returns c = λ x u. c.unwrap_or.ensures

@@ -13,8 +13,7 @@ lay-requires c =
 
 pub loop-i-preserved : goal.loop-i-preserved
 loop-i-preserved c =
-    let p = c.args.problem.now.puzzle in
     let i = c.loop-i.i in
     let row : Row = record { top = 0; ulink = i; dlink = i; color = 0 } in
-    let at = own_row p i (omega (arith, c.loop-i-test.true, c.items-i-end.ensures.value)) in
+    let at = own_row c.args.problem.now.puzzle i (omega (arith, c.loop-i-test.true, c.items-i-end.ensures.value)) in
     c.lay.ensures ∙ ap (λ (t : Laying). with_row t row) c.loop-i.invariant ∙ laid_more _ _ _ at.1 at.2

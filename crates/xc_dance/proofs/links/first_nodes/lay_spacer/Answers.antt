@@ -11,15 +11,13 @@ use Rattle.xc_dance.specs.declared.links.nodes.TheConstants.{SPACER}
 
 pub lay-requires : goal.lay-requires
 lay-requires c =
-    let p = c.args.problem.now.puzzle in
-    let at = ap (slice_get (layout p)) c.requires.place ∙ spacer_here _ _ c.requires.option in
+    let at = ap (slice_get (layout c.args.problem.now.puzzle)) c.requires.place ∙ spacer_here _ _ c.requires.option in
     subst (λ (t : Laying). length t.nodes.top < t.count) (sym c.requires.before) (laid_room _ _ at)
 
 pub returns : goal.returns
 returns c =
-    let p = c.args.problem.now.puzzle in
     let o = c.args.o in
     let row : Row = record { top = SPACER + o; ulink = c.args.above; dlink = c.last_node-below.result; color = 0 } in
-    let at = ap (slice_get (layout p)) c.requires.place ∙ spacer_here _ _ c.requires.option in
+    let at = ap (slice_get (layout c.args.problem.now.puzzle)) c.requires.place ∙ spacer_here _ _ c.requires.option in
     c.lay.ensures ∙ ap (λ (t : Laying). with_row t row) c.requires.before
     ∙ laid_more _ _ _ at (spacer_row _ _ c.requires.above c.last_node-below.ensures)

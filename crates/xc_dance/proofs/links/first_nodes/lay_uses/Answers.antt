@@ -25,10 +25,9 @@ place_now c = spacer_place c.args.problem.now.puzzle c.args.o + 1 + c.loop-u.u-i
 node : (c : In-loop-u) → slice_get (layout c.args.problem.now.puzzle) (place_now c)
     ≡ Some (used (c.args.o + 1) (use_now c))
 node c =
-    let p = c.args.problem.now.puzzle in
     let us = c.option-u-items.result.now in
     let fits = option_fits _ _ _ c.requires.limits c.requires.option
-    (uses_here p (c.args.o + 1) _ c.option-u-items.ensures.value) in
+    (uses_here c.args.problem.now.puzzle (c.args.o + 1) _ c.option-u-items.ensures.value) in
     use_here _ _ _ (place_now c) _ _ fits.at (slice_get-get_or us c.loop-u.u-index _ c.loop-u-test.true) refl
 
 pub lay-requires : goal.lay-requires

@@ -65,8 +65,7 @@ loop-q-preserved c =
     let p = c.args.problem.now.puzzle in
     let q = c.loop-q.q in
     let n = get_or (layout p) q unused in
-    let at : slice_get (layout p) q ≡ Some n =
-    slice_get-get_or (layout p) q unused (omega (arith, c.loop-q-test.true, c.requires.count)) in
+    let at = slice_get-get_or (layout p) q unused (omega (arith, c.loop-q-test.true, c.requires.count)) in
     let from : item_count p + 1 ≤ q = omega (arith, c.loop-q.auto.q, c.items-q.ensures.value) in
     let top = ap (λ (t : Nodes). slice_index t.top q) c.loop-q.invariant in
     elim c.if-top-lt-SPACER.branch [
