@@ -47,16 +47,7 @@ along_first p off q vs t e =
 
 along_next : {p : Puzzle} {off q : ℕ} {vs : List Use} {s t : List Move} → IsAlong p off vs s t q → q < off + length vs →
     IsAlong p off vs s (after_use p (use_at_place off vs q) t) (q + 1)
-along_next {p} {off} {q} {vs} {t} a h =
-    let k = q - off in
-    let v = use_at_place off vs q in
-    let next : q + 1 - off ≡ k + 1 = (let f = a.from in omega (arith, f)) in
-    let here : k < length vs = (let f = a.from in omega (arith, h, f)) in
-    record {
-      from = let f = a.from in omega (arith, f);
-      to = omega (arith, h);
-      trail = ap (λ n. after_uses p (drop n vs) (after_use p v t)) next ∙ sym (first_use p _ _ no_use t here) ∙ a.trail;
-    }
+along_next {p} {off} {q} {vs} {t} a h = grind (arith, common_steps, first_use)
 
 -- behind the last one all were
 pub along_end : (p : Puzzle) (off q : ℕ) (vs : List Use) (s t : List Move) → IsAlong p off vs s t q →
@@ -207,6 +198,4 @@ one_committed {p} {x} {off} {vs} {s} now new {room} {q} n same big is made =
 -- at the end
 pub whole : (p : Puzzle) (room : ℕ) (now : Linked) {t : List Move} → now.puzzle ≡ p → now.room ≡ room →
     now.trail ≡ t → dancing_of now ≡ record { puzzle = p; trail = t; room = room }
-whole p room now e r h = ap (λ q. let d : Dancing = record { puzzle = q; trail = now.trail; room = now.room } in d) e
-    ∙ ap (λ k. let d : Dancing = record { puzzle = p; trail = now.trail; room = k } in d) r
-    ∙ ap (λ l. let d : Dancing = record { puzzle = p; trail = l; room = room } in d) h
+whole p room now e r h = grind (arith, common_steps)

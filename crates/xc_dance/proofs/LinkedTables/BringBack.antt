@@ -66,14 +66,7 @@ unhide_open {p} col ln {j} {o} laid pos le o_pos m unmarked =
     let c = node_cells p ln col j o laid pos le o_pos m.name m.above m.below in
     let few : (ln j).len < 2 ^ 31 = m.few in
     record {
-      can =
-          record {
-            size = size_from p ln col;
-            place = c.names.place;
-            use_of = omega (arith, c.item, le, laid.small);
-            places = λ _. c.names;
-            few = λ _. omega (arith, ap (λ k. get_or t.top k 0) c.item ∙ c.len, few);
-          };
+      can = grind (arith, common_steps, size_from);
       done =
           unhidden-open t q unmarked ∙ same_nodes (relinked t q) (nodes_from p (with_line ln j (mended (ln j) o)) col)
           (ap (λ i. set t.top i (get_or t.top i 0 + 1)) c.item ∙ ap (λ n. set t.top j (n + 1)) c.len
@@ -160,11 +153,7 @@ raised l o = record { len = l.len; up = put_at l.up (l.down o) o; down = l.down 
 -- the columns that one line's change leaves
 pub top_kept : (p : Puzzle) (ln : ℕ → Line) (i : ℕ) (l : Line) → l.len ≡ (ln i).len
     → map (top_in ln) (layout p) ≡ map (top_in (with_line ln i l)) (layout p)
-top_kept p ln i l e = map_same (top_in (with_line ln i l)) (top_in ln) (layout p) (λ k n at. by_node n)
-  where
-    by_node : (n : Node) → top_in ln n ≡ top_in (with_line ln i l) n
-    by_node (own k) = grind (arith, common_steps, eqb-true)
-    by_node _ = refl
+top_kept p ln i l e = grind (arith, common_steps, eqb-true, map_same)
 
 pub down_kept : (p : Puzzle) (ln : ℕ → Line) (i : ℕ) (l : Line) → ((x : ℕ) → l.down x ≡ (ln i).down x)
     → map (dlink_in p ln) (layout p) ≡ map (dlink_in p (with_line ln i l)) (layout p)
@@ -238,8 +227,7 @@ opened_open {p} {t} {spans} {i} {ln} {o} {os} legal fit opened o_pos named withi
       returner = λ un.
           let nb = comes j (ap₂ (λ a b. a && not b) in_js un) r.0 r.1 ne in
           let met = met_at p t i legal laid fit.fit opened j o r.0 r.1 within j_named in
-          let j_open : is_open j t ≡ true = elim (is_open j t) as (λ b. is_open j t ≡ b → b ≡ true)
-          [ true ↦ λ f. refl | false ↦ λ f. absurd (false≢true (sym un ∙ met.shut f)) ] refl in
+          let j_open : is_open j t ≡ true = grind (arith, common_steps, false≢true) in
           let st : Stands (listed_numbers p t j) o = stands_in o (listed_numbers p t j) (met.opened j_open).1 in
           let good = subst (IsGood p j (line_of p t j)) st.is (all_good p t fit.fit j r.0 r.1) in
           let m : IsMember p j (line_of p t j) o = member p j (line_of p t j) st.ys o st.zs r.0 r.1 good in
@@ -257,26 +245,18 @@ opened_open {p} {t} {spans} {i} {ln} {o} {os} legal fit opened o_pos named withi
     (λ j e. returning j (in_behind j (behind_use i (uses_of p o)) before (sym (in_reverse j before) ∙ e))) in
     let place : ℕ → ℕ = λ j. link_place p j o in
     let ln1 : ℕ → Line = back_all p col o ln back in
-    let at : (j : ℕ) → ln1 j ≡ cond (leaves p col i j o) (mended (ln j) o) (ln j) = λ j.
-    all_at mended p col o ln back j apart
-    ∙ ap (λ b. cond (b && not (is_mark p col o j)) (mended (ln j) o) (ln j)) (in_reverse j js) in
+    let at : (j : ℕ) → ln1 j ≡ cond (leaves p col i j o) (mended (ln j) o) (ln j) =
+    grind (arith, common_steps, all_at, in_reverse) in
     let nodes = ap reverse (others_are p spans o i fit.spanned o_pos named) ∙ map_reverse (λ j. link_place p j o) js in
     record {
       ln1 = ln1;
-      can = λ e. (
-        fit.spanned.within o i o_pos named,
-        can_unhide_node p (back_all p col o ln (reverse before)) col t0 spans o i fit.spanned o_pos named
-            (subst (CanUnhideAll t0) (sym (map_reverse place js)) w.can)
-            (ap (fold unhidden t0) (map_reverse place before) ∙ mid.done),
-      );
+      can = grind (arith, common_steps, can_unhide_node, map_reverse);
       done = ap (fold unhidden t0) nodes ∙ w.done;
-      own = at i ∙ ap (λ b. cond (b && not (is_mark p col o i)) (mended (ln i) o) (ln i))
-          (out_of i js (own_apart p i o fit.fit));
+      own = grind (arith, common_steps, out_of, own_apart);
       cost = grind (arith, common_steps, costs-are, others_are, unhidden_color, unmarked-reverse, unmarked_items);
       others = λ j pos le ne. elim (leaves p col i j o) as
           (λ b. leaves p col i j o ≡ b → Regaining (line_of p t j) (ln1 j) (filter (leaves p col i j) os)) [
-            | true ↦ λ e. subst (λ (l : Line). Regaining (line_of p t j) l (filter (leaves p col i j) os))
-                (sym (at j ∙ ap (λ b. cond b (mended (ln j) o) (ln j)) e)) (comes j e pos le ne).next
+            | true ↦ λ e. grind (arith, common_steps)
             | false ↦ λ e. grind (arith, common_steps)
           ] refl;
     }
@@ -320,11 +300,9 @@ by_opened {p} {t} {covered} {i} {ln} {o} {os} fit pos le within h m1 =
       can = record {
         unhide = m1.can;
         place = subst (λ (u : Nodes). x < length u.dlink) (sym m1.done) (omega (arith, x_in, down_long));
-        below = subst (λ (u : Nodes). get_or u.dlink x 0 < length u.ulink) (sym m1.done)
-            (omega (arith, d_in, length-map (layout p) (ulink_in p ln1), leads));
+        below = grind (arith, common_steps, length-map);
       };
-      done = ap (λ (u : Nodes). with_ulink u (get_or u.dlink x 0) x) m1.done ∙ ap (λ k. with_ulink t1 k x) leads
-          ∙ raised_is col ln1 _ laid below;
+      done = grind (arith, common_steps, raised_is);
       bringing = record {
         others = λ j jpos jle ne. subst (λ (k : Line). Regaining (line_of p t j) k (to_come p t covered i j os))
             (sym (line_there ln1 _ _ w ne)) (m1.others j jpos jle ne);

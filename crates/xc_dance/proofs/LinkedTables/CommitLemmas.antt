@@ -49,10 +49,7 @@ down_at : {p : Puzzle} (t : List Move) (i : ℕ) {x : ℕ} → IsLaid p → IsIt
     → get_or (nodes_after p t).dlink (link_place p i x) 0 ≡ link_place p i (first_above 0 x (listed_numbers p t i))
 down_at {p} t i laid item (inl z) = ap (λ k. get_or (nodes_after p t).dlink (link_place p i k) 0) z
     ∙ own_down _ t _ laid item.0 item.1 ∙ ap (λ k. link_place p i (first_above 0 k (listed_numbers p t i))) (sym z)
-down_at {p} t i laid item (inr h) =
-    let e = contained _ _ h in
-    let is = in_list_name p t _ _ e in
-    use_down _ t _ _ laid item.0 item.1 is.0 is.1 e
+down_at {p} t i laid item (inr h) = grind (arith, common_steps, contained, in_list_name, use_down)
 
 -- DLINK of a node in an item's list leads to the next one there
 pub listed_down : {p : Puzzle} {t : List Move} {i x q : ℕ} → IsLaid p → IsItem p i → IsListedAt p t i x q →
@@ -92,17 +89,9 @@ colour_within p t q {o} {u} at = let here = slice_get_within (layout p) q (used 
 pub committed_open : (p : Puzzle) (t : List Move) (q : ℕ) {o j k : ℕ} {u : Use} →
     slice_get (layout p) q ≡ Some (used o u) → u.item ≡ j → primary_count p < j → is_open j t ≡ true →
     k ≡ get_or (nodes_after p t).color q 0 → cond (eqb k 0) (Cover j) (Purify j k) ∷ t ≡ after_use p u t
-committed_open p t q {u} at item high still read =
-    let is : is_open u.item t ≡ true = ap (λ i. is_open i t) item ∙ still in
-    ap₂ (λ i n. cond (eqb n 0) (Cover i) (Purify i n) ∷ t) (sym item) (read ∙ open_colour p t q at is)
-    ∙ sym (after_open p u _ (omega (arith, high, item)) is)
+committed_open p t q {u} at item high still read = grind (arith, common_steps, after_open, open_colour)
 
 -- the moves of such a use, of which a Cover may be still to be made
 pub still_covers : (j k : ℕ) (t : List Move) {new : List Move} {r : Bool} → r ≡ eqb k 0
     → new ≡ cond (eqb k 0) t (Purify j k ∷ t) → cond (eqb k 0) (Cover j) (Purify j k) ∷ t ≡ cond r (Cover j ∷ new) new
-still_covers j k t {new} {r} e f = by_colour (eqb k 0) r e f
-  where
-    by_colour : (b r : Bool) → r ≡ b → new ≡ cond b t (Purify j k ∷ t) →
-        cond b (Cover j) (Purify j k) ∷ t ≡ cond r (Cover j ∷ new) new
-    by_colour true r e f = rw (e, f) refl
-    by_colour false r e f = rw (e, f) refl
+still_covers j k t {new} {r} e f = grind (arith, common_steps)

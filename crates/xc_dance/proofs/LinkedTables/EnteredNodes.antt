@@ -107,9 +107,7 @@ lines_of ns j = grown_all (held j ns)
 
 pub length-held : (j : ℕ) (ns : List Node) → length (held j ns) ≤ length ns
 length-held j [] = omega arith
-length-held j (used o u ∷ ns) = let h = length-held j ns in
-    elim (eqb u.item j) as (λ b. length (cond b (o ∷ held j ns) (held j ns)) ≤ suc (length ns))
-    [ true ↦ omega (arith, h) | false ↦ omega (arith, h) ]
+length-held j (used o u ∷ ns) = grind (arith, common_steps, length-held j ns)
 length-held j (_ ∷ ns) = let h = length-held j ns in omega (arith, h)
 
 pub lines_few : (j : ℕ) (ns : List Node) → (lines_of ns j).len ≤ length ns
@@ -245,20 +243,13 @@ use_name p k o j u fit e same =
     )
 
 -- an item's line once one node more is entered
-line_then : (p : Puzzle) (q o : ℕ) (u : Use) → slice_get (layout p) q ≡ Some (used o u) → (k : ℕ) →
+line_then : (p : Puzzle) (q : ℕ) {o : ℕ} {u : Use} → slice_get (layout p) q ≡ Some (used o u) → (k : ℕ) →
     with_line (lines_of (take q (layout p))) u.item (grown (lines_of (take q (layout p)) u.item) o) k ≡ lines_of
     (take (q + 1) (layout p)) k
-line_then p q o u e k =
-    let ns = take q (layout p) in
-    let j = u.item in
-    let l : Line = grown (lines_of ns j) o in
-    let m : Line = lines_of ns k in
-    let make : Bool → Line = λ b. record {
-      len = cond b l.len m.len;
-      up = λ x. cond b (l.up x) (m.up x);
-      down = λ x. cond b (l.down x) (m.down x);
-    } in
-    grind (arith, common_steps, append-nil, eq-eqb, eqb-false, eqb-true, grown_more, ne_eqb, held_more k q (layout p) e)
+line_then p q {o} {u} e k =
+    let next : held k (take (q + 1) (layout p)) ≡ held k (take q (layout p)) ++ cond (eqb u.item k) (o ∷ []) [] =
+    held_more k q (layout p) e in
+    grind (arith, common_steps, append-nil, eq-eqb, eqb-false, eqb-true, grown_more, ne_eqb)
 
 -- what entering the node at q asks, and what it gives
 pub record UseStep (p : Puzzle) (t : Nodes) (q o : ℕ) (u : Use) : Type 0 where
@@ -299,7 +290,7 @@ use_step p q o u fit limits e =
       last = omega (arith, is_u, long, slice_get_within (layout p) (link_place p j ((ln j).up 0)) last.node last.at);
       few = omega (arith, count, few, size, layout_small p limits, within);
       done = entered-is p ln (color_in p []) q o u laid e here head last range ∙ nodes_same p
-          (with_line ln j (grown (ln j) o)) (lines_of (take (q + 1) (layout p))) (color_in p []) (line_then p q o u e);
+          (with_line ln j (grown (ln j) o)) (lines_of (take (q + 1) (layout p))) (color_in p []) (line_then p q e);
     }
 
 -- a spacer enters no list

@@ -68,19 +68,12 @@ row_of p n =
 
 rows_more : (p : Puzzle) (ns : List Node) (n : Node)
     → (with_row (record { count = 0; nodes = rows_of p ns }) (row_of p n)).nodes ≡ rows_of p (ns ++ n ∷ [])
-rows_more p ns n = λ i. record {
-  top = sym (map-append (top_in blanks) ns (n ∷ [])) i;
-  ulink = sym (map-append (ulink_in p blanks) ns (n ∷ [])) i;
-  dlink = sym (map-append (dlink_in p blanks) ns (n ∷ [])) i;
-  color = sym (map-append (color_in p []) ns (n ∷ [])) i;
-}
+rows_more p ns n = grind (arith, common_steps, map-append)
 
 -- one node more
 pub laid_more : (p : Puzzle) (k : ℕ) {n : Node} (r : Row) → slice_get (layout p) k ≡ Some n → r ≡ row_of p n
     → with_row (laid_to p k) r ≡ laid_to p (k + 1)
-laid_more p k {n} r e is = ap (with_row (laid_to p k)) is
-    ∙ ap (λ (t : Nodes). let l : Laying = record { count = length (layout p); nodes = t } in l)
-    (rows_more p (take k (layout p)) n ∙ ap (rows_of p) (sym (take_more-get _ _ _ e)))
+laid_more p k {n} r e is = grind (arith, common_steps, rows_more, take_more-get)
 
 pub laid_none : (p : Puzzle) {c : ℕ} → c ≡ length (layout p) → no_rows c ≡ laid_to p 0
 laid_none p e = ap no_rows e
@@ -91,10 +84,7 @@ laid_all p = ap (rows_of p) (take-length (layout p))
 -- there is room for the next one
 pub laid_room : (p : Puzzle) (k : ℕ) {n : Node} → slice_get (layout p) k ≡ Some n
     → length (laid_to p k).nodes.top < (laid_to p k).count
-laid_room p k {n} e =
-    let within = slice_get_within (layout p) k n e in
-    let count = length-map (take k (layout p)) (top_in blanks) in
-    omega (arith, within, count, length-take-le k (layout p) (omega (arith, within)))
+laid_room p k {n} e = grind (arith, common_steps, length-map, length-take-le, slice_get_within)
 
 -- ---- what a spacer leads to
 
@@ -172,30 +162,22 @@ none_below other i a (suc n) le = rw (le-ltb a i le) (none_below other i (a + 1)
 
 below_in : (other i a n : ℕ) → a < i → i ≤ a + n → last_below other i (range_with_len a n) ≡ i - 1
 below_in other i a zero lt le = absurd (omega (arith, lt, le))
-below_in other i a (suc n) lt le = last_below-more _ _ _ _ lt
-    ∙ elim (ltb (a + 1) i) as (λ b. ltb (a + 1) i ≡ b → last_below a i (range_with_len (a + 1) n) ≡ i - 1) [
-      | true ↦ λ e. below_in a i (a + 1) n (ltb-true (a + 1) i e) (omega (arith, le))
-      | false ↦ λ e. let ge =
-          ltb-false (a + 1) i e in none_below a i (a + 1) n (omega (arith, ge)) ∙ omega (arith, ge, lt)
-    ] refl
+below_in other i a (suc n) lt le =
+    let rest = below_in a i (a + 1) n in
+    grind (arith, common_steps, last_below-more, ltb-true, ltb-false, none_below)
 
 above_in : (other i a n : ℕ) → a ≤ i + 1 → i + 1 < a + n → first_above other i (range_with_len a n) ≡ i + 1
 above_in other i a zero le lt = absurd (omega (arith, le, lt))
 above_in other i a (suc n) le lt =
-    elim (ltb i a) as (λ b. ltb i a ≡ b
-    → unwrap_or (cond b (Some a) (find (λ k. nat_lt i k) (range_with_len (a + 1) n))) other ≡ i + 1) [
-      | true ↦ λ e. let h = ltb-true i a e in omega (arith, h, le)
-      | false ↦ λ e. let h = ltb-false i a e in above_in other i (a + 1) n (omega (arith, h)) (omega (arith, lt))
-    ] refl
+    let rest = above_in other i (a + 1) n in grind (arith, common_steps, ltb-true, ltb-false)
 
 none_above : (other i a n : ℕ) → a + n ≤ i + 1 → first_above other i (range_with_len a n) ≡ other
 none_above other i a zero le = refl
 none_above other i a (suc n) le = rw (le-ltb i a (omega (arith, le))) (none_above other i (a + 1) n (omega (arith, le)))
 
 last_in : (other a n : ℕ) → last_of other (range_with_len a (suc n)) ≡ a + n
-last_in other a zero = last_of-more other a [] ∙ omega arith
-last_in other a (suc n) = let s : a + 1 + n ≡ a + suc n = omega arith in
-    last_of-more other a (range_with_len (a + 1) (suc n)) ∙ last_in a (a + 1) n ∙ s
+last_in other a zero = grind (arith, common_steps, last_of-more)
+last_in other a (suc n) = grind (arith, common_steps, last_of-more, last_in a (a + 1) n)
 
 -- ---- the rings
 
@@ -210,26 +192,6 @@ high_ring : (p : Puzzle) (i : ℕ) → primary_count p < i
     → ring_of p [] i ≡ range_with_len (primary_count p + 1) p.secondary
 high_ring p i lt = rw (lt-leb i (primary_count p) lt) (keep (range_with_len (primary_count p + 1) p.secondary))
 
-low_left : (p : Puzzle) (i : ℕ) → i ≤ primary_count p
-    → left_of p [] i ≡ last_below 0 i (range_with_len 1 (primary_count p))
-low_left p i le = rw (le-leb i (primary_count p) le) (ap (last_below 0 i) (keep (range_with_len 1 (primary_count p))))
-
-high_left : (p : Puzzle) (i : ℕ) → primary_count p < i
-    → left_of p [] i ≡ last_below (item_count p + 1) i (range_with_len (primary_count p + 1) p.secondary)
-high_left p i lt =
-    rw (lt-leb i (primary_count p) lt)
-    (ap (last_below (item_count p + 1) i) (keep (range_with_len (primary_count p + 1) p.secondary)))
-
-low_right : (p : Puzzle) (i : ℕ) → i ≤ primary_count p
-    → right_of p [] i ≡ first_above 0 i (range_with_len 1 (primary_count p))
-low_right p i le = rw (le-leb i (primary_count p) le) (ap (first_above 0 i) (keep (range_with_len 1 (primary_count p))))
-
-high_right : (p : Puzzle) (i : ℕ) → primary_count p < i
-    → right_of p [] i ≡ first_above (item_count p + 1) i (range_with_len (primary_count p + 1) p.secondary)
-high_right p i lt =
-    rw (lt-leb i (primary_count p) lt)
-    (ap (first_above (item_count p + 1) i) (keep (range_with_len (primary_count p + 1) p.secondary)))
-
 -- ---- the cells
 
 inner_left : (p : Puzzle) (i : ℕ) → i ≢ 0 → i ≤ item_count p → llink_at p [] i ≡ left_of p [] i
@@ -240,15 +202,11 @@ inner_right p i ne le = rw (ne_eqb i 0 ne, le-leb i (item_count p) le) refl
 
 end_left : (p : Puzzle) (i : ℕ) → item_count p < i
     → llink_at p [] i ≡ last_of (item_count p + 1) (range_with_len (primary_count p + 1) p.secondary)
-end_left p i lt =
-    rw (ne_eqb i 0 (λ z. omega (arith, z, lt)), lt-leb i (item_count p) lt)
-    (ap (last_of (item_count p + 1)) (high_ring p (primary_count p + 1) (omega arith)))
+end_left p i lt = grind (arith, common_steps, high_ring, lt-leb, ne_eqb)
 
 end_right : (p : Puzzle) (i : ℕ) → item_count p < i
     → rlink_at p [] i ≡ first_of (item_count p + 1) (range_with_len (primary_count p + 1) p.secondary)
-end_right p i lt =
-    rw (ne_eqb i 0 (λ z. omega (arith, z, lt)), lt-leb i (item_count p) lt)
-    (ap (first_of (item_count p + 1)) (high_ring p (primary_count p + 1) (omega arith)))
+end_right p i lt = grind (arith, common_steps, high_ring, lt-leb, ne_eqb)
 
 -- a fact by which of two numbers is greater
 by_size : (P : Type 0) (m n : ℕ) → (m ≤ n → P) → (n < m → P) → P
@@ -265,60 +223,36 @@ last_secondary other a zero ne = absurd (ne refl)
 last_secondary other a (suc n) ne = last_in other a n ∙ omega arith
 
 pub left_head : (p : Puzzle) {i : ℕ} → i ≡ 0 → primary_count p ≡ llink_at p [] i
-left_head p e =
-    sym (ap (llink_at p []) e ∙ ap (last_of 0) (low_ring p 0 (omega arith)) ∙ last_primary (primary_count p))
+left_head p e = grind (arith, common_steps, low_ring, last_primary)
 
 -- the first secondary item, or the head of the secondary items where there is none
 pub left_first : (p : Puzzle) (i : ℕ) → i ≡ primary_count p + 1 → item_count p + 1 ≡ llink_at p [] i
-left_first p i e = grind (arith, common_steps, by_size, end_left, high_left, inner_left, none_below)
+left_first p i e = grind (arith, common_steps, by_size, end_left, high_ring, inner_left, lt-leb, none_below)
+
+ruleset left_rules = (below_in, by_size, end_left, high_ring, inner_left, last_secondary, low_ring, none_below)
 
 pub left_inner : (p : Puzzle) (i : ℕ) → i ≢ 0 → i ≢ primary_count p + 1 → i ≤ item_count p + 1 → i - 1 ≡ llink_at p [] i
-left_inner p i nz ne le =
-    grind (
-      arith,
-      common_steps,
-      below_in,
-      by_size,
-      end_left,
-      high_left,
-      inner_left,
-      last_secondary,
-      low_left,
-      none_below,
-    )
+left_inner p i nz ne le = grind (arith, common_steps, le-leb, lt-leb, left_rules)
 
 pub right_last : (p : Puzzle) {i : ℕ} → i ≡ primary_count p → 0 ≡ rlink_at p [] i
-right_last p e = grind (arith, common_steps, by_size, inner_right, low_right, low_ring, none_above)
+right_last p e = grind (arith, common_steps, by_size, inner_right, le-leb, low_ring, none_above)
 
 first_secondary : (a n : ℕ) → first_of (a + n) (range_with_len a n) ≡ a
 first_secondary a zero = omega arith
 first_secondary a (suc n) = refl
 
 pub right_head : (p : Puzzle) (i : ℕ) → i ≡ item_count p + 1 → primary_count p + 1 ≡ rlink_at p [] i
-right_head p i e =
-    let same : item_count p + 1 ≡ primary_count p + 1 + p.secondary = omega arith in
-    sym (end_right p i (omega (arith, e)) ∙ ap (λ n. first_of n (range_with_len (primary_count p + 1) p.secondary)) same
-    ∙ first_secondary (primary_count p + 1) p.secondary)
+right_head p i e = grind (arith, common_steps, keep, first_secondary, le-leb, lt-leb, ne_eqb)
 
 first_primary : (n : ℕ) → n ≢ 0 → first_of 0 (range_with_len 1 n) ≡ 1
 first_primary zero ne = absurd (ne refl)
 first_primary (suc n) ne = refl
 
+ruleset right_rules = (above_in, by_size, first_primary, high_ring, inner_right, low_ring, le-leb, lt-leb, none_above)
+
 pub right_inner : (p : Puzzle) (i : ℕ) → i ≢ primary_count p → i ≢ item_count p + 1 → i ≤ item_count p + 1
     → i + 1 ≡ rlink_at p [] i
-right_inner p i ne nl le =
-    grind (
-      arith,
-      common_steps,
-      above_in,
-      by_size,
-      first_primary,
-      high_right,
-      inner_right,
-      low_right,
-      low_ring,
-      none_above,
-    )
+right_inner p i ne nl le = grind (arith, common_steps, right_rules)
 
 -- the columns of the item table, as they are filled
 pub ruleset item_columns = (column_none, column_len, column_more, rings_linked, same_items)

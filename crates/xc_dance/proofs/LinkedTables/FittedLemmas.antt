@@ -86,9 +86,7 @@ high_most (b ∷ bs) (suc k) a = high_most bs k a.1
 
 high_small : {p : Puzzle} (i : ℕ) → IsWithinLimits p → high_at p i < 2 ^ 31
 high_small zero limits = omega arith
-high_small {p} (suc k) limits = let h =
-    high_most p.bounds k (recursion_from_All (λ (b : Bounds). b.high ≤ 999999999) p.bounds limits.bounds) in
-    omega (arith, h)
+high_small {p} (suc k) limits = grind (arith, common_steps, high_most, recursion_from_All)
 
 pub fitted : {p : Puzzle} {spans : List Span} → IsWithinLimits p → IsFit p → spans ≡ spans_of p → IsFitted p spans
 fitted {p} limits fit is = subst (IsFitted p) (sym is) (record {

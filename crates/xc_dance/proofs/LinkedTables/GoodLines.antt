@@ -85,14 +85,7 @@ step_open p col ln j o laid m few color =
     let is : hidden tb q ≡ unlinked tb q = hidden-open tb q color in
     let item = c.item in
     record {
-      can =
-          record {
-            size = size;
-            place = c.names.place;
-            use_of = omega (arith, item, m.item.1, laid.small);
-            places = λ ne. c.names;
-            some = λ ne. linked.some;
-          };
+      can = grind (arith, common_steps);
       undone = unhidden-hidden tb q (λ e. linked);
       back = subst (λ (u : Nodes). CanUnhide u q) (sym is)
           (CanUnhide-unlinked tb q size c.names linked (omega (arith, item, m.item.1, laid.small))
@@ -118,64 +111,35 @@ pub record IsGood (p : Puzzle) (j : ℕ) (l : Line) (xs : List ℕ) : Type 0 whe
   pub len : l.len ≡ length xs
   pub few : length xs < 2 ^ 31
 
-up_name : (p : Puzzle) (j : ℕ) (l : Line) (a : ℕ) (ys : List ℕ) (o : ℕ) (zs : List ℕ) → IsName p j a
-    → IsLinkedFrom l a (ys ++ o ∷ zs) → AllByRecursion (Named p j) (ys ++ o ∷ zs) → IsName p j (l.up o)
-up_name p j l a [] o zs n h named = subst (IsName p j) (sym h.2) n
-up_name p j l a (y ∷ ys) o zs n h named = up_name p j l y ys o zs (inr (omega (arith, h.0), named.0)) h.3 named.1
+-- what stands at member o of a list behind a: its neighbours, which lead back to it
+record At (p : Puzzle) (j : ℕ) (l : Line) (a o : ℕ) : Type 0 where
+  name : Named p j o
+  above : IsName p j (l.up o)
+  below : IsName p j (l.down o)
+  up_back : l.down (l.up o) ≡ o
+  down_back : l.up (l.down o) ≡ o
+  higher : (a < o) × (a ≤ l.up o)
+  lower : (l.down o ≡ 0) ⊎ (o < l.down o)
 
-down_name : (p : Puzzle) (j : ℕ) (l : Line) (a : ℕ) (ys : List ℕ) (o : ℕ) (zs : List ℕ)
-    → IsLinkedFrom l a (ys ++ o ∷ zs) → AllByRecursion (Named p j) (ys ++ o ∷ zs) → IsName p j (l.down o)
-down_name p j l a [] o [] h named = inl h.3.0
-down_name p j l a [] o (z ∷ zs) h named =
-    let lt : o < z = h.3.0 in subst (IsName p j) (sym h.3.1) (inr (omega arith, named.1.0))
-down_name p j l a (y ∷ ys) o zs h named = down_name p j l y ys o zs h.3 named.1
-
-up_back : (l : Line) (a : ℕ) (ys : List ℕ) (o : ℕ) (zs : List ℕ) → IsLinkedFrom l a (ys ++ o ∷ zs) → l.down (l.up o) ≡ o
-up_back l a [] o zs h = ap l.down h.2 ∙ h.1
-up_back l a (y ∷ ys) o zs h = up_back l y ys o zs h.3
-
-down_back : (l : Line) (a : ℕ) (ys : List ℕ) (o : ℕ) (zs : List ℕ) → IsLinkedFrom l a (ys ++ o ∷ zs)
-    → l.up (l.down o) ≡ o
-down_back l a [] o [] h = ap l.up h.3.0 ∙ h.3.1
-down_back l a [] o (z ∷ zs) h = ap l.up h.3.1 ∙ h.3.2
-down_back l a (y ∷ ys) o zs h = down_back l y ys o zs h.3
-
-above : (l : Line) (a : ℕ) (ys : List ℕ) (o : ℕ) (zs : List ℕ) → IsLinkedFrom l a (ys ++ o ∷ zs) → a < o
-above l a [] o zs h = h.0
-above l a (y ∷ ys) o zs h = let lt : a < y = h.0 in let r = above l y ys o zs h.3 in omega arith
-
-named_at : (p : Puzzle) (j : ℕ) (ys : List ℕ) (o : ℕ) (zs : List ℕ) → AllByRecursion (Named p j) (ys ++ o ∷ zs)
-    → Named p j o
-named_at p j [] o zs h = h.0
-named_at p j (y ∷ ys) o zs h = named_at p j ys o zs h.1
+at_member : (p : Puzzle) (j : ℕ) (l : Line) (a : ℕ) (ys : List ℕ) (o : ℕ) (zs : List ℕ) → IsName p j a
+    → IsLinkedFrom l a (ys ++ o ∷ zs) → AllByRecursion (Named p j) (ys ++ o ∷ zs) → At p j l a o
+at_member p j l a [] o [] n h named = grind (arith, common_steps)
+at_member p j l a [] o (z ∷ zs) n h named = grind (arith, common_steps)
+at_member p j l a (y ∷ ys) o zs n h named =
+    let r = at_member p j l y ys o zs (inr (omega (arith, h.0), named.0)) h.3 named.1 in grind (arith, common_steps)
 
 pub member : (p : Puzzle) (j : ℕ) (l : Line) (ys : List ℕ) (o : ℕ) (zs : List ℕ) → 0 < j → j ≤ item_count p
     → IsGood p j l (ys ++ o ∷ zs) → IsMember p j l o
 member p j l ys o zs pos le g =
-    grind (arith, common_steps, down_back, down_name, length-append, named_at, up_back, up_name)
+    let r = at_member p j l 0 ys o zs (inl refl) g.linked g.named in grind (arith, common_steps, length-append)
 
-higher : (l : Line) (a : ℕ) (ys : List ℕ) (o : ℕ) (zs : List ℕ) → IsLinkedFrom l a (ys ++ o ∷ zs) → a ≤ l.up o
-higher l a [] o zs h = let e = h.2 in omega arith
-higher l a (y ∷ ys) o zs h = let r = higher l y ys o zs h.3 in let lt : a < y = h.0 in omega arith
-
-lower : (l : Line) (a : ℕ) (ys : List ℕ) (o : ℕ) (zs : List ℕ) → IsLinkedFrom l a (ys ++ o ∷ zs) → (l.down o ≡ 0)
-    ⊎ (o < l.down o)
-lower l a [] o [] h = inl h.3.0
-lower l a [] o (z ∷ zs) h = let lt : o < z = h.3.0 in let e = h.3.1 in inr (omega arith)
-lower l a (y ∷ ys) o zs h = lower l y ys o zs h.3
-
-cut_anywhere : (l : Line) (a : ℕ) (ys : List ℕ) (o : ℕ) (zs : List ℕ) → IsLinkedFrom l a (ys ++ o ∷ zs)
-    → IsLinkedFrom (cut l o) a (ys ++ zs)
-cut_anywhere l a [] o zs h = cut-linked l _ _ _ h
-cut_anywhere l a (y ∷ ys) o zs h =
-    let hi : y ≤ l.up o = higher l _ _ _ _ h.3 in
-    let y_o : y < o = above l _ _ _ _ h.3 in
-    let lo : (l.down o ≡ 0) ⊎ (o < l.down o) = lower l y _ _ _ h.3 in (
-      h.0,
-      put_at-other l.down (l.up o) (l.down o) a (λ e. omega arith) ∙ h.1,
-      put_at-other l.up (l.down o) (l.up o) y (λ e. omega arith) ∙ h.2,
-      cut_anywhere l y ys o zs h.3,
-    )
+cut_anywhere : (p : Puzzle) (j : ℕ) (l : Line) (a : ℕ) (ys : List ℕ) (o : ℕ) (zs : List ℕ) → IsName p j a
+    → IsLinkedFrom l a (ys ++ o ∷ zs) → AllByRecursion (Named p j) (ys ++ o ∷ zs) → IsLinkedFrom (cut l o) a (ys ++ zs)
+cut_anywhere p j l a [] o zs n h named = cut-linked l _ _ _ h
+cut_anywhere p j l a (y ∷ ys) o zs n h named =
+    let m : IsName p j y = inr (omega (arith, h.0), named.0) in
+    let r = at_member p j l y ys o zs m h.3 named.1 in
+    grind (arith, common_steps, cut_anywhere p j l y ys o zs m h.3 named.1, put_at-other)
 
 each_without : {X : Type 0} (P : X → Type 0) (ys : List X) (o : X) (zs : List X) → AllByRecursion P (ys ++ o ∷ zs)
     → AllByRecursion P (ys ++ zs)
@@ -184,7 +148,9 @@ each_without P (y ∷ ys) o zs h = (h.0, each_without P ys o zs h.1)
 
 pub good_cut : {p : Puzzle} {j : ℕ} {l : Line} (ys : List ℕ) (o : ℕ) (zs : List ℕ) → IsGood p j l (ys ++ o ∷ zs)
     → IsGood p j (cut l o) (ys ++ zs)
-good_cut ys o zs g = grind (arith, common_steps, cut_anywhere, each_without, length-append)
+good_cut {p} {j} {l} ys o zs g =
+    let rest : IsLinkedFrom (cut l o) 0 (ys ++ zs) = cut_anywhere p j l 0 ys o zs (inl refl) g.linked g.named in
+    grind (arith, common_steps, each_without, length-append)
 
 -- ---- all items
 

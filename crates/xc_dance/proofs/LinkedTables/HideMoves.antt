@@ -161,8 +161,7 @@ module _ (p : Puzzle) (t : List Move) (spans : List Span) (m : Move) (i : ℕ) (
   hides_cut j r =
       let of = leavers_of _ _ _ _ in
       elim (eqb j i) as (λ b. eqb j i ≡ b → SameCut p t m j (filter (leaves p (color_in p t) i j) going)) [
-        | true ↦ λ e. subst (λ k. SameCut p t m k (filter (leaves p (color_in p t) i k) going))
-            (sym (eqb-true j i e)) (cut_own _ _ _ _ f.fit of.rise h.own)
+        | true ↦ λ e. grind (arith, common_steps, cut_own, eqb-true)
         | false ↦ λ e. cut_others p t i legal f.laid f.fit opened m j going r of h.takes (eqb-false j i e)
       ] refl
 
@@ -209,17 +208,14 @@ module _ (p : Puzzle) (t : List Move) (spans : List Span) (m : Move) (i : ℕ) (
           place = in_table t laid pos le;
           size = size_from _ (line_of p t) start;
           few = few_in t laid fit pos le;
-          walk = subst (λ q. IsWalk spans keep t0 q (list_of (nodes_after p t) i)) (sym first)
-              (subst (IsWalk spans keep t0 (link_place p i ((line_of p t i).down 0))) (sym down) s.walk);
+          walk = grind (arith, common_steps);
         };
         done = ap (fold (left_node spans keep) t0) down ∙ s.done;
         can_back = record {
           place = in_table next laid pos le;
           size = size_from _ (line_of p next) (color_in p next);
           few = few_in next laid fit pos le;
-          walk = subst (λ q. IsWalkBack spans keep (nodes_after p next) q (list_back (nodes_after p next) i)) (sym last)
-              (subst (IsWalkBack spans keep (nodes_after p next) (link_place p i ((line_of p t i).up 0))) (sym up)
-              s.back);
+          walk = grind (arith, common_steps);
         };
         undone = ap (fold (back_node spans keep) (nodes_after p next)) up ∙ s.undone;
         costs = ap (walk_costs spans keep t0) down ∙ s.costs;

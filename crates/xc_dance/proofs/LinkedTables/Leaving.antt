@@ -272,12 +272,7 @@ costs_split p col i keep (o ∷ xs) = grind (arith, common_steps, costs_split p 
 pub leaving_is : (p : Puzzle) (t : List Move) (m : Move) (k : ℕ → List ℕ)
     → ((j : ℕ) → (0 < j) × (j ≤ item_count p) → SameCut p t m j (k j))
     → leaving p t m ≡ total (λ j. length (k j)) 1 (item_count p)
-leaving_is p t m k cuts = sum_is_total (λ j. length (listed p t j) - length (listed p (m ∷ t) j)) _ _ ∙ total_same
-    (λ j. length (listed p t j) - length (listed p (m ∷ t) j)) (λ j. length (k j)) 1 (item_count p) (λ j u v.
-    let c = cuts j (omega (arith, u), omega (arith, v)) in
-    let a : length (listed_numbers p t j) ≡ length (listed p t j) = length-map (listed p t j) (λ o. o.number) in
-    let b = length-map (listed p (m ∷ t) j) (λ o. o.number) in
-    omega (arith, a, b, ap length c.cut_is, ap length c.stay_is, parts c.test (listed_numbers p t j)))
+leaving_is p t m k cuts = grind (arith, common_steps, length-map, parts, sum_is_total, total_same)
 
 -- ---- what each move takes out of the lists of the other items, in option numbers
 
@@ -325,10 +320,7 @@ pub takes_purify : (p : Puzzle) (t : List Move) (i c : ℕ) → AreLegal p t →
 takes_purify p t i c legal opened = grind (arith, common_steps, listed_options, ne_eqb, others_numbers, takes_listed)
 
 pub own_purify : (p : Puzzle) (t : List Move) (i c : ℕ) → listed_numbers p (Purify i c ∷ t) i ≡ listed_numbers p t i
-own_purify p t i c =
-    ap (λ b. map (λ o. o.number)
-    (cond (not b && is_open i t) (without (other_colours i c (listed p t i)) (listed p t i)) (listed p t i)))
-    (eq-eqb i i refl)
+own_purify p t i c = grind (arith, common_steps, eq-eqb)
 
 -- ---- Tweak
 

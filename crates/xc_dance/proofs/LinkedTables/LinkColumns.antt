@@ -52,11 +52,7 @@ map_put f g (m ∷ ns) (suc k) v rest here =
 
 -- where a list has v at k, it has v there after v is written anywhere
 pub get_or-set_kept : (xs : List ℕ) (i k v : ℕ) → get_or xs k 0 ≡ v → get_or (set xs i v) k 0 ≡ v
-get_or-set_kept [] i k v h = h
-get_or-set_kept (x ∷ xs) zero zero v h = refl
-get_or-set_kept (x ∷ xs) zero (suc k) v h = h
-get_or-set_kept (x ∷ xs) (suc i) zero v h = h
-get_or-set_kept (x ∷ xs) (suc i) (suc k) v h = get_or-set_kept xs i k v h
+get_or-set_kept xs i k v h = grind (arith, common_steps, get_or-set_same, get_or-set_other)
 
 -- a cell that is written and then written back is as it was
 pub written_back : (xs : List ℕ) (i j v w : ℕ) → j ≡ i → get_or xs i 0 ≡ w → set (set xs i v) j w ≡ xs
@@ -95,11 +91,7 @@ unhidden-open t q e = ap (λ b. cond b t (relinked t q)) e
 -- a step of unhide undoes that of hide
 pub unhidden-hidden : (t : Nodes) (q : ℕ) → (eqb (get_or t.color q 0) MARK ≡ false → IsLinked t q)
     → unhidden (hidden t q) q ≡ t
-unhidden-hidden t q h =
-    elim (eqb (get_or t.color q 0) MARK) as (λ b. eqb (get_or t.color q 0) MARK ≡ b → unhidden (hidden t q) q ≡ t) [
-      | true ↦ λ e. ap (λ u. unhidden u q) (hidden-marked t q e) ∙ unhidden-marked _ _ e
-      | false ↦ λ e. ap (λ u. unhidden u q) (hidden-open t q e) ∙ unhidden-open _ _ e ∙ relinked-unlinked _ _ (h e)
-    ] refl
+unhidden-hidden t q h = grind (arith, common_steps, relinked-unlinked)
 
 -- each step of a walk can be undone
 abbrev pub IsUndone : Nodes → List ℕ → Type 0

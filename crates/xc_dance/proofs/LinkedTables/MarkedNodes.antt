@@ -86,29 +86,26 @@ true_either false = refl
 pub purified_marked : (p : Puzzle) (t : List Move) (j c : ℕ) → AreLegal p t → purified j t ≡ Some c
     → AllByRecursion (λ o. holds o j ≡ true → is_marked p t j o.number c ≡ true) (left p t)
 purified_marked p [] j c legal e = cc
-purified_marked p (Cover k ∷ t) j c legal e =
-    kept (λ o. holds o j ≡ true → is_marked p t j o.number c ≡ true) p t (Cover k) (purified_marked p t j c legal.1 e)
+purified_marked p (Spend k ∷ t) j c legal e = purified_marked p t j c legal.1 e
 purified_marked p (Purify k d ∷ t) j c legal e =
     elim (eqb j k) as (λ b. eqb j k ≡ b → cond b (Some d) (purified j t) ≡ Some c
     → AllByRecursion (λ o. holds o j ≡ true → is_marked p (Purify k d ∷ t) j o.number c ≡ true)
     (left p (Purify k d ∷ t))) [
       | true ↦ λ f g.
           let same : j ≡ k = eqb-true j k f in
-          let item : eqb k j ≡ true = eq-eqb k j (sym same) in
-          let colour : eqb d c ≡ true = eq-eqb d c (same_Some d c g) in
           kept (λ o. holds o j ≡ true → is_marked p (Purify k d ∷ t) j o.number c ≡ true) p t (Purify k d)
           (each_weaker (λ o. holds o j ≡ true → is_in o.number (listed_numbers p t j) ≡ true)
-          (λ o. holds o j ≡ true → is_marked p (Purify k d ∷ t) j o.number c ≡ true) _
-          (λ o h held. rw (item, colour, h held) refl) (in_open p _ _ legal.1 (ap (λ i. is_open i t) same ∙ legal.0.1)))
-      | false ↦ λ f g. kept (λ o. holds o j ≡ true → is_marked p (Purify k d ∷ t) j o.number c ≡ true) p t (Purify k d)
+          (λ o. holds o j ≡ true → is_marked p (Purify k d ∷ t) j o.number c ≡ true) (left p t)
+          (λ o h held. grind (arith, common_steps, eq-eqb, same_Some))
+          (in_open p t j legal.1 (ap (λ i. is_open i t) same ∙ legal.0.1)))
+      | false ↦ λ f g.
+          kept (λ o. holds o j ≡ true → is_marked p (Purify k d ∷ t) j o.number c ≡ true) p t (Purify k d)
           (each_weaker (λ o. holds o j ≡ true → is_marked p t j o.number c ≡ true)
-          (λ o. holds o j ≡ true → is_marked p (Purify k d ∷ t) j o.number c ≡ true) _
-          (λ o h held. ap (cond ((eqb k j && eqb d c) && is_in o.number (listed_numbers p t j)) true) (h held)
-          ∙ true_either _) (purified_marked p t j c legal.1 g))
+          (λ o. holds o j ≡ true → is_marked p (Purify k d ∷ t) j o.number c ≡ true) (left p t)
+          (λ o h held. grind (arith, common_steps)) (purified_marked p t j c legal.1 g))
     ] refl e
-purified_marked p (Tweak k ∷ t) j c legal e =
-    kept (λ o. holds o j ≡ true → is_marked p t j o.number c ≡ true) p t (Tweak k) (purified_marked p t j c legal.1 e)
-purified_marked p (Spend k ∷ t) j c legal e = purified_marked p t j c legal.1 e
+purified_marked p (m ∷ t) j c legal e =
+    kept (λ o. holds o j ≡ true → is_marked p t j o.number c ≡ true) p t m (purified_marked p t j c legal.1 e)
 
 -- ---- a node's colour cell
 
@@ -162,26 +159,21 @@ each_met {p} t j legal fit = elim (is_open j t) as (λ b. is_open j t ≡ b
     → AllByRecursion (λ o. holds o j ≡ true → Met p t o.number j) (left p t)) [
       | true ↦ λ e. each_both (IsOption p) (λ o. holds o j ≡ true → is_in o.number (listed_numbers p t j) ≡ true)
           (λ o. holds o j ≡ true → Met p t o.number j) (left p t) (λ o is h held.
-          let named : Named p j o.number = ap (λ us. is_some (colour_in us j)) is.1 ∙ held in
-          let c = colour_some (uses_of p o.number) j named in
-          let small : c.0 < MARK = colour_small (uses_of p o.number) j c.0 (fit.colours o.number) c.1 in
-          let m = mark_is p t o.number j c.0 is.0 c.1 ∙ ap (λ b. eqb (cond b MARK c.0) MARK)
-          (open_unmarked p t j o.number c.0 e) ∙ ne_eqb c.0 MARK (λ f. omega (arith, small, f)) in
-          record { opened = λ _. (m, h held); shut = λ f. absurd (false≢true (sym f ∙ e)) })
+          let c = colour_some (uses_of p o.number) j (ap (λ us. is_some (colour_in us j)) is.1 ∙ held) in
+          let small = colour_small (uses_of p o.number) j c.0 (fit.colours o.number) c.1 in
+          let m = mark_is p t o.number j c.0 is.0 c.1 in
+          grind (arith, common_steps, false≢true, ne_eqb, open_unmarked))
           (options_left p t) (in_open p t j legal e)
       | false ↦ λ e.
           elim (closed j t e) [
-            | inl covered ↦ each_weaker (λ o. holds o j ≡ false) (λ o. holds o j ≡ true → Met p t o.number j) (left p t)
-                (λ o no held. absurd (false≢true (sym no ∙ held))) (left_free p t j covered)
+            | inl covered ↦ grind (arith, common_steps, each_weaker, false≢true, left_free)
             | inr has ↦ each_both (IsOption p) (λ o. (holds o j ≡ true → is_marked p t j o.number has.0 ≡ true)
                 × (agrees has.0 (colour_at o j) ≡ true)) (λ o. holds o j ≡ true → Met p t o.number j) (left p t)
                 (λ o is h held.
                 let c = colour_some (uses_of p o.number) j (ap (λ us. is_some (colour_in us j)) is.1 ∙ held) in
-                let at : colour_at o j ≡ Some c.0 = ap (λ us. colour_in us j) (sym is.1) ∙ c.1 in
-                let same : c.0 ≡ has.0 = agrees_same has.0 c.0 (ap (agrees has.0) (sym at) ∙ h.1) in
-                let m : is_mark p (color_in p t) o.number j ≡ true = mark_is p t o.number j c.0 is.0 c.1
-                ∙ ap (λ b. eqb (cond b MARK c.0) MARK) (ap (is_marked p t j o.number) same ∙ h.0 held) in
-                record { opened = λ f. absurd (false≢true (sym e ∙ f)); shut = λ _. m })
+                let m = mark_is p t o.number j c.0 is.0 c.1 in
+                let same = agrees_same has.0 c.0 in
+                grind (arith, common_steps, false≢true))
                 (options_left p t) (each_both (λ o. holds o j ≡ true → is_marked p t j o.number has.0 ≡ true)
                 (λ o. agrees has.0 (colour_at o j) ≡ true) _ (left p t) (λ o a b. (a, b))
                 (purified_marked p t j has.0 legal has.1) (left_agrees p t j has.0 has.1))

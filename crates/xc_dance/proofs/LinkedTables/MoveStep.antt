@@ -132,20 +132,6 @@ pub record MoveStep (p : Puzzle) (t : List Move) (spans : List Span) (m : Move) 
   pub cost_back : (x : ℕ) → IsTakenOff p t m x
       → unmade_cost spans (nodes_after p (m ∷ t)) (items_after p (m ∷ t)) m x ≡ cost_of p t m
 
-covered_step : {p : Puzzle} (t : List Move) {spans : List Span} (i : ℕ) → AreLegal p t → IsLegal p t (Cover i)
-    → IsFitted p spans → MoveStep p t spans (Cover i)
-covered_step {p} t {spans} i legal may f =
-    let pos : 0 < i = let h = may.0.0 in omega (arith, h) in
-    let w = walk_made p t spans (Cover i) i None (color_in p t) legal f pos may.0.1 may.1 (cover_hides p t i) in
-    grind (arith, common_steps, cover_writes, ring_step p t i may)
-
-purified_step : {p : Puzzle} (t : List Move) {spans : List Span} (i c : ℕ) → AreLegal p t → IsLegal p t (Purify i c)
-    → IsFitted p spans → MoveStep p t spans (Purify i c)
-purified_step {p} t {spans} i c legal may f =
-    let pos : 0 < i = let h = may.0.0 in omega (arith, h) in
-    let still = still_items p t (Purify i c) (record { covered = λ q. refl; spent = λ q. refl }) in
-    grind (arith, common_steps, purify_made p t spans i c legal f pos may.0.1 may.1)
-
 -- a Spend changes no list
 spent_colours : (p : Puzzle) (t : List Move) (i : ℕ) (n : Node) → color_in p (Spend i ∷ t) n ≡ color_in p t n
 spent_colours p t i unused = refl
@@ -163,25 +149,27 @@ spent_nodes : (p : Puzzle) (t : List Move) (i : ℕ) → IsLaid p → nodes_afte
 spent_nodes p t i laid = tables_same _ (line_of p t) (line_of p (Spend i ∷ t)) (color_in p t)
     (color_in p (Spend i ∷ t)) laid (λ j r. line_after _ _ _ _ _ (spent_cut p t i j)) (λ k n at. spent_colours p t i n)
 
-spent_step : {p : Puzzle} (t : List Move) {spans : List Span} (i : ℕ) → AreLegal p t → IsLegal p t (Spend i)
-    → IsFitted p spans → MoveStep p t spans (Spend i)
-spent_step {p} t i legal may f = grind (arith, common_steps, spent_nodes, spend_step p t i may (f.bounds i))
-
-tweaked_step : {p : Puzzle} (t : List Move) {spans : List Span} (i : ℕ) → AreLegal p t → IsLegal p t (Tweak i)
-    → IsFitted p spans → MoveStep p t spans (Tweak i)
-tweaked_step {p} t {spans} i legal may f =
-    let pos : 0 < i = let h = may.0.0 in omega (arith, h) in
-    let le : i ≤ item_count p = may.0.1 in
-    let w = tweak_made p t spans (is_covered i t) i legal f pos le may.2 (open_or_covered i t may.1) in
-    let still = still_items p t (Tweak i) (record { covered = λ q. refl; spent = λ q. refl }) in
-    grind (arith, common_steps, off_is p (Tweak i ∷ t) i (may, legal) pos le, off_is p t i legal pos le)
-
 pub move_step : {p : Puzzle} (t : List Move) {spans : List Span} (m : Move) → AreLegal p t → IsLegal p t m
     → IsFitted p spans → MoveStep p t spans m
-move_step t (Cover i) legal may f = covered_step _ _ legal may f
-move_step t (Purify i c) legal may f = purified_step _ _ _ legal may f
-move_step t (Tweak i) legal may f = tweaked_step _ _ legal may f
-move_step t (Spend i) legal may f = spent_step _ _ legal may f
+move_step {p} t {spans} (Cover i) legal may f =
+    let pos : 0 < i = omega (arith, may.0.0) in
+    let w = walk_made p t spans (Cover i) i None (color_in p t) legal f pos may.0.1 may.1 (cover_hides p t i) in
+    let r = ring_step p t i may in
+    grind (arith, common_steps, cover_writes)
+move_step {p} t {spans} (Purify i c) legal may f =
+    let w = purify_made p t spans i c legal f (omega (arith, may.0.0)) may.0.1 may.1 in
+    let still = still_items p t (Purify i c) (record { covered = λ q. refl; spent = λ q. refl }) in
+    grind (arith, common_steps)
+move_step {p} t {spans} (Tweak i) legal may f =
+    let pos : 0 < i = omega (arith, may.0.0) in
+    let w = tweak_made p t spans (is_covered i t) i legal f pos may.0.1 may.2 (open_or_covered i t may.1) in
+    let off = off_is p t i legal pos may.0.1 in
+    let off' = off_is p (Tweak i ∷ t) i (may, legal) pos may.0.1 in
+    let still = still_items p t (Tweak i) (record { covered = λ q. refl; spent = λ q. refl }) in
+    grind (arith, common_steps)
+move_step {p} t {spans} (Spend i) legal may f =
+    let s = spend_step p t i may (f.bounds i) in
+    grind (arith, common_steps, spent_nodes)
 
 -- ---- the tables of a keeper from one move to the next
 

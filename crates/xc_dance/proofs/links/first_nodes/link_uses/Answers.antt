@@ -72,8 +72,7 @@ loop-q-preserved c =
       | then-top-lt-SPACER w ↦ (let s = (step _ _ c.requires.fit c.requires.limits from at).0
           (omega (arith, top, c.top.ensures, w.if-top-lt-SPACER)) in
           w.nodes-is ∙ w.enter.ensures ∙ ap (λ (t : Nodes). entered t q) c.loop-q.invariant ∙ s.2.done)
-      | else-top-lt-SPACER w ↦ w.nodes-is ∙ c.loop-q.invariant ∙ (step _ _ c.requires.fit c.requires.limits from at).1
-          (omega (arith, top, c.top.ensures, w.if-top-lt-SPACER))
+      | else-top-lt-SPACER w ↦ grind (arith, common_steps, step)
     ]
 
 pub returns : goal.returns

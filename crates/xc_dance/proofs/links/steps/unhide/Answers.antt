@@ -74,10 +74,7 @@ leads : (c : After-get_at) → SPACER ≤ c.get_at.result → (last : ℕ)
 leads c met last is = grind (arith, common_steps, high c, told c)
 
 pub overflow_add-end : goal.overflow_add-end
-overflow_add-end c =
-    let end =
-    leads (goal.at.overflow_add-end c).After-get_at c.loop-top-test.false c.down_at.result c.down_at.ensures in
-    omega (arith, end, c.requires.can.near)
+overflow_add-end c = grind (arith, common_steps, leads)
 
 pub unhide_range-above-requires-clause-can : goal.unhide_range-above-requires-clause-can
 unhide_range-above-requires-clause-can c =
@@ -110,10 +107,7 @@ whole c met is {u} {m} done cost =
     (ap (λ b. reverse (places (c.args.p + 1) b)) is) done cost)
 
 pub returns-clause-done : goal.returns-clause-done
-returns-clause-done c =
-    let at = (goal.at.returns-clause-done c).After-get_at in
-    (whole at c.loop-top-test.false (leads at c.loop-top-test.false _ c.down_at.ensures)
-    c.unhide_range-above.ensures.done c.unhide_range-above.ensures.cost).done
+returns-clause-done c = grind (arith, common_steps, leads, whole)
 
 pub returns-clause-cost : goal.returns-clause-cost
 returns-clause-cost c =
