@@ -189,11 +189,7 @@ pub one_committed : {p : Puzzle} {x off : ℕ} {vs : List Use} {s : List Move} (
 one_committed {p} {x} {off} {vs} {s} now new {room} {q} n same big is made =
     let done = made x n.u (ap (λ a. slice_get (layout a) q) same ∙ n.node) (n.item ∙ sym is) in
     let trail = ap (λ (d : Dancing). d.trail) done ∙ ap (λ a. after_use a n.u now.trail) same in
-    record {
-      puzzle = ap (λ (d : Dancing). d.puzzle) done ∙ same;
-      room = ap (λ (d : Dancing). d.room) done ∙ big;
-      along = subst (λ t. IsAlong p off vs s t (q + 1)) (sym trail) n.on;
-    }
+    grind (arith, common_steps)
 
 -- at the end
 pub whole : (p : Puzzle) (room : ℕ) (now : Linked) {t : List Move} → now.puzzle ≡ p → now.room ≡ room →

@@ -119,14 +119,7 @@ unhidden_walk p col ln o (j ∷ js) laid pos apart h =
       | false ↦ λ e. unhide_open col ln laid here.pos here.le pos (here.returner e) e
     ] refl in
     let rest = unhidden_walk p col (back_one p col o ln j) o js laid pos apart.1 (λ k e.
-    let r = h k (in_more j _ _ e) in
-    let same : back_one p col o ln j k ≡ ln k = one_other mended p col o ln _ _ (apart_in _ _ _ apart.0 e) in
-    record {
-      pos = r.pos;
-      le = r.le;
-      name = r.name;
-      returner = λ u. subst (λ (l : Line). IsReturner p k l o) (sym same) (r.returner u);
-    }) in
+    grind (arith, common_steps, apart_in, in_more, one_other)) in
     grind (arith, common_steps)
 
 -- ---- down the nodes that Tweaks of one item took off: each option comes back into the lists of its other items, and
@@ -309,8 +302,7 @@ by_opened {p} {t} {covered} {i} {ln} {o} {os} fit pos le within h m1 =
         own_down = λ y. ap (λ (k : Line). k.down y) at_i ∙ ap (λ (k : Line). k.down y) m1.own ∙ h.own_down y;
         own_up = λ y e. ap (λ (k : Line). k.up y) at_i ∙ by_first (put_at (ln1 i).up ((ln1 i).down o) o y ≡ l.up y)
             ((ln1 i).down o) y (λ s. put_at-same (ln1 i).up _ o _ (sym s) ∙ sym m.down_back ∙ ap l.up (sym down_is ∙ s))
-            (λ ne. put_at-other (ln1 i).up ((ln1 i).down o) o y (λ s. ne (sym s)) ∙ ap (λ (k : Line). k.up y) m1.own
-            ∙ h.own_up y (ap (λ b. b || is_below l y os) (ne_eqb (l.down o) y (λ s. ne (down_is ∙ s))) ∙ e));
+            (λ ne. grind (arith, common_steps, eq-eqb, eqb-true, false≢true, ne_eqb, put_at-other));
       };
       len = ap (λ (k : Line). k.len) at_i ∙ ap (λ (k : Line). k.len) m1.own;
       cost = ap (λ n. 1 + n) m1.cost;

@@ -85,9 +85,7 @@ linked_from l xs (y ∷ ys) h r none =
     let last : (grown l y).up 0 ≡ y = put_at-same (put_at l.up y (l.up 0)) 0 y 0 refl in
     subst (IsLinkedFrom (fold grown (grown l y) ys) 0) (append_assoc xs (y ∷ []) ys)
     (linked_from (grown l y) (xs ++ y ∷ []) ys (linked_more l 0 y xs h lt (none y lt))
-    (subst (Rises 0) (sym (append_assoc xs (y ∷ []) ys)) r)
-    (λ x high. put_at-other l.down (l.up 0) y x (λ e. omega (arith, e, lt, last, high))
-    ∙ none x (omega (arith, lt, last, high))))
+    (subst (Rises 0) (sym (append_assoc xs (y ∷ []) ys)) r) (λ x high. grind (arith, common_steps, put_at-other)))
 
 pub grown_linked : (xs : List ℕ) → Rises 0 xs → IsLinkedFrom (grown_all xs) 0 xs
 grown_linked xs r = linked_from blank [] _ (refl, refl) r (λ x h. refl)
@@ -237,10 +235,7 @@ use_name : (p : Puzzle) (k o j : ℕ) (u : Use) → IsFit p → slice_get (layou
     → IsName p j o
 use_name p k o j u fit e same =
     let nodes = (is_laid _ fit).nodes in
-    inr (
-      nodes.numbered k o u e,
-      ap (λ i. is_some (colour_in (uses_of p o) i)) (sym same) ∙ ap is_some (nodes.coloured k o u e),
-    )
+    grind (arith, common_steps)
 
 -- an item's line once one node more is entered
 line_then : (p : Puzzle) (q : ℕ) {o : ℕ} {u : Use} → slice_get (layout p) q ≡ Some (used o u) → (k : ℕ) →

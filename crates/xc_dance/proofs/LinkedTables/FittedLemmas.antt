@@ -31,23 +31,28 @@ absent (u ∷ us) i d h =
 
 pub distinct_from : (us : List Use) → AllPairs (λ u v. u.item ≢ v.item) us → AreDistinct us
 distinct_from [] h = tt
-distinct_from (u ∷ us) h = (
-  absent us u.item u (λ j lt. h 0 (suc j) u (omega arith) (omega (arith, lt))),
-  distinct_from us (λ i j d a b. h (suc i) (suc j) d (omega (arith, a)) (omega (arith, b))),
-)
+distinct_from (u ∷ us) h =
+    let rest = distinct_from us (λ i j d a b. h (suc i) (suc j) d (omega (arith, a)) (omega (arith, b))) in
+    (absent us u.item u (λ j lt. h 0 (suc j) u (omega arith) (omega (arith, lt))), rest)
 
-at_place : (P : List Use → Type 0) (os : List (List Use)) (k : ℕ) → P [] → AllByRecursion P os
-    → P (unwrap_or (slice_get os k) [])
-at_place P [] k nil a = nil
-at_place P (us ∷ os) zero nil a = a.0
-at_place P (us ∷ os) (suc k) nil a = at_place P os k nil a.1
+-- what holds of all elements and of the default holds of the one at a place
+pub at_place : {X : Type 0} (P : X → Type 0) (d : X) (xs : List X) (k : ℕ) → P d → AllByRecursion P xs
+    → P (unwrap_or (slice_get xs k) d)
+at_place P d [] k nil a = nil
+at_place P d (x ∷ xs) zero nil a = a.0
+at_place P d (x ∷ xs) (suc k) nil a = at_place P d xs k nil a.1
 
-at_option : (P : List Use → Type 0) (p : Puzzle) (o : ℕ) → P [] → AllByRecursion P p.options → P (uses_of p o)
-at_option P p zero nil a = nil
-at_option P p (suc k) nil a = at_place P _ _ nil a
+at_option : (Q P : List Use → Type 0) (p : Puzzle) (o : ℕ) → P [] → ((us : List Use) → Q us → P us) → All Q p.options
+    → P (uses_of p o)
+at_option Q P p zero nil f a = nil
+at_option Q P p (suc k) nil f a =
+    at_place P [] p.options k nil (each_weaker Q P p.options f (recursion_from_All Q p.options a))
 
 abbrev InRange : Puzzle → Use → Type 0
 InRange p u = (0 < u.item) × (u.item ≤ item_count p)
+
+abbrev IsBelow : Use → Type 0
+IsBelow u = u.colour < MARK
 
 sound_items : (p : Puzzle) (us : List Use) → IsSoundOption p us → AllByRecursion (InRange p) us
 sound_items p us s = each_weaker (IsSoundUse p) (InRange p) _ (λ u h. (let a = h.0.0 in omega (arith, a), h.0.1))
@@ -56,21 +61,14 @@ sound_items p us s = each_weaker (IsSoundUse p) (InRange p) _ (λ u h. (let a = 
 -- the rules of a problem say nothing of the colours: they are to be below the mark
 pub is_fit : (p : Puzzle) → IsValid p → All (λ us. All (λ u. u.colour < MARK) us) p.options → length p.options < 2 ^ 30
     → item_count p < 2 ^ 31 → length (layout p) < 2 ^ 31 → IsFit p
-is_fit p valid colours few small near =
-    let sound = recursion_from_All (IsSoundOption p) p.options valid.options in
-    record {
-      distinct = λ o. at_option AreDistinct p o tt
-          (each_weaker (IsSoundOption p) AreDistinct _ (λ us s. distinct_from _ s.distinct) sound);
-      items = λ o. at_option (λ us. AllByRecursion (InRange p) us) p o tt
-          (each_weaker (IsSoundOption p) (λ us. AllByRecursion (InRange p) us) _ (sound_items p) sound);
-      colours = λ o. at_option (λ us. AllByRecursion (λ u. u.colour < MARK) us) p o tt
-          (each_weaker (λ us. All (λ u. u.colour < MARK) us) (λ us. AllByRecursion (λ u. u.colour < MARK) us) _
-          (λ us h. recursion_from_All (λ u. u.colour < MARK) us h)
-          (recursion_from_All (λ us. All (λ u. u.colour < MARK) us) p.options colours));
-      few = few;
-      small = small;
-      near = near;
-    }
+is_fit p valid colours few small near = record {
+  distinct = λ o. at_option (IsSoundOption p) AreDistinct p o tt (λ us s. distinct_from us s.distinct) valid.options;
+  items = λ o. at_option (IsSoundOption p) (AllByRecursion (InRange p)) p o tt (sound_items p) valid.options;
+  colours = λ o. at_option (All IsBelow) (AllByRecursion IsBelow) p o tt (recursion_from_All IsBelow) colours;
+  few = few;
+  small = small;
+  near = near;
+}
 
 -- ---- a problem that was read fits into the tables
 
@@ -80,9 +78,7 @@ known_fit colours p valid limits known few = grind (arith, common_steps, is_fit,
 
 high_most : (bs : List Bounds) (k : ℕ) → AllByRecursion (λ (b : Bounds). b.high ≤ 999999999) bs
     → (unwrap_or (slice_get bs k) (record { low = 0; high = 0 })).high ≤ 999999999
-high_most [] k a = omega arith
-high_most (b ∷ bs) zero a = a.0
-high_most (b ∷ bs) (suc k) a = high_most bs k a.1
+high_most bs k a = at_place (λ (b : Bounds). b.high ≤ 999999999) (record { low = 0; high = 0 }) bs k (omega arith) a
 
 high_small : {p : Puzzle} (i : ℕ) → IsWithinLimits p → high_at p i < 2 ^ 31
 high_small zero limits = omega arith

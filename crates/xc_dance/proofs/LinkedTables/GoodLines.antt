@@ -209,8 +209,7 @@ line_after p t m j ks c =
     let long : length (listed_numbers p t j) ≡ length (listed p t j) = length-map (listed p t j) (λ o. o.number) in
     let long' = length-map (listed p (m ∷ t) j) (λ o. o.number) in
     let len : l.len ≡ 0 + length (stay c.test xs) = swept_len (line_of p t j) xs c.test 0 (omega (arith, long)) in
-    line_is l (line_of p (m ∷ t) j) (omega (arith, long', len, ap length c.stay_is)) (up_after p t m j _ s)
-    (down_after p t m j _ s) ∙ ap (cuts (line_of p t j)) (sym c.cut_is)
+    grind (arith, common_steps, down_after, line_is, up_after)
 
 -- ---- tables of the same lines
 
@@ -232,7 +231,5 @@ tables_same p ln rn col now laid h colours =
     λ k n e j x f. h j (laid.nodes.ranged k n j x e f) in
     same_nodes _ _ (map_same (top_in ln) (top_in rn) (layout p) (λ k n e. top_same p ln rn k _ (at k n e)))
     (map_same (ulink_in p ln) (ulink_in p rn) (layout p)
-    (λ k n e. link_same p (λ j x. (ln j).up x) (λ j x. (rn j).up x) (fixed_up p n) (slot_of n)
-    (λ j x f. ap (λ (l : Line). l.up x) (at k n e j x f)))) (map_same (dlink_in p ln) (dlink_in p rn) (layout p)
-    (λ k n e. link_same p (λ j x. (ln j).down x) (λ j x. (rn j).down x) (fixed_down p n) (slot_of n)
-    (λ j x f. ap (λ (l : Line). l.down x) (at k n e j x f)))) (map_same col now (layout p) colours)
+    (λ k n e. grind (arith, common_steps, link_same))) (map_same (dlink_in p ln) (dlink_in p rn) (layout p)
+    (λ k n e. grind (arith, common_steps, link_same))) (map_same col now (layout p) colours)

@@ -172,12 +172,10 @@ module _ (p : Puzzle) (t : List Move) (spans : List Span) (m : Move) (i : ℕ) (
       ∙ sym (list_at _ (color_in p t) _ (line_of p t) _ j (each_apart _ i going f.fit))) h.colours
 
   hides_cost : step_costs p (color_in p t) i keep (listed_numbers p t i) ≡ hide_writes p t m i keep
-  hides_cost = omega (
-    arith,
-    leaving_is _ _ _ _ hides_cut,
-    exchanged _ (color_in p t) i going f.fit,
-    costs_split p (color_in p t) i keep (listed_numbers p t i),
-  )
+  hides_cost =
+      let all = leaving_is _ _ _ _ hides_cut in
+      let split = costs_split p (color_in p t) i keep (listed_numbers p t i) in
+      omega (arith, all, split, exchanged _ (color_in p t) i going f.fit)
 
   -- the walk down i's list and the walk back lead to the tables after the move m, and to those before it
   hide_step : Listed p (color_in p t) start spans i keep (line_of p t) 0 (listed_numbers p t i) (nodes_after p (m ∷ t))

@@ -45,14 +45,9 @@ ready_by : (p : Puzzle) (col : Node → ℕ) (lists : ℕ → List ℕ) (o : ℕ
     × (is_mark p col o j ≡ false → Stands (lists j) o)) → AllApart js → AreReady p col lists o js
 ready_by p col lists o [] h apart = tt
 ready_by p col lists o (j ∷ js) h apart =
-    let here = h j (is_in-first j js) in (
-      here.0,
-      here.1,
-      here.2,
-      here.3,
-      apart.0,
-      ready_by p col lists o js (λ k e. h k (in_more j _ _ e)) apart.1,
-    )
+    let here = h j (is_in-first j js) in
+    let rest = ready_by p col lists o js (λ k e. h k (in_more j _ _ e)) apart.1 in
+    (here.0, here.1, here.2, here.3, apart.0, rest)
 
 eqb_turn : (a b : ℕ) → eqb a b ≡ eqb b a
 eqb_turn a b = grind (arith, common_steps, eq-eqb, eqb-false, eqb-true, ne_eqb)
@@ -140,13 +135,10 @@ module _ (p : Puzzle) (t : List Move) (i : ℕ) (legal : AreLegal p t) (laid : I
       → EachReady p (color_in p t) (listed_numbers p t) i keep xs
   each_ready keep [] pos le h = tt
   each_ready keep (x ∷ xs) pos le h =
-      let within : is_in x (listed_numbers p t i) ≡ true = h x (is_in-first x xs) in (
-        element_of (Named p i) _ _ (numbers_named p t i) within,
-        ready_at x within,
-        own_apart _ i x fit,
-        own_ready keep x pos le within,
-        each_ready keep xs pos le (λ z e. h z (in_more x _ _ e)),
-      )
+      let within : is_in x (listed_numbers p t i) ≡ true = h x (is_in-first x xs) in
+      let named = element_of (Named p i) _ _ (numbers_named p t i) within in
+      let rest = each_ready keep xs pos le (λ z e. h z (in_more x _ _ e)) in
+      (named, ready_at x within, own_apart _ i x fit, own_ready keep x pos le within, rest)
 
   -- each leaves the lists of the other open items that it is in
   leaves_at : (j x : ℕ) → InRange p j → j ≢ i → is_in x (listed_numbers p t i) ≡ true
@@ -251,9 +243,7 @@ exchanged p col i [] fit = sym (total_zero 1 (item_count p))
 exchanged p col i (o ∷ os) fit =
     let n = item_count p in
     let here = counted_over n (λ j. not (is_mark p col o j)) (other_items p o i) (others_apart p o i fit) (λ k e.
-    let named = (and_parts _ _ (sym (in_others p o i k (fit.distinct o)) ∙ e)).1 in
-    let r = item_range p (uses_of p o) k (fit.items o) named in
-    (omega (arith, r.0), omega (arith, r.1))) in
+    grind (arith, common_steps, and_parts, in_others, item_range)) in
     let sum = total_plus (λ j. cond (leaves p col i j o) 1 0) (λ j. length (filter (leaves p col i j) os)) 1 n in
     let same : total (λ j. length
     (cond (leaves p col i j o) (o ∷ filter (leaves p col i j) os) (filter (leaves p col i j) os))) 1 n ≡ total
@@ -312,8 +302,7 @@ others_numbers p i c os a =
     let f : ℕ → Bool = λ x. not (is_kept p i (Some c) x) in
     ap (map (λ o. o.number)) (filter_same (λ o. is_other_colour c (colour_at o i)) (λ o. f o.number) _
     (each_weaker (IsOption p) (λ o. is_other_colour c (colour_at o i) ≡ f o.number) _
-    (λ o is. sym (not-not (is_other_colour c (colour_in (uses_of p o.number) i))
-    ∙ ap (λ us. is_other_colour c (colour_in us i)) is.1)) a)) ∙ filter_numbers f os
+    (λ o is. grind (arith, common_steps, not-not)) a)) ∙ filter_numbers f os
 
 pub takes_purify : (p : Puzzle) (t : List Move) (i c : ℕ) → AreLegal p t → is_open i t ≡ true
     → TakesOut p t (Purify i c) i (leavers p i (Some c) (listed_numbers p t i))
@@ -336,9 +325,8 @@ take_numbers (o ∷ os) = refl
 pub takes_tweak : (p : Puzzle) (t : List Move) (i : ℕ) → is_open i t ≡ true
     → TakesOut p t (Tweak i) i (first_alone (listed_numbers p t i))
 takes_tweak p t i opened =
-    takes_listed p t (Tweak i) i _ (take_numbers (listed p t i)) (λ j ne. ap (λ b. cond b (drop 1 (listed p t i))
-    (cond (is_open i t && is_open j t) (without (take 1 (listed p t i)) (listed p t j)) (listed p t j))) (ne_eqb j i ne)
-    ∙ ap (λ b. cond (b && is_open j t) (without (take 1 (listed p t i)) (listed p t j)) (listed p t j)) opened)
+    takes_listed p t (Tweak i) i _ (take_numbers (listed p t i))
+    (λ j ne. grind (arith, common_steps, eq-eqb, eqb-false, eqb-true, false≢true, ne_eqb))
 
 -- a closed item's Tweak takes none out of other lists
 pub tweak_others : (p : Puzzle) (t : List Move) (i j : ℕ) → is_open i t ≡ false → j ≢ i

@@ -146,9 +146,7 @@ set_link p f fixed j x v laid h = map_put (λ n. link_at p f (fixed n) (slot_of 
     (λ n. link_at p (put_link f j (put_at (f j) x v)) (fixed n) (slot_of n)) (layout p) (link_place p j x)
     (link_place p j v)
     (λ q n at ne. other_slot p f j x v (fixed n) (slot_of n) (λ e. ne (sym (laid.unique q n j x at e)))) (λ n at.
-    let same : n ≡ h.node = same_at (layout p) (link_place p j x) _ _ at h.at in
-    at_slot p (put_link f j (put_at (f j) x v)) (fixed n) _ (ap slot_of same ∙ h.slot)
-    ∙ ap (link_place p j) (let e : eqb j j ≡ true = eq-eqb j j refl in rw e (put_at-same (f j) x v x refl)))
+    grind (arith, common_steps, at_slot, eq-eqb, eqb-true, ne_eqb, put_at-same, same_at))
 
 -- ---- counts
 
@@ -163,8 +161,7 @@ pub set_top : (p : Puzzle) (ln : ℕ → Line) (j : ℕ) (l : Line) → IsLaid p
     → map (top_in (with_line ln j l)) (layout p) ≡ set (map (top_in ln) (layout p)) j l.len
 set_top p ln j l laid pos le = map_put (top_in ln) (top_in (with_line ln j l)) (layout p) j l.len
     (λ q n at ne. top_other ln j l n (λ e. ne (sym (laid.unique q n j 0 at (own_slot e))))) (λ n at.
-    let same : n ≡ own j = same_at (layout p) j _ _ at (laid.head j pos le) in
-    ap (top_in (with_line ln j l)) same ∙ (let e : eqb j j ≡ true = eq-eqb j j refl in rw e refl))
+    grind (arith, common_steps, eq-eqb, eqb-true, ne_eqb, same_at))
 
 pub get_len : (p : Puzzle) (ln : ℕ → Line) (j : ℕ) → IsLaid p → 0 < j → j ≤ item_count p
     → get_or (map (top_in ln) (layout p)) j 0 ≡ (ln j).len

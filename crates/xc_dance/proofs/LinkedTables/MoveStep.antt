@@ -61,7 +61,7 @@ pub past_covered : (p : Puzzle) (t : List Move) (i : ℕ) → AreLegal p t → 0
     → is_covered i t ≡ true → IsPast p t i
 past_covered p [] i legal pos le e = absurd (false≢true e)
 past_covered p (Cover k ∷ t) i legal pos le e =
-    let k_pos : 0 < k = let h = legal.0.0.0 in omega (arith, h) in
+    let k_pos : 0 < k = omega (arith, legal.0.0.0) in
     let k_le : k ≤ item_count p = legal.0.0.1 in
     let un : is_covered k t ≡ false = open_uncovered k t legal.0.1 in
     let l = llink_at p t i in
@@ -71,19 +71,14 @@ past_covered p (Cover k ∷ t) i legal pos le e =
     elim (eqb i k) as (λ b. eqb i k ≡ b → (b || is_covered i t) ≡ true → (l < item_count p + 2) × (next ≢ i)) [
       | true ↦ λ f g.
           let same : i ≡ k = eqb-true i k f in
-          let un_i : is_covered i t ≡ false = ap (λ j. is_covered j t) same ∙ un in (
-            (link_beside p false t i (omega (arith, le)) (λ _ _. un_i)).place,
-            λ h. link_other p true t k k_pos k_le un (sym (ap (λ b. cond b (rlink_at p t k) (rlink_at p t l))
-                (eq-eqb l (llink_at p t k) (ap (llink_at p t) same))) ∙ h ∙ same),
-          )
+          let un_i : is_covered i t ≡ false = ap (λ j. is_covered j t) same ∙ un in
+          let side = link_beside p false t i (omega (arith, le)) (λ _ _. un_i) in
+          let ne = link_other p true t k k_pos k_le un in grind (arith, common_steps, eq-eqb)
       | false ↦ λ f g.
           let before = past_covered p t i legal.1 pos le g in
           let r = link_beside p true t k (omega (arith, k_le)) (λ _ _. un) in
-          let r_ne : rlink_at p t k ≢ i = λ s. false≢true (sym (subst (Stays p t) s r.stays pos le) ∙ g) in (
-            before.place,
-            elim (eqb l (llink_at p t k)) as (λ v. cond v (rlink_at p t k) (rlink_at p t l) ≢ i)
-                [ true ↦ r_ne | false ↦ before.past ],
-          )
+          let r_ne : rlink_at p t k ≢ i = λ s. false≢true (sym (subst (Stays p t) s r.stays pos le) ∙ g) in
+          grind (arith, common_steps)
     ] refl e in
     let leads = ap (rlink_at p (Cover k ∷ t)) gone ∙ link_next p true t k k_pos k_le un l beyond.0 in
     record { place = omega (arith, gone, beyond.0); past = λ h. beyond.1 (sym leads ∙ h) }
@@ -104,10 +99,9 @@ off_is p t i legal pos le =
     let both : (l < n) × (eqb (rlink_at p t l) i ≡ not (is_covered i t)) =
     elim (is_covered i t) as (λ b. is_covered i t ≡ b → (l < n) × (eqb (rlink_at p t l) i ≡ not b)) [
       | true ↦ λ e. let h = past_covered p _ _ legal pos le e in (h.place, ne_eqb (rlink_at p t l) i h.past)
-      | false ↦ λ e. (
-        (link_beside p false t _ within (λ _ _. e)).place,
-        eq-eqb (rlink_at p t l) i (link_back p false t _ within (λ _ _. e)),
-      )
+      | false ↦ λ e.
+          let side = link_beside p false t _ within (λ _ _. e) in
+          (side.place, eq-eqb (rlink_at p t l) i (link_back p false t _ within (λ _ _. e)))
     ] refl in
     let get_r = ap (λ k. get_or (items_after p t).rlink k 0) get_l ∙ row_get (rlink_at p t) _ _ both.0 in
     grind (arith, common_steps, row_len)

@@ -26,8 +26,7 @@ parts {spans} {t} {p} can =
 
 -- the next place down
 next : (first q : ℕ) → 0 < first → first ≤ q → reverse (places first (q + 1)) ≡ q ∷ reverse (places first (q - 1 + 1))
-next first q pos le = let same : q - 1 + 1 ≡ q = omega (arith, pos, le) in reverse-places _ _ le
-    ∙ ap (λ b. q ∷ reverse (places first b)) (sym same)
+next first q pos le = let same : q - 1 + 1 ≡ q = omega (arith, pos, le) in grind (arith, common_steps, reverse-places)
 
 -- what TOP tells
 told : (c : After-get_at) → (let s = span_at c.args.spans.now c.args.p in
