@@ -1,5 +1,5 @@
 -- Along an option's nodes: which uses were committed where a walk over them stands, and what it finds there.
-use Rattle.std.proofs.Common.{true, false, ltb, ltb-true, ltb-false, ℕ, ◌≡◌, ◌+◌, ◌-◌, ◌<◌, ◌≤◌, List, []}
+use Rattle.std.proofs.Common.{true, false, ltb, ltb-true, ltb-false, ℕ, ◌≡◌, ◌+◌, ◌-◌, ◌<◌, ◌≤◌, List}
 use Rattle.std.proofs.Common.{length, drop, get_or, Some, refl, sym, ap, ◌∙◌, arith, subst, length-drop, length-take}
 use Rattle.std.specs.Prelude.{slice_get}
 use Rattle.std.proofs.lemmas.Option.{slice_get-get_or}
@@ -188,8 +188,7 @@ pub one_committed : {p : Puzzle} {x off : ℕ} {vs : List Use} {s : List Move} (
     j ≡ top_at p now.trail q → Commits now q j new → Committed p off vs s room new (q + 1)
 one_committed {p} {x} {off} {vs} {s} now new {room} {q} n same big is made =
     let done = made x n.u (ap (λ a. slice_get (layout a) q) same ∙ n.node) (n.item ∙ sym is) in
-    let trail = ap (λ (d : Dancing). d.trail) done ∙ ap (λ a. after_use a n.u now.trail) same in
-    grind (arith, common_steps)
+    grind (arith, common_steps, ap (λ (d : Dancing). d.trail) done ∙ ap (λ a. after_use a n.u now.trail) same)
 
 -- at the end
 pub whole : (p : Puzzle) (room : ℕ) (now : Linked) {t : List Move} → now.puzzle ≡ p → now.room ≡ room →

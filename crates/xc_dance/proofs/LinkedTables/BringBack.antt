@@ -11,11 +11,11 @@ use Rattle.std.proofs.lemmas.Option.{slice_get_within}
 use Rattle.std.proofs.Math.Bool.{or-true}
 use Rattle.xc_input.specs.Problem.{Puzzle, item_count, uses_of}
 use Rattle.xc_dance.specs.declared.links.nodes.Nodes.{Nodes}
-use Rattle.xc_dance.specs.Fields.{Node, layout, link_place, is_in, own}
+use Rattle.xc_dance.specs.Fields.{Node, layout, link_place, is_in}
 use Rattle.xc_dance.specs.inner.Links.Lines.{Line}
 use Rattle.xc_dance.specs.inner.Links.Steps.{relinked, unhidden, CanUnhide, CanUnhideAll, CanUnhideNode, others_of}
 use Rattle.xc_dance.specs.inner.Links.Steps.{unhide_costs}
-use Rattle.xc_dance.specs.inner.Links.Cells.{fixed_up, fixed_down, top_in, nodes_from, ulink_in, dlink_in, color_in}
+use Rattle.xc_dance.specs.inner.Links.Cells.{fixed_up, fixed_down, top_in, nodes_from, dlink_in, color_in}
 use Rattle.xc_dance.specs.inner.Links.Cells.{line_of}
 use Rattle.xc_dance.specs.inner.Links.Laid.{IsName, IsLaid, Placed}
 use Rattle.xc_dance.specs.declared.dance.Move.{Move}
@@ -201,7 +201,6 @@ opened_open {p} {t} {spans} {i} {ln} {o} {os} legal fit opened o_pos named withi
     let laid = fit.laid in
     let js = other_items p o i in
     let x = link_place p i o in
-    let t0 : Nodes = nodes_from p ln col in
     let back = reverse js in
     let apart : AllApart back = apart_reverse js (others_apart p o i fit.fit) in
     let comes : (j : ℕ) → leaves p col i j o ≡ true → 0 < j → j ≤ item_count p → j ≢ i
@@ -244,7 +243,7 @@ opened_open {p} {t} {spans} {i} {ln} {o} {os} legal fit opened o_pos named withi
     record {
       ln1 = ln1;
       can = grind (arith, common_steps, can_unhide_node, map_reverse);
-      done = ap (fold unhidden t0) nodes ∙ w.done;
+      done = ap (fold unhidden (nodes_from p ln col)) nodes ∙ w.done;
       own = grind (arith, common_steps, out_of, own_apart);
       cost = grind (arith, common_steps, costs-are, others_are, unhidden_color, unmarked-reverse, unmarked_items);
       others = λ j pos le ne. elim (leaves p col i j o) as
@@ -270,12 +269,11 @@ by_opened : {p : Puzzle} {t : List Move} {spans : List Span} {covered : Bool} {i
     → BringingBack p t covered i ln (o ∷ os) → Opened p t spans covered i ln o os
     → BringBackStep p t spans covered i ln o os
 by_opened {p} {t} {covered} {i} {ln} {o} {os} fit pos le within h m1 =
-    let col = color_in p t in
     let laid = fit.laid in
     let x = link_place p i o in
     let l : Line = line_of p t i in
     let ln1 : ℕ → Line = m1.ln1 in
-    let t1 : Nodes = nodes_from p ln1 col in
+    let t1 : Nodes = nodes_from p ln1 (color_in p t) in
     let st : Stands (listed_numbers p t i) o = stands_in _ _ within in
     let m : IsMember p i l o = member _ _ _ _ _ _ pos le (subst (IsGood p i l) st.is (all_good _ t fit.fit i pos le)) in
     let down_is : (ln1 i).down o ≡ l.down o = ap (λ (k : Line). k.down o) m1.own ∙ h.own_down o in

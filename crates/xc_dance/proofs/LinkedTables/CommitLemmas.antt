@@ -1,5 +1,5 @@
 -- Which node is which use, and what stands below a node.
-use Rattle.std.proofs.Common.{Bool, Some, ap₂, subst, le-leb, ◌≡◌, ℕ, ◌<◌, ◌⊎◌, inl, inr, true, false}
+use Rattle.std.proofs.Common.{Bool, Some, subst, le-leb, ◌≡◌, ℕ, ◌<◌, ◌⊎◌, inl, inr, true}
 use Rattle.std.proofs.Common.{cond, eqb, List, ◌∷◌, length, get_or, refl, ap, sym, ◌∙◌, arith}
 use Rattle.std.specs.Prelude.{is_some, slice_get, Contains, unwrap_or}
 use Rattle.std.proofs.lemmas.Grind.{common_steps}
@@ -17,7 +17,7 @@ use Rattle.xc_dance.specs.inner.Links.Cells.{color_in, dlink_in, line_of, nodes_
 use Rattle.xc_dance.specs.inner.Links.Laid.{IsLaid, IsName}
 use Rattle.xc_dance.specs.inner.Links.Answered.{named, IsNodeOf}
 use Rattle.xc_dance.proofs.LinkedTables.NodeOptions.{own_down, use_down, node_within, contained}
-use Rattle.xc_dance.proofs.LinkedTables.GoodLines.{numbers_named}
+use Rattle.xc_dance.proofs.LinkedTables.GoodLines.{Named, numbers_named}
 use Rattle.xc_dance.proofs.LinkedTables.Sweep.{in_above}
 use Rattle.xc_dance.proofs.LinkedTables.MarkedNodes.{open_unmarked}
 use Rattle.xc_dance.proofs.LinkedTables.UsePlaces.{held_of}
@@ -25,14 +25,10 @@ use Rattle.xc_dance.proofs.MoveLemmas.Members.{element_of}
 use Rattle.xc_dance.proofs.MoveLemmas.Shortened.{rises_listed}
 use Rattle.xc_dance.specs.declared.links.nodes.TheConstants.{MARK}
 
--- a number of an item's list is an option that holds the item
-in_list_held : (p : Puzzle) (t : List Move) (i x : ℕ) → is_in x (listed_numbers p t i) ≡ true →
-    is_some (colour_in (uses_of p x) i) ≡ true
-in_list_held p t i x e = grind (arith, common_steps, element_of, numbers_named, e)
-
 pub in_list_name : (p : Puzzle) (t : List Move) (i x : ℕ) → is_in x (listed_numbers p t i) ≡ true → (0 < x)
     × (is_some (colour_in (uses_of p x) i) ≡ true)
-in_list_name p t i x e = (in_above _ _ _ (rises_listed p t i) e, in_list_held p t i x e)
+in_list_name p t i x e =
+    (in_above _ _ _ (rises_listed p t i) e, element_of (Named p i) _ _ (numbers_named p t i) e)
 
 listed_name : (p : Puzzle) (t : List Move) (i : ℕ) {x : ℕ} → (x ≡ 0) ⊎ Contains (listed_numbers p t i) x → IsName p i x
 listed_name p t i (inl z) = inl z

@@ -1,7 +1,7 @@
 -- The nodes of uses enter the lists of their items one by one, until the table is that of no moves.
 use Rattle.std.proofs.Common.{◌≡◌, ℕ, ◌+◌, ◌<◌, ◌≤◌, List, [], ◌∷◌, ◌++◌, length, fold, refl, sym, subst, ◌∙◌, arith}
-use Rattle.std.proofs.Common.{zero, suc, true, false, cond, eqb, map, take, Some, ap, eqb-true, eq-eqb, inl, Bool}
-use Rattle.std.proofs.Common.{get_or, set, ne_eqb, filter, inr}
+use Rattle.std.proofs.Common.{zero, suc, true, false, cond, eqb, map, take, Some, ap, eqb-true, eq-eqb, inl}
+use Rattle.std.proofs.Common.{get_or, set, ne_eqb}
 use Rattle.std.specs.List.{AllByRecursion, range_with_len}
 use Rattle.std.specs.Prelude.{slice_get, is_some, flat_map, slice_index}
 use Rattle.std.proofs.lemmas.Grind.{common_steps}
@@ -12,8 +12,7 @@ use Rattle.std.proofs.lemmas.Option.{same_Some, slice_get_within}
 use Rattle.std.proofs.Math.Bool.{or-true}
 use Rattle.std.proofs.Math.Path.{fun_ext}
 use Rattle.xc_input.specs.declared.problem.Use.{Use}
-use Rattle.xc_input.specs.Problem.{Puzzle, Numbered, numbered_options, holding, colour_in, item_count, IsWithinLimits}
-use Rattle.xc_input.specs.Problem.{uses_of}
+use Rattle.xc_input.specs.Problem.{Puzzle, Numbered, holding, colour_in, item_count, IsWithinLimits}
 use Rattle.xc_dance.specs.inner.Lists.Rising.{Rises}
 use Rattle.xc_dance.specs.inner.Links.Lines.{Line}
 use Rattle.xc_dance.specs.inner.Links.FirstNodes.{blank, entered, blanks}
@@ -58,10 +57,6 @@ last_from P l [] h a = h
 last_from P l (x ∷ xs) h a =
     last_from P (grown l x) xs (subst P (sym (put_at-same (put_at l.up x (l.up 0)) 0 x 0 refl)) a.0) a.1
 
--- the last member is one of them, if there is one
-pub grown_last : (P : ℕ → Type 0) (xs : List ℕ) → P 0 → AllByRecursion P xs → P ((grown_all xs).up 0)
-grown_last P xs h a = last_from P _ _ h a
-
 -- a list that rises to its last
 pub last_high : (l : Line) (a : ℕ) (xs : List ℕ) → IsLinkedFrom l a xs → a ≤ l.up 0
 last_high l a [] h = let e = h.1 in omega (arith, e)
@@ -86,9 +81,6 @@ linked_from l xs (y ∷ ys) h r none =
     subst (IsLinkedFrom (fold grown (grown l y) ys) 0) (append_assoc xs (y ∷ []) ys)
     (linked_from (grown l y) (xs ++ y ∷ []) ys (linked_more l 0 y xs h lt (none y lt))
     (subst (Rises 0) (sym (append_assoc xs (y ∷ []) ys)) r) (λ x high. grind (arith, common_steps, put_at-other)))
-
-pub grown_linked : (xs : List ℕ) → Rises 0 xs → IsLinkedFrom (grown_all xs) 0 xs
-grown_linked xs r = linked_from blank [] _ (refl, refl) r (λ x h. refl)
 
 -- ---- the options whose nodes of an item are among the first nodes
 
@@ -233,18 +225,14 @@ entered-is p ln col q o u laid e here head last item =
 
 use_name : (p : Puzzle) (k o j : ℕ) (u : Use) → IsFit p → slice_get (layout p) k ≡ Some (used o u) → u.item ≡ j
     → IsName p j o
-use_name p k o j u fit e same =
-    let nodes = (is_laid _ fit).nodes in
-    grind (arith, common_steps)
+use_name p k o j u fit e same = grind (arith, common_steps, (is_laid _ fit).nodes)
 
 -- an item's line once one node more is entered
 line_then : (p : Puzzle) (q : ℕ) {o : ℕ} {u : Use} → slice_get (layout p) q ≡ Some (used o u) → (k : ℕ) →
     with_line (lines_of (take q (layout p))) u.item (grown (lines_of (take q (layout p)) u.item) o) k ≡ lines_of
     (take (q + 1) (layout p)) k
 line_then p q {o} {u} e k =
-    let next : held k (take (q + 1) (layout p)) ≡ held k (take q (layout p)) ++ cond (eqb u.item k) (o ∷ []) [] =
-    held_more k q (layout p) e in
-    grind (arith, common_steps, append-nil, eq-eqb, eqb-false, eqb-true, grown_more, ne_eqb)
+    grind (arith, common_steps, append-nil, eq-eqb, eqb-false, eqb-true, grown_more, ne_eqb, held_more k q (layout p) e)
 
 -- what entering the node at q asks, and what it gives
 pub record UseStep (p : Puzzle) (t : Nodes) (q o : ℕ) (u : Use) : Type 0 where
@@ -269,7 +257,7 @@ use_step p q o u fit limits e =
     let long : length tops ≡ length (layout p) = length-map (layout p) (top_in ln) in
     let here = laid.there j o range.0 range.1 (use_name p q o j u fit e refl) in
     let head = laid.there j 0 range.0 range.1 (inl refl) in
-    let name : IsName p j ((ln j).up 0) = grown_last (IsName p j) (held j ns) (inl refl) (held_each (IsName p j) j ns
+    let name : IsName p j ((ln j).up 0) = last_from (IsName p j) blank _ (inl refl) (held_each (IsName p j) j ns
     (λ k x v f same. use_name p k x j v fit (get_taken q k (layout p) (used x v) f) same)) in
     let last = laid.there j ((ln j).up 0) range.0 range.1 name in
     let is_i : get_or tops q 0 ≡ j = get_map (top_in ln) (layout p) q (used o u) e in
@@ -305,7 +293,7 @@ spacer_top p ln col q n e = get_map (top_in ln) (layout p) q _ e
 along : (xs : List ℕ) → Rises 0 xs → Swept (grown_all xs) (grown_all xs) 0 xs xs
 along xs r =
     let l = grown_all xs in
-    let s = swept _ _ _ (λ x. false) (grown_linked _ r) in
+    let s = swept _ _ _ (λ x. false) (linked_from blank [] xs (refl, refl) r (λ x h. refl)) in
     subst (λ ks. Swept l l 0 xs ks) (stay_all xs)
     (subst (λ ys. Swept l (cuts l ys) 0 xs (stay (λ x. false) xs)) (leave_none xs) s)
 

@@ -1,7 +1,7 @@
 -- The tables as they are laid: columns that are filled, the nodes, the items and their rings.
-use Rattle.std.proofs.Common.{◌≡◌, ℕ, zero, suc, ◌+◌, ◌<◌, ◌≤◌, List, [], ◌∷◌, ◌++◌, take, length, map, set, replicate}
-use Rattle.std.proofs.Common.{Some, refl, ap, sym, ◌∙◌, arith, ◌-◌, ap₂, lt-ltb, ne_eqb, ◌≢◌, true, false, not, cond}
-use Rattle.std.proofs.Common.{ltb, nat_lt, filter, find, le-ltb, ltb-true, ltb-false, le-leb}
+use Rattle.std.proofs.Common.{◌≡◌, ℕ, zero, suc, ◌+◌, ◌<◌, ◌≤◌, List, [], ◌∷◌, ◌++◌, length, map, set, replicate}
+use Rattle.std.proofs.Common.{Some, refl, ap, sym, ◌∙◌, arith, ◌-◌, ap₂, lt-ltb, ne_eqb, ◌≢◌, true, false, not}
+use Rattle.std.proofs.Common.{ltb, filter, le-ltb, ltb-true, ltb-false, le-leb}
 use Rattle.xc_input.specs.declared.problem.Bounds.{Bounds}
 use Rattle.std.specs.Prelude.{slice_get, unwrap_or}
 use Rattle.std.specs.List.{range_with_len, AllByRecursion}
@@ -16,10 +16,8 @@ use Rattle.xc_input.specs.Problem.{AreSoundBounds}
 use Rattle.std.proofs.lemmas.List.{length-map, length-take-le, map-append}
 use Rattle.std.proofs.lemmas.Option.{slice_get_within}
 use Rattle.std.proofs.Math.Seq.{take-length}
-use Rattle.xc_dance.specs.inner.Links.Columns.{Laying}
 use Rattle.xc_dance.specs.inner.Links.FirstNodes.{filled, blanks, rows_of, no_rows, laid_to, with_row}
 use Rattle.xc_dance.proofs.Copied.{take_more-get}
-use Rattle.xc_dance.specs.declared.links.nodes.Nodes.{Nodes}
 use Rattle.xc_dance.specs.declared.links.nodes.Row.{Row}
 use Rattle.xc_dance.specs.Fields.{Node, unused, own, spacer, layout, spacer_place, last_below, first_above, first_of}
 use Rattle.xc_dance.specs.Fields.{last_of, ring_of, left_of, right_of}
@@ -163,13 +161,11 @@ none_below other i a (suc n) le = rw (le-ltb a i le) (none_below other i (a + 1)
 below_in : (other i a n : ℕ) → a < i → i ≤ a + n → last_below other i (range_with_len a n) ≡ i - 1
 below_in other i a zero lt le = absurd (omega (arith, lt, le))
 below_in other i a (suc n) lt le =
-    let rest = below_in a i (a + 1) n in
-    grind (arith, common_steps, last_below-more, ltb-true, ltb-false, none_below)
+    grind (arith, common_steps, last_below-more, ltb-true, ltb-false, none_below, below_in a i (a + 1) n)
 
 above_in : (other i a n : ℕ) → a ≤ i + 1 → i + 1 < a + n → first_above other i (range_with_len a n) ≡ i + 1
 above_in other i a zero le lt = absurd (omega (arith, le, lt))
-above_in other i a (suc n) le lt =
-    let rest = above_in other i (a + 1) n in grind (arith, common_steps, ltb-true, ltb-false)
+above_in other i a (suc n) le lt = grind (arith, common_steps, ltb-true, ltb-false, above_in other i (a + 1) n)
 
 none_above : (other i a n : ℕ) → a + n ≤ i + 1 → first_above other i (range_with_len a n) ≡ other
 none_above other i a zero le = refl
@@ -203,10 +199,6 @@ inner_right p i ne le = rw (ne_eqb i 0 ne, le-leb i (item_count p) le) refl
 end_left : (p : Puzzle) (i : ℕ) → item_count p < i
     → llink_at p [] i ≡ last_of (item_count p + 1) (range_with_len (primary_count p + 1) p.secondary)
 end_left p i lt = grind (arith, common_steps, high_ring, lt-leb, ne_eqb)
-
-end_right : (p : Puzzle) (i : ℕ) → item_count p < i
-    → rlink_at p [] i ≡ first_of (item_count p + 1) (range_with_len (primary_count p + 1) p.secondary)
-end_right p i lt = grind (arith, common_steps, high_ring, lt-leb, ne_eqb)
 
 -- a fact by which of two numbers is greater
 by_size : (P : Type 0) (m n : ℕ) → (m ≤ n → P) → (n < m → P) → P

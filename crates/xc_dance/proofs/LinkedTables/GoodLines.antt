@@ -81,14 +81,12 @@ step_open p col ln j o laid m few color =
     let tb : Nodes = nodes_from p ln col in
     let c = member_cells p col ln j o laid m in
     let linked = linked-is p col ln j o laid m in
-    let size = size_from p ln col in
     let is : hidden tb q ≡ unlinked tb q = hidden-open tb q color in
-    let item = c.item in
     record {
       can = grind (arith, common_steps);
       undone = unhidden-hidden tb q (λ e. linked);
       back = subst (λ (u : Nodes). CanUnhide u q) (sym is)
-          (CanUnhide-unlinked tb q size c.names linked (omega (arith, item, m.item.1, laid.small))
+          (CanUnhide-unlinked tb q (size_from p ln col) c.names linked (omega (arith, c.item, m.item.1, laid.small))
           (omega (arith, ap (λ k. get_or tb.top k 0) c.item ∙ c.len, few)));
       done = is ∙ unlinked-is p col ln j o laid m;
     }
@@ -149,8 +147,7 @@ each_without P (y ∷ ys) o zs h = (h.0, each_without P ys o zs h.1)
 pub good_cut : {p : Puzzle} {j : ℕ} {l : Line} (ys : List ℕ) (o : ℕ) (zs : List ℕ) → IsGood p j l (ys ++ o ∷ zs)
     → IsGood p j (cut l o) (ys ++ zs)
 good_cut {p} {j} {l} ys o zs g =
-    let rest : IsLinkedFrom (cut l o) 0 (ys ++ zs) = cut_anywhere p j l 0 ys o zs (inl refl) g.linked g.named in
-    grind (arith, common_steps, each_without, length-append)
+    grind (arith, common_steps, each_without, length-append, cut_anywhere p j l 0 ys o zs (inl refl) g.linked g.named)
 
 -- ---- all items
 
@@ -207,9 +204,8 @@ line_after p t m j ks c =
     let l : Line = cuts (line_of p t j) (filter c.test xs) in
     let s = subst (Swept (line_of p t j) l 0 xs) (sym c.stay_is) (swept _ _ _ c.test (stands p t j)) in
     let long : length (listed_numbers p t j) ≡ length (listed p t j) = length-map (listed p t j) (λ o. o.number) in
-    let long' = length-map (listed p (m ∷ t) j) (λ o. o.number) in
     let len : l.len ≡ 0 + length (stay c.test xs) = swept_len (line_of p t j) xs c.test 0 (omega (arith, long)) in
-    grind (arith, common_steps, down_after, line_is, up_after)
+    grind (arith, common_steps, down_after, line_is, up_after, length-map (listed p (m ∷ t) j) (λ o. o.number))
 
 -- ---- tables of the same lines
 

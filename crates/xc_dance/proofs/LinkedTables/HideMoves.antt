@@ -22,7 +22,7 @@ use Rattle.xc_dance.specs.inner.Links.Span.{Span}
 use Rattle.xc_dance.specs.inner.Lists.Losing.{is_kept}
 use Rattle.xc_dance.specs.Cost.{leaving, cost_of, marking}
 use Rattle.xc_dance.specs.declared.dance.Move.TheVariants.{Cover, Purify}
-use Rattle.xc_dance.specs.inner.Links.ListWalks.{left_node, back_node, with_colour, IsWalk, IsWalkBack, CanHideList}
+use Rattle.xc_dance.specs.inner.Links.ListWalks.{left_node, back_node, with_colour, CanHideList}
 use Rattle.xc_dance.specs.inner.Links.ListWalks.{CanUnhideList, walk_costs, back_costs}
 use Rattle.xc_dance.specs.inner.Links.Purifying.{purified_list, unpurified_list, CanPurify, CanUnpurify}
 use Rattle.xc_dance.specs.inner.Links.Made.{IsFitted}
@@ -92,27 +92,22 @@ follow_up p ln i a (o ∷ xs) laid pos le named h =
 pub own_placed : (p : Puzzle) (i : ℕ) → IsLaid p → 0 < i → i ≤ item_count p → Placed p i 0
 own_placed p i laid pos le = laid.there i 0 pos le (inl refl)
 
-pub long_is : {p : Puzzle} (t : List Move) {i : ℕ} → IsLaid p → 0 < i → i ≤ item_count p
-    → get_or (nodes_after p t).top i 0 ≡ length (listed_numbers p t i)
-long_is {p} t {i} laid pos le = get_len _ (line_of p t) _ laid pos le ∙ sym (length-map (listed p t i) (λ o. o.number))
+module _ {p : Puzzle} (t : List Move) {i : ℕ} (laid : IsLaid p) (pos : 0 < i) (le : i ≤ item_count p) where
+  pub long_is : get_or (nodes_after p t).top i 0 ≡ length (listed_numbers p t i)
+  long_is = get_len _ (line_of p t) _ laid pos le ∙ sym (length-map (listed p t i) (λ o. o.number))
 
-pub list_is : {p : Puzzle} (t : List Move) {i : ℕ} → IsLaid p → 0 < i → i ≤ item_count p
-    → list_of (nodes_after p t) i ≡ map (link_place p i) (listed_numbers p t i)
-list_is {p} t {i} laid pos le = ap₂ (followed (nodes_after p t).dlink) (long_is t laid pos le)
-    (get_down _ (line_of p t) _ _ (own_placed _ _ laid pos le))
-    ∙ follow_down _ (line_of p t) (line_of p t i) _ 0 _ _ laid pos le
-    (subst (AllByRecursion (Named p i)) (sym (append-nil (listed_numbers p t i))) (numbers_named p t i))
-    (subst (IsLinkedFrom (line_of p t i) 0) (sym (append-nil (listed_numbers p t i))) (stands p t i)) (λ x. refl)
+  pub list_is : list_of (nodes_after p t) i ≡ map (link_place p i) (listed_numbers p t i)
+  list_is = ap₂ (followed (nodes_after p t).dlink) (long_is) (get_down _ (line_of p t) _ _ (own_placed _ _ laid pos le))
+      ∙ follow_down _ (line_of p t) (line_of p t i) _ 0 _ _ laid pos le
+      (subst (AllByRecursion (Named p i)) (sym (append-nil (listed_numbers p t i))) (numbers_named p t i))
+      (subst (IsLinkedFrom (line_of p t i) 0) (sym (append-nil (listed_numbers p t i))) (stands p t i)) (λ x. refl)
 
-pub back_is : {p : Puzzle} (t : List Move) {i : ℕ} → IsLaid p → 0 < i → i ≤ item_count p
-    → list_back (nodes_after p t) i ≡ reverse (map (link_place p i) (listed_numbers p t i))
-back_is {p} t {i} laid pos le = ap₂ (followed (nodes_after p t).ulink) (long_is t laid pos le)
-    (get_up _ (line_of p t) _ _ (own_placed _ _ laid pos le))
-    ∙ (follow_up _ (line_of p t) _ _ _ laid pos le (numbers_named p t i) (stands p t i)).0
+  pub back_is : list_back (nodes_after p t) i ≡ reverse (map (link_place p i) (listed_numbers p t i))
+  back_is = ap₂ (followed (nodes_after p t).ulink) (long_is) (get_up _ (line_of p t) _ _ (own_placed _ _ laid pos le))
+      ∙ (follow_up _ (line_of p t) _ _ _ laid pos le (numbers_named p t i) (stands p t i)).0
 
-pub in_table : {p : Puzzle} (t : List Move) {i : ℕ} → IsLaid p → 0 < i → i ≤ item_count p
-    → i < length (nodes_after p t).top
-in_table t laid pos le = grind (arith, common_steps, slice_get_within)
+  pub in_table : i < length (nodes_after p t).top
+  in_table = grind (arith, common_steps, slice_get_within)
 
 pub few_in : {p : Puzzle} (t : List Move) {i : ℕ} → IsLaid p → IsFit p → 0 < i → i ≤ item_count p
     → get_or (nodes_after p t).top i 0 < 2 ^ 30
@@ -173,9 +168,8 @@ module _ (p : Puzzle) (t : List Move) (spans : List Span) (m : Move) (i : ℕ) (
 
   hides_cost : step_costs p (color_in p t) i keep (listed_numbers p t i) ≡ hide_writes p t m i keep
   hides_cost =
-      let all = leaving_is _ _ _ _ hides_cut in
       let split = costs_split p (color_in p t) i keep (listed_numbers p t i) in
-      omega (arith, all, split, exchanged _ (color_in p t) i going f.fit)
+      omega (arith, leaving_is _ _ _ _ hides_cut, split, exchanged _ (color_in p t) i going f.fit)
 
   -- the walk down i's list and the walk back lead to the tables after the move m, and to those before it
   hide_step : Listed p (color_in p t) start spans i keep (line_of p t) 0 (listed_numbers p t i) (nodes_after p (m ∷ t))
@@ -274,13 +268,12 @@ purify_made p t spans i c legal f pos le opened =
     let laid = f.laid in
     let w = walk_made p t spans (Purify i c) i (Some c) (purify_start p t i c) legal f pos le opened
     (purify_hides p t i c legal laid pos le opened) in
-    let t0 : Nodes = nodes_after p t in
     let t1 : Nodes = nodes_from p (line_of p t) (purify_start p t i c) in
     let next : Nodes = nodes_after p (Purify i c ∷ t) in
     let start = coloured_is p (color_in p t) (line_of p t) i 0 c laid (own_placed p i laid pos le) in
     let within : i < length (layout p) = slice_get_within (layout p) i (own i) (laid.head i pos le) in
     let long : length (map (color_in p t) (layout p)) ≡ length (layout p) = length-map (layout p) (color_in p t) in
     let long' = length-map (layout p) (purify_start p t i c) in
-    let none : get_or t0.color i 0 ≡ 0 = get_map (color_in p t) (layout p) i (own i) (laid.head i pos le)
+    let none : get_or (nodes_after p t).color i 0 ≡ 0 = get_map (color_in p t) (layout p) i (own i) (laid.head i pos le)
     ∙ ap (λ o. unwrap_or o 0) (open_unpurified i t opened) in
     grind (arith, common_steps, same_nodes, written_back, w.undone, kept_marked p t i c legal opened)

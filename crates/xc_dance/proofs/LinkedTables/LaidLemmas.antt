@@ -29,10 +29,9 @@ uses_from : (all os : List (List Use)) (n : ℕ) → ((j : ℕ) → slice_get al
 uses_from all [] n h = tt
 uses_from all (us ∷ os) n h =
     let z : n ≡ n + 0 = omega arith in
-    let here : numbered_get all (n + 1) ≡ Some us = numbered_at _ (n + 1) n refl ∙ ap (slice_get all) z ∙ h 0 in
     let next : (j : ℕ) → (n + 1) + j ≡ n + suc j = λ j. omega arith in
     let rest = uses_from all os (n + 1) (λ j. ap (slice_get all) (next j) ∙ h (suc j)) in
-    ((omega arith, ap (λ o. unwrap_or o []) here), rest)
+    ((omega arith, ap (λ o. unwrap_or o []) (numbered_at _ (n + 1) n refl ∙ ap (slice_get all) z ∙ h 0)), rest)
 
 pub options_numbered : (p : Puzzle) → AllByRecursion (IsOption p) (numbered_options p)
 options_numbered p =

@@ -2,7 +2,7 @@
 -- leave.
 use Rattle.std.proofs.Common.{◌≡◌, ℕ, ◌<◌, ◌≤◌, true, false, not, cond, ◌||◌, eqb, List, [], ◌∷◌, map, Option, Some}
 use Rattle.std.proofs.Common.{None, refl, ap, sym, ◌∙◌, arith, eqb-true, eq-eqb, ne_eqb, ◌≢◌, ◌&&◌, filter, zero, suc}
-use Rattle.std.proofs.Common.{◌+◌, Bool, length, ap₂, ◌-◌, ◌*◌, drop, take}
+use Rattle.std.proofs.Common.{◌+◌, Bool, length, ap₂, ◌*◌, drop, take}
 use Rattle.std.specs.Prelude.{is_some, sum_by}
 use Rattle.std.specs.List.{AllByRecursion, range_with_len}
 use Rattle.std.proofs.lemmas.Grind.{common_steps}
@@ -31,7 +31,7 @@ use Rattle.xc_dance.proofs.LinkedTables.LinkColumns.{Stands}
 use Rattle.xc_dance.proofs.MoveLemmas.OpenLists.{listed_open}
 use Rattle.xc_dance.proofs.LinkedTables.GoodLines.{Named, numbers_named, SameCut}
 use Rattle.xc_dance.proofs.LinkedTables.OneOption.{is_mark, AreReady, AllApart, gone_count}
-use Rattle.xc_dance.proofs.LinkedTables.OneList.{own_color, OwnReady, EachReady, leavers, step_costs}
+use Rattle.xc_dance.proofs.LinkedTables.OneList.{OwnReady, EachReady, leavers, step_costs}
 use Rattle.xc_dance.proofs.LinkedTables.OtherItems.{in_others, others_apart, item_range, own_apart, leaves, out_of}
 use Rattle.xc_dance.proofs.MoveLemmas.Shortened.{rises_listed}
 use Rattle.xc_dance.proofs.MoveLemmas.Members.{element_of, in_filter, same_members, none_in}
@@ -46,8 +46,7 @@ ready_by : (p : Puzzle) (col : Node → ℕ) (lists : ℕ → List ℕ) (o : ℕ
 ready_by p col lists o [] h apart = tt
 ready_by p col lists o (j ∷ js) h apart =
     let here = h j (is_in-first j js) in
-    let rest = ready_by p col lists o js (λ k e. h k (in_more j _ _ e)) apart.1 in
-    (here.0, here.1, here.2, here.3, apart.0, rest)
+    (here.0, here.1, here.2, here.3, apart.0, ready_by p col lists o js (λ k e. h k (in_more j _ _ e)) apart.1)
 
 eqb_turn : (a b : ℕ) → eqb a b ≡ eqb b a
 eqb_turn a b = grind (arith, common_steps, eq-eqb, eqb-false, eqb-true, ne_eqb)
@@ -282,12 +281,11 @@ listed_options p t i legal opened = grind (arith, common_steps, each-filter, lis
 
 -- ---- Cover
 
-pub leavers_all : (p : Puzzle) (i : ℕ) (xs : List ℕ) → leavers p i None xs ≡ xs
-leavers_all p i xs = stay_all _
-
 pub takes_cover : (p : Puzzle) (t : List Move) (i : ℕ)
     → TakesOut p t (Cover i) i (leavers p i None (listed_numbers p t i))
-takes_cover p t i = grind (arith, common_steps, leavers_all, ne_eqb, takes_listed)
+takes_cover p t i =
+    let all : leavers p i None (listed_numbers p t i) ≡ listed_numbers p t i = stay_all _ in
+    grind (arith, common_steps, ne_eqb, takes_listed)
 
 pub own_cover : (p : Puzzle) (t : List Move) (i : ℕ) → listed_numbers p (Cover i ∷ t) i ≡ listed_numbers p t i
 own_cover p t i =
@@ -322,16 +320,14 @@ take_numbers : (os : List Numbered) → map (λ o. o.number) (take 1 os) ≡ fir
 take_numbers [] = refl
 take_numbers (o ∷ os) = refl
 
-pub takes_tweak : (p : Puzzle) (t : List Move) (i : ℕ) → is_open i t ≡ true
-    → TakesOut p t (Tweak i) i (first_alone (listed_numbers p t i))
-takes_tweak p t i opened =
-    takes_listed p t (Tweak i) i _ (take_numbers (listed p t i))
-    (λ j ne. grind (arith, common_steps, eq-eqb, eqb-false, eqb-true, false≢true, ne_eqb))
+module _ (p : Puzzle) (t : List Move) (i : ℕ) where
+  pub takes_tweak : is_open i t ≡ true → TakesOut p t (Tweak i) i (first_alone (listed_numbers p t i))
+  takes_tweak opened = takes_listed p t (Tweak i) i _ (take_numbers (listed p t i))
+      (λ j ne. grind (arith, common_steps, eq-eqb, eqb-false, eqb-true, false≢true, ne_eqb))
 
--- a closed item's Tweak takes none out of other lists
-pub tweak_others : (p : Puzzle) (t : List Move) (i j : ℕ) → is_open i t ≡ false → j ≢ i
-    → listed_numbers p (Tweak i ∷ t) j ≡ listed_numbers p t j
-tweak_others p t i j shut ne = grind (arith, common_steps, ne_eqb)
+  -- a closed item's Tweak takes none out of other lists
+  pub tweak_others : (j : ℕ) → is_open i t ≡ false → j ≢ i → listed_numbers p (Tweak i ∷ t) j ≡ listed_numbers p t j
+  tweak_others j shut ne = grind (arith, common_steps, ne_eqb)
 
 pub tweak_own : (p : Puzzle) (t : List Move) (i : ℕ) → listed_numbers p (Tweak i ∷ t) i ≡ drop 1 (listed_numbers p t i)
 tweak_own p t i = grind (arith, common_steps, drop_numbers, eq-eqb)

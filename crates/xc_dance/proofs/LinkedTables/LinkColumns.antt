@@ -26,27 +26,24 @@ use Rattle.xc_dance.specs.declared.links.nodes.TheConstants.{MARK, SPACER}
 -- a write to one cell is one to the list of the cells' values, and none to other values beside them
 pub ruleset one_written = (map-set, map-set_same)
 
-pub get_map : {X : Type 0} (f : X → ℕ) (ns : List X) (k : ℕ) (n : X) → slice_get ns k ≡ Some n
-    → get_or (map f ns) k 0 ≡ f n
-get_map f [] k n e = cc
-get_map f (m ∷ ns) zero n e = ap f (same_Some m n e)
-get_map f (m ∷ ns) (suc k) n e = get_map f ns k n e
+module _ {X : Type 0} (f : X → ℕ) where
+  pub get_map : (ns : List X) (k : ℕ) (n : X) → slice_get ns k ≡ Some n → get_or (map f ns) k 0 ≡ f n
+  get_map [] k n e = cc
+  get_map (m ∷ ns) zero n e = ap f (same_Some m n e)
+  get_map (m ∷ ns) (suc k) n e = get_map ns k n e
 
-pub map_same : {X : Type 0} (f g : X → ℕ) (ns : List X) → ((q : ℕ) (n : X) → slice_get ns q ≡ Some n → g n ≡ f n)
-    → map g ns ≡ map f ns
-map_same f g [] h = refl
-map_same f g (m ∷ ns) h = ap₂ (λ x xs. x ∷ xs) (h 0 m refl) (map_same f g ns (λ q n e. h (suc q) n e))
+  pub map_same : (g : X → ℕ) (ns : List X)
+      → ((q : ℕ) (n : X) → slice_get ns q ≡ Some n → g n ≡ f n) → map g ns ≡ map f ns
+  map_same g [] h = refl
+  map_same g (m ∷ ns) h = ap₂ (λ x xs. x ∷ xs) (h 0 m refl) (map_same g ns (λ q n e. h (suc q) n e))
 
-pub map_put : {X : Type 0} (f g : X → ℕ) (ns : List X) (k v : ℕ)
-    → ((q : ℕ) (n : X) → slice_get ns q ≡ Some n → q ≢ k → g n ≡ f n)
-    → ((n : X) → slice_get ns k ≡ Some n → g n ≡ v)
-    → map g ns ≡ set (map f ns) k v
-map_put f g [] k v rest here = refl
-map_put f g (m ∷ ns) zero v rest here =
-    ap₂ (λ x xs. x ∷ xs) (here m refl) (map_same f g ns (λ q n e. rest (suc q) n e (λ z. omega (arith, z))))
-map_put f g (m ∷ ns) (suc k) v rest here =
-    ap₂ (λ x xs. x ∷ xs) (rest 0 m refl (λ z. omega (arith, z)))
-    (map_put f g ns k v (λ q n e ne. rest (suc q) n e (λ z. ne (omega (arith, z)))) (λ n e. here n e))
+  pub map_put : (g : X → ℕ) (ns : List X) (k v : ℕ) → ((q : ℕ) (n : X) → slice_get ns q ≡ Some n → q ≢ k → g n ≡ f n)
+      → ((n : X) → slice_get ns k ≡ Some n → g n ≡ v) → map g ns ≡ set (map f ns) k v
+  map_put g [] k v rest here = refl
+  map_put g (m ∷ ns) zero v rest here =
+      ap₂ (λ x xs. x ∷ xs) (here m refl) (map_same g ns (λ q n e. rest (suc q) n e (λ z. omega (arith, z))))
+  map_put g (m ∷ ns) (suc k) v rest here = ap₂ (λ x xs. x ∷ xs) (rest 0 m refl (λ z. omega (arith, z)))
+      (map_put g ns k v (λ q n e ne. rest (suc q) n e (λ z. ne (omega (arith, z)))) (λ n e. here n e))
 
 -- ---- hide and unhide undo one another
 
@@ -150,9 +147,6 @@ set_link p f fixed j x v laid h = map_put (λ n. link_at p f (fixed n) (slot_of 
 
 -- ---- counts
 
-own_slot : {n : Node} {j : ℕ} → n ≡ own j → slot_of n ≡ Some (j, 0)
-own_slot e = ap slot_of e
-
 top_other : (ln : ℕ → Line) (j : ℕ) (l : Line) (n : Node) → (n ≡ own j → ⊥) → top_in (with_line ln j l) n ≡ top_in ln n
 top_other ln j l (own i) ne = let no : eqb i j ≡ false = ne_eqb i j (λ e. ne (ap own e)) in rw no refl
 top_other ln j l _ ne = refl
@@ -160,7 +154,7 @@ top_other ln j l _ ne = refl
 pub set_top : (p : Puzzle) (ln : ℕ → Line) (j : ℕ) (l : Line) → IsLaid p → 0 < j → j ≤ item_count p
     → map (top_in (with_line ln j l)) (layout p) ≡ set (map (top_in ln) (layout p)) j l.len
 set_top p ln j l laid pos le = map_put (top_in ln) (top_in (with_line ln j l)) (layout p) j l.len
-    (λ q n at ne. top_other ln j l n (λ e. ne (sym (laid.unique q n j 0 at (own_slot e))))) (λ n at.
+    (λ q n at ne. top_other ln j l n (λ e. ne (sym (laid.unique q n j 0 at (ap slot_of e))))) (λ n at.
     grind (arith, common_steps, eq-eqb, eqb-true, ne_eqb, same_at))
 
 pub get_len : (p : Puzzle) (ln : ℕ → Line) (j : ℕ) → IsLaid p → 0 < j → j ≤ item_count p
@@ -242,9 +236,6 @@ without_at (y ∷ ys) q zs r ne (a ∷ as') bs e =
 pub Stands-without : (ys : List ℕ) (q : ℕ) (zs : List ℕ) (r : ℕ) → r ≢ q → Stands (ys ++ q ∷ zs) r → Stands (ys ++ zs) r
 Stands-without ys q zs r ne s = without_at _ _ _ _ ne _ _ s.is
 
-HasSize-unlinked : (t : Nodes) (q : ℕ) → HasSize t (length t.top) → HasSize (unlinked t q) (length (unlinked t q).top)
-HasSize-unlinked t q h = grind (arith, common_steps)
-
 -- a node that has just left can be put back
 pub record CanRelink (t : Nodes) (q : ℕ) : Type 0 where
   pub size : HasSize t (length t.top)
@@ -254,7 +245,7 @@ pub record CanRelink (t : Nodes) (q : ℕ) : Type 0 where
 pub CanRelink-unlinked : (t : Nodes) (q : ℕ) → HasSize t (length t.top) → NamesPlaces t q → IsLinked t q
     → get_or t.top (get_or t.top q 0) 0 < 2 ^ 31 → CanRelink (unlinked t q) q
 CanRelink-unlinked t q size names linked few =
-    grind (arith, common_steps, HasSize-unlinked, get_or-set_kept, get_or-set_same)
+    grind (arith, common_steps, get_or-set_kept, get_or-set_same)
 
 -- so a step of unhide may be made there
 pub CanUnhide-unlinked : (t : Nodes) (q : ℕ) → HasSize t (length t.top) → NamesPlaces t q → IsLinked t q

@@ -2,7 +2,7 @@
 use Rattle.std.proofs.Common.{◌≡◌, ℕ, ◌<◌, ◌⊎◌, inl, inr, Bool, true, false, not, cond, ◌&&◌, ◌||◌, eqb, List, []}
 use Rattle.std.proofs.Common.{◌∷◌, map, get_or, Some, None, refl, ap, ap₂, sym, subst, ◌∙◌, arith, eqb-true, eq-eqb}
 use Rattle.std.proofs.Common.{ne_eqb, Option}
-use Rattle.std.specs.Prelude.{is_some, slice_get, nat_lt}
+use Rattle.std.specs.Prelude.{is_some, slice_get}
 use Rattle.std.specs.List.{AllByRecursion}
 use Rattle.std.proofs.lemmas.Grind.{common_steps}
 use Rattle.std.proofs.lemmas.Bool.{false≢true, eqb-false}
@@ -12,8 +12,8 @@ use Rattle.xc_input.specs.declared.problem.Use.{Use}
 use Rattle.xc_input.specs.Problem.{Puzzle, Numbered, numbered_options, colour_in, colour_at, uses_of, holds}
 use Rattle.xc_input.specs.Problem.{holding}
 use Rattle.xc_dance.specs.declared.dance.Move.{Move}
-use Rattle.xc_dance.specs.declared.dance.Move.TheVariants.{Cover, Purify, Tweak, Spend}
-use Rattle.xc_dance.specs.Moves.{listed, is_open, is_covered, purified, AreLegal, listed_numbers, agrees}
+use Rattle.xc_dance.specs.declared.dance.Move.TheVariants.{Cover, Purify, Spend}
+use Rattle.xc_dance.specs.Moves.{is_open, is_covered, purified, AreLegal, listed_numbers, agrees}
 use Rattle.xc_dance.specs.Fields.{Node, unused, own, spacer, used, layout, link_place, is_in, is_marked}
 use Rattle.xc_dance.specs.inner.Left.{left}
 use Rattle.xc_dance.specs.inner.Links.Cells.{color_in, slot_of}
@@ -26,7 +26,6 @@ use Rattle.xc_dance.proofs.LinkedTables.LinkColumns.{get_map, Stands}
 use Rattle.xc_dance.proofs.MoveLemmas.OpenLists.{listed_open}
 use Rattle.xc_dance.proofs.MoveLemmas.LeftOptions.{left_free, left_agrees, kept}
 use Rattle.xc_dance.proofs.LinkedTables.Sweep.{is_in-first, not_in, with_color}
-use Rattle.xc_dance.proofs.LinkedTables.GoodLines.{Named}
 use Rattle.xc_dance.proofs.LinkedTables.PlaceLemmas.{held_node}
 use Rattle.xc_dance.proofs.LinkedTables.OneOption.{is_mark}
 use Rattle.xc_dance.proofs.LinkedTables.LaidLemmas.{IsOption, options_numbered}
@@ -91,15 +90,12 @@ purified_marked p (Purify k d ∷ t) j c legal e =
     elim (eqb j k) as (λ b. eqb j k ≡ b → cond b (Some d) (purified j t) ≡ Some c
     → AllByRecursion (λ o. holds o j ≡ true → is_marked p (Purify k d ∷ t) j o.number c ≡ true)
     (left p (Purify k d ∷ t))) [
-      | true ↦ λ f g.
-          let same : j ≡ k = eqb-true j k f in
-          kept (λ o. holds o j ≡ true → is_marked p (Purify k d ∷ t) j o.number c ≡ true) p t (Purify k d)
+      | true ↦ λ f g. kept (λ o. holds o j ≡ true → is_marked p (Purify k d ∷ t) j o.number c ≡ true) p t (Purify k d)
           (each_weaker (λ o. holds o j ≡ true → is_in o.number (listed_numbers p t j) ≡ true)
           (λ o. holds o j ≡ true → is_marked p (Purify k d ∷ t) j o.number c ≡ true) (left p t)
           (λ o h held. grind (arith, common_steps, eq-eqb, same_Some))
-          (in_open p t j legal.1 (ap (λ i. is_open i t) same ∙ legal.0.1)))
-      | false ↦ λ f g.
-          kept (λ o. holds o j ≡ true → is_marked p (Purify k d ∷ t) j o.number c ≡ true) p t (Purify k d)
+          (in_open p t j legal.1 (ap (λ i. is_open i t) (eqb-true j k f) ∙ legal.0.1)))
+      | false ↦ λ f g. kept (λ o. holds o j ≡ true → is_marked p (Purify k d ∷ t) j o.number c ≡ true) p t (Purify k d)
           (each_weaker (λ o. holds o j ≡ true → is_marked p t j o.number c ≡ true)
           (λ o. holds o j ≡ true → is_marked p (Purify k d ∷ t) j o.number c ≡ true) (left p t)
           (λ o h held. grind (arith, common_steps)) (purified_marked p t j c legal.1 g))
@@ -162,8 +158,7 @@ each_met {p} t j legal fit = elim (is_open j t) as (λ b. is_open j t ≡ b
           let c = colour_some (uses_of p o.number) j (ap (λ us. is_some (colour_in us j)) is.1 ∙ held) in
           let small = colour_small (uses_of p o.number) j c.0 (fit.colours o.number) c.1 in
           let m = mark_is p t o.number j c.0 is.0 c.1 in
-          grind (arith, common_steps, false≢true, ne_eqb, open_unmarked))
-          (options_left p t) (in_open p t j legal e)
+          grind (arith, common_steps, false≢true, ne_eqb, open_unmarked)) (options_left p t) (in_open p t j legal e)
       | false ↦ λ e.
           elim (closed j t e) [
             | inl covered ↦ grind (arith, common_steps, each_weaker, false≢true, left_free)
@@ -171,9 +166,7 @@ each_met {p} t j legal fit = elim (is_open j t) as (λ b. is_open j t ≡ b
                 × (agrees has.0 (colour_at o j) ≡ true)) (λ o. holds o j ≡ true → Met p t o.number j) (left p t)
                 (λ o is h held.
                 let c = colour_some (uses_of p o.number) j (ap (λ us. is_some (colour_in us j)) is.1 ∙ held) in
-                let m = mark_is p t o.number j c.0 is.0 c.1 in
-                let same = agrees_same has.0 c.0 in
-                grind (arith, common_steps, false≢true))
+                grind (arith, common_steps, false≢true, agrees_same has.0 c.0, mark_is p t o.number j c.0 is.0 c.1))
                 (options_left p t) (each_both (λ o. holds o j ≡ true → is_marked p t j o.number has.0 ≡ true)
                 (λ o. agrees has.0 (colour_at o j) ≡ true) _ (left p t) (λ o a b. (a, b))
                 (purified_marked p t j has.0 legal has.1) (left_agrees p t j has.0 has.1))

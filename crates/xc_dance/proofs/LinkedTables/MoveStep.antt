@@ -71,14 +71,12 @@ past_covered p (Cover k ∷ t) i legal pos le e =
     elim (eqb i k) as (λ b. eqb i k ≡ b → (b || is_covered i t) ≡ true → (l < item_count p + 2) × (next ≢ i)) [
       | true ↦ λ f g.
           let same : i ≡ k = eqb-true i k f in
-          let un_i : is_covered i t ≡ false = ap (λ j. is_covered j t) same ∙ un in
-          let side = link_beside p false t i (omega (arith, le)) (λ _ _. un_i) in
+          let side = link_beside p false t i (omega (arith, le)) (λ _ _. (ap (λ j. is_covered j t) same ∙ un)) in
           let ne = link_other p true t k k_pos k_le un in grind (arith, common_steps, eq-eqb)
       | false ↦ λ f g.
-          let before = past_covered p t i legal.1 pos le g in
           let r = link_beside p true t k (omega (arith, k_le)) (λ _ _. un) in
           let r_ne : rlink_at p t k ≢ i = λ s. false≢true (sym (subst (Stays p t) s r.stays pos le) ∙ g) in
-          grind (arith, common_steps)
+          grind (arith, common_steps, past_covered p t i legal.1 pos le g)
     ] refl e in
     let leads = ap (rlink_at p (Cover k ∷ t)) gone ∙ link_next p true t k k_pos k_le un l beyond.0 in
     record { place = omega (arith, gone, beyond.0); past = λ h. beyond.1 (sym leads ∙ h) }
@@ -148,22 +146,17 @@ pub move_step : {p : Puzzle} (t : List Move) {spans : List Span} (m : Move) → 
 move_step {p} t {spans} (Cover i) legal may f =
     let pos : 0 < i = omega (arith, may.0.0) in
     let w = walk_made p t spans (Cover i) i None (color_in p t) legal f pos may.0.1 may.1 (cover_hides p t i) in
-    let r = ring_step p t i may in
-    grind (arith, common_steps, cover_writes)
+    grind (arith, common_steps, cover_writes, ring_step p t i may)
 move_step {p} t {spans} (Purify i c) legal may f =
-    let w = purify_made p t spans i c legal f (omega (arith, may.0.0)) may.0.1 may.1 in
     let still = still_items p t (Purify i c) (record { covered = λ q. refl; spent = λ q. refl }) in
-    grind (arith, common_steps)
+    grind (arith, common_steps, purify_made p t spans i c legal f (omega (arith, may.0.0)) may.0.1 may.1)
 move_step {p} t {spans} (Tweak i) legal may f =
     let pos : 0 < i = omega (arith, may.0.0) in
     let w = tweak_made p t spans (is_covered i t) i legal f pos may.0.1 may.2 (open_or_covered i t may.1) in
-    let off = off_is p t i legal pos may.0.1 in
-    let off' = off_is p (Tweak i ∷ t) i (may, legal) pos may.0.1 in
     let still = still_items p t (Tweak i) (record { covered = λ q. refl; spent = λ q. refl }) in
-    grind (arith, common_steps)
+    grind (arith, common_steps, off_is p (Tweak i ∷ t) i (may, legal) pos may.0.1, off_is p t i legal pos may.0.1)
 move_step {p} t {spans} (Spend i) legal may f =
-    let s = spend_step p t i may (f.bounds i) in
-    grind (arith, common_steps, spent_nodes)
+    grind (arith, common_steps, spent_nodes, spend_step p t i may (f.bounds i))
 
 -- ---- the tables of a keeper from one move to the next
 

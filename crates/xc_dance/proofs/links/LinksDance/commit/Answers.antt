@@ -22,12 +22,11 @@ commit_before-requires-clause-can c =
     let i = c.args.i in
     let can = subst (CanStand s.puzzle s.room) (after_uses-append s.puzzle (uses_behind s.puzzle i x)
     (uses_before s.puzzle i x) s.trail) c.requires.can.2 in
-    let half = sym (c.commit_behind-end.ensures.committed x c.requires.can.1).0 in (
-      x,
-      subst (λ (d : Dancing). IsUseAt d.puzzle i x c.args.place) half c.requires.can.1,
-      subst (λ (d : Dancing). CanStand d.puzzle d.room (after_uses d.puzzle (uses_before d.puzzle i x) d.trail))
-          half can,
-    )
+    let half = sym (c.commit_behind-end.ensures.committed x c.requires.can.1).0 in
+    let used = subst (λ (d : Dancing). IsUseAt d.puzzle i x c.args.place) half c.requires.can.1 in
+    let still : Dancing → Type 0 =
+    λ d. CanStand d.puzzle d.room (after_uses d.puzzle (uses_before d.puzzle i x) d.trail) in
+    (x, used, subst still half can)
 
 pub returns-clause-committed : goal.returns-clause-committed
 returns-clause-committed c = λ x held.

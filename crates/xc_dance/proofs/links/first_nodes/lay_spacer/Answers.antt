@@ -1,6 +1,6 @@
 use Rattle.std.proofs.Common.{◌<◌, ◌∙◌, ◌+◌, ap, sym, subst, length}
 use Rattle.std.specs.Prelude.{slice_get}
-use Rattle.xc_dance.specs.Fields.{spacer, layout}
+use Rattle.xc_dance.specs.Fields.{layout}
 use Rattle.xc_dance.specs.declared.links.nodes.Row.{Row}
 use Rattle.xc_dance.specs.inner.Links.Columns.{Laying}
 use Rattle.xc_dance.specs.inner.Links.FirstNodes.{with_row}

@@ -1,6 +1,5 @@
-use Rattle.std.proofs.Common.{◌-◌, reverse, arith}
+use Rattle.std.proofs.Common.{arith}
 use Rattle.std.proofs.lemmas.Grind.{common_steps}
-use Rattle.xc_dance.specs.inner.Links.Steps.{places}
 use Rattle.xc_dance.proofs.LinkedTables.Walks.{last_first, step_can, step_on}
 use Rattle.xc_dance.proofs.links.steps.unhide_range.Goals as goal
 
