@@ -131,11 +131,7 @@ on_the_way p t i o q laid pos held from to =
     record {
       within = slice_get_within (layout p) q (used o b.0) b.2;
       found = λ e. sym (laid.unique q (used o b.0) i o b.2 (ap (λ j. let s : ℕ × ℕ = (j, o) in Some s) (sym top ∙ e)));
-      next = λ ne.
-          let other : q ≢ link_place p i o = λ e.
-          ne (get_map (top_in (line_of p t)) (layout p) q (used o w.held.use_of) (ap (slice_get (layout p)) e ∙ w.node)
-          ∙ w.held.item) in
-          omega (arith, to, other);
+      next = grind (arith, common_steps, get_map);
     }
 
 -- ---- which option a node is of
@@ -167,8 +163,7 @@ to_spacer p t i o q laid pos held from to = by_place (cases_lt q (spacer_place p
     by_place (inr ge) =
         let at : q ≡ spacer_place p o = omega (arith, ge, to) in
         let node = ap (slice_get (layout p)) at ∙ (option_nodes p o w.known).behind in
-        let top : get_or (nodes_after p t).top q 0 ≡ SPACER + o =
-        get_map (top_in (line_of p t)) (layout p) q (spacer o) node in
+        let top : get_or (nodes_after p t).top q 0 ≡ SPACER + o = grind (arith, common_steps, get_map) in
         record {
           within = slice_get_within (layout p) q (spacer o) node;
           next = λ h. absurd (omega (arith, h, top));
@@ -213,16 +208,14 @@ above_name p t i n = by_next (next_above n ns) refl
 
     found : (P : ℕ → Type 0) (xs : List ℕ) (k : ℕ) → AllByRecursion P xs → next_above n xs ≡ Some k → P k
     found P [] k a e = cc
-    found P (x ∷ xs) k a e =
-        elim (ltb n x) as (λ b. cond b (Some x) (next_above n xs) ≡ Some k → P k) [
-          | true ↦ λ f. (let same : x ≡ k = cc in subst P same a.0)
-          | false ↦ λ f. found P xs k a.1 f
-        ] e
+    found P (x ∷ xs) k a e = elim (ltb n x) as (λ b. cond b (Some x) (next_above n xs) ≡ Some k → P k) [
+      | true ↦ λ f. (let same : x ≡ k = cc in subst P same a.0)
+      | false ↦ λ f. found P xs k a.1 f
+    ] e
 
     by_next : (o : Option ℕ) → next_above n ns ≡ o → IsName p i (unwrap_or o 0)
     by_next None e = inl refl
-    by_next (Some k) e =
-        let gt = next_above-gt n k ns e in inr (omega (arith, gt), found (Named p i) ns k (numbers_named p t i) e)
+    by_next (Some k) e = inr (omega (arith, next_above-gt n k ns e), found (Named p i) ns k (numbers_named p t i) e)
 
 pub own_down : (p : Puzzle) (t : List Move) (i : ℕ) → IsLaid p → 0 < i → i ≤ item_count p
     → get_or (nodes_after p t).dlink i 0 ≡ link_place p i (first_above 0 0 (listed_numbers p t i))
@@ -243,15 +236,7 @@ pub own_node : (p : Puzzle) (t : List Move) (i : ℕ) (n : Nodes) (v : Linked) (
     → record { puzzle = p; trail = t; room = m; written = k } ≡ v → IsItem v.puzzle i → OwnNode p t i n
 own_node p t i n v m k is laid seen item =
     let here : IsItem p i = subst (λ (w : Linked). IsItem w.puzzle i) (sym seen) item in
-    let place = own_place p i laid here.0 here.1 in
-    subst (λ (u : Nodes). OwnNode p t i u) (sym is) (record {
-      top_within = omega (arith, place, length-map (layout p) (top_in (line_of p t)));
-      color_within = omega (arith, place, length-map (layout p) (color_in p t));
-      dlink_within = omega (arith, place, length-map (layout p) (dlink_in p (line_of p t)));
-      top = own_top p t i laid here.0 here.1;
-      color = own_color p t i laid here.0 here.1;
-      down = own_down p t i laid here.0 here.1;
-    })
+    grind (arith, common_steps, length-map, own_top, own_color, own_down, own_place p i laid here.0 here.1)
 
 pub contained : (xs : List ℕ) (x : ℕ) → Contains xs x → is_in x xs ≡ true
 contained xs x h = grind (arith, common_steps, eq-eqb)
@@ -287,8 +272,7 @@ open_right p t i legal (inr h) = grind (arith, common_steps, ne_eqb, open_uncove
 pub open_place : (p : Puzzle) (t : List Move) (i : ℕ) → (i ≡ 0) ⊎ IsOpenPrimary p t i
     → i < length (items_after p t).rlink
 open_place p t i (inl z) = let long = row_len (rlink_at p t) (item_count p + 2) in omega (arith, long, z)
-open_place p t i (inr h) =
-    let long = row_len (rlink_at p t) (item_count p + 2) in let low = h.0.1 in omega (arith, long, low)
+open_place p t i (inr h) = grind (arith, common_steps, row_len)
 
 -- the next number is one of them
 pub next_contained : (n k : ℕ) (xs : List ℕ) → next_above n xs ≡ Some k → Contains xs k

@@ -42,8 +42,7 @@ pub color_put : (p : Puzzle) (col : Node → ℕ) (j x v : ℕ) → IsLaid p →
     → map (with_color col j x v) (layout p) ≡ set (map col (layout p)) (link_place p j x) v
 color_put p col j x v laid h =
     map_put col (with_color col j x v) (layout p) (link_place p j x) v
-    (λ q n at ne. grind (arith, common_steps, slot_is))
-    (λ n at.
+    (λ q n at ne. grind (arith, common_steps, slot_is)) (λ n at.
     let same : n ≡ h.node = same_at (layout p) (link_place p j x) n h.node at h.at in
     ap (λ b. cond b v (col n)) (slot_here j x (slot_of n) (ap slot_of same ∙ h.slot)))
 
@@ -51,12 +50,6 @@ color_put p col j x v laid h =
 pub coloured_is : (p : Puzzle) (col : Node → ℕ) (ln : ℕ → Line) (j x v : ℕ) → IsLaid p → Placed p j x
     → with_colour (nodes_from p ln col) (link_place p j x) v ≡ nodes_from p ln (with_color col j x v)
 coloured_is p col ln j x v laid h = grind (arith, common_steps, color_put, same_nodes)
-
-pub color_here : (p : Puzzle) (col : Node → ℕ) (j x v : ℕ) → Placed p j x
-    → get_or (map (with_color col j x v) (layout p)) (link_place p j x) 0 ≡ v
-color_here p col j x v h =
-    get_map (with_color col j x v) (layout p) (link_place p j x) h.node h.at
-    ∙ ap (λ b. cond b v (col h.node)) (slot_here j x (slot_of h.node) h.slot)
 
 pub color_other : (p : Puzzle) (col : Node → ℕ) (j x v k y : ℕ) → Placed p k y → (eqb k j && eqb y x) ≡ false →
     get_or (map (with_color col j x v) (layout p)) (link_place p k y) 0 ≡ get_or (map col (layout p))
@@ -115,14 +108,13 @@ each_kept : (p : Puzzle) (col : Node → ℕ) (lists lists' : ℕ → List ℕ) 
     → o ≤ n → Rises n xs → ((k r : ℕ) → r ≢ o → Stands (lists k) r → Stands (lists' k) r)
     → EachReady p col lists i keep xs → EachReady p col lists' i keep xs
 each_kept p col lists lists' i keep o n [] le r kept h = tt
-each_kept p col lists lists' i keep o n (x ∷ xs) le r kept h =
-    let lt : n < x = r.0 in (
-      h.0,
-      ready_kept p col lists lists' x (other_items p x i) (λ k. kept k x (λ e. omega arith)) h.1,
-      h.2,
-      h.3,
-      each_kept p col lists lists' i keep o x xs (omega arith) r.1 kept h.4,
-    )
+each_kept p col lists lists' i keep o n (x ∷ xs) le r kept h = (
+  grind (arith, common_steps),
+  ready_kept p col lists lists' x (other_items p x i) (λ k. kept k x (λ e. omega arith)) h.1,
+  grind (arith, common_steps),
+  grind (arith, common_steps),
+  grind (arith, common_steps, each_kept p col lists lists' i keep o x xs (omega arith) r.1 kept h.4),
+)
 
 -- the colours now: as at first, but for item i's nodes that were passed
 pub record Passed (p : Puzzle) (i : ℕ) (col now : Node → ℕ) (xs : List ℕ) : Type 0 where
@@ -130,30 +122,15 @@ pub record Passed (p : Puzzle) (i : ℕ) (col now : Node → ℕ) (xs : List ℕ
       → own_color p now j o ≡ own_color p col j o
   pub own : (o : ℕ) → is_in o xs ≡ true → own_color p now i o ≡ own_color p col i o
 
-mark_by : (p : Puzzle) (col now : Node → ℕ) (o j : ℕ) → own_color p now j o ≡ own_color p col j o
-    → is_mark p now o j ≡ is_mark p col o j
-mark_by p col now o j e = ap (λ v. eqb v MARK) e
-
-all_same : (p : Puzzle) (i : ℕ) (col now : Node → ℕ) (xs : List ℕ) (lists : ℕ → List ℕ) (o : ℕ) (ln : ℕ → Line)
+-- item i's nodes alone have other colours now, so another item's are left, ready and marked as at first
+same_now : (p : Puzzle) (i : ℕ) (col now : Node → ℕ) (xs : List ℕ) (lists : ℕ → List ℕ) (o : ℕ) (ln : ℕ → Line)
     (js : List ℕ) → 0 < o → Passed p i col now xs → IsApart i js → AreReady p col lists o js
-    → left_all p now o ln js ≡ left_all p col o ln js
-all_same p i col now xs lists o ln [] pos same apart h = grind (arith, common_steps, mark_by)
-all_same p i col now xs lists o ln (j ∷ js) pos same apart h =
-    let rest = all_same p i col now xs lists o (left_one p col o ln j) js pos same apart.1 h.5 in
-    grind (arith, common_steps, mark_by)
-
-ready_same : (p : Puzzle) (i : ℕ) (col now : Node → ℕ) (xs : List ℕ) (lists : ℕ → List ℕ) (o : ℕ) (js : List ℕ) → 0 < o
-    → Passed p i col now xs → IsApart i js → AreReady p col lists o js → AreReady p now lists o js
-ready_same p i col now xs lists o [] pos same apart h = grind (arith, common_steps, mark_by)
-ready_same p i col now xs lists o (j ∷ js) pos same apart h =
-    grind (arith, common_steps, mark_by, ready_same p i col now xs lists o js pos same apart.1 h.5)
-
-gone_same : (p : Puzzle) (i : ℕ) (col now : Node → ℕ) (xs : List ℕ) (lists : ℕ → List ℕ) (o : ℕ) (js : List ℕ) → 0 < o
-    → Passed p i col now xs → IsApart i js → AreReady p col lists o js →
-    filter (λ j. not (is_mark p now o j)) js ≡ filter (λ j. not (is_mark p col o j)) js
-gone_same p i col now xs lists o [] pos same apart h = grind (arith, common_steps, mark_by)
-gone_same p i col now xs lists o (j ∷ js) pos same apart h =
-    grind (arith, common_steps, mark_by, gone_same p i col now xs lists o js pos same apart.1 h.5)
+    → (left_all p now o ln js ≡ left_all p col o ln js) × AreReady p now lists o js
+    × (filter (λ j. not (is_mark p now o j)) js ≡ filter (λ j. not (is_mark p col o j)) js)
+same_now p i col now xs lists o ln [] pos same apart h = (refl, tt, refl)
+same_now p i col now xs lists o ln (j ∷ js) pos same apart h =
+    let rest = same_now p i col now xs lists o (left_one p col o ln j) js pos same apart.1 h.5 in
+    grind (arith, common_steps)
 
 -- ---- one step of the walk
 
@@ -166,37 +143,31 @@ pub record OneStep (spans : List Span) (keep : Option ℕ) (t u : Nodes) (x n : 
   pub cost : leave_cost spans keep t x ≡ n
   pub cost_back : back_cost spans keep u x ≡ n
 
-kept_none : (v : ℕ) → is_kept_colour None v ≡ true → ⊥
-kept_none v e = false≢true e
-
 -- a node of the colour kept is marked, and gets it back
 mark_step : (p : Puzzle) (now : Node → ℕ) (spans : List Span) (keep : Option ℕ) (ln : ℕ → Line) (i o : ℕ) → IsLaid p
     → Placed p i o → link_place p i o < length spans → is_kept_colour keep (own_color p now i o) ≡ true →
     OneStep spans keep (nodes_from p ln now) (nodes_from p ln (with_color now i o MARK)) (link_place p i o) 1
-mark_step p now spans None ln i o laid h near e = absurd (kept_none (own_color p now i o) e)
+mark_step p now spans None ln i o laid h near e = absurd (false≢true e)
 mark_step p now spans (Some c) ln i o laid h near e =
-    let keep : Option ℕ = Some c in
     let x = link_place p i o in
     let t : Nodes = nodes_from p ln now in
     let u : Nodes = nodes_from p ln (with_color now i o MARK) in
     let within = slice_get_within (layout p) x h.node h.at in
     let long : length t.color ≡ length (layout p) = length-map (layout p) now in
-    let long' : length u.color ≡ length (layout p) = length-map (layout p) (with_color now i o MARK) in
     let is : with_colour t x MARK ≡ u = coloured_is p now ln i o MARK laid h in
-    let colour : own_color p now i o ≡ c = eqb-true (own_color p now i o) c e in
-    let marked : is_kept_mark keep (get_or u.color x 0) ≡ true =
-    eq-eqb (get_or u.color x 0) MARK (color_here p now i o MARK h) in
+    let marked : is_kept_mark (Some c) (get_or u.color x 0) ≡ true = grind
+    (arith, common_steps, eq-eqb, get_map, with_color, slot_here) in
     record {
       can = record { span = near; place = omega (arith, within, long); hide = λ no. absurd (false≢true (sym no ∙ e)) };
       done = rw e is;
       back = record {
         span = near;
-        place = omega (arith, within, long');
+        place = omega (arith, within, length-map (layout p) (with_color now i o MARK));
         unhide = λ no. absurd (false≢true (sym no ∙ marked));
       };
       undone = rw marked (ap (λ (w : Nodes). with_colour w x c) (sym is)
           ∙ same_nodes (with_colour (with_colour t x MARK) x c) t refl refl refl
-          (written_back t.color x x MARK c refl colour));
+          (written_back t.color x x MARK c refl (eqb-true (own_color p now i o) c e)));
       cost = rw e refl;
       cost_back = rw marked refl;
     }
@@ -207,24 +178,16 @@ no_mark (Some c) v e = e
 
 -- any other one is hidden, and comes back
 hide_step : (p : Puzzle) (now : Node → ℕ) (spans : List Span) (keep : Option ℕ) (ln : ℕ → Line) (i o : ℕ)
-    → HasSpans p spans → Placed p i o → 0 < o → Named p i o
-    → is_kept_colour keep (own_color p now i o) ≡ false → eqb (own_color p now i o) MARK ≡ false
-    → Turns p ln now spans o i →
-    OneStep spans keep (nodes_from p ln now) (nodes_from p (left_all p now o ln (other_items p o i)) now)
-    (link_place p i o) (3 * gone_count p now i o)
+    → HasSpans p spans → Placed p i o → 0 < o → Named p i o → is_kept_colour keep (own_color p now i o) ≡ false
+    → eqb (own_color p now i o) MARK ≡ false → Turns p ln now spans o i
+    → OneStep spans keep (nodes_from p ln now) (nodes_from p (left_all p now o ln (other_items p o i)) now) (link_place
+    p i o) (3 * gone_count p now i o)
 hide_step p now spans keep ln i o spanned h pos named other unmarked s =
     let within = slice_get_within (layout p) (link_place p i o) h.node h.at in
     let place : link_place p i o < length (map now (layout p)) = omega (arith, within, length-map (layout p) now) in
     let span = spanned.within o i pos named in
     let no = no_mark keep (own_color p now i o) unmarked in
-    record {
-      can = record { span = span; place = place; hide = λ e. s.hide };
-      done = rw other s.done;
-      back = record { span = span; place = place; unhide = λ e. s.unhide };
-      undone = rw no s.undone;
-      cost = rw other s.cost;
-      cost_back = rw no s.cost_back;
-    }
+    grind (arith, common_steps)
 
 -- an option whose uses are ready is hidden and comes back
 pub turns_ready : (p : Puzzle) (ln : ℕ → Line) (col : Node → ℕ) (lists : ℕ → List ℕ) (spans : List Span) (o i : ℕ)
@@ -257,10 +220,8 @@ turn : (p : Puzzle) (col now : Node → ℕ) (spans : List Span) (i : ℕ) (keep
     → Turn p col now spans i keep ln o xs
 turn p col now spans i keep ln lists o xs laid spanned pos le o_pos good ready r passed =
     let here = laid.there i o pos le (inr (o_pos, ready.0)) in
-    let first : is_in o (o ∷ xs) ≡ true = is_in-first o xs in
-    let same : own_color p now i o ≡ own_color p col i o = passed.own o first in
-    let test : is_kept_colour keep (own_color p now i o) ≡ is_kept p i keep o =
-    ap (is_kept_colour keep) same ∙ ready.3.test in
+    let same : own_color p now i o ≡ own_color p col i o = passed.own o (is_in-first o xs) in
+    let test : is_kept_colour keep (own_color p now i o) ≡ is_kept p i keep o = grind (arith, common_steps) in
     let unmarked : eqb (own_color p now i o) MARK ≡ false = ap (λ v. eqb v MARK) same ∙ ready.3.unmarked in
     elim (is_kept p i keep o) as (λ b. is_kept p i keep o ≡ b → Turn p col now spans i keep ln o xs) [
       | true ↦ λ e. record {
@@ -275,9 +236,7 @@ turn p col now spans i keep ln lists o xs laid spanned pos le o_pos good ready r
         good = good;
         ready = ready.4;
         passed = record {
-          others =
-              λ j x ne jpos jle xpos named. color_other p now i o MARK j x (laid.there j x jpos jle (inr (xpos, named)))
-              (ap (λ b. b && eqb x o) (ne_eqb j i ne)) ∙ passed.others j x ne jpos jle xpos named;
+          others = grind (arith, common_steps, color_other, ne_eqb);
           own = λ x f.
               let gt : o < x = in_above o x xs r f in
               color_other p now i o MARK i x (laid.there i x pos le (inr (omega (arith, gt), named_in x xs ready.4 f)))
@@ -289,36 +248,31 @@ turn p col now spans i keep ln lists o xs laid spanned pos le o_pos good ready r
       }
       | false ↦ λ e.
           let js = other_items p o i in
-          let all_ready = ready_same p i col now (o ∷ xs) lists o js o_pos passed ready.2 ready.1 in
-          let w = walked p now ln lists o js laid o_pos good all_ready in
+          let alike = same_now p i col now (o ∷ xs) lists o ln js o_pos passed ready.2 ready.1 in
+          let w = walked p now ln lists o js laid o_pos good alike.1 in
           let s =
           hide_step p now spans keep ln i o spanned here o_pos ready.0 (test ∙ e) unmarked
-          (turns_ready p ln now lists spans o i laid spanned o_pos ready.0 good all_ready) in
+          (turns_ready p ln now lists spans o i laid spanned o_pos ready.0 good alike.1) in
           record {
             ln' = left_all p now o ln js;
             now' = now;
             lists' = w.gone.lists';
-            step =
-                subst (OneStep spans keep (nodes_from p ln now) (nodes_from p (left_all p now o ln js) now)
-                (link_place p i o))
-                (ap (λ ks. 3 * length ks) (gone_same p i col now (o ∷ xs) lists o js o_pos passed ready.2 ready.1)
-                ∙ sym (ap (λ b. cond b 1 (3 * gone_count p col i o)) e)) s;
+            step = grind (arith, common_steps);
             own = all_other cut p now o ln js i ready.2;
             good = w.gone.good;
             ready = each_kept p col lists w.gone.lists' i keep o o xs (omega arith) r w.gone.kept ready.4;
             passed = record { others = passed.others; own = λ x f. passed.own x (in_more o x xs f) };
-            lines = grind (arith, common_steps, all_same);
+            lines = grind (arith, common_steps);
             colours = ap (λ b. marked_list p i keep (cond b (with_color now i o MARK) now) xs) e;
           }
     ] refl
   where
     named_in : (x : ℕ) (ys : List ℕ) → EachReady p col lists i keep ys → is_in x ys ≡ true → Named p i x
     named_in x [] h f = absurd (false≢true f)
-    named_in x (y ∷ ys) h f =
-        elim (eqb y x) as (λ b. eqb y x ≡ b → (b || is_in x ys) ≡ true → Named p i x) [
-          | true ↦ λ g k. subst (Named p i) (eqb-true y x g) h.0
-          | false ↦ λ g k. named_in x ys h.4 k
-        ] refl f
+    named_in x (y ∷ ys) h f = elim (eqb y x) as (λ b. eqb y x ≡ b → (b || is_in x ys) ≡ true → Named p i x) [
+      | true ↦ λ g k. subst (Named p i) (eqb-true y x g) h.0
+      | false ↦ λ g k. named_in x ys h.4 k
+    ] refl f
 
 -- ---- the walk
 
@@ -362,9 +316,6 @@ pub record Listed (p : Puzzle) (col now : Node → ℕ) (spans : List Span) (i :
   pub costs : walk_costs spans keep (nodes_from p ln now) (map (link_place p i) xs) ≡ n
   pub costs_back : back_costs spans keep end (reverse (map (link_place p i) xs)) ≡ n
 
-IsLinkedFrom-by : (l m : Line) (a : ℕ) (xs : List ℕ) → m ≡ l → IsLinkedFrom l a xs → IsLinkedFrom m a xs
-IsLinkedFrom-by l m a xs e h = subst (λ (k : Line). IsLinkedFrom k a xs) (sym e) h
-
 pub listed_walk : (p : Puzzle) (col now : Node → ℕ) (spans : List Span) (i : ℕ) (keep : Option ℕ) (ln : ℕ → Line)
     (lists : ℕ → List ℕ) (a : ℕ) (xs : List ℕ) → IsLaid p → HasSpans p spans → 0 < i → i ≤ item_count p
     → AllGood p ln lists → IsLinkedFrom (ln i) a xs → EachReady p col lists i keep xs → Rises a xs
@@ -380,42 +331,37 @@ listed_walk p col now spans i keep ln lists a (o ∷ xs) laid spanned pos le goo
     let t1 : Nodes = nodes_from p tn.ln' tn.now' in
     let end' : Nodes = walked_table p col tn.now' i keep tn.ln' xs in
     let end : Nodes = walked_table p col now i keep ln (o ∷ xs) in
-    let ends_same : end ≡ end' = ap₂ (λ m c. nodes_from p m c) tn.lines tn.colours in
     let rest =
     listed_walk p col tn.now' spans i keep tn.ln' tn.lists' o xs laid spanned pos le tn.good
-    (IsLinkedFrom-by (ln i) (tn.ln' i) o xs tn.own linked.3) tn.ready r.1 tn.passed in
+    (subst (λ (k : Line). IsLinkedFrom k o xs) (sym tn.own) linked.3) tn.ready r.1 tn.passed in
     let here = laid.there i o pos le (inr (o_pos, ready.0)) in
     let x_in = slice_get_within (layout p) x here.node here.at in
     let down_long : length t1.dlink ≡ length (layout p) = length-map (layout p) (dlink_in p tn.ln') in
-    let up_long : length t0.ulink ≡ length (layout p) = length-map (layout p) (ulink_in p ln) in
-    let down_at : get_or t1.dlink x 0 ≡ link_place p i ((tn.ln' i).down o) = get_down p tn.ln' i o here in
-    let up_at : get_or t0.ulink x 0 ≡ link_place p i ((ln i).up o) = get_up p ln i o here in
     let q0 = link_place p i ((ln i).up 0) in
     let same_q : link_place p i ((tn.ln' i).up 0) ≡ q0 = ap (λ (l : Line). link_place p i (l.up 0)) tn.own in
     let places = map (link_place p i) xs in
     let turned : reverse (x ∷ places) ≡ reverse places ++ x ∷ [] = reverse-append (x ∷ []) places in
     let back : IsWalkBack spans keep end' q0 (reverse places) =
     subst (λ q. IsWalkBack spans keep end' q (reverse places)) same_q rest.back in
-    let ends : leads spans keep end' q0 (reverse places) ≡ x =
-    subst (λ q. leads spans keep end' q (reverse places) ≡ x) same_q rest.ends in
     let s = tn.step in
     subst (λ (u : Nodes). Listed p col now spans i keep ln a (o ∷ xs) u (step_costs p col i keep (o ∷ xs)))
-    (sym ends_same) (record {
+    (sym (ap₂ (λ m c. nodes_from p m c) tn.lines tn.colours)) (record {
       walk = (
         ap (link_place p i) linked.1,
         s.can,
         subst (λ (u : Nodes). x < length u.dlink) (sym s.done) (omega (arith, down_long, x_in)),
         subst (λ (u : Nodes). IsWalk spans keep u (get_or u.dlink x 0) places) (sym s.done)
-            (subst (λ q. IsWalk spans keep t1 q places) (sym down_at) rest.walk),
+            (subst (λ q. IsWalk spans keep t1 q places) (sym (get_down p tn.ln' i o here)) rest.walk),
       );
       done = ap (λ (u : Nodes). fold (left_node spans keep) u places) s.done ∙ rest.done;
       back =
           subst (IsWalkBack spans keep end' q0) (sym turned)
-          (back_push spans keep end' t1 t0 q0 (reverse places) x back rest.undone ends s.undone
-          (omega (arith, up_long, x_in)) s.back);
+          (back_push spans keep end' t1 t0 q0 (reverse places) x back rest.undone
+          (subst (λ q. leads spans keep end' q (reverse places) ≡ x) same_q rest.ends) s.undone
+          (omega (arith, length-map (layout p) (ulink_in p ln), x_in)) s.back);
       undone = grind (arith, common_steps);
       ends = ap (leads spans keep end' q0) turned
-          ∙ leads_push spans keep end' t1 t0 q0 (reverse places) x rest.undone s.undone ∙ up_at
+          ∙ leads_push spans keep end' t1 t0 q0 (reverse places) x rest.undone s.undone ∙ (get_up p ln i o here)
           ∙ ap (link_place p i) linked.2;
       costs = ap₂ (λ a b. a + b) s.cost (ap (λ (u : Nodes). walk_costs spans keep u places) s.done ∙ rest.costs);
       costs_back = grind (arith, common_steps, costs-append);

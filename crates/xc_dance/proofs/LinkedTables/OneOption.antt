@@ -68,18 +68,14 @@ abbrev pub AllApart : List ℕ → Type 0
 AllApart [] = Unit {0}
 AllApart (j ∷ js) = IsApart j js × AllApart js
 
-one_here : (change : Line → ℕ → Line) (p : Puzzle) (col : Node → ℕ) (o : ℕ) (ln : ℕ → Line) (k : ℕ)
-    → changed_one change p col o ln k k ≡ cond (not (is_mark p col o k)) (change (ln k) o) (ln k)
-one_here change p col o ln k = grind (arith, common_steps, line_here)
-
 -- the line of item k after all of them
 pub all_at : (change : Line → ℕ → Line) (p : Puzzle) (col : Node → ℕ) (o : ℕ) (ln : ℕ → Line) (js : List ℕ) (k : ℕ)
     → AllApart js → changed_all change p col o ln js k ≡ cond (is_in k js && not (is_mark p col o k))
     (change (ln k) o) (ln k)
-all_at change p col o ln [] k apart = grind (arith, common_steps, all_other, eqb-false, eqb-true, one_here, one_other)
+all_at change p col o ln [] k apart = grind (arith, common_steps, all_other, eqb-false, eqb-true, line_here, one_other)
 all_at change p col o ln (j ∷ js) k apart =
     let rest = all_at change p col o (changed_one change p col o ln j) js k apart.1 in
-    grind (arith, common_steps, all_other, eqb-false, eqb-true, one_here, one_other)
+    grind (arith, common_steps, all_other, eqb-false, eqb-true, line_here, one_other)
 
 -- the option stands in the list of each of them in which it isn't marked
 abbrev pub AreReady : Puzzle → (Node → ℕ) → (ℕ → List ℕ) → ℕ → List ℕ → Type 0
@@ -142,8 +138,7 @@ walked p col ln lists o (j ∷ js) laid pos good ready =
     let q = link_place p j o in
     let qs = map (λ j. link_place p j o) js in
     let tb : Nodes = nodes_from p ln col in
-    let name : IsName p j o = inr (pos, ready.2) in
-    let here = laid.there j o ready.0 ready.1 name in
+    let here = laid.there j o ready.0 ready.1 (inr (pos, ready.2)) in
     let two : Rest tb (q ∷ qs)
     × (fold hidden (hidden tb q) qs ≡ nodes_from p (left_all p col o (left_one p col o ln j) js) col)
     × Gone p lists (left_all p col o (left_one p col o ln j) js) o (j ∷ js) =
@@ -157,7 +152,7 @@ walked p col ln lists o (j ∷ js) laid pos good ready =
           (omega (arith, get_item p ln j o here pos, ready.1, laid.small)) e in
           let w = walked p col ln lists o js laid pos good ready.5 in (
             step_more tb tb q qs s w.rest,
-            ap (λ (u : Nodes). fold hidden u qs) s.done ∙ w.done,
+            grind (arith, common_steps),
             record {
               lists' = w.gone.lists';
               good = w.gone.good;
@@ -178,7 +173,7 @@ walked p col ln lists o (j ∷ js) laid pos good ready =
           walked p col ln' lists1 o js laid pos (all_good_cut p ln lists j st.ys o st.zs ready.0 ready.1 st.is good)
           (ready_other p col lists o j (st.ys ++ st.zs) js ready.4 ready.5) in (
             step_more tb (nodes_from p ln' col) q qs s w.rest,
-            ap (λ (u : Nodes). fold hidden u qs) s.done ∙ w.done,
+            grind (arith, common_steps),
             record {
               lists' = w.gone.lists';
               good = w.gone.good;

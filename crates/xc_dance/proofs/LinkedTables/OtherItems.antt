@@ -29,8 +29,7 @@ pub others_by : (us : List Use) (i k : ℕ) → AreDistinct us
     → (is_in k (behind_use i us) || is_in k (before_use i us)) ≡ (not (eqb k i) && is_some (colour_in us k))
 others_by [] i k d = elim (eqb k i) as (λ b. false ≡ (not b && false)) [ true ↦ refl | false ↦ refl ]
 others_by (u ∷ us) i k d =
-    let rest = others_by us i k d.1 in
-    grind (arith, common_steps, eq-eqb, eqb-false, eqb-true, items_of, ne_eqb)
+    grind (arith, common_steps, eq-eqb, eqb-false, eqb-true, items_of, ne_eqb, others_by us i k d.1)
 
 pub in_others : (p : Puzzle) (o i k : ℕ) → AreDistinct (uses_of p o)
     → is_in k (other_items p o i) ≡ (not (eqb k i) && is_some (colour_in (uses_of p o) k))
@@ -45,8 +44,7 @@ out_of j (k ∷ ks) h = ap (λ b. b || is_in j ks) (ne_eqb k j h.0) ∙ out_of j
 
 pub apart_from : (k : ℕ) (js : List ℕ) → is_in k js ≡ false → IsApart k js
 apart_from k [] e = tt
-apart_from k (j ∷ js) e =
-    let rest = apart_from k js in grind (arith, common_steps, eqb-false, false≢true)
+apart_from k (j ∷ js) e = grind (arith, common_steps, eqb-false, false≢true, apart_from k js)
 
 -- whether option o leaves item k's list by a walk down i's
 abbrev pub leaves : Puzzle → (Node → ℕ) → ℕ → ℕ → ℕ → Bool
@@ -110,8 +108,7 @@ each_apart p i (o ∷ os) fit = (others_apart p o i fit, each_apart p i os fit)
 pub item_range : (p : Puzzle) (us : List Use) (j : ℕ) → AllByRecursion (λ u. (0 < u.item) × (u.item ≤ item_count p)) us
     → is_some (colour_in us j) ≡ true → (0 < j) × (j ≤ item_count p)
 item_range p [] j a e = absurd (false≢true e)
-item_range p (u ∷ us) j a e =
-    let rest = item_range p us j a.1 in grind (arith, common_steps, eqb-true)
+item_range p (u ∷ us) j a e = grind (arith, common_steps, eqb-true, item_range p us j a.1)
 
 -- the item itself isn't among them
 pub own_apart : (p : Puzzle) (i o : ℕ) → IsFit p → IsApart i (other_items p o i)

@@ -36,8 +36,7 @@ behind_first p i x q u = omega (arith, (use_between p i x q u).from, place_grows
 
 -- and before the last
 pub before_last : (p : Puzzle) (i x q : ℕ) → IsUseAt p i x q → q < spacer_place p (option_count p)
-before_last p i x q u =
-    omega (arith, (use_between p i x q u).below, place_grows p x (option_count p) u.known.1)
+before_last p i x q u = omega (arith, (use_between p i x q u).below, place_grows p x (option_count p) u.known.1)
 
 -- the option between two spacers: one before it would stand ahead of the first, and one behind it past the second
 pub option_between : (p : Puzzle) (i x q n : ℕ) → IsUseAt p i x q → spacer_place p n ≤ q → q < spacer_place p (n + 1)
@@ -59,17 +58,14 @@ pub record UseStands (p : Puzzle) (i o first k : ℕ) : Type 0 where
   pub is : first + k ≡ link_place p i o
   pub small : first + k < 2 ^ 31
 
-pub use_stands : (a : Named) (i o first k : ℕ) (us : List Use) → IsSound a → IsOption a.puzzle o →
-    place_in i (uses_of a.puzzle o) < length (uses_of a.puzzle o) → numbered_get a.puzzle.options o ≡ Some us →
-    first ≡ start_at a.puzzle (o - 1) → k ≡ place_in i us →
-    UseStands a.puzzle i o first k
+pub use_stands : (a : Named) (i o first k : ℕ) (us : List Use) → IsSound a → IsOption a.puzzle o
+    → place_in i (uses_of a.puzzle o) < length (uses_of a.puzzle o) → numbered_get a.puzzle.options o ≡ Some us
+    → first ≡ start_at a.puzzle (o - 1) → k ≡ place_in i us → UseStands a.puzzle i o first k
 use_stands a i o first k us sound known holds found start index =
     let p = a.puzzle in
-    let fit = sound_fit a sound in
     let nodes = option_nodes p o known in
-    let n = place_in i (uses_of p o) in
-    let same : k ≡ n = index ∙ ap (place_in i) (uses_here p o us found) in
+    let same : k ≡ (place_in i (uses_of p o)) = index ∙ ap (place_in i) (uses_here p o us found) in
     record {
       is = omega (arith, nodes.place i, same, start);
-      small = omega (arith, nodes.end, place_within p o known.1, holds, fit.near, same, start);
+      small = omega (arith, nodes.end, place_within p o known.1, holds, (sound_fit a sound).near, same, start);
     }

@@ -40,7 +40,7 @@ get_dropped zero k xs = let e : k ≡ 0 + k = omega arith in ap (slice_get xs) e
 get_dropped (suc n) k [] = refl
 get_dropped (suc n) k (x ∷ xs) =
     let e : suc (n + k) ≡ suc n + k = omega arith in
-    get_dropped n k xs ∙ ap (slice_get (x ∷ xs)) e
+    grind (arith, common_steps, get_dropped n k xs ∙ ap (slice_get (x ∷ xs)) e)
 
 pub get_taken : {X : Type 0} (n k : ℕ) (xs : List X) (x : X) → slice_get (take n xs) k ≡ Some x
     → slice_get xs k ≡ Some x
@@ -55,15 +55,9 @@ get_taken (suc n) (suc k) (y ∷ ys) x e = get_taken n k ys x e
 pub uses_here : (p : Puzzle) (o : ℕ) (us : List Use) → numbered_get p.options o ≡ Some us → us ≡ uses_of p o
 uses_here p o us e = ap (λ found. unwrap_or found []) (sym e)
 
--- the uses of an option by its place
-pub uses_at : (p : Puzzle) (k : ℕ) (us : List Use) → slice_get p.options k ≡ Some us → uses_of p (k + 1) ≡ us
-uses_at p k us e = let s : k + 1 ≡ suc k = omega arith in ap (uses_of p) s ∙ ap (λ o. unwrap_or o []) e
-
 pub option_get : (p : Puzzle) (o : ℕ) (us : List Use) → o < option_count p → us ≡ uses_of p (o + 1)
     → slice_get p.options o ≡ Some us
-option_get p o us lt is =
-    let e = slice_get-get_or p.options o [] lt in
-    e ∙ ap Some (sym (is ∙ uses_at p o (get_or p.options o []) e))
+option_get p o us lt is = grind (arith, common_steps, slice_get-get_or p.options o [] lt)
 
 -- an option that holds an item is there
 pub there : (os : List (List Use)) (k i : ℕ) → is_some (colour_in (unwrap_or (slice_get os k) []) i) ≡ true
@@ -86,27 +80,19 @@ held_use [] i e = absurd (false≢true e)
 held_use (u ∷ us) i e =
     elim (eqb u.item i) as (λ b. eqb u.item i ≡ b → is_some (cond b (Some u.colour) (colour_in us i)) ≡ true
     → Held (u ∷ us) i) [
-      | true ↦ λ same f. record {
-        use_of = u;
-        at = rw same refl;
-        item = eqb-true u.item i same;
-        colour = rw same refl;
-        before = rw same refl;
-        behind = rw same refl;
-      }
+      | true ↦ grind (arith, common_steps, eqb-true)
       | false ↦ λ other f.
           let r = held_use us i f in
           let n : place_in i (u ∷ us) ≡ suc (place_in i us) = rw other (omega arith) in
           let next : suc (place_in i us + 1) ≡ place_in i (u ∷ us) + 1 = omega (arith, n) in
           let first : before_use i (u ∷ us) ≡ u.item ∷ before_use i us = rw other refl in
-          let rest : behind_use i (u ∷ us) ≡ behind_use i us = rw other refl in
           record {
             use_of = r.use_of;
             at = ap (slice_get (u ∷ us)) n ∙ r.at;
             item = r.item;
             colour = rw other r.colour;
             before = first ∙ ap (λ l. u.item ∷ l) r.before ∙ ap (λ k. map (λ v. v.item) (take k (u ∷ us))) (sym n);
-            behind = rest ∙ r.behind ∙ ap (λ k. map (λ v. v.item) (drop k (u ∷ us))) next;
+            behind = (rw other refl) ∙ r.behind ∙ ap (λ k. map (λ v. v.item) (drop k (u ∷ us))) next;
           }
     ] refl e
 
@@ -114,16 +100,12 @@ held_use (u ∷ us) i e =
 pub found_use : (us : List Use) (k : ℕ) (u : Use) → AreDistinct us → slice_get us k ≡ Some u
     → (place_in u.item us ≡ k) × (colour_in us u.item ≡ Some u.colour)
 found_use [] k u d e = cc
-found_use (v ∷ us) zero u d e =
-    let own = eq-eqb v.item v.item refl in
-    subst (λ (w : Use). (place_in w.item (v ∷ us) ≡ 0) × (colour_in (v ∷ us) w.item ≡ Some w.colour)) (same_Some v u e)
-    (rw own refl, rw own refl)
+found_use (v ∷ us) zero u d e = grind (arith, common_steps, same_Some, eq-eqb v.item v.item refl)
 found_use (v ∷ us) (suc k) u d e =
     let r = found_use us k u d.1 e in
     let other =
-    ne_eqb v.item u.item
-    (λ s. false≢true (sym d.0 ∙ ap (λ j. is_some (colour_in us j)) s ∙ ap is_some r.1)) in
-    (rw other (omega (arith, r.0)), rw other r.1)
+    ne_eqb v.item u.item (λ s. false≢true (sym d.0 ∙ ap (λ j. is_some (colour_in us j)) s ∙ ap is_some r.1)) in
+    grind (arith, common_steps)
 
 -- ---- the places of spacers
 
@@ -182,15 +164,14 @@ from_spacer p (suc o) k le =
 pub spacer_here : (p : Puzzle) (o : ℕ) → o ≤ option_count p → slice_get (layout p) (spacer_place p o) ≡ Some (spacer o)
 spacer_here p o le =
     let z : spacer_place p o ≡ spacer_place p o + 0 = omega arith in
-    ap (slice_get (layout p)) z ∙ from_spacer p o 0 le
+    grind (arith, common_steps, from_spacer)
 
 pub use_here : (p : Puzzle) (o k n : ℕ) (us : List Use) (u : Use) → slice_get p.options o ≡ Some us
     → slice_get us k ≡ Some u → n ≡ spacer_place p o + 1 + k → slice_get (layout p) n ≡ Some (used (o + 1) u)
 use_here p o k n us u e f at =
     let is : n ≡ spacer_place p o + suc k = omega (arith, at) in
     let rest = drop (suc o) p.options in
-    let le = slice_get_within p.options o us e in
-    ap (slice_get (layout p)) is ∙ from_spacer p o (suc k) (omega (arith, le))
+    ap (slice_get (layout p)) is ∙ from_spacer p o (suc k) (omega (arith, slice_get_within p.options o us e))
     ∙ ap (λ os. slice_get (tail_from o os) (suc k)) (drop_at p.options o us e)
     ∙ ap (λ l. slice_get l k) (next_tail o us rest)
     ∙ get_left (map (used (o + 1)) us) (tail_from (o + 1) rest) k (used (o + 1) u)
@@ -206,10 +187,9 @@ range_get a n k lt =
 pub head_is : (p : Puzzle) (j : ℕ) → 0 < j → j ≤ item_count p → slice_get (layout p) j ≡ Some (own j)
 head_is p zero pos le = absurd (omega arith)
 head_is p (suc k) pos le =
-    let s : 1 + k ≡ suc k = omega arith in
     let items = range_with_len 1 (item_count p) in
     get_left (map own items) (tail_from 0 p.options) k (own (suc k))
-    (slice_get-map own items k ∙ ap (option_map own) (range_get 1 (item_count p) k le ∙ ap Some s))
+    (slice_get-map own items k ∙ ap (option_map own) (range_get 1 (item_count p) k le ∙ ap Some (omega arith)))
 
 -- ---- the length of the table
 
@@ -220,30 +200,27 @@ length_tail n (us ∷ os) =
 
 sizes : (os : List (List Use)) → sum_by size os ≡ use_count os + length os
 sizes [] = refl
-sizes (us ∷ os) =
-    omega (arith, sizes os, sum_by-cons size us os, sum_by-cons (λ (vs : List Use). length vs) us os)
+sizes (us ∷ os) = omega (arith, sizes os, sum_by-cons size us os, sum_by-cons (λ (vs : List Use). length vs) us os)
 
 pub layout_len : (p : Puzzle) → length (layout p) ≡ spacer_place p (option_count p) + 1
-layout_len p =
-    omega (
-      arith,
-      length-append (front p) (tail_from 0 p.options),
-      length_front p,
-      length_tail 0 p.options,
-      ap (sum_by size) (take-length p.options),
-    )
+layout_len p = omega (
+  arith,
+  length-append (front p) (tail_from 0 p.options),
+  length_front p,
+  length_tail 0 p.options,
+  ap (sum_by size) (take-length p.options),
+)
 
 pub layout_small : (p : Puzzle) → IsWithinLimits p → length (layout p) ≤ 20100002
-layout_small p limits =
-    omega (
-      arith,
-      layout_len p,
-      sizes p.options,
-      limits.items,
-      limits.uses,
-      limits.options,
-      ap (sum_by size) (take-length p.options),
-    )
+layout_small p limits = omega (
+  arith,
+  layout_len p,
+  sizes p.options,
+  limits.items,
+  limits.uses,
+  limits.options,
+  ap (sum_by size) (take-length p.options),
+)
 
 -- a spacer's place is among them
 pub place_within : (p : Puzzle) (o : ℕ) → o ≤ option_count p → spacer_place p o < length (layout p)
@@ -274,9 +251,7 @@ option_of p (suc m) i pos e =
 
 -- the place of an item's use in option x, which is behind option m
 pub place_is : (p : Puzzle) (i x m : ℕ) → x ≡ m + 1 → link_place p i x ≡ start_at p m + place_in i (uses_of p x)
-place_is p i x m s =
-    let next : suc m ≡ x = omega (arith, s) in
-    subst (λ y. link_place p i y ≡ start_at p m + place_in i (uses_of p y)) next refl
+place_is p i x m s = grind (arith, common_steps)
 
 -- it is behind the items' own nodes
 pub behind_items : (p : Puzzle) (i x : ℕ) → 0 < x → item_count p < link_place p i x
@@ -285,8 +260,7 @@ behind_items p i x pos = omega (arith, place_is p i x (x - 1) (omega (arith, pos
 -- where a use's node stands is its place
 pub use_at : (p : Puzzle) (x m k : ℕ) (u : Use) → IsFit p → x ≡ m + 1 → slice_get (uses_of p x) k ≡ Some u
     → link_place p u.item x ≡ start_at p m + k
-use_at p x m k u fit s e =
-    omega (arith, place_is p u.item x m s, (found_use (uses_of p x) k u (fit.distinct x) e).0)
+use_at p x m k u fit s e = omega (arith, place_is p u.item x m s, (found_use (uses_of p x) k u (fit.distinct x) e).0)
 
 pub record OptionNodes (p : Puzzle) (x m : ℕ) : Type 0 where
   pub node : (k : ℕ) (u : Use) → slice_get (uses_of p x) k ≡ Some u
@@ -299,12 +273,7 @@ option_nodes_at : (p : Puzzle) (x m : ℕ) → IsOption p x → x ≡ m + 1 → 
 option_nodes_at p x m known s =
     let us = uses_of p x in
     let here = option_get p m us (omega (arith, known.1, s)) (ap (uses_of p) s) in
-    record {
-      node = λ k u e. use_here p m k (start_at p m + k) us u here e refl ∙ ap (λ n. Some (used n u)) (sym s);
-      place = λ i. place_is p i x m s;
-      behind = spacer_here p x known.1;
-      end = omega (arith, ap (spacer_place p) s, place_next p m us here);
-    }
+    grind (arith, common_steps, use_here, place_is, spacer_here, place_next)
 
 pub option_nodes : (p : Puzzle) (x : ℕ) → IsOption p x → OptionNodes p x (x - 1)
 option_nodes p x known = option_nodes_at p x (x - 1) known (omega (arith, known.0))
@@ -323,13 +292,12 @@ held_node p i x pos e =
     let nodes = option_nodes p x known in
     let place = nodes.place i in
     let h = held_use (uses_of p x) i e in
-    let long = slice_get_within (uses_of p x) (place_in i (uses_of p x)) h.use_of h.at in
     record {
       known = known;
       held = h;
       node = ap (slice_get (layout p)) place ∙ nodes.node (place_in i (uses_of p x)) h.use_of h.at;
       from = omega (arith, place);
-      below = omega (arith, place, long, nodes.end);
+      below = omega (arith, place, slice_get_within (uses_of p x) (place_in i (uses_of p x)) h.use_of h.at, nodes.end);
     }
 
 -- the use whose node stands at a place between the spacers round the option
@@ -343,7 +311,7 @@ node_between p x q known from below =
     let u = get_or (uses_of p x) k d in
     let use_is = slice_get-get_or (uses_of p x) k d (omega (arith, from, below, nodes.end)) in
     let at : start_at p (x - 1) + k ≡ q = omega (arith, from) in
-    (u, use_is, ap (slice_get (layout p)) (sym at) ∙ nodes.node k u use_is)
+    grind (arith, common_steps)
 
 -- ---- what a node tells of its place
 
@@ -352,8 +320,7 @@ abbrev pub IsAt : Puzzle → ℕ → Node → Type 0
 IsAt p q unused = q ≡ 0
 IsAt p q (own i) = (0 < i) × (i ≤ item_count p) × (i ≡ q)
 IsAt p q (spacer n) = spacer_place p n ≡ q
-IsAt p q (used o u) =
-    (m : ℕ) × (k : ℕ) × (o ≡ m + 1) × (slice_get (uses_of p o) k ≡ Some u) × (start_at p m + k ≡ q)
+IsAt p q (used o u) = (m : ℕ) × (k : ℕ) × (o ≡ m + 1) × (slice_get (uses_of p o) k ≡ Some u) × (start_at p m + k ≡ q)
 
 spacer_at : (p : Puzzle) (n q : ℕ) (m : Node) → n ≤ option_count p → spacer_place p n ≡ q
     → slice_get (layout p) q ≡ Some m → IsAt p q m
@@ -364,11 +331,10 @@ spacer_at p n q m le at e =
 up_to : (p : Puzzle) (n q : ℕ) (m : Node) → n ≤ option_count p → item_count p < q → q ≤ spacer_place p n
     → slice_get (layout p) q ≡ Some m → IsAt p q m
 up_to p zero q m le gt to e = spacer_at p 0 q m le (omega (arith, gt, to, place_first p)) e
-up_to p (suc n) q m le gt to e =
-    elim (cases_lt (spacer_place p n) q) [
-      | inl low ↦ behind low (cases_lt q (spacer_place p (suc n)))
-      | inr low ↦ up_to p n q m (omega (arith, le)) gt low e
-    ]
+up_to p (suc n) q m le gt to e = elim (cases_lt (spacer_place p n) q) [
+  | inl low ↦ behind low (cases_lt q (spacer_place p (suc n)))
+  | inr low ↦ up_to p n q m (omega (arith, le)) gt low e
+]
   where
     behind : spacer_place p n < q → (q < spacer_place p (suc n)) ⊎ (spacer_place p (suc n) ≤ q) → IsAt p q m
     behind low (inr high) = spacer_at p (suc n) q m le (omega (arith, high, to)) e
@@ -377,17 +343,14 @@ up_to p (suc n) q m le gt to e =
         let same : j ≡ n = omega arith in
         let from : start_at p j ≤ q = omega (arith, low, ap (spacer_place p) same) in
         let b = node_between p (suc n) q (omega arith, le) from lt in
-        subst (IsAt p q) (same_Some (used (suc n) b.0) m (sym b.2 ∙ e))
-        (j, q - start_at p j, omega arith, b.1, omega (arith, from))
+        grind (arith, common_steps, same_Some)
 
 pub is_at : (p : Puzzle) (q : ℕ) (n : Node) → slice_get (layout p) q ≡ Some n → IsAt p q n
 is_at p zero n e = subst (IsAt p 0) (same_Some unused n e) refl
 is_at p (suc q) n e = by_place (cases_lt (item_count p) (suc q))
   where
     by_place : (item_count p < suc q) ⊎ (suc q ≤ item_count p) → IsAt p (suc q) n
-    by_place (inl gt) =
-        up_to p (option_count p) (suc q) n (omega arith) gt
-        (omega (arith, layout_len p, slice_get_within (layout p) (suc q) n e)) e
+    by_place (inl gt) = grind (arith, common_steps, up_to, layout_len, slice_get_within)
     by_place (inr le) =
         subst (IsAt p (suc q)) (same_Some (own (suc q)) n (sym (head_is p (suc q) (omega arith) le) ∙ e))
         (omega arith, le, refl)
@@ -401,9 +364,7 @@ row : (p : Puzzle) (o a n : ℕ) (us : List Use) → n ≡ length us
 row p o a n [] e at = let z : n ≡ 0 = omega (arith, e) in ap (range_with_len a) z
 row p o a zero (u ∷ us) e at = absurd (omega (arith, e))
 row p o a (suc n) (u ∷ us) e at =
-    let z : a + 0 ≡ a = omega arith in
-    ap₂ (λ x xs. x ∷ xs) (sym (at 0 u refl ∙ z))
-    (row p o (a + 1) n us (omega (arith, e))
+    ap₂ (λ x xs. x ∷ xs) (sym (at 0 u refl ∙ (omega arith))) (row p o (a + 1) n us (omega (arith, e))
     (λ k v f. (let s : a + suc k ≡ a + 1 + k = omega arith in at (suc k) v f ∙ s)))
 
 record SpanOf (p : Puzzle) (o i : ℕ) : Type 0 where
@@ -436,15 +397,10 @@ span_is p x i fit pos e =
             (omega (arith, place, w.below, end, length-take n us))
             (λ k u f. use_at p x m k u fit next (get_taken n k us u f))
             ∙ ap (map (λ j. link_place p j x)) (sym h.before);
-        behind = row p x (q + 1) (spacer_place p x - (q + 1)) (drop (n + 1) us)
-            (omega (arith, place, w.below, end, length-drop (n + 1) us))
-            (λ k u f. omega (arith, place, use_at p x m (n + 1 + k) u fit next (sym (get_dropped (n + 1) k us) ∙ f)))
-            ∙ ap (map (λ j. link_place p j x)) (sym h.behind);
+        behind = grind (arith, common_steps, row, length-drop, use_at, get_dropped);
         some = omega arith;
         first = ap (slice_get (layout p)) start ∙ spacer_here p m (omega (arith, w.known.1));
-        down = ap (λ b. cond b (spacer_place p (m + 1) - 1) 0 + 1)
-            (lt-ltb m (option_count p) (omega (arith, w.known.1, pos)))
-            ∙ omega (arith, ap (spacer_place p) next, end);
+        down = grind (arith, common_steps, lt-ltb);
         last = nodes.behind;
         up = ap (λ y. fixed_up p (spacer y)) up;
       });

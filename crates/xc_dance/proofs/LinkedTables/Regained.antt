@@ -8,11 +8,12 @@ use Rattle.xc_dance.specs.inner.Links.Lines.{Line}
 use Rattle.xc_dance.specs.Fields.{last_below, first_above, first_of, last_of, is_in}
 use Rattle.xc_dance.proofs.LinkedTables.Sweep.{in_more, Rises, Rises-filter, Swept, swept, stay, cuts, rises, above}
 use Rattle.xc_dance.proofs.LinkedTables.Sweep.{below, members, in_above, is_in-first, by_first, put_at-same}
-use Rattle.xc_dance.proofs.LinkedTables.Sweep.{put_at-other, last_below-none, last_below-self, last_below-more, mended}
+use Rattle.xc_dance.proofs.LinkedTables.Sweep.{put_at-other, last_below-none, last_below-more, mended}
 use Rattle.xc_dance.proofs.LinkedTables.Sweep.{IsLinkedFrom, cut}
 use Rattle.xc_dance.proofs.MoveLemmas.Members.{in_filter}
 use Rattle.xc_dance.proofs.LinkedTables.GoodLines.{line_is}
 use Rattle.xc_input.proofs.lists.Filters.{length-filter-le}
+use Rattle.std.proofs.Common.{le-ltb}
 
 -- The members before xs are back, a being the last of them and b the last of them that had stayed; those of xs that
 -- pass the test are still gone.
@@ -34,23 +35,19 @@ next_is l y (z ∷ zs) h = h.1
 
 -- what stays of the rest is not below its first
 near : (b z : ℕ) (zs : List ℕ) (g : ℕ → Bool) → Rises z zs → last_below b z (stay g (z ∷ zs)) ≡ b
-near b z zs g r = grind (arith, common_steps, Rises-filter, last_below-none, last_below-self)
+near b z zs g r = grind (arith, common_steps, Rises-filter, last_below-none, le-ltb)
 
 -- ---- over a member that had stayed
 
-stay_first : (y : ℕ) (ys : List ℕ) (g : ℕ → Bool) → g y ≡ false → stay g (y ∷ ys) ≡ y ∷ stay g ys
-stay_first y ys g e = ap (λ c. cond (not c) (y ∷ stay g ys) (stay g ys)) e
-
 up_next : (l m : Line) (a b y : ℕ) (ys : List ℕ) (g : ℕ → Bool) → Rises y ys → 0 < y → g y ≡ false
     → Held l m a b (y ∷ ys) g → m.up (first_of 0 ys) ≡ y
-up_next l m a b y [] g r pos e h = grind (arith, common_steps, in_more, is_in-first, last_below-more, near, stay_first)
-up_next l m a b y (z ∷ zs) g r pos e h =
-    grind (arith, common_steps, in_more, is_in-first, last_below-more, near, stay_first)
+up_next l m a b y [] g r pos e h = grind (arith, common_steps, in_more, is_in-first, last_below-more, near, stay)
+up_next l m a b y (z ∷ zs) g r pos e h = grind (arith, common_steps, in_more, is_in-first, last_below-more, near, stay)
 
 pub pass_on : (l m : Line) (a b y : ℕ) (ys : List ℕ) (g : ℕ → Bool) → IsLinkedFrom l a (y ∷ ys) → g y ≡ false
     → Held l m a b (y ∷ ys) g → Held l m y y ys g
 pass_on l m a b y ys g linked e h =
-    grind (arith, common_steps, above, below, members, Rises-filter, rises, stay_first, up_next)
+    grind (arith, common_steps, above, below, members, Rises-filter, rises, stay, up_next)
 
 -- ---- a member that was gone comes back
 
@@ -78,9 +75,6 @@ pub record SameLinks (l m : Line) : Type 0 where
   pub up : (x : ℕ) → m.up x ≡ l.up x
   pub down : (x : ℕ) → m.down x ≡ l.down x
 
-pub all_back : (l m : Line) (a b : ℕ) (g : ℕ → Bool) → IsLinkedFrom l a [] → Held l m a b [] g → SameLinks l m
-all_back l m a b g linked h = grind (arith, common_steps, by_first)
-
 -- ---- the same, told by those that are still gone
 
 pub record Regaining (l m : Line) (ks : List ℕ) : Type 0 where
@@ -107,16 +101,11 @@ pub regaining : (l : Line) (xs : List ℕ) (g : ℕ → Bool) → IsLinkedFrom l
     → Regaining l (cuts l (filter g xs)) (filter g xs)
 regaining l xs g linked long =
     let len = cuts_len l (filter g xs) (omega (arith, long, length-filter-le g xs)) in
-    let m : Line = cuts l (filter g xs) in
-    let s : Swept l m 0 xs (stay g xs) = swept l 0 xs g linked in
-    let r : Rises 0 xs = rises l 0 xs linked in
     let pass : (x : ℕ) → g x ≡ false → is_in x xs ≡ true → is_in x (stay g xs) ≡ true =
-    λ x e f. in_filter (λ x. not (g x)) x xs ∙ ap₂ (λ c d. not c && d) e f in
-    let fail : (x : ℕ) → g x ≡ true → is_in x (stay g xs) ≡ false =
-    λ x e. in_filter (λ x. not (g x)) x xs ∙ ap (λ c. not c && is_in x xs) e in
-    let absent : (x : ℕ) → is_in x xs ≡ false → is_in x (stay g xs) ≡ false = λ x f. in_filter (λ x. not (g x)) x xs
-    ∙ ap (λ d. not (g x) && d) f ∙ elim (g x) as (λ c. (not c && false) ≡ false) [ true ↦ refl | false ↦ refl ] in
-    grind (arith, common_steps, first_up, in_above)
+    grind (arith, common_steps, in_filter) in
+    let fail : (x : ℕ) → g x ≡ true → is_in x (stay g xs) ≡ false = grind (arith, common_steps, in_filter) in
+    let absent : (x : ℕ) → is_in x xs ≡ false → is_in x (stay g xs) ≡ false = grind (arith, common_steps, in_filter) in
+    grind (arith, common_steps, first_up, in_above, rises l 0 xs linked, swept l 0 xs g linked, cuts l (filter g xs))
 
 -- the next that comes back is reached over those that had stayed
 pub record NextBack (l m : Line) (k : ℕ) (ks : List ℕ) : Type 0 where
@@ -131,22 +120,20 @@ reached l m a b (y ∷ ys) g k ks linked h e len =
     elim (g y) as (λ c. g y ≡ c → cond c (y ∷ filter g ys) (filter g ys) ≡ k ∷ ks → NextBack l m k ks) [
       | true ↦ λ f i.
           let first : y ≡ k = cc in
-          let rest : filter g ys ≡ ks = cc in
           let found = finds l m a b y ys g linked f h in
           subst (λ z. NextBack l m z ks) first (record {
             up = found.0;
             down = found.1;
-            next =
-                record {
-                  a = y;
-                  b = b;
-                  xs = ys;
-                  g = g;
-                  linked = linked.3;
-                  held = come_back l m a b y ys g linked f h;
-                  left = rest;
-                  len = omega (arith, len);
-                };
+            next = record {
+              a = y;
+              b = b;
+              xs = ys;
+              g = g;
+              linked = linked.3;
+              held = come_back l m a b y ys g linked f h;
+              left = cc;
+              len = omega (arith, len);
+            };
           })
       | false ↦ λ f i. reached l m y y ys g k ks linked.3 (pass_on l m a b y ys g linked f h) i len
     ] refl e
@@ -156,9 +143,8 @@ next_back l m k ks r = reached l m r.a r.b r.xs r.g k ks r.linked r.held r.left 
 
 ended : (l m : Line) (a b : ℕ) (xs : List ℕ) (g : ℕ → Bool) → IsLinkedFrom l a xs → Held l m a b xs g → filter g xs ≡ []
     → SameLinks l m
-ended l m a b [] g linked h e = all_back l m a b g linked h
-ended l m a b (y ∷ ys) g linked h e =
-    let rest = ended l m y y ys g linked.3 in grind (arith, common_steps, pass_on)
+ended l m a b [] g linked h e = (grind (arith, common_steps, by_first))
+ended l m a b (y ∷ ys) g linked h e = grind (arith, common_steps, pass_on, ended l m y y ys g linked.3)
 
 pub regained : (l m : Line) → Regaining l m [] → m ≡ l
 regained l m r =

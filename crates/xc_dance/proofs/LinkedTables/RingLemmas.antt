@@ -63,27 +63,24 @@ first_other e q (y ∷ ys) ne out = out_rest y q ys out
 
 pub behind_other : (e q : ℕ) (ys : List ℕ) → AllApart ys → e ≢ q → behind e q ys ≢ q
 behind_other e q [] apart ne = ne
-behind_other e q (y ∷ ys) apart ne =
-    elim (eqb y q) as (λ b. eqb y q ≡ b → cond b (first_of e ys) (behind e q ys) ≢ q) [
-      | true ↦ λ f. first_other e q ys ne (ap (λ k. is_in k ys) (sym (eqb-true y q f)) ∙ out_of y ys apart.0)
-      | false ↦ λ f. behind_other e q ys apart.1 ne
-    ] refl
+behind_other e q (y ∷ ys) apart ne = elim (eqb y q) as (λ b. eqb y q ≡ b → cond b (first_of e ys) (behind e q ys) ≢ q) [
+  | true ↦ λ f. first_other e q ys ne (ap (λ k. is_in k ys) (sym (eqb-true y q f)) ∙ out_of y ys apart.0)
+  | false ↦ λ f. behind_other e q ys apart.1 ne
+] refl
 
 -- ---- one has left
 
 first_less : (e i : ℕ) (ys : List ℕ) → AllApart ys → e ≢ i
     → first_of e (less i ys) ≡ cond (eqb (first_of e ys) i) (behind e i ys) (first_of e ys)
 first_less e i [] apart ne = rw (ne_eqb e i ne) refl
-first_less e i (y ∷ ys) apart ne =
-    grind (arith, common_steps, eqb-false, eqb-true, false≢true, out_of, stay_same)
+first_less e i (y ∷ ys) apart ne = grind (arith, common_steps, eqb-false, eqb-true, false≢true, out_of, stay_same)
 
 pub behind_less : (e i q : ℕ) (ys : List ℕ) → AllApart ys → e ≢ i → q ≢ i
     → behind e q (less i ys) ≡ cond (eqb (behind e q ys) i) (behind e i ys) (behind e q ys)
 behind_less e i q [] apart ne nq = rw (ne_eqb e i ne) refl
 behind_less e i q (y ∷ ys) apart ne nq =
     by_first (behind e q (less i (y ∷ ys)) ≡ cond (eqb (behind e q (y ∷ ys)) i) (behind e i (y ∷ ys))
-    (behind e q (y ∷ ys))) y i
-    (λ same.
+    (behind e q (y ∷ ys))) y i (λ same.
     let out : is_in i ys ≡ false = ap (λ k. is_in k ys) (sym same) ∙ out_of y ys apart.0 in
     let no : behind e q ys ≢ i = λ s. false≢true (sym (is_in-other e i ys ne ∙ out)
     ∙ ap (λ k. is_in k (e ∷ ys)) (sym s) ∙ behind_within e q ys) in

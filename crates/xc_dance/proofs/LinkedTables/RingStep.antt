@@ -62,26 +62,13 @@ pub right_now : (p : Puzzle) (t : List Move) (q : ℕ) → is_covered q t ≡ fa
 right_now p [] q e = refl
 right_now p (m ∷ t) q e = ap (λ b. cond b (right_of p t q) (first_above (ring_head p q) q (ring_of p (m ∷ t) q))) e
 
--- a move that covers no item
-still_ring : (p : Puzzle) (t : List Move) (m : Move) (i : ℕ) → ((q : ℕ) → is_covered q (m ∷ t) ≡ is_covered q t)
-    → ring_of p (m ∷ t) i ≡ ring_of p t i
-still_ring p t m i s = grind (arith, common_steps, filter_agree)
-
-pub still_left : (p : Puzzle) (t : List Move) (m : Move) (q : ℕ) → ((q : ℕ) → is_covered q (m ∷ t) ≡ is_covered q t)
-    → left_of p (m ∷ t) q ≡ left_of p t q
-still_left p t m q s = grind (arith, common_steps, left_now, still_ring)
-
-pub still_right : (p : Puzzle) (t : List Move) (m : Move) (q : ℕ) → ((q : ℕ) → is_covered q (m ∷ t) ≡ is_covered q t)
-    → right_of p (m ∷ t) q ≡ right_of p t q
-still_right p t m q s = grind (arith, common_steps, right_now, still_ring)
-
 pub still_llink : (p : Puzzle) (t : List Move) (m : Move) (q : ℕ) → ((q : ℕ) → is_covered q (m ∷ t) ≡ is_covered q t)
     → llink_at p (m ∷ t) q ≡ llink_at p t q
-still_llink p t m q s = grind (arith, common_steps, still_left, still_ring)
+still_llink p t m q s = grind (arith, common_steps, left_now, filter_agree)
 
 pub still_rlink : (p : Puzzle) (t : List Move) (m : Move) (q : ℕ) → ((q : ℕ) → is_covered q (m ∷ t) ≡ is_covered q t)
     → rlink_at p (m ∷ t) q ≡ rlink_at p t q
-still_rlink p t m q s = grind (arith, common_steps, still_right, still_ring)
+still_rlink p t m q s = grind (arith, common_steps, right_now, filter_agree)
 
 pub same_items : (s t : Items) → s.llink ≡ t.llink → s.rlink ≡ t.rlink → s.bound ≡ t.bound → s.slack ≡ t.slack → s ≡ t
 same_items s t a b c d = grind (arith, common_steps)
@@ -95,30 +82,26 @@ spends_own : (t : List Move) (i : ℕ) → spends i (Spend i ∷ t) ≡ 1 + spen
 spends_own t i = rw (eq-eqb i i refl) refl
 
 bound_other : (p : Puzzle) (t : List Move) (i q : ℕ) → q ≢ i → bound_at p (Spend i ∷ t) q ≡ bound_at p t q
-bound_other p t i q ne = let z : 0 + spends q t ≡ spends q t = omega arith in
-    rw (ne_eqb q i ne) (ap (λ n. cond (eqb q 0) 0 (high_at p q - n)) z)
+bound_other p t i q ne = grind (arith, common_steps, ne_eqb)
 
 pub spend_step : (p : Puzzle) (t : List Move) (i : ℕ) → IsLegal p t (Spend i) → high_at p i < 2 ^ 31 → SpendStep p t i
 spend_step p t i may few =
-    let n = primary_count p + 1 in
     let pos : 0 < i = let h = may.0.0 in omega (arith, h) in
-    let within : i < n = let h = may.0.1 in omega (arith, h) in
-    let lt = may.1 in
+    let within : i < (primary_count p + 1) = let h = may.0.1 in omega (arith, h) in
     let next = Spend i ∷ t in
     let before : get_or (items_after p t).bound i 0 ≡ high_at p i - spends i t =
-    row_get (bound_at p t) n i within ∙ bound_own p t i pos in
+    grind (arith, common_steps, row_get, bound_own) in
     let after : get_or (items_after p next).bound i 0 ≡ high_at p i - (1 + spends i t) =
-    row_get (bound_at p next) n i within ∙ bound_own p next i pos ∙ ap (λ k. high_at p i - k) (spends_own t i) in
+    grind (arith, common_steps, row_get, bound_own, spends_own) in
     let llinks : (items_after p next).llink ≡ (items_after p t).llink =
     row_same (llink_at p t) (llink_at p next) (item_count p + 2) (λ q h. still_llink p t (Spend i) q (λ k. refl)) in
     let rlinks : (items_after p next).rlink ≡ (items_after p t).rlink =
     row_same (rlink_at p t) (rlink_at p next) (item_count p + 2) (λ q h. still_rlink p t (Spend i) q (λ k. refl)) in
     let down : bound_at p next i ≡ get_or (items_after p t).bound i 0 - 1 =
-    bound_own p next i pos ∙ ap (λ k. high_at p i - k) (spends_own t i) ∙ omega (arith, before) in
-    let up : bound_at p t i ≡ get_or (items_after p next).bound i 0 + 1 =
-    bound_own p t i pos ∙ omega (arith, after, lt) in
+    grind (arith, common_steps, bound_own, spends_own) in
+    let up : bound_at p t i ≡ get_or (items_after p next).bound i 0 + 1 = grind (arith, common_steps, bound_own) in
     let bounds : (items_after p next).bound ≡ set (items_after p t).bound i (get_or (items_after p t).bound i 0 - 1) =
-    row_put (bound_at p t) (bound_at p next) n i _ (λ q h ne. bound_other p t i q ne) down in
+    grind (arith, common_steps, row_put, bound_other) in
     let back : (items_after p t).bound ≡ set (items_after p next).bound i (get_or (items_after p next).bound i 0 + 1) =
-    row_put (bound_at p next) (bound_at p t) n i _ (λ q h ne. sym (bound_other p t i q ne)) up in
-    grind (arith, common_steps, row_len, same_items)
+    grind (arith, common_steps, row_put, bound_other) in
+    grind (arith, common_steps, row_len, same_items, may.1)

@@ -22,10 +22,11 @@ use Rattle.xc_dance.specs.inner.Links.Made.{IsFitted}
 use Rattle.xc_dance.specs.inner.Links.Taken.{taken_nodes}
 use Rattle.xc_dance.specs.Same.{IsSame}
 use Rattle.xc_dance.proofs.LinkedTables.TopCells.{llink_read, rlink_read, bound_read, slack_read, top_cell, ulink_cell}
-use Rattle.xc_dance.proofs.LinkedTables.TopCells.{dlink_cell, color_own, color_use, natural, color_same, read_same}
+use Rattle.xc_dance.proofs.LinkedTables.TopCells.{dlink_cell, color_own, color_use, natural, read_same}
 use Rattle.xc_dance.proofs.LinkedTables.TopCells.{natural_same, same_list, IsSound, top_cells}
 use Rattle.xc_dance.proofs.LinkedTables.LinkColumns.{same_nodes}
 use Rattle.xc_dance.proofs.LinkedTables.RingStep.{same_items}
+use Rattle.xc_dance.proofs.LinkedTables.TopCells.{pos_same}
 
 -- ---- tables have the same columns exactly where they have the same fields
 
@@ -81,7 +82,7 @@ color_cells p q t s k a b items h =
     let y = slice_get (nodes_after q s).color k in
     elim (ltb (item_count p) k) as (λ c. ltb (item_count p) k ≡ c → x ≡ y) [
       | true ↦ λ e. (let high = ltb-true (item_count p) k e in
-          read_same color_read x y (λ v w f g r. color_same v w r)
+          read_same color_read x y (λ v w f g r. (grind (arith, common_steps, eqb-true, pos_same)))
           (color_use p t k a.laid a.fit high ∙ h ∙ sym (color_use q s k b.laid b.fit (omega (arith, high, items)))))
       | false ↦ λ e. (let low = ltb-false (item_count p) k e in
           natural_same x y (color_own p t k a.laid low ∙ h ∙ sym (color_own q s k b.laid (omega (arith, low, items)))))
@@ -91,8 +92,7 @@ pub nodes_from_fields : (p q : Puzzle) (t s : List Move) → IsSound p → IsSou
     → nodes_after p t ≡ nodes_after q s
 nodes_from_fields p q t s a b h =
     let items = items_many p q t s (llinks p q t s h) in
-    same_nodes (nodes_after p t) (nodes_after q s)
-    (same_list (nodes_after p t).top (nodes_after q s).top
+    same_nodes (nodes_after p t) (nodes_after q s) (same_list (nodes_after p t).top (nodes_after q s).top
     (λ k. top_cells p q t s k a b items
     (top_cell p t k a.laid a.fit a.items ∙ h Top k ∙ sym (top_cell q s k b.laid b.fit b.items))))
     (rows_same _ _ _ _ (λ k. ulink_cell p t k a.laid) (λ k. ulink_cell q s k b.laid) (h Ulink))
@@ -152,12 +152,11 @@ forwards xs ys e = sym (reverse-reverse xs) ∙ ap reverse e ∙ reverse-reverse
 
 -- the tables and the trails of both are equal exactly where the fields are, the moves and the nodes taken off
 pub is_same : (p q : Puzzle) (sp sq : List Span) (i j : Items) (n m : Nodes) (xs ys : List Move) (ms ns : List ℕ)
-    → IsFitted p sp → IsFitted q sq →
-    i ≡ items_after p (reverse xs) → j ≡ items_after q (reverse ys) → n ≡ nodes_after p (reverse xs)
-    → m ≡ nodes_after q (reverse ys) →
-    reverse ms ≡ taken_nodes p (reverse xs) → reverse ns ≡ taken_nodes q (reverse ys) →
-    (AreEqual i j n m xs ys ms ns → IsSame p (reverse xs) q (reverse ys))
-    × (IsSame p (reverse xs) q (reverse ys) → AreEqual i j n m xs ys ms ns)
+    → IsFitted p sp → IsFitted q sq → i ≡ items_after p (reverse xs) → j ≡ items_after q (reverse ys)
+    → n ≡ nodes_after p (reverse xs) → m ≡ nodes_after q (reverse ys) → reverse ms ≡ taken_nodes p (reverse xs)
+    → reverse ns ≡ taken_nodes q (reverse ys)
+    → (AreEqual i j n m xs ys ms ns → IsSame p (reverse xs) q (reverse ys)) × (IsSame p (reverse xs) q (reverse ys) →
+    AreEqual i j n m xs ys ms ns)
 is_same p q sp sq i j n m xs ys ms ns a b is_i is_j is_n is_m is_ms is_ns =
     grind (arith, common_steps, fields_from, forwards, items_from, nodes_from_fields, sound)
 

@@ -63,8 +63,7 @@ can_unhide_node p ln' col t spans o i spanned pos named can mid =
     let x = link_place p i o in
     let s = spanned.span o i pos named in
     let first = (span_at spans x).first in
-    let met : fold unhidden t (reverse (places first x)) ≡ nodes_from p ln' col =
-    ap (λ qs. fold unhidden t (reverse qs)) s.before ∙ mid in
+    let met : fold unhidden t (reverse (places first x)) ≡ nodes_from p ln' col = grind (arith, common_steps) in
     record {
       steps = subst (λ qs. CanUnhideAll t (reverse qs)) (sym (others_are p spans o i spanned pos named)) can;
       from = s.some;
@@ -95,20 +94,19 @@ pub record Turns (p : Puzzle) (ln : ℕ → Line) (col : Node → ℕ) (spans : 
 pub turns : (p : Puzzle) (ln : ℕ → Line) (col : Node → ℕ) (lists : ℕ → List ℕ) (spans : List Span) (o i : ℕ)
     → HasSpans p spans → 0 < o → Named p i o → Walked p col ln lists o (other_items p o i) →
     Walked p col ln lists o (behind_use i (uses_of p o)) → Turns p ln col spans o i
-turns p ln col lists spans o i spanned pos named w mid =
-    grind (
-      arith,
-      common_steps,
-      can_hide_node,
-      can_unhide_node,
-      costs-are,
-      fold-append,
-      fold-unhidden-reverse,
-      hidden_color,
-      map-append,
-      others_are,
-      unhidden_color,
-      undone_behind,
-      unmarked-reverse,
-      unmarked_items,
-    )
+turns p ln col lists spans o i spanned pos named w mid = grind (
+  arith,
+  common_steps,
+  can_hide_node,
+  can_unhide_node,
+  costs-are,
+  fold-append,
+  fold-unhidden-reverse,
+  hidden_color,
+  map-append,
+  others_are,
+  unhidden_color,
+  undone_behind,
+  unmarked-reverse,
+  unmarked_items,
+)

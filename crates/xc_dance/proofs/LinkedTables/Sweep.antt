@@ -75,14 +75,12 @@ rises l a (x ∷ xs) h = (h.0, rises l x xs h.3)
 pub not_in : (n x : ℕ) (xs : List ℕ) → x ≤ n → Rises n xs → is_in x xs ≡ false
 not_in n x [] h r = refl
 not_in n x (y ∷ ys) h r =
-    let ne : eqb y x ≡ false = ne_eqb y x (λ e. omega (arith, e, r.0)) in
-    rw ne (not_in y x ys (omega (arith, r.0)) r.1)
+    grind (arith, common_steps, not_in y x ys (omega (arith, r.0)) r.1, ne_eqb y x (λ e. omega (arith, e, r.0)))
 
 -- a member is higher than the start
 pub in_above : (n x : ℕ) (xs : List ℕ) → Rises n xs → is_in x xs ≡ true → n < x
 in_above n x [] r e = absurd (false≢true e)
-in_above n x (y ∷ ys) r e =
-    let rest = in_above y x ys r.1 in grind (arith, common_steps, eqb-true)
+in_above n x (y ∷ ys) r e = grind (arith, common_steps, eqb-true, in_above y x ys r.1)
 
 pub is_in-other : (y x : ℕ) (ys : List ℕ) → y ≢ x → is_in x (y ∷ ys) ≡ is_in x ys
 is_in-other y x ys ne = rw (ne_eqb y x ne) refl
@@ -104,68 +102,51 @@ last_of-more a y zs = last_or_some y a zs
 
 none_below : (x n : ℕ) (xs : List ℕ) → x ≤ n → Rises n xs → filter (λ k. nat_lt k x) xs ≡ []
 none_below x n [] h r = refl
-none_below x n (y ∷ ys) h r =
-    let no : ltb y x ≡ false = le-ltb y x (omega (arith, r.0)) in rw no (none_below x y ys (omega (arith, r.0)) r.1)
+none_below x n (y ∷ ys) h r = rw (le-ltb y x (omega (arith, r.0))) (none_below x y ys (omega (arith, r.0)) r.1)
 
 pub last_below-none : (a x n : ℕ) (xs : List ℕ) → x ≤ n → Rises n xs → last_below a x xs ≡ a
 last_below-none a x n xs h r = ap (λ ks. unwrap_or (last_or None ks) a) (none_below x n xs h r)
 
-pub last_below-self : (a y : ℕ) (ys : List ℕ) → Rises y ys → last_below a y (y ∷ ys) ≡ a
-last_below-self a y ys r =
-    let no : ltb y y ≡ false = le-ltb y y (omega arith) in rw no (last_below-none a y y ys (omega arith) r)
-
 pub last_below-more : (a x y : ℕ) (ys : List ℕ) → y < x → last_below a x (y ∷ ys) ≡ last_below y x ys
-last_below-more a x y ys h =
-    let yes : ltb y x ≡ true = lt-ltb y x h in rw yes (last_or_some y a (filter (λ k. nat_lt k x) ys))
+last_below-more a x y ys h = rw (lt-ltb y x h) (last_or_some y a (filter (λ k. nat_lt k x) ys))
 
 pub first_above-first : (o x n : ℕ) (xs : List ℕ) → x ≤ n → Rises n xs → first_above o x xs ≡ first_of o xs
 first_above-first o x n [] h r = refl
 first_above-first o x n (y ∷ ys) h r = let yes : ltb x y ≡ true = lt-ltb x y (omega (arith, r.0)) in rw yes refl
 
-pub first_above-more : (o x y : ℕ) (ys : List ℕ) → y ≤ x → first_above o x (y ∷ ys) ≡ first_above o x ys
-first_above-more o x y ys h = let no : ltb x y ≡ false = le-ltb x y h in rw no refl
-
 -- what stands beside a number in a list that rises
-pub ruleset below = (last_below-none, last_below-self, last_below-more, last_of-more)
+pub ruleset below = (last_below-none, le-ltb, last_below-more, last_of-more)
 
-pub ruleset above = (first_above-first, first_above-more)
+pub ruleset above = (first_above-first, le-ltb)
 
 -- ---- one leaves from the top
 
 -- what stands further down sees the links further down alone
-IsLinkedFrom-same : (l m : Line) (a : ℕ) (xs : List ℕ)
-    → ((k : ℕ) → a ≤ k → m.down k ≡ l.down k)
-    → ((k : ℕ) → a < k → m.up k ≡ l.up k)
-    → m.up 0 ≡ l.up 0
-    → IsLinkedFrom l a xs → IsLinkedFrom m a xs
+IsLinkedFrom-same : (l m : Line) (a : ℕ) (xs : List ℕ) → ((k : ℕ) → a ≤ k → m.down k ≡ l.down k)
+    → ((k : ℕ) → a < k → m.up k ≡ l.up k) → m.up 0 ≡ l.up 0 → IsLinkedFrom l a xs → IsLinkedFrom m a xs
 IsLinkedFrom-same l m a [] down up last h = (down a (omega arith) ∙ h.0, last ∙ h.1)
-IsLinkedFrom-same l m a (x ∷ xs) down up last h =
-    let lt : a < x = h.0 in (
-      lt,
-      down a (omega arith) ∙ h.1,
-      up x lt
-          ∙ h.2,
-      IsLinkedFrom-same l m x xs (λ k le. down k (omega arith)) (λ k le. up k (omega arith)) last h.3,
-    )
+IsLinkedFrom-same l m a (x ∷ xs) down up last h = (
+  grind (arith, common_steps),
+  grind (arith, common_steps),
+  grind (arith, common_steps),
+  IsLinkedFrom-same l m x xs (λ k le. down k (omega arith)) (λ k le. up k (omega arith)) last h.3,
+)
 
 pub cut-linked : (l : Line) (a y : ℕ) (ys : List ℕ) → IsLinkedFrom l a (y ∷ ys) → IsLinkedFrom (cut l y) a ys
 cut-linked l a y [] h = (
-  put_at-same l.down (l.up y) (l.down y) a (sym h.2) ∙ h.3.0,
-  put_at-same l.up (l.down y) (l.up y) 0 (sym h.3.0) ∙ h.2,
+  grind (arith, common_steps, put_at-same),
+  grind (arith, common_steps, put_at-same),
 )
 cut-linked l a y (z ∷ zs) h =
-    let lt : a < y = h.0 in
     let is_u : l.up y ≡ a = h.2 in
     let lt' : y < z = h.3.0 in
     let is_d : l.down y ≡ z = h.3.1 in (
       omega arith,
-      put_at-same l.down (l.up y) (l.down y) a (sym is_u) ∙ is_d,
-      put_at-same l.up (l.down y) (l.up y) z (sym is_d) ∙ is_u,
-      IsLinkedFrom-same l (cut l y) z zs
-          (λ k le. put_at-other l.down (l.up y) (l.down y) k (λ e. omega arith))
+      grind (arith, common_steps, put_at-same),
+      grind (arith, common_steps, put_at-same),
+      IsLinkedFrom-same l (cut l y) z zs (λ k le. put_at-other l.down (l.up y) (l.down y) k (λ e. omega arith))
           (λ k gt. put_at-other l.up (l.down y) (l.up y) k (λ e. omega arith))
-          (put_at-other l.up (l.down y) (l.up y) 0 (λ e. omega arith))
-          h.3.3,
+          (put_at-other l.up (l.down y) (l.up y) 0 (λ e. omega arith)) h.3.3,
     )
 
 -- what stands below a member is the item's own node or a later member
@@ -208,13 +189,11 @@ pub ruleset members = (by_first, in_above, in_more, in_rest, is_in-first, is_in-
 first_leaves : (l m : Line) (a y : ℕ) (ys ks : List ℕ) → IsLinkedFrom l a (y ∷ ys) → Rises a ks → Rises y ks
     → Swept (cut l y) m a ys ks → Swept l m a (y ∷ ys) ks
 first_leaves l m a y ys ks h ra ry s =
-    let r : Rises y ys = rises l y ys h.3 in
-    grind (arith, common_steps, above, below, members, below_first, put_at-other)
+    grind (arith, common_steps, above, below, members, below_first, put_at-other, rises l y ys h.3)
 
 first_stays : (l m : Line) (a y : ℕ) (ys ks : List ℕ) → IsLinkedFrom l a (y ∷ ys) → Rises y ks → Swept l m y ys ks
     → Swept l m a (y ∷ ys) (y ∷ ks)
-first_stays l m a y ys ks h ry s =
-    let r : Rises y ys = rises l y ys h.3 in grind (arith, common_steps, above, below, members)
+first_stays l m a y ys ks h ry s = grind (arith, common_steps, above, below, members, rises l y ys h.3)
 
 pub swept : (l : Line) (a : ℕ) (xs : List ℕ) (g : ℕ → Bool) → IsLinkedFrom l a xs
     → Swept l (cuts l (filter g xs)) a xs (stay g xs)
@@ -230,14 +209,12 @@ pub swept_len : (l : Line) (xs : List ℕ) (g : ℕ → Bool) (n : ℕ) → l.le
 swept_len l [] g n e = grind (arith, common_steps)
 swept_len l (y ∷ ys) g n e =
     let gone = swept_len (cut l y) ys g n (omega (arith, e)) in
-    let staying = swept_len l ys g (n + 1) (omega (arith, e)) in
-    grind (arith, common_steps)
+    grind (arith, common_steps, swept_len l ys g (n + 1) (omega (arith, e)))
 
 -- a number that isn't in is not taken out
 pub stay_same : (i : ℕ) (xs : List ℕ) → (is_in i xs ≡ true → ⊥) → stay (λ x. eqb x i) xs ≡ xs
 stay_same i [] out = refl
-stay_same i (y ∷ ys) out =
-    let rest = stay_same i ys in grind (arith, common_steps, is_in-first, is_in-other)
+stay_same i (y ∷ ys) out = grind (arith, common_steps, is_in-first, is_in-other, stay_same i ys)
 
 -- ---- the line that stands for an item's list, move by move
 
@@ -248,8 +225,7 @@ pub linked_by : (l : Line) (a : ℕ) (xs : List ℕ) → Rises a xs
     → ((x : ℕ) → is_in x xs ≡ true → l.down x ≡ first_above 0 x xs)
     → l.down a ≡ first_of 0 xs → l.up 0 ≡ last_of a xs → IsLinkedFrom l a xs
 linked_by l a [] r up down first last = (first, last)
-linked_by l a (y ∷ ys) r up down first last =
-    let rest = linked_by l y ys r.1 in grind (arith, common_steps, above, below, members)
+linked_by l a (y ∷ ys) r up down first last = grind (arith, common_steps, above, below, members, linked_by l y ys r.1)
 
 -- ---- lists shrink
 
@@ -314,10 +290,7 @@ down_after p t m j l s zero = grind (arith, common_steps)
 down_after p t m j l s (suc x) = grind (arith, common_steps)
 
 built : (p : Puzzle) (j : ℕ) → IsLinkedFrom (line_of p [] j) 0 (listed_numbers p [] j)
-built p j =
-    let xs = listed_numbers p [] j in
-    let r = rises_listed p [] j in
-    grind (arith, common_steps, in_above, linked_by)
+built p j = grind (arith, common_steps, in_above, linked_by, rises_listed p [] j, listed_numbers p [] j)
 
 -- each item's line stands for its list
 pub stands : (p : Puzzle) (t : List Move) (j : ℕ) → IsLinkedFrom (line_of p t j) 0 (listed_numbers p t j)
@@ -328,5 +301,4 @@ stands p (m ∷ t) j =
     let l : Line = cuts (line_of p t j) (filter sh.test xs) in
     let s : Swept (line_of p t j) l 0 xs (listed_numbers p (m ∷ t) j) =
     subst (Swept (line_of p t j) l 0 xs) (sym sh.is) (swept (line_of p t j) 0 xs sh.test (stands p t j)) in
-    IsLinkedFrom-same l (line_of p (m ∷ t) j) 0 (listed_numbers p (m ∷ t) j) (λ k le. down_after p t m j l s k)
-    (λ k lt. up_after p t m j l s k) (up_after p t m j l s 0) s.linked
+    grind (arith, common_steps, IsLinkedFrom-same, down_after, up_after)

@@ -38,14 +38,8 @@ pos_same v w e = cc
 pub negsuc_same : (v w : ℕ) → negsuc v ≡ negsuc w → v ≡ w
 negsuc_same v w e = cc
 
-pub color_same : (v w : ℕ) → color_read v ≡ color_read w → v ≡ w
-color_same v w e = grind (arith, common_steps, eqb-true, pos_same)
-
 pub read_small : (v : ℕ) → v < SPACER → top_read v ≡ pos v
 read_small v h = rw (lt-leb SPACER v h) refl
-
-pub read_large : (v : ℕ) → SPACER ≤ v → top_read v ≡ minus (v - SPACER)
-read_large v h = let yes = le-leb SPACER v h in rw yes refl
 
 -- ---- cells that are read
 
@@ -68,20 +62,9 @@ same_list (x ∷ xs) (y ∷ ys) h = ap₂ (λ z zs. z ∷ zs) (same_Some x y (h 
 
 -- ---- tOP, where 0 can be a length or the number of the first spacer, reads differently for different cells
 
-pub minus_same : (v w : ℕ) → minus v ≡ minus w → v ≡ w
-minus_same zero zero e = refl
-minus_same zero (suc w) e = let f : pos 0 ≡ negsuc w = e in cc
-minus_same (suc v) zero e = let f : negsuc v ≡ pos 0 = e in cc
-minus_same (suc v) (suc w) e = ap suc (negsuc_same v w e)
-
-pub minus_pos : (v w : ℕ) → pos v ≡ minus w → w ≡ 0
-minus_pos v zero e = refl
-minus_pos v (suc w) e = let f : pos v ≡ negsuc w = e in cc
-
 -- a number that reads as 0 may be one of two
 pub top_same : (v w : ℕ) → top_read v ≡ top_read w → (v ≡ w) ⊎ ((v ≡ SPACER) ⊎ (w ≡ SPACER))
-top_same v w e =
-    grind (arith, common_steps, ltb-false, ltb-true, minus_pos, minus_same, pos_same, read_large, read_small)
+top_same v w e = grind (arith, common_steps, ltb-false, ltb-true, negsuc_same, pos_same, le-leb, read_small)
 
 -- what the lemmas ask of each table
 pub record IsSound (p : Puzzle) : Type 0 where
@@ -97,8 +80,7 @@ first_spacer p t q (own i) s e f = grind (arith, common_steps, length-listed)
 first_spacer p t q (spacer n) s e f =
     let z : n ≡ 0 = omega (arith, f) in sym (is_at p q (spacer n) e) ∙ ap (spacer_place p) z ∙ place_first p
 first_spacer p t q (used o u) s e f =
-    let r = s.laid.nodes.ranged q (used o u) u.item o e refl in
-    absurd (omega (arith, f, r.1, s.items))
+    absurd (omega (arith, f, (s.laid.nodes.ranged q (used o u) u.item o e refl).1, s.items))
 
 pub top_at_first : (p : Puzzle) (t : List Move) (v : ℕ) → slice_get (nodes_after p t).top (item_count p + 1) ≡ Some v
     → v ≡ SPACER
@@ -106,9 +88,8 @@ top_at_first p t v e =
     let here : slice_get (layout p) (item_count p + 1) ≡ Some (spacer 0) =
     ap (slice_get (layout p)) (sym (place_first p)) ∙ spacer_here p 0 (omega arith) in
     let is : slice_get (nodes_after p t).top (item_count p + 1) ≡ Some SPACER =
-    slice_get-map (top_in (line_of p t)) (layout p) (item_count p + 1)
-    ∙ ap (option_map (top_in (line_of p t))) here in
-    same_Some v SPACER (sym e ∙ is)
+    grind (arith, common_steps, slice_get-map) in
+    grind (arith, common_steps, same_Some)
 
 pub node_at : (p : Puzzle) (f : Node → ℕ) (q v : ℕ) → slice_get (map f (layout p)) q ≡ Some v → (n : Node)
     × (slice_get (layout p) q ≡ Some n) × (f n ≡ v)
@@ -122,22 +103,17 @@ top_cells p q t s k a b items e =
   where
     by_value : (v w : ℕ) → slice_get (nodes_after p t).top k ≡ Some v → slice_get (nodes_after q s).top k ≡ Some w
         → top_read v ≡ top_read w → v ≡ w
-    by_value v w f g h =
-        elim (top_same v w h) [
-          | inl same ↦ same
-          | inr large ↦ elim large [
-            | inl is ↦
-                (let n = node_at p (top_in (line_of p t)) k v f in
-                let at = first_spacer p t k n.0 a n.1 (n.2 ∙ is) in
-                is ∙ sym (top_at_first q s w
-                (ap (slice_get (nodes_after q s).top) (sym (at ∙ ap (λ m. m + 1) items)) ∙ g)))
-            | inr is ↦
-                (let n = node_at q (top_in (line_of q s)) k w g in
-                let at = first_spacer q s k n.0 b n.1 (n.2 ∙ is) in
-                top_at_first p t v (ap (slice_get (nodes_after p t).top) (sym (at ∙ ap (λ m. m + 1) (sym items))) ∙ f)
-                ∙ sym is)
-          ]
-        ]
+    by_value v w f g h = elim (top_same v w h) [
+      | inl same ↦ same
+      | inr large ↦ elim large [
+        | inl is ↦ (let n = node_at p (top_in (line_of p t)) k v f in
+            is ∙ sym (top_at_first q s w (ap (slice_get (nodes_after q s).top)
+            (sym ((first_spacer p t k n.0 a n.1 (n.2 ∙ is)) ∙ ap (λ m. m + 1) items)) ∙ g)))
+        | inr is ↦ (let n = node_at q (top_in (line_of q s)) k w g in
+            top_at_first p t v (ap (slice_get (nodes_after p t).top)
+            (sym ((first_spacer q s k n.0 b n.1 (n.2 ∙ is)) ∙ ap (λ m. m + 1) (sym items))) ∙ f) ∙ sym is)
+      ]
+    ]
 
 -- ---- a cell that is read is the field
 
@@ -146,16 +122,12 @@ row_read f a zero q = grind (arith, common_steps, le-ltb, lt-ltb, ltb-false, ltb
 row_read f a (suc n) zero = grind (arith, common_steps, le-ltb, lt-ltb, ltb-false, ltb-true)
 row_read f a (suc n) (suc q) = grind (arith, common_steps, le-ltb, lt-ltb, ltb-false, ltb-true, row_read f (a + 1) n q)
 
-row_at_zero : (f : ℕ → ℕ) (n q : ℕ) → slice_get (map f (range_with_len 0 n)) q ≡ cond (ltb q n) (Some (f q)) None
-row_at_zero f n q = let z : 0 + q ≡ q = omega arith in row_read f 0 n q ∙ ap (λ k. cond (ltb q n) (Some (f k)) None) z
-
 -- the columns from 0 to the items and one more
-item_row : (p : Puzzle) (inner : ℕ → ℕ) (first last q : ℕ) →
-    option_map natural (slice_get
-    (map (λ k. cond (eqb k 0) first (cond (leb k (item_count p)) (inner k) last))
+item_row : (p : Puzzle) (inner : ℕ → ℕ) (first last q : ℕ)
+    → option_map natural (slice_get (map (λ k. cond (eqb k 0) first (cond (leb k (item_count p)) (inner k) last))
     (range_with_len 0 (item_count p + 2))) q) ≡ item_cell p q inner first last
 item_row p inner first last q =
-    grind (arith, common_steps, eqb-false, eqb-true, le-ltb, leb-false, leb-true, lt-ltb, row_at_zero)
+    grind (arith, common_steps, eqb-false, eqb-true, le-ltb, leb-false, leb-true, lt-ltb, row_read)
 
 pub llink_read : (p : Puzzle) (t : List Move) (q : ℕ)
     → option_map natural (slice_get (items_after p t).llink q) ≡ field_of p t Llink q
@@ -171,13 +143,8 @@ rlink_read p t q =
 
 -- ---- the node table
 
-minus_is : (n : ℕ) → minus n ≡ neg_ℤ (pos n)
-minus_is zero = refl
-minus_is (suc n) = refl
-
 spacer_top : (n : ℕ) → top_read (SPACER + n) ≡ neg_ℤ (pos n)
-spacer_top n = let rest : SPACER + n - SPACER ≡ n = omega arith in read_large (SPACER + n) (omega arith) ∙ ap minus rest
-    ∙ minus_is n
+spacer_top n = let rest : SPACER + n - SPACER ≡ n = omega arith in grind (arith, common_steps, le-leb)
 
 map_at : {X Y : Type 0} (f g : X → Y) (o : Option X) → ((x : X) → o ≡ Some x → f x ≡ g x)
     → option_map f o ≡ option_map g o
@@ -201,12 +168,9 @@ top_cell p t q laid fit few = node_read p (top_in (line_of p t)) top_read (top_o
   where
     by_node : (n : Node) → slice_get (layout p) q ≡ Some n → top_read (top_in (line_of p t) n) ≡ top_of p t n
     by_node unused e = refl
-    by_node (own i) e =
-        let long = length-map (listed p t i) (λ o. o.number) in
-        read_small (length (listed p t i)) (omega (arith, long, numbers_few p t i, fit.few))
+    by_node (own i) e = grind (arith, common_steps, read_small, numbers_few, length-map (listed p t i) (λ o. o.number))
     by_node (spacer n) e = spacer_top n
-    by_node (used o u) e =
-        let r = laid.nodes.ranged q (used o u) u.item o e refl in read_small u.item (omega (arith, r.1, few))
+    by_node (used o u) e = read_small u.item (omega (arith, (laid.nodes.ranged q (used o u) u.item o e refl).1, few))
 
 pub ulink_cell : (p : Puzzle) (t : List Move) (q : ℕ) → IsLaid p
     → option_map natural (slice_get (nodes_after p t).ulink q) ≡ field_of p t Ulink q
@@ -215,9 +179,6 @@ ulink_cell p t q laid = grind (arith, common_steps, node_read)
 pub dlink_cell : (p : Puzzle) (t : List Move) (q : ℕ) → IsLaid p
     → option_map natural (slice_get (nodes_after p t).dlink q) ≡ field_of p t Dlink q
 dlink_cell p t q laid = grind (arith, common_steps, node_read)
-
-small_color : (v : ℕ) → v < MARK → color_read v ≡ pos v
-small_color v h = rw (ne_eqb v MARK (λ e. omega (arith, e, h))) refl
 
 -- the items' own nodes are never read as marked
 pub color_own : (p : Puzzle) (t : List Move) (q : ℕ) → IsLaid p → q ≤ item_count p
@@ -235,16 +196,14 @@ color_use p t q laid fit gt = node_read p (color_in p t) color_read (color_of p 
     by_node (spacer n) e = refl
     by_node (used o u) e =
         let small = colour_small (uses_of p o) u.item u.colour (fit.colours o) (laid.nodes.coloured q o u e) in
-        elim (is_marked p t u.item o u.colour) as
-        (λ b. color_read (cond b MARK u.colour) ≡ cond b (neg_ℤ (pos 1)) (pos u.colour))
-        [ true ↦ refl | false ↦ small_color u.colour small ]
+        grind (arith, common_steps, ne_eqb)
 
 -- ---- bounds
 
 bound_row : (p : Puzzle) (f : ℕ → ℕ) (q : ℕ) → q ≢ 0
     → option_map natural (slice_get (map (λ k. cond (eqb k 0) 0 (f k)) (range_with_len 0 (primary_count p + 1))) q) ≡
     primary_cell p q (f q)
-bound_row p f q ne = grind (arith, common_steps, le-ltb, leb-false, leb-true, lt-ltb, ne_eqb, row_at_zero)
+bound_row p f q ne = grind (arith, common_steps, le-ltb, leb-false, leb-true, lt-ltb, ne_eqb, row_read)
 
 pub bound_read : (p : Puzzle) (t : List Move) (q : ℕ) → q ≢ 0
     → option_map natural (slice_get (items_after p t).bound q) ≡ field_of p t Bound q

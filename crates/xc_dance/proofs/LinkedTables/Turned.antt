@@ -47,34 +47,21 @@ ring_rises p t false =
     Rises-filter (λ j. not (is_covered j t)) 0 (base p false)
     (Rises-weaker 0 (primary_count p) (base p false) (omega arith) (Rises-range (primary_count p) p.secondary))
 
-ring_next : (p : Puzzle) (t : List Move) (i : ℕ) (b : Bool) → ring p (Cover i ∷ t) b ≡ less i (ring p t b)
-ring_next p t i b = grind (arith, common_steps, filter_agree, filter_both)
-
 -- ---- members
 
 in_range : (a n q : ℕ) → a ≤ q → q < a + n → is_in q (range_with_len a n) ≡ true
 in_range a zero q le lt = absurd (omega arith)
-in_range a (suc n) q le lt =
-    let rest = in_range (a + 1) n q in grind (arith, common_steps, eq-eqb, in_more, is_in-first)
+in_range a (suc n) q le lt = grind (arith, common_steps, eq-eqb, in_more, is_in-first, in_range (a + 1) n q)
 
 range_in : (a n q : ℕ) → is_in q (range_with_len a n) ≡ true → (a ≤ q) × (q < a + n)
 range_in a zero q e = absurd (false≢true e)
 range_in a (suc n) q e = let rest = range_in (a + 1) n q in grind (arith, common_steps, eqb-true)
 
-side_true : (p : Puzzle) (q : ℕ) → q ≤ primary_count p → side p q ≡ true
-side_true p q h = le-leb q (primary_count p) h
-
-side_false : (p : Puzzle) (q : ℕ) → primary_count p < q → side p q ≡ false
-side_false p q h = lt-leb q (primary_count p) h
-
 base_in : (p : Puzzle) (b : Bool) (q : ℕ) → is_in q (base p b) ≡ true → (0 < q) × (q ≤ item_count p) × (side p q ≡ b)
 base_in p true q e = let r = range_in 1 (primary_count p) q e in
-    (omega (arith, r.0), omega (arith, r.1), side_true p q (omega (arith, r.1)))
+    (omega (arith, r.0), omega (arith, r.1), le-leb q (primary_count p) (omega (arith, r.1)))
 base_in p false q e = let r = range_in (primary_count p + 1) p.secondary q e in
-    (omega (arith, r.0), omega (arith, r.1), side_false p q (omega (arith, r.0)))
-
-in_base : (p : Puzzle) (q : ℕ) → 0 < q → q ≤ item_count p → is_in q (base p (side p q)) ≡ true
-in_base p q pos le = grind (arith, common_steps, in_range, leb-false, leb-true)
+    (omega (arith, r.0), omega (arith, r.1), lt-leb q (primary_count p) (omega (arith, r.0)))
 
 -- a member of a ring
 ring_in : (p : Puzzle) (t : List Move) (b : Bool) (q : ℕ) → is_in q (ring p t b) ≡ true → (is_covered q t ≡ false)
@@ -85,20 +72,12 @@ ring_in p t b q e = let r = and_parts _ _ (sym (in_filter (λ j. not (is_covered
 in_ring : (p : Puzzle) (t : List Move) (q : ℕ) → 0 < q → q ≤ item_count p → is_covered q t ≡ false
     → is_in q (ring p t (side p q)) ≡ true
 in_ring p t q pos le un =
-    in_filter (λ j. not (is_covered j t)) q (base p (side p q)) ∙ ap₂ (λ a b. a && b) (ap not un) (in_base p q pos le)
+    in_filter (λ j. not (is_covered j t)) q (base p (side p q)) ∙ ap₂ (λ a b. a && b) (ap not un)
+    (grind (arith, common_steps, in_range, leb-false, leb-true))
 
 head_item : (p : Puzzle) (b : Bool) (q : ℕ) → 0 < q → q ≤ item_count p → hd p b ≢ q
 head_item p true q pos le = λ e. omega (arith, e, pos)
 head_item p false q pos le = λ e. omega (arith, e, le)
-
-heads_apart : (p : Puzzle) (b c : Bool) → hd p b ≡ hd p c → b ≡ c
-heads_apart p true true e = refl
-heads_apart p false false e = refl
-heads_apart p true false e = absurd (omega (arith, e))
-heads_apart p false true e = absurd (omega (arith, e))
-
-head_out : (p : Puzzle) (t : List Move) (b c : Bool) → is_in (hd p b) (ring p t c) ≡ false
-head_out p t b c = grind (arith, common_steps, head_item, ring_in)
 
 -- ---- the way round a ring
 
@@ -120,8 +99,8 @@ pub record IsBeside (p : Puzzle) (t : List Move) (b : Bool) (q : ℕ) : Type 0 w
   pub stays : Stays p t q
 
 side_head : (p : Puzzle) (b : Bool) → side p (hd p b) ≡ b
-side_head p true = side_true p 0 (omega arith)
-side_head p false = side_false p (item_count p + 1) (omega arith)
+side_head p true = le-leb 0 (primary_count p) (omega arith)
+side_head p false = lt-leb (item_count p + 1) (primary_count p) (omega arith)
 
 in_turned : (d : Bool) (q : ℕ) (xs : List ℕ) → is_in q (turned d xs) ≡ is_in q xs
 in_turned true q xs = refl
@@ -132,33 +111,25 @@ head_place p true = omega arith
 head_place p false = omega arith
 
 way_in : (p : Puzzle) (t : List Move) (d b : Bool) (q : ℕ) → is_in q (way p t d b) ≡ true → IsBeside p t b q
-way_in p t d b q e =
-    by_first (IsBeside p t b q) (hd p b) q
-    (λ same. subst (IsBeside p t b) same (record {
-      place = head_place p b;
-      side = side_head p b;
-      stays = λ pos le. absurd (head_item p b (hd p b) pos le refl);
-    }))
-    (λ ne.
-    let rest = in_rest (hd p b) q (turned d (ring p t b)) ne e in
-    let r = ring_in p t b q (sym (in_turned d q (ring p t b)) ∙ rest) in
+way_in p t d b q e = by_first (IsBeside p t b q) (hd p b) q (λ same. subst (IsBeside p t b) same (record {
+  place = head_place p b;
+  side = side_head p b;
+  stays = λ pos le. absurd (head_item p b (hd p b) pos le refl);
+})) (λ ne.
+    let r = ring_in p t b q (sym (in_turned d q (ring p t b)) ∙ (in_rest (hd p b) q (turned d (ring p t b)) ne e)) in
     record { place = omega (arith, r.1.1); side = r.1.2; stays = λ _ _. r.0 })
 
 place_case : (p : Puzzle) (q : ℕ) → q < item_count p + 2 → ((b : Bool) × (q ≡ hd p b)) ⊎ ((0 < q) × (q ≤ item_count p))
 place_case p q lt =
-    by_first (((b : Bool) × (q ≡ hd p b)) ⊎ ((0 < q) × (q ≤ item_count p))) q 0
-    (λ z. inl (true, z))
+    by_first (((b : Bool) × (q ≡ hd p b)) ⊎ ((0 < q) × (q ≤ item_count p))) q 0 (λ z. inl (true, z))
     (λ nz. by_first (((b : Bool) × (q ≡ hd p b)) ⊎ ((0 < q) × (q ≤ item_count p))) q (item_count p + 1)
-    (λ e. inl (false, e))
-    (λ ne. inr (omega (arith, nz), omega (arith, lt, ne))))
+    (λ e. inl (false, e)) (λ ne. inr (omega (arith, nz), omega (arith, lt, ne))))
 
 in_way : (p : Puzzle) (t : List Move) (d : Bool) (q : ℕ) → q < item_count p + 2 → Stays p t q
     → is_in q (way p t d (side p q)) ≡ true
 in_way p t d q lt stays = elim (place_case p q lt) [
-  | inl c ↦ subst (λ k. is_in k (way p t d (side p k)) ≡ true) (sym c.1)
-      (ap (λ b. is_in (hd p c.0) (way p t d b)) (side_head p c.0) ∙ is_in-first (hd p c.0) (turned d (ring p t c.0)))
-  | inr r ↦ in_more (hd p (side p q)) q (turned d (ring p t (side p q)))
-      (in_turned d q (ring p t (side p q)) ∙ in_ring p t q r.0 r.1 (stays r.0 r.1))
+  | inl c ↦ grind (arith, common_steps, side_head, is_in-first)
+  | inr r ↦ grind (arith, common_steps, in_more, in_turned, in_ring)
 ]
 
 rises_apart : (n : ℕ) (xs : List ℕ) → Rises n xs → AllApart xs
@@ -166,8 +137,11 @@ rises_apart n [] r = tt
 rises_apart n (x ∷ xs) r = (apart_from x xs (not_in x x xs (omega arith) r.1), rises_apart x xs r.1)
 
 way_apart : (p : Puzzle) (t : List Move) (d b : Bool) → AllApart (way p t d b)
-way_apart p t d b =
-    (apart_from (hd p b) (turned d (ring p t b)) (in_turned d (hd p b) (ring p t b) ∙ head_out p t b b), rest d)
+way_apart p t d b = (
+  apart_from (hd p b) (turned d (ring p t b))
+      (in_turned d (hd p b) (ring p t b) ∙ (grind (arith, common_steps, head_item, ring_in))),
+  rest d,
+)
   where
     rest : (d : Bool) → AllApart (turned d (ring p t b))
     rest true = rises_apart 0 (ring p t b) (ring_rises p t b)
@@ -184,14 +158,13 @@ way_round p t false b q e =
 less_turned : (d : Bool) (i : ℕ) (xs : List ℕ) → turned d (less i xs) ≡ less i (turned d xs)
 less_turned true i xs = refl
 less_turned false i [] = refl
-less_turned false i (x ∷ xs) =
-    grind (arith, common_steps, less_turned false i xs)
+less_turned false i (x ∷ xs) = grind (arith, common_steps, less_turned false i xs)
 
 way_less : (p : Puzzle) (t : List Move) (i : ℕ) (d b : Bool) → 0 < i → i ≤ item_count p
     → way p (Cover i ∷ t) d b ≡ less i (way p t d b)
 way_less p t i d b pos le =
-    rw (ne_eqb (hd p b) i (head_item p b i pos le))
-    (ap (λ xs. hd p b ∷ xs) (ap (turned d) (ring_next p t i b) ∙ less_turned d i (ring p t b)))
+    rw (ne_eqb (hd p b) i (head_item p b i pos le)) (ap (λ xs. hd p b ∷ xs)
+    (ap (turned d) (grind (arith, common_steps, filter_agree, filter_both)) ∙ less_turned d i (ring p t b)))
 
 -- ---- cells of the table
 
@@ -201,12 +174,11 @@ link p true t q = rlink_at p t q
 link p false t q = llink_at p t q
 
 -- what stands at the head of a ring in a column of links, and at an item
-head_cell : (p : Puzzle) (t : List Move) (b : Bool) (f : ℕ → List ℕ → ℕ) (g : ℕ → ℕ) →
-    cond (eqb (hd p b) 0) (f 0 (ring_of p t 0))
-    (cond (leb (hd p b) (item_count p)) (g (hd p b)) (f (item_count p + 1) (ring_of p t (primary_count p + 1)))) ≡ f
-    (hd p b) (ring p t b)
-head_cell p t true f g = grind (arith, common_steps, lt-leb, ne_eqb, side_false, side_true)
-head_cell p t false f g = grind (arith, common_steps, lt-leb, ne_eqb, side_false, side_true)
+head_cell : (p : Puzzle) (t : List Move) (b : Bool) (f : ℕ → List ℕ → ℕ) (g : ℕ → ℕ)
+    → cond (eqb (hd p b) 0) (f 0 (ring_of p t 0)) (cond (leb (hd p b) (item_count p)) (g (hd p b)) (f (item_count p + 1)
+    (ring_of p t (primary_count p + 1)))) ≡ f (hd p b) (ring p t b)
+head_cell p t true f g = grind (arith, common_steps, lt-leb, ne_eqb, le-leb)
+head_cell p t false f g = grind (arith, common_steps, lt-leb, ne_eqb, le-leb)
 
 item_cell : (p : Puzzle) (q first inner last : ℕ) → 0 < q → q ≤ item_count p
     → cond (eqb q 0) first (cond (leb q (item_count p)) inner last) ≡ inner
@@ -219,32 +191,21 @@ pub link_gone : (p : Puzzle) (d : Bool) (t : List Move) (m : Move) (q : ℕ) →
 link_gone p true t m q pos le e = grind (arith, common_steps, item_cell)
 link_gone p false t m q pos le e = grind (arith, common_steps, item_cell)
 
--- the others lead to what is behind in the ring
-link_head : (p : Puzzle) (d : Bool) (t : List Move) (b : Bool)
-    → link p d t (hd p b) ≡ behind (hd p b) (hd p b) (way p t d b)
-link_head p true t b = head_cell p t b first_of (right_of p t) ∙ rw (eq-eqb (hd p b) (hd p b) refl) refl
-link_head p false t b =
-    head_cell p t b last_of (left_of p t)
-    ∙ rw (eq-eqb (hd p b) (hd p b) refl) (sym (first_back (hd p b) (ring p t b)))
-
 link_item : (p : Puzzle) (d : Bool) (t : List Move) (q : ℕ) → 0 < q → q ≤ item_count p → is_covered q t ≡ false
     → link p d t q ≡ behind (hd p (side p q)) q (way p t d (side p q))
 link_item p true t q pos le un =
     let b = side p q in
-    item_cell p q _ (right_of p t q) _ pos le ∙ right_now p t q un
-    ∙ rw (ne_eqb (hd p b) q (head_item p b q pos le))
+    item_cell p q _ (right_of p t q) _ pos le ∙ right_now p t q un ∙ rw (ne_eqb (hd p b) q (head_item p b q pos le))
     (sym (behind_above (hd p b) q 0 (ring p t b) (ring_rises p t b) (in_ring p t q pos le un)))
 link_item p false t q pos le un =
     let b = side p q in
-    item_cell p q _ (left_of p t q) _ pos le ∙ left_now p t q un
-    ∙ rw (ne_eqb (hd p b) q (head_item p b q pos le))
+    item_cell p q _ (left_of p t q) _ pos le ∙ left_now p t q un ∙ rw (ne_eqb (hd p b) q (head_item p b q pos le))
     (sym (behind_below (hd p b) q 0 (ring p t b) (ring_rises p t b) (in_ring p t q pos le un)))
 
 link_is : (p : Puzzle) (d : Bool) (t : List Move) (q : ℕ) → q < item_count p + 2 → Stays p t q
     → link p d t q ≡ behind (hd p (side p q)) q (way p t d (side p q))
 link_is p d t q lt stays = elim (place_case p q lt) [
-  | inl c ↦ subst (λ k. link p d t k ≡ behind (hd p (side p k)) k (way p t d (side p k))) (sym c.1)
-      (link_head p d t c.0 ∙ ap (λ b. behind (hd p b) (hd p c.0) (way p t d b)) (sym (side_head p c.0)))
+  | inl c ↦ grind (arith, common_steps, behind, head_cell, eq-eqb, first_back, side_head)
   | inr r ↦ link_item p d t q r.0 r.1 (stays r.0 r.1)
 ]
 
@@ -262,52 +223,34 @@ link_other p d t q pos le un = grind (arith, common_steps, behind_other, head_it
 -- there and back
 pub link_back : (p : Puzzle) (d : Bool) (t : List Move) (q : ℕ) → q < item_count p + 2 → Stays p t q
     → link p (not d) t (link p d t q) ≡ q
-link_back p d t q lt stays =
-    let r = link_beside p d t q lt stays in
-    grind (arith, common_steps, in_way, link_is, way_round)
+link_back p d t q lt stays = grind (arith, common_steps, in_way, link_is, way_round, link_beside p d t q lt stays)
 
 -- a Cover changes one cell each way, that of the neighbour before
 link_next_in : (p : Puzzle) (d : Bool) (t : List Move) (i : ℕ) → 0 < i → i ≤ item_count p → is_covered i t ≡ false
     → (q : ℕ) → q < item_count p + 2 → Stays p (Cover i ∷ t) q
     → link p d (Cover i ∷ t) q ≡ cond (eqb q (link p (not d) t i)) (link p d t i) (link p d t q)
 link_next_in p d t i pos le un q lt stays =
-    let within : i < item_count p + 2 = omega (arith, le) in
     let l = link p (not d) t i in
     let h = hd p (side p q) in
     let w = way p t d (side p q) in
     let now : Stays p t q = λ a b. (or_parts (eqb q i) (is_covered q t) (stays a b)).1 in
-    let ne : q ≢ i = λ same. false≢true
-    (sym (subst (Stays p (Cover i ∷ t)) same stays pos le) ∙ ap (λ b. b || is_covered i t) (eq-eqb i i refl)) in
+    let ne : q ≢ i = grind (arith, common_steps, false≢true, eq-eqb) in
     let after : link p d (Cover i ∷ t) q ≡ cond (eqb (link p d t q) i) (behind h i w) (link p d t q) =
     link_is p d (Cover i ∷ t) q lt stays ∙ ap (behind h q) (way_less p t i d (side p q) pos le)
     ∙ behind_less h i q w (way_apart p t d (side p q)) (head_item p (side p q) i pos le) ne
     ∙ ap (λ v. cond (eqb v i) (behind h i w) v) (sym (link_is p d t q lt now)) in
-    let there : link p d t q ≡ i → (q ≡ l) × (behind h i w ≡ link p d t i) = λ e. (
-      sym (link_back p d t q lt now) ∙ ap (link p (not d) t) e,
-      ap (λ b. behind (hd p b) i (way p t d b)) (sym (link_beside p d t q lt now).side ∙ ap (side p) e)
-          ∙ sym (link_is p d t i within (λ _ _. un)),
-    ) in
+    let there : link p d t q ≡ i → (q ≡ l) × (behind h i w ≡ link p d t i) = grind
+    (arith, common_steps, link_back, behind, link_beside, link_is) in
     let back : q ≡ l → link p d t q ≡ i = λ e. ap (link p d t) e
-    ∙ ap (λ c. link p c t l) (sym (not-not d)) ∙ link_back p (not d) t i within (λ _ _. un) in
-    after ∙ by_first (cond (eqb (link p d t q) i) (behind h i w) (link p d t q) ≡ cond (eqb q l) (link p d t i)
-    (link p d t q)) (link p d t q) i
-    (λ same. rw (eq-eqb (link p d t q) i same, eq-eqb q l (there same).0) (there same).1)
-    (λ other. rw (ne_eqb (link p d t q) i other, ne_eqb q l (λ e. other (back e))) refl)
+    ∙ ap (λ c. link p c t l) (sym (not-not d)) ∙ link_back p (not d) t i (omega (arith, le)) (λ _ _. un) in
+    grind (arith, common_steps, by_first, behind, eq-eqb, ne_eqb)
 
 pub link_next : (p : Puzzle) (d : Bool) (t : List Move) (i : ℕ) → 0 < i → i ≤ item_count p → is_covered i t ≡ false
     → (q : ℕ) → q < item_count p + 2
     → link p d (Cover i ∷ t) q ≡ cond (eqb q (link p (not d) t i)) (link p d t i) (link p d t q)
 link_next p d t i pos le un q lt = elim (place_case p q lt) [
   | inl c ↦ link_next_in p d t i pos le un q lt (λ q_pos q_le. absurd (head_item p c.0 q q_pos q_le (sym c.1)))
-  | inr r ↦ elim (is_covered q (Cover i ∷ t)) as (λ b. is_covered q (Cover i ∷ t) ≡ b
-      → link p d (Cover i ∷ t) q ≡ cond (eqb q (link p (not d) t i)) (link p d t i) (link p d t q)) [
-        | true ↦ λ e. rw (ne_eqb q (link p (not d) t i) (λ same.
-            by_first ⊥ q i (λ own. link_other p (not d) t i pos le un (sym same ∙ own)) (λ other.
-            let beside = link_beside p (not d) t i (omega (arith, le)) (λ _ _. un) in
-            false≢true (sym (subst (Stays p t) (sym same) beside.stays r.0 r.1)
-            ∙ sym (ap (λ b. b || is_covered q t) (ne_eqb q i other)) ∙ e)))) (link_gone p d t (Cover i) q r.0 r.1 e)
-        | false ↦ λ e. link_next_in p d t i pos le un q lt (λ _ _. e)
-      ] refl
+  | inr r ↦ grind (arith, common_steps, ne_eqb, by_first, link_other, link_beside, false≢true, link_gone, link_next_in)
 ]
 
 -- ---- both ways
@@ -341,8 +284,7 @@ way_step p d t i pos le un =
     grind (arith, common_steps, eq-eqb, ne_eqb, row_put, link_next) in
     let there : link p d t (link p (not d) t i) ≡ i =
     ap (λ c. link p c t (link p (not d) t i)) (sym (not-not d)) ∙ link_back p (not d) t i within (λ _ _. un) in
-    let gone : link p d (Cover i ∷ t) i ≡ link p d t i =
-    link_gone p d t (Cover i) i pos le (ap (λ b. b || is_covered i t) (eq-eqb i i refl)) in
+    let gone : link p d (Cover i ∷ t) i ≡ link p d t i = grind (arith, common_steps, link_gone, eq-eqb) in
     grind (arith, common_steps, row_get, row_len, written_back)
 
 pub ring_step : (p : Puzzle) (t : List Move) (i : ℕ) → IsLegal p t (Cover i) → RingStep p t i
@@ -352,6 +294,4 @@ ring_step p t i may =
     let un : is_covered i t ≡ false = open_uncovered i t may.1 in
     let now = items_after p t in
     let next = items_after p (Cover i ∷ t) in
-    let a = way_step p true t i pos le un in
-    let b = way_step p false t i pos le un in
-    grind (arith, common_steps, same_items)
+    grind (arith, common_steps, same_items, way_step p false t i pos le un, way_step p true t i pos le un)

@@ -49,8 +49,7 @@ first_there (x ∷ xs) h = (x, (xs, refl))
 
 pub has_first : (p : Puzzle) (t : List Move) (i : ℕ) → 0 < length (listed p t i) → HasFirst p t i
 has_first p t i h =
-    let long : length (listed_numbers p t i) ≡ length (listed p t i) = length-map (listed p t i) (λ o. o.number) in
-    let f = first_there (listed_numbers p t i) (omega (arith, h, long)) in
+    let f = first_there (listed_numbers p t i) (omega (arith, h, length-map (listed p t i) (λ o. o.number))) in
     record { o = f.0; os = f.1.0; is = f.1.1 }
 
 -- ---- what leaves each line
@@ -61,24 +60,20 @@ tweak_colours p t i _ = refl
 
 one_only : (o n : ℕ) (os : List ℕ) → o ≤ n → Rises n os → filter (λ x. eqb x o) os ≡ []
 one_only o n [] le r = refl
-one_only o n (x ∷ xs) le r = let ne : eqb x o ≡ false = ne_eqb x o (λ e. omega (arith, e, r.0, le)) in
-    rw ne (one_only o x xs (omega (arith, r.0, le)) r.1)
+one_only o n (x ∷ xs) le r = grind (arith, common_steps, one_only o x xs (omega (arith, r.0, le)) r.1, ne_eqb)
 
 -- its own line loses the first
 pub tweak_cut : (p : Puzzle) (t : List Move) (i : ℕ) (f : HasFirst p t i) → SameCut p t (Tweak i) i (f.o ∷ [])
-tweak_cut p t i f =
-    let r : Rises 0 (f.o ∷ f.os) = subst (Rises 0) f.is (rises_listed p t i) in
-    record {
-      test = λ x. eqb x f.o;
-      cut_is =
-          ap (λ ks. f.o ∷ ks) (sym (one_only f.o f.o f.os (omega arith) r.1))
-          ∙ ap (λ b. cond b (f.o ∷ filter (λ x. eqb x f.o) f.os) (filter (λ x. eqb x f.o) f.os))
-          (sym (eq-eqb f.o f.o refl))
-          ∙ ap (filter (λ x. eqb x f.o)) (sym f.is);
-      stay_is =
-          tweak_own p t i ∙ drop_first 0 (listed_numbers p t i) (rises_listed p t i)
-          ∙ ap (λ ks. stay (λ x. eqb x (first_of 0 ks)) (listed_numbers p t i)) f.is;
-    }
+tweak_cut p t i f = record {
+  test = λ x. eqb x f.o;
+  cut_is =
+      ap (λ ks. f.o ∷ ks) (sym (one_only f.o f.o f.os (omega arith) (subst (Rises 0) f.is (rises_listed p t i)).1))
+      ∙ ap (λ b. cond b (f.o ∷ filter (λ x. eqb x f.o) f.os) (filter (λ x. eqb x f.o) f.os))
+      (sym (eq-eqb f.o f.o refl)) ∙ ap (filter (λ x. eqb x f.o)) (sym f.is);
+  stay_is =
+      tweak_own p t i ∙ drop_first 0 (listed_numbers p t i) (rises_listed p t i)
+      ∙ ap (λ ks. stay (λ x. eqb x (first_of 0 ks)) (listed_numbers p t i)) f.is;
+}
 
 -- the options of item i's list that leave item j's by Tweaks of i
 abbrev pub to_come : Puzzle → List Move → Bool → ℕ → ℕ → List ℕ → List ℕ
@@ -95,10 +90,9 @@ tweak_cuts p t spans true i j legal fit shut f r ne = record {
 }
 tweak_cuts p t spans false i j legal fit opened f r ne =
     let rise : Rises 0 (f.o ∷ f.os) = subst (Rises 0) f.is (rises_listed p t i) in
-    let of : AreOf p t i (first_alone (listed_numbers p t i)) = grind (arith, common_steps, false≢true) in
     subst (λ ks. SameCut p t (Tweak i) j (filter (leaves p (color_in p t) i j) ks)) (ap first_alone f.is)
-    (cut_others p t i legal fit.laid fit.fit opened (Tweak i) j (first_alone (listed_numbers p t i)) r of
-    (takes_tweak p t i opened) ne)
+    (cut_others p t i legal fit.laid fit.fit opened (Tweak i) j (first_alone (listed_numbers p t i)) r
+    (grind (arith, common_steps, false≢true)) (takes_tweak p t i opened) ne)
 
 -- what the step at option o writes for its other items
 abbrev pub back_writes : Puzzle → (Node → ℕ) → Bool → ℕ → ℕ → ℕ
@@ -145,8 +139,7 @@ tweak_cost_is p t spans covered i legal fit opened pos le f =
 
 -- the lines when the first node is about to leave
 abbrev mid_lines : Puzzle → List Move → Bool → ℕ → ℕ → ℕ → Line
-mid_lines p t covered i o =
-    cond covered (line_of p t) (left_all p (color_in p t) o (line_of p t) (other_items p o i))
+mid_lines p t covered i o = cond covered (line_of p t) (left_all p (color_in p t) o (line_of p t) (other_items p o i))
 
 -- the table then
 abbrev mid : Puzzle → List Move → Bool → ℕ → ℕ → Nodes
@@ -173,8 +166,7 @@ mid_is p t spans false i legal fit opened f =
     let o = f.o in
     let col = color_in p t in
     let pos : 0 < o = (subst (Rises 0) f.is (rises_listed p t i)).0 in
-    let within : is_in o (listed_numbers p t i) ≡ true =
-    subst (λ ks. is_in o ks ≡ true) (sym f.is) (is_in-first o f.os) in
+    let within : is_in o (listed_numbers p t i) ≡ true = grind (arith, common_steps, is_in-first) in
     let named : Named p i o = (subst (AllByRecursion (Named p i)) f.is (numbers_named p t i)).0 in
     let s = turns_ready p (line_of p t) col (listed_numbers p t) spans o i fit.laid fit.spanned pos named
     (all_good p t fit.fit) (ready_at p t i legal fit.laid fit.fit opened o within) in
@@ -218,9 +210,7 @@ tweak_made p t spans covered i legal fit pos le some opened =
     let u : Nodes = mid p t covered i o in
     let next : Nodes = nodes_after p (Tweak i ∷ t) in
     let l : Line = cut (ln i) o in
-    let good : IsGood p i (ln i) (o ∷ f.os) =
-    subst (λ (l : Line). IsGood p i l (o ∷ f.os)) (sym m.own)
-    (subst (IsGood p i (line_of p t i)) f.is (all_good p t fit.fit i pos le)) in
+    let good : IsGood p i (ln i) (o ∷ f.os) = grind (arith, common_steps, all_good) in
     let s : IsMember p i (ln i) o = member p i (ln i) [] o f.os pos le good in
     let few : (ln i).len < 2 ^ 31 = omega (arith, good.len, good.few) in
     let linked = linked-is p col ln i o laid s in
@@ -235,14 +225,10 @@ tweak_made p t spans covered i legal fit pos le some opened =
           ∙ sym (line_here ln i l ∙ ap (λ (k : Line). cut k o) m.own))
       | false ↦ λ e. let ne : j ≢ i = eqb-false j i e in
           line_after p t (Tweak i) j (to_come p t covered i j (o ∷ []))
-          (tweak_cuts p t spans covered i j legal fit opened f r ne)
-          ∙ sym (line_there ln i j l ne ∙ m.line j)
-    ] refl)
-    (λ k n at. tweak_colours p t i n) in
-    let first : get_or t0.dlink i 0 ≡ x =
-    get_down p (line_of p t) i 0 (own_placed p i laid pos le) ∙ ap (λ ks. link_place p i (first_of 0 ks)) f.is in
-    let taken : link_place p i (first_of 0 (listed_numbers p t i)) ≡ x =
-    ap (λ ks. link_place p i (first_of 0 ks)) f.is in
+          (tweak_cuts p t spans covered i j legal fit opened f r ne) ∙ sym (line_there ln i j l ne ∙ m.line j)
+    ] refl) (λ k n at. tweak_colours p t i n) in
+    let first : get_or t0.dlink i 0 ≡ x = grind (arith, common_steps, get_down, own_placed) in
+    let taken : link_place p i (first_of 0 (listed_numbers p t i)) ≡ x = grind (arith, common_steps) in
     let down_long : length t0.dlink ≡ length (layout p) = length-map (layout p) (dlink_in p (line_of p t)) in
     let back = CanRelink-unlinked u x size cells.names linked (omega (arith, count, few)) in
     let same : unlinked u x ≡ next = unlinked-is p col ln i o laid s ∙ sym end in
@@ -255,8 +241,7 @@ tweak_made p t spans covered i legal fit pos le some opened =
         names = subst (λ (v : Nodes). NamesPlaces v x) (sym m.done) cells.names;
         some = subst (λ (v : Nodes). 0 < get_or v.top (get_or v.top x 0) 0) (sym m.done) linked.some;
       });
-      done = ap (λ k. unlinked (hidden_unless spans covered t0 k) k) first ∙ ap (λ (v : Nodes). unlinked v x) m.done
-          ∙ same;
+      done = grind (arith, common_steps);
       can_back = subst (CanUntweak spans covered next) (sym taken) (record {
         size = subst (λ (v : Nodes). HasSize v (length v.top)) same back.size;
         names = subst (λ (v : Nodes). NamesPlaces v x) same back.names;
@@ -264,8 +249,7 @@ tweak_made p t spans covered i legal fit pos le some opened =
         unhide =
             subst (λ (v : Nodes). covered ≡ false → (x < length spans) × CanUnhideNode spans v x) (sym again) m.unhide;
       });
-      undone = ap (untweaked spans covered next) taken ∙ ap (λ (v : Nodes). unhidden_unless spans covered v x) again
-          ∙ m.undone;
+      undone = grind (arith, common_steps);
       cost = let a = ap (λ k. cond covered 0 (hide_costs t0 (others_of spans k))) first in let b = m.cost in
           omega (arith, a, b, gone);
       cost_back = let a = ap (untweak_cost spans covered next) taken in let b =

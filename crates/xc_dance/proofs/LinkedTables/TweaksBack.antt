@@ -129,28 +129,23 @@ tweaked_lines p t spans covered i (suc k) legal fit opened =
     let rest : listed_numbers p (Tweak i ∷ s) i ≡ f.os = tweak_own p s i ∙ ap (drop 1) f.is in
     let x = link_place p i o in
     let pos : 0 < i = let m = legal.0.0.0 in omega (arith, m) in
-    let le : i ≤ item_count p = legal.0.0.1 in
     let opened_s : is_open i s ≡ not covered = h.opened ∙ opened in
-    let same : map (color_in p s) (layout p) ≡ map (color_in p t) (layout p) =
-    map_same (color_in p t) (color_in p s) (layout p) (λ m n e. h.colours n) in
+    let same : map (color_in p s) (layout p) ≡ map (color_in p t) (layout p) = grind (arith, common_steps, map_same) in
     record {
       os = os ++ o ∷ [];
       count = let a = length-append os (o ∷ []) in let b = before.count in omega (arith, a, b);
       costs =
-          let one = tweak_cost_is p s spans covered i legal.1 fit opened_s pos le f in
+          let one = tweak_cost_is p s spans covered i legal.1 fit opened_s pos legal.0.0.1 f in
           let alike : back_writes p (color_in p s) covered i o ≡ back_writes p (color_in p t) covered i o =
           ap (λ n. cond covered 0 (3 * n)) (gone_alike p (color_in p t) (color_in p s) i o same) in
-          let rest = before.costs in
-          omega (arith, one, alike, rest, tweak_writes-append p (color_in p t) covered i os o);
+          omega (arith, one, alike, before.costs, tweak_writes-append p (color_in p t) covered i os o);
       lines = record {
-        list = h.list ∙ ap (λ ks. os ++ ks) f.is ∙ sym (append_assoc os (o ∷ []) f.os)
-            ∙ ap (λ ks. (os ++ o ∷ []) ++ ks) (sym rest);
+        list = grind (arith, common_steps, append_assoc);
         own = line_after p s (Tweak i) i (o ∷ []) (tweak_cut p s i f) ∙ ap (λ (m : Line). cut m o) h.own
             ∙ sym (fold-append cut (line_of p t i) os (o ∷ []));
         others = λ j jpos jle ne.
             let one = to_come p t covered i j (o ∷ []) in
-            line_after p s (Tweak i) j one
-            (subst (SameCut p s (Tweak i) j) (come_same p t s covered i j (o ∷ []) same)
+            line_after p s (Tweak i) j one (subst (SameCut p s (Tweak i) j) (come_same p t s covered i j (o ∷ []) same)
             (tweak_cuts p s spans covered i j legal.1 fit opened_s f (jpos, jle) ne))
             ∙ ap (λ (m : Line). cuts m one) (h.others j jpos jle ne)
             ∙ sym (ap (cuts (line_of p t j)) (come_append p t covered i j os (o ∷ []))
@@ -196,25 +191,26 @@ bring_back_walk p t spans covered i ln a [] rest legal fit pos le opened among l
 }
 bring_back_walk p t spans covered i ln a (o ∷ os) rest legal fit pos le opened among linked h =
     let col = color_in p t in
-    let x = link_place p i o in
     let within : is_in o (listed_numbers p t i) ≡ true = among o (is_in-first o os) in
     let named : Named p i o = element_of (Named p i) o (listed_numbers p t i) (numbers_named p t i) within in
     let o_pos : 0 < o = in_above 0 o (listed_numbers p t i) (rises_listed p t i) within in
     let here = fit.laid.there i o pos le (inr (o_pos, named)) in
     let s = bring_back_step p t spans covered i ln o os legal fit pos le opened within h in
     let t0 : Nodes = nodes_from p ln col in
-    let t1 : Nodes = nodes_from p s.ln' col in
     let rest' =
     bring_back_walk p t spans covered i s.ln' o os rest legal fit pos le opened
-    (λ z e. among z (in_more o z os e)) linked.3
-    s.bringing in
-    let x_in = slice_get_within (layout p) x here.node here.at in
-    let long : length t1.dlink ≡ length (layout p) = length-map (layout p) (dlink_in p s.ln') in
-    let next : get_or t1.dlink x 0 ≡ link_place p i ((line_of p t i).down o) =
-    get_down p s.ln' i o here ∙ ap (link_place p i) (s.bringing.own_down o) in
-    let places = map (link_place p i) os in
-    let first : link_place p i ((line_of p t i).down a) ≡ x = ap (link_place p i) linked.1 in
-    grind (arith, common_steps)
+    (λ z e. among z (in_more o z os e)) linked.3 s.bringing in
+    let x_in = slice_get_within (layout p) (link_place p i o) here.node here.at in
+    grind (
+      arith,
+      common_steps,
+      ap (link_place p i) linked.1,
+      map (link_place p i) os,
+      get_down p s.ln' i o here ∙ ap
+          (link_place p i) (s.bringing.own_down o),
+      length-map (layout p) (dlink_in p s.ln'),
+      nodes_from p s.ln' col,
+    )
 
 -- ---- some Tweaks of one item undone at once: from the node table after them to that before
 
@@ -233,9 +229,7 @@ start_other : (p : Puzzle) (t : List Move) (spans : List Span) (covered : Bool) 
     Regaining (line_of p t j) (cuts (line_of p t j) (to_come p t covered i j os)) (to_come p t covered i j os)
 start_other p t spans covered i j os legal fit opened of pos le ne =
     let come = come_is p t spans covered i j os legal fit opened of pos le ne in
-    subst (λ ks. Regaining (line_of p t j) (cuts (line_of p t j) ks) ks) (sym come.1)
-    (regaining (line_of p t j) (listed_numbers p t j) come.0 (stands p t j)
-    (sym (length-map (listed p t j) (λ o. o.number))))
+    grind (arith, common_steps, regaining, stands, length-map)
 
 -- ---- its own line has lost its first members
 
@@ -254,18 +248,11 @@ own_cuts : (l : Line) (os rest : List ℕ) → IsLinkedFrom l 0 (os ++ rest)
     × ((x : ℕ) → is_below l x os ≡ false → (cuts l os).up x ≡ l.up x)
 own_cuts l [] rest linked = ((λ x nz. refl), (λ x e. refl))
 own_cuts l (o ∷ os) rest linked =
-    let u : l.up o ≡ 0 = linked.2 in
     let c : Line = cut l o in
     let r = own_cuts c os rest (cut-linked l 0 o (os ++ rest) linked) in
-    let down_c : (x : ℕ) → x ≢ 0 → c.down x ≡ l.down x =
-    λ x nz. put_at-other l.down (l.up o) (l.down o) x (λ e. nz (e ∙ u)) in
-    let rise : Rises o os = rises_part o os rest (rises l 0 (o ∷ (os ++ rest)) linked).1 in (
-      (λ x nz. r.0 x nz ∙ down_c x nz),
-      (λ x e.
-          let split = or_parts (eqb (l.down o) x) (is_below l x os) e in
-          r.1 x (below_same l c x o os rise down_c ∙ split.1)
-          ∙ put_at-other l.up (l.down o) (l.up o) x (λ s. false≢true (sym split.0 ∙ eq-eqb (l.down o) x (sym s)))),
-    )
+    let down_c : (x : ℕ) → x ≢ 0 → c.down x ≡ l.down x = grind (arith, common_steps, put_at-other) in
+    let rise : Rises o os = rises_part o os rest (rises l 0 (o ∷ (os ++ rest)) linked).1 in grind
+    (arith, common_steps, or_parts, below_same, put_at-other, false≢true, eq-eqb)
 
 -- ---- the head of its own line is written
 
@@ -283,8 +270,7 @@ lowered_is p col ln i o laid pos le =
     same_nodes (with_dlink (nodes_from p ln col) i (link_place p i o))
     (nodes_from p (with_line ln i (lowered (ln i) o)) col)
     (top_kept p ln i (lowered (ln i) o) refl) (up_kept p ln i (lowered (ln i) o) (λ x. refl))
-    (sym (set_link p (λ k x. (ln k).down x) (fixed_down p) i 0 o laid (own_placed p i laid pos le)))
-    refl
+    (sym (set_link p (λ k x. (ln k).down x) (fixed_down p) i 0 o laid (own_placed p i laid pos le))) refl
 
 -- and its LEN
 abbrev longer : Line → ℕ → Line
@@ -295,8 +281,7 @@ longer_is : (p : Puzzle) (col : Node → ℕ) (ln : ℕ → Line) (i n : ℕ) �
 longer_is p col ln i n laid pos le =
     same_nodes (with_top (nodes_from p ln col) i n) (nodes_from p (with_line ln i (longer (ln i) n)) col)
     (sym (set_top p ln i (longer (ln i) n) laid pos le))
-    (up_kept p ln i (longer (ln i) n) (λ x. refl)) (down_kept p ln i (longer (ln i) n) (λ x. refl))
-    refl
+    (up_kept p ln i (longer (ln i) n) (λ x. refl)) (down_kept p ln i (longer (ln i) n) (λ x. refl)) refl
 
 -- ---- all together
 
@@ -339,9 +324,8 @@ by_lines p t spans covered i k o os legal fit pos le opened count costs h =
     let l : Line = line_of p t i in
     let linked : IsLinkedFrom l 0 (all ++ rest) = subst (IsLinkedFrom l 0) h.list (stands p t i) in
     let rise : Rises 0 (all ++ rest) = rises l 0 (all ++ rest) linked in
-    let among : (x : ℕ) → is_in x all ≡ true → is_in x (listed_numbers p t i) ≡ true = λ x e.
-    subst (λ ks. is_in x ks ≡ true) (sym h.list)
-    (list_any-append (λ y. eqb y x) all rest ∙ ap (λ b. b || is_in x rest) e) in
+    let among : (x : ℕ) → is_in x all ≡ true → is_in x (listed_numbers p t i) ≡ true = grind
+    (arith, common_steps, list_any-append) in
     let of : AreOf p t i all = record { rise = rises_part 0 all rest rise; among = among } in
     let lnS : ℕ → Line = line_of p s in
     let lost_own = own_cuts l all rest linked in
@@ -355,11 +339,9 @@ by_lines p t spans covered i k o os legal fit pos le opened count costs h =
     let same_col : T ≡ nodes_from p lnS col =
     same_nodes T (nodes_from p lnS col) refl refl refl
     (map_same col (color_in p s) (layout p) (λ m n e. h.colours n)) in
-    let start : with_dlink T i x ≡ t0 =
-    ap (λ (u : Nodes). with_dlink u i x) same_col ∙ lowered_is p col lnS i o laid pos le in
+    let start : with_dlink T i x ≡ t0 = grind (arith, common_steps, lowered_is) in
     let down0 : (y : ℕ) → (ln0 i).down y ≡ l.down y = λ y.
-    ap (λ (m : Line). m.down y) at_i
-    ∙ by_first (put_at (lnS i).down 0 o y ≡ l.down y) 0 y
+    ap (λ (m : Line). m.down y) at_i ∙ by_first (put_at (lnS i).down 0 o y ≡ l.down y) 0 y
     (λ z. put_at-same (lnS i).down 0 o y (sym z) ∙ sym linked.1 ∙ ap l.down z)
     (λ nz. put_at-other (lnS i).down 0 o y (λ z. nz (sym z)) ∙ ap (λ (m : Line). m.down y) h.own
     ∙ lost_own.0 y (λ z. nz (sym z))) in
@@ -374,21 +356,19 @@ by_lines p t spans covered i k o os legal fit pos le opened count costs h =
     let cw = bring_back_walk p t spans covered i ln0 0 all rest legal fit pos le opened among linked bringing in
     let lead : link_place p i (l.down 0) ≡ x = ap (link_place p i) linked.1 in
     let follow : followed t0.dlink k x ≡ map (link_place p i) all =
-    ap₂ (followed t0.dlink) (sym count) (sym lead)
-    ∙ follow_down p ln0 l i 0 all rest laid pos le
+    ap₂ (followed t0.dlink) (sym count) (sym lead) ∙ follow_down p ln0 l i 0 all rest laid pos le
     (subst (AllByRecursion (Named p i)) h.list (numbers_named p t i)) linked down0 in
-    let follow' : followed (with_dlink T i x).dlink k x ≡ map (link_place p i) all =
-    ap (λ (u : Nodes). followed u.dlink k x) start ∙ follow in
+    let follow' : followed (with_dlink T i x).dlink k x ≡ map (link_place p i) all = grind (arith, common_steps) in
     let fold_is : fold (brought_back spans covered) (with_dlink T i x) (followed (with_dlink T i x).dlink k x) ≡
     nodes_from p cw.end col = grind (arith, common_steps) in
     let within : i < length (layout p) = slice_get_within (layout p) i (own i) (laid.head i pos le) in
     let top_long : length (map (top_in cw.end) (layout p)) ≡ length (layout p) =
-    length-map (layout p) (top_in cw.end) in
+    grind (arith, common_steps, length-map) in
     let down_long : length T.dlink ≡ length (layout p) = length-map (layout p) (dlink_in p lnS) in
     let len_end : get_or (nodes_from p cw.end col).top i 0 ≡ (cw.end i).len = get_len p cw.end i laid pos le in
     let long_l : length (listed_numbers p t i) ≡ l.len = length-map (listed p t i) (λ o. o.number) in
     let long_list : length (listed_numbers p t i) ≡ length all + length rest =
-    ap length h.list ∙ length-append all rest in
+    grind (arith, common_steps, length-append) in
     let lost : (cuts l all).len + length all ≡ l.len = cuts_len l all (omega (arith, long_l, long_list)) in
     let end_len : (cw.end i).len ≡ (lnS i).len = cw.len ∙ ap (λ (m : Line). m.len) at_i in
     let own_len : (lnS i).len ≡ (cuts l all).len = ap (λ (m : Line). m.len) h.own in
@@ -404,31 +384,11 @@ by_lines p t spans covered i k o os legal fit pos le opened count costs h =
           ∙ line_is l (longer (cw.end i) n) (omega (arith, len_end, end_len, own_len, lost, count))
           (λ y. cw.bringing.own_up y refl) cw.bringing.own_down)
       | false ↦ λ e.
-          line_there cw.end i j (longer (cw.end i) n) (eqb-false j i e)
-          ∙ regained (line_of p t j) (cw.end j)
+          line_there cw.end i j (longer (cw.end i) n) (eqb-false j i e) ∙ regained (line_of p t j) (cw.end j)
           (subst (Regaining (line_of p t j) (cw.end j)) (none_yet p t covered i j)
           (cw.bringing.others j r.0 r.1 (eqb-false j i e)))
-    ] refl)
-    (λ m k e. refl) in
-    subst (λ y. Undoes spans covered T i y k (nodes_after p t) (undo_tweaks_cost k p s))
-    (sym (ap (λ ks. link_place p i (first_of 0 ks)) first)) (record {
-      can = record {
-        place = omega (arith, within, down_long);
-        bring_back =
-            subst (λ (u : Nodes). CanBringBackAll spans covered u x (followed (with_dlink T i x).dlink k x)) (sym start)
-            (subst (λ qs. CanBringBackAll spans covered t0 x qs) (sym follow')
-            (subst (λ q. CanBringBackAll spans covered t0 q (map (link_place p i) all)) lead cw.walk));
-        many = omega (arith, count, long_list, most, fit_few);
-        top = subst (λ (u : Nodes). i < length u.top) (sym fold_is) (omega (arith, within, top_long));
-        few =
-            subst (λ (u : Nodes). get_or u.top i 0 < 2 ^ 31) (sym fold_is)
-            (omega (arith, len_end, end_len, own_len, lost, long_l, most, fit_few));
-      };
-      done = ap (λ (u : Nodes). with_top u i (get_or u.top i 0 + k)) fold_is ∙ end;
-      paid =
-          let walk = ap₂ (λ (u : Nodes) qs. bring_back_costs spans covered u qs) start follow' ∙ cw.costs in
-          omega (arith, walk, fewer p col covered i all, costs, count);
-    })
+    ] refl) (λ m k e. refl) in
+    grind (arith, common_steps, fewer)
 
 pub tweaks_back : (p : Puzzle) (t : List Move) (spans : List Span) (covered : Bool) (i k : ℕ)
     → AreLegal p (tweaks k i t) → AreLegal p t → IsFitted p spans → 0 < i → i ≤ item_count p → is_open i t ≡ not covered

@@ -34,10 +34,7 @@ use Rattle.xc_dance.proofs.LinkedTables.TweaksBack.{tweaks, Tweaked, tweaked_lin
 pub tweaks_are : (k i : ℕ) (s : List Move) → k ≤ length s → take k s ≡ replicate k (Tweak i) → s ≡ tweaks k i (drop k s)
 tweaks_are zero i s h e = refl
 tweaks_are (suc k) i [] h e = absurd (omega (arith, h))
-tweaks_are (suc k) i (m ∷ s) h e =
-    let first : m ≡ Tweak i = cc in
-    let rest : take k s ≡ replicate k (Tweak i) = cc in
-    ap₂ (λ a b. a ∷ b) first (tweaks_are k i s (omega (arith, h)) rest)
+tweaks_are (suc k) i (m ∷ s) h e = grind (arith, common_steps, tweaks_are k i s (omega (arith, h)) cc)
 
 legal_rest : (p : Puzzle) (k i : ℕ) (t : List Move) → AreLegal p (tweaks k i t) → AreLegal p t
 legal_rest p zero i t h = h
@@ -84,10 +81,8 @@ taken_last p t covered i k xs some tw e =
     sym (reverse-reverse xs) ∙ ap reverse (e ∙ tw.lines.taken) ∙ reverse-append (reverse places) b
     ∙ ap (λ ys. reverse b ++ ys) (reverse-reverse places) in
     let long : length xs ≡ length (reverse b) + length places = ap length is ∙ length-append (reverse b) places in
-    let count : length places ≡ k = length-map os (link_place p i) ∙ tw.count in
-    let at : length xs - k ≡ length (reverse b) = omega (arith, long, count) in
-    let first = first_place os tw.count tw.lines.list in
-    grind (arith, common_steps, get_or-append-add, take-append_seam)
+    let at : length xs - k ≡ length (reverse b) = omega (arith, long, length-map os (link_place p i) ∙ tw.count) in
+    grind (arith, common_steps, get_or-append-add, take-append_seam, first_place os tw.count tw.lines.list)
   where
     first_place : (os : List ℕ) → length os ≡ k → listed_numbers p t i ≡ os ++ listed_numbers p (tweaks k i t) i
         → get_or (map (link_place p i) os) 0 0 ≡ link_place p i (first_of 0 (listed_numbers p t i))
@@ -110,7 +105,7 @@ first_node p s t i (o ∷ os) rest laid pos le some l =
     let here = laid.there i o pos le (inr (o_pos, named)) in
     let at = slice_get_within (layout p) (link_place p i o) here.node here.at in
     let long : length (map (top_in (line_of p s)) (layout p)) ≡ length (layout p) =
-    length-map (layout p) (top_in (line_of p s)) in
+    grind (arith, common_steps, length-map) in
     record {
       within = subst (λ n. link_place p i n < length (nodes_after p s).top) (sym is) (omega (arith, at, long));
       item = ap (λ n. get_or (nodes_after p s).top (link_place p i n) 0) is ∙ get_item p (line_of p s) i o here o_pos;
@@ -144,9 +139,7 @@ found_by p t spans i k xs legal fit e =
     record {
       legal = before;
       taken = taken_last p t covered i (suc k) xs some tw e;
-      node =
-          first_node p s t i tw.os (listed_numbers p s i) fit.laid pos le (let c = tw.count in omega (arith, c))
-          tw.lines.list;
+      node = first_node p s t i tw.os (listed_numbers p s i) fit.laid pos le (omega (arith, tw.count)) tw.lines.list;
       tell = (off.place, off.left);
       off = off.is ∙ covered_same (suc k) i i t;
       back = tweaks_back p t spans covered i (suc k) legal before fit pos le opened some;
@@ -186,15 +179,13 @@ pub record IsRead (p : Puzzle) (s t : List Move) (spans : List Span) (i k : ℕ)
 
 pub read : {p : Puzzle} {s t : List Move} {spans : List Span} {i k : ℕ} {xs : List ℕ} {nodes : Nodes} {items : Items}
     {x j : ℕ} → Found p s t spans i k xs → x ≡ first_place p t i → nodes ≡ nodes_after p s → items ≡ items_after p s
-    → j ≡ get_or nodes.top x 0
-    → IsRead p s t spans i k xs nodes items x j
+    → j ≡ get_or nodes.top x 0 → IsRead p s t spans i k xs nodes items x j
 read {p = p} {s = s} {j = j} f node nodes_are items_are at = grind (arith, common_steps)
 
 -- so the code may undo them at once
 pub undoes : {p : Puzzle} {s t : List Move} {spans spans' : List Span} {i k : ℕ} {xs : List ℕ} {nodes : Nodes}
     {items : Items} {x j : ℕ} {covered : Bool} → IsRead p s t spans i k xs nodes items x j → spans' ≡ spans
-    → covered ≡ is_off items j
-    → Undoes spans' covered nodes j x k (nodes_after p t) (undo_tweaks_cost k p s)
+    → covered ≡ is_off items j → Undoes spans' covered nodes j x k (nodes_after p t) (undo_tweaks_cost k p s)
 undoes {p} {s} {t} {spans} {spans'} {i} {k} {xs} {nodes} {items} {x} {j} {covered} r a b = grind (arith, common_steps)
 
 pub trail_left : (xs ys : List Move) (n k : ℕ) → ys ≡ take (n - k) xs → n ≡ length xs → k ≤ length (reverse xs)

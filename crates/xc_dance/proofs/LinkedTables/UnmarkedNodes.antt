@@ -60,8 +60,7 @@ unmarked-append color (p ∷ ps) qs = let r = unmarked-append color ps qs in ome
 -- back it is the same
 pub unmarked-reverse : (color qs : List ℕ) → unmarked_costs color (reverse qs) ≡ unmarked_costs color qs
 unmarked-reverse color [] = grind (arith, common_steps, unmarked-append)
-unmarked-reverse color (q ∷ qs) =
-    grind (arith, common_steps, unmarked-append, unmarked-reverse color qs)
+unmarked-reverse color (q ∷ qs) = grind (arith, common_steps, unmarked-append, unmarked-reverse color qs)
 
 -- for option o's nodes in the lists of the items js
 pub unmarked_items : (p : Puzzle) (col : Node → ℕ) (o : ℕ) (js : List ℕ)
@@ -74,8 +73,7 @@ unmarked_items p col o (j ∷ js) = grind (arith, common_steps, unmarked_items p
 
 no_colour : (us : List Use) (j c : ℕ) → AllByRecursion (λ u. u.colour ≡ 0) us → colour_in us j ≡ Some c → c ≡ 0
 no_colour [] j c a e = cc
-no_colour (u ∷ us) j c a e =
-    let rest = no_colour us j c a.1 in grind (arith, common_steps, same_Some)
+no_colour (u ∷ us) j c a e = grind (arith, common_steps, same_Some, no_colour us j c a.1)
 
 -- ---- the colours of its nodes
 
@@ -106,12 +104,11 @@ unmarked_behind p t q laid legal plain gt =
     let zeroed : get_or (nodes_after p t).color q 0 ≡ 0 =
     elim (ltb q (length (layout p))) as (λ b. ltb q (length (layout p)) ≡ b → get_or (nodes_after p t).color q 0 ≡ 0) [
       | true ↦ λ e.
-          let n = get_or (layout p) q unused in
           let here = slice_get-get_or (layout p) q unused (ltb-true q (length (layout p)) e) in
-          get_map (color_in p t) (layout p) q n here ∙ no_color p t q n laid legal plain gt here
+          grind (arith, common_steps, get_map, no_color, get_or (layout p) q unused)
       | false ↦ λ e. past_end (color_in p t) (layout p) q (ltb-false q (length (layout p)) e)
     ] refl in
-    λ e. omega (arith, e, zeroed)
+    grind (arith, common_steps)
 
 -- ---- the spans
 
@@ -155,9 +152,8 @@ kept_unmarked p t coloured spans nodes legal fitted a b plain none =
 
 -- ---- the walks
 
-kept_color : (step : Nodes → ℕ → Nodes) → ((t : Nodes) (q : ℕ) → (step t q).color ≡ t.color)
-    → (spans : List Span) (t u : Nodes) (qs : List ℕ) → u ≡ fold step t qs → IsUnmarked spans t.color
-    → IsUnmarked spans u.color
+kept_color : (step : Nodes → ℕ → Nodes) → ((t : Nodes) (q : ℕ) → (step t q).color ≡ t.color) → (spans : List Span)
+    (t u : Nodes) (qs : List ℕ) → u ≡ fold step t qs → IsUnmarked spans t.color → IsUnmarked spans u.color
 kept_color step same spans t u qs done =
     subst (IsUnmarked spans) (sym (ap (λ (v : Nodes). v.color) done ∙ colors-are step same t qs))
 

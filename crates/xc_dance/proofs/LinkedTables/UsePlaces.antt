@@ -22,8 +22,7 @@ use Rattle.xc_dance.specs.declared.links.nodes.TheConstants.{SPACER}
 -- an item that stands among uses is held
 pub held_of : (i : ℕ) (us : List Use) → place_in i us < length us → is_some (colour_in us i) ≡ true
 held_of i [] h = absurd (omega (arith, h))
-held_of i (u ∷ us) h =
-    let rest = held_of i us in grind (arith, common_steps)
+held_of i (u ∷ us) h = grind (arith, common_steps, held_of i us)
 
 -- ---- what the tables tell of it
 

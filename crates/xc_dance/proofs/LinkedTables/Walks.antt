@@ -52,9 +52,8 @@ pub step_can : {step : Nodes → ℕ → Nodes} {writes : Nodes → ℕ → ℕ}
 step_can {step} {writes} {Can} {t0} {all} {t} {left} {n} q more e h = (subst (CanAll step Can t) e h.can).0
 
 pub step_on : {step : Nodes → ℕ → Nodes} {writes : Nodes → ℕ → ℕ} {Can : Nodes → ℕ → Type 0} {t0 : Nodes} {all : List ℕ}
-    {t : Nodes} {left : List ℕ} {n : ℕ} (q : ℕ) (more : List ℕ) (u : Nodes) (m : ℕ)
-    → left ≡ q ∷ more → u ≡ step t q → m ≡ writes t q → Underway step writes Can t0 all t left n
-    → Underway step writes Can t0 all u more (n + m)
+    {t : Nodes} {left : List ℕ} {n : ℕ} (q : ℕ) (more : List ℕ) (u : Nodes) (m : ℕ) → left ≡ q ∷ more → u ≡ step t q
+    → m ≡ writes t q → Underway step writes Can t0 all t left n → Underway step writes Can t0 all u more (n + m)
 step_on {step} {writes} {Can} {t0} {all} {t} {left} {n} q more u m e is paid h = grind (arith, common_steps)
 
 pub steps_end : {step : Nodes → ℕ → Nodes} {writes : Nodes → ℕ → ℕ} {Can : Nodes → ℕ → Type 0} {t0 : Nodes}
@@ -65,10 +64,8 @@ steps_end {step} {writes} {Can} {t0} {all} {t} {left} {n} e h = grind (arith, co
 -- one walk behind another
 pub both_reached : {step : Nodes → ℕ → Nodes} {writes : Nodes → ℕ → ℕ} {t0 : Nodes} {ps : List ℕ} {t : Nodes} {n : ℕ}
     (qs rs : List ℕ) (u : Nodes) (m : ℕ) → Reached step writes t0 ps t n → rs ≡ qs → u ≡ fold step t rs
-    → m ≡ costs step writes t rs
-    → Reached step writes t0 (ps ++ qs) u (n + m)
-both_reached {step} {writes} {t0} {ps} {t} {n} qs rs u m h same is paid =
-    grind (arith, common_steps, costs-append)
+    → m ≡ costs step writes t rs → Reached step writes t0 (ps ++ qs) u (n + m)
+both_reached {step} {writes} {t0} {ps} {t} {n} qs rs u m h same is paid = grind (arith, common_steps, costs-append)
 
 -- ---- up to a spacer
 
@@ -86,8 +83,7 @@ pub tells : {step : Nodes → ℕ → Nodes} {writes : Nodes → ℕ → ℕ} {C
     → (q ≡ z → left ≡ []) → (q ≢ z → (more : List ℕ) × (left ≡ q ∷ more)) → IsSpacer (fold step t0 all) z
     → Underway step writes Can t0 all t left n → Tells t (fold step t0 all) q z left
 tells {step} {writes} {Can} {t0} {all} {t} {left} {n} q z knows met on spacer h =
-    let u : Nodes = fold step t0 all in
-    elim (eqb q z) as (λ b. eqb q z ≡ b → Tells t u q z left) [
+    elim (eqb q z) as (λ b. eqb q z ≡ b → Tells t (fold step t0 all) q z left) [
       | true ↦ λ e. grind (arith, common_steps, eqb-true, steps_end)
       | false ↦ λ e. grind (arith, common_steps, eqb-false, step_can)
     ] refl
@@ -118,12 +114,9 @@ pub follow_here : {step : Nodes → ℕ → Nodes} {writes : Nodes → ℕ → �
     → Following step writes Can links t0 m x t p k n → Here step Can links (followed (links t0) m x) t p k
 follow_here {step} {writes} {Can} {links} {t0} {m} {x} {t} {p} {k} {n} lt h =
     let all : List ℕ = followed (links t0) m x in
-    let at : drop k all ≡ get_or all k 0 ∷ drop (k + 1) all =
-    drop_more all k 0 (omega (arith, length-followed (links t0) m x, lt)) in
-    let first : drop k all ≡ p ∷ drop (k + 1) all =
-    at ∙ ap (λ y. y ∷ drop (k + 1) all) (sym (subst (CanFollow step Can links t p) at h.walk).0) in
-    let w : CanFollow step Can links t p (p ∷ drop (k + 1) all) = subst (CanFollow step Can links t p) first h.walk in
-    grind (arith, common_steps)
+    let at : drop k all ≡ get_or all k 0 ∷ drop (k + 1) all = grind (arith, common_steps, drop_more, length-followed) in
+    let first : drop k all ≡ p ∷ drop (k + 1) all = grind (arith, common_steps) in
+    grind (arith, common_steps, subst (CanFollow step Can links t p) first h.walk)
 
 pub follow_on : {step : Nodes → ℕ → Nodes} {writes : Nodes → ℕ → ℕ} {Can : Nodes → ℕ → Type 0} {links : Nodes → List ℕ}
     {t0 : Nodes} {m x : ℕ} {t : Nodes} {p k n : ℕ} (u : Nodes) (q w : ℕ) → k < m → u ≡ step t p
@@ -131,12 +124,8 @@ pub follow_on : {step : Nodes → ℕ → Nodes} {writes : Nodes → ℕ → ℕ
     → Following step writes Can links t0 m x t p k n → Following step writes Can links t0 m x u q (k + 1) (n + w)
 follow_on {step} {writes} {Can} {links} {t0} {m} {x} {t} {p} {k} {n} u q w lt is to paid h =
     let here = follow_here lt h in
-    let rest : List ℕ = drop (k + 1) (followed (links t0) m x) in
     let next : q ≡ get_or (links (step t p)) p 0 = to ∙ ap (λ (v : Nodes). get_or (links v) p 0) is in
-    let whole : costs step writes t (drop k (followed (links t0) m x)) ≡ writes t p + costs step writes (step t p) rest
-    = ap (costs step writes t) here.first in
-    let cost = h.cost in
-    grind (arith, common_steps)
+    grind (arith, common_steps, h.cost, ap (costs step writes t) here.first, drop (k + 1) (followed (links t0) m x))
 
 pub follow_end : {step : Nodes → ℕ → Nodes} {writes : Nodes → ℕ → ℕ} {Can : Nodes → ℕ → Type 0} {links : Nodes → List ℕ}
     {t0 : Nodes} {m x : ℕ} {t : Nodes} {p k n : ℕ} → m ≤ k → Following step writes Can links t0 m x t p k n

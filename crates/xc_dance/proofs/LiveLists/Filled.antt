@@ -13,8 +13,11 @@ use Rattle.xc_input.specs.Problem.{Puzzle, Numbered, item_count, holding}
 use Rattle.xc_dance.specs.inner.Lists.Taking.{list_at}
 use Rattle.xc_dance.specs.inner.Lists.Losing.{enlisted_from, enlisted, has_use, lists_before}
 use Rattle.xc_dance.specs.declared.dance.Move.{Move}
-use Rattle.xc_dance.proofs.LiveLists.OptionsLost.{has_use_other, has_use_here}
+use Rattle.xc_dance.proofs.LiveLists.OptionsLost.{has_use_other}
 use Rattle.xc_dance.proofs.MoveLemmas.Shortened.{holds_use}
+use Rattle.std.proofs.Common.{eq-eqb}
+use Rattle.std.proofs.Math.Bool.{or-true}
+use Rattle.xc_dance.proofs.LiveLists.OptionsLost.{has_use_more}
 
 pub length-enlisted_from : (us : List Use) (o n : ℕ) (ls : List (List ℕ)) → length (enlisted_from us o n ls) ≡ length ls
 length-enlisted_from us o n [] = refl
@@ -36,10 +39,10 @@ pub enlisted_more : (us : List Use) (u : Use) (o n k : ℕ) (ls : List (List ℕ
     set (enlisted_from us o n ls) k (list_at (enlisted_from us o n ls) k ++ o ∷ []) ≡ enlisted_from
     (us ++ u ∷ []) o n ls
 enlisted_more us u o n k [] e new lt = refl
-enlisted_more us u o n zero (l ∷ ls) e new lt = grind (arith, common_steps, enlisted_above, has_use_here)
+enlisted_more us u o n zero (l ∷ ls) e new lt = grind
+    (arith, common_steps, enlisted_above, has_use_more, eq-eqb, or-true)
 enlisted_more us u o n (suc k) (l ∷ ls) e new lt =
-    let other : u.item ≢ n = omega (arith, e) in
-    ap₂ (λ k ks. k ∷ ks) (ap (λ b. cond b (l ++ o ∷ []) l) (sym (has_use_other us u n other)))
+    ap₂ (λ k ks. k ∷ ks) (ap (λ b. cond b (l ++ o ∷ []) l) (sym (has_use_other us u n (omega (arith, e)))))
     (enlisted_more us u o (n + 1) k ls (omega (arith, e)) new (omega (arith, lt)))
 
 -- the uses before one are of other items
@@ -48,8 +51,7 @@ pub new_use : (us : List Use) (k : ℕ) (u0 : Use) → AllPairs (λ u v. u.item 
 new_use us k u0 distinct lt =
     list_any_none (λ v. eqb v.item (get_or us k u0).item) (take k us)
     (λ m d within. (let front : m < k = omega (arith, within, length-take-le k us (omega (arith, lt))) in
-    let same = get_or-take k us m d front in
-    rw same (ne_eqb (get_or us m d).item (get_or us k u0).item (λ e. distinct_at m d front e))))
+    rw (get_or-take k us m d front) (ne_eqb (get_or us m d).item (get_or us k u0).item (λ e. distinct_at m d front e))))
   where
     distinct_at : (m : ℕ) (d : Use) → m < k → (get_or us m d).item ≡ (get_or us k u0).item → ⊥
     distinct_at m d front e = distinct m k d front lt (e ∙ ap (λ (u : Use). u.item) (get_or_default us k u0 d lt))
@@ -77,9 +79,8 @@ at_end front x n e true = ap (λ k. front ++ k ∷ []) e
 at_end front x n e false = sym (append-nil front)
 
 filled_more : (os : List (List Use)) (us : List Use) (i : ℕ)
-    → cond (has_use us i) (map (λ o. o.number) (holding i (numbered_from 1 os)) ++ (length os + 1) ∷ [])
-    (map (λ o. o.number) (holding i (numbered_from 1 os))) ≡ map (λ o. o.number)
-    (holding i (numbered_from 1 (os ++ us ∷ [])))
+    → cond (has_use us i) (map (λ o. o.number) (holding i (numbered_from 1 os)) ++ (length os + 1) ∷ []) (map (λ o.
+    o.number) (holding i (numbered_from 1 os))) ≡ map (λ o. o.number) (holding i (numbered_from 1 (os ++ us ∷ [])))
 filled_more os us i = grind (arith, common_steps, at_end, holds_use, numbered_more)
 
 pub lists_more : (p : Puzzle) (os : List (List Use)) (us : List Use) (o : ℕ) → o ≡ length os + 1

@@ -43,11 +43,6 @@ pub length-lists_at_marks : (ks : List ℕ) (es : List Removed) (ls : List (List
 length-lists_at_marks [] es ls = refl
 length-lists_at_marks (k ∷ ks) es ls = ap suc (length-lists_at_marks ks (still_taken k es) (restored k es ls))
 
--- a mark that was just made
-pub marks_new : (k : ℕ) (ks : List ℕ) (es : List Removed) (ls : List (List ℕ)) → length es ≤ k
-    → lists_at_marks (k ∷ ks) es ls ≡ ls ∷ lists_at_marks ks es ls
-marks_new k ks es ls le = let at = restored_at k es ls le in rw (at.0, at.1) refl
-
 versions : List (List ℕ) → List (List (List ℕ)) → ℕ → Versions
 versions ls ms r = record { lists = ls; marked = ms; room = r }
 

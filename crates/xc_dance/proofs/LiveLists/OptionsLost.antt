@@ -30,16 +30,6 @@ pub less_none : (l : List ℕ) → less [] l ≡ l
 less_none [] = refl
 less_none (x ∷ l) = ap (λ k. x ∷ k) (less_none l)
 
--- one option more is gone
-pub less_more : (gone : List ℕ) (o : ℕ) (l : List ℕ) → less (o ∷ []) (less gone l) ≡ less (gone ++ o ∷ []) l
-less_more gone o l = filter_both _ _ l
-    ∙ filter_agree _ _ (λ n. sym
-    (ap not (list_any-append (λ g. eqb g n) gone (o ∷ []))
-    ∙ not_or (list_any (λ g. eqb g n) gone) (list_any (λ g. eqb g n) (o ∷ [])))) l
-
-pub less_less : (o : ℕ) (l : List ℕ) → less (o ∷ []) (less (o ∷ []) l) ≡ less (o ∷ []) l
-less_less o l = filter_both _ _ l ∙ filter_agree _ _ (λ n. and_self (not (eqb o n || false))) l
-
 pub is_list_of-less : (p : Puzzle) (i : ℕ) (gone l : List ℕ) → IsListOf p i l → IsListOf p i (less gone l)
 is_list_of-less p i gone l h = (Rises-filter _ 0 l h.0, All-filter _ (λ o. IsTrue (has_use (uses_of p o) i)) l h.1)
 
@@ -47,13 +37,6 @@ if_list_of : (p : Puzzle) (i : ℕ) (b : Bool) (k l : List ℕ) → IsListOf p i
     → IsListOf p i (cond b k l)
 if_list_of p i true k l g h = g
 if_list_of p i false k l g h = h
-
--- an option without the item isn't in the item's list
-pub less_unused : (p : Puzzle) (i o : ℕ) (l : List ℕ) → IsListOf p i l → has_use (uses_of p o) i ≡ false
-    → less (o ∷ []) l ≡ l
-less_unused p i o l h none =
-    less-absent o l (λ k lt e.
-    (let used = h.1 k 0 lt in let same = ap (λ n. has_use (uses_of p n) i) e in cc (used, same, none)))
 
 -- an option that has a use is one of the problem
 pub known_option : (p : Puzzle) (o i : ℕ) → has_use (uses_of p o) i ≡ true → (1 ≤ o) × (o ≤ option_count p)
@@ -82,8 +65,7 @@ pub lists-lose_from : (p : Puzzle) (t : List Move) (j : ℕ) (gone : List ℕ) (
 lists-lose_from p t j gone n [] h = tt
 lists-lose_from p t j gone n (l ∷ ls) h = (
   if_list_of p n (not (eqb n j) && is_open n t) (less gone l) l (is_list_of-less p n gone l h.0) h.0,
-  lists-lose_from
-      p t j gone (n + 1) ls h.1,
+  grind (arith, common_steps, lists-lose_from p t j gone (n + 1) ls h.1),
 )
 
 pub lists-hidden_from : (p : Puzzle) (t : List Move) (j : ℕ) (us : List Use) (o n : ℕ) (ls : List (List ℕ))
@@ -92,7 +74,7 @@ lists-hidden_from p t j us o n [] h = tt
 lists-hidden_from p t j us o n (l ∷ ls) h = (
   if_list_of p n ((not (eqb n j) && is_open n t) && has_use us n) (less (o ∷ []) l) l
       (is_list_of-less p n (o ∷ []) l h.0) h.0,
-  lists-hidden_from p t j us o (n + 1) ls h.1,
+  grind (arith, common_steps, lists-hidden_from p t j us o (n + 1) ls h.1),
 )
 
 pub list_of : (p : Puzzle) (n k : ℕ) (ls : List (List ℕ)) → AreListsFrom p n ls → k < length ls
@@ -108,8 +90,9 @@ lose_none t j n (l ∷ ls) = grind (arith, common_steps, less_none, lose_none t 
 
 pub lose_more : (t : List Move) (j : ℕ) (gone : List ℕ) (o n : ℕ) (ls : List (List ℕ))
     → lose_from t j (o ∷ []) n (lose_from t j gone n ls) ≡ lose_from t j (gone ++ o ∷ []) n ls
-lose_more t j gone o n [] = grind (arith, common_steps, less_more)
-lose_more t j gone o n (l ∷ ls) = grind (arith, common_steps, less_more, lose_more t j gone o (n + 1) ls)
+lose_more t j gone o n [] = grind (arith, common_steps, filter_both, filter_agree, list_any-append, not_or)
+lose_more t j gone o n (l ∷ ls) = grind
+    (arith, common_steps, filter_both, filter_agree, list_any-append, not_or, lose_more t j gone o (n + 1) ls)
 
 -- the list of j itself stays
 pub lose_other : (t : List Move) (j : ℕ) (gone : List ℕ) (n k : ℕ) (ls : List (List ℕ)) → n + k ≡ j
@@ -126,12 +109,9 @@ pub read_option : (p : Puzzle) (t : List Move) (j : ℕ) (gone : List ℕ) (at :
     (row ≡ list_at ls (j - 1)) × ((1 ≤ get_or row at 0) × (get_or row at 0 ≤ option_count p))
 read_option p t j gone at row now ls low high are is read lt =
     let place : 1 + (j - 1) ≡ j = omega (arith, low) in
-    let same : row ≡ list_at ls (j - 1) =
-    read ∙ ap (λ l. list_at l (j - 1)) is ∙ lose_other t j gone 1 (j - 1) ls place in
+    let same : row ≡ list_at ls (j - 1) = grind (arith, common_steps, lose_other) in
     let list = list_of p 1 (j - 1) ls are (omega (arith, low, high)) in
-    let o = get_or (list_at ls (j - 1)) at 0 in
-    let known = known_option p o (1 + (j - 1)) (list.1 at 0 lt) in
-    (same, rw same known)
+    grind (arith, common_steps, known_option p (get_or (list_at ls (j - 1)) at 0) (1 + (j - 1)) (list.1 at 0 lt))
 
 -- ---- use by use
 
@@ -139,16 +119,13 @@ pub hidden_none : (t : List Move) (j o n : ℕ) (ls : List (List ℕ)) → hidde
 hidden_none t j o n [] = grind (arith, common_steps, and-false)
 hidden_none t j o n (l ∷ ls) = grind (arith, common_steps, and-false, hidden_none t j o (n + 1) ls)
 
-has_use_more : (us : List Use) (u : Use) (i : ℕ) → has_use (us ++ u ∷ []) i ≡ (has_use us i || eqb u.item i)
+pub has_use_more : (us : List Use) (u : Use) (i : ℕ) → has_use (us ++ u ∷ []) i ≡ (has_use us i || eqb u.item i)
 has_use_more us u i =
     list_any-append (λ v. eqb v.item i) us (u ∷ []) ∙ ap (λ b. has_use us i || b) (or-false (eqb u.item i))
 
 pub has_use_other : (us : List Use) (u : Use) (i : ℕ) → u.item ≢ i → has_use (us ++ u ∷ []) i ≡ has_use us i
 has_use_other us u i other =
     has_use_more us u i ∙ ap (λ b. has_use us i || b) (ne_eqb u.item i other) ∙ or-false (has_use us i)
-
-pub has_use_here : (us : List Use) (u : Use) (i : ℕ) → u.item ≡ i → has_use (us ++ u ∷ []) i ≡ true
-has_use_here us u i e = has_use_more us u i ∙ ap (λ b. has_use us i || b) (eq-eqb u.item i e) ∙ or-true (has_use us i)
 
 hidden_above : (t : List Move) (j : ℕ) (us : List Use) (u : Use) (o n : ℕ) (ls : List (List ℕ)) → u.item < n
     → hidden_from t j us o n ls ≡ hidden_from t j (us ++ u ∷ []) o n ls
@@ -162,11 +139,11 @@ pub hidden_more : (t : List Move) (j : ℕ) (us : List Use) (u : Use) (o n k : �
     set (hidden_from t j us o n ls) k (less (o ∷ []) (list_at (hidden_from t j us o n ls) k)) ≡ hidden_from t j
     (us ++ u ∷ []) o n ls
 hidden_more t j us u o n k [] e c = refl
-hidden_more t j us u o n zero (l ∷ ls) e c = grind (arith, common_steps, has_use_here, hidden_above, less_less)
+hidden_more t j us u o n zero (l ∷ ls) e c = grind
+    (arith, common_steps, has_use_more, eq-eqb, or-true, hidden_above, filter_both, filter_agree, and_self)
 hidden_more t j us u o n (suc k) (l ∷ ls) e c =
-    let other : u.item ≢ n = omega (arith, e) in
     ap₂ (λ k ks. k ∷ ks) (ap (λ b. cond ((not (eqb n j) && is_open n t) && b) (less (o ∷ []) l) l)
-    (sym (has_use_other us u n other))) (hidden_more t j us u o (n + 1) k ls (omega (arith, e)) c)
+    (sym (has_use_other us u n (omega (arith, e))))) (hidden_more t j us u o (n + 1) k ls (omega (arith, e)) c)
 
 -- a use of an item that stays as it is
 pub hidden_same : (t : List Move) (j : ℕ) (us : List Use) (u : Use) (o n : ℕ) (ls : List (List ℕ))
@@ -179,5 +156,5 @@ hidden_same t j us u o n (l ∷ ls) c =
 -- once all uses are gone through
 pub hidden_all : (p : Puzzle) (t : List Move) (j o n : ℕ) (ls : List (List ℕ)) → AreListsFrom p n ls
     → hidden_from t j (uses_of p o) o n ls ≡ lose_from t j (o ∷ []) n ls
-hidden_all p t j o n [] h = grind (arith, common_steps, less_unused)
-hidden_all p t j o n (l ∷ ls) h = grind (arith, common_steps, less_unused, hidden_all p t j o (n + 1) ls h.1)
+hidden_all p t j o n [] h = grind (arith, common_steps, less-absent)
+hidden_all p t j o n (l ∷ ls) h = grind (arith, common_steps, less-absent, hidden_all p t j o (n + 1) ls h.1)

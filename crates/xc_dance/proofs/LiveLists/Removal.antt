@@ -37,8 +37,7 @@ less-remove n (y ∷ ys) zero r lt = grind (arith, common_steps, eq-eqb, less-be
 less-remove n (y ∷ ys) (suc k) r lt =
     let x = get_or ys k 0 in
     let behind : y < x = above y ys k r.1 (omega (arith, lt)) in
-    let here : eqb x y ≡ false = ne_eqb x y (omega (arith, behind)) in
-    rw here (ap (λ l. y ∷ l) (less-remove y ys k r.1 (omega (arith, lt))))
+    grind (arith, common_steps, less-remove y ys k r.1 (omega (arith, lt)), ne_eqb x y (omega (arith, behind)))
 
 pub insert-remove : {X : Type 0} (xs : List X) (k : ℕ) (d : X) → k < length xs
     → insert (remove xs k) k (get_or xs k d) ≡ xs
@@ -72,10 +71,6 @@ pub list_at-numbers_of : (ls : List (Vec ℕ)) (k : ℕ) (d : Vec ℕ) → k < l
     → list_at (numbers_of ls) k ≡ (get_or ls k d).items
 list_at-numbers_of ls k d lt = get_or-map (λ (l : Vec ℕ). l.items) ls k d [] lt
 
-pub rooms_of-set : (ls : List (Vec ℕ)) (k : ℕ) (v d : Vec ℕ) → vec_capacity v ≡ vec_capacity (get_or ls k d)
-    → rooms_of (set ls k v) ≡ rooms_of ls
-rooms_of-set ls k v d e = map-set_same (λ (l : Vec ℕ). vec_capacity l) ls k v d e
-
 pub room_at : (ls : List (Vec ℕ)) (k : ℕ) (d : Vec ℕ) → k < length ls
     → get_or (rooms_of ls) k 0 ≡ vec_capacity (get_or ls k d)
 room_at ls k d lt = get_or-map (λ (l : Vec ℕ). vec_capacity l) ls k d 0 lt
@@ -93,10 +88,9 @@ removed rooms ls list place number lt within is fits =
 
 -- as a vector's row is changed
 pub row_removed : (ls : List (Vec ℕ)) (new : Vec ℕ) (list place number : ℕ) (row : Vec ℕ) → list < length ls
-    → row ≡ get_or ls list row →
-    place < length row.items → get_or row.items place 0 ≡ number → new.items ≡ remove row.items place
-    → length row.items ≤ vec_capacity row →
-    IsPutBack (rooms_of ls) (record { place = place; list = list; number = number }) (numbers_of (set ls list new))
+    → row ≡ get_or ls list row → place < length row.items → get_or row.items place 0 ≡ number
+    → new.items ≡ remove row.items place → length row.items ≤ vec_capacity row
+    → IsPutBack (rooms_of ls) (record { place = place; list = list; number = number }) (numbers_of (set ls list new))
     (numbers_of ls)
 row_removed ls new list place number row lt is_row within is gone fits =
     grind (arith, common_steps, list_at-numbers_of, numbers_of-set, removed, room_at)

@@ -12,21 +12,15 @@ use Rattle.xc_dance.specs.Moves.{AreLegal}
 use Rattle.xc_dance.specs.Commits.{CanStand, after_spend, after_use, after_uses, others}
 use Rattle.xc_input.specs.UsePlaces.{place_in}
 
-legal_after_spend : (p : Puzzle) (i : ℕ) (t : List Move) → AreLegal p (after_spend p i t) → AreLegal p t
-legal_after_spend p i t l = grind (arith, common_steps)
-
 pub legal_after_use : (p : Puzzle) (u : Use) (t : List Move) → AreLegal p (after_use p u t) → AreLegal p t
-legal_after_use p u t l = grind (arith, common_steps, legal_after_spend)
+legal_after_use p u t l = grind (arith, common_steps)
 
 pub legal_after_uses : (p : Puzzle) (us : List Use) (t : List Move) → AreLegal p (after_uses p us t) → AreLegal p t
 legal_after_uses p [] t l = l
 legal_after_uses p (u ∷ us) t l = legal_after_use p u t (legal_after_uses p us (after_use p u t) l)
 
-longer_spend : (p : Puzzle) (i : ℕ) (t : List Move) → length t ≤ length (after_spend p i t)
-longer_spend p i t = grind (arith, common_steps)
-
 longer_use : (p : Puzzle) (u : Use) (t : List Move) → length t ≤ length (after_use p u t)
-longer_use p u t = grind (arith, common_steps, longer_spend)
+longer_use p u t = grind (arith, common_steps)
 
 longer_uses : (p : Puzzle) (us : List Use) (t : List Move) → length t ≤ length (after_uses p us t)
 longer_uses p [] t = omega arith
@@ -45,10 +39,7 @@ after_uses-append p (u ∷ us) vs t = after_uses-append p us vs (after_use p u t
 
 pub first_use : (p : Puzzle) (us : List Use) (k : ℕ) (d : Use) (t : List Move) → k < length us
     → after_uses p (drop k us) t ≡ after_uses p (drop (k + 1) us) (after_use p (get_or us k d) t)
-first_use p us k d t h =
-    let next : suc k ≡ k + 1 = omega arith in
-    ap (λ vs. after_uses p vs t) (drop-cons us k d h)
-    ∙ ap (λ n. after_uses p (drop n us) (after_use p (get_or us k d) t)) next
+first_use p us k d t h = grind (arith, common_steps, drop-cons)
 
 -- the state once these uses were committed
 abbrev pub committed : List Use → Dancing → Dancing
@@ -59,17 +50,3 @@ pub at_use : (s : Dancing) (us : List Use) (k : ℕ) (d : Use) → k < length us
     committed (drop k us) s ≡ committed (drop (k + 1) us)
     (record s { trail = after_use s.puzzle (get_or us k d) s.trail })
 at_use s us k d h = ap (λ t. record s { trail = t }) (first_use s.puzzle us k d s.trail h)
-
--- after the uses behind the place k come those before it
-pub other_uses : (p : Puzzle) (i o : ℕ) (vs : List Use) (k : ℕ) (t : List Move) →
-    numbered_get p.options o ≡ Some vs → k ≡ place_in i vs →
-    after_uses p (others i (uses_of p o)) t
-    ≡ after_uses p (take k vs) (after_uses p (take (length vs - (k + 1)) (drop (k + 1) vs)) t)
-other_uses p i o vs k t e h =
-    let enough : length vs - (k + 1) ≡ length (drop (k + 1) vs) = omega (arith, length-drop (k + 1) vs) in
-    let behind : take (length vs - (k + 1)) (drop (k + 1) vs) ≡ drop (k + 1) vs =
-    ap (λ n. take n (drop (k + 1) vs)) enough ∙ take-length (drop (k + 1) vs) in
-    ap (λ found. after_uses p (others i (unwrap_or found [])) t) e
-    ∙ ap (λ n. after_uses p (drop (n + 1) vs ++ take n vs) t) (sym h)
-    ∙ after_uses-append p (drop (k + 1) vs) (take k vs) t
-    ∙ ap (λ ws. after_uses p (take k vs) (after_uses p ws t)) (sym behind)

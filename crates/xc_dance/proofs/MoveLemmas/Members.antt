@@ -9,11 +9,10 @@ use Rattle.xc_dance.proofs.LinkedTables.Sweep.{Rises, not_in, in_above, is_in-fi
 
 pub element_of : (P : ℕ → Type 0) (x : ℕ) (xs : List ℕ) → AllByRecursion P xs → is_in x xs ≡ true → P x
 element_of P x [] a e = absurd (false≢true e)
-element_of P x (y ∷ ys) a e =
-    elim (eqb y x) as (λ b. eqb y x ≡ b → (b || is_in x ys) ≡ true → P x) [
-      | true ↦ λ f g. subst P (eqb-true y x f) a.0
-      | false ↦ λ f g. element_of P x ys a.1 g
-    ] refl e
+element_of P x (y ∷ ys) a e = elim (eqb y x) as (λ b. eqb y x ≡ b → (b || is_in x ys) ≡ true → P x) [
+  | true ↦ λ f g. subst P (eqb-true y x f) a.0
+  | false ↦ λ f g. element_of P x ys a.1 g
+] refl e
 
 -- a filter's members
 pub in_filter : (f : ℕ → Bool) (x : ℕ) (xs : List ℕ) → is_in x (filter f xs) ≡ (f x && is_in x xs)
@@ -34,12 +33,10 @@ same_members n (x ∷ xs) (y ∷ ys) r s h =
     let le : x ≤ y = grind (arith, common_steps, eqb-true, in_above) in
     let ge : y ≤ x = grind (arith, common_steps, eqb-true, in_above) in
     let same : x ≡ y = omega (arith, le, ge) in
-    ap₂ (λ k ks. k ∷ ks) same
-    (same_members x xs ys r.1 (subst (λ k. Rises k ys) (sym same) s.1) (λ z.
+    ap₂ (λ k ks. k ∷ ks) same (same_members x xs ys r.1 (subst (λ k. Rises k ys) (sym same) s.1) (λ z.
     let same = h z in grind (arith, common_steps, eqb-false, eqb-true, is_in-other, not_in)))
 
 -- nothing passes
 pub none_in : (f : ℕ → Bool) (n : ℕ) (xs : List ℕ) → Rises n (filter f xs) → ((x : ℕ) → is_in x xs ≡ true → f x ≡ false)
     → filter f xs ≡ []
-none_in f n xs r h = same_members n (filter f xs) [] r tt (λ x. in_filter f x xs
-    ∙ grind (arith, common_steps))
+none_in f n xs r h = same_members n (filter f xs) [] r tt (λ x. in_filter f x xs ∙ grind (arith, common_steps))

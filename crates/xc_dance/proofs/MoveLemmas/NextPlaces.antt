@@ -25,6 +25,5 @@ pub next_at : (o : ℕ) (xs : List ℕ) (k : ℕ) → ((m : ℕ) → m < k → g
 next_at o [] k below above le = refl
 next_at o (x ∷ xs) zero below above le = rw (lt-ltb o x (above 0 (omega arith) (omega arith))) refl
 next_at o (x ∷ xs) (suc k) below above le =
-    rw (le-ltb o x (let h = below 0 (omega arith) in omega (arith, h)))
-    (next_at o xs k (λ m lt. below (suc m) (omega (arith, lt)))
+    rw (le-ltb o x (omega (arith, below 0 (omega arith)))) (next_at o xs k (λ m lt. below (suc m) (omega (arith, lt)))
     (λ m ge lt. above (suc m) (omega (arith, ge)) (omega (arith, lt))) (omega (arith, le)))

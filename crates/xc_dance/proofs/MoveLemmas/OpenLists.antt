@@ -44,20 +44,15 @@ pub among_filter : (q : Numbered → Bool) (n : ℕ) (os : List Numbered) → Nu
     → AllByRecursion (λ o. is_among (filter q os) o ≡ q o) os
 among_filter q n [] r = tt
 among_filter q n (x ∷ os) r =
-    let self : eqb x.number x.number ≡ true = eq-eqb _ _ refl in
     elim (q x) as (λ b. (is_among (cond b (x ∷ filter q os) (filter q os)) x ≡ b)
     × AllByRecursion (λ o. is_among (cond b (x ∷ filter q os) (filter q os)) o ≡ q o) os) [
       | true ↦ (
-        rw self refl,
+        grind (arith, common_steps),
         each_both (λ o. x.number < o.number) (λ o. is_among (filter q os) o ≡ q o)
             (λ o. is_among (x ∷ filter q os) o ≡ q o) os (λ o h e. rw (before o.number x.number h) e)
             (above x.number os r.1) (among_filter q x.number os r.1),
       )
-      | false ↦ (
-        not_among x x.number (filter q os) (omega arith) (NumbersRise-filter q x.number os r.1),
-        among_filter q
-            x.number os r.1,
-      )
+      | false ↦ grind (arith, common_steps, not_among, NumbersRise-filter, among_filter q x.number os r.1)
     ]
 
 pub without_filter : (q : Numbered → Bool) (n : ℕ) (os : List Numbered) → NumbersRise n os
@@ -67,8 +62,7 @@ without_filter q n os r = filter_same _ _ os (each_weaker _ _ os (λ o e. ap not
 pub without_first : (n : ℕ) (os : List Numbered) → NumbersRise n os → without (take 1 os) os ≡ drop 1 os
 without_first n [] r = refl
 without_first n (x ∷ os) r =
-    let self : eqb x.number x.number ≡ true = eq-eqb _ _ refl in
-    rw self (keep_all (λ o. not (is_among (x ∷ []) o)) os
+    rw (eq-eqb _ _ refl) (keep_all (λ o. not (is_among (x ∷ []) o)) os
     (each_weaker _ _ os (λ o h. rw (before o.number x.number h) refl) (above x.number os r.1)))
 
 -- ---- the lists
@@ -78,12 +72,9 @@ gone : (q : Numbered → Bool) (i : ℕ) (os : List Numbered) → NumbersRise 0 
     → without (filter q os) (holding i os) ≡ holding i (filter (λ o. not (q o)) os)
 gone q i os r = filter_swap _ _ os ∙ ap (holding i) (without_filter q 0 os r)
 
-stays_if : (c d : ℕ) → 0 < c → not (true && not (eqb c d)) ≡ (nat_lt 0 c && eqb c d)
-stays_if c d h = rw (lt-ltb 0 c h) (elim (eqb c d) as (λ b. not (not b) ≡ b) [ true ↦ refl | false ↦ refl ])
-
 agree_test : (c : ℕ) (o : Option ℕ) → 0 < c → not (is_some o && is_other_colour c o) ≡ agrees c o
 agree_test c None h = refl
-agree_test c (Some d) h = stays_if c d h
+agree_test c (Some d) h = rw (lt-ltb 0 c h) (elim (eqb c d) as (λ b. not (not b) ≡ b) [ true ↦ refl | false ↦ refl ])
 
 purified_gone : (i j c : ℕ) (os : List Numbered) → 0 < c → NumbersRise 0 os
     → without (other_colours j c (holding j os)) (holding i os) ≡ holding i (filter (λ o. agrees c (colour_at o j)) os)
@@ -102,9 +93,7 @@ tweaked_itself : (p : Puzzle) (t : List Move) (i j : ℕ) → is_open i t ≡ tr
     i ≡ j → listed p (Tweak j ∷ t) i ≡ holding i (left p (Tweak j ∷ t))
 tweaked_itself p t i j opened at_j e =
     let j_open : is_open j t ≡ true = ap (λ k. is_open k t) (sym e) ∙ opened in
-    let same : eqb i j ≡ true = eq-eqb i j e in
-    rw (same, j_open, e)
-    (ap (drop 1) (at_j j_open)
+    rw (eq-eqb i j e, j_open, e) (ap (drop 1) (at_j j_open)
     ∙ sym (without_first 0 (holding j (left p t)) (NumbersRise-filter (λ o. holds o j) 0 (left p t) (left_rises p t)))
     ∙ filter_swap _ _ (left p t))
 
@@ -121,10 +110,8 @@ listed_open p (Cover j ∷ t) legal i opened =
     (ap₂ (λ g os. without g os) (listed_open p t legal.1 j legal.0.1) (listed_open p t legal.1 i (and_right _ _ opened))
     ∙ gone (λ o. holds o j) i (left p t) (left_rises p t))
 listed_open p (Purify j c ∷ t) legal i opened =
-    rw opened
-    (ap₂ (λ g os. without (other_colours j c g) os) (listed_open p t legal.1 j legal.0.1)
-    (listed_open p t legal.1 i (and_right _ _ opened))
-    ∙ purified_gone i j c (left p t) legal.0.2 (left_rises p t))
+    rw opened (ap₂ (λ g os. without (other_colours j c g) os) (listed_open p t legal.1 j legal.0.1)
+    (listed_open p t legal.1 i (and_right _ _ opened)) ∙ purified_gone i j c (left p t) legal.0.2 (left_rises p t))
 listed_open p (Tweak j ∷ t) legal i opened =
     tweaked p t i j opened (listed_open p t legal.1 i opened) (λ o. listed_open p t legal.1 j o)
 listed_open p (Spend j ∷ t) legal i opened = listed_open p t legal.1 i opened

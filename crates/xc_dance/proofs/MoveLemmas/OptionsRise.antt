@@ -17,9 +17,7 @@ pub NumbersRise-filter : (p : Numbered → Bool) (n : ℕ) (os : List Numbered) 
     → NumbersRise n (filter p os)
 NumbersRise-filter p n [] r = grind (arith, common_steps, NumbersRise-weaker)
 NumbersRise-filter p n (o ∷ os) r =
-    let kept = NumbersRise-filter p o.number os r.1 in
-    let rest = NumbersRise-filter p n os (NumbersRise-weaker n o.number os (omega (arith, r.0)) r.1) in
-    grind (arith, common_steps)
+    grind (arith, common_steps, NumbersRise-filter p o.number os r.1, NumbersRise-weaker)
 
 pub NumbersRise-from : (n : ℕ) (os : List (List Use)) → NumbersRise n (numbered_from (n + 1) os)
 NumbersRise-from n [] = tt

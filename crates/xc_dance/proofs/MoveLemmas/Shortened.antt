@@ -25,10 +25,6 @@ use Rattle.xc_dance.proofs.LiveLists.OptionsLost.{lose_other, length-lose_from, 
 
 -- ---- what holds of each option of a list
 
-each_drop : {X : Type 0} (P : X → Type 0) (xs : List X) → AllByRecursion P xs → AllByRecursion P (drop 1 xs)
-each_drop P [] h = tt
-each_drop P (x ∷ xs) h = h.1
-
 each_if : {X : Type 0} (P : X → Type 0) (b : Bool) (xs ys : List X) → AllByRecursion P xs → AllByRecursion P ys
     → AllByRecursion P (cond b xs ys)
 each_if P true xs ys g h = g
@@ -46,8 +42,7 @@ drop_cons : {X : Type 0} (all : List X) (m : ℕ) (x : X) (xs : List X) → drop
     × (drop (suc m) all ≡ xs)
 drop_cons [] zero x xs e = absurd (cc e)
 drop_cons [] (suc m) x xs e = absurd (cc e)
-drop_cons (y ∷ all) zero x xs e =
-    ((let same : y ≡ x = cc e in ap (λ z. Some z) same), (let same : all ≡ xs = cc e in same))
+drop_cons (y ∷ all) zero x xs e = ((let same : y ≡ x = cc e in ap (λ z. Some z) same), ((cc e)))
 drop_cons (y ∷ all) (suc m) x xs e = drop_cons all m x xs e
 
 first_holders : (p : Puzzle) (i n : ℕ) (os : List (List Use)) (m : ℕ) → n ≡ suc m → drop m p.options ≡ os
@@ -71,12 +66,9 @@ holders p (Purify j c ∷ t) i =
 holders p (Tweak j ∷ t) i = by_item (holders p t i) (eqb i j) refl
   where
     by_item : AllByRecursion (IsHolder p i) (listed p t i) → (b : Bool) → eqb i j ≡ b
-        → AllByRecursion (IsHolder p i)
-        (cond b (drop 1 (listed p t j))
-        (cond (is_open j t && is_open i t) (without (take 1 (listed p t j)) (listed p t i)) (listed p t i)))
-    by_item h true q =
-        subst (λ k. AllByRecursion (IsHolder p i) (drop 1 (listed p t k))) (eqb-true i j q)
-        (each_drop (IsHolder p i) (listed p t i) h)
+        → AllByRecursion (IsHolder p i) (cond b (drop 1 (listed p t j)) (cond (is_open j t && is_open i t) (without
+        (take 1 (listed p t j)) (listed p t i)) (listed p t i)))
+    by_item h true q = grind (arith, common_steps, eqb-true)
     by_item h false q =
         each_if (IsHolder p i) (is_open j t && is_open i t) _ _ (each-filter (IsHolder p i) _ (listed p t i) h) h
 holders p (Spend j ∷ t) i = holders p t i
@@ -197,18 +189,8 @@ set_range : (f g : ℕ → List ℕ) (a n k : ℕ) (v : List ℕ) → ((i : ℕ)
 set_range f g a zero k v h e = refl
 set_range f g a (suc n) zero v h e = grind (arith, common_steps, same_range)
 set_range f g a (suc n) (suc k) v h e =
-    let at : a + suc k ≡ (a + 1) + k = omega arith in
     ap₂ (λ l ls. l ∷ ls) (h a (omega arith))
-    (set_range f g (a + 1) n k v (λ i ne. h i (omega (arith, ne))) (e ∙ ap g at))
-
-first_number : (xs : List Numbered) → 0 < length xs
-    → map (λ o. o.number) (take 1 xs) ≡ get_or (map (λ o. o.number) xs) 0 0 ∷ []
-first_number [] lt = absurd (omega (arith, lt))
-first_number (x ∷ xs) lt = refl
-
-other_numbers_of : (xs : List Numbered) → drop 1 (map (λ o. o.number) xs) ≡ map (λ o. o.number) (drop 1 xs)
-other_numbers_of [] = refl
-other_numbers_of (x ∷ xs) = refl
+    (set_range f g (a + 1) n k v (λ i ne. h i (omega (arith, ne))) (e ∙ ap g (omega arith)))
 
 pub length_numbers : (xs : List Numbered) → length (map (λ o. o.number) xs) ≡ length xs
 length_numbers [] = refl
@@ -222,17 +204,13 @@ pub first_hidden_lists : (p : Puzzle) (t : List Move) (j x : ℕ) (ls : List (Li
     → AreLists p (first_hidden t j x ls)
 first_hidden_lists p t j x ls h = grind (arith, common_steps, length-lose_from, lists-lose_from)
 
-own_list : (t : List Move) (j x : ℕ) (ls : List (List ℕ)) → 1 ≤ j
-    → list_at (first_hidden t j x ls) (j - 1) ≡ list_at ls (j - 1)
-own_list t j x ls low = grind (arith, common_steps, lose_other)
-
 pub lists_tweaked : (p : Puzzle) (t : List Move) (j x : ℕ) → 1 ≤ j → j ≤ item_count p → 0 < length (listed p t j)
     → x ≡ get_or (listed_numbers p t j) 0 0 →
     set (first_hidden t j x (lists_after p t)) (j - 1)
     (less (x ∷ []) (list_at (first_hidden t j x (lists_after p t)) (j - 1))) ≡ lists_after p (Tweak j ∷ t)
 lists_tweaked p t j x low high some is =
     ap₂ (λ ls l. set ls (j - 1) (less (x ∷ []) l)) hidden
-    (own_list t j x (lists_after p t) low ∙ list_after p t j low high)
+    ((grind (arith, common_steps, lose_other)) ∙ list_after p t j low high)
     ∙ set_range unhidden (listed_numbers p (Tweak j ∷ t)) 1 (item_count p) (j - 1)
     (less (x ∷ []) (listed_numbers p t j)) others here
   where
@@ -246,20 +224,16 @@ lists_tweaked p t j x low high some is =
         elim (is_open j t) as (λ b. cond b (lose t j (x ∷ []) (lists_after p t)) (lists_after p t) ≡ map
         (λ i. cond b (cond (not (eqb i j) && is_open i t) (less (x ∷ []) (listed_numbers p t i))
         (listed_numbers p t i)) (listed_numbers p t i)) (range_with_len 1 (item_count p))) [
-          | true ↦ lose_range t j (x ∷ []) (listed_numbers p t)
-              (λ i. cond (not (eqb i j) && is_open i t) (less (x ∷ []) (listed_numbers p t i)) (listed_numbers p t i))
-              (λ i. refl) 1 (item_count p)
+          | true ↦ grind (arith, common_steps, lose_range)
           | false ↦ refl
         ]
 
     others : (i : ℕ) → i ≢ 1 + (j - 1) → unhidden i ≡ listed_numbers p (Tweak j ∷ t) i
     others i ne =
-        let differs : eqb i j ≡ false = ne_eqb i j (omega (arith, ne, low)) in
-        let first : map (λ o. o.number) (take 1 (listed p t j)) ≡ x ∷ [] =
-        first_number (listed p t j) some ∙ ap (λ n. n ∷ []) (sym is) in
+        let first : map (λ o. o.number) (take 1 (listed p t j)) ≡ x ∷ [] = grind (arith, common_steps) in
         let tweaked = ap (λ g. cond (is_open i t) (less g (listed_numbers p t i)) (listed_numbers p t i)) (sym first)
         ∙ losing (take 1 (listed p t j)) (listed p t i) (is_open i t) in
-        rw differs (grind (arith, common_steps))
+        grind (arith, common_steps, ne_eqb i j (omega (arith, ne, low)))
 
     here : less (x ∷ []) (listed_numbers p t j) ≡ listed_numbers p (Tweak j ∷ t) (1 + (j - 1))
     here =
@@ -267,7 +241,5 @@ lists_tweaked p t j x low high some is =
         let self : eqb j j ≡ true = eq-eqb j j refl in
         let row = listed_numbers p t j in
         let whole : 0 < length row = omega (arith, some, length_numbers (listed p t j)) in
-        let gone : less (x ∷ []) row ≡ drop 1 row =
-        ap (λ n. less (n ∷ []) row) is ∙ less-remove 0 row 0 (rises_listed p t j) whole in
         let new : map (λ o. o.number) (drop 1 (listed p t j)) ≡ listed_numbers p (Tweak j ∷ t) j = rw self refl in
-        gone ∙ other_numbers_of (listed p t j) ∙ new ∙ ap (λ k. listed_numbers p (Tweak j ∷ t) k) at
+        grind (arith, common_steps, ap (λ n. less (n ∷ []) row) is ∙ less-remove 0 row 0 (rises_listed p t j) whole)

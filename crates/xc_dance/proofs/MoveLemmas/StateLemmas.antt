@@ -59,16 +59,9 @@ open_or_covered i t e =
 
 -- one item gets another state
 pub set_state : (p : Puzzle) (t u : List Move) (states : List ItemState) (i : ℕ) (s : ItemState) → AreStates p t states
-    → 1 ≤ i → i ≤ item_count p →
-    ((k : ℕ) → k + 1 ≢ i → state_of (k + 1) t ≡ state_of (k + 1) u) → state_of i u ≡ s
+    → 1 ≤ i → i ≤ item_count p → ((k : ℕ) → k + 1 ≢ i → state_of (k + 1) t ≡ state_of (k + 1) u) → state_of i u ≡ s
     → AreStates p u (set states (i - 1) s)
-set_state p t u states i s are low high others here =
-    grind (arith, common_steps, eq-eqb, eqb-true, get_or-set_same)
-
--- what was read at the item's place is its state
-pub state_at : (p : Puzzle) (t : List Move) (states : List ItemState) (i : ℕ) (r : ItemState) → AreStates p t states
-    → 1 ≤ i → i ≤ item_count p → r ≡ get_or states (i - 1) r → state_of i t ≡ r
-state_at p t states i r are low high read = grind (arith, common_steps)
+set_state p t u states i s are low high others here = grind (arith, common_steps, eq-eqb, eqb-true, get_or-set_same)
 
 pub closed_state : (s : ItemState) → (s ≡ Open → ⊥) → is_open_state s ≡ false
 closed_state Open h = absurd (h refl)

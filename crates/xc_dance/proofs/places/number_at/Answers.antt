@@ -19,21 +19,17 @@ returns-then-place-spacer c = λ i x u.
     let p = c.args.problem.now.puzzle in
     let o = c.loop-before.before in
     let us = c.option.result.now in
-    let count = c.options-before-end.ensures.value in
-    let within : o < option_count p = omega (arith, count, c.loop-before-test.true) in
+    let within : o < option_count p = omega (arith, c.options-before-end.ensures.value, c.loop-before-test.true) in
     let found = uses_here p (o + 1) us c.option.ensures.value in
-    let fits = option_fits p o us c.option.ensures.whole.limits within found in
     let at = c.loop-before.invariant.spacer in
     option_between p i x c.args.place o u (omega (arith, at, c.loop-before.invariant.passed))
-    (omega (arith, at, fits.next, c.if-place-spacer.true))
+    (omega (arith, at, (option_fits p o us c.option.ensures.whole.limits within found).next, c.if-place-spacer.true))
 
 pub unreachable-requires : goal.unreachable-requires
 unreachable-requires c =
     let p = c.args.problem.now.puzzle in
     let u = c.requires in
-    let last = before_last p u.0 u.1 c.args.place u.2 in
-    let count = c.options-before-end.ensures.value in
     let all : c.loop-before.before ≡ c.options-before-end.result =
     omega (arith, c.loop-before-test.false, c.loop-before.auto.before-end) in
-    let at = c.loop-before.invariant.spacer ∙ ap (spacer_place p) (all ∙ count) in
-    omega (arith, last, at, c.loop-before.invariant.passed)
+    let at = c.loop-before.invariant.spacer ∙ ap (spacer_place p) (all ∙ c.options-before-end.ensures.value) in
+    omega (arith, before_last p u.0 u.1 c.args.place u.2, at, c.loop-before.invariant.passed)

@@ -3,39 +3,39 @@ use Rattle.xc_input.specs.declared.problem.Use.{Use}
 use Rattle.xc_input.specs.Problem.{Puzzle, uses_of, numbered_get}
 use Rattle.xc_dance.specs.Dancing.{Dancing}
 use Rattle.xc_dance.specs.Commits.{CanStand, IsUseAt, others}
-use Rattle.xc_dance.proofs.MoveLemmas.Commits.{committed, other_uses, stood_before}
+use Rattle.xc_dance.proofs.MoveLemmas.Commits.{committed, stood_before}
 use Rattle.xc_dance.proofs.dance.Dance.commit.Goals.{After-place_in-at}
 use Rattle.xc_dance.proofs.dance.Dance.commit.Goals as goal
+use Rattle.std.proofs.Common.{arith}
+use Rattle.std.proofs.Common.{length-drop}
+use Rattle.std.proofs.Math.Seq.{take-length}
+use Rattle.std.proofs.lemmas.Grind.{common_steps}
+use Rattle.xc_dance.proofs.MoveLemmas.Commits.{after_uses-append}
 
 -- the state after the uses behind place k
 abbrev behind : ℕ → List Use → Dancing → Dancing
 behind k us s = committed (take (length us - (k + 1)) (drop (k + 1) us)) s
 
 -- the state in the end is that after the uses behind, and then those before
-whole : (g : _) (c : After-place_in-at g) (x : ℕ) →
-    IsUseAt (g.Self.Dance.state c.args.self.now).puzzle c.args.i x c.args.place →
-    (let s = g.Self.Dance.state c.args.self.now in
-    let us = c.option-uses.result.now in
-    let k = c.place_in-at.result in
-    committed (others c.args.i (uses_of s.puzzle x)) s ≡ committed (take k us) (behind k us s))
+whole : (g : _) (c : After-place_in-at g) (x : ℕ)
+    → IsUseAt (g.Self.Dance.state c.args.self.now).puzzle c.args.i x c.args.place
+    → (let s = g.Self.Dance.state c.args.self.now in let us = c.option-uses.result.now in let k = c.place_in-at.result
+    in committed (others c.args.i (uses_of s.puzzle x)) s ≡ committed (take k us) (behind k us s))
 whole g c x u =
     let s = g.Self.Dance.state c.args.self.now in
     let there = subst (λ (p : Puzzle). IsUseAt p c.args.i x c.args.place) c.requires.same u in
-    let is = c.number_at.ensures c.args.i x there in
     let found : numbered_get s.puzzle.options x ≡ Some c.option-uses.result.now =
-    ap (λ n. numbered_get s.puzzle.options n) (sym is)
-    ∙ ap (λ (p : Puzzle). numbered_get p.options c.number_at.result) c.requires.same
-    ∙ c.option-uses.ensures.value in
-    ap (λ t. record s { trail = t }) (other_uses s.puzzle c.args.i x _ _ s.trail found c.place_in-at.ensures.value)
+    ap (λ n. numbered_get s.puzzle.options n) (sym (c.number_at.ensures c.args.i x there))
+    ∙ ap (λ (p : Puzzle). numbered_get p.options c.number_at.result) c.requires.same ∙ c.option-uses.ensures.value in
+    ap (λ t. record s { trail = t }) (grind (arith, common_steps, after_uses-append, length-drop, take-length))
 
 -- it may stand
 abbrev Stands : Dancing → Type 0
 Stands s = CanStand s.puzzle s.room s.trail
 
-can : (g : _) (c : After-place_in-at g) →
-    (let us = c.option-uses.result.now in
-    let k = c.place_in-at.result in
-    Stands (committed (take k us) (behind k us (g.Self.Dance.state c.args.self.now))))
+can : (g : _) (c : After-place_in-at g)
+    → (let us = c.option-uses.result.now in let k = c.place_in-at.result in Stands (committed (take k us) (behind k us
+    (g.Self.Dance.state c.args.self.now))))
 can g c = let u = c.requires.can in subst Stands (whole g c u.0 u.1) u.2
 
 pub commit_uses-requires-clause-stands : goal.commit_uses-requires-clause-stands
@@ -52,6 +52,5 @@ commit_uses-requires-2-clause-stands g c =
 
 pub returns : goal.returns
 returns g c = λ x u.
-    c.commit_uses-2.ensures
-    ∙ ap (committed (take c.place_in-at.result c.option-uses.result.now)) c.commit_uses.ensures
+    c.commit_uses-2.ensures ∙ ap (committed (take c.place_in-at.result c.option-uses.result.now)) c.commit_uses.ensures
     ∙ sym (whole g (goal.at.returns g c).After-place_in-at x u)

@@ -12,10 +12,9 @@ commit_use-requires-clause-same g c = ap (λ (s : Dancing). s.puzzle) c.loop-u.i
 pub commit_use-requires-clause-item : goal.commit_use-requires-clause-item
 commit_use-requires-clause-item g c =
     let d : Use = record { item = 0; colour = 0 } in
-    let us = c.args.uses.now in
     let k = c.loop-u.u-index in
-    subst (λ (q : Puzzle). IsItem q (get_or us k d).item) (sym (ap (λ (s : Dancing). s.puzzle) c.loop-u.invariant))
-    (c.requires.items k d c.loop-u-test.true)
+    subst (λ (q : Puzzle). IsItem q (get_or c.args.uses.now k d).item)
+    (sym (ap (λ (s : Dancing). s.puzzle) c.loop-u.invariant)) (c.requires.items k d c.loop-u-test.true)
 
 pub commit_use-requires-clause-stands : goal.commit_use-requires-clause-stands
 commit_use-requires-clause-stands g c =
@@ -33,5 +32,4 @@ loop-u-preserved g c =
     let us = c.args.uses.now in
     let k = c.loop-u.u-index in
     ap (committed (drop (k + 1) us)) c.commit_use.ensures
-    ∙ sym (at_use (g.Self.Dance.state c.loop-u.self) us k d c.loop-u-test.true)
-    ∙ c.loop-u.invariant
+    ∙ sym (at_use (g.Self.Dance.state c.loop-u.self) us k d c.loop-u-test.true) ∙ c.loop-u.invariant

@@ -64,16 +64,14 @@ node_place-requires-clause-holds g c = (used g c).holds
 pub returns-in-Some-clause-place : goal.returns-in-Some-clause-place
 returns-in-Some-clause-place g c = λ x at.
     let is = some_next g (goal.at.returns-in-Some-clause-place g c).In-Some x at in
-    c.node_place.ensures
-    ∙ ap (λ (p : Puzzle). link_place p c.args.i c.in-Some.o) (sym c.requires.same)
+    c.node_place.ensures ∙ ap (λ (p : Puzzle). link_place p c.args.i c.in-Some.o) (sym c.requires.same)
     ∙ ap (λ n. link_place (g.Self.Dance.state c.args.self.now).puzzle c.args.i (unwrap_or n 0)) (sym is)
 
 pub returns-in-Some-clause-option : goal.returns-in-Some-clause-option
 returns-in-Some-clause-option g c = λ x at.
     let s = g.Self.Dance.state c.args.self.now in
     let is = some_next g (goal.at.returns-in-Some-clause-option g c).In-Some x at in
-    place_tells s c.args.i x c.node_place.result c.requires.item
-    (c.node_place.ensures
+    place_tells s c.args.i x c.node_place.result c.requires.item (c.node_place.ensures
     ∙ ap (λ (p : Puzzle). link_place p c.args.i c.in-Some.o) (sym c.requires.same)
     ∙ ap (λ n. link_place s.puzzle c.args.i (unwrap_or n 0)) (sym is))
 

@@ -9,11 +9,10 @@ use Rattle.xc_dance.proofs.listed.ListedIterator.next.Goals as goal
 -- a number that is found is in the list
 contained : (n k : ℕ) (xs : List ℕ) → next_above n xs ≡ Some k → Contains xs k
 contained n k [] e = cc
-contained n k (x ∷ xs) e =
-    elim (ltb n x) as (λ b. cond b (Some x) (next_above n xs) ≡ Some k → Contains (x ∷ xs) k) [
-      | true ↦ λ w. let same : x ≡ k = cc in (0, omega arith, same)
-      | false ↦ λ w. let r = contained n k xs w in (suc r.0, omega (arith, r.1), r.2)
-    ] e
+contained n k (x ∷ xs) e = elim (ltb n x) as (λ b. cond b (Some x) (next_above n xs) ≡ Some k → Contains (x ∷ xs) k) [
+  | true ↦ λ w. let same : x ≡ k = cc in (0, omega arith, same)
+  | false ↦ λ w. let r = contained n k xs w in (suc r.0, omega (arith, r.1), r.2)
+] e
 
 pub invariant_of-self : goal.invariant_of-self
 invariant_of-self g c =
@@ -27,10 +26,9 @@ invariant_of-self g c =
 pub returns-in-Some-clause-steps : goal.returns-in-Some-clause-steps
 returns-in-Some-clause-steps g c =
     let d = g.D.Dance.state c.self.inside.dance.now in
-    let ns = listed_numbers d.puzzle d.trail c.self.inside.item in
     sym c.self.view_is
-    ∙ next_above-split 0 c.self.inside.last c.in-Some.o ns (rises_listed d.puzzle d.trail c.self.inside.item)
-    (sym c.after-next.ensures ∙ c.in-Some.is)
+    ∙ next_above-split 0 c.self.inside.last c.in-Some.o (listed_numbers d.puzzle d.trail c.self.inside.item)
+    (rises_listed d.puzzle d.trail c.self.inside.item) (sym c.after-next.ensures ∙ c.in-Some.is)
 
 pub returns-in-Some-clause-goes : goal.returns-in-Some-clause-goes
 returns-in-Some-clause-goes g c =

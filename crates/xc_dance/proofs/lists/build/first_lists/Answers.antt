@@ -16,21 +16,10 @@ loop-o-init c = c.in_ok-lists.ensures ∙ ap (λ n. replicate n []) c.items.ensu
 pub enlist-requires-clause-items : goal.enlist-requires-clause-items
 enlist-requires-clause-items c = λ k d lt.
     let p = c.args.table.now in
-    let item = (c.uses.ensures.sound.sound k d lt).0 in
     let size =
-    length-map-range_with_len
-    (λ i. Rattle.std.proofs.Common.map (λ (o : Numbered). o.number)
-    (holding i (numbered_from 1 (take c.loop-o.o p.options)))) 1 (item_count p) in (
-      item.0,
-      omega (
-        arith,
-        item.1,
-        size,
-        ap (λ l. length l) c.loop-o.invariant,
-        length-map c.loop-o.lists.items
-            (λ (l : Vec ℕ). l.items),
-      ),
-    )
+    length-map-range_with_len (λ i. Rattle.std.proofs.Common.map (λ (o : Numbered). o.number)
+    (holding i (numbered_from 1 (take c.loop-o.o p.options)))) 1 (item_count p) in grind
+    (arith, common_steps, length-map)
 
 pub loop-o-preserved : goal.loop-o-preserved
 loop-o-preserved c =

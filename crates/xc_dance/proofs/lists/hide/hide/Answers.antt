@@ -33,7 +33,7 @@ take_out-requires-clause-rises c =
     list_of p 1 k hidden (lists-hidden_from p t c.args.item (take i us) c.args.option 1 c.args.live.now.lists
     c.requires.lists.1) lt in
     let P : List (List ℕ) → Type 0 = λ l. Rises 0 (list_at l k) in
-    subst P (sym c.loop-u.invariant.lists) is.0
+    grind (arith, common_steps)
 
 pub loop-u-preserved : goal.loop-u-preserved
 loop-u-preserved c = grind (arith, common_steps, hidden_more, hidden_same, take_more)

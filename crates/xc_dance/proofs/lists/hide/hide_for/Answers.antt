@@ -28,25 +28,20 @@ returns-in-Cover c =
     let p = c.args.standing.now.puzzle in
     let t = c.args.standing.now.trail in
     let i = c.in-Cover.item in
-    let P : Move → Type 0 = λ m. IsLegal p t m in
-    let legal = subst P c.in-Cover.is c.requires.legal in
+    let legal = subst (λ m. IsLegal p t m) c.in-Cover.is c.requires.legal in
     let lists = ap (λ (v : Versions). v.lists) c.hide_options.ensures
     ∙ ap (λ l. lose t i (filter (λ o. not (is_kept p i None o)) (list_at l (i - 1))) l) c.requires.lists
     ∙ lists_covered p t i legal.0.0 legal.0.1 ∙ ap (λ m. lists_after p (m ∷ t)) (sym c.in-Cover.is) in
-    same_versions lists (ap (λ (v : Versions). v.marked) c.hide_options.ensures)
-    (ap (λ (v : Versions). v.room) c.hide_options.ensures)
+    grind (arith, common_steps, same_versions)
 
 pub returns-in-Purify : goal.returns-in-Purify
 returns-in-Purify c =
     let p = c.args.standing.now.puzzle in
     let t = c.args.standing.now.trail in
     let i = c.in-Purify.item in
-    let P : Move → Type 0 = λ m. IsLegal p t m in
-    let legal = subst P c.in-Purify.is c.requires.legal in
+    let legal = subst (λ m. IsLegal p t m) c.in-Purify.is c.requires.legal in
     let lists = ap (λ (v : Versions). v.lists) c.hide_options-in-Purify.ensures
     ∙ ap (λ l. lose t i (filter (λ o. not (is_kept p i (Some c.in-Purify.colour) o)) (list_at l (i - 1))) l)
-    c.requires.lists
-    ∙ lists_purified p t i c.in-Purify.colour (omega (arith, legal.0.0)) legal.0.1
+    c.requires.lists ∙ lists_purified p t i c.in-Purify.colour (omega (arith, legal.0.0)) legal.0.1
     ∙ ap (λ m. lists_after p (m ∷ t)) (sym c.in-Purify.is) in
-    same_versions lists (ap (λ (v : Versions). v.marked) c.hide_options-in-Purify.ensures)
-    (ap (λ (v : Versions). v.room) c.hide_options-in-Purify.ensures)
+    grind (arith, common_steps, same_versions)

@@ -16,13 +16,12 @@ hide_if_open-requires-clause-option c =
     let t = c.args.standing.now.trail in
     let i = c.args.item in
     let are = lists_hold p t in
-    let row : c.list.result.now ≡ list_at (lists_after p t) (i - 1) =
-    c.list.ensures ∙ ap (λ l. list_at l (i - 1)) c.requires.lists in
+    let row : c.list.result.now ≡ list_at (lists_after p t) (i - 1) = grind (arith, common_steps) in
     let list =
     list_of p 1 (i - 1) (lists_after p t) are.1 (omega (arith, are.0, c.requires.item.0, c.requires.item.1)) in
     let some : 0 < length (list_at (lists_after p t) (i - 1)) =
     omega (arith, c.requires.option, ap (λ l. length l) c.list.ensures, ap (λ l. length l) row) in
-    rw row (known_option p (get_or (list_at (lists_after p t) (i - 1)) 0 0) (1 + (i - 1)) (list.1 0 0 some))
+    grind (arith, common_steps, known_option)
 
 pub hide_if_open-requires-clause-lists : goal.hide_if_open-requires-clause-lists
 hide_if_open-requires-clause-lists c = grind (arith, common_steps, lists_hold)
@@ -45,8 +44,7 @@ take_out-requires-clause-rises c =
     ∙ ap (λ l. first_hidden t i (get_or c.list.result.now 0 0) l) c.requires.lists in
     let are = first_hidden_lists p t i (get_or c.list.result.now 0 0) (lists_after p t) (lists_hold p t) in
     let P : List (List ℕ) → Type 0 = λ l. Rises 0 (list_at l (i - 1)) in
-    subst P (sym now) (list_of p 1 (i - 1) (first_hidden t i (get_or c.list.result.now 0 0) (lists_after p t)) are.1
-    (omega (arith, are.0, c.requires.item.0, c.requires.item.1))).0
+    grind (arith, common_steps, list_of)
 
 pub returns : goal.returns
 returns c = grind (arith, common_steps, length_numbers, list_after, lists_tweaked, same_versions)

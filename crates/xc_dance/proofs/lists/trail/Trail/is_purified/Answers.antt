@@ -3,13 +3,13 @@ use Rattle.std.proofs.lemmas.Grind.{common_steps}
 use Rattle.std.specs.Prelude.{is_some}
 use Rattle.xc_dance.specs.Dancing.{Dancing}
 use Rattle.xc_dance.specs.Moves.{purified}
-use Rattle.xc_dance.proofs.MoveLemmas.StateLemmas.{state_at, purified_by_state, unpurified_state, is_purified_state}
+use Rattle.xc_dance.proofs.MoveLemmas.StateLemmas.{purified_by_state, unpurified_state, is_purified_state}
 use Rattle.xc_dance.proofs.lists.trail.Trail.is_purified.Goals as goal
 use Rattle.xc_dance.proofs.lists.trail.Trail.is_purified.Goals.{After-index}
 use Rattle.xc_dance.specs.inner.Lists.States.{state_of}
 
 state : (c : After-index) → state_of c.args.item (reverse c.self.inside.moves.items) ≡ c.index.result.now
-state c = grind (arith, common_steps, state_at)
+state c = grind (arith, common_steps)
 
 pub returns-in-Purified : goal.returns-in-Purified
 returns-in-Purified c =

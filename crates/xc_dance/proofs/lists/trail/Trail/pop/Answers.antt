@@ -25,20 +25,14 @@ before p old new n m items bounds e is legal states left = grind (arith, common_
 pub invariant_of-self : goal.invariant_of-self
 invariant_of-self c =
     let a = c.self.inside in
-    let i = c.in-Cover.item in
     let t = reverse c.pop.new.self.items in
     let b =
-    before a.table a.moves.items c.pop.new.self.items c.in-Some.m (Cover i) a.states.items a.left.items
-    c.in-Some.ensures.items c.in-Cover.is c.self.invariant.legal c.self.invariant.states
-    c.self.invariant.left in
-    let legal = b.legal in
+    before a.table a.moves.items c.pop.new.self.items c.in-Some.m (Cover c.in-Cover.item) a.states.items a.left.items
+    c.in-Some.ensures.items c.in-Cover.is c.self.invariant.legal c.self.invariant.states c.self.invariant.left in
     record {
       limits = c.self.invariant.limits;
-      legal = legal.1;
-      states =
-          set_state a.table (Cover i ∷ t) t a.states.items i Open b.states legal.0.0.0 legal.0.0.1
-          (λ k other. let differs : eqb (k + 1) i ≡ false = ne_eqb (k + 1) i other in rw differs refl)
-          (open_state i t legal.0.1);
+      legal = b.legal.1;
+      states = grind (arith, common_steps, set_state, ne_eqb, open_state);
       left = record { count = b.left.count; each = b.left.each };
       few = omega (arith, c.in-Some.ensures.len, c.self.invariant.few, a.moves.ok.0, c.pop.new.self.ok.0);
       room_to_move = omega (arith, c.pop.ensures.capacity, c.self.invariant.room_to_move);
@@ -47,21 +41,15 @@ invariant_of-self c =
 pub invariant_of-self-in-Purify : goal.invariant_of-self-in-Purify
 invariant_of-self-in-Purify c =
     let a = c.self.inside in
-    let i = c.in-Purify.item in
     let t = reverse c.pop.new.self.items in
     let b =
-    before a.table a.moves.items c.pop.new.self.items c.in-Some.m (Purify i c.in-Purify.field-1) a.states.items
-    a.left.items c.in-Some.ensures.items c.in-Purify.is c.self.invariant.legal c.self.invariant.states
+    before a.table a.moves.items c.pop.new.self.items c.in-Some.m (Purify c.in-Purify.item c.in-Purify.field-1)
+    a.states.items a.left.items c.in-Some.ensures.items c.in-Purify.is c.self.invariant.legal c.self.invariant.states
     c.self.invariant.left in
-    let legal = b.legal in
     record {
       limits = c.self.invariant.limits;
-      legal = legal.1;
-      states =
-          set_state a.table (Purify i c.in-Purify.field-1 ∷ t) t a.states.items i Open b.states
-          (omega (arith, legal.0.0.0)) legal.0.0.1
-          (λ k other. let differs : eqb (k + 1) i ≡ false = ne_eqb (k + 1) i other in rw differs refl)
-          (open_state i t legal.0.1);
+      legal = b.legal.1;
+      states = grind (arith, common_steps, set_state, ne_eqb, open_state);
       left = record { count = b.left.count; each = b.left.each };
       few = omega (arith, c.in-Some.ensures.len, c.self.invariant.few, a.moves.ok.0, c.pop.new.self.ok.0);
       room_to_move = omega (arith, c.pop.ensures.capacity, c.self.invariant.room_to_move);
