@@ -14,6 +14,7 @@ use Rattle.xc_dance.specs.inner.Links.OptionPlaces.{start_at}
 use Rattle.xc_dance.proofs.LinkedTables.FittedLemmas.{known_fit}
 use Rattle.xc_dance.proofs.LinkedTables.PlaceLemmas.{option_nodes, place_grows, place_within, uses_here}
 use Rattle.xc_dance.proofs.LinkedTables.UsePlaces.{place_at_use}
+use Rattle.std.proofs.lemmas.Grind.{common_steps}
 
 -- a problem that was read is fit
 pub sound_fit : (a : Named) → IsSound a → IsFit a.puzzle
@@ -48,8 +49,7 @@ option_between p i x q n u from below = by_order (cases_lt n x) (cases_lt (n + 1
 
     by_order : (n < x) ⊎ (x ≤ n) → (n + 1 < x) ⊎ (x ≤ n + 1) → n + 1 ≡ x
     by_order (inr h) k = let far = place_grows p x n h in absurd (omega (arith, far, b.below, from))
-    by_order (inl h) (inl k) =
-        let far = place_grows p (n + 1) (x - 1) (omega (arith, k)) in absurd (omega (arith, far, b.from, below))
+    by_order (inl h) (inl k) = grind (arith, common_steps, place_grows)
     by_order (inl h) (inr k) = omega (arith, h, k)
 
 -- ---- the place of a use, behind its option's first node

@@ -101,11 +101,7 @@ pub found_use : (us : List Use) (k : ℕ) (u : Use) → AreDistinct us → slice
     → (place_in u.item us ≡ k) × (colour_in us u.item ≡ Some u.colour)
 found_use [] k u d e = cc
 found_use (v ∷ us) zero u d e = grind (arith, common_steps, same_Some, eq-eqb v.item v.item refl)
-found_use (v ∷ us) (suc k) u d e =
-    let r = found_use us k u d.1 e in
-    let other =
-    ne_eqb v.item u.item (λ s. false≢true (sym d.0 ∙ ap (λ j. is_some (colour_in us j)) s ∙ ap is_some r.1)) in
-    grind (arith, common_steps)
+found_use (v ∷ us) (suc k) u d e = grind (arith, common_steps, found_use us k u d.1 e, ne_eqb, false≢true)
 
 -- ---- the places of spacers
 

@@ -100,12 +100,18 @@ cuts_len l (k ∷ ks) h = let r = cuts_len (cut l k) ks (omega (arith, h)) in om
 pub regaining : (l : Line) (xs : List ℕ) (g : ℕ → Bool) → IsLinkedFrom l 0 xs → l.len ≡ length xs
     → Regaining l (cuts l (filter g xs)) (filter g xs)
 regaining l xs g linked long =
-    let len = cuts_len l (filter g xs) (omega (arith, long, length-filter-le g xs)) in
-    let pass : (x : ℕ) → g x ≡ false → is_in x xs ≡ true → is_in x (stay g xs) ≡ true =
-    grind (arith, common_steps, in_filter) in
-    let fail : (x : ℕ) → g x ≡ true → is_in x (stay g xs) ≡ false = grind (arith, common_steps, in_filter) in
-    let absent : (x : ℕ) → is_in x xs ≡ false → is_in x (stay g xs) ≡ false = grind (arith, common_steps, in_filter) in
-    grind (arith, common_steps, first_up, in_above, rises l 0 xs linked, swept l 0 xs g linked, cuts l (filter g xs))
+    grind (
+      arith,
+      common_steps,
+      first_up,
+      in_above,
+      rises l 0 xs linked,
+      swept l 0 xs g linked,
+      cuts l (filter g xs),
+      cuts_len,
+      length-filter-le,
+      in_filter,
+    )
 
 -- the next that comes back is reached over those that had stayed
 pub record NextBack (l m : Line) (k : ℕ) (ks : List ℕ) : Type 0 where

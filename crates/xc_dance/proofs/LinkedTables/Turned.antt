@@ -111,11 +111,8 @@ head_place p true = omega arith
 head_place p false = omega arith
 
 way_in : (p : Puzzle) (t : List Move) (d b : Bool) (q : ℕ) → is_in q (way p t d b) ≡ true → IsBeside p t b q
-way_in p t d b q e = by_first (IsBeside p t b q) (hd p b) q (λ same. subst (IsBeside p t b) same (record {
-  place = head_place p b;
-  side = side_head p b;
-  stays = λ pos le. absurd (head_item p b (hd p b) pos le refl);
-})) (λ ne.
+way_in p t d b q e = by_first (IsBeside p t b q) (hd p b) q
+    (λ same. subst (IsBeside p t b) same (grind (arith, common_steps, head_place, side_head, head_item))) (λ ne.
     let r = ring_in p t b q (sym (in_turned d q (ring p t b)) ∙ (in_rest (hd p b) q (turned d (ring p t b)) ne e)) in
     record { place = omega (arith, r.1.1); side = r.1.2; stays = λ _ _. r.0 })
 

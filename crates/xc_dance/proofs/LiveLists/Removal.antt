@@ -34,10 +34,7 @@ pub less-remove : (n : ℕ) (xs : List ℕ) (k : ℕ) → Rises n xs → k < len
     → less (get_or xs k 0 ∷ []) xs ≡ remove xs k
 less-remove n [] k r lt = absurd (omega (arith, lt))
 less-remove n (y ∷ ys) zero r lt = grind (arith, common_steps, eq-eqb, less-below)
-less-remove n (y ∷ ys) (suc k) r lt =
-    let x = get_or ys k 0 in
-    let behind : y < x = above y ys k r.1 (omega (arith, lt)) in
-    grind (arith, common_steps, less-remove y ys k r.1 (omega (arith, lt)), ne_eqb x y (omega (arith, behind)))
+less-remove n (y ∷ ys) (suc k) r lt = grind (arith, common_steps, less-remove y ys k r.1 (omega (arith, lt)), above)
 
 pub insert-remove : {X : Type 0} (xs : List X) (k : ℕ) (d : X) → k < length xs
     → insert (remove xs k) k (get_or xs k d) ≡ xs

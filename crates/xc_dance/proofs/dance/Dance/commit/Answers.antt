@@ -24,9 +24,6 @@ whole : (g : _) (c : After-place_in-at g) (x : ℕ)
 whole g c x u =
     let s = g.Self.Dance.state c.args.self.now in
     let there = subst (λ (p : Puzzle). IsUseAt p c.args.i x c.args.place) c.requires.same u in
-    let found : numbered_get s.puzzle.options x ≡ Some c.option-uses.result.now =
-    ap (λ n. numbered_get s.puzzle.options n) (sym (c.number_at.ensures c.args.i x there))
-    ∙ ap (λ (p : Puzzle). numbered_get p.options c.number_at.result) c.requires.same ∙ c.option-uses.ensures.value in
     ap (λ t. record s { trail = t }) (grind (arith, common_steps, after_uses-append, length-drop, take-length))
 
 -- it may stand
