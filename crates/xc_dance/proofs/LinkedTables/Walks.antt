@@ -45,22 +45,6 @@ underway {step} {Can} writes t0 all left e can =
     subst (λ qs. Underway step writes Can t0 all t0 qs 0) (sym e)
     (record { can = can; done = refl; cost = omega arith })
 
--- the first step of those that are left
-pub step_can : {step : Nodes → ℕ → Nodes} {writes : Nodes → ℕ → ℕ} {Can : Nodes → ℕ → Type 0} {t0 : Nodes}
-    {all : List ℕ} {t : Nodes} {left : List ℕ} {n : ℕ} (q : ℕ) (more : List ℕ) → left ≡ q ∷ more
-    → Underway step writes Can t0 all t left n → Can t q
-step_can {step} {writes} {Can} {t0} {all} {t} {left} {n} q more e h = (subst (CanAll step Can t) e h.can).0
-
-pub step_on : {step : Nodes → ℕ → Nodes} {writes : Nodes → ℕ → ℕ} {Can : Nodes → ℕ → Type 0} {t0 : Nodes} {all : List ℕ}
-    {t : Nodes} {left : List ℕ} {n : ℕ} (q : ℕ) (more : List ℕ) (u : Nodes) (m : ℕ) → left ≡ q ∷ more → u ≡ step t q
-    → m ≡ writes t q → Underway step writes Can t0 all t left n → Underway step writes Can t0 all u more (n + m)
-step_on {step} {writes} {Can} {t0} {all} {t} {left} {n} q more u m e is paid h = grind (arith, common_steps)
-
-pub steps_end : {step : Nodes → ℕ → Nodes} {writes : Nodes → ℕ → ℕ} {Can : Nodes → ℕ → Type 0} {t0 : Nodes}
-    {all : List ℕ} {t : Nodes} {left : List ℕ} {n : ℕ} → left ≡ [] → Underway step writes Can t0 all t left n
-    → Reached step writes t0 all t n
-steps_end {step} {writes} {Can} {t0} {all} {t} {left} {n} e h = grind (arith, common_steps)
-
 -- one walk behind another
 pub both_reached : {step : Nodes → ℕ → Nodes} {writes : Nodes → ℕ → ℕ} {t0 : Nodes} {ps : List ℕ} {t : Nodes} {n : ℕ}
     (qs rs : List ℕ) (u : Nodes) (m : ℕ) → Reached step writes t0 ps t n → rs ≡ qs → u ≡ fold step t rs
@@ -77,16 +61,27 @@ pub record Tells (t u : Nodes) (q z : ℕ) (left : List ℕ) : Type 0 where
   pub none : SPACER ≤ get_or t.top q 0 → left ≡ []
   pub is : SPACER ≤ get_or t.top q 0 → t ≡ u
 
-pub tells : {step : Nodes → ℕ → Nodes} {writes : Nodes → ℕ → ℕ} {Can : Nodes → ℕ → Type 0} {t0 : Nodes} {all : List ℕ}
-    {t : Nodes} {left : List ℕ} {n : ℕ} (q z : ℕ)
-    → ((v : Nodes) (x : ℕ) → Can v x → (x < length v.top) × (get_or v.top x 0 < SPACER))
-    → (q ≡ z → left ≡ []) → (q ≢ z → (more : List ℕ) × (left ≡ q ∷ more)) → IsSpacer (fold step t0 all) z
-    → Underway step writes Can t0 all t left n → Tells t (fold step t0 all) q z left
-tells {step} {writes} {Can} {t0} {all} {t} {left} {n} q z knows met on spacer h =
-    elim (eqb q z) as (λ b. eqb q z ≡ b → Tells t (fold step t0 all) q z left) [
-      | true ↦ λ e. grind (arith, common_steps, eqb-true, steps_end)
-      | false ↦ λ e. grind (arith, common_steps, eqb-false, step_can)
-    ] refl
+module _ {step : Nodes → ℕ → Nodes} {writes : Nodes → ℕ → ℕ} {Can : Nodes → ℕ → Type 0} {t0 : Nodes} {all : List ℕ}
+    {t : Nodes} {left : List ℕ} {n : ℕ} where
+  -- the first step of those that are left
+  pub step_can : (q : ℕ) (more : List ℕ) → left ≡ q ∷ more → Underway step writes Can t0 all t left n → Can t q
+  step_can q more e h = (subst (CanAll step Can t) e h.can).0
+
+  pub step_on : (q : ℕ) (more : List ℕ) (u : Nodes) (m : ℕ) → left ≡ q ∷ more → u ≡ step t q → m ≡ writes t q
+      → Underway step writes Can t0 all t left n → Underway step writes Can t0 all u more (n + m)
+  step_on q more u m e is paid h = grind (arith, common_steps)
+
+  pub steps_end : left ≡ [] → Underway step writes Can t0 all t left n → Reached step writes t0 all t n
+  steps_end e h = grind (arith, common_steps)
+
+  pub tells : (q z : ℕ) → ((v : Nodes) (x : ℕ) → Can v x → (x < length v.top) × (get_or v.top x 0 < SPACER))
+      → (q ≡ z → left ≡ []) → (q ≢ z → (more : List ℕ) × (left ≡ q ∷ more)) → IsSpacer (fold step t0 all) z
+      → Underway step writes Can t0 all t left n → Tells t (fold step t0 all) q z left
+  tells q z knows met on spacer h =
+      elim (eqb q z) as (λ b. eqb q z ≡ b → Tells t (fold step t0 all) q z left) [
+        | true ↦ λ e. grind (arith, common_steps, eqb-true, steps_end)
+        | false ↦ λ e. grind (arith, common_steps, eqb-false, step_can)
+      ] refl
 
 -- ---- along links
 
@@ -109,29 +104,27 @@ pub record Here (step : Nodes → ℕ → Nodes) (Can : Nodes → ℕ → Type 0
   pub within : (u : Nodes) → u ≡ step t p → p < length (links u)
   pub next : CanFollow step Can links (step t p) (get_or (links (step t p)) p 0) (drop (k + 1) all)
 
-pub follow_here : {step : Nodes → ℕ → Nodes} {writes : Nodes → ℕ → ℕ} {Can : Nodes → ℕ → Type 0}
-    {links : Nodes → List ℕ} {t0 : Nodes} {m x : ℕ} {t : Nodes} {p k n : ℕ} → k < m
-    → Following step writes Can links t0 m x t p k n → Here step Can links (followed (links t0) m x) t p k
-follow_here {step} {writes} {Can} {links} {t0} {m} {x} {t} {p} {k} {n} lt h =
-    let all : List ℕ = followed (links t0) m x in
-    let at : drop k all ≡ get_or all k 0 ∷ drop (k + 1) all = grind (arith, common_steps, drop_more, length-followed) in
-    let first : drop k all ≡ p ∷ drop (k + 1) all = grind (arith, common_steps) in
-    grind (arith, common_steps, subst (CanFollow step Can links t p) first h.walk)
+module _ {step : Nodes → ℕ → Nodes} {writes : Nodes → ℕ → ℕ} {Can : Nodes → ℕ → Type 0} {links : Nodes → List ℕ}
+    {t0 : Nodes} {m x : ℕ} {t : Nodes} {p k n : ℕ} where
+  pub follow_here : k < m → Following step writes Can links t0 m x t p k n
+      → Here step Can links (followed (links t0) m x) t p k
+  follow_here lt h =
+      let all : List ℕ = followed (links t0) m x in
+      let at : drop k all ≡ get_or all k 0 ∷ drop (k + 1) all =
+      grind (arith, common_steps, drop_more, length-followed) in
+      let first : drop k all ≡ p ∷ drop (k + 1) all = grind (arith, common_steps) in
+      grind (arith, common_steps, subst (CanFollow step Can links t p) first h.walk)
 
-pub follow_on : {step : Nodes → ℕ → Nodes} {writes : Nodes → ℕ → ℕ} {Can : Nodes → ℕ → Type 0} {links : Nodes → List ℕ}
-    {t0 : Nodes} {m x : ℕ} {t : Nodes} {p k n : ℕ} (u : Nodes) (q w : ℕ) → k < m → u ≡ step t p
-    → q ≡ get_or (links u) p 0 → w ≡ writes t p
-    → Following step writes Can links t0 m x t p k n → Following step writes Can links t0 m x u q (k + 1) (n + w)
-follow_on {step} {writes} {Can} {links} {t0} {m} {x} {t} {p} {k} {n} u q w lt is to paid h =
-    let here = follow_here lt h in
-    let next : q ≡ get_or (links (step t p)) p 0 = to ∙ ap (λ (v : Nodes). get_or (links v) p 0) is in
-    grind (arith, common_steps, h.cost, ap (costs step writes t) here.first, drop (k + 1) (followed (links t0) m x))
+  pub follow_on : (u : Nodes) (q w : ℕ) → k < m → u ≡ step t p → q ≡ get_or (links u) p 0 → w ≡ writes t p
+      → Following step writes Can links t0 m x t p k n → Following step writes Can links t0 m x u q (k + 1) (n + w)
+  follow_on u q w lt is to paid h =
+      let here = follow_here lt h in
+      let next : q ≡ get_or (links (step t p)) p 0 = to ∙ ap (λ (v : Nodes). get_or (links v) p 0) is in
+      grind (arith, common_steps, h.cost, ap (costs step writes t) here.first, drop (k + 1) (followed (links t0) m x))
 
-pub follow_end : {step : Nodes → ℕ → Nodes} {writes : Nodes → ℕ → ℕ} {Can : Nodes → ℕ → Type 0} {links : Nodes → List ℕ}
-    {t0 : Nodes} {m x : ℕ} {t : Nodes} {p k n : ℕ} → m ≤ k → Following step writes Can links t0 m x t p k n
-    → Reached step writes t0 (followed (links t0) m x) t n
-follow_end {step} {writes} {Can} {links} {t0} {m} {x} {t} {p} {k} {n} le h =
-    grind (arith, common_steps, length-followed)
+  pub follow_end : m ≤ k → Following step writes Can links t0 m x t p k n
+      → Reached step writes t0 (followed (links t0) m x) t n
+  follow_end le h = grind (arith, common_steps, length-followed)
 
 -- ---- places in a row, one by one
 
