@@ -1,3 +1,4 @@
+pub mod Cases
 pub mod completeness
 pub mod listing
 pub mod moves

@@ -3,7 +3,7 @@ use Rattle.std.proofs.lemmas.Grind.{common_steps}
 use Rattle.std.proofs.Common.{ℕ, zero, suc, ◌≡◌, ◌≢◌, ◌+◌, ◌-◌, ◌<◌, ◌≤◌, Bool, true, false, not, ◌&&◌, eqb, List}
 use Rattle.std.proofs.Common.{[], ◌∷◌, ◌++◌, length, map, filter, take, drop, Some, refl, sym, ap, ◌∙◌, arith, subst}
 use Rattle.std.proofs.Common.{eq-eqb, ne_eqb, le-leb, get_or}
-use Rattle.std.proofs.lemmas.List.Elements.{filter_agree, recursion_from_All}
+use Rattle.std.proofs.lemmas.List.Elements.{filter_agree, recursion_from_All, All-from_recursion}
 use Rattle.std.proofs.lemmas.Option.{slice_get-get_or, slice_get_within}
 use Rattle.std.specs.Prelude.{nat_le, slice_get}
 use Rattle.std.specs.List.{AllByRecursion}
@@ -19,7 +19,7 @@ use Rattle.xc_dance.specs.inner.Left.{left}
 use Rattle.xc_dance.specs.Commits.{after_spend, after_use, after_uses, others}
 use Rattle.xc_input.specs.UsePlaces.{place_in}
 use Rattle.xc_search.specs.inner.Commits.{tweaked, after_none}
-use Rattle.xc_search.specs.inner.Levels.{IsNode}
+use Rattle.xc_search.specs.inner.Levels.{IsNode, IsOptionAt}
 use Rattle.xc_dance.proofs.MoveLemmas.OpenLists.{listed_open}
 use Rattle.xc_search.proofs.residual.PickedByUses.{dec, commit_uses, uses_committed, AreWanted, as_residual}
 use Rattle.xc_search.proofs.residual.PickedByUses.{still_wanted, is_wanted}
@@ -32,40 +32,37 @@ use Rattle.xc_search.proofs.moves.LegalTweaks.{spends_tweaked, left_closed, left
 use Rattle.xc_input.proofs.lists.EachElement.{each_weaker, each-filter, each_passes, each_at, each_turned, each_both}
 use Rattle.xc_input.proofs.lists.Filters.{filter_both}
 use Rattle.xc_input.proofs.FaultLemmas.BooleanTests.{only_rest}
-use Rattle.xc_search.proofs.residual.OptionUses.{AreApart, apart_from_pairs}
+use Rattle.xc_search.proofs.residual.OptionUses.{Apart, AreApart, apart_sym, apart_from_pairs}
 use Rattle.xc_search.proofs.listing.Numbering.{IsOption}
+use Rattle.xc_search.proofs.Cases.{by_bool}
+use Rattle.xc_input.specs.Problem.{uses_of}
 
 -- ---- an option is taken
 
 ready_behind : (p : Puzzle) (u v : Use) (t : List Move) (m : ℕ) → u.item ≤ primary_count p → eqb u.item v.item ≡ false
     → Ready p t v → Ready p (tweaked m u.item (after_spend p u.item t)) v
 ready_behind p u v t m h e r =
-    let apart : eqb v.item u.item ≡ false =
-    ne_eqb v.item u.item (λ i. let same : eqb u.item v.item ≡ true = eq-eqb u.item v.item (sym i) in cc
-    (e, same)) in
     let it_is : after_use p u t ≡ after_spend p u.item t = rw (le-leb u.item (primary_count p) h) refl in
     let s = after_spend p u.item t in
     ready_later p s (tweaked m u.item s) v (open_tweaked v.item m u.item s) (purified_tweaked v.item m u.item s)
-    (spends_tweaked v.item m u.item s)
-    (subst (λ s. Ready p s v) it_is (ready_after p u t v apart r))
+    (spends_tweaked v.item m u.item s) (subst (λ s. Ready p s v) it_is (ready_after p u t v (apart_sym u v e) r))
+
+-- the moves of a branch of item i, with these other uses of option x
+pub record IsPicked (p : Puzzle) (t : List Move) (m i : ℕ) (x : Numbered) (us : List Use) : Type 0 where
+  pub residual : residual_of p (after_uses p us (tweaked m i (after_spend p i t))) ≡ pick (residual_of p t) i x
+  pub legal : AreLegal p (after_uses p us (tweaked m i (after_spend p i t)))
+  pub wanted : AreWanted (wanted_after p (after_uses p us (tweaked m i (after_spend p i t))))
 
 pub record Taken (p : Puzzle) (t : List Move) (m i : ℕ) (x : Numbered) : Type 0 where
-  pub residual : residual_of p (after_uses p (others i x.uses) (tweaked m i (after_spend p i t))) ≡ pick
-      (residual_of p t) i x
-  pub legal : AreLegal p (after_uses p (others i x.uses) (tweaked m i (after_spend p i t)))
-  pub wanted : AreWanted (wanted_after p (after_uses p (others i x.uses) (tweaked m i (after_spend p i t))))
-  pub option : IsOption p x
-  pub within : place_in i x.uses < length x.uses
+  pub picked : IsPicked p t m i x (others i (uses_of p x.number))
+  pub at : IsOptionAt p i x.number
   pub held : holds x i ≡ true
-  pub items : AllByRecursion (λ (u : Use). IsItem p u.item) x.uses
+  pub uses : uses_of p x.number ≡ x.uses
 
 taken_at : (p : Puzzle) (t : List Move) (k m : ℕ) (x : Numbered) (u : Use) (us vs : List Use) → IsOption p x
-    → IsNode p t u.item → slice_get (holding u.item (left p t)) k ≡ Some x →
-    (high_at p u.item - spends u.item (Spend u.item ∷ t) ≢ 0 → m ≡ suc k) → m ≤ suc k → x.uses ≡ us ++ u ∷ vs →
-    (residual_of p (after_uses p (vs ++ us) (tweaked m u.item (after_spend p u.item t))) ≡ pick (residual_of p t)
-    u.item x)
-    × AreLegal p (after_uses p (vs ++ us) (tweaked m u.item (after_spend p u.item t)))
-    × AreWanted (wanted_after p (after_uses p (vs ++ us) (tweaked m u.item (after_spend p u.item t))))
+    → IsNode p t u.item → slice_get (holding u.item (left p t)) k ≡ Some x
+    → (high_at p u.item - spends u.item (Spend u.item ∷ t) ≢ 0 → m ≡ suc k) → m ≤ suc k → x.uses ≡ us ++ u ∷ vs
+    → IsPicked p t m u.item x (vs ++ us)
 taken_at p t k m x u us vs option n e h le w =
     let s = tweaked m u.item (after_spend p u.item t) in
     let within = slice_get_within (holding u.item (left p t)) k x e in
@@ -76,44 +73,44 @@ taken_at p t k m x u us vs option n e h le w =
     (subst (AreReady p t) w (ready_left p t u.item k x n.searchable.legal n.searchable.wanted option e)) in
     let before = branch_cut p u t k m x n e h (legal_branch p k u.item t n (omega (arith, within))) in
     let rest = commit_all p (vs ++ us) s apart.1
-    (each_both (λ v. eqb u.item v.item ≡ false) (λ v. Ready p t v) (λ v. Ready p s v) (vs ++ us)
-    (λ v a r. ready_behind p u v t m n.item.1 a r) apart.0 ready.1)
+    (each_both (Apart u) (Ready p t) (Ready p s) (vs ++ us) (λ v a r. ready_behind p u v t m n.item.1 a r) apart.0
+    ready.1)
     (legal_branch p m u.item t n (omega (arith, within, le)))
-    (subst (λ r. AreWanted r.items) (sym before) (still_wanted u.item (wanted_after p t))) in (
-      rest.residual ∙ ap (commit_uses (vs ++ us)) before
+    (subst (λ r. AreWanted r.items) (sym before) (still_wanted u.item (wanted_after p t))) in
+    record {
+      residual = rest.residual ∙ ap (commit_uses (vs ++ us)) before
           ∙ uses_committed (u ∷ vs ++ us) (cut (residual_of p t) u.item x.number) apart n.searchable.wanted
-          ∙ committed_picks (residual_of p t) u.item x us (u ∷ vs) w,
-      rest.legal,
-      rest.wanted,
-    )
+          ∙ committed_picks (residual_of p t) u.item x us (u ∷ vs) w;
+      legal = rest.legal;
+      wanted = rest.wanted;
+    }
+
+option_at_item : (p : Puzzle) (i : ℕ) (x : Numbered) → IsOption p x → place_in i x.uses < length x.uses
+    → IsOptionAt p i x.number
+option_at_item p i x option within = record {
+  known = option.known;
+  holds = rw option.uses within;
+  items = rw option.uses (All-from_recursion _ x.uses (each_weaker (IsSoundUse p) _ x.uses (λ u s. s.0)
+      (recursion_from_All (IsSoundUse p) x.uses option.sound.sound)));
+}
 
 pub taken : (p : Puzzle) (t : List Move) (i k m : ℕ) (x : Numbered) → IsNode p t i
-    → slice_get (holding i (left p t)) k ≡ Some x →
-    (high_at p i - spends i (Spend i ∷ t) ≢ 0 → m ≡ suc k) → m ≤ suc k → Taken p t m i x
+    → slice_get (holding i (left p t)) k ≡ Some x → (high_at p i - spends i (Spend i ∷ t) ≢ 0 → m ≡ suc k) → m ≤ suc k
+    → Taken p t m i x
 taken p t i k m x n e h le =
     let option = of_left (IsOption p) i k (left p t) x (left_options p n.searchable.valid t) e in
-    let held : holds x i ≡ true =
-    each_at (λ o. holds o i ≡ true) (holding i (left p t)) k x (each_passes (λ o. holds o i) (left p t)) e in
+    let held : holds x i ≡ true = each_at _ (holding i (left p t)) k x (each_passes (λ o. holds o i) (left p t)) e in
     let pl = placed i x.uses held in
     let us = take (place_in i x.uses) x.uses in
     let vs = drop (place_in i x.uses + 1) x.uses in
-    let all =
-    subst (λ j. IsNode p t j → slice_get (holding j (left p t)) k ≡ Some x
-    → (high_at p j - spends j (Spend j ∷ t) ≢ 0 → m ≡ suc k) →
-    (residual_of p (after_uses p (vs ++ us) (tweaked m j (after_spend p j t))) ≡ pick (residual_of p t) j x)
-    × AreLegal p (after_uses p (vs ++ us) (tweaked m j (after_spend p j t)))
-    × AreWanted (wanted_after p (after_uses p (vs ++ us) (tweaked m j (after_spend p j t))))) pl.at
-    (λ n e h. taken_at p t k m x pl.use_of us vs option n e h le pl.whole) n e h in
     record {
-      residual = all.0;
-      legal = all.1;
-      wanted = all.2;
-      option = option;
-      within = pl.within;
+      picked = subst (λ ws. IsPicked p t m i x (others i ws)) (sym option.uses)
+          (subst (λ j. IsNode p t j → slice_get (holding j (left p t)) k ≡ Some x
+          → (high_at p j - spends j (Spend j ∷ t) ≢ 0 → m ≡ suc k) → IsPicked p t m j x (vs ++ us)) pl.at
+          (λ n e h. taken_at p t k m x pl.use_of us vs option n e h le pl.whole) n e h);
+      at = option_at_item p i x option pl.within;
       held = held;
-      items =
-          each_weaker (IsSoundUse p) (λ (u : Use). IsItem p u.item) x.uses (λ u s. s.0)
-          (recursion_from_All (IsSoundUse p) x.uses option.sound.sound);
+      uses = option.uses;
     }
 
 -- ---- no option is taken
@@ -121,13 +118,8 @@ taken p t i k m x n e h le =
 none_dec : (i : ℕ) (ws : List Wanted)
     → filter (λ w. not (eqb w.item i)) (map (dec i) ws) ≡ filter (λ w. not (eqb w.item i)) ws
 none_dec i [] = refl
-none_dec i (w ∷ ws) = by_case (eqb w.item i) refl (none_dec i ws)
-  where
-    by_case : (b : Bool) → eqb w.item i ≡ b
-        → filter (λ w. not (eqb w.item i)) (map (dec i) ws) ≡ filter (λ w. not (eqb w.item i)) ws
-        → filter (λ w. not (eqb w.item i)) (map (dec i) (w ∷ ws)) ≡ filter (λ w. not (eqb w.item i)) (w ∷ ws)
-    by_case true e later = rw (e, e) later
-    by_case false e later = rw (e, e) (ap (λ vs. w ∷ vs) later)
+none_dec i (w ∷ ws) = by_bool (eqb w.item i)
+    (λ e. rw (e, e) (none_dec i ws)) (λ e. rw (e, e) (ap (λ vs. w ∷ vs) (none_dec i ws)))
 
 -- tweaks of an open item take only options that hold it
 rest_tweaked : (p : Puzzle) (m i : ℕ) (s : List Move) → AreLegal p (tweaked m i s) → is_open i s ≡ true
@@ -136,46 +128,36 @@ rest_tweaked : (p : Puzzle) (m i : ℕ) (s : List Move) → AreLegal p (tweaked 
 rest_tweaked p zero i s l o h k = refl
 rest_tweaked p (suc m) i s l o h k =
     let d : Numbered = record { number = 0; uses = [] } in
-    let x = get_or (holding i (left p s)) m d in
-    ap (filter (λ o. not (holds o i)))
-    (left_open p m i s x l.1 o h (slice_get-get_or (holding i (left p s)) m d (omega (arith, k))))
-    ∙ filter_both (λ o. not (holds o i)) (λ o. not (holds o i && nat_le o.number x.number)) (left p s)
-    ∙ filter_agree (λ o. not (holds o i && nat_le o.number x.number) && not (holds o i)) (λ o. not (holds o i))
-    (λ o. only_rest (holds o i) (nat_le o.number x.number)) (left p s)
+    let hs = holding i (left p s) in
+    let x = get_or hs m d in
+    ap (filter (λ o. not (holds o i))) (left_open p m i s x l.1 o h (slice_get-get_or hs m d (omega (arith, k))))
+    ∙ filter_both _ _ (left p s)
+    ∙ filter_agree _ _ (λ o. only_rest (holds o i) (nat_le o.number x.number)) (left p s)
 
 spent_none : (p : Puzzle) (t : List Move) (i : ℕ) → none (residual_of p (Spend i ∷ t)) i ≡ none (residual_of p t) i
 spent_none p t i = ap (λ r. none r i) (residual_spend p t i) ∙ as_residual _ _ _ _ (none_dec i (wanted_after p t)) refl
 
 pub none_taken : (p : Puzzle) (t : List Move) (i m : ℕ) → IsNode p t i → m ≤ length (holding i (left p t)) →
     residual_of p (after_none i (tweaked m i (after_spend p i t))) ≡ none (residual_of p t) i
-none_taken p t i m n h = by_case (eqb (high_at p i - spends i (Spend i ∷ t)) 0) refl
-  where
-    by_case : (b : Bool) → eqb (high_at p i - spends i (Spend i ∷ t)) 0 ≡ b
-        → residual_of p (after_none i (tweaked m i (after_spend p i t))) ≡ none (residual_of p t) i
-    by_case true c =
-        let s : List Move = Cover i ∷ Spend i ∷ t in
-        let it_is : after_spend p i t ≡ s = rw c refl in
-        let same : eqb i i ≡ true = eq-eqb i i refl in
-        let shut : is_open i s ≡ false = rw same refl in
-        let stays_shut : is_open i (tweaked m i s) ≡ false = open_tweaked i m i s ∙ shut in
-        let as_it_was : after_none i (tweaked m i s) ≡ tweaked m i s = rw stays_shut refl in
-        ap (λ s. residual_of p (after_none i (tweaked m i s))) it_is
-        ∙ ap (residual_of p) as_it_was
-        ∙ as_residual _ _ _ _ (items_tweaked p m i s) (left_closed p m i s shut)
-        ∙ residual_cover p (Spend i ∷ t) i ∙ spent_none p t i
-    by_case false c =
-        let s : List Move = Spend i ∷ t in
-        let it_is : after_spend p i t ≡ s = rw c refl in
-        let stays_open : is_open i (tweaked m i s) ≡ true = open_tweaked i m i s ∙ n.is_open in
-        let covers : after_none i (tweaked m i s) ≡ Cover i ∷ tweaked m i s = rw stays_open refl in
-        let legal : AreLegal p (tweaked m i s) =
-        subst (λ s. AreLegal p (tweaked m i s)) it_is (legal_branch p m i t n h) in
-        ap (λ s. residual_of p (after_none i (tweaked m i s))) it_is
-        ∙ ap (residual_of p) covers
-        ∙ residual_cover p (tweaked m i s) i
-        ∙ as_residual _ _ _ _ (ap (filter (λ w. not (eqb w.item i))) (items_tweaked p m i s))
-        (rest_tweaked p m i s legal n.is_open (listed_open p t n.searchable.legal i n.is_open) h)
-        ∙ spent_none p t i
+none_taken p t i m n h = by_bool (eqb (high_at p i - spends i (Spend i ∷ t)) 0)
+    (λ c.
+    let s : List Move = Cover i ∷ Spend i ∷ t in
+    let it_is : after_spend p i t ≡ s = rw c refl in
+    let shut : is_open i s ≡ false = rw (eq-eqb i i refl) refl in
+    let as_it_was : after_none i (tweaked m i s) ≡ tweaked m i s = rw (open_tweaked i m i s ∙ shut) refl in
+    ap (λ s. residual_of p (after_none i (tweaked m i s))) it_is ∙ ap (residual_of p) as_it_was
+    ∙ as_residual _ _ _ _ (items_tweaked p m i s) (left_closed p m i s shut)
+    ∙ residual_cover p (Spend i ∷ t) i ∙ spent_none p t i)
+    (λ c.
+    let s : List Move = Spend i ∷ t in
+    let it_is : after_spend p i t ≡ s = rw c refl in
+    let covers : after_none i (tweaked m i s) ≡ Cover i ∷ tweaked m i s = rw (open_tweaked i m i s ∙ n.is_open) refl in
+    let legal = subst (λ s. AreLegal p (tweaked m i s)) it_is (legal_branch p m i t n h) in
+    ap (λ s. residual_of p (after_none i (tweaked m i s))) it_is ∙ ap (residual_of p) covers
+    ∙ residual_cover p (tweaked m i s) i
+    ∙ as_residual _ _ _ _ (ap (filter (λ w. not (eqb w.item i))) (items_tweaked p m i s))
+    (rest_tweaked p m i s legal n.is_open (listed_open p t n.searchable.legal i n.is_open) h)
+    ∙ spent_none p t i)
 
 pub legal_after_none : (p : Puzzle) (i : ℕ) (t : List Move) → IsItem p i → AreLegal p t → AreLegal p (after_none i t)
 legal_after_none p i t h l = grind (arith, common_steps)

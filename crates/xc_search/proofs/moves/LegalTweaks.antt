@@ -28,6 +28,7 @@ use Rattle.xc_input.proofs.lists.EachElement.{each_of_all}
 use Rattle.xc_input.proofs.lists.Filters.{filter_both, keep_all}
 use Rattle.xc_input.proofs.FaultLemmas.BooleanTests.{only_rest}
 use Rattle.xc_input.proofs.lists.Places.{slice_get-drop, before_some, drop_one}
+use Rattle.xc_search.proofs.Cases.{by_bool}
 
 -- ---- what tweaks leave as it was
 
@@ -66,31 +67,18 @@ left_closed p (suc m) i s e = grind (arith, common_steps, left_closed p m i s e,
 none_below : (i n : ℕ) (os : List Numbered) → NumbersRise n os → filter (λ o. holds o i && nat_le o.number n) os ≡ []
 none_below i n [] r = refl
 none_below i n (o ∷ os) r =
-    let above : leb o.number n ≡ false = lt-leb o.number n r.0 in
-    rw above (elim (holds o i) as
-    (λ b. cond (b && false) (o ∷ filter (λ o. holds o i && nat_le o.number n) os)
-    (filter (λ o. holds o i && nat_le o.number n) os) ≡ []) [
-      | true ↦ none_below i n os (NumbersRise-weaker n o.number os (omega (arith, r.0)) r.1)
-      | false ↦ none_below i n os (NumbersRise-weaker n o.number os (omega (arith, r.0)) r.1)
-    ])
+    let later = none_below i n os (NumbersRise-weaker n o.number os (omega (arith, r.0)) r.1) in
+    grind (arith, common_steps, later, lt-leb)
 
 first_below : (i n : ℕ) (os : List Numbered) (x : Numbered) → NumbersRise n os → slice_get (holding i os) 0 ≡ Some x
     → filter (λ o. holds o i && nat_le o.number x.number) os ≡ take 1 (holding i os)
 first_below i n [] x r e = cc
-first_below i n (o ∷ os) x r e =
-    elim (holds o i) as (λ b. slice_get (cond b (o ∷ holding i os) (holding i os)) 0 ≡ Some x
-    → cond (b && nat_le o.number x.number) (o ∷ filter (λ o. holds o i && nat_le o.number x.number) os)
-    (filter (λ o. holds o i && nat_le o.number x.number) os) ≡ take 1
-    (cond b (o ∷ holding i os) (holding i os))) [
-      | true ↦ λ f.
-          let same : o ≡ x = cc in
-          let itself : leb o.number x.number ≡ true =
-          le-leb o.number x.number (omega (arith, ap (λ (y : Numbered). y.number) same)) in
-          rw itself (ap (λ ys. o ∷ ys)
-          (ap (λ (y : Numbered). filter (λ o. holds o i && nat_le o.number y.number) os) (sym same)
-          ∙ none_below i o.number os r.1))
-      | false ↦ λ f. first_below i o.number os x r.1 f
-    ] e
+first_below i n (o ∷ os) x r e = by_bool (holds o i)
+    (λ h. let same : o ≡ x = grind (arith, h, e) in
+    let itself : leb o.number o.number ≡ true = le-leb o.number o.number (omega arith) in
+    subst (λ (y : Numbered). filter (λ o. holds o i && nat_le o.number y.number) (o ∷ os) ≡ take 1 (holding i (o ∷ os)))
+    same (rw (h, itself) (ap (λ ys. o ∷ ys) (none_below i o.number os r.1))))
+    (λ h. grind (arith, common_steps, first_below i o.number os x r.1))
 
 without_head : (i n : ℕ) (os : List Numbered) (x : Numbered) → NumbersRise n os → slice_get (holding i os) 0 ≡ Some x
     → without (take 1 (holding i os)) os ≡ filter (λ o. not (holds o i && nat_le o.number x.number)) os
@@ -124,20 +112,18 @@ pub left_open : (p : Puzzle) (m i : ℕ) (s : List Move) (x : Numbered) → AreL
     left p (tweaked (suc m) i s) ≡ filter (λ o. not (holds o i && nat_le o.number x.number)) (left p s)
 left_open p zero i s x l o h e = rw o (without_head i 0 (left p s) x (left_rises p s) e)
 left_open p (suc m) i s x l o h e =
-    let before = before_some (holding i (left p s)) m x e in
+    let hs = holding i (left p s) in
+    let before = before_some hs m x e in
     let t = tweaked (suc m) i s in
     let here : is_open i t ≡ true = open_tweaked i (suc m) i s ∙ o in
     let head : slice_get (holding i (left p t)) 0 ≡ Some x =
     ap (λ os. slice_get os 0) (sym (listed_open p t l i here) ∙ listed_tweaked p (suc m) i s ∙ ap (drop (suc m)) h)
-    ∙ slice_get-drop (holding i (left p s)) (suc m) ∙ e in
-    let fewer =
-    rise_step 0 (holding i (left p s)) m before.0 x
-    (NumbersRise-filter (λ o. holds o i) 0 (left p s) (left_rises p s)) before.1 e in
+    ∙ slice_get-drop hs (suc m) ∙ e in
+    let fewer = rise_step 0 hs m before.0 x (NumbersRise-filter _ 0 (left p s) (left_rises p s)) before.1 e in
     left_tweak p i t here
     ∙ (without_head i 0 (left p t) x (left_rises p t) head
     ∙ ap (filter (λ o. not (holds o i && nat_le o.number x.number))) (left_open p m i s before.0 l.1 o h before.1)
-    ∙ filter_both (λ o. not (holds o i && nat_le o.number x.number))
-    (λ o. not (holds o i && nat_le o.number before.0.number)) (left p s)
+    ∙ filter_both _ _ (left p s)
     ∙ filter_agree _ _ (λ o. cut_more (holds o i) (nat_le o.number before.0.number) (nat_le o.number x.number)
     (λ b. le-leb o.number x.number (omega (arith, leb-true o.number before.0.number b, fewer)))) (left p s))
 
@@ -168,47 +154,39 @@ pub branch_cut : (p : Puzzle) (u : Use) (t : List Move) (k m : ℕ) (x : Numbere
     (high_at p u.item - spends u.item (Spend u.item ∷ t) ≢ 0 → m ≡ suc k)
     → AreLegal p (tweaked k u.item (after_spend p u.item t)) →
     residual_of p (tweaked m u.item (after_spend p u.item t)) ≡ commit_use u (cut (residual_of p t) u.item x.number)
-branch_cut p u t k m x n e h l = by_case (eqb (high_at p u.item - spends u.item (Spend u.item ∷ t)) 0) refl
-  where
-    by_case : (b : Bool) → eqb (high_at p u.item - spends u.item (Spend u.item ∷ t)) 0 ≡ b
-        → residual_of p (tweaked m u.item (after_spend p u.item t)) ≡ commit_use u
-        (cut (residual_of p t) u.item x.number)
-    by_case true c =
-        let some_left = has_left p t u.item n.searchable.wanted n.item n.is_open in
-        let not_more : nat_lt 1 (high_at p u.item - spends u.item t) ≡ false =
-        le-ltb 1 (high_at p u.item - spends u.item t) (omega (arith, eqb-true _ _ c, spent_self u.item t)) in
-        let s : List Move = Cover u.item ∷ Spend u.item ∷ t in
-        let it_is : after_spend p u.item t ≡ s = rw c refl in
-        let same : eqb u.item u.item ≡ true = eq-eqb u.item u.item refl in
-        let closed : is_open u.item s ≡ false = rw same refl in
-        let commits = opening_commits p u t n.searchable.wanted n.item n.is_open some_left in
-        ap (λ s. residual_of p (tweaked m u.item s)) it_is
-        ∙ as_residual _ _ _ _ (items_tweaked p m u.item s) (left_closed p m u.item s closed)
-        ∙ ap (residual_of p) (sym it_is) ∙ commits
-        ∙ as_residual _ _ _ _ refl
-        (filter_agree (may_stay (item_left (residual_of p t) u.item) u)
-        (λ o. not (holds o u.item && nat_le o.number x.number) && may_stay (item_left (residual_of p t) u.item) u o)
-        (λ o. rw (found_wanted p t u.item n.item n.is_open, not_more)
-        (sym (only_rest (holds o u.item) (nat_le o.number x.number)))) (left p t)
-        ∙ sym (filter_both (may_stay (item_left (residual_of p t) u.item) u)
-        (λ o. not (holds o u.item && nat_le o.number x.number)) (left p t)))
-    by_case false c =
-        let some_left = has_left p t u.item n.searchable.wanted n.item n.is_open in
-        let not_zero : high_at p u.item - spends u.item (Spend u.item ∷ t) ≢ 0 = eqb-false _ _ c in
-        let is_more : nat_lt 1 (high_at p u.item - spends u.item t) ≡ true =
-        lt-ltb 1 (high_at p u.item - spends u.item t) (omega (arith, not_zero, spent_self u.item t)) in
-        let s : List Move = Spend u.item ∷ t in
-        let it_is : after_spend p u.item t ≡ s = rw c refl in
-        let commits = opening_commits p u t n.searchable.wanted n.item n.is_open some_left in
-        let items : wanted_after p s ≡ (commit_use u (residual_of p t)).items =
-        ap (λ (r : Residual). r.items) (ap (residual_of p) (sym it_is) ∙ commits) in
-        let legal : AreLegal p (tweaked k u.item s) = subst (λ s. AreLegal p (tweaked k u.item s)) it_is l in
-        ap (λ s. residual_of p (tweaked m u.item s)) it_is
-        ∙ ap (λ m. residual_of p (tweaked m u.item s)) (h not_zero)
-        ∙ as_residual _ _ _ _ (items_tweaked p (suc k) u.item s ∙ items)
-        (left_open p k u.item s x legal n.is_open (listed_open p t n.searchable.legal u.item n.is_open) e
-        ∙ sym (keep_all (may_stay (item_left (residual_of p t) u.item) u)
-        (filter (λ o. not (holds o u.item && nat_le o.number x.number)) (left p t))
-        (each_of_all (λ o. may_stay (item_left (residual_of p t) u.item) u o ≡ true)
-        (filter (λ o. not (holds o u.item && nat_le o.number x.number)) (left p t))
-        (λ o. rw (found_wanted p t u.item n.item n.is_open, is_more) refl))))
+branch_cut p u t k m x n e h l =
+    let i = u.item in
+    let above : Numbered → Bool = λ o. not (holds o i && nat_le o.number x.number) in
+    let stay = may_stay (item_left (residual_of p t) i) u in
+    let left_over = high_at p i - spends i t in
+    let found = found_wanted p t i n.item n.is_open in
+    let commits =
+    opening_commits p u t n.searchable.wanted n.item n.is_open (has_left p t i n.searchable.wanted n.item n.is_open) in
+    by_bool (eqb (high_at p i - spends i (Spend i ∷ t)) 0)
+    (λ c.
+    let not_more : nat_lt 1 left_over ≡ false =
+    le-ltb 1 left_over (omega (arith, eqb-true _ _ c, spent_self i t)) in
+    let s : List Move = Cover i ∷ Spend i ∷ t in
+    let it_is : after_spend p i t ≡ s = rw c refl in
+    let closed : is_open i s ≡ false = rw (eq-eqb i i refl) refl in
+    ap (λ s. residual_of p (tweaked m i s)) it_is
+    ∙ as_residual _ _ _ _ (items_tweaked p m i s) (left_closed p m i s closed)
+    ∙ ap (residual_of p) (sym it_is) ∙ commits
+    ∙ as_residual _ _ _ _ refl
+    (filter_agree stay (λ o. above o && stay o) (λ o. rw (found, not_more)
+    (sym (only_rest (holds o i) (nat_le o.number x.number)))) (left p t)
+    ∙ sym (filter_both stay above (left p t))))
+    (λ c.
+    let is_more : nat_lt 1 left_over ≡ true =
+    lt-ltb 1 left_over (omega (arith, eqb-false _ _ c, spent_self i t)) in
+    let s : List Move = Spend i ∷ t in
+    let it_is : after_spend p i t ≡ s = rw c refl in
+    let items : wanted_after p s ≡ (commit_use u (residual_of p t)).items =
+    ap (λ (r : Residual). r.items) (ap (residual_of p) (sym it_is) ∙ commits) in
+    let legal = subst (λ s. AreLegal p (tweaked k i s)) it_is l in
+    ap (λ s. residual_of p (tweaked m i s)) it_is
+    ∙ ap (λ m. residual_of p (tweaked m i s)) (h (eqb-false _ _ c))
+    ∙ as_residual _ _ _ _ (items_tweaked p (suc k) i s ∙ items)
+    (left_open p k i s x legal n.is_open (listed_open p t n.searchable.legal i n.is_open) e
+    ∙ sym (keep_all stay (filter above (left p t))
+    (each_of_all _ (filter above (left p t)) (λ o. rw (found, is_more) refl)))))

@@ -19,7 +19,8 @@ use Rattle.xc_input.proofs.lists.EachElement.{each-append, each_front}
 use Rattle.xc_input.proofs.lists.Filters.{filter_both, map-same}
 use Rattle.std.proofs.Math.Bool.{and_comm, or_comm}
 use Rattle.std.proofs.lemmas.List.Folds.{list_all-append}
-use Rattle.xc_search.proofs.residual.OptionUses.{AreApart}
+use Rattle.xc_search.proofs.residual.OptionUses.{Apart, AreApart, apart_sym}
+use Rattle.xc_input.proofs.lists.EachTwo.{EachTwo-swapped}
 
 -- ---- where the item stands
 
@@ -56,46 +57,8 @@ held_turned us vs j =
 all_turned : {X : Type 0} (f : X → Bool) (us vs : List X) → list_all f (us ++ vs) ≡ list_all f (vs ++ us)
 all_turned f us vs = list_all-append f us vs ∙ and_comm (list_all f us) (list_all f vs) ∙ sym (list_all-append f vs us)
 
-abbrev Apart : Use → Use → Type 0
-Apart u v = eqb u.item v.item ≡ false
-
--- every one of the second is apart from all of the first
-abbrev AreCross : List Use → List Use → Type 0
-AreCross us vs = AllByRecursion (λ u. AllByRecursion (λ v. Apart u v) vs) us
-
-apart_front : (us vs : List Use) → AreApart (us ++ vs) → AreApart us
-apart_front [] vs a = tt
-apart_front (u ∷ us) vs a = ((each_front (Apart u) us vs a.0).0, apart_front us vs a.1)
-
-apart_back : (us vs : List Use) → AreApart (us ++ vs) → AreApart vs
-apart_back [] vs a = a
-apart_back (u ∷ us) vs a = apart_back us vs a.1
-
-cross : (us vs : List Use) → AreApart (us ++ vs) → AreCross us vs
-cross [] vs a = tt
-cross (u ∷ us) vs a = ((each_front (Apart u) us vs a.0).1, cross us vs a.1)
-
-join : (us vs : List Use) → AreApart us → AreApart vs → AreCross us vs → AreApart (us ++ vs)
-join [] vs a b c = b
-join (u ∷ us) vs a b c = (each-append (Apart u) us vs a.0 c.0, join us vs a.1 b c.1)
-
-apart_sym : (u v : Use) → Apart u v → Apart v u
-apart_sym u v e = grind (arith, common_steps, ne_eqb v.item u.item, eq-eqb u.item v.item)
-
-cross_empty : (vs : List Use) → AreCross vs []
-cross_empty [] = tt
-cross_empty (v ∷ vs) = (tt, cross_empty vs)
-
-cross_more : (u : Use) (us vs : List Use) → AllByRecursion (λ v. Apart u v) vs → AreCross vs us → AreCross vs (u ∷ us)
-cross_more u us [] a c = tt
-cross_more u us (v ∷ vs) a c = ((apart_sym u v a.0, c.0), cross_more u us vs a.1 c.1)
-
-cross_sym : (us vs : List Use) → AreCross us vs → AreCross vs us
-cross_sym [] vs c = cross_empty vs
-cross_sym (u ∷ us) vs c = cross_more u us vs c.0 (cross_sym us vs c.1)
-
 pub apart_turned : (us vs : List Use) → AreApart (us ++ vs) → AreApart (vs ++ us)
-apart_turned us vs a = join vs us (apart_back us vs a) (apart_front us vs a) (cross_sym us vs (cross us vs a))
+apart_turned us vs a = EachTwo-swapped Apart apart_sym us vs a
 
 -- ---- picking
 

@@ -11,7 +11,7 @@ use Rattle.xc_input.specs.declared.problem.Use.{Use}
 use Rattle.xc_dance.specs.declared.dance.Move.{Move}
 use Rattle.xc_dance.specs.declared.dance.Move.TheVariants.{Cover, Purify, Tweak, Spend}
 use Rattle.xc_input.specs.Problem.{Puzzle, Numbered, primary_count, holds, colour_at, colour_in, high_at, IsPrimary}
-use Rattle.xc_input.specs.Problem.{IsSoundUse, IsValid}
+use Rattle.xc_input.specs.Problem.{IsSoundUse, IsValid, IsSecondary}
 use Rattle.xc_search.specs.Listing.{Wanted}
 use Rattle.xc_dance.specs.inner.Left.{left}
 use Rattle.xc_dance.specs.Moves.{is_open, is_covered, purified, spends, AreLegal, agrees}
@@ -22,6 +22,8 @@ use Rattle.xc_search.proofs.residual.ReadyUses.{Ready, blank, coloured, same_col
 use Rattle.xc_input.proofs.lists.EachElement.{each_at, each_both}
 use Rattle.xc_search.proofs.residual.OptionUses.{apart_from_pairs, own_colours}
 use Rattle.xc_search.proofs.listing.Numbering.{IsOption, all_options}
+use Rattle.xc_search.proofs.Cases.{by_bool, by_option}
+use Rattle.xc_input.proofs.lists.EachElement.{each-filter}
 
 pub left_options : (p : Puzzle) → IsValid p → (t : List Move) → AllByRecursion (IsOption p) (left p t)
 left_options p v [] = all_options p v
@@ -31,33 +33,21 @@ left_options p v (m ∷ t) = kept (IsOption p) p t m (left_options p v t)
 
 open_if : (j : ℕ) (t : List Move) → is_covered j t ≡ false → purified j t ≡ None → is_open j t ≡ true
 open_if j [] c q = refl
-open_if j (Cover k ∷ t) c q = grind (arith, common_steps, open_if j t)
-open_if j (Purify k d ∷ t) c q = grind (arith, common_steps, open_if j t c)
-open_if j (Tweak k ∷ t) c q = open_if j t c q
-open_if j (Spend k ∷ t) c q = open_if j t c q
+open_if j (m ∷ t) c q = grind (arith, common_steps, open_if j t)
 
 closed_if : (j d : ℕ) (t : List Move) → purified j t ≡ Some d → is_open j t ≡ false
 closed_if j d [] q = cc
-closed_if j d (Cover k ∷ t) q = grind (arith, common_steps, closed_if j d t q)
-closed_if j d (Purify k c ∷ t) q = grind (arith, common_steps, closed_if j d t)
-closed_if j d (Tweak k ∷ t) q = closed_if j d t q
-closed_if j d (Spend k ∷ t) q = closed_if j d t q
+closed_if j d (m ∷ t) q = grind (arith, common_steps, closed_if j d t)
 
 -- only a secondary item is purified
 pub purified_second : (p : Puzzle) (j d : ℕ) (t : List Move) → AreLegal p t → purified j t ≡ Some d
     → primary_count p < j
 purified_second p j d [] l q = cc
-purified_second p j d (Cover k ∷ t) l q = purified_second p j d t l.1 q
-purified_second p j d (Purify k c ∷ t) l q = grind (arith, common_steps, purified_second p j d t l.1, eqb-true)
-purified_second p j d (Tweak k ∷ t) l q = purified_second p j d t l.1 q
-purified_second p j d (Spend k ∷ t) l q = purified_second p j d t l.1 q
+purified_second p j d (m ∷ t) l q = grind (arith, common_steps, purified_second p j d t, eqb-true)
 
 pub primary_pure : (p : Puzzle) (j : ℕ) (t : List Move) → AreLegal p t → j ≤ primary_count p → purified j t ≡ None
-primary_pure p j t l h = by_case (purified j t) refl
-  where
-    by_case : (o : Option ℕ) → purified j t ≡ o → purified j t ≡ None
-    by_case None e = e
-    by_case (Some d) e = absurd (omega (arith, purified_second p j d t l e, h))
+primary_pure p j t l h =
+    by_option (purified j t) (λ e. e) (λ d e. absurd (omega (arith, purified_second p j d t l e, h)))
 
 found_holds : (P : Wanted → Type 0) (q : Wanted → Bool) (ws : List Wanted) (w : Wanted) → AllByRecursion P ws
     → find q ws ≡ Some w → P w
@@ -79,11 +69,6 @@ ne_zero : (n : ℕ) → eqb n 0 ≡ false → 0 < n
 ne_zero zero e = cc
 ne_zero (suc n) e = omega arith
 
-each_holding : (P : Numbered → Type 0) (i : ℕ) (os : List Numbered) → AllByRecursion P os
-    → AllByRecursion P (filter (λ o. holds o i) os)
-each_holding P i [] a = tt
-each_holding P i (o ∷ os) a = grind (arith, common_steps, each_holding P i os a.1)
-
 record IsFree (t : List Move) (x : Numbered) : Type 0 where
   uncovered : (j : ℕ) → is_covered j t ≡ true → holds x j ≡ false
   agreeing : (j d : ℕ) → purified j t ≡ Some d → agrees d (colour_at x j) ≡ true
@@ -93,30 +78,22 @@ agree_colour d c e = grind (arith, common_steps, eqb-true, ltb-true)
 
 not_covered : (t : List Move) (x : Numbered) (u : Use) → IsFree t x → colour_at x u.item ≡ Some u.colour
     → is_covered u.item t ≡ false
-not_covered t x u f e = by_case (is_covered u.item t) refl
-  where
-    by_case : (b : Bool) → is_covered u.item t ≡ b → is_covered u.item t ≡ false
-    by_case true c = grind (arith, common_steps)
-    by_case false c = c
+not_covered t x u f e = by_bool (is_covered u.item t) (λ c. grind (arith, common_steps)) (λ c. c)
 
 ready_use : (p : Puzzle) (t : List Move) (x : Numbered) (u : Use) → AreLegal p t → AreWanted (wanted_after p t)
     → IsFree t x → IsSoundUse p u → colour_at x u.item ≡ Some u.colour → Ready p t u
-ready_use p t x u l a f s e = by_kind (leb u.item (primary_count p)) refl (purified u.item t) refl
-  where
-    by_colour : primary_count p < u.item → (b : Bool) → eqb u.colour 0 ≡ b → is_open u.item t ≡ true → Ready p t u
-    by_colour h true c o = blank (h, s.0.1) (eqb-true u.colour 0 c) o
-    by_colour h false c o = coloured (h, s.0.1) (ne_zero u.colour c) o
-
-    by_kind : (b : Bool) → leb u.item (primary_count p) ≡ b → (q : Option ℕ) → purified u.item t ≡ q → Ready p t u
-    by_kind true h q i = grind (arith, common_steps, leb-true, open_if, not_covered, primary_pure, has_left)
-    by_kind false h None i = grind (arith, common_steps, by_colour, leb-false, open_if, not_covered)
-    by_kind false h (Some d) i =
-        let same = agree_colour d u.colour (subst (λ o. agrees d o ≡ true) e (f.agreeing u.item d i)) in
-        same_colour (leb-false u.item (primary_count p) h, s.0.1) same.1 (closed_if u.item d t i) (i ∙ ap Some same.0)
+ready_use p t x u l a f s e = by_bool (leb u.item (primary_count p))
+    (λ h. grind (arith, common_steps, leb-true, open_if, not_covered, primary_pure, has_left))
+    (λ h. let second : IsSecondary p u.item = (leb-false u.item (primary_count p) h, s.0.1) in
+    by_option (purified u.item t)
+    (λ i. let o = open_if u.item t (not_covered t x u f e) i in by_bool (eqb u.colour 0)
+    (λ c. blank second (eqb-true u.colour 0 c) o) (λ c. coloured second (ne_zero u.colour c) o))
+    (λ d i. let same = agree_colour d u.colour (subst (λ o. agrees d o ≡ true) e (f.agreeing u.item d i)) in
+    same_colour second same.1 (closed_if u.item d t i) (i ∙ ap Some same.0)))
 
 pub of_left : (P : Numbered → Type 0) (i k : ℕ) (os : List Numbered) (x : Numbered) → AllByRecursion P os
     → slice_get (filter (λ o. holds o i) os) k ≡ Some x → P x
-of_left P i k os x a e = each_at P (filter (λ o. holds o i) os) k x (each_holding P i os a) e
+of_left P i k os x a e = each_at P _ k x (each-filter P _ os a) e
 
 pub ready_left : (p : Puzzle) (t : List Move) (i k : ℕ) (x : Numbered) → AreLegal p t → AreWanted (wanted_after p t)
     → IsOption p x → slice_get (filter (λ o. holds o i) (left p t)) k ≡ Some x → AreReady p t x.uses

@@ -9,18 +9,20 @@ use Rattle.xc_input.specs.Problem.{colour_in}
 use Rattle.std.proofs.lemmas.List.Elements.{recursion_from_All}
 use Rattle.xc_input.proofs.lists.EachElement.{each_both}
 use Rattle.xc_input.proofs.lists.Members.{IsIn}
+use Rattle.xc_input.proofs.lists.EachTwo.{EachTwo, EachTwo-weaker, each_two_from_AllPairs}
+
+abbrev pub Apart : Use → Use → Type 0
+Apart u v = eqb u.item v.item ≡ false
 
 abbrev pub AreApart : List Use → Type 0
-AreApart [] = Unit {0}
-AreApart (u ∷ us) = AllByRecursion (λ v. eqb u.item v.item ≡ false) us × AreApart us
+AreApart us = EachTwo Apart us
+
+pub apart_sym : (u v : Use) → Apart u v → Apart v u
+apart_sym u v e = grind (arith, common_steps, ne_eqb v.item u.item, eq-eqb u.item v.item)
 
 pub apart_from_pairs : (us : List Use) → AllPairs (λ (u : Use) (v : Use). u.item ≢ v.item) us → AreApart us
-apart_from_pairs [] h = tt
-apart_from_pairs (u ∷ us) h = (
-  recursion_from_All (λ v. eqb u.item v.item ≡ false) us
-      (λ k d l. ne_eqb _ _ (h 0 (suc k) d (omega arith) (omega (arith, l)))),
-  apart_from_pairs us (λ i j d l k. h (suc i) (suc j) d (omega (arith, l)) (omega (arith, k))),
-)
+apart_from_pairs us h =
+    EachTwo-weaker (λ u v. u.item ≢ v.item) Apart us (λ u v i j d. ne_eqb _ _ d) (each_two_from_AllPairs _ us h)
 
 pub own_colours : (us : List Use) → AreApart us → AllByRecursion (λ u. colour_in us u.item ≡ Some u.colour) us
 own_colours [] a = tt

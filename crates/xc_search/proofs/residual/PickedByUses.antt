@@ -14,6 +14,7 @@ use Rattle.xc_input.proofs.lists.EachElement.{each_of_all}
 use Rattle.std.proofs.lemmas.List.{map-id}
 use Rattle.std.proofs.lemmas.List.Elements.{filter_agree}
 use Rattle.xc_search.proofs.residual.OptionUses.{AreApart}
+use Rattle.xc_search.proofs.Cases.{by_bool}
 
 -- one use of a taken option
 abbrev pub dec : ℕ → Wanted → Wanted
@@ -69,13 +70,9 @@ item_more : (u : Use) (us : List Use) (w : Wanted) (front rest : List Wanted)
     → filter is_wanted (map (spend_uses us) front) ≡ rest →
     filter is_wanted (map (spend_uses us) (cond (is_wanted (dec u.item w)) (dec u.item w ∷ front) front)) ≡ cond
     (is_wanted (spend_uses (u ∷ us) w)) (spend_uses (u ∷ us) w ∷ rest) rest
-item_more u us w front rest a h same = by_case (eqb w.item u.item) refl
-  where
-    by_case : (b : Bool) → eqb w.item u.item ≡ b →
-        filter is_wanted (map (spend_uses us) (cond (is_wanted (dec u.item w)) (dec u.item w ∷ front) front)) ≡ cond
-        (is_wanted (spend_uses (u ∷ us) w)) (spend_uses (u ∷ us) w ∷ rest) rest
-    by_case true e = grind (arith, common_steps, eqb-true, not_held u.item us a, spends_true u us w e)
-    by_case false e = grind (arith, common_steps, spends_other u us w e)
+item_more u us w front rest a h same = by_bool (eqb w.item u.item)
+    (λ e. grind (arith, common_steps, eqb-true, not_held u.item us a, spends_true u us w e))
+    (λ e. grind (arith, common_steps, spends_other u us w e))
 
 -- the items
 items_more : (u : Use) (us : List Use) (ws : List Wanted) → AllByRecursion (λ v. eqb u.item v.item ≡ false) us
@@ -88,13 +85,9 @@ items_more u us (w ∷ ws) a h = item_more u us w _ _ a h.0 (items_more u us ws 
 other_head : (j k : ℕ) (w : Wanted) (front : List Wanted) (rest : Option Wanted) → eqb j k ≡ false → is_wanted w ≡ true
     → find (λ w. eqb w.item k) front ≡ rest →
     find (λ w. eqb w.item k) (cond (is_wanted (dec j w)) (dec j w ∷ front) front) ≡ cond (eqb w.item k) (Some w) rest
-other_head j k w front rest e h same = by_case (eqb w.item j) refl
-  where
-    by_case : (b : Bool) → eqb w.item j ≡ b
-        → find (λ w. eqb w.item k) (cond (is_wanted (dec j w)) (dec j w ∷ front) front) ≡ cond (eqb w.item k)
-        (Some w) rest
-    by_case true i = grind (arith, common_steps, eqb-true, find)
-    by_case false i = rw (i, h) (ap (λ o. cond (eqb w.item k) (Some w) o) same)
+other_head j k w front rest e h same = by_bool (eqb w.item j)
+    (λ i. grind (arith, common_steps, eqb-true, find))
+    (λ i. rw (i, h) (ap (λ o. cond (eqb w.item k) (Some w) o) same))
 
 -- what is left of other items
 left_same : (j k : ℕ) (ws : List Wanted) → eqb j k ≡ false → AreWanted ws →

@@ -25,7 +25,8 @@ use Rattle.xc_search.proofs.residual.EachMove.{residual_cover_secondary, in_rang
 use Rattle.xc_dance.proofs.MoveLemmas.LeftOptions.{left_agrees}
 use Rattle.xc_input.proofs.lists.EachElement.{each_weaker, each-map, each_of_all, each_both, each-filter}
 use Rattle.xc_input.proofs.lists.Filters.{filter_same, keep_all}
-use Rattle.xc_search.proofs.residual.OptionUses.{AreApart}
+use Rattle.xc_search.proofs.residual.OptionUses.{AreApart, apart_sym}
+use Rattle.xc_search.proofs.Cases.{by_bool}
 
 pub data Ready (p : Puzzle) (t : List Move) (u : Use) : Type 0 where
   primary : IsPrimary p u.item → is_open u.item t ≡ true → spends u.item t < high_at p u.item → Ready p t u
@@ -89,16 +90,10 @@ found_from : (p : Puzzle) (t : List Move) (j a n : ℕ) → a ≤ j → j < a + 
     find (λ w. eqb w.item j) (map (wanted_at p t) (filter (λ i. is_open i t) (range_with_len a n))) ≡ Some
     (wanted_at p t j)
 found_from p t j a zero h k o = absurd (omega (arith, h, k))
-found_from p t j a (suc n) h k o = by_case (eqb a j) refl (λ l. found_from p t j (a + 1) n l (omega (arith, k)) o)
-  where
-    by_case : (b : Bool) → eqb a j ≡ b
-        → (a + 1 ≤ j → find (λ w. eqb w.item j)
-        (map (wanted_at p t) (filter (λ i. is_open i t) (range_with_len (a + 1) n))) ≡ Some (wanted_at p t j)) →
-        find (λ w. eqb w.item j)
-        (map (wanted_at p t) (cond (is_open a t) (a ∷ filter (λ i. is_open i t) (range_with_len (a + 1) n))
-        (filter (λ i. is_open i t) (range_with_len (a + 1) n)))) ≡ Some (wanted_at p t j)
-    by_case true e later = grind (arith, common_steps, eqb-true)
-    by_case false e later = grind (arith, common_steps, eqb-false, find)
+found_from p t j a (suc n) h k o = by_bool (eqb a j)
+    (λ e. grind (arith, common_steps, eqb-true))
+    (λ e. let later = found_from p t j (a + 1) n (omega (arith, h, eqb-false _ _ e)) (omega (arith, k)) o in
+    grind (arith, common_steps, find))
 
 pub found_wanted : (p : Puzzle) (t : List Move) (j : ℕ) → IsPrimary p j → is_open j t ≡ true
     → item_left (residual_of p t) j ≡ Some (wanted_at p t j)
@@ -134,19 +129,12 @@ as_spent p t = grind (arith, common_steps, each-map, each_of_all)
 
 covered_item : (j : ℕ) (w : Wanted) → is_wanted w ≡ true → (eqb w.item j ≡ true → w.high ≡ 1)
     → not (eqb (dec j w).item j) ≡ is_wanted (dec j w)
-covered_item j w a h = by_case (eqb w.item j) refl
-  where
-    by_case : (b : Bool) → eqb w.item j ≡ b
-        → not (eqb (cond (eqb w.item j) (less_one w) w).item j) ≡ is_wanted (cond (eqb w.item j) (less_one w) w)
-    by_case true e = rw (e, e) (sym (le-ltb 0 (w.high - 1) (omega (arith, h e))))
-    by_case false e = rw (e, e) (sym a)
+covered_item j w a h = by_bool (eqb w.item j)
+    (λ e. rw (e, e) (sym (le-ltb 0 (w.high - 1) (omega (arith, h e))))) (λ e. rw (e, e) (sym a))
 
 kept_item : (j : ℕ) (w : Wanted) → is_wanted w ≡ true → (eqb w.item j ≡ true → 1 < w.high) → is_wanted (dec j w) ≡ true
-kept_item j w a h = by_case (eqb w.item j) refl
-  where
-    by_case : (b : Bool) → eqb w.item j ≡ b → is_wanted (cond (eqb w.item j) (less_one w) w) ≡ true
-    by_case true e = rw e (lt-ltb 0 (w.high - 1) (omega (arith, h e)))
-    by_case false e = rw e a
+kept_item j w a h =
+    by_bool (eqb w.item j) (λ e. rw e (lt-ltb 0 (w.high - 1) (omega (arith, h e)))) (λ e. rw e a)
 
 pub high_of : (p : Puzzle) (t : List Move) (j : ℕ) (w : Wanted) → w ≡ wanted_at p t w.item → eqb w.item j ≡ true
     → w.high ≡ high_at p j - spends j t
@@ -155,69 +143,50 @@ high_of p t j w e i = ap (λ (v : Wanted). v.high) e ∙ ap (λ k. high_at p k -
 pub opening_commits : (p : Puzzle) (u : Use) (t : List Move) → AreWanted (wanted_after p t) → IsPrimary p u.item
     → is_open u.item t ≡ true → spends u.item t < high_at p u.item →
     residual_of p (after_spend p u.item t) ≡ commit_use u (residual_of p t)
-opening_commits p u t a h o k = by_case (eqb (high_at p u.item - spends u.item (Spend u.item ∷ t)) 0) refl
-  where
-    by_case : (b : Bool) → eqb (high_at p u.item - spends u.item (Spend u.item ∷ t)) 0 ≡ b
-        → residual_of p (cond (eqb (high_at p u.item - spends u.item (Spend u.item ∷ t)) 0)
-        (Cover u.item ∷ Spend u.item ∷ t) (Spend u.item ∷ t)) ≡ commit_use u (residual_of p t)
-    by_case true e =
-        let last : high_at p u.item - spends u.item t ≡ 1 = omega (arith, eqb-true _ _ e, spent_self u.item t, k) in
-        let not_more : nat_lt 1 (high_at p u.item - spends u.item t) ≡ false =
-        le-ltb 1 (high_at p u.item - spends u.item t) (omega (arith, last)) in
-        rw e
-        (residual_cover p (Spend u.item ∷ t) u.item ∙ ap (λ r. none r u.item) (residual_spend p t u.item)
-        ∙ as_residual _ _ _ _
-        (filter_same (λ w. not (eqb w.item u.item)) is_wanted (map (dec u.item) (wanted_after p t))
-        (each-map (λ w. not (eqb w.item u.item) ≡ is_wanted w) (dec u.item) (wanted_after p t)
-        (each_both (λ w. w ≡ wanted_at p t w.item) (λ w. is_wanted w ≡ true)
-        (λ w. not (eqb (dec u.item w).item u.item) ≡ is_wanted (dec u.item w)) (wanted_after p t)
-        (λ w z i. covered_item u.item w i (λ q. high_of p t u.item w z q ∙ last)) (as_spent p t) a)))
-        (filter_agree (λ o. not (holds o u.item)) (may_stay (item_left (residual_of p t) u.item) u)
-        (λ x. rw (found_wanted p t u.item h o, not_more) refl) (left p t)))
-    by_case false e =
-        let more : 1 < high_at p u.item - spends u.item t = omega (arith, eqb-false _ _ e, spent_self u.item t, k) in
-        let is_more : nat_lt 1 (high_at p u.item - spends u.item t) ≡ true =
-        lt-ltb 1 (high_at p u.item - spends u.item t) more in
-        rw e
-        (residual_spend p t u.item
-        ∙ as_residual _ _ _ _
-        (sym (keep_all is_wanted (map (dec u.item) (wanted_after p t))
-        (each-map (λ w. is_wanted w ≡ true) (dec u.item) (wanted_after p t)
-        (each_both (λ w. w ≡ wanted_at p t w.item) (λ w. is_wanted w ≡ true) (λ w. is_wanted (dec u.item w) ≡ true)
-        (wanted_after p t)
-        (λ w z i. kept_item u.item w i (λ q. omega (arith, high_of p t u.item w z q, more))) (as_spent p t) a))))
-        (sym (keep_all (may_stay (item_left (residual_of p t) u.item) u) (left p t)
-        (each_of_all (λ x. may_stay (item_left (residual_of p t) u.item) u x ≡ true) (left p t)
-        (λ x. rw (found_wanted p t u.item h o, is_more) refl)))))
+opening_commits p u t a h o k =
+    let found = found_wanted p t u.item h o in
+    let stay = may_stay (item_left (residual_of p t) u.item) u in
+    let left_over = high_at p u.item - spends u.item t in
+    by_bool (eqb (high_at p u.item - spends u.item (Spend u.item ∷ t)) 0)
+    (λ e.
+    let last : left_over ≡ 1 = omega (arith, eqb-true _ _ e, spent_self u.item t, k) in
+    let not_more : nat_lt 1 left_over ≡ false = le-ltb 1 left_over (omega (arith, last)) in
+    rw e
+    (residual_cover p (Spend u.item ∷ t) u.item ∙ ap (λ r. none r u.item) (residual_spend p t u.item)
+    ∙ as_residual _ _ _ _
+    (filter_same _ _ _ (each-map _ (dec u.item) (wanted_after p t) (each_both _ _ _ (wanted_after p t)
+    (λ w z i. covered_item u.item w i (λ q. high_of p t u.item w z q ∙ last)) (as_spent p t) a)))
+    (filter_agree _ stay (λ x. rw (found, not_more) refl) (left p t))))
+    (λ e.
+    let more : 1 < left_over = omega (arith, eqb-false _ _ e, spent_self u.item t, k) in
+    let is_more : nat_lt 1 left_over ≡ true = lt-ltb 1 left_over more in
+    rw e
+    (residual_spend p t u.item
+    ∙ as_residual _ _ _ _
+    (sym (keep_all is_wanted _ (each-map _ (dec u.item) (wanted_after p t) (each_both _ _ _ (wanted_after p t)
+    (λ w z i. kept_item u.item w i (λ q. omega (arith, high_of p t u.item w z q, more))) (as_spent p t) a))))
+    (sym (keep_all stay (left p t) (each_of_all _ (left p t) (λ x. rw (found, is_more) refl))))))
 
 pub commit_one : (p : Puzzle) (u : Use) (t : List Move) → AreWanted (wanted_after p t) → Ready p t u
     → residual_of p (after_use p u t) ≡ commit_use u (residual_of p t)
 commit_one p u t a (primary h o k) = rw (le-leb u.item (primary_count p) h.1) (opening_commits p u t a h o k)
 commit_one p u t a (blank h c o) =
-    let second : leb u.item (primary_count p) ≡ false = lt-leb u.item (primary_count p) h.0 in
-    let no_colour : eqb u.colour 0 ≡ true = eq-eqb u.colour 0 c in
-    rw (second, no_colour)
+    rw (lt-leb u.item (primary_count p) h.0, eq-eqb u.colour 0 c)
     (residual_cover_secondary p t u.item h.0
     ∙ as_residual _ _ _ _ (second_items p t u.item h.0 a)
-    (filter_agree (λ x. not (holds x u.item)) (may_stay (item_left (residual_of p t) u.item) u)
-    (λ x. rw (none_found u.item (wanted_after p t) (not_found p t u.item h.0), c) (blank_agrees (colour_at x u.item)))
-    (left p t)))
+    (filter_agree _ _ (λ x. rw (none_found u.item (wanted_after p t) (not_found p t u.item h.0), c)
+    (blank_agrees (colour_at x u.item))) (left p t)))
 commit_one p u t a (coloured h c o) =
-    let second : leb u.item (primary_count p) ≡ false = lt-leb u.item (primary_count p) h.0 in
     let colour : eqb u.colour 0 ≡ false = ne_eqb u.colour 0 (λ e. omega (arith, c, e)) in
-    rw (second, colour, o)
+    rw (lt-leb u.item (primary_count p) h.0, colour, o)
     (residual_purify p t u.item u.colour h.0
     ∙ as_residual _ _ _ _ (second_items p t u.item h.0 a)
-    (filter_agree (λ x. agrees u.colour (colour_at x u.item)) (may_stay (item_left (residual_of p t) u.item) u)
-    (λ x. rw (none_found u.item (wanted_after p t) (not_found p t u.item h.0)) refl) (left p t)))
+    (filter_agree _ _ (λ x. rw (none_found u.item (wanted_after p t) (not_found p t u.item h.0)) refl) (left p t)))
 commit_one p u t a (same_colour h c o q) =
-    let second : leb u.item (primary_count p) ≡ false = lt-leb u.item (primary_count p) h.0 in
     let colour : eqb u.colour 0 ≡ false = ne_eqb u.colour 0 (λ e. omega (arith, c, e)) in
-    rw (second, colour, o)
+    rw (lt-leb u.item (primary_count p) h.0, colour, o)
     (as_residual _ _ _ _ (second_items p t u.item h.0 a)
-    (sym (keep_all (may_stay (item_left (residual_of p t) u.item) u) (left p t)
-    (each_weaker (λ x. agrees u.colour (colour_at x u.item) ≡ true)
-    (λ x. may_stay (item_left (residual_of p t) u.item) u x ≡ true) (left p t)
+    (sym (keep_all _ (left p t) (each_weaker _ _ (left p t)
     (λ x e. rw (none_found u.item (wanted_after p t) (not_found p t u.item h.0)) e)
     (left_agrees p t u.item u.colour q)))))
 
@@ -238,9 +207,7 @@ commit_all p (u ∷ us) t d r l a =
     let one = commit_one p u t a r.0 in
     let rest = commit_all p us (after_use p u t) d.1
     (each_both (λ v. eqb u.item v.item ≡ false) (λ v. Ready p t v) (λ v. Ready p (after_use p u t) v) us
-    (λ v e q. ready_after p u t v
-    (ne_eqb v.item u.item (λ i. let same : eqb u.item v.item ≡ true = eq-eqb u.item v.item (sym i) in cc (e, same)))
-    q) d.0 r.1)
+    (λ v e q. ready_after p u t v (apart_sym u v e) q) d.0 r.1)
     (legal_commit p u t l r.0)
     (subst (λ r. AreWanted r.items) (sym one) (still_wanted u.item (wanted_after p t))) in
     record { residual = rest.residual ∙ ap (commit_uses us) one; legal = rest.legal; wanted = rest.wanted }

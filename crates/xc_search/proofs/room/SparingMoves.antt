@@ -5,7 +5,7 @@ use Rattle.std.proofs.Common.{[], ◌∷◌, length, map, filter, Some, refl, sy
 use Rattle.std.specs.Prelude.{slice_get, nat_lt, nat_le}
 use Rattle.xc_input.specs.declared.problem.Use.{Use}
 use Rattle.xc_dance.specs.declared.dance.Move.{Move}
-use Rattle.xc_input.specs.Problem.{Puzzle, Numbered, holds, primary_count, holding, use_count}
+use Rattle.xc_input.specs.Problem.{Puzzle, Numbered, holds, primary_count, holding, use_count, uses_of}
 use Rattle.xc_search.specs.Listing.{Residual, pick, none, spend_one, stays, branch_item, branch_count}
 use Rattle.xc_dance.specs.Moves.{open_items}
 use Rattle.xc_search.specs.Residuals.{wanted_at, wanted_after}
@@ -20,6 +20,8 @@ use Rattle.xc_search.proofs.listing.BranchesLess.{less_items, least_is_one}
 use Rattle.xc_search.proofs.room.FewTweaks.{uses_whole}
 use Rattle.std.proofs.lemmas.List.{length-map}
 use Rattle.std.proofs.lemmas.List.FromFn.{length-range_with_len}
+use Rattle.xc_search.proofs.moves.BranchMoves.{Taken}
+use Rattle.xc_search.proofs.Cases.{by_bool, by_number}
 
 -- ---- Spends of the moves
 
@@ -52,19 +54,10 @@ fewer_uses q (o ∷ os) = grind (arith, common_steps, fewer_uses q os)
 without_uses : (q : Numbered → Bool) (i k : ℕ) (x : Numbered) (os : List Numbered) → slice_get (holding i os) k ≡ Some x
     → q x ≡ false → uses_in (filter q os) + length x.uses ≤ uses_in os
 without_uses q i k x [] e f = cc
-without_uses q i k x (o ∷ os) e f = by_case (holds o i) refl k e (λ k e. without_uses q i k x os e f)
-  where
-    more : uses_in (filter q os) + length x.uses ≤ uses_in os
-        → uses_in (filter q (o ∷ os)) + length x.uses ≤ length o.uses + uses_in os
-    more h = grind (arith, common_steps)
-
-    by_case : (b : Bool) → holds o i ≡ b → (k : ℕ)
-        → slice_get (cond (holds o i) (o ∷ holding i os) (holding i os)) k ≡ Some x
-        → ((k : ℕ) → slice_get (holding i os) k ≡ Some x → uses_in (filter q os) + length x.uses ≤ uses_in os) →
-        uses_in (filter q (o ∷ os)) + length x.uses ≤ length o.uses + uses_in os
-    by_case false h k e later = grind (arith, common_steps, more)
-    by_case true h zero e later = grind (arith, common_steps, fewer_uses)
-    by_case true h (suc k) e later = grind (arith, common_steps, more)
+without_uses q i k x (o ∷ os) e f = by_bool (holds o i)
+    (λ h. by_number k (λ z. grind (arith, common_steps, fewer_uses))
+    (λ j z. grind (arith, common_steps, without_uses q i j x os)))
+    (λ h. grind (arith, common_steps, without_uses q i k x os))
 
 open_is : (p : Puzzle) (t : List Move) → length (open_items p t) ≡ length (residual_of p t).items
 open_is p t = sym (length-map (open_items p t) (wanted_at p t))
@@ -75,24 +68,25 @@ pub sparing_first : (p : Puzzle) → IsSparing p []
 sparing_first p = grind (arith, common_steps, uses_whole, length-filter-le, length-range_with_len)
 
 pub sparing_taken : (p : Puzzle) (t : List Move) (i k m : ℕ) (x : Numbered) → IsSparing p t
-    → slice_get (holding i (left p t)) k ≡ Some x → holds x i ≡ true → place_in i x.uses < length x.uses →
-    residual_of p (after_uses p (others i x.uses) (tweaked m i (after_spend p i t))) ≡ pick (residual_of p t) i x
-    → IsSparing p (after_uses p (others i x.uses) (tweaked m i (after_spend p i t)))
-sparing_taken p t i k m x s e held within r =
+    → slice_get (holding i (left p t)) k ≡ Some x → Taken p t m i x
+    → IsSparing p (after_uses p (others i (uses_of p x.number)) (tweaked m i (after_spend p i t)))
+sparing_taken p t i k m x s e took =
     let ground = tweaked m i (after_spend p i t) in
-    let u = after_uses p (others i x.uses) ground in
+    let us = uses_of p x.number in
+    let u = after_uses p (others i us) ground in
     let itself : leb x.number x.number ≡ true = le-leb x.number x.number (omega arith) in
     let goes : (not (holds x i && nat_le x.number x.number) && stays (residual_of p t) x x) ≡ false =
-    rw (held, itself) refl in
+    rw (took.held, itself) refl in
     let items : length (residual_of p u).items ≡ length (pick (residual_of p t) i x).items =
-    ap (λ (r : Residual). length r.items) r in
+    ap (λ (r : Residual). length r.items) took.picked.residual in
     let options : uses_in (left p u) ≡ uses_in (pick (residual_of p t) i x).options =
-    ap (λ (r : Residual). uses_in r.options) r in
+    ap (λ (r : Residual). uses_in r.options) took.picked.residual in
     omega (
       arith,
       s,
-      spent_uses p (others i x.uses) ground,
-      others_less i x.uses within,
+      spent_uses p (others i us) ground,
+      others_less i us took.at.holds,
+      ap length took.uses,
       spent_tweaked m i (after_spend p i t),
       spent_after_spend p i t,
       open_is p u,

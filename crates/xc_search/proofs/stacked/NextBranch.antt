@@ -7,7 +7,7 @@ use Rattle.xc_search.specs.declared.choice.Choice.{Choice}
 use Rattle.xc_dance.specs.declared.dance.Move.{Move}
 use Rattle.xc_dance.specs.declared.dance.Move.TheVariants.{Tweak, Spend}
 use Rattle.xc_search.specs.declared.level.Level.{Level}
-use Rattle.xc_input.specs.Problem.{Puzzle, Numbered, high_at, IsItem}
+use Rattle.xc_input.specs.Problem.{Puzzle, Numbered, high_at, IsItem, uses_of}
 use Rattle.xc_search.specs.Listing.{branch_count, take_branch, none_branch}
 use Rattle.xc_dance.specs.Moves.{spends, AreLegal}
 use Rattle.xc_search.specs.Residuals.{wanted_at}
@@ -25,16 +25,15 @@ use Rattle.xc_search.proofs.moves.LegalTweaks.{legal_branch}
 use Rattle.xc_search.proofs.stacked.NextLevel.{at_own, own_place, Extends, ext_trans, ext_after_spend, ext_uses}
 use Rattle.xc_search.proofs.stacked.NextLevel.{ext_after_none, ext_oldest, ext_whole, ext_longer, length-oldest}
 use Rattle.xc_search.proofs.stacked.NextLevel.{branches_here}
+use Rattle.xc_input.proofs.FaultLemmas.BooleanTests.{and_left}
+use Rattle.xc_search.proofs.Cases.{by_bool}
+use Rattle.xc_search.specs.inner.Levels.{IsOptionAt}
 
 ext_tweaked : (m i : ℕ) (s : List Move) → Extends (tweaked m i s) s
 ext_tweaked m i s = (replicate m (Tweak i), refl)
 
 pub covered_walks : (p : Puzzle) (u : List Move) (i : ℕ) → walks p u i ≡ true → high_at p i - spends i (Spend i ∷ u) ≡ 0
-covered_walks p u i e = by_case (eqb (high_at p i - spends i (Spend i ∷ u)) 0) refl
-  where
-    by_case : (b : Bool) → eqb (high_at p i - spends i (Spend i ∷ u)) 0 ≡ b → high_at p i - spends i (Spend i ∷ u) ≡ 0
-    by_case true c = eqb-true _ _ c
-    by_case false c = let not_so : walks p u i ≡ false = rw c refl in cc (not_so, e)
+covered_walks p u i e = eqb-true _ _ (and_left _ _ e)
 
 -- the level after the option at place q was taken, with m tweaks, where n moves stand before the branch
 abbrev pub with_option : ℕ → Level → ℕ → ℕ → Level
@@ -50,98 +49,102 @@ with_option n l m q =
       walks = l.walks;
     }
 
-pub begins_take : (p : Puzzle) (t : List Move) (l : Level) (x : Numbered) (m q : ℕ) → IsLevel p t l → l.begun < l.count
-    → option_at p l.item q ≡ Some x.number → IsPlace p l.item q →
-    slice_get (options_at p (oldest l.mark t) l.item) l.begun ≡ Some x → m ≡ cond l.walks l.tweaks (l.tweaks + 1) →
-    IsBegun p t l (after_uses p (others l.item x.uses) (tweaked m l.item (after_spend p l.item (oldest l.mark t))))
-    (with_option (length (tweaked m l.item (after_spend p l.item (oldest l.mark t)))) l m q)
-begins_take p t l x m q is_level more at place e hm = by_case l.walks refl
-  where
-    begins : (m ≤ suc l.begun)
-        → (high_at p l.item - spends l.item (Spend l.item ∷ oldest l.mark t) ≢ 0 → m ≡ suc l.begun) →
-        m ≡ cond l.walks 0 (min (l.begun + 1) (length (options_at p (oldest l.mark t) l.item))) →
-        IsBegun p t l (after_uses p (others l.item x.uses) (tweaked m l.item (after_spend p l.item (oldest l.mark t))))
-        (with_option (length (tweaked m l.item (after_spend p l.item (oldest l.mark t)))) l m q)
-    begins le h tw =
-        let u = oldest l.mark t in
-        let r = residual_of p u in
-        let w = wanted_at p u l.item in
-        let ground = tweaked m l.item (after_spend p l.item u) in
-        let s = after_uses p (others l.item x.uses) ground in
-        let took = taken p u l.item l.begun m x is_level.node e h le in
-        let ext_ground : Extends ground u =
-        ext_trans ground (after_spend p l.item u) u (ext_tweaked m l.item (after_spend p l.item u))
-        (ext_after_spend p l.item u) in
-        let ext_s : Extends s ground = ext_uses p (others l.item x.uses) ground in
-        let mark_is : length u ≡ l.mark = length-oldest l.mark t (omega (arith, is_level.within)) in
-        let under : oldest l.mark s ≡ u =
-        ap (λ n. oldest n s) (sym mark_is) ∙ ext_whole s u (ext_trans s ground u ext_s ext_ground) in
-        let b = take_branch r l.item (branch_count r w) (1 + l.begun, x) in
-        let next : 1 + l.begun ≡ l.begun + 1 = omega arith in
-        let n_is : l.count ≡ branch_count r w = is_level.count in
-        let k = with_option (length ground) l m q in
-        let it_is : chosen p k ≡ b.choice =
-        ap (λ o. let choice : Choice = record { item = l.item; option = o; k = l.begun + 1; n = l.count } in choice) at
-        ∙ ap₂ (λ a c. let choice : Choice = record { item = l.item; option = Some x.number; k = a; n = c } in choice)
-        (sym next) n_is in
-        record {
-          branch = b;
-          at = ap (λ bs. slice_get bs l.begun) (branches_here p u w is_level.branch)
-              ∙ branch_takes r w l.begun x (omega (arith, more, n_is)) e;
-          next = took.residual;
-          choice = it_is;
-          begun = omega arith;
-          mark = refl;
-          below = under;
-          level = subst (λ u'. IsLevelAt p u' s k) (sym under) (record {
-            within = (omega (arith, ext_longer ground u ext_ground, mark_is), ext_longer s ground ext_s);
-            node = is_level.node;
-            branch = is_level.branch;
-            count = is_level.count;
-            begun = omega (arith, more);
-            walking = is_level.walking;
-            tweaks = tw;
-            option =
-                at ∙ sym (ap (option_map (λ o. o.number))
-                (numbered_get-at (options_at p u l.item) (l.begun + 1) l.begun refl ∙ e));
-            place = place;
-            base = ext_whole s ground ext_s;
-          });
-          searchable = record {
-            valid = is_level.node.searchable.valid;
-            legal = took.legal;
-            wanted = took.wanted;
-            sparing =
-                sparing_taken p u l.item l.begun m x is_level.node.searchable.sparing e took.held took.within
-                took.residual;
-          };
-        }
+-- m tweaks of the level's item, on the moves on which it was begun
+abbrev pub tweaked_at : Puzzle → List Move → Level → ℕ → List Move
+tweaked_at p t l m = tweaked m l.item (after_spend p l.item (oldest l.mark t))
 
-    by_case : (b : Bool) → l.walks ≡ b
-        → IsBegun p t l (after_uses p (others l.item x.uses)
-        (tweaked m l.item (after_spend p l.item (oldest l.mark t))))
-        (with_option (length (tweaked m l.item (after_spend p l.item (oldest l.mark t)))) l m q)
-    by_case true c =
-        let stood : l.tweaks ≡ 0 = is_level.tweaks ∙ rw c refl in
-        let m_is : m ≡ 0 = hm ∙ rw c stood in
-        let used_up = covered_walks p (oldest l.mark t) l.item (sym is_level.walking ∙ c) in
-        begins (omega (arith, m_is)) (λ h. absurd (h used_up)) (m_is ∙ rw c refl)
-    by_case false c =
-        let within = slice_get_within (options_at p (oldest l.mark t) l.item) l.begun x e in
-        let stood : l.tweaks ≡ min l.begun (length (options_at p (oldest l.mark t) l.item)) =
-        is_level.tweaks ∙ rw c refl in
-        let m_is : m ≡ l.tweaks + 1 = hm ∙ rw c refl in
-        let all : m ≡ l.begun + 1 = omega (arith, m_is, stood, within) in
-        begins (omega (arith, all)) (λ h. omega (arith, all)) (rw c (omega (arith, all, within)))
+-- the number of tweaks before the level's next branch
+next_tweaks : (p : Puzzle) (t : List Move) (l : Level) (x : Numbered) (m : ℕ) → IsLevel p t l
+    → slice_get (options_at p (oldest l.mark t) l.item) l.begun ≡ Some x → m ≡ cond l.walks l.tweaks (l.tweaks + 1)
+    → (m ≤ suc l.begun)
+    × (high_at p l.item - spends l.item (Spend l.item ∷ oldest l.mark t) ≢ 0 → m ≡ suc l.begun)
+    × (m ≡ cond l.walks 0 (min (l.begun + 1) (length (options_at p (oldest l.mark t) l.item))))
+next_tweaks p t l x m is_level e hm = by_bool l.walks
+    (λ c.
+    let stood : l.tweaks ≡ 0 = is_level.tweaks ∙ rw c refl in
+    let m_is : m ≡ 0 = hm ∙ rw c stood in
+    let used_up = covered_walks p (oldest l.mark t) l.item (sym is_level.walking ∙ c) in
+    (omega (arith, m_is), λ h. absurd (h used_up), m_is ∙ rw c refl))
+    (λ c.
+    let within = slice_get_within (options_at p (oldest l.mark t) l.item) l.begun x e in
+    let stood : l.tweaks ≡ min l.begun (length (options_at p (oldest l.mark t) l.item)) = is_level.tweaks ∙ rw c refl in
+    let m_is : m ≡ l.tweaks + 1 = hm ∙ rw c refl in
+    let all : m ≡ l.begun + 1 = omega (arith, m_is, stood, within) in
+    (omega (arith, all), λ h. omega (arith, all), rw c (omega (arith, all, within))))
+
+-- From level l a branch is begun that takes option o, which stands at place q, behind m tweaks.
+pub record BeginsTake (p : Puzzle) (t : List Move) (l : Level) (o m q : ℕ) : Type 0 where
+  pub option : IsOptionAt p l.item o
+  pub begun : IsBegun p t l (after_uses p (others l.item (uses_of p o)) (tweaked_at p t l m))
+      (with_option (length (tweaked_at p t l m)) l m q)
+
+pub begins_take : (p : Puzzle) (t : List Move) (l : Level) (x : Numbered) (m q : ℕ) → IsLevel p t l → l.begun < l.count
+    → option_at p l.item q ≡ Some x.number → IsPlace p l.item q
+    → slice_get (options_at p (oldest l.mark t) l.item) l.begun ≡ Some x → m ≡ cond l.walks l.tweaks (l.tweaks + 1)
+    → BeginsTake p t l x.number m q
+begins_take p t l x m q is_level more at place e hm =
+    let u = oldest l.mark t in
+    let r = residual_of p u in
+    let w = wanted_at p u l.item in
+    let ground = tweaked_at p t l m in
+    let us = others l.item (uses_of p x.number) in
+    let s = after_uses p us ground in
+    let next = next_tweaks p t l x m is_level e hm in
+    let took = taken p u l.item l.begun m x is_level.node e next.1 next.0 in
+    let ext_ground : Extends ground u =
+    ext_trans ground (after_spend p l.item u) u (ext_tweaked m l.item (after_spend p l.item u))
+    (ext_after_spend p l.item u) in
+    let ext_s : Extends s ground = ext_uses p us ground in
+    let mark_is : length u ≡ l.mark = length-oldest l.mark t (omega (arith, is_level.within)) in
+    let under : oldest l.mark s ≡ u =
+    ap (λ n. oldest n s) (sym mark_is) ∙ ext_whole s u (ext_trans s ground u ext_s ext_ground) in
+    let b = take_branch r l.item (branch_count r w) (1 + l.begun, x) in
+    let one_more : 1 + l.begun ≡ l.begun + 1 = omega arith in
+    let n_is : l.count ≡ branch_count r w = is_level.count in
+    let k = with_option (length ground) l m q in
+    let it_is : chosen p k ≡ b.choice =
+    ap (λ o. let choice : Choice = record { item = l.item; option = o; k = l.begun + 1; n = l.count } in choice) at
+    ∙ ap₂ (λ a c. let choice : Choice = record { item = l.item; option = Some x.number; k = a; n = c } in choice)
+    (sym one_more) n_is in
+    record {
+      option = took.at;
+      begun = record {
+        branch = b;
+        at = ap (λ bs. slice_get bs l.begun) (branches_here p u w is_level.branch)
+            ∙ branch_takes r w l.begun x (omega (arith, more, n_is)) e;
+        next = took.picked.residual;
+        choice = it_is;
+        begun = omega arith;
+        mark = refl;
+        below = under;
+        level = subst (λ u'. IsLevelAt p u' s k) (sym under) (record {
+          within = (omega (arith, ext_longer ground u ext_ground, mark_is), ext_longer s ground ext_s);
+          node = is_level.node;
+          branch = is_level.branch;
+          count = is_level.count;
+          begun = omega (arith, more);
+          walking = is_level.walking;
+          tweaks = next.2;
+          option = at ∙ sym (ap (option_map (λ o. o.number))
+              (numbered_get-at (options_at p u l.item) (l.begun + 1) l.begun refl ∙ e));
+          place = place;
+          base = ext_whole s ground ext_s;
+        });
+        searchable = record {
+          valid = is_level.node.searchable.valid;
+          legal = took.picked.legal;
+          wanted = took.picked.wanted;
+          sparing = sparing_taken p u l.item l.begun m x is_level.node.searchable.sparing e took;
+        };
+      };
+    }
 
 pub few_tweaks : (p : Puzzle) (u t : List Move) (l : Level) → IsLevelAt p u t l
     → l.tweaks ≤ length (options_at p u l.item)
-few_tweaks p u t l is_level = by_case l.walks refl
-  where
-    by_case : (b : Bool) → l.walks ≡ b → l.tweaks ≤ length (options_at p u l.item)
-    by_case true c = let stood : l.tweaks ≡ 0 = is_level.tweaks ∙ rw c refl in omega (arith, stood)
-    by_case false c = let stood : l.tweaks ≡ min l.begun (length (options_at p u l.item)) = is_level.tweaks
-        ∙ rw c refl in omega (arith, stood)
+few_tweaks p u t l is_level = by_bool l.walks
+    (λ c. let stood : l.tweaks ≡ 0 = is_level.tweaks ∙ rw c refl in omega (arith, stood))
+    (λ c. let stood : l.tweaks ≡ min l.begun (length (options_at p u l.item)) = is_level.tweaks ∙ rw c refl in
+    omega (arith, stood))
 
 same_tweaks : (b : Bool) (k n : ℕ) → k ≡ n → cond b 0 (min k n) ≡ cond b 0 (min (k + 1) n)
 same_tweaks true k n e = refl

@@ -1,6 +1,6 @@
 -- The option that a level's next branch takes.
 use Rattle.std.proofs.lemmas.Grind.{common_steps}
-use Rattle.std.proofs.Common.{inl, inr, cond, Option, ℕ, zero, suc, ◌≡◌, ◌<◌, ◌≤◌, Bool, true, false, List, []}
+use Rattle.std.proofs.Common.{inl, inr, cond, Option, ℕ, zero, suc, ◌≡◌, ◌<◌, ◌≤◌, Bool, true, false, List, [], subst}
 use Rattle.std.proofs.Common.{◌∷◌, length, map, drop, min, Some, None, refl, sym, ap, ap₂, ◌∙◌, arith, lt-ltb, le-ltb}
 use Rattle.std.proofs.Common.{get_or}
 use Rattle.std.proofs.lemmas.Option.{slice_get_within, slice_get-get_or}
@@ -19,7 +19,8 @@ use Rattle.xc_search.proofs.moves.OldestMoves.{oldest_all}
 use Rattle.xc_dance.proofs.MoveLemmas.OpenLists.{left_rises}
 use Rattle.xc_dance.proofs.MoveLemmas.OptionsRise.{NumbersRise-filter, NumbersRise-weaker, NumbersRise}
 use Rattle.xc_search.proofs.moves.LegalTweaks.{listed_branch, rise_above}
-use Rattle.xc_input.proofs.lists.Places.{slice_get-drop}
+use Rattle.xc_input.proofs.lists.Places.{slice_get-drop, not_some}
+use Rattle.xc_search.proofs.Cases.{by_bool, by_number, by_option}
 
 abbrev number_of : Numbered → ℕ
 number_of o = o.number
@@ -56,18 +57,20 @@ few_begun : (p : Puzzle) (u t : List Move) (l : Level) → IsLevelAt p u t l →
     → l.begun ≤ length (options_at p u l.item)
 few_begun p u t l is_level more = omega (arith, is_level.count, more)
 
-some_before : (p : Puzzle) (u t : List Move) (l : Level) (k : ℕ) → IsLevelAt p u t l → l.begun < l.count
-    → l.begun ≡ suc k → (y : Numbered) × (slice_get (options_at p u l.item) k ≡ Some y) × (taken p l ≡ Some y.number)
-some_before p u t l k is_level more e =
-    let d : Numbered = record { number = 0; uses = [] } in
-    let within : k < length (options_at p u l.item) = omega (arith, few_begun p u t l is_level more, e) in
-    let at : slice_get (options_at p u l.item) k ≡ Some (get_or (options_at p u l.item) k d) =
-    slice_get-get_or (options_at p u l.item) k d within in (
-      get_or (options_at p u l.item) k d,
-      at,
-      is_level.option
-          ∙ ap (option_map (λ o. o.number)) (ap (numbered_get (options_at p u l.item)) e ∙ at),
-    )
+pub some_option : (o : Option Numbered) (n : ℕ) → option_map (λ (x : Numbered). x.number) o ≡ Some n → (x : Numbered)
+    × (o ≡ Some x) × (x.number ≡ n)
+some_option None n e = cc
+some_option (Some x) n e = let same : x.number ≡ n = cc in (x, refl, same)
+
+pub no_option : (o : Option Numbered) → option_map (λ (x : Numbered). x.number) o ≡ None → o ≡ None
+no_option None e = refl
+no_option (Some x) e = cc
+
+-- the option of number n, counted from 1, stands at the place before
+pub last_taken : (os : List Numbered) (n o : ℕ) → option_map (λ (x : Numbered). x.number) (numbered_get os n) ≡ Some o
+    → (k : ℕ) × (x : Numbered) × (n ≡ suc k) × (slice_get os k ≡ Some x) × (x.number ≡ o)
+last_taken os zero o e = cc
+last_taken os (suc k) o e = let x = some_option (slice_get os k) o e in (k, x.0, refl, x.1, x.2)
 
 -- the first of the list, where it isn't walked or no branch was begun
 pub first_is : (p : Puzzle) (t : List Move) (l : Level) → IsLevel p t l → l.base ≡ length t → l.begun < l.count
@@ -76,20 +79,17 @@ pub first_is : (p : Puzzle) (t : List Move) (l : Level) → IsLevel p t l → l.
 first_is p t l is_level whole more h =
     let u = oldest l.mark t in
     let os = options_at p u l.item in
-    let stood : l.tweaks ≡ l.begun = by_case l.walks refl in
+    let few = few_begun p u t l is_level more in
+    let stood : l.tweaks ≡ l.begun = by_bool l.walks
+    (λ c. let stood : l.tweaks ≡ 0 = is_level.tweaks ∙ rw c refl in by_number l.begun (λ e. stood ∙ sym e) (λ k e.
+    let last : option_map number_of (slice_get os k) ≡ None =
+    ap (λ n. option_map number_of (numbered_get os n)) (sym e) ∙ sym is_level.option ∙ h c in
+    absurd (omega (arith, e, few, not_some os k (no_option (slice_get os k) last)))))
+    (λ c. let stood : l.tweaks ≡ min l.begun (length os) = is_level.tweaks ∙ rw c refl in
+    omega (arith, stood, few)) in
     ap (λ xs. next_above 0 (map number_of xs)) (list_is p t l is_level whole)
     ∙ first_above 0 (drop l.tweaks os) (rise_drop 0 l.tweaks os (rises_at p u l.item))
     ∙ ap (option_map number_of) (slice_get-drop os l.tweaks ∙ ap (slice_get os) stood)
-  where
-    by_begun : (k : ℕ) → l.begun ≡ k → l.walks ≡ true → l.begun ≡ 0
-    by_begun zero e c = e
-    by_begun (suc k) e c = let before = some_before p (oldest l.mark t) t l k is_level more e in
-        let none : taken p l ≡ None = h c in cc (none, before.2)
-
-    by_case : (b : Bool) → l.walks ≡ b → l.tweaks ≡ l.begun
-    by_case true c = let stood : l.tweaks ≡ 0 = is_level.tweaks ∙ rw c refl in stood ∙ sym (by_begun l.begun refl c)
-    by_case false c = let stood : l.tweaks ≡ min l.begun (length (options_at p (oldest l.mark t) l.item)) =
-        is_level.tweaks ∙ rw c refl in omega (arith, stood, few_begun p (oldest l.mark t) t l is_level more)
 
 number_at : (os : List Numbered) (k d : ℕ) (y : Numbered) → slice_get os k ≡ Some y
     → get_or (map number_of os) k d ≡ y.number
@@ -97,40 +97,27 @@ number_at [] k d y e = cc
 number_at (o ∷ os) zero d y e = let same : o ≡ y = cc in ap number_of same
 number_at (o ∷ os) (suc k) d y e = number_at os k d y e
 
-walked : (p : Puzzle) (t : List Move) (l : Level) (o k : ℕ) → IsLevel p t l → l.base ≡ length t → l.begun < l.count
-    → l.walks ≡ true → taken p l ≡ Some o → l.begun ≡ suc k →
-    (next_above o (listed_numbers p t l.item) ≡ next_number p t l) × Contains (listed_numbers p t l.item) o
-walked p t l o k is_level whole more c e b =
-    let u = oldest l.mark t in
-    let os = options_at p u l.item in
-    let before = some_before p u t l k is_level more b in
-    let number_is : before.0.number ≡ o = cc (before.2, e) in
-    let stood : l.tweaks ≡ 0 = is_level.tweaks ∙ rw c refl in
-    let list : listed p t l.item ≡ os = list_is p t l is_level whole ∙ ap (λ m. drop m os) stood in
-    let within = slice_get_within os k before.0 before.1 in (
-      ap₂ (λ n xs. next_above n (map number_of xs)) (sym number_is) list
-          ∙ above_place 0 0 os k before.0 (rises_at p u l.item) before.1
-          ∙ ap (λ n. option_map number_of (slice_get os n)) (sym b),
-      (
-        k,
-        omega (arith, ap (λ xs. length (map number_of xs)) list, length-map os number_of, within),
-        ap
-            (λ xs. get_or (map number_of xs) k o) list ∙ number_at os k o before.0 before.1 ∙ number_is,
-      ),
-    )
-
 -- the next of the list, where it is walked
 pub below_is : (p : Puzzle) (t : List Move) (l : Level) (o : ℕ) → IsLevel p t l → l.base ≡ length t → l.begun < l.count
     → l.walks ≡ true → taken p l ≡ Some o →
     (next_above o (listed_numbers p t l.item) ≡ next_number p t l) × Contains (listed_numbers p t l.item) o
-below_is p t l o is_level whole more c e = by_begun l.begun refl
-  where
-    by_begun : (k : ℕ) → l.begun ≡ k → (next_above o (listed_numbers p t l.item) ≡ next_number p t l)
-        × Contains (listed_numbers p t l.item) o
-    by_begun zero b = let none : taken p l ≡ None = is_level.option
-        ∙ ap (λ n. option_map (λ o. o.number) (numbered_get (options_at p (oldest l.mark t) l.item) n)) b in
-        cc (none, e)
-    by_begun (suc k) b = walked p t l o k is_level whole more c e b
+below_is p t l o is_level whole more c e =
+    let u = oldest l.mark t in
+    let os = options_at p u l.item in
+    let last = last_taken os l.begun o (sym is_level.option ∙ e) in
+    let y = last.1 in
+    let stood : l.tweaks ≡ 0 = is_level.tweaks ∙ rw c refl in
+    let list : listed p t l.item ≡ os = list_is p t l is_level whole ∙ ap (λ m. drop m os) stood in
+    let within = slice_get_within os last.0 y last.3 in (
+      ap₂ (λ n xs. next_above n (map number_of xs)) (sym last.4) list
+          ∙ above_place 0 0 os last.0 y (rises_at p u l.item) last.3
+          ∙ ap (λ n. option_map number_of (slice_get os n)) (sym last.2),
+      (
+        last.0,
+        omega (arith, ap (λ xs. length (map number_of xs)) list, length-map os number_of, within),
+        ap (λ xs. get_or (map number_of xs) last.0 o) list ∙ number_at os last.0 o y last.3 ∙ last.4,
+      ),
+    )
 
 -- what stands where the code looks below for the next branch's option, and what stands below it
 pub record Seeking (p : Puzzle) (t : List Move) (l : Level) (q : ℕ) : Type 0 where
@@ -140,24 +127,21 @@ pub record Seeking (p : Puzzle) (t : List Move) (l : Level) (q : ℕ) : Type 0 w
 
 pub seeking : (p : Puzzle) (t : List Move) (l : Level) → IsLevel p t l → l.base ≡ length t → l.begun < l.count
     → Seeking p t l (cond l.walks l.place l.item)
-seeking p t l is_level whole more = by_case l.walks refl
+seeking p t l is_level whole more = by_bool l.walks
+    (λ c. subst (λ b. Seeking p t l (cond b l.place l.item)) (sym c) (by_option (taken p l)
+    (λ e. at_first l.place (is_level.place ∙ ap (λ o. link_place p l.item (unwrap_or o 0)) e) (λ _. e))
+    (λ o e.
+    let below = below_is p t l o is_level whole more c e in
+    record {
+      x = o;
+      listed = record {
+        listed = inr below.1;
+        at = is_level.place ∙ ap (λ o. link_place p l.item (unwrap_or o 0)) e;
+      };
+      next = below.0;
+    })))
+    (λ c. subst (λ b. Seeking p t l (cond b l.place l.item)) (sym c) (at_first l.item refl (λ e. cc (c, e))))
   where
     at_first : (q : ℕ) → q ≡ link_place p l.item 0 → (l.walks ≡ true → taken p l ≡ None) → Seeking p t l q
     at_first q at none =
         record { x = 0; listed = record { listed = inl refl; at = at }; next = first_is p t l is_level whole more none }
-
-    by_option : (o : Option ℕ) → taken p l ≡ o → l.walks ≡ true → Seeking p t l l.place
-    by_option None e c = at_first l.place (is_level.place ∙ ap (λ o. link_place p l.item (unwrap_or o 0)) e) (λ _. e)
-    by_option (Some o) e c =
-        let below = below_is p t l o is_level whole more c e in
-        record {
-          x = o;
-          listed = record
-              { listed = inr below.1; at = is_level.place ∙ ap (λ o. link_place p l.item (unwrap_or o 0)) e };
-          next =
-              below.0;
-        }
-
-    by_case : (b : Bool) → l.walks ≡ b → Seeking p t l (cond b l.place l.item)
-    by_case true c = by_option (taken p l) refl c
-    by_case false c = at_first l.item refl (λ e. cc (c, e))

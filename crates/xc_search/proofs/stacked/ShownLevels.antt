@@ -17,38 +17,23 @@ use Rattle.xc_search.specs.inner.Commits.{oldest}
 use Rattle.xc_search.specs.inner.Levels.{taken, options_at, IsLevelAt, AreStacked, IsShown}
 use Rattle.xc_input.proofs.lists.EachElement.{each_front}
 use Rattle.xc_search.proofs.moves.BranchMoves as branch
-
-number : Numbered → ℕ
-number o = o.number
+use Rattle.xc_search.proofs.Cases.{by_option}
+use Rattle.xc_search.proofs.stacked.NextOption.{last_taken}
 
 level_shown : (p : Puzzle) (u t : List Move) (l : Level) → IsLevelAt p u t l → IsShown p l
-level_shown p u t l is_level = grind (arith, common_steps, by_begun)
-  where
-    shows : (o : Option ℕ) → taken p l ≡ o → IfSome o (λ x. IsUseAt p l.item x l.place)
-        → IfSome (taken p l) (λ x. IsUseAt p l.item x l.place)
-    shows o e h = subst (λ o. IfSome o (λ x. IsUseAt p l.item x l.place)) (sym e) h
-
-    by_option : (k : ℕ) (o : Option Numbered) → slice_get (options_at p u l.item) k ≡ o
-        → taken p l ≡ option_map (λ (o : Numbered). o.number) o → IfSome (taken p l) (λ x. IsUseAt p l.item x l.place)
-    by_option k None e h = shows None h tt
-    by_option k (Some x) e h =
-        let took = branch.taken p u l.item k (suc k) x is_level.node e (λ _. refl) (omega arith) in
-        let own : x.uses ≡ uses_of p x.number = sym took.option.uses in
-        shows (Some x.number) h (record {
-          known = took.option.known;
-          holds = subst (λ (us : List Use). place_in l.item us < length us) own took.within;
-          items =
-              All-from_recursion (λ (u : Use). IsItem p u.item) (uses_of p x.number)
-              (subst (λ us. AllByRecursion (λ (u : Use). IsItem p u.item) us) own took.items);
-          at = is_level.place ∙ ap (λ o. link_place p l.item (unwrap_or o 0)) h;
-        })
-
-    by_begun : (n : ℕ) → l.begun ≡ n → IfSome (taken p l) (λ x. IsUseAt p l.item x l.place)
-    by_begun zero e = grind (arith, common_steps, shows)
-    by_begun (suc k) e =
-        by_option k (slice_get (options_at p u l.item) k) refl
-        (is_level.option ∙ ap (λ n. option_map (λ (o : Numbered). o.number)
-        (numbered_get (options_at p u l.item) n)) e)
+level_shown p u t l is_level = record {
+  item = omega (arith, is_level.node.item);
+  option = by_option (taken p l) (λ e. rw e tt) (λ o e.
+      let last = last_taken (options_at p u l.item) l.begun o (sym is_level.option ∙ e) in
+      let x = last.1 in
+      let at = (branch.taken p u l.item last.0 (suc last.0) x is_level.node last.3 (λ _. refl) (omega arith)).at in
+      rw e (subst (λ n. IsUseAt p l.item n l.place) last.4 (record {
+        known = at.known;
+        holds = at.holds;
+        items = at.items;
+        at = is_level.place ∙ ap (λ o. link_place p l.item (unwrap_or o 0)) (e ∙ ap Some (sym last.4));
+      })));
+}
 
 each_shown : (p : Puzzle) (t : List Move) (ls : List Level) → AreStacked p t ls → AllByRecursion (IsShown p) ls
 each_shown p t [] s = tt

@@ -24,62 +24,16 @@ use Rattle.xc_search.proofs.moves.LegalTweaks.{legal_branch}
 use Rattle.xc_search.proofs.room.TrailFits.{has_room}
 use Rattle.xc_search.proofs.stacked.NextLevel.{at_own}
 use Rattle.xc_search.proofs.stacked.NextBranch.{covered_walks, with_option, begins_take, with_none, begins_none}
-
-record Taking (p : Puzzle) (t : List Move) (l : Level) (o m q : ℕ) : Type 0 where
-  pub known : (1 ≤ o) × (o ≤ option_count p)
-  pub holds : place_in l.item (uses_of p o) < length (uses_of p o)
-  pub items : AllByRecursion (λ (u : Use). IsItem p u.item) (uses_of p o)
-  pub legal : AreLegal p (after_uses p (others l.item (uses_of p o))
-      (tweaked m l.item (after_spend p l.item (oldest l.mark t))))
-  pub begun : IsBegun p t l
-      (after_uses p (others l.item (uses_of p o)) (tweaked m l.item (after_spend p l.item (oldest l.mark t))))
-      (with_option (length (tweaked m l.item (after_spend p l.item (oldest l.mark t)))) l m q)
-
-taking_at : (p : Puzzle) (t : List Move) (l : Level) (x : Numbered) (m q : ℕ) → IsLevel p t l → l.begun < l.count
-    → option_at p l.item q ≡ Some x.number → IsPlace p l.item q →
-    slice_get (options_at p (oldest l.mark t) l.item) l.begun ≡ Some x → m ≡ cond l.walks l.tweaks (l.tweaks + 1)
-    → Taking p t l x.number m q
-taking_at p t l x m q is_level more at place e hm = by_case l.walks refl
-  where
-    made : (m ≤ suc l.begun) → (high_at p l.item - spends l.item (Spend l.item ∷ oldest l.mark t) ≢ 0 → m ≡ suc l.begun)
-        → Taking p t l x.number m q
-    made le h =
-        let u = oldest l.mark t in
-        let took = taken p u l.item l.begun m x is_level.node e h le in
-        let own : x.uses ≡ uses_of p x.number = sym took.option.uses in
-        record {
-          known = took.option.known;
-          holds = subst (λ (us : List Use). place_in l.item us < length us) own took.within;
-          items = subst (λ us. AllByRecursion (λ (u : Use). IsItem p u.item) us) own took.items;
-          legal =
-              subst (λ us. AreLegal p (after_uses p (others l.item us) (tweaked m l.item (after_spend p l.item u)))) own
-              took.legal;
-          begun =
-              subst (λ us. IsBegun p t l (after_uses p (others l.item us) (tweaked m l.item (after_spend p l.item u)))
-              (with_option (length (tweaked m l.item (after_spend p l.item u))) l m q)) own
-              (begins_take p t l x m q is_level more at place e hm);
-        }
-
-    by_case : (b : Bool) → l.walks ≡ b → Taking p t l x.number m q
-    by_case true c = grind (arith, common_steps, covered_walks, made)
-    by_case false c = grind (arith, common_steps, slice_get_within, made)
-
-some_option : (o : Option Numbered) (n : ℕ) → option_map (λ (x : Numbered). x.number) o ≡ Some n → (x : Numbered)
-    × (o ≡ Some x) × (x.number ≡ n)
-some_option None n e = cc
-some_option (Some x) n e = let same : x.number ≡ n = cc in (x, refl, same)
-
-no_option : (o : Option Numbered) → option_map (λ (x : Numbered). x.number) o ≡ None → o ≡ None
-no_option None e = refl
-no_option (Some x) e = cc
+use Rattle.xc_search.proofs.stacked.NextOption.{some_option, no_option}
+use Rattle.xc_search.proofs.stacked.NextBranch.{BeginsTake, tweaked_at}
 
 taking : (p : Puzzle) (t : List Move) (l : Level) (o m q : ℕ) → IsLevel p t l → l.begun < l.count
     → next_number p t l ≡ Some o → option_at p l.item q ≡ Some o → IsPlace p l.item q
-    → m ≡ cond l.walks l.tweaks (l.tweaks + 1) → Taking p t l o m q
+    → m ≡ cond l.walks l.tweaks (l.tweaks + 1) → BeginsTake p t l o m q
 taking p t l o m q is_level more e at place hm =
     let found = some_option (slice_get (options_at p (oldest l.mark t) l.item) l.begun) o e in
-    subst (λ n. Taking p t l n m q) found.2
-    (taking_at p t l found.0 m q is_level more (at ∙ ap Some (sym found.2)) place found.1 hm)
+    subst (λ n. BeginsTake p t l n m q) found.2
+    (begins_take p t l found.0 m q is_level more (at ∙ ap Some (sym found.2)) place found.1 hm)
 
 -- a level's item is one
 level_item : (p : Puzzle) (t : List Move) (l : Level) → IsLevel p t l → IsItem p l.item
@@ -88,28 +42,22 @@ level_item p t l is_level = omega (arith, is_level.node.item)
 -- with the tweaks of a branch that takes option o, which stands at place q, it is entered
 pub entered_option : (d e : Dancing) (l : Level) (o m q : ℕ) → IsLevel d.puzzle d.trail l → l.begun < l.count
     → next_number d.puzzle d.trail l ≡ Some o → option_at d.puzzle l.item q ≡ Some o → IsPlace d.puzzle l.item q
-    → m ≡ cond l.walks l.tweaks (l.tweaks + 1) →
-    e ≡ record d { trail = tweaked m l.item (after_spend d.puzzle l.item (oldest l.mark d.trail)) } →
-    IsEntered d.puzzle d.trail l e.trail (with_option (length e.trail) l m q)
+    → m ≡ cond l.walks l.tweaks (l.tweaks + 1) → e ≡ record d { trail = tweaked_at d.puzzle d.trail l m }
+    → IsEntered d.puzzle d.trail l e.trail (with_option (length e.trail) l m q)
 entered_option d e l o m q is_level more next at place hm stands =
     let p = d.puzzle in
     let t = d.trail in
     let all = taking p t l o m q is_level more next at place hm in
-    let g = tweaked m l.item (after_spend p l.item (oldest l.mark t)) in
+    let searchable = all.begun.searchable in
+    let g = tweaked_at p t l m in
     subst (λ (e : Dancing). IsEntered p t l e.trail (with_option (length e.trail) l m q)) (sym stands) (record {
       can = subst (λ v. CanBranch p l.item v g) (sym at) (record {
         item = level_item p t l is_level;
-        option =
-            record {
-              known = all.known;
-              holds = all.holds;
-              items = All-from_recursion (λ (u : Use). IsItem p u.item) (uses_of p o) all.items;
-            };
+        option = all.option;
         stands = record {
-          legal = all.legal;
-          room =
-              has_room p (after_uses p (others l.item (uses_of p o)) g) all.begun.searchable.legal
-              (omega (arith, all.begun.searchable.sparing));
+          legal = searchable.legal;
+          room = has_room p (after_uses p (others l.item (uses_of p o)) g) searchable.legal
+              (omega (arith, searchable.sparing));
         };
       });
       begun = subst (λ v. IsBegun p t l (after_branch p l.item v g) (with_option (length g) l m q)) (sym at) all.begun;
@@ -120,8 +68,7 @@ pub entered_none : (p : Puzzle) (t : List Move) (l : Level) → IsLevel p t l �
     → next_number p t l ≡ None → IsEntered p t l t (with_none l)
 entered_none p t l is_level whole more e =
     let begun =
-    begins_none p t l is_level whole more
-    (no_option (slice_get (options_at p (oldest l.mark t) l.item) l.begun) e) in
+    begins_none p t l is_level whole more (no_option (slice_get (options_at p (oldest l.mark t) l.item) l.begun) e) in
     record {
       can = subst (λ v. CanBranch p l.item v t) (sym (at_own p l.item)) (record {
         item = level_item p t l is_level;
