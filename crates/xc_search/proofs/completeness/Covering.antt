@@ -12,13 +12,13 @@ use Rattle.std.proofs.lemmas.List.Elements.{All-from_recursion}
 use Rattle.std.proofs.lemmas.List.Sums.{sum_by-cons}
 use Rattle.xc_input.specs.declared.problem.Use.{Use}
 use Rattle.xc_search.specs.declared.choice.Choice.{Choice}
-use Rattle.xc_input.specs.Problem.{Puzzle, Numbered, numbered_options, primary_count, option_count, colour_in}
+use Rattle.xc_input.specs.Problem.{Puzzle, Numbered, numbered_options, primary_count, option_count, colour_in, holds}
 use Rattle.xc_input.specs.Problem.{colour_at, uses_of, bounds_at, IsSecondary, IsValid, holding}
 use Rattle.xc_search.specs.Listing.{Wanted, Residual, Branch, whole, item_left, pick, none, branch_item, branch_count}
 use Rattle.xc_search.specs.Listing.{branches_of, level, listing_to, listing}
 use Rattle.xc_search.specs.Cover.{IsCover, times_held, options_of, members, EachMemberCovers}
 use Rattle.xc_input.proofs.lists.Members.{IsIn, in-map, each_in, each_from, in-contains}
-use Rattle.xc_search.proofs.completeness.Solved.{count, beside, AreBeside, IsMet, Solves, solves_pick, solves_none}
+use Rattle.xc_search.proofs.completeness.Solved.{count, beside, IsMet, Solves, solves_pick, solves_none}
 use Rattle.xc_search.proofs.completeness.Proper.{IsProper, find-in, sound_items, low_items, proper_pick, proper_none}
 use Rattle.xc_search.proofs.completeness.Proper.{proper_whole}
 use Rattle.xc_search.proofs.listing.EachBranch.{IsTaken, IsNone, in-branches, in-level, no_items_left, branch_item-in}
@@ -27,6 +27,10 @@ use Rattle.xc_input.proofs.lists.EachTwo.{EachTwo, EachTwo-map, AllPairs-from_ea
 use Rattle.std.proofs.lemmas.List.{nil_from_length}
 use Rattle.xc_input.proofs.FaultLemmas.BooleanTests.{and_left, and_right, or_other}
 use Rattle.xc_search.proofs.listing.Numbering.{numbered_at, uses_known, at_item}
+use Rattle.xc_search.proofs.Cases.{by_bool, by_option}
+use Rattle.std.proofs.lemmas.Bool.{lt-leb}
+use Rattle.xc_search.proofs.completeness.Proper.{same_wanted}
+use Rattle.xc_search.proofs.completeness.Solved.{IsBeside}
 
 abbrev pub number_of : Numbered → ℕ
 number_of o = o.number
@@ -37,13 +41,7 @@ number_of o = o.number
 free_items : (n : ℕ) (r : Residual) (w : Wanted) → IsProper n r → IsIn r.items w → w.low ≡ 0
     → AllByRecursion (λ v. eqb v.item w.item ≡ true → v.low ≡ 0) r.items
 free_items n r w p h e =
-    each_from (λ v. eqb v.item w.item ≡ true → v.low ≡ 0) r.items (λ v k same.
-    let one = find-in 0 r.items w p.items_rise h in
-    let two = find-in 0 r.items v p.items_rise k in
-    let item = eqb-true v.item w.item same in
-    let two_at : item_left r w.item ≡ Some v = subst (λ j. item_left r j ≡ Some v) item two in
-    let is : w ≡ v = cc in
-    subst (λ (z : Wanted). z.low ≡ 0) is e)
+    each_from _ r.items (λ v k same. ap (λ (v : Wanted). v.low) (same_wanted n r v w p k h same) ∙ e)
 
 abbrev Solution : ℕ → Residual → List Choice → Type 0
 Solution n r m = (s : List Numbered) × Solves n r s × (options_of m ≡ map number_of s)
@@ -79,32 +77,22 @@ pub members_solve : (n d : ℕ) (r : Residual) (m : List Choice) → IsProper n 
     → Solution n r m
 unfolding listing_to
 members_solve n zero r m p l k = solution_end n r m (nil_from_length r.items (omega (arith, l))) k
-members_solve n (suc d) r m p l k =
-    elim (branch_item r) as (λ o. branch_item r ≡ o → IsIn (level (listing_to d) o r) m → Solution n r m) [
-      | None ↦ λ e j. solution_end n r m (no_items_left (branch_count r) r.items e) j
-      | Some w ↦ λ e j.
-          let at = in-level (listing_to d) w r m j in
-          let less = less_behind r w at.0 e at.2 in
-          let s = members_solve n d at.0.next at.1 (proper_behind n r w at.0 p at.2) (omega (arith, less, l)) at.3 in
-          subst (λ z. Solution n r z) at.4
-          (solution_back n r w at.0 at.1 p (branch_item-in r w e) (in-branches r w at.0 at.2) s)
-    ] refl k
+members_solve n (suc d) r m p l k = by_option (branch_item r)
+    (λ e. solution_end n r m (no_items_left (branch_count r) r.items e) (rw e at k))
+    (λ w e.
+    let at = in-level (listing_to d) w r m (rw e at k) in
+    let less = less_behind r w at.0 e at.2 in
+    let s = members_solve n d at.0.next at.1 (proper_behind n r w at.0 p at.2) (omega (arith, less, l)) at.3 in
+    subst (Solution n r) at.4 (solution_back n r w at.0 at.1 p (branch_item-in r w e) (in-branches r w at.0 at.2) s))
 
 -- ---- a solution of the whole problem is a cover
 
 held_count : (p : Puzzle) (i : ℕ) (s : List Numbered) → AllByRecursion (IsIn (numbered_options p)) s
     → times_held p i (map number_of s) ≡ count i s
 held_count p i [] a = refl
-held_count p i (o ∷ s) a = grind (arith, common_steps, held_count p i s a.1, sum_by-cons, uses_known, one_more)
-  where
-    one_more : (b : Bool) → cond b 1 0 + count i s ≡ length (cond b (o ∷ holding i s) (holding i s))
-    one_more true = omega arith
-    one_more false = omega arith
-
-two_beside : (n : ℕ) (s : List Numbered) → AreBeside n s
-    → EachTwo (λ x y. (x.number ≢ y.number) × (beside n x y ≡ true)) s
-two_beside n [] a = tt
-two_beside n (x ∷ s) a = (a.0, two_beside n s a.1)
+held_count p i (o ∷ s) a = by_bool (holds o i)
+    (λ h. grind (arith, common_steps, held_count p i s a.1, sum_by-cons, uses_known))
+    (λ h. grind (arith, common_steps, held_count p i s a.1, sum_by-cons, uses_known))
 
 -- the use of an item above n agrees
 agrees_at : (n : ℕ) (us : List Use) (y : Numbered) (i c : ℕ)
@@ -130,41 +118,33 @@ within_bounds : (p : Puzzle) (s : List Numbered) (i : ℕ) (b : Bounds) → Solv
     → bounds_at p i ≡ Some b → (b.low ≤ times_held p i (map number_of s)) × (times_held p i (map number_of s) ≤ b.high)
 within_bounds p s i b solved e =
     let at = bounded p i b e in
-    let m = each_in (IsMet s) (whole p).items at.0 solved.met at.1 in
+    let m = each_in _ _ _ solved.met at.1 in
     let same : times_held p i (map number_of s) ≡ count at.0.item s =
     held_count p i s solved.chosen ∙ ap (λ j. count j s) (sym at.2) in
     (omega (arith, same, m.0, at.3), omega (arith, same, m.1, at.4))
 
-abbrev IsBeside : ℕ → Numbered → Numbered → Type 0
-IsBeside n x y = (x.number ≢ y.number) × (beside n x y ≡ true)
-
 colours_agree : (p : Puzzle) (x y : Numbered) (i c d : ℕ) → IsBeside (primary_count p) x y → IsSecondary p i
     → colour_at x i ≡ Some c → colour_at y i ≡ Some d → (c ≡ d) × (0 < c)
 colours_agree p x y i c d t secondary e f =
-    let above : nat_le i (primary_count p) ≡ false = above_n i (primary_count p) secondary.0 in
+    let above : nat_le i (primary_count p) ≡ false = lt-leb i (primary_count p) secondary.0 in
     agreed_colours c d (subst (λ o. agrees c o ≡ true) f (agrees_at (primary_count p) x.uses y i c t.1 above e))
-  where
-    above_n : (i n : ℕ) → n < i → nat_le i n ≡ false
-    above_n i n h = grind (arith, common_steps, leb-true)
 
 pub solution_covers : (p : Puzzle) (s : List Numbered) → Solves (primary_count p) (whole p) s
     → IsCover p (map number_of s)
 solution_covers p s solved = record {
-  known =
-      All-from_recursion (λ o. (1 ≤ o) × (o ≤ option_count p)) (map number_of s)
-      (each_from (λ o. (1 ≤ o) × (o ≤ option_count p)) (map number_of s) (λ k h.
-      let from = in-map number_of s k h in
+  known = All-from_recursion _ _ (each_from (λ o. (1 ≤ o) × (o ≤ option_count p)) (map number_of s) (λ k h.
+      let from = in-map _ _ _ h in
       let at = numbered_at 0 p.options from.0 (known from.0 from.1) in
       (omega (arith, from.2, at.1), omega (arith, from.2, at.1, at.2))));
-  distinct = AllPairs-from_each_two (λ a b. a ≢ b) (map number_of s) (EachTwo-map (λ a b. a ≢ b) number_of s
-      (EachTwo-weaker (IsBeside (primary_count p)) (λ x y. x.number ≢ y.number) s (λ x y j k b. b.0) two));
+  distinct = AllPairs-from_each_two _ _ (EachTwo-map (λ a b. a ≢ b) number_of s
+      (EachTwo-weaker (IsBeside (primary_count p)) (λ x y. x.number ≢ y.number) s (λ x y j k b. b.0) solved.agreed));
   within = λ i b e. within_bounds p s i b solved e;
   agree = λ a b i c d h k apart secondary e f.
-      let x = in-map number_of s a (in-contains (map number_of s) a h) in
-      let y = in-map number_of s b (in-contains (map number_of s) b k) in
+      let x = in-map _ _ _ (in-contains (map number_of s) a h) in
+      let y = in-map _ _ _ (in-contains (map number_of s) b k) in
       let at_x = colour_of p a i c x.0 (known x.0 x.1) x.2 e in
       let at_y = colour_of p b i d y.0 (known y.0 y.1) y.2 f in
-      elim (EachTwo-of (IsBeside (primary_count p)) s x.0 y.0 two x.1 y.1) [
+      elim (EachTwo-of (IsBeside (primary_count p)) s x.0 y.0 solved.agreed x.1 y.1) [
         | inl q ↦ absurd (apart (cc (x.2, y.2, q)))
         | inr q ↦ elim q [
           | inl t ↦ colours_agree p x.0 y.0 i c d t secondary at_x at_y
@@ -174,15 +154,11 @@ solution_covers p s solved = record {
       ];
 }
   where
-    two : EachTwo (IsBeside (primary_count p)) s
-    two = two_beside (primary_count p) s solved.agreed
-
     known : (o : Numbered) → IsIn s o → IsIn (numbered_options p) o
     known o h = each_in (IsIn (numbered_options p)) s o solved.chosen h
 
 pub each_member_covers : (p : Puzzle) → IsValid p → EachMemberCovers p
 unfolding listing
-each_member_covers p v =
-    All-from_recursion _ (members p) (each_from (λ m. IsCover p (options_of m)) (members p) (λ m k.
+each_member_covers p v = All-from_recursion _ _ (each_from (λ m. IsCover p (options_of m)) (members p) (λ m k.
     let s = members_solve (primary_count p) (size_of (whole p)) (whole p) m (proper_whole p v) (omega arith) k in
     subst (λ z. IsCover p z) (sym s.2) (solution_covers p s.0 s.1)))

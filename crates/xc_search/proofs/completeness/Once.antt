@@ -19,6 +19,7 @@ use Rattle.xc_search.proofs.completeness.Proper.{goes_on}
 use Rattle.xc_input.proofs.lists.EachTwo.{EachTwo, EachTwo-append, EachTwo-map, EachTwo-flat_map, EachTwo-at}
 use Rattle.xc_input.proofs.lists.EachTwo.{EachTwo-weaker, EachTwo-take, EachTwo-enumerated}
 use Rattle.xc_input.proofs.FaultLemmas.BooleanTests.{and_left}
+use Rattle.xc_search.proofs.Cases.{by_option}
 
 -- an option of this number is left
 abbrev HasNumber : Residual → ℕ → Type 0
@@ -39,14 +40,10 @@ pub options_left : (d : ℕ) (r : Residual) (m : List Choice) (k : ℕ) → IsIn
     → HasNumber r k
 unfolding listing_to
 options_left zero r m k h j = absurd (no_options m k h j)
-options_left (suc d) r m k h j =
-    elim (branch_item r) as (λ o. IsIn (level (listing_to d) o r) m → HasNumber r k) [
-      | None ↦ λ g. absurd (no_options m k g j)
-      | Some w ↦ λ g.
-          let at = in-level (listing_to d) w r m g in
-          own_option r w at.0 (options_of at.1) k (in-branches r w at.0 at.2)
-          (λ i. options_left d at.0.next at.1 k at.3 i) (subst (λ l. IsIn (options_of l) k) (sym at.4) j)
-    ] h
+options_left (suc d) r m k h j = by_option (branch_item r) (λ e. absurd (no_options m k (rw e at h) j)) (λ w e.
+    let at = in-level (listing_to d) w r m (rw e at h) in
+    own_option r w at.0 (options_of at.1) k (in-branches r w at.0 at.2)
+    (λ i. options_left d at.0.next at.1 k at.3 i) (subst (λ l. IsIn (options_of l) k) (sym at.4) j))
 
 -- ---- an option that went
 
@@ -107,7 +104,7 @@ takes_apart : (d : ℕ) (r : Residual) (w : Wanted) (n : ℕ) (a b : ℕ × Numb
     → IsIn (holding w.item r.options) a.1 → a.1.number < b.1.number →
     AreApart d (take_branch r w.item n a) (take_branch r w.item n b)
 takes_apart d r w n a b rise h less =
-    let found = in-filter (λ o. holds o w.item) r.options a.1 h in
+    let found = in-filter _ _ _ h in
     apart_by d (take_branch r w.item n a) (take_branch r w.item n b) a.1.number refl (λ m j k. elim k [
       | inl e ↦ absurd (omega (arith, less, e))
       | inr k ↦ gone_by_pick r w.item a.1 b.1 rise found.0 found.1 (omega (arith, less))
@@ -135,38 +132,34 @@ branches_apart d r w rise =
     (elim (eqb w.low 0) as (λ c. EachTwo (AreApart d) (cond c (none_branch r w.item n ∷ []) []))
     [ true ↦ (tt, tt) | false ↦ tt ])
     (λ a b h k.
-    let from = in-map (take_branch r w.item n) numbered a h in
+    let from = in-map _ _ _ h in
     subst (λ z. AreApart d z b) from.2
     (none_apart d r w n from.0 b rise (held n hs numbered from.0 refl from.1) (in-nones r w b k)))
   where
     held : (n : ℕ) (hs : List Numbered) (numbered : List (ℕ × Numbered)) (a : ℕ × Numbered)
         → numbered ≡ enumerate_from 1 (take n hs) → IsIn numbered a → IsIn hs a.1
-    held n hs numbered a e h = in-take n hs a.1 (in-enumerated 1 (take n hs) a (subst (λ z. IsIn z a) e h))
+    held n hs numbered a e h = in-take n hs a.1 (in-enumerated _ _ _ (subst (λ z. IsIn z a) e h))
 
 pub all_differ : (d : ℕ) (r : Residual) → NumbersRise 0 r.options → EachTwo Differ (listing_to d r)
 unfolding listing_to
 all_differ zero r rise = (tt, tt)
 all_differ (suc d) r rise =
-    elim (branch_item r) as (λ o. EachTwo Differ (level (listing_to d) o r)) [
-      | None ↦ (tt, tt)
-      | Some w ↦ EachTwo-flat_map Differ (behind (listing_to d)) (branches_of r w)
-          (λ b h.
-          let kind = in-branches r w b h in
-          EachTwo-map Differ (λ m. b.choice ∷ m) (listing_to d b.next)
-          (EachTwo-weaker Differ (λ l m. Differ (b.choice ∷ l) (b.choice ∷ m)) (listing_to d b.next)
-          (λ l m j k differ same. differ
-          (differ_behind b.choice.option (options_of l) (options_of m)
-          (λ i e. (out_behind d r w b l i rise kind e j, out_behind d r w b m i rise kind e k)) same))
-          (all_differ d b.next (rise_behind r w b rise kind))))
-          (branches_apart d r w rise)
-    ]
+    by_option (branch_item r) (λ e. rw e (tt, tt)) (λ w e. rw e
+    (EachTwo-flat_map Differ (behind (listing_to d)) (branches_of r w)
+    (λ b h.
+    let kind = in-branches r w b h in
+    EachTwo-map Differ (λ m. b.choice ∷ m) (listing_to d b.next)
+    (EachTwo-weaker Differ (λ l m. Differ (b.choice ∷ l) (b.choice ∷ m)) (listing_to d b.next)
+    (λ l m j k differ same. differ (differ_behind b.choice.option (options_of l) (options_of m)
+    (λ i e. (out_behind d r w b l i rise kind e j, out_behind d r w b m i rise kind e k)) same))
+    (all_differ d b.next (rise_behind r w b rise kind))))
+    (branches_apart d r w rise)))
 
 by_members : (l m : List Choice) → SameSet (options_of l) (options_of m) → (k : ℕ)
     → (IsIn (options_of l) k → IsIn (options_of m) k) × (IsIn (options_of m) k → IsIn (options_of l) k)
 by_members l m same k = (
-  λ h. in-contains (options_of m) k ((same k).0 (contains-in (options_of l) k h)),
-  λ h. in-contains (options_of l) k
-      ((same k).1 (contains-in (options_of m) k h)),
+  λ h. in-contains _ _ ((same k).0 (contains-in _ _ h)),
+  λ h. in-contains _ _ ((same k).1 (contains-in _ _ h)),
 )
 
 -- members that differ stand at one place where they have one set

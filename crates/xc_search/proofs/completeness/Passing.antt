@@ -10,6 +10,7 @@ use Rattle.xc_input.proofs.lists.Filters.{length-filter-le}
 use Rattle.xc_search.proofs.residual.NumberedOnce.{above_in}
 use Rattle.xc_dance.proofs.MoveLemmas.OptionsRise.{NumbersRise}
 use Rattle.xc_input.proofs.FaultLemmas.BooleanTests.{and_left, and_right}
+use Rattle.xc_search.proofs.Cases.{by_bool}
 
 abbrev pub passing : (Numbered → Bool) → List Numbered → ℕ
 passing t os = length (filter t os)
@@ -36,8 +37,7 @@ two_pass t (o ∷ os) x y (inr h) (inl k) e f apart =
     let here : t o ≡ true = ap t k ∙ f in rw here (omega (arith, one_passes t os x h e))
 two_pass t (o ∷ os) x y (inr h) (inr k) e f apart =
     let later = two_pass t os x y h k e f apart in
-    elim (t o) as (λ b. 2 ≤ length (cond b (o ∷ filter t os) (filter t os)))
-    [ true ↦ omega (arith, later) | false ↦ later ]
+    by_bool (t o) (λ e. rw e (omega (arith, later))) (λ e. rw e later)
 
 -- a filter that keeps whoever passes
 pub same_passing : (t q : Numbered → Bool) (os : List Numbered) → ((y : Numbered) → IsIn os y → t y ≡ true → q y ≡ true)

@@ -1,6 +1,6 @@
 -- What holds of the whole problem, and of all that its branches leave.
 use Rattle.std.proofs.lemmas.Grind.{common_steps}
-use Rattle.std.proofs.Common.{ℕ, ◌≡◌, ◌≢◌, ◌+◌, ◌<◌, ◌≤◌, Bool, true, false, cond, not, ◌&&◌, eqb, List, [], ◌∷◌}
+use Rattle.std.proofs.Common.{ℕ, ◌≡◌, ◌≢◌, ◌+◌, ◌<◌, ◌≤◌, Bool, true, false, cond, not, ◌&&◌, eqb, List, [], ◌∷◌, ap}
 use Rattle.std.proofs.Common.{length, map, filter, find, Some, refl, sym, ◌∙◌, arith, subst, inl, inr, eqb-true}
 use Rattle.std.proofs.Common.{eq-eqb, lt-ltb, ltb-true, ne_eqb}
 use Rattle.xc_input.specs.declared.problem.Bounds.{Bounds}
@@ -16,6 +16,8 @@ use Rattle.xc_search.proofs.completeness.Solved.{IsSound, used_up}
 use Rattle.xc_input.proofs.FaultLemmas.BooleanTests.{and_right}
 use Rattle.xc_search.proofs.residual.OptionUses.{held_by, holds_use}
 use Rattle.xc_search.proofs.listing.Numbering.{option_sound}
+use Rattle.xc_search.proofs.Cases.{by_bool}
+use Rattle.std.proofs.lemmas.Bool.{eqb-false}
 
 -- items in order
 abbrev pub ItemsRise : ℕ → List Wanted → Type 0
@@ -42,10 +44,8 @@ ItemsRise-weaker m n (w ∷ ws) h r = (omega (arith, r.0), r.1)
 
 ItemsRise-filter : (p : Wanted → Bool) (n : ℕ) (ws : List Wanted) → ItemsRise n ws → ItemsRise n (filter p ws)
 ItemsRise-filter p n [] r = tt
-ItemsRise-filter p n (w ∷ ws) r = elim (p w) as (λ b. ItemsRise n (cond b (w ∷ filter p ws) (filter p ws))) [
-  | true ↦ (r.0, ItemsRise-filter p w.item ws r.1)
-  | false ↦ ItemsRise-filter p n ws (ItemsRise-weaker n w.item ws (omega (arith, r.0)) r.1)
-]
+ItemsRise-filter p n (w ∷ ws) r = by_bool (p w) (λ e. rw e (r.0, ItemsRise-filter p w.item ws r.1))
+    (λ e. rw e (ItemsRise-filter p n ws (ItemsRise-weaker n w.item ws (omega (arith, r.0)) r.1)))
 
 pub item-spend_one : (x : Numbered) (w : Wanted) → (spend_one x w).item ≡ w.item
 item-spend_one x w = grind (arith, common_steps)
@@ -71,6 +71,14 @@ pub in-find : (ws : List Wanted) (j : ℕ) (w : Wanted) → find (λ v. eqb v.it
 in-find [] j w e = cc
 in-find (v ∷ ws) j w e = grind (arith, common_steps, in-find ws j w, find, eqb-true)
 
+-- two that are left are one where their items are
+pub same_wanted : (n : ℕ) (r : Residual) (v w : Wanted) → IsProper n r → IsIn r.items v → IsIn r.items w
+    → eqb v.item w.item ≡ true → v ≡ w
+same_wanted n r v w p h k e =
+    let one = find-in 0 r.items v p.items_rise h in
+    let two = find-in 0 r.items w p.items_rise k in
+    let found = ap (item_left r) (eqb-true _ _ e) in cc
+
 -- the facts that `solves_pick` asks for
 pub sound_items : (n : ℕ) (r : Residual) → IsProper n r → AllByRecursion (IsSound n r) r.items
 sound_items n r p = grind (arith, common_steps, each_from, find-in)
@@ -91,21 +99,20 @@ proper_pick n i r x p = record {
   items_rise =
       ItemsRise-filter (λ w. nat_lt 0 w.high) 0 (map (spend_one x) r.items) (ItemsRise-spend x 0 r.items p.items_rise);
   sound = λ w k.
-      let found = in-filter (λ w. nat_lt 0 w.high) (map (spend_one x) r.items) w k in
-      let from = in-map (spend_one x) r.items w found.0 in
+      let found = in-filter _ _ _ k in
+      let from = in-map _ _ _ found.0 in
       let within =
       subst (λ (z : Wanted). (z.item ≤ n) × (z.low ≤ z.high)) from.2 (spent from.0 (p.sound from.0 from.1)) in
       (within.0, within.1, ltb-true 0 w.high found.1);
   items_left = λ o j k l h.
-      let found = in-filter (goes_on r i x) r.options o k in
+      let found = in-filter _ _ _ k in
       let w = p.items_left o j found.0 l h in
       let here : holds o w.0.item ≡ true = subst (λ z. holds o z ≡ true) (sym w.2) h in (
         spend_one x w.0,
-        filter-in (λ w. nat_lt 0 w.high) (map (spend_one x) r.items) (spend_one x w.0)
-            (map-in (spend_one x) r.items w.0 w.1) (still o w.0 w.1 (and_right _ _ found.1) here),
+        filter-in _ _ _ (map-in _ _ _ w.1) (still o w.0 w.1 (and_right _ _ found.1) here),
         item-spend_one x w.0 ∙ w.2,
       );
-  one_primary = λ o k. p.one_primary o (in-filter (goes_on r i x) r.options o k).0;
+  one_primary = λ o k. p.one_primary o (in-filter _ _ _ k).0;
 }
   where
     spent : (w : Wanted) → (w.item ≤ n) × (w.low ≤ w.high) × (0 < w.high) → ((spend_one x w).item ≤ n)
@@ -121,16 +128,15 @@ pub proper_none : (n i : ℕ) (r : Residual) → IsProper n r → IsProper n (no
 proper_none n i r p = record {
   options_rise = NumbersRise-filter (λ o. not (holds o i)) 0 r.options p.options_rise;
   items_rise = ItemsRise-filter (λ w. not (eqb w.item i)) 0 r.items p.items_rise;
-  sound = λ w k. p.sound w (in-filter (λ w. not (eqb w.item i)) r.items w k).0;
+  sound = λ w k. p.sound w (in-filter _ _ _ k).0;
   items_left = λ o j k l h.
-      let found = in-filter (λ o. not (holds o i)) r.options o k in
+      let found = in-filter _ _ _ k in
       let w = p.items_left o j found.0 l h in (
         w.0,
-        filter-in (λ w. not (eqb w.item i)) r.items w.0 w.1
-            (other o w.0.item found.1 (subst (λ z. holds o z ≡ true) (sym w.2) h)),
+        filter-in _ _ _ w.1 (other o w.0.item found.1 (subst (λ z. holds o z ≡ true) (sym w.2) h)),
         w.2,
       );
-  one_primary = λ o k. p.one_primary o (in-filter (λ o. not (holds o i)) r.options o k).0;
+  one_primary = λ o k. p.one_primary o (in-filter _ _ _ k).0;
 }
   where
     other : (o : Numbered) (j : ℕ) → not (holds o i) ≡ true → holds o j ≡ true → not (eqb j i) ≡ true
@@ -141,15 +147,10 @@ proper_none n i r p = record {
 has_item : (k : ℕ) (bs : List Bounds) (j : ℕ) → k < j → j ≤ k + length bs → (w : Wanted)
     × IsIn (wanted_from (k + 1) bs) w × (w.item ≡ j)
 has_item k [] j h l = absurd (omega (arith, h, l))
-has_item k (b ∷ bs) j h l =
-    elim (eqb (k + 1) j) as (λ c. eqb (k + 1) j ≡ c → (w : Wanted) × IsIn (wanted_from (k + 1) (b ∷ bs)) w
-    × (w.item ≡ j)) [
-      | true ↦ λ e. (record { item = k + 1; low = b.low; high = b.high }, inl refl, eqb-true _ _ e)
-      | false ↦ λ e.
-          let apart : k + 1 ≢ j = λ s. let same : eqb (k + 1) j ≡ true = eq-eqb _ _ s in cc in
-          let later = has_item (k + 1) bs j (omega (arith, h, apart)) (omega (arith, l)) in
-          (later.0, inr later.1, later.2)
-    ] refl
+has_item k (b ∷ bs) j h l = by_bool (eqb (k + 1) j)
+    (λ e. (record { item = k + 1; low = b.low; high = b.high }, inl refl, eqb-true _ _ e))
+    (λ e. let later = has_item (k + 1) bs j (omega (arith, h, eqb-false _ _ e)) (omega (arith, l)) in
+    (later.0, inr later.1, later.2))
 
 ItemsRise-from : (k : ℕ) (bs : List Bounds) → ItemsRise k (wanted_from (k + 1) bs)
 ItemsRise-from k [] = tt

@@ -16,6 +16,7 @@ use Rattle.xc_input.proofs.lists.EachElement.{each_weaker}
 use Rattle.std.proofs.Math.Bool.{or-true}
 use Rattle.std.proofs.lemmas.Bool.{not-true}
 use Rattle.xc_input.proofs.FaultLemmas.BooleanTests.{and_left, and_right}
+use Rattle.xc_input.proofs.lists.EachTwo.{EachTwo}
 
 -- how many of the selection hold item j
 abbrev pub count : ℕ → List Numbered → ℕ
@@ -25,9 +26,9 @@ count j s = length (holding j s)
 abbrev pub beside : ℕ → Numbered → Numbered → Bool
 beside n x y = list_all (λ u. nat_le u.item n || agrees u.colour (colour_at y u.item)) x.uses
 
-abbrev pub AreBeside : ℕ → List Numbered → Type 0
-AreBeside n [] = Unit {0}
-AreBeside n (x ∷ s) = AllByRecursion (λ y. (x.number ≢ y.number) × (beside n x y ≡ true)) s × AreBeside n s
+-- and so do all of a selection, two by two, under numbers of their own
+abbrev pub IsBeside : ℕ → Numbered → Numbered → Type 0
+IsBeside n x y = (x.number ≢ y.number) × (beside n x y ≡ true)
 
 abbrev pub IsMet : List Numbered → Wanted → Type 0
 IsMet s w = (w.low ≤ count w.item s) × (count w.item s ≤ w.high)
@@ -36,7 +37,7 @@ IsMet s w = (w.low ≤ count w.item s) × (count w.item s ≤ w.high)
 pub record Solves (n : ℕ) (r : Residual) (s : List Numbered) : Type 0 where
   pub chosen : AllByRecursion (IsIn r.options) s
   pub met : AllByRecursion (IsMet s) r.items
-  pub agreed : AreBeside n s
+  pub agreed : EachTwo (IsBeside n) s
 
 -- an item that is left is of the first n, stands once, and can be met
 abbrev pub IsSound : ℕ → Residual → Wanted → Type 0
@@ -81,11 +82,9 @@ pub solves_pick : (n i : ℕ) (r : Residual) (x : Numbered) (s : List Numbered) 
     → AllByRecursion (IsSound n r) r.items → ((j : ℕ) (w : Wanted) → item_left r j ≡ Some w → j ≤ n) →
     IsIn r.options x → holds x i ≡ true → Solves n (pick r i x) s → Solves n r (x ∷ s)
 solves_pick n i r x s rising sound low in_x at solved =
-    let passes : AllByRecursion
-    (λ y. IsIn r.options y × ((not (holds y i && nat_le y.number x.number) && stays r x y) ≡ true)) s =
-    each_weaker (IsIn (pick r i x).options)
+    let passes = each_weaker _
     (λ y. IsIn r.options y × ((not (holds y i && nat_le y.number x.number) && stays r x y) ≡ true)) s
-    (λ y k. in-filter (λ y. not (holds y i && nat_le y.number x.number) && stays r x y) r.options y k) solved.chosen in
+    (λ y k. in-filter _ _ _ k) solved.chosen in
     record {
       chosen = (in_x, each_weaker _ (IsIn r.options) s (λ y k. k.0) passes);
       met = met_back x s r.items
@@ -99,7 +98,7 @@ solves_pick n i r x s rising sound low in_x at solved =
           )) sound)
           solved.met;
       agreed = (
-        each_weaker _ (λ y. (x.number ≢ y.number) × (beside n x y ≡ true)) s
+        each_weaker _ (IsBeside n x) s
             (λ y q. (apart y q.0 (and_left _ _ q.1), stays_beside n r y x.uses low (and_right _ _ q.1))) passes,
         solved.agreed,
       );
@@ -118,9 +117,8 @@ none_back i s (w ∷ ws) z free m = grind (arith, common_steps, none_back i s ws
 pub solves_none : (n i : ℕ) (r : Residual) (s : List Numbered)
     → AllByRecursion (λ w. eqb w.item i ≡ true → w.low ≡ 0) r.items → Solves n (none r i) s → Solves n r s
 solves_none n i r s free solved =
-    let passes : AllByRecursion (λ y. IsIn r.options y × (not (holds y i) ≡ true)) s =
-    each_weaker (IsIn (none r i).options) (λ y. IsIn r.options y × (not (holds y i) ≡ true)) s
-    (λ y k. in-filter (λ o. not (holds o i)) r.options y k) solved.chosen in
+    let passes = each_weaker _ (λ y. IsIn r.options y × (not (holds y i) ≡ true)) s (λ y k. in-filter _ _ _ k)
+    solved.chosen in
     record {
       chosen = each_weaker _ (IsIn r.options) s (λ y k. k.0) passes;
       met =

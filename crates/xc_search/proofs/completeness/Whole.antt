@@ -25,6 +25,7 @@ use Rattle.xc_input.proofs.lists.Filters.{filter_same, filter_both}
 use Rattle.std.proofs.Math.Bool.{or-true, and-false}
 use Rattle.xc_search.proofs.listing.Numbering.{at_number, option_sound, uses_known, with_bounds}
 use Rattle.xc_search.proofs.residual.OptionUses.{own_colours, apart_from_pairs}
+use Rattle.xc_search.proofs.Cases.{by_bool, by_option}
 
 -- the numbers of a list
 abbrev pub is_listed : List ℕ → ℕ → Bool
@@ -95,13 +96,9 @@ covers_whole p s v c = record {
       let item : w.item ≡ suc at.0 = omega (arith, at.2) in
       let bounds : bounds_at p w.item ≡ Some at.1 = ap (bounds_at p) item ∙ at.4 in
       let within = c.within w.item at.1 bounds in
-      let same =
-      held_times p w.item s (each_two_from_AllPairs (λ a b. a ≢ b) s c.distinct)
-      (recursion_from_All (λ o. (1 ≤ o) × (o ≤ option_count p)) s c.known) in
+      let same = held_times p w.item s (each_two_from_AllPairs _ _ c.distinct) (recursion_from_All _ _ c.known) in
       (omega (arith, same, within.0, at.5), omega (arith, same, within.1, at.6));
-  agreed =
-      λ x y h k e f apart. list_all-each (λ u. nat_le u.item (primary_count p) || agrees u.colour (colour_at y u.item))
-      x.uses (λ u j. agreeing x y h k e f apart u j);
+  agreed = λ x y h k e f apart. list_all-each _ x.uses (λ u j. agreeing x y h k e f apart u j);
 }
   where
     agreeing : (x y : Numbered) → IsIn (numbered_options p) x → IsIn (numbered_options p) y
@@ -110,24 +107,14 @@ covers_whole p s v c = record {
     agreeing x y h k e f apart u j =
         let sound = option_sound p 0 p.options x (recursion_from_All (IsSoundOption p) p.options v.options) h in
         let item = each_in (IsSoundUse p) x.uses u (recursion_from_All (IsSoundUse p) x.uses sound.sound) j in
-        let own =
-        each_in (λ (u : Use). colour_in x.uses u.item ≡ Some u.colour) x.uses u
-        (own_colours x.uses (apart_from_pairs x.uses sound.distinct)) j in
-        elim (nat_le u.item (primary_count p)) as
-        (λ b. nat_le u.item (primary_count p) ≡ b → (b || agrees u.colour (colour_at y u.item)) ≡ true) [
-          | true ↦ λ q. refl
-          | false ↦ λ q. elim (colour_at y u.item) as (λ o. colour_at y u.item ≡ o → agrees u.colour o ≡ true) [
-            | None ↦ λ g. refl
-            | Some d ↦ λ g.
-                let same =
-                c.agree x.number y.number u.item u.colour d (contains-in s x.number (listed_in s x.number e))
-                (contains-in s y.number (listed_in s y.number f)) apart
-                (leb-false u.item (primary_count p) q, item.0.1)
-                (ap (λ us. colour_in us u.item) (uses_known p x h) ∙ own)
-                (ap (λ us. colour_in us u.item) (uses_known p y k) ∙ g) in
-                rw (lt-ltb 0 u.colour same.1, eq-eqb u.colour d same.0) refl
-          ] refl
-        ] refl
+        let own = each_in _ x.uses u (own_colours x.uses (apart_from_pairs x.uses sound.distinct)) j in
+        by_bool (nat_le u.item (primary_count p)) (λ q. rw q refl) (λ q.
+        by_option (colour_at y u.item) (λ g. rw (q, g) refl) (λ d g.
+        let same = c.agree x.number y.number u.item u.colour d (contains-in s x.number (listed_in s x.number e))
+        (contains-in s y.number (listed_in s y.number f)) apart (leb-false u.item (primary_count p) q, item.0.1)
+        (ap (λ us. colour_in us u.item) (uses_known p x h) ∙ own)
+        (ap (λ us. colour_in us u.item) (uses_known p y k) ∙ g) in
+        rw (q, g) (rw (lt-ltb 0 u.colour same.1, eq-eqb u.colour d same.0) refl)))
 
 pub same_set : (p : Puzzle) (s : List ℕ) (m : List Choice) → IsCover p s → IsMemberOf (whole p) (is_listed s) m
     → SameSet s (options_of m)
@@ -140,9 +127,7 @@ same_set p s m c h o = (
     chosen_option : IsIn s o → (x : Numbered) × IsIn (numbered_options p) x × (is_listed s x.number ≡ true)
         × (x.number ≡ o)
     chosen_option k =
-        let known =
-        each_in (λ o. (1 ≤ o) × (o ≤ option_count p)) s o
-        (recursion_from_All (λ o. (1 ≤ o) × (o ≤ option_count p)) s c.known) k in
+        let known = each_in _ s o (recursion_from_All (λ o. (1 ≤ o) × (o ≤ option_count p)) s c.known) k in
         let x = option_of p o known.0 known.1 in
         (x.0, x.1, subst (λ j. is_listed s j ≡ true) (sym x.2) (in_listed s o k), x.2)
 

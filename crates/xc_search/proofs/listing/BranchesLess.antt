@@ -12,6 +12,7 @@ use Rattle.xc_input.proofs.lists.Filters.{length-filter-le, length-filter-cons}
 use Rattle.xc_input.proofs.lists.Members.{IsIn}
 use Rattle.xc_input.proofs.lists.EachElement.{each_weaker, each-append, each-map, each-numbered}
 use Rattle.std.proofs.lemmas.List.{length-map}
+use Rattle.xc_search.proofs.Cases.{by_bool}
 
 -- a test that each option of item i fails for itself leaves one out
 pub less_options : (i : ℕ) (q : Numbered → Numbered → Bool) → ((x : Numbered) → holds x i ≡ true → q x x ≡ false)
@@ -22,15 +23,9 @@ less_options i q fails (o ∷ os) =
 
 picks_less : (r : Residual) (i : ℕ) → AllByRecursion (λ x. size_of (pick r i x) < size_of r) (holding i r.options)
 picks_less r i =
-    each_weaker (λ x. length (pick r i x).options < length r.options) (λ x. size_of (pick r i x) < size_of r)
-    (holding i r.options)
-    (λ x h. omega (
-      arith,
-      length-filter-le (λ w. nat_lt 0 w.high) (map (spend_one x) r.items),
-      length-map r.items
-          (spend_one x),
-      h,
-    ))
+    each_weaker (λ x. length (pick r i x).options < length r.options) _ (holding i r.options)
+    (λ x h. let fewer = length-filter-le (λ w. nat_lt 0 w.high) (map (spend_one x) r.items) in
+    omega (arith, fewer, length-map r.items (spend_one x), h))
     (less_options i (λ x o. not (holds o i && nat_le o.number x.number) && stays r x o)
     (λ x e. rw (e, le-leb x.number x.number (omega arith))) r.options)
 
@@ -52,19 +47,9 @@ pub branches_less : (r : Residual) (w : Wanted) → branch_item r ≡ Some w
     → AllByRecursion (λ b. size_of b.next < size_of r) (branches_of r w)
 branches_less r w e =
     let n = branch_count r w in
-    each-append (λ b. size_of b.next < size_of r) _ _
-    (each-map (λ b. size_of b.next < size_of r) (take_branch r w.item n) _
+    let fewer = less_items w r.items (least_is_one _ _ _ e) in
+    let none_less = length-filter-le (λ o. not (holds o w.item)) r.options in
+    each-append _ _ _
+    (each-map _ (take_branch r w.item n) _
     (each-numbered (λ x. size_of (pick r w.item x) < size_of r) n 1 (holding w.item r.options) (picks_less r w.item)))
-    (elim (eqb w.low 0) as (λ c. AllByRecursion (λ b. size_of b.next < size_of r)
-    (cond c (none_branch r w.item n ∷ []) [])) [
-      | true ↦ (
-        omega (
-          arith,
-          less_items w r.items (least_is_one (branch_count r) r.items w e),
-          length-filter-le
-              (λ o. not (holds o w.item)) r.options,
-        ),
-        tt,
-      )
-      | false ↦ tt
-    ])
+    (by_bool (eqb w.low 0) (λ h. rw h (omega (arith, fewer, none_less), tt)) (λ h. rw h tt))

@@ -50,8 +50,7 @@ takes-in r w x h =
     let n = branch_count r w in
     let at = enumerated-in 1 (take n (holding w.item r.options)) x h in (
       at.0,
-      append-in_left (takes r w) (nones r w) _
-          (map-in (take_branch r w.item n) (enumerate_from 1 (take n (holding w.item r.options))) (at.0, x) at.1),
+      append-in_left (takes r w) (nones r w) _ (map-in _ _ _ at.1),
     )
 
 pub nones-in : (r : Residual) (w : Wanted) → w.low ≡ 0
@@ -72,8 +71,7 @@ in-level rest w r m h = grind (arith, common_steps, in-flat_map, in-map)
 
 pub level-in : (rest : Residual → List (List Choice)) (w : Wanted) (r : Residual) (b : Branch) (l : List Choice)
     → IsIn (branches_of r w) b → IsIn (rest b.next) l → IsIn (level rest (Some w) r) (b.choice ∷ l)
-level-in rest w r b l h k =
-    flat_map-in (behind rest) (branches_of r w) b (b.choice ∷ l) h (map-in (λ l. b.choice ∷ l) (rest b.next) l k)
+level-in rest w r b l h k = flat_map-in (behind rest) (branches_of r w) b (b.choice ∷ l) h (map-in _ _ _ k)
 
 -- with no branch item no item is left
 pub no_items_left : (count : Wanted → ℕ) (ws : List Wanted) → first_least count ws ≡ None → ws ≡ []
@@ -81,8 +79,8 @@ no_items_left count [] e = refl
 no_items_left count (w ∷ ws) e = cc
 
 pub branch_item-in : (r : Residual) (w : Wanted) → branch_item r ≡ Some w → IsIn r.items w
-branch_item-in r w e = least_is_one (branch_count r) r.items w e
+branch_item-in r w e = least_is_one _ _ _ e
 
 pub less_behind : (r : Residual) (w : Wanted) (b : Branch) → branch_item r ≡ Some w → IsIn (branches_of r w) b
     → size_of b.next < size_of r
-less_behind r w b e h = each_in (λ b. size_of b.next < size_of r) (branches_of r w) b (branches_less r w e) h
+less_behind r w b e h = each_in _ _ _ (branches_less r w e) h

@@ -42,32 +42,23 @@ pub record IsOption (p : Puzzle) (o : Numbered) : Type 0 where
   pub sound : IsSoundOption p o.uses
 
 pub all_options : (p : Puzzle) → IsValid p → AllByRecursion (IsOption p) (numbered_options p)
-all_options p v = each_from (IsOption p) (numbered_options p) is_option
-  where
-    is_option : (o : Numbered) → IsIn (numbered_options p) o → IsOption p o
-    is_option o h =
-        let at = numbered_at 0 p.options o h in
-        record {
-          known = (omega (arith, at.1), omega (arith, at.1, at.2));
-          uses = uses_known p o h;
-          sound = option_sound p 0 p.options o (recursion_from_All (IsSoundOption p) p.options v.options) h;
-        }
+all_options p v = each_from (IsOption p) (numbered_options p) (λ o h.
+    let at = numbered_at 0 p.options o h in
+    record {
+      known = (omega (arith, at.1), omega (arith, at.1, at.2));
+      uses = uses_known p o h;
+      sound = option_sound p 0 p.options o (recursion_from_All _ _ v.options) h;
+    })
 
 -- an item with its bounds
 pub with_bounds : (k : ℕ) (bs : List Bounds) (w : Wanted) → IsIn (wanted_from (k + 1) bs) w → (j : ℕ) × (b : Bounds)
     × (w.item ≡ k + suc j) × (j < length bs) × (slice_get bs j ≡ Some b) × (w.low ≡ b.low) × (w.high ≡ b.high)
 with_bounds k [] w h = absurd h
 with_bounds k (b ∷ bs) w (inl q) =
-    let same = ap (λ (z : Wanted). z.item) q in (
-      zero,
-      b,
-      omega (arith, same),
-      omega arith,
-      refl,
-      sym (ap (λ (z : Wanted). z.low) q),
-      sym
-          (ap (λ (z : Wanted). z.high) q),
-    )
+    let item = ap (λ (z : Wanted). z.item) q in
+    let low = ap (λ (z : Wanted). z.low) q in
+    let high = ap (λ (z : Wanted). z.high) q in
+    (zero, b, omega (arith, item), omega arith, refl, sym low, sym high)
 with_bounds k (b ∷ bs) w (inr q) =
     let later = with_bounds (k + 1) bs w q in
     (suc later.0, later.1, omega (arith, later.2), omega (arith, later.3), later.4, later.5, later.6)
@@ -76,12 +67,8 @@ pub at_item : (k : ℕ) (bs : List Bounds) (j : ℕ) (b : Bounds) → slice_get 
     × IsIn (wanted_from (k + 1) bs) w × (w.item ≡ k + suc j) × (w.low ≡ b.low) × (w.high ≡ b.high)
 at_item k [] j b e = cc
 at_item k (c ∷ bs) zero b e =
-    let same : c ≡ b = cc in (
-      record { item = k + 1; low = c.low; high = c.high },
-      inl refl,
-      omega arith,
-      ap (λ (z : Bounds). z.low) same,
-      ap
-          (λ (z : Bounds). z.high) same,
-    )
+    let same : c ≡ b = cc in
+    let low = ap (λ (z : Bounds). z.low) same in
+    let high = ap (λ (z : Bounds). z.high) same in
+    (record { item = k + 1; low = c.low; high = c.high }, inl refl, omega arith, low, high)
 at_item k (c ∷ bs) (suc j) b e = grind (arith, common_steps, at_item (k + 1) bs j b e)

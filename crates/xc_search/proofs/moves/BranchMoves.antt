@@ -91,7 +91,7 @@ option_at_item p i x option within = record {
   known = option.known;
   holds = rw option.uses within;
   items = rw option.uses (All-from_recursion _ x.uses (each_weaker (IsSoundUse p) _ x.uses (λ u s. s.0)
-      (recursion_from_All (IsSoundUse p) x.uses option.sound.sound)));
+      (recursion_from_All _ _ option.sound.sound)));
 }
 
 pub taken : (p : Puzzle) (t : List Move) (i k m : ℕ) (x : Numbered) → IsNode p t i
@@ -99,7 +99,7 @@ pub taken : (p : Puzzle) (t : List Move) (i k m : ℕ) (x : Numbered) → IsNode
     → Taken p t m i x
 taken p t i k m x n e h le =
     let option = of_left (IsOption p) i k (left p t) x (left_options p n.searchable.valid t) e in
-    let held : holds x i ≡ true = each_at _ (holding i (left p t)) k x (each_passes (λ o. holds o i) (left p t)) e in
+    let held : holds x i ≡ true = each_at _ _ _ _ (each_passes (λ o. holds o i) (left p t)) e in
     let pl = placed i x.uses held in
     let us = take (place_in i x.uses) x.uses in
     let vs = drop (place_in i x.uses + 1) x.uses in

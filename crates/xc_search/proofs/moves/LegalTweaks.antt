@@ -125,7 +125,7 @@ left_open p (suc m) i s x l o h e =
     ∙ ap (filter (λ o. not (holds o i && nat_le o.number x.number))) (left_open p m i s before.0 l.1 o h before.1)
     ∙ filter_both _ _ (left p s)
     ∙ filter_agree _ _ (λ o. cut_more (holds o i) (nat_le o.number before.0.number) (nat_le o.number x.number)
-    (λ b. le-leb o.number x.number (omega (arith, leb-true o.number before.0.number b, fewer)))) (left p s))
+    (λ b. le-leb o.number x.number (omega (arith, leb-true _ _ b, fewer)))) (left p s))
 
 -- ---- a level is begun at an open primary item
 

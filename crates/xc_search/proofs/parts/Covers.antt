@@ -18,6 +18,7 @@ use Rattle.xc_search.proofs.completeness.Whole.{is_listed, listed_in, in_listed,
 use Rattle.xc_search.proofs.parts.Numbers.{IsNumber, at_place, number_of_option, cover_of_problem, cover_of_part}
 use Rattle.xc_search.proofs.residual.NumberedOnce.{same_number}
 use Rattle.xc_input.proofs.FaultLemmas.BooleanTests.{and_left, and_right, or_other}
+use Rattle.xc_search.proofs.Cases.{by_bool}
 
 -- an option of the cover holds the item, and no other does
 pub record IsOne (p : Puzzle) (i : ℕ) (s : List ℕ) (x : Numbered) : Type 0 where
@@ -37,7 +38,7 @@ the_one p i s v once c =
     let met = (covers_whole p s v c).met w.0 w.1 in
     let times = ap (λ j. passing (is_held (is_listed s) j) (numbered_options p)) w.2 in
     let x = one_of (filter (is_held (is_listed s) i) (numbered_options p)) (omega (arith, met.0, times, w.3)) in
-    let found = in-filter (is_held (is_listed s) i) (numbered_options p) x.0 x.1 in (
+    let found = in-filter _ _ _ x.1 in (
       x.0,
       record {
         known = found.0;
@@ -46,7 +47,7 @@ the_one p i s v once c =
         only = λ y h at taken.
             let held : is_held (is_listed s) i y ≡ true = rw (at, in_listed s y.number taken) refl in
             let twice : y.number ≢ x.0.number → 2 ≤ passing (is_held (is_listed s) i) (numbered_options p) =
-            λ apart. two_pass (is_held (is_listed s) i) (numbered_options p) y x.0 h found.0 held found.1 apart in
+            λ apart. two_pass _ _ _ _ h found.0 held found.1 apart in
             grind (arith, twice, met.1, times, w.4);
       },
     )
@@ -64,15 +65,12 @@ before f P (o ∷ s) h =
 in_its_part : (p : Puzzle) (i : ℕ) (s : List ℕ) (x : Numbered) → IsCover p s → IsOne p i s x → (o : ℕ) → IsIn s o
     → (k : ℕ) × IsNumber (part p i x) k × (number_in_problem p i x k ≡ o)
 in_its_part p i s x c one o h =
-    let known = each_in (IsNumber p) s o (recursion_from_All (IsNumber p) s c.known) h in
+    let known = each_in _ _ _ (recursion_from_All (IsNumber p) s c.known) h in
     let y = option_of p o known.0 known.1 in
     let taken : IsIn s y.0.number = subst (IsIn s) (sym y.2) h in
     let kept : is_in_part i x y.0 ≡ true =
-    elim (holds y.0 i) as (λ b. holds y.0 i ≡ b → (not b || eqb y.0.number x.number) ≡ true) [
-      | true ↦ λ at. eq-eqb _ _ (one.only y.0 y.1 at taken)
-      | false ↦ λ at. refl
-    ] refl in
-    let at = number_of_option p i x y.0 (filter-in (is_in_part i x) (numbered_options p) y.0 y.1 kept) in
+    by_bool (holds y.0 i) (λ at. rw (at, eq-eqb _ _ (one.only y.0 y.1 at taken)) refl) (λ at. rw at refl) in
+    let at = number_of_option p i x y.0 (filter-in _ _ _ y.1 kept) in
     (at.0, at.1, at.2 ∙ y.2)
 
 pub parts_join : (p : Puzzle) → IsValid p → (i : ℕ) → IsHeldOnce p i → PartsJoin p i
@@ -84,8 +82,7 @@ parts_join p v i once s = (there, λ h. subst (IsCover p) (sym h.1.3) (cover_of_
         let t = before (number_in_problem p i x.0) (IsNumber (part p i x.0)) s (in_its_part p i s x.0 c x.1) in (
           x.0,
           (
-            contains-in (holding i (numbered_options p)) x.0
-                (filter-in (λ o. holds o i) (numbered_options p) x.0 x.1.known x.1.at),
+            contains-in _ _ (filter-in _ _ _ x.1.known x.1.at),
             t.0,
             cover_of_part p i x.0 t.0 t.1 (subst (IsCover p) t.2 c),
             t.2,
@@ -97,14 +94,11 @@ own_option : (p : Puzzle) (i : ℕ) (x : Numbered) (t : List ℕ) → IsValid p 
     → IsIn (in_problem p i x t) x.number
 own_option p i x t v once c =
     let one = the_one p i (in_problem p i x t) v once (cover_of_problem p i x t c) in
-    let from = in-map (number_in_problem p i x) t one.0.number one.1.taken in
-    let at =
-    at_place p i x from.0 (each_in (IsNumber (part p i x)) t from.0
-    (recursion_from_All (IsNumber (part p i x)) t c.known) from.1) in
-    let found =
-    in-filter (is_in_part i x) (numbered_options p) at.1 (in-slice_get (part_options p i x) at.0 at.1 at.3) in
-    let is : at.1 ≡ one.0 =
-    same_number 0 (numbered_options p) at.1 one.0 (options_rise p) found.0 one.1.known (sym at.4 ∙ from.2) in
+    let from = in-map _ _ _ one.1.taken in
+    let known = recursion_from_All (IsNumber (part p i x)) t c.known in
+    let at = at_place p i x from.0 (each_in _ _ _ known from.1) in
+    let found = in-filter _ _ _ (in-slice_get _ _ _ at.3) in
+    let is : at.1 ≡ one.0 = same_number _ _ _ _ (options_rise p) found.0 one.1.known (sym at.4 ∙ from.2) in
     let same = or_other _ _ (ap not one.1.at) (subst (λ o. is_in_part i x o ≡ true) is found.1) in
     subst (IsIn (in_problem p i x t)) (eqb-true one.0.number x.number same) one.1.taken
 
@@ -113,12 +107,11 @@ apart_by_parts : (p : Puzzle) → IsValid p → (i : ℕ) → IsHeldOnce p i →
     → (t u : List ℕ) → IsCover (part p i x) t → IsCover (part p i y) u
     → SameSet (in_problem p i x t) (in_problem p i y u) → x ≡ y
 apart_by_parts p v i once x y h k t u c d same =
-    let ofx = in-filter (λ o. holds o i) (numbered_options p) x (in-contains (holding i (numbered_options p)) x h) in
-    let ofy = in-filter (λ o. holds o i) (numbered_options p) y (in-contains (holding i (numbered_options p)) y k) in
+    let ofx = in-filter (λ o. holds o i) _ _ (in-contains (holding i (numbered_options p)) x h) in
+    let ofy = in-filter (λ o. holds o i) _ _ (in-contains (holding i (numbered_options p)) y k) in
     let one = the_one p i (in_problem p i y u) v once (cover_of_problem p i y u d) in
-    let there = (same x.number).0 (contains-in (in_problem p i x t) x.number (own_option p i x t v once c)) in
-    same_number 0 (numbered_options p) x y (options_rise p) ofx.0 ofy.0
-    (one.1.only x ofx.0 ofx.1 (in-contains (in_problem p i y u) x.number there)
+    let there = (same x.number).0 (contains-in _ _ (own_option p i x t v once c)) in
+    same_number _ _ _ _ (options_rise p) ofx.0 ofy.0 (one.1.only x ofx.0 ofx.1 (in-contains _ _ there)
     ∙ sym (one.1.only y ofy.0 ofy.1 (own_option p i y u v once d)))
 
 pub parts_are_apart : (p : Puzzle) → IsValid p → (i : ℕ) → IsHeldOnce p i → PartsAreApart p i

@@ -85,11 +85,11 @@ parts_are_listed p v w h x =
     (items_apart w.item one) (whole (front_part p w x)) order
   where
     one : 1 ≤ w.item
-    one = let at = with_bounds 0 p.bounds w (in-contains (whole p).items w h) in omega (arith, at.2)
+    one = let at = with_bounds 0 p.bounds w (in-contains _ _ h) in omega (arith, at.2)
 
     known : (y : Numbered) → Contains (whole (front_part p w x)).options y → IsNumber (part p w.item x) y.number
     known y k =
-        let at = numbered_at 0 (front_part p w x).options y (in-contains (whole (front_part p w x)).options y k) in
+        let at = numbered_at 0 (front_part p w x).options y (in-contains _ _ k) in
         let one_length =
         length-map (part_options p w.item x) (λ (o : Numbered). map (renumber_use (front_number w.item)) o.uses) in
         let other_length = length-map (part_options p w.item x) (λ (o : Numbered). o.uses) in
@@ -100,9 +100,8 @@ parts_are_listed p v w h x =
 
     uses_known : AllByRecursion (λ o. AllByRecursion (λ u. 1 ≤ u.item) o.uses) (part_options p w.item x)
     uses_known = each_from _ (part_options p w.item x) (λ o k.
-        let option = each_in (IsOption p) (numbered_options p) o (all_options p v) (in_whole p w.item x o k) in
-        each_weaker (IsSoundUse p) (λ u. 1 ≤ u.item) o.uses (λ u s. s.0.0)
-        (recursion_from_All (IsSoundUse p) o.uses option.sound.sound))
+        let option = each_in _ _ _ (all_options p v) (in_whole p w.item x o k) in
+        each_weaker (IsSoundUse p) (λ u. 1 ≤ u.item) o.uses (λ u s. s.0.0) (recursion_from_All _ _ option.sound.sound))
 
     same : renumber (front_item w.item) (number_in_problem p w.item x) (whole (front_part p w x)) ≡ part_in_front p w x
     same = as_residual _ _ _ _

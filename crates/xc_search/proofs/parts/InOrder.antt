@@ -25,6 +25,9 @@ use Rattle.xc_search.proofs.listing.Numbering.{with_bounds}
 use Rattle.xc_search.proofs.listing.Unrolled.{listing_unrolled}
 use Rattle.xc_search.proofs.parts.OneBranch.{only_choice, one_branch}
 use Rattle.xc_search.proofs.residual.PickedByUses.{as_residual, is_wanted}
+use Rattle.xc_search.proofs.completeness.Proper.{same_wanted}
+use Rattle.xc_search.proofs.Cases.{by_bool}
+use Rattle.xc_search.specs.Listing.{stays}
 
 -- ---- the option of a part is the one that holds the item
 
@@ -63,14 +66,9 @@ find_other i j (v ∷ ws) e = grind (arith, common_steps, find_other i j ws e, f
 
 same_left : (p : Puzzle) (w : Wanted) (x : Numbered) (j : ℕ) → IsProper (primary_count p) (whole p)
     → IsIn (whole p).items w → item_left (part_in_front p w x) j ≡ item_left (whole p) j
-same_left p w x j proper h =
-    elim (eqb w.item j) as (λ b. eqb w.item j ≡ b
-    → cond b (Some w) (find (λ v. eqb v.item j) (filter (is_other w.item) (whole p).items)) ≡ item_left
-    (whole p) j) [
-      | true ↦ λ e. sym (ap (item_left (whole p)) (sym (eqb-true w.item j e))
-          ∙ find-in 0 (whole p).items w proper.items_rise h)
-      | false ↦ λ e. find_other w.item j (whole p).items e
-    ] refl
+same_left p w x j proper h = by_bool (eqb w.item j)
+    (λ e. rw e (sym (ap (item_left (whole p)) (sym (eqb-true w.item j e)) ∙ find-in _ _ _ proper.items_rise h)))
+    (λ e. rw e (find_other w.item j (whole p).items e))
 
 -- w is an item of the problem, to be held once, and x an option that holds it
 pub record IsSplit (p : Puzzle) (w : Wanted) (x : Numbered) : Type 0 where
@@ -83,7 +81,7 @@ same_items : (p : Puzzle) (w : Wanted) (x : Numbered) → IsSplit p w x
     → (pick (part_in_front p w x) w.item x).items ≡ (pick (whole p) w.item x).items
 same_items p w x c =
     rw gone (filter-map is_wanted (spend_one x) (filter (is_other w.item) (whole p).items)
-    ∙ ap (map (spend_one x)) (filter_both (λ v. is_wanted (spend_one x v)) (is_other w.item) (whole p).items
+    ∙ ap (map (spend_one x)) (filter_both _ _ (whole p).items
     ∙ filter_same (λ v. is_other w.item v && is_wanted (spend_one x v)) (λ v. is_wanted (spend_one x v)) (whole p).items
     (each_from _ (whole p).items kept))
     ∙ sym (filter-map is_wanted (spend_one x) (whole p).items))
@@ -93,40 +91,29 @@ same_items p w x c =
 
     kept : (v : Wanted) → IsIn (whole p).items v
         → (is_other w.item v && is_wanted (spend_one x v)) ≡ is_wanted (spend_one x v)
-    kept v h =
-        elim (eqb v.item w.item) as
-        (λ b. eqb v.item w.item ≡ b → (not b && is_wanted (spend_one x v)) ≡ is_wanted (spend_one x v)) [
-          | true ↦ λ e.
-              let one = find-in 0 (whole p).items w c.proper.items_rise c.wanted in
-              let two = find-in 0 (whole p).items v c.proper.items_rise h in
-              let found = ap (item_left (whole p)) (eqb-true v.item w.item e) in
-              let is : v ≡ w = cc in
-              sym (ap (λ u. is_wanted (spend_one x u)) is ∙ gone)
-          | false ↦ λ e. refl
-        ] refl
+    kept v h = by_bool (eqb v.item w.item)
+        (λ e. let is = same_wanted (primary_count p) (whole p) v w c.proper h c.wanted e in
+        rw e (sym (ap (λ u. is_wanted (spend_one x u)) is ∙ gone)))
+        (λ e. rw e refl)
 
 same_options : (p : Puzzle) (w : Wanted) (x : Numbered) → IsSplit p w x
     → (pick (part_in_front p w x) w.item x).options ≡ (pick (whole p) w.item x).options
 same_options p w x c =
     ap (λ (left : ℕ → Option Wanted). filter
     (λ o. not (holds o w.item && nat_le o.number x.number) && list_all (λ u. may_stay (left u.item) u o) x.uses)
-    (part_options p w.item x)) (λ k j. same_left p w x j c.proper c.wanted k)
-    ∙ filter_both (goes_on (whole p) w.item x) (is_in_part w.item x) (numbered_options p)
+    (part_options p w.item x)) (λ k j. same_left p w x j c.proper c.wanted k) ∙ filter_both _ _ (numbered_options p)
     ∙ filter_same (λ o. is_in_part w.item x o && goes_on (whole p) w.item x o) (goes_on (whole p) w.item x)
     (numbered_options p) (each_from _ (numbered_options p) kept)
   where
     kept : (o : Numbered) → IsIn (numbered_options p) o
         → (is_in_part w.item x o && goes_on (whole p) w.item x o) ≡ goes_on (whole p) w.item x o
-    kept o h =
-        elim (goes_on (whole p) w.item x o) as
-        (λ b. goes_on (whole p) w.item x o ≡ b → (is_in_part w.item x o && b) ≡ b) [
-          | true ↦ λ e.
-              let left = find-in 0 (whole p).items w c.proper.items_rise c.wanted in
-              let free : holds o w.item ≡ false =
-              used_up (whole p) x o w (and_right _ _ e) c.at left (le-ltb 1 w.high (omega (arith, c.once))) in
-              rw free refl
-          | false ↦ λ e. and-false (is_in_part w.item x o)
-        ] refl
+    kept o h = by_bool (goes_on (whole p) w.item x o)
+        (λ e.
+        let left = find-in _ _ _ c.proper.items_rise c.wanted in
+        let stay = and_right (not (holds o w.item && nat_le o.number x.number)) (stays (whole p) x o) e in
+        let free = used_up (whole p) x o w stay c.at left (le-ltb 1 w.high (omega (arith, c.once))) in
+        rw e (rw free refl))
+        (λ e. rw e (and-false (is_in_part w.item x o)))
 
 same_pick : (p : Puzzle) (w : Wanted) (x : Numbered) → IsSplit p w x
     → pick (part_in_front p w x) w.item x ≡ pick (whole p) w.item x

@@ -39,12 +39,9 @@ unfolding listing
 parts_cover p v w h once x k m t =
     let n = primary_count p in
     let proper = proper_whole p v in
-    let held = in-contains (holding w.item (numbered_options p)) x t.0 in
-    let found = in-filter (λ o. holds o w.item) (numbered_options p) x held in
-    let from =
-    in-map (λ m. only_choice w.item x ∷ m) (listing (pick (whole p) w.item x)) m
-    (subst (λ ms. IsIn ms m) (branch p v w h once x held)
-    (in-slice_get (listing (part_in_front p w x)) k m t.1)) in
+    let held = in-contains _ _ t.0 in
+    let found = in-filter (λ o. holds o w.item) _ _ held in
+    let from = in-map _ _ _ (subst (λ ms. IsIn ms m) (branch p v w h once x held) (in-slice_get _ _ _ t.1)) in
     let s =
     members_solve n (size_of (pick (whole p) w.item x)) (pick (whole p) w.item x) from.0
     (proper_pick n w.item (whole p) x proper) (omega arith) from.1 in
@@ -69,22 +66,14 @@ parts_list_covers p v w h once s c =
       first = λ y j at e. omega (arith, x.1.only y j at (listed_in s y.number e));
     } in
     let q = pick (whole p) w.item x.0 in
-    let m =
-    listed_for n (size_of q) q (is_listed s) (proper_pick n w.item (whole p) x.0 proper)
-    (covers_pick n (whole p) (is_listed s) w.item x.0 proper covers first) (omega arith) in
-    let whole_m =
-    member_pick n (whole p) (is_listed s) w.item x.0 (only_choice w.item x.0) m.0 proper covers first refl m.2 in
-    let held = filter-in (λ o. holds o w.item) (numbered_options p) x.0 x.1.known x.1.at in
-    let listed =
-    subst (λ ms. IsIn ms (only_choice w.item x.0 ∷ m.0)) (sym (branch p v w h once x.0 held))
-    (map-in (λ m. only_choice w.item x.0 ∷ m) (listing q) m.0 m.1) in
-    let at = slice_get-in (listing (part_in_front p w x.0)) (only_choice w.item x.0 ∷ m.0) listed in (
-      x.0,
-      at.0,
-      only_choice w.item x.0 ∷ m.0,
-      (contains-in (holding w.item (numbered_options p)) x.0 held, at.1),
-      same_set p s (only_choice w.item x.0 ∷ m.0) c whole_m,
-    )
+    let d = only_choice w.item x.0 in
+    let m = listed_for n (size_of q) q (is_listed s) (proper_pick n w.item (whole p) x.0 proper)
+    (covers_pick n (whole p) (is_listed s) proper covers w.item x.0 first) (omega arith) in
+    let whole_m = member_pick n (whole p) (is_listed s) proper covers w.item x.0 d m.0 first refl m.2 in
+    let held = filter-in _ _ _ x.1.known x.1.at in
+    let listed = subst (λ ms. IsIn ms (d ∷ m.0)) (sym (branch p v w h once x.0 held)) (map-in _ _ _ m.1) in
+    let at = slice_get-in (listing (part_in_front p w x.0)) (d ∷ m.0) listed in
+    (x.0, at.0, d ∷ m.0, (contains-in _ _ held, at.1), same_set p s (d ∷ m.0) c whole_m)
 
 part_differs : (p : Puzzle) (w : Wanted) (x : Numbered) → EachTwo Differ (listing (part_in_front p w x))
 unfolding listing
@@ -102,16 +91,12 @@ parts_list_once p v w h once x y j k l m t u same = (
   where
     of_item : (z : Numbered) → Contains (holding w.item (numbered_options p)) z → IsIn (numbered_options p) z
         × (holds z w.item ≡ true)
-    of_item z c =
-        in-filter (λ o. holds o w.item) (numbered_options p) z (in-contains (holding w.item (numbered_options p)) z c)
+    of_item z c = in-filter (λ o. holds o w.item) _ _ (in-contains (holding w.item (numbered_options p)) z c)
 
     own : (z : Numbered) (i : ℕ) (n : List Choice) → IsPartMember p w z i n → IsIn (options_of n) z.number
     own z i n c =
-        let held = in-contains (holding w.item (numbered_options p)) z c.0 in
-        let from =
-        in-map (λ m. only_choice w.item z ∷ m) (listing (pick (whole p) w.item z)) n
-        (subst (λ ms. IsIn ms n) (branch p v w h once z held)
-        (in-slice_get (listing (part_in_front p w z)) i n c.1)) in
+        let held = in-contains _ _ c.0 in
+        let from = in-map _ _ _ (subst (λ ms. IsIn ms n) (branch p v w h once z held) (in-slice_get _ _ _ c.1)) in
         subst (λ m. IsIn (options_of m) z.number) from.2 (inl refl)
 
     xy : x ≡ y
@@ -119,8 +104,6 @@ parts_list_once p v w h once x y j k l m t u same = (
         let one = the_one p w.item (options_of m) v once (parts_cover p v w h once y k m u) in
         let from_x = of_item x t.0 in
         let from_y = of_item y u.0 in
-        let in_m =
-        in-contains (options_of m) x.number
-        ((same x.number).0 (contains-in (options_of l) x.number (own x j l t))) in
-        same_number 0 (numbered_options p) x y (options_rise p) from_x.0 from_y.0
+        let in_m = in-contains _ _ ((same x.number).0 (contains-in _ _ (own x j l t))) in
+        same_number _ _ _ _ (options_rise p) from_x.0 from_y.0
         (one.1.only x from_x.0 from_x.1 in_m ∙ sym (one.1.only y from_y.0 from_y.1 (own y k m u)))

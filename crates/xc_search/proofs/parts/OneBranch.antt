@@ -16,6 +16,7 @@ use Rattle.xc_search.proofs.completeness.Proper.{goes_on}
 use Rattle.xc_search.proofs.listing.BranchesLess.{less_options, least_is_one}
 use Rattle.xc_search.proofs.listing.EachBranch.{behind}
 use Rattle.xc_search.proofs.listing.Unrolled.{listing_unrolled}
+use Rattle.xc_search.proofs.Cases.{by_bool}
 
 -- ---- the item with the fewest branches
 
@@ -27,21 +28,9 @@ best_least : (count : Wanted → ℕ) (w : Wanted) (ws : List Wanted) (v : Wante
     → count (best count w ws) ≤ count v
 best_least count w [] v (inl q) = omega (arith, ap count q)
 best_least count w [] v (inr q) = absurd q
-best_least count w (u ∷ us) v h =
-    elim (nat_lt (count u) (count w)) as
-    (λ b. nat_lt (count u) (count w) ≡ b → count (best count (cond b u w) us) ≤ count v) [
-      | true ↦ λ e. elim h [
-        | inl q ↦ omega (arith, ltb-true (count u) (count w) e, best_least count u us u (inl refl), ap count q)
-        | inr q ↦ best_least count u us v q
-      ]
-      | false ↦ λ e. elim h [
-        | inl q ↦ best_least count w us v (inl q)
-        | inr q ↦ elim q [
-          | inl k ↦ omega (arith, ltb-false (count u) (count w) e, best_least count w us w (inl refl), ap count k)
-          | inr k ↦ best_least count w us v (inr k)
-        ]
-      ]
-    ] refl
+best_least count w (u ∷ us) v h = by_bool (nat_lt (count u) (count w))
+    (λ e. grind (arith, common_steps, best_least count u us u (inl refl), best_least count u us v, ltb-true))
+    (λ e. grind (arith, common_steps, best_least count w us w (inl refl), best_least count w us v, ltb-false))
 
 -- it is the first, or has fewer than the first
 best_first : (count : Wanted → ℕ) (w : Wanted) (ws : List Wanted) → (best count w ws ≡ w)
@@ -81,25 +70,17 @@ still_short r i x v h k sound e =
         → length (filter (goes_on r i x) (holding v.item r.options)) < length (holding v.item r.options)
     fewer at =
         let found = in-filter (λ o. holds o i) r.options x h in
-        each_in (λ (y : Numbered). length (filter (goes_on r i y) (holding v.item r.options)) < length
-        (holding v.item r.options)) (holding i (holding v.item r.options)) x
-        (less_options i (goes_on r i) (λ y q. rw (q, le-leb y.number y.number (omega arith)))
-        (holding v.item r.options))
-        (filter-in (λ o. holds o i) (holding v.item r.options) x
-        (filter-in (λ o. holds o v.item) r.options x found.0 at) found.1)
+        let hs = holding v.item r.options in
+        each_in (λ (y : Numbered). length (filter (goes_on r i y) hs) < length hs) (holding i hs) x
+        (less_options i (goes_on r i) (λ y q. rw (q, le-leb y.number y.number (omega arith))) hs)
+        (filter-in (λ o. holds o i) hs x (filter-in (λ o. holds o v.item) r.options x found.0 at) found.1)
 
     by_holding : (nat_lt 0 (spend_one x v).high ≡ true) × (branch_count (pick r i x) (spend_one x v) ≡ 0)
     by_holding =
-        elim (holds x v.item) as
-        (λ b. holds x v.item ≡ b → (nat_lt 0 (cond b (less_one v) v).high ≡ true)
-        × (branch_count (pick r i x) (cond b (less_one v) v) ≡ 0)) [
-          | true ↦ λ at. (lt-ltb 0 (v.high - 1) (omega (arith, e, sound, fewer at)), omega (arith, e, swap, fewer at))
-          | false ↦ λ at. (
-            lt-ltb 0 v.high (omega (arith, e, sound)),
-            omega
-                (arith, e, swap, length-filter-le (goes_on r i x) (holding v.item r.options)),
-          )
-        ] refl
+        let few = length-filter-le (goes_on r i x) (holding v.item r.options) in
+        by_bool (holds x v.item)
+        (λ at. rw at (lt-ltb 0 (v.high - 1) (omega (arith, e, sound, fewer at)), omega (arith, e, swap, fewer at)))
+        (λ at. rw at (lt-ltb 0 v.high (omega (arith, e, sound)), omega (arith, e, swap, few)))
 
 -- ---- one branch
 

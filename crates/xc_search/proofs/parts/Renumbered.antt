@@ -23,6 +23,7 @@ use Rattle.xc_input.proofs.lists.Members.{IsIn, in-filter, in-take, each_from, c
 use Rattle.xc_search.proofs.completeness.Proper.{goes_on}
 use Rattle.xc_search.proofs.listing.EachBranch.{IsTaken, IsNone, takes, nones, behind, in-branches}
 use Rattle.xc_search.proofs.residual.PickedByUses.{as_residual, is_wanted}
+use Rattle.xc_search.proofs.Cases.{by_bool, by_option}
 
 module _ (f g : ℕ → ℕ) (apart : AreKeptApart f) where
   same_item : (i j : ℕ) → eqb (f i) (f j) ≡ eqb i j
@@ -80,11 +81,8 @@ module _ (f g : ℕ → ℕ) (apart : AreKeptApart f) where
       (find (λ w. eqb w.item j) ws)
   same_left [] j = refl
   same_left (w ∷ ws) j =
-      ap₂ (λ b o. cond b (Some (renumber_item f w)) o) (same_item w.item j) (same_left ws j)
-      ∙ elim (eqb w.item j) as
-      (λ b. cond b (Some (renumber_item f w)) (option_map (renumber_item f) (find (λ w. eqb w.item j) ws)) ≡
-      option_map (renumber_item f) (cond b (Some w) (find (λ w. eqb w.item j) ws)))
-      [ true ↦ refl | false ↦ refl ]
+      by_bool (eqb w.item j)
+      (λ e. rw (same_item w.item j ∙ e, e) refl) (λ e. rw (same_item w.item j ∙ e, e) (same_left ws j))
 
   same_stay : (left : Option Wanted) (u : Use) (o : Numbered)
       → may_stay (option_map (renumber_item f) left) (renumber_use f u) (renumber_option f g o) ≡ may_stay left u o
@@ -102,10 +100,8 @@ module _ (f g : ℕ → ℕ) (apart : AreKeptApart f) where
   same_spend : (x : Numbered) (w : Wanted)
       → spend_one (renumber_option f g x) (renumber_item f w) ≡ renumber_item f (spend_one x w)
   same_spend x w =
-      ap (λ b. cond b (less_one (renumber_item f w)) (renumber_item f w)) (same_holds x w.item)
-      ∙ elim (holds x w.item) as
-      (λ b. cond b (less_one (renumber_item f w)) (renumber_item f w) ≡ renumber_item f (cond b (less_one w) w))
-      [ true ↦ refl | false ↦ refl ]
+      by_bool (holds x w.item)
+      (λ e. rw (same_holds x w.item ∙ e, e) refl) (λ e. rw (same_holds x w.item ∙ e, e) refl)
 
   -- options in order, of which some are left
   abbrev InOrder : List Numbered → Type 0
@@ -155,14 +151,10 @@ module _ (f g : ℕ → ℕ) (apart : AreKeptApart f) where
       ∙ ap₂ (λ a b. a ++ b)
       (ap (λ os. map (take_branch (renumber f g r) (f w.item) n) (enumerate_from 1 os))
       (take-map (renumber_option f g) n hs)
-      ∙ same_takes r w.item n 1 (take n hs) order
-      (λ x h. (in-filter (λ o. holds o w.item) r.options x (in-take n hs x h)).0))
-      (elim (eqb w.low 0) as (λ b. cond b (none_branch (renumber f g r) (f w.item) n ∷ []) [] ≡ map renumber_branch
-      (cond b (none_branch r w.item n ∷ []) [])) [
-        | true ↦ ap (λ z. let b : Branch = record
-            { choice = renumber_choice f g (none_branch r w.item n).choice; next = z } in b ∷ []) (same_none r w.item)
-        | false ↦ refl
-      ])
+      ∙ same_takes r w.item n 1 (take n hs) order (λ x h. (in-filter (λ o. holds o w.item) _ _ (in-take n hs x h)).0))
+      (by_bool (eqb w.low 0) (λ e. rw e (ap (λ z. let b : Branch = record
+      { choice = renumber_choice f g (none_branch r w.item n).choice; next = z } in b ∷ []) (same_none r w.item)))
+      (λ e. rw e refl))
       ∙ sym (map-append renumber_branch (takes r w) (nones r w))
 
   -- ---- levels
@@ -181,10 +173,8 @@ module _ (f g : ℕ → ℕ) (apart : AreKeptApart f) where
 
   was_left : (r : Residual) (w : Wanted) (b : Branch) (o : Numbered) → IsTaken r w b ⊎ IsNone r w b
       → IsIn b.next.options o → IsIn r.options o
-  was_left r w b o (inl t) h =
-      (in-filter (goes_on r w.item t.x) r.options o (subst (λ (z : Residual). IsIn z.options o) t.next h)).0
-  was_left r w b o (inr t) h =
-      (in-filter (λ o. not (holds o w.item)) r.options o (subst (λ (z : Residual). IsIn z.options o) t.next h)).0
+  was_left r w b o (inl t) h = (in-filter _ _ _ (subst (λ (z : Residual). IsIn z.options o) t.next h)).0
+  was_left r w b o (inr t) h = (in-filter _ _ _ (subst (λ (z : Residual). IsIn z.options o) t.next h)).0
 
   same_listing : (d : ℕ) (r : Residual) → InOrder r.options
       → listing_to d (renumber f g r) ≡ map (map (renumber_choice f g)) (listing_to d r)
@@ -192,15 +182,11 @@ module _ (f g : ℕ → ℕ) (apart : AreKeptApart f) where
   same_listing zero r order = refl
   same_listing (suc d) r order =
       ap (λ o. level (listing_to d) o (renumber f g r)) (same_branch_item r)
-      ∙ elim (branch_item r) as
-      (λ o. level (listing_to d) (option_map (renumber_item f) o) (renumber f g r) ≡ map (map (renumber_choice f g))
-      (level (listing_to d) o r)) [
-        | None ↦ refl
-        | Some w ↦ ap (flat_map (behind (listing_to d))) (same_branches r w order)
-            ∙ same_behind (listing_to d) (branches_of r w) (λ b h.
-            let kind = in-branches r w b h in
-            same_listing d b.next (λ x y j k. order x y (was_left r w b x kind j) (was_left r w b y kind k)))
-      ]
+      ∙ by_option (branch_item r) (λ e. rw e refl) (λ w e. rw e
+      (ap (flat_map (behind (listing_to d))) (same_branches r w order)
+      ∙ same_behind (listing_to d) (branches_of r w) (λ b h.
+      let kind = in-branches r w b h in
+      same_listing d b.next (λ x y j k. order x y (was_left r w b x kind j) (was_left r w b y kind k)))))
 
 pub listing_renumbered : (f g : ℕ → ℕ) → AreKeptApart f → (r : Residual) → AreKeptInOrder g r.options → ListsAlike f g r
 unfolding listing

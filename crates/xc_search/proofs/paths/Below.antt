@@ -17,23 +17,13 @@ use Rattle.xc_search.specs.inner.Levels.{AreStacked, branches_at, chosen, choice
 use Rattle.xc_search.specs.inner.Paths.{IsLed, AreLed}
 use Rattle.xc_search.proofs.residual.BranchItemLeft.{no_moves_leave_all}
 use Rattle.xc_search.proofs.stacked.BegunComesFirst.{choices_more}
-
-at_end : (o : Option Residual) → option_and_then (left_by []) o ≡ o
-at_end None = refl
-at_end (Some r) = refl
-
-further : (path : List Choice) (c : Choice)
-    → ((r : Residual) → left_by (path ++ c ∷ []) r ≡ option_and_then (left_by_one c) (left_by path r)) →
-    (o : Option Residual) → option_and_then (left_by (path ++ c ∷ [])) o ≡ option_and_then (left_by_one c)
-    (option_and_then (left_by path) o)
-further path c more None = refl
-further path c more (Some r) = more r
+use Rattle.xc_search.proofs.Cases.{by_option}
 
 -- one choice more
 pub left_by_more : (path : List Choice) (c : Choice) (r : Residual) → left_by
     (path ++ c ∷ []) r ≡ option_and_then (left_by_one c) (left_by path r)
-left_by_more [] c r = at_end (left_by_one c r)
-left_by_more (x ∷ path) c r = further path c (left_by_more path c) (left_by_one x r)
+left_by_more [] c r = by_option (left_by_one c r) (λ e. rw e refl) (λ s e. rw e refl)
+left_by_more (x ∷ path) c r = by_option (left_by_one x r) (λ e. rw e refl) (λ s e. rw e (left_by_more path c s))
 
 pub has_its_choice : (b : Branch) → has_choice b.choice b ≡ true
 has_its_choice b = grind (arith, common_steps, same)
@@ -42,12 +32,7 @@ has_its_choice b = grind (arith, common_steps, same)
     same n = eq-eqb n n refl
 
 pub branches_same : (p : Puzzle) (t : List Move) → branches_left (residual_of p t) ≡ branches_at p t
-branches_same p t = by_case (branch_item (residual_of p t)) refl
-  where
-    by_case : (o : Option Wanted) → branch_item (residual_of p t) ≡ o
-        → branches_left (residual_of p t) ≡ branches_at p t
-    by_case None e = rw e refl
-    by_case (Some w) e = rw e refl
+branches_same p t = by_option (branch_item (residual_of p t)) (λ e. rw e refl) (λ w e. rw e refl)
 
 led_by_one : (p : Puzzle) (t : List Move) (l : Level) → IsLed p t l
     → left_by_one (chosen p l) (residual_of p (oldest l.mark t)) ≡ Some (residual_of p t)

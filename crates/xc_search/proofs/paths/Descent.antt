@@ -90,14 +90,8 @@ down_none p numbers all path other t k ks d none e is = grind (arith, common_ste
 pub down_standing : (p : Puzzle) (numbers : List ℕ) (path : List Choice) (t : List Move) (ls : List Level) →
     IsDown p numbers path t → ls ≡ [] → IsStanding p t ls true
 down_standing p numbers path t ls d e =
-    let shallow : IsShallow p t [] =
-    omega (
-      arith,
-      left_less path (whole p) (residual_of p t) d.left,
-      ap size_of
-          (no_moves_leave_all p),
-      shallow_first p,
-    ) in
+    let less = left_less path (whole p) (residual_of p t) d.left in
+    let shallow : IsShallow p t [] = omega (arith, less, ap size_of (no_moves_leave_all p), shallow_first p) in
     subst (λ ls. IsStanding p t ls true) (sym e)
     (record { stacked = tt; searchable = λ _. d.searchable; shallow = λ _. shallow })
 

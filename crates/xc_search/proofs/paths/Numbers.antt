@@ -1,7 +1,7 @@
 -- A path is told by the numbers of its branches, and its members are a run of the listing.
 use Rattle.std.proofs.lemmas.Grind.{common_steps}
 use Rattle.std.proofs.Common.{ℕ, zero, suc, ◌≡◌, ◌-◌, ◌<◌, ◌≤◌, Bool, true, false, cond, ◌&&◌, List, [], ◌∷◌, ◌++◌}
-use Rattle.std.proofs.Common.{length, map, take, drop, Option, Some, None, refl, sym, ap, ap₂, ◌∙◌, arith}
+use Rattle.std.proofs.Common.{length, map, take, drop, Option, Some, None, refl, sym, ap, ap₂, ◌∙◌, arith, length-drop}
 use Rattle.std.proofs.Common.{eqb-true, append-nil, ◌⊎◌, inl, inr}
 use Rattle.std.specs.Prelude.{All, slice_get, flat_map, unwrap_or, option_map, option_and_then}
 use Rattle.std.proofs.lemmas.List.{map-id}
@@ -21,21 +21,15 @@ use Rattle.xc_input.proofs.lists.EachElement.{each_at}
 use Rattle.xc_search.proofs.listing.Unrolled.{listing_unrolled}
 use Rattle.xc_search.proofs.listing.BranchLists.{branch_takes, branch_none, branches_end}
 use Rattle.xc_search.proofs.listing.BranchesLess.{branches_less}
-
-both : (x y : Bool) → x && y ≡ true → (x ≡ true) × (y ≡ true)
-both true true e = (refl, refl)
-both true false e = absurd (cc e)
-both false y e = absurd (cc e)
+use Rattle.xc_search.proofs.Cases.{by_bool, by_option}
+use Rattle.xc_input.proofs.FaultLemmas.BooleanTests.{and_left, and_right}
 
 same_option : (a b : Option ℕ) → option_or_none a ≡ option_or_none b → a ≡ b
-same_option None None e = refl
-same_option None (Some b) e = absurd (cc e)
-same_option (Some a) None e = absurd (cc e)
-same_option (Some a) (Some b) e = ap Some (cc e)
+same_option a b e = grind (arith, common_steps)
 
 -- the choice of a branch is its own
 pub its_choice : (c : Choice) (b : Branch) → has_choice c b ≡ true → b.choice ≡ c
-its_choice c b e = grind (arith, common_steps, both, eqb-true, same_option)
+its_choice c b e = grind (arith, common_steps, and_left, and_right, eqb-true, same_option)
 
 -- a choice of a path is that of a branch
 record Stepped (c : Choice) (r s : Residual) : Type 0 where
@@ -44,23 +38,18 @@ record Stepped (c : Choice) (r s : Residual) : Type 0 where
   pub choice : branch.choice ≡ c
   pub next : branch.next ≡ s
 
-stepped : (c : Choice) (r s : Residual) → left_by_one c r ≡ Some s → Stepped c r s
-stepped c r s e = by_branch (slice_get (branches_left r) (c.k - 1)) refl e
-  where
-    by_test : (b : Branch) (t : Bool) → slice_get (branches_left r) (c.k - 1) ≡ Some b → has_choice c b ≡ t →
-        cond t (Some b.next) None ≡ Some s → Stepped c r s
-    by_test b true at t e = record { branch = b; at = at; choice = its_choice c b t; next = cc e }
-    by_test b false at t e = absurd (cc e)
-
-    by_branch : (o : Option Branch) → slice_get (branches_left r) (c.k - 1) ≡ o →
-        option_and_then (λ b. cond (has_choice c b) (Some b.next) None) o ≡ Some s → Stepped c r s
-    by_branch None at e = absurd (cc e)
-    by_branch (Some b) at e = by_test b (has_choice c b) at refl e
-
-then_left : (f : Residual → Option Residual) (o : Option Residual) (s : Residual) → option_and_then f o ≡ Some s →
-    (r : Residual) × (o ≡ Some r) × (f r ≡ Some s)
+then_left : {X : Type 0} (f : X → Option Residual) (o : Option X) (s : Residual) → option_and_then f o ≡ Some s →
+    (x : X) × (o ≡ Some x) × (f x ≡ Some s)
 then_left f None s e = absurd (cc e)
-then_left f (Some r) s e = (r, refl, e)
+then_left f (Some x) s e = (x, refl, e)
+
+stepped : (c : Choice) (r s : Residual) → left_by_one c r ≡ Some s → Stepped c r s
+stepped c r s e =
+    let found = then_left (λ b. cond (has_choice c b) (Some b.next) None) (slice_get (branches_left r) (c.k - 1)) s e in
+    let b = found.0 in
+    by_bool (has_choice c b)
+    (λ t. record { branch = b; at = found.1; choice = its_choice c b t; next = cc (rw t at found.2) })
+    (λ t. absurd (cc (rw t at found.2)))
 
 -- branches of the same number are the same
 same_step : (c d : Choice) (r x y : Residual) → c.k ≡ d.k → left_by_one c r ≡ Some x → left_by_one d r ≡ Some y →
@@ -94,53 +83,37 @@ no_further (d ∷ done) (c ∷ path) r s x k ks e none n f =
 -- the number of a branch is its place
 number_at : (r : Residual) (w : Wanted) (j : ℕ) (b : Branch) → j < branch_count r w → slice_get
     (branches_of r w) j ≡ Some b → b.choice.k ≡ suc j
-number_at r w j b h e = by_option (slice_get (holding w.item r.options) j) refl
-  where
-    from : (a : Branch) → slice_get (branches_of r w) j ≡ Some a → a.choice.k ≡ suc j → b.choice.k ≡ suc j
-    from a f k = let same : b ≡ a = cc (sym e ∙ f) in ap (λ (b : Branch). b.choice.k) same ∙ k
-
-    by_option : (o : Option Numbered) → slice_get (holding w.item r.options) j ≡ o → b.choice.k ≡ suc j
-    by_option (Some x) f = grind (arith, common_steps, branch_takes r w j x h f)
-    by_option None f = let last = branch_none r w j h f in from (none_branch r w.item (branch_count r w)) last.0 last.2
+number_at r w j b h e = by_option (slice_get (holding w.item r.options) j)
+    (λ f.
+    let last = branch_none r w j h f in
+    let same : b ≡ none_branch r w.item (branch_count r w) = cc (e, last.0) in
+    ap (λ (b : Branch). b.choice.k) same ∙ last.2)
+    (λ x f. grind (arith, common_steps, branch_takes r w j x h f))
 
 few_branches : (r : Residual) (w : Wanted) (j : ℕ) (b : Branch) → slice_get (branches_of r w) j ≡ Some b →
     j < branch_count r w
-few_branches r w j b e = grind (arith, common_steps, slice_get_within (branches_of r w) j b e, branches_end r w)
-  where
-    past : {X : Type 0} (n : ℕ) (xs : List X) → drop n xs ≡ [] → length xs ≤ n
-    past n [] e = omega arith
-    past zero (x ∷ xs) e = absurd (cc e)
-    past (suc n) (x ∷ xs) e = omega (arith, past n xs e)
-
--- and none whose number is 0 or greater than theirs
-pub no_branch : (c : Choice) (r : Residual) (w : Wanted) (n : ℕ) → branch_item r ≡ Some w → n ≡ branch_count r w →
-    (c.k ≡ 0) ⊎ (n < c.k) → left_by_one c r ≡ None
-no_branch c r w n e count out = grind (arith, common_steps, by_branch (slice_get (branches_of r w) (c.k - 1)))
-  where
-    not_here : (b : Branch) → slice_get (branches_of r w) (c.k - 1) ≡ Some b → has_choice c b ≡ true → (c.k ≡ 0) ⊎
-        (n < c.k) → ⊥
-    not_here b at t (inl none) = grind (arith, common_steps, few_branches, number_at, its_choice)
-    not_here b at t (inr more) = omega (arith, more, count, few_branches r w (c.k - 1) b at)
-
-    by_test : (b : Branch) (t : Bool) → slice_get (branches_of r w) (c.k - 1) ≡ Some b → has_choice c b ≡ t →
-        cond t (Some b.next) None ≡ None
-    by_test b true at t = absurd (not_here b at t out)
-    by_test b false at t = refl
-
-    by_branch : (o : Option Branch) → slice_get (branches_of r w) (c.k - 1) ≡ o →
-        option_and_then (λ b. cond (has_choice c b) (Some b.next) None) o ≡ None
-    by_branch None at = refl
-    by_branch (Some b) at = by_test b (has_choice c b) at refl
+few_branches r w j b e =
+    let n = branch_count r w in
+    let bs = branches_of r w in
+    omega (arith, slice_get_within bs j b e, ap length (branches_end r w), length-drop n bs)
 
 -- a branch is one of the branch item's
 item_of : (r : Residual) (j : ℕ) (b : Branch) → slice_get (branches_left r) j ≡ Some b → (w : Wanted) ×
     (branch_item r ≡ Some w) × (slice_get (branches_of r w) j ≡ Some b)
-item_of r j b e = by_item (branch_item r) refl
-  where
-    by_item : (o : Option Wanted) → branch_item r ≡ o → (w : Wanted) × (branch_item r ≡ Some w) ×
-        (slice_get (branches_of r w) j ≡ Some b)
-    by_item None f = grind (arith, common_steps)
-    by_item (Some w) f = (w, f, sym (ap (λ o. slice_get (unwrap_or (option_map (branches_of r) o) []) j) f) ∙ e)
+item_of r j b e = by_option (branch_item r) (λ f. grind (arith, common_steps))
+    (λ w f. (w, f, sym (ap (λ o. slice_get (unwrap_or (option_map (branches_of r) o) []) j) f) ∙ e))
+
+-- and none whose number is 0 or greater than theirs
+pub no_branch : (c : Choice) (r : Residual) (w : Wanted) (n : ℕ) → branch_item r ≡ Some w → n ≡ branch_count r w →
+    (c.k ≡ 0) ⊎ (n < c.k) → left_by_one c r ≡ None
+no_branch c r w n e count out = by_option (left_by_one c r) (λ none. none) (λ s f.
+    let a = stepped c r s f in
+    let i = item_of r (c.k - 1) a.branch a.at in
+    let same : i.0 ≡ w = cc (i.1, e) in
+    let few = few_branches r i.0 (c.k - 1) a.branch i.2 in
+    let number = number_at r i.0 (c.k - 1) a.branch few i.2 in
+    let its = ap (λ (c : Choice). c.k) a.choice in
+    absurd (omega (arith, out, count, few, number, its, ap (branch_count r) same)))
 
 -- a path leaves no more than there was
 pub left_less : (path : List Choice) (r s : Residual) → left_by path r ≡ Some s → size_of s ≤ size_of r
@@ -149,13 +122,8 @@ left_less (c ∷ path) r s e =
     let t = then_left (left_by path) (left_by_one c r) s e in
     let a = stepped c r t.0 t.1 in
     let i = item_of r (c.k - 1) a.branch a.at in
-    omega (
-      arith,
-      left_less path t.0 s t.2,
-      ap size_of a.next,
-      each_at (λ b. size_of b.next < size_of r)
-          (branches_of r i.0) (c.k - 1) a.branch (branches_less r i.0 i.1) i.2,
-    )
+    let less = each_at _ _ _ _ (branches_less r i.0 i.1) i.2 in
+    omega (arith, left_less path t.0 s t.2, ap size_of a.next, less)
 
 -- the members of a branch
 abbrev of_branch : Branch → List (List Choice)
@@ -227,5 +195,4 @@ pub cut_told : (p : Puzzle) (plan paths : List (List Choice)) → IsCut p plan �
     map numbers_on paths ≡ map numbers_on plan → members p ≡ flat_map (below p) paths
 cut_told p plan paths cut is e =
     cut.members ∙ append-nil (flat_map (below p) plan)
-    ∙ ap (flat_map (below p)) (plans_same p plan paths (recursion_from_All (IsPath p) plan cut.paths)
-    (recursion_from_All (IsPath p) paths is) e)
+    ∙ ap (flat_map (below p)) (plans_same p plan paths (recursion_from_All _ _ cut.paths) (recursion_from_All _ _ is) e)

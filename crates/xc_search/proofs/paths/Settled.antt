@@ -17,13 +17,12 @@ use Rattle.xc_search.specs.Cut.{Uncut, below}
 use Rattle.xc_search.proofs.paths.Led.{led_ground}
 use Rattle.xc_search.proofs.paths.Below.{comes_below}
 use Rattle.xc_search.proofs.stacked.WorkUnrolled.{work_unrolled}
+use Rattle.xc_search.proofs.Cases.{by_option}
 
 some_work : (r : Residual) → 0 < work r
-some_work r = by_case (branch_item r) refl
-  where
-    by_case : (o : Option Wanted) → branch_item r ≡ o → 0 < work r
-    by_case None e = let is : work r ≡ 2 = work_unrolled r ∙ ap (λ o. work_level work o r) e in omega (arith, is)
-    by_case (Some w) e = let is = work_unrolled r ∙ ap (λ o. work_level work o r) e in omega (arith, is)
+some_work r =
+    let unrolled = work_unrolled r in
+    by_option (branch_item r) (λ e. omega (arith, rw e at unrolled)) (λ w e. omega (arith, rw e at unrolled))
 
 -- the search stands behind a node that was looked at
 pub stands_behind : (p : Puzzle) (t : List Move) (ls : List Level) → AreStacked p t ls → IsStanding p t ls false

@@ -71,8 +71,7 @@ pub committed_picks : (r : Residual) (i : ℕ) (x : Numbered) (us vs : List Use)
 committed_picks r i x us vs e = as_residual _ _ _ _
     (ap (filter is_wanted) (map-same (spend_uses (vs ++ us)) (spend_one x) r.items
     (λ w. ap (λ b. cond b (less_one w) w)
-    (held_turned vs us w.item ∙ ap (λ ws. is_some (colour_in ws w.item)) (sym e)))))
-    (filter_both (all_stay (cut r i x.number) (vs ++ us)) (λ o. not (holds o i && nat_le o.number x.number)) r.options
+    (held_turned vs us w.item ∙ ap (λ ws. is_some (colour_in ws w.item)) (sym e))))) (filter_both _ _ r.options
     ∙ filter_agree _ _ (λ o. ap (λ b. not (holds o i && nat_le o.number x.number) && b)
     (all_turned (λ u. may_stay (item_left r u.item) u o) vs us
     ∙ ap (λ ws. list_all (λ u. may_stay (item_left r u.item) u o) ws) (sym e))) r.options)

@@ -58,10 +58,8 @@ found_holds P q (v ∷ vs) w a e = grind (arith, common_steps, found_holds P q v
 pub has_left : (p : Puzzle) (t : List Move) (j : ℕ) → AreWanted (wanted_after p t) → IsPrimary p j → is_open j t ≡ true
     → spends j t < high_at p j
 has_left p t j a h o =
-    let some_left : is_wanted (wanted_at p t j) ≡ true =
-    found_holds (λ w. is_wanted w ≡ true) (λ w. eqb w.item j) (wanted_after p t) (wanted_at p t j) a
-    (found_wanted p t j h o) in
-    omega (arith, ltb-true 0 (high_at p j - spends j t) some_left)
+    let some_left : is_wanted (wanted_at p t j) ≡ true = found_holds _ _ _ _ a (found_wanted p t j h o) in
+    omega (arith, ltb-true _ _ some_left)
 
 -- ---- ready
 
@@ -84,7 +82,7 @@ ready_use : (p : Puzzle) (t : List Move) (x : Numbered) (u : Use) → AreLegal p
     → IsFree t x → IsSoundUse p u → colour_at x u.item ≡ Some u.colour → Ready p t u
 ready_use p t x u l a f s e = by_bool (leb u.item (primary_count p))
     (λ h. grind (arith, common_steps, leb-true, open_if, not_covered, primary_pure, has_left))
-    (λ h. let second : IsSecondary p u.item = (leb-false u.item (primary_count p) h, s.0.1) in
+    (λ h. let second : IsSecondary p u.item = (leb-false _ _ h, s.0.1) in
     by_option (purified u.item t)
     (λ i. let o = open_if u.item t (not_covered t x u f e) i in by_bool (eqb u.colour 0)
     (λ c. blank second (eqb-true u.colour 0 c) o) (λ c. coloured second (ne_zero u.colour c) o))
@@ -103,6 +101,5 @@ ready_left p t i k x l a option e =
       agreeing = λ j d c. of_left (λ o. agrees d (colour_at o j) ≡ true) i k (left p t) x (left_agrees p t j d c) e;
     } in
     each_both (IsSoundUse p) (λ u. colour_in x.uses u.item ≡ Some u.colour) (λ u. Ready p t u) x.uses
-    (λ u s c. ready_use p t x u l a free s c)
-    (recursion_from_All (IsSoundUse p) x.uses option.sound.sound)
+    (λ u s c. ready_use p t x u l a free s c) (recursion_from_All _ _ option.sound.sound)
     (own_colours x.uses (apart_from_pairs x.uses option.sound.distinct))

@@ -38,13 +38,9 @@ spends_within p (Tweak j ∷ t) l = spends_within p t l.1
 spends_within p (Spend j ∷ t) l =
     let same : eqb j j ≡ true = eq-eqb j j refl in
     let itself : spends j (Spend j ∷ t) ≡ 1 + spends j t = rw same refl in
-    omega (
-      arith,
-      spends_within p t l.1,
-      total_less (λ i. high_at p i - spends i (Spend j ∷ t))
-          (λ i. high_at p i - spends i t) j 1 (primary_count p) l.0.0.0 (omega (arith, l.0.0.1)) (λ i. omega arith)
-          (omega (arith, itself, l.0.1)),
-    )
+    let less = total_less (λ i. high_at p i - spends i (Spend j ∷ t)) (λ i. high_at p i - spends i t) j 1
+    (primary_count p) l.0.0.0 (omega (arith, l.0.0.1)) (λ i. omega arith) (omega (arith, itself, l.0.1)) in
+    omega (arith, spends_within p t l.1, less)
 
 pub few_spendings : (p : Puzzle) (t : List Move) → AreLegal p t → spendings t ≤ high_total p
 few_spendings p t l = omega (arith, spends_within p t l)

@@ -45,23 +45,14 @@ tweaks_listed : (p : Puzzle) (t : List Move) → AreLegal p t → tweakings t + 
 tweaks_listed p [] l = omega arith
 tweaks_listed p (Cover j ∷ t) l = grind (arith, common_steps, tweaks_listed p t l.1, total_le, shrinks p t (Cover j))
 tweaks_listed p (Purify j c ∷ t) l =
-    omega (
-      arith,
-      tweaks_listed p t l.1,
-      total_le (λ i. length (listed p (Purify j c ∷ t) i))
-          (λ i. length (listed p t i)) (range_with_len 1 (item_count p)) (λ i. shrinks p t (Purify j c) i),
-    )
+    let less = total_le _ _ (range_with_len 1 (item_count p)) (shrinks p t (Purify j c)) in
+    omega (arith, tweaks_listed p t l.1, less)
 tweaks_listed p (Tweak j ∷ t) l =
     let same : eqb j j ≡ true = eq-eqb j j refl in
     let itself : listed p (Tweak j ∷ t) j ≡ drop 1 (listed p t j) = rw same (refl {a = drop 1 (listed p t j)}) in
-    omega (
-      arith,
-      tweaks_listed p t l.1,
-      total_less (λ i. length (listed p (Tweak j ∷ t) i))
-          (λ i. length (listed p t i)) j 1 (item_count p) l.0.0.0 (omega (arith, l.0.0.1))
-          (λ i. shrinks p t (Tweak j) i)
-          (omega (arith, ap length itself, length-drop 1 (listed p t j), l.0.2)),
-    )
+    let less = total_less _ _ j 1 (item_count p) l.0.0.0 (omega (arith, l.0.0.1)) (shrinks p t (Tweak j))
+    (omega (arith, ap length itself, length-drop 1 (listed p t j), l.0.2)) in
+    omega (arith, tweaks_listed p t l.1, less)
 tweaks_listed p (Spend j ∷ t) l = tweaks_listed p t l.1
 
 held_le : (u : Use) (us : List Use) (i : ℕ)
@@ -71,14 +62,10 @@ held_le u us i = grind (arith, common_steps)
 held_few : (us : List Use) (a n : ℕ) → total (λ i. one_if (is_some (colour_in us i))) (range_with_len a n) ≤ length us
 held_few [] a n = omega (arith, total_zero (range_with_len a n))
 held_few (u ∷ us) a n =
-    omega (
-      arith,
-      total_le (λ i. one_if (is_some (colour_in (u ∷ us) i)))
-          (λ i. one_if (eqb u.item i) + one_if (is_some (colour_in us i))) (range_with_len a n) (held_le u us),
-      total_two (λ i. one_if (eqb u.item i)) (λ i. one_if (is_some (colour_in us i))) (range_with_len a n),
-      total_once u.item a n,
-      held_few us a n,
-    )
+    let is = range_with_len a n in
+    let more = total_le _ _ is (held_le u us) in
+    let two = total_two (λ i. one_if (eqb u.item i)) (λ i. one_if (is_some (colour_in us i))) is in
+    omega (arith, more, two, total_once u.item a n, held_few us a n)
 
 holding_more : (o : Numbered) (os : List Numbered) (i : ℕ)
     → length (holding i (o ∷ os)) ≡ one_if (is_some (colour_in o.uses i)) + length (holding i os)
@@ -87,14 +74,10 @@ holding_more o os i = grind (arith, common_steps)
 held_all : (os : List Numbered) (a n : ℕ) → total (λ i. length (holding i os)) (range_with_len a n) ≤ uses_in os
 held_all [] a n = omega (arith, total_zero (range_with_len a n))
 held_all (o ∷ os) a n =
-    omega (
-      arith,
-      total_same (λ i. length (holding i (o ∷ os))) (λ i. one_if (is_some (colour_in o.uses i)) + length (holding i os))
-          (range_with_len a n) (holding_more o os),
-      total_two (λ i. one_if (is_some (colour_in o.uses i))) (λ i. length (holding i os)) (range_with_len a n),
-      held_few o.uses a n,
-      held_all os a n,
-    )
+    let is = range_with_len a n in
+    let more = total_same _ _ is (holding_more o os) in
+    let two = total_two (λ i. one_if (is_some (colour_in o.uses i))) (λ i. length (holding i os)) is in
+    omega (arith, more, two, held_few o.uses a n, held_all os a n)
 
 pub uses_whole : (k : ℕ) (os : List (List Use)) → uses_in (numbered_from k os) ≡ sum_by (λ us. length us) os
 uses_whole k [] = refl

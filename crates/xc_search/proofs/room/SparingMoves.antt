@@ -81,22 +81,26 @@ sparing_taken p t i k m x s e took =
     ap (λ (r : Residual). length r.items) took.picked.residual in
     let options : uses_in (left p u) ≡ uses_in (pick (residual_of p t) i x).options =
     ap (λ (r : Residual). uses_in r.options) took.picked.residual in
+    let spent = spent_uses p (others i us) ground in
+    let fewer = without_uses (λ o. not (holds o i && nat_le o.number x.number) && stays (residual_of p t) x o) i k x
+    (left p t) e goes in
+    let kept = length-filter-le (λ w. nat_lt 0 w.high) (map (spend_one x) (wanted_after p t)) in
+    let all = length-map (wanted_after p t) (spend_one x) in
     omega (
       arith,
       s,
-      spent_uses p (others i us) ground,
+      spent,
       others_less i us took.at.holds,
       ap length took.uses,
-      spent_tweaked m i (after_spend p i t),
-      spent_after_spend p i t,
+      spent_tweaked,
+      spent_after_spend,
       open_is p u,
       open_is p t,
       items,
-      length-filter-le (λ w. nat_lt 0 w.high) (map (spend_one x) (wanted_after p t)),
-      length-map (wanted_after p t) (spend_one x),
+      kept,
+      all,
       options,
-      without_uses (λ o. not (holds o i && nat_le o.number x.number) && stays (residual_of p t) x o) i k x (left p t)
-          e goes,
+      fewer,
     )
 
 pub sparing_none : (p : Puzzle) (t : List Move) (i m : ℕ) → IsSparing p t
@@ -110,20 +114,10 @@ sparing_none p t i m s b r =
     ap (λ (r : Residual). length r.items) r in
     let options : uses_in (left p u) ≡ uses_in (none (residual_of p t) i).options =
     ap (λ (r : Residual). uses_in r.options) r in
-    omega (
-      arith,
-      s,
-      spent_after_none i ground,
-      spent_tweaked m i (after_spend p i t),
-      spent_after_spend p i t,
-      open_is p u,
-      open_is p t,
-      items,
-      options,
-      less_items (wanted_at p t i) (wanted_after p t)
-          (least_is_one (branch_count (residual_of p t)) (wanted_after p t) (wanted_at p t i) b),
-      fewer_uses (λ o. not (holds o i)) (left p t),
-    )
+    let less = less_items (wanted_at p t i) (wanted_after p t) (least_is_one _ _ _ b) in
+    let fewer = fewer_uses (λ o. not (holds o i)) (left p t) in
+    let spent = spent_after_none i ground in
+    omega (arith, s, spent, spent_tweaked, spent_after_spend, open_is p u, open_is p t, items, options, less, fewer)
 
 -- also while a level is open and no branch was begun
 pub sparing_after_spend : (p : Puzzle) (t : List Move) (i : ℕ) → IsSparing p t

@@ -49,7 +49,7 @@ closing p t l is_level whole =
     let long : length t ≡ l.tweaks + length s = ap length t_is ∙ length-append (replicate l.tweaks (Tweak l.item)) s
     ∙ ap (λ n. n + length s) (length-replicate l.tweaks (Tweak l.item)) in
     let mark_is : length u ≡ l.mark = length-oldest l.mark t (omega (arith, is_level.within)) in
-    let longer = ext_longer s u (ext_after_spend p l.item u) in (
+    let longer = ext_longer (ext_after_spend p l.item u) in (
       (λ h. (
         h,
         omega (arith, long),

@@ -13,6 +13,7 @@ use Rattle.xc_search.specs.inner.Commits.{oldest}
 use Rattle.xc_search.specs.inner.Ahead.{cost, work, visits, ahead}
 use Rattle.xc_input.proofs.lists.Filters.{map-same}
 use Rattle.xc_input.proofs.lists.Places.{drop_at}
+use Rattle.xc_search.specs.inner.Levels.{IsLevel}
 
 pub choices_more : (p : Puzzle) (k : Level) (ls : List Level)
     → choices_of p (k ∷ ls) ≡ choices_of p ls ++ chosen p k ∷ []
@@ -40,11 +41,6 @@ begun_coming p t s l k ls stacked b =
           ∙ sym (append_assoc (map (λ m. before ++ b.branch.choice ∷ m) (listing b.branch.next))
           (members_of before rest) (to_give p u ls))
           ∙ ap (λ bs. members_of before bs ++ to_give p u ls) (sym next),
-      (
-        b.level,
-        subst (λ v. IsShallow p v ls) (sym under) stacked.1,
-        subst (λ v. AreStacked p v ls) (sym under)
-            stacked.2,
-      ),
+      subst (λ v. IsLevel p s k × IsShallow p v ls × AreStacked p v ls) (sym under) (b.level, stacked.1, stacked.2),
       omega (arith, ap (cost work) next, ap (cost work) still, ap work b.next, ap (λ v. visits p v ls) under),
     )

@@ -28,10 +28,7 @@ use Rattle.xc_search.proofs.moves.LegalTweaks.{legal_node}
 
 spent_above : (ms t : List Move) → spendings t ≤ spendings (ms ++ t)
 spent_above [] t = omega arith
-spent_above (Cover j ∷ ms) t = spent_above ms t
-spent_above (Purify j c ∷ ms) t = spent_above ms t
-spent_above (Tweak j ∷ ms) t = spent_above ms t
-spent_above (Spend j ∷ ms) t = omega (arith, spent_above ms t)
+spent_above (m ∷ ms) t = grind (arith, common_steps, spent_above ms t)
 
 spent_oldest : (n : ℕ) (t : List Move) → spendings (oldest n t) ≤ spendings t
 spent_oldest n t =
@@ -41,15 +38,7 @@ pub depth : (p : Puzzle) (t : List Move) (ls : List Level) → AreStacked p t ls
 depth p t [] s = omega arith
 depth p t (l ∷ ls) s =
     let u = oldest l.mark t in
-    omega (
-      arith,
-      depth p u ls s.2,
-      spent_oldest l.base t,
-      ap spendings s.0.base,
-      spent_tweaked l.tweaks l.item
-          (after_spend p l.item u),
-      spent_after_spend p l.item u,
-    )
+    omega (arith, depth p u ls s.2, spent_oldest l.base t, ap spendings s.0.base, spent_tweaked, spent_after_spend)
 
 pub shallow_first : (p : Puzzle) → IsShallow p [] []
 shallow_first p = grind (arith, common_steps, length-filter-le, length-range_with_len, length-numbered_from)
@@ -58,16 +47,12 @@ shallow_first p = grind (arith, common_steps, length-filter-le, length-range_wit
 pub shallower : (p : Puzzle) (t s : List Move) (l k : Level) (ls : List Level) → AreStacked p t (l ∷ ls)
     → IsBegun p t l s k → IsShallow p s (k ∷ ls)
 shallower p t s l k ls stacked b =
-    let r = residual_of p (oldest l.mark t) in
-    let w = wanted_at p (oldest l.mark t) l.item in
-    let there = sym (ap (λ bs. slice_get bs l.begun) (branches_here p (oldest l.mark t) w stacked.0.branch)) ∙ b.at in
-    omega (
-      arith,
-      stacked.1,
-      each_at (λ b. size_of b.next < size_of r) (branches_of r w) l.begun b.branch
-          (branches_less r w stacked.0.branch) there,
-      ap size_of b.next,
-    )
+    let u = oldest l.mark t in
+    let r = residual_of p u in
+    let w = wanted_at p u l.item in
+    let there = sym (ap (λ bs. slice_get bs l.begun) (branches_here p u w stacked.0.branch)) ∙ b.at in
+    let less = each_at _ _ _ _ (branches_less r w stacked.0.branch) there in
+    omega (arith, stacked.1, less, ap size_of b.next)
 
 -- what has a branch item isn't empty
 some_left : (p : Puzzle) (t : List Move) (i : ℕ) → branch_item (residual_of p t) ≡ Some (wanted_at p t i)
@@ -78,12 +63,5 @@ some_left p t i b = grind (arith, common_steps, less_items, least_is_one)
 pub depth_at : (p : Puzzle) (t : List Move) (ls : List Level) (i : ℕ) → AreStacked p t ls → IsShallow p t ls
     → IsNode p t i → branch_item (residual_of p t) ≡ Some (wanted_at p t i) → length ls < most_levels p
 depth_at p t ls i s h n b =
-    omega (
-      arith,
-      h,
-      some_left p t i b,
-      depth p t ls s,
-      spent_after_spend p i t,
-      few_spendings p (after_spend p i t)
-          (legal_node p i t n),
-    )
+    let few = few_spendings p (after_spend p i t) (legal_node p i t n) in
+    omega (arith, h, some_left p t i b, depth p t ls s, spent_after_spend p i t, few)

@@ -1,7 +1,7 @@
 -- The steps of the search's loop.
 use Rattle.std.proofs.lemmas.Grind.{common_steps}
 use Rattle.std.proofs.Common.{ℕ, ◌≡◌, ◌+◌, ◌-◌, ◌<◌, ◌≤◌, Bool, true, false, List, ◌∷◌, length, drop, length-drop, refl}
-use Rattle.std.proofs.Common.{Some, sym, ap, ◌∙◌, arith, subst}
+use Rattle.std.proofs.Common.{Some, sym, ap, ◌∙◌, arith, subst, ap₂}
 use Rattle.std.proofs.lemmas.List.{drop-drop}
 use Rattle.xc_dance.specs.declared.dance.Move.{Move}
 use Rattle.xc_search.specs.declared.level.Level.{Level}
@@ -34,22 +34,26 @@ node_at p t ls i n s e = grind (arith, common_steps, chosen_item)
 abbrev pub with_level : Level → Levels → Levels
 with_level l ls = record ls { levels = l ∷ ls.levels }
 
-deepens : (d e : Dancing) (ls ks : Levels) (i n : ℕ) (l : Level) → IsStanding d.puzzle d.trail ls.levels true
-    → choice_after d.puzzle d.trail ≡ Some (i, n) →
-    e ≡ record d { trail = after_spend d.puzzle i d.trail } → l ≡ first_level d.puzzle d.trail i n
-    → ks ≡ record ls { levels = l ∷ ls.levels } →
-    GoesOn d ls true e ks false × (visits e.puzzle e.trail ks.levels < ahead d.puzzle d.trail ls.levels true)
-deepens d e ls ks i n l s h ed el ek =
+-- State e has the own moves of level l, which begins on levels ls in state d at item i with n branches.
+pub record Opens (d e : Dancing) (ls : Levels) (i n : ℕ) (l : Level) : Type 0 where
+  pub spent : e ≡ record d { trail = after_spend d.puzzle i d.trail }
+  pub level : l ≡ first_level d.puzzle d.trail i n
+  pub standing : IsStanding d.puzzle d.trail ls.levels true
+  pub chosen : choice_after d.puzzle d.trail ≡ Some (i, n)
+
+deepens : {d e : Dancing} {ls : Levels} {i n : ℕ} {l : Level} → Opens d e ls i n l →
+    GoesOn d ls true e (with_level l ls) false
+    × (visits e.puzzle e.trail (l ∷ ls.levels) < ahead d.puzzle d.trail ls.levels true)
+deepens {d} {e} {ls} {i} {n} {l} o =
     let p = d.puzzle in
     let t = d.trail in
-    let all =
-    descended p t ls.levels i n (s.searchable refl) (s.shallow refl)
-    (chosen_item p t i n (s.searchable refl).legal h) s.stacked in
-    subst (λ (f : Dancing). GoesOn d ls true f ks false
-    × (visits f.puzzle f.trail ks.levels < ahead p t ls.levels true)) (sym ed)
-    (subst (λ (js : Levels). GoesOn d ls true (record d { trail = after_spend p i t }) js false
-    × (visits p (after_spend p i t) js.levels < ahead p t ls.levels true))
-    (sym (ek ∙ ap (λ l. record ls { levels = l ∷ ls.levels }) el)) (
+    let here = o.standing.searchable refl in
+    let all = descended p t ls.levels i n here (o.standing.shallow refl) (chosen_item p t i n here.legal o.chosen)
+    o.standing.stacked in
+    subst (λ (f : Dancing). GoesOn d ls true f (with_level l ls) false
+    × (visits f.puzzle f.trail (l ∷ ls.levels) < ahead p t ls.levels true)) (sym o.spent)
+    (subst (λ (l : Level). GoesOn d ls true (record d { trail = after_spend p i t }) (with_level l ls) false
+    × (visits p (after_spend p i t) (l ∷ ls.levels) < ahead p t ls.levels true)) (sym o.level) (
       record {
         still = (refl, refl);
         standing = record { stacked = all.0; searchable = λ e. cc; shallow = λ e. cc };
@@ -98,112 +102,86 @@ goes_to d e l b vs ks stacked top ed begun ek =
       omega (arith, all.2, back.2, ap (visits p t) top),
     ))
 
--- a level's own moves stand
-deepened : (d : Dancing) (ls : Levels) (i n : ℕ) → IsStanding d.puzzle d.trail ls.levels true
-    → choice_after d.puzzle d.trail ≡ Some (i, n) →
-    AreStacked d.puzzle (after_spend d.puzzle i d.trail) (first_level d.puzzle d.trail i n ∷ ls.levels)
-deepened d ls i n s h =
-    (deepens d (record d { trail = after_spend d.puzzle i d.trail }) ls
-    (with_level (first_level d.puzzle d.trail i n) ls) i n (first_level d.puzzle d.trail i n) s h refl refl
-    refl).0.standing.stacked
-
 -- it stands with its own moves
-pub begins_at : (d e : Dancing) (ls : Levels) (i n : ℕ) (l : Level) → IsStanding d.puzzle d.trail ls.levels true
-    → choice_after d.puzzle d.trail ≡ Some (i, n) →
-    e ≡ record d { trail = after_spend d.puzzle i d.trail } → l ≡ first_level d.puzzle d.trail i n
-    → AreStacked d.puzzle e.trail (l ∷ ls.levels)
-begins_at d e ls i n l s h ed el =
-    subst (λ (e : Dancing). AreStacked d.puzzle e.trail (l ∷ ls.levels)) (sym ed)
-    (subst (λ l. AreStacked d.puzzle (after_spend d.puzzle i d.trail) (l ∷ ls.levels)) (sym el) (deepened d ls i n s h))
+pub begins_at : {d e : Dancing} {ls : Levels} {i n : ℕ} {l : Level} → Opens d e ls i n l
+    → AreStacked e.puzzle e.trail (l ∷ ls.levels)
+begins_at o = (deepens o).0.standing.stacked
+
+stands_alone : {d e : Dancing} {ls : Levels} {i n : ℕ} {l : Level} → Opens d e ls i n l → l.base ≡ length e.trail
+stands_alone o = ap (λ (l : Level). l.base) o.level ∙ sym (ap (λ (e : Dancing). length e.trail) o.spent)
 
 -- a level's first branch may be entered
-pub may_enter : (d e : Dancing) (ls : Levels) (i n : ℕ) (l : Level) → IsStanding d.puzzle d.trail ls.levels true
-    → choice_after d.puzzle d.trail ≡ Some (i, n) →
-    e ≡ record d { trail = after_spend d.puzzle i d.trail } → l ≡ first_level d.puzzle d.trail i n → 0 < n
+pub may_enter : {d e : Dancing} {ls : Levels} {i n : ℕ} {l : Level} → Opens d e ls i n l → 0 < n
     → MayBegin e.puzzle e.trail l
-may_enter d e ls i n l s h ed el some =
-    subst (λ (e : Dancing). MayBegin e.puzzle e.trail l) (sym ed)
-    (subst (MayBegin d.puzzle (after_spend d.puzzle i d.trail)) (sym el)
-    (record { level = (deepened d ls i n s h).0; whole = refl; more = some }))
+may_enter o some = record {
+  level = (begins_at o).0;
+  whole = stands_alone o;
+  more = omega (arith, ap (λ (l : Level). l.begun) o.level, ap (λ (l : Level). l.count) o.level, some);
+}
 
 -- a level goes on with its first branch
-begins_first : (d e f : Dancing) (ls ks : Levels) (i n : ℕ) (l : Level) (b : Begun)
-    → IsStanding d.puzzle d.trail ls.levels true → choice_after d.puzzle d.trail ≡ Some (i, n) →
-    e ≡ record d { trail = after_spend d.puzzle i d.trail } → l ≡ first_level d.puzzle d.trail i n →
-    f ≡ record e { trail = f.trail } → IsBegun e.puzzle e.trail l f.trail (begun_level b l)
+begins_first : {d e : Dancing} {ls : Levels} {i n : ℕ} {l : Level} → Opens d e ls i n l → (f : Dancing) (ks : Levels)
+    (b : Begun) → f ≡ record e { trail = f.trail } → IsBegun e.puzzle e.trail l f.trail (begun_level b l)
     → ks ≡ with_level (begun_level b l) ls →
     GoesOn d ls true f ks true × (ahead f.puzzle f.trail ks.levels true < ahead d.puzzle d.trail ls.levels true)
-begins_first d e f ls ks i n l b s h ed el ef begun ek =
+begins_first {d} {e} {ls} {i} {n} {l} o f ks b ef begun ek =
     let js = with_level l ls in
-    let down = deepens d e ls js i n l s h ed el refl in
-    let base_is : oldest l.base e.trail ≡ e.trail =
-    ap (λ (l : Level). oldest l.base e.trail) el
-    ∙ ap (λ n. oldest n e.trail) (sym (ap (λ (e : Dancing). length e.trail) ed)) ∙ oldest_all e.trail in
-    let on =
-    goes_to e f l b js ks down.0.standing.stacked refl ef
+    let down = deepens o in
+    let base_is : oldest l.base e.trail ≡ e.trail = ap (λ n. oldest n e.trail) (stands_alone o) ∙ oldest_all e.trail in
+    let on = goes_to e f l b js ks (begins_at o) refl ef
     (subst (λ t. IsBegun e.puzzle t l f.trail (begun_level b l)) (sym base_is) begun) ek in
     (GoesOn-trans d e f ls js ks true false true down.0 on.0, omega (arith, down.1, on.1))
 
 -- what is asked of the moves of a branch that was entered
-can_branch : (p : Puzzle) (u : List Move) (f : Dancing) (i : ℕ) (l : Level) (b : Begun) → f.puzzle ≡ p → l.item ≡ i →
-    IsEntered p u l f.trail (begun_level b l) → CanBranch f.puzzle i
-    (option_at f.puzzle i b.place) f.trail × IsPlace f.puzzle i b.place
-can_branch p u f i l b same at entered = grind (arith, common_steps)
+-- State e was entered as state f: once the moves of the branch were made too, it was begun.
+pub record Branched (e f : Dancing) (u : List Move) (i : ℕ) (l : Level) (b : Begun) : Type 0 where
+  pub still : branched f i b.place ≡ record e { trail = (branched f i b.place).trail }
+  pub begun : IsBegun e.puzzle u l (branched f i b.place).trail (begun_level b l)
+  pub can : CanBranch f.puzzle i (option_at f.puzzle i b.place) f.trail
+  pub place : IsPlace f.puzzle i b.place
+
+pub branch_made : (e f : Dancing) (u : List Move) (i : ℕ) (l : Level) (b : Begun) → f ≡ record e { trail = f.trail }
+    → l.item ≡ i → IsEntered e.puzzle u l f.trail (begun_level b l) → Branched e f u i l b
+branch_made e f u i l b ef item entered =
+    let made : branched f i b.place ≡ branched (record e { trail = f.trail }) l.item b.place =
+    ap₂ (λ (s : Dancing) j. branched s j b.place) ef (sym item) in
+    record {
+      still = made ∙ ap (λ (h : Dancing). record e { trail = h.trail }) (sym made);
+      begun = subst (λ (h : Dancing). IsBegun e.puzzle u l h.trail (begun_level b l)) (sym made) entered.begun;
+      can = grind (arith, common_steps);
+      place = grind (arith, common_steps);
+    }
 
 -- a new level's first branch is entered
-pub enters_first : (d e f : Dancing) (ls ks : Levels) (i n : ℕ) (l : Level) (b : Begun) →
-    IsStanding d.puzzle d.trail ls.levels true → choice_after d.puzzle d.trail ≡ Some (i, n) →
-    e ≡ record d { trail = after_spend d.puzzle i d.trail } → l ≡ first_level d.puzzle d.trail i n →
-    f ≡ record e { trail = f.trail } → IsEntered e.puzzle e.trail l f.trail (begun_level b l) →
-    ks ≡ with_level (begun_level b l) ls → EntersBranch d ls true f ks i b.place
-enters_first d e f ls ks i n l b s c ed el ef entered ek =
-    let h = branched f i b.place in
-    let made : h ≡ record e { trail = after_branch e.puzzle l.item (option_at e.puzzle l.item b.place) f.trail } =
-    ap (λ (f : Dancing). record f { trail = after_branch f.puzzle i (option_at f.puzzle i b.place) f.trail }) ef
-    ∙ ap (λ (l : Level). record e { trail = after_branch e.puzzle l.item (option_at e.puzzle l.item b.place) f.trail })
-    (sym el) in
-    let still : h ≡ record e { trail = h.trail } =
-    made ∙ ap (λ t. record e { trail = t }) (ap (λ (h : Dancing). h.trail) (sym made)) in
-    let on = begins_first d e h ls ks i n l b s c ed el still
-    (subst (λ (h : Dancing). IsBegun e.puzzle e.trail l h.trail (begun_level b l)) (sym made) entered.begun) ek in
-    let can = can_branch e.puzzle e.trail f i l b (ap (λ (s : Dancing). s.puzzle) ef) (ap (λ
-    (l : Level). l.item) el) entered in
-    record { can = can.0; place = can.1; goes_on = on.0; less = on.1 }
+pub enters_first : {d e : Dancing} {ls : Levels} {i n : ℕ} {l : Level} → Opens d e ls i n l → (f : Dancing)
+    (ks : Levels) (b : Begun) → f ≡ record e { trail = f.trail }
+    → IsEntered e.puzzle e.trail l f.trail (begun_level b l) → ks ≡ with_level (begun_level b l) ls
+    → EntersBranch d ls true f ks i b.place
+enters_first {e = e} {i = i} {l = l} o f ks b ef entered ek =
+    let h = branch_made e f e.trail i l b ef (ap (λ (l : Level). l.item) o.level) entered in
+    let on = begins_first o (branched f i b.place) ks b h.still h.begun ek in
+    record { can = h.can; place = h.place; goes_on = on.0; less = on.1 }
 
 -- a level without branches ends at once
-pub passes_over : (d e f : Dancing) (ls : Levels) (i n : ℕ) (l : Level) → IsStanding d.puzzle d.trail ls.levels true
-    → choice_after d.puzzle d.trail ≡ Some (i, n) →
-    e ≡ record d { trail = after_spend d.puzzle i d.trail } → l ≡ first_level d.puzzle d.trail i n → n ≡ 0
+pub passes_over : {d e : Dancing} {ls : Levels} {i n : ℕ} {l : Level} → Opens d e ls i n l → (f : Dancing) → n ≡ 0
     → f ≡ record e { trail = oldest l.mark e.trail } →
     GoesOn d ls true f ls false × (visits f.puzzle f.trail ls.levels < ahead d.puzzle d.trail ls.levels true)
-passes_over d e f ls i n l s h ed el none ef =
+passes_over {d} {e} {ls} {i} {n} {l} o f none ef =
     let js = with_level l ls in
-    let down = deepens d e ls js i n l s h ed el refl in
-    let back =
-    goes_back e f l js ls down.0.standing.stacked refl (omega (arith, ap (λ (l : Level). l.count) el, none)) ef
+    let down = deepens o in
+    let back = goes_back e f l js ls (begins_at o) refl (omega (arith, ap (λ (l : Level). l.count) o.level, none)) ef
     refl in
     (GoesOn-trans d e f ls js ls true false false down.0 back.0, omega (arith, down.1, back.1))
 
 -- the next branch of the newest level is entered
-pub enters : (d f : Dancing) (l : Level) (b : Begun) (vs ks : Levels) →
-    AreStacked d.puzzle d.trail vs.levels → vs.levels ≡ l ∷ drop 1 vs.levels →
-    f ≡ record d { trail = f.trail } → IsEntered d.puzzle (oldest l.base d.trail) l f.trail (begun_level b l) →
-    ks ≡ record vs { levels = newest_begun b vs.levels } → EntersBranch d vs false f ks l.item b.place
+pub enters : (d f : Dancing) (l : Level) (b : Begun) (vs ks : Levels) → AreStacked d.puzzle d.trail vs.levels
+    → vs.levels ≡ l ∷ drop 1 vs.levels → f ≡ record d { trail = f.trail }
+    → IsEntered d.puzzle (oldest l.base d.trail) l f.trail (begun_level b l)
+    → ks ≡ record vs { levels = newest_begun b vs.levels } → EntersBranch d vs false f ks l.item b.place
 enters d f l b vs ks stacked top ef entered ek =
-    let h = branched f l.item b.place in
-    let made : h ≡ record d { trail = after_branch d.puzzle l.item (option_at d.puzzle l.item b.place) f.trail } =
-    ap (λ (f : Dancing). record f {
-      trail = after_branch f.puzzle l.item
-          (option_at f.puzzle l.item b.place) f.trail;
-    }) ef in
-    let still : h ≡ record d { trail = h.trail } =
-    made ∙ ap (λ t. record d { trail = t }) (ap (λ (h : Dancing). h.trail) (sym made)) in
-    let on = goes_to d h l b vs ks stacked top still
-    (subst (λ (h : Dancing). IsBegun d.puzzle (oldest l.base d.trail) l h.trail (begun_level b l))
-    (sym made) entered.begun) ek in
-    let can = can_branch d.puzzle (oldest l.base d.trail) f l.item l b (ap (λ
-    (s : Dancing). s.puzzle) ef) refl entered in
-    record { can = can.0; place = can.1; goes_on = on.0; less = on.1 }
+    let h = branch_made d f (oldest l.base d.trail) l.item l b ef refl entered in
+    let on = goes_to d (branched f l.item b.place) l b vs ks stacked top h.still h.begun ek in
+    record { can = h.can; place = h.place; goes_on = on.0; less = on.1 }
 
 -- what goes on and then enters a branch enters it
 pub goes_on_to : (d e f : Dancing) (ls ks js : Levels) (x y : Bool) (i q : ℕ) → GoesOn d ls x e ks y →
@@ -217,8 +195,7 @@ pub back_at : (p : Puzzle) (t r : List Move) (l : Level) (ls : List Level) → A
     IsLevel p r l × (l.base ≡ length r) × (0 < l.tweaks → AreTweaks l.tweaks r) × (l.mark + l.tweaks ≤ length r)
 back_at p t r l ls stacked er =
     let back = returned p t l ls stacked in
-    let u = oldest l.base t in
-    let close = closing p u l back.0.0 back.3 in
+    let close = closing p (oldest l.base t) l back.0.0 back.3 in
     subst (λ r. IsLevel p r l × (l.base ≡ length r) × (0 < l.tweaks → AreTweaks l.tweaks r)
     × (l.mark + l.tweaks ≤ length r)) (sym er) (back.0.0, back.3, close.0, close.1)
 

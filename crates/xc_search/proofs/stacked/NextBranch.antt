@@ -22,15 +22,19 @@ use Rattle.xc_search.proofs.moves.OldestMoves.{oldest_all}
 use Rattle.xc_search.proofs.listing.BranchLists.{branch_takes, branch_none}
 use Rattle.xc_search.proofs.moves.BranchMoves.{taken, none_taken, legal_after_none, none_wanted}
 use Rattle.xc_search.proofs.moves.LegalTweaks.{legal_branch}
-use Rattle.xc_search.proofs.stacked.NextLevel.{at_own, own_place, Extends, ext_trans, ext_after_spend, ext_uses}
+use Rattle.xc_search.proofs.stacked.NextLevel.{at_own, own_place, Extends, ext_none, ext_more, ext_trans}
+use Rattle.xc_search.proofs.stacked.NextLevel.{ext_after_spend}
 use Rattle.xc_search.proofs.stacked.NextLevel.{ext_after_none, ext_oldest, ext_whole, ext_longer, length-oldest}
 use Rattle.xc_search.proofs.stacked.NextLevel.{branches_here}
 use Rattle.xc_input.proofs.FaultLemmas.BooleanTests.{and_left}
 use Rattle.xc_search.proofs.Cases.{by_bool}
 use Rattle.xc_search.specs.inner.Levels.{IsOptionAt}
+use Rattle.xc_search.proofs.stacked.NextLevel.{ext_uses}
+use Rattle.std.proofs.Common.{zero}
 
 ext_tweaked : (m i : ℕ) (s : List Move) → Extends (tweaked m i s) s
-ext_tweaked m i s = (replicate m (Tweak i), refl)
+ext_tweaked zero i s = ext_none
+ext_tweaked (suc m) i s = ext_more (ext_tweaked m i s)
 
 pub covered_walks : (p : Puzzle) (u : List Move) (i : ℕ) → walks p u i ≡ true → high_at p i - spends i (Spend i ∷ u) ≡ 0
 covered_walks p u i e = eqb-true _ _ (and_left _ _ e)
@@ -91,13 +95,10 @@ begins_take p t l x m q is_level more at place e hm =
     let s = after_uses p us ground in
     let next = next_tweaks p t l x m is_level e hm in
     let took = taken p u l.item l.begun m x is_level.node e next.1 next.0 in
-    let ext_ground : Extends ground u =
-    ext_trans ground (after_spend p l.item u) u (ext_tweaked m l.item (after_spend p l.item u))
-    (ext_after_spend p l.item u) in
-    let ext_s : Extends s ground = ext_uses p us ground in
+    let ext_ground = ext_trans (ext_tweaked m l.item (after_spend p l.item u)) (ext_after_spend p l.item u) in
+    let ext_s = ext_uses p us ground in
     let mark_is : length u ≡ l.mark = length-oldest l.mark t (omega (arith, is_level.within)) in
-    let under : oldest l.mark s ≡ u =
-    ap (λ n. oldest n s) (sym mark_is) ∙ ext_whole s u (ext_trans s ground u ext_s ext_ground) in
+    let under : oldest l.mark s ≡ u = ap (λ n. oldest n s) (sym mark_is) ∙ ext_whole (ext_trans ext_s ext_ground) in
     let b = take_branch r l.item (branch_count r w) (1 + l.begun, x) in
     let one_more : 1 + l.begun ≡ l.begun + 1 = omega arith in
     let n_is : l.count ≡ branch_count r w = is_level.count in
@@ -118,7 +119,7 @@ begins_take p t l x m q is_level more at place e hm =
         mark = refl;
         below = under;
         level = subst (λ u'. IsLevelAt p u' s k) (sym under) (record {
-          within = (omega (arith, ext_longer ground u ext_ground, mark_is), ext_longer s ground ext_s);
+          within = (omega (arith, ext_longer ext_ground, mark_is), ext_longer ext_s);
           node = is_level.node;
           branch = is_level.branch;
           count = is_level.count;
@@ -128,7 +129,7 @@ begins_take p t l x m q is_level more at place e hm =
           option = at ∙ sym (ap (option_map (λ o. o.number))
               (numbered_get-at (options_at p u l.item) (l.begun + 1) l.begun refl ∙ e));
           place = place;
-          base = ext_whole s ground ext_s;
+          base = ext_whole ext_s;
         });
         searchable = record {
           valid = is_level.node.searchable.valid;
@@ -176,8 +177,8 @@ begins_none p t l is_level whole more e =
     let t_is : t ≡ ground = sym (ap (λ n. oldest n t) whole ∙ oldest_all t) ∙ is_level.base in
     let last = branch_none r w l.begun (omega (arith, more, is_level.count)) e in
     let few : l.tweaks ≤ length (options_at p u l.item) = few_tweaks p u t l is_level in
-    let ext_s : Extends s t = ext_after_none l.item t in
-    let under : oldest l.mark s ≡ u = ext_oldest l.mark s t ext_s (omega (arith, is_level.within)) in
+    let ext_s = ext_after_none l.item t in
+    let under : oldest l.mark s ≡ u = ext_oldest l.mark ext_s (omega (arith, is_level.within)) in
     let b = none_branch r l.item (branch_count r w) in
     let left_is : residual_of p s ≡ b.next =
     ap (λ t. residual_of p (after_none l.item t)) t_is ∙ none_taken p u l.item l.tweaks is_level.node few in
@@ -198,7 +199,7 @@ begins_none p t l is_level whole more e =
       mark = refl;
       below = under;
       level = subst (λ u'. IsLevelAt p u' s k) (sym under) (record {
-        within = (is_level.within.0, omega (arith, ext_longer s t ext_s, whole));
+        within = (is_level.within.0, omega (arith, ext_longer ext_s, whole));
         node = is_level.node;
         branch = is_level.branch;
         count = is_level.count;
@@ -209,7 +210,7 @@ begins_none p t l is_level whole more e =
             ∙ sym (ap (option_map (λ o. o.number))
             (numbered_get-at (options_at p u l.item) (l.begun + 1) l.begun refl ∙ e));
         place = own_place p l.item;
-        base = ext_oldest l.base s t ext_s (omega (arith, whole)) ∙ is_level.base;
+        base = ext_oldest l.base ext_s (omega (arith, whole)) ∙ is_level.base;
       });
       searchable = record {
         valid = is_level.node.searchable.valid;

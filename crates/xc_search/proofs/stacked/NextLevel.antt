@@ -27,74 +27,60 @@ use Rattle.xc_search.proofs.listing.BranchesLess.{least_is_one}
 use Rattle.xc_search.proofs.residual.EachMove.{in_range}
 use Rattle.xc_search.proofs.residual.ReadyUses.{as_spent}
 use Rattle.xc_search.proofs.residual.BranchItemLeft.{choice_is_branch_item, choice_of}
-use Rattle.xc_search.proofs.moves.OldestMoves.{oldest_all}
+use Rattle.xc_search.proofs.moves.OldestMoves.{oldest_all, oldest-drop}
 use Rattle.xc_search.proofs.stacked.WorkUnrolled.{work_unrolled}
 use Rattle.xc_input.proofs.lists.EachElement.{each_weaker, each-map, each-filter, each_passes, each_both}
 use Rattle.xc_input.proofs.lists.Filters.{map-map}
+use Rattle.xc_search.proofs.Cases.{mapped_none, mapped_some}
 
 -- ---- the oldest moves
 
 pub length-oldest : (n : ℕ) (t : List Move) → n ≤ length t → length (oldest n t) ≡ n
 length-oldest n t h = omega (arith, length-drop (length t - n) t, h)
 
-pub oldest-append : (n : ℕ) (ms t : List Move) → n ≤ length t → oldest n (ms ++ t) ≡ oldest n t
-oldest-append n [] t h = refl
-oldest-append n (m ∷ ms) t h =
-    let one_more : suc (length (ms ++ t)) - n ≡ suc (length (ms ++ t) - n) = omega (arith, length-append ms t, h) in
-    ap (λ k. drop k (m ∷ ms ++ t)) one_more ∙ oldest-append n ms t h
-
-pub oldest-oldest : (m n : ℕ) (t : List Move) → m ≤ n → n ≤ length t → oldest m (oldest n t) ≡ oldest m t
-oldest-oldest m n t h k = grind (arith, common_steps, oldest-append, length-oldest)
-
 -- ---- moves on top
 
-abbrev pub Extends : List Move → List Move → Type 0
-Extends s t = (ms : List Move) × (s ≡ ms ++ t)
+pub data Extends : List Move → List Move → Type 0 where
+  ext_none : {t : List Move} → Extends t t
+  ext_more : {m : Move} {s t : List Move} → Extends s t → Extends (m ∷ s) t
 
-pub ext_trans : (r s t : List Move) → Extends r s → Extends s t → Extends r t
-ext_trans r s t a b = (a.0 ++ b.0, a.1 ∙ ap (λ x. a.0 ++ x) b.1 ∙ sym (append_assoc a.0 b.0 t))
+pub ext_trans : {r s t : List Move} → Extends r s → Extends s t → Extends r t
+ext_trans ext_none b = b
+ext_trans (ext_more a) b = ext_more (ext_trans a b)
 
 pub ext_after_spend : (p : Puzzle) (i : ℕ) (t : List Move) → Extends (after_spend p i t) t
-ext_after_spend p i t =
-    elim (eqb (high_at p i - spends i (Spend i ∷ t)) 0) as
-    (λ b. Extends (cond b (Cover i ∷ Spend i ∷ t) (Spend i ∷ t)) t) [
-      | true ↦ (Cover i ∷ Spend i ∷ [], refl)
-      | false ↦ (Spend i ∷ [], refl)
-    ]
+ext_after_spend p i t = grind (arith, common_steps, ext_none, ext_more)
 
 ext_use : (p : Puzzle) (u : Use) (t : List Move) → Extends (after_use p u t) t
-ext_use p u t =
-    elim (leb u.item (primary_count p)) as
-    (λ x. Extends (cond x (after_spend p u.item t)
-    (cond (eqb u.colour 0) (Cover u.item ∷ t) (cond (is_open u.item t) (Purify u.item u.colour ∷ t) t))) t) [
-      | true ↦ ext_after_spend p u.item t
-      | false ↦ elim (eqb u.colour 0) as
-          (λ x. Extends (cond x (Cover u.item ∷ t) (cond (is_open u.item t) (Purify u.item u.colour ∷ t) t)) t) [
-            | true ↦ (Cover u.item ∷ [], refl)
-            | false ↦ elim (is_open u.item t) as (λ x. Extends (cond x (Purify u.item u.colour ∷ t) t) t) [
-              | true ↦ (Purify u.item u.colour ∷ [], refl)
-              | false ↦ ([], refl)
-            ]
-          ]
-    ]
+ext_use p u t = grind (arith, common_steps, ext_none, ext_more, ext_after_spend)
 
 pub ext_uses : (p : Puzzle) (us : List Use) (t : List Move) → Extends (after_uses p us t) t
-ext_uses p [] t = ([], refl)
-ext_uses p (u ∷ us) t =
-    ext_trans (after_uses p us (after_use p u t)) (after_use p u t) t (ext_uses p us (after_use p u t)) (ext_use p u t)
+ext_uses p [] t = ext_none
+ext_uses p (u ∷ us) t = ext_trans (ext_uses p us (after_use p u t)) (ext_use p u t)
 
 pub ext_after_none : (i : ℕ) (t : List Move) → Extends (after_none i t) t
-ext_after_none i t =
-    elim (is_open i t) as (λ x. Extends (cond x (Cover i ∷ t) t) t) [ true ↦ (Cover i ∷ [], refl) | false ↦ ([], refl) ]
+ext_after_none i t = grind (arith, common_steps, ext_none, ext_more)
 
-pub ext_oldest : (n : ℕ) (s t : List Move) → Extends s t → n ≤ length t → oldest n s ≡ oldest n t
-ext_oldest n s t e h = ap (oldest n) e.1 ∙ oldest-append n e.0 t h
+pub ext_longer : {s t : List Move} → Extends s t → length t ≤ length s
+ext_longer ext_none = omega arith
+ext_longer (ext_more e) = omega (arith, ext_longer e)
 
-pub ext_whole : (s t : List Move) → Extends s t → oldest (length t) s ≡ t
-ext_whole s t e = ext_oldest (length t) s t e (omega arith) ∙ oldest_all t
+pub ext_oldest : (n : ℕ) {s t : List Move} → Extends s t → n ≤ length t → oldest n s ≡ oldest n t
+ext_oldest n ext_none h = refl
+ext_oldest n (ext_more {m} {s} e) h =
+    sym (oldest-drop n (m ∷ s) (omega (arith, h, ext_longer e))) ∙ ext_oldest n e h
 
-pub ext_longer : (s t : List Move) → Extends s t → length t ≤ length s
-ext_longer s t e = omega (arith, ap length e.1, length-append e.0 t)
+pub ext_whole : {s t : List Move} → Extends s t → oldest (length t) s ≡ t
+ext_whole {t = t} e = ext_oldest (length t) e (omega arith) ∙ oldest_all t
+
+ext_drop : (n : ℕ) (t : List Move) → Extends t (drop n t)
+ext_drop zero t = ext_none
+ext_drop (suc n) [] = ext_none
+ext_drop (suc n) (m ∷ t) = ext_more (ext_drop n t)
+
+pub oldest-oldest : (m n : ℕ) (t : List Move) → m ≤ n → n ≤ length t → oldest m (oldest n t) ≡ oldest m t
+oldest-oldest m n t h k =
+    sym (ext_oldest m (ext_drop (length t - n) t) (omega (arith, length-oldest n t k, h)))
 
 -- ---- the item of a level
 
@@ -106,12 +92,10 @@ all_primary : (p : Puzzle) (t : List Move)
     → AllByRecursion (λ w. IsPrimary p w.item × (is_open w.item t ≡ true)) (wanted_after p t)
 all_primary p t =
     let is = range_with_len 1 (primary_count p) in
-    each-map (λ w. IsPrimary p w.item × (is_open w.item t ≡ true)) (wanted_at p t) (open_items p t)
-    (each_both (λ i. IsPrimary p i) (λ i. is_open i t ≡ true) (λ i. IsPrimary p i × (is_open i t ≡ true))
-    (open_items p t) (λ i a b. (a, b))
-    (each-filter (λ i. IsPrimary p i) (λ i. is_open i t) is
-    (each_both (λ i. 1 ≤ i) (λ i. i < 1 + primary_count p) (λ i. IsPrimary p i) is (λ i a b. (a, omega (arith, b)))
-    (range_from 1 (primary_count p)) (in_range 1 (primary_count p))))
+    each-map _ (wanted_at p t) (open_items p t)
+    (each_both (IsPrimary p) (λ i. is_open i t ≡ true) _ (open_items p t) (λ i a b. (a, b))
+    (each-filter (IsPrimary p) (λ i. is_open i t) is (each_both (λ i. 1 ≤ i) (λ i. i < 1 + primary_count p) _ is
+    (λ i a b. (a, omega (arith, b))) (range_from 1 (primary_count p)) (in_range 1 (primary_count p))))
     (each_passes (λ i. is_open i t) is))
 
 pub record Chosen (p : Puzzle) (t : List Move) (i n : ℕ) : Type 0 where
@@ -120,44 +104,27 @@ pub record Chosen (p : Puzzle) (t : List Move) (i n : ℕ) : Type 0 where
   pub item : IsPrimary p i
   pub is_open : is_open i t ≡ true
 
-first_of_pair : (a b : ℕ × ℕ) → Some a ≡ Some b → (a.0 ≡ b.0) × (a.1 ≡ b.1)
-first_of_pair a b e = let same : a ≡ b = cc in (ap (λ (x : ℕ × ℕ). x.0) same, ap (λ (x : ℕ × ℕ). x.1) same)
-
 pub chosen_item : (p : Puzzle) (t : List Move) (i n : ℕ) → AreLegal p t → choice_after p t ≡ Some (i, n)
     → Chosen p t i n
-chosen_item p t i n l e = by_case (branch_item (residual_of p t)) refl (sym (choice_is_branch_item p t l) ∙ e)
-  where
-    by_case : (o : Option Wanted) → branch_item (residual_of p t) ≡ o → choice_of (residual_of p t) ≡ Some (i, n)
-        → Chosen p t i n
-    by_case None b c = let none : choice_of (residual_of p t) ≡ None =
-        ap (option_map (λ w. (w.item, branch_count (residual_of p t) w))) b in cc (none, c)
-    by_case (Some w) b c =
-        let some : choice_of (residual_of p t) ≡ Some (w.item, branch_count (residual_of p t) w) =
-        ap (option_map (λ w. (w.item, branch_count (residual_of p t) w))) b in
-        let parts = first_of_pair (w.item, branch_count (residual_of p t) w) (i, n) (sym some ∙ c) in
-        let one = least_is_one (branch_count (residual_of p t)) (wanted_after p t) w b in
-        let here =
-        each_in (λ w. IsPrimary p w.item × (is_open w.item t ≡ true)) (wanted_after p t) w (all_primary p t) one in
-        let as_is : w ≡ wanted_at p t i =
-        each_in (λ w. w ≡ wanted_at p t w.item) (wanted_after p t) w (as_spent p t) one
-        ∙ ap (wanted_at p t) parts.0 in
-        record {
-          branch = b ∙ ap Some as_is;
-          count = sym parts.1 ∙ ap (branch_count (residual_of p t)) as_is;
-          item = subst (IsPrimary p) parts.0 here.0;
-          is_open = ap (λ i. is_open i t) (sym parts.0) ∙ here.1;
-        }
+chosen_item p t i n l e =
+    let r = residual_of p t in
+    let found = mapped_some (λ w. (w.item, branch_count r w)) (branch_item r) (i, n)
+    (sym (choice_is_branch_item p t l) ∙ e) in
+    let w = found.0 in
+    let item : w.item ≡ i = ap (λ (x : ℕ × ℕ). x.0) found.2 in
+    let one = least_is_one _ _ _ found.1 in
+    let here = each_in _ _ _ (all_primary p t) one in
+    let as_is : w ≡ wanted_at p t i = each_in _ _ _ (as_spent p t) one ∙ ap (wanted_at p t) item in
+    record {
+      branch = found.1 ∙ ap Some as_is;
+      count = sym (ap (λ (x : ℕ × ℕ). x.1) found.2) ∙ ap (branch_count r) as_is;
+      item = subst (IsPrimary p) item here.0;
+      is_open = ap (λ i. is_open i t) (sym item) ∙ here.1;
+    }
 
 pub chosen_none : (p : Puzzle) (t : List Move) → AreLegal p t → choice_after p t ≡ None
     → branch_item (residual_of p t) ≡ None
-chosen_none p t l e = by_case (branch_item (residual_of p t)) refl (sym (choice_is_branch_item p t l) ∙ e)
-  where
-    by_case : (o : Option Wanted) → branch_item (residual_of p t) ≡ o → choice_of (residual_of p t) ≡ None
-        → branch_item (residual_of p t) ≡ None
-    by_case None b c = b
-    by_case (Some w) b c =
-        let some : choice_of (residual_of p t) ≡ Some (w.item, branch_count (residual_of p t) w) =
-        ap (option_map (λ w. (w.item, branch_count (residual_of p t) w))) b in cc (some, c)
+chosen_none p t l e = mapped_none _ (branch_item (residual_of p t)) (sym (choice_is_branch_item p t l) ∙ e)
 
 -- ---- what is left is searched
 
@@ -198,25 +165,16 @@ pub descended : (p : Puzzle) (t : List Move) (ls : List Level) (i n : ℕ) → I
     × (coming p t ls true ≡ to_give p (after_spend p i t) (first_level p t i n ∷ ls))
     × (visits p (after_spend p i t) (first_level p t i n ∷ ls) < ahead p t ls true)
 descended p t ls i n here sh c stacked =
-    let f = first_level p t i n in
+    let r = residual_of p t in
     let s = after_spend p i t in
-    let ext = ext_after_spend p i t in
-    let under : oldest (length t) s ≡ t = ext_whole s t ext in
-    let is_level : IsLevelAt p t s f = first_stands p t i n here c in
-    let unrolled : listing (residual_of p t) ≡ flat_map (λ b. map (λ m. b.choice ∷ m) (listing b.next))
-    (branches_at p t) =
-    listing_unrolled (residual_of p t) ∙ ap (λ o. level listing o (residual_of p t)) c.branch
-    ∙ ap (flat_map (λ b. map (λ m. b.choice ∷ m) (listing b.next)))
-    (sym (branches_here p t (wanted_at p t i) c.branch)) in
-    let worked : work (residual_of p t) ≡ suc (suc (cost work (branches_at p t))) =
-    work_unrolled (residual_of p t) ∙ ap (λ o. work_level work o (residual_of p t)) c.branch
-    ∙ ap (λ bs. suc (suc (cost work bs))) (sym (branches_here p t (wanted_at p t i) c.branch)) in (
-      (
-        subst (λ u. IsLevelAt p u s f) (sym under) is_level,
-        subst (λ u. IsShallow p u ls) (sym under) sh,
-        subst
-            (λ u. AreStacked p u ls) (sym under) stacked,
-      ),
+    let under : oldest (length t) s ≡ t = ext_whole (ext_after_spend p i t) in
+    let branches = branches_here p t (wanted_at p t i) c.branch in
+    let unrolled = listing_unrolled r ∙ ap (λ o. level listing o r) c.branch
+    ∙ ap (flat_map (λ b. map (λ m. b.choice ∷ m) (listing b.next))) (sym branches) in
+    let worked = work_unrolled r ∙ ap (λ o. work_level work o r) c.branch
+    ∙ ap (λ bs. suc (suc (cost work bs))) (sym branches) in (
+      subst (λ u. IsLevelAt p u s (first_level p t i n) × IsShallow p u ls × AreStacked p u ls) (sym under)
+          (first_stands p t i n here c, sh, stacked),
       ap (λ ms. map (λ m. choices_of p ls ++ m) ms ++ to_give p t ls) unrolled
           ∙ ap (λ ms. ms ++ to_give p t ls) (members_all (choices_of p ls) (branches_at p t))
           ∙ ap (λ u. members_of (choices_of p ls) (branches_at p u) ++ to_give p u ls) (sym under),

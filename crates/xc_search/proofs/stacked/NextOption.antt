@@ -20,7 +20,7 @@ use Rattle.xc_dance.proofs.MoveLemmas.OpenLists.{left_rises}
 use Rattle.xc_dance.proofs.MoveLemmas.OptionsRise.{NumbersRise-filter, NumbersRise-weaker, NumbersRise}
 use Rattle.xc_search.proofs.moves.LegalTweaks.{listed_branch, rise_above}
 use Rattle.xc_input.proofs.lists.Places.{slice_get-drop, not_some}
-use Rattle.xc_search.proofs.Cases.{by_bool, by_number, by_option}
+use Rattle.xc_search.proofs.Cases.{by_bool, by_number, by_option, mapped_none, mapped_some}
 
 abbrev number_of : Numbered → ℕ
 number_of o = o.number
@@ -57,20 +57,11 @@ few_begun : (p : Puzzle) (u t : List Move) (l : Level) → IsLevelAt p u t l →
     → l.begun ≤ length (options_at p u l.item)
 few_begun p u t l is_level more = omega (arith, is_level.count, more)
 
-pub some_option : (o : Option Numbered) (n : ℕ) → option_map (λ (x : Numbered). x.number) o ≡ Some n → (x : Numbered)
-    × (o ≡ Some x) × (x.number ≡ n)
-some_option None n e = cc
-some_option (Some x) n e = let same : x.number ≡ n = cc in (x, refl, same)
-
-pub no_option : (o : Option Numbered) → option_map (λ (x : Numbered). x.number) o ≡ None → o ≡ None
-no_option None e = refl
-no_option (Some x) e = cc
-
 -- the option of number n, counted from 1, stands at the place before
 pub last_taken : (os : List Numbered) (n o : ℕ) → option_map (λ (x : Numbered). x.number) (numbered_get os n) ≡ Some o
     → (k : ℕ) × (x : Numbered) × (n ≡ suc k) × (slice_get os k ≡ Some x) × (x.number ≡ o)
 last_taken os zero o e = cc
-last_taken os (suc k) o e = let x = some_option (slice_get os k) o e in (k, x.0, refl, x.1, x.2)
+last_taken os (suc k) o e = let x = mapped_some number_of (slice_get os k) o e in (k, x.0, refl, x.1, x.2)
 
 -- the first of the list, where it isn't walked or no branch was begun
 pub first_is : (p : Puzzle) (t : List Move) (l : Level) → IsLevel p t l → l.base ≡ length t → l.begun < l.count
@@ -84,7 +75,7 @@ first_is p t l is_level whole more h =
     (λ c. let stood : l.tweaks ≡ 0 = is_level.tweaks ∙ rw c refl in by_number l.begun (λ e. stood ∙ sym e) (λ k e.
     let last : option_map number_of (slice_get os k) ≡ None =
     ap (λ n. option_map number_of (numbered_get os n)) (sym e) ∙ sym is_level.option ∙ h c in
-    absurd (omega (arith, e, few, not_some os k (no_option (slice_get os k) last)))))
+    absurd (omega (arith, e, few, not_some os k (mapped_none number_of (slice_get os k) last)))))
     (λ c. let stood : l.tweaks ≡ min l.begun (length os) = is_level.tweaks ∙ rw c refl in
     omega (arith, stood, few)) in
     ap (λ xs. next_above 0 (map number_of xs)) (list_is p t l is_level whole)

@@ -12,6 +12,7 @@ use Rattle.xc_search.specs.declared.level.Level.{Level}
 use Rattle.xc_search.specs.inner.Levels.{Levels, IsStanding, coming, behind, choices_of}
 use Rattle.xc_search.specs.inner.Ahead.{IsSolved, StandsOver, EndsOver, WentOver, WentPast, Passed}
 use Rattle.xc_search.proofs.stacked.NextLevel.{solution}
+use Rattle.xc_search.proofs.Cases.{by_number}
 
 rest_behind : {X : Type 0} (n : ℕ) (ms : List X) (m : X) (rest : List X) → drop n ms ≡ m ∷ rest → rest ≡ drop (n + 1) ms
 rest_behind zero [] m rest e = absurd (cc e)
@@ -74,19 +75,15 @@ pub went_over : (d e : Dancing) (ls ks : Levels) (down : Bool) (many more : ℕ)
 went_over d e ls ks true many more some has at =
     subst (λ n. WentOver d ls true n e ks) (sym (has.first refl))
     (went_to d e ls ks true more at.over.still at.solved at.over.members)
-went_over d e ls ks false many more some has at = by_many many refl
-  where
-    by_many : (n : ℕ) → many ≡ n → WentOver d ls false many e ks
-    by_many zero h = absurd (omega (arith, some, h))
-    by_many (suc n) h =
-        let was = (has.again refl).1 in
-        let found = solution d.puzzle d.trail ls.levels (was.standing.searchable refl).legal was.none in
-        let ms = coming d.puzzle d.trail ls.levels true in
-        let over : drop n (coming d.puzzle d.trail ls.levels false) ≡ drop more ms =
-        ap (drop (suc n)) (sym found) ∙ ap (λ n. drop n ms) (sym h ∙ (has.again refl).0) in
-        let all : n + 1 ≡ many = omega (arith, h) in
-        subst (λ n. WentOver d ls false n e ks) all
-        (went_to d e ls ks false n at.over.still at.solved (over ∙ at.over.members))
+went_over d e ls ks false many more some has at = by_number many (λ h. absurd (omega (arith, some, h))) (λ n h.
+    let was = (has.again refl).1 in
+    let found = solution d.puzzle d.trail ls.levels (was.standing.searchable refl).legal was.none in
+    let ms = coming d.puzzle d.trail ls.levels true in
+    let over : drop n (coming d.puzzle d.trail ls.levels false) ≡ drop more ms =
+    ap (drop (suc n)) (sym found) ∙ ap (λ n. drop n ms) (sym h ∙ (has.again refl).0) in
+    let all : n + 1 ≡ many = omega (arith, h) in
+    subst (λ n. WentOver d ls false n e ks) all
+    (went_to d e ls ks false n at.over.still at.solved (over ∙ at.over.members)))
 
 -- there were no more
 pub went_past : (d e : Dancing) (ls ks : Levels) (down : Bool) (many more n lacks : ℕ)

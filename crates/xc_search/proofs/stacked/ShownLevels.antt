@@ -40,7 +40,7 @@ each_shown p t [] s = tt
 each_shown p t (l ∷ ls) s = (level_shown p (oldest l.mark t) t l s.0, each_shown p (oldest l.mark t) ls s.2)
 
 pub all_shown : (p : Puzzle) (t : List Move) (ls : List Level) → AreStacked p t ls → All (IsShown p) ls
-all_shown p t ls s = All-from_recursion (IsShown p) ls (each_shown p t ls s)
+all_shown p t ls s = All-from_recursion _ _ (each_shown p t ls s)
 
 each_back : {X : Type 0} (P : X → Type 0) (xs : List X) → AllByRecursion P (reverse xs) → AllByRecursion P xs
 each_back P [] a = tt
@@ -50,5 +50,4 @@ each_back P (x ∷ xs) a =
 
 -- from the oldest on too
 pub shown_back : (p : Puzzle) (ls : List Level) → All (IsShown p) (reverse ls) → All (IsShown p) ls
-shown_back p ls a =
-    All-from_recursion (IsShown p) ls (each_back (IsShown p) ls (recursion_from_All (IsShown p) (reverse ls) a))
+shown_back p ls a = All-from_recursion _ _ (each_back (IsShown p) ls (recursion_from_All _ _ a))

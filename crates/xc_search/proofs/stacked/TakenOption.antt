@@ -24,14 +24,14 @@ use Rattle.xc_search.proofs.moves.LegalTweaks.{legal_branch}
 use Rattle.xc_search.proofs.room.TrailFits.{has_room}
 use Rattle.xc_search.proofs.stacked.NextLevel.{at_own}
 use Rattle.xc_search.proofs.stacked.NextBranch.{covered_walks, with_option, begins_take, with_none, begins_none}
-use Rattle.xc_search.proofs.stacked.NextOption.{some_option, no_option}
+use Rattle.xc_search.proofs.Cases.{mapped_none, mapped_some}
 use Rattle.xc_search.proofs.stacked.NextBranch.{BeginsTake, tweaked_at}
 
 taking : (p : Puzzle) (t : List Move) (l : Level) (o m q : ℕ) → IsLevel p t l → l.begun < l.count
     → next_number p t l ≡ Some o → option_at p l.item q ≡ Some o → IsPlace p l.item q
     → m ≡ cond l.walks l.tweaks (l.tweaks + 1) → BeginsTake p t l o m q
 taking p t l o m q is_level more e at place hm =
-    let found = some_option (slice_get (options_at p (oldest l.mark t) l.item) l.begun) o e in
+    let found = mapped_some _ (slice_get (options_at p (oldest l.mark t) l.item) l.begun) o e in
     subst (λ n. BeginsTake p t l n m q) found.2
     (begins_take p t l found.0 m q is_level more (at ∙ ap Some (sym found.2)) place found.1 hm)
 
@@ -68,7 +68,8 @@ pub entered_none : (p : Puzzle) (t : List Move) (l : Level) → IsLevel p t l �
     → next_number p t l ≡ None → IsEntered p t l t (with_none l)
 entered_none p t l is_level whole more e =
     let begun =
-    begins_none p t l is_level whole more (no_option (slice_get (options_at p (oldest l.mark t) l.item) l.begun) e) in
+    begins_none p t l is_level whole more
+    (mapped_none (λ (x : Numbered). x.number) (slice_get (options_at p (oldest l.mark t) l.item) l.begun) e) in
     record {
       can = subst (λ v. CanBranch p l.item v t) (sym (at_own p l.item)) (record {
         item = level_item p t l is_level;
@@ -91,7 +92,7 @@ pub may_tweak : (p : Puzzle) (t : List Move) (l : Level) (o : ℕ) → IsLevel p
     → l.walks ≡ false → next_number p t l ≡ Some o → IsLegal p t (Tweak l.item) × (l.tweaks ≡ l.begun)
 may_tweak p t l o is_level whole more c e =
     let u = oldest l.mark t in
-    let found = some_option (slice_get (options_at p u l.item) l.begun) o e in
+    let found = mapped_some (λ (x : Numbered). x.number) (slice_get (options_at p u l.item) l.begun) o e in
     let within = slice_get_within (options_at p u l.item) l.begun found.0 found.1 in
     let stood : l.tweaks ≡ min l.begun (length (options_at p u l.item)) = is_level.tweaks ∙ rw c refl in
     let all : l.tweaks ≡ l.begun = omega (arith, stood, within) in

@@ -11,8 +11,7 @@ overflow_add-spends c =
     omega (
       arith,
       c.loop-i.invariant,
-      few_spends bounds c.loop-i.i
-          (recursion_from_All (λ b. b.high ≤ 999999999) bounds c.primary-i-end.ensures.whole.limits.bounds),
+      few_spends bounds c.loop-i.i (recursion_from_All _ _ c.primary-i-end.ensures.whole.limits.bounds),
       c.primary-i-end.ensures.whole.limits.items,
       c.primary-i-end.ensures.value,
     )

@@ -35,15 +35,18 @@ push-requires g c =
     let e = chose g (goal.at.push-requires g c).In-Some in
     let node = node_at s.puzzle s.trail ls i c.in-Some.count c.requires.standing e in
     let chosen = chosen_item s.puzzle s.trail i c.in-Some.count (c.requires.standing.searchable refl).legal e in
-    omega (
-      arith,
-      c.requires.levels_fit,
-      depth_at s.puzzle s.trail ls i c.requires.standing.stacked
-          (c.requires.standing.shallow refl) node chosen.branch,
-    )
+    let deep = depth_at s.puzzle s.trail ls i c.requires.standing.stacked (c.requires.standing.shallow refl) node
+    chosen.branch in
+    omega (arith, c.requires.levels_fit, deep)
 
 pub undo_to-requires : goal.undo_to-requires
-undo_to-requires g c = grind (arith, common_steps, begins_at, chose)
+undo_to-requires g c =
+    let stacked = begins_at {ls = c.args.stack.now} (record {
+      spent = c.descend-level.ensures.trail;
+      level = c.descend-level.ensures.level;
+      standing = c.requires.standing;
+      chosen = chose g (goal.at.undo_to-requires g c).In-Some;
+    }) in grind (arith, common_steps)
 
 same_branch : (a b : Entered) → Branch a ≡ Branch b → a ≡ b
 same_branch a b is = cc is
@@ -52,11 +55,12 @@ over : (g : _) (c : After-undo_to g) → GoesOn c.args.position.now c.args.stack
     c.args.stack.now false
     × (visits c.undo_to.new.self.puzzle c.undo_to.new.self.trail c.args.stack.now.levels < ahead
     c.args.position.now.puzzle c.args.position.now.trail c.args.stack.now.levels true)
-over g c =
-    passes_over c.args.position.now c.descend-level.new.self c.undo_to.new.self c.args.stack.now c.in-Some.item
-    c.in-Some.count c.descend-level.result
-    c.requires.standing (cc (c.choose.ensures.choice, c.in-Some.is)) c.descend-level.ensures.trail
-    c.descend-level.ensures.level c.if-count-eq0.true c.undo_to.ensures
+over g c = passes_over (record {
+  spent = c.descend-level.ensures.trail;
+  level = c.descend-level.ensures.level;
+  standing = c.requires.standing;
+  chosen = cc (c.choose.ensures.choice, c.in-Some.is);
+}) c.undo_to.new.self c.if-count-eq0.true c.undo_to.ensures
 
 pub returns-then-count-eq0-clause-nothing : goal.returns-then-count-eq0-clause-nothing
 returns-then-count-eq0-clause-nothing g c _ = (over g c).0
@@ -67,34 +71,33 @@ returns-then-count-eq0-clause-fewer g c _ = (over g c).1
 pub enter-branch-requires : goal.enter-branch-requires
 enter-branch-requires g c = record {
   number = ap (λ (l : Level). l.begun + 1) (sym c.descend-level.ensures.level);
-  ready =
-      may_enter c.args.position.now c.descend-level.new.self c.args.stack.now c.in-Some.item c.in-Some.count
-      c.descend-level.result
-      c.requires.standing (chose g (goal.at.enter-branch-requires g c).In-Some) c.descend-level.ensures.trail
-      c.descend-level.ensures.level (omega (arith, c.if-count-eq0.false));
+  ready = may_enter {ls = c.args.stack.now} (record {
+    spent = c.descend-level.ensures.trail;
+    level = c.descend-level.ensures.level;
+    standing = c.requires.standing;
+    chosen = chose g (goal.at.enter-branch-requires g c).In-Some;
+  }) (omega (arith, c.if-count-eq0.false));
 }
 
 deeper : (g : _) (c : After-push g) →
     EntersBranch c.args.position.now c.args.stack.now true c.enter-branch.new.self c.push.new.self c.in-Some.item
     c.enter-branch.result.place
-deeper g c =
-    enters_first c.args.position.now c.descend-level.new.self c.enter-branch.new.self c.args.stack.now
-    c.push.new.self c.in-Some.item c.in-Some.count c.descend-level.result c.enter-branch.result
-    c.requires.standing (cc (c.choose.ensures.choice, c.in-Some.is)) c.descend-level.ensures.trail
-    c.descend-level.ensures.level
-    c.enter-branch.ensures.still c.enter-branch.ensures.entered (c.push.ensures ∙ ap (λ l. with_level l
-    c.args.stack.now) c.begin_level.ensures)
+deeper g c = enters_first (record {
+  spent = c.descend-level.ensures.trail;
+  level = c.descend-level.ensures.level;
+  standing = c.requires.standing;
+  chosen = cc (c.choose.ensures.choice, c.in-Some.is);
+}) c.enter-branch.new.self c.push.new.self c.enter-branch.result c.enter-branch.ensures.still
+    c.enter-branch.ensures.entered (c.push.ensures ∙ ap (λ l. with_level l c.args.stack.now) c.begin_level.ensures)
 
 path : (g : _) (c : After-push g) →
     KeepsPath c.args.position.now c.args.stack.now (branched c.enter-branch.new.self c.in-Some.item
     c.enter-branch.result.place) c.push.new.self
 path g c =
-    keeps_first c.args.position.now c.descend-level.new.self c.enter-branch.new.self (branched
-    c.enter-branch.new.self c.in-Some.item c.enter-branch.result.place)
-    c.args.stack.now c.push.new.self c.in-Some.item c.in-Some.count c.descend-level.result c.enter-branch.result
-    c.descend-level.ensures.trail c.descend-level.ensures.level
-    c.enter-branch.ensures.still c.enter-branch.ensures.entered refl (c.push.ensures ∙ ap (λ l. with_level l
-    c.args.stack.now) c.begin_level.ensures)
+    keeps_first c.args.position.now c.descend-level.new.self c.enter-branch.new.self c.args.stack.now c.push.new.self
+    c.in-Some.item c.in-Some.count c.descend-level.result c.enter-branch.result c.descend-level.ensures.trail
+    c.descend-level.ensures.level c.enter-branch.ensures.still c.enter-branch.ensures.entered
+    (c.push.ensures ∙ ap (λ l. with_level l c.args.stack.now) c.begin_level.ensures)
 
 pub returns-clause-deeper : goal.returns-clause-deeper
 returns-clause-deeper g c b is =

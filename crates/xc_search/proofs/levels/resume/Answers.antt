@@ -44,13 +44,10 @@ returns-then-level-clause-resumed g c =
 
 pub returns-then-level-clause-resumed_path : goal.returns-then-level-clause-resumed_path
 returns-then-level-clause-resumed_path g c =
-    let d = c.loop-level.position in
-    let l = c.in-Some.level.now in
-    let f = c.enter_next-branch.new.position in
-    let next = keeps_next d (record d { trail = oldest l.base d.trail }) f (branched f l.item
-    c.enter_next-branch.result.place) l c.enter_next-branch.result c.loop-level.stack c.note_branch.new.self
-    c.loop-level.invariant.goes_on.standing.stacked c.in-Some.ensures.some refl c.enter_next-branch.ensures.still
-    c.enter_next-branch.ensures.entered refl c.note_branch.ensures in
+    let next = keeps_next c.loop-level.position c.enter_next-branch.new.position c.in-Some.level.now
+    c.enter_next-branch.result c.loop-level.stack c.note_branch.new.self
+    c.loop-level.invariant.goes_on.standing.stacked c.in-Some.ensures.some c.enter_next-branch.ensures.still
+    c.enter_next-branch.ensures.entered c.note_branch.ensures in
     λ u a. next u (c.loop-level.invariant.path u a)
 
 pub loop-level-smaller : goal.loop-level-smaller
