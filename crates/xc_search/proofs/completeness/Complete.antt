@@ -107,8 +107,7 @@ module _ (n : ℕ) (r : Residual) (chosen : ℕ → Bool) (p : IsProper n r) (c 
   may_stay_beside x y u None h k e f apart i left = by_bool (nat_le u.item n)
       (λ q.
       let w = p.items_left x u.item h (leb-true u.item n q) (holds_use x.uses u i) in
-      let found : item_left r u.item ≡ Some w.0 =
-      subst (λ j. item_left r j ≡ Some w.0) w.2 (find-in 0 r.items w.0 p.items_rise w.1) in
+      let found = subst (λ j. item_left r j ≡ Some w.0) w.2 (find-in 0 r.items w.0 p.items_rise w.1) in
       cc)
       (λ q.
       let beside = list_all-at (λ u. nat_le u.item n || agrees u.colour (colour_at y u.item)) x.uses u

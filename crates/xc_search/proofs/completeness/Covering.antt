@@ -119,8 +119,7 @@ within_bounds : (p : Puzzle) (s : List Numbered) (i : ℕ) (b : Bounds) → Solv
 within_bounds p s i b solved e =
     let at = bounded p i b e in
     let m = each_in _ _ _ solved.met at.1 in
-    let same : times_held p i (map number_of s) ≡ count at.0.item s =
-    held_count p i s solved.chosen ∙ ap (λ j. count j s) (sym at.2) in
+    let same = held_count p i s solved.chosen ∙ ap (λ j. count j s) (sym at.2) in
     (omega (arith, same, m.0, at.3), omega (arith, same, m.1, at.4))
 
 colours_agree : (p : Puzzle) (x y : Numbered) (i c d : ℕ) → IsBeside (primary_count p) x y → IsSecondary p i

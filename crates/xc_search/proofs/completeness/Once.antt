@@ -112,8 +112,7 @@ takes_apart d r w n a b rise h less =
     ])
 
 none_apart : (d : ℕ) (r : Residual) (w : Wanted) (n : ℕ) (a : ℕ × Numbered) (b : Branch) → NumbersRise 0 r.options
-    → IsIn (holding w.item r.options) a.1 → IsNone r w b →
-    AreApart d (take_branch r w.item n a) b
+    → IsIn (holding w.item r.options) a.1 → IsNone r w b → AreApart d (take_branch r w.item n a) b
 none_apart d r w n a b rise h t = grind (arith, common_steps, in-filter, apart_by, gone_by_none, options_left)
 
 branches_apart : (d : ℕ) (r : Residual) (w : Wanted) → NumbersRise 0 r.options → EachTwo (AreApart d) (branches_of r w)

@@ -47,8 +47,7 @@ same_passing t q (o ∷ os) h = grind (arith, common_steps, same_passing t q os)
 
 -- a filter that keeps whoever passes, x aside
 pub passing_without : (t q : Numbered → Bool) (n : ℕ) (os : List Numbered) (x : Numbered) → NumbersRise n os → IsIn os x
-    → q x ≡ false →
-    ((y : Numbered) → IsIn os y → t y ≡ true → x.number ≢ y.number → q y ≡ true)
+    → q x ≡ false → ((y : Numbered) → IsIn os y → t y ≡ true → x.number ≢ y.number → q y ≡ true)
     → passing t os ≡ cond (t x) 1 0 + passing t (filter q os)
 passing_without t q n [] x r k e h = absurd k
 passing_without t q n (o ∷ os) x r (inl k) e h = grind (arith, common_steps, same_passing, above_in)

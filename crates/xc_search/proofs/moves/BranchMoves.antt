@@ -66,10 +66,8 @@ taken_at : (p : Puzzle) (t : List Move) (k m : ℕ) (x : Numbered) (u : Use) (us
 taken_at p t k m x u us vs option n e h le w =
     let s = tweaked m u.item (after_spend p u.item t) in
     let within = slice_get_within (holding u.item (left p t)) k x e in
-    let apart : AreApart (u ∷ vs ++ us) =
-    apart_turned us (u ∷ vs) (subst AreApart w (apart_from_pairs x.uses option.sound.distinct)) in
-    let ready : AreReady p t (u ∷ vs ++ us) =
-    each_turned (λ u. Ready p t u) us (u ∷ vs)
+    let apart = apart_turned us (u ∷ vs) (subst AreApart w (apart_from_pairs x.uses option.sound.distinct)) in
+    let ready = each_turned (λ u. Ready p t u) us (u ∷ vs)
     (subst (AreReady p t) w (ready_left p t u.item k x n.searchable.legal n.searchable.wanted option e)) in
     let before = branch_cut p u t k m x n e h (legal_branch p k u.item t n (omega (arith, within))) in
     let rest = commit_all p (vs ++ us) s apart.1

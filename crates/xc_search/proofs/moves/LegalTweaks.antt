@@ -116,9 +116,8 @@ left_open p (suc m) i s x l o h e =
     let before = before_some hs m x e in
     let t = tweaked (suc m) i s in
     let here : is_open i t ≡ true = open_tweaked i (suc m) i s ∙ o in
-    let head : slice_get (holding i (left p t)) 0 ≡ Some x =
-    ap (λ os. slice_get os 0) (sym (listed_open p t l i here) ∙ listed_tweaked p (suc m) i s ∙ ap (drop (suc m)) h)
-    ∙ slice_get-drop hs (suc m) ∙ e in
+    let head = ap (λ os. slice_get os 0) (sym (listed_open p t l i here) ∙ listed_tweaked p (suc m) i s
+    ∙ ap (drop (suc m)) h) ∙ slice_get-drop hs (suc m) ∙ e in
     let fewer = rise_step 0 hs m before.0 x (NumbersRise-filter _ 0 (left p s) (left_rises p s)) before.1 e in
     left_tweak p i t here
     ∙ (without_head i 0 (left p t) x (left_rises p t) head
@@ -164,8 +163,7 @@ branch_cut p u t k m x n e h l =
     opening_commits p u t n.searchable.wanted n.item n.is_open (has_left p t i n.searchable.wanted n.item n.is_open) in
     by_bool (eqb (high_at p i - spends i (Spend i ∷ t)) 0)
     (λ c.
-    let not_more : nat_lt 1 left_over ≡ false =
-    le-ltb 1 left_over (omega (arith, eqb-true _ _ c, spent_self i t)) in
+    let not_more = le-ltb 1 left_over (omega (arith, eqb-true _ _ c, spent_self i t)) in
     let s : List Move = Cover i ∷ Spend i ∷ t in
     let it_is : after_spend p i t ≡ s = rw c refl in
     let closed : is_open i s ≡ false = rw (eq-eqb i i refl) refl in
@@ -177,12 +175,10 @@ branch_cut p u t k m x n e h l =
     (sym (only_rest (holds o i) (nat_le o.number x.number)))) (left p t)
     ∙ sym (filter_both stay above (left p t))))
     (λ c.
-    let is_more : nat_lt 1 left_over ≡ true =
-    lt-ltb 1 left_over (omega (arith, eqb-false _ _ c, spent_self i t)) in
+    let is_more = lt-ltb 1 left_over (omega (arith, eqb-false _ _ c, spent_self i t)) in
     let s : List Move = Spend i ∷ t in
     let it_is : after_spend p i t ≡ s = rw c refl in
-    let items : wanted_after p s ≡ (commit_use u (residual_of p t)).items =
-    ap (λ (r : Residual). r.items) (ap (residual_of p) (sym it_is) ∙ commits) in
+    let items = ap (λ (r : Residual). r.items) (ap (residual_of p) (sym it_is) ∙ commits) in
     let legal = subst (λ s. AreLegal p (tweaked k i s)) it_is l in
     ap (λ s. residual_of p (tweaked m i s)) it_is
     ∙ ap (λ m. residual_of p (tweaked m i s)) (h (eqb-false _ _ c))

@@ -103,9 +103,8 @@ own_option p i x t v once c =
     subst (IsIn (in_problem p i x t)) (eqb-true one.0.number x.number same) one.1.taken
 
 apart_by_parts : (p : Puzzle) → IsValid p → (i : ℕ) → IsHeldOnce p i → (x y : Numbered)
-    → Contains (holding i (numbered_options p)) x → Contains (holding i (numbered_options p)) y
-    → (t u : List ℕ) → IsCover (part p i x) t → IsCover (part p i y) u
-    → SameSet (in_problem p i x t) (in_problem p i y u) → x ≡ y
+    → Contains (holding i (numbered_options p)) x → Contains (holding i (numbered_options p)) y → (t u : List ℕ)
+    → IsCover (part p i x) t → IsCover (part p i y) u → SameSet (in_problem p i x t) (in_problem p i y u) → x ≡ y
 apart_by_parts p v i once x y h k t u c d same =
     let ofx = in-filter (λ o. holds o i) _ _ (in-contains (holding i (numbered_options p)) x h) in
     let ofy = in-filter (λ o. holds o i) _ _ (in-contains (holding i (numbered_options p)) y k) in

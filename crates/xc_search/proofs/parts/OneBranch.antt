@@ -103,8 +103,7 @@ one_branch r w ws x first low held sound = grind (arith, common_steps, listing_u
     by_best (inr less) =
         let z = best (branch_count r) w ws in
         let none_left : branch_count r z ≡ 0 = omega (arith, one, less) in
-        let known : IsIn r.items z =
-        subst (λ vs. IsIn vs z) (sym first) (least_is_one (branch_count r) (w ∷ ws) z refl) in
+        let known = subst (λ vs. IsIn vs z) (sym first) (least_is_one (branch_count r) (w ∷ ws) z refl) in
         let short =
         still_short r w.item x z (subst (λ os. IsIn os x) (sym held) (inl refl)) known (sound z known) none_left in
         ap (flat_map (behind listing)) (no_branches r z none_left)

@@ -80,10 +80,9 @@ down_first p t v e = record {
 }
 
 -- there is no path with these numbers where there is no branch with the next of them
-pub down_none : (p : Puzzle) (numbers all : List ℕ) (path other : List Choice) (t : List Move) (k : ℕ)
-    (ks : List ℕ) → IsDown p numbers path t →
-    ((c : Choice) → c.k ≡ k → left_by_one c (residual_of p t) ≡ None) → all ≡ numbers ++ k ∷ ks →
-    IsPathBy p all other → ⊥
+pub down_none : (p : Puzzle) (numbers all : List ℕ) (path other : List Choice) (t : List Move) (k : ℕ) (ks : List ℕ)
+    → IsDown p numbers path t → ((c : Choice) → c.k ≡ k → left_by_one c (residual_of p t) ≡ None)
+    → all ≡ numbers ++ k ∷ ks → IsPathBy p all other → ⊥
 down_none p numbers all path other t k ks d none e is = grind (arith, common_steps, no_further)
 
 -- a search stands there
@@ -96,9 +95,8 @@ down_standing p numbers path t ls d e =
     (record { stacked = tt; searchable = λ _. d.searchable; shallow = λ _. shallow })
 
 -- with the members below the path to come
-pub down_coming : (p : Puzzle) (numbers : List ℕ) (path : List Choice) (t : List Move) (ls : List Level) →
-    IsDown p numbers path t → ls ≡ [] →
-    behind path (coming p t ls true) ≡ below p path
+pub down_coming : (p : Puzzle) (numbers : List ℕ) (path : List Choice) (t : List Move) (ls : List Level)
+    → IsDown p numbers path t → ls ≡ [] → behind path (coming p t ls true) ≡ below p path
 down_coming p numbers path t ls d e =
     let ms = listing (residual_of p t) in
     ap (λ ls. behind path (coming p t ls true)) e

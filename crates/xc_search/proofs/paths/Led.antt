@@ -40,8 +40,7 @@ keeps_first d e f ls ks i n l b ed el ef entered ek =
     let h = branched f i b.place in
     let made = branch_made e f e.trail i l b ef (ap (λ (l : Level). l.item) el) entered in
     let same : e.puzzle ≡ d.puzzle = ap (λ (s : Dancing). s.puzzle) ed in
-    let under : oldest l.mark e.trail ≡ d.trail =
-    ap₂ (λ (l : Level) (e : Dancing). oldest l.mark e.trail) el ed
+    let under = ap₂ (λ (l : Level) (e : Dancing). oldest l.mark e.trail) el ed
     ∙ ext_whole (ext_after_spend d.puzzle i d.trail) in
     keeps_at d h ls ks (sym same ∙ sym (ap (λ (s : Dancing). s.puzzle) made.still))
     (λ u a. subst (λ js. AreLed d.puzzle u h.trail js) (sym (ap (λ (s : Levels). s.levels) ek))
@@ -67,8 +66,7 @@ keeps_next d f l b vs ks stacked top ef entered ek =
     let h = branched f l.item b.place in
     let made = branch_made d f (oldest l.base t) l.item l b ef refl entered in
     let here = subst (AreStacked p t) top stacked in
-    let under : oldest l.mark (oldest l.base t) ≡ oldest l.mark t =
-    oldest-oldest l.mark l.base t here.0.within.0 here.0.within.1 in
+    let under = oldest-oldest l.mark l.base t here.0.within.0 here.0.within.1 in
     let levels : ks.levels ≡ begun_level b l ∷ js = ap (λ (s : Levels). s.levels) ek ∙ ap (newest_begun b) top in
     keeps_at d h vs ks (sym (ap (λ (s : Dancing). s.puzzle) made.still))
     (λ u a. subst (λ ms. AreLed p u h.trail ms) (sym levels)

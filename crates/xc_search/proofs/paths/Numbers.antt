@@ -163,8 +163,7 @@ runs (c ∷ path) r s e =
     let rest = runs path t.0 s t.2 in
     let x = flat_map of_branch (take (c.k - 1) bs) in
     let y = flat_map of_branch (drop (suc (c.k - 1)) bs) in
-    let here : of_branch a.branch ≡ map (λ m. c ∷ m) (rest.front ++ (map (λ m. path ++ m) (listing s) ++ rest.back)) =
-    ap₂ (λ c r. map (λ m. c ∷ m) (listing r)) a.choice a.next ∙ ap (map (λ m. c ∷ m)) rest.all in
+    let here = ap₂ (λ c r. map (λ m. c ∷ m) (listing r)) a.choice a.next ∙ ap (map (λ m. c ∷ m)) rest.all in
     record {
       front = x ++ map (λ m. c ∷ m) rest.front;
       back = map (λ m. c ∷ m) rest.back ++ y;

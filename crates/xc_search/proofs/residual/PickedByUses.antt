@@ -96,8 +96,7 @@ left_same j k [] e h = refl
 left_same j k (w ∷ ws) e h = other_head j k w _ _ e h.0 (left_same j k ws e h.1)
 
 stay_same : (u : Use) (us : List Use) (r : Residual) (o : Numbered) → AllByRecursion (λ v. eqb u.item v.item ≡ false) us
-    → AreWanted r.items →
-    all_stay (commit_use u r) us o ≡ all_stay r us o
+    → AreWanted r.items → all_stay (commit_use u r) us o ≡ all_stay r us o
 stay_same u [] r o a h = refl
 stay_same u (v ∷ us) r o a h =
     ap₂ (λ x y. may_stay x v o && y) (left_same u.item v.item r.items a.0 h) (stay_same u us r o a.1 h)

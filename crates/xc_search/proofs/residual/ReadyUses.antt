@@ -37,10 +37,9 @@ pub data Ready (p : Puzzle) (t : List Move) (u : Use) : Type 0 where
 
 -- ---- other items keep what they have
 
-after_use-same : {X : Type 0} (f : List Move → X) (p : Puzzle) (u : Use) (t : List Move) →
-    ((s : List Move) → f (Cover u.item ∷ s) ≡ f s) → ((s : List Move) → f (Purify u.item u.colour ∷ s) ≡ f s)
-    → ((s : List Move) → f (Spend u.item ∷ s) ≡ f s) →
-    f (after_use p u t) ≡ f t
+after_use-same : {X : Type 0} (f : List Move → X) (p : Puzzle) (u : Use) (t : List Move)
+    → ((s : List Move) → f (Cover u.item ∷ s) ≡ f s) → ((s : List Move) → f (Purify u.item u.colour ∷ s) ≡ f s)
+    → ((s : List Move) → f (Spend u.item ∷ s) ≡ f s) → f (after_use p u t) ≡ f t
 after_use-same f p u t a b c = grind (arith, common_steps)
 
 pub open_same : (p : Puzzle) (u : Use) (t : List Move) (j : ℕ) → eqb j u.item ≡ false

@@ -77,31 +77,14 @@ sparing_taken p t i k m x s e took =
     let itself : leb x.number x.number ≡ true = le-leb x.number x.number (omega arith) in
     let goes : (not (holds x i && nat_le x.number x.number) && stays (residual_of p t) x x) ≡ false =
     rw (took.held, itself) refl in
-    let items : length (residual_of p u).items ≡ length (pick (residual_of p t) i x).items =
-    ap (λ (r : Residual). length r.items) took.picked.residual in
-    let options : uses_in (left p u) ≡ uses_in (pick (residual_of p t) i x).options =
-    ap (λ (r : Residual). uses_in r.options) took.picked.residual in
+    let items = ap (λ (r : Residual). length r.items) took.picked.residual in
+    let options = ap (λ (r : Residual). uses_in r.options) took.picked.residual in
     let spent = spent_uses p (others i us) ground in
     let fewer = without_uses (λ o. not (holds o i && nat_le o.number x.number) && stays (residual_of p t) x o) i k x
     (left p t) e goes in
     let kept = length-filter-le (λ w. nat_lt 0 w.high) (map (spend_one x) (wanted_after p t)) in
     let all = length-map (wanted_after p t) (spend_one x) in
-    omega (
-      arith,
-      s,
-      spent,
-      others_less i us took.at.holds,
-      ap length took.uses,
-      spent_tweaked,
-      spent_after_spend,
-      open_is p u,
-      open_is p t,
-      items,
-      kept,
-      all,
-      options,
-      fewer,
-    )
+    omega (arith, others_less i us took.at.holds, ap length took.uses, spent_tweaked, spent_after_spend, open_is)
 
 pub sparing_none : (p : Puzzle) (t : List Move) (i m : ℕ) → IsSparing p t
     → branch_item (residual_of p t) ≡ Some (wanted_at p t i) →
@@ -110,14 +93,12 @@ pub sparing_none : (p : Puzzle) (t : List Move) (i m : ℕ) → IsSparing p t
 sparing_none p t i m s b r =
     let ground = tweaked m i (after_spend p i t) in
     let u = after_none i ground in
-    let items : length (residual_of p u).items ≡ length (none (residual_of p t) i).items =
-    ap (λ (r : Residual). length r.items) r in
-    let options : uses_in (left p u) ≡ uses_in (none (residual_of p t) i).options =
-    ap (λ (r : Residual). uses_in r.options) r in
+    let items = ap (λ (r : Residual). length r.items) r in
+    let options = ap (λ (r : Residual). uses_in r.options) r in
     let less = less_items (wanted_at p t i) (wanted_after p t) (least_is_one _ _ _ b) in
     let fewer = fewer_uses (λ o. not (holds o i)) (left p t) in
     let spent = spent_after_none i ground in
-    omega (arith, s, spent, spent_tweaked, spent_after_spend, open_is p u, open_is p t, items, options, less, fewer)
+    omega (arith, spent_tweaked, spent_after_spend, open_is)
 
 -- also while a level is open and no branch was begun
 pub sparing_after_spend : (p : Puzzle) (t : List Move) (i : ℕ) → IsSparing p t

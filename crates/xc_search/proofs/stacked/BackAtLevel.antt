@@ -27,16 +27,14 @@ pub returned : (p : Puzzle) (t : List Move) (l : Level) (ls : List Level) → Ar
 returned p t l ls stacked = grind (arith, common_steps, oldest-oldest, length-oldest)
 
 -- a level whose branches were all begun gives nothing more
-pub finished : (p : Puzzle) (t : List Move) (l : Level) (ls : List Level) → AreStacked p t (l ∷ ls)
-    → l.count ≤ l.begun →
-    (to_give p t (l ∷ ls) ≡ to_give p (oldest l.mark t) ls) × (visits p (oldest l.mark t) ls < visits p t (l ∷ ls))
+pub finished : (p : Puzzle) (t : List Move) (l : Level) (ls : List Level) → AreStacked p t (l ∷ ls) → l.count ≤ l.begun
+    → (to_give p t (l ∷ ls) ≡ to_give p (oldest l.mark t) ls) × (visits p (oldest l.mark t) ls < visits p t (l ∷ ls))
 finished p t l ls stacked h =
     let is_level = stacked.0 in
     let u = oldest l.mark t in
     let w = wanted_at p u l.item in
     let all : l.begun ≡ branch_count (residual_of p u) w = omega (arith, is_level.count, is_level.begun, h) in
-    let none : drop l.begun (branches_at p u) ≡ [] =
-    ap₂ (λ n bs. drop n bs) all (branches_here p u w is_level.branch) ∙ branches_end (residual_of p u) w in
+    let none = ap₂ (λ n bs. drop n bs) all (branches_here p u w is_level.branch) ∙ branches_end (residual_of p u) w in
     (ap (λ bs. members_of (choices_of p ls) bs ++ to_give p u ls) none, omega arith)
 
 -- its tweaks are the newest moves

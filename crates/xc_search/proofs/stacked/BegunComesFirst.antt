@@ -20,8 +20,7 @@ pub choices_more : (p : Puzzle) (k : Level) (ls : List Level)
 choices_more p k ls = ap (map (chosen p)) (reverse-append (k ∷ []) ls) ∙ map-append (chosen p) (reverse ls) (k ∷ [])
 
 pub begun_coming : (p : Puzzle) (t s : List Move) (l k : Level) (ls : List Level) → AreStacked p t (l ∷ ls)
-    → IsBegun p t l s k →
-    (coming p s (k ∷ ls) true ≡ to_give p t (l ∷ ls)) × AreStacked p s (k ∷ ls)
+    → IsBegun p t l s k → (coming p s (k ∷ ls) true ≡ to_give p t (l ∷ ls)) × AreStacked p s (k ∷ ls)
     × (ahead p s (k ∷ ls) true < visits p t (l ∷ ls))
 begun_coming p t s l k ls stacked b =
     let u = oldest l.mark t in
@@ -29,8 +28,7 @@ begun_coming p t s l k ls stacked b =
     let rest = drop (suc l.begun) (branches_at p u) in
     let next : drop l.begun (branches_at p u) ≡ b.branch ∷ rest = drop_at (branches_at p u) l.begun b.branch b.at in
     let under : oldest k.mark s ≡ u = ap (λ n. oldest n s) b.mark ∙ b.below in
-    let still : drop k.begun (branches_at p (oldest k.mark s)) ≡ rest =
-    ap₂ (λ n v. drop n (branches_at p v)) b.begun under in
+    let still = ap₂ (λ n v. drop n (branches_at p v)) b.begun under in
     let one : map (λ m. choices_of p (k ∷ ls) ++ m) (listing (residual_of p s)) ≡ map
     (λ m. before ++ b.branch.choice ∷ m) (listing b.branch.next) =
     ap (λ r. map (λ m. choices_of p (k ∷ ls) ++ m) (listing r)) b.next

@@ -41,6 +41,11 @@ pub record Opens (d e : Dancing) (ls : Levels) (i n : ℕ) (l : Level) : Type 0 
   pub standing : IsStanding d.puzzle d.trail ls.levels true
   pub chosen : choice_after d.puzzle d.trail ≡ Some (i, n)
 
+pub opens : {d e : Dancing} {ls : Levels} {i n : ℕ} {l : Level}
+    → e ≡ record d { trail = after_spend d.puzzle i d.trail } → l ≡ first_level d.puzzle d.trail i n
+    → IsStanding d.puzzle d.trail ls.levels true → choice_after d.puzzle d.trail ≡ Some (i, n) → Opens d e ls i n l
+opens spent level standing chosen = record { spent = spent; level = level; standing = standing; chosen = chosen }
+
 deepens : {d e : Dancing} {ls : Levels} {i n : ℕ} {l : Level} → Opens d e ls i n l →
     GoesOn d ls true e (with_level l ls) false
     × (visits e.puzzle e.trail (l ∷ ls.levels) < ahead d.puzzle d.trail ls.levels true)
@@ -143,8 +148,7 @@ pub record Branched (e f : Dancing) (u : List Move) (i : ℕ) (l : Level) (b : B
 pub branch_made : (e f : Dancing) (u : List Move) (i : ℕ) (l : Level) (b : Begun) → f ≡ record e { trail = f.trail }
     → l.item ≡ i → IsEntered e.puzzle u l f.trail (begun_level b l) → Branched e f u i l b
 branch_made e f u i l b ef item entered =
-    let made : branched f i b.place ≡ branched (record e { trail = f.trail }) l.item b.place =
-    ap₂ (λ (s : Dancing) j. branched s j b.place) ef (sym item) in
+    let made = ap₂ (λ (s : Dancing) j. branched s j b.place) ef (sym item) in
     record {
       still = made ∙ ap (λ (h : Dancing). record e { trail = h.trail }) (sym made);
       begun = subst (λ (h : Dancing). IsBegun e.puzzle u l h.trail (begun_level b l)) (sym made) entered.begun;

@@ -60,8 +60,7 @@ tweaked_at p t l m = tweaked m l.item (after_spend p l.item (oldest l.mark t))
 -- the number of tweaks before the level's next branch
 next_tweaks : (p : Puzzle) (t : List Move) (l : Level) (x : Numbered) (m : ℕ) → IsLevel p t l
     → slice_get (options_at p (oldest l.mark t) l.item) l.begun ≡ Some x → m ≡ cond l.walks l.tweaks (l.tweaks + 1)
-    → (m ≤ suc l.begun)
-    × (high_at p l.item - spends l.item (Spend l.item ∷ oldest l.mark t) ≢ 0 → m ≡ suc l.begun)
+    → (m ≤ suc l.begun) × (high_at p l.item - spends l.item (Spend l.item ∷ oldest l.mark t) ≢ 0 → m ≡ suc l.begun)
     × (m ≡ cond l.walks 0 (min (l.begun + 1) (length (options_at p (oldest l.mark t) l.item))))
 next_tweaks p t l x m is_level e hm = by_bool l.walks
     (λ c.
@@ -101,18 +100,14 @@ begins_take p t l x m q is_level more at place e hm =
     let under : oldest l.mark s ≡ u = ap (λ n. oldest n s) (sym mark_is) ∙ ext_whole (ext_trans ext_s ext_ground) in
     let b = take_branch r l.item (branch_count r w) (1 + l.begun, x) in
     let one_more : 1 + l.begun ≡ l.begun + 1 = omega arith in
-    let n_is : l.count ≡ branch_count r w = is_level.count in
     let k = with_option (length ground) l m q in
-    let it_is : chosen p k ≡ b.choice =
-    ap (λ o. let choice : Choice = record { item = l.item; option = o; k = l.begun + 1; n = l.count } in choice) at
-    ∙ ap₂ (λ a c. let choice : Choice = record { item = l.item; option = Some x.number; k = a; n = c } in choice)
-    (sym one_more) n_is in
+    let it_is : chosen p k ≡ b.choice = cc (at, one_more, is_level.count) in
     record {
       option = took.at;
       begun = record {
         branch = b;
         at = ap (λ bs. slice_get bs l.begun) (branches_here p u w is_level.branch)
-            ∙ branch_takes r w l.begun x (omega (arith, more, n_is)) e;
+            ∙ branch_takes r w l.begun x (omega (arith, more, is_level.count)) e;
         next = took.picked.residual;
         choice = it_is;
         begun = omega arith;
@@ -185,11 +180,8 @@ begins_none p t l is_level whole more e =
     let item : IsItem p l.item = (is_level.node.item.0, omega (arith, is_level.node.item.1)) in
     let legal_t : AreLegal p t = subst (AreLegal p) (sym t_is) (legal_branch p l.tweaks l.item u is_level.node few) in
     let k = with_none l in
-    let it_is : chosen p k ≡ b.choice =
-    ap (λ o. let choice : Choice = record { item = l.item; option = o; k = l.begun + 1; n = l.count } in choice)
-    (at_own p l.item)
-    ∙ ap₂ (λ a c. let choice : Choice = record { item = l.item; option = None; k = a; n = c } in choice)
-    (omega (arith, last.2)) is_level.count in
+    let at_end : l.begun + 1 ≡ branch_count r w = omega (arith, last.2) in
+    let it_is : chosen p k ≡ b.choice = cc (at_own p l.item, at_end, is_level.count) in
     record {
       branch = b;
       at = ap (λ bs. slice_get bs l.begun) (branches_here p u w is_level.branch) ∙ last.0;

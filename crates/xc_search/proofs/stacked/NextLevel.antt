@@ -160,8 +160,7 @@ first_stands p t i n here c = grind (arith, common_steps, ext_longer, ext_after_
 
 -- a level is begun
 pub descended : (p : Puzzle) (t : List Move) (ls : List Level) (i n : ℕ) → IsSearchable p t → IsShallow p t ls
-    → Chosen p t i n → AreStacked p t ls →
-    AreStacked p (after_spend p i t) (first_level p t i n ∷ ls)
+    → Chosen p t i n → AreStacked p t ls → AreStacked p (after_spend p i t) (first_level p t i n ∷ ls)
     × (coming p t ls true ≡ to_give p (after_spend p i t) (first_level p t i n ∷ ls))
     × (visits p (after_spend p i t) (first_level p t i n ∷ ls) < ahead p t ls true)
 descended p t ls i n here sh c stacked =

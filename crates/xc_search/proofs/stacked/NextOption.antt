@@ -65,16 +65,14 @@ last_taken os (suc k) o e = let x = mapped_some number_of (slice_get os k) o e i
 
 -- the first of the list, where it isn't walked or no branch was begun
 pub first_is : (p : Puzzle) (t : List Move) (l : Level) → IsLevel p t l → l.base ≡ length t → l.begun < l.count
-    → (l.walks ≡ true → taken p l ≡ None) →
-    next_above 0 (listed_numbers p t l.item) ≡ next_number p t l
+    → (l.walks ≡ true → taken p l ≡ None) → next_above 0 (listed_numbers p t l.item) ≡ next_number p t l
 first_is p t l is_level whole more h =
     let u = oldest l.mark t in
     let os = options_at p u l.item in
     let few = few_begun p u t l is_level more in
     let stood : l.tweaks ≡ l.begun = by_bool l.walks
     (λ c. let stood : l.tweaks ≡ 0 = is_level.tweaks ∙ rw c refl in by_number l.begun (λ e. stood ∙ sym e) (λ k e.
-    let last : option_map number_of (slice_get os k) ≡ None =
-    ap (λ n. option_map number_of (numbered_get os n)) (sym e) ∙ sym is_level.option ∙ h c in
+    let last = ap (λ n. option_map number_of (numbered_get os n)) (sym e) ∙ sym is_level.option ∙ h c in
     absurd (omega (arith, e, few, not_some os k (mapped_none number_of (slice_get os k) last)))))
     (λ c. let stood : l.tweaks ≡ min l.begun (length os) = is_level.tweaks ∙ rw c refl in
     omega (arith, stood, few)) in

@@ -13,27 +13,13 @@ use Rattle.xc_search.specs.inner.Levels.{Levels, IsStanding, coming, behind, cho
 use Rattle.xc_search.specs.inner.Ahead.{IsSolved, StandsOver, EndsOver, WentOver, WentPast, Passed}
 use Rattle.xc_search.proofs.stacked.NextLevel.{solution}
 use Rattle.xc_search.proofs.Cases.{by_number}
+use Rattle.std.proofs.lemmas.List.{drop-drop, drop_all}
 
 rest_behind : {X : Type 0} (n : ℕ) (ms : List X) (m : X) (rest : List X) → drop n ms ≡ m ∷ rest → rest ≡ drop (n + 1) ms
-rest_behind zero [] m rest e = absurd (cc e)
-rest_behind (suc n) [] m rest e = absurd (cc e)
-rest_behind zero (x ∷ ms) m rest e = cc e
-rest_behind (suc n) (x ∷ ms) m rest e = grind (arith, common_steps, rest_behind n ms m rest e)
+rest_behind n ms m rest e = sym (ap (drop 1) e) ∙ drop-drop 1 n ms
 
 within_behind : {X : Type 0} (n : ℕ) (ms : List X) (m : X) (rest : List X) → drop n ms ≡ m ∷ rest → n < length ms
 within_behind n ms m rest e = grind (arith, common_steps)
-
-all_behind : {X : Type 0} (n : ℕ) (ms : List X) → drop n ms ≡ [] → n ≤ length ms → n ≡ length ms
-all_behind zero [] e h = refl
-all_behind (suc n) [] e h = absurd (omega (arith, h))
-all_behind zero (x ∷ ms) e h = absurd (cc e)
-all_behind (suc n) (x ∷ ms) e h = ap suc (all_behind n ms e (omega (arith, h)))
-
-pub drop_past : {X : Type 0} (n : ℕ) (ms : List X) → length ms ≤ n → drop n ms ≡ []
-drop_past zero [] h = refl
-drop_past (suc n) [] h = refl
-drop_past zero (x ∷ ms) h = absurd (omega (arith, h))
-drop_past (suc n) (x ∷ ms) h = drop_past n ms (omega (arith, h))
 
 -- the member behind the first n is shown after one more
 pub shown_next : (n : ℕ) (ms : List (List Choice)) (s m : List Choice) (rest : List (List Choice))
@@ -79,8 +65,7 @@ went_over d e ls ks false many more some has at = by_number many (λ h. absurd (
     let was = (has.again refl).1 in
     let found = solution d.puzzle d.trail ls.levels (was.standing.searchable refl).legal was.none in
     let ms = coming d.puzzle d.trail ls.levels true in
-    let over : drop n (coming d.puzzle d.trail ls.levels false) ≡ drop more ms =
-    ap (drop (suc n)) (sym found) ∙ ap (λ n. drop n ms) (sym h ∙ (has.again refl).0) in
+    let over = ap (drop (suc n)) (sym found) ∙ ap (λ n. drop n ms) (sym h ∙ (has.again refl).0) in
     let all : n + 1 ≡ many = omega (arith, h) in
     subst (λ n. WentOver d ls false n e ks) all
     (went_to d e ls ks false n at.over.still at.solved (over ∙ at.over.members)))

@@ -51,8 +51,7 @@ loop-fewest-preserved-then-n-fewest g c =
     let p = c.args.problem.now.puzzle in
     let t = (g.D.Dance.state c.args.dance.now).trail in
     let e : next_above c.loop-fewest.at (open_items p t) ≡ Some c.in-Some.next = cc (c.in-Some.ensures) in
-    let better : fewer p t c.in-Some.next c.loop-fewest.item ≡ true =
-    lt-ltb _ _ (omega (arith, c.branches_of-n.ensures, c.loop-fewest.invariant.counted)) in
+    let better = lt-ltb _ _ (omega (arith, c.branches_of-n.ensures, c.loop-fewest.invariant.counted)) in
     record {
       at_open = next_open p t c.loop-fewest.at c.in-Some.next e;
       counted = c.branches_of-n.ensures;
@@ -68,8 +67,7 @@ loop-fewest-preserved g c =
     let p = c.args.problem.now.puzzle in
     let t = (g.D.Dance.state c.args.dance.now).trail in
     let e : next_above c.loop-fewest.at (open_items p t) ≡ Some c.in-Some.next = cc (c.in-Some.ensures) in
-    let not_better : fewer p t c.in-Some.next c.loop-fewest.item ≡ false =
-    le-ltb _ _ (omega (arith, c.branches_of-n.ensures, c.loop-fewest.invariant.counted)) in
+    let not_better = le-ltb _ _ (omega (arith, c.branches_of-n.ensures, c.loop-fewest.invariant.counted)) in
     record {
       at_open = next_open p t c.loop-fewest.at c.in-Some.next e;
       counted = c.loop-fewest.invariant.counted;

@@ -13,6 +13,7 @@ use Rattle.xc_search.proofs.stacked.LoopSteps.{node_at, with_level, begins_at, m
 use Rattle.xc_search.proofs.stacked.LoopSteps.{passes_over}
 use Rattle.xc_search.proofs.levels.deepen.Goals as goal
 use Rattle.xc_search.proofs.levels.deepen.Goals.{In-Some, After-undo_to, After-push}
+use Rattle.xc_search.proofs.stacked.LoopSteps.{opens}
 
 chose : (g : _) (c : In-Some g)
     → choice_after c.args.position.now.puzzle c.args.position.now.trail ≡ Some (c.in-Some.item, c.in-Some.count)
@@ -41,12 +42,8 @@ push-requires g c =
 
 pub undo_to-requires : goal.undo_to-requires
 undo_to-requires g c =
-    let stacked = begins_at {ls = c.args.stack.now} (record {
-      spent = c.descend-level.ensures.trail;
-      level = c.descend-level.ensures.level;
-      standing = c.requires.standing;
-      chosen = chose g (goal.at.undo_to-requires g c).In-Some;
-    }) in grind (arith, common_steps)
+    let stacked = begins_at {ls = c.args.stack.now} (opens c.descend-level.ensures.trail c.descend-level.ensures.level
+    c.requires.standing (chose g (goal.at.undo_to-requires g c).In-Some)) in grind (arith, common_steps)
 
 same_branch : (a b : Entered) → Branch a ≡ Branch b → a ≡ b
 same_branch a b is = cc is
@@ -55,12 +52,9 @@ over : (g : _) (c : After-undo_to g) → GoesOn c.args.position.now c.args.stack
     c.args.stack.now false
     × (visits c.undo_to.new.self.puzzle c.undo_to.new.self.trail c.args.stack.now.levels < ahead
     c.args.position.now.puzzle c.args.position.now.trail c.args.stack.now.levels true)
-over g c = passes_over (record {
-  spent = c.descend-level.ensures.trail;
-  level = c.descend-level.ensures.level;
-  standing = c.requires.standing;
-  chosen = cc (c.choose.ensures.choice, c.in-Some.is);
-}) c.undo_to.new.self c.if-count-eq0.true c.undo_to.ensures
+over g c =
+    passes_over (opens c.descend-level.ensures.trail c.descend-level.ensures.level c.requires.standing
+    (cc (c.choose.ensures.choice, c.in-Some.is))) c.undo_to.new.self c.if-count-eq0.true c.undo_to.ensures
 
 pub returns-then-count-eq0-clause-nothing : goal.returns-then-count-eq0-clause-nothing
 returns-then-count-eq0-clause-nothing g c _ = (over g c).0
@@ -71,24 +65,18 @@ returns-then-count-eq0-clause-fewer g c _ = (over g c).1
 pub enter-branch-requires : goal.enter-branch-requires
 enter-branch-requires g c = record {
   number = ap (λ (l : Level). l.begun + 1) (sym c.descend-level.ensures.level);
-  ready = may_enter {ls = c.args.stack.now} (record {
-    spent = c.descend-level.ensures.trail;
-    level = c.descend-level.ensures.level;
-    standing = c.requires.standing;
-    chosen = chose g (goal.at.enter-branch-requires g c).In-Some;
-  }) (omega (arith, c.if-count-eq0.false));
+  ready = may_enter {ls = c.args.stack.now} (opens c.descend-level.ensures.trail c.descend-level.ensures.level
+      c.requires.standing (chose g (goal.at.enter-branch-requires g c).In-Some)) (omega (arith, c.if-count-eq0.false));
 }
 
 deeper : (g : _) (c : After-push g) →
     EntersBranch c.args.position.now c.args.stack.now true c.enter-branch.new.self c.push.new.self c.in-Some.item
     c.enter-branch.result.place
-deeper g c = enters_first (record {
-  spent = c.descend-level.ensures.trail;
-  level = c.descend-level.ensures.level;
-  standing = c.requires.standing;
-  chosen = cc (c.choose.ensures.choice, c.in-Some.is);
-}) c.enter-branch.new.self c.push.new.self c.enter-branch.result c.enter-branch.ensures.still
-    c.enter-branch.ensures.entered (c.push.ensures ∙ ap (λ l. with_level l c.args.stack.now) c.begin_level.ensures)
+deeper g c =
+    enters_first (opens c.descend-level.ensures.trail c.descend-level.ensures.level c.requires.standing
+    (cc (c.choose.ensures.choice, c.in-Some.is))) c.enter-branch.new.self c.push.new.self c.enter-branch.result
+    c.enter-branch.ensures.still c.enter-branch.ensures.entered
+    (c.push.ensures ∙ ap (λ l. with_level l c.args.stack.now) c.begin_level.ensures)
 
 path : (g : _) (c : After-push g) →
     KeepsPath c.args.position.now c.args.stack.now (branched c.enter-branch.new.self c.in-Some.item

@@ -11,8 +11,7 @@ loop-level-preserved g c =
     let s = c.loop-level.position in
     let l = c.in-Some.level.now in
     let ls = drop 1 c.loop-level.stack.levels in
-    let stacked : AreStacked s.puzzle s.trail (l ∷ ls) =
-    subst (AreStacked s.puzzle s.trail) c.in-Some.ensures.some c.loop-level.invariant.stacked in
+    let stacked = subst (AreStacked s.puzzle s.trail) c.in-Some.ensures.some c.loop-level.invariant.stacked in
     let back : Dancing → Dancing = λ d. record d { trail = oldest l.mark d.trail } in
     let same : back c.if-level-gt0.position ≡ back s = elim c.if-level-gt0.branch [
       | then-level-gt0 w ↦
