@@ -1,9 +1,8 @@
 -- Each cover of a valid problem is the set of options of a member of its listing.
 use Rattle.std.proofs.lemmas.Grind.{common_steps}
-use Rattle.std.proofs.Common.{ℕ, zero, suc, ◌≡◌, ◌≢◌, ◌+◌, ◌≤◌, Bool, true, false, cond, not, ◌&&◌, ◌||◌, eqb, List, []}
-use Rattle.std.proofs.Common.{◌∷◌, length, map, take, Option, Some, None, refl, sym, ap, ◌∙◌, arith, subst, ◌⊎◌}
-use Rattle.std.proofs.Common.{inl, inr, eqb-true, eq-eqb, ltb-false, le-leb, leb-true}
-use Rattle.xc_search.proofs.Spent.{less_one}
+use Rattle.std.proofs.Common.{ℕ, zero, suc, ◌≡◌, ◌≢◌, ◌≤◌, Bool, true, false, not, ◌&&◌, ◌||◌, eqb, List, []}
+use Rattle.std.proofs.Common.{◌∷◌, length, take, Option, Some, None, refl, sym, ap, ◌∙◌, arith, subst, ◌⊎◌}
+use Rattle.std.proofs.Common.{inl, inr, eqb-true, ltb-false, le-leb, leb-true}
 use Rattle.xc_search.specs.inner.Sizes.{size_of}
 use Rattle.std.specs.Prelude.{nat_lt, nat_le}
 use Rattle.std.specs.List.{cons_option}
@@ -11,7 +10,7 @@ use Rattle.xc_input.specs.declared.problem.Use.{Use}
 use Rattle.xc_search.specs.declared.choice.Choice.{Choice}
 use Rattle.xc_input.specs.Problem.{Numbered, colour_at, holds, holding}
 use Rattle.xc_search.specs.Listing.{Wanted, Residual, Branch, spend_one, may_stay, item_left, pick, none, branch_item}
-use Rattle.xc_search.specs.Listing.{branch_count, take_branch, none_branch, branches_of, level, listing_to}
+use Rattle.xc_search.specs.Listing.{branch_count, take_branch, none_branch, branches_of, listing_to}
 use Rattle.xc_search.specs.Cover.{options_of}
 use Rattle.xc_input.proofs.lists.Members.{IsIn, in-filter, filter-in, in-map, in-take}
 use Rattle.xc_dance.specs.Moves.{agrees}

@@ -3,9 +3,9 @@ use Rattle.std.proofs.lemmas.Grind.{common_steps}
 use Rattle.xc_dance.specs.Moves.{agrees}
 use Rattle.xc_search.specs.inner.Sizes.{size_of}
 use Rattle.xc_input.specs.declared.problem.Bounds.{Bounds}
-use Rattle.std.proofs.Common.{ℕ, zero, suc, ◌≡◌, ◌≢◌, ◌+◌, ◌<◌, ◌≤◌, Bool, true, false, cond, ◌||◌, eqb, List, [], ◌∷◌}
-use Rattle.std.proofs.Common.{length, map, Some, None, refl, sym, ap, ◌∙◌, arith, subst, ◌⊎◌, inl, inr, eqb-true}
-use Rattle.std.proofs.Common.{ltb-true, leb-true}
+use Rattle.std.proofs.Common.{ℕ, zero, suc, ◌≡◌, ◌≢◌, ◌<◌, ◌≤◌, true, false, ◌||◌, eqb, List, [], ◌∷◌}
+use Rattle.std.proofs.Common.{map, Some, refl, sym, ap, ◌∙◌, arith, subst, ◌⊎◌, inl, inr, eqb-true}
+use Rattle.std.proofs.Common.{ltb-true}
 use Rattle.std.specs.Prelude.{nat_le}
 use Rattle.std.specs.List.{AllByRecursion, list_all, cons_option}
 use Rattle.std.proofs.lemmas.List.Elements.{All-from_recursion}
@@ -13,17 +13,17 @@ use Rattle.std.proofs.lemmas.List.Sums.{sum_by-cons}
 use Rattle.xc_input.specs.declared.problem.Use.{Use}
 use Rattle.xc_search.specs.declared.choice.Choice.{Choice}
 use Rattle.xc_input.specs.Problem.{Puzzle, Numbered, numbered_options, primary_count, option_count, colour_in, holds}
-use Rattle.xc_input.specs.Problem.{colour_at, uses_of, bounds_at, IsSecondary, IsValid, holding}
-use Rattle.xc_search.specs.Listing.{Wanted, Residual, Branch, whole, item_left, pick, none, branch_item, branch_count}
-use Rattle.xc_search.specs.Listing.{branches_of, level, listing_to, listing}
+use Rattle.xc_input.specs.Problem.{colour_at, uses_of, bounds_at, IsSecondary, IsValid}
+use Rattle.xc_search.specs.Listing.{Wanted, Residual, Branch, whole, pick, none, branch_item, branch_count}
+use Rattle.xc_search.specs.Listing.{branches_of, listing_to, listing}
 use Rattle.xc_search.specs.Cover.{IsCover, times_held, options_of, members, EachMemberCovers}
 use Rattle.xc_input.proofs.lists.Members.{IsIn, in-map, each_in, each_from, in-contains}
-use Rattle.xc_search.proofs.completeness.Solved.{count, beside, IsMet, Solves, solves_pick, solves_none}
-use Rattle.xc_search.proofs.completeness.Proper.{IsProper, find-in, sound_items, low_items, proper_pick, proper_none}
+use Rattle.xc_search.proofs.completeness.Solved.{count, Solves, solves_pick, solves_none}
+use Rattle.xc_search.proofs.completeness.Proper.{IsProper, sound_items, low_items, proper_pick, proper_none}
 use Rattle.xc_search.proofs.completeness.Proper.{proper_whole}
 use Rattle.xc_search.proofs.listing.EachBranch.{IsTaken, IsNone, in-branches, in-level, no_items_left, branch_item-in}
 use Rattle.xc_search.proofs.listing.EachBranch.{less_behind}
-use Rattle.xc_input.proofs.lists.EachTwo.{EachTwo, EachTwo-map, AllPairs-from_each_two, EachTwo-weaker, EachTwo-of}
+use Rattle.xc_input.proofs.lists.EachTwo.{EachTwo-map, AllPairs-from_each_two, EachTwo-weaker, EachTwo-of}
 use Rattle.std.proofs.lemmas.List.{nil_from_length}
 use Rattle.xc_input.proofs.FaultLemmas.BooleanTests.{and_left, and_right, or_other}
 use Rattle.xc_search.proofs.listing.Numbering.{numbered_at, uses_known, at_item}

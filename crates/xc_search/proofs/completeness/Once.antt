@@ -8,7 +8,7 @@ use Rattle.std.specs.List.{cons_option, enumerate_from}
 use Rattle.xc_search.specs.declared.choice.Choice.{Choice}
 use Rattle.xc_input.specs.Problem.{Puzzle, Numbered, holds, IsValid, holding}
 use Rattle.xc_search.specs.Listing.{Wanted, Residual, Branch, whole, pick, none, branch_item, branch_count, take_branch}
-use Rattle.xc_search.specs.Listing.{none_branch, branches_of, level, listing_to, listing}
+use Rattle.xc_search.specs.Listing.{none_branch, branches_of, listing_to, listing}
 use Rattle.xc_search.specs.Cover.{options_of, SameSet, members, NoSetTwice}
 use Rattle.xc_input.proofs.lists.Members.{IsIn, in-filter, in-map, in-take, in-enumerated, in-contains, contains-in}
 use Rattle.xc_input.proofs.lists.Members.{each_from}

@@ -1,6 +1,6 @@
 -- What holds of the whole problem, and of all that its branches leave.
 use Rattle.std.proofs.lemmas.Grind.{common_steps}
-use Rattle.std.proofs.Common.{ℕ, ◌≡◌, ◌≢◌, ◌+◌, ◌<◌, ◌≤◌, Bool, true, false, cond, not, ◌&&◌, eqb, List, [], ◌∷◌, ap}
+use Rattle.std.proofs.Common.{ℕ, ◌≡◌, ◌+◌, ◌<◌, ◌≤◌, Bool, true, not, ◌&&◌, eqb, List, [], ◌∷◌, ap}
 use Rattle.std.proofs.Common.{length, map, filter, find, Some, refl, sym, ◌∙◌, arith, subst, inl, inr, eqb-true}
 use Rattle.std.proofs.Common.{eq-eqb, lt-ltb, ltb-true, ne_eqb}
 use Rattle.xc_input.specs.declared.problem.Bounds.{Bounds}

@@ -1,7 +1,7 @@
 -- A cover as a choice of numbers that covers the whole problem.
 use Rattle.std.proofs.lemmas.Grind.{common_steps}
 use Rattle.std.proofs.Common.{ℕ, suc, ◌≡◌, ◌≢◌, ◌+◌, ◌-◌, ◌≤◌, Bool, true, false, cond, not, ◌&&◌, ◌||◌, eqb, List, []}
-use Rattle.std.proofs.Common.{◌∷◌, length, Some, None, refl, sym, ap, ap₂, ◌∙◌, arith, subst, inl, inr, eqb-true}
+use Rattle.std.proofs.Common.{◌∷◌, length, Some, refl, sym, ap, ap₂, ◌∙◌, arith, subst, inl, inr, eqb-true}
 use Rattle.std.proofs.Common.{eq-eqb, ne_eqb, lt-ltb, leb-false}
 use Rattle.xc_search.specs.inner.Sizes.{size_of}
 use Rattle.std.specs.Prelude.{nat_le}

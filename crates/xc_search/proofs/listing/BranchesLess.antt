@@ -1,13 +1,13 @@
 -- Each branch leaves less.
 use Rattle.std.proofs.lemmas.Grind.{common_steps}
-use Rattle.std.proofs.Common.{ℕ, ◌≡◌, ◌<◌, Bool, true, false, cond, not, ◌&&◌, List, [], ◌∷◌, length, map, filter}
+use Rattle.std.proofs.Common.{ℕ, ◌≡◌, ◌<◌, Bool, true, false, not, ◌&&◌, List, [], ◌∷◌, length, map, filter}
 use Rattle.std.proofs.Common.{Some, refl, arith, inl, inr, le-leb, eq-eqb, eqb}
 use Rattle.xc_search.specs.inner.Sizes.{size_of}
 use Rattle.std.specs.Prelude.{nat_lt, nat_le}
 use Rattle.std.specs.List.{AllByRecursion, best_of}
 use Rattle.xc_input.specs.Problem.{Numbered, holds, holding}
 use Rattle.xc_search.specs.Listing.{Wanted, Residual, branch_count, branch_item, first_least, spend_one, stays, pick}
-use Rattle.xc_search.specs.Listing.{take_branch, none_branch, branches_of}
+use Rattle.xc_search.specs.Listing.{take_branch, branches_of}
 use Rattle.xc_input.proofs.lists.Filters.{length-filter-le, length-filter-cons}
 use Rattle.xc_input.proofs.lists.Members.{IsIn}
 use Rattle.xc_input.proofs.lists.EachElement.{each_weaker, each-append, each-map, each-numbered}

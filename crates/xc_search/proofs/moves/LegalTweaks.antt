@@ -1,11 +1,11 @@
 -- Opening a level, and tweaks of its item.
 use Rattle.std.proofs.lemmas.Grind.{common_steps}
-use Rattle.std.proofs.Common.{ℕ, zero, suc, ◌≡◌, ◌≢◌, ◌-◌, ◌<◌, ◌≤◌, Bool, true, false, cond, not, ◌&&◌, eqb, leb, List}
+use Rattle.std.proofs.Common.{ℕ, zero, suc, ◌≡◌, ◌≢◌, ◌-◌, ◌<◌, ◌≤◌, Bool, true, false, not, ◌&&◌, eqb, leb, List}
 use Rattle.std.proofs.Common.{[], ◌∷◌, length, filter, take, drop, Some, None, refl, sym, ap, ◌∙◌, arith, subst}
 use Rattle.std.proofs.Common.{eqb-true, eq-eqb, le-leb, lt-ltb, le-ltb, leb-true}
 use Rattle.std.proofs.lemmas.Bool.{lt-leb, eqb-false}
 use Rattle.std.proofs.lemmas.List.Elements.{filter_agree}
-use Rattle.std.specs.Prelude.{nat_lt, nat_le, slice_get}
+use Rattle.std.specs.Prelude.{nat_le, slice_get}
 use Rattle.xc_input.specs.declared.problem.Use.{Use}
 use Rattle.xc_dance.specs.declared.dance.Move.{Move}
 use Rattle.xc_dance.specs.declared.dance.Move.TheVariants.{Cover, Tweak, Spend}

@@ -1,12 +1,12 @@
 -- The covers of a problem are those of its parts, and no two parts share one.
-use Rattle.std.proofs.Common.{ℕ, ◌≡◌, ◌≢◌, ◌≤◌, true, false, not, ◌||◌, eqb, List, [], ◌∷◌, length, map, filter, refl}
+use Rattle.std.proofs.Common.{ℕ, ◌≡◌, ◌≢◌, ◌≤◌, true, not, List, [], ◌∷◌, length, map, filter, refl}
 use Rattle.std.proofs.Common.{sym, ap, ap₂, ◌∙◌, arith, subst, inl, inr, eqb-true, eq-eqb}
 use Rattle.std.specs.Prelude.{Contains}
 use Rattle.std.specs.List.{AllByRecursion}
 use Rattle.std.proofs.lemmas.List.Elements.{recursion_from_All}
 use Rattle.xc_input.specs.Problem.{Puzzle, Numbered, numbered_options, holds, IsValid, holding}
 use Rattle.xc_search.specs.Cover.{IsCover, SameSet}
-use Rattle.xc_search.specs.Parts.{IsHeldOnce, is_in_part, part_options, part, number_in_problem, in_problem}
+use Rattle.xc_search.specs.Parts.{IsHeldOnce, is_in_part, part, number_in_problem, in_problem}
 use Rattle.xc_search.specs.Parts.{IsPartCover, PartsJoin, PartsAreApart}
 use Rattle.xc_dance.proofs.MoveLemmas.OptionsRise.{options_rise}
 use Rattle.xc_search.proofs.completeness.Covering.{bounded}

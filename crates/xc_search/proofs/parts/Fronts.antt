@@ -10,14 +10,14 @@ use Rattle.std.proofs.lemmas.Bool.Decides.{nat_tests}
 use Rattle.std.proofs.lemmas.List.{length-map}
 use Rattle.std.proofs.lemmas.List.Elements.{recursion_from_All}
 use Rattle.xc_input.specs.declared.problem.Use.{Use}
-use Rattle.xc_input.specs.Problem.{Puzzle, Numbered, numbered_options, IsSoundUse, IsValid}
+use Rattle.xc_input.specs.Problem.{Puzzle, Numbered, IsSoundUse, IsValid}
 use Rattle.xc_search.specs.Listing.{Wanted, wanted_from, whole, listing}
 use Rattle.xc_search.specs.Parts.{part, part_options, part_in_front, number_in_problem, renumber_use, renumber_option}
 use Rattle.xc_search.specs.Parts.{renumber_item, renumber, AreKeptApart, AreKeptInOrder, front_number, front_item}
 use Rattle.xc_search.specs.Parts.{front_part, ListsPart}
 use Rattle.xc_input.proofs.lists.EachElement.{each_weaker}
 use Rattle.xc_input.proofs.lists.Members.{each_in, each_from, in-contains}
-use Rattle.xc_search.proofs.listing.Numbering.{numbered_at, IsOption, all_options, with_bounds}
+use Rattle.xc_search.proofs.listing.Numbering.{numbered_at, all_options, with_bounds}
 use Rattle.xc_search.proofs.parts.InOrder.{is_other}
 use Rattle.xc_search.proofs.parts.Numbers.{IsNumber, in_whole, numbers_rise}
 use Rattle.xc_search.proofs.parts.Renumbered.{listing_renumbered}

@@ -1,9 +1,8 @@
 -- The listing of what is left where its first item is to be held once and one option holds it.
 use Rattle.std.proofs.lemmas.Grind.{common_steps}
-use Rattle.std.proofs.Common.{ℕ, ◌≡◌, ◌-◌, ◌<◌, ◌≤◌, true, false, cond, List, [], ◌∷◌, length, map, filter, Some}
+use Rattle.std.proofs.Common.{ℕ, ◌≡◌, ◌-◌, ◌<◌, ◌≤◌, true, List, [], ◌∷◌, length, map, filter, Some}
 use Rattle.std.proofs.Common.{refl, sym, ap, ◌∙◌, arith, subst, ◌⊎◌, inl, inr, ltb-true, ltb-false, lt-ltb, le-leb}
 use Rattle.std.proofs.Common.{ne_eqb}
-use Rattle.xc_search.proofs.Spent.{less_one}
 use Rattle.std.specs.Prelude.{nat_lt, flat_map}
 use Rattle.std.specs.List.{best_of}
 use Rattle.xc_search.specs.declared.choice.Choice.{Choice}

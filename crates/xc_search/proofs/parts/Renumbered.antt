@@ -1,7 +1,7 @@
 -- The listing is the same under other numbers, level by level.
 use Rattle.std.proofs.lemmas.Grind.{common_steps}
 use Rattle.xc_dance.specs.Moves.{agrees}
-use Rattle.xc_search.proofs.Spent.{less_one, count_of}
+use Rattle.xc_search.proofs.Spent.{count_of}
 use Rattle.std.proofs.Common.{ℕ, zero, suc, ◌≡◌, ◌+◌, true, false, cond, not, ◌&&◌, ◌||◌, eqb, List, [], ◌∷◌, ◌++◌}
 use Rattle.std.proofs.Common.{length, map, filter, find, take, Option, Some, None, refl, sym, ap, ap₂, ◌∙◌, arith}
 use Rattle.std.proofs.Common.{subst, ◌⊎◌, inl, inr}

@@ -1,14 +1,14 @@
 -- What a path leaves is what the search has there.
 use Rattle.std.proofs.Common.{arith}
 use Rattle.std.proofs.lemmas.Grind.{common_steps}
-use Rattle.std.proofs.Common.{ℕ, ◌≡◌, true, eqb, List, [], ◌∷◌, ◌++◌, Option, Some, None}
+use Rattle.std.proofs.Common.{ℕ, ◌≡◌, true, eqb, List, [], ◌∷◌, ◌++◌, Some}
 use Rattle.std.proofs.Common.{refl, sym, ap, ◌∙◌, eq-eqb}
 use Rattle.std.specs.Prelude.{All, option_and_then}
 use Rattle.xc_search.specs.declared.choice.Choice.{Choice}
 use Rattle.xc_dance.specs.declared.dance.Move.{Move}
 use Rattle.xc_search.specs.declared.level.Level.{Level}
 use Rattle.xc_input.specs.Problem.{Puzzle, IsPrimary}
-use Rattle.xc_search.specs.Listing.{Wanted, Residual, Branch, whole, branch_item}
+use Rattle.xc_search.specs.Listing.{Residual, Branch, whole, branch_item}
 use Rattle.xc_search.specs.Cut.{branches_left, has_choice, left_by_one, left_by, below, IsPath}
 use Rattle.xc_search.specs.inner.Residual.{residual_of}
 use Rattle.xc_search.specs.inner.Commits.{oldest}

@@ -6,10 +6,10 @@ use Rattle.xc_search.specs.declared.level.Level.{Level}
 use Rattle.xc_search.specs.declared.level.Begun.{Begun}
 use Rattle.xc_input.specs.Problem.{Puzzle}
 use Rattle.xc_dance.specs.Dancing.{Dancing}
-use Rattle.xc_dance.specs.Commits.{after_spend, option_at}
+use Rattle.xc_dance.specs.Commits.{after_spend}
 use Rattle.xc_search.specs.inner.Commits.{oldest}
 use Rattle.xc_search.specs.inner.Levels.{Levels, AreStacked, IsBegun, IsEntered, first_level, begun_level}
-use Rattle.xc_search.specs.inner.Levels.{newest_begun, after_branch}
+use Rattle.xc_search.specs.inner.Levels.{newest_begun}
 use Rattle.xc_search.specs.inner.Paths.{AreLed, KeepsPath, ground}
 use Rattle.xc_search.proofs.stacked.NextLevel.{ext_after_spend, ext_whole, oldest-oldest}
 use Rattle.xc_search.proofs.stacked.LoopSteps.{with_level}

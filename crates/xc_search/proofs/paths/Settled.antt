@@ -1,17 +1,17 @@
 -- What is known of a node that was tried.
 use Rattle.std.proofs.lemmas.Grind.{common_steps}
-use Rattle.std.proofs.Common.{◌≡◌, ◌<◌, Bool, true, false, List, [], ◌++◌, map, Option, Some, None, refl, sym, ap, ◌∙◌}
+use Rattle.std.proofs.Common.{◌≡◌, ◌<◌, Bool, true, false, List, [], ◌++◌, map, refl, sym, ap, ◌∙◌}
 use Rattle.std.proofs.Common.{arith, subst, append-nil}
 use Rattle.std.proofs.lemmas.List.{map-id}
 use Rattle.xc_dance.specs.declared.dance.Move.{Move}
 use Rattle.xc_search.specs.declared.choice.Choice.{Choice}
 use Rattle.xc_search.specs.declared.level.Level.{Level}
 use Rattle.xc_input.specs.Problem.{Puzzle}
-use Rattle.xc_search.specs.Listing.{Wanted, Residual, branch_item, listing}
+use Rattle.xc_search.specs.Listing.{Residual, branch_item, listing}
 use Rattle.xc_dance.specs.Dancing.{Dancing}
 use Rattle.xc_search.specs.inner.Residual.{residual_of}
 use Rattle.xc_search.specs.inner.Levels.{Levels, IsStanding, AreStacked, choices_of, to_give, coming}
-use Rattle.xc_search.specs.inner.Ahead.{work, work_level, visits, ahead, GoesOn}
+use Rattle.xc_search.specs.inner.Ahead.{work, visits, ahead, GoesOn}
 use Rattle.xc_search.specs.inner.Paths.{IsPart, AreLed, KeepsPath, ground}
 use Rattle.xc_search.specs.Cut.{Uncut, below}
 use Rattle.xc_search.proofs.paths.Led.{led_ground}

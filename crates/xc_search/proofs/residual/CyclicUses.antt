@@ -1,21 +1,20 @@
 -- Taking an option: its branch item's use first, the others cyclically after it.
 use Rattle.std.proofs.lemmas.Grind.{common_steps}
-use Rattle.std.proofs.Common.{ℕ, suc, ◌≡◌, ◌+◌, ◌<◌, Bool, true, false, cond, not, ◌&&◌, ◌||◌, eqb, List, [], ◌∷◌, ◌++◌}
-use Rattle.std.proofs.Common.{length, filter, take, drop, refl, sym, ap, ◌∙◌, arith, eq-eqb, ne_eqb}
+use Rattle.std.proofs.Common.{ℕ, suc, ◌≡◌, ◌+◌, ◌<◌, Bool, true, cond, not, ◌&&◌, ◌||◌, List, [], ◌∷◌, ◌++◌}
+use Rattle.std.proofs.Common.{length, filter, take, drop, refl, sym, ap, ◌∙◌, arith}
 use Rattle.xc_search.proofs.Spent.{less_one}
 use Rattle.std.proofs.lemmas.List.Elements.{filter_agree}
 use Rattle.std.specs.Prelude.{nat_le, is_some}
-use Rattle.std.specs.List.{AllByRecursion, list_all}
+use Rattle.std.specs.List.{list_all}
 use Rattle.xc_input.specs.declared.problem.Use.{Use}
 use Rattle.xc_input.specs.Problem.{Numbered, colour_in, holds}
 use Rattle.xc_search.specs.Listing.{Residual, may_stay, item_left, pick, spend_one}
 use Rattle.xc_input.specs.UsePlaces.{place_in}
-use Rattle.xc_search.proofs.residual.PickedByUses.{is_wanted, spend_uses, all_stay, committed, as_residual}
+use Rattle.xc_search.proofs.residual.PickedByUses.{is_wanted, spend_uses, committed, as_residual}
 use Rattle.std.proofs.lemmas.List.{take-append-drop}
 use Rattle.std.proofs.lemmas.Option.{slice_get_within}
 use Rattle.xc_input.proofs.lists.Places.{drop_at}
 use Rattle.xc_dance.proofs.LinkedTables.PlaceLemmas.{held_use}
-use Rattle.xc_input.proofs.lists.EachElement.{each-append, each_front}
 use Rattle.xc_input.proofs.lists.Filters.{filter_both, map-same}
 use Rattle.std.proofs.Math.Bool.{and_comm, or_comm}
 use Rattle.std.proofs.lemmas.List.Folds.{list_all-append}

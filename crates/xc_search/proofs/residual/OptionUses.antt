@@ -1,12 +1,11 @@
 -- The uses of an option.
 use Rattle.std.proofs.lemmas.Grind.{common_steps}
 use Rattle.std.proofs.Common.{ℕ, ◌≡◌, true, false, eqb, List, [], ◌∷◌, Some, eqb-true, eq-eqb, ne_eqb}
-use Rattle.std.proofs.Common.{suc, ◌≢◌, arith, inl, inr}
+use Rattle.std.proofs.Common.{◌≢◌, arith, inl, inr}
 use Rattle.std.specs.Prelude.{is_some, AllPairs}
 use Rattle.std.specs.List.{AllByRecursion}
 use Rattle.xc_input.specs.declared.problem.Use.{Use}
 use Rattle.xc_input.specs.Problem.{colour_in}
-use Rattle.std.proofs.lemmas.List.Elements.{recursion_from_All}
 use Rattle.xc_input.proofs.lists.EachElement.{each_both}
 use Rattle.xc_input.proofs.lists.Members.{IsIn}
 use Rattle.xc_input.proofs.lists.EachTwo.{EachTwo, EachTwo-weaker, each_two_from_AllPairs}

@@ -1,9 +1,8 @@
 -- The uses of an option left can be committed, and committing one is what `commit_use` says.
 use Rattle.std.proofs.lemmas.Grind.{common_steps}
-use Rattle.std.proofs.Common.{ℕ, zero, suc, ◌≡◌, ◌+◌, ◌-◌, ◌<◌, ◌≤◌, Bool, true, false, cond, not, eqb, leb, List, []}
+use Rattle.std.proofs.Common.{ℕ, zero, suc, ◌≡◌, ◌+◌, ◌-◌, ◌<◌, ◌≤◌, true, false, not, eqb, List, []}
 use Rattle.std.proofs.Common.{◌∷◌, map, filter, find, Option, Some, None, refl, sym, ap, ◌∙◌, arith, subst, eqb-true}
 use Rattle.std.proofs.Common.{eq-eqb, ne_eqb, le-leb, lt-ltb, le-ltb}
-use Rattle.xc_search.proofs.Spent.{less_one}
 use Rattle.std.proofs.lemmas.Bool.{lt-leb, eqb-false}
 use Rattle.std.proofs.lemmas.List.Elements.{filter_agree}
 use Rattle.std.specs.Prelude.{nat_lt, is_some}
@@ -11,7 +10,7 @@ use Rattle.std.specs.List.{AllByRecursion, range_with_len}
 use Rattle.xc_input.specs.declared.problem.Use.{Use}
 use Rattle.xc_dance.specs.declared.dance.Move.{Move}
 use Rattle.xc_dance.specs.declared.dance.Move.TheVariants.{Cover, Purify, Spend}
-use Rattle.xc_input.specs.Problem.{Puzzle, primary_count, holds, colour_at, high_at, IsPrimary, IsSecondary}
+use Rattle.xc_input.specs.Problem.{Puzzle, primary_count, colour_at, high_at, IsPrimary, IsSecondary}
 use Rattle.xc_search.specs.Listing.{Wanted, none, may_stay, item_left}
 use Rattle.xc_dance.specs.inner.Left.{left}
 use Rattle.xc_dance.specs.Moves.{is_open, purified, spends, AreLegal, agrees}

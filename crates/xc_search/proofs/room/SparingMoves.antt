@@ -1,12 +1,12 @@
 -- The Spends of a search are no more than the uses of the options that were taken and the items that were left out.
 use Rattle.std.proofs.lemmas.Grind.{common_steps}
-use Rattle.std.proofs.Common.{ℕ, zero, suc, ◌≡◌, ◌+◌, ◌<◌, ◌≤◌, Bool, true, false, cond, not, ◌&&◌, leb, List}
+use Rattle.std.proofs.Common.{ℕ, zero, suc, ◌≡◌, ◌+◌, ◌<◌, ◌≤◌, Bool, true, false, not, ◌&&◌, leb, List}
 use Rattle.std.proofs.Common.{[], ◌∷◌, length, map, filter, Some, refl, sym, ap, arith, le-leb}
 use Rattle.std.specs.Prelude.{slice_get, nat_lt, nat_le}
 use Rattle.xc_input.specs.declared.problem.Use.{Use}
 use Rattle.xc_dance.specs.declared.dance.Move.{Move}
 use Rattle.xc_input.specs.Problem.{Puzzle, Numbered, holds, primary_count, holding, use_count, uses_of}
-use Rattle.xc_search.specs.Listing.{Residual, pick, none, spend_one, stays, branch_item, branch_count}
+use Rattle.xc_search.specs.Listing.{Residual, none, spend_one, stays, branch_item}
 use Rattle.xc_dance.specs.Moves.{open_items}
 use Rattle.xc_search.specs.Residuals.{wanted_at, wanted_after}
 use Rattle.xc_search.specs.inner.Residual.{residual_of}

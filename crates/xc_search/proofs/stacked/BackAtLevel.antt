@@ -1,6 +1,6 @@
 -- Back at a level, and its end.
 use Rattle.std.proofs.lemmas.Grind.{common_steps}
-use Rattle.std.proofs.Common.{◌≡◌, ◌+◌, ◌<◌, ◌≤◌, List, [], ◌∷◌, ◌++◌, length, take, drop, sym, ap, ap₂, ◌∙◌}
+use Rattle.std.proofs.Common.{◌≡◌, ◌+◌, ◌<◌, ◌≤◌, List, ◌∷◌, ◌++◌, length, take, drop, sym, ap, ap₂, ◌∙◌}
 use Rattle.std.proofs.Common.{arith, length-append}
 use Rattle.std.proofs.lemmas.List.{take_at, length-replicate}
 use Rattle.std.specs.Prelude.{replicate}
@@ -12,7 +12,7 @@ use Rattle.xc_search.specs.Listing.{branch_count}
 use Rattle.xc_dance.specs.Moves.{AreTweaks}
 use Rattle.xc_search.specs.Residuals.{wanted_at}
 use Rattle.xc_search.specs.inner.Residual.{residual_of}
-use Rattle.xc_search.specs.inner.Levels.{branches_at, members_of, IsLevel, AreStacked, choices_of}
+use Rattle.xc_search.specs.inner.Levels.{members_of, IsLevel, AreStacked, choices_of}
 use Rattle.xc_search.specs.inner.Levels.{to_give}
 use Rattle.xc_dance.specs.Commits.{after_spend}
 use Rattle.xc_search.specs.inner.Commits.{oldest, tweaked}

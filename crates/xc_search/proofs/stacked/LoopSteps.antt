@@ -13,7 +13,7 @@ use Rattle.xc_search.specs.Residuals.{choice_after}
 use Rattle.xc_dance.specs.Commits.{option_at, after_spend}
 use Rattle.xc_search.specs.inner.Commits.{oldest}
 use Rattle.xc_search.specs.inner.Levels.{Levels, IsNode, IsLevel, AreStacked, to_give, IsStanding, MayBegin}
-use Rattle.xc_search.specs.inner.Levels.{IsBegun, IsEntered, IsPlace, CanBranch, after_branch, first_level}
+use Rattle.xc_search.specs.inner.Levels.{IsBegun, IsEntered, IsPlace, CanBranch, first_level}
 use Rattle.xc_search.specs.inner.Levels.{begun_level, newest_begun}
 use Rattle.xc_search.specs.inner.Ahead.{visits, ahead, GoesOn, EntersBranch, branched}
 use Rattle.xc_search.proofs.moves.OldestMoves.{oldest_all}

@@ -1,11 +1,10 @@
 -- The next branch of a level.
-use Rattle.std.proofs.Common.{ℕ, suc, ◌≡◌, ◌≢◌, ◌+◌, ◌-◌, ◌<◌, ◌≤◌, Bool, true, false, cond, eqb, List, ◌∷◌, length}
-use Rattle.std.proofs.Common.{min, Some, None, refl, sym, ap, ap₂, ◌∙◌, arith, subst, eqb-true}
+use Rattle.std.proofs.Common.{ℕ, suc, ◌≡◌, ◌≢◌, ◌+◌, ◌-◌, ◌<◌, ◌≤◌, Bool, true, false, cond, List, ◌∷◌, length}
+use Rattle.std.proofs.Common.{min, Some, None, refl, sym, ap, ◌∙◌, arith, subst, eqb-true}
 use Rattle.std.proofs.lemmas.Option.{slice_get_within}
-use Rattle.std.specs.Prelude.{slice_get, option_map, replicate}
-use Rattle.xc_search.specs.declared.choice.Choice.{Choice}
+use Rattle.std.specs.Prelude.{slice_get, option_map}
 use Rattle.xc_dance.specs.declared.dance.Move.{Move}
-use Rattle.xc_dance.specs.declared.dance.Move.TheVariants.{Tweak, Spend}
+use Rattle.xc_dance.specs.declared.dance.Move.TheVariants.{Spend}
 use Rattle.xc_search.specs.declared.level.Level.{Level}
 use Rattle.xc_input.specs.Problem.{Puzzle, Numbered, high_at, IsItem, uses_of}
 use Rattle.xc_search.specs.Listing.{branch_count, take_branch, none_branch}

@@ -1,18 +1,17 @@
 -- What one step of the search does to the levels.
 use Rattle.std.proofs.lemmas.Grind.{common_steps}
-use Rattle.std.proofs.Common.{ℕ, zero, suc, ◌≡◌, ◌+◌, ◌-◌, ◌<◌, ◌≤◌, true, false, cond, eqb, leb, List, [], ◌∷◌, ◌++◌}
-use Rattle.std.proofs.Common.{length, map, drop, Option, Some, None, refl, sym, ap, ◌∙◌, arith, subst}
-use Rattle.std.proofs.Common.{eq-eqb, ne_eqb, ◌≢◌, append_assoc, length-append, length-drop}
+use Rattle.std.proofs.Common.{ℕ, zero, suc, ◌≡◌, ◌+◌, ◌-◌, ◌<◌, ◌≤◌, true, List, [], ◌∷◌, ◌++◌}
+use Rattle.std.proofs.Common.{length, map, drop, Some, None, refl, sym, ap, ◌∙◌, arith, subst}
+use Rattle.std.proofs.Common.{eq-eqb, ne_eqb, ◌≢◌, length-drop}
 use Rattle.std.specs.Prelude.{option_map, flat_map, unwrap_or, slice_get}
 use Rattle.std.specs.List.{AllByRecursion, range_with_len}
 use Rattle.xc_input.specs.declared.problem.Use.{Use}
 use Rattle.xc_search.specs.declared.choice.Choice.{Choice}
 use Rattle.xc_dance.specs.declared.dance.Move.{Move}
-use Rattle.xc_dance.specs.declared.dance.Move.TheVariants.{Cover, Purify, Spend}
 use Rattle.xc_search.specs.declared.level.Level.{Level}
-use Rattle.xc_input.specs.Problem.{Puzzle, primary_count, high_at, IsPrimary}
+use Rattle.xc_input.specs.Problem.{Puzzle, primary_count, IsPrimary}
 use Rattle.xc_search.specs.Listing.{Wanted, Branch, branches_of, branch_count, branch_item, listing, level}
-use Rattle.xc_dance.specs.Moves.{is_open, spends, open_items, AreLegal}
+use Rattle.xc_dance.specs.Moves.{is_open, open_items, AreLegal}
 use Rattle.xc_search.specs.Residuals.{wanted_at, wanted_after, choice_after}
 use Rattle.xc_search.specs.inner.Residual.{residual_of}
 use Rattle.xc_search.specs.inner.Levels.{branches_at, members_of, IsSearchable, IsLevelAt, IsShallow}
@@ -26,7 +25,7 @@ use Rattle.xc_search.proofs.listing.Unrolled.{listing_unrolled}
 use Rattle.xc_search.proofs.listing.BranchesLess.{least_is_one}
 use Rattle.xc_search.proofs.residual.EachMove.{in_range}
 use Rattle.xc_search.proofs.residual.ReadyUses.{as_spent}
-use Rattle.xc_search.proofs.residual.BranchItemLeft.{choice_is_branch_item, choice_of}
+use Rattle.xc_search.proofs.residual.BranchItemLeft.{choice_is_branch_item}
 use Rattle.xc_search.proofs.moves.OldestMoves.{oldest_all, oldest-drop}
 use Rattle.xc_search.proofs.stacked.WorkUnrolled.{work_unrolled}
 use Rattle.xc_input.proofs.lists.EachElement.{each_weaker, each-map, each-filter, each_passes, each_both}

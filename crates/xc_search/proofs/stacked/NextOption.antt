@@ -1,9 +1,9 @@
 -- The option that a level's next branch takes.
 use Rattle.std.proofs.lemmas.Grind.{common_steps}
-use Rattle.std.proofs.Common.{inl, inr, cond, Option, ℕ, zero, suc, ◌≡◌, ◌<◌, ◌≤◌, Bool, true, false, List, [], subst}
+use Rattle.std.proofs.Common.{inl, inr, cond, ℕ, zero, suc, ◌≡◌, ◌<◌, ◌≤◌, true, List, [], subst}
 use Rattle.std.proofs.Common.{◌∷◌, length, map, drop, min, Some, None, refl, sym, ap, ap₂, ◌∙◌, arith, lt-ltb, le-ltb}
 use Rattle.std.proofs.Common.{get_or}
-use Rattle.std.proofs.lemmas.Option.{slice_get_within, slice_get-get_or}
+use Rattle.std.proofs.lemmas.Option.{slice_get_within}
 use Rattle.std.proofs.lemmas.List.{length-map}
 use Rattle.std.specs.Prelude.{unwrap_or, slice_get, option_map, Contains}
 use Rattle.xc_dance.specs.declared.dance.Move.{Move}

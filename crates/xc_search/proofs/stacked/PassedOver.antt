@@ -21,6 +21,9 @@ rest_behind n ms m rest e = sym (ap (drop 1) e) ∙ drop-drop 1 n ms
 within_behind : {X : Type 0} (n : ℕ) (ms : List X) (m : X) (rest : List X) → drop n ms ≡ m ∷ rest → n < length ms
 within_behind n ms m rest e = grind (arith, common_steps)
 
+pub drop_past : {X : Type 0} (n : ℕ) (ms : List X) → length ms ≤ n → drop n ms ≡ []
+drop_past n ms h = drop_all n ms h
+
 -- the member behind the first n is shown after one more
 pub shown_next : (n : ℕ) (ms : List (List Choice)) (s m : List Choice) (rest : List (List Choice))
     → drop n ms ≡ m ∷ rest → m ≡ shown_after (n + 1) ms s

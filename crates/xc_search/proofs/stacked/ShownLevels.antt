@@ -1,17 +1,14 @@
 -- The levels of a search show their options.
-use Rattle.std.proofs.lemmas.Grind.{common_steps}
-use Rattle.std.proofs.Common.{ℕ, zero, suc, ◌≡◌, ◌<◌, List, [], ◌∷◌, length, reverse, Option, Some, None, refl, sym, ap}
+use Rattle.std.proofs.Common.{suc, List, [], ◌∷◌, reverse, Some, refl, sym, ap}
 use Rattle.std.proofs.Common.{◌∙◌, arith, subst}
-use Rattle.std.specs.Prelude.{All, IfSome, option_map, slice_get, unwrap_or}
+use Rattle.std.specs.Prelude.{All, unwrap_or}
 use Rattle.std.specs.List.{AllByRecursion}
 use Rattle.std.proofs.lemmas.List.Elements.{All-from_recursion, recursion_from_All}
 use Rattle.std.proofs.lemmas.List.{reverse-append}
-use Rattle.xc_input.specs.declared.problem.Use.{Use}
-use Rattle.xc_input.specs.Problem.{Puzzle, Numbered, IsItem, numbered_get, uses_of}
+use Rattle.xc_input.specs.Problem.{Puzzle}
 use Rattle.xc_dance.specs.declared.dance.Move.{Move}
 use Rattle.xc_dance.specs.Fields.{link_place}
 use Rattle.xc_dance.specs.Commits.{IsUseAt}
-use Rattle.xc_input.specs.UsePlaces.{place_in}
 use Rattle.xc_search.specs.declared.level.Level.{Level}
 use Rattle.xc_search.specs.inner.Commits.{oldest}
 use Rattle.xc_search.specs.inner.Levels.{taken, options_at, IsLevelAt, AreStacked, IsShown}

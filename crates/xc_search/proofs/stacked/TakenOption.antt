@@ -1,29 +1,23 @@
 -- What the code of a branch asks and gives.
-use Rattle.std.proofs.lemmas.Grind.{common_steps}
-use Rattle.std.proofs.Common.{ℕ, suc, ◌≡◌, ◌≢◌, ◌+◌, ◌-◌, ◌<◌, ◌≤◌, Bool, true, false, cond, List, ◌∷◌, length, min}
-use Rattle.std.proofs.Common.{Option, Some, None, refl, sym, ap, ◌∙◌, arith, subst}
+use Rattle.std.proofs.Common.{ℕ, suc, ◌≡◌, ◌+◌, ◌<◌, false, cond, List, length, min}
+use Rattle.std.proofs.Common.{Some, None, refl, sym, ap, ◌∙◌, arith, subst}
 use Rattle.std.proofs.lemmas.Option.{slice_get_within}
-use Rattle.std.proofs.lemmas.List.Elements.{All-from_recursion}
-use Rattle.std.specs.Prelude.{slice_get, option_map}
-use Rattle.std.specs.List.{AllByRecursion}
-use Rattle.xc_input.specs.declared.problem.Use.{Use}
+use Rattle.std.specs.Prelude.{slice_get}
 use Rattle.xc_dance.specs.declared.dance.Move.{Move}
-use Rattle.xc_dance.specs.declared.dance.Move.TheVariants.{Tweak, Spend}
+use Rattle.xc_dance.specs.declared.dance.Move.TheVariants.{Tweak}
 use Rattle.xc_search.specs.declared.level.Level.{Level}
-use Rattle.xc_input.specs.Problem.{Puzzle, Numbered, high_at, IsItem, option_count, uses_of}
+use Rattle.xc_input.specs.Problem.{Puzzle, Numbered, IsItem, uses_of}
 use Rattle.xc_dance.specs.Dancing.{Dancing}
-use Rattle.xc_dance.specs.Moves.{spends, AreLegal, IsLegal}
+use Rattle.xc_dance.specs.Moves.{IsLegal}
 use Rattle.xc_search.specs.inner.Levels.{options_at, IsLevel, IsBegun, IsEntered, IsPlace, CanBranch, after_branch}
 use Rattle.xc_search.specs.inner.Levels.{next_number}
 use Rattle.xc_dance.specs.Commits.{option_at, after_spend, after_uses, others}
-use Rattle.xc_input.specs.UsePlaces.{place_in}
 use Rattle.xc_search.specs.inner.Commits.{oldest, tweaked, after_none}
 use Rattle.xc_search.proofs.moves.OldestMoves.{oldest_all}
-use Rattle.xc_search.proofs.moves.BranchMoves.{taken}
 use Rattle.xc_search.proofs.moves.LegalTweaks.{legal_branch}
 use Rattle.xc_search.proofs.room.TrailFits.{has_room}
 use Rattle.xc_search.proofs.stacked.NextLevel.{at_own}
-use Rattle.xc_search.proofs.stacked.NextBranch.{covered_walks, with_option, begins_take, with_none, begins_none}
+use Rattle.xc_search.proofs.stacked.NextBranch.{with_option, begins_take, with_none, begins_none}
 use Rattle.xc_search.proofs.Cases.{mapped_none, mapped_some}
 use Rattle.xc_search.proofs.stacked.NextBranch.{BeginsTake, tweaked_at}
 

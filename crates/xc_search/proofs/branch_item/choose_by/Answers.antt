@@ -4,7 +4,7 @@ use Rattle.xc_dance.specs.Moves.{next_above, open_items}
 use Rattle.xc_dance.specs.declared.dance.Move.{Move}
 use Rattle.xc_input.specs.Problem.{Puzzle, primary_count}
 use Rattle.xc_search.proofs.residual.FirstFewest.{next_open, choice_first, choice_none, choice_next, choice_last}
-use Rattle.xc_search.proofs.residual.FirstFewest.{choice_settled, choice_done, fewer, once_more}
+use Rattle.xc_search.proofs.residual.FirstFewest.{choice_settled, choice_done, once_more}
 use Rattle.xc_dance.proofs.MoveLemmas.ListLemmas.{next_above-gt}
 use Rattle.xc_search.proofs.branch_item.choose_by.Goals as goal
 

@@ -1,8 +1,7 @@
 use Rattle.std.proofs.lemmas.Grind.{common_steps}
-use Rattle.std.proofs.Common.{◌<◌, ◌∷◌, drop, false, arith, refl}
-use Rattle.xc_search.specs.inner.Commits.{oldest}
+use Rattle.std.proofs.Common.{◌<◌, ◌∷◌, drop, false, arith}
 use Rattle.xc_search.specs.inner.Levels.{AreStacked}
-use Rattle.xc_search.specs.inner.Ahead.{GoesOn, EntersBranch, branched, visits}
+use Rattle.xc_search.specs.inner.Ahead.{GoesOn, EntersBranch, visits}
 use Rattle.xc_search.proofs.paths.Led.{keeps_next, keeps_back}
 use Rattle.xc_search.proofs.stacked.LoopSteps.{GoesOn-trans, goes_on_to, enters, goes_back}
 use Rattle.xc_search.proofs.levels.resume.Goals as goal
