@@ -1,6 +1,5 @@
 -- What helps to prove what is printed, and what the checker says of it.
 pub mod ChoiceBodies
-pub mod CountedMembers
 pub mod KnownMembers
 pub mod LaidOptions
 pub mod ListedCovers

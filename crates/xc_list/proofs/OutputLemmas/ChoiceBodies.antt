@@ -1,4 +1,5 @@
 -- What the words of a choice stand for.
+use Rattle.std.proofs.lemmas.Bool.Decides.{nat_tests}
 use Rattle.xc_input.proofs.TokenLemmas.Bytes.{not_false}
 use Rattle.xc_list.specs.inner.LineParts.{colour_text}
 use Rattle.xc_list.proofs.CheckLemmas.BodiesOfClasses.{All-turned, is-body}
@@ -13,7 +14,9 @@ use Rattle.std.specs.Prelude.{All, codes, is_some, slice_get, MatchOption, ◌==
 use Rattle.std.specs.List.{list_any, range_with_len}
 use Rattle.std.specs.Str.{bytes_eq}
 use Rattle.std.proofs.lemmas.List.{length-map, take-append-drop}
-use Rattle.std.proofs.lemmas.List.Elements.{All-nil, All-cons, All-head, All-map, All-weaker, All-from_get_or}
+use Rattle.std.proofs.lemmas.List.Elements.{All-head, All-from_get_or, recursion_from_All}
+use Rattle.std.specs.List.{AllByRecursion}
+use Rattle.xc_input.proofs.lists.EachElement.{each-map, each_weaker}
 use Rattle.std.proofs.lemmas.List.Folds.{list_any-append, list_any_none}
 use Rattle.std.proofs.lemmas.Slice.Eq.{bytes_eq-Decides}
 use Rattle.std.proofs.lemmas.Option.{slice_get-get_or}
@@ -33,7 +36,7 @@ use Rattle.xc_list.specs.Output.{rotated_at, bytes_at, use_word}
 use Rattle.std.specs.Cmp.Lexicographic.{pointwise}
 use Rattle.xc_list.specs.Listed.{is_body, stands_for, is_known, is_none}
 use Rattle.xc_list.proofs.Writing.{colour_text-some}
-use Rattle.xc_list.proofs.OutputLemmas.ReadLines.{IsPlain}
+use Rattle.xc_list.proofs.OutputLemmas.ReadLines.{IsPlain, plain-append}
 use Rattle.xc_list.proofs.OutputLemmas.OutputLines.{body_words}
 use Rattle.xc_input.proofs.TokenLemmas.Separators.{COLON}
 
@@ -62,20 +65,9 @@ lacks-colour q colours (suc c) h k = ap (list_any q) (colour_text-some colours (
 
 plain-use : (p : Named) → IsSound p → (u : Use) → IsKnownUse p u → IsPlain (use_word p u)
 plain-use p sound u known =
-    let name : IsPlain (bytes_at p.names u.item) = plain-name p sound u.item known.0 in
-    let space : list_any is_space (colour_text p.colours u.colour) ≡ false =
-    lacks-colour is_space p.colours u.colour refl (λ h. (plain-colour p sound u.colour h known.1).no_space) in
-    let feed : has 10 (colour_text p.colours u.colour) ≡ false =
-    lacks-colour (λ x. nat_eq x 10) p.colours u.colour refl
-    (λ h. (plain-colour p sound u.colour h known.1).no_feed) in
-    record {
-      some = omega (arith, length-append (bytes_at p.names u.item) (colour_text p.colours u.colour), name.some);
-      no_space = list_any-append is_space (bytes_at p.names u.item) (colour_text p.colours u.colour)
-          ∙ or-both (list_any is_space (bytes_at p.names u.item)) (list_any is_space (colour_text p.colours u.colour))
-          name.no_space space;
-      no_feed = list_any-append (λ x. nat_eq x 10) (bytes_at p.names u.item) (colour_text p.colours u.colour)
-          ∙ or-both (has 10 (bytes_at p.names u.item)) (has 10 (colour_text p.colours u.colour)) name.no_feed feed;
-    }
+    plain-append (bytes_at p.names u.item) (colour_text p.colours u.colour) (plain-name p sound u.item known.0)
+    (lacks-colour is_space p.colours u.colour refl (λ h. (plain-colour p sound u.colour h known.1).no_space))
+    (lacks-colour (λ x. nat_eq x 10) p.colours u.colour refl (λ h. (plain-colour p sound u.colour h known.1).no_feed))
 
 -- ---- rotations
 
@@ -91,13 +83,8 @@ place-within i (u ∷ us) h =
 
 length-turned : {X : Type 0} (k : ℕ) (xs : List X) → length (rotated_at k xs) ≡ length xs
 length-turned k xs =
-    omega (
-      arith,
-      length-append (drop k xs) (take k xs),
-      length-append (take k xs) (drop k xs),
-      ap length
-          (take-append-drop k xs),
-    )
+    let fact = length-append (drop k xs) (take k xs) in
+    grind (arith, nat_tests, length-append (take k xs) (drop k xs), take-append-drop k xs)
 
 -- ---- tests
 
@@ -113,7 +100,7 @@ or-right false b e = e
 -- that the words of a choice are read as such, and what they stand for
 pub record IsTold (p : Named) (i : ℕ) (o : Option ℕ) : Type 0 where
   pub some : 1 ≤ length (body_words p i o)
-  pub plain : All IsPlain (body_words p i o)
+  pub plain : AllByRecursion IsPlain (body_words p i o)
   pub accepted : (is_known p (body_words p i o) || is_none p (body_words p i o)) ≡ true
   pub stands : MatchOption o (is_known p (body_words p i o) ≡ false)
       (λ j. (is_known p (body_words p i o) ≡ true) × (stands_for p (body_words p i o) j ≡ true))
@@ -122,9 +109,9 @@ told-option : (p : Named) → IsSound p → (i o : ℕ) → 1 ≤ o → o ≤ op
     → is_some (colour_in (uses_of p.puzzle o) i) ≡ true → IsTold p i (Some o)
 told-option p sound i o h l held = record {
   some = omega (arith, length-map (rotated_at k us) (use_word p), length-turned k us, within);
-  plain =
-      All-map IsPlain (use_word p) (rotated_at k us)
-      (All-weaker (IsKnownUse p) (λ u. IsPlain (use_word p u)) (λ u. plain-use p sound u) (rotated_at k us) all);
+  plain = each-map IsPlain (use_word p) (rotated_at k us)
+      (each_weaker (IsKnownUse p) (λ u. IsPlain (use_word p u)) (rotated_at k us) (plain-use p sound)
+      (recursion_from_All (IsKnownUse p) (rotated_at k us) all));
   accepted = or-left (is_known p words) (is_none p words) known;
   stands = (known, stands);
 }
@@ -158,12 +145,10 @@ not_null : (p : Named) → IsSound p → All (λ n. n ≢ codes "null") p.names 
     → (w : List ℕ) → pointwise bytes_eq (map (use_word p) us) (codes "null" ∷ w ∷ []) ≡ false
 not_null p sound none [] known w = refl
 not_null p sound none (u ∷ us) known w =
-    let other : bytes_eq (use_word p u) (codes "null") ≡ false =
-    not_false (bytes_eq (use_word p u) (codes "null")) (λ e.
-    let is = (bytes_eq-Decides (use_word p u) (codes "null")).0 e in
-    let name = plain-word p sound u (All-head (IsKnownUse p) u us known) (ap (has COLON) is) in
+    let fact = not_false (bytes_eq (use_word p u) (codes "null")) (λ e. let is = (bytes_eq-Decides (use_word p u)
+    (codes "null")).0 e in let name = plain-word p sound u (All-head (IsKnownUse p) u us known) (ap (has COLON) is) in
     at_number (λ n. n ≢ codes "null") p.names u.item (use_word p u) none name.0 is) in
-    ap (λ t. t && pointwise bytes_eq (map (use_word p) us) (w ∷ [])) other
+    cc
 
 not_known : (p : Named) → IsSound p → All (λ n. n ≢ codes "null") p.names → (w : List ℕ)
     → is_known p (codes "null" ∷ w ∷ []) ≡ false
@@ -189,7 +174,6 @@ told-none : (p : Named) → IsSound p → All (λ n. n ≢ codes "null") p.names
 told-none p sound none zero primary = absurd (omega (arith, primary.0))
 told-none p sound none (suc j) primary =
     let within : suc j ≤ length p.names = omega (arith, primary.1, sound.named.count) in
-    let null : IsPlain (codes "null") = record { some = omega arith; no_space = refl; no_feed = refl } in
     let name : IsPlain (bytes_at p.names (suc j)) = plain-name p sound (suc j) (primary.0, omega (arith, primary.1)) in
     let words : List (List ℕ) = codes "null" ∷ bytes_at p.names (suc j) ∷ [] in
     let at : slice_get p.names j ≡ Some (bytes_at p.names (suc j)) =
@@ -205,9 +189,7 @@ told-none p sound none (suc j) primary =
     ((bytes_eq-Decides (codes "null") (codes "null")).1 refl) listed in
     record {
       some = omega arith;
-      plain =
-          All-cons IsPlain (codes "null") (bytes_at p.names (suc j) ∷ []) null
-          (All-cons IsPlain (bytes_at p.names (suc j)) [] name (All-nil IsPlain));
+      plain = (record { some = omega arith; no_space = refl; no_feed = refl }, (name, tt));
       accepted = or-right (is_known p words) (is_none p words) is;
       stands = not_known p sound none (bytes_at p.names (suc j));
     }

@@ -52,28 +52,17 @@ text-cut a us n =
 pub length-more : (a : Named) (us : List Use) (i : ℕ) (d : Use) → i < length us
     → length (uses_text a (take i us)) + length (use_text a (get_or us i d)) ≤ length (uses_text a us)
 length-more a us i d h =
-    omega (
-      arith,
-      ap length (flat_map-parts (use_text a) us i d h),
-      length-append (uses_text a (take i us) ++ use_text a (get_or us i d)) (uses_text a (drop (i + 1) us)),
-      length-append (uses_text a (take i us)) (use_text a (get_or us i d)),
-    )
+    let fact = length-append (uses_text a (take i us) ++ use_text a (get_or us i d)) (uses_text a (drop (i + 1) us)) in
+    let fact2 = length-append (uses_text a (take i us)) (use_text a (get_or us i d)) in
+    grind (arith, nat_tests, flat_map-parts (use_text a) us i d h)
 
 -- where an item's use starts in the text of uses that were read
 pub cut_within : (a : Named) (item : ℕ) (us all : List Use) (text : List ℕ) (place : ℕ) → us ≡ all
     → text ≡ uses_text a all
     → place ≡ length (uses_text a (take (place_in item us) us)) → place ≤ length text
 cut_within a item us all text place e f at =
-    let cut = ap length (text-cut a us (place_in item us)) in
-    omega (
-      arith,
-      at,
-      cut,
-      ap length f,
-      ap (λ vs. length (uses_text a vs)) e,
-      length-append (uses_text a (take (place_in item us) us))
-          (uses_text a (drop (place_in item us) us)),
-    )
+    let fact = length-append (uses_text a (take (place_in item us) us)) (uses_text a (drop (place_in item us) us)) in
+    grind (arith, nat_tests, at, text-cut a us (place_in item us), f, e)
 
 -- the text behind that place and the text before it are those of the uses from the item's on, cyclically
 pub cut_gives : (a : Named) (item : ℕ) (us all : List Use) (text before after : List ℕ) (place : ℕ) → us ≡ all
@@ -82,15 +71,11 @@ pub cut_gives : (a : Named) (item : ℕ) (us all : List Use) (text before after 
     → after ≡ drop place text
     → flat_map (use_text a) (from_item item all) ≡ after ++ before
 cut_gives a item us all text before after place e f at b d =
-    let p = place_in item us in
-    let front = uses_text a (take p us) in
-    let back = uses_text a (drop p us) in
-    let whole : text ≡ front ++ back = f ∙ ap (uses_text a) (sym e) ∙ text-cut a us p in
-    let before_is : before ≡ front = b ∙ ap₂ take at whole ∙ take-append_seam front back in
-    let after_is : after ≡ back = d ∙ ap₂ drop at whole ∙ drop-append_seam front back in
-    ap (λ vs. flat_map (use_text a) (from_item item vs)) (sym e)
-    ∙ flat_map-append (use_text a) (drop p us) (take p us)
-    ∙ ap₂ (λ x y. x ++ y) (sym after_is) (sym before_is)
+    let fact = drop-append_seam (uses_text a (take (place_in item us) us)) (uses_text a (drop (place_in item us) us)) in
+    let fact2 = take-append_seam (uses_text a (take (place_in item us) us)) (uses_text a (drop (place_in item us) us))
+    in
+    let fact3 = flat_map-append (use_text a) (drop (place_in item us) us) (take (place_in item us) us) in
+    cc (e, d, at, f, text-cut a us (place_in item us), b)
 
 -- one option more
 pub laid_more : (a : Named) (os : List (List Use)) (us : List Use) (texts more starts : List ℕ) (n : ℕ)
@@ -113,8 +98,7 @@ front_part : (laid padding : List ℕ) (x y : ℕ) → x ≤ y → y ≤ length 
     → take (y - x) (drop x (laid ++ padding)) ≡ take (y - x) (drop x laid)
 front_part laid padding x y h l =
     let within : y - x ≤ length (drop x laid) = omega (arith, length-drop x laid, h, l) in
-    ap (take (y - x)) (drop-append-le x laid padding (omega (arith, h, l)))
-    ∙ take-append-le (y - x) (drop x laid) padding within
+    cc (drop-append-le x laid padding (omega (arith, h, l)), take-append-le (y - x) (drop x laid) padding within)
 
 -- the text between two starts that were read, where 16 bytes more stand behind the texts
 pub padded_part : (a : Named) (os : List (List Use)) (texts starts : List ℕ) (o x y : ℕ) → ArePadded a os texts starts
@@ -161,18 +145,14 @@ text_put a item us all texts page one two at from count place e f there h first 
     sym (take-take place count (drop from texts) within) in
     let sum : place + (count - place) ≡ count = omega (arith, within) in
     let behind : take (count - place) (drop (from + place) texts) ≡ drop place text =
-    ap (take (count - place)) (sym (drop-drop place from texts))
-    ∙ sym (drop-take place (count - place) (drop from texts))
-    ∙ ap (λ n. drop place (take n (drop from texts))) sum in
+    cc (drop-drop place from texts, drop-take place (count - place) (drop from texts), sum) in
     let turned =
     cut_gives a item us all text (take place (drop from texts)) (take (count - place) (drop (from + place) texts)) place
     e f there before behind in
     let end : at + (count - place) + place ≡ at + count = omega (arith, within) in
-    ap (λ n. take n two) (sym end)
-    ∙ second
-    ∙ ap (λ t. t ++ take place (drop from texts)) first
-    ∙ append_assoc (take at page) (take (count - place) (drop (from + place) texts)) (take place (drop from texts))
-    ∙ ap (λ t. take at page ++ t) (sym turned)
+    let fact = append_assoc (take at page) (take (count - place) (drop (from + place) texts))
+    (take place (drop from texts)) in
+    cc (end, second, first, turned)
 
 firsts-at : (os : List (List Use)) (j x : ℕ) → j < length os
     → get_or (map first_item os) j x ≡ first_item (unwrap_or (numbered_get os (suc j)) [])

@@ -8,8 +8,12 @@ use Rattle.std.specs.Prelude.{All, Contains, IsTrue, MatchOption, codes, flat_ma
 use Rattle.std.specs.List.{AllZip, enumerate_from, cons_option}
 use Rattle.std.proofs.lemmas.Bool.Decides.{nat_tests}
 use Rattle.std.proofs.lemmas.List.{length-take}
-use Rattle.std.proofs.lemmas.List.Elements.{All-nil, All-cons, All-head, All-tail, All-map, All-take, All-filter}
-use Rattle.std.proofs.lemmas.List.Elements.{All-weaker, All-contains, All-contains_itself}
+use Rattle.std.proofs.lemmas.List.Elements.{All-contains, All-from_recursion}
+use Rattle.xc_input.proofs.lists.EachElement.{each_weaker, each-map, each-filter}
+use Rattle.xc_input.proofs.lists.Members.{IsIn, each_in, each_from, contains-in}
+use Rattle.xc_list.proofs.CheckLemmas.HeldItems.{each_take}
+use Rattle.std.specs.List.{AllByRecursion}
+use Rattle.std.proofs.Common.{Bool}
 use Rattle.xc_input.specs.Named.{Named, IsSound}
 use Rattle.xc_input.specs.Lines.{lines_of}
 use Rattle.xc_search.specs.declared.choice.Choice.{Choice}
@@ -25,8 +29,7 @@ use Rattle.xc_list.specs.declared.checker.ListingFault.TheVariants.{UnknownOptio
 use Rattle.std.specs.Option.{option_or}
 use Rattle.xc_list.specs.Listed.{Solution, IsVerdictOn, AreVerdicts, IsListingFault, stands_for, is_known}
 use Rattle.xc_list.specs.Listed.{fault_in_lines, solutions_of, IsListedCover}
-use Rattle.xc_list.proofs.OutputLemmas.KnownMembers.{members_known}
-use Rattle.xc_list.proofs.OutputLemmas.CountedMembers.{IsCounted, members_counted}
+use Rattle.xc_list.proofs.OutputLemmas.KnownMembers.{IsCounted, AreCounted, each_numbered, members_counted}
 use Rattle.xc_list.proofs.OutputLemmas.OutputLines.{choice_words, choice_line, header_line, output_lines, IsPrintable}
 use Rattle.xc_list.proofs.OutputLemmas.OutputLines.{IsPrintableMember, lines_of-members, read-choice_line}
 use Rattle.xc_list.proofs.OutputLemmas.OutputLines.{read-header_line}
@@ -38,7 +41,7 @@ record IsReadable (p : Named) (c : Choice) : Type 0 where
 
 record IsReadableMember (p : Named) (nm : ℕ × List Choice) : Type 0 where
   pub number : nm.0 < 2 ^ 64
-  pub choices : All (IsReadable p) nm.1
+  pub choices : AllByRecursion (IsReadable p) nm.1
   pub cover : IsCover p.puzzle (options_of nm.1)
 
 -- ---- faults
@@ -47,33 +50,31 @@ record IsReadableMember (p : Named) (nm : ℕ × List Choice) : Type 0 where
 abbrev line : ℕ → ℕ
 line n = min (n + 1) (2 ^ 64 - 1)
 
-no_fault-choices : (p : Named) (n : ℕ) (m : List Choice) (rest : List (List ℕ)) → 0 < n → All (IsReadable p) m
-    → ((k : ℕ) → 0 < k → fault_in_lines p k rest ≡ None)
+no_fault-choices : (p : Named) (n : ℕ) (m : List Choice) (rest : List (List ℕ)) → 0 < n
+    → AllByRecursion (IsReadable p) m → ((k : ℕ) → 0 < k → fault_in_lines p k rest ≡ None)
     → fault_in_lines p n (map (choice_line p) m ++ rest) ≡ None
 no_fault-choices p n [] rest h all later = later n h
 no_fault-choices p n (c ∷ m) rest h all later =
-    let first : IsReadable p c = All-head (IsReadable p) c m all in
     let begun : not (n == 0) ≡ true = grind (arith, nat_tests) in
     lines-cons p n (choice_line p c) (map (choice_line p) m ++ rest)
     ∙ ap (λ l. option_or (fault_said p (not (n == 0)) (line n) l)
-    (fault_in_lines p (n + 1) (map (choice_line p) m ++ rest))) (read-choice_line p c first.printable).0
+    (fault_in_lines p (n + 1) (map (choice_line p) m ++ rest))) (read-choice_line p c all.0.printable).0
     ∙ ap (λ t. option_or (fault_said p t (line n) (Body (choice_words p c)))
     (fault_in_lines p (n + 1) (map (choice_line p) m ++ rest))) begun
     ∙ ap (λ t. option_or (if t then None else Some (UnknownOption (line n)))
-    (fault_in_lines p (n + 1) (map (choice_line p) m ++ rest))) first.told.accepted
-    ∙ no_fault-choices p (n + 1) m rest (omega arith) (All-tail (IsReadable p) c m all) later
+    (fault_in_lines p (n + 1) (map (choice_line p) m ++ rest))) all.0.told.accepted
+    ∙ no_fault-choices p (n + 1) m rest (omega arith) all.1 later
 
-no_fault-members : (p : Named) (n : ℕ) (nms : List (ℕ × List Choice)) → All (IsReadableMember p) nms
+no_fault-members : (p : Named) (n : ℕ) (nms : List (ℕ × List Choice)) → AllByRecursion (IsReadableMember p) nms
     → fault_in_lines p n (output_lines p nms) ≡ None
 no_fault-members p n [] all = refl
 no_fault-members p n (nm ∷ nms) all =
-    let first : IsReadableMember p nm = All-head (IsReadableMember p) nm nms all in
     lines-cons p n (header_line nm.0) (map (choice_line p) nm.1 ++ output_lines p nms)
     ∙ ap (λ l. option_or (fault_said p (not (n == 0)) (line n) l)
     (fault_in_lines p (n + 1) (map (choice_line p) nm.1 ++ output_lines p nms)))
-    (read-header_line nm.0 first.number)
-    ∙ no_fault-choices p (n + 1) nm.1 (output_lines p nms) (omega arith) first.choices
-    (λ k h. no_fault-members p k nms (All-tail (IsReadableMember p) nm nms all))
+    (read-header_line nm.0 all.0.number)
+    ∙ no_fault-choices p (n + 1) nm.1 (output_lines p nms) (omega arith) all.0.choices
+    (λ k h. no_fault-members p k nms all.1)
 
 -- ---- what is listed
 
@@ -83,36 +84,33 @@ solution_of p nm = record { number = nm.0; bodies = map (choice_words p) nm.1 }
 abbrev in_parts : List (List (List ℕ)) → List Solution → Listing
 in_parts loose solutions = record { loose = loose; solutions = solutions }
 
-listing_of-choices : (p : Named) (m : List Choice) (rest : List (List ℕ)) → All (IsReadable p) m
+listing_of-choices : (p : Named) (m : List Choice) (rest : List (List ℕ)) → AllByRecursion (IsReadable p) m
     → listing_of (map (choice_line p) m ++ rest) ≡ in_parts (map (choice_words p) m ++ (listing_of rest).loose)
     (listing_of rest).solutions
 listing_of-choices p [] rest all = refl
 listing_of-choices p (c ∷ m) rest all =
-    let first : IsReadable p c = All-head (IsReadable p) c m all in
-    ap (λ l. before_listing l (listing_of (map (choice_line p) m ++ rest))) (read-choice_line p c first.printable).0
-    ∙ ap (before_listing (Body (choice_words p c))) (listing_of-choices p m rest (All-tail (IsReadable p) c m all))
+    ap (λ l. before_listing l (listing_of (map (choice_line p) m ++ rest))) (read-choice_line p c all.0.printable).0
+    ∙ ap (before_listing (Body (choice_words p c))) (listing_of-choices p m rest all.1)
 
-listing_of-members : (p : Named) (nms : List (ℕ × List Choice)) → All (IsReadableMember p) nms
+listing_of-members : (p : Named) (nms : List (ℕ × List Choice)) → AllByRecursion (IsReadableMember p) nms
     → listing_of (output_lines p nms) ≡ in_parts [] (map (solution_of p) nms)
 listing_of-members p [] all = refl
 listing_of-members p (nm ∷ nms) all =
-    let first : IsReadableMember p nm = All-head (IsReadableMember p) nm nms all in
     let words : List (List (List ℕ)) = map (choice_words p) nm.1 in
     ap (λ l. before_listing l (listing_of (map (choice_line p) nm.1 ++ output_lines p nms)))
-    (read-header_line nm.0 first.number)
-    ∙ ap (before_listing (Header nm.0)) (listing_of-choices p nm.1 (output_lines p nms) first.choices)
+    (read-header_line nm.0 all.0.number)
+    ∙ ap (before_listing (Header nm.0)) (listing_of-choices p nm.1 (output_lines p nms) all.0.choices)
     ∙ ap (λ (l : Listing). before_listing (Header nm.0) (in_parts (words ++ l.loose) l.solutions))
-    (listing_of-members p nms (All-tail (IsReadableMember p) nm nms all))
+    (listing_of-members p nms all.1)
     ∙ ap (λ ws. before_listing (Header nm.0) (in_parts ws (map (solution_of p) nms))) (append-nil words)
 
 -- ---- covers
 
-each_stands : (p : Named) (m : List Choice) → All (IsReadable p) m
+each_stands : (p : Named) (m : List Choice) → AllByRecursion (IsReadable p) m
     → AllZip (λ words o. IsTrue (stands_for p words o)) (filter (is_known p) (map (choice_words p) m)) (options_of m)
 each_stands p [] all = tt
 each_stands p (c ∷ m) all =
-    by_option c.option (choice_words p c) (All-head (IsReadable p) c m all).told.stands
-    (each_stands p m (All-tail (IsReadable p) c m all))
+    by_option c.option (choice_words p c) all.0.told.stands (each_stands p m all.1)
   where
     rest : List (List (List ℕ))
     rest = filter (is_known p) (map (choice_words p) m)
@@ -128,36 +126,35 @@ each_stands p (c ∷ m) all =
 listed_cover : (p : Named) (nm : ℕ × List Choice) → IsReadableMember p nm → IsListedCover p (solution_of p nm).bodies
 listed_cover p nm h = (options_of nm.1, each_stands p nm.1 h.choices, h.cover)
 
-readable_covers : (p : Named) (nms : List (ℕ × List Choice)) → All (IsReadableMember p) nms
+readable_covers : (p : Named) (nms : List (ℕ × List Choice)) → AllByRecursion (IsReadableMember p) nms
     → (fault_in_lines p 0 (lines_of (flat_map (member_text p) nms)) ≡ None)
-    × All (λ s. IsListedCover p s.bodies) (solutions_of (lines_of (flat_map (member_text p) nms)))
+    × AllByRecursion (λ s. IsListedCover p s.bodies) (solutions_of (lines_of (flat_map (member_text p) nms)))
 readable_covers p nms all =
     let lines : lines_of (flat_map (member_text p) nms) ≡ output_lines p nms =
-    lines_of-members p nms (All-weaker (IsReadableMember p) (IsPrintableMember p)
-    (λ nm h. record {
+    lines_of-members p nms (each_weaker (IsReadableMember p) (IsPrintableMember p) nms (λ nm h. record {
       number = h.number;
-      choices = All-weaker (IsReadable p) (IsPrintable p) (λ c r. r.printable) nm.1 h.choices;
-    }) nms all) in
+      choices = each_weaker (IsReadable p) (IsPrintable p) nm.1 (λ c r. r.printable) h.choices;
+    }) all) in
     let solutions : solutions_of (lines_of (flat_map (member_text p) nms)) ≡ map (solution_of p) nms =
     ap solutions_of lines ∙ sym (listed_solutions (output_lines p nms))
     ∙ ap (λ (l : Listing). l.solutions) (listing_of-members p nms all) in (
       ap (fault_in_lines p 0) lines ∙ no_fault-members p 0 nms all,
-      subst (All (λ s. IsListedCover p s.bodies)) (sym solutions)
-          (All-map (λ s. IsListedCover p s.bodies) (solution_of p) nms
-          (All-weaker (IsReadableMember p) (λ nm. IsListedCover p (solution_of p nm).bodies) (listed_cover p)
-          nms all)),
+      subst (AllByRecursion (λ (s : Solution). IsListedCover p s.bodies)) (sym solutions)
+          (each-map (λ s. IsListedCover p s.bodies) (solution_of p) nms
+          (each_weaker (IsReadableMember p) (λ nm. IsListedCover p (solution_of p nm).bodies) nms (listed_cover p)
+          all)),
     )
 
 -- ---- members
 
 -- a member with its number
 abbrev IsNumberedMember : Named → ℕ × List Choice → Type 0
-IsNumberedMember p nm = (nm.0 < 2 ^ 64) × Contains (members p.puzzle) nm.1
+IsNumberedMember p nm = (nm.0 < 2 ^ 64) × IsIn (members p.puzzle) nm.1
 
-readable : (p : Named) → IsSound p → All (λ n. n ≢ codes "null") p.names → (c : Choice) → IsKnownChoice p.puzzle c
-    → IsCounted (length p.puzzle.options + 1) c → IsReadable p c
-readable p sound none c known counted =
-    let said : IsTold p c.item c.option = told p sound none c known in
+readable : (p : Named) → IsSound p → All (λ n. n ≢ codes "null") p.names → (c : Choice) → IsCounted p.puzzle c
+    → IsReadable p c
+readable p sound none c counted =
+    let said : IsTold p c.item c.option = told p sound none c counted.known in
     record {
       printable = record {
         some = said.some;
@@ -171,47 +168,34 @@ readable p sound none c known counted =
 readable_member : (p : Named) → IsSound p → All (λ n. n ≢ codes "null") p.names → (nm : ℕ × List Choice)
     → IsNumberedMember p nm → IsReadableMember p nm
 readable_member p sound none nm h =
-    let known : All (IsKnownChoice p.puzzle) nm.1 =
-    All-contains (All (IsKnownChoice p.puzzle)) (members p.puzzle) nm.1 (members_known p.puzzle) h.1 in
-    let counted : All (IsCounted (length p.puzzle.options + 1)) nm.1 =
-    All-contains (All (IsCounted (length p.puzzle.options + 1))) (members p.puzzle) nm.1
-    (members_counted p.puzzle) h.1 in
+    let ms = members p.puzzle in
     record {
       number = h.0;
-      choices = λ k d l. readable p sound none (get_or nm.1 k d) (known k d l) (counted k d l);
-      cover =
-          All-contains (λ m. IsCover p.puzzle (options_of m)) (members p.puzzle) nm.1
-          (each_member_covers p.puzzle sound.valid) h.1;
+      choices = each_weaker (IsCounted p.puzzle) (IsReadable p) nm.1 (readable p sound none)
+          (each_in (AreCounted p.puzzle) ms nm.1 (members_counted p.puzzle) h.1);
+      cover = All-contains (λ m. IsCover p.puzzle (options_of m)) ms nm.1 (each_member_covers p.puzzle sound.valid)
+          (contains-in ms nm.1 h.1);
     }
-
--- any members with any numbers
-pub members_are_covers : (p : Named) → IsSound p → All (λ n. n ≢ codes "null") p.names → (nms : List (ℕ × List Choice))
-    → All (IsNumberedMember p) nms
-    → (fault_in_lines p 0 (lines_of (flat_map (member_text p) nms)) ≡ None)
-    × All (λ s. IsListedCover p s.bodies) (solutions_of (lines_of (flat_map (member_text p) nms)))
-members_are_covers p sound none nms all =
-    readable_covers p nms (All-weaker (IsNumberedMember p) (IsReadableMember p) (readable_member p sound none) nms all)
-
-each_numbered : {X : Type 0} (P : X → Type 0) (a b : ℕ) (xs : List X) → a + length xs ≤ b → All P xs
-    → All (λ kx. (kx.0 < b) × P kx.1) (enumerate_from a xs)
-each_numbered P a b [] h all = All-nil (λ kx. (kx.0 < b) × P kx.1)
-each_numbered P a b (x ∷ xs) h all =
-    All-cons (λ kx. (kx.0 < b) × P kx.1) (a, x) (enumerate_from (a + 1) xs) (omega (arith, h), All-head P x xs all)
-    (each_numbered P (a + 1) b xs (omega (arith, h)) (All-tail P x xs all))
 
 pub outputs_are_covers : (p : Named) → IsSound p → All (λ n. n ≢ codes "null") p.names → (spacing limit : ℕ)
     → limit < 2 ^ 64
     → (fault_in_lines p 0 (lines_of (output p spacing limit)) ≡ None)
-    × All (λ s. IsListedCover p s.bodies) (solutions_of (lines_of (output p spacing limit)))
+    × AllByRecursion (λ s. IsListedCover p s.bodies) (solutions_of (lines_of (output p spacing limit)))
 outputs_are_covers p sound none spacing limit h =
-    members_are_covers p sound none (filter (λ nm. is_printed spacing nm.0) (enumerate_from 1 first))
-    (All-filter (λ nm. is_printed spacing nm.0) (IsNumberedMember p) (enumerate_from 1 first)
-    (each_numbered (Contains (members p.puzzle)) 1 (2 ^ 64) first
+    readable_covers p (filter printed (enumerate_from 1 first))
+    (each_weaker (IsNumberedMember p) (IsReadableMember p) (filter printed (enumerate_from 1 first))
+    (readable_member p sound none)
+    (each-filter (IsNumberedMember p) printed (enumerate_from 1 first)
+    (each_numbered (IsIn (members p.puzzle)) 1 (2 ^ 64) first
     (omega (arith, h, length-take limit (members p.puzzle)))
-    (All-take (Contains (members p.puzzle)) limit (members p.puzzle) (All-contains_itself (members p.puzzle)))))
+    (each_take (IsIn (members p.puzzle)) limit (members p.puzzle)
+    (each_from (IsIn (members p.puzzle)) (members p.puzzle) (λ m k. k))))))
   where
     first : List (List Choice)
     first = take limit (members p.puzzle)
+
+    printed : ℕ × List Choice → Bool
+    printed nm = is_printed spacing nm.0
 
 -- ---- what is said of an output
 
@@ -220,19 +204,18 @@ pub wants_memory : (p : Named) (listing : List ℕ) (spacing limit : ℕ) (e : L
     → IsListingFault p (lines_of listing) e → e ≡ Memory
 wants_memory p listing spacing limit e sound none fits is first = grind (arith, nat_tests, outputs_are_covers)
 
-each_yes : (p : Named) (ss : List Solution) (vs : List Verdict) → All (λ s. IsListedCover p s.bodies) ss
-    → AllZip (IsVerdictOn p) ss vs → All (λ v. IsTrue v.cover) vs
-each_yes p [] [] covers h = All-nil (λ v. IsTrue v.cover)
+each_yes : (p : Named) (ss : List Solution) (vs : List Verdict) → AllByRecursion (λ s. IsListedCover p s.bodies) ss
+    → AllZip (IsVerdictOn p) ss vs → AllByRecursion (λ v. IsTrue v.cover) vs
+each_yes p [] [] covers h = tt
 each_yes p [] (v ∷ vs) covers h = absurd h
 each_yes p (s ∷ ss) [] covers h = absurd h
-each_yes p (s ∷ ss) (v ∷ vs) covers h =
-    All-cons (λ v. IsTrue v.cover) v vs (h.0.1.1 (All-head (λ s. IsListedCover p s.bodies) s ss covers))
-    (each_yes p ss vs (All-tail (λ s. IsListedCover p s.bodies) s ss covers) h.1)
+each_yes p (s ∷ ss) (v ∷ vs) covers h = (h.0.1.1 covers.0, each_yes p ss vs covers.1 h.1)
 
 pub all_yes : (p : Named) (listing : List ℕ) (spacing limit : ℕ) (vs : List Verdict) → IsSound p
     → All (λ n. n ≢ codes "null") p.names → limit < 2 ^ 64 → listing ≡ output p spacing limit
     → AreVerdicts p (lines_of listing) vs → All (λ v. IsTrue v.cover) vs
 all_yes p listing spacing limit vs sound none fits is verdicts =
-    each_yes p (solutions_of (lines_of (output p spacing limit))) vs
+    All-from_recursion (λ v. IsTrue v.cover) vs
+    (each_yes p (solutions_of (lines_of (output p spacing limit))) vs
     (outputs_are_covers p sound none spacing limit fits).1
-    (subst (λ text. AreVerdicts p (lines_of text) vs) is verdicts)
+    (subst (λ text. AreVerdicts p (lines_of text) vs) is verdicts))

@@ -1,4 +1,5 @@
 -- The lines of an output.
+use Rattle.std.specs.List.{AllByRecursion}
 use Rattle.std.proofs.Common.{◌≡◌, ℕ, false, ◌^◌, ◌<◌, ◌≤◌, List, [], ◌∷◌, ◌++◌, Option, None, Some, length, map, refl}
 use Rattle.std.proofs.Common.{sym, ap, ◌∙◌, append_assoc, append-nil}
 use Rattle.xc_list.specs.inner.LineParts.{use_text, branch_text}
@@ -40,14 +41,14 @@ output_lines p nms = flat_map (member_lines p) nms
 -- a choice whose line is read as its words
 pub record IsPrintable (p : Named) (c : Choice) : Type 0 where
   pub some : 1 ≤ length (choice_words p c)
-  pub plain : All IsPlain (choice_words p c)
+  pub plain : AllByRecursion IsPlain (choice_words p c)
   pub k : c.k < 10 ^ 10
   pub n : c.n < 10 ^ 10
 
 -- a member with its number
 pub record IsPrintableMember (p : Named) (nm : ℕ × List Choice) : Type 0 where
   pub number : nm.0 < 2 ^ 64
-  pub choices : All (IsPrintable p) nm.1
+  pub choices : AllByRecursion (IsPrintable p) nm.1
 
 spaced-append : (a b : List (List ℕ)) → spaced (a ++ b) ≡ spaced a ++ spaced b
 spaced-append [] b = refl
@@ -68,22 +69,18 @@ regroup body ks ns = simp (append_assoc {A = ℕ}, append-nil {A = ℕ})
 
 choice-ended : (p : Named) (c : Choice) → choice_text p c ≡ choice_line p c ++ 10 ∷ []
 choice-ended p c =
-    ap (λ t. t ++ branch_text c.k c.n) (body-spaced p c.item c.option)
-    ∙ regroup (spaced (choice_words p c)) (decimal c.k) (decimal c.n)
-    ∙ ap (λ t. t ++ 10 ∷ []) (sym (spaced-append (choice_words p c) (ending_words c.k c.n)))
+    let fact = regroup (spaced (choice_words p c)) (decimal c.k) (decimal c.n) in
+    cc (body-spaced p c.item c.option, spaced-append (choice_words p c) (ending_words c.k c.n))
 
 choices-ended : (p : Named) (m : List Choice) → flat_map (choice_text p) m ≡ ended (map (choice_line p) m)
 choices-ended p [] = refl
 choices-ended p (c ∷ m) =
-    ap (λ t. t ++ flat_map (choice_text p) m) (choice-ended p c)
-    ∙ append_assoc (choice_line p c) (10 ∷ []) (flat_map (choice_text p) m)
-    ∙ ap (λ t. choice_line p c ++ 10 ∷ t) (choices-ended p m)
+    cc (choice-ended p c, append_assoc (choice_line p c) (10 ∷ []) (flat_map (choice_text p) m), choices-ended p m)
 
 member-ended : (p : Named) (nm : ℕ × List Choice) → member_text p nm ≡ ended (member_lines p nm)
 member-ended p nm =
-    append_assoc (decimal nm.0) (codes ":\n") (flat_map (choice_text p) nm.1)
-    ∙ sym (append_assoc (decimal nm.0) (codes ":") (10 ∷ flat_map (choice_text p) nm.1))
-    ∙ ap (λ t. (decimal nm.0 ++ codes ":") ++ 10 ∷ t) (choices-ended p nm.1)
+    let fact = append_assoc (decimal nm.0) (codes ":") (10 ∷ flat_map (choice_text p) nm.1) in
+    cc (append_assoc (decimal nm.0) (codes ":\n") (flat_map (choice_text p) nm.1), choices-ended p nm.1)
 
 pub read-choice_line : (p : Named) (c : Choice) → IsPrintable p c → (read (choice_line p c) ≡ Body (choice_words p c))
     × (has 10 (choice_line p c) ≡ false)
@@ -92,17 +89,15 @@ read-choice_line p c h = read-choice (choice_words p c) c.k c.n h.some h.plain h
 pub read-header_line : (n : ℕ) → n < 2 ^ 64 → read (header_line n) ≡ Header n
 read-header_line n h = read-header n h
 
-choices-whole : (p : Named) (m : List Choice) → All (IsPrintable p) m → AreWhole (map (choice_line p) m)
+choices-whole : (p : Named) (m : List Choice) → AllByRecursion (IsPrintable p) m → AreWhole (map (choice_line p) m)
 choices-whole p [] all = tt
-choices-whole p (c ∷ m) all =
-    ((read-choice_line p c (All-head (IsPrintable p) c m all)).1, choices-whole p m (All-tail (IsPrintable p) c m all))
+choices-whole p (c ∷ m) all = ((read-choice_line p c all.0).1, choices-whole p m all.1)
 
-pub lines_of-members : (p : Named) (nms : List (ℕ × List Choice)) → All (IsPrintableMember p) nms
+pub lines_of-members : (p : Named) (nms : List (ℕ × List Choice)) → AllByRecursion (IsPrintableMember p) nms
     → lines_of (flat_map (member_text p) nms) ≡ output_lines p nms
 lines_of-members p [] all = refl
 lines_of-members p (nm ∷ nms) all =
-    let first : IsPrintableMember p nm = All-head (IsPrintableMember p) nm nms all in
     ap (λ t. lines_of (t ++ flat_map (member_text p) nms)) (member-ended p nm)
     ∙ lines_of-ended (member_lines p nm) (flat_map (member_text p) nms)
-    (no_feed-header nm.0 first.number, choices-whole p nm.1 first.choices)
-    ∙ ap (λ ls. member_lines p nm ++ ls) (lines_of-members p nms (All-tail (IsPrintableMember p) nm nms all))
+    (no_feed-header nm.0 all.0.number, choices-whole p nm.1 all.0.choices)
+    ∙ ap (λ ls. member_lines p nm ++ ls) (lines_of-members p nms all.1)

@@ -7,7 +7,8 @@ use Rattle.std.specs.Prelude.{All, codes, decimal, nat_le, ◌==◌, if◌then�
 use Rattle.std.specs.List.{list_all, list_any}
 use Rattle.std.proofs.lemmas.Bool.Decides.{nat_tests}
 use Rattle.std.proofs.lemmas.Fmt.{decimal_by_steps, length-decimal-le}
-use Rattle.std.proofs.lemmas.List.Elements.{All-nil, All-cons, All-head, All-tail, All-append}
+use Rattle.xc_input.proofs.lists.EachElement.{each-append}
+use Rattle.std.specs.List.{AllByRecursion}
 use Rattle.std.proofs.lemmas.List.Folds.{list_all-append, list_any-append}
 use Rattle.std.proofs.Math.Seq.{drop-append_seam, take-append_seam}
 use Rattle.xc_input.specs.Words.{has}
@@ -106,8 +107,7 @@ solution_number-decimal n h =
     let test : (list_all is_ascii_digit (decimal n) && nat_lt (value_from 0 (decimal n)) (2 ^ 64)) ≡ true =
     and-both (list_all is_ascii_digit (decimal n)) (nat_lt (value_from 0 (decimal n)) (2 ^ 64)) known.digits
     (ap (λ v. nat_lt v (2 ^ 64)) known.value ∙ lt-ltb n (2 ^ 64) h) in
-    ap (λ t. if t then long_number (decimal n) else None) short ∙ some_digits (decimal n) known.some
-    ∙ ap (λ t. if t then Some (value_from 0 (decimal n)) else None) test ∙ ap Some known.value
+    cc (short, some_digits (decimal n) known.some, test, known.value)
 
 pub read-header : (n : ℕ) → n < 2 ^ 64 → read (decimal n ++ codes ":") ≡ Header n
 read-header n h = grind (arith, nat_tests, before_last-last COLON (decimal n), solution_number-decimal n h)
@@ -123,11 +123,10 @@ pub record IsPlain (w : List ℕ) : Type 0 where
 is_word-plain : (w : List ℕ) → IsPlain w → is_word w ≡ true
 is_word-plain w plain = grind (arith, nat_tests, and-both (not (length w == 0)) (not (list_any is_space w)))
 
-are_words : (ws : List (List ℕ)) → All IsPlain ws → list_all is_word ws ≡ true
+are_words : (ws : List (List ℕ)) → AllByRecursion IsPlain ws → list_all is_word ws ≡ true
 are_words [] plain = refl
 are_words (w ∷ ws) plain =
-    and-both (is_word w) (list_all is_word ws) (is_word-plain w (All-head IsPlain w ws plain))
-    (are_words ws (All-tail IsPlain w ws plain))
+    and-both (is_word w) (list_all is_word ws) (is_word-plain w plain.0) (are_words ws plain.1)
 
 -- words with a space before each
 abbrev pub spaced : List (List ℕ) → List ℕ
@@ -146,18 +145,17 @@ words_in-last : (w : List ℕ) → list_any is_space w ≡ false → words_in (w
 words_in-last [] h = refl
 words_in-last (b ∷ w) h = grind (arith, nat_tests, words_in-last w, no_space-not_32)
 
-words_in-spaced : (w : List ℕ) (ws : List (List ℕ)) → IsPlain w → All IsPlain ws → words_in (w ++ spaced ws) ≡ w ∷ ws
+words_in-spaced : (w : List ℕ) (ws : List (List ℕ)) → IsPlain w → AllByRecursion IsPlain ws
+    → words_in (w ++ spaced ws) ≡ w ∷ ws
 words_in-spaced w [] plain others = words_in-last w plain.no_space
 words_in-spaced w (v ∷ ws) plain others =
-    words_in-front w (v ++ spaced ws) plain.no_space
-    ∙ ap (λ vs. w ∷ vs) (words_in-spaced v ws (All-head IsPlain v ws others) (All-tail IsPlain v ws others))
+    words_in-front w (v ++ spaced ws) plain.no_space ∙ ap (λ vs. w ∷ vs) (words_in-spaced v ws others.0 others.1)
 
-no_feed-spaced : (ws : List (List ℕ)) → All IsPlain ws → has 10 (spaced ws) ≡ false
+no_feed-spaced : (ws : List (List ℕ)) → AllByRecursion IsPlain ws → has 10 (spaced ws) ≡ false
 no_feed-spaced [] plain = refl
 no_feed-spaced (w ∷ ws) plain =
-    let first : IsPlain w = All-head IsPlain w ws plain in
     list_any-append (λ x. nat_eq x 10) w (spaced ws)
-    ∙ or-both (has 10 w) (has 10 (spaced ws)) first.no_feed (no_feed-spaced ws (All-tail IsPlain w ws plain))
+    ∙ or-both (has 10 w) (has 10 (spaced ws)) plain.0.no_feed (no_feed-spaced ws plain.1)
 
 body_of_words-is : (body ending : List (List ℕ)) → 1 ≤ length body → length ending ≡ 3
     → list_all is_word (body ++ ending) ≡ true → is_ending ending ≡ true → body_of_words (body ++ ending) ≡ Some body
@@ -170,10 +168,7 @@ body_of_words-is body ending some three words ends =
     (is_ending (drop (length body) (body ++ ending)))
     (and-both (nat_le 1 (length body)) (list_all is_word (body ++ ending)) a words)
     (ap is_ending (drop-append_seam body ending) ∙ ends) in
-    ap (λ k. if nat_le 1 k && list_all is_word (body ++ ending) && is_ending (drop k (body ++ ending)) then Some
-    (take k (body ++ ending)) else None) k
-    ∙ ap (λ t. if t then Some (take (length body) (body ++ ending)) else None) test
-    ∙ ap Some (take-append_seam body ending)
+    cc (k, test, take-append_seam body ending)
 
 -- ---- choice lines
 
@@ -181,35 +176,30 @@ body_of_words-is body ending some three words ends =
 abbrev pub ending_words : ℕ → ℕ → List (List ℕ)
 ending_words k n = (codes "(" ++ decimal k) ∷ codes "of" ∷ (decimal n ++ codes ")") ∷ []
 
-plain-digits : (ds : List ℕ) → 1 ≤ length ds → list_all is_ascii_digit ds ≡ true → IsPlain ds
-plain-digits ds some digits =
-    record {
-      some = some;
-      no_space = lacks is_ascii_digit is_space digit-no_space ds digits;
-      no_feed = lacks is_ascii_digit (λ x. nat_eq x 10) digit-no_feed ds digits;
-    }
+pub plain-decimal : (n : ℕ) → n < 2 ^ 64 → IsPlain (decimal n)
+plain-decimal n h = let known = decimal_digits n h in record {
+  some = known.some;
+  no_space = lacks is_ascii_digit is_space digit-no_space (decimal n) known.digits;
+  no_feed = lacks is_ascii_digit (λ x. nat_eq x 10) digit-no_feed (decimal n) known.digits;
+}
 
-plain-append : (v w : List ℕ) → IsPlain v → list_any is_space w ≡ false → has 10 w ≡ false → IsPlain (v ++ w)
+pub plain-append : (v w : List ℕ) → IsPlain v → list_any is_space w ≡ false → has 10 w ≡ false → IsPlain (v ++ w)
 plain-append v w plain space feed = record {
   some = omega (arith, length-append v w, plain.some);
   no_space = list_any-append is_space v w ∙ or-both (list_any is_space v) (list_any is_space w) plain.no_space space;
   no_feed = list_any-append (λ x. nat_eq x 10) v w ∙ or-both (has 10 v) (has 10 w) plain.no_feed feed;
 }
 
-plain-ending : (k n : ℕ) → k < 2 ^ 64 → n < 2 ^ 64 → All IsPlain (ending_words k n)
+plain-ending : (k n : ℕ) → k < 2 ^ 64 → n < 2 ^ 64 → AllByRecursion IsPlain (ending_words k n)
 plain-ending k n h l =
-    let first = decimal_digits k h in
-    let last = decimal_digits n l in
-    let ks : IsPlain (decimal k) = plain-digits (decimal k) first.some first.digits in
-    let ns : IsPlain (decimal n) = plain-digits (decimal n) last.some last.digits in
-    let opening : IsPlain (codes "(" ++ decimal k) =
-    plain-append (codes "(") (decimal k) (record { some = omega arith; no_space = refl; no_feed = refl })
-    ks.no_space ks.no_feed in
-    let middle : IsPlain (codes "of") = record { some = omega arith; no_space = refl; no_feed = refl } in
-    let closing : IsPlain (decimal n ++ codes ")") = plain-append (decimal n) (codes ")") ns refl refl in
-    All-cons IsPlain (codes "(" ++ decimal k) (codes "of" ∷ (decimal n ++ codes ")") ∷ []) opening
-    (All-cons IsPlain (codes "of") ((decimal n ++ codes ")") ∷ []) middle
-    (All-cons IsPlain (decimal n ++ codes ")") [] closing (All-nil IsPlain)))
+    let digits = plain-decimal k h in
+    let opening : IsPlain (codes "(") = record { some = omega arith; no_space = refl; no_feed = refl } in (
+      plain-append (codes "(") (decimal k) opening digits.no_space digits.no_feed,
+      (
+        record { some = omega arith; no_space = refl; no_feed = refl },
+        (plain-append (decimal n) (codes ")") (plain-decimal n l) refl refl, tt),
+      ),
+    )
 
 is_ending-words : (k n : ℕ) → k < 10 ^ 10 → n < 10 ^ 10 → is_ending (ending_words k n) ≡ true
 is_ending-words k n h l = grind (arith, nat_tests, are_digits-decimal, before_last-last)
@@ -219,31 +209,22 @@ no_header : (line : List ℕ) → header_number (32 ∷ line) ≡ None
 no_header [] = refl
 no_header (b ∷ line) = grind (arith, nat_tests)
 
-pub read-choice : (body : List (List ℕ)) (k n : ℕ) → 1 ≤ length body → All IsPlain body → k < 10 ^ 10 → n < 10 ^ 10
+pub read-choice : (body : List (List ℕ)) (k n : ℕ) → 1 ≤ length body → AllByRecursion IsPlain body → k < 10 ^ 10
+    → n < 10 ^ 10
     → (read (spaced (body ++ ending_words k n)) ≡ Body body) × (has 10 (spaced (body ++ ending_words k n)) ≡ false)
 read-choice [] k n some plain h l = absurd (omega (arith, some))
 read-choice (w ∷ body) k n some plain h l =
-    let ends : All IsPlain (ending_words k n) = plain-ending k n (omega (arith, h)) (omega (arith, l)) in
-    let all : All IsPlain ((w ∷ body) ++ ending_words k n) =
-    All-append IsPlain (w ∷ body) (ending_words k n) plain ends in
+    let all : AllByRecursion IsPlain ((w ∷ body) ++ ending_words k n) =
+    each-append IsPlain (w ∷ body) (ending_words k n) plain
+    (plain-ending k n (omega (arith, h)) (omega (arith, l))) in
     let cut : words_in (w ++ spaced (body ++ ending_words k n)) ≡ w ∷ (body ++ ending_words k n) =
-    words_in-spaced w (body ++ ending_words k n) (All-head IsPlain w (body ++ ending_words k n) all)
-    (All-tail IsPlain w (body ++ ending_words k n) all) in
+    words_in-spaced w (body ++ ending_words k n) all.0 all.1 in
     let is : body_of_words (words_in (w ++ spaced (body ++ ending_words k n))) ≡ Some (w ∷ body) =
     ap body_of_words cut ∙ body_of_words-is (w ∷ body) (ending_words k n) (omega arith) refl
     (are_words ((w ∷ body) ++ ending_words k n) all) (is_ending-words k n h l) in (
-      ap (λ o. elim o as (λ _. Line) [
-        | Some m ↦ Header m
-        | None ↦ elim (body_of (spaced ((w ∷ body) ++ ending_words k n))) as (λ _. Line)
-            [ Some words ↦ Body words | None ↦ Other ]
-      ]) (no_header (w ++ spaced (body ++ ending_words k n)))
-          ∙ ap (λ o. elim o as (λ _. Line) [ Some words ↦ Body words | None ↦ Other ]) is,
+      grind (arith, nat_tests, no_header (w ++ spaced (body ++ ending_words k n)), is),
       no_feed-spaced ((w ∷ body) ++ ending_words k n) all,
     )
 
 pub no_feed-header : (n : ℕ) → n < 2 ^ 64 → has 10 (decimal n ++ codes ":") ≡ false
-no_feed-header n h =
-    let known = decimal_digits n h in
-    let ns : IsPlain (decimal n) = plain-digits (decimal n) known.some known.digits in
-    list_any-append (λ x. nat_eq x 10) (decimal n) (codes ":")
-    ∙ or-both (has 10 (decimal n)) (has 10 (codes ":")) ns.no_feed refl
+no_feed-header n h = (plain-append (decimal n) (codes ":") (plain-decimal n h) refl refl).no_feed
