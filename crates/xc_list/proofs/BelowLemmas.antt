@@ -1,4 +1,5 @@
 -- The parts of a search as they are written.
+use Rattle.xc_list.proofs.Planned.{one_more}
 use Rattle.std.proofs.Common.{◌≡◌, ℕ, zero, suc, Bool, true, false, Result, Ok, Err, Some, ◌+◌, ◌<◌, ◌≤◌, List, [], ◌∷◌}
 use Rattle.std.proofs.Common.{◌++◌, length, take, drop, map, get_or, eqb, refl, sym, ap, ◌∙◌, append-nil, arith, subst}
 use Rattle.std.specs.Prelude.{All, IsErr, MatchResult, slice_get, option_map, flat_map, min, if◌then◌else◌}
@@ -49,11 +50,9 @@ pub text_next : (a : Named) (ms : List (List Choice)) (k : ℕ) (m : List Choice
     text_to a (k + 1) ms ≡ text_to a k ms ++ member_text a (k + 1, m)
 text_next a ms k m rest e =
     let before : 1 + length (take k ms) ≡ k + 1 = grind (arith, common_steps, within_next ms k m rest e) in
-    ap (λ l. flat_map (member_text a) (enumerate_from 1 l)) (take_next ms k m rest e)
-    ∙ ap (flat_map (member_text a)) (enumerate_append 1 (take k ms) (m ∷ []))
-    ∙ flat_map-append (member_text a) (enumerate_from 1 (take k ms)) ((1 + length (take k ms), m) ∷ [])
-    ∙ ap (λ l. text_to a k ms ++ l) (append-nil (member_text a (1 + length (take k ms), m)))
-    ∙ ap (λ n. text_to a k ms ++ member_text a (n, m)) before
+    let fact = flat_map-append (member_text a) (enumerate_from 1 (take k ms)) ((1 + length (take k ms), m) ∷ []) in
+    let fact2 = append-nil (member_text a (1 + length (take k ms), m)) in
+    cc (take_next ms k m rest e, enumerate_append 1 (take k ms) (m ∷ []), before)
 
 pub text_end : (a : Named) (ms : List (List Choice)) (k : ℕ) {x y : SinkState} → k ≡ most_counted → Took x y
     (text_to a k ms) → Took x y (members_text a ms)
@@ -76,17 +75,12 @@ pub text_broke : (a : Named) (ms : List (List Choice)) (k : ℕ) (m shown : List
     (rest : List (List Choice)) {x y z : SinkState} → drop k ms ≡ m ∷ rest → shown ≡ m → k < most_counted →
     Took x y (text_to a k ms) → BrokeOff y z (member_text a (k + 1, shown)) → BrokeOff x z (members_text a ms)
 text_broke a ms k m shown rest {x = x} {y = y} {z = z} e same h took broke =
-    let more = take_split ms (k + 1) most_counted (omega (arith, h)) in
-    let tail = drop (k + 1) (take most_counted ms) in
-    let behind = flat_map (member_text a) (enumerate_from (1 + length (take (k + 1) ms)) tail) in
-    let all : members_text a ms ≡ (text_to a k ms ++ member_text a (k + 1, m)) ++ behind =
-    ap (λ l. flat_map (member_text a) (enumerate_from 1 l)) more
-    ∙ ap (flat_map (member_text a)) (enumerate_append 1 (take (k + 1) ms) tail)
-    ∙ flat_map-append (member_text a) (enumerate_from 1 (take (k + 1) ms))
-    (enumerate_from (1 + length (take (k + 1) ms)) tail)
-    ∙ ap (λ l. l ++ behind) (text_next a ms k m rest e) in
-    subst (BrokeOff x z) (sym all) (broke_before behind
-    (then_broke took (subst (λ m. BrokeOff y z (member_text a (k + 1, m))) same broke)))
+    let fact = broke_before (flat_map (member_text a) (enumerate_from (1 + length (take (k + 1) ms)) (drop (k + 1)
+    (take most_counted ms)))) (then_broke took (subst (λ m. BrokeOff y z (member_text a (k + 1, m))) same broke)) in
+    let fact2 = flat_map-append (member_text a) (enumerate_from 1 (take (k + 1) ms)) (enumerate_from
+    (1 + length (take (k + 1) ms)) (drop (k + 1) (take most_counted ms))) in
+    let fact3 = enumerate_append 1 (take (k + 1) ms) (drop (k + 1) (take most_counted ms)) in
+    grind (arith, nat_tests, take_split ms (k + 1) most_counted (omega (arith, h)), text_next a ms k m rest e)
 
 -- one path more
 pub paths_more : (p : Puzzle) (parts : List (List ℕ)) (numbers : List ℕ) (plan : List (List Choice))
@@ -94,33 +88,17 @@ pub paths_more : (p : Puzzle) (parts : List (List ℕ)) (numbers : List ℕ) (pl
     ArePathsBy p (parts ++ numbers ∷ []) (plan ++ path ∷ [])
 paths_more p parts numbers plan path are is = record {
   paths = All-append (IsPath p) plan (path ∷ []) are.paths (All-cons (IsPath p) path [] is.0 (All-nil (IsPath p)));
-  told = map-append numbers_on plan (path ∷ []) ∙ ap (λ l. map numbers_on plan ++ l ∷ []) is.1 ∙ ap
-      (λ l. l ++ numbers ∷ []) are.told;
+  told = cc (map-append numbers_on plan (path ∷ []), is.1, are.told);
 }
 
-one_more : (f : List Choice → List ℕ) (plan : List (List Choice)) (path : List Choice) → flat_map f
-    (plan ++ path ∷ []) ≡ flat_map f plan ++ f path
-one_more f plan path = flat_map-append f plan (path ∷ []) ∙ ap (λ xs. flat_map f plan ++ xs) (append-nil (f path))
-
-pub no_parts : (a : Named) (listed : _) (s : SinkState) → OfParts a listed [] Took s s
-no_parts a listed s = grind (arith, nat_tests, took_nothing s)
-
-pub parts_more : (a : Named) (listed : _) (parts : List (List ℕ)) (numbers : List ℕ)
-    (path : List Choice) {x y z : SinkState} → OfParts a listed parts Took x y → IsPathBy a.puzzle numbers path →
-    Took y z (part_listing a listed path) → OfParts a listed (parts ++ numbers ∷ []) Took x z
-parts_more a listed parts numbers path {x = x} {z = z} so is took = record {
+parts_then : {R : SinkState → SinkState → List ℕ → Type 0} (a : Named) (listed : _) (parts : List (List ℕ))
+    (numbers : List ℕ) (path : List Choice) {x y z : SinkState} → OfParts a listed parts Took x y
+    → IsPathBy a.puzzle numbers path → ((s t : List ℕ) → Took x y s → R y z t → R x z (s ++ t)) →
+    R y z (part_listing a listed path) → OfParts a listed (parts ++ numbers ∷ []) R x z
+parts_then {R = R} a listed parts numbers path {x = x} {z = z} so is joined more = record {
   plan = so.plan ++ path ∷ [];
   paths = paths_more a.puzzle parts numbers so.plan path so.paths is;
-  said = subst (Took x z) (sym (one_more (part_listing a listed) so.plan path)) (then_took so.said took);
-}
-
-pub parts_broke : (a : Named) (listed : _) (parts : List (List ℕ)) (numbers : List ℕ)
-    (path : List Choice) {x y z : SinkState} → OfParts a listed parts Took x y → IsPathBy a.puzzle numbers path →
-    BrokeOff y z (part_listing a listed path) → OfParts a listed (parts ++ numbers ∷ []) BrokeOff x z
-parts_broke a listed parts numbers path {x = x} {z = z} so is broke = record {
-  plan = so.plan ++ path ∷ [];
-  paths = paths_more a.puzzle parts numbers so.plan path so.paths is;
-  said = subst (BrokeOff x z) (sym (one_more (part_listing a listed) so.plan path)) (then_broke so.said broke);
+  said = subst (R x z) (sym (one_more (part_listing a listed) so.plan path)) (joined _ _ so.said more);
 }
 
 pub failed_count : {X E : Type 0} {a b : SinkState} {s : List ℕ} (r : Result X E) → IsErr r → BrokeOff a b s →
@@ -136,59 +114,42 @@ end_counted n many e = grind (arith, nat_tests)
 pub counted_only : (a : Named) (listed : Bool) (ms : List (List Choice)) (end : End) (n : ℕ) → end ≡ end_behind n →
     n ≡ min most_counted (length ms) → listed ≡ false →
     summary_text end ≡ listing_text a listed ms
-counted_only a listed ms end n e count is =
-    ap summary_text (e ∙ end_counted n (length ms) count) ∙ sym
-    (ap (λ b. (if b then members_text a ms else []) ++ summary_text (end_behind (length ms))) is)
+counted_only a listed ms end n e count is = cc (e, end_counted n (length ms) count, is)
 
 pub counted_behind : (a : Named) (listed : Bool) (ms : List (List Choice)) (end : End) (n : ℕ) → end ≡ end_behind n →
     n ≡ min most_counted (length ms) → listed ≡ true →
     members_text a ms ++ summary_text end ≡ listing_text a listed ms
-counted_behind a listed ms end n e count is =
-    ap (λ end. members_text a ms ++ summary_text end) (e ∙ end_counted n (length ms) count) ∙ sym
-    (ap (λ b. (if b then members_text a ms else []) ++ summary_text (end_behind (length ms))) is)
+counted_behind a listed ms end n e count is = rw (e, end_counted n (length ms) count, is)
 
 taken_at : {X : Type 0} (xs : List X) (i : ℕ) (x : X) → slice_get xs i ≡ Some x → take (i + 1) xs ≡ take i xs ++ x ∷ []
-taken_at xs i x e =
-    take_more xs i x (slice_get_within xs i x e)
-    ∙ ap (λ y. take i xs ++ y ∷ []) (get_or_from_slice_get xs i x x e)
+taken_at xs i x e = cc (take_more xs i x (slice_get_within xs i x e), get_or_from_slice_get xs i x x e)
 
--- where a run over parts ended
-ended_at : (a : Named) (listed : Bool) (parts : List (List ℕ)) (i : ℕ) (numbers : List ℕ)
-    (fault : PartFault) {x y : SinkState} (z : SinkState) → slice_get parts i ≡ Some numbers →
-    OfParts a listed (take i parts) Took x y → AnswersPart a listed numbers y z (Err fault) →
-    AnswersParts a listed parts x z (Err (record { written = i; fault = fault }))
-ended_at a listed parts i numbers Memory {x = x} z at so same = subst (OfParts a listed (take i parts) Took x)
-    (sym same) so
-ended_at a listed parts i numbers NoPath {x = x} z at so none =
-    (subst (OfParts a listed (take i parts) Took x) (sym none.0) so, (numbers, at, none.1))
-ended_at a listed parts i numbers WriteFailed {x = x} z at so broke =
-    subst (λ ns. OfParts a listed ns BrokeOff x z) (sym (taken_at parts i numbers at))
-    (parts_broke a listed (take i parts) numbers broke.0 so broke.1 broke.2)
+-- a run over parts that was at a place, and did the part there
+module _ (a : Named) (listed : Bool) (parts : List (List ℕ)) (i : ℕ) (ns numbers : List ℕ)
+    (r : Result (Unit {0}) PartFault) (x y z : SinkState) (at : slice_get parts i ≡ Some numbers) (e : ns ≡ numbers)
+    (so : OfParts a listed (take i parts) Took x y) (did : AnswersPart a listed ns y z r) where
+  did_as : (s : Result (Unit {0}) PartFault) → r ≡ s → AnswersPart a listed numbers y z s
+  did_as s f = subst (λ ns. AnswersPart a listed ns y z s) e (subst (AnswersPart a listed ns y z) f did)
 
-answers_as : (a : Named) (listed : Bool) (ns numbers : List ℕ) (y z : SinkState)
-    (r s : Result (Unit {0}) PartFault) → ns ≡ numbers → r ≡ s → AnswersPart a listed ns y z r →
-    AnswersPart a listed numbers y z s
-answers_as a listed ns numbers y z r s e f did = subst (λ ns. AnswersPart a listed ns y z s) e
-    (subst (AnswersPart a listed ns y z) f did)
+  ended : (fault : PartFault) → AnswersPart a listed numbers y z (Err fault)
+      → AnswersParts a listed parts x z (Err (record { written = i; fault = fault }))
+  ended Memory same = subst (OfParts a listed (take i parts) Took x) (sym same) so
+  ended NoPath none = (subst (OfParts a listed (take i parts) Took x) (sym none.0) so, (numbers, at, none.1))
+  ended WriteFailed broke =
+      subst (λ ns. OfParts a listed ns BrokeOff x z) (sym (taken_at parts i numbers at))
+      (parts_then a listed (take i parts) numbers broke.0 so broke.1 (λ s t. then_broke) broke.2)
 
-pub parts_ended : (a : Named) (listed : Bool) (parts : List (List ℕ)) (i : ℕ) (ns numbers : List ℕ)
-    (r : Result (Unit {0}) PartFault) (fault : PartFault) (x y z : SinkState) →
-    slice_get parts i ≡ Some numbers → ns ≡ numbers → r ≡ Err fault →
-    OfParts a listed (take i parts) Took x y → AnswersPart a listed ns y z r → AnswersParts a listed parts x z
-    (Err (record { written = i; fault = fault }))
-parts_ended a listed parts i ns numbers r fault x y z at e f so did = ended_at a listed parts i numbers fault z at so
-    (answers_as a listed ns numbers y z r (Err fault) e f did)
+  -- it ended
+  pub parts_ended : (fault : PartFault) → r ≡ Err fault
+      → AnswersParts a listed parts x z (Err (record { written = i; fault = fault }))
+  parts_ended fault f = ended fault (did_as (Err fault) f)
 
--- or goes on
-pub parts_on : (a : Named) (listed : Bool) (parts : List (List ℕ)) (i : ℕ) (ns numbers : List ℕ)
-    (r : Result (Unit {0}) PartFault) (u : Unit {0}) (x y z : SinkState) →
-    slice_get parts i ≡ Some numbers → ns ≡ numbers → r ≡ Ok u →
-    OfParts a listed (take i parts) Took x y → AnswersPart a listed ns y z r →
-    OfParts a listed (take (i + 1) parts) Took x z
-parts_on a listed parts i ns numbers r u x y z at e f so did =
-    let this = answers_as a listed ns numbers y z r (Ok u) e f did in
-    subst (λ ns. OfParts a listed ns Took x z) (sym (taken_at parts i numbers at))
-    (parts_more a listed (take i parts) numbers this.0 so this.1 this.2)
+  -- or goes on
+  pub parts_on : (u : Unit {0}) → r ≡ Ok u → OfParts a listed (take (i + 1) parts) Took x z
+  parts_on u f =
+      let this = did_as (Ok u) f in
+      subst (λ ns. OfParts a listed ns Took x z) (sym (taken_at parts i numbers at))
+      (parts_then a listed (take i parts) numbers this.0 so this.1 (λ s t. then_took) this.2)
 
 -- the numbers of the path at a place
 pub items_at : {X : Type 0} (f : X → List ℕ) (xs : List X) (i : ℕ) (x : X) → i < length xs → x ≡ get_or xs i x →
@@ -205,8 +166,7 @@ last_behind d (x ∷ xs) ys = last_behind x xs ys
 last_told : (paths : List (List ℕ)) → last_or 0 (numbers_told paths) ≡ 0
 last_told [] = refl
 last_told (path ∷ paths) =
-    last_behind 0 (path ++ 0 ∷ []) (numbers_told paths) ∙ ap (λ d. last_or d (numbers_told paths))
-    (last_behind 0 path (0 ∷ [])) ∙ last_told paths
+    cc (last_behind 0 (path ++ 0 ∷ []) (numbers_told paths), last_behind 0 path (0 ∷ []), last_told paths)
 
 last_some : (d : ℕ) (xs : List ℕ) → AllByRecursion (λ n. 0 < n) xs → 0 < d → 0 < last_or d xs
 last_some d [] a h = h
@@ -220,13 +180,8 @@ last_path d (x ∷ xs) a h = last_some x xs a.1 a.0
 pub no_row : (done paths : List (List ℕ)) (path ns : List ℕ) → numbers_told done ++ path ≡ ns → All
     (λ n. 0 < n) path → 0 < length path → numbers_told paths ≡ ns → ⊥
 no_row done paths path ns e a h f =
-    omega (
-      arith,
-      last_path (last_or 0 (numbers_told done)) path (recursion_from_All (λ n. 0 < n) path a) h,
-      last_behind 0 (numbers_told done) path,
-      ap (last_or 0) (e ∙ sym f),
-      last_told paths,
-    )
+    let fact = last_path (last_or 0 (numbers_told done)) path (recursion_from_All (λ n. 0 < n) path a) h in
+    grind (arith, nat_tests, last_behind 0 (numbers_told done) path, e, f, last_told paths)
 
 pub some_left : (b : Bool) (n : ℕ) → b ≡ eqb n 0 → b ≡ false → 0 < n
 some_left b zero e f = absurd (cc (sym e ∙ f))

@@ -14,7 +14,7 @@ use Rattle.xc_list.specs.Texts.{SinkState, Took, BrokeOff}
 use Rattle.xc_list.specs.Plans.{part_text, IsPlanned, PlanBrokeOff}
 use Rattle.xc_list.proofs.Writing.{then_took, then_broke}
 
-one_more : {A : Type 0} (f : List Choice → List A) (plan : List (List Choice)) (path : List Choice)
+pub one_more : {A : Type 0} (f : List Choice → List A) (plan : List (List Choice)) (path : List Choice)
     → flat_map f (plan ++ path ∷ []) ≡ flat_map f plan ++ f path
 one_more f plan path = flat_map-append f plan (path ∷ []) ∙ ap (λ xs. flat_map f plan ++ xs) (append-nil (f path))
 

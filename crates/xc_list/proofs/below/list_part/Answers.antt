@@ -11,6 +11,5 @@ write_listing-wrote-requires g c =
     let begun = c.in-Ok.ensures.begun in
     record {
       known = subst (λ (a : Named). All (All (IsKnownChoice a.puzzle)) c.in-Ok.search.to_come) (sym c.requires.bodies)
-          (subst (All (All (IsKnownChoice c.args.problem.now.puzzle)))
-          (sym (ap (λ (s : Outlook). s.to_come) begun.2)) (known_below c.args.problem.now.puzzle begun.0 begun.1.0));
+          (rw (ap (λ (s : Outlook). s.to_come) begun.2) (known_below c.args.problem.now.puzzle begun.0 begun.1.0));
     }

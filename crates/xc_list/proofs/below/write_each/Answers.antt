@@ -1,3 +1,4 @@
+use Rattle.std.proofs.lemmas.Bool.Decides.{nat_tests}
 use Rattle.std.proofs.Common.{arith, ◌≡◌, ◌∙◌, ◌∷◌, drop, length, sym, ap, subst}
 use Rattle.std.proofs.lemmas.List.Elements.{All-same, All-head, All-drop}
 use Rattle.std.specs.Prelude.{All}
@@ -19,15 +20,13 @@ next g c = sym c.loop-found.invariant.come ∙ c.next.ensures.solution c.in-Solu
 
 pub returns-in-Done-clause-count : goal.returns-in-Done-clause-count
 returns-in-Done-clause-count g c =
-    let many = all g (goal.at.returns-in-Done-clause-count g c).In-Done in
-    omega (arith, many, c.loop-found-test.true)
+    grind (arith, nat_tests, all g (goal.at.returns-in-Done-clause-count g c).In-Done, c.loop-found-test.true)
 
 pub returns-in-Done-clause-wrote : goal.returns-in-Done-clause-wrote
 returns-in-Done-clause-wrote g c =
-    subst (Took _ _)
-    (text_all c.args.bodies.now c.args.search.now.to_come c.loop-found.found
-    (all g (goal.at.returns-in-Done-clause-wrote g c).In-Done) (omega (arith, c.loop-found-test.true)))
-    c.loop-found.invariant.taken
+    let fact = text_all c.args.bodies.now c.args.search.now.to_come c.loop-found.found
+    (all g (goal.at.returns-in-Done-clause-wrote g c).In-Done) (omega (arith, c.loop-found-test.true)) in
+    grind (arith, nat_tests, c.loop-found.invariant.taken)
 
 pub write_member-requires : goal.write_member-requires
 write_member-requires g c =
@@ -55,8 +54,7 @@ loop-found-preserved g c =
     let rest = c.next.new.self.to_come in
     let at = next g (goal.at.loop-found-preserved g c).In-Solution in
     record {
-      still = c.next.ensures.still ∙ ap
-          (λ (o : Outlook). record o { to_come = rest; shown = m }) c.loop-found.invariant.still;
+      still = rw (c.next.ensures.still, c.loop-found.invariant.still);
       come = rest_next ms k m rest at;
       within = omega (arith, within_next ms k m rest at);
       taken = text_took a ms k m c.choices.result.now rest at c.choices.ensures c.loop-found.invariant.taken
