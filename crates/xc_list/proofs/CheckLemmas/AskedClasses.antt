@@ -1,4 +1,8 @@
 -- How often classes are asked, by numbers of classes and by options.
+use Rattle.std.proofs.Common.{◌≢◌, inl, inr}
+use Rattle.xc_input.specs.declared.problem.Use.{Use}
+use Rattle.std.specs.Prelude.{AllPairs}
+use Rattle.std.proofs.lemmas.Bool.{cases_Bool}
 use Rattle.std.proofs.lemmas.Bool.Decides.{nat_tests}
 use Rattle.std.proofs.lemmas.Option.{slice_get_within, get_or_from_slice_get}
 use Rattle.std.proofs.Common.{ℕ, zero, suc, ◌≡◌, ◌+◌, ◌<◌, ◌≤◌, Bool, true, false, cond, ◌==◌, List, [], ◌∷◌, length}
@@ -15,27 +19,16 @@ use Rattle.xc_list.proofs.CheckLemmas.BodiesOfClasses.{same_uses-are, same_uses-
 use Rattle.xc_list.proofs.CheckLemmas.DecidedByClasses.{alike-classes}
 use Rattle.xc_list.proofs.CheckLemmas.HeldItems.{raised-at}
 
+same_test : (classes : List (List Use)) (j k : ℕ) (us vs : List Use) → AllPairs (λ a b. a ≢ b) classes
+    → slice_get classes j ≡ Some us → slice_get classes k ≡ Some vs → (j == k) ≡ same_uses vs us
+same_test classes j k us vs apart e f =
+    let place : us ≡ vs → j ≡ k = λ q. one_place classes j k us apart e (f ∙ ap (λ ws. Some ws) (sym q)) in
+    grind (arith, nat_tests, same_uses-are vs us, same_uses-itself us, place)
+
 same_class : (b : Classes) → AreClasses b.problem.puzzle b.classes → (j k q o : ℕ) → IsOfClass b j q → IsOfClass b k o
     → (j == k) ≡ alike b.problem.puzzle o q
-same_class b are j k q o h g = by_place (j == k) refl
-  where
-    by_place : (v : Bool) → (j == k) ≡ v → v ≡ alike b.problem.puzzle o q
-    by_place true e =
-        let both : Some (class_at b.problem.puzzle q) ≡ Some (class_at b.problem.puzzle o) =
-        sym h.1 ∙ ap (slice_get b.classes) (eqb-true j k e) ∙ g.1 in
-        let class : class_at b.problem.puzzle q ≡ class_at b.problem.puzzle o = cc in
-        sym (subst (λ us. same_uses (class_at b.problem.puzzle o) us ≡ true) (sym class)
-        (same_uses-itself (class_at b.problem.puzzle o)))
-    by_place false e = by_uses (alike b.problem.puzzle o q) refl
-      where
-        by_uses : (w : Bool) → alike b.problem.puzzle o q ≡ w → false ≡ w
-        by_uses true f =
-            let class = same_uses-are (class_at b.problem.puzzle o) (class_at b.problem.puzzle q) f in
-            let place =
-            one_place b.classes j k (class_at b.problem.puzzle q) are.distinct h.1
-            (g.1 ∙ ap (λ us. Some us) class) in
-            absurd (let t = eq-eqb j k place in cc)
-        by_uses false f = refl
+same_class b are j k q o h g =
+    same_test b.classes j k (class_at b.problem.puzzle q) (class_at b.problem.puzzle o) are.distinct h.1 g.1
 
 -- a class is asked as often as its options stand among those taken
 pub counted_classes : (b : Classes) → AreClasses b.problem.puzzle b.classes → (k o : ℕ) → IsOfClass b k o
@@ -72,11 +65,10 @@ found : (b : Classes) (P : ℕ → Type 0) (q : ℕ → Bool) (ks reps : List �
 found b P q [] [] z a l = absurd (omega (arith, l))
 found b P q [] (o ∷ reps) z a l = absurd z
 found b P q (k ∷ ks) [] z a l = absurd z
-found b P q (k ∷ ks) (o ∷ reps) z a l = by_test (λ m. found b P q ks reps z.1 a.1 m) (q o) refl
-  where
-    by_test : (0 < counted q reps → IsFound b P q) → (v : Bool) → q o ≡ v → IsFound b P q
-    by_test later true e = record { class = k; option = o; of_class = z.0; holds = a.0; passes = e }
-    by_test later false e = later (omega (arith, subst (λ v. 0 < cond v 1 0 + counted q reps) e l))
+found b P q (k ∷ ks) (o ∷ reps) z a l = elim (cases_Bool (q o)) [
+  | inl e ↦ record { class = k; option = o; of_class = z.0; holds = a.0; passes = e }
+  | inr e ↦ found b P q ks reps z.1 a.1 (omega (arith, rw e at l))
+]
 
 -- whether a class is asked no more often than it has options
 abbrev pub IsRoomFor : Classes → List ℕ → ℕ → Type 0

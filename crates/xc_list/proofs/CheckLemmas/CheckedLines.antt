@@ -99,13 +99,10 @@ closed s number chosen cover verdicts sound classes all same decided e f =
     let vs : List Verdict = record { number = number; cover = cover } ∷ [] in
     let decides : (reps : List ℕ) → AllZip (IsOfClass s.options) s.chosen reps
     → (IsTrue cover ↔ IsCoverOfClasses s.options.problem.puzzle reps) =
-    subst (λ ks. (reps : List ℕ) → AllZip (IsOfClass s.options) ks reps
-    → (IsTrue cover ↔ IsCoverOfClasses s.options.problem.puzzle reps)) same decided in (
+    rw same at decided in (
       vs,
       f,
-      λ bodies are. subst
-          (λ o. AllZip (IsVerdictOn s.options.problem) (with_later o bodies (record { loose = []; solutions = [] })) vs)
-          (sym e) (verdict_is s.options number s.chosen cover sound classes all decides bodies are),
+      λ bodies are. rw e (verdict_is s.options number s.chosen cover sound classes all decides bodies are),
     )
 
 -- A LINE IS PASSED
@@ -165,9 +162,7 @@ lines-cons p n line lines = ap (λ o. option_or o (fault_in_lines p (n + 1) line
 no_fault-at : (p : Named) (done : ℕ) (line : List ℕ) (rest : List (List ℕ)) (said : Line) → read line ≡ said
     → fault_said p (not (done == 0)) (min (done + 1) (2 ^ 64 - 1)) said ≡ None
     → fault_in_lines p done (line ∷ rest) ≡ fault_in_lines p (done + 1) rest
-no_fault-at p done line rest said e f =
-    lines-cons p done line rest ∙ ap (λ l. option_or (fault_said p (not (done == 0)) (min (done + 1) (2 ^ 64 - 1)) l)
-    (fault_in_lines p (done + 1) rest)) e ∙ ap (λ o. option_or o (fault_in_lines p (done + 1) rest)) f
+no_fault-at p done line rest said e f = cc (lines-cons p done line rest, e, f)
 
 pub header_taken : (s new : Progress) (number : ℕ) → Closes s new
     → Takes (Header number) s
@@ -184,8 +179,7 @@ header_taken s new number closes all done line rest e h = record {
       let both : AllZip (IsVerdictOn p) (first ++ solutions) (closes.0 ++ vs) =
       AllZip-append (IsVerdictOn p) first solutions closes.0 vs (closes.2 h.bodies h.are_chosen) z in
       let same : with_later s.open_number h.bodies (listing_of (line ∷ rest)) ≡ first ++ solutions =
-      ap (λ l. with_later s.open_number h.bodies (before_listing l later)) e
-      ∙ empty-append s.open_number h.bodies solutions in
+      cc (e, empty-append s.open_number h.bodies solutions) in
       let whole : AreVerdicts p all (s.verdicts ++ (closes.0 ++ vs)) =
       h.verdicts (closes.0 ++ vs) (subst (λ ss. AllZip (IsVerdictOn p) ss (closes.0 ++ vs)) (sym same) both) in
       let grown : s.verdicts ++ (closes.0 ++ vs) ≡ new.verdicts ++ vs =
@@ -203,12 +197,10 @@ body_taken s words chosen some good more all done line rest e h =
     let p = s.options.problem in
     let n = min (done + 1) (2 ^ 64 - 1) in
     let begun : not (done == 0) ≡ true = sym h.begun ∙ some in
-    let fine : fault_said p (not (done == 0)) n (Body words) ≡ None = ap (λ t. fault_said p t n (Body words)) begun
-    ∙ ap (λ t. if t then None else Some (UnknownOption n)) good in
+    let fine : fault_said p (not (done == 0)) n (Body words) ≡ None = cc (begun, good) in
     let same : with_later s.open_number h.bodies (listing_of (line ∷ rest)) ≡ with_later s.open_number
     (h.bodies ++ words ∷ []) (listing_of rest) =
-    ap (λ l. with_later s.open_number h.bodies (before_listing l (listing_of rest))) e
-    ∙ sym (body-later s.open_number h.bodies words (listing_of rest)) in
+    cc (e, body-later s.open_number h.bodies words (listing_of rest)) in
     record {
       begun = some ∙ not-first done;
       bodies = h.bodies ++ words ∷ [];
@@ -233,8 +225,7 @@ known b words k classes h =
 
 filter-known : (p : Named) (bodies : List (List (List ℕ))) (words : List (List ℕ)) → is_known p words ≡ true
     → filter (is_known p) (bodies ++ words ∷ []) ≡ filter (is_known p) bodies ++ words ∷ []
-filter-known p bodies words e = filter-append (is_known p) bodies (words ∷ [])
-    ∙ ap (λ t. filter (is_known p) bodies ++ (if t then words ∷ [] else [])) e
+filter-known p bodies words e = cc (filter-append (is_known p) bodies (words ∷ []), e)
 
 filter-other : (p : Named) (bodies : List (List (List ℕ))) (words : List (List ℕ)) → is_known p words ≡ false
     → filter (is_known p) (bodies ++ words ∷ []) ≡ filter (is_known p) bodies
@@ -251,8 +242,7 @@ class_taken s words k chosen classes h some e =
     let R : List (List ℕ) → ℕ → Type 0 = λ ws j. IsClassOfBody s.options ws (Some j) in
     body_taken s words chosen some (ap (λ t. t || is_none p words) is) (λ bodies are.
     subst (λ bs. AllZip R bs chosen) (sym (filter-known p bodies words is))
-    (subst (AllZip R (filter (is_known p) bodies ++ words ∷ [])) (sym e)
-    (AllZip-append R (filter (is_known p) bodies) (words ∷ []) s.chosen (k ∷ []) are (h, tt))))
+    (rw e (AllZip-append R (filter (is_known p) bodies) (words ∷ []) s.chosen (k ∷ []) are (h, tt))))
 
 pub none_taken : (s : Progress) (words : List (List ℕ)) → IsClassOfBody s.options words None
     → is_none s.options.problem words ≡ true → is_some s.open_number ≡ true → Takes (Body words) s s

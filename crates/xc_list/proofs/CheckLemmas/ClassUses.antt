@@ -27,5 +27,4 @@ pub known-uses : (p : Named) (keys : List (Vec Use Global)) (counts : List ℕ) 
 known-uses p keys counts b k v e =
     let u = b.complete.used k v.items (slice_get-map-some (λ v. v.items) keys k v e) in
     let us = uses_of p.puzzle u.0 in
-    subst (All (IsKnownUse p)) u.3
-    (All-turned (IsKnownUse p) (class_start us) us (option-known p b.sound u.0 (u.1, u.2)))
+    rw u.3 at (All-turned (IsKnownUse p) (class_start us) us (option-known p b.sound u.0 (u.1, u.2)))

@@ -1,4 +1,5 @@
 -- One option more among the classes.
+use Rattle.std.proofs.lemmas.Bool.{cases_eq}
 use Rattle.std.proofs.lemmas.Bool.Decides.{nat_tests}
 use Rattle.std.proofs.Common.{ℕ, zero, suc, ◌≡◌, ◌≢◌, ◌+◌, ◌≤◌, Bool, true, false, cond, List, [], ◌∷◌, ◌++◌, map}
 use Rattle.std.proofs.Common.{get_or, Some, ◌⊎◌, refl, sym, ap, ap₂, ◌∙◌, arith, subst, inl, inr, ◌==◌, eqb-true}
@@ -51,8 +52,7 @@ module _ (f g : List Use → ℕ) (x : List Use) (same : (us : List Use) → us 
 
   counts-new : (classes : List (List Use)) (n : ℕ) → (IsIn classes x → ⊥) → n ≡ g x
       → map f classes ++ n ∷ [] ≡ map g (classes ++ x ∷ [])
-  counts-new classes n h e = ap₂ (λ ns m. ns ++ m ∷ []) (others classes (λ us k q. h (subst (IsIn classes) q k))) e
-      ∙ sym (map-snoc g classes x)
+  counts-new classes n h e = cc (others classes (λ us k q. h (subst (IsIn classes) q k)), e, map-snoc g classes x)
 
 count_at : (f : List Use → ℕ) (classes : List (List Use)) (k d : ℕ) (x : List Use) → slice_get classes k ≡ Some x
     → get_or (map f classes) k d ≡ f x
@@ -77,12 +77,8 @@ module _ (p : Puzzle) (n : ℕ) where
   one_member = grind (arith, nat_tests, same_uses-itself added, members-suc p n added)
 
   by_last : {X : ℕ → Type 0} → ((o : ℕ) → 1 ≤ o → o ≤ n → X o) → X (suc n) → (o : ℕ) → 1 ≤ o → o ≤ suc n → X o
-  by_last {X} before last o l m = by_case (o == suc n) refl
-    where
-      by_case : (t : Bool) → (o == suc n) ≡ t → X o
-      by_case true e = subst X (sym (eqb-true o (suc n) e)) last
-      by_case false e =
-          before o l (let ne : o ≢ suc n = λ q. (let z = eq-eqb o (suc n) q in cc) in omega (arith, ne, m))
+  by_last {X} before last o l m =
+      elim (cases_eq o (suc n)) [ inl e ↦ subst X (sym e) last | inr ne ↦ before o l (omega (arith, ne, m)) ]
 
   -- an option of a class that there is
   pub classes-found : (classes : List (List Use)) (counts : List ℕ) (k c : ℕ) → AreClassesTo p n classes counts
@@ -108,8 +104,7 @@ module _ (p : Puzzle) (n : ℕ) where
 
       none : (xs : List ℕ) → ((o : ℕ) → IsIn xs o → test o ≡ false) → counted test xs ≡ 0
       none [] f = refl
-      none (o ∷ xs) f = let later = none xs (λ q k. f q (inr k)) in let rest : cond false 1 0 + counted test xs ≡ 0 =
-          omega (arith, later) in subst (λ t. cond t 1 0 + counted test xs ≡ 0) (sym (f o (inl refl))) rest
+      none (o ∷ xs) f = rw (f o (inl refl)) (omega (arith, none xs (λ q k. f q (inr k))))
 
       other : (o : ℕ) → IsIn (range_with_len 1 n) o → test o ≡ false
       other o k = not_false (test o) (λ q.

@@ -1,4 +1,5 @@
 -- What classes add to the counts, and that the counts are 0 again once they were cleared.
+use Rattle.std.proofs.lemmas.Bool.{cases_lt}
 use Rattle.std.proofs.lemmas.Bool.Decides.{nat_tests}
 use Rattle.std.proofs.Common.{ℕ, zero, suc, ◌≡◌, ◌≢◌, ◌+◌, ◌<◌, ◌≤◌, ◌⊎◌, inl, inr, ltb, ltb-true, ltb-false}
 use Rattle.std.proofs.Common.{Bool, true, false, cond, ◌==◌, List, [], ◌∷◌, ◌++◌, length, get_or, set, take, replicate}
@@ -108,33 +109,25 @@ held_few n i classes (k ∷ ks) h a = grind (arith, nat_tests, held_few n i clas
 pub added_few : (n : ℕ) (classes : List (List Use)) (ks : List ℕ) (i k : ℕ) → AreUsable n classes
     → AreBelow (length classes) ks → i ≤ length ks
     → get_or (added (uses_in classes (take i ks)) (replicate n 0)) k 0 ≤ i
-added_few n classes ks i k h a l = by_case (ltb k n) refl
-  where
-    before : AreBelow (length classes) (take i ks)
-    before = each_take (λ j. j < length classes) i ks a
-
-    by_case : (v : Bool) → ltb k n ≡ v → get_or (added (uses_in classes (take i ks)) (replicate n 0)) k 0 ≤ i
-    by_case true q =
-        let below : k < n = ltb-true k n q in
-        omega (
-          arith,
-          added-at n (uses_in classes (take i ks)) (replicate n 0) k (items_in n classes (take i ks) h before)
-              (sym (length-replicate {A = ℕ} n 0)) below,
-          get_or-replicate {A = ℕ} n k 0 0 below,
-          held_few n (suc k) classes (take i ks) h before,
-          length-take-le i ks l,
-        )
-    by_case false q =
-        omega (
-          arith,
-          get_or_past (added (uses_in classes (take i ks)) (replicate n 0)) k 0
-              (omega (
-                arith,
-                ltb-false k n q,
-                length-added (uses_in classes (take i ks)) (replicate n 0),
-                length-replicate {A = ℕ} n 0,
-              )),
-        )
+added_few n classes ks i k h a l =
+    let before = each_take (λ j. j < length classes) i ks a in
+    let few = held_few n (suc k) classes (take i ks) h before in
+    let us = uses_in classes (take i ks) in
+    elim (cases_lt k n) [
+      | inl m ↦ omega (
+        arith,
+        added-at n us (replicate n 0) k (items_in n classes (take i ks) h before) (sym (length-replicate n 0))
+            m,
+        get_or-replicate {A = ℕ} n k 0 0 m,
+        few,
+        length-take-le i ks l,
+      )
+      | inr m ↦ omega (
+        arith,
+        get_or_past (added us (replicate n 0)) k 0
+            (omega (arith, m, length-added us (replicate n 0), length-replicate {A = ℕ} n 0)),
+      )
+    ]
 
 -- ---- how often classes are asked
 
@@ -150,49 +143,44 @@ lowered_more ks i ns l =
 pub raised_few : (n : ℕ) (ks : List ℕ) (i k : ℕ) → k < n → i ≤ length ks
     → get_or (raised (take i ks) (replicate n 0)) k 0 ≤ i
 raised_few n ks i k l m =
-    omega (
-      arith,
-      raised-at (take i ks) (replicate n 0) k (omega (arith, l, length-replicate {A = ℕ} n 0)),
-      get_or-replicate {A = ℕ} n k 0 0 l,
-      is_counted (λ j. j == k) (take i ks),
-      count_by-le-length (λ j. j == k) (take i ks),
-      length-take-le i ks m,
-    )
+    let fact = raised-at (take i ks) (replicate n 0) k (omega (arith, l, length-replicate {A = ℕ} n 0)) in
+    let fact2 = count_by-le-length (λ j. j == k) (take i ks) in
+    let fact3 = is_counted (λ j. j == k) (take i ks) in
+    grind (arith, nat_tests, get_or-replicate {A = ℕ} n k 0 0 l, length-take-le i ks m)
 
 -- ---- all 0 again
+
+lowered_once : (ns : List ℕ) (j k n : ℕ) → k < length ns → (get_or ns k 0 ≡ 0) ⊎ (0 < cond (j == k) 1 0 + n)
+    → (get_or (set ns j 0) k 0 ≡ 0) ⊎ (0 < n)
+lowered_once ns j k n l h = grind (arith, nat_tests, get_or-set_same, get_or-set_other)
 
 lowered-at : (ks ns : List ℕ) (k : ℕ) → k < length ns → (get_or ns k 0 ≡ 0) ⊎ (0 < counted (λ j. j == k) ks)
     → get_or (lowered ks ns) k 0 ≡ 0
 lowered-at [] ns k l (inl h) = h
 lowered-at [] ns k l (inr h) = absurd (omega (arith, h))
 lowered-at (j ∷ ks) ns k l h =
-    lowered-at ks (set ns j 0) k (omega (arith, l, length-set ns j 0)) (here (j == k) refl h)
-  where
-    here : (v : Bool) → (j == k) ≡ v → (get_or ns k 0 ≡ 0) ⊎ (0 < cond (j == k) 1 0 + counted (λ j. j == k) ks)
-        → (get_or (set ns j 0) k 0 ≡ 0) ⊎ (0 < counted (λ j. j == k) ks)
-    here true q _ = inl (subst (λ i. get_or (set ns i 0) k 0 ≡ 0) (sym (eqb-true j k q)) (get_or-set_same ns k 0 0 l))
-    here false q h =
-        let apart : k ≢ j = λ z. (let t = eq-eqb j k (sym z) in cc) in
-        let same = get_or-set_other ns j k 0 0 apart in
-        elim (subst (λ b. (get_or ns k 0 ≡ 0) ⊎ (0 < cond b 1 0 + counted (λ j. j == k) ks)) q h)
-        [ inl z ↦ inl (same ∙ z) | inr z ↦ inr (omega (arith, z)) ]
+    lowered-at ks (set ns j 0) k (omega (arith, l, length-set ns j 0)) (lowered_once ns j k (counted (λ j. j == k) ks) l
+    h)
 
 zero_or : (m n : ℕ) → m ≡ 0 + n → (m ≡ 0) ⊎ (0 < n)
-zero_or m zero e = inl (omega (arith, e))
-zero_or m (suc n) e = inr (omega arith)
+zero_or m n e = grind arith
 
 lowered_again : (n : ℕ) (ks : List ℕ) → lowered ks (raised ks (replicate n 0)) ≡ replicate n 0
 lowered_again n ks =
-    ext_get_or 0 (lowered ks ns) (replicate n 0) (length-lowered ks ns ∙ length-raised ks (replicate n 0))
-    (λ k l. let below : k < n = omega (arith, l, size) in
-    lowered-at ks ns k (omega (arith, below, length-raised ks (replicate n 0), length-replicate {A = ℕ} n 0))
-    (zero_or (get_or ns k 0) (counted (λ j. j == k) ks)
+    let fact = ext_get_or 0 (lowered ks ns) (replicate n 0) (length-lowered ks ns ∙ length-raised ks (replicate n 0))
+    (λ k l. let below : k < n = omega (arith, l, size) in lowered-at ks ns k (omega (
+      arith,
+      below,
+      length-raised ks
+          (replicate n 0),
+      length-replicate {A = ℕ} n 0,
+    )) (zero_or (get_or ns k 0) (counted (λ j. j == k) ks)
     (omega (
       arith,
       raised-at ks (replicate n 0) k (omega (arith, below, length-replicate {A = ℕ} n 0)),
       get_or-replicate {A = ℕ} n k 0 0 below,
-    )))
-    ∙ sym (get_or-replicate {A = ℕ} n k 0 0 below))
+    ))) ∙ sym (get_or-replicate {A = ℕ} n k 0 0 below)) in
+    cc
   where
     ns : List ℕ
     ns = raised ks (replicate n 0)

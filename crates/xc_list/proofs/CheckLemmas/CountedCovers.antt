@@ -150,15 +150,13 @@ module _ (b : Classes) (stored : List Bounds) (cs ks reps : List ℕ) (s : IsSol
   agree_at : AreMet b stored cs ks → (k : ℕ) → k < item_count b.problem.puzzle → slice_get stored k ≡ None
       → AgreeAt b.problem.puzzle (suc k) reps
   agree_at a k l e =
-      agree-gathered b.problem.puzzle (suc k) reps
-      (last-agree (get_or cs k 0) (gathered b.problem.puzzle (suc k) reps)
-      (subst (λ g. AllByRecursion (IsLast (get_or cs k 0) g) g) (gives (suc k))
+      let fact = agree-gathered b.problem.puzzle (suc k) reps (last-agree (get_or cs k 0) (gathered b.problem.puzzle
+      (suc k) reps) (subst (λ g. AllByRecursion (IsLast (get_or cs k 0) g) g) (gives (suc k))
       (given-each (IsLast (get_or cs k 0) (given (suc k) (uses_in b.classes ks))) (suc k) (uses_in b.classes ks)
-      (each_weaker (λ u. u.item ≡ suc k
-      → agrees (slice_get stored k) (get_or (times_after b ks) k 0) (get_or (colours_after b ks cs) k 0) u.colour
-      ≡ true)
-      (λ u. u.item ≡ suc k → IsLast (get_or cs k 0) (given (suc k) (uses_in b.classes ks)) u.colour)
-      (uses_in b.classes ks) (λ u h q. last u (h q)) (met_at k a)))))
+      (each_weaker (λ u. u.item ≡ suc k → agrees (slice_get stored k) (get_or (times_after b ks) k 0)
+      (get_or (colours_after b ks cs) k 0) u.colour ≡ true) (λ u. u.item ≡ suc k → IsLast (get_or cs k 0) (given (suc k)
+      (uses_in b.classes ks)) u.colour) (uses_in b.classes ks) (λ u h q. last u (h q)) (met_at k a))))) in
+      grind (arith, nat_tests)
     where
       last : (u : Use) → agrees (slice_get stored k) (get_or (times_after b ks) k 0)
           (get_or (colours_after b ks cs) k 0) u.colour ≡ true
@@ -264,14 +262,13 @@ classes_parts : (b : Classes) (stored : List Bounds) (ts ds ns js : List ℕ)
     × AllByRecursion (λ u. is_met stored ts ds u ≡ true) (uses_in b.classes js)
 classes_parts b stored ts ds ns [] a = (tt, tt)
 classes_parts b stored ts ds ns (k ∷ js) a =
-    let here =
-    and_parts (nat_le (get_or ns k 0) (class_size b.problem.puzzle (uses_at b.classes k)))
-    (list_all (is_met stored ts ds) (uses_at b.classes k)) a.0 in
-    let later = classes_parts b stored ts ds ns js a.1 in (
-      (here.0, later.0),
-      each-append (λ u. is_met stored ts ds u ≡ true) (uses_at b.classes k) (uses_in b.classes js)
-          (each_passes (is_met stored ts ds) (uses_at b.classes k) here.1) later.1,
-    )
+    let fact = each-append (λ u. is_met stored ts ds u ≡ true) (uses_at b.classes k) (uses_in b.classes js)
+    (each_passes (is_met stored ts ds) (uses_at b.classes k) (and_parts (nat_le (get_or ns k 0)
+    (class_size b.problem.puzzle (uses_at b.classes k))) (list_all (is_met stored ts ds) (uses_at b.classes k)) a.0).1)
+    (classes_parts b stored ts ds ns js a.1).1 in
+    let fact2 = (and_parts (nat_le (get_or ns k 0) (class_size b.problem.puzzle (uses_at b.classes k)))
+    (list_all (is_met stored ts ds) (uses_at b.classes k)) a.0).0 in
+    grind (arith, nat_tests, (classes_parts b stored ts ds ns js a.1).0)
 
 parts_classes : (b : Classes) (stored : List Bounds) (ts ds ns js : List ℕ)
     → AllByRecursion (λ k. nat_le (get_or ns k 0) (class_size b.problem.puzzle (uses_at b.classes k)) ≡ true) js →
@@ -281,8 +278,7 @@ parts_classes b stored ts ds ns [] a m = tt
 parts_classes b stored ts ds ns (k ∷ js) a m =
     let two = each_front (λ u. is_met stored ts ds u ≡ true) (uses_at b.classes k) (uses_in b.classes js) m in (
       both_true a.0 (passes_each (is_met stored ts ds) (uses_at b.classes k) two.0),
-      parts_classes b stored ts ds ns js
-          a.1 two.1,
+      grind (arith, nat_tests, parts_classes b stored ts ds ns js a.1 two.1),
     )
 
 pub counted-cover : (b : Classes) (stored : List Bounds) (cs ks reps : List ℕ) → IsSolution b stored cs ks reps
@@ -298,9 +294,8 @@ counted-cover b stored cs ks reps s h =
 pub cover-counted : (b : Classes) (stored : List Bounds) (cs ks reps : List ℕ) → IsSolution b stored cs ks reps
     → IsCoverOfClasses b.problem.puzzle reps → is_counted_cover b stored cs ks ≡ true
 cover-counted b stored cs ks reps s h =
-    let ts = times_after b ks in
-    let ds = colours_after b ks cs in
-    let ns = asked_after b ks in
-    let three = counts b stored cs ks reps s h in
-    both_true (eq-eqb (short_of stored ts) 0 three.0)
-    (passes_each (is_class_met b stored ts ds ns) ks (parts_classes b stored ts ds ns ks three.2 three.1))
+    let fact = both_true (eq-eqb (short_of stored (times_after b ks)) 0 (counts b stored cs ks reps s h).0)
+    (passes_each (is_class_met b stored (times_after b ks) (colours_after b ks cs) (asked_after b ks)) ks (parts_classes
+    b stored (times_after b ks) (colours_after b ks cs) (asked_after b ks) ks (counts b stored cs ks reps s h).2
+    (counts b stored cs ks reps s h).1)) in
+    cc

@@ -59,8 +59,7 @@ pub alike-classes : (p : Puzzle) → IsLikeness (alike p)
 alike-classes p = record {
   itself = λ a. same_uses-itself (class a);
   back =
-      λ a b h. subst (λ v. same_uses v (class a) ≡ true) (same_uses-are (class a) (class b) h)
-      (same_uses-itself (class a));
+      λ a b h. cc (same_uses-are (class a) (class b) h, same_uses-itself (class a));
   on = λ a b c h k. subst (λ v. same_uses (class a) v ≡ true) (same_uses-are (class b) (class c) k) h;
 }
   where
@@ -90,21 +89,17 @@ zipped_alike P Q R (x ∷ xs) (y ∷ ys) (z ∷ zs) f h = grind (arith, nat_test
 pub stand-alike : (p : Named) → IsSound p → (bodies : List (List (List ℕ))) (reps s : List ℕ) → AreKnown p.puzzle reps
     → AreKnown p.puzzle s → StandFor p bodies reps → StandFor p bodies s ↔ AreAlike (alike p.puzzle) reps s
 stand-alike p r bodies reps s a b =
-    zipped_alike (λ words o. IsTrue (stands_for p words o)) (λ words o. IsTrue (stands_for p words o))
-    (λ q o. alike p.puzzle q o ≡ true) bodies reps s (λ words q o in_q in_o h.
-    let x = a q in_q in
-    let y = b o in_o in
-    let us = uses_of p.puzzle q in
-    let vs = uses_of p.puzzle o in
-    let d = option-differs p.puzzle r.valid q x in
-    let e = option-differs p.puzzle r.valid o y in
-    let class =
-    λ (k : is_body p words vs ≡ true). body-class p words r us vs (option-known p r q x) (option-known p r o y) d
-    e h k in (
-      λ k. subst (λ v. same_uses (class_of us) v ≡ true) (class k) (same_uses-itself (class_of us)),
-      λ z. body-alike p
-          words us vs d e (same_uses-are (class_of us) (class_of vs) z) h,
-    ))
+    let fact = zipped_alike (λ words o. IsTrue (stands_for p words o)) (λ words o. IsTrue (stands_for p words o))
+    (λ q o. alike p.puzzle q o ≡ true) bodies reps s (λ words q o in_q in_o h. let x = a q in_q in let y = b o in_o in
+    let us = uses_of p.puzzle q in let vs = uses_of p.puzzle o in let d = option-differs p.puzzle r.valid q x in let e
+    = option-differs p.puzzle r.valid o y in let class = λ (k : is_body p words vs ≡ true). body-class p words r us vs
+    (option-known p r q x) (option-known p r o y) d e h k in (
+      λ k. subst (λ v. same_uses (class_of us) v ≡ true)
+          (class k) (same_uses-itself (class_of us)),
+      λ z. body-alike p words us vs d e (same_uses-are (class_of us)
+          (class_of vs) z) h,
+    )) in
+    grind (arith, nat_tests)
 
 -- alike options give each item the same colour
 pub colours-alike : (p : Puzzle) → IsValid p → (q o i : ℕ) → IsOption p q → IsOption p o → alike p q o ≡ true
@@ -148,16 +143,12 @@ pub classes_of_cover : (p : Puzzle) → IsValid p → (reps s : List ℕ) → Ar
     → IsCover p s → IsCoverOfClasses p reps
 classes_of_cover p v reps s a z c = record {
   asked =
-      λ r. omega (
-        arith,
-        asked_within (alike p) (alike-classes p) (numbers p) reps s z apart
-            (λ o k. numbers-in p o (known o k)) r,
-        is_counted (alike p r) reps,
-        is_counted (alike p r) (numbers p),
-      );
+      λ r.
+      let fact = asked_within (alike p) (alike-classes p) (numbers p) reps s z apart (λ o k. numbers-in p o (known o k))
+      r in
+      grind (arith, nat_tests, is_counted (alike p r) reps, is_counted (alike p r) (numbers p));
   within =
-      λ i b e. (let w = c.within i b e in let h = held-alike p v i reps s a known z in
-      (omega (arith, w.0, h), omega (arith, w.1, h)));
+      λ i b e. grind (arith, nat_tests, (c.within i b e).0, held-alike p v i reps s a known z, (c.within i b e).1);
   agree = λ j k q r i x y l e f second g h. (
       let o = alike-right (alike p) reps s j q z e in
       let u = alike-right (alike p) reps s k r z f in

@@ -40,8 +40,7 @@ module _ (E : Use → Use → Bool) (decides : (a b : Use) → Decides (E a b) (
       let at =
       position-Some (pointwise E us) (key_uses keys) k [] (position-map (pointwise E us) (λ v. v.items) keys ∙ e) in (
         at.0,
-        slice_get-get_or (key_uses keys) k [] at.0
-            ∙ ap (λ x. Some x) (sym ((same-uses us (get_or (key_uses keys) k [])).0 at.1)),
+        cc (slice_get-get_or (key_uses keys) k [] at.0, (same-uses us (get_or (key_uses keys) k [])).0 at.1),
       )
 
   absent : (us : List Use) (keys : List (Vec Use Global)) → position (λ v. pointwise E us v.items) keys ≡ None
@@ -64,8 +63,7 @@ module _ (E : Use → Use → Bool) (decides : (a b : Use) → Decides (E a b) (
       let out = no-place (λ v. pointwise E us v.items) keys e in
       let here : list_any (λ v. pointwise E k.items v.items) keys ≡ false =
       ap (λ n. list_any (λ (v : Vec Use Global). pointwise E n v.items) keys) f ∙ out in
-      ap key_uses (g ∙ ap (λ b. if b then keys else keys ++ k ∷ []) here)
-      ∙ map-snoc (λ (v : Vec Use Global). v.items) keys k ∙ ap (λ n. key_uses keys ++ n ∷ []) f
+      cc (g, here, map-snoc (λ (v : Vec Use Global). v.items) keys k, f)
 
 -- an option that a body stands for
 known-as : (p : Named) → IsSound p → (words : List (List ℕ)) → is_known p words ≡ true → (o : ℕ) × IsOption p.puzzle o
@@ -101,15 +99,13 @@ module _ (p : Named) (keys : List (Vec Use Global)) (counts : List ℕ) (b : IsO
   -- a body of uses that are of no class
   pub no-class : (words : List (List ℕ)) (us : List Use) → HaveWords p words us
       → (IsIn (key_uses keys) (class_of us) → ⊥) → is_known p words ≡ false
-  no-class words us have none = not_false (is_known p words) (λ h.
-      let o = known-as p b.sound words h in
-      let vs = uses_of p.puzzle o.0 in
-      let same : rotated_at o.2 vs ≡ us =
-      same_uses_by_words p b.sound (rotated_at o.2 vs) us o.3.known have.known (o.3.words_so ∙ sym have.words_so) in
-      let class : class_at p.puzzle o.0 ≡ class_of us =
-      sym (class-turned o.2 vs (option-differs p.puzzle b.sound.valid o.0 o.1)) ∙ ap class_of same in
-      none (subst (IsIn (key_uses keys)) class
-      (in-contains (key_uses keys) (class_at p.puzzle o.0) (b.complete.whole o.0 o.1.0 o.1.1))))
+  no-class words us have none =
+      let fact = not_false (is_known p words) (λ h. let o = known-as p b.sound words h in let vs = uses_of p.puzzle o.0
+      in let same : rotated_at o.2 vs ≡ us = same_uses_by_words p b.sound (rotated_at o.2 vs) us o.3.known have.known
+      (o.3.words_so ∙ sym have.words_so) in let class : class_at p.puzzle o.0 ≡ class_of us = sym (class-turned o.2 vs
+      (option-differs p.puzzle b.sound.valid o.0 o.1)) ∙ ap class_of same in none (subst (IsIn (key_uses keys)) class
+      (in-contains (key_uses keys) (class_at p.puzzle o.0) (b.complete.whole o.0 o.1.0 o.1.1)))) in
+      cc
 
   -- a body of uses of this class
   pub its-class : (words : List (List ℕ)) (us : List Use) (k : ℕ) → HaveWords p words us → 0 < length us

@@ -1,4 +1,5 @@
 -- What uses add to the counts of their items.
+use Rattle.std.proofs.Common.{inl, inr}
 use Rattle.std.proofs.Common.{ℕ, zero, suc, ◌≡◌, ◌≢◌, ◌+◌, ◌-◌, ◌<◌, ◌≤◌, Bool, true, false, cond, ◌==◌, List, [], ◌∷◌}
 use Rattle.std.proofs.Common.{◌++◌, length, get_or, set, take, refl, sym, ap, ◌∙◌, arith, subst, eqb-true, ne_eqb}
 use Rattle.std.proofs.Common.{eq-eqb}
@@ -7,6 +8,7 @@ use Rattle.std.proofs.lemmas.List.{get_or-set_same, get_or-set_other, length-set
 use Rattle.xc_input.specs.declared.problem.Use.{Use}
 use Rattle.xc_list.specs.inner.CoverCounts.{raised, lowered, item_places, added, coloured, cleared}
 use Rattle.std.proofs.lemmas.List.{map-append}
+use Rattle.std.proofs.lemmas.Bool.{cases_eq}
 use Rattle.std.proofs.lemmas.Bool.Decides.{nat_tests}
 use Rattle.xc_list.proofs.CheckLemmas.DifferentOptions.{counted}
 use Rattle.xc_list.proofs.CheckLemmas.Rotations.{DifferInItems}
@@ -36,22 +38,16 @@ pub length-lowered : (ks ns : List ℕ) → length (lowered ks ns) ≡ length ns
 length-lowered [] ns = refl
 length-lowered (k ∷ ks) ns = length-lowered ks (set ns k 0) ∙ length-set ns k 0
 
+once_more : (ns : List ℕ) (j k : ℕ) → k < length ns
+    → get_or (set ns j (get_or ns j 0 + 1)) k 0 ≡ get_or ns k 0 + cond (j == k) 1 0
+once_more ns j k l = grind (arith, nat_tests, get_or-set_same, get_or-set_other)
+
 pub raised-at : (ks ns : List ℕ) (k : ℕ) → k < length ns
     → get_or (raised ks ns) k 0 ≡ get_or ns k 0 + counted (λ j. j == k) ks
 raised-at [] ns k l = omega arith
 raised-at (j ∷ ks) ns k l =
-    let later = raised-at ks (set ns j (get_or ns j 0 + 1)) k (omega (arith, l, length-set ns j (get_or ns j 0 + 1))) in
-    omega (arith, later, here (j == k) refl)
-  where
-    here : (v : Bool) → (j == k) ≡ v → get_or (set ns j (get_or ns j 0 + 1)) k 0 ≡ get_or ns k 0 + cond (j == k) 1 0
-    here true q =
-        let at : j ≡ k = eqb-true j k q in
-        let value : get_or (set ns k (get_or ns k 0 + 1)) k 0 ≡ get_or ns k 0 + 1 =
-        get_or-set_same ns k (get_or ns k 0 + 1) 0 l in
-        rw q (subst (λ i. get_or (set ns i (get_or ns i 0 + 1)) k 0 ≡ get_or ns k 0 + 1) (sym at) value)
-    here false q =
-        let apart : k ≢ j = λ z. (let t = eq-eqb j k (sym z) in cc) in
-        rw q (omega (arith, get_or-set_other ns j k (get_or ns j 0 + 1) 0 apart))
+    let n = get_or ns j 0 + 1 in
+    omega (arith, raised-at ks (set ns j n) k (omega (arith, l, length-set ns j n)), once_more ns j k l)
 
 -- ---- uses
 
@@ -91,19 +87,14 @@ added-at n us ts k a e l =
 
 pub held_none : (i : ℕ) (us : List Use) → AllByRecursion (λ u. i ≢ u.item) us → held i us ≡ 0
 held_none i [] a = refl
-held_none i (u ∷ us) a =
-    let no : (u.item == i) ≡ false = ne_eqb u.item i (λ z. a.0 (sym z)) in
-    rw no (omega (arith, held_none i us a.1))
+held_none i (u ∷ us) a = grind (arith, nat_tests, held_none i us a.1)
 
 pub held_once : (i : ℕ) (us : List Use) → DifferInItems us → held i us ≤ 1
 held_once i [] d = omega arith
-held_once i (u ∷ us) d = by_case (held_once i us d.1) (u.item == i) refl
-  where
-    by_case : held i us ≤ 1 → (v : Bool) → (u.item == i) ≡ v → cond (u.item == i) 1 0 + held i us ≤ 1
-    by_case later true q =
-        let none = held_none i us (subst (λ j. AllByRecursion (λ v. j ≢ v.item) us) (eqb-true u.item i q) d.0) in
-        rw q (omega (arith, none))
-    by_case later false q = rw q (omega (arith, later))
+held_once i (u ∷ us) d = elim (cases_eq u.item i) [
+  | inl e ↦ rw (eq-eqb u.item i e) (omega (arith, held_none i us (rw e at d.0)))
+  | inr ne ↦ rw (ne_eqb u.item i ne) (omega (arith, held_once i us d.1))
+]
 
 -- the item of a use isn't held by those before it
 pub not_before : (us : List Use) (k : ℕ) (d : Use) → DifferInItems us → k < length us
@@ -111,9 +102,8 @@ pub not_before : (us : List Use) (k : ℕ) (d : Use) → DifferInItems us → k 
 not_before [] k d a l = absurd (omega (arith, l))
 not_before (u ∷ us) zero d a l = refl
 not_before (u ∷ us) (suc k) d a l =
-    let other : u.item ≢ (get_or us k d).item = at (λ v. u.item ≢ v.item) us k a.0 (omega (arith, l)) in
-    let no : (u.item == (get_or us k d).item) ≡ false = ne_eqb _ _ other in
-    rw no (omega (arith, not_before us k d a.1 (omega (arith, l))))
+    rw (ne_eqb _ _ (at (λ v. u.item ≢ v.item) us k a.0 (omega (arith, l))))
+    (omega (arith, not_before us k d a.1 (omega (arith, l))))
   where
     at : (P : Use → Type 0) (vs : List Use) (j : ℕ) → AllByRecursion P vs → j < length vs → P (get_or vs j d)
     at P [] j h m = absurd (omega (arith, m))

@@ -1,5 +1,8 @@
 -- The colours that options give an item, in turn.
+use Rattle.std.proofs.Common.{◌≤◌}
+use Rattle.std.proofs.lemmas.Bool.{cases_eq}
 use Rattle.std.proofs.lemmas.Bool.Decides.{nat_tests}
+use Rattle.std.specs.Prelude.{if◌then◌else◌}
 use Rattle.std.proofs.Common.{ℕ, zero, suc, ◌≡◌, ◌≢◌, ◌+◌, ◌-◌, ◌<◌, ◌⊎◌, inl, inr, Bool, true, false, cond, ◌==◌, List}
 use Rattle.std.proofs.Common.{[], ◌∷◌, ◌++◌, length, map, filter, get_or, set, Some, None, refl, sym, ap, ap₂}
 use Rattle.std.proofs.Common.{◌∙◌, arith, subst}
@@ -12,7 +15,7 @@ use Rattle.xc_input.specs.Problem.{Puzzle, colour_in, uses_of}
 use Rattle.xc_input.specs.Named.{IsSound}
 use Rattle.xc_search.specs.Cover.{times_held}
 use Rattle.xc_input.proofs.lists.EachTwo.{EachTwo}
-use Rattle.xc_input.proofs.lists.EachElement.{each-map, each-filter, each_both, each_passes}
+use Rattle.xc_input.proofs.lists.EachElement.{each-map, each-filter, each_both, each_passes, each_weaker}
 use Rattle.xc_input.proofs.lists.Members.{each_in, each_from, map-in, filter-in}
 use Rattle.std.proofs.lemmas.List.Elements.{filter-append}
 use Rattle.xc_list.specs.inner.Classes.{Classes, IsOfClass, class_at}
@@ -43,47 +46,32 @@ length-given i us = length-map (filter (λ u. u.item == i) us) (λ u. u.colour) 
 given-append : (i : ℕ) (us vs : List Use) → given i (us ++ vs) ≡ given i us ++ given i vs
 given-append i us vs = simp (filter-append, map-append)
 
+last_set : (cs : List ℕ) (u : Use) (k : ℕ) (us : List Use) → 1 ≤ u.item → k < length cs
+    → last_or (get_or (set cs (u.item - 1) u.colour) k 0) (map (λ v. v.colour) us)
+    ≡ last_or (get_or cs k 0) (map (λ v. v.colour) (if u.item == suc k then u ∷ us else us))
+last_set cs u k us h l = grind (arith, nat_tests, get_or-set_same, get_or-set_other)
+
 -- the colour that was given last
 pub coloured-at : (n : ℕ) (us : List Use) (cs : List ℕ) (k : ℕ) → AreItems n us → n ≡ length cs → k < n
     → get_or (coloured us cs) k 0 ≡ last_or (get_or cs k 0) (given (suc k) us)
 coloured-at n [] cs k a e l = refl
 coloured-at n (u ∷ us) cs k a e l =
     coloured-at n us (set cs (u.item - 1) u.colour) k a.1 (e ∙ sym (length-set cs (u.item - 1) u.colour)) l
-    ∙ here (u.item == suc k) refl
-  where
-    here : (v : Bool) → (u.item == suc k) ≡ v
-        → last_or (get_or (set cs (u.item - 1) u.colour) k 0) (given (suc k) us) ≡ last_or (get_or cs k 0)
-        (given (suc k) (u ∷ us))
-    here true q =
-        let at : u.item - 1 ≡ k = omega (arith, eqb-true u.item (suc k) q) in
-        let value : get_or (set cs (u.item - 1) u.colour) k 0 ≡ u.colour =
-        subst (λ i. get_or (set cs i u.colour) k 0 ≡ u.colour) (sym at)
-        (get_or-set_same cs k u.colour 0 (omega (arith, l, e))) in
-        rw q (ap (λ d. last_or d (given (suc k) us)) value)
-    here false q =
-        let ne : u.item ≢ suc k = λ z. (let t = eq-eqb u.item (suc k) z in cc) in
-        let apart : k ≢ u.item - 1 = λ z. ne (omega (arith, z, a.0.0)) in
-        rw q (ap (λ d. last_or d (given (suc k) us)) (get_or-set_other cs (u.item - 1) k u.colour 0 apart))
+    ∙ last_set cs u k (filter (λ v. v.item == suc k) us) a.0.0 (omega (arith, e, l))
 
 -- ---- uses and options
 
 given_none : (i : ℕ) (us : List Use) → AllByRecursion (λ u. i ≢ u.item) us → given i us ≡ []
 given_none i [] a = refl
-given_none i (u ∷ us) a =
-    let no : (u.item == i) ≡ false = ne_eqb u.item i (λ z. a.0 (sym z)) in
-    rw no (given_none i us a.1)
+given_none i (u ∷ us) a = grind (arith, nat_tests, given_none i us a.1)
 
 -- uses of different items
 given_once : (i : ℕ) (us : List Use) → DifferInItems us → given i us ≡ with_some (colour_in us i) []
 given_once i [] d = refl
-given_once i (u ∷ us) d = by_case (given_once i us d.1) (u.item == i) refl
-  where
-    by_case : given i us ≡ with_some (colour_in us i) [] → (v : Bool) → (u.item == i) ≡ v
-        → given i (u ∷ us) ≡ with_some (colour_in (u ∷ us) i) []
-    by_case later true q =
-        let none = given_none i us (subst (λ j. AllByRecursion (λ v. j ≢ v.item) us) (eqb-true u.item i q) d.0) in
-        rw q (ap (λ cs. u.colour ∷ cs) none)
-    by_case later false q = rw q later
+given_once i (u ∷ us) d = elim (cases_eq u.item i) [
+  | inl e ↦ rw (eq-eqb u.item i e) (ap (λ cs. u.colour ∷ cs) (given_none i us (rw e at d.0)))
+  | inr ne ↦ rw (ne_eqb u.item i ne) (given_once i us d.1)
+]
 
 with_some-append : (c : Option ℕ) (cs : List ℕ) → with_some c [] ++ cs ≡ with_some c cs
 with_some-append None cs = refl
@@ -95,17 +83,12 @@ given-gathered i b [] [] s z = refl
 given-gathered i b [] (o ∷ reps) s z = absurd z
 given-gathered i b (k ∷ ks) [] s z = absurd z
 given-gathered i b (k ∷ ks) (o ∷ reps) s z =
-    let p = b.problem.puzzle in
-    let differ = option-differs p s.valid o z.0.0 in
-    let is : uses_at b.classes k ≡ class_at p o = get_or_from_slice_get b.classes k (class_at p o) [] z.0.1 in
-    let us = uses_of p o in
-    let colour = colour-class i us differ in
-    let here : given i (uses_at b.classes k) ≡ with_some (colour_in (uses_of p o) i) [] =
-    ap (given i) is ∙ given_once i (class_at p o) (differ-turned (class_start us) us differ)
-    ∙ ap (λ c. with_some c []) colour in
-    given-append i (uses_at b.classes k) (uses_in b.classes ks)
-    ∙ ap₂ (λ x y. x ++ y) here (given-gathered i b ks reps s z.1)
-    ∙ with_some-append (colour_in (uses_of p o) i) (gathered p i reps)
+    let fact = given_once i (class_at b.problem.puzzle o) (differ-turned (class_start (uses_of b.problem.puzzle o))
+    (uses_of b.problem.puzzle o) (option-differs b.problem.puzzle s.valid o z.0.0)) in
+    let fact2 = with_some-append (colour_in (uses_of b.problem.puzzle o) i) (gathered b.problem.puzzle i reps) in
+    let fact3 = colour-class i (uses_of b.problem.puzzle o) (option-differs b.problem.puzzle s.valid o z.0.0) in
+    let fact4 = get_or_from_slice_get b.classes k (class_at b.problem.puzzle o) [] z.0.1 in
+    cc (given-append i (uses_at b.classes k) (uses_in b.classes ks), given-gathered i b ks reps s z.1)
 
 length-with_some : (c : Option ℕ) (cs : List ℕ) → length (with_some c cs) ≡ cond (is_some c) 1 0 + length cs
 length-with_some None cs = omega arith
@@ -137,18 +120,19 @@ each-given P i us a =
     each_from (λ u. u.item ≡ i → P u.colour) us (λ u k e. each_in P (given i us) u.colour a
     (map-in (λ u. u.colour) (filter (λ u. u.item == i) us) u (filter-in (λ u. u.item == i) us u k (eq-eqb u.item i e))))
 
+each_with : (P : ℕ → Type 0) (v : Option ℕ) (cs : List ℕ) → ((c : ℕ) → v ≡ Some c → P c) → AllByRecursion P cs
+    → AllByRecursion P (with_some v cs)
+each_with P None cs h later = later
+each_with P (Some c) cs h later = (h c refl, later)
+
 -- what holds of the colour of each option that holds item i
 gathered-each : (P : ℕ → Type 0) (p : Puzzle) (i : ℕ) (reps : List ℕ)
     → ((k o c : ℕ) → slice_get reps k ≡ Some o → colour_in (uses_of p o) i ≡ Some c → P c)
     → AllByRecursion P (gathered p i reps)
 gathered-each P p i [] h = tt
 gathered-each P p i (o ∷ reps) h =
-    by_case (gathered-each P p i reps (λ k q c e f. h (suc k) q c e f)) (colour_in (uses_of p o) i) refl
-  where
-    by_case : AllByRecursion P (gathered p i reps) → (v : Option ℕ) → colour_in (uses_of p o) i ≡ v
-        → AllByRecursion P (with_some v (gathered p i reps))
-    by_case later None q = later
-    by_case later (Some c) q = (h 0 o c refl q, later)
+    each_with P (colour_in (uses_of p o) i) (gathered p i reps) (λ c q. h 0 o c refl q)
+    (gathered-each P p i reps (λ k q c e f. h (suc k) q c e f))
 
 gathered-at : (P : ℕ → Type 0) (p : Puzzle) (i : ℕ) (reps : List ℕ) (k o c : ℕ) → AllByRecursion P (gathered p i reps)
     → slice_get reps k ≡ Some o → colour_in (uses_of p o) i ≡ Some c → P c
@@ -198,38 +182,20 @@ pub agree-last : (d : ℕ) (cs : List ℕ) → EachTwo Agree cs → AllByRecursi
 agree-last d [] h = tt
 agree-last d (x ∷ []) h = (inl refl, tt)
 agree-last d (x ∷ y ∷ cs) h =
-    (inr (h.0.0.1, sym last), all (y ∷ cs) h.0)
-  where
-    same : (ds : List ℕ) → AllByRecursion (Agree x) ds → AllByRecursion (λ e. x ≡ e) ds
-    same [] a = tt
-    same (e ∷ ds) a = (a.0.0, same ds a.1)
+    let last = last_same x (y ∷ cs) (each_weaker (Agree x) (λ e. x ≡ e) (y ∷ cs) (λ e a. a.0) h.0) in (
+      inr (h.0.0.1, sym last),
+      each_weaker (Agree x) (IsLast d (x ∷ y ∷ cs)) (y ∷ cs) (λ e a. inr (omega (arith, a), sym a.0 ∙ sym last)) h.0,
+    )
 
-    last : last_or x (y ∷ cs) ≡ x
-    last = last_same x (y ∷ cs) (same (y ∷ cs) h.0)
-
-    all : (ds : List ℕ) → AllByRecursion (Agree x) ds → AllByRecursion (IsLast d (x ∷ y ∷ cs)) ds
-    all [] a = tt
-    all (e ∷ ds) a = (inr (omega (arith, a.0), sym a.0.0 ∙ sym last), all ds a.1)
+all_agree : (l : ℕ) (cs : List ℕ) → AllByRecursion (Agree l) cs → EachTwo Agree cs
+all_agree l [] a = tt
+all_agree l (c ∷ cs) a =
+    (each_weaker (Agree l) (Agree c) cs (λ e b. grind (arith, nat_tests, a.0, b)) a.1, all_agree l cs a.1)
 
 pub last-agree : (d : ℕ) (cs : List ℕ) → AllByRecursion (IsLast d cs) cs → EachTwo Agree cs
 last-agree d [] h = tt
 last-agree d (x ∷ []) h = (tt, tt)
-last-agree d (x ∷ y ∷ cs) h = each_two (x ∷ y ∷ cs) (all (x ∷ y ∷ cs) h)
-  where
-    one : (c : ℕ) → IsLast d (x ∷ y ∷ cs) c → (0 < c) × (c ≡ last_or d (x ∷ y ∷ cs))
-    one c (inl e) = absurd (omega (arith, e))
-    one c (inr e) = e
-
-    all : (ds : List ℕ) → AllByRecursion (IsLast d (x ∷ y ∷ cs)) ds
-        → AllByRecursion (λ c. (0 < c) × (c ≡ last_or d (x ∷ y ∷ cs))) ds
-    all [] a = tt
-    all (c ∷ ds) a = (one c a.0, all ds a.1)
-
-    row : (c : ℕ) → (0 < c) × (c ≡ last_or d (x ∷ y ∷ cs)) → (ds : List ℕ)
-        → AllByRecursion (λ c. (0 < c) × (c ≡ last_or d (x ∷ y ∷ cs))) ds → AllByRecursion (Agree c) ds
-    row c g [] a = tt
-    row c g (e ∷ ds) a = ((g.1 ∙ sym a.0.1, g.0), row c g ds a.1)
-
-    each_two : (ds : List ℕ) → AllByRecursion (λ c. (0 < c) × (c ≡ last_or d (x ∷ y ∷ cs))) ds → EachTwo Agree ds
-    each_two [] a = tt
-    each_two (c ∷ ds) a = (row c a.0 ds a.1, each_two ds a.1)
+last-agree d (x ∷ y ∷ cs) h =
+    all_agree (last_or d (x ∷ y ∷ cs)) (x ∷ y ∷ cs)
+    (each_weaker (IsLast d (x ∷ y ∷ cs)) (Agree (last_or d (x ∷ y ∷ cs))) (x ∷ y ∷ cs)
+    (λ c e. grind (arith, nat_tests, e)) h)

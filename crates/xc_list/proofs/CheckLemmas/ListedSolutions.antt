@@ -28,8 +28,7 @@ loose-cons l lines (Some n) b h g = ap (in_front l lines) h
 loose-cons l lines None b h g =
     let k : ℕ = position_or_len (λ l. is_some (header_number l)) lines in
     let next : 1 + k ≡ suc k = omega arith in
-    ap (in_front l lines) h ∙ ap (λ n. filter_map body_of (take n (l ∷ lines))) next
-    ∙ ap (λ b. cons_option b (loose_of lines)) g
+    rw (h, next, g)
 
 abbrev with_header : List (List ℕ) → Option ℕ → List Solution
 with_header lines o =

@@ -99,9 +99,7 @@ turned-holds : (i k : ℕ) (us : List Use) → Holds i (rotated_at k us) → Hol
 turned-holds i k us h = subst (Holds i) (take-append-drop k us) (holds-swapped i (drop k us) (take k us) h)
 
 item-turned : (i k : ℕ) (us : List Use) → DifferInItems us → Holds i us → from_item i (rotated_at k us) ≡ from_item i us
-item-turned i k us =
-    subst (λ vs. DifferInItems vs → Holds i vs → from_item i (rotated_at k us) ≡ from_item i vs) (take-append-drop k us)
-    (swapped-turned i (take k us) (drop k us))
+item-turned i k us = rw (take-append-drop k us) at (swapped-turned i (take k us) (drop k us))
 
 -- a rotation is what is turned to its first item
 pub turned-first : (u : Use) (us : List Use) → from_item u.item (u ∷ us) ≡ u ∷ us
@@ -147,10 +145,8 @@ pub class-turned : (k : ℕ) (us : List Use) → DifferInItems us → class_of (
 class-turned zero [] d = refl
 class-turned (suc k) [] d = refl
 class-turned k (u ∷ us) d =
-    let vs = u ∷ us in
-    let least : least_of (rotated_at k vs) ≡ least_of vs =
-    least-swapped (take k vs) (drop k vs) ∙ ap least_of (take-append-drop k vs) in
-    ap (λ i. from_item i (rotated_at k vs)) least ∙ item-turned (least_of vs) k vs d (least-held u us)
+    let fact = item-turned (least_of (u ∷ us)) k (u ∷ us) d (least-held u us) in
+    cc (least-swapped (take k (u ∷ us)) (drop k (u ∷ us)), take-append-drop k (u ∷ us))
 
 -- Uses of one class hold the same items, and turned to one of them they are the same.
 module _ (us vs : List Use) (i : ℕ) (q : class_of us ≡ class_of vs) (h : Holds i us) where
@@ -159,8 +155,7 @@ module _ (us vs : List Use) (i : ℕ) (q : class_of us ≡ class_of vs) (h : Hol
 
   turned_to-alike : DifferInItems us → DifferInItems vs → from_item i us ≡ from_item i vs
   turned_to-alike d e =
-      sym (item-turned i (class_start us) us d h) ∙ ap (from_item i) q
-      ∙ item-turned i (class_start vs) vs e holds-alike
+      cc (item-turned i (class_start us) us d h, q, item-turned i (class_start vs) vs e holds-alike)
 
 -- A rotation of uses is a rotation of the others of their class.
 pub turned-alike : (us vs : List Use) (k : ℕ) → DifferInItems us → DifferInItems vs → class_of us ≡ class_of vs

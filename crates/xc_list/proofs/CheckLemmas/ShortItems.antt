@@ -27,36 +27,25 @@ short_kept (b ∷ bs) (x ∷ ts) zero t d l e r = grind (arith, nat_tests, lt-lt
 short_kept (b ∷ bs) (x ∷ ts) (suc k) t d l e r =
     omega (arith, short_kept bs ts k t d (omega (arith, l)) e (λ m. r (omega (arith, m))))
 
+short_here : (t n : ℕ) (x b : Bounds) → x ≡ b → cond (nat_lt t x.low) 1 0 + n ≡ 0 → b.low ≤ t
+short_here t n x b e h = grind (arith, nat_tests)
+
 -- no item is held too seldom
 pub short_none : (bs : List Bounds) (ts : List ℕ) → short_of bs ts ≡ 0 → (k : ℕ) (b : Bounds) → slice_get bs k ≡ Some b
     → b.low ≤ get_or ts k 0
 short_none [] ts h k b e = cc
-short_none (x ∷ bs) [] h zero b e =
-    let same : x ≡ b = cc in
-    let here : b.low ≤ 0 = subst (λ (z : Bounds). z.low ≤ 0) same (by_case (nat_lt 0 x.low) refl) in here
-  where
-    by_case : (v : Bool) → nat_lt 0 x.low ≡ v → x.low ≤ 0
-    by_case true q = absurd (let n : nat_lt 0 x.low ≡ true = q in let z = rw n at h in omega (arith, z))
-    by_case false q = ltb-false 0 x.low q
+short_none (x ∷ bs) [] h zero b e = short_here 0 (short_of bs []) x b (cc e) h
 short_none (x ∷ bs) [] h (suc k) b e = omega (arith, short_none bs [] (omega (arith, h)) k b e)
-short_none (x ∷ bs) (t ∷ ts) h zero b e =
-    let same : x ≡ b = cc in
-    subst (λ (z : Bounds). z.low ≤ t) same (by_case (nat_lt t x.low) refl)
-  where
-    by_case : (v : Bool) → nat_lt t x.low ≡ v → x.low ≤ t
-    by_case true q = absurd (let n : nat_lt t x.low ≡ true = q in let z = rw n at h in omega (arith, z))
-    by_case false q = ltb-false t x.low q
+short_none (x ∷ bs) (t ∷ ts) h zero b e = short_here t (short_of bs ts) x b (cc e) h
 short_none (x ∷ bs) (t ∷ ts) h (suc k) b e = short_none bs ts (omega (arith, h)) k b e
 
 pub none_short : (bs : List Bounds) (ts : List ℕ)
     → ((k : ℕ) (b : Bounds) → slice_get bs k ≡ Some b → b.low ≤ get_or ts k 0) → short_of bs ts ≡ 0
 none_short [] ts h = refl
 none_short (x ∷ bs) [] h =
-    let here : nat_lt 0 x.low ≡ false = le-ltb _ _ (h 0 x refl) in
-    rw here (omega (arith, none_short bs [] (λ k b e. omega (arith, h (suc k) b e))))
+    rw (le-ltb 0 x.low (h 0 x refl)) (omega (arith, none_short bs [] (λ k b e. omega (arith, h (suc k) b e))))
 none_short (x ∷ bs) (t ∷ ts) h =
-    let here : nat_lt t x.low ≡ false = le-ltb _ _ (h 0 x refl) in
-    rw here (omega (arith, none_short bs ts (λ k b e. h (suc k) b e)))
+    rw (le-ltb t x.low (h 0 x refl)) (omega (arith, none_short bs ts (λ k b e. h (suc k) b e)))
 
 pub short_zeros : (bs : List Bounds) (n : ℕ) → short_of bs (replicate n 0) ≡ short_of bs []
 short_zeros [] n = refl

@@ -40,12 +40,9 @@ use_of_colour (u ∷ us) i c h = grind (arith, nat_tests, use_of_colour us i c, 
 -- a use gives its item its colour, where items differ
 colour_of_use : (us : List Use) (u : Use) → DifferInItems us → IsIn us u → colour_in us u.item ≡ Some u.colour
 colour_of_use [] u d k = absurd k
-colour_of_use (v ∷ us) u d (inl q) =
-    let same : (v.item == u.item) ≡ true = eq-eqb _ _ (ap (λ (z : Use). z.item) q) in
-    rw same (ap (λ (z : Use). Some z.colour) q)
+colour_of_use (v ∷ us) u d (inl q) = cc (eq-eqb _ _ (ap (λ (z : Use). z.item) q), q)
 colour_of_use (v ∷ us) u d (inr q) =
-    let other : (v.item == u.item) ≡ false = ne_eqb _ _ (each_in (λ (z : Use). v.item ≢ z.item) us u d.0 q) in
-    rw other (colour_of_use us u d.1 q)
+    cc (ne_eqb _ _ (each_in (λ (z : Use). v.item ≢ z.item) us u d.0 q), colour_of_use us u d.1 q)
 
 met_colour : (o : Option ℕ) (c d : ℕ) → is_colour_met o c ≡ true → o ≡ Some d → (c ≡ d) × (0 < c)
 met_colour (Some e) c d h q = grind (arith, nat_tests, eqb-true, and_left)
