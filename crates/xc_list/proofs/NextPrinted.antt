@@ -29,14 +29,10 @@ pub output_silent : (a : Named) (spacing k n : ℕ) → k + n ≤ length (member
     → output a spacing (k + n) ≡ output a spacing k
 output_silent a spacing k zero h s = let e : k + 0 ≡ k = omega arith in ap (output a spacing) e
 output_silent a spacing k (suc n) h s =
-    let next = next_of (members a.puzzle) (k + n) (omega (arith, h)) in
-    let e : k + suc n ≡ (k + n) + 1 = omega arith in
-    ap (output a spacing) e
-    ∙ output_next a spacing (k + n) next.0 (drop ((k + n) + 1) (members a.puzzle)) next.1
-    ∙ ap (λ b. output a spacing (k + n) ++ (if b then member_text a ((k + n) + 1, next.0) else []))
-    (s ((k + n) + 1) (omega arith) (omega arith))
-    ∙ append-nil (output a spacing (k + n))
-    ∙ output_silent a spacing k n (omega (arith, h)) (λ j from below. s j from (omega (arith, below)))
+    let fact = output_next a spacing (k + n) (next_of (members a.puzzle) (k + n) (omega (arith, h))).0
+    (drop ((k + n) + 1) (members a.puzzle)) (next_of (members a.puzzle) (k + n) (omega (arith, h))).1 in
+    let fact2 = output_silent a spacing k n (omega (arith, h)) (λ j from below. s j from (omega (arith, below))) in
+    grind (arith, nat_tests, s ((k + n) + 1) (omega arith) (omega arith), append-nil (output a spacing (k + n)))
 
 -- it reached the next member to print, or the limit: the one that it shows
 pub record Reaches (a : Named) (spacing k n : ℕ) (o : Outlook) : Type 0 where
@@ -53,12 +49,8 @@ reaches a spacing k n o s come shown some enough silent =
     let end : k + (n - 1) + 1 ≡ k + n = omega (arith, some) in
     record {
       next =
-          sym (drop-drop (n - 1) k ms)
-          ∙ next.1
-          ∙ ap (λ m. m ∷ drop ((n - 1) + 1) (drop k ms))
-          (shown_next (n - 1) (drop k ms) s next.0 (drop ((n - 1) + 1) (drop k ms)) next.1
-          ∙ ap (λ j. shown_after j (drop k ms) s) last ∙ sym shown)
-          ∙ ap (λ ms. o.shown ∷ ms) (ap (λ j. drop j (drop k ms)) last ∙ sym come);
+          let fact = shown_next (n - 1) (drop k ms) s next.0 (drop ((n - 1) + 1) (drop k ms)) next.1 in
+          cc (drop-drop (n - 1) k ms, next.1, last, shown, come);
       same =
           output_silent a spacing k (n - 1) (omega (arith, enough, some, length-drop k ms))
           (λ j from below. silent j from (omega (arith, below, end)));

@@ -1,4 +1,5 @@
 -- The output grows member by member.
+use Rattle.std.proofs.lemmas.Bool.Decides.{nat_tests}
 use Rattle.std.proofs.Common.{◌≡◌, ℕ, zero, suc, ◌+◌, ◌<◌, ◌≤◌, ◌-◌, Bool, true, false, cond, List, [], ◌∷◌, ◌++◌, Some}
 use Rattle.std.proofs.Common.{length, take, drop, filter, refl, sym, ap, ◌∙◌, append-nil, add-one, arith}
 use Rattle.std.proofs.Common.{subst, nat_lt, lt-ltb}
@@ -46,9 +47,7 @@ at_next ms k m rest e = rw add-one (sym (slice_get-drop ms k) ∙ ap (λ l. slic
 pub enumerate_append : {X : Type 0} (n : ℕ) (xs ys : List X) → enumerate_from n
     (xs ++ ys) ≡ enumerate_from n xs ++ enumerate_from (n + length xs) ys
 enumerate_append n [] ys = let e : n ≡ n + 0 = omega arith in ap (λ k. enumerate_from k ys) e
-enumerate_append n (x ∷ xs) ys =
-    let e : (n + 1) + length xs ≡ n + suc (length xs) = omega arith in
-    ap (λ l. (n, x) ∷ l) (enumerate_append (n + 1) xs ys ∙ ap (λ k. enumerate_from (n + 1) xs ++ enumerate_from k ys) e)
+enumerate_append n (x ∷ xs) ys = grind (arith, nat_tests, enumerate_append (n + 1) xs ys)
 
 -- the text of these members, numbered from 1, as far as they are printed
 abbrev text_of : Named → ℕ → List (List Choice) → List ℕ
@@ -66,8 +65,7 @@ text_append a spacing xs ys = simp (enumerate_append, filter-append, flat_map-ap
 text_more : (a : Named) (spacing : ℕ) (ms : List (List Choice)) (m : List Choice)
     → text_of a spacing (ms ++ m ∷ []) ≡ text_of a spacing ms ++ printed_text a spacing (1 + length ms, m)
 text_more a spacing ms m =
-    text_append a spacing ms (m ∷ [])
-    ∙ ap (λ l. text_of a spacing ms ++ l) (one (is_printed spacing (1 + length ms)) (1 + length ms, m))
+    cc (text_append a spacing ms (m ∷ []), one (is_printed spacing (1 + length ms)) (1 + length ms, m))
   where
     one : (b : Bool) (nm : ℕ × List Choice)
         → flat_map (member_text a) (cond b (nm ∷ []) []) ≡ cond b (member_text a nm) []
@@ -80,8 +78,7 @@ pub output_next : (a : Named) (spacing k : ℕ) (m : List Choice) (rest : List (
 output_next a spacing k m rest e =
     let so_far : 1 + length (take k (members a.puzzle)) ≡ k + 1 =
     grind (arith, common_steps, within_next (members a.puzzle) k m rest e) in
-    ap (text_of a spacing) (take_next (members a.puzzle) k m rest e) ∙ text_more a spacing (take k (members a.puzzle)) m
-    ∙ ap (λ n. output a spacing k ++ printed_text a spacing (n, m)) so_far
+    cc (take_next (members a.puzzle) k m rest e, text_more a spacing (take k (members a.puzzle)) m, so_far)
 
 pub all_done : {X : Type 0} (ms : List X) (k : ℕ) → drop k ms ≡ [] → k ≤ length ms → k ≡ length ms
 all_done ms k e h = omega (arith, ap length e, length-drop k ms, h)
@@ -127,10 +124,9 @@ take_split ms k limit h =
 pub output_behind : (a : Named) (spacing k limit : ℕ) → k ≤ limit → (tail : List ℕ)
     × (output a spacing limit ≡ output a spacing k ++ tail)
 output_behind a spacing k limit h =
-    let ms = members a.puzzle in (
-      text_behind a spacing (length (take k ms)) (drop k (take limit ms)),
-      ap (text_of a spacing) (take_split ms k limit h) ∙ text_append a spacing (take k ms) (drop k (take limit ms)),
-    )
+    let fact = text_behind a spacing (length (take k (members a.puzzle))) (drop k (take limit (members a.puzzle))) in
+    let fact2 = text_append a spacing (take k (members a.puzzle)) (drop k (take limit (members a.puzzle))) in
+    grind (arith, nat_tests, take_split (members a.puzzle) k limit h)
 
 pub begins_front : (x y : SinkState) (text front tail : List ℕ) → text ≡ front ++ tail → Appends x.taken y.taken front
     → Begins x y text
@@ -157,8 +153,7 @@ stopped_begins a spacing limit t x z s =
     let n : ℕ = s.stopped.2.many in
     let cut : text ≡ take n text ++ drop n text = sym (take-append-drop n text) in
     begins_front x z (output a spacing limit) (output a spacing (t - 1) ++ take n text) (drop n text ++ b.0)
-    (b.1 ∙ ap (λ l. l ++ b.0) (next ∙ ap (λ l. output a spacing (t - 1) ++ l) (printed ∙ cut))
-    ∙ regroup (output a spacing (t - 1)) (take n text) (drop n text) b.0)
+    (cc (b.1, next, printed, cut, regroup (output a spacing (t - 1)) (take n text) (drop n text) b.0))
     (appends_more x.taken s.stopped.0.taken z.taken (output a spacing (t - 1)) (take n text) s.stopped.1.whole
     s.stopped.2.begun)
   where
@@ -167,6 +162,4 @@ stopped_begins a spacing limit t x z s =
 
 -- the end of a run behind the last member
 pub done_end : (a : Named) (limit n : ℕ) → n ≡ length (members a.puzzle) → n < limit → Done n ≡ end_of a limit
-done_end a limit n e h =
-    let less : nat_lt (length (members a.puzzle)) limit ≡ true = rw (← e) (lt-ltb n limit h) in
-    ap Done e ∙ sym (ap (λ b. if b then Done (length (members a.puzzle)) else Limit limit) less)
+done_end a limit n e h = cc (e, lt-ltb n limit h)

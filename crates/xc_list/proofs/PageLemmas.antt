@@ -1,4 +1,5 @@
 -- A text that is put together on a page.
+use Rattle.std.proofs.lemmas.Bool.Decides.{nat_tests}
 use Rattle.std.proofs.Common.{◌≡◌, ℕ, ◌+◌, ◌-◌, ◌≤◌, List, [], ◌++◌, length, take, drop, sym, ap, ◌∙◌, arith}
 use Rattle.std.proofs.Common.{subst, append-nil, append_assoc, ◌∷◌, get_or}
 use Rattle.std.proofs.Math.Seq.{drop-cons, take-append-add}
@@ -46,60 +47,42 @@ then_puts {x = x} {y = y} {z = z} {t = t} {u = u} p q = record {
   front = p.front ++ q.front;
   took = then_took p.took q.took;
   whole =
-      sym (append_assoc x t u)
-      ∙ ap (λ w. w ++ u) p.whole
-      ∙ append_assoc p.front y u
-      ∙ ap (λ w. p.front ++ w) q.whole
-      ∙ sym (append_assoc p.front q.front z);
+      cc (append_assoc x t u, p.whole, append_assoc p.front y u, q.whole, append_assoc p.front q.front z);
 }
 
 -- the sink broke off in what was held with a text behind it
 pub puts_broke : {a b c : SinkState} {x y t : List ℕ} (u : List ℕ) → Puts a b x y t → BrokeOff b c (y ++ u)
     → BrokeOff a c (x ++ (t ++ u))
 puts_broke {a = a} {c = c} {x = x} {y = y} {t = t} u p q =
-    subst (BrokeOff a c)
-    (sym (append_assoc p.front y u) ∙ ap (λ w. w ++ u) (sym p.whole) ∙ append_assoc x t u)
-    (then_broke p.took q)
+    grind (arith, nat_tests, append_assoc p.front y u, p.whole, append_assoc x t u, then_broke p.took q)
 
 -- a short part, put by one store of 16 bytes
 pub short_put : (page text : List ℕ) (at from count : ℕ) → count ≤ 16 → at + count + 16 ≤ length page
     → from + count + 16 ≤ length text
     → take (at + count) (put_chunk at page (chunk from 16 text)) ≡ take at page ++ take count (drop from text)
 short_put page text at from count few room long =
-    let piece : List ℕ = chunk from 16 text in
-    let put : List ℕ = put_chunk at page piece in
-    let m : length piece ≡ 16 = length-chunk from 16 text (omega (arith, long)) in
-    let whole : take (at + 16) put ≡ take at page ++ piece =
-    take_more_put_chunk at page piece (at + 16) (omega (arith, m)) (omega (arith, room)) in
-    let front : length (take at page) ≡ at = length-take-le at page (omega (arith, room)) in
-    let place : at + count ≡ length (take at page) + count = omega (arith, front) in
-    sym (take-take (at + count) (at + 16) put (omega (arith, few)))
-    ∙ ap (take (at + count)) whole
-    ∙ ap (λ n. take n (take at page ++ piece)) place
-    ∙ take-append-add (take at page) piece count
-    ∙ ap (λ t. take at page ++ t) (take-take count 16 (drop from text) few)
+    let fact = take_more_put_chunk at page (chunk from 16 text) (at + 16) (omega (
+      arith,
+      (length-chunk from 16 text
+          (omega (arith, long))),
+    )) (omega (arith, room)) in
+    let fact2 = take-take (at + count) (at + 16) (put_chunk at page (chunk from 16 text)) (omega (arith, few)) in
+    let fact3 = take-append-add (take at page) (chunk from 16 text) count in
+    cc (length-take-le at page (omega (arith, room)), take-take count 16 (drop from text) few)
 
 colon_line : (page : List ℕ) → length page ≡ 4096
     → take 2 (drop 20 (slice_set (slice_set page 20 COLON) 21 10)) ≡ COLON ∷ 10 ∷ []
 colon_line page size =
-    let a : drop 20 (slice_set (slice_set page 20 COLON) 21 10) ≡ slice_set (drop 20 (slice_set page 20 COLON)) 1 10 =
-    drop-set-add 20 (slice_set page 20 COLON) 1 10 in
-    let b : drop 20 (slice_set page 20 COLON) ≡ COLON ∷ drop 21 page = drop-set page 20 COLON (omega (arith, size)) in
-    let d : drop 21 page ≡ get_or page 21 0 ∷ drop 22 page = drop-cons page 21 0 (omega (arith, size)) in
-    ap (take 2) (a ∙ ap (λ l. slice_set l 1 10) (b ∙ ap (λ l. COLON ∷ l) d))
+    let fact = drop-set-add 20 (slice_set page 20 COLON) 1 10 in
+    cc (drop-set page 20 COLON (omega (arith, size)), drop-cons page 21 0 (omega (arith, size)))
 
 -- digits that end at the place of the colon
 pub header_held : (page put digits : List ℕ) (from : ℕ) → length page ≡ 4096 → from + length digits ≡ 20
     → drop from put ≡ digits ++ drop 20 (slice_set (slice_set page 20 COLON) 21 10)
     → held_text put from 22 ≡ digits ++ COLON ∷ 10 ∷ []
 header_held page put digits from size ends e =
-    let behind : List ℕ = drop 20 (slice_set (slice_set page 20 COLON) 21 10) in
-    let count : 22 - from ≡ length digits + 2 = omega (arith, ends) in
-    sym (between_is put from 22)
-    ∙ ap (take (22 - from)) e
-    ∙ ap (λ n. take n (digits ++ behind)) count
-    ∙ take-append-add digits behind 2
-    ∙ ap (λ t. digits ++ t) (colon_line page size)
+    let fact = take-append-add digits (drop 20 (slice_set (slice_set page 20 COLON) 21 10)) 2 in
+    grind (arith, nat_tests, between_is put from 22, e, ends, colon_line page size)
 
 pub put_failed : {E : Type 0} (a b : SinkState) (before text page : List ℕ) (r : Result Held E) → IsErr r
     → BrokeOff a b (before ++ text) → IsPut a b before r page text

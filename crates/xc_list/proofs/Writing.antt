@@ -22,15 +22,13 @@ pub flat_map-take-more : {X : Type 0} (f : X → List ℕ) (xs : List X) (i : �
     → flat_map f (take (i + 1) xs) ≡ flat_map f (take i xs) ++ f (get_or xs i d)
 flat_map-take-more f xs i d h =
     let more : take (i + 1) xs ≡ take i xs ++ (get_or xs i d ∷ []) = grind (arith, common_steps) in
-    ap (flat_map f) more ∙ flat_map-append f (take i xs) (get_or xs i d ∷ [])
-    ∙ ap (λ l. flat_map f (take i xs) ++ l) (append-nil (f (get_or xs i d)))
+    cc (more, flat_map-append f (take i xs) (get_or xs i d ∷ []), append-nil (f (get_or xs i d)))
 
 pub flat_map-parts : {X : Type 0} (f : X → List ℕ) (xs : List X) (i : ℕ) (d : X) → i < length xs
     → flat_map f xs ≡ flat_map f (take i xs) ++ f (get_or xs i d) ++ flat_map f (drop (i + 1) xs)
 flat_map-parts f xs i d h =
     let all : xs ≡ take (i + 1) xs ++ drop (i + 1) xs = grind (arith, common_steps) in
-    ap (flat_map f) all ∙ flat_map-append f (take (i + 1) xs) (drop (i + 1) xs)
-    ∙ ap (λ l. l ++ flat_map f (drop (i + 1) xs)) (flat_map-take-more f xs i d h)
+    cc (all, flat_map-append f (take (i + 1) xs) (drop (i + 1) xs), flat_map-take-more f xs i d h)
 
 pub took_nothing : (s : SinkState) → Took s s []
 took_nothing s = record { no_failure = refl; whole = Appends-nil s.taken; unflushed = refl }
@@ -46,8 +44,7 @@ then_broke {a = a} {b = b} {c = c} {s = s} {t = t} p q = record {
   many = length s + q.many;
   part = grind (arith, common_steps, q.part);
   begun =
-      subst (Appends a.taken c.taken) (sym (take-append-add s t q.many))
-      (appends_more a.taken b.taken c.taken s (take q.many t) p.whole q.begun);
+      rw (take-append-add s t q.many) (appends_more a.taken b.taken c.taken s (take q.many t) p.whole q.begun);
   unflushed = q.unflushed ∙ p.unflushed;
 }
 
@@ -87,11 +84,7 @@ pub option_texts : (f : Use → List ℕ) (item : ℕ) (all us before after : Li
     → p ≡ place_in item us
     → before ≡ take p us → after ≡ drop p us → flat_map f (from_item item all) ≡ flat_map f after ++ flat_map f before
 option_texts f item all us before after p e at b a =
-    let here : p ≡ place_in item all = at ∙ ap (place_in item) e in
-    let back : after ≡ drop (place_in item all) all = cc (a, here, e) in
-    let front : before ≡ take (place_in item all) all = cc (b, here, e) in
-    rw back (rw front (flat_map-append f (drop (place_in item all) all)
-    (take (place_in item all) all)))
+    cc (a, at, e, b, flat_map-append f (drop (place_in item all) all) (take (place_in item all) all))
 
 pub loop_took : {X : Type 0} {a b c : SinkState} (f : X → List ℕ) (xs : List X) (i : ℕ) (d : X) → i < length xs
     → Took a b (flat_map f (take i xs)) → Took b c (f (get_or xs i d)) → Took a c (flat_map f (take (i + 1) xs))

@@ -14,9 +14,8 @@ loop-o-preserved c =
     let us = c.option.result.now in
     let here : slice_get options o ≡ Some us =
     sym (numbered_get-at options (o + 1) o (omega arith)) ∙ c.option.ensures.value in
-    c.in_ok-add_first.ensures
-    ∙ ap (λ fs. fs ++ first_item us ∷ []) c.loop-o.invariant
-    ∙ sym (ap (map first_item) (take_more-get options o us here) ∙ map-snoc first_item (take o options) us)
+    let fact = map-snoc first_item (take o options) us in
+    cc (c.in_ok-add_first.ensures, c.loop-o.invariant, take_more-get options o us here)
 
 pub returns : goal.returns
 returns c =

@@ -1,3 +1,4 @@
+use Rattle.std.proofs.lemmas.Bool.Decides.{nat_tests}
 use Rattle.std.proofs.Common.{arith, ◌≡◌, ◌+◌, ◌∙◌, sym, subst, take, Some}
 use Rattle.std.specs.Prelude.{slice_get}
 use Rattle.xc_input.proofs.OptionLemmas.FlatParts.{numbered_get-at}
@@ -11,6 +12,5 @@ loop-o-preserved c =
     let o = c.loop-o.o in
     let here : slice_get options o ≡ Some c.option.result.now =
     sym (numbered_get-at options (o + 1) o (omega arith)) ∙ c.option.ensures.value in
-    subst (λ os. AreLaid c.args.problem.now os c.add_option.new.texts.bytes.items c.add_option.new.starts.items)
-    (sym (take_more-get options o c.option.result.now here))
-    (c.in_ok-add_option.ensures (take o options) c.loop-o.invariant)
+    let fact = c.in_ok-add_option.ensures (take o options) c.loop-o.invariant in
+    grind (arith, nat_tests, take_more-get options o c.option.result.now here)

@@ -7,11 +7,10 @@ use Rattle.xc_list.proofs.bodies.place_in_text.Goals as goal
 
 pub returns-then-u-item : goal.returns-then-u-item
 returns-then-u-item c =
-    let at =
-    position_or_len_is (λ u. u.item == c.args.item) c.args.uses.now c.loop-u.u-index
-    (record { item = 0; colour = 0 }) (omega (arith, c.loop-u-test.true))
-    (λ k h. c.loop-u.invariant.none k (record { item = 0; colour = 0 }) h) (λ h. eq-eqb _ _ c.if-u-item.true) in
-    c.loop-u.invariant.counted ∙ sym (ap (λ n. length (uses_text c.args.problem.now (take n c.args.uses.now))) at)
+    let fact = position_or_len_is (λ u. u.item == c.args.item) c.args.uses.now c.loop-u.u-index
+    (record { item = 0; colour = 0 }) (omega (arith, c.loop-u-test.true)) (λ k h. c.loop-u.invariant.none k
+    (record { item = 0; colour = 0 }) h) (λ h. eq-eqb _ _ c.if-u-item.true) in
+    cc (c.loop-u.invariant.counted)
 
 pub overflow_add-place : goal.overflow_add-place
 overflow_add-place c =

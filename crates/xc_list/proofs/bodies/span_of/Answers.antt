@@ -1,3 +1,4 @@
+use Rattle.std.proofs.lemmas.Bool.Decides.{nat_tests}
 use Rattle.std.proofs.Common.{arith}
 use Rattle.xc_input.proofs.FaultLemmas.Checks.{items-length}
 use Rattle.xc_list.proofs.OutputLemmas.LaidOptions.{laid-count, padded_part}
@@ -5,22 +6,13 @@ use Rattle.xc_list.proofs.bodies.span_of.Goals as goal
 
 pub index-requires : goal.index-requires
 index-requires c =
-    omega (
-      arith,
-      laid-count _ _ _ _ c.requires.laid.are_laid,
-      items-length c.args.layout.now.starts,
-      c.requires.known.0,
-      c.requires.known.1,
-    )
+    let fact = laid-count _ _ _ _ c.requires.laid.are_laid in
+    grind (arith, nat_tests, items-length c.args.layout.now.starts, c.requires.known.0, c.requires.known.1)
 
 pub index-requires-2 : goal.index-requires-2
 index-requires-2 c =
-    omega (
-      arith,
-      laid-count _ _ _ _ c.requires.laid.are_laid,
-      items-length c.args.layout.now.starts,
-      c.requires.known.1,
-    )
+    let fact = laid-count _ _ _ _ c.requires.laid.are_laid in
+    grind (arith, nat_tests, items-length c.args.layout.now.starts, c.requires.known.1)
 
 pub overflow_sub-result : goal.overflow_sub-result
 overflow_sub-result c =

@@ -1,3 +1,4 @@
+use Rattle.std.proofs.lemmas.Bool.Decides.{nat_tests}
 use Rattle.std.proofs.Common.{arith, ◌≡◌, ◌+◌, ◌-◌, ◌^◌, ◌++◌, length, min, take, [], ◌∷◌, ap, sym, ◌∙◌, subst}
 use Rattle.std.proofs.Common.{length-append, append-nil, Some}
 use Rattle.std.specs.Prelude.{slice_get, flat_map}
@@ -18,21 +19,13 @@ loop-o-preserved c =
     sym (numbered_get-at options (o + 1) o (omega arith)) ∙ c.option.ensures.value in
     let more : flat_map (uses_text p) (take (o + 1) options) ≡ flat_map (uses_text p) (take o options) ++
     uses_text p us =
-    ap (flat_map (uses_text p)) (take_more-get options o us here)
-    ∙ flat_map-append (uses_text p) (take o options) (us ∷ [])
-    ∙ ap (λ t. flat_map (uses_text p) (take o options) ++ t) (append-nil (uses_text p us)) in
-    omega (
-      arith,
-      c.loop-o.invariant,
-      c.option_length.ensures,
-      c.saturating_add-total.ensures,
-      ap length more,
-      length-append (flat_map (uses_text p) (take o options)) (uses_text p us),
-    )
+    let fact = flat_map-append (uses_text p) (take o options) (us ∷ []) in
+    cc (take_more-get options o us here, append-nil (uses_text p us)) in
+    let fact = length-append (flat_map (uses_text p) (take o options)) (uses_text p us) in
+    grind (arith, nat_tests, c.loop-o.invariant, c.option_length.ensures, c.saturating_add-total.ensures, more)
 
 pub returns : goal.returns
 returns c =
     let options = c.args.problem.now.puzzle.options in
     let all : take c.loop-o.o options ≡ options = grind (arith, common_steps) in
-    subst (λ os. c.loop-o.total ≡ min (length (flat_map (uses_text c.args.problem.now) os)) (2 ^ 64 - 1)) all
-    c.loop-o.invariant
+    rw all at c.loop-o.invariant

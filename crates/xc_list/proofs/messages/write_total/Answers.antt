@@ -9,6 +9,4 @@ returns g c =
     let end : decimal c.args.n ++ (c.plural.result.now ++ (c.args.tail.now ++ [])) ≡ decimal c.args.n ++
     (if c.args.n == 1 then codes " solution" else codes " solutions") ++ c.args.tail.now
     = grind (arith, common_steps, c.plural.ensures) in
-    subst (λ text. Writes (g.S.Sink.state c.args.sink.now) (g.S.Sink.state c.write_line.new.sink) c.write_line.result
-    (codes "Altogether " ++ text))
-    end c.write_line.ensures
+    rw end at c.write_line.ensures

@@ -22,9 +22,7 @@ pub loop-found-preserved : goal.loop-found-preserved
 loop-found-preserved g c =
     let at = part g (goal.at.loop-found-preserved g c).After-path in
     record {
-      still = c.next.ensures.still
-          ∙ ap (λ (u : Uncut). record u { to_come = c.next.new.self.to_come; path = c.next.new.self.path })
-          c.loop-found.invariant.still;
+      still = rw (c.next.ensures.still, c.loop-found.invariant.still);
       planned =
           planned_more c.args.problem.now c.loop-found.found c.path.result.now c.loop-found.cut.to_come
           c.next.new.self.to_come _ _ _

@@ -1,3 +1,5 @@
+use Rattle.std.proofs.lemmas.Bool.Decides.{nat_tests}
+use Rattle.std.proofs.Common.{arith}
 use Rattle.std.proofs.Common.{subst, IfSome}
 use Rattle.xc_list.specs.inner.SeenLines.{IsClassOfLine}
 use Rattle.xc_list.specs.inner.Checking.{Progress}
@@ -6,7 +8,6 @@ use Rattle.xc_list.proofs.checker.Checker.seen_class.Goals as goal
 
 pub returns-in-32 : goal.returns-in-32
 returns-in-32 c =
-    let i = c.self.inside in
-    subst (λ (s : Progress). IfSome c.class_of.result (IsClassOfLine s.options c.args.line.now)) c.self.view_is
-    (found-rightly i.options i.seen.lines.items c.args.line.now c.class_of.result c.self.invariant.seen
-    c.class_of.ensures)
+    let fact = found-rightly c.self.inside.options c.self.inside.seen.lines.items c.args.line.now c.class_of.result
+    c.self.invariant.seen c.class_of.ensures in
+    grind (arith, nat_tests, c.self.view_is)

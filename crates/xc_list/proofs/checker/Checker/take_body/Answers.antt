@@ -1,3 +1,5 @@
+use Rattle.std.proofs.lemmas.Bool.Decides.{nat_tests}
+use Rattle.std.proofs.Common.{arith}
 use Rattle.std.proofs.Common.{◌≡◌, true, not, is_some, Some, None, refl, sym, ap, ◌∙◌, ◌<◌, length, subst}
 use Rattle.std.specs.Prelude.{All}
 use Rattle.xc_list.specs.ListingLines.{words_in}
@@ -46,11 +48,9 @@ returns-in_ok-take_class-in-Ok-Some-clause-takes c =
       verdicts = i.verdicts.items;
     } in
     let class : IsClassOfBody c.class_of.new.self words (Some c.in-Ok-Some.class) =
-    subst (λ (b : Classes). IsClassOfBody b words (Some c.in-Ok-Some.class)) (sym c.class_of.ensures.same)
-    (subst (IsClassOfBody i.options words) c.in-Ok-Some.field-0-is c.in-Ok-Some.ensures.class) in
-    subst (λ (u : Progress). Takes (Body words) u c.take_class.new.self)
-    (ap (λ (b : Classes). record s { options = b }) c.class_of.ensures.same ∙ c.self.view_is)
-    (c.in_ok-take_class-in-Ok-Some.ensures.takes words class)
+    grind (arith, nat_tests, c.class_of.ensures.same, c.in-Ok-Some.field-0-is, c.in-Ok-Some.ensures.class) in
+    let fact = ap (λ (b : Classes). record s { options = b }) c.class_of.ensures.same ∙ c.self.view_is in
+    grind (arith, nat_tests, c.in_ok-take_class-in-Ok-Some.ensures.takes words class)
 
 pub returns-in-Ok-None-clause-takes : goal.returns-in-Ok-None-clause-takes
 returns-in-Ok-None-clause-takes c =

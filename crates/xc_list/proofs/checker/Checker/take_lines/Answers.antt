@@ -19,8 +19,7 @@ loop-rest-preserved c =
       count = omega (arith, so_far.count, c.saturating_add-lines.ensures);
       progress = c.in_ok-take_line.ensures.takes all so_far.done c.cut_line.result.0.now
           (lines_of c.cut_line.result.1.now) refl
-          (subst (λ (ls : List (List ℕ)). IsProgress all so_far.done ls c.loop-rest.self) c.cut_line.ensures.lines
-          so_far.progress);
+          (rw c.cut_line.ensures.lines at so_far.progress);
     }
 
 pub returns-clause-taken : goal.returns-clause-taken
@@ -30,8 +29,7 @@ returns-clause-taken c =
     record {
       done = so_far.done;
       progress =
-          subst (λ (ls : List (List ℕ)). IsProgress (lines_of c.args.listing.now) so_far.done ls c.loop-rest.self)
-          none so_far.progress;
+          rw none at so_far.progress;
     }
 
 pub returns-in_err-take_line-clause-fault : goal.returns-in_err-take_line-clause-fault

@@ -1,3 +1,4 @@
+use Rattle.std.proofs.lemmas.Bool.Decides.{nat_tests}
 use Rattle.std.proofs.Common.{suc, ◌≢◌, arith, ◌≡◌, ◌-◌, ◌≤◌, [], ◌∷◌, length, get_or, take, sym, ◌∙◌, ap, refl}
 use Rattle.std.proofs.lemmas.List.Elements.{recursion_from_All}
 use Rattle.xc_input.specs.declared.problem.Use.{Use}
@@ -12,21 +13,15 @@ hold-requires-clause-item c =
     let blank : Use = record { item = 0; colour = 0 } in
     let known = c.requires.items c.loop-u.u-index blank c.loop-u-test.true in (
       omega (arith, known.0),
-      omega (
-        arith,
-        known.1,
-        ap length c.loop-u.invariant.times,
-        length-added (take c.loop-u.u-index c.args.uses.now)
-            c.args.self.now.times.items,
-      ),
+      let fact = length-added (take c.loop-u.u-index c.args.uses.now) c.args.self.now.times.items in
+          grind (arith, nat_tests, known.1, c.loop-u.invariant.times),
     )
 
 pub hold-requires-clause-colours : goal.hold-requires-clause-colours
 hold-requires-clause-colours c =
-    ap length c.loop-u.invariant.colours
-    ∙ length-coloured (take c.loop-u.u-index c.args.uses.now) c.args.self.now.colours.items ∙ c.requires.colours
-    ∙ sym (ap length c.loop-u.invariant.times
-    ∙ length-added (take c.loop-u.u-index c.args.uses.now) c.args.self.now.times.items)
+    let fact = length-coloured (take c.loop-u.u-index c.args.uses.now) c.args.self.now.colours.items in
+    let fact2 = length-added (take c.loop-u.u-index c.args.uses.now) c.args.self.now.times.items in
+    cc (c.loop-u.invariant.colours, c.requires.colours, c.loop-u.invariant.times)
 
 pub hold-requires-clause-few : goal.hold-requires-clause-few
 hold-requires-clause-few c =

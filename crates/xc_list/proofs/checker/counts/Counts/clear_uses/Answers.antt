@@ -1,3 +1,4 @@
+use Rattle.std.proofs.lemmas.Bool.Decides.{nat_tests}
 use Rattle.std.proofs.Common.{arith, [], ◌∷◌, length, get_or, take, sym, ◌∙◌, ap}
 use Rattle.std.proofs.lemmas.List.{take_more}
 use Rattle.xc_input.specs.declared.problem.Use.{Use}
@@ -9,13 +10,8 @@ pub index_mut-requires : goal.index_mut-requires
 index_mut-requires c =
     let blank : Use = record { item = 0; colour = 0 } in
     let known = c.requires.items c.loop-u.u-index blank c.loop-u-test.true in
-    omega (
-      arith,
-      known,
-      ap length c.loop-u.invariant.times,
-      length-cleared (take c.loop-u.u-index c.args.uses.now)
-          c.args.self.now.times.items,
-    )
+    let fact = length-cleared (take c.loop-u.u-index c.args.uses.now) c.args.self.now.times.items in
+    grind (arith, nat_tests, known, c.loop-u.invariant.times)
 
 pub loop-u-preserved : goal.loop-u-preserved
 loop-u-preserved c =

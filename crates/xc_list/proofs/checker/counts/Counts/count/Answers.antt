@@ -1,3 +1,4 @@
+use Rattle.std.proofs.lemmas.Bool.Decides.{nat_tests}
 use Rattle.std.proofs.Common.{ℕ, List, arith, ◌≡◌, ◌+◌, ◌<◌, ◌≢◌, [], ◌∷◌, length, get_or, set, take, replicate, sym}
 use Rattle.std.proofs.Common.{◌∙◌, ap, subst}
 use Rattle.std.proofs.lemmas.List.{get_or_default, length-replicate}
@@ -19,11 +20,9 @@ size_counted n ks ns now e h = ap length h ∙ length-raised ks ns ∙ ap length
 
 pub index_mut-requires : goal.index_mut-requires
 index_mut-requires c =
-    let i = c.loop-class.class-index in
-    let size =
-    size_counted (length c.args.options.now.classes) (take i c.args.chosen.now) c.args.self.now.asked.items
-    c.loop-class.self.asked.items c.requires.asked c.loop-class.invariant.asked in
-    omega (arith, c.requires.known i 0 c.loop-class-test.true, size)
+    let fact = size_counted (length c.args.options.now.classes) (take c.loop-class.class-index c.args.chosen.now)
+    c.args.self.now.asked.items c.loop-class.self.asked.items c.requires.asked c.loop-class.invariant.asked in
+    grind (arith, nat_tests, c.requires.known c.loop-class.class-index 0 c.loop-class-test.true)
 
 pub overflow_add-index_mut : goal.overflow_add-index_mut
 overflow_add-index_mut c =
@@ -52,15 +51,12 @@ add-requires-clause-items c =
 
 pub add-requires-clause-distinct : goal.add-requires-clause-distinct
 add-requires-clause-distinct c =
-    let b = c.args.options.now in
-    let i = c.loop-class.class-index in
-    let k = get_or c.args.chosen.now i 0 in
-    let us = c.uses.result.now in
-    let is : uses_at b.classes k ≡ us = get_or_from_slice_get b.classes k us [] c.uses.ensures.value in
-    let usable =
-    classes_usable b c.requires.indexed.sound c.requires.indexed.classes k
-    (c.requires.known i 0 c.loop-class-test.true) in
-    AllPairs-from_each_two (λ (u v : Use). u.item ≢ v.item) us (subst DifferInItems is usable.1)
+    let fact = AllPairs-from_each_two (λ (u v : Use). u.item ≢ v.item) c.uses.result.now (subst DifferInItems
+    (get_or_from_slice_get c.args.options.now.classes (get_or c.args.chosen.now c.loop-class.class-index 0)
+    c.uses.result.now [] c.uses.ensures.value) (classes_usable c.args.options.now c.requires.indexed.sound
+    c.requires.indexed.classes (get_or c.args.chosen.now c.loop-class.class-index 0) (c.requires.known
+    c.loop-class.class-index 0 c.loop-class-test.true)).1) in
+    grind (arith, nat_tests)
 
 pub add-requires-clause-colours : goal.add-requires-clause-colours
 add-requires-clause-colours c =
@@ -72,16 +68,11 @@ add-requires-clause-colours c =
 
 pub add-requires-clause-few : goal.add-requires-clause-few
 add-requires-clause-few c = λ k.
-    let b = c.args.options.now in
-    let n = item_count b.problem.puzzle in
-    let ks = c.args.chosen.now in
-    let i = c.loop-class.class-index in
-    let same : c.loop-class.self.times.items ≡ added (uses_in b.classes (take i ks)) (replicate n 0) =
-    c.loop-class.invariant.times ∙ ap (added (uses_in b.classes (take i ks))) c.requires.times in
-    let usable = classes_usable b c.requires.indexed.sound c.requires.indexed.classes in
-    let below : AreBelow (length b.classes) ks = recursion_from_All (λ j. j < length b.classes) ks c.requires.known in
-    let few = added_few n b.classes ks i k usable below (omega (arith, c.loop-class-test.true)) in
-    omega (arith, ap (λ l. get_or l k 0) same, few, c.loop-class-test.true)
+    let fact = added_few (item_count c.args.options.now.problem.puzzle) c.args.options.now.classes c.args.chosen.now
+    c.loop-class.class-index k (classes_usable c.args.options.now c.requires.indexed.sound c.requires.indexed.classes)
+    (recursion_from_All (λ j. j < length c.args.options.now.classes) c.args.chosen.now c.requires.known)
+    (omega (arith, c.loop-class-test.true)) in
+    grind (arith, nat_tests, c.loop-class.invariant.times, c.requires.times, c.loop-class-test.true)
 
 pub loop-class-preserved : goal.loop-class-preserved
 loop-class-preserved c =
@@ -96,9 +87,7 @@ loop-class-preserved c =
     size_counted n (take i ks) c.args.self.now.asked.items asked c.requires.asked c.loop-class.invariant.asked in
     let known : k < n = c.requires.known i 0 c.loop-class-test.true in
     let read : set asked k (c.index_mut.result.now + 1) ≡ set asked k (get_or asked k 0 + 1) =
-    ap (λ m. set asked k (m + 1))
-    (c.index_mut.ensures.value
-    ∙ get_or_default asked k c.index_mut.result.now 0 (omega (arith, known, size))) in
+    cc (c.index_mut.ensures.value, get_or_default asked k c.index_mut.result.now 0 (omega (arith, known, size))) in
     record {
       times = c.add.ensures.times ∙ ap (added us) c.loop-class.invariant.times
           ∙ sym (added_class_more b.classes ks i us c.args.self.now.times.items c.loop-class-test.true

@@ -1,3 +1,4 @@
+use Rattle.std.proofs.lemmas.Bool.Decides.{nat_tests}
 use Rattle.std.proofs.Common.{arith, ◌≢◌, ◌+◌, ◌-◌, ◌<◌, length, get_or, sym, ◌∙◌}
 use Rattle.xc_input.specs.declared.problem.Bounds.{Bounds}
 use Rattle.xc_list.proofs.CheckLemmas.ShortItems.{short_reached, short_kept}
@@ -8,24 +9,16 @@ use Rattle.xc_list.proofs.checker.counts.Counts.hold.Goals.{else-place-bounds-vi
 pub overflow_sub-self : goal.overflow_sub-self
 overflow_sub-self c =
     let blank : Bounds = record { low = 0; high = 0 } in
-    omega (
-      arith,
-      c.requires.short,
-      short_reached c.args.bounds.now c.args.self.now.times.items (c.args.u.item - 1)
-          c.index.result.now blank (omega (arith, c.requires.item)) c.index.ensures c.if-place-bounds.true
-          c.if-times-bounds.true,
-    )
+    let fact = short_reached c.args.bounds.now c.args.self.now.times.items (c.args.u.item - 1) c.index.result.now blank
+    (omega (arith, c.requires.item)) c.index.ensures c.if-place-bounds.true c.if-times-bounds.true in
+    grind (arith, nat_tests, c.requires.short)
 
 pub returns-then-times-bounds-clause-short : goal.returns-then-times-bounds-clause-short
 returns-then-times-bounds-clause-short c =
     let blank : Bounds = record { low = 0; high = 0 } in
-    omega (
-      arith,
-      c.requires.short,
-      short_reached c.args.bounds.now c.args.self.now.times.items (c.args.u.item - 1)
-          c.index.result.now blank (omega (arith, c.requires.item)) c.index.ensures c.if-place-bounds.true
-          c.if-times-bounds.true,
-    )
+    let fact = short_reached c.args.bounds.now c.args.self.now.times.items (c.args.u.item - 1) c.index.result.now blank
+    (omega (arith, c.requires.item)) c.index.ensures c.if-place-bounds.true c.if-times-bounds.true in
+    grind (arith, nat_tests, c.requires.short)
 
 pub returns-else-place-bounds-clause-short : goal.returns-else-place-bounds-clause-short
 returns-else-place-bounds-clause-short c =

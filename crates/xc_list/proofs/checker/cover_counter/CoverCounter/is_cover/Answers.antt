@@ -1,3 +1,5 @@
+use Rattle.std.proofs.lemmas.Bool.Decides.{nat_tests}
+use Rattle.std.proofs.Common.{arith}
 use Rattle.std.proofs.Common.{ℕ, List, ◌≡◌, ◌∙◌, length, replicate, sym, ap, ap₂, subst}
 use Rattle.xc_input.specs.Problem.{item_count}
 use Rattle.xc_list.specs.inner.CoverCounts.{Places, item_places, uses_in, added, raised, lowered, short_of}
@@ -14,9 +16,8 @@ forgotten ks ns z e h = h ∙ ap (lowered ks) e ∙ lowered_back (length ns) ks 
 
 pub is_cover-cover-requires-clause-times : goal.is_cover-cover-requires-clause-times
 is_cover-cover-requires-clause-times c =
-    let us = uses_in c.args.options.now.classes c.args.chosen.now in
-    ap length c.count.ensures.times ∙ length-added us c.self.inside.counts.times.items
-    ∙ ap (λ (v : Places). v.items) (c.self.view_is ∙ c.requires.places)
+    let fact = length-added (uses_in c.args.options.now.classes c.args.chosen.now) c.self.inside.counts.times.items in
+    grind (arith, nat_tests, c.count.ensures.times, c.self.view_is, c.requires.places)
 
 pub is_cover-cover-requires-clause-colours : goal.is_cover-cover-requires-clause-colours
 is_cover-cover-requires-clause-colours c =
@@ -31,9 +32,8 @@ is_cover-cover-requires-clause-asked c =
 
 pub clear-requires-clause-times : goal.clear-requires-clause-times
 clear-requires-clause-times c =
-    let us = uses_in c.args.options.now.classes c.args.chosen.now in
-    ap length c.count.ensures.times ∙ length-added us c.self.inside.counts.times.items
-    ∙ ap (λ (v : Places). v.items) (c.self.view_is ∙ c.requires.places)
+    let fact = length-added (uses_in c.args.options.now.classes c.args.chosen.now) c.self.inside.counts.times.items in
+    grind (arith, nat_tests, c.count.ensures.times, c.self.view_is, c.requires.places)
 
 pub clear-requires-clause-asked : goal.clear-requires-clause-asked
 clear-requires-clause-asked c =
@@ -59,15 +59,11 @@ invariant_of-self c =
 
 pub returns-clause-same : goal.returns-clause-same
 returns-clause-same c =
-    let us = uses_in c.args.options.now.classes c.args.chosen.now in
-    let old = c.self.inside.counts in
-    let times =
-    forgotten (item_places us) old.times.items c.self.invariant.times c.count.ensures.times c.clear.ensures.times in
-    let asked =
-    forgotten c.args.chosen.now old.asked.items c.self.invariant.asked c.count.ensures.asked
-    c.clear.ensures.asked in
-    ap₂ (λ i k. let v : Places = record { bounds = c.self.inside.bounds.items; items = i; classes = k } in v)
-    (ap length times) (ap length asked) ∙ c.self.view_is
+    let fact = forgotten (item_places (uses_in c.args.options.now.classes c.args.chosen.now))
+    c.self.inside.counts.times.items c.self.invariant.times c.count.ensures.times c.clear.ensures.times in
+    let fact2 = forgotten c.args.chosen.now c.self.inside.counts.asked.items c.self.invariant.asked
+    c.count.ensures.asked c.clear.ensures.asked in
+    cc (c.self.view_is)
 
 pub returns-clause-decided : goal.returns-clause-decided
 returns-clause-decided c = λ reps z.
@@ -98,6 +94,5 @@ returns-clause-decided c = λ reps z.
     c.is_cover-cover.ensures ∙ simp (short, c.deref-2.ensures.value, times, c.count.ensures.colours, asked)
     in (
       λ h. counted-cover b stored cs ks reps solution (sym is ∙ h),
-      λ h. is
-          ∙ cover-counted b stored cs ks reps solution h,
+      λ h. cc (is, cover-counted b stored cs ks reps solution h),
     )

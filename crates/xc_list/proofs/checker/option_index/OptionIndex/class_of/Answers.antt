@@ -1,3 +1,5 @@
+use Rattle.std.proofs.lemmas.Bool.Decides.{nat_tests}
+use Rattle.std.proofs.Common.{arith}
 use Rattle.std.proofs.Common.{◌≡◌, ◌∙◌, ap, subst, false}
 use Rattle.xc_list.specs.Listed.{is_known}
 use Rattle.xc_list.specs.ListingLines.{words_in}
@@ -8,23 +10,19 @@ use Rattle.xc_list.proofs.checker.option_index.OptionIndex.class_of.Goals as goa
 
 pub returns-then-not-branch-clause-class : goal.returns-then-not-branch-clause-class
 returns-then-not-branch-clause-class c =
-    let b = c.self.inside in
-    let words = words_in c.args.body.now in
-    subst (λ (v : Classes). is_known v.problem words ≡ false) c.self.view_is
-    (no-uses b.problem.now b.classes.keys b.sizes.items c.self.invariant words
-    (not_read b.problem.now words c.in_ok-read_uses.field-0 c.read_uses.new.uses.items c.if-not-branch.true
-    c.in_ok-read_uses.ensures))
+    let fact = no-uses c.self.inside.problem.now c.self.inside.classes.keys c.self.inside.sizes.items c.self.invariant
+    (words_in c.args.body.now) (not_read c.self.inside.problem.now (words_in c.args.body.now) c.in_ok-read_uses.field-0
+    c.read_uses.new.uses.items c.if-not-branch.true c.in_ok-read_uses.ensures) in
+    cc (c.self.view_is)
 
 pub returns-clause-class : goal.returns-clause-class
 returns-clause-class c =
-    let b = c.self.inside in
-    let words = words_in c.args.body.now in
-    let us = c.read_uses.new.uses.items in
-    let have =
-    was_read b.problem.now words c.in_ok-read_uses.field-0 us c.if-not-branch.false c.in_ok-read_uses.ensures in
-    subst (λ (v : Classes). IsClassOfBody v words c.get_index_of.result) c.self.view_is
-    (class-found b.problem.now b.classes.keys b.sizes.items c.self.invariant _ use-decides words us
-    c.as_slice.result.now c.get_index_of.result have
-    (some-uses b.problem.now c.args.body.now us have)
-    (c.as_slice.ensures.value ∙ c.in_ok-rotate.ensures ∙ ap class_of c.deref.ensures.value)
-    c.get_index_of.ensures.index)
+    let fact = class-found c.self.inside.problem.now c.self.inside.classes.keys c.self.inside.sizes.items
+    c.self.invariant _ use-decides (words_in c.args.body.now) c.read_uses.new.uses.items c.as_slice.result.now
+    c.get_index_of.result (was_read c.self.inside.problem.now (words_in c.args.body.now) c.in_ok-read_uses.field-0
+    c.read_uses.new.uses.items c.if-not-branch.false c.in_ok-read_uses.ensures) (some-uses c.self.inside.problem.now
+    c.args.body.now c.read_uses.new.uses.items (was_read c.self.inside.problem.now (words_in c.args.body.now)
+    c.in_ok-read_uses.field-0 c.read_uses.new.uses.items c.if-not-branch.false c.in_ok-read_uses.ensures))
+    (c.as_slice.ensures.value ∙ c.in_ok-rotate.ensures ∙ ap class_of c.deref.ensures.value) c.get_index_of.ensures.index
+    in
+    grind (arith, nat_tests, c.self.view_is)

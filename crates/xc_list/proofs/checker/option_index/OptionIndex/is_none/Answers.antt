@@ -25,5 +25,4 @@ returns-in_default-Some-cut_word c =
     let two =
     cut-some c.in_default-Some.rest c.cut_word-2.result.0 c.cut_word-2.result.1 last c.in_default-Some.rest-is
     c.in_default-Some-cut_word.is-1 c.cut_word-2.ensures in
-    none-of-three c.args.self.now.problem c.cut_word.result.0.now c.cut_word-2.result.0.now last.now
-    ∙ ap (is_none c.args.self.now.problem) (ap (λ ws. c.cut_word.result.0.now ∷ ws) (sym two) ∙ sym one)
+    cc (none-of-three c.args.self.now.problem c.cut_word.result.0.now c.cut_word-2.result.0.now last.now, two, one)

@@ -11,16 +11,12 @@ pub returns-in-Some : goal.returns-in-Some
 returns-in-Some c =
     let p = c.self.inside.problem.now in
     let name = c.args.name.now in
-    ap (nat_le c.in-Some.item) c.primary.ensures.value
-    ∙ any-take-number (bytes_eq name) p.names c.in-Some.item (primary_count p.puzzle)
-    (sym c.find.ensures.value ∙ c.in-Some.is)
-    ∙ ap (λ (b : Classes). list_any (bytes_eq name) (take (primary_count b.problem.puzzle) b.problem.names))
-    c.self.view_is
+    let fact = any-take-number (bytes_eq name) p.names c.in-Some.item (primary_count p.puzzle) (sym c.find.ensures.value
+    ∙ c.in-Some.is) in
+    cc (c.primary.ensures.value, c.self.view_is)
 
 pub returns-in-None : goal.returns-in-None
 returns-in-None c =
-    let p = c.self.inside.problem.now in
-    let name = c.args.name.now in
-    any-take-no_number (bytes_eq name) p.names (primary_count p.puzzle) (sym c.find.ensures.value ∙ c.in-None.is)
-    ∙ ap (λ (b : Classes). list_any (bytes_eq name) (take (primary_count b.problem.puzzle) b.problem.names))
-    c.self.view_is
+    let fact = any-take-no_number (bytes_eq c.args.name.now) c.self.inside.problem.now.names (primary_count
+    c.self.inside.problem.now.puzzle) (sym c.find.ensures.value ∙ c.in-None.is) in
+    cc (c.self.view_is)

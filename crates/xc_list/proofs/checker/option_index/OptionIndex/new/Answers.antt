@@ -12,8 +12,7 @@ invariant_of-result c =
     record {
       sound = c.options-o-end.ensures.whole;
       complete =
-          subst (λ n. AreClassesTo p.puzzle n (key_uses c.loop-o.classes.keys) c.loop-o.sizes.items) all
-          c.loop-o.invariant;
+          rw all at c.loop-o.invariant;
     }
 
 pub returns-clause-indexed : goal.returns-clause-indexed

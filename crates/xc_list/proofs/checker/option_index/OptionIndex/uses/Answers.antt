@@ -1,3 +1,5 @@
+use Rattle.std.proofs.lemmas.Bool.Decides.{nat_tests}
+use Rattle.std.proofs.Common.{arith}
 use Rattle.std.proofs.Common.{subst, sym}
 use Rattle.std.specs.Prelude.{All}
 use Rattle.xc_input.specs.Named.{IsKnownUse}
@@ -7,8 +9,6 @@ use Rattle.xc_list.proofs.checker.option_index.OptionIndex.uses.Goals as goal
 
 pub returns-clause-known : goal.returns-clause-known
 returns-clause-known c =
-    let b = c.self.inside in
-    subst (λ (v : Classes). All (IsKnownUse v.problem) c.as_slice.result.now) c.self.view_is
-    (subst (All (IsKnownUse b.problem.now)) (sym c.as_slice.ensures.value)
-    (known-uses b.problem.now b.classes.keys b.sizes.items c.self.invariant c.args.class c.in-Some.uses.now
-    c.in-Some.ensures.key))
+    let fact = known-uses c.self.inside.problem.now c.self.inside.classes.keys c.self.inside.sizes.items
+    c.self.invariant c.args.class c.in-Some.uses.now c.in-Some.ensures.key in
+    grind (arith, nat_tests, c.self.view_is, c.as_slice.ensures.value)
