@@ -75,7 +75,7 @@ body-class p words s us vs a b d e h k =
 pub use-decides : (a b : Use) → Decides (a.item == b.item && a.colour == b.colour) (a ≡ b)
 use-decides a b = grind (arith, nat_tests)
 
-uses-same : (us vs : List Use) → Decides (same_uses us vs) (us ≡ vs)
+pub uses-same : (us vs : List Use) → Decides (same_uses us vs) (us ≡ vs)
 uses-same us vs = slice_eq-Decides use-decides us vs (same_uses us vs) refl
 
 pub same_uses-are : (us vs : List Use) → same_uses us vs ≡ true → us ≡ vs

@@ -1,4 +1,5 @@
 -- Classes found by their uses.
+use Rattle.xc_list.specs.inner.Classes.{same_uses}
 use Rattle.std.proofs.Common.{ℕ, suc, ◌≡◌, ◌<◌, if◌then◌else◌, Option, Bool, true, false, List, [], ◌∷◌, ◌++◌, length}
 use Rattle.std.proofs.Common.{map, get_or, position, Some, None, refl, sym, ap, ◌∙◌, arith, subst}
 use Rattle.std.specs.Prelude.{Vec, IsTrue, slice_get, unwrap_or}
@@ -23,47 +24,42 @@ use Rattle.xc_list.specs.inner.Classes.{IsOfClass, IsClassOfBody, class_of, clas
 use Rattle.xc_list.specs.inner.OptionIndex.{HaveWords, IsReading, IsOptionIndex, key_uses}
 use Rattle.xc_list.proofs.CheckLemmas.Rotations.{DifferInItems, class_start, class-turned, turned-alike, differ-turned}
 use Rattle.xc_list.proofs.CheckLemmas.Rotations.{turned-differ}
-use Rattle.xc_list.proofs.CheckLemmas.BodiesOfClasses.{All-turned, body-is, is-body, same_uses_by_words}
+use Rattle.xc_list.proofs.CheckLemmas.BodiesOfClasses.{uses-same, All-turned, body-is, is-body, same_uses_by_words}
 use Rattle.xc_list.proofs.CheckLemmas.ListedNumbers.{any-in, in-any}
 use Rattle.xc_list.proofs.CheckLemmas.DecidedByClasses.{option-differs, option-known}
 use Rattle.xc_list.proofs.CheckLemmas.NumberedTexts.{words-some}
 
-module _ (E : Use → Use → Bool) (decides : (a b : Use) → Decides (E a b) (a ≡ b)) where
-  same-uses : (us vs : List Use) → Decides (pointwise E us vs) (us ≡ vs)
-  same-uses us vs = slice_eq-Decides decides us vs (pointwise E us vs) refl
+-- uses that are found among the keys
+pub found-key : (us : List Use) (keys : List (Vec Use Global)) (k : ℕ)
+    → position (λ v. same_uses us v.items) keys ≡ Some k → (k < length (key_uses keys))
+    × (slice_get (key_uses keys) k ≡ Some us)
+found-key us keys k e =
+    let at =
+    position-Some (same_uses us) (key_uses keys) k [] (position-map (same_uses us) (λ v. v.items) keys ∙ e) in (
+      at.0,
+      cc (slice_get-get_or (key_uses keys) k [] at.0, (uses-same us (get_or (key_uses keys) k [])).0 at.1),
+    )
 
-  -- uses that are found among the keys
-  pub found-key : (us : List Use) (keys : List (Vec Use Global)) (k : ℕ)
-      → position (λ v. pointwise E us v.items) keys ≡ Some k → (k < length (key_uses keys))
-      × (slice_get (key_uses keys) k ≡ Some us)
-  found-key us keys k e =
-      let at =
-      position-Some (pointwise E us) (key_uses keys) k [] (position-map (pointwise E us) (λ v. v.items) keys ∙ e) in (
-        at.0,
-        cc (slice_get-get_or (key_uses keys) k [] at.0, (same-uses us (get_or (key_uses keys) k [])).0 at.1),
-      )
+absent : (us : List Use) (keys : List (Vec Use Global)) → position (λ v. same_uses us v.items) keys ≡ None
+    → list_any (same_uses us) (key_uses keys) ≡ false
+absent us keys e = no-place (same_uses us) (key_uses keys) (position-map (same_uses us) (λ v. v.items) keys ∙ e)
 
-  absent : (us : List Use) (keys : List (Vec Use Global)) → position (λ v. pointwise E us v.items) keys ≡ None
-      → list_any (pointwise E us) (key_uses keys) ≡ false
-  absent us keys e = no-place (pointwise E us) (key_uses keys) (position-map (pointwise E us) (λ v. v.items) keys ∙ e)
+-- uses that aren't
+pub lost-key : (us : List Use) (keys : List (Vec Use Global)) → position (λ v. same_uses us v.items) keys ≡ None
+    → IsIn (key_uses keys) us → ⊥
+lost-key us keys e h =
+    cc (absent us keys e, any-in (same_uses us) (key_uses keys) us h ((uses-same us us).1 refl))
 
-  -- uses that aren't
-  pub lost-key : (us : List Use) (keys : List (Vec Use Global)) → position (λ v. pointwise E us v.items) keys ≡ None
-      → IsIn (key_uses keys) us → ⊥
-  lost-key us keys e h =
-      (let a =
-      absent us keys e in let b = any-in (pointwise E us) (key_uses keys) us h ((same-uses us us).1 refl) in cc)
-
-  -- the keys behind new ones
-  pub new-uses : (keys : List (Vec Use Global)) (k : Vec Use Global) (all : List (Vec Use Global)) (us : List Use)
-      → position (λ v. pointwise E us v.items) keys ≡ None → k.items ≡ us
-      → all ≡ (if list_any (λ v. pointwise E k.items v.items) keys then keys else keys ++ k ∷ [])
-      → key_uses all ≡ key_uses keys ++ us ∷ []
-  new-uses keys k all us e f g =
-      let out = no-place (λ v. pointwise E us v.items) keys e in
-      let here : list_any (λ v. pointwise E k.items v.items) keys ≡ false =
-      ap (λ n. list_any (λ (v : Vec Use Global). pointwise E n v.items) keys) f ∙ out in
-      cc (g, here, map-snoc (λ (v : Vec Use Global). v.items) keys k, f)
+-- the keys behind new ones
+pub new-uses : (keys : List (Vec Use Global)) (k : Vec Use Global) (all : List (Vec Use Global)) (us : List Use)
+    → position (λ v. same_uses us v.items) keys ≡ None → k.items ≡ us
+    → all ≡ (if list_any (λ v. same_uses k.items v.items) keys then keys else keys ++ k ∷ [])
+    → key_uses all ≡ key_uses keys ++ us ∷ []
+new-uses keys k all us e f g =
+    let out = no-place (λ v. same_uses us v.items) keys e in
+    let here : list_any (λ v. same_uses k.items v.items) keys ≡ false =
+    ap (λ n. list_any (λ (v : Vec Use Global). same_uses n v.items) keys) f ∙ out in
+    cc (g, here, map-snoc (λ (v : Vec Use Global). v.items) keys k, f)
 
 -- an option that a body stands for
 known-as : (p : Named) → IsSound p → (words : List (List ℕ)) → is_known p words ≡ true → (o : ℕ) × IsOption p.puzzle o
@@ -99,13 +95,15 @@ module _ (p : Named) (keys : List (Vec Use Global)) (counts : List ℕ) (b : IsO
   -- a body of uses that are of no class
   pub no-class : (words : List (List ℕ)) (us : List Use) → HaveWords p words us
       → (IsIn (key_uses keys) (class_of us) → ⊥) → is_known p words ≡ false
-  no-class words us have none =
-      let fact = not_false (is_known p words) (λ h. let o = known-as p b.sound words h in let vs = uses_of p.puzzle o.0
-      in let same : rotated_at o.2 vs ≡ us = same_uses_by_words p b.sound (rotated_at o.2 vs) us o.3.known have.known
-      (o.3.words_so ∙ sym have.words_so) in let class : class_at p.puzzle o.0 ≡ class_of us = sym (class-turned o.2 vs
-      (option-differs p.puzzle b.sound.valid o.0 o.1)) ∙ ap class_of same in none (subst (IsIn (key_uses keys)) class
-      (in-contains (key_uses keys) (class_at p.puzzle o.0) (b.complete.whole o.0 o.1.0 o.1.1)))) in
-      cc
+  no-class words us have none = not_false (is_known p words) (λ h.
+      let o = known-as p b.sound words h in
+      let vs = uses_of p.puzzle o.0 in
+      let same : rotated_at o.2 vs ≡ us =
+      same_uses_by_words p b.sound (rotated_at o.2 vs) us o.3.known have.known (o.3.words_so ∙ sym have.words_so) in
+      let class : class_at p.puzzle o.0 ≡ class_of us =
+      sym (class-turned o.2 vs (option-differs p.puzzle b.sound.valid o.0 o.1)) ∙ ap class_of same in
+      none (subst (IsIn (key_uses keys)) class
+      (in-contains (key_uses keys) (class_at p.puzzle o.0) (b.complete.whole o.0 o.1.0 o.1.1))))
 
   -- a body of uses of this class
   pub its-class : (words : List (List ℕ)) (us : List Use) (k : ℕ) → HaveWords p words us → 0 < length us
@@ -126,15 +124,13 @@ module _ (p : Named) (keys : List (Vec Use Global)) (counts : List ℕ) (b : IsO
           is-body p words vs j.0 j.1 (ap (map (use_word p)) (sym j.2 ∙ append-nil us) ∙ have.words_so)
 
   -- what a look-up of the class of a body's uses says
-  pub class-found : (E : Use → Use → Bool) → ((a b : Use) → Decides (E a b) (a ≡ b))
-      → (words : List (List ℕ)) (us class : List Use) (r : Option ℕ) → HaveWords p words us → 0 < length us
-      → class ≡ class_of us
-      → r ≡ position (λ v. pointwise E class v.items) keys
+  pub class-found : (words : List (List ℕ)) (us class : List Use) (r : Option ℕ) → HaveWords p words us → 0 < length us
+      → class ≡ class_of us → r ≡ position (λ v. same_uses class v.items) keys
       → IsClassOfBody (record { problem = p; classes = key_uses keys }) words r
-  class-found E decides words us class None have l e f =
-      no-class words us have (λ h. lost-key E decides class keys (sym f) (subst (IsIn (key_uses keys)) (sym e) h))
-  class-found E decides words us class (Some k) have l e f =
-      let at = found-key E decides class keys k (sym f) in its-class words us k have l (at.0, at.1 ∙ ap (λ x. Some x) e)
+  class-found words us class None have l e f =
+      no-class words us have (λ h. lost-key class keys (sym f) (subst (IsIn (key_uses keys)) (sym e) h))
+  class-found words us class (Some k) have l e f =
+      let at = found-key class keys k (sym f) in its-class words us k have l (at.0, at.1 ∙ ap (λ x. Some x) e)
 
 -- a text's words are some
 pub some-uses : (p : Named) (text : List ℕ) (us : List Use) → HaveWords p (words_in text) us → 0 < length us

@@ -22,11 +22,13 @@ option_class p o us turned slice e f g =
 
 pub overflow_add-index_mut : goal.overflow_add-index_mut
 overflow_add-index_mut c =
-    let fact = members_at c.args.problem.now.puzzle c.args.o (key_uses c.args.classes.now.keys) c.args.sizes.now.items
-    c.in-Some.class c.index_mut.result.now c.as_slice.result.now c.requires.before (found-key _ use-decides
-    c.as_slice.result.now c.args.classes.now.keys c.in-Some.class (sym c.in-Some.ensures.index)).1 in
-    let fact2 = members-few c.args.problem.now.puzzle c.args.o c.as_slice.result.now in
-    grind (arith, nat_tests, c.index_mut.ensures.value, c.requires.option, c.requires.limits.options)
+    let p = c.args.problem.now.puzzle in
+    let classes = key_uses c.args.classes.now.keys in
+    let us = c.as_slice.result.now in
+    let at = found-key us c.args.classes.now.keys c.in-Some.class (sym c.in-Some.ensures.index) in
+    let count = members_at p c.args.o classes _ c.in-Some.class c.index_mut.result.now us c.requires.before at.1 in
+    let few = members-few p c.args.o us in
+    omega (arith, c.index_mut.ensures.value, count, few, c.requires.option, c.requires.limits.options)
 
 pub returns-in-Some : goal.returns-in-Some
 returns-in-Some c =
@@ -40,7 +42,7 @@ returns-in-Some c =
     let is =
     option_class p o c.option.result.now c.rotate.new.rotated.items us c.option.ensures.value c.in_ok-rotate.ensures
     c.as_slice.ensures.value in
-    let at = found-key _ use-decides us c.args.classes.now.keys k (sym c.in-Some.ensures.index) in
+    let at = found-key us c.args.classes.now.keys k (sym c.in-Some.ensures.index) in
     let here : slice_get classes k ≡ Some (class_at p (suc o)) = at.1 ∙ ap (λ x. Some x) is in
     subst (λ m. AreClassesTo p m classes (slice_set counts k (n + 1))) (next o)
     (classes-found p o classes counts k n c.requires.before here
@@ -48,15 +50,20 @@ returns-in-Some c =
 
 pub returns-in_ok-push-in-None : goal.returns-in_ok-push-in-None
 returns-in_ok-push-in-None c =
-    let fact = classes-new c.args.problem.now.puzzle c.args.o (key_uses c.args.classes.now.keys)
-    (key_uses c.insert.new.self.keys) c.args.sizes.now.items c.push.new.self.items c.requires.before (λ h. lost-key _
-    use-decides c.as_slice.result.now c.args.classes.now.keys (sym c.in-None.ensures.index)
-    (subst (IsIn (key_uses c.args.classes.now.keys)) (sym (option_class c.args.problem.now.puzzle c.args.o
-    c.option.result.now c.rotate.new.rotated.items c.as_slice.result.now c.option.ensures.value c.in_ok-rotate.ensures
-    c.as_slice.ensures.value)) h)) ((new-uses _ use-decides c.args.classes.now.keys c.in_ok-from_slice-in-None.field-0
-    c.insert.new.self.keys c.as_slice.result.now (sym c.in-None.ensures.index) (c.in_ok-from_slice-in-None.ensures.items
-    ∙ c.as_slice-in-None.ensures.value ∙ sym c.as_slice.ensures.value) c.in_ok-insert-in-None.ensures.keys)
-    ∙ ap (λ x. key_uses c.args.classes.now.keys ++ x ∷ []) (option_class c.args.problem.now.puzzle c.args.o
-    c.option.result.now c.rotate.new.rotated.items c.as_slice.result.now c.option.ensures.value c.in_ok-rotate.ensures
-    c.as_slice.ensures.value)) c.in_ok-push-in-None.ensures.items in
-    grind (arith, nat_tests, next c.args.o)
+    let p = c.args.problem.now.puzzle in
+    let o = c.args.o in
+    let keys = c.args.classes.now.keys in
+    let us = c.as_slice.result.now in
+    let is =
+    option_class p o c.option.result.now c.rotate.new.rotated.items us c.option.ensures.value c.in_ok-rotate.ensures
+    c.as_slice.ensures.value in
+    let all =
+    new-uses keys c.in_ok-from_slice-in-None.field-0 c.insert.new.self.keys us
+    (sym c.in-None.ensures.index)
+    (c.in_ok-from_slice-in-None.ensures.items ∙ c.as_slice-in-None.ensures.value ∙ sym c.as_slice.ensures.value)
+    c.in_ok-insert-in-None.ensures.keys in
+    subst (λ m. AreClassesTo p m (key_uses c.insert.new.self.keys) c.push.new.self.items) (next o)
+    (classes-new p o (key_uses keys) (key_uses c.insert.new.self.keys) c.args.sizes.now.items c.push.new.self.items
+    c.requires.before
+    (λ h. lost-key us keys (sym c.in-None.ensures.index) (subst (IsIn (key_uses keys)) (sym is) h))
+    (all ∙ ap (λ x. key_uses keys ++ x ∷ []) is) c.in_ok-push-in-None.ensures.items)
