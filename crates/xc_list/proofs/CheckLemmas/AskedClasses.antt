@@ -80,13 +80,8 @@ pub asked_by_classes : (b : Classes) → AreClasses b.problem.puzzle b.classes �
     → AllZip (IsOfClass b) ks reps → AllByRecursion (IsRoomFor b ks) ks →
     (r : ℕ) → count_by (alike b.problem.puzzle r) reps ≤ count_by (alike b.problem.puzzle r) (numbers b.problem.puzzle)
 asked_by_classes b are ks reps z a r =
-    omega (
-      arith,
-      is_counted (alike b.problem.puzzle r) reps,
-      is_counted (alike b.problem.puzzle r)
-          (numbers b.problem.puzzle),
-      by_count (counted (alike b.problem.puzzle r) reps) refl,
-    )
+    let fact = is_counted (alike b.problem.puzzle r) (numbers b.problem.puzzle) in
+    omega (arith, is_counted (alike b.problem.puzzle r) reps, by_count (counted (alike b.problem.puzzle r) reps) refl)
   where
     by_count : (n : ℕ) → counted (alike b.problem.puzzle r) reps ≡ n
         → counted (alike b.problem.puzzle r) reps ≤ counted (alike b.problem.puzzle r) (numbers b.problem.puzzle)
@@ -95,14 +90,10 @@ asked_by_classes b are ks reps z a r =
         let p = b.problem.puzzle in
         let f = found b (IsRoomFor b ks) (alike p r) ks reps z a (omega (arith, e)) in
         let same = one_class (alike p) (alike-classes p) r f.option f.passes in
-        omega (
-          arith,
-          count_same (alike p r) (alike p f.option) reps same,
-          count_same (alike p r) (alike p f.option) (numbers p) same,
-          asked-at b are f.class f.option f.of_class ks reps z,
-          members-at b f.class f.option f.of_class,
-          leb-true _ _ f.holds,
-        )
+        let fact2 = count_same (alike p r) (alike p f.option) (numbers p) same in
+        let fact3 = asked-at b are f.class f.option f.of_class ks reps z in
+        let fact4 = count_same (alike p r) (alike p f.option) reps same in
+        omega (arith, members-at b f.class f.option f.of_class, leb-true _ _ f.holds)
 
 pub classes_by_asked : (b : Classes) → AreClasses b.problem.puzzle b.classes → (ks reps : List ℕ)
     → AllZip (IsOfClass b) ks reps →

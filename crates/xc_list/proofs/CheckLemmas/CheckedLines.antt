@@ -1,4 +1,7 @@
 -- Verdicts by classes, and what a line changes.
+use Rattle.std.specs.List.{AllByRecursion}
+use Rattle.std.proofs.lemmas.List.Elements.{recursion_from_All}
+use Rattle.std.proofs.Common.{get_or}
 use Rattle.std.proofs.Common.{◌≡◌, ℕ, zero, suc, ◌+◌, ◌-◌, ◌^◌, ◌<◌, Bool, true, false, not, ◌||◌, nat_eq, min, List}
 use Rattle.std.proofs.Common.{[], ◌∷◌, ◌++◌, length, filter, Option, Some, None, is_some, refl, sym, ap, ◌∙◌, subst}
 use Rattle.std.proofs.Common.{append_assoc, append-nil, arith, inl, inr, eqb-true, if◌then◌else◌}
@@ -36,26 +39,25 @@ AllZip-append R (x ∷ xs) xs' (y ∷ ys) ys' h g = (h.0, AllZip-append R xs xs'
 -- a class is that of an option
 option_of : (b : Classes) (k : ℕ) → AreClasses b.problem.puzzle b.classes → k < length b.classes → (o : ℕ)
     × IsOfClass b k o
-option_of b k classes l = elim (slice_get_cases b.classes k).1 [
-  | inl here ↦ (let used = classes.used k here.0 here.2 in (used.0, (used.1, here.2 ∙ ap Some (sym used.2))))
-  | inr past ↦ absurd (omega (arith, l, past.0))
-]
+option_of b k classes l =
+    let at = slice_get-get_or b.classes k [] l in
+    let used = classes.used k (get_or b.classes k []) at in (used.0, (used.1, at ∙ ap (λ us. Some us) (sym used.2)))
 
 record Options (b : Classes) (chosen : List ℕ) : Type 0 where
   reps : List ℕ
   of_class : AllZip (IsOfClass b) chosen reps
-  options : All (IsOption b.problem.puzzle) reps
+  options : AllByRecursion (IsOption b.problem.puzzle) reps
 
 options_of : (b : Classes) (chosen : List ℕ) → AreClasses b.problem.puzzle b.classes
-    → All (λ k. k < length b.classes) chosen → Options b chosen
-options_of b [] classes all = record { reps = []; of_class = tt; options = λ k d l. absurd (omega (arith, l)) }
+    → AllByRecursion (λ k. k < length b.classes) chosen → Options b chosen
+options_of b [] classes all = record { reps = []; of_class = tt; options = tt }
 options_of b (k ∷ chosen) classes all =
-    let first : (o : ℕ) × IsOfClass b k o = option_of b k classes (all 0 k (omega arith)) in
-    let later : Options b chosen = options_of b chosen classes (λ j d l. all (suc j) d (omega (arith, l))) in
+    let first : (o : ℕ) × IsOfClass b k o = option_of b k classes all.0 in
+    let later : Options b chosen = options_of b chosen classes all.1 in
     record {
       reps = first.0 ∷ later.reps;
       of_class = (first.1, later.of_class);
-      options = All-cons (IsOption b.problem.puzzle) first.0 later.reps first.1.0 later.options;
+      options = (first.1.0, later.options);
     }
 
 -- what stands for classes stands for their options
@@ -77,10 +79,10 @@ pub verdict_is : (b : Classes) (number : ℕ) (chosen : List ℕ) (cover : Bool)
     → AllZip (IsVerdictOn b.problem) (with_later (Some number) bodies (record { loose = []; solutions = [] }))
     (record { number = number; cover = cover } ∷ [])
 verdict_is b number chosen cover sound classes all decided bodies are =
-    let options : Options b chosen = options_of b chosen classes all in
-    let counted : IsTrue cover ↔ IsCoverOfClasses b.problem.puzzle options.reps =
-    decided options.reps options.of_class in
-    let listed : IsListedCover b.problem bodies ↔ IsCoverOfClasses b.problem.puzzle options.reps =
+    let options : Options b chosen =
+    options_of b chosen classes (recursion_from_All (λ k. k < length b.classes) chosen all) in
+    let counted = decided options.reps options.of_class in
+    let listed =
     classes_decide b.problem bodies options.reps sound options.options
     (stand b (filter (is_known b.problem) bodies) chosen options.reps are options.of_class) in
     let verdict : IsTrue cover ↔ IsListedCover b.problem bodies =

@@ -114,14 +114,10 @@ added_few n classes ks i k h a l =
     let few = held_few n (suc k) classes (take i ks) h before in
     let us = uses_in classes (take i ks) in
     elim (cases_lt k n) [
-      | inl m ↦ omega (
-        arith,
-        added-at n us (replicate n 0) k (items_in n classes (take i ks) h before) (sym (length-replicate n 0))
-            m,
-        get_or-replicate {A = ℕ} n k 0 0 m,
-        few,
-        length-take-le i ks l,
-      )
+      | inl m ↦
+          let fact = added-at n us (replicate n 0) k (items_in n classes (take i ks) h before)
+          (sym (length-replicate n 0)) m in
+          omega (arith, get_or-replicate {A = ℕ} n k 0 0 m, few, length-take-le i ks l)
       | inr m ↦ omega (
         arith,
         get_or_past (added us (replicate n 0)) k 0
@@ -159,35 +155,27 @@ lowered-at : (ks ns : List ℕ) (k : ℕ) → k < length ns → (get_or ns k 0 �
 lowered-at [] ns k l (inl h) = h
 lowered-at [] ns k l (inr h) = absurd (omega (arith, h))
 lowered-at (j ∷ ks) ns k l h =
-    lowered-at ks (set ns j 0) k (omega (arith, l, length-set ns j 0)) (lowered_once ns j k (counted (λ j. j == k) ks) l
-    h)
+    lowered-at ks (set ns j 0) k (omega (arith, l, length-set ns j 0))
+    (lowered_once ns j k (counted (λ j. j == k) ks) l h)
 
 zero_or : (m n : ℕ) → m ≡ 0 + n → (m ≡ 0) ⊎ (0 < n)
 zero_or m n e = grind arith
 
+lowered_zero : (n : ℕ) (ks : List ℕ) (k : ℕ) → k < n → get_or (lowered ks (raised ks (replicate n 0))) k 0 ≡ 0
+lowered_zero n ks k l =
+    let ns : List ℕ = replicate n 0 in
+    let size : length ns ≡ n = length-replicate {A = ℕ} n 0 in
+    let begun : get_or ns k 0 ≡ 0 = get_or-replicate {A = ℕ} n k 0 0 l in
+    lowered-at ks (raised ks ns) k (omega (arith, l, length-raised ks ns, size))
+    (zero_or (get_or (raised ks ns) k 0) (counted (λ j. j == k) ks)
+    (omega (arith, raised-at ks ns k (omega (arith, l, size)), begun)))
+
 lowered_again : (n : ℕ) (ks : List ℕ) → lowered ks (raised ks (replicate n 0)) ≡ replicate n 0
 lowered_again n ks =
-    let fact = ext_get_or 0 (lowered ks ns) (replicate n 0) (length-lowered ks ns ∙ length-raised ks (replicate n 0))
-    (λ k l. let below : k < n = omega (arith, l, size) in lowered-at ks ns k (omega (
-      arith,
-      below,
-      length-raised ks
-          (replicate n 0),
-      length-replicate {A = ℕ} n 0,
-    )) (zero_or (get_or ns k 0) (counted (λ j. j == k) ks)
-    (omega (
-      arith,
-      raised-at ks (replicate n 0) k (omega (arith, below, length-replicate {A = ℕ} n 0)),
-      get_or-replicate {A = ℕ} n k 0 0 below,
-    ))) ∙ sym (get_or-replicate {A = ℕ} n k 0 0 below)) in
-    cc
-  where
-    ns : List ℕ
-    ns = raised ks (replicate n 0)
-
-    size : length (lowered ks (raised ks (replicate n 0))) ≡ n
-    size =
-        length-lowered ks (raised ks (replicate n 0)) ∙ length-raised ks (replicate n 0) ∙ length-replicate {A = ℕ} n 0
+    let same = length-lowered ks (raised ks (replicate n 0)) ∙ length-raised ks (replicate n 0) in
+    ext_get_or 0 (lowered ks (raised ks (replicate n 0))) (replicate n 0) same
+    (λ k l. let m : k < n = omega (arith, l, same, length-replicate {A = ℕ} n 0) in
+    lowered_zero n ks k m ∙ sym (get_or-replicate {A = ℕ} n k 0 0 m))
 
 -- ---- between solutions
 

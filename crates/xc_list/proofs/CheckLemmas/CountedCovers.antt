@@ -59,12 +59,6 @@ pub record IsSolution (b : Classes) (stored : List Bounds) (cs ks reps : List �
   pub size : length cs ≡ item_count b.problem.puzzle
   pub taken : AllZip (IsOfClass b) ks reps
 
-below_classes : (b : Classes) (ks reps : List ℕ) → AllZip (IsOfClass b) ks reps → AreBelow (length b.classes) ks
-below_classes b [] reps z = tt
-below_classes b (k ∷ ks) [] z = absurd z
-below_classes b (k ∷ ks) (o ∷ reps) z =
-    (slice_get_within b.classes k (class_at b.problem.puzzle o) z.0.1, below_classes b ks reps z.1)
-
 abbrev pub AreMet : Classes → List Bounds → List ℕ → List ℕ → Type 0
 AreMet b stored cs ks =
     AllByRecursion (λ u. is_met stored (times_after b ks) (colours_after b ks cs) u ≡ true) (uses_in b.classes ks)
@@ -86,13 +80,23 @@ each_class b P [] reps h z = tt
 each_class b P (k ∷ ks) [] h z = absurd z
 each_class b P (k ∷ ks) (o ∷ reps) h z = (h k o z.0, each_class b P ks reps h z.1)
 
+-- whether colour c agrees with what is counted of item k + 1
+abbrev agrees_at : Classes → List Bounds → List ℕ → List ℕ → ℕ → ℕ → Type 0
+agrees_at b stored cs ks k c =
+    agrees (slice_get stored k) (get_or (times_after b ks) k 0) (get_or (colours_after b ks cs) k 0) c ≡ true
+
+at_most : (n m : ℕ) (g : List ℕ) → n ≡ length g → AllByRecursion (λ c. n ≤ m) g → n ≤ m
+at_most n m [] t h = omega (arith, t)
+at_most n m (c ∷ g) t h = h.0
+
 -- ---- both ways
 
 module _ (b : Classes) (stored : List Bounds) (cs ks reps : List ℕ) (s : IsSolution b stored cs ks reps) where
   items : AreItems (item_count b.problem.puzzle) (uses_in b.classes ks)
   items =
       items_in (item_count b.problem.puzzle) b.classes ks (classes_usable b s.sound s.classes)
-      (below_classes b ks reps s.taken)
+      (each_class b (λ k. k < length b.classes) ks reps
+      (λ k o h. slice_get_within b.classes k (class_at b.problem.puzzle o) h.1) s.taken)
 
   gives : (i : ℕ) → given i (uses_in b.classes ks) ≡ gathered b.problem.puzzle i reps
   gives i = given-gathered i b ks reps s.sound s.taken
@@ -118,57 +122,35 @@ module _ (b : Classes) (stored : List Bounds) (cs ks reps : List ℕ) (s : IsSol
   -- ---- from the counts
 
   met_at : (k : ℕ) → AreMet b stored cs ks
-      → AllByRecursion (λ u. u.item ≡ suc k
-      → agrees (slice_get stored k) (get_or (times_after b ks) k 0) (get_or (colours_after b ks cs) k 0) u.colour ≡
-      true) (uses_in b.classes ks)
+      → AllByRecursion (λ u. u.item ≡ suc k → agrees_at b stored cs ks k u.colour) (uses_in b.classes ks)
   met_at k a = grind (arith, nat_tests, each_weaker)
+
+  -- what follows of each colour that is given to an item
+  met_given : (P : ℕ → Type 0) (k : ℕ) → ((c : ℕ) → agrees_at b stored cs ks k c → P c) → AreMet b stored cs ks
+      → AllByRecursion P (given (suc k) (uses_in b.classes ks))
+  met_given P k h a =
+      given-each P (suc k) (uses_in b.classes ks)
+      (each_weaker (λ u. u.item ≡ suc k → agrees_at b stored cs ks k u.colour) (λ u. u.item ≡ suc k → P u.colour)
+      (uses_in b.classes ks) (λ u g q. h u.colour (g q)) (met_at k a))
 
   high : AreMet b stored cs ks → (k : ℕ) (x : Bounds) → slice_get stored k ≡ Some x
       → get_or (times_after b ks) k 0 ≤ x.high
   high a k x e =
-      by_given (given (suc k) (uses_in b.classes ks)) (time k (is_item k x e))
-      (given-each (λ c. get_or (times_after b ks) k 0 ≤ x.high) (suc k) (uses_in b.classes ks)
-      (each_weaker (λ u. u.item ≡ suc k
-      → agrees (slice_get stored k) (get_or (times_after b ks) k 0) (get_or (colours_after b ks cs) k 0) u.colour
-      ≡ true)
-      (λ u. u.item ≡ suc k → get_or (times_after b ks) k 0 ≤ x.high) (uses_in b.classes ks) (λ u h q. top u (h q))
-      (met_at k a)))
-    where
-      top : (u : Use) → agrees (slice_get stored k) (get_or (times_after b ks) k 0) (get_or (colours_after b ks cs) k 0)
-          u.colour ≡ true → get_or (times_after b ks) k 0 ≤ x.high
-      top u h =
-          let here : agrees (Some x) (get_or (times_after b ks) k 0) (get_or (colours_after b ks cs) k 0) u.colour
-          ≡ true =
-          subst (λ o. agrees o (get_or (times_after b ks) k 0) (get_or (colours_after b ks cs) k 0) u.colour ≡ true) e h
-          in leb-true _ _ here
-
-      by_given : (g : List ℕ) → get_or (times_after b ks) k 0 ≡ length g
-          → AllByRecursion (λ c. get_or (times_after b ks) k 0 ≤ x.high) g → get_or (times_after b ks) k 0 ≤ x.high
-      by_given [] t h = omega (arith, t)
-      by_given (c ∷ g) t h = h.0
+      at_most (get_or (times_after b ks) k 0) x.high (given (suc k) (uses_in b.classes ks)) (time k (is_item k x e))
+      (met_given (λ c. get_or (times_after b ks) k 0 ≤ x.high) k (λ c h. leb-true _ _ (rw e at h)) a)
 
   agree_at : AreMet b stored cs ks → (k : ℕ) → k < item_count b.problem.puzzle → slice_get stored k ≡ None
       → AgreeAt b.problem.puzzle (suc k) reps
   agree_at a k l e =
-      let fact = agree-gathered b.problem.puzzle (suc k) reps (last-agree (get_or cs k 0) (gathered b.problem.puzzle
-      (suc k) reps) (subst (λ g. AllByRecursion (IsLast (get_or cs k 0) g) g) (gives (suc k))
-      (given-each (IsLast (get_or cs k 0) (given (suc k) (uses_in b.classes ks))) (suc k) (uses_in b.classes ks)
-      (each_weaker (λ u. u.item ≡ suc k → agrees (slice_get stored k) (get_or (times_after b ks) k 0)
-      (get_or (colours_after b ks cs) k 0) u.colour ≡ true) (λ u. u.item ≡ suc k → IsLast (get_or cs k 0) (given (suc k)
-      (uses_in b.classes ks)) u.colour) (uses_in b.classes ks) (λ u h q. last u (h q)) (met_at k a))))) in
-      grind (arith, nat_tests)
+      agree-gathered b.problem.puzzle (suc k) reps
+      (last-agree (get_or cs k 0) (gathered b.problem.puzzle (suc k) reps)
+      (subst (λ g. AllByRecursion (IsLast (get_or cs k 0) g) g) (gives (suc k))
+      (met_given (IsLast (get_or cs k 0) (given (suc k) (uses_in b.classes ks))) k (λ c h. last c (rw e at h)) a)))
     where
-      last : (u : Use) → agrees (slice_get stored k) (get_or (times_after b ks) k 0)
-          (get_or (colours_after b ks cs) k 0) u.colour ≡ true
-          → IsLast (get_or cs k 0) (given (suc k) (uses_in b.classes ks)) u.colour
-      last u h =
-          let here : agrees None (get_or (times_after b ks) k 0) (get_or (colours_after b ks cs) k 0) u.colour ≡ true =
-          subst (λ o. agrees o (get_or (times_after b ks) k 0) (get_or (colours_after b ks cs) k 0) u.colour ≡ true) e h
-          in
-          elim (agrees_last (get_or (times_after b ks) k 0) (get_or (colours_after b ks cs) k 0) u.colour here) [
-            | inl q ↦ inl (sym (time k l) ∙ q)
-            | inr q ↦ inr (q.0, q.1 ∙ colour k l)
-          ]
+      last : (c : ℕ) → agrees None (get_or (times_after b ks) k 0) (get_or (colours_after b ks cs) k 0) c ≡ true
+          → IsLast (get_or cs k 0) (given (suc k) (uses_in b.classes ks)) c
+      last c h = elim (agrees_last (get_or (times_after b ks) k 0) (get_or (colours_after b ks cs) k 0) c h)
+          [ inl q ↦ inl (sym (time k l) ∙ q) | inr q ↦ inr (q.0, q.1 ∙ colour k l) ]
 
   cover : short_of stored (times_after b ks) ≡ 0 → AreMet b stored cs ks → AreAsked b ks
       → IsCoverOfClasses b.problem.puzzle reps
@@ -230,18 +212,13 @@ module _ (b : Classes) (stored : List Bounds) (cs ks reps : List ℕ) (s : IsSol
           (each-given (IsLast d (given i (uses_in b.classes ks))) i (uses_in b.classes ks) lasts) m is
 
       by_limit : (v : Option Bounds) → slice_get stored (u.item - 1) ≡ v
-          → agrees (slice_get stored (u.item - 1)) (get_or (times_after b ks) (u.item - 1) 0)
-          (get_or (colours_after b ks cs) (u.item - 1) 0) u.colour ≡ true
-      by_limit (Some x) e =
-          let two = limited h (u.item - 1) x e in
-          rw e (le-leb _ _ two.1)
+          → agrees_at b stored cs ks (u.item - 1) u.colour
+      by_limit (Some x) e = rw e (le-leb _ _ (limited h (u.item - 1) x e).1)
       by_limit None e =
           rw e (last_agrees (get_or (times_after b ks) (u.item - 1) 0) (get_or (colours_after b ks cs) (u.item - 1) 0)
-          u.colour
-          (elim (last e) [
+          u.colour (elim (last e) [
             | inl q ↦ inl (time (u.item - 1) l ∙ q)
-            | inr q ↦ inr
-                (q.0, q.1 ∙ sym (colour (u.item - 1) l))
+            | inr q ↦ inr (q.0, q.1 ∙ sym (colour (u.item - 1) l))
           ]))
 
   counts : IsCoverOfClasses b.problem.puzzle reps → (short_of stored (times_after b ks) ≡ 0) × AreMet b stored cs ks

@@ -1,4 +1,5 @@
 -- A listed solution is a cover exactly where its classes are, by counting.
+use Rattle.std.specs.List.{AllByRecursion}
 use Rattle.std.proofs.lemmas.Bool.Decides.{nat_tests}
 use Rattle.std.specs.List.{AllZip}
 use Rattle.std.proofs.Common.{ℕ, zero, suc, ◌≡◌, ◌≢◌, ◌+◌, ◌<◌, Bool, true, cond, List, [], ◌∷◌, filter}
@@ -89,17 +90,21 @@ zipped_alike P Q R (x ∷ xs) (y ∷ ys) (z ∷ zs) f h = grind (arith, nat_test
 pub stand-alike : (p : Named) → IsSound p → (bodies : List (List (List ℕ))) (reps s : List ℕ) → AreKnown p.puzzle reps
     → AreKnown p.puzzle s → StandFor p bodies reps → StandFor p bodies s ↔ AreAlike (alike p.puzzle) reps s
 stand-alike p r bodies reps s a b =
-    let fact = zipped_alike (λ words o. IsTrue (stands_for p words o)) (λ words o. IsTrue (stands_for p words o))
-    (λ q o. alike p.puzzle q o ≡ true) bodies reps s (λ words q o in_q in_o h. let x = a q in_q in let y = b o in_o in
-    let us = uses_of p.puzzle q in let vs = uses_of p.puzzle o in let d = option-differs p.puzzle r.valid q x in let e
-    = option-differs p.puzzle r.valid o y in let class = λ (k : is_body p words vs ≡ true). body-class p words r us vs
-    (option-known p r q x) (option-known p r o y) d e h k in (
-      λ k. subst (λ v. same_uses (class_of us) v ≡ true)
-          (class k) (same_uses-itself (class_of us)),
-      λ z. body-alike p words us vs d e (same_uses-are (class_of us)
-          (class_of vs) z) h,
-    )) in
-    grind (arith, nat_tests)
+    zipped_alike (λ words o. IsTrue (stands_for p words o)) (λ words o. IsTrue (stands_for p words o))
+    (λ q o. alike p.puzzle q o ≡ true) bodies reps s (λ words q o in_q in_o h.
+    let x = a q in_q in
+    let y = b o in_o in
+    let us = uses_of p.puzzle q in
+    let vs = uses_of p.puzzle o in
+    let d = option-differs p.puzzle r.valid q x in
+    let e = option-differs p.puzzle r.valid o y in
+    let class =
+    λ (k : is_body p words vs ≡ true). body-class p words r us vs (option-known p r q x) (option-known p r o y) d
+    e h k in (
+      λ k. subst (λ v. same_uses (class_of us) v ≡ true) (class k) (same_uses-itself (class_of us)),
+      λ z. body-alike p
+          words us vs d e (same_uses-are (class_of us) (class_of vs) z) h,
+    ))
 
 -- alike options give each item the same colour
 pub colours-alike : (p : Puzzle) → IsValid p → (q o i : ℕ) → IsOption p q → IsOption p o → alike p q o ≡ true
@@ -214,7 +219,7 @@ cover_of_classes p v reps s a g c = record {
 -- Whatever options are taken for the bodies, different ones can be given to them so that their set is a cover exactly
 -- where those taken are a cover of their classes.
 pub classes_decide : (p : Named) (bodies : List (List (List ℕ))) (reps : List ℕ) → IsSound p
-    → All (IsOption p.puzzle) reps → StandFor p (filter (is_known p) bodies) reps →
+    → AllByRecursion (IsOption p.puzzle) reps → StandFor p (filter (is_known p) bodies) reps →
     IsListedCover p bodies ↔ IsCoverOfClasses p.puzzle reps
 classes_decide p bodies reps r all h = (
   λ (g : IsListedCover p bodies). classes_of_cover p.puzzle r.valid reps g.0 a
@@ -237,7 +242,7 @@ classes_decide p bodies reps r all h = (
     known_bodies = filter (is_known p) bodies
 
     a : AreKnown p.puzzle reps
-    a o k = each_in (IsOption p.puzzle) reps o (recursion_from_All (IsOption p.puzzle) reps all) k
+    a o k = each_in (IsOption p.puzzle) reps o all k
 
     known : (s : List ℕ) → IsCover p.puzzle s → AreKnown p.puzzle s
     known s c o k = each_in (IsOption p.puzzle) s o (recursion_from_All (IsOption p.puzzle) s c.known) k

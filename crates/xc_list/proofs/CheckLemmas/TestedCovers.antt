@@ -70,17 +70,19 @@ agreed : (p : Puzzle) (a b i c d : ℕ) → do_agree p a b ≡ true → a ≢ b 
     colour_in (uses_of p a) i ≡ Some c → colour_in (uses_of p b) i ≡ Some d → (c ≡ d) × (0 < c)
 agreed p a b i c d h apart second in_a in_b = grind (arith, nat_tests, use_of_colour, passes-at, met_colour)
 
+or_else : (x y : Bool) → (x ≡ false → y ≡ true) → (x || y) ≡ true
+or_else true y h = refl
+or_else false y h = h refl
+
 -- and where they give each secondary item one colour, they agree
 agree : (p : Puzzle) → IsValid p → (a b : ℕ) → IsOption p a →
     ((i c d : ℕ) → a ≢ b → IsSecondary p i → colour_in (uses_of p a) i ≡ Some c → colour_in (uses_of p b) i ≡ Some d
     → (c ≡ d) × (0 < c)) →
     do_agree p a b ≡ true
 agree p v a b known h =
-    elim (a == b) as (λ t. (a == b) ≡ t → (t || are_uses_met (primary_count p) (uses_of p b) (uses_of p a)) ≡ true) [
-      | true ↦ λ e. refl
-      | false ↦ λ e. each-passes (is_use_met (primary_count p) (uses_of p b)) (uses_of p a)
-          (λ u k. met u k (λ z. let t = eq-eqb a b z in cc))
-    ] refl
+    or_else (a == b) (are_uses_met (primary_count p) (uses_of p b) (uses_of p a))
+    (λ e. each-passes (is_use_met (primary_count p) (uses_of p b)) (uses_of p a)
+    (λ u k. met u k (λ z. let t = eq-eqb a b z in cc)))
   where
     differ : DifferInItems (uses_of p a)
     differ = option-differs p v a known
@@ -93,13 +95,9 @@ agree p v a b known h =
         let sound =
         each_in (IsSoundUse p) (uses_of p a) u
         (recursion_from_All (IsSoundUse p) (uses_of p a) (option-sound p v a known).sound) k in
-        elim (nat_le u.item (primary_count p)) as
-        (λ t. nat_le u.item (primary_count p) ≡ t
-        → (t || is_colour_met (colour_in (uses_of p b) u.item) u.colour) ≡ true) [
-          | true ↦ λ e. refl
-          | false ↦ λ e. colour_met (colour_in (uses_of p b) u.item) u.colour
-              (λ d q. h u.item u.colour d apart (above u (sound.0) e) (colour_of_use (uses_of p a) u differ k) q)
-        ] refl
+        or_else (nat_le u.item (primary_count p)) (is_colour_met (colour_in (uses_of p b) u.item) u.colour)
+        (λ e. colour_met (colour_in (uses_of p b) u.item) u.colour
+        (λ d q. h u.item u.colour d apart (above u sound.0 e) (colour_of_use (uses_of p a) u differ k) q))
 
 -- ---- different numbers
 -- a number that stands again behind the first
