@@ -145,10 +145,12 @@ not_null : (p : Named) → IsSound p → All (λ n. n ≢ codes "null") p.names 
     → (w : List ℕ) → pointwise bytes_eq (map (use_word p) us) (codes "null" ∷ w ∷ []) ≡ false
 not_null p sound none [] known w = refl
 not_null p sound none (u ∷ us) known w =
-    let fact = not_false (bytes_eq (use_word p u) (codes "null")) (λ e. let is = (bytes_eq-Decides (use_word p u)
-    (codes "null")).0 e in let name = plain-word p sound u (All-head (IsKnownUse p) u us known) (ap (has COLON) is) in
+    let other : bytes_eq (use_word p u) (codes "null") ≡ false =
+    not_false (bytes_eq (use_word p u) (codes "null")) (λ e.
+    let is = (bytes_eq-Decides (use_word p u) (codes "null")).0 e in
+    let name = plain-word p sound u (All-head (IsKnownUse p) u us known) (ap (has COLON) is) in
     at_number (λ n. n ≢ codes "null") p.names u.item (use_word p u) none name.0 is) in
-    cc
+    ap (λ t. t && pointwise bytes_eq (map (use_word p) us) (w ∷ [])) other
 
 not_known : (p : Named) → IsSound p → All (λ n. n ≢ codes "null") p.names → (w : List ℕ)
     → is_known p (codes "null" ∷ w ∷ []) ≡ false

@@ -12,14 +12,9 @@ loop-u-preserved c =
     let us = c.args.uses.now in
     let i = c.loop-u.u-index in
     let u : Use = get_or us i (record { item = 0; colour = 0 }) in
-    omega (
-      arith,
-      c.loop-u.invariant,
-      c.use_length.ensures,
-      c.saturating_add-total.ensures,
-      ap length (flat_map-take-more (use_text p) us i (record { item = 0; colour = 0 }) c.loop-u-test.true),
-      length-append (uses_text p (take i us)) (use_text p u),
-    )
+    let fact = ap length (flat_map-take-more (use_text p) us i (record { item = 0; colour = 0 }) c.loop-u-test.true) in
+    let fact2 = length-append (uses_text p (take i us)) (use_text p u) in
+    omega (arith, c.loop-u.invariant, c.use_length.ensures, c.saturating_add-total.ensures)
 
 pub returns : goal.returns
 returns c =

@@ -14,14 +14,9 @@ returns-then-u-item c =
 
 pub overflow_add-place : goal.overflow_add-place
 overflow_add-place c =
-    omega (
-      arith,
-      c.loop-u.invariant.counted,
-      c.use_length-place.ensures,
-      c.requires.fits,
-      length-more c.args.problem.now c.args.uses.now c.loop-u.u-index (record { item = 0; colour = 0 })
-          c.loop-u-test.true,
-    )
+    let fact = length-more c.args.problem.now c.args.uses.now c.loop-u.u-index (record { item = 0; colour = 0 })
+    c.loop-u-test.true in
+    omega (arith, c.loop-u.invariant.counted, c.use_length-place.ensures, c.requires.fits)
 
 pub returns : goal.returns
 returns c =
