@@ -107,6 +107,10 @@ closed s number chosen cover verdicts sound classes all same decided e f =
       λ bodies are. rw e (verdict_is s.options number s.chosen cover sound classes all decides bodies are),
     )
 
+abbrev pub progress : Classes → Option ℕ → List ℕ → List Verdict → Progress
+progress b number chosen verdicts =
+    record { options = b; open_number = number; chosen = chosen; verdicts = verdicts }
+
 -- A LINE IS PASSED
 pub moved : (said : Line) (old new t : Progress) → Takes said old new → new.options ≡ t.options
     → new.open_number ≡ t.open_number → new.chosen ≡ t.chosen → new.verdicts ≡ t.verdicts → Takes said old t

@@ -1,18 +1,12 @@
 use Rattle.std.proofs.Common.{subst}
 use Rattle.xc_list.specs.inner.Checking.{Progress, Closes}
-use Rattle.xc_list.proofs.CheckLemmas.CheckedLines.{closed}
+use Rattle.xc_list.proofs.CheckLemmas.CheckedLines.{progress, closed}
 use Rattle.xc_list.proofs.checker.Checker.end_solution.Goals as goal
 
 pub returns-in_ok-push-clause-closes : goal.returns-in_ok-push-clause-closes
 returns-in_ok-push-clause-closes c =
     let i = c.self.inside in
-    let s : Progress =
-    record {
-      options = i.options;
-      open_number = i.open_number;
-      chosen = i.chosen.items;
-      verdicts = i.verdicts.items;
-    } in
+    let s : Progress = progress i.options i.open_number i.chosen.items i.verdicts.items in
     let facts = c.self.invariant.indexed in
     subst (λ (t : Progress). Closes t (record t { verdicts = c.push.new.self.items })) c.self.view_is
     (closed s c.in-Some.number c.as_slice.result.now c.is_cover-cover.result c.push.new.self.items facts.sound

@@ -7,7 +7,7 @@ use Rattle.xc_list.specs.inner.ReadLines.{Body, read}
 use Rattle.xc_list.specs.Listed.{is_none}
 use Rattle.xc_list.specs.inner.Classes.{Classes, IsIndexed, IsClassOfBody}
 use Rattle.xc_list.specs.inner.Checking.{Progress, Takes}
-use Rattle.xc_list.proofs.CheckLemmas.CheckedLines.{none_taken, moved}
+use Rattle.xc_list.proofs.CheckLemmas.CheckedLines.{none_taken, moved, progress}
 use Rattle.xc_list.specs.inner.CoverCounts.{places_of}
 use Rattle.xc_list.specs.inner.SeenLines.{IsClassOfLine, IsRightly}
 use Rattle.xc_list.proofs.CheckLemmas.NotedLines.{noted-rightly}
@@ -23,13 +23,7 @@ invariant_of-self-in-Ok-Some c =
     let seen =
     noted-rightly i.options i.seen.lines.items c.note.new.self.lines.items c.args.line.now c.in-Ok-Some.class class
     c.note.ensures c.self.invariant.seen in
-    subst (λ (b : Classes). record {
-      places : i.counter ≡ places_of b;
-      indexed : IsIndexed b;
-      known : All (λ k. k < length b.classes) i.chosen.items;
-      seen : All (IsRightly b) c.note.new.self.lines.items;
-    }) (sym c.class_of.ensures.same)
-    (record {
+    rw c.class_of.ensures.same (record {
       places = c.self.invariant.places;
       indexed = c.self.invariant.indexed;
       known = c.self.invariant.known;
@@ -40,13 +34,7 @@ pub returns-in_ok-take_class-in-Ok-Some-clause-takes : goal.returns-in_ok-take_c
 returns-in_ok-take_class-in-Ok-Some-clause-takes c =
     let i = c.self.inside in
     let words = words_in c.args.body.now in
-    let s : Progress =
-    record {
-      options = i.options;
-      open_number = i.open_number;
-      chosen = i.chosen.items;
-      verdicts = i.verdicts.items;
-    } in
+    let s : Progress = progress i.options i.open_number i.chosen.items i.verdicts.items in
     let class : IsClassOfBody c.class_of.new.self words (Some c.in-Ok-Some.class) =
     grind (arith, nat_tests, c.class_of.ensures.same, c.in-Ok-Some.field-0-is, c.in-Ok-Some.ensures.class) in
     let fact = ap (λ (b : Classes). record s { options = b }) c.class_of.ensures.same ∙ c.self.view_is in
@@ -56,20 +44,8 @@ pub returns-in-Ok-None-clause-takes : goal.returns-in-Ok-None-clause-takes
 returns-in-Ok-None-clause-takes c =
     let i = c.self.inside in
     let words = words_in c.args.body.now in
-    let s : Progress =
-    record {
-      options = i.options;
-      open_number = i.open_number;
-      chosen = i.chosen.items;
-      verdicts = i.verdicts.items;
-    } in
-    let t : Progress =
-    record {
-      options = c.class_of.new.self;
-      open_number = i.open_number;
-      chosen = i.chosen.items;
-      verdicts = i.verdicts.items;
-    } in
+    let s : Progress = progress i.options i.open_number i.chosen.items i.verdicts.items in
+    let t : Progress = progress c.class_of.new.self i.open_number i.chosen.items i.verdicts.items in
     let some : is_some s.open_number ≡ true = c.is_none.ensures ∙ ap not c.if-is_none.false in
     let other : IsClassOfBody s.options words None =
     subst (IsClassOfBody s.options words) c.in-Ok-None.field-0-is c.in-Ok-None.ensures.class in
