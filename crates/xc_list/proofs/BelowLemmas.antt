@@ -38,8 +38,7 @@ known_below p path is =
     let known = All (IsKnownChoice p) in
     let run = below_run p path is in
     let all = recursion_from_All known (run.0 ++ (below p path ++ run.1)) (subst (All known) run.2 (members_known p)) in
-    All-from_recursion known (below p path) (each_front known (below p path) run.1
-    (each_front known run.0 (below p path ++ run.1) all).1).0
+    All-from_recursion known (below p path) (each_front _ _ _ (each_front _ _ _ all).1).0
 
 -- the texts of the first members
 abbrev pub text_to : Named → ℕ → List (List Choice) → List ℕ

@@ -1,4 +1,6 @@
 -- The output grows member by member.
+use Rattle.std.proofs.lemmas.Bool.{cases_Bool}
+use Rattle.std.proofs.Common.{inl, inr}
 use Rattle.std.proofs.lemmas.Bool.Decides.{nat_tests}
 use Rattle.std.proofs.Common.{◌≡◌, ℕ, zero, suc, ◌+◌, ◌<◌, ◌≤◌, ◌-◌, Bool, true, false, cond, List, [], ◌∷◌, ◌++◌, Some}
 use Rattle.std.proofs.Common.{length, take, drop, filter, refl, sym, ap, ◌∙◌, append-nil, add-one, arith}
@@ -94,20 +96,17 @@ pub stopped : (a : Named) (spacing limit k : ℕ) (m : List Choice) (rest : List
     → Took x y (output a spacing k) → BrokeOff y z (printed_text a spacing (k + 1, m))
     → StoppedAt a spacing limit (k + 1) x z
 stopped a spacing limit k m rest {x = x} {y = y} {z = z} e below so_far stop =
-    by_case (is_printed spacing (k + 1)) refl stop
-  where
-    by_case : (b : Bool) → is_printed spacing (k + 1) ≡ b → BrokeOff y z (if b then member_text a (k + 1, m) else [])
-        → StoppedAt a spacing limit (k + 1) x z
-    by_case true p t =
-        let back : k ≡ (k + 1) - 1 = omega arith in
-        record {
-          within = (omega arith, omega (arith, below));
-          member = m;
-          is_member = at_next (members a.puzzle) k m rest e;
-          printed = p;
-          stopped = (y, subst (λ n. Took x y (output a spacing n)) back so_far, t);
-        }
-    by_case false p t = absurd (omega (arith, t.part))
+    let back : k ≡ (k + 1) - 1 = omega arith in
+    elim (cases_Bool (is_printed spacing (k + 1))) [
+      | inl p ↦ record {
+        within = (omega arith, omega (arith, below));
+        member = m;
+        is_member = at_next (members a.puzzle) k m rest e;
+        printed = p;
+        stopped = (y, subst (λ n. Took x y (output a spacing n)) back so_far, rw p at stop);
+      }
+      | inr p ↦ absurd (let t = rw p at stop in omega (arith, t.part))
+    ]
 
 pub known_next : (p : Puzzle) (k : ℕ) (m : List Choice) (rest : List (List Choice)) → drop k (members p) ≡ m ∷ rest
     → All (IsKnownChoice p) m
@@ -144,8 +143,7 @@ stopped_begins a spacing limit t x z s =
     let text : List ℕ = member_text a (t, s.member) in
     let again : (t - 1) + 1 ≡ t = omega (arith, s.within.0) in
     let next : output a spacing ((t - 1) + 1) ≡ output a spacing (t - 1) ++ printed_text a spacing
-    ((t - 1) + 1, s.member) =
-    output_next a spacing (t - 1) s.member (drop ((t - 1) + 1) (members a.puzzle))
+    ((t - 1) + 1, s.member) = output_next a spacing (t - 1) s.member (drop ((t - 1) + 1) (members a.puzzle))
     (drop_before (members a.puzzle) t s.member s.is_member) in
     let printed : printed_text a spacing ((t - 1) + 1, s.member) ≡ text =
     ap (λ n. printed_text a spacing (n, s.member)) again ∙ ap (λ b. if b then text else []) s.printed in
@@ -154,8 +152,7 @@ stopped_begins a spacing limit t x z s =
     let cut : text ≡ take n text ++ drop n text = sym (take-append-drop n text) in
     begins_front x z (output a spacing limit) (output a spacing (t - 1) ++ take n text) (drop n text ++ b.0)
     (cc (b.1, next, printed, cut, regroup (output a spacing (t - 1)) (take n text) (drop n text) b.0))
-    (appends_more x.taken s.stopped.0.taken z.taken (output a spacing (t - 1)) (take n text) s.stopped.1.whole
-    s.stopped.2.begun)
+    (appends_more _ _ _ _ _ s.stopped.1.whole s.stopped.2.begun)
   where
     regroup : (p q r s : List ℕ) → (p ++ (q ++ r)) ++ s ≡ (p ++ q) ++ (r ++ s)
     regroup p q r s = grind (arith, common_steps)

@@ -43,8 +43,7 @@ then_broke {a = a} {b = b} {c = c} {s = s} {t = t} p q = record {
   last = q.last;
   many = length s + q.many;
   part = grind (arith, common_steps, q.part);
-  begun =
-      rw (take-append-add s t q.many) (appends_more a.taken b.taken c.taken s (take q.many t) p.whole q.begun);
+  begun = rw (take-append-add s t q.many) (appends_more a.taken b.taken c.taken s (take q.many t) p.whole q.begun);
   unflushed = q.unflushed ∙ p.unflushed;
 }
 
@@ -77,8 +76,7 @@ colour_text-some cs (suc c) h = grind (arith, nat_tests)
 pub loop_broke : {X : Type 0} {a b c : SinkState} (f : X → List ℕ) (xs : List X) (i : ℕ) (d : X) → i < length xs
     → Took a b (flat_map f (take i xs)) → BrokeOff b c (f (get_or xs i d)) → BrokeOff a c (flat_map f xs)
 loop_broke {a = a} {c = c} f xs i d h p q =
-    subst (BrokeOff a c) (sym (flat_map-parts f xs i d h))
-    (broke_before (flat_map f (drop (i + 1) xs)) (then_broke p q))
+    subst (BrokeOff a c) (sym (flat_map-parts f xs i d h)) (broke_before _ (then_broke p q))
 
 pub option_texts : (f : Use → List ℕ) (item : ℕ) (all us before after : List Use) (p : ℕ) → us ≡ all
     → p ≡ place_in item us

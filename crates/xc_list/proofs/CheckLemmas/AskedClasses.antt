@@ -101,12 +101,6 @@ pub classes_by_asked : (b : Classes) → AreClasses b.problem.puzzle b.classes �
     (numbers b.problem.puzzle)) → (k o : ℕ) → IsOfClass b k o → IsRoomFor b ks k
 classes_by_asked b are ks reps z h k o g =
     let p = b.problem.puzzle in
-    le-leb _ _ (omega (
-      arith,
-      h o,
-      is_counted (alike p o) reps,
-      is_counted (alike p o) (numbers p),
-      asked-at b are k o g
-          ks reps z,
-      members-at b k o g,
-    ))
+    let asked = asked-at b are k o g ks reps z in
+    let all = is_counted (alike p o) (numbers p) in
+    le-leb _ _ (omega (arith, h o, is_counted (alike p o) reps, all, asked, members-at b k o g))

@@ -27,10 +27,9 @@ texts-same vs ws = slice_eq-Decides bytes_eq-Decides vs ws (pointwise bytes_eq v
 pub body-is : (p : Named) (words : List (List ℕ)) (us : List Use) → is_body p words us ≡ true → (k : ℕ)
     × (k < length us) × (map (use_word p) (rotated_at k us) ≡ words)
 body-is p words us h =
-    let k =
-    in-any (λ k. pointwise bytes_eq (map (use_word p) (rotated_at k us)) words) (range_with_len 0 (length us)) h in
+    let k = in-any _ _ h in
     let l = in-range 0 (length us) k.0 k.1 in
-    (k.0, omega (arith, l.1), (texts-same (map (use_word p) (rotated_at k.0 us)) words).0 k.2)
+    (k.0, omega (arith, l.1), (texts-same _ _).0 k.2)
 
 pub is-body : (p : Named) (words : List (List ℕ)) (us : List Use) (k : ℕ) → k < length us
     → map (use_word p) (rotated_at k us) ≡ words → is_body p words us ≡ true

@@ -108,8 +108,7 @@ closed s number chosen cover verdicts sound classes all same decided e f =
     )
 
 abbrev pub progress : Classes → Option ℕ → List ℕ → List Verdict → Progress
-progress b number chosen verdicts =
-    record { options = b; open_number = number; chosen = chosen; verdicts = verdicts }
+progress b number chosen verdicts = record { options = b; open_number = number; chosen = chosen; verdicts = verdicts }
 
 -- A LINE IS PASSED
 pub moved : (said : Line) (old new t : Progress) → Takes said old new → new.options ≡ t.options

@@ -47,8 +47,7 @@ module _ (f g : List Use → ℕ) (x : List Use) (same : (us : List Use) → us 
   counts-found [] k n d e h = cc
   counts-found (us ∷ classes) zero n d e h = grind (arith, nat_tests, others classes, each_in)
   counts-found (us ∷ classes) (suc k) n d e h =
-      ap₂ (λ n ns. n ∷ ns) (same us (each_in (λ b. us ≢ b) classes x d.0 (in-slice_get classes k x e)))
-      (counts-found classes k n d.1 e h)
+      ap₂ (λ n ns. n ∷ ns) (same us (each_in _ _ _ d.0 (in-slice_get classes k x e))) (counts-found classes k n d.1 e h)
 
   counts-new : (classes : List (List Use)) (n : ℕ) → (IsIn classes x → ⊥) → n ≡ g x
       → map f classes ++ n ∷ [] ≡ map g (classes ++ x ∷ [])

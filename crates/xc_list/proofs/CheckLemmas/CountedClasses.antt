@@ -46,10 +46,9 @@ classes_usable b s are k l =
     let one = are.used k (uses_at b.classes k) (slice_get-get_or b.classes k [] l) in
     let us = uses_of p one.0 in
     let sound = All-turned (IsSoundUse p) (class_start us) us (option-sound p s.valid one.0 one.1).sound in
-    let items : AreItems n (class_of us) =
-    each_weaker (IsSoundUse p) (λ u. (1 ≤ u.item) × (u.item ≤ n)) (class_of us) (λ u h. h.0)
+    let items : AreItems n (class_of us) = each_weaker _ _ _ (λ u h. h.0)
     (recursion_from_All (IsSoundUse p) (class_of us) sound) in
-    let differ = differ-turned (class_start us) us (option-differs p s.valid one.0 one.1) in
+    let differ = differ-turned _ _ (option-differs p s.valid one.0 one.1) in
     subst (λ vs. AreItems n vs × DifferInItems vs) one.2 (items, differ)
 
 -- ---- the uses of classes
@@ -92,9 +91,7 @@ AreBelow n ks = AllByRecursion (λ k. k < n) ks
 pub items_in : (n : ℕ) (classes : List (List Use)) (ks : List ℕ) → AreUsable n classes → AreBelow (length classes) ks
     → AreItems n (uses_in classes ks)
 items_in n classes [] h a = tt
-items_in n classes (k ∷ ks) h a =
-    each-append (λ u. (1 ≤ u.item) × (u.item ≤ n)) (uses_at classes k) (uses_in classes ks) (h k a.0).0
-    (items_in n classes ks h a.1)
+items_in n classes (k ∷ ks) h a = each-append _ _ _ (h k a.0).0 (items_in n classes ks h a.1)
 
 pub held-append : (i : ℕ) (us vs : List Use) → held i (us ++ vs) ≡ held i us + held i vs
 held-append i [] vs = omega arith
@@ -118,11 +115,10 @@ added_few n classes ks i k h a l =
           let fact = added-at n us (replicate n 0) k (items_in n classes (take i ks) h before)
           (sym (length-replicate n 0)) m in
           omega (arith, get_or-replicate {A = ℕ} n k 0 0 m, few, length-take-le i ks l)
-      | inr m ↦ omega (
-        arith,
-        get_or_past (added us (replicate n 0)) k 0
-            (omega (arith, m, length-added us (replicate n 0), length-replicate {A = ℕ} n 0)),
-      )
+      | inr m ↦
+          let sizes : n ≡ length (added us (replicate n 0)) =
+          omega (arith, length-added us (replicate n 0), length-replicate {A = ℕ} n 0) in
+          omega (arith, get_or_past (added us (replicate n 0)) k 0 (omega (arith, m, sizes)))
     ]
 
 -- ---- how often classes are asked
@@ -155,8 +151,7 @@ lowered-at : (ks ns : List ℕ) (k : ℕ) → k < length ns → (get_or ns k 0 �
 lowered-at [] ns k l (inl h) = h
 lowered-at [] ns k l (inr h) = absurd (omega (arith, h))
 lowered-at (j ∷ ks) ns k l h =
-    lowered-at ks (set ns j 0) k (omega (arith, l, length-set ns j 0))
-    (lowered_once ns j k (counted (λ j. j == k) ks) l h)
+    lowered-at ks (set ns j 0) k (omega (arith, l, length-set ns j 0)) (lowered_once _ _ _ _ l h)
 
 zero_or : (m n : ℕ) → m ≡ 0 + n → (m ≡ 0) ⊎ (0 < n)
 zero_or m n e = grind arith

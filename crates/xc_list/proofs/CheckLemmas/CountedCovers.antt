@@ -94,8 +94,7 @@ at_most n m (c ∷ g) t h = h.0
 module _ (b : Classes) (stored : List Bounds) (cs ks reps : List ℕ) (s : IsSolution b stored cs ks reps) where
   items : AreItems (item_count b.problem.puzzle) (uses_in b.classes ks)
   items =
-      items_in (item_count b.problem.puzzle) b.classes ks (classes_usable b s.sound s.classes)
-      (each_class b (λ k. k < length b.classes) ks reps
+      items_in _ _ _ (classes_usable b s.sound s.classes) (each_class b (λ k. k < length b.classes) ks reps
       (λ k o h. slice_get_within b.classes k (class_at b.problem.puzzle o) h.1) s.taken)
 
   gives : (i : ℕ) → given i (uses_in b.classes ks) ≡ gathered b.problem.puzzle i reps
@@ -128,10 +127,7 @@ module _ (b : Classes) (stored : List Bounds) (cs ks reps : List ℕ) (s : IsSol
   -- what follows of each colour that is given to an item
   met_given : (P : ℕ → Type 0) (k : ℕ) → ((c : ℕ) → agrees_at b stored cs ks k c → P c) → AreMet b stored cs ks
       → AllByRecursion P (given (suc k) (uses_in b.classes ks))
-  met_given P k h a =
-      given-each P (suc k) (uses_in b.classes ks)
-      (each_weaker (λ u. u.item ≡ suc k → agrees_at b stored cs ks k u.colour) (λ u. u.item ≡ suc k → P u.colour)
-      (uses_in b.classes ks) (λ u g q. h u.colour (g q)) (met_at k a))
+  met_given P k h a = given-each _ _ _ (each_weaker _ _ _ (λ u g q. h u.colour (g q)) (met_at k a))
 
   high : AreMet b stored cs ks → (k : ℕ) (x : Bounds) → slice_get stored k ≡ Some x
       → get_or (times_after b ks) k 0 ≤ x.high
@@ -187,7 +183,7 @@ module _ (b : Classes) (stored : List Bounds) (cs ks reps : List ℕ) (s : IsSol
   met_one h u m = by_limit (slice_get stored (u.item - 1)) refl
     where
       known : (1 ≤ u.item) × (u.item ≤ item_count b.problem.puzzle)
-      known = each_in (λ v. (1 ≤ v.item) × (v.item ≤ item_count b.problem.puzzle)) (uses_in b.classes ks) u items m
+      known = each_in _ _ _ items m
 
       l : u.item - 1 < item_count b.problem.puzzle
       l = omega (arith, known)
@@ -205,18 +201,14 @@ module _ (b : Classes) (stored : List Bounds) (cs ks reps : List ℕ) (s : IsSol
           (omega (arith, not_some stored (u.item - 1) e, primaries), omega (arith, known)) in
           let agree : AgreeAt p i reps = λ j k a q c d l e f y z. h.agree j k a q i c d l e f sec y z in
           let lasts : AllByRecursion (IsLast d (given i (uses_in b.classes ks))) (given i (uses_in b.classes ks)) =
-          subst (λ g. AllByRecursion (IsLast d g) g) (sym (gives i))
-          (agree-last d (gathered p i reps) (gathered-agree p i reps agree))
-          in
-          each_in (λ v. v.item ≡ i → IsLast d (given i (uses_in b.classes ks)) v.colour) (uses_in b.classes ks) u
-          (each-given (IsLast d (given i (uses_in b.classes ks))) i (uses_in b.classes ks) lasts) m is
+          subst (λ g. AllByRecursion (IsLast d g) g) (sym (gives i)) (agree-last _ _ (gathered-agree p i reps agree)) in
+          each_in _ _ _ (each-given _ _ _ lasts) m is
 
       by_limit : (v : Option Bounds) → slice_get stored (u.item - 1) ≡ v
           → agrees_at b stored cs ks (u.item - 1) u.colour
       by_limit (Some x) e = rw e (le-leb _ _ (limited h (u.item - 1) x e).1)
       by_limit None e =
-          rw e (last_agrees (get_or (times_after b ks) (u.item - 1) 0) (get_or (colours_after b ks cs) (u.item - 1) 0)
-          u.colour (elim (last e) [
+          rw e (last_agrees _ _ _ (elim (last e) [
             | inl q ↦ inl (time (u.item - 1) l ∙ q)
             | inr q ↦ inr (q.0, q.1 ∙ sym (colour (u.item - 1) l))
           ]))

@@ -42,9 +42,7 @@ uses-in p zero h = absurd (omega (arith, h.0))
 uses-in p (suc k) h = in-slice_get p.options k (uses_of p (suc k)) (numbered_some p.options (suc k) [] h.0 h.1)
 
 pub option-sound : (p : Puzzle) → IsValid p → (o : ℕ) → IsOption p o → IsSoundOption p (uses_of p o)
-option-sound p v o h =
-    each_in (λ us. IsSoundOption p us) p.options (uses_of p o)
-    (recursion_from_All (λ us. IsSoundOption p us) p.options v.options) (uses-in p o h)
+option-sound p v o h = each_in _ _ _ (recursion_from_All (λ us. IsSoundOption p us) p.options v.options) (uses-in p o h)
 
 pub option-differs : (p : Puzzle) → IsValid p → (o : ℕ) → IsOption p o → DifferInItems (uses_of p o)
 option-differs p v o h =
@@ -53,14 +51,12 @@ option-differs p v o h =
 -- the uses of an option can be told
 pub option-known : (p : Named) → IsSound p → (o : ℕ) → IsOption p.puzzle o → All (IsKnownUse p) (uses_of p.puzzle o)
 option-known p r o h =
-    known_option p.puzzle p.colours o (uses_of p.puzzle o) r.valid r.coloured
-    (numbered_some p.puzzle.options o [] h.0 h.1)
+    known_option p.puzzle p.colours o (uses_of p.puzzle o) r.valid r.coloured (numbered_some _ _ _ h.0 h.1)
 
 pub alike-classes : (p : Puzzle) → IsLikeness (alike p)
 alike-classes p = record {
   itself = λ a. same_uses-itself (class a);
-  back =
-      λ a b h. cc (same_uses-are (class a) (class b) h, same_uses-itself (class a));
+  back = λ a b h. cc (same_uses-are (class a) (class b) h, same_uses-itself (class a));
   on = λ a b c h k. subst (λ v. same_uses (class a) v ≡ true) (same_uses-are (class b) (class c) k) h;
 }
   where
@@ -110,8 +106,7 @@ stand-alike p r bodies reps s a b =
 pub colours-alike : (p : Puzzle) → IsValid p → (q o i : ℕ) → IsOption p q → IsOption p o → alike p q o ≡ true
     → colour_in (uses_of p q) i ≡ colour_in (uses_of p o) i
 colours-alike p v q o i x y e =
-    colour-alike (uses_of p q) (uses_of p o) i (option-differs p v q x) (option-differs p v o y)
-    (same_uses-are (class_of (uses_of p q)) (class_of (uses_of p o)) e)
+    colour-alike _ _ _ (option-differs p v q x) (option-differs p v o y) (same_uses-are _ _ e)
 
 counted-alike : (p : Puzzle) → IsValid p → (i : ℕ) (reps s : List ℕ) → AreKnown p reps → AreKnown p s
     → AreAlike (alike p) reps s →
@@ -126,9 +121,7 @@ counted-alike p v i (q ∷ reps) (o ∷ s) a b z =
 -- Alike options hold each item equally often.
 pub held-alike : (p : Puzzle) → IsValid p → (i : ℕ) (reps s : List ℕ) → AreKnown p reps → AreKnown p s
     → AreAlike (alike p) reps s → times_held p i reps ≡ times_held p i s
-held-alike p v i reps s a b z =
-    is_counted (λ o. is_some (colour_in (uses_of p o) i)) reps ∙ counted-alike p v i reps s a b z
-    ∙ sym (is_counted (λ o. is_some (colour_in (uses_of p o) i)) s)
+held-alike p v i reps s a b z = is_counted _ _ ∙ counted-alike p v i reps s a b z ∙ sym (is_counted _ _)
 
 some_and : {X : Type 0} (o : Option X) (P : X → Type 0) → IsSomeAnd o P → (x : X) × (o ≡ Some x) × P x
 some_and (Some x) P h = (x, refl, h)
@@ -152,8 +145,7 @@ classes_of_cover p v reps s a z c = record {
       let fact = asked_within (alike p) (alike-classes p) (numbers p) reps s z apart (λ o k. numbers-in p o (known o k))
       r in
       grind (arith, nat_tests, is_counted (alike p r) reps, is_counted (alike p r) (numbers p));
-  within =
-      λ i b e. grind (arith, nat_tests, (c.within i b e).0, held-alike p v i reps s a known z, (c.within i b e).1);
+  within = λ i b e. grind (arith, nat_tests, (c.within i b e).0, held-alike p v i reps s a known z, (c.within i b e).1);
   agree = λ j k q r i x y l e f second g h. (
       let o = alike-right (alike p) reps s j q z e in
       let u = alike-right (alike p) reps s k r z f in
@@ -225,13 +217,8 @@ classes_decide p bodies reps r all h = (
   λ (g : IsListedCover p bodies). classes_of_cover p.puzzle r.valid reps g.0 a
       ((stand-alike p r known_bodies reps g.0 a (known g.0 g.2) h).0 g.1) g.2,
   λ c. (let g = give (alike p.puzzle) (alike-classes p.puzzle) (numbers p.puzzle) (numbers-apart p.puzzle) reps
-      (λ q k. omega (
-        arith,
-        c.asked q,
-        is_counted (alike p.puzzle q) reps,
-        is_counted (alike p.puzzle q)
-            (numbers p.puzzle),
-      )) in (
+      (λ q k. let all = is_counted (alike p.puzzle q) (numbers p.puzzle) in
+      omega (arith, c.asked q, is_counted (alike p.puzzle q) reps, all)) in (
         g.0,
         (stand-alike p r known_bodies reps g.0 a (λ o k. in-numbers p.puzzle o (g.1.known o k)) h).1 g.1.alike,
         cover_of_classes p.puzzle r.valid reps g.0 a g.1 c,

@@ -47,8 +47,7 @@ absent us keys e = no-place (same_uses us) (key_uses keys) (position-map (same_u
 -- uses that aren't
 pub lost-key : (us : List Use) (keys : List (Vec Use Global)) → position (λ v. same_uses us v.items) keys ≡ None
     → IsIn (key_uses keys) us → ⊥
-lost-key us keys e h =
-    cc (absent us keys e, any-in (same_uses us) (key_uses keys) us h ((uses-same us us).1 refl))
+lost-key us keys e h = cc (absent us keys e, any-in (same_uses us) (key_uses keys) us h ((uses-same us us).1 refl))
 
 -- the keys behind new ones
 pub new-uses : (keys : List (Vec Use Global)) (k : Vec Use Global) (all : List (Vec Use Global)) (us : List Use)
@@ -99,11 +98,10 @@ module _ (p : Named) (keys : List (Vec Use Global)) (counts : List ℕ) (b : IsO
       let o = known-as p b.sound words h in
       let vs = uses_of p.puzzle o.0 in
       let same : rotated_at o.2 vs ≡ us =
-      same_uses_by_words p b.sound (rotated_at o.2 vs) us o.3.known have.known (o.3.words_so ∙ sym have.words_so) in
+      same_uses_by_words _ b.sound _ _ o.3.known have.known (o.3.words_so ∙ sym have.words_so) in
       let class : class_at p.puzzle o.0 ≡ class_of us =
       sym (class-turned o.2 vs (option-differs p.puzzle b.sound.valid o.0 o.1)) ∙ ap class_of same in
-      none (subst (IsIn (key_uses keys)) class
-      (in-contains (key_uses keys) (class_at p.puzzle o.0) (b.complete.whole o.0 o.1.0 o.1.1))))
+      none (subst (IsIn (key_uses keys)) class (in-contains _ _ (b.complete.whole o.0 o.1.0 o.1.1))))
 
   -- a body of uses of this class
   pub its-class : (words : List (List ℕ)) (us : List Use) (k : ℕ) → HaveWords p words us → 0 < length us

@@ -83,12 +83,11 @@ given-gathered i b [] [] s z = refl
 given-gathered i b [] (o ∷ reps) s z = absurd z
 given-gathered i b (k ∷ ks) [] s z = absurd z
 given-gathered i b (k ∷ ks) (o ∷ reps) s z =
-    let fact = given_once i (class_at b.problem.puzzle o) (differ-turned (class_start (uses_of b.problem.puzzle o))
-    (uses_of b.problem.puzzle o) (option-differs b.problem.puzzle s.valid o z.0.0)) in
+    let fact = given_once i (class_at b.problem.puzzle o) (differ-turned _ _ (option-differs _ s.valid _ z.0.0)) in
     let fact2 = with_some-append (colour_in (uses_of b.problem.puzzle o) i) (gathered b.problem.puzzle i reps) in
-    let fact3 = colour-class i (uses_of b.problem.puzzle o) (option-differs b.problem.puzzle s.valid o z.0.0) in
+    let fact3 = colour-class i (uses_of b.problem.puzzle o) (option-differs _ s.valid _ z.0.0) in
     let fact4 = get_or_from_slice_get b.classes k (class_at b.problem.puzzle o) [] z.0.1 in
-    cc (given-append i (uses_at b.classes k) (uses_in b.classes ks), given-gathered i b ks reps s z.1)
+    cc (given-append _ _ _, given-gathered i b ks reps s z.1)
 
 length-with_some : (c : Option ℕ) (cs : List ℕ) → length (with_some c cs) ≡ cond (is_some c) 1 0 + length cs
 length-with_some None cs = omega arith
@@ -107,18 +106,14 @@ length-gathered p i reps = by_count reps ∙ sym (is_counted (λ o. is_some (col
 pub given-each : (P : ℕ → Type 0) (i : ℕ) (us : List Use) → AllByRecursion (λ u. u.item ≡ i → P u.colour) us
     → AllByRecursion P (given i us)
 given-each P i us a =
-    each-map P (λ u. u.colour) (filter is us)
-    (each_both (λ u. u.item ≡ i → P u.colour) (λ u. is u ≡ true) (λ u. P u.colour) (filter is us)
-    (λ u h e. h (eqb-true u.item i e)) (each-filter (λ u. u.item ≡ i → P u.colour) is us a) (each_passes is us))
+    each-map _ _ _ (each_both _ _ _ _ (λ u h e. h (eqb-true u.item i e)) (each-filter _ _ _ a) (each_passes is us))
   where
     is : Use → Bool
     is u = u.item == i
 
 pub each-given : (P : ℕ → Type 0) (i : ℕ) (us : List Use) → AllByRecursion P (given i us)
     → AllByRecursion (λ u. u.item ≡ i → P u.colour) us
-each-given P i us a =
-    each_from (λ u. u.item ≡ i → P u.colour) us (λ u k e. each_in P (given i us) u.colour a
-    (map-in (λ u. u.colour) (filter (λ u. u.item == i) us) u (filter-in (λ u. u.item == i) us u k (eq-eqb u.item i e))))
+each-given P i us a = each_from _ _ (λ u k e. each_in _ _ _ a (map-in _ _ _ (filter-in _ _ _ k (eq-eqb u.item i e))))
 
 each_with : (P : ℕ → Type 0) (v : Option ℕ) (cs : List ℕ) → ((c : ℕ) → v ≡ Some c → P c) → AllByRecursion P cs
     → AllByRecursion P (with_some v cs)
@@ -131,8 +126,7 @@ gathered-each : (P : ℕ → Type 0) (p : Puzzle) (i : ℕ) (reps : List ℕ)
     → AllByRecursion P (gathered p i reps)
 gathered-each P p i [] h = tt
 gathered-each P p i (o ∷ reps) h =
-    each_with P (colour_in (uses_of p o) i) (gathered p i reps) (λ c q. h 0 o c refl q)
-    (gathered-each P p i reps (λ k q c e f. h (suc k) q c e f))
+    each_with _ _ _ (λ c q. h 0 o c refl q) (gathered-each P p i reps (λ k q c e f. h (suc k) q c e f))
 
 gathered-at : (P : ℕ → Type 0) (p : Puzzle) (i : ℕ) (reps : List ℕ) (k o c : ℕ) → AllByRecursion P (gathered p i reps)
     → slice_get reps k ≡ Some o → colour_in (uses_of p o) i ≡ Some c → P c

@@ -21,9 +21,7 @@ pub found-at : (lines : List SeenLine) (place : ℕ) (l : SeenLine) (line text :
     → l ≡ get_or lines place l → pointwise (λ a b. a == b) text line ≡ true → text ≡ l.line.items
     → IfSome l.class (IsFoundIn lines line)
 found-at lines place l line text within at equal is =
-    let same =
-    (slice_eq-Decides (λ (a b : ℕ). (eqb-true a b, eq-eqb a b)) text line (pointwise (λ a b. a == b) text line)
-    refl).0 equal in
+    let same = (slice_eq-Decides (λ (a b : ℕ). (eqb-true a b, eq-eqb a b)) _ _ _ refl).0 equal in
     some l.class (λ k e. (l, (place, within, sym at), sym is ∙ same, e))
   where
     some : (o : Option ℕ) → ((k : ℕ) → o ≡ Some k → IsFoundIn lines line k) → IfSome o (IsFoundIn lines line)

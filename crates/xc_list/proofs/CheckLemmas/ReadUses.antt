@@ -1,4 +1,6 @@
 -- The uses that have a body's words.
+use Rattle.std.proofs.lemmas.Bool.{cases_Bool}
+use Rattle.std.proofs.Common.{inr}
 use Rattle.std.proofs.lemmas.Bool.Decides.{nat_tests}
 use Rattle.std.proofs.Common.{ℕ, zero, suc, ◌≡◌, ◌⊎◌, ◌<◌, ◌≤◌, Bool, true, false, List, [], ◌∷◌, ◌++◌, length, map}
 use Rattle.std.proofs.Common.{Option, MatchOption, Bor, Some, None, refl, sym, ap, ap₂, ◌∙◌, arith, append-nil, inl}
@@ -68,23 +70,22 @@ module _ (p : Named) (s : IsSound p) (u : Use) (known : IsKnownUse p u) where
 -- uses with one word are one
 pub one_word : (p : Named) → IsSound p → (u v : Use) → IsKnownUse p u → IsKnownUse p v → use_word p u ≡ use_word p v
     → u ≡ v
-one_word p s u v a b e = by_colon (has COLON (use_word p u)) refl
+one_word p s u v a b e = elim (cases_Bool (has COLON (use_word p u))) [
+  | inr h ↦
+      let x = plain-word p s u a h in
+      let y = plain-word p s v b (ap (has COLON) (sym e) ∙ h) in
+      same (one_number p.names u.item v.item (use_word p v) s.named.distinct (x.0 ∙ ap (λ t. Some t) e) y.0)
+      (x.1 ∙ sym y.1)
+  | inl h ↦
+      let cut = cut-is COLON (use_word p u) h in
+      let x = cut-word p s u a (before COLON (use_word p u)) (after COLON (use_word p u)) cut.1 cut.0 in
+      let y = cut-word p s v b (before COLON (use_word p u)) (after COLON (use_word p u)) cut.1 (sym e ∙ cut.0) in
+      same (one_number p.names u.item v.item (before COLON (use_word p u)) s.named.distinct x.0 y.0)
+      (one_number p.colours u.colour v.colour (after COLON (use_word p u)) s.named.distinct_colours x.1 y.1)
+]
   where
     same : u.item ≡ v.item → u.colour ≡ v.colour → u ≡ v
     same i c = ap₂ (λ i c. let r : Use = record { item = i; colour = c } in r) i c
-
-    by_colon : (t : Bool) → has COLON (use_word p u) ≡ t → u ≡ v
-    by_colon false h =
-        let x = plain-word p s u a h in
-        let y = plain-word p s v b (ap (has COLON) (sym e) ∙ h) in
-        same (one_number p.names u.item v.item (use_word p v) s.named.distinct (x.0 ∙ ap (λ t. Some t) e) y.0)
-        (x.1 ∙ sym y.1)
-    by_colon true h =
-        let cut = cut-is COLON (use_word p u) h in
-        let x = cut-word p s u a (before COLON (use_word p u)) (after COLON (use_word p u)) cut.1 cut.0 in
-        let y = cut-word p s v b (before COLON (use_word p u)) (after COLON (use_word p u)) cut.1 (sym e ∙ cut.0) in
-        same (one_number p.names u.item v.item (before COLON (use_word p u)) s.named.distinct x.0 y.0)
-        (one_number p.colours u.colour v.colour (after COLON (use_word p u)) s.named.distinct_colours x.1 y.1)
 
 -- ---- the words of a body
 

@@ -154,8 +154,7 @@ module _ (us vs : List Use) (i : ℕ) (q : class_of us ≡ class_of vs) (h : Hol
   holds-alike = turned-holds i (class_start vs) vs (subst (Holds i) q (holds-turned i (class_start us) us h))
 
   turned_to-alike : DifferInItems us → DifferInItems vs → from_item i us ≡ from_item i vs
-  turned_to-alike d e =
-      cc (item-turned i (class_start us) us d h, q, item-turned i (class_start vs) vs e holds-alike)
+  turned_to-alike d e = cc (item-turned i (class_start us) us d h, q, item-turned i (class_start vs) vs e holds-alike)
 
 -- A rotation of uses is a rotation of the others of their class.
 pub turned-alike : (us vs : List Use) (k : ℕ) → DifferInItems us → DifferInItems vs → class_of us ≡ class_of vs
@@ -163,8 +162,7 @@ pub turned-alike : (us vs : List Use) (k : ℕ) → DifferInItems us → DifferI
 turned-alike us vs k d e q l = by_first (rotated_at k us) refl
   where
     by_first : (t : List Use) → rotated_at k us ≡ t → (j : ℕ) × (j < length vs) × (rotated_at k us ≡ rotated_at j vs)
-    by_first [] z =
-        absurd (omega (arith, ap length z, length-append (drop k us) (take k us), length-drop k us, l))
+    by_first [] z = absurd (omega (arith, ap length z, length-append (drop k us) (take k us), length-drop k us, l))
     by_first (u ∷ rest) z =
         let i : ℕ = u.item in
         let there : Holds i us = turned-holds i k us (subst (Holds i) (sym z) (first-held u rest)) in (
@@ -194,9 +192,7 @@ first-append [] ys h = absurd (omega (arith, h))
 first-append (x ∷ xs) ys h = refl
 
 colour-held : (i : ℕ) (us : List Use) → Holds i us → colour_in us i ≡ first_colour (from_item i us)
-colour-held i us h =
-    colour-first i us ∙ sym (first-append (drop (place_in i us) us) (take (place_in i us) us)
-    (omega (arith, length-drop (place_in i us) us, h)))
+colour-held i us h = colour-first i us ∙ sym (first-append _ _ (omega (arith, length-drop (place_in i us) us, h)))
 
 colour-lost : (i : ℕ) (us : List Use) → length us ≤ place_in i us → colour_in us i ≡ None
 colour-lost i us h = colour-first i us ∙ ap first_colour (drop_all (place_in i us) us h)

@@ -77,11 +77,9 @@ or_else false y h = h refl
 -- and where they give each secondary item one colour, they agree
 agree : (p : Puzzle) → IsValid p → (a b : ℕ) → IsOption p a →
     ((i c d : ℕ) → a ≢ b → IsSecondary p i → colour_in (uses_of p a) i ≡ Some c → colour_in (uses_of p b) i ≡ Some d
-    → (c ≡ d) × (0 < c)) →
-    do_agree p a b ≡ true
+    → (c ≡ d) × (0 < c)) → do_agree p a b ≡ true
 agree p v a b known h =
-    or_else (a == b) (are_uses_met (primary_count p) (uses_of p b) (uses_of p a))
-    (λ e. each-passes (is_use_met (primary_count p) (uses_of p b)) (uses_of p a)
+    or_else _ _ (λ e. each-passes _ _
     (λ u k. met u k (λ z. let t = eq-eqb a b z in cc)))
   where
     differ : DifferInItems (uses_of p a)
@@ -92,12 +90,10 @@ agree p v a b known h =
 
     met : (u : Use) → IsIn (uses_of p a) u → a ≢ b → is_use_met (primary_count p) (uses_of p b) u ≡ true
     met u k apart =
-        let sound =
-        each_in (IsSoundUse p) (uses_of p a) u
+        let sound = each_in _ _ _
         (recursion_from_All (IsSoundUse p) (uses_of p a) (option-sound p v a known).sound) k in
-        or_else (nat_le u.item (primary_count p)) (is_colour_met (colour_in (uses_of p b) u.item) u.colour)
-        (λ e. colour_met (colour_in (uses_of p b) u.item) u.colour
-        (λ d q. h u.item u.colour d apart (above u sound.0 e) (colour_of_use (uses_of p a) u differ k) q))
+        or_else _ _ (λ e. colour_met _ _
+        (λ d q. h u.item u.colour d apart (above u sound.0 e) (colour_of_use _ _ differ k) q))
 
 -- ---- different numbers
 -- a number that stands again behind the first

@@ -109,10 +109,9 @@ told-option : (p : Named) → IsSound p → (i o : ℕ) → 1 ≤ o → o ≤ op
     → is_some (colour_in (uses_of p.puzzle o) i) ≡ true → IsTold p i (Some o)
 told-option p sound i o h l held = record {
   some = omega (arith, length-map (rotated_at k us) (use_word p), length-turned k us, within);
-  plain = each-map IsPlain (use_word p) (rotated_at k us)
-      (each_weaker (IsKnownUse p) (λ u. IsPlain (use_word p u)) (rotated_at k us) (plain-use p sound)
-      (recursion_from_All (IsKnownUse p) (rotated_at k us) all));
-  accepted = or-left (is_known p words) (is_none p words) known;
+  plain = each-map _ _ _
+      (each_weaker _ _ _ (plain-use p sound) (recursion_from_All (IsKnownUse p) (rotated_at k us) all));
+  accepted = or-left _ _ known;
   stands = (known, stands);
 }
   where
@@ -129,7 +128,7 @@ told-option p sound i o h l held = record {
     within = place-within i us held
 
     at : numbered_get p.puzzle.options o ≡ Some us
-    at = numbered_some p.puzzle.options o [] h l
+    at = numbered_some _ _ _ h l
 
     all : All (IsKnownUse p) (rotated_at k us)
     all = All-turned (IsKnownUse p) k us (known_option p.puzzle p.colours o us sound.valid sound.coloured at)
@@ -138,7 +137,7 @@ told-option p sound i o h l held = record {
     stands = is-body p words us k within refl
 
     known : is_known p words ≡ true
-    known = any-in (is_body p words) p.puzzle.options us (uses-in p.puzzle o (h, l)) stands
+    known = any-in _ _ _ (uses-in p.puzzle o (h, l)) stands
 
 -- no use has the word null
 not_null : (p : Named) → IsSound p → All (λ n. n ≢ codes "null") p.names → (us : List Use) → All (IsKnownUse p) us
@@ -162,14 +161,13 @@ not_known p sound none w = list_any_none (is_body p (codes "null" ∷ w ∷ []))
     known us o at =
         let all : All (IsKnownUse p) us = known_option p.puzzle p.colours o us sound.valid sound.coloured at in
         list_any_none (λ k. pointwise bytes_eq (map (use_word p) (rotated_at k us)) (codes "null" ∷ w ∷ []))
-        (range_with_len 0 (length us))
-        (λ j d h. not_null p sound none (rotated_at (get_or (range_with_len 0 (length us)) j d) us)
-        (All-turned (IsKnownUse p) (get_or (range_with_len 0 (length us)) j d) us all) w)
+        (range_with_len 0 (length us)) (λ j d h. not_null _ sound none _
+        (All-turned (IsKnownUse p) (get_or (range_with_len 0 (length us)) j d) us all) _)
 
     each : All (λ us. is_body p (codes "null" ∷ w ∷ []) us ≡ false) p.puzzle.options
     each =
         All-from_get_or (λ us. is_body p (codes "null" ∷ w ∷ []) us ≡ false) p.puzzle.options []
-        (λ j h. known (get_or p.puzzle.options j []) (suc j) (slice_get-get_or p.puzzle.options j [] h))
+        (λ j h. known (get_or p.puzzle.options j []) (suc j) (slice_get-get_or _ _ _ h))
 
 told-none : (p : Named) → IsSound p → All (λ n. n ≢ codes "null") p.names → (i : ℕ) → IsPrimary p.puzzle i
     → IsTold p i None

@@ -69,8 +69,7 @@ each_best : {X : Type 0} (P : X → Type 0) (beats : X → X → Bool) (x : X) (
     → P (best_of beats x xs)
 each_best P beats x [] p all = p
 each_best P beats x (y ∷ ys) p all =
-    each_best P beats (cond (beats y x) y x) ys
-    (elim (beats y x) as (λ b. P (cond b y x)) [ true ↦ all.0 | false ↦ p ]) all.1
+    each_best P beats _ ys (elim (beats y x) as (λ b. P (cond b y x)) [ true ↦ all.0 | false ↦ p ]) all.1
 
 branch_known : (p : Puzzle) (count : Wanted → ℕ) (ws : List Wanted) (w : Wanted) → AllByRecursion (IsKnownItem p) ws
     → first_least count ws ≡ Some w → IsKnownItem p w
@@ -84,13 +83,9 @@ spend_item x w = grind (arith, nat_tests, less_one w)
 
 pick_known : (p : Puzzle) (r : Residual) (i : ℕ) (x : Numbered) → IsKnownResidual p r → IsKnownResidual p (pick r i x)
 pick_known p r i x known = record {
-  items = each-filter (IsKnownItem p) (λ w. nat_lt 0 w.high) (map (spend_one x) r.items)
-      (each-map (IsKnownItem p) (spend_one x) r.items
-      (each_weaker (IsKnownItem p) (λ w. IsKnownItem p (spend_one x w)) r.items
-      (λ w h. subst (IsPrimary p) (sym (spend_item x w)) h) known.items));
-  options =
-      each-filter (IsKnownOption p) (λ o. not (holds o i && nat_le o.number x.number) && stays r x o) r.options
-      known.options;
+  items = each-filter _ _ _
+      (each-map _ _ _ (each_weaker _ _ _ (λ w h. subst (IsPrimary p) (sym (spend_item x w)) h) known.items));
+  options = each-filter _ _ _ known.options;
   few = fewer (λ o. not (holds o i && nat_le o.number x.number) && stays r x o) r.options (option_count p) known.few;
 }
 
@@ -104,15 +99,9 @@ none_known p r i known = record {
 branches_known : (p : Puzzle) (r : Residual) (w : Wanted) → IsKnownResidual p r → IsKnownItem p w
     → AllByRecursion (IsKnownBranch p) (branches_of r w)
 branches_known p r w known item =
-    each-append (IsKnownBranch p) (map (take_branch r w.item n) (enumerate_from 1 options))
-    (if w.low == 0 then none_branch r w.item n ∷ [] else [])
-    (each-map (IsKnownBranch p) (take_branch r w.item n) (enumerate_from 1 options)
-    (each_weaker (λ kx. (kx.0 < n + 1) × Held kx.1) (λ kx. IsKnownBranch p (take_branch r w.item n kx))
-    (enumerate_from 1 options) taken
-    (each_numbered Held 1 (n + 1) options (omega (arith, length-take n (holding w.item r.options)))
-    (each_take Held n (holding w.item r.options)
-    (each_both (IsKnownOption p) (λ o. holds o w.item ≡ true) Held (holding w.item r.options) (λ o k h. (k, h))
-    (each-filter (IsKnownOption p) (λ o. holds o w.item) r.options known.options)
+    each-append _ _ _ (each-map _ _ _ (each_weaker _ _ _ taken
+    (each_numbered _ _ _ _ (omega (arith, length-take n (holding w.item r.options))) (each_take _ _ _
+    (each_both _ _ _ _ (λ o k h. (k, h)) (each-filter _ _ _ known.options)
     (each_passes (λ o. holds o w.item) r.options))))))
     (elim (w.low == 0) as (λ b. AllByRecursion (IsKnownBranch p) (cond b (none_branch r w.item n ∷ []) [])) [
       | true ↦
@@ -147,10 +136,7 @@ level_known : (p : Puzzle) (rest : Residual → List (List Choice)) (r : Residua
     → IsKnownResidual p r → branch_item r ≡ w → AllByRecursion (AreCounted p) (level rest w r)
 level_known p rest r None below known e = (tt, tt)
 level_known p rest r (Some w) below known e =
-    each-flat_map (IsKnownBranch p) (AreCounted p) (λ b. map (λ m. b.choice ∷ m) (rest b.next)) (branches_of r w)
-    (λ b kb. each-map (AreCounted p) (λ m. b.choice ∷ m) (rest b.next)
-    (each_weaker (AreCounted p) (λ m. AreCounted p (b.choice ∷ m)) (rest b.next) (λ m km. (kb.choice, km))
-    (below b.next kb.next)))
+    each-flat_map _ _ _ _ (λ b kb. each-map _ _ _ (each_weaker _ _ _ (λ m km. (kb.choice, km)) (below b.next kb.next)))
     (branches_known p r w known (branch_known p (branch_count r) r.items w known.items e))
 
 known_to : (p : Puzzle) (depth : ℕ) (r : Residual) → IsKnownResidual p r
@@ -201,7 +187,5 @@ members_counted p = known_to p (size_of (whole p)) (whole p) (whole_known p)
 
 pub members_known : (p : Puzzle) → All (All (IsKnownChoice p)) (members p)
 members_known p =
-    All-from_recursion (All (IsKnownChoice p)) (members p)
-    (each_weaker (AreCounted p) (All (IsKnownChoice p)) (members p)
-    (λ m h. All-from_recursion (IsKnownChoice p) m (each_weaker (IsCounted p) (IsKnownChoice p) m (λ c k. k.known) h))
-    (members_counted p))
+    All-from_recursion (All (IsKnownChoice p)) (members p) (each_weaker _ _ _
+    (λ m h. All-from_recursion (IsKnownChoice p) m (each_weaker _ _ _ (λ c k. k.known) h)) (members_counted p))

@@ -45,8 +45,7 @@ laid_part a os texts starts o x y l known e f =
 
 -- the text of uses, cut behind some of them
 text-cut : (a : Named) (us : List Use) (n : ℕ) → uses_text a us ≡ uses_text a (take n us) ++ uses_text a (drop n us)
-text-cut a us n =
-    ap (uses_text a) (sym (take-append-drop n us)) ∙ flat_map-append (use_text a) (take n us) (drop n us)
+text-cut a us n = ap (uses_text a) (sym (take-append-drop n us)) ∙ flat_map-append (use_text a) (take n us) (drop n us)
 
 -- one use more is within the text
 pub length-more : (a : Named) (us : List Use) (i : ℕ) (d : Use) → i < length us
@@ -83,9 +82,7 @@ pub laid_more : (a : Named) (os : List (List Use)) (us : List Use) (texts more s
     → AreLaid a (os ++ us ∷ []) more (starts ++ n ∷ [])
 laid_more a os us texts more [] n l e f = absurd l.rising
 laid_more a os us texts more (x ∷ starts) n l e f =
-    let part =
-    pieces-snoc x starts texts (uses_text a us) n l.rising
-    (f ∙ ap length e ∙ length-append texts (uses_text a us)) in
+    let part = pieces-snoc _ _ _ _ _ l.rising (f ∙ ap length e ∙ length-append texts (uses_text a us)) in
     rw e (record {
       rising = part.0;
       parts = part.1 ∙ ap (λ ts. ts ++ uses_text a us ∷ []) l.parts ∙ sym (map-snoc (uses_text a) os us);
@@ -133,8 +130,7 @@ nothing_put page texts n place h = grind (arith, nat_tests, append-nil (take n p
 -- the part behind the cut is put on a page, and then the part before it
 pub text_put : (a : Named) (item : ℕ) (us all : List Use) (texts page one two : List ℕ) (at from count place : ℕ)
     → us ≡ all → take count (drop from texts) ≡ uses_text a all
-    → place ≡ length (uses_text a (take (place_in item us) us))
-    → from + count + 16 ≤ length texts
+    → place ≡ length (uses_text a (take (place_in item us) us)) → from + count + 16 ≤ length texts
     → take (at + (count - place)) one ≡ take at page ++ take (count - place) (drop (from + place) texts)
     → take (at + (count - place) + place) two ≡ take (at + (count - place)) one ++ take place (drop from texts)
     → take (at + count) two ≡ take at page ++ flat_map (use_text a) (from_item item all)
@@ -146,9 +142,7 @@ text_put a item us all texts page one two at from count place e f there h first 
     let sum : place + (count - place) ≡ count = omega (arith, within) in
     let behind : take (count - place) (drop (from + place) texts) ≡ drop place text =
     cc (drop-drop place from texts, drop-take place (count - place) (drop from texts), sum) in
-    let turned =
-    cut_gives a item us all text (take place (drop from texts)) (take (count - place) (drop (from + place) texts)) place
-    e f there before behind in
+    let turned = cut_gives a item _ _ _ _ _ _ e f there before behind in
     let end : at + (count - place) + place ≡ at + count = omega (arith, within) in
     let fact = append_assoc (take at page) (take (count - place) (drop (from + place) texts))
     (take place (drop from texts)) in

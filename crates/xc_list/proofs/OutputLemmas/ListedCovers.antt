@@ -88,9 +88,7 @@ listing_of-choices : (p : Named) (m : List Choice) (rest : List (List ℕ)) → 
     → listing_of (map (choice_line p) m ++ rest) ≡ in_parts (map (choice_words p) m ++ (listing_of rest).loose)
     (listing_of rest).solutions
 listing_of-choices p [] rest all = refl
-listing_of-choices p (c ∷ m) rest all =
-    ap (λ l. before_listing l (listing_of (map (choice_line p) m ++ rest))) (read-choice_line p c all.0.printable).0
-    ∙ ap (before_listing (Body (choice_words p c))) (listing_of-choices p m rest all.1)
+listing_of-choices p (c ∷ m) rest all = cc ((read-choice_line p c all.0.printable).0, listing_of-choices p m rest all.1)
 
 listing_of-members : (p : Named) (nms : List (ℕ × List Choice)) → AllByRecursion (IsReadableMember p) nms
     → listing_of (output_lines p nms) ≡ in_parts [] (map (solution_of p) nms)
@@ -131,18 +129,16 @@ readable_covers : (p : Named) (nms : List (ℕ × List Choice)) → AllByRecursi
     × AllByRecursion (λ s. IsListedCover p s.bodies) (solutions_of (lines_of (flat_map (member_text p) nms)))
 readable_covers p nms all =
     let lines : lines_of (flat_map (member_text p) nms) ≡ output_lines p nms =
-    lines_of-members p nms (each_weaker (IsReadableMember p) (IsPrintableMember p) nms (λ nm h. record {
+    lines_of-members p nms (each_weaker _ _ _ (λ nm h. record {
       number = h.number;
-      choices = each_weaker (IsReadable p) (IsPrintable p) nm.1 (λ c r. r.printable) h.choices;
+      choices = each_weaker _ _ _ (λ c r. r.printable) h.choices;
     }) all) in
     let solutions : solutions_of (lines_of (flat_map (member_text p) nms)) ≡ map (solution_of p) nms =
     ap solutions_of lines ∙ sym (listed_solutions (output_lines p nms))
     ∙ ap (λ (l : Listing). l.solutions) (listing_of-members p nms all) in (
       ap (fault_in_lines p 0) lines ∙ no_fault-members p 0 nms all,
       subst (AllByRecursion (λ (s : Solution). IsListedCover p s.bodies)) (sym solutions)
-          (each-map (λ s. IsListedCover p s.bodies) (solution_of p) nms
-          (each_weaker (IsReadableMember p) (λ nm. IsListedCover p (solution_of p nm).bodies) nms (listed_cover p)
-          all)),
+          (each-map _ _ _ (each_weaker _ _ _ (listed_cover p) all)),
     )
 
 -- ---- members

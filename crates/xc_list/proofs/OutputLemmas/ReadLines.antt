@@ -125,8 +125,7 @@ is_word-plain w plain = grind (arith, nat_tests, and-both (not (length w == 0)) 
 
 are_words : (ws : List (List ℕ)) → AllByRecursion IsPlain ws → list_all is_word ws ≡ true
 are_words [] plain = refl
-are_words (w ∷ ws) plain =
-    and-both (is_word w) (list_all is_word ws) (is_word-plain w plain.0) (are_words ws plain.1)
+are_words (w ∷ ws) plain = and-both (is_word w) (list_all is_word ws) (is_word-plain w plain.0) (are_words ws plain.1)
 
 -- words with a space before each
 abbrev pub spaced : List (List ℕ) → List ℕ

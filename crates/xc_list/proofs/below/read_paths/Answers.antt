@@ -10,6 +10,5 @@ returns-else-is_empty c paths e =
     let path = c.loop-number.path in
     let end : length c.args.numbers.now ≤ c.loop-number.number-index = omega (arith, c.loop-number-test.false) in
     let some = some_left c.is_empty.result (vec_len path) c.is_empty.ensures c.if-is_empty.false in
-    no_row (map (λ path. path.items) c.loop-number.paths.items) paths path.items c.args.numbers.now
-    (c.loop-number.invariant.told ∙ take_all c.loop-number.number-index c.args.numbers.now end)
+    no_row _ _ _ _ (c.loop-number.invariant.told ∙ take_all c.loop-number.number-index c.args.numbers.now end)
     c.loop-number.invariant.front (omega (arith, some, items-length path)) e

@@ -39,9 +39,8 @@ write_member-requires g c =
 
 pub returns-in_err-write_member-clause-wrote : goal.returns-in_err-write_member-clause-wrote
 returns-in_err-write_member-clause-wrote g c =
-    failed_count c.from_residual.result c.from_residual.ensures.0
-    (text_broke c.args.bodies.now c.args.search.now.to_come c.loop-found.found c.next.new.self.shown
-    c.choices.result.now c.next.new.self.to_come
+    failed_count _ c.from_residual.ensures.0
+    (text_broke c.args.bodies.now c.args.search.now.to_come c.loop-found.found _ _ c.next.new.self.to_come
     (next g (goal.at.returns-in_err-write_member-clause-wrote g c).In-Solution) c.choices.ensures
     c.loop-found-test.true c.loop-found.invariant.taken c.in_err-write_member.ensures)
 

@@ -34,7 +34,6 @@ pub returns-clause-outputs : goal.returns-clause-outputs
 returns-clause-outputs c = λ spacing limit fits named is.
     let taken = c.in_ok-take_lines.ensures.taken in
     let problem = ap (λ (b : Classes). b.problem) c.take_lines.ensures.options ∙ c.in_ok-checker.ensures.problem in
-    let verdicts = judged c.args.problem.now _ taken.done _ c.take_lines.new.self _ problem refl taken.progress
-    c.in_ok-finish.ensures in
-    all_yes c.args.problem.now c.args.listing.now spacing limit _
+    let verdicts = judged _ _ _ _ _ _ problem refl taken.progress c.in_ok-finish.ensures in
+    all_yes _ _ _ _ _
     (subst IsSound c.in_ok-checker.ensures.problem c.in_ok-checker.ensures.sound) named fits is verdicts

@@ -18,8 +18,7 @@ returns-then-contains c = (
 pub loop-first-preserved : goal.loop-first-preserved
 loop-first-preserved c = record {
   all =
-      λ apart. c.loop-first.invariant.all
-      (stands_alone c.in-Some.first.now c.in-Some.others.now c.loop-first.rest.now c.in-Some.ensures.cases.0
+      λ apart. c.loop-first.invariant.all (stands_alone _ _ _ c.in-Some.ensures.cases.0
       (sym c.contains.ensures.value ∙ c.if-contains.false) apart);
   left = λ apart. (subst (EachTwo (λ a b. a ≢ b)) c.in-Some.ensures.cases.0 (c.loop-first.invariant.left apart)).1;
 }

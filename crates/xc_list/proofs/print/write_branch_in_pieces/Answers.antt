@@ -3,8 +3,7 @@ use Rattle.xc_list.proofs.print.write_branch_in_pieces.Goals as goal
 
 pub returns-in_err-write_numbered : goal.returns-in_err-write_numbered
 returns-in_err-write_numbered g c =
-    failed c.from_residual.result c.from_residual.ensures.0
-    (broke_before _ (broke_before _ c.in_err-write_numbered.ensures))
+    failed _ c.from_residual.ensures.0 (broke_before _ (broke_before _ c.in_err-write_numbered.ensures))
 
 pub returns-in_err-write_number : goal.returns-in_err-write_number
 returns-in_err-write_number g c =

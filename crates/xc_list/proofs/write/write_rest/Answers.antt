@@ -7,8 +7,7 @@ use Rattle.xc_list.proofs.write.write_rest.Goals as goal
 pub returns-in_err-n : goal.returns-in_err-n
 returns-in_err-n g c =
     let inv = c.loop-rest.invariant in
-    failed c.from_residual.result c.from_residual.ensures.0
-    (subst (BrokeOff _ _) (sym inv.1) (then_broke inv.2 c.in_err-n.ensures.text))
+    failed _ c.from_residual.ensures.0 (subst (BrokeOff _ _) (sym inv.1) (then_broke inv.2 c.in_err-n.ensures.text))
 
 pub loop-rest-preserved : goal.loop-rest-preserved
 loop-rest-preserved g c =

@@ -20,8 +20,7 @@ invariant_of-self-in-Ok-Some c =
     let said : read c.args.line.now ≡ Body words = c.requires in
     let class : IsClassOfLine i.options c.args.line.now c.in-Ok-Some.class =
     (words, said, subst (IsClassOfBody i.options words) c.in-Ok-Some.field-0-is c.in-Ok-Some.ensures.class) in
-    let seen =
-    noted-rightly i.options i.seen.lines.items c.note.new.self.lines.items c.args.line.now c.in-Ok-Some.class class
+    let seen = noted-rightly i.options _ c.note.new.self.lines.items c.args.line.now c.in-Ok-Some.class class
     c.note.ensures c.self.invariant.seen in
     rw c.class_of.ensures.same (record {
       places = c.self.invariant.places;

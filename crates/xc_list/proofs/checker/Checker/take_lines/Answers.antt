@@ -28,14 +28,12 @@ returns-clause-taken c =
     let none = ends c.loop-rest.rest.now _ c.is_empty.ensures c.loop-rest-test.false in
     record {
       done = so_far.done;
-      progress =
-          rw none at so_far.progress;
+      progress = rw none at so_far.progress;
     }
 
 pub returns-in_err-take_line-clause-fault : goal.returns-in_err-take_line-clause-fault
 returns-in_err-take_line-clause-fault c =
     let so_far = c.loop-rest.invariant in
     let p = err_from_is_err_and c.from_residual.result c.from_residual.ensures.1 in
-    rw (p.1, p.2) (refused c.args.self.now.options.problem _ so_far.done _ _ _ _ c.loop-rest.self
-    c.in_err-take_line.field-0.0 (ap (λ (b : Classes). b.problem) so_far.options) c.cut_line.ensures.lines
+    rw (p.1, p.2) (refused _ _ _ _ _ _ _ _ _ (ap (λ (b : Classes). b.problem) so_far.options) c.cut_line.ensures.lines
     (omega (arith, so_far.count, c.saturating_add-lines.ensures)) so_far.progress c.in_err-take_line.ensures.fault)

@@ -5,8 +5,7 @@ use Rattle.xc_list.proofs.checker.listing_lines.cut_first.Goals as goal
 
 pub returns-in_err-k : goal.returns-in_err-k
 returns-in_err-k c =
-    none-cut _ _ _ c.from_residual.ensures
-    (has-all c.args.byte c.args.text.now (λ k p. not_false _ (c.in_err-k.ensures k (omega arith) p))).0
+    none-cut _ _ _ c.from_residual.ensures (has-all _ _ (λ k p. not_false _ (c.in_err-k.ensures k (omega arith) p))).0
 
 pub returns : goal.returns
 returns c =

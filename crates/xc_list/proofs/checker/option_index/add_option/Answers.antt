@@ -39,14 +39,13 @@ returns-in-Some c =
     let k = c.in-Some.class in
     let n = c.index_mut.result.now in
     let us = c.as_slice.result.now in
-    let is =
-    option_class p o c.option.result.now c.rotate.new.rotated.items us c.option.ensures.value c.in_ok-rotate.ensures
+    let is = option_class p o c.option.result.now _ _ c.option.ensures.value c.in_ok-rotate.ensures
     c.as_slice.ensures.value in
-    let at = found-key us c.args.classes.now.keys k (sym c.in-Some.ensures.index) in
+    let at = found-key _ _ _ (sym c.in-Some.ensures.index) in
     let here : slice_get classes k ≡ Some (class_at p (suc o)) = at.1 ∙ ap (λ x. Some x) is in
     subst (λ m. AreClassesTo p m classes (slice_set counts k (n + 1))) (next o)
     (classes-found p o classes counts k n c.requires.before here
-    (c.index_mut.ensures.value ∙ members_at p o classes counts k n (class_at p (suc o)) c.requires.before here))
+    (c.index_mut.ensures.value ∙ members_at _ _ _ _ _ _ _ c.requires.before here))
 
 pub returns-in_ok-push-in-None : goal.returns-in_ok-push-in-None
 returns-in_ok-push-in-None c =
@@ -54,16 +53,12 @@ returns-in_ok-push-in-None c =
     let o = c.args.o in
     let keys = c.args.classes.now.keys in
     let us = c.as_slice.result.now in
-    let is =
-    option_class p o c.option.result.now c.rotate.new.rotated.items us c.option.ensures.value c.in_ok-rotate.ensures
+    let is = option_class p o c.option.result.now _ _ c.option.ensures.value c.in_ok-rotate.ensures
     c.as_slice.ensures.value in
-    let all =
-    new-uses keys c.in_ok-from_slice-in-None.field-0 c.insert.new.self.keys us
-    (sym c.in-None.ensures.index)
+    let all = new-uses _ _ _ _ (sym c.in-None.ensures.index)
     (c.in_ok-from_slice-in-None.ensures.items ∙ c.as_slice-in-None.ensures.value ∙ sym c.as_slice.ensures.value)
     c.in_ok-insert-in-None.ensures.keys in
     subst (λ m. AreClassesTo p m (key_uses c.insert.new.self.keys) c.push.new.self.items) (next o)
     (classes-new p o (key_uses keys) (key_uses c.insert.new.self.keys) c.args.sizes.now.items c.push.new.self.items
-    c.requires.before
-    (λ h. lost-key us keys (sym c.in-None.ensures.index) (subst (IsIn (key_uses keys)) (sym is) h))
+    c.requires.before (λ h. lost-key us keys (sym c.in-None.ensures.index) (subst (IsIn (key_uses keys)) (sym is) h))
     (all ∙ ap (λ x. key_uses keys ++ x ∷ []) is) c.in_ok-push-in-None.ensures.items)

@@ -5,9 +5,7 @@ use Rattle.xc_list.proofs.checker.rotation.rotate.Goals as goal
 
 pub returns : goal.returns
 returns c =
-    class_of-pieces c.args.uses.now c.split_at.result.1.now c.split_at.result.0.now c.clear.new.self.items
-    c.extend_from_slice.new.self.items c.extend_from_slice-2.new.self.items
-    c.place_in-place.result c.unwrap_or.result (c.unwrap_or.ensures ∙ ap (λ o. unwrap_or o 0) c.least_item.ensures)
+    class_of-pieces c.args.uses.now _ _ _ _ _ _ _ (c.unwrap_or.ensures ∙ ap (λ o. unwrap_or o 0) c.least_item.ensures)
     c.place_in-place.ensures.value
     c.split_at.ensures.front c.split_at.ensures.back c.clear.ensures.items c.in_ok-extend_from_slice.ensures.items
     c.in_ok-extend_from_slice-2.ensures.items

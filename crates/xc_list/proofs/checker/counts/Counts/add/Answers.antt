@@ -31,14 +31,12 @@ hold-requires-clause-few c =
     let k = c.loop-u.u-index in
     let u = get_or us k blank in
     let known = c.requires.items k blank c.loop-u-test.true in
-    let items : AreItems (length ts) (take k us) =
-    each_take (λ v. (1 ≤ v.item) × (v.item ≤ length ts)) k us
+    let items : AreItems (length ts) (take k us) = each_take _ _ _
     (recursion_from_All (λ v. (1 ≤ v.item) × (v.item ≤ length ts)) us c.requires.items) in
-    let at = added-at (length ts) (take k us) ts (u.item - 1) items refl (omega (arith, known)) in
+    let at = added-at _ _ ts (u.item - 1) items refl (omega (arith, known)) in
     let is : suc (u.item - 1) ≡ u.item = omega (arith, known) in
     let none : held (suc (u.item - 1)) (take k us) ≡ 0 = ap (λ i. held i (take k us)) is
-    ∙ not_before us k blank (each_two_from_AllPairs (λ v w. v.item ≢ w.item) us c.requires.distinct)
-    c.loop-u-test.true in
+    ∙ not_before us k blank (each_two_from_AllPairs _ _ c.requires.distinct) c.loop-u-test.true in
     omega (arith, ap (λ l. get_or l (u.item - 1) 0) c.loop-u.invariant.times, at, none, c.requires.few (u.item - 1))
 
 pub loop-u-preserved : goal.loop-u-preserved

@@ -45,9 +45,8 @@ pub add-requires-clause-items : goal.add-requires-clause-items
 add-requires-clause-items c =
     let b = c.args.options.now in
     let before = uses_in b.classes (take c.loop-class.class-index c.args.chosen.now) in
-    known_items b.problem c.uses.result.now (length c.loop-class.self.times.items)
-    (size_counted (item_count b.problem.puzzle) (item_places before) c.args.self.now.times.items
-    c.loop-class.self.times.items c.requires.times c.loop-class.invariant.times) c.uses.ensures.known
+    known_items b.problem _ _ (size_counted (item_count b.problem.puzzle) (item_places before) _
+    _ c.requires.times c.loop-class.invariant.times) c.uses.ensures.known
 
 pub add-requires-clause-distinct : goal.add-requires-clause-distinct
 add-requires-clause-distinct c =
@@ -83,19 +82,16 @@ loop-class-preserved c =
     let us = c.uses.result.now in
     let asked = c.loop-class.self.asked.items in
     let n = length b.classes in
-    let size : length asked ≡ n =
-    size_counted n (take i ks) c.args.self.now.asked.items asked c.requires.asked c.loop-class.invariant.asked in
+    let size : length asked ≡ n = size_counted n (take i ks) _ _ c.requires.asked c.loop-class.invariant.asked in
     let known : k < n = c.requires.known i 0 c.loop-class-test.true in
     let read : set asked k (c.index_mut.result.now + 1) ≡ set asked k (get_or asked k 0 + 1) =
     cc (c.index_mut.ensures.value, get_or_default asked k c.index_mut.result.now 0 (omega (arith, known, size))) in
     record {
       times = c.add.ensures.times ∙ ap (added us) c.loop-class.invariant.times
-          ∙ sym (added_class_more b.classes ks i us c.args.self.now.times.items c.loop-class-test.true
-          c.uses.ensures.value);
+          ∙ sym (added_class_more _ _ _ _ _ c.loop-class-test.true c.uses.ensures.value);
       colours = c.add.ensures.colours ∙ ap (coloured us) c.loop-class.invariant.colours
-          ∙ sym (coloured_class_more b.classes ks i us c.args.self.now.colours.items c.loop-class-test.true
-          c.uses.ensures.value);
+          ∙ sym (coloured_class_more _ _ _ _ _ c.loop-class-test.true c.uses.ensures.value);
       asked = ap (λ v. v.items) c.add.ensures.asked ∙ read ∙ ap (raised (k ∷ [])) c.loop-class.invariant.asked
-          ∙ sym (raised_more ks i c.args.self.now.asked.items c.loop-class-test.true);
+          ∙ sym (raised_more _ _ _ c.loop-class-test.true);
       short = c.add.ensures.short;
     }

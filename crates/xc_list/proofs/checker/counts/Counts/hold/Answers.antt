@@ -28,7 +28,4 @@ returns-else-place-bounds-clause-short c =
     λ m. elim c.else-place-bounds.branch [
       | else-place-bounds-via-then-place-bounds+else-times-bounds w ↦ λ q. w.if-times-bounds.false q
       | else-place-bounds-via-else-place-bounds w ↦ λ q. absurd (omega (arith, w.if-place-bounds.false, m))
-    ]
-    in c.requires.short ∙ sym
-    (short_kept c.args.bounds.now c.args.self.now.times.items k c.index.result.now blank
-    (omega (arith, c.requires.item)) c.index.ensures kept)
+    ] in c.requires.short ∙ sym (short_kept _ _ _ _ _ (omega (arith, c.requires.item)) c.index.ensures kept)

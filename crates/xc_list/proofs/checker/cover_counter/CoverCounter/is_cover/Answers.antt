@@ -44,11 +44,8 @@ pub invariant_of-self : goal.invariant_of-self
 invariant_of-self c =
     let us = uses_in c.args.options.now.classes c.args.chosen.now in
     let old = c.self.inside.counts in
-    let times =
-    forgotten (item_places us) old.times.items c.self.invariant.times c.count.ensures.times c.clear.ensures.times in
-    let asked =
-    forgotten c.args.chosen.now old.asked.items c.self.invariant.asked c.count.ensures.asked
-    c.clear.ensures.asked in
+    let times = forgotten (item_places us) _ c.self.invariant.times c.count.ensures.times c.clear.ensures.times in
+    let asked = forgotten c.args.chosen.now _ c.self.invariant.asked c.count.ensures.asked c.clear.ensures.asked in
     record {
       times = subst (λ ts. ts ≡ replicate {A = ℕ} (length ts) 0) (sym times) c.self.invariant.times;
       colours = ap (λ v. length v.items) c.clear.ensures.colours ∙ ap length c.count.ensures.colours
@@ -60,9 +57,8 @@ invariant_of-self c =
 pub returns-clause-same : goal.returns-clause-same
 returns-clause-same c =
     let fact = forgotten (item_places (uses_in c.args.options.now.classes c.args.chosen.now))
-    c.self.inside.counts.times.items c.self.invariant.times c.count.ensures.times c.clear.ensures.times in
-    let fact2 = forgotten c.args.chosen.now c.self.inside.counts.asked.items c.self.invariant.asked
-    c.count.ensures.asked c.clear.ensures.asked in
+    _ c.self.invariant.times c.count.ensures.times c.clear.ensures.times in
+    let fact2 = forgotten c.args.chosen.now _ c.self.invariant.asked c.count.ensures.asked c.clear.ensures.asked in
     cc (c.self.view_is)
 
 pub returns-clause-decided : goal.returns-clause-decided

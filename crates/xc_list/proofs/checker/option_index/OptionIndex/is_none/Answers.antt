@@ -19,10 +19,8 @@ cut-some {text} same word rest left q e h =
 pub returns-in_default-Some-cut_word : goal.returns-in_default-Some-cut_word
 returns-in_default-Some-cut_word c =
     let last = c.in_default-Some-cut_word.field-0-1 in
-    let one =
-    cut-some c.args.body c.cut_word.result.0 c.cut_word.result.1 c.in_default-Some.rest refl c.in_default-Some.is-1
+    let one = cut-some c.args.body c.cut_word.result.0 _ c.in_default-Some.rest refl c.in_default-Some.is-1
     c.cut_word.ensures in
-    let two =
-    cut-some c.in_default-Some.rest c.cut_word-2.result.0 c.cut_word-2.result.1 last c.in_default-Some.rest-is
+    let two = cut-some _ c.cut_word-2.result.0 _ last c.in_default-Some.rest-is
     c.in_default-Some-cut_word.is-1 c.cut_word-2.ensures in
-    cc (none-of-three c.args.self.now.problem c.cut_word.result.0.now c.cut_word-2.result.0.now last.now, two, one)
+    cc (none-of-three _ _ _ _, two, one)

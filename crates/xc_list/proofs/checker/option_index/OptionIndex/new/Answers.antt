@@ -11,8 +11,7 @@ invariant_of-result c =
     omega (arith, c.loop-o-test.false, c.loop-o.auto.o-end, c.options-o-end.ensures.value) in
     record {
       sound = c.options-o-end.ensures.whole;
-      complete =
-          rw all at c.loop-o.invariant;
+      complete = rw all at c.loop-o.invariant;
     }
 
 pub returns-clause-indexed : goal.returns-clause-indexed
@@ -20,6 +19,5 @@ returns-clause-indexed c =
     let i = invariant_of-result c in
     record {
       sound = i.sound;
-      classes =
-          classes-whole c.args.problem.now.puzzle (key_uses c.loop-o.classes.keys) c.loop-o.sizes.items i.complete;
+      classes = classes-whole _ _ _ i.complete;
     }
