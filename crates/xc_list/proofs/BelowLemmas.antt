@@ -2,7 +2,7 @@
 use Rattle.xc_list.proofs.Planned.{one_more}
 use Rattle.std.proofs.Common.{◌≡◌, ℕ, zero, suc, Bool, true, false, Result, Ok, Err, Some, ◌+◌, ◌<◌, ◌≤◌, List, [], ◌∷◌}
 use Rattle.std.proofs.Common.{◌++◌, length, take, drop, map, get_or, eqb, refl, sym, ap, ◌∙◌, append-nil, arith, subst}
-use Rattle.std.specs.Prelude.{All, IsErr, MatchResult, slice_get, option_map, flat_map, min, if◌then◌else◌}
+use Rattle.std.specs.Prelude.{All, IsErr, MatchResult, slice_get, option_map, flat_map, min}
 use Rattle.std.proofs.lemmas.Bool.Decides.{nat_tests}
 use Rattle.std.proofs.lemmas.Option.{slice_get-map, slice_get_read, slice_get_within, get_or_from_slice_get}
 use Rattle.std.specs.List.{AllByRecursion}
@@ -30,7 +30,7 @@ use Rattle.xc_list.specs.Texts.{SinkState, Took, BrokeOff}
 use Rattle.xc_list.proofs.CheckLemmas.ListedNumbers.{last_or}
 use Rattle.xc_list.proofs.OutputLemmas.KnownMembers.{members_known}
 use Rattle.xc_list.proofs.Outputs.{take_next, within_next, enumerate_append, take_split}
-use Rattle.xc_list.proofs.Writing.{then_took, then_broke, broke_before, took_nothing}
+use Rattle.xc_list.proofs.Writing.{then_took, then_broke, broke_before}
 
 -- the choices of the members below a path can be told
 pub known_below : (p : Puzzle) (path : List Choice) → IsPath p path → All (All (IsKnownChoice p)) (below p path)

@@ -1,16 +1,15 @@
 -- A search that goes on to the next member that is printed.
 use Rattle.std.proofs.lemmas.Bool.Decides.{nat_tests}
-use Rattle.std.proofs.Common.{◌≡◌, ℕ, zero, suc, ◌+◌, ◌-◌, ◌<◌, ◌≤◌, false, List, [], ◌∷◌, ◌++◌, length}
+use Rattle.std.proofs.Common.{◌≡◌, ℕ, zero, suc, ◌+◌, ◌-◌, ◌<◌, ◌≤◌, false, List, [], ◌∷◌, length}
 use Rattle.std.proofs.Common.{drop, get_or}
 use Rattle.std.proofs.Common.{sym, ap, ◌∙◌, append-nil, arith, subst, length-drop}
-use Rattle.std.specs.Prelude.{if◌then◌else◌}
 use Rattle.std.proofs.lemmas.List.{drop-drop, drop_more}
 use Rattle.xc_search.specs.declared.choice.Choice.{Choice}
 use Rattle.xc_search.specs.Outlook.{Outlook, shown_after}
 use Rattle.xc_search.specs.Cover.{members}
 use Rattle.xc_search.proofs.stacked.PassedOver.{drop_past, shown_next, shown_past}
 use Rattle.xc_input.specs.Named.{Named}
-use Rattle.xc_list.specs.Output.{output, is_printed, member_text}
+use Rattle.xc_list.specs.Output.{output, is_printed}
 use Rattle.xc_list.specs.Texts.{SinkState, Took, BrokeOff}
 use Rattle.xc_list.specs.Runs.{StoppedAt}
 use Rattle.xc_list.specs.inner.Ends.{printed_text, StandsAt}

@@ -4,7 +4,7 @@ use Rattle.std.proofs.Common.{inl, inr}
 use Rattle.std.proofs.lemmas.Bool.Decides.{nat_tests}
 use Rattle.std.proofs.Common.{◌≡◌, ℕ, zero, suc, ◌+◌, ◌<◌, ◌≤◌, ◌-◌, Bool, true, false, cond, List, [], ◌∷◌, ◌++◌, Some}
 use Rattle.std.proofs.Common.{length, take, drop, filter, refl, sym, ap, ◌∙◌, append-nil, add-one, arith}
-use Rattle.std.proofs.Common.{subst, nat_lt, lt-ltb}
+use Rattle.std.proofs.Common.{subst, lt-ltb}
 use Rattle.std.proofs.Math.Seq.{take-append_seam, take-add}
 use Rattle.std.proofs.lemmas.List.{drop-drop, take-take, take-append-drop, length-drop}
 use Rattle.xc_input.proofs.lists.Places.{slice_get-drop, drop_at}
@@ -18,7 +18,7 @@ use Rattle.xc_input.specs.Problem.{numbered_get}
 use Rattle.xc_input.specs.Named.{Named}
 use Rattle.xc_search.specs.Cover.{members}
 use Rattle.xc_list.specs.Output.{output, is_printed, member_text}
-use Rattle.xc_list.specs.declared.runs.End.TheVariants.{Done, Limit}
+use Rattle.xc_list.specs.declared.runs.End.TheVariants.{Done}
 use Rattle.xc_list.specs.Runs.{StoppedAt, end_of}
 use Rattle.xc_list.specs.inner.Ends.{printed_text}
 use Rattle.std.specs.Io.KnownBytes.{Appends}

@@ -4,14 +4,14 @@ use Rattle.std.proofs.lemmas.List.Elements.{recursion_from_All}
 use Rattle.std.proofs.Common.{get_or}
 use Rattle.std.proofs.Common.{◌≡◌, ℕ, zero, suc, ◌+◌, ◌-◌, ◌^◌, ◌<◌, Bool, true, false, not, ◌||◌, nat_eq, min, List}
 use Rattle.std.proofs.Common.{[], ◌∷◌, ◌++◌, length, filter, Option, Some, None, is_some, refl, sym, ap, ◌∙◌, subst}
-use Rattle.std.proofs.Common.{append_assoc, append-nil, arith, inl, inr, eqb-true, if◌then◌else◌}
+use Rattle.std.proofs.Common.{append_assoc, append-nil, arith, eqb-true, if◌then◌else◌}
 use Rattle.xc_list.specs.inner.Listings.{Listing, before_listing, listing_of}
 use Rattle.std.specs.Prelude.{◌==◌, ◌↔◌, All, IsTrue, unwrap_or}
 use Rattle.std.specs.List.{AllZip}
 use Rattle.std.proofs.lemmas.Bool.Decides.{nat_tests}
-use Rattle.std.proofs.lemmas.List.Elements.{All-cons, filter-append}
+use Rattle.std.proofs.lemmas.List.Elements.{filter-append}
 use Rattle.std.proofs.lemmas.Map.Keys.{any_passes_from_place}
-use Rattle.std.proofs.lemmas.Option.{slice_get_cases, slice_get-get_or}
+use Rattle.std.proofs.lemmas.Option.{slice_get-get_or}
 use Rattle.xc_input.specs.Problem.{IsOption}
 use Rattle.xc_input.specs.Named.{Named, IsSound}
 use Rattle.xc_list.specs.declared.checker.Verdict.{Verdict}

@@ -1,5 +1,5 @@
 -- The classes of options.
-use Rattle.std.proofs.Common.{ℕ, ◌≡◌, List, Some, subst}
+use Rattle.std.proofs.Common.{ℕ, ◌≡◌, List, Some}
 use Rattle.std.specs.Prelude.{All, Vec, slice_get}
 use Rattle.std.specs.declared.alloc.Global.{Global}
 use Rattle.xc_input.specs.declared.problem.Use.{Use}

@@ -29,7 +29,7 @@ use Rattle.xc_list.proofs.CheckLemmas.HeldItems.{AreItems, added-at}
 use Rattle.xc_list.proofs.CheckLemmas.LastColours.{given, gathered, length-given, coloured-at, given-gathered}
 use Rattle.xc_list.proofs.CheckLemmas.LastColours.{length-gathered, given-each, each-given, AgreeAt, gathered-agree}
 use Rattle.xc_list.proofs.CheckLemmas.LastColours.{agree-gathered, IsLast, agree-last, last-agree}
-use Rattle.xc_list.proofs.CheckLemmas.CountedClasses.{AreBelow, classes_usable, items_in}
+use Rattle.xc_list.proofs.CheckLemmas.CountedClasses.{classes_usable, items_in}
 use Rattle.xc_list.proofs.CheckLemmas.AskedClasses.{IsRoomFor, asked_by_classes, classes_by_asked}
 
 -- ---- tests

@@ -3,8 +3,8 @@ use Rattle.std.proofs.Common.{◌≤◌}
 use Rattle.std.proofs.lemmas.Bool.{cases_eq}
 use Rattle.std.proofs.lemmas.Bool.Decides.{nat_tests}
 use Rattle.std.specs.Prelude.{if◌then◌else◌}
-use Rattle.std.proofs.Common.{ℕ, zero, suc, ◌≡◌, ◌≢◌, ◌+◌, ◌-◌, ◌<◌, ◌⊎◌, inl, inr, Bool, true, false, cond, ◌==◌, List}
-use Rattle.std.proofs.Common.{[], ◌∷◌, ◌++◌, length, map, filter, get_or, set, Some, None, refl, sym, ap, ap₂}
+use Rattle.std.proofs.Common.{ℕ, zero, suc, ◌≡◌, ◌≢◌, ◌+◌, ◌-◌, ◌<◌, ◌⊎◌, inl, inr, Bool, cond, ◌==◌, List}
+use Rattle.std.proofs.Common.{[], ◌∷◌, ◌++◌, length, map, filter, get_or, set, Some, None, refl, sym, ap}
 use Rattle.std.proofs.Common.{◌∙◌, arith, subst}
 use Rattle.std.proofs.Common.{eqb-true, ne_eqb, eq-eqb}
 use Rattle.std.specs.Prelude.{Option, slice_get, is_some}
@@ -19,9 +19,9 @@ use Rattle.xc_input.proofs.lists.EachElement.{each-map, each-filter, each_both, 
 use Rattle.xc_input.proofs.lists.Members.{each_in, each_from, map-in, filter-in}
 use Rattle.std.proofs.lemmas.List.Elements.{filter-append}
 use Rattle.xc_list.specs.inner.Classes.{Classes, IsOfClass, class_at}
-use Rattle.xc_list.specs.inner.CoverCounts.{coloured, uses_at, uses_in}
+use Rattle.xc_list.specs.inner.CoverCounts.{coloured, uses_in}
 use Rattle.xc_list.proofs.CheckLemmas.DifferentOptions.{counted, counted-length, is_counted}
-use Rattle.xc_list.proofs.CheckLemmas.Rotations.{DifferInItems, class_start, differ-turned, colour-class}
+use Rattle.xc_list.proofs.CheckLemmas.Rotations.{DifferInItems, differ-turned, colour-class}
 use Rattle.xc_list.proofs.CheckLemmas.DecidedByClasses.{option-differs}
 use Rattle.xc_list.proofs.CheckLemmas.ListedNumbers.{last_or}
 use Rattle.xc_list.proofs.CheckLemmas.HeldItems.{AreItems, held}

@@ -2,7 +2,7 @@
 use Rattle.std.proofs.lemmas.Bool.{cases_Bool}
 use Rattle.std.proofs.Common.{inr}
 use Rattle.std.proofs.lemmas.Bool.Decides.{nat_tests}
-use Rattle.std.proofs.Common.{ℕ, zero, suc, ◌≡◌, ◌⊎◌, ◌<◌, ◌≤◌, Bool, true, false, List, [], ◌∷◌, ◌++◌, length, map}
+use Rattle.std.proofs.Common.{ℕ, zero, suc, ◌≡◌, ◌⊎◌, ◌<◌, ◌≤◌, true, false, List, [], ◌∷◌, ◌++◌, length, map}
 use Rattle.std.proofs.Common.{Option, MatchOption, Bor, Some, None, refl, sym, ap, ap₂, ◌∙◌, arith, append-nil, inl}
 use Rattle.std.proofs.Common.{inr}
 use Rattle.xc_list.specs.inner.LineParts.{colour_text}

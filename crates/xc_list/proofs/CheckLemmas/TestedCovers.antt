@@ -16,7 +16,7 @@ use Rattle.xc_input.proofs.lists.EachTwo.{EachTwo}
 use Rattle.std.proofs.lemmas.Option.{slice_get_within}
 use Rattle.xc_input.proofs.lists.Members.{IsIn, each_in, each_from, in-contains, contains-in}
 use Rattle.xc_list.proofs.CheckLemmas.ListedNumbers.{any-in, in-any}
-use Rattle.xc_list.specs.inner.Tested.{is_colour_met, is_use_met, are_uses_met, do_agree, is_within, is_held_within}
+use Rattle.xc_list.specs.inner.Tested.{is_colour_met, is_use_met, do_agree, is_within, is_held_within}
 use Rattle.xc_list.proofs.CheckLemmas.DecidedByClasses.{option-sound, option-differs}
 use Rattle.xc_list.proofs.CheckLemmas.Rotations.{DifferInItems}
 

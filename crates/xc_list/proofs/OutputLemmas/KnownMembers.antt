@@ -4,12 +4,12 @@ use Rattle.std.proofs.lemmas.List.{length-take}
 use Rattle.std.proofs.lemmas.List.Sums.{length-filter, count_by-le-length}
 use Rattle.std.proofs.lemmas.Bool.Decides.{nat_tests}
 use Rattle.std.proofs.Common.{◌≡◌, ℕ, zero, suc, ◌+◌, ◌≤◌, Bool, true, false, cond, not, ◌&&◌, List, [], ◌∷◌, Option}
-use Rattle.std.proofs.Common.{None, Some, length, take, filter, map, refl, sym, ap, ◌∙◌, arith, subst, nat_lt}
+use Rattle.std.proofs.Common.{None, Some, length, take, filter, refl, sym, ap, ◌∙◌, arith, subst, nat_lt}
 use Rattle.xc_search.proofs.Spent.{less_one}
 use Rattle.xc_search.specs.inner.Sizes.{size_of}
 use Rattle.xc_input.proofs.OptionLemmas.NumberedOptions.{numbered_from}
 use Rattle.xc_input.specs.declared.problem.Bounds.{Bounds}
-use Rattle.std.specs.Prelude.{All, flat_map, unwrap_or, is_some, nat_le, ◌==◌, if◌then◌else◌}
+use Rattle.std.specs.Prelude.{All, flat_map, unwrap_or, is_some, nat_le, ◌==◌}
 use Rattle.std.specs.List.{enumerate_from, best_of}
 use Rattle.std.proofs.lemmas.List.Elements.{All-from_recursion}
 use Rattle.std.specs.List.{AllByRecursion}

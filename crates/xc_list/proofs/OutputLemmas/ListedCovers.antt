@@ -1,10 +1,10 @@
 -- What is printed for a problem is a listing without a fault, and each listed solution is a cover.
-use Rattle.std.proofs.Common.{◌≡◌, ◌≢◌, ℕ, ◌+◌, ◌^◌, ◌<◌, ◌≤◌, true, false, cond, not, List, [], ◌∷◌, ◌++◌, Option}
-use Rattle.std.proofs.Common.{None, Some, length, map, take, filter, get_or, min, ◌-◌, refl, sym, ap, ◌∙◌, arith, subst}
+use Rattle.std.proofs.Common.{◌≡◌, ◌≢◌, ℕ, ◌+◌, ◌^◌, ◌<◌, true, false, cond, not, List, [], ◌∷◌, ◌++◌, Option}
+use Rattle.std.proofs.Common.{None, Some, map, take, filter, min, ◌-◌, refl, sym, ap, ◌∙◌, arith, subst}
 use Rattle.std.proofs.Common.{append-nil}
 use Rattle.xc_list.proofs.CheckLemmas.ListedSolutions.{listed_solutions}
 use Rattle.xc_list.specs.inner.Listings.{Listing, before_listing, listing_of}
-use Rattle.std.specs.Prelude.{All, Contains, IsTrue, MatchOption, codes, flat_map, ◌==◌, if◌then◌else◌}
+use Rattle.std.specs.Prelude.{All, IsTrue, MatchOption, codes, flat_map, ◌==◌, if◌then◌else◌}
 use Rattle.std.specs.List.{AllZip, enumerate_from, cons_option}
 use Rattle.std.proofs.lemmas.Bool.Decides.{nat_tests}
 use Rattle.std.proofs.lemmas.List.{length-take}
@@ -19,7 +19,6 @@ use Rattle.xc_input.specs.Lines.{lines_of}
 use Rattle.xc_search.specs.declared.choice.Choice.{Choice}
 use Rattle.xc_search.specs.Cover.{IsCover, options_of, members}
 use Rattle.xc_search.proofs.completeness.Covering.{each_member_covers}
-use Rattle.xc_list.specs.Known.{IsKnownChoice}
 use Rattle.xc_list.specs.Output.{member_text, is_printed, output}
 use Rattle.xc_list.specs.inner.ReadLines.{Header, Body}
 use Rattle.xc_list.proofs.CheckLemmas.CheckedLines.{fault_said, lines-cons}
@@ -31,7 +30,7 @@ use Rattle.xc_list.specs.Listed.{Solution, IsVerdictOn, AreVerdicts, IsListingFa
 use Rattle.xc_list.specs.Listed.{fault_in_lines, solutions_of, IsListedCover}
 use Rattle.xc_list.proofs.OutputLemmas.KnownMembers.{IsCounted, AreCounted, each_numbered, members_counted}
 use Rattle.xc_list.proofs.OutputLemmas.OutputLines.{choice_words, choice_line, header_line, output_lines, IsPrintable}
-use Rattle.xc_list.proofs.OutputLemmas.OutputLines.{IsPrintableMember, lines_of-members, read-choice_line}
+use Rattle.xc_list.proofs.OutputLemmas.OutputLines.{lines_of-members, read-choice_line}
 use Rattle.xc_list.proofs.OutputLemmas.OutputLines.{read-header_line}
 use Rattle.xc_list.proofs.OutputLemmas.ChoiceBodies.{IsTold, told}
 

@@ -2,9 +2,8 @@
 use Rattle.std.specs.List.{AllByRecursion}
 use Rattle.std.proofs.Common.{◌≡◌, ℕ, false, ◌^◌, ◌<◌, ◌≤◌, List, [], ◌∷◌, ◌++◌, Option, None, Some, length, map, refl}
 use Rattle.std.proofs.Common.{sym, ap, ◌∙◌, append_assoc, append-nil}
-use Rattle.xc_list.specs.inner.LineParts.{use_text, branch_text}
-use Rattle.std.specs.Prelude.{All, codes, decimal, flat_map}
-use Rattle.std.proofs.lemmas.List.Elements.{All-head, All-tail}
+use Rattle.xc_list.specs.inner.LineParts.{use_text}
+use Rattle.std.specs.Prelude.{codes, decimal, flat_map}
 use Rattle.xc_input.specs.declared.problem.Use.{Use}
 use Rattle.xc_input.specs.Problem.{uses_of}
 use Rattle.xc_input.specs.Named.{Named}

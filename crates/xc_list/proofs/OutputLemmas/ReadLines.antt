@@ -1,9 +1,9 @@
 -- What the lines of an output are read as.
 use Rattle.std.proofs.Common.{◌≡◌, ℕ, ◌+◌, ◌-◌, ◌*◌, ◌/◌, ◌%◌, ◌^◌, ◌<◌, ◌≤◌, Bool, true, false, not, ◌&&◌, nat_lt}
-use Rattle.std.proofs.Common.{nat_eq, List, [], ◌∷◌, ◌++◌, Option, None, Some, length, take, drop, refl, ap, ◌∙◌}
+use Rattle.std.proofs.Common.{nat_eq, List, [], ◌∷◌, ◌++◌, Option, None, Some, length, drop, refl, ap, ◌∙◌}
 use Rattle.std.proofs.Common.{arith, length-append, lt-ltb}
 use Rattle.xc_input.proofs.TokenLemmas.DecimalValues.{value_from}
-use Rattle.std.specs.Prelude.{All, codes, decimal, nat_le, ◌==◌, if◌then◌else◌}
+use Rattle.std.specs.Prelude.{codes, decimal, nat_le, ◌==◌, if◌then◌else◌}
 use Rattle.std.specs.List.{list_all, list_any}
 use Rattle.std.proofs.lemmas.Bool.Decides.{nat_tests}
 use Rattle.std.proofs.lemmas.Fmt.{decimal_by_steps, length-decimal-le}
@@ -19,9 +19,9 @@ use Rattle.xc_list.specs.Settings.{long_number}
 use Rattle.xc_list.proofs.CheckLemmas.CutBodies.{last_byte}
 use Rattle.xc_list.proofs.Digits.{some_digits}
 use Rattle.xc_list.specs.ListingLines.{words_in, before_last, header_number, is_word}
-use Rattle.xc_list.specs.ListingLines.{is_ending, body_of_words, body_of}
+use Rattle.xc_list.specs.ListingLines.{is_ending, body_of_words}
 use Rattle.xc_input.specs.Words.{are_digits}
-use Rattle.xc_list.specs.inner.ReadLines.{Line, Header, Body, Other, read}
+use Rattle.xc_list.specs.inner.ReadLines.{Header, Body, read}
 use Rattle.xc_input.proofs.TokenLemmas.Separators.{COLON}
 
 -- ---- digits

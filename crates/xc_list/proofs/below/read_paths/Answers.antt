@@ -1,4 +1,4 @@
-use Rattle.std.proofs.Common.{arith, ◌≤◌, ◌∙◌, length, map}
+use Rattle.std.proofs.Common.{arith, ◌≤◌, ◌∙◌, length}
 use Rattle.std.specs.Prelude.{vec_len}
 use Rattle.std.proofs.lemmas.List.{take_all}
 use Rattle.xc_input.proofs.FaultLemmas.Checks.{items-length}

@@ -1,10 +1,8 @@
 use Rattle.std.proofs.lemmas.Bool.Decides.{nat_tests}
-use Rattle.std.proofs.Common.{arith, ◌≡◌, ◌∙◌, ◌∷◌, drop, length, sym, ap, subst}
+use Rattle.std.proofs.Common.{arith, ◌≡◌, ◌∙◌, ◌∷◌, drop, length, sym, subst}
 use Rattle.std.proofs.lemmas.List.Elements.{All-same, All-head, All-drop}
 use Rattle.std.specs.Prelude.{All}
-use Rattle.xc_search.specs.Outlook.{Outlook}
 use Rattle.xc_list.specs.Known.{IsKnownChoice}
-use Rattle.xc_list.specs.Texts.{Took}
 use Rattle.xc_list.proofs.Outputs.{all_done, rest_next, within_next}
 use Rattle.xc_list.proofs.BelowLemmas.{text_all, text_took, text_broke, text_end, failed_count}
 use Rattle.xc_list.proofs.below.write_each.Goals as goal

@@ -1,7 +1,5 @@
 use Rattle.std.proofs.lemmas.Bool.Decides.{nat_tests}
 use Rattle.std.proofs.Common.{arith}
-use Rattle.std.proofs.Common.{subst}
-use Rattle.xc_list.specs.Texts.{Writes}
 use Rattle.xc_list.proofs.Writing.{then_writes}
 use Rattle.xc_list.proofs.BelowLemmas.{counted_only, counted_behind}
 use Rattle.xc_list.proofs.below.write_listing.Goals as goal

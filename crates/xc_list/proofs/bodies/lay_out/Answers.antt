@@ -1,9 +1,8 @@
 use Rattle.std.proofs.lemmas.Bool.Decides.{nat_tests}
-use Rattle.std.proofs.Common.{arith, ◌≡◌, ◌+◌, ◌∙◌, sym, subst, take, Some}
+use Rattle.std.proofs.Common.{arith, ◌≡◌, ◌+◌, ◌∙◌, sym, take, Some}
 use Rattle.std.specs.Prelude.{slice_get}
 use Rattle.xc_input.proofs.OptionLemmas.FlatParts.{numbered_get-at}
 use Rattle.xc_dance.proofs.Copied.{take_more-get}
-use Rattle.xc_list.specs.inner.Layout.{AreLaid}
 use Rattle.xc_list.proofs.bodies.lay_out.Goals as goal
 
 pub loop-o-preserved : goal.loop-o-preserved

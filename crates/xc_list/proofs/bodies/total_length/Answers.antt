@@ -1,5 +1,5 @@
 use Rattle.std.proofs.lemmas.Bool.Decides.{nat_tests}
-use Rattle.std.proofs.Common.{arith, ◌≡◌, ◌+◌, ◌-◌, ◌^◌, ◌++◌, length, min, take, [], ◌∷◌, ap, sym, ◌∙◌, subst}
+use Rattle.std.proofs.Common.{arith, ◌≡◌, ◌+◌, ◌++◌, take, [], ◌∷◌, sym, ◌∙◌}
 use Rattle.std.proofs.Common.{length-append, append-nil, Some}
 use Rattle.std.specs.Prelude.{slice_get, flat_map}
 use Rattle.std.proofs.lemmas.Grind.{common_steps}

@@ -1,7 +1,6 @@
-use Rattle.std.proofs.Common.{◌≡◌, ◌++◌, [], arith, subst, codes}
+use Rattle.std.proofs.Common.{◌≡◌, ◌++◌, [], arith, codes}
 use Rattle.std.proofs.lemmas.Grind.{common_steps}
 use Rattle.std.specs.Prelude.{decimal, ◌==◌, if◌then◌else◌}
-use Rattle.xc_list.specs.Texts.{Writes}
 use Rattle.xc_list.proofs.messages.write_total.Goals as goal
 
 pub returns : goal.returns

@@ -1,5 +1,3 @@
-use Rattle.std.proofs.Common.{None}
-use Rattle.xc_list.specs.Output.{choice_text}
 use Rattle.xc_list.proofs.Writing.{failed, loop_broke}
 use Rattle.xc_list.proofs.print.write_choices.Goals as goal
 

@@ -1,8 +1,5 @@
 use Rattle.std.proofs.lemmas.Bool.Decides.{nat_tests}
 use Rattle.std.proofs.Common.{arith}
-use Rattle.std.proofs.Common.{subst, IfSome}
-use Rattle.xc_list.specs.inner.SeenLines.{IsClassOfLine}
-use Rattle.xc_list.specs.inner.Checking.{Progress}
 use Rattle.xc_list.proofs.CheckLemmas.NotedLines.{found-rightly}
 use Rattle.xc_list.proofs.checker.Checker.seen_class.Goals as goal
 

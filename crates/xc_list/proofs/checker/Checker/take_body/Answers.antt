@@ -1,15 +1,13 @@
 use Rattle.std.proofs.lemmas.Bool.Decides.{nat_tests}
 use Rattle.std.proofs.Common.{arith}
-use Rattle.std.proofs.Common.{◌≡◌, true, not, is_some, Some, None, refl, sym, ap, ◌∙◌, ◌<◌, length, subst}
-use Rattle.std.specs.Prelude.{All}
+use Rattle.std.proofs.Common.{◌≡◌, true, not, is_some, Some, None, refl, sym, ap, ◌∙◌, subst}
 use Rattle.xc_list.specs.ListingLines.{words_in}
 use Rattle.xc_list.specs.inner.ReadLines.{Body, read}
 use Rattle.xc_list.specs.Listed.{is_none}
-use Rattle.xc_list.specs.inner.Classes.{Classes, IsIndexed, IsClassOfBody}
+use Rattle.xc_list.specs.inner.Classes.{Classes, IsClassOfBody}
 use Rattle.xc_list.specs.inner.Checking.{Progress, Takes}
 use Rattle.xc_list.proofs.CheckLemmas.CheckedLines.{none_taken, moved, progress}
-use Rattle.xc_list.specs.inner.CoverCounts.{places_of}
-use Rattle.xc_list.specs.inner.SeenLines.{IsClassOfLine, IsRightly}
+use Rattle.xc_list.specs.inner.SeenLines.{IsClassOfLine}
 use Rattle.xc_list.proofs.CheckLemmas.NotedLines.{noted-rightly}
 use Rattle.xc_list.proofs.checker.Checker.take_body.Goals as goal
 

@@ -1,6 +1,3 @@
-use Rattle.std.proofs.Common.{sym, subst}
-use Rattle.xc_list.specs.inner.ReadLines.{Line}
-use Rattle.xc_list.specs.inner.Checking.{Takes}
 use Rattle.xc_list.proofs.checker.Checker.take_line.Goals as goal
 
 pub returns-in_ok-take_class-in-Some-clause-takes : goal.returns-in_ok-take_class-in-Some-clause-takes

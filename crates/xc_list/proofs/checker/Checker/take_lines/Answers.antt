@@ -1,8 +1,7 @@
-use Rattle.std.proofs.Common.{refl, ◌∙◌, ◌+◌, ℕ, List, ap, subst, arith}
+use Rattle.std.proofs.Common.{refl, ◌∙◌, ◌+◌, ap, arith}
 use Rattle.std.proofs.lemmas.Result.{err_from_is_err_and}
 use Rattle.xc_input.specs.Lines.{lines_of}
 use Rattle.xc_list.specs.inner.Classes.{Classes}
-use Rattle.xc_list.specs.inner.Checking.{IsProgress}
 use Rattle.xc_list.proofs.CheckLemmas.CheckedLines.{refused, ends}
 use Rattle.xc_list.proofs.checker.Checker.take_lines.Goals as goal
 

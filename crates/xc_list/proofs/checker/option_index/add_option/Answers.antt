@@ -1,4 +1,3 @@
-use Rattle.std.proofs.lemmas.Bool.Decides.{nat_tests}
 use Rattle.std.proofs.Common.{ℕ, suc, ◌≡◌, ◌+◌, ◌++◌, ◌∷◌, [], List, ◌∙◌, Some, sym, ap, subst, arith}
 use Rattle.std.specs.Prelude.{Option, slice_get, slice_set, unwrap_or}
 use Rattle.xc_input.specs.declared.problem.Use.{Use}
@@ -7,7 +6,6 @@ use Rattle.xc_input.proofs.lists.Members.{IsIn}
 use Rattle.xc_list.specs.inner.Classes.{class_of, class_at}
 use Rattle.xc_list.specs.inner.OptionIndex.{AreClassesTo, key_uses}
 use Rattle.xc_list.proofs.CheckLemmas.ClassesSoFar.{members-few, members_at, classes-found, classes-new}
-use Rattle.xc_list.proofs.CheckLemmas.BodiesOfClasses.{use-decides}
 use Rattle.xc_list.proofs.CheckLemmas.FoundClasses.{found-key, lost-key, new-uses}
 use Rattle.xc_list.proofs.checker.option_index.add_option.Goals as goal
 

@@ -1,5 +1,5 @@
 use Rattle.std.proofs.lemmas.Bool.Decides.{nat_tests}
-use Rattle.std.proofs.Common.{suc, ◌≢◌, arith, ◌≡◌, ◌-◌, ◌≤◌, [], ◌∷◌, length, get_or, take, sym, ◌∙◌, ap, refl}
+use Rattle.std.proofs.Common.{suc, arith, ◌≡◌, ◌-◌, ◌≤◌, [], ◌∷◌, length, get_or, take, sym, ◌∙◌, ap, refl}
 use Rattle.std.proofs.lemmas.List.Elements.{recursion_from_All}
 use Rattle.xc_input.specs.declared.problem.Use.{Use}
 use Rattle.xc_input.proofs.lists.EachTwo.{each_two_from_AllPairs}

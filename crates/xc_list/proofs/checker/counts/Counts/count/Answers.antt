@@ -7,10 +7,10 @@ use Rattle.std.proofs.lemmas.List.Elements.{recursion_from_All}
 use Rattle.xc_input.specs.declared.problem.Use.{Use}
 use Rattle.xc_input.specs.Problem.{item_count}
 use Rattle.xc_input.proofs.lists.EachTwo.{AllPairs-from_each_two}
-use Rattle.xc_list.specs.inner.CoverCounts.{item_places, added, coloured, raised, uses_at, uses_in}
+use Rattle.xc_list.specs.inner.CoverCounts.{item_places, added, coloured, raised, uses_in}
 use Rattle.xc_list.proofs.CheckLemmas.HeldItems.{length-raised, length-coloured}
 use Rattle.xc_list.proofs.CheckLemmas.Rotations.{DifferInItems}
-use Rattle.xc_list.proofs.CheckLemmas.CountedClasses.{AreBelow, known_items, classes_usable, added_few}
+use Rattle.xc_list.proofs.CheckLemmas.CountedClasses.{known_items, classes_usable, added_few}
 use Rattle.xc_list.proofs.CheckLemmas.CountedClasses.{added_class_more, coloured_class_more, raised_few, raised_more}
 use Rattle.xc_list.proofs.checker.counts.Counts.count.Goals as goal
 

@@ -1,10 +1,8 @@
 use Rattle.std.proofs.lemmas.Bool.Decides.{nat_tests}
 use Rattle.std.proofs.Common.{arith}
-use Rattle.std.proofs.Common.{◌≡◌, ◌∙◌, ap, subst, false}
-use Rattle.xc_list.specs.Listed.{is_known}
+use Rattle.std.proofs.Common.{◌∙◌, ap}
 use Rattle.xc_list.specs.ListingLines.{words_in}
-use Rattle.xc_list.specs.inner.Classes.{Classes, IsClassOfBody, class_of}
-use Rattle.xc_list.proofs.CheckLemmas.BodiesOfClasses.{use-decides}
+use Rattle.xc_list.specs.inner.Classes.{class_of}
 use Rattle.xc_list.proofs.CheckLemmas.FoundClasses.{no-uses, class-found, some-uses, was_read, not_read}
 use Rattle.xc_list.proofs.checker.option_index.OptionIndex.class_of.Goals as goal
 

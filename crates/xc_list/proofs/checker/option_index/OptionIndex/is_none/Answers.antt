@@ -1,6 +1,5 @@
 use Rattle.std.proofs.Common.{refl, sym, ap, ◌∙◌, ◌≡◌, ◌<◌, List, ℕ, ◌∷◌, [], length, Option, Some, MatchOption, Bor}
 use Rattle.std.proofs.lemmas.Option.{MatchOption-at_some}
-use Rattle.xc_list.specs.Listed.{is_none}
 use Rattle.xc_list.specs.ListingLines.{words_in}
 use Rattle.xc_list.proofs.CheckLemmas.NumberedTexts.{none-of-three}
 use Rattle.xc_list.proofs.checker.option_index.OptionIndex.is_none.Goals as goal

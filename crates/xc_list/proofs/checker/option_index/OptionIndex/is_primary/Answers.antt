@@ -1,9 +1,6 @@
-use Rattle.std.proofs.Common.{sym, ap, ◌∙◌, take}
-use Rattle.std.specs.Prelude.{nat_le}
-use Rattle.std.specs.List.{list_any}
+use Rattle.std.proofs.Common.{sym, ◌∙◌}
 use Rattle.std.specs.Str.{bytes_eq}
 use Rattle.xc_input.specs.Problem.{primary_count}
-use Rattle.xc_list.specs.inner.Classes.{Classes}
 use Rattle.xc_list.proofs.CheckLemmas.NumberedTexts.{any-take-number, any-take-no_number}
 use Rattle.xc_list.proofs.checker.option_index.OptionIndex.is_primary.Goals as goal
 

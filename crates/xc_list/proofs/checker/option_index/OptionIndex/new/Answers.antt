@@ -1,6 +1,5 @@
-use Rattle.std.proofs.Common.{◌≡◌, arith, subst}
+use Rattle.std.proofs.Common.{◌≡◌, arith}
 use Rattle.xc_input.specs.Problem.{option_count}
-use Rattle.xc_list.specs.inner.OptionIndex.{AreClassesTo, key_uses}
 use Rattle.xc_list.proofs.CheckLemmas.ClassUses.{classes-whole}
 use Rattle.xc_list.proofs.checker.option_index.OptionIndex.new.Goals as goal
 

@@ -1,9 +1,5 @@
 use Rattle.std.proofs.lemmas.Bool.Decides.{nat_tests}
 use Rattle.std.proofs.Common.{arith}
-use Rattle.std.proofs.Common.{subst, sym}
-use Rattle.std.specs.Prelude.{All}
-use Rattle.xc_input.specs.Named.{IsKnownUse}
-use Rattle.xc_list.specs.inner.Classes.{Classes}
 use Rattle.xc_list.proofs.CheckLemmas.ClassUses.{known-uses}
 use Rattle.xc_list.proofs.checker.option_index.OptionIndex.uses.Goals as goal
 

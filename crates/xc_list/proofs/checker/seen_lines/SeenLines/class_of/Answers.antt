@@ -1,8 +1,6 @@
 use Rattle.std.proofs.lemmas.Bool.Decides.{nat_tests}
 use Rattle.std.proofs.Common.{arith}
-use Rattle.std.proofs.Common.{◌∙◌, List, IfSome, subst, sym}
-use Rattle.xc_list.specs.declared.checker.seen_lines.SeenLine.{SeenLine}
-use Rattle.xc_list.specs.inner.SeenLines.{IsFoundIn}
+use Rattle.std.proofs.Common.{◌∙◌, sym}
 use Rattle.xc_list.proofs.CheckLemmas.NotedLines.{found-at}
 use Rattle.xc_list.proofs.checker.seen_lines.SeenLines.class_of.Goals as goal
 
