@@ -2,7 +2,7 @@
 use Rattle.std.proofs.lemmas.Bool.Decides.{nat_tests}
 use Rattle.std.proofs.Common.{◌≡◌, ℕ, zero, suc, ◌+◌, ◌-◌, ◌<◌, ◌≤◌, false, List, [], ◌∷◌, length}
 use Rattle.std.proofs.Common.{drop, get_or}
-use Rattle.std.proofs.Common.{sym, ap, ◌∙◌, append-nil, arith, subst, length-drop}
+use Rattle.std.proofs.Common.{sym, ap, append-nil, arith, subst, length-drop}
 use Rattle.std.proofs.lemmas.List.{drop-drop, drop_more}
 use Rattle.xc_search.specs.declared.choice.Choice.{Choice}
 use Rattle.xc_search.specs.Outlook.{Outlook, shown_after}

@@ -1,7 +1,7 @@
 -- A text that is put together on a page.
 use Rattle.std.proofs.lemmas.Bool.Decides.{nat_tests}
 use Rattle.std.proofs.Common.{◌≡◌, ℕ, ◌+◌, ◌≤◌, List, [], ◌++◌, length, take, drop, sym, ap, ◌∙◌, arith}
-use Rattle.std.proofs.Common.{subst, append-nil, append_assoc, ◌∷◌, get_or}
+use Rattle.std.proofs.Common.{subst, append-nil, append_assoc, ◌∷◌}
 use Rattle.std.proofs.Math.Seq.{drop-cons, take-append-add}
 use Rattle.std.proofs.lemmas.List.{drop-append-le, take-take, length-take, length-take-le, drop-set, drop-set-add}
 use Rattle.std.proofs.lemmas.Simd.{take_more_put_chunk, length-chunk}

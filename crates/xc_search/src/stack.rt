@@ -109,12 +109,7 @@ impl Stack {
 
     /// Puts choices, and behind them the levels', in the place of those that stand in `shown`. It is called where a
     /// search stops: choices that are kept in step with the levels take stores which a count never reads.
-    pub fn show<D: Dance>(
-        &self,
-        before: &[Choice],
-        position: &Position<D>,
-        shown: &mut Vec<Choice>,
-    )
+    pub fn show<D: Dance>(&self, before: &[Choice], position: &Position<D>, shown: &mut Vec<Choice>)
         requires shown { All (IsShown position.now.puzzle) self.now.levels }
         requires room { length before.now + self.now.room ≤ vec_capacity shown.old }
         ensures items { shown.new.items ≡ before.now ++ choices_of position.now.puzzle self.now.levels }

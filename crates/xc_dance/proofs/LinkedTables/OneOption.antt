@@ -1,6 +1,6 @@
 -- An option leaves the lists of some of its items, one after another.
 use Rattle.std.proofs.Common.{◌≡◌, ◌≢◌, ℕ, ◌<◌, ◌≤◌, ◌^◌, inr, Bool, true, false, cond, eqb, List, [], ◌∷◌, ◌++◌}
-use Rattle.std.proofs.Common.{length, map, fold, get_or, refl, ap, sym, subst, ◌∙◌, arith, eqb-true, ne_eqb, not, ◌&&◌}
+use Rattle.std.proofs.Common.{length, map, fold, get_or, refl, sym, subst, ◌∙◌, arith, eqb-true, ne_eqb, not, ◌&&◌}
 use Rattle.std.proofs.Common.{eq-eqb, filter}
 use Rattle.std.proofs.lemmas.Grind.{common_steps}
 use Rattle.xc_dance.specs.declared.links.nodes.Nodes.{Nodes}
@@ -9,7 +9,7 @@ use Rattle.xc_dance.specs.Fields.{Node, layout, link_place, is_in}
 use Rattle.xc_dance.specs.inner.Links.Lines.{Line}
 use Rattle.xc_dance.specs.inner.Links.Steps.{hidden}
 use Rattle.xc_dance.specs.inner.Links.Cells.{nodes_from}
-use Rattle.xc_dance.specs.inner.Links.Laid.{IsName, IsLaid}
+use Rattle.xc_dance.specs.inner.Links.Laid.{IsLaid}
 use Rattle.std.proofs.lemmas.Option.{slice_get_within}
 use Rattle.xc_dance.proofs.LinkedTables.LinkColumns.{Stands, Stands-without, Rest, back_more, get_item}
 use Rattle.xc_dance.proofs.LinkedTables.GoodLines.{Step, step_open, step_marked, Named, IsGood, AllGood, member}

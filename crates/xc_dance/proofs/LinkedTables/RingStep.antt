@@ -1,6 +1,6 @@
 -- Cover and Spend on the item table.
 use Rattle.std.proofs.Common.{◌≡◌, ◌≢◌, ℕ, zero, suc, ◌+◌, ◌-◌, ◌<◌, ◌^◌, List, [], ◌∷◌, length, map, get_or, set, refl}
-use Rattle.std.proofs.Common.{ap, sym, ◌∙◌, arith, cond, eqb, false, eq-eqb, ne_eqb, Some}
+use Rattle.std.proofs.Common.{ap, ◌∙◌, arith, cond, false, eq-eqb, ne_eqb, Some}
 use Rattle.std.proofs.lemmas.Grind.{common_steps}
 use Rattle.std.specs.List.{range_with_len}
 use Rattle.std.specs.Prelude.{slice_get}

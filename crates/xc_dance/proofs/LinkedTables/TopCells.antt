@@ -1,7 +1,7 @@
 -- What a cell that is read is, and that different cells read differently.
 use Rattle.std.proofs.Common.{◌≡◌, ℕ, suc, List, [], ◌∷◌, Option, Some, None, refl, ap, ap₂, eqb-true, ◌-◌, ◌<◌, ◌≤◌}
 use Rattle.std.proofs.Common.{le-leb, arith, ◌⊎◌, inl, inr, zero, ◌+◌, ◌^◌, map, sym, ◌∙◌, ltb-true, ltb-false, ◌≢◌}
-use Rattle.std.proofs.Common.{true, false, cond, eqb, leb, ltb, length, ne_eqb, leb-true, lt-ltb, le-ltb}
+use Rattle.std.proofs.Common.{cond, eqb, leb, ltb, ne_eqb, leb-true, lt-ltb, le-ltb}
 use Rattle.std.specs.Prelude.{ℤ, pos, negsuc, slice_get, option_map, neg_ℤ}
 use Rattle.std.specs.List.{range_with_len}
 use Rattle.std.proofs.lemmas.Grind.{common_steps}
@@ -9,10 +9,10 @@ use Rattle.std.proofs.lemmas.Option.{same_Some, slice_get-map}
 use Rattle.std.proofs.lemmas.Bool.{lt-leb, eqb-false, leb-false}
 use Rattle.std.proofs.lemmas.List.{length-map}
 use Rattle.xc_input.specs.Problem.{Puzzle, item_count, primary_count, high_at, low_at, uses_of}
-use Rattle.xc_dance.specs.inner.Links.Read.{color_read, top_read, minus}
+use Rattle.xc_dance.specs.inner.Links.Read.{color_read, top_read}
 use Rattle.xc_dance.specs.declared.dance.Move.{Move}
 use Rattle.xc_dance.specs.Fields.{Node, unused, own, spacer, used, layout, field_of, top_of, color_of, item_cell}
-use Rattle.xc_dance.specs.Fields.{primary_cell, ring_of, left_of, right_of, first_of, last_of, is_marked}
+use Rattle.xc_dance.specs.Fields.{primary_cell, ring_of, left_of, right_of, first_of, last_of}
 use Rattle.xc_dance.specs.inner.Links.Cells.{top_in, line_of, nodes_after, color_in}
 use Rattle.xc_dance.specs.inner.Links.Laid.{IsLaid, IsFit}
 use Rattle.xc_dance.specs.declared.links.field.Field.TheVariants.{Llink, Rlink, Bound, Slack, Top, Ulink, Dlink, Color}
@@ -23,7 +23,7 @@ use Rattle.xc_dance.specs.Fields.{spacer_place}
 use Rattle.xc_dance.proofs.LinkedTables.PlaceLemmas.{is_at, spacer_here, place_first}
 use Rattle.xc_dance.proofs.LinkedTables.MarkedNodes.{colour_small}
 use Rattle.xc_dance.proofs.LinkedTables.GoodLines.{numbers_few}
-use Rattle.xc_dance.specs.declared.links.nodes.TheConstants.{MARK, SPACER}
+use Rattle.xc_dance.specs.declared.links.nodes.TheConstants.{SPACER}
 
 -- ---- how cells are read, and that different cells read differently
 

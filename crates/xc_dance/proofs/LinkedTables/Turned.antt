@@ -1,6 +1,6 @@
 -- Cover on the item table: an item leaves its ring and comes back.
 use Rattle.std.proofs.Common.{◌≡◌, ◌≢◌, ℕ, zero, suc, ◌+◌, ◌<◌, ◌≤◌, ◌⊎◌, inl, inr, Bool, true, false, not, cond, ◌&&◌}
-use Rattle.std.proofs.Common.{◌||◌, eqb, leb, List, ◌∷◌, length, map, filter, get_or, set, refl, ap, ap₂, sym, subst}
+use Rattle.std.proofs.Common.{eqb, leb, List, ◌∷◌, length, map, filter, get_or, set, refl, ap, ap₂, sym, subst}
 use Rattle.std.proofs.Common.{◌∙◌, arith, eq-eqb, ne_eqb, le-leb, leb-true, reverse, [], eqb-true}
 use Rattle.std.proofs.lemmas.Grind.{common_steps}
 use Rattle.std.specs.List.{range_with_len}
@@ -12,7 +12,7 @@ use Rattle.xc_dance.specs.declared.dance.Move.{Move}
 use Rattle.xc_dance.specs.declared.dance.Move.TheVariants.{Cover}
 use Rattle.xc_input.specs.Problem.{Puzzle, primary_count, item_count}
 use Rattle.xc_dance.specs.Moves.{IsLegal, is_covered}
-use Rattle.xc_dance.specs.Fields.{ring_of, left_of, right_of, first_of, last_of, is_in}
+use Rattle.xc_dance.specs.Fields.{ring_of, left_of, right_of, is_in}
 use Rattle.xc_dance.specs.inner.Links.ItemCells.{items_after, llink_at, rlink_at}
 use Rattle.xc_dance.specs.inner.Links.Rings.{left_ring, back_in_ring}
 use Rattle.xc_dance.proofs.LinkedTables.LinkColumns.{written_back}

@@ -28,7 +28,7 @@ use Rattle.xc_dance.proofs.LinkedTables.Sweep.{Rises, stay, cuts, is_in-first, d
 use Rattle.xc_dance.proofs.LinkedTables.Sweep.{with_line, other_items}
 use Rattle.xc_dance.proofs.LinkedTables.OneOption.{left_all, all_other, line_here, line_there, gone_count}
 use Rattle.xc_dance.proofs.LinkedTables.OtherItems.{leaves, list_at, each_apart, own_apart}
-use Rattle.xc_dance.proofs.LinkedTables.Leaving.{ready_at, AreOf, cut_others, leaves_own, total, total_same, total_plus}
+use Rattle.xc_dance.proofs.LinkedTables.Leaving.{ready_at, cut_others, leaves_own, total, total_same, total_plus}
 use Rattle.xc_dance.proofs.LinkedTables.Leaving.{total_zero, total_point, exchanged, leaving_is, first_alone}
 use Rattle.xc_dance.proofs.LinkedTables.Leaving.{takes_tweak, tweak_others, tweak_own, InRange}
 use Rattle.xc_dance.specs.Cost.{cost_of, leaving}

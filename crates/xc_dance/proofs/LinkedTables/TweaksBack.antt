@@ -1,7 +1,7 @@
 -- Some Tweaks of one item undone at once: the lines before and after them, the whole way down, and the node table.
 use Rattle.std.proofs.Common.{◌≡◌, ◌≢◌, ℕ, zero, suc, ◌+◌, ◌*◌, ◌<◌, ◌≤◌, Bool, true, false, not, cond, eqb, List, []}
 use Rattle.std.proofs.Common.{◌∷◌, ◌++◌, length, map, filter, drop, reverse, get_or, refl, ap, sym, subst, ◌∙◌, arith}
-use Rattle.std.proofs.Common.{length-append, inr, ◌||◌, fold, ap₂, eq-eqb, ◌^◌, eqb-true, ◌&&◌}
+use Rattle.std.proofs.Common.{length-append, inr, ◌||◌, fold, ap₂, eq-eqb, eqb-true, ◌&&◌}
 use Rattle.std.proofs.lemmas.Grind.{common_steps}
 use Rattle.std.proofs.lemmas.List.{append_assoc, length-map}
 use Rattle.std.proofs.lemmas.List.Sums.{fold-append}

@@ -1,6 +1,6 @@
 -- How many cells were written while moves were made.
-use Rattle.std.proofs.Common.{◌≡◌, ◌+◌, length, subst, arith}
-use Rattle.xc_dance.specs.Cost.{cost_of_newest, HasWritten}
+use Rattle.std.proofs.Common.{◌≡◌, arith}
+use Rattle.xc_dance.specs.Cost.{HasWritten}
 use Rattle.xc_dance.specs.Linked.{Linked}
 use Rattle.std.proofs.lemmas.Grind.{common_steps}
 

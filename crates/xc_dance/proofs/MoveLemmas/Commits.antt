@@ -1,16 +1,13 @@
 -- Commits of uses, one after another: what is legal and fits behind them did before.
 use Rattle.std.proofs.lemmas.Grind.{common_steps}
-use Rattle.std.proofs.Common.{ℕ, suc, ◌≡◌, ◌+◌, ◌-◌, ◌<◌, ◌≤◌, List, [], ◌∷◌, ◌++◌, length}
-use Rattle.std.proofs.Common.{drop, take, refl, sym, ap, ◌∙◌, arith, get_or, Some, drop-cons, length-drop}
-use Rattle.std.specs.Prelude.{unwrap_or}
-use Rattle.std.proofs.Math.Seq.{take-length}
+use Rattle.std.proofs.Common.{ℕ, ◌≡◌, ◌+◌, ◌<◌, ◌≤◌, List, [], ◌∷◌, ◌++◌, length}
+use Rattle.std.proofs.Common.{drop, refl, ap, arith, get_or, drop-cons}
 use Rattle.xc_input.specs.declared.problem.Use.{Use}
 use Rattle.xc_dance.specs.declared.dance.Move.{Move}
-use Rattle.xc_input.specs.Problem.{Puzzle, numbered_get, uses_of}
+use Rattle.xc_input.specs.Problem.{Puzzle}
 use Rattle.xc_dance.specs.Dancing.{Dancing}
 use Rattle.xc_dance.specs.Moves.{AreLegal}
-use Rattle.xc_dance.specs.Commits.{CanStand, after_spend, after_use, after_uses, others}
-use Rattle.xc_input.specs.UsePlaces.{place_in}
+use Rattle.xc_dance.specs.Commits.{CanStand, after_use, after_uses}
 
 pub legal_after_use : (p : Puzzle) (u : Use) (t : List Move) → AreLegal p (after_use p u t) → AreLegal p t
 legal_after_use p u t l = grind (arith, common_steps)

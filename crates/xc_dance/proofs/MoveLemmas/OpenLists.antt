@@ -4,7 +4,7 @@ use Rattle.std.proofs.Common.{drop, Option, Some, None, refl, sym, ap, apâ‚‚, â—
 use Rattle.std.proofs.Common.{ne_eqb, IsTrue}
 use Rattle.std.proofs.lemmas.Grind.{common_steps}
 use Rattle.std.proofs.lemmas.List.Elements.{filter_agree}
-use Rattle.std.specs.Prelude.{nat_lt, is_some}
+use Rattle.std.specs.Prelude.{is_some}
 use Rattle.std.specs.List.{AllByRecursion}
 use Rattle.xc_input.specs.Problem.{Puzzle, Numbered, holds, colour_at, holding}
 use Rattle.xc_input.proofs.lists.EachElement.{each_weaker, each_both}

@@ -1,6 +1,6 @@
 -- The states of items after moves.
 use Rattle.std.proofs.Common.{ℕ, zero, suc, ◌≡◌, ◌≢◌, ◌+◌, ◌-◌, ◌<◌, ◌≤◌, Bool, true, false, not, ◌&&◌, List, [], ◌∷◌}
-use Rattle.std.proofs.Common.{Some, None, refl, ap, sym, set, get_or, ltb-true, ltb-false, ◌∙◌, arith, eqb-true, eq-eqb}
+use Rattle.std.proofs.Common.{Some, None, refl, ap, sym, set, ltb-true, ltb-false, ◌∙◌, arith, eqb-true, eq-eqb}
 use Rattle.xc_input.specs.declared.problem.Bounds.{Bounds}
 use Rattle.std.proofs.lemmas.Grind.{common_steps}
 use Rattle.std.proofs.lemmas.List.{get_or-set_same}

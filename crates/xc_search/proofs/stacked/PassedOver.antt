@@ -119,34 +119,34 @@ by_order {C = C} n many within less all = by_test (ltb n many) refl
     by_test false h = all (omega (arith, within, ltb-false n many h))
 
 module _ (d e : Dancing) (ls ks : Levels) (down below : Bool) (many n : ℕ) (p : Passed d ls down many n e ks below)
-    where
-  pub outlook_passed : (o : Outlook) → outlook d ls down ≡ o
-      → (outlook e ks below ≡ past many o) × (n ≡ min many (length o.to_come))
-  outlook_passed o is =
-      let went = by_order n many p.within (λ less. outlook_past d e ls ks down n many (p.past less) less)
-      (λ all. let to = outlook_over d e ls ks down many (p.over all) in (to.0, all ∙ to.1)) in
-      grind (arith, common_steps, went.0, went.1, is, p.searched)
+  where
+    pub outlook_passed : (o : Outlook) → outlook d ls down ≡ o
+        → (outlook e ks below ≡ past many o) × (n ≡ min many (length o.to_come))
+    outlook_passed o is =
+        let went = by_order n many p.within (λ less. outlook_past d e ls ks down n many (p.past less) less)
+        (λ all. let to = outlook_over d e ls ks down many (p.over all) in (to.0, all ∙ to.1)) in
+        grind (arith, common_steps, went.0, went.1, is, p.searched)
 
-  -- and where it stands
-  pub stands_there : IsStanding e.puzzle e.trail ks.levels below
-      × (ks.levels ≢ [] → IsSolved e.puzzle e.trail ks.levels) × (e.puzzle ≡ d.puzzle) × (ks.room ≡ ls.room)
-  stands_there = by_order n many p.within
-      (λ less. let w = p.past less in (
-        record { stacked = rw w.ended tt; searchable = λ e. cc (e, p.searched); shallow = λ e. cc (e, p.searched) },
-        (λ some. absurd (some w.ended)),
-        ap (λ (s : Dancing). s.puzzle) w.still.0,
-        ap (λ (s : Levels). s.room) w.still.1,
-      ))
-      (λ all. let w = p.over all in (
-        record {
-          stacked = w.solved.standing.stacked;
-          searchable = λ e. cc (e, p.searched);
-          shallow = λ e. cc (e, p.searched);
-        },
-        (λ some. w.solved),
-        ap (λ (s : Dancing). s.puzzle) w.still.0,
-        ap (λ (s : Levels). s.room) w.still.1,
-      ))
+    -- and where it stands
+    pub stands_there : IsStanding e.puzzle e.trail ks.levels below
+        × (ks.levels ≢ [] → IsSolved e.puzzle e.trail ks.levels) × (e.puzzle ≡ d.puzzle) × (ks.room ≡ ls.room)
+    stands_there = by_order n many p.within
+        (λ less. let w = p.past less in (
+          record { stacked = rw w.ended tt; searchable = λ e. cc (e, p.searched); shallow = λ e. cc (e, p.searched) },
+          (λ some. absurd (some w.ended)),
+          ap (λ (s : Dancing). s.puzzle) w.still.0,
+          ap (λ (s : Levels). s.room) w.still.1,
+        ))
+        (λ all. let w = p.over all in (
+          record {
+            stacked = w.solved.standing.stacked;
+            searchable = λ e. cc (e, p.searched);
+            shallow = λ e. cc (e, p.searched);
+          },
+          (λ some. w.solved),
+          ap (λ (s : Dancing). s.puzzle) w.still.0,
+          ap (λ (s : Levels). s.room) w.still.1,
+        ))
 
 -- what a search stands for behind the choices before its first level
 abbrev of_search : List Choice → List Choice → Outlook → Outlook

@@ -1,57 +1,40 @@
-use Rattle.std.proofs.Common.{arith, ap, length, ◌≡◌, ◌+◌, ◌-◌, ◌++◌, take, drop, ◌∙◌}
+use Rattle.std.proofs.Common.{arith, ap, length, ◌≡◌, ◌+◌, ◌-◌, ◌≤◌, ◌++◌, take, drop, ◌∙◌}
 use Rattle.xc_input.specs.Problem.{uses_of}
-use Rattle.xc_list.proofs.OutputLemmas.LaidOptions.{cut_in_span, nothing_put, span-length}
-use Rattle.xc_list.proofs.OutputLemmas.LaidOptions.{text_put}
+use Rattle.xc_list.proofs.OutputLemmas.LaidOptions.{cut_in_span, nothing_put, span-length, text_put}
 use Rattle.xc_list.proofs.bodies.put_cut.Goals as goal
-use Rattle.xc_list.proofs.bodies.put_cut.Goals.{then-place-gt0, else-place-gt0}
+use Rattle.xc_list.proofs.bodies.put_cut.Goals.{then-place-gt0, else-place-gt0, After-place_in_text-place}
 
-pub overflow_sub-count : goal.overflow_sub-count
-overflow_sub-count c =
+-- the item's use starts within the text
+cut : (c : After-place_in_text-place) → c.place_in_text-place.result ≤ c.span_of-from.result.1
+cut c =
     cut_in_span c.args.problem.now c.args.item _ _ c.args.layout.now.texts.items c.span_of-from.result.0 _ _
     c.uses_at.ensures.value c.span_of-from.ensures.text c.place_in_text-place.ensures c.span_of-from.ensures.within
+
+pub overflow_sub-count : goal.overflow_sub-count
+overflow_sub-count c = cut (goal.at.overflow_sub-count c).After-place_in_text-place
 
 pub overflow_add-from : goal.overflow_add-from
 overflow_add-from c =
-    let within =
-    cut_in_span c.args.problem.now c.args.item _ _ c.args.layout.now.texts.items c.span_of-from.result.0 _ _
-    c.uses_at.ensures.value c.span_of-from.ensures.text c.place_in_text-place.ensures c.span_of-from.ensures.within in
-    omega (arith, within, c.span_of-from.ensures.few)
+    omega (arith, cut (goal.at.overflow_add-from c).After-place_in_text-place, c.span_of-from.ensures.few)
 
 pub put_part-requires-clause-padded : goal.put_part-requires-clause-padded
 put_part-requires-clause-padded c =
-    let within =
-    cut_in_span c.args.problem.now c.args.item _ _ c.args.layout.now.texts.items c.span_of-from.result.0 _ _
-    c.uses_at.ensures.value c.span_of-from.ensures.text c.place_in_text-place.ensures c.span_of-from.ensures.within in
-    omega (arith, within, c.span_of-from.ensures.within, ap length c.deref.ensures.value)
+    let fact = cut (goal.at.put_part-requires-clause-padded c).After-place_in_text-place in
+    omega (arith, c.span_of-from.ensures.within, ap length c.deref.ensures.value)
 
 pub overflow_sub-count-then-place-gt0 : goal.overflow_sub-count-then-place-gt0
-overflow_sub-count-then-place-gt0 c =
-    cut_in_span c.args.problem.now c.args.item _ _ c.args.layout.now.texts.items c.span_of-from.result.0 _ _
-    c.uses_at.ensures.value c.span_of-from.ensures.text c.place_in_text-place.ensures c.span_of-from.ensures.within
+overflow_sub-count-then-place-gt0 c = cut (goal.at.overflow_sub-count-then-place-gt0 c).After-place_in_text-place
 
 pub put_part-requires-then-place-gt0-clause-room : goal.put_part-requires-then-place-gt0-clause-room
 put_part-requires-then-place-gt0-clause-room c =
-    let within =
-    cut_in_span c.args.problem.now c.args.item _ _ c.args.layout.now.texts.items c.span_of-from.result.0 _ _
-    c.uses_at.ensures.value c.span_of-from.ensures.text c.place_in_text-place.ensures c.span_of-from.ensures.within in
-    let from = c.span_of-from.result.0 in
-    let count = c.span_of-from.result.1 in
-    omega (
-      arith,
-      within,
-      ap length c.span_of-from.ensures.text,
-      span-length c.args.layout.now.texts.items from count c.span_of-from.ensures.within,
-      c.put_part.ensures.size,
-      c.requires.room.0,
-      c.requires.room.1,
-    )
+    let fact = cut (goal.at.put_part-requires-then-place-gt0-clause-room c).After-place_in_text-place in
+    let long = span-length _ _ _ c.span_of-from.ensures.within in
+    omega (arith, ap length c.span_of-from.ensures.text, c.put_part.ensures.size, c.requires.room.0, c.requires.room.1)
 
 pub put_part-requires-then-place-gt0-clause-padded : goal.put_part-requires-then-place-gt0-clause-padded
 put_part-requires-then-place-gt0-clause-padded c =
-    let within =
-    cut_in_span c.args.problem.now c.args.item _ _ c.args.layout.now.texts.items c.span_of-from.result.0 _ _
-    c.uses_at.ensures.value c.span_of-from.ensures.text c.place_in_text-place.ensures c.span_of-from.ensures.within in
-    omega (arith, within, c.span_of-from.ensures.within, ap length c.deref-then-place-gt0.ensures.value)
+    let fact = cut (goal.at.put_part-requires-then-place-gt0-clause-padded c).After-place_in_text-place in
+    omega (arith, c.span_of-from.ensures.within, ap length c.deref-then-place-gt0.ensures.value)
 
 pub returns-clause-put : goal.returns-clause-put
 returns-clause-put c =
@@ -63,21 +46,15 @@ returns-clause-put c =
     let at = c.args.at in
     let one = c.put_part.new.page in
     let first : take (at + (count - place)) one ≡ take at c.args.page.now ++ take (count - place) (drop (from + place)
-    texts) =
-    c.put_part.ensures.put ∙ ap (λ ts. take at c.args.page.now ++ take (count - place) (drop (from + place) ts))
-    c.deref.ensures.value in
-    let all =
-    text_put a c.args.item c.uses_at.result.now (uses_of a.puzzle c.args.o) texts c.args.page.now one
+    texts) = cc (c.put_part.ensures.put, c.deref.ensures.value) in
+    let all = text_put a c.args.item c.uses_at.result.now (uses_of a.puzzle c.args.o) texts _ one
     c.if-place-gt0.page at from count place c.uses_at.ensures.value c.span_of-from.ensures.text
     c.place_in_text-place.ensures c.span_of-from.ensures.within first in
     elim c.if-place-gt0.branch [
       | then-place-gt0 w ↦ all
-          (ap (take (at + (count - place) + place)) w.page-is
-          ∙ w.put_part-then-place-gt0.ensures.put
+          (ap (take (at + (count - place) + place)) w.page-is ∙ w.put_part-then-place-gt0.ensures.put
           ∙ ap (λ ts. take (at + (count - place)) one ++ take place (drop from ts))
           w.deref-then-place-gt0.ensures.value)
       | else-place-gt0 w ↦ all
-          (ap (take (at + (count - place) + place)) w.page-is
-          ∙ nothing_put one (drop from texts) (at + (count - place)) place w.if-place-gt0.false)
+          (ap (take (at + (count - place) + place)) w.page-is ∙ nothing_put _ _ _ _ w.if-place-gt0.false)
     ]
-

@@ -1,33 +1,23 @@
-use Rattle.std.proofs.Common.{arith, ap, length, sym, ◌≡◌, ◌++◌, take, drop, ◌∙◌}
-use Rattle.std.specs.Prelude.{flat_map}
+use Rattle.std.proofs.lemmas.Bool.Decides.{nat_tests}
+use Rattle.std.proofs.Common.{arith, ap, length, ◌≡◌, ◌∙◌}
 use Rattle.xc_input.specs.Problem.{uses_of}
 use Rattle.xc_list.specs.inner.Layout.{first_item}
-use Rattle.xc_list.specs.inner.LineParts.{use_text}
 use Rattle.xc_list.proofs.OutputLemmas.LaidOptions.{first_read, firsts-length, from_first, span-length}
 use Rattle.xc_input.proofs.FaultLemmas.Checks.{items-length}
 use Rattle.xc_list.proofs.bodies.put_text.Goals as goal
 
 pub put_cut-requires-clause-room : goal.put_cut-requires-clause-room
 put_cut-requires-clause-room c =
-    let within = c.span_of-from.ensures.within in
-    let count = span-length c.args.layout.now.texts.items c.span_of-from.result.0 c.span_of-from.result.1 within in (
-      omega (arith, c.if-at-count-gt-ROOM.false, ap length c.span_of-from.ensures.text, count),
-      c.requires.room.1,
-    )
+    let long = span-length _ _ _ c.span_of-from.ensures.within in
+    (omega (arith, c.if-at-count-gt-ROOM.false, ap length c.span_of-from.ensures.text), c.requires.room.1)
 
 pub index-first-requires : goal.index-first-requires
 index-first-requires c =
-    omega (
-      arith,
-      firsts-length _ _ c.requires.firsts,
-      items-length c.args.layout.now.firsts,
-      c.requires.known.0,
-      c.requires.known.1,
-    )
+    let fact = items-length c.args.layout.now.firsts in
+    grind (arith, nat_tests, firsts-length _ _ c.requires.firsts, c.requires.known.0, c.requires.known.1)
 
 pub put_part-requires-clause-padded : goal.put_part-requires-clause-padded
-put_part-requires-clause-padded c =
-    omega (arith, c.span_of-from.ensures.within, ap length c.deref.ensures.value)
+put_part-requires-clause-padded c = omega (arith, c.span_of-from.ensures.within, ap length c.deref.ensures.value)
 
 pub returns-then-first-item-clause-put : goal.returns-then-first-item-clause-put
 returns-then-first-item-clause-put c =
@@ -35,10 +25,6 @@ returns-then-first-item-clause-put c =
     let from = c.span_of-from.result.0 in
     let count = c.span_of-from.result.1 in
     let us = uses_of a.puzzle c.args.o in
-    let is : first_item us ≡ c.args.item =
-    first_read a.puzzle.options c.args.layout.now.firsts.items c.args.o _ c.requires.firsts c.requires.known
+    let is : first_item us ≡ c.args.item = first_read _ _ _ _ c.requires.firsts c.requires.known
     c.index-first.ensures ∙ c.if-first-item.true in
-    c.put_part.ensures.put
-    ∙ ap (λ ts. take c.args.at c.args.page.now ++ take count (drop from ts)) c.deref.ensures.value
-    ∙ ap (λ t. take c.args.at c.args.page.now ++ t)
-    (c.span_of-from.ensures.text ∙ ap (flat_map (use_text a)) (sym (from_first c.args.item us is)))
+    cc (c.put_part.ensures.put, c.deref.ensures.value, c.span_of-from.ensures.text, from_first c.args.item us is)

@@ -20,8 +20,8 @@ loop-choice-preserved g c =
     let put = c.loop-choice.invariant.put in
     let known = All (IsKnownChoice c.args.bodies.now.puzzle) in
     record {
-      put = line_put (choice_text c.args.bodies.now) put.done c.loop-choice.choices c.next.new.self c.args.walk.now.shown
-          c.in-Some.choice c.in-Some.ensures.some put.whole put.puts c.in_ok-next.ensures.put;
+      put = line_put (choice_text c.args.bodies.now) put.done _ _ _ _ c.in-Some.ensures.some put.whole put.puts
+          c.in_ok-next.ensures.put;
       known = All-tail (IsKnownChoice c.args.bodies.now.puzzle) c.in-Some.choice c.next.new.self
           (subst known c.in-Some.ensures.some c.loop-choice.invariant.known);
       within = c.in_ok-next.ensures.within;

@@ -1,7 +1,6 @@
 use Rattle.std.proofs.Common.{arith, ◌∙◌, ap, length, take, replicate, [], ℕ}
 use Rattle.xc_input.proofs.OptionLemmas.NumberedOptions.{numbered_from}
 use Rattle.std.proofs.lemmas.Grind.{common_steps}
-use Rattle.std.specs.Global.{Vec}
 use Rattle.std.proofs.lemmas.List.{length-map, take_more, length-take-le}
 use Rattle.std.proofs.lemmas.List.FromFn.{length-map-range_with_len}
 use Rattle.std.proofs.lemmas.Option.{unwrap_or-slice_get}

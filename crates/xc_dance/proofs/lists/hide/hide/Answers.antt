@@ -1,4 +1,4 @@
-use Rattle.std.proofs.Common.{arith, ℕ, ◌-◌, ◌<◌, ap, sym, subst, length, get_or, take, List}
+use Rattle.std.proofs.Common.{arith, ℕ, ◌-◌, ◌<◌, ap, length, get_or, take, List}
 use Rattle.std.proofs.lemmas.Grind.{common_steps}
 use Rattle.std.proofs.lemmas.List.{take_more}
 use Rattle.xc_input.specs.declared.problem.Use.{Use}

@@ -1,4 +1,4 @@
-use Rattle.std.proofs.Common.{arith, ◌≡◌, ◌+◌, ◌∙◌, ap, sym, subst, length, get_or, List, ℕ, ◌<◌, ◌-◌}
+use Rattle.std.proofs.Common.{arith, ◌≡◌, ◌∙◌, ap, length, get_or, List, ℕ, ◌<◌, ◌-◌}
 use Rattle.std.proofs.lemmas.Grind.{common_steps}
 use Rattle.xc_dance.specs.inner.Lists.Versions.{Versions}
 use Rattle.xc_dance.specs.inner.Lists.Rising.{Rises}

@@ -1,10 +1,9 @@
-use Rattle.std.proofs.Common.{arith, ◌≡◌, ◌+◌, reverse, [], ◌∷◌, List, false, eqb, eq-eqb, refl, ◌++◌, ℕ}
+use Rattle.std.proofs.Common.{arith, ◌≡◌, reverse, [], ◌∷◌, List, eq-eqb, ◌++◌, ℕ}
 use Rattle.std.proofs.lemmas.Grind.{common_steps, get_or_default_zero}
 use Rattle.xc_input.specs.Problem.{Puzzle}
 use Rattle.std.proofs.lemmas.Bool.{ne_eqb}
 use Rattle.xc_dance.specs.declared.dance.Move.{Move}
 use Rattle.xc_dance.specs.declared.dance.Move.TheVariants.{Cover, Purify}
-use Rattle.xc_dance.specs.declared.lists.item_states.ItemState.TheVariants.{Open}
 use Rattle.xc_dance.specs.Moves.{AreLegal}
 use Rattle.xc_dance.specs.inner.Lists.States.{AreStates, AreLeft}
 use Rattle.xc_dance.proofs.MoveLemmas.StateLemmas.{set_state, open_state, high_within}
