@@ -6,6 +6,7 @@ use Rattle.xc_input.specs.declared.kind.Kind.{Kind}
 use Rattle.xc_input.specs.declared.fault.InputError.{InputError}
 use Rattle.xc_input.specs.declared.fault.InputError.TheVariants.{Fault, Device, Memory}
 use Rattle.xc_input.specs.declared.builder.ProblemBuilder.{ProblemBuilder}
+use Rattle.std.proofs.lemmas.Option.{MatchOption-at_none}
 use Rattle.xc_input.proofs.GrammarLemmas.SheetGrammar.{named_of, AreItems}
 use Rattle.xc_input.specs.FirstFault.{line_number, first_fault}
 use Rattle.xc_input.specs.declared.fault.FaultKind.TheVariants.{NoItems}
@@ -36,68 +37,64 @@ refutes kind lines Memory h f p ig s = absurd (f refl)
 by-builder : (d : ProblemBuilder) → named_of (sheet_of_builder d) ≡ named_by d
 by-builder d = named-is d.items.items d.primary (pieces d.starts.items d.uses.items) (key_names d.colours.keys)
 
-module _ (v : Reading) (kind : Kind) (lines : List (List ℕ)) (o : Option InputError)
+module _ {v : Reading} {kind : Kind} {lines : List (List ℕ)} {o : Option InputError}
     (is : v ≡ record { kind = kind; lines = lines; error = o }) (h : IsStateOf kind lines o) where
+  -- what a reading stands for, its lines do
+  StandsFor-given : {p : Named} {ig : List ℕ} → StandsFor v.kind v.lines p ig → StandsFor kind lines p ig
+  StandsFor-given {p} {ig} = subst (λ (r : Reading). StandsFor r.kind r.lines p ig) is
+
   pub refuses : (e : InputError) → o ≡ Some e → e ≢ Memory → (p : Named) (ig : List ℕ)
       → StandsFor v.kind v.lines p ig → ⊥
-  refuses e f w p ig s =
-      refutes kind lines e (ends-at kind lines o e f h) w p ig
-      (subst (λ (r : Reading). StandsFor r.kind r.lines p ig) is s)
+  refuses e f w p ig s = refutes kind lines e (ends-at kind lines o e f h) w p ig (StandsFor-given s)
 
   module _ (f : o ≡ None) (d : ProblemBuilder)
       (m : MatchOption o (IsBuilder d × (stage_of_builder d ≡ stage_of kind lines)) (λ _. Unit {0})) where
     whole : IsBuilder d × (stage_of_builder d ≡ stage_of kind lines)
-    whole = subst (λ q. MatchOption q (IsBuilder d × (stage_of_builder d ≡ stage_of kind lines)) (λ _. Unit {0})) f m
+    whole = MatchOption-at_none _ (λ _. Unit {0}) f m
 
-    ended : (b : Bool) → d.started ≡ b → first_fault kind lines ≡ end_fault (length lines) b
-    ended b g = end-is kind lines b o f h (sym g ∙ ap (λ (st : Stage). st.started) whole.1)
+    ended : {b : Bool} → d.started ≡ b → first_fault kind lines ≡ end_fault (length lines) b
+    ended g = end-is kind lines _ o f h (sym g ∙ ap (λ (st : Stage). st.started) whole.1)
 
     pub no-items : d.started ≡ false → (count next : ℕ) → count ≡ line_number (length lines)
         → next ≡ min (count + 1) (2 ^ 64 - 1) → first_fault v.kind v.lines ≡ Some (next, NoItems)
     no-items g count next c s =
         let e : line_number (length lines + 1) ≡ next = omega (arith, c, s) in
-        ap (λ (r : Reading). first_fault r.kind r.lines) is ∙ ended false g ∙ ap (λ m. Some (m, NoItems)) e
+        ap (λ (r : Reading). first_fault r.kind r.lines) is ∙ ended g ∙ ap (λ m. Some (m, NoItems)) e
 
     pub unstarted : d.started ≡ false → (p : Named) (ig : List ℕ) → StandsFor v.kind v.lines p ig → ⊥
     unstarted g p ig s =
-        let a : first_fault kind lines ≡ end_fault (length lines) false = ended false g in
-        let t : StandsFor kind lines p ig = subst (λ (r : Reading). StandsFor r.kind r.lines p ig) is s in
-        let b : first_fault kind lines ≡ None = (stands-only kind lines p ig t).0 in absurd (cc)
-
-    items : d.started ≡ true → (line : List ℕ) × AreItems kind [] (parts line) (map entry_of d.items.items) d.primary
-    items g =
-        subst (λ (st : Stage). (line : List ℕ) × AreItems kind [] (parts line) st.sheet.entries st.sheet.primaries)
-        (sym whole.1) (faultless-items kind lines (ended true g))
-
-    stands : d.started ≡ true → StandsFor kind lines (named_by d) d.ignored.items
-    stands g = subst (λ p. StandsFor kind lines p d.ignored.items) (by-builder d)
-        (subst (λ (st : Stage). StandsFor kind lines (named_of st.sheet) st.ignored) (sym whole.1)
-        (faultless-stands kind lines (ended true g)))
-
-    pub accepts : d.started ≡ true → StandsFor v.kind v.lines (named_by d) d.ignored.items
-    accepts g = subst (λ (r : Reading). StandsFor r.kind r.lines (named_by d) d.ignored.items) (sym is) (stands g)
+        let none = (stands-only kind lines p ig (StandsFor-given s)).0 in
+        let some : first_fault kind lines ≡ end_fault (length lines) false = ended g in absurd (cc)
 
     pub alone : (p : Named) (ig : List ℕ) → StandsFor v.kind v.lines p ig → (p ≡ named_by d) × (ig ≡ d.ignored.items)
     alone p ig s =
-        let t : StandsFor kind lines p ig = subst (λ (r : Reading). StandsFor r.kind r.lines p ig) is s in
-        let q = stands-only kind lines p ig t in (
-          q.1 ∙ ap named_of (ap (λ (st : Stage). st.sheet) (sym whole.1)) ∙ by-builder d,
-          q.2
-              ∙ ap (λ (st : Stage). st.ignored) (sym whole.1),
+        let q = stands-only kind lines p ig (StandsFor-given s) in (
+          q.1 ∙ ap (λ (st : Stage). named_of st.sheet) (sym whole.1) ∙ by-builder d,
+          q.2 ∙ ap (λ (st : Stage). st.ignored) (sym whole.1),
         )
 
-    pub is-sound : AreWhole lines → d.started ≡ true → IsSound (named_by d)
-    is-sound w g = sound kind lines (named_by d) d.ignored.items (stands g) w
+    module _ (g : d.started ≡ true) where
+      items : (line : List ℕ) × AreItems kind [] (parts line) (map entry_of d.items.items) d.primary
+      items =
+          subst (λ (st : Stage). (line : List ℕ) × AreItems kind [] (parts line) st.sheet.entries st.sheet.primaries)
+          (sym whole.1) (faultless-items kind lines (ended g))
 
-    pub readable : AreWhole lines → d.started ≡ true → IsReadable d
-    readable w g = record {
-      names = whole.0.names ∙ item-names d.items.items;
-      primary = omega (
-        arith,
-        primaries-within kind (parts (items g).0) (map entry_of d.items.items) d.primary (items g).1,
-        length-map d.items.items entry_of,
-      );
-      secondary = behind-bounds kind (parts (items g).0) d.items.items d.primary (items g).1;
-      starts = whole.0.starts g;
-      sound = is-sound w g;
-    }
+      stands : StandsFor kind lines (named_by d) d.ignored.items
+      stands = subst (λ p. StandsFor kind lines p d.ignored.items) (by-builder d)
+          (subst (λ (st : Stage). StandsFor kind lines (named_of st.sheet) st.ignored) (sym whole.1)
+          (faultless-stands kind lines (ended g)))
+
+      pub accepts : StandsFor v.kind v.lines (named_by d) d.ignored.items
+      accepts = subst (λ (r : Reading). StandsFor r.kind r.lines (named_by d) d.ignored.items) (sym is) stands
+
+      pub is-sound : AreWhole lines → IsSound (named_by d)
+      is-sound w = sound kind lines (named_by d) d.ignored.items stands w
+
+      pub readable : AreWhole lines → IsReadable d
+      readable w = record {
+        names = whole.0.names ∙ item-names d.items.items;
+        primary = omega (arith, primaries-within items.1, length-map d.items.items entry_of);
+        secondary = behind-bounds d.items.items items.1;
+        starts = whole.0.starts g;
+        sound = is-sound w;
+      }

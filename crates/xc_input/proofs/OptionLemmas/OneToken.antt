@@ -1,6 +1,6 @@
 -- One token of an option line, for `use_of` and the loop of `option_line`.
 use Rattle.std.proofs.Common.{arith, ◌<◌, ◌≤◌, ◌≡◌, ℕ, ◌+◌, List, [], ◌∷◌, ◌++◌, Option, None, Some, Bool, true, false}
-use Rattle.std.proofs.Common.{◌&&◌, nat_lt, nat_eq, map, refl, ap, ◌∙◌, sym, subst}
+use Rattle.std.proofs.Common.{◌&&◌, nat_lt, nat_eq, map, refl, ap, ◌∙◌, sym}
 use Rattle.std.proofs.Common.{length, drop, if◌then◌else◌, MatchOption, Result, Ok, Err, append_assoc, is_ok}
 use Rattle.std.proofs.lemmas.Bool.Decides.{nat_tests}
 use Rattle.std.specs.List.{list_any}
@@ -17,6 +17,14 @@ use Rattle.xc_input.specs.Named.{IsName}
 use Rattle.xc_input.proofs.FaultLemmas.FirstChecks.{first-front, first-back}
 use Rattle.xc_input.proofs.FaultLemmas.Checks.{map-snoc}
 use Rattle.xc_input.proofs.GrammarLemmas.NoFault.{good-name}
+use Rattle.std.proofs.Common.{Bor, is_some, get_or}
+use Rattle.std.specs.Prelude.{All}
+use Rattle.xc_input.specs.declared.tokens.Token.{Token}
+use Rattle.xc_input.specs.inner.CutTokens.{IsCutToken}
+use Rattle.xc_input.specs.inner.Builders.{AreMarks}
+use Rattle.xc_input.proofs.TokenLemmas.TableNames.{stored-name}
+use Rattle.xc_input.proofs.OptionLemmas.Marks.{mark-at}
+use Rattle.std.proofs.lemmas.Option.{MatchOption-at_none, MatchOption-at_some}
 use Rattle.xc_input.proofs.TokenLemmas.Separators.{COLON}
 
 pub none-after : (b : ℕ) (xs : List ℕ) → has b xs ≡ false → after b xs ≡ []
@@ -36,53 +44,81 @@ module _ (kind : Kind) (names : List (List ℕ)) (primary : ℕ) (seen : List �
       → fault ≡ first past_name
   past-name e f = rw e (first-back (name_checks (before COLON token)) past_name f)
 
-  -- a colour stands where none may
-  pub not-here : (is_plain kind && has COLON token) ≡ true → fault ≡ Some ColourNotHere
-  not-here e = rw e
+-- a token as it is cut, and the test whether it has a colour where none may stand
+module _ (kind : Kind) (primary : ℕ) (seen : List ℕ) {names : List (List ℕ)} {text : List ℕ} {t : Token}
+    (cut : IsCutToken names text t) {stray : Bool} (test : stray ≡ (is_plain kind && is_some t.colour)) where
+  abbrev judged : Option FaultKind
+  judged = fault kind names primary seen text
 
-  module _ (allowed : (is_plain kind && has COLON token) ≡ false) (name : List ℕ) (is : name ≡ before COLON token) where
+  has-colour : is_some t.colour ≡ has COLON text
+  has-colour = by_colour t.colour cut.colour
+    where
+      by_colour : (c : Option (Bor (List ℕ))) → MatchOption c (has COLON text ≡ false)
+          (λ c. (has COLON text ≡ true) × (c.now ≡ after COLON text)) → is_some c ≡ has COLON text
+      by_colour None h = sym h
+      by_colour (Some c) h = sym h.0
+
+  stray-is : (b : Bool) → stray ≡ b → (is_plain kind && has COLON text) ≡ b
+  stray-is b e = ap (λ x. is_plain kind && x) (sym has-colour) ∙ sym test ∙ e
+
+  -- a colour stands where none may
+  pub not-here : stray ≡ true → judged ≡ Some ColourNotHere
+  not-here e = rw (stray-is true e)
+
+  module _ (allowed : stray ≡ false) where
     -- no item has the name
-    pub unknown : (k : FaultKind) → place names name ≡ None
-        → first (name_checks name ++ (UnknownItem, true) ∷ []) ≡ Some k → fault ≡ Some k
-    unknown k e f = rw (allowed, ← is, e) f
+    pub unknown : {k : FaultKind} → first (name_checks t.name.now ++ (UnknownItem, true) ∷ []) ≡ Some k
+        → t.place ≡ None → judged ≡ Some k
+    unknown f e = rw (stray-is false allowed, sym cut.place ∙ e, ← cut.name) f
 
     -- the item at place k has it, and is marked or not
-    module _ (good : IsName name) (k : ℕ) (at : place names name ≡ Some k) (marked : Bool)
-        (m : marked ≡ list_any (λ i. nat_eq i (k + 1)) seen) where
-      past : fault ≡ first past_name
-      past = past-name allowed (good-name (before COLON token) (subst IsName is good))
+    module _ (all : All IsName names) (marks : List Bool) (len : length marks ≡ length names)
+        (are : AreMarks marks seen) {k : ℕ} (found : t.place ≡ Some k) where
+      at : place names (before COLON text) ≡ Some k
+      at = sym cut.place ∙ found
 
-      pub repeated : marked ≡ true → fault ≡ Some RepeatedInOption
-      repeated e = past ∙ rw (← is, at, ← m, e)
+      mark : get_or marks k false ≡ list_any (λ i. nat_eq i (k + 1)) seen
+      mark = mark-at marks names (before COLON text) seen k are len at
 
-      module _ (n : marked ≡ false) where
-        item-is : item_number names (before COLON token) ≡ k + 1
-        item-is = rw (← is, at)
+      past : judged ≡ first (past_name kind names primary seen text)
+      past = past-name kind names primary seen text (stray-is false allowed)
+          (good-name (before COLON text) (stored-name names (before COLON text) k all at))
 
-        pub bare : has COLON token ≡ false → (fault ≡ None)
-            × (record { item = k + 1; colour = [] } ≡ written names token)
-        bare q = (
-          past ∙ rw (← is, at, ← m, n, q),
-          λ x. record { item = sym item-is x; colour = sym (none-after COLON token q) x },
-        )
+      pub repeated : get_or marks k false ≡ true → judged ≡ Some RepeatedInOption
+      repeated e = past ∙ rw (at, ← mark, e)
 
-        module _ (q : has COLON token ≡ true) (colour : List ℕ) (c : colour ≡ after COLON token) where
-          pub on-primary : k + 1 ≤ primary → fault ≡ Some ColourOnPrimary
+      module _ (new : get_or marks k false ≡ false) where
+        item-is : item_number names (before COLON text) ≡ k + 1
+        item-is = rw at
+
+        pub bare : t.colour ≡ None → (judged ≡ None) × (record { item = k + 1; colour = [] } ≡ written names text)
+        bare e =
+            let no = MatchOption-at_none (has COLON text ≡ false) _ e cut.colour in (
+              past ∙ rw (at, ← mark, new, no),
+              λ x. record { item = sym item-is x; colour = sym (none-after COLON text no) x },
+            )
+
+        module _ {c : Bor (List ℕ)} (is : t.colour ≡ Some c) where
+          back : (has COLON text ≡ true) × (c.now ≡ after COLON text)
+          back = MatchOption-at_some (has COLON text ≡ false) _ c is cut.colour
+
+          pub on-primary : k + 1 ≤ primary → judged ≡ Some ColourOnPrimary
           on-primary h =
-              let z : nat_lt primary (k + 1) ≡ false = grind (arith, nat_tests) in past ∙ rw (← is, at, ← m, n, q, z)
+              let low : nat_lt primary (k + 1) ≡ false = grind (arith, nat_tests) in
+              past ∙ rw (at, ← mark, new, back.0, low)
 
           module _ (h : primary < k + 1) where
             z : nat_lt primary (k + 1) ≡ true
             z = grind (arith, nat_tests)
 
-            pub misfit : is_bad_colour colour ≡ true → fault ≡ Some BadColour
-            misfit e = past ∙ rw (← is, at, ← m, n, q, z, ← c, e)
+            pub misfit : is_bad_colour c.now ≡ true → judged ≡ Some BadColour
+            misfit e = past ∙ rw (at, ← mark, new, back.0, z, ← back.1, e)
 
-            pub coloured : is_bad_colour colour ≡ false → (fault ≡ None)
-                × (record { item = k + 1; colour = colour } ≡ written names token)
+            pub coloured : is_bad_colour c.now ≡ false → (judged ≡ None)
+                × (record { item = k + 1; colour = c.now } ≡ written names text)
             coloured e = (
-              past ∙ rw (← is, at, ← m, n, q, z, ← c, e),
-              λ x. record { item = sym item-is x; colour = c x },
+              past ∙ rw (at, ← mark, new, back.0, z, ← back.1, e),
+              λ x. record { item = sym item-is x; colour = back.1 x },
             )
 
 -- a step of the loop over the tokens
@@ -116,9 +152,3 @@ pub pushed : {A E : Type 0} (r : Result (Unit {0}) E) (old new : List A) (x : A)
     → new ≡ (if is_ok r then old ++ x ∷ [] else old) → new ≡ old ++ x ∷ []
 pushed (Ok y) old new x e f = f
 pushed (Err y) old new x e f = absurd (cc)
-
-pub at-none : {A : Type 0} (o : Option A) (N : Type 0) (P : A → Type 0) → o ≡ None → MatchOption o N P → N
-at-none o N P e m = subst (λ q. MatchOption q N P) e m
-
-pub at-some : {A : Type 0} (o : Option A) (x : A) (N : Type 0) (P : A → Type 0) → o ≡ Some x → MatchOption o N P → P x
-at-some o x N P e m = subst (λ q. MatchOption q N P) e m

@@ -1,22 +1,20 @@
 -- A token that begins with a known name is cut behind the name.
 use Rattle.std.proofs.lemmas.Bool.Decides.{nat_tests}
-use Rattle.std.proofs.Common.{◌≡◌, ℕ, ◌-◌, ◌<◌, List, [], ◌∷◌, ◌++◌, Option, None, Some, Bool, true, false, length}
+use Rattle.std.proofs.Common.{◌≡◌, ℕ, ◌-◌, ◌<◌, List, [], ◌∷◌, ◌++◌, Option, None, Some, true, false, length}
 use Rattle.std.proofs.Common.{get_or, take, drop, refl, ap, ap₂, ◌∙◌, sym, subst, arith, if◌then◌else◌, MatchOption}
-use Rattle.std.proofs.Common.{Bor, is_some, ◌&&◌}
+use Rattle.std.proofs.Common.{Bor}
 use Rattle.std.proofs.lemmas.List.{append-nil, take_all}
 use Rattle.std.specs.List.{list_any}
 use Rattle.xc_input.specs.Words.{has, before, after, place}
 use Rattle.xc_input.specs.Tokens.{is_space, tokens}
-use Rattle.xc_input.specs.declared.kind.Kind.{Kind}
 use Rattle.xc_input.specs.declared.tokens.Token.{Token}
-use Rattle.xc_input.specs.Faults.{is_plain}
 use Rattle.xc_input.specs.inner.Fronts.{drop_white, word, AtWhite}
 use Rattle.xc_input.specs.inner.CutTokens.{IsCutToken, IsCutBehind}
 use Rattle.xc_input.specs.inner.Builders.{AreNames}
 use Rattle.xc_input.proofs.GrammarLemmas.NoFault.{no-cut, cut-at}
 use Rattle.std.proofs.lemmas.Bool.{or_parts}
 use Rattle.xc_input.proofs.TokenLemmas.TableNames.{stored-name, stored-solid}
-use Rattle.xc_input.proofs.OptionLemmas.OneToken.{at-none, at-some}
+use Rattle.std.proofs.lemmas.Option.{MatchOption-at_none, MatchOption-at_some}
 use Rattle.xc_input.proofs.TokenLemmas.Bytes.{behind, cuts_first, take-word, drop-word}
 use Rattle.xc_input.proofs.TokenLemmas.Separators.{COLON}
 
@@ -56,7 +54,7 @@ cut-token names line rest name back others k t all e some whole at is stands cut
     by_colour : (c : Option (Bor (List ℕ))) → t.colour ≡ c → (text : List ℕ) × (tokens line ≡ text ∷ tokens others)
         × (length others < length line) × IsCutToken names text t
     by_colour None none =
-        let m = at-none t.colour _ _ none cut in
+        let m = MatchOption-at_none _ _ none cut in
         let white = at-white back m.0 in
         let first = first-token line rest name others e some
         (ap word whole ∙ word-onto name back solid ∙ ap (λ ys. name ++ ys) white.0 ∙ append-nil name)
@@ -76,7 +74,7 @@ cut-token names line rest name back others k t all e some whole at is stands cut
           },
         )
     by_colour (Some c) here =
-        let m = at-some t.colour c _ _ here cut in
+        let m = MatchOption-at_some _ _ c here cut in
         let more : List ℕ = m.0 in
         let text : List ℕ = name ++ COLON ∷ word more in
         let whole' : rest ≡ name ++ COLON ∷ more = whole ∙ ap (λ ys. name ++ ys) m.1 in
@@ -102,19 +100,3 @@ cut-token names line rest name back others k t all e some whole at is stands cut
 pub by-first : (xs : List ℕ) (b : ℕ) → 0 < length xs → get_or xs 0 0 ≡ b → xs ≡ b ∷ take (length xs - 1) (drop 1 xs)
 by-first [] b h e = absurd (omega (arith, h))
 by-first (x ∷ xs) b h e = ap₂ (λ y ys. y ∷ ys) e (sym (take_all (length (x ∷ xs) - 1) xs (omega arith)))
-
-module _ (names : List (List ℕ)) (text : List ℕ) (t : Token) (cut : IsCutToken names text t) where
-  pub has-colour : is_some t.colour ≡ has COLON text
-  has-colour = by_colour t.colour refl
-    where
-      by_colour : (c : Option (Bor (List ℕ))) → t.colour ≡ c → is_some c ≡ has COLON text
-      by_colour None e = sym (at-none t.colour _ _ e cut.colour)
-      by_colour (Some c) e = sym (at-some t.colour c _ _ e cut.colour).0
-
-  -- whether it has a colour where none may have one, by a test of this
-  pub stray : (kind : Kind) (test b : Bool) → test ≡ (is_plain kind && is_some t.colour) → test ≡ b
-      → (is_plain kind && has COLON text) ≡ b
-  stray kind test b e is = ap (λ x. is_plain kind && x) (sym has-colour) ∙ sym e ∙ is
-
-  pub named-at : (at : Option ℕ) → t.place ≡ at → place names t.name.now ≡ at
-  named-at at e = ap (place names) cut.name ∙ sym cut.place ∙ e

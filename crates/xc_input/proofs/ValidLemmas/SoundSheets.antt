@@ -44,9 +44,9 @@ pub named-is : (items : List Item) (primary : ℕ) (options : List (List Use)) (
 named-is items primary options colours = grind (arith, nat_tests, item-names, item-bounds, length-map)
 
 -- THE ITEM LINE
-pub primaries-within : (kind : Kind) (ps : List (List ℕ)) (es : List Entry) (n : ℕ) → AreItems kind [] ps es n
+pub primaries-within : {kind : Kind} {ps : List (List ℕ)} {es : List Entry} {n : ℕ} → AreItems kind [] ps es n
     → n ≤ length es
-primaries-within kind ps es n h = omega (arith, h.count, ap length h.all, length-append h.first h.others)
+primaries-within h = omega (arith, h.count, ap length h.all, length-append h.first h.others)
 
 -- the elements of a list whose images these are
 each-of : {X Y : Type 0} (P : Y → Type 0) (f : X → Y) (xs : List X) → AllByRecursion P (map f xs)
@@ -59,9 +59,9 @@ optional kind token e (n, inl h) = λ i. record { low = h.1 i; high = h.2 i }
 optional kind token e (n, inr h) = let f : true ≡ false = h.2 in absurd (cc)
 
 -- the items behind the primary ones
-pub behind-bounds : (kind : Kind) (ps : List (List ℕ)) (items : List Item) (n : ℕ)
+pub behind-bounds : {kind : Kind} {ps : List (List ℕ)} (items : List Item) {n : ℕ}
     → AreItems kind [] ps (map entry_of items) n → All IsOptional (drop n items)
-behind-bounds kind ps items n h =
+behind-bounds {kind} {ps} items {n} h =
     let count : n ≡ length h.first = omega (arith, h.count) in
     let same : h.others ≡ map entry_of (drop n items) = sym (drop-append_seam h.first h.others)
     ∙ (λ i. drop (sym count i) (sym h.all i)) ∙ drop-map entry_of n items in

@@ -1,45 +1,37 @@
-use Rattle.std.proofs.Common.{◌∙◌, sym}
+use Rattle.std.proofs.Common.{sym}
 use Rattle.std.proofs.lemmas.Bool.{not-true, not-false}
 use Rattle.xc_input.proofs.LineLemmas.Finish.{refuses, no-items, unstarted, accepts, alone, is-sound, readable}
 use Rattle.xc_input.proofs.reader.Reader.finish.Goals as goal
 
 pub returns-in-Some-clause-refused : goal.returns-in-Some-clause-refused
-returns-in-Some-clause-refused c =
-    refuses _ c.self.inside.kind c.self.inside.given.lines c.self.inside.error (sym c.self.view_is) c.self.invariant.1
-    c.in-Some.e c.in-Some.is
+returns-in-Some-clause-refused c = refuses (sym c.self.view_is) c.self.invariant.1 c.in-Some.e c.in-Some.is
 
 pub returns-then-not-builder-clause-refused : goal.returns-then-not-builder-clause-refused
 returns-then-not-builder-clause-refused c =
-    λ u. unstarted _ c.self.inside.kind c.self.inside.given.lines c.self.inside.error (sym c.self.view_is)
-    c.self.invariant.1 c.in_default.is c.self.inside.builder c.self.invariant.2 (not-true _ c.if-not-builder.true)
+    λ u. unstarted (sym c.self.view_is) c.self.invariant.1 c.in_default.is _ c.self.invariant.2
+    (not-true _ c.if-not-builder.true)
 
 pub returns-then-not-builder-clause-first : goal.returns-then-not-builder-clause-first
-returns-then-not-builder-clause-first c = no-items _ c.self.inside.kind c.self.inside.given.lines c.self.inside.error
-    (sym c.self.view_is) c.self.invariant.1 c.in_default.is c.self.inside.builder c.self.invariant.2
+returns-then-not-builder-clause-first c =
+    no-items (sym c.self.view_is) c.self.invariant.1 c.in_default.is _ c.self.invariant.2
     (not-true _ c.if-not-builder.true) _ _ c.self.invariant.0 c.saturating_add.ensures
 
 pub finish-requires : goal.finish-requires
 finish-requires c =
-    readable _ c.self.inside.kind c.self.inside.given.lines c.self.inside.error (sym c.self.view_is)
-    c.self.invariant.1 c.in_default.is c.self.inside.builder c.self.invariant.2 c.self.invariant.3
-    (not-false _ c.if-not-builder.false)
+    readable (sym c.self.view_is) c.self.invariant.1 c.in_default.is _ c.self.invariant.2
+    (not-false _ c.if-not-builder.false) c.self.invariant.3
 
 pub returns-clause-accepted : goal.returns-clause-accepted
 returns-clause-accepted c =
-    rw (c.finish.ensures.problem, c.finish.ensures.ignored) (accepts _ c.self.inside.kind
-    c.self.inside.given.lines c.self.inside.error (sym c.self.view_is) c.self.invariant.1 c.in_default.is
-    c.self.inside.builder c.self.invariant.2
-    (not-false _ c.if-not-builder.false))
+    rw (c.finish.ensures.problem, c.finish.ensures.ignored) (accepts (sym c.self.view_is) c.self.invariant.1
+    c.in_default.is _ c.self.invariant.2 (not-false _ c.if-not-builder.false))
 
 pub returns-clause-only : goal.returns-clause-only
-returns-clause-only c = λ p ig s. let q =
-    alone _ c.self.inside.kind c.self.inside.given.lines c.self.inside.error (sym c.self.view_is)
-    c.self.invariant.1 c.in_default.is c.self.inside.builder c.self.invariant.2 p ig s in
-    (q.0 ∙ sym c.finish.ensures.problem, q.1 ∙ sym c.finish.ensures.ignored)
+returns-clause-only c =
+    rw (c.finish.ensures.problem, c.finish.ensures.ignored) (alone (sym c.self.view_is) c.self.invariant.1
+    c.in_default.is _ c.self.invariant.2)
 
 pub returns-clause-valid : goal.returns-clause-valid
 returns-clause-valid c =
-    rw c.finish.ensures.problem (is-sound _ c.self.inside.kind c.self.inside.given.lines
-    c.self.inside.error (sym c.self.view_is) c.self.invariant.1 c.in_default.is c.self.inside.builder
-    c.self.invariant.2 c.self.invariant.3
-    (not-false _ c.if-not-builder.false))
+    rw c.finish.ensures.problem (is-sound (sym c.self.view_is) c.self.invariant.1 c.in_default.is _
+    c.self.invariant.2 (not-false _ c.if-not-builder.false) c.self.invariant.3)
