@@ -1,6 +1,6 @@
 -- Checks in their order, as `add_item`, `item_line` and `option_line` come to them.
 use Rattle.std.proofs.Common.{◌≡◌, ℕ, ◌+◌, ◌<◌, ◌≤◌, List, [], ◌∷◌, ◌++◌, Option, None, Some, Bool, true, false}
-use Rattle.std.proofs.Common.{nat_lt, is_none, is_some, length, map, position, refl, ap, ◌∙◌, sym, subst}
+use Rattle.std.proofs.Common.{not, nat_lt, is_none, is_some, length, map, position, refl, ap, ◌∙◌, sym, subst}
 use Rattle.std.proofs.Common.{arith, if◌then◌else◌, Result, Ok, Err, Vec, Global, vec_len}
 use Rattle.std.proofs.lemmas.Bool.Decides.{nat_tests}
 use Rattle.std.specs.List.{list_any, position_or_len}
@@ -36,10 +36,10 @@ some-is None e = absurd (cc)
 some-is (Some x) e = (x, refl)
 
 -- the answer that a caller hands on
-pub hands-on : (S T : Type 0) (a : Option FaultKind) (p q : List (FaultKind × Bool)) (e : LineError)
-    → a ≡ first (p ++ q) → Judged {T = S} (first p) (Err e) → Judged {T = T} a (Err e)
-hands-on S T a p q (Fault k) f h = f ∙ first-front p q k h
-hands-on S T a p q Memory f h = tt
+pub hands-on : (a : Option FaultKind) (p q : List (FaultKind × Bool)) (e : LineError) → a ≡ first (p ++ q)
+    → Judged {T = Unit {0}} (first p) (Err e) → Judged {T = Unit {0}} a (Err e)
+hands-on a p q (Fault k) f h = f ∙ first-front p q k h
+hands-on a p q Memory f h = tt
 
 pub OnOk-map : {T E : Type 0} (r : Result T E) (A B : Type 0) → OnOk r A → (A → B) → OnOk r B
 OnOk-map (Ok x) A B h f = f h
@@ -52,50 +52,43 @@ pub names_of-length : (es : List Entry) → length (names_of es) ≡ length es
 names_of-length es = length-map es (λ e. e.name)
 
 -- a token of the item line, behind these entries
-module _ (kind : Kind) (entries : List Entry) (bar : Option ℕ) (sec : Bool) (token : List ℕ)
-    (s : sec ≡ is_some bar) where
-  pub bad-bound : (k : FaultKind) → first (bound_checks kind sec token) ≡ Some k
-      → first (item_checks kind (names_of entries) (is_some bar) token) ≡ Some k
-  bad-bound k e =
-      first-front (bound_checks kind (is_some bar) token) (alone (names_of entries) (name_of kind token)) k
-      (ap (λ b. first (bound_checks kind b token)) (sym s) ∙ e)
-
-  module _ (name : List ℕ) (low high : ℕ)
-      (t : (first (bound_checks kind sec token) ≡ None)
-      × (record { name = name; low = low; high = high } ≡ entry kind sec token)) where
-    behind : first (item_checks kind (names_of entries) (is_some bar) token) ≡ first (alone (names_of entries) name)
-    behind =
-        first-back (bound_checks kind (is_some bar) token) (alone (names_of entries) (name_of kind token))
-        (ap (λ b. first (bound_checks kind b token)) (sym s) ∙ t.0)
-        ∙ ap (λ (e : Entry). first (alone (names_of entries) e.name)) (sym t.1)
-
-    pub bad-name : (o : Option FaultKind) (k : FaultKind) → o ≡ first (name_checks name) → o ≡ Some k
+module _ (kind : Kind) (entries : List Entry) (bar : Option ℕ) (token : List ℕ) {sec : Bool} (s : sec ≡ is_some bar)
+  where
+    pub bad-bound : {k : FaultKind} → first (bound_checks kind sec token) ≡ Some k
         → first (item_checks kind (names_of entries) (is_some bar) token) ≡ Some k
-    bad-name o k f e = behind
-        ∙ first-front (name_checks name) (behind_name (names_of entries) name) k (sym f ∙ e)
+    bad-bound {k} e =
+        first-front (bound_checks kind (is_some bar) token) (alone (names_of entries) (name_of kind token)) k
+        (ap (λ b. first (bound_checks kind b token)) (sym s) ∙ e)
 
-    module _ (o : Option FaultKind) (f : o ≡ first (name_checks name)) (e : o ≡ None) (keys : List (List ℕ))
-        (link : keys ≡ names_of entries) (at : Option ℕ) (is : at ≡ place keys name) where
-      past : first (item_checks kind (names_of entries) (is_some bar) token) ≡ first
-          (behind_name (names_of entries) name)
-      past = behind ∙ past-name (names_of entries) name (sym f ∙ e)
+    module _ {name : List ℕ} {low high : ℕ} (t : (first (bound_checks kind sec token) ≡ None)
+        × (record { name = name; low = low; high = high } ≡ entry kind sec token)) where
+      behind : first (item_checks kind (names_of entries) (is_some bar) token) ≡ first (alone (names_of entries) name)
+      behind =
+          first-back (bound_checks kind (is_some bar) token) (alone (names_of entries) (name_of kind token))
+          (ap (λ b. first (bound_checks kind b token)) (sym s) ∙ t.0)
+          ∙ ap (λ (e : Entry). first (alone (names_of entries) e.name)) (sym t.1)
 
-      new : (b : Bool) → b ≡ is_some at → b ≡ false → place (names_of entries) name ≡ None
-      new b g h = ap (λ ns. place ns name) (sym link) ∙ sym is ∙ none-is at (sym g ∙ h)
+      module _ {o : Option FaultKind} (f : o ≡ first (name_checks name)) where
+        pub bad-name : {k : FaultKind} → o ≡ Some k
+            → first (item_checks kind (names_of entries) (is_some bar) token) ≡ Some k
+        bad-name {k} e = behind ∙ first-front (name_checks name) (behind_name (names_of entries) name) k (sym f ∙ e)
 
-      pub too-many : (b : Bool) (n : ℕ) → b ≡ is_some at → b ≡ false → n ≡ length entries → 100000 ≤ n
-          → first (item_checks kind (names_of entries) (is_some bar) token) ≡ Some TooManyItems
-      too-many b n g h l m =
-          let c = names_of-length entries in
-          let d : nat_lt (length (names_of entries)) most_items ≡ false = grind (arith, nat_tests) in
-          past ∙ rw (new b g h, d)
+        module _ (e : o ≡ None) {keys : List (List ℕ)} (link : keys ≡ names_of entries) {at : Option ℕ}
+            (is : at ≡ place keys name) {b : Bool} (g : b ≡ is_some at) (h : b ≡ false) {n : ℕ} (l : n ≡ length entries)
+          where
+            count : length (names_of entries) ≡ n
+            count = names_of-length entries ∙ sym l
 
-      pub no-fault : (b : Bool) (n : ℕ) → b ≡ is_some at → b ≡ false → n ≡ length entries → n < 100000
-          → first (item_checks kind (names_of entries) (is_some bar) token) ≡ None
-      no-fault b n g h l m =
-          let c = names_of-length entries in
-          let d : nat_lt (length (names_of entries)) most_items ≡ true = grind (arith, nat_tests) in
-          past ∙ rw (new b g h, d)
+            past : first (item_checks kind (names_of entries) (is_some bar) token)
+                ≡ first ((TooManyItems, not (nat_lt n most_items)) ∷ [])
+            past = behind ∙ past-name (names_of entries) name (sym f ∙ e)
+                ∙ rw (sym (ap (λ ns. place ns name) link) ∙ sym is ∙ none-is at (sym g ∙ h), count)
+
+            pub too-many : 100000 ≤ n → first (item_checks kind (names_of entries) (is_some bar) token) ≡ Some TooManyItems
+            too-many m = let full : nat_lt n most_items ≡ false = grind (arith, nat_tests) in past ∙ rw full
+
+            pub no-fault : n < 100000 → first (item_checks kind (names_of entries) (is_some bar) token) ≡ None
+            no-fault m = let room : nat_lt n most_items ≡ true = grind (arith, nat_tests) in past ∙ rw room
 
 found : {A : Type 0} (p : A → Bool) (xs : List A) → list_any p xs ≡ true → position_or_len p xs < length xs
 found p [] f = absurd (cc)
@@ -123,13 +116,13 @@ pub judged-on : (T : Type 0) (a : Option FaultKind) (r : Result T LineError) →
 judged-on T a r e j = subst (λ f. Judged f r) (sym e) j
 
 -- one item more
-pub grown : (kind : Kind) (bar : Option ℕ) (sec : Bool) (token : List ℕ) → sec ≡ is_some bar
-    → (P : List (List ℕ) → Type 0) (keys keys' : List (List ℕ)) (items items' : List Item) (e : Entry)
+pub grown : (kind : Kind) (bar : Option ℕ) (token : List ℕ) {sec : Bool} → sec ≡ is_some bar
+    → (P : List (List ℕ) → Type 0) {keys keys' : List (List ℕ)} (items items' : List Item) {e : Entry}
     → e ≡ entry kind sec token → (keys ≡ names_of (map entry_of items)) × (length items ≤ most_items) × P keys
     → P keys' → keys' ≡ keys ++ e.name ∷ [] → length items < 100000 → map entry_of items' ≡ map entry_of items ++ e ∷ []
     → ((keys' ≡ names_of (map entry_of items')) × (length items' ≤ most_items) × P keys')
     × (map entry_of items' ≡ map entry_of items ++ entry kind (is_some bar) token ∷ [])
-grown kind bar sec token s P keys keys' items items' e is n p k m all =
+grown kind bar token s P items items' {e} is n p k m all =
     let l : length items' ≡ length items + 1 =
     sym (length-map items' entry_of) ∙ ap length all ∙ grind (arith, common_steps, length-map items entry_of) in (
       (
@@ -142,17 +135,17 @@ grown kind bar sec token s P keys keys' items items' e is n p k m all =
     )
 
 -- a step of the loop over the parts
-pub row-step : (kind : Kind) (row next : Row) (line : List (List ℕ)) (part : List ℕ) (parts : List (List ℕ))
-    (a : Option FaultKind) (b : Row) → a ≡ first (row_checks kind row line) → b ≡ row_of kind row line
+pub row-step : (kind : Kind) (row : Row) {next : Row} {line : List (List ℕ)} {part : List ℕ} {parts : List (List ℕ)}
+    {a : Option FaultKind} {b : Row} → a ≡ first (row_checks kind row line) → b ≡ row_of kind row line
     → line ≡ part ∷ parts → first (part_checks kind row part) ≡ None → next ≡ with_part kind row part
     → (a ≡ first (row_checks kind next parts)) × (b ≡ row_of kind next parts)
-row-step kind row next line part parts a b e f l g h = grind (arith, nat_tests, first-back)
+row-step kind row {next} {line} {part} {parts} {a} {b} e f l g h = grind (arith, nat_tests, first-back)
 
-pub row-stop : (S T : Type 0) (kind : Kind) (row : Row) (line : List (List ℕ)) (part : List ℕ) (parts : List (List ℕ))
-    (a : Option FaultKind) (e : LineError) → a ≡ first (row_checks kind row line)
-    → line ≡ part ∷ parts → Judged {T = S} (first (part_checks kind row part)) (Err e) → Judged {T = T} a (Err e)
-row-stop S T kind row line part parts a e f l j =
-    hands-on S T a (part_checks kind row part) (row_checks kind (with_part kind row part) parts) e
+pub row-stop : (kind : Kind) (row : Row) {line : List (List ℕ)} {part : List ℕ} {parts : List (List ℕ)}
+    (a : Option FaultKind) (e : LineError) → a ≡ first (row_checks kind row line) → line ≡ part ∷ parts
+    → Judged {T = Unit {0}} (first (part_checks kind row part)) (Err e) → Judged {T = Unit {0}} a (Err e)
+row-stop kind row {part} {parts} a e f l j =
+    hands-on a (part_checks kind row part) (row_checks kind (with_part kind row part) parts) e
     (f ∙ ap (λ ps. first (row_checks kind row ps)) l) j
 
 pub last-place : {A : Type 0} (p : A → Bool) (xs : List A) → list_any p xs ≡ false → position_or_len p xs ≡ length xs
@@ -173,8 +166,9 @@ items-length v = grind (arith, common_steps)
 pub length-items : (v : Vec Item Global) → vec_len v ≡ length (map entry_of v.items)
 length-items v = items-length v ∙ sym (length-map v.items entry_of)
 
-pub IsErr-judged : (T S : Type 0) (a : Option FaultKind) (r : Result T LineError) (e : LineError)
-    (P : LineError → Type 0) → IsErrAnd r P → ((x : LineError) → P x → x ≡ e) → Judged {T = S} a (Err e) → Judged a r
-IsErr-judged T S a (Ok x) e P h f j = absurd h
-IsErr-judged T S a (Err (Fault k)) e P h f j = subst (λ d. Judged {T = S} a (Err d)) (sym (f (Fault k) h)) j
-IsErr-judged T S a (Err Memory) e P h f j = tt
+-- the answer to an error that is handed on
+pub err-judged : {T : Type 0} (a : Option FaultKind) (r : Result T LineError) (e : LineError)
+    → IsErrAnd r (λ x. x ≡ e) → Judged {T = Unit {0}} a (Err e) → Judged a r
+err-judged a (Ok x) e h j = absurd h
+err-judged a (Err (Fault k)) e h j = subst (λ d. Judged {T = Unit {0}} a (Err d)) (sym h) j
+err-judged a (Err Memory) e h j = tt

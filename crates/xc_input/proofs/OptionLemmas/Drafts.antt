@@ -24,6 +24,7 @@ use Rattle.xc_input.specs.inner.Stages.{option_checks, context, written, content
 use Rattle.xc_input.specs.inner.Stages.{with_option, written_by}
 use Rattle.xc_input.specs.Limits.{most_uses}
 use Rattle.xc_input.specs.inner.Builders.{AreMarks, AreDistinct, IsBuilder, stage_of_builder}
+use Rattle.xc_input.specs.inner.Vectors.{AreOptionStarts}
 use Rattle.xc_input.specs.inner.Builders.{sheet_of_builder}
 use Rattle.xc_input.specs.inner.Stored.{key_names}
 use Rattle.xc_input.specs.inner.Flat.{pieces}
@@ -41,33 +42,7 @@ new-number old new [] n h e f g = absurd (omega arith)
 new-number old new (b ∷ bs) n h e f g =
     grind (arith, nat_tests, last-position (bytes_eq (b ∷ bs)) old (b ∷ bs) e, bytes_eq-Decides (b ∷ bs) (b ∷ bs))
 
-pub uses-length : (old new : List Use) (cs : List (List ℕ)) (us : List Written) → new ≡ old ++ numbered cs us
-    → length new ≡ length old + length us
-uses-length old new cs us e =
-    ap length e ∙ length-append old (numbered cs us) ∙ ap (λ n. length old + n) (numbered-length cs us)
-
--- of the uses behind so many others
-pub late-primary : (primary : ℕ) (old new : List Use) (cs : List (List ℕ)) (us : List Written) (all : List Use) (n : ℕ)
-    (b : Bool) → b ≡ list_any (λ u. nat_le u.item primary) (take (length all - n) (drop n all))
-    → all ≡ new → n ≡ length old → new ≡ old ++ numbered cs us → b ≡ has_primary primary us
-late-primary primary old new cs us all n b e f g h =
-    let late : take (length all - n) (drop n all) ≡ numbered cs us = take_rest all n ∙ ap (drop n) (f ∙ h)
-    ∙ ap (λ k. drop k (old ++ numbered cs us)) g ∙ drop-append_seam old (numbered cs us) in
-    e ∙ ap (list_any (λ u. nat_le u.item primary)) late ∙ primary-numbered primary (with_uses cs us) us
-
--- the uses and colours of before, behind which others were added
-pub uses-before : (old new left : List Use) (cs : List (List ℕ)) (us : List Written) (n : ℕ) → left ≡ take n new
-    → n ≡ length old → new ≡ old ++ numbered cs us → left ≡ old
-uses-before old new left cs us n e f g = e ∙ (λ i. take (f i) (g i)) ∙ take-append_seam old (numbered cs us)
-
-pub colours-before : (old new left : List (Vec ℕ Global)) (us : List Written) (n : ℕ) → left ≡ take n new
-    → n ≡ length old → key_names new ≡ with_uses (key_names old) us → key_names left ≡ key_names old
-colours-before old new left us n e f g =
-    let m : n ≡ length (key_names old) = f ∙ sym (length-map old (λ v. v.items)) in
-    ap key_names e ∙ sym (take-map (λ (v : Vec ℕ Global). v.items) n new) ∙ (λ i. take (m i) (g i))
-    ∙ first_met (key_names old) us
-
-module _ (kind : Kind) (d : ProblemBuilder) (line : List ℕ) (s : IsBuilder d) (t : d.started ≡ true) where
+module _ (kind : Kind) {d : ProblemBuilder} (line : List ℕ) (s : IsBuilder d) (t : d.started ≡ true) where
   abbrev us : List Written
   us = map (written (key_names d.names.keys)) (tokens line)
 
@@ -82,113 +57,115 @@ module _ (kind : Kind) (d : ProblemBuilder) (line : List ℕ) (s : IsBuilder d) 
   by-parts : written_by (sheet_of_builder d) line ≡ us
   by-parts = ap (λ ns. map (written ns) (tokens line)) (sym s.names)
 
-  module _ (b : Bool) (p : b ≡ has_primary d.primary us) where
+  -- the uses with those of the line, and the test whether one of these is primary
+  module _ {new all : List Use} {start : ℕ} {b : Bool}
+      (uses : new ≡ d.uses.items ++ numbered (key_names d.colours.keys) us)
+      (p : b ≡ list_any (λ u. nat_le u.item d.primary) (take (length all - start) (drop start all))) (e : all ≡ new)
+      (f : start ≡ length d.uses.items) where
+    long : length new ≡ length d.uses.items + length us
+    long = ap length uses ∙ length-append d.uses.items (numbered (key_names d.colours.keys) us)
+        ∙ ap (λ n. length d.uses.items + n) (numbered-length (key_names d.colours.keys) us)
+
+    late : take (length all - start) (drop start all) ≡ numbered (key_names d.colours.keys) us
+    late = take_rest all start ∙ (λ i. drop (f i) ((e ∙ uses) i))
+        ∙ drop-append_seam d.uses.items (numbered (key_names d.colours.keys) us)
+
     kept : has_primary d.primary (written_by (sheet_of_builder d) line) ≡ b
-    kept = ap (has_primary d.primary) by-parts ∙ sym p
+    kept = ap (has_primary d.primary) by-parts ∙ sym (primary-numbered d.primary _ us)
+        ∙ ap (list_any (λ u. nat_le u.item d.primary)) (sym late) ∙ sym p
 
     module _ (ok : first checks ≡ None) where
       whole-line : first (content_checks kind (stage_of_builder d) line)
           ≡ first (whole_checks (sheet_of_builder d) line)
       whole-line = content-is ∙ first-back checks (whole_checks (sheet_of_builder d) line) ok
 
-      count : use_count (pieces d.starts.items d.uses.items) + length (tokens line) ≡ length d.uses.items + length us
-      count = omega (
-        arith,
-        all-uses d.starts.items d.uses.items (s.starts t),
-        length-map (tokens line) (written (key_names d.names.keys)),
-      )
-
       pub no-primary : b ≡ false → first (content_checks kind (stage_of_builder d) line) ≡ None
       no-primary e = whole-line ∙ rw (kept, e)
 
-      pub too-long : b ≡ true → most_uses < length d.uses.items + length us
-          → first (content_checks kind (stage_of_builder d) line) ≡ Some TooManyUses
-      too-long e h =
-          let z : nat_lt most_uses (length d.uses.items + length us) ≡ true = grind (arith, nat_tests) in
-          whole-line ∙ rw (kept, count, e, z)
+      module _ {n : ℕ} (l : n ≡ length new) where
+        count : use_count (pieces d.starts.items d.uses.items) + length (tokens line) ≡ n
+        count = omega (
+          arith,
+          all-uses d.starts.items d.uses.items (s.starts t),
+          length-map (tokens line) (written (key_names d.names.keys)),
+          long,
+          l,
+        )
 
-      pub fits : length d.uses.items + length us ≤ most_uses
-          → first (content_checks kind (stage_of_builder d) line) ≡ None
-      fits h =
-          let z : nat_lt most_uses (length d.uses.items + length us) ≡ false = grind (arith, nat_tests) in
-          whole-line ∙ rw (kept, count, z, and-false b)
+        pub too-long : b ≡ true → most_uses < n → first (content_checks kind (stage_of_builder d) line) ≡ Some TooManyUses
+        too-long e h = let full : nat_lt most_uses n ≡ true = grind (arith, nat_tests) in
+            whole-line ∙ rw (kept, count, e, full)
+
+        pub fits : n ≤ most_uses → first (content_checks kind (stage_of_builder d) line) ≡ None
+        fits h = let room : nat_lt most_uses n ≡ false = grind (arith, nat_tests) in
+            whole-line ∙ rw (kept, count, room, and-false b)
 
     -- the line of this number was taken
     abbrev IsTaken : ℕ → ProblemBuilder → Type 0
     IsTaken count d' = IsBuilder d'
         × (stage_of_builder d' ≡ with_option count (stage_of_builder d) (written_by (sheet_of_builder d) line))
 
-    module _ (count : ℕ) (d' : ProblemBuilder) (marks : length d'.marks.items ≡ length d.items.items)
-        (unmarked : AreMarks d'.marks.items []) where
-      pub taken : b ≡ true
-          → d' ≡ record d {
-            marks = d'.marks;
-            colours = d'.colours;
-            colour_guesses = d'.colour_guesses;
-            uses = d'.uses;
-            starts = d'.starts;
-          }
-          → d'.uses.items ≡ d.uses.items ++ numbered (key_names d.colours.keys) us
-          → key_names d'.colours.keys ≡ with_uses (key_names d.colours.keys) us
+    -- and the colours with those of the line, and the marks when they are taken away
+    module _ (count : ℕ) (d' : ProblemBuilder) (same : d' ≡ record d {
+      marks = d'.marks;
+      colours = d'.colours;
+      colour_guesses = d'.colour_guesses;
+      uses = d'.uses;
+      starts = d'.starts;
+      ignored = d'.ignored;
+    }) (met : List (Vec ℕ Global)) (colours : key_names met ≡ with_uses (key_names d.colours.keys) us)
+        {marks : List Bool} (back : d'.marks.items ≡ marks) (all_marks : length marks ≡ length d.items.items)
+        (unmarked : AreMarks marks []) where
+      sound : AreOptionStarts d'.starts.items d'.uses.items → length d'.uses.items ≤ most_uses
           → length (key_names d'.colours.keys) ≤ length d'.uses.items → AreDistinct (key_names d'.colours.keys)
-          → d'.starts.items ≡ d.starts.items ++ length d'.uses.items ∷ []
-          → length d.uses.items + length us ≤ most_uses → IsTaken count d'
-      taken e same uses colours few distinct starts room =
+          → IsBuilder d'
+      sound starts few_uses few_colours distinct = subst IsBuilder (sym same) (record {
+        names = s.names;
+        named = s.named;
+        few_items = s.few_items;
+        starts = λ _. starts;
+        unstarted = λ f. absurd (cc);
+        few_uses = few_uses;
+        marks = ap length back ∙ all_marks;
+        unmarked = rw back unmarked;
+        few_colours = few_colours;
+        distinct_colours = distinct;
+        words = s.words;
+      })
+
+      pub taken : b ≡ true → d'.uses.items ≡ new → d'.colours.keys ≡ met → d'.ignored.items ≡ d.ignored.items
+          → length (key_names met) ≤ length new → AreDistinct (key_names met) → length new ≤ most_uses → {n : ℕ}
+          → n ≡ length new → d'.starts.items ≡ d.starts.items ++ n ∷ [] → IsTaken count d'
+      taken e all keys ignored few distinct room {n} l starts =
           let cs = key_names d.colours.keys in
-          let cut = option-more d.starts.items d.uses.items (numbered cs us) (length (d.uses.items ++ numbered cs us))
-          (s.starts t) (length-append d.uses.items (numbered cs us)) in
+          let cut = option-more d.starts.items d.uses.items (numbered cs us) n (s.starts t)
+          (l ∙ ap length uses ∙ length-append d.uses.items (numbered cs us)) in
           let options : pieces d'.starts.items d'.uses.items ≡ pieces d.starts.items d.uses.items
-          ++ numbered cs (written_by (sheet_of_builder d) line) ∷ [] = rw (starts, uses, by-parts) cut.1 in
-          let known = colours ∙ ap (with_uses cs) (sym by-parts) in
-          subst (IsTaken count) (sym same) (
-            record {
-              names = s.names;
-              named = s.named;
-              few_items = s.few_items;
-              starts = λ _. rw (starts, uses) cut.0;
-              unstarted = λ f. absurd (cc);
-              few_uses = omega (arith, room, uses-length d.uses.items d'.uses.items cs us uses);
-              marks = marks;
-              unmarked = unmarked;
-              few_colours = few;
-              distinct_colours = distinct;
-              words = s.words;
-            },
-            rw (kept, e) (λ i. record {
+          ++ numbered cs (written_by (sheet_of_builder d) line) ∷ [] = rw (starts, all, uses, by-parts) cut.1 in
+          let known = ap key_names keys ∙ colours ∙ ap (with_uses cs) (sym by-parts) in (
+            sound (rw (starts, all, uses) cut.0) (rw all room) (rw (keys, all) few) (rw keys distinct),
+            ap stage_of_builder same ∙ rw (kept, e) (λ i. record {
               started = t i;
               sheet = record (sheet_of_builder d) { options = options i; colours = known i };
-              ignored = d.ignored.items;
+              ignored = ignored i;
             }),
           )
 
-      pub left-out : b ≡ false
-          → d' ≡ record d {
-            marks = d'.marks;
-            colours = d'.colours;
-            colour_guesses = d'.colour_guesses;
-            uses = d'.uses;
-            ignored = d'.ignored;
-          }
-          → d'.uses.items ≡ d.uses.items → key_names d'.colours.keys ≡ key_names d.colours.keys
+      pub left-out : b ≡ false → d'.uses.items ≡ take start new → {m : ℕ} → d'.colours.keys ≡ take m met
+          → m ≡ length d.colours.keys → d'.starts.items ≡ d.starts.items
           → d'.ignored.items ≡ d.ignored.items ++ count ∷ [] → IsTaken count d'
-      left-out e same uses colours ignored =
-          subst (IsTaken count) (sym same) (
-            record {
-              names = s.names;
-              named = s.named;
-              few_items = s.few_items;
-              starts = λ _. rw uses (s.starts t);
-              unstarted = λ f. absurd (cc);
-              few_uses = rw uses s.few_uses;
-              marks = marks;
-              unmarked = unmarked;
-              few_colours = rw (uses, colours) s.few_colours;
-              distinct_colours = rw colours s.distinct_colours;
-              words = s.words;
-            },
-            rw (kept, e) (λ i. record {
+      left-out e cut {m} keys n starts ignored =
+          let old : d'.uses.items ≡ d.uses.items =
+          cut ∙ (λ i. take (f i) (uses i)) ∙ take-append_seam d.uses.items _ in
+          let before = n ∙ sym (length-map d.colours.keys (λ v. v.items)) in
+          let known : key_names d'.colours.keys ≡ key_names d.colours.keys = ap key_names keys
+          ∙ sym (take-map (λ (v : Vec ℕ Global). v.items) m met) ∙ (λ i. take (before i) (colours i))
+          ∙ first_met (key_names d.colours.keys) us in (
+            sound (rw (starts, old) (s.starts t)) (rw old s.few_uses) (rw (old, known) s.few_colours)
+                (rw known s.distinct_colours),
+            ap stage_of_builder same ∙ rw (kept, e) (λ i. record {
               started = t i;
-              sheet = record (sheet_of_builder d) { options = pieces d.starts.items (uses i); colours = colours i };
+              sheet = record (sheet_of_builder d) { options = pieces (starts i) (old i); colours = known i };
               ignored = ignored i;
             }),
           )

@@ -49,10 +49,10 @@ apart earlier x none k d within same =
     list_any_at (bytes_eq x) earlier k d within (ap (bytes_eq x) same ∙ (bytes_eq-Decides x x).1 refl) in
     true≢false (sym found ∙ missing)
 
-pub names-more : (old new : List (List ℕ)) (name : List ℕ) (fault : Option FaultKind) → AreNames old
+pub names-more : {old new : List (List ℕ)} (name : List ℕ) {fault : Option FaultKind} → AreNames old
     → new ≡ old ++ name ∷ [] → fault ≡ first (name_checks name) → fault ≡ None → place old name ≡ None
     → list_any is_space name ≡ false → AreNames new
-names-more old new name fault all e f g none solid = subst AreNames (sym e) (record {
+names-more {old} name all e f g none solid = subst AreNames (sym e) (record {
   named =
       All-append IsName old (name ∷ []) all.named
       (All-cons IsName name [] (name-good name (sym f ∙ g)) (All-nil IsName));
@@ -65,10 +65,10 @@ after-solid b [] h = h
 after-solid b (x ∷ xs) h = grind (arith, nat_tests, after-solid b xs, or_parts (is_space x) (list_any is_space xs) h)
 
 -- the name of a token
-pub name-solid : (kind : Kind) (secondary : Bool) (token name : List ℕ) (low high : ℕ)
+pub name-solid : (kind : Kind) (secondary : Bool) (token : List ℕ) {name : List ℕ} {low high : ℕ}
     → record { name = name; low = low; high = high } ≡ entry kind secondary token → list_any is_space token ≡ false
     → list_any is_space name ≡ false
-name-solid kind secondary token name low high e h = grind (arith, nat_tests, after-solid BAR token h)
+name-solid kind secondary token {name} e h = grind (arith, nat_tests, after-solid BAR token h)
 
 -- where no two names are the same, a name that was met at a place has no other
 pub distinct-place : (names : List (List ℕ)) (name : List ℕ) (k : ℕ) → AreDistinct names → slice_get names k ≡ Some name

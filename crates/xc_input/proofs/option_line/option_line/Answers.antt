@@ -5,7 +5,7 @@ use Rattle.xc_input.specs.declared.problem.Use.{Use}
 use Rattle.xc_input.specs.declared.line_error.LineError.TheVariants.{Fault}
 use Rattle.xc_input.specs.inner.Builders.{AreMarks, items_of, written_of}
 use Rattle.xc_input.specs.inner.Stored.{key_names}
-use Rattle.xc_input.proofs.FaultLemmas.Checks.{IsErr-judged, items-length}
+use Rattle.xc_input.proofs.FaultLemmas.Checks.{err-judged, items-length}
 use Rattle.xc_input.proofs.OptionLemmas.OneToken.{token-stop}
 use Rattle.xc_input.proofs.OptionSteps.{behind_none, behind_few, behind_more, all_added, late_marked}
 use Rattle.xc_input.proofs.option_line.option_line.Goals as goal
@@ -19,8 +19,7 @@ loop-token-init c =
 pub returns-in_err-written-clause-judged : goal.returns-in_err-written-clause-judged
 returns-in_err-written-clause-judged c =
     let b = c.loop-token.invariant in
-    IsErr-judged (Unit {0}) (Unit {0}) _ c.from_residual.result (Fault c.in_err-written.field-0.0) _
-    c.from_residual.ensures.1 (λ x p. p)
+    err-judged _ c.from_residual.result (Fault c.in_err-written.field-0.0) c.from_residual.ensures.1
     (token-stop c.args.kind (key_names c.args.names.now.keys) c.args.primary (items_of b.us) c.in-Some.ensures.0
     (tokens c.loop-token.rest.now) (tokens c.in-Some.others.now) _ _ b.decided c.in-Some.ensures.1
     (c.in_err-written.ensures.judged (key_names c.args.names.now.keys) c.in-Some.ensures.0 (items_of b.us)
