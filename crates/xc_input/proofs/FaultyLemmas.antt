@@ -29,37 +29,38 @@ pub record IsReadTo (cut : List ℕ → List (List ℕ)) (checks : List (List �
   pub order : cut line ≡ others ++ cut rest
   pub faultless : first (checks_of_each checks [] others) ≡ None
 
-module _ (cut : List ℕ → List (List ℕ)) (checks : List (List ℕ) → List ℕ → List (FaultKind × Bool)) where
-  first-each : (xs ys : List (List ℕ)) → first (checks_of_each checks [] xs) ≡ None
-      → first (checks_of_each checks [] (xs ++ ys)) ≡ first (checks_of_each checks xs ys)
-  first-each xs ys e = ap first (checks-append checks [] xs ys)
-      ∙ first-back (checks_of_each checks [] xs) (checks_of_each checks xs ys) e
+first-each : (checks : List (List ℕ) → List ℕ → List (FaultKind × Bool)) (xs ys : List (List ℕ))
+    → first (checks_of_each checks [] xs) ≡ None
+    → first (checks_of_each checks [] (xs ++ ys)) ≡ first (checks_of_each checks xs ys)
+first-each checks xs ys e = ap first (checks-append checks [] xs ys)
+    ∙ first-back (checks_of_each checks [] xs) (checks_of_each checks xs ys) e
 
-  pub read-start : (line : List ℕ) → IsReadTo cut checks line line []
-  read-start line = record { front = []; place = refl; order = refl; faultless = refl }
+-- before the first token
+pub read-start : {cut : List ℕ → List (List ℕ)} {checks : List (List ℕ) → List ℕ → List (FaultKind × Bool)}
+    (line : List ℕ) → IsReadTo cut checks line line []
+read-start line = record { front = []; place = refl; order = refl; faultless = refl }
 
+module _ {cut : List ℕ → List (List ℕ)} {checks : List (List ℕ) → List ℕ → List (FaultKind × Bool)} {line rest : List ℕ}
+    {others : List (List ℕ)} (r : IsReadTo cut checks line rest others) where
   -- the next token stands in the line too
-  pub read-stands : (line rest piece behind : List ℕ) (others : List (List ℕ)) → IsReadTo cut checks line rest others
-      → StandsBefore rest piece behind → StandsBefore line piece behind
-  read-stands line rest piece behind others r s =
+  pub read-stands : (piece behind : List ℕ) → StandsBefore rest piece behind → StandsBefore line piece behind
+  read-stands piece behind s =
       grind (arith, nat_tests, append_assoc r.front (s.0 ++ piece) behind, append_assoc r.front s.0 piece)
 
-  pub read-on : (line rest piece behind : List ℕ) (others : List (List ℕ)) → IsReadTo cut checks line rest others
-      → cut rest ≡ piece ∷ cut behind → StandsBefore rest piece behind → first (checks others piece) ≡ None
-      → IsReadTo cut checks line behind (others ++ piece ∷ [])
-  read-on line rest piece behind others r e s f =
-      let w : StandsBefore line piece behind = read-stands line rest piece behind others r s in record {
+  pub read-on : (behind : List ℕ) {piece : List ℕ} → cut rest ≡ piece ∷ cut behind → StandsBefore rest piece behind
+      → first (checks others piece) ≡ None → IsReadTo cut checks line behind (others ++ piece ∷ [])
+  read-on behind {piece} e s f =
+      let w = read-stands piece behind s in record {
         front = w.0 ++ piece;
         place = w.1;
         order = r.order ∙ ap (λ ps. others ++ ps) e ∙ sym (append_assoc others (piece ∷ []) (cut behind));
-        faultless = first-each others (piece ∷ []) r.faultless ∙ first-back (checks others piece) [] f;
+        faultless = first-each checks others (piece ∷ []) r.faultless ∙ first-back (checks others piece) [] f;
       }
 
-  pub read-stop : (line rest piece behind : List ℕ) (others : List (List ℕ)) (k : FaultKind) (t : FaultyToken)
-      → IsReadTo cut checks line rest others → cut rest ≡ piece ∷ cut behind → first (checks others piece) ≡ Some k
-      → line ≡ t.before.now ++ piece ++ behind → t.token.now ≡ piece → t.behind.now ≡ behind → t.kind ≡ k
-      → IsAtFault cut checks line t
-  read-stop line rest piece behind others k t r e f place token back kind = record {
+  pub read-stop : (behind : List ℕ) {piece : List ℕ} {k : FaultKind} (t : FaultyToken) → cut rest ≡ piece ∷ cut behind
+      → first (checks others piece) ≡ Some k → line ≡ t.before.now ++ piece ++ behind → t.token.now ≡ piece
+      → t.behind.now ≡ behind → t.kind ≡ k → IsAtFault cut checks line t
+  read-stop behind t e f place token back kind = record {
     others = others;
     place = place ∙ (λ i. t.before.now ++ sym token i ++ sym back i);
     order = r.order ∙ ap (λ ps. others ++ ps) e ∙ (λ i. others ++ sym token i ∷ cut (sym back i));
@@ -67,9 +68,8 @@ module _ (cut : List ℕ → List (List ℕ)) (checks : List (List ℕ) → List
     fault = ap (λ x. first (checks others x)) token ∙ f ∙ ap (λ x. Some x) (sym kind);
   }
 
-  pub read-end : (line rest : List ℕ) (others : List (List ℕ)) → IsReadTo cut checks line rest others
-      → cut rest ≡ [] → (t : FaultyToken) → IsAtFault cut checks line t → ⊥
-  read-end line rest others r e t h = grind (arith, nat_tests, append-nil, first-each, first-front)
+  pub read-end : cut rest ≡ [] → (t : FaultyToken) → IsAtFault cut checks line t → ⊥
+  read-end e t h = grind (arith, nat_tests, append-nil, first-each, first-front)
 
 -- there are as many names as items
 pub keys-length : (i : ItemLine) → IsItemTable i → length i.names.keys ≡ length i.items.items
@@ -77,12 +77,12 @@ keys-length i t = sym (length-map i.names.keys (λ v. v.items)) ∙ ap length t.
     ∙ names_of-length (map entry_of i.items.items) ∙ length-map i.items.items entry_of
 
 -- what is told of the one is told of the other, where both say the same
-pub tells-same : {A : Type 0} (P Q : A → Type 0) (o : Option A) → ((x : A) → P x → Q x) → ((x : A) → Q x → P x)
+pub tells-same : {A : Type 0} {P Q : A → Type 0} (o : Option A) → ((x : A) → P x → Q x) → ((x : A) → Q x → P x)
     → Tells P o → Tells Q o
-tells-same P Q None f g h = λ x q. h x (g x q)
-tells-same P Q (Some x) f g h = f x h
+tells-same None f g h = λ x q. h x (g x q)
+tells-same (Some x) f g h = f x h
 
-pub ok-tells-same : {A E : Type 0} (P Q : A → Type 0) (r : Result (Option A) E) → ((x : A) → P x → Q x)
+pub ok-tells-same : {A E : Type 0} {P Q : A → Type 0} (r : Result (Option A) E) → ((x : A) → P x → Q x)
     → ((x : A) → Q x → P x) → IfOk r (Tells P) → IfOk r (Tells Q)
-ok-tells-same P Q (Ok o) f g h = tells-same P Q o f g h
-ok-tells-same P Q (Err e) f g h = h
+ok-tells-same (Ok o) f g h = tells-same o f g h
+ok-tells-same (Err e) f g h = h

@@ -96,14 +96,14 @@ pub record IsRowOf (kind : Kind) (row : Row) (others : List (List ℕ)) : Type 0
 pub no-row : (kind : Kind) → IsRowOf kind no_row []
 no-row kind = record { names = refl; barred = refl }
 
-pub row-checks : (kind : Kind) (row : Row) (others : List (List ℕ)) (part : List ℕ) → IsRowOf kind row others
+pub row-checks : {kind : Kind} {row : Row} {others : List (List ℕ)} (part : List ℕ) → IsRowOf kind row others
     → row_part_checks kind row part ≡ part_checks kind others part
-row-checks kind row others part r =
+row-checks {kind} part r =
     λ i. if is_bar part then (TwoBars, r.barred i) ∷ [] else item_checks kind (r.names i) (r.barred i) part
 
-pub row-more : (kind : Kind) (row : Row) (others : List (List ℕ)) (part : List ℕ) → IsRowOf kind row others
+pub row-more : {kind : Kind} {row : Row} {others : List (List ℕ)} (part : List ℕ) → IsRowOf kind row others
     → IsRowOf kind (with_part kind row part) (others ++ part ∷ [])
-row-more kind row others part r = by-part kind row.entries row.bar part (λ w. IsRowOf kind w (others ++ part ∷ []))
+row-more {kind} {row} {others} part r = by-part kind row.entries row.bar part (λ w. IsRowOf kind w (others ++ part ∷ []))
     (λ f. record {
       names = r.names ∙ sym (append-nil (item_names kind others)) ∙ sym (names-snoc kind others part true f);
       barred = or-true (list_any is_bar others) ∙ sym (barred-snoc others part true f);
@@ -114,19 +114,16 @@ row-more kind row others part r = by-part kind row.entries row.bar part (λ w. I
       barred = r.barred ∙ or-same (list_any is_bar others) ∙ sym (barred-snoc others part false f);
     })
 
-pub parts-checked : (kind : Kind) (row : Row) (before ps : List (List ℕ)) → IsRowOf kind row before
+pub parts-checked : {kind : Kind} (ps : List (List ℕ)) {row : Row} {before : List (List ℕ)} → IsRowOf kind row before
     → row_checks kind row ps ≡ checks_of_each (part_checks kind) before ps
-parts-checked kind row before [] r = refl
-parts-checked kind row before (p ∷ ps) r =
-    λ i. row-checks kind row before p r i
-    ++ parts-checked kind (with_part kind row p) (before ++ p ∷ []) ps (row-more kind row before p r) i
+parts-checked [] r = refl
+parts-checked (p ∷ ps) r = λ i. row-checks p r i ++ parts-checked ps (row-more p r) i
 
-row-names : (kind : Kind) (row : Row) (before ps : List (List ℕ)) → IsRowOf kind row before
+row-names : {kind : Kind} (ps : List (List ℕ)) {row : Row} {before : List (List ℕ)} → IsRowOf kind row before
     → names_of (row_of kind row ps).entries ≡ item_names kind (before ++ ps)
-row-names kind row before [] r = r.names ∙ ap (item_names kind) (sym (append-nil before))
-row-names kind row before (p ∷ ps) r =
-    row-names kind (with_part kind row p) (before ++ p ∷ []) ps (row-more kind row before p r)
-    ∙ ap (item_names kind) (append_assoc before (p ∷ []) ps)
+row-names {kind} [] {before = before} r = r.names ∙ ap (item_names kind) (sym (append-nil before))
+row-names {kind} (p ∷ ps) {before = before} r =
+    row-names ps (row-more p r) ∙ ap (item_names kind) (append_assoc before (p ∷ []) ps)
 
 -- what an item line without a fault says
 pub context-is : (kind : Kind) (ps : List (List ℕ)) → first (row_checks kind no_row ps) ≡ None
@@ -135,7 +132,7 @@ context-is kind ps e =
     let items = row-good kind [] ps (omega arith) e in
     let count : length (before_first is_bar ps) ≡ P (row_of kind no_row ps) =
     omega (arith, items.count, AllZip-long (IsEntry kind false) (before_first is_bar ps) items.first items.primary) in
-    λ i. context kind (sym (row-names kind no_row [] ps (no-row kind)) i) (count i)
+    λ i. context kind (sym (row-names ps (no-row kind)) i) (count i)
 
 -- CONTENT
 length-snoc : {A : Type 0} (n : ℕ) (xs : List A) (x : A) → n ≡ length xs → n + 1 ≡ length (xs ++ x ∷ [])
@@ -204,7 +201,7 @@ start-is kind n before [] hn hb = refl
 start-is kind n before (line ∷ lines) hn hb =
     let same : first (stage_checks kind no_stage line) ≡ first (checks_of kind (content before) line) =
     ap (λ cs. first ((NulByte, has 0 line) ∷ (if is_skipped line then [] else cs)))
-    (parts-checked kind no_row [] (parts line) (no-row kind) ∙ ap (λ d. content_checks kind d line) (sym hb)) in
+    (parts-checked (parts line) (no-row kind) ∙ ap (λ d. content_checks kind d line) (sym hb)) in
     let next = λ (e : first (stage_checks kind no_stage line) ≡ None).
     by-first-line kind (line_number (n + 1)) line
     (λ st. fault_from kind (n + 1) st lines ≡ fault_behind kind (before ++ line ∷ []) lines)

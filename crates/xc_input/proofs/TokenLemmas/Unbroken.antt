@@ -50,9 +50,9 @@ lack-all p [] h = tt
 lack-all p (t ∷ ts) h = each-append _ (split_bars t) (flat_map split_bars ts) (lack-bars p t h.0) (lack-all p ts h.1)
 
 -- a part of a line
-pub part-solid : (line part : List ℕ) (others : List (List ℕ)) → parts line ≡ part ∷ others
+pub part-solid : (line : List ℕ) {part : List ℕ} {others : List (List ℕ)} → parts line ≡ part ∷ others
     → list_any is_space part ≡ false
-part-solid line part others e = (subst (AllLack is_space) e (lack-all is_space (tokens line) (lack-spaces line))).0
+part-solid line e = (subst (AllLack is_space) e (lack-all is_space (tokens line) (lack-spaces line))).0
 
 -- TOKENS AND PARTS OF A LINE WITHOUT A NUL BYTE AND A LINE FEED
 all-unbroken : (xs : List (List ℕ)) → AllLack is_space xs → AllLack (λ x. nat_eq x 0) xs → AllLack (λ x. nat_eq x 10) xs

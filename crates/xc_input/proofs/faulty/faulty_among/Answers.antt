@@ -1,7 +1,6 @@
-use Rattle.std.proofs.Common.{◌≡◌, ◌-◌, ◌++◌, ◌∷◌, [], map, set, sym, ap, ◌∙◌, subst, true, length-set}
+use Rattle.std.proofs.Common.{◌-◌, ◌++◌, ◌∷◌, [], map, set, sym, ap, ◌∙◌, subst, true, length-set}
 use Rattle.std.proofs.lemmas.List.{length-map}
-use Rattle.xc_input.specs.Tokens.{tokens}
-use Rattle.xc_input.specs.Faults.{token_checks, item_of}
+use Rattle.xc_input.specs.Faults.{item_of}
 use Rattle.xc_input.specs.Sheets.{Written}
 use Rattle.xc_input.specs.inner.Stages.{context}
 use Rattle.xc_input.specs.inner.Stored.{key_names}
@@ -12,45 +11,33 @@ use Rattle.xc_input.proofs.OptionLemmas.Marks.{mark}
 use Rattle.xc_input.proofs.faulty.faulty_among.Goals as goal
 
 pub cut_out-requires : goal.cut_out-requires
-cut_out-requires c =
-    let known = context c.args.kind (key_names c.args.names.now.keys) c.args.primary in
-    read-stands tokens (token_checks known) c.args.line.now c.loop-token.rest.now c.in-Some.token.now
-    c.in-Some.others.now c.loop-token.invariant.1 c.loop-token.invariant.3 c.in-Some.ensures.2
+cut_out-requires c = read-stands c.loop-token.invariant.3 _ _ c.in-Some.ensures.2
 
 pub returns-in-Err : goal.returns-in-Err
 returns-in-Err c =
-    let known = context c.args.kind (key_names c.args.names.now.keys) c.args.primary in
-    let others = c.loop-token.invariant.1 in
-    read-stop tokens (token_checks known) c.args.line.now c.loop-token.rest.now c.in-Some.token.now c.in-Some.others.now
-    others c.in-Err.fault c.cut_out.result c.loop-token.invariant.3 c.in-Some.ensures.0
-    (c.in-Err.ensures.judged (key_names c.args.names.now.keys) c.in-Some.token.now (map (item_of known) others)
-    c.requires.named.named (c.loop-token.invariant.0 ∙ sym (length-map c.args.names.now.keys _)) c.looked_up.ensures
-    c.loop-token.invariant.2)
+    read-stop c.loop-token.invariant.3 _ c.cut_out.result c.in-Some.ensures.0
+    (c.in-Err.ensures.judged (key_names c.args.names.now.keys) c.in-Some.token.now _ c.requires.named.named
+    (c.loop-token.invariant.0 ∙ sym (length-map c.args.names.now.keys _)) c.looked_up.ensures c.loop-token.invariant.2)
     c.cut_out.ensures.place c.cut_out.ensures.token c.cut_out.ensures.behind c.cut_out.ensures.kind
 
 pub loop-token-preserved : goal.loop-token-preserved
 loop-token-preserved c =
     let known = context c.args.kind (key_names c.args.names.now.keys) c.args.primary in
     let others = c.loop-token.invariant.1 in
-    let token = c.in-Some.token.now in
     let seen = map (item_of known) others in
     let judged =
-    c.in-Ok.ensures.judged (key_names c.args.names.now.keys) token seen c.requires.named.named
+    c.in-Ok.ensures.judged (key_names c.args.names.now.keys) c.in-Some.token.now seen c.requires.named.named
     (c.loop-token.invariant.0 ∙ sym (length-map c.args.names.now.keys _)) c.looked_up.ensures
     c.loop-token.invariant.2 in
-    let same : seen ++ c.in-Ok.written.item ∷ [] ≡ map (item_of known) (others ++ token ∷ []) =
-    ap (λ (w : Written). seen ++ w.item ∷ []) judged.1 ∙ sym (map-snoc (item_of known) others token) in (
+    let same = ap (λ (w : Written). seen ++ w.item ∷ []) judged.1
+    ∙ sym (map-snoc (item_of known) others c.in-Some.token.now) in (
       length-set c.loop-token.marks (c.in-Ok.written.item - 1) true ∙ c.loop-token.invariant.0,
-      others ++ token ∷ [],
+      others ++ c.in-Some.token.now ∷ [],
       subst (AreMarks (set c.loop-token.marks (c.in-Ok.written.item - 1) true)) same
           (mark c.loop-token.marks seen c.in-Ok.written.item c.loop-token.invariant.2 c.in-Ok.ensures.within.0
           c.in-Ok.ensures.within.1),
-      read-on tokens (token_checks known) c.args.line.now c.loop-token.rest.now token c.in-Some.others.now others
-          c.loop-token.invariant.3 c.in-Some.ensures.0 c.in-Some.ensures.2 judged.0,
+      read-on c.loop-token.invariant.3 _ c.in-Some.ensures.0 c.in-Some.ensures.2 judged.0,
     )
 
 pub returns : goal.returns
-returns c =
-    let known = context c.args.kind (key_names c.args.names.now.keys) c.args.primary in
-    read-end tokens (token_checks known) c.args.line.now c.loop-token.rest.now c.loop-token.invariant.1
-    c.loop-token.invariant.3 c.in_default.ensures
+returns c = read-end c.loop-token.invariant.3 c.in_default.ensures

@@ -1,10 +1,8 @@
-use Rattle.std.proofs.Common.{◌++◌, ◌∷◌, [], refl, sym, ap, ◌∙◌, subst}
-use Rattle.xc_input.specs.Tokens.{parts}
-use Rattle.xc_input.specs.Faults.{first, part_checks}
+use Rattle.std.proofs.Common.{◌++◌, ◌∷◌, [], sym, ap, ◌∙◌, subst}
+use Rattle.xc_input.specs.Faults.{first}
 use Rattle.xc_input.specs.inner.Stages.{Row}
-use Rattle.xc_input.specs.inner.Builders.{row_of_line}
 use Rattle.xc_input.proofs.FaultyLemmas.{read-start, read-stands, read-on, read-stop, read-end}
-use Rattle.xc_input.proofs.FaultLemmas.FirstFaults.{IsRowOf, row-checks}
+use Rattle.xc_input.proofs.FaultLemmas.FirstFaults.{IsRowOf, row-checks, no-row}
 use Rattle.xc_input.proofs.FaultLemmas.FirstFaults.{row-more}
 use Rattle.xc_input.proofs.TokenLemmas.Unbroken.{part-solid}
 use Rattle.xc_input.proofs.faulty.faulty_behind.Goals as goal
@@ -13,46 +11,34 @@ pub loop-part-init : goal.loop-part-init
 loop-part-init c = (
   c.requires.table,
   [],
-  subst (λ (row : Row). IsRowOf c.args.kind row []) (sym c.requires.none)
-      (record { names = refl; barred = refl }),
-  read-start parts (part_checks c.args.kind) c.args.line.now,
+  subst (λ (row : Row). IsRowOf c.args.kind row []) (sym c.requires.none) (no-row c.args.kind),
+  read-start c.args.line.now,
 )
 
 pub add-requires-clause-solid : goal.add-requires-clause-solid
-add-requires-clause-solid c =
-    part-solid c.loop-part.rest.now c.in-Some.part.now (parts c.in-Some.others.now) c.in-Some.ensures.0
+add-requires-clause-solid c = part-solid c.loop-part.rest.now c.in-Some.ensures.0
 
 pub cut_out-requires : goal.cut_out-requires
-cut_out-requires c =
-    read-stands parts (part_checks c.args.kind) c.args.line.now c.loop-part.rest.now c.in-Some.part.now
-    c.in-Some.others.now c.loop-part.invariant.1 c.loop-part.invariant.3 c.in-Some.ensures.2
+cut_out-requires c = read-stands c.loop-part.invariant.3 _ _ c.in-Some.ensures.2
 
 pub returns-in-Err-Fault : goal.returns-in-Err-Fault
 returns-in-Err-Fault c =
-    let others = c.loop-part.invariant.1 in
-    read-stop parts (part_checks c.args.kind) c.args.line.now c.loop-part.rest.now c.in-Some.part.now
-    c.in-Some.others.now others c.in-Err-Fault.fault c.cut_out.result c.loop-part.invariant.3 c.in-Some.ensures.0
-    (ap first (sym (row-checks c.args.kind (row_of_line c.loop-part.items) others c.in-Some.part.now
-    c.loop-part.invariant.2))
+    read-stop c.loop-part.invariant.3 _ c.cut_out.result c.in-Some.ensures.0
+    (ap first (sym (row-checks c.in-Some.part.now c.loop-part.invariant.2))
     ∙ (rw c.in-Err-Fault.field-0-is at c.in-Err-Fault.ensures.judged))
     c.cut_out.ensures.place c.cut_out.ensures.token c.cut_out.ensures.behind
     (cc (c.cut_out.ensures.kind, c.in-Err-Fault.fault-is))
 
 pub loop-part-preserved : goal.loop-part-preserved
 loop-part-preserved c =
-    let others = c.loop-part.invariant.1 in
-    let part = c.in-Some.part.now in (
+    let others = c.loop-part.invariant.1 ++ c.in-Some.part.now ∷ [] in (
       c.in-Ok.ensures.added.0,
-      others ++ part ∷ [],
-      subst (λ (row : Row). IsRowOf c.args.kind row (others ++ part ∷ [])) (sym c.in-Ok.ensures.added.1)
-          (row-more c.args.kind (row_of_line c.loop-part.items) others part c.loop-part.invariant.2),
-      read-on parts (part_checks c.args.kind) c.args.line.now c.loop-part.rest.now part c.in-Some.others.now others
-          c.loop-part.invariant.3 c.in-Some.ensures.0 c.in-Some.ensures.2
-          (ap first (sym (row-checks c.args.kind (row_of_line c.loop-part.items) others part c.loop-part.invariant.2))
-          ∙ c.in-Ok.ensures.judged),
+      others,
+      subst (λ (row : Row). IsRowOf c.args.kind row others) (sym c.in-Ok.ensures.added.1)
+          (row-more c.in-Some.part.now c.loop-part.invariant.2),
+      read-on c.loop-part.invariant.3 _ c.in-Some.ensures.0 c.in-Some.ensures.2
+          (ap first (sym (row-checks c.in-Some.part.now c.loop-part.invariant.2)) ∙ c.in-Ok.ensures.judged),
     )
 
 pub returns : goal.returns
-returns c =
-    read-end parts (part_checks c.args.kind) c.args.line.now c.loop-part.rest.now c.loop-part.invariant.1
-    c.loop-part.invariant.3 c.in_default.ensures
+returns c = read-end c.loop-part.invariant.3 c.in_default.ensures
