@@ -11,6 +11,13 @@ use Rattle.xc_input.specs.inner.Stages.{context}
 use Rattle.xc_input.specs.Named.{Named}
 use Rattle.xc_input.specs.Text.{IsEntry, IsUse, IsOptionLine, StandsFor}
 
+-- what holds of each and its other
+zip-weaker : {X Y : Type 0} {R Q : X → Y → Type 0} → ((x : X) (y : Y) → R x y → Q x y) → (xs : List X) (ys : List Y)
+    → AllZip R xs ys → AllZip Q xs ys
+zip-weaker f [] [] z = tt
+zip-weaker f (x ∷ xs) (y ∷ ys) z = (f x y z.0, zip-weaker f xs ys z.1)
+zip-weaker f xs ys z = absurd z
+
 -- b allows what a allows
 module _ (a b : Kind) (bounds : is_bounds a ≡ true → is_bounds b ≡ true)
     (colours : is_plain a ≡ false → is_plain b ≡ false) where
@@ -21,10 +28,7 @@ module _ (a b : Kind) (bounds : is_bounds a ≡ true → is_bounds b ≡ true)
 
   entries-also : (secondary : Bool) (ps : List (List ℕ)) (es : List Entry) → AllZip (IsEntry a secondary) ps es
       → AllZip (IsEntry b secondary) ps es
-  entries-also secondary [] [] h = h
-  entries-also secondary [] (e ∷ es) h = absurd h
-  entries-also secondary (p ∷ ps) [] h = absurd h
-  entries-also secondary (p ∷ ps) (e ∷ es) h = (entry-also secondary p e h.0, entries-also secondary ps es h.1)
+  entries-also secondary = zip-weaker (entry-also secondary)
 
   use-also : (names : List (List ℕ)) (primaries : ℕ) (token : List ℕ) (u : Written)
       → IsUse (context a names primaries) token u → IsUse (context b names primaries) token u
@@ -33,20 +37,12 @@ module _ (a b : Kind) (bounds : is_bounds a ≡ true → is_bounds b ≡ true)
 
   uses-also : (names : List (List ℕ)) (primaries : ℕ) (ts : List (List ℕ)) (us : List Written)
       → AllZip (IsUse (context a names primaries)) ts us → AllZip (IsUse (context b names primaries)) ts us
-  uses-also names primaries [] [] h = h
-  uses-also names primaries [] (u ∷ us) h = absurd h
-  uses-also names primaries (t ∷ ts) [] h = absurd h
-  uses-also names primaries (t ∷ ts) (u ∷ us) h =
-      (use-also names primaries t u h.0, uses-also names primaries ts us h.1)
+  uses-also names primaries = zip-weaker (use-also names primaries)
 
   lines-also : (names : List (List ℕ)) (primaries : ℕ) (ls : List (ℕ × List ℕ)) (ws : List (ℕ × List Written))
       → AllZip (IsOptionLine (context a names primaries)) ls ws
       → AllZip (IsOptionLine (context b names primaries)) ls ws
-  lines-also names primaries [] [] h = h
-  lines-also names primaries [] (w ∷ ws) h = absurd h
-  lines-also names primaries (l ∷ ls) [] h = absurd h
-  lines-also names primaries (l ∷ ls) (w ∷ ws) h =
-      ((h.0.0, uses-also names primaries (tokens l.1) w.1 h.0.1, h.0.2), lines-also names primaries ls ws h.1)
+  lines-also names primaries = zip-weaker (λ l w h. (h.0, uses-also names primaries (tokens l.1) w.1 h.1, h.2))
 
   pub stands-also : (lines : List (List ℕ)) (named : Named) (ignored : List ℕ) → StandsFor a lines named ignored
       → StandsFor b lines named ignored

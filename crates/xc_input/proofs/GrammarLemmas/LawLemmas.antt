@@ -181,14 +181,13 @@ good-others : (kind : Kind) (es : List Entry) (n : ℕ) (ps : List (List ℕ)) (
     → (first (row_checks kind (R es (Some n)) ps) ≡ None)
     × (row_of kind (R es (Some n)) ps ≡ R (es ++ xs) (Some n))
 good-others kind es n [] [] z f m = (refl, ap (λ es. R es (Some n)) (sym (append-nil es)))
-good-others kind es n [] (x ∷ xs) z f m = absurd z
-good-others kind es n (p ∷ ps) [] z f m = absurd z
 good-others kind es n (p ∷ ps) (x ∷ xs) z f m =
     let s = word-step kind es (Some n) p x (no-bar kind p x z.0) z.0 f.0 (omega (arith, m)) in
     let r = good-others kind (es ++ x ∷ []) n ps xs z.1 (new-names es xs x f.1)
     (omega (arith, m, length-append es (x ∷ []))) in
     let o = go-on kind (R es (Some n)) (R (es ++ x ∷ []) (Some n)) p ps s.0 s.1 r.0 in
     (o.0, o.1 ∙ r.1 ∙ ap (λ es. R es (Some n)) (append_assoc es (x ∷ []) xs))
+good-others kind es n ps xs z f m = absurd z
 
 pub good-row : (kind : Kind) (es : List Entry) (ps : List (List ℕ)) (xs ys : List Entry)
     → AllZip (IsEntry kind false) (before_first is_bar ps) xs → AllZip (IsEntry kind true) (after_first is_bar ps) ys
@@ -279,8 +278,6 @@ uses-good c seen (t ∷ ts) e =
 pub good-uses : (c : Context) (seen : List ℕ) (ts : List (List ℕ)) (us : List Written) → AllZip (IsUse c) ts us
     → AreFresh seen us → (us ≡ map (written c.names) ts) × (first (option_checks c seen ts) ≡ None)
 good-uses c seen [] [] z f = (refl, refl)
-good-uses c seen [] (u ∷ us) z f = absurd z
-good-uses c seen (t ∷ ts) [] z f = absurd z
 good-uses c seen (t ∷ ts) (u ∷ us) z f =
     let g = good-use c.kind c.names c.primaries seen t u z.0 f.0 in
     let r = good-uses c (seen ++ u.item ∷ []) ts us z.1 f.1 in (
@@ -288,6 +285,7 @@ good-uses c seen (t ∷ ts) (u ∷ us) z f =
       first-all (token_checks c seen t) (option_checks c (seen ++ (written c.names t).item ∷ []) ts) g.1
           (ap (λ (v : Written). first (option_checks c (seen ++ v.item ∷ []) ts)) (sym g.0) ∙ r.1),
     )
+good-uses c seen ts us z f = absurd z
 
 -- THE LINES
 -- behind the item line

@@ -40,12 +40,11 @@ module _ (kind : Kind) (sheet : Sheet) where
       → (ws ≡ written_in sheet ls)
       × AllByRecursion (λ l. first (option_checks (said kind sheet) [] (tokens l.1)) ≡ None) ls
   lines-good [] [] z = (refl, tt)
-  lines-good [] (w ∷ ws) z = absurd z
-  lines-good (l ∷ ls) [] z = absurd z
   lines-good (l ∷ ls) (w ∷ ws) z =
       let v = good-uses (said kind sheet) [] (tokens l.1) w.1 z.0.1 (fresh-uses w.1 z.0.2) in
       let rest = lines-good ls ws z.1 in
       ((λ i. (z.0.0 i, v.0 i) ∷ rest.0 i), (v.1, rest.1))
+  lines-good ls ws z = absurd z
 
 -- THE ITEM LINE
 abbrev bounds_in : List Entry → List Bounds

@@ -5,7 +5,7 @@ use Rattle.std.proofs.Common.{get_or, sum_by, All, Some, refl, sym, ap, ap₂, �
 use Rattle.std.proofs.Common.{length-drop}
 use Rattle.std.proofs.lemmas.Option.{slice_get-map as slice_get-mapped, slice_get-get_or}
 use Rattle.std.specs.Option.{option_map}
-use Rattle.std.proofs.lemmas.List.{length-map, take-append-le, drop-append-le, length-take-le, get_or-drop}
+use Rattle.std.proofs.lemmas.List.{take-append-le, drop-append-le, length-take-le, get_or-drop}
 use Rattle.std.proofs.lemmas.List.Sums.{sum_by-cons}
 use Rattle.std.proofs.Math.Seq.{drop-append_seam, take-length}
 use Rattle.std.proofs.lemmas.Grind.{get_or_default_zero}
@@ -15,17 +15,14 @@ use Rattle.xc_input.specs.inner.Flat.{pieces, AreStarts}
 use Rattle.xc_input.specs.Problem.{numbered_get, use_count}
 use Rattle.xc_input.specs.inner.Vectors.{AreOptionStarts}
 
-pub slice_get-map : {X Y : Type 0} (f : X → Y) (xs : List X) (i : ℕ) (d : X) → i < length xs
-    → slice_get (map f xs) i ≡ Some (f (get_or xs i d))
-slice_get-map f xs i d h = slice_get-mapped f xs i ∙ ap (option_map f) (slice_get-get_or xs i d h)
-
-pub slice_get-map-take : {X Y : Type 0} (f : X → Y) (n : ℕ) (xs : List X) (i : ℕ) (d : X) → i < n → i < length xs
-    → slice_get (map f (take n xs)) i ≡ Some (f (get_or xs i d))
-slice_get-map-take f zero xs i d h k = absurd (omega (arith, h))
-slice_get-map-take f (suc n) [] i d h k = absurd (omega (arith, k))
-slice_get-map-take f (suc n) (x ∷ xs) zero d h k = refl
-slice_get-map-take f (suc n) (x ∷ xs) (suc i) d h k =
-    slice_get-map-take f n xs i d (omega (arith, h)) (omega (arith, k))
+-- the image of an element by its number
+pub numbered-map : {X Y : Type 0} (f : X → Y) (xs : List X) (i : ℕ) (d : X) → 1 ≤ i → i ≤ length xs
+    → numbered_get (map f xs) i ≡ Some (f (get_or xs (i - 1) d))
+numbered-map f xs zero d l h = absurd (omega (arith, l))
+numbered-map f xs (suc k) d l h =
+    let place : suc k - 1 ≡ k = omega arith in
+    slice_get-mapped f xs k ∙ ap (option_map f) (slice_get-get_or xs k d (omega (arith, h)))
+    ∙ ap (λ j. Some (f (get_or xs j d))) (sym place)
 
 pub length-pieces : {X : Type 0} (starts : List ℕ) (us : List X) → AreStarts starts (length us)
     → length (pieces starts us) + 1 ≡ length starts
@@ -53,9 +50,6 @@ piece_at (a ∷ b ∷ starts) us (suc k) h = piece_at (b ∷ starts) us k (omega
 pub numbered_get-at : {X : Type 0} (xs : List X) (i k : ℕ) → i ≡ k + 1 → numbered_get xs i ≡ slice_get xs k
 numbered_get-at xs zero k e = absurd (omega (arith, e))
 numbered_get-at xs (suc i) k e = let same : i ≡ k = omega (arith, e) in ap (slice_get xs) same
-
-pub length-map-take : {X Y : Type 0} (f : X → Y) (n : ℕ) (xs : List X) → n ≤ length xs → length (map f (take n xs)) ≡ n
-length-map-take f n xs h = length-map (take n xs) f ∙ length-take-le n xs h
 
 -- the part between two starts that were read
 pub part_range : (starts : List ℕ) (n k a b : ℕ) → AreStarts starts n → k + 1 < length starts → a ≡ get_or starts k 0

@@ -22,7 +22,7 @@ use Rattle.std.specs.Prelude.{All}
 use Rattle.xc_input.specs.declared.tokens.Token.{Token}
 use Rattle.xc_input.specs.inner.CutTokens.{IsCutToken}
 use Rattle.xc_input.specs.inner.Builders.{AreMarks}
-use Rattle.xc_input.proofs.TokenLemmas.TableNames.{stored-name}
+use Rattle.xc_input.proofs.TokenLemmas.TableNames.{stored}
 use Rattle.xc_input.proofs.OptionLemmas.Marks.{mark-at}
 use Rattle.std.proofs.lemmas.Option.{MatchOption-at_none, MatchOption-at_some}
 use Rattle.xc_input.proofs.TokenLemmas.Separators.{COLON}
@@ -82,7 +82,7 @@ module _ (kind : Kind) (primary : ℕ) (seen : List ℕ) {names : List (List ℕ
 
       past : judged ≡ first (past_name kind names primary seen text)
       past = past-name kind names primary seen text (stray-is false allowed)
-          (good-name (before COLON text) (stored-name names (before COLON text) k all at))
+          (good-name (before COLON text) (stored IsName names (before COLON text) k all at))
 
       pub repeated : get_or marks k false ≡ true → judged ≡ Some RepeatedInOption
       repeated e = past ∙ rw (at, ← mark, e)

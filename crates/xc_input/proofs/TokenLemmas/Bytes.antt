@@ -1,6 +1,7 @@
 -- Where a byte stands in a list.
-use Rattle.std.proofs.Common.{filter, zero, ◌^◌, ◌≡◌, ℕ, suc, ◌+◌, ◌-◌, ◌<◌, ◌≤◌, List, [], ◌∷◌, ◌++◌, None, Some}
-use Rattle.std.proofs.Common.{Bool, length, get_or, take, drop, refl, sym, ap, ◌∙◌, arith, subst, map, length-drop}
+use Rattle.std.proofs.lemmas.List.{length-append}
+use Rattle.std.proofs.Common.{filter, zero, ◌^◌, ◌≡◌, ℕ, suc, ◌+◌, ◌<◌, ◌≤◌, List, [], ◌∷◌, ◌++◌, None, Some}
+use Rattle.std.proofs.Common.{Bool, length, get_or, take, drop, refl, sym, ap, ◌∙◌, arith, map}
 use Rattle.std.proofs.Common.{nat_eq, position, not, nat_lt, append_assoc, if◌then◌else◌, true, false}
 use Rattle.std.proofs.Math.Nat.{pow-le-pow_right}
 use Rattle.std.specs.List.{position_or_len, list_all, onto_first, slice_split}
@@ -113,10 +114,6 @@ pub drop-word : (xs : List ℕ) → drop (length (word xs)) xs ≡ behind xs
 drop-word [] = refl
 drop-word (b ∷ bs) = grind (arith, common_steps, drop-word bs)
 
-pub drop_white-length : (xs : List ℕ) → length (drop_white xs) ≤ length xs
-drop_white-length [] = omega arith
-drop_white-length (b ∷ bs) = grind (arith, drop_white-length bs)
-
 -- leading white space stands before what is left behind it
 drop_white-front : (xs : List ℕ) → (front : List ℕ) × (xs ≡ front ++ drop_white xs)
 drop_white-front [] = ([], refl)
@@ -126,7 +123,7 @@ drop_white-front (b ∷ bs) =
     (elim (is_space b) as P [ true ↦ (b ∷ r.0, ap (λ ys. b ∷ ys) r.1) | false ↦ ([], refl) ])
 
 -- where a line is cut behind its leading white space, the front stands before the back
-pub cut-stands : (line rest front back : List ℕ) (n : ℕ) → rest ≡ drop_white line → front ≡ take n rest
+cut-stands : (line rest front back : List ℕ) (n : ℕ) → rest ≡ drop_white line → front ≡ take n rest
     → back ≡ drop n rest → StandsBefore line front back
 cut-stands line rest front back n e f g =
     let w = drop_white-front line in (
@@ -135,24 +132,30 @@ cut-stands line rest front back n e f g =
           ∙ sym (append_assoc w.0 front back),
     )
 
+-- what is left of such a line is shorter
+stands-shorter : (line front back : List ℕ) → 0 < length front → StandsBefore line front back
+    → length back < length line
+stands-shorter line front back some s = omega (arith, simp length-append at (ap length s.1))
+
+-- nothing behind leading white space is no token
+pub no-token : (line rest : List ℕ) → rest ≡ drop_white line → length rest ≡ 0 → tokens line ≡ []
+no-token line [] e h = sym (tokens-drop_white line) ∙ ap tokens (sym e)
+no-token line (b ∷ bs) e h = absurd (omega arith)
+
 -- cutting at the first white space behind leading white space gives the first token
-pub cuts_first : (line rest front back : List ℕ) → rest ≡ drop_white line → 0 < length rest
-    → front ≡ take (length (word rest)) rest → back ≡ drop (length (word rest)) rest
-    → (tokens line ≡ front ∷ tokens back) × (length back < length line)
-cuts_first line [] front back e h f g = absurd (omega arith)
-cuts_first line (b ∷ bs) front back e h f g =
+pub cuts_first : (line rest front back : List ℕ) (n : ℕ) → rest ≡ drop_white line → 0 < length rest
+    → n ≡ length (word rest) → front ≡ take n rest → back ≡ drop n rest
+    → (tokens line ≡ front ∷ tokens back) × (length back < length line) × StandsBefore line front back
+cuts_first line [] front back n e h w f g = absurd (omega arith)
+cuts_first line (b ∷ bs) front back n e h w f g =
     let dark : is_space b ≡ false = drop_white-first line b bs (sym e) in
-    let w : word (b ∷ bs) ≡ b ∷ word bs = ap (λ t. if t then [] else b ∷ word bs) dark in
-    let v : behind (b ∷ bs) ≡ behind bs = ap (λ t. if t then b ∷ bs else behind bs) dark in
-    let f' : front ≡ b ∷ word bs = f ∙ take-word (b ∷ bs) ∙ w in
-    let g' : back ≡ behind bs = g ∙ drop-word (b ∷ bs) ∙ v in
-    let n : length (word (b ∷ bs)) ≡ suc (length (word bs)) = ap length w in
-    let m : length back ≡ length (b ∷ bs) - length (word (b ∷ bs)) =
-    ap length g ∙ length-drop (length (word (b ∷ bs))) (b ∷ bs) in
-    let l : length (b ∷ bs) ≤ length line = subst (λ xs. length xs ≤ length line) (sym e) (drop_white-length line) in (
+    let front_is : front ≡ b ∷ word bs = f ∙ ap (λ k. take k (b ∷ bs)) w ∙ take-word (b ∷ bs) ∙ rw dark in
+    let back_is : back ≡ behind bs = g ∙ ap (λ k. drop k (b ∷ bs)) w ∙ drop-word (b ∷ bs) ∙ rw dark in
+    let stands = cut-stands line (b ∷ bs) front back n e f g in (
       sym (tokens-drop_white line) ∙ ap tokens (sym e) ∙ tokens-first b bs dark
-          ∙ (λ i. sym f' i ∷ tokens (sym g' i)),
-      omega (arith, m, n, l),
+          ∙ (λ i. sym front_is i ∷ tokens (sym back_is i)),
+      stands-shorter line front back (omega (arith, ap length front_is)) stands,
+      stands,
     )
 
 -- behind a bar, the rest of its token and what follows are the parts of the bytes behind it
@@ -163,27 +166,30 @@ word-parts (c ∷ cs) = grind (arith, tokens-first c cs)
 -- cutting behind a bar gives the first part
 pub cuts_bar : (line rest front back : List ℕ) → rest ≡ drop_white line → 0 < length rest → get_or rest 0 0 ≡ BAR
     → front ≡ take 1 rest → back ≡ drop 1 rest
-    → (parts line ≡ front ∷ parts back) × (length back < length line)
+    → (parts line ≡ front ∷ parts back) × (length back < length line) × StandsBefore line front back
 cuts_bar line [] front back e h b f g = absurd (omega arith)
 cuts_bar line (b ∷ bs) front back e h is f g =
-    let dark : is_space b ≡ false = drop_white-first line b bs (sym e) in
-    let l : length (b ∷ bs) ≤ length line = subst (λ xs. length xs ≤ length line) (sym e) (drop_white-length line) in
-    let m : length back ≡ length bs = ap length g in
-    let all : parts line ≡ (BAR ∷ []) ∷ parts bs =
-    ap (flat_map split_bars) (sym (tokens-drop_white line) ∙ ap tokens (sym e) ∙ tokens-first b bs dark)
-    ∙ ap (λ x. split_bars (x ∷ word bs) ++ flat_map split_bars (tokens (behind bs))) is
-    ∙ ap (λ ps. (BAR ∷ []) ∷ ps) (word-parts bs) in
-    let f' : front ≡ BAR ∷ [] = f ∙ ap (λ x. x ∷ []) is in
-    (all ∙ (λ i. sym f' i ∷ parts (sym g i)), omega arith)
+    let first = sym (tokens-drop_white line) ∙ ap tokens (sym e)
+    ∙ tokens-first b bs (drop_white-first line b bs (sym e)) in
+    let front_is : front ≡ BAR ∷ [] = f ∙ ap (λ x. x ∷ []) is in
+    let stands = cut-stands line (b ∷ bs) front back 1 e f g in (
+      ap (flat_map split_bars) first
+          ∙ ap (λ x. split_bars (x ∷ word bs) ++ flat_map split_bars (tokens (behind bs))) is
+          ∙ ap (λ ps. (BAR ∷ []) ∷ ps) (word-parts bs) ∙ (λ i. sym front_is i ∷ parts (sym g i)),
+      stands-shorter line front back (omega (arith, ap length front_is)) stands,
+      stands,
+    )
 
 -- cutting at white space gives the first part, where it is no bar
-pub cuts_part : (line rest front back : List ℕ) → rest ≡ drop_white line → 0 < length rest
-    → nat_eq (get_or rest 0 0) BAR ≡ false → front ≡ take (length (word rest)) rest
-    → back ≡ drop (length (word rest)) rest
-    → (parts line ≡ front ∷ parts back) × (length back < length line)
-cuts_part line [] front back e h n f g = absurd (omega arith)
-cuts_part line (b ∷ bs) front back e h n f g =
-    grind (arith, nat_tests, drop_white-first line b bs (sym e), cuts_first line (b ∷ bs) front back e h f g)
+pub cuts_part : (line rest front back : List ℕ) (n : ℕ) → rest ≡ drop_white line → 0 < length rest
+    → nat_eq (get_or rest 0 0) BAR ≡ false → n ≡ length (word rest) → front ≡ take n rest → back ≡ drop n rest
+    → (parts line ≡ front ∷ parts back) × (length back < length line) × StandsBefore line front back
+cuts_part line [] front back n e h bar w f g = absurd (omega arith)
+cuts_part line (b ∷ bs) front back n e h bar w f g =
+    let cut = cuts_first line (b ∷ bs) front back n e h w f g in
+    let first : parts line ≡ front ∷ parts back =
+    grind (arith, nat_tests, drop_white-first line b bs (sym e), cut.0) in
+    (first, cut.1, cut.2)
 
 pub below_pow : (n i : ℕ) → n < 10 ^ i → i ≤ 8 → n < 100000000
 below_pow n i h l = let p : 10 ^ i ≤ 10 ^ 8 = pow-le-pow_right {n = 10} (omega arith) l in omega arith

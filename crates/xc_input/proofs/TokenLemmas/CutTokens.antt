@@ -1,19 +1,20 @@
 -- A token that begins with a known name is cut behind the name.
 use Rattle.std.proofs.lemmas.Bool.Decides.{nat_tests}
-use Rattle.std.proofs.Common.{◌≡◌, ℕ, ◌-◌, ◌<◌, List, [], ◌∷◌, ◌++◌, Option, None, Some, true, false, length}
+use Rattle.std.proofs.Common.{◌≡◌, ℕ, ◌-◌, ◌<◌, List, [], ◌∷◌, ◌++◌, Option, None, Some, false, length}
 use Rattle.std.proofs.Common.{get_or, take, drop, refl, ap, ap₂, ◌∙◌, sym, subst, arith, if◌then◌else◌, MatchOption}
 use Rattle.std.proofs.Common.{Bor}
 use Rattle.std.proofs.lemmas.List.{append-nil, take_all}
 use Rattle.std.specs.List.{list_any}
-use Rattle.xc_input.specs.Words.{has, before, after, place}
+use Rattle.xc_input.specs.Words.{has, place}
 use Rattle.xc_input.specs.Tokens.{is_space, tokens}
 use Rattle.xc_input.specs.declared.tokens.Token.{Token}
 use Rattle.xc_input.specs.inner.Fronts.{drop_white, word, AtWhite}
-use Rattle.xc_input.specs.inner.CutTokens.{IsCutToken, IsCutBehind}
+use Rattle.xc_input.specs.inner.CutTokens.{IsCutBehind, StandsFirst}
 use Rattle.xc_input.specs.inner.Builders.{AreNames}
+use Rattle.xc_input.specs.Named.{IsName}
 use Rattle.xc_input.proofs.GrammarLemmas.NoFault.{no-cut, cut-at}
 use Rattle.std.proofs.lemmas.Bool.{or_parts}
-use Rattle.xc_input.proofs.TokenLemmas.TableNames.{stored-name, stored-solid}
+use Rattle.xc_input.proofs.TokenLemmas.TableNames.{stored}
 use Rattle.std.proofs.lemmas.Option.{MatchOption-at_none, MatchOption-at_some}
 use Rattle.xc_input.proofs.TokenLemmas.Bytes.{behind, cuts_first, take-word, drop-word}
 use Rattle.xc_input.proofs.TokenLemmas.Separators.{COLON}
@@ -33,66 +34,60 @@ at-white : (ys : List ℕ) → AtWhite ys → (word ys ≡ []) × (behind ys ≡
 at-white [] w = (refl, refl)
 at-white (b ∷ bs) w = (ap (λ t. if t then [] else b ∷ word bs) w, ap (λ t. if t then b ∷ bs else behind bs) w)
 
--- the first token of a line, by its text
-first-token : (line rest text others : List ℕ) → rest ≡ drop_white line → 0 < length rest → word rest ≡ text
-    → behind rest ≡ others → (tokens line ≡ text ∷ tokens others) × (length others < length line)
-first-token line rest text others e some w b =
-    cuts_first line rest text others e some (sym w ∙ sym (take-word rest)) (sym b ∙ sym (drop-word rest))
+told : {A : Type 0} {o : Option A} (N : Type 0) (P : A → Type 0) (x : A) → o ≡ Some x → P x → MatchOption o N P
+told N P x e h = subst (λ q. MatchOption q N P) (sym e) h
 
 pub cut-token : (names : List (List ℕ)) (line rest name back others : List ℕ) (k : ℕ) (t : Token) → AreNames names
     → rest ≡ drop_white line → 0 < length rest → rest ≡ name ++ back
     → place names name ≡ Some k → t.name.now ≡ name → t.place ≡ Some k → IsCutBehind back t others
-    → (text : List ℕ) × (tokens line ≡ text ∷ tokens others) × (length others < length line) × IsCutToken names text t
+    → StandsFirst names line t others
 cut-token names line rest name back others k t all e some whole at is stands cut = by_colour t.colour refl
   where
     solid : list_any is_space name ≡ false
-    solid = stored-solid names name k all at
+    solid = stored (λ n. list_any is_space n ≡ false) names name k all.solid at
 
     plain : has COLON name ≡ false
-    plain = (stored-name names name k all.named at).no_colon
+    plain = (stored IsName names name k all.named at).no_colon
 
-    by_colour : (c : Option (Bor (List ℕ))) → t.colour ≡ c → (text : List ℕ) × (tokens line ≡ text ∷ tokens others)
-        × (length others < length line) × IsCutToken names text t
+    -- the first token has this text
+    first : {text : List ℕ} → word rest ≡ text → behind rest ≡ others
+        → (tokens line ≡ text ∷ tokens others) × (length others < length line)
+    first w b =
+        let cut =
+        cuts_first line rest _ others _ e some refl (sym w ∙ sym (take-word rest)) (sym b ∙ sym (drop-word rest)) in
+        (cut.0, cut.1)
+
+    by_colour : (c : Option (Bor (List ℕ))) → t.colour ≡ c → StandsFirst names line t others
     by_colour None none =
         let m = MatchOption-at_none _ _ none cut in
         let white = at-white back m.0 in
-        let first = first-token line rest name others e some
-        (ap word whole ∙ word-onto name back solid ∙ ap (λ ys. name ++ ys) white.0 ∙ append-nil name)
+        let found =
+        first (ap word whole ∙ word-onto name back solid ∙ ap (λ ys. name ++ ys) white.0 ∙ append-nil name)
         (ap behind whole ∙ behind-onto name back solid ∙ white.1 ∙ sym m.1) in
-        let own : before COLON name ≡ name = no-cut COLON name plain in (
+        let own = no-cut COLON name plain in (
           name,
-          first.0,
-          first.1,
+          found.0,
+          found.1,
           record {
             name = is ∙ sym own;
             place = stands ∙ sym at ∙ ap (place names) (sym own);
-            colour =
-                subst
-                (λ q. MatchOption q (has COLON name ≡ false)
-                (λ c. (has COLON name ≡ true) × (c.now ≡ after COLON name)))
-                (sym none) plain;
+            colour = rw none plain;
           },
         )
     by_colour (Some c) here =
         let m = MatchOption-at_some _ _ c here cut in
         let more : List ℕ = m.0 in
-        let text : List ℕ = name ++ COLON ∷ word more in
-        let whole' : rest ≡ name ++ COLON ∷ more = whole ∙ ap (λ ys. name ++ ys) m.1 in
-        let first = first-token line rest text others e some
-        (ap word whole' ∙ word-onto name (COLON ∷ more) solid)
-        (ap behind whole' ∙ behind-onto name (COLON ∷ more) solid ∙ sym (drop-word more) ∙ sym m.3) in
+        let cut_whole : rest ≡ name ++ COLON ∷ more = whole ∙ ap (λ ys. name ++ ys) m.1 in
+        let found = first (ap word cut_whole ∙ word-onto name (COLON ∷ more) solid)
+        (ap behind cut_whole ∙ behind-onto name (COLON ∷ more) solid ∙ sym (drop-word more) ∙ sym m.3) in
         let own = cut-at COLON name (word more) plain in (
-          text,
-          first.0,
-          first.1,
+          name ++ COLON ∷ word more,
+          found.0,
+          found.1,
           record {
             name = is ∙ sym own.0;
             place = stands ∙ sym at ∙ ap (place names) (sym own.0);
-            colour =
-                subst
-                (λ q. MatchOption q (has COLON text ≡ false)
-                (λ c. (has COLON text ≡ true) × (c.now ≡ after COLON text)))
-                (sym here) (own.2, m.2 ∙ sym own.1);
+            colour = told _ _ c here (own.2, m.2 ∙ sym own.1);
           },
         )
 

@@ -5,8 +5,8 @@ use Rattle.std.proofs.Common.{false, length, get_or, take, drop, ap, ◌∙◌, 
 use Rattle.std.proofs.lemmas.List.{take-append-drop, length-take}
 use Rattle.std.proofs.lemmas.Option.{slice_get_within, slice_get-get_or, get_or_from_slice_get}
 use Rattle.std.specs.List.{list_any}
+use Rattle.xc_input.specs.Named.{IsName}
 use Rattle.xc_input.specs.Tokens.{is_space, tokens}
-use Rattle.xc_input.specs.Words.{place}
 use Rattle.xc_input.specs.declared.tokens.Token.{Token}
 use Rattle.xc_input.specs.inner.Fronts.{drop_white}
 use Rattle.xc_input.specs.inner.Builders.{AreNames}
@@ -15,7 +15,7 @@ use Rattle.xc_input.specs.inner.GuessedWords.{word_number, AreBytes, AreWords}
 use Rattle.std.proofs.lemmas.Bool.{or_parts}
 use Rattle.xc_input.proofs.TokenLemmas.Bytes.{tokens-drop_white}
 use Rattle.xc_input.proofs.TokenLemmas.CutTokens.{cut-token}
-use Rattle.xc_input.proofs.TokenLemmas.TableNames.{known-place, stored-name, stored-solid}
+use Rattle.xc_input.proofs.TokenLemmas.TableNames.{stored, distinct-place}
 use Rattle.xc_input.proofs.TokenLemmas.WordNumbers.{bytes-taken}
 
 -- what begins with bytes that are no white space stands behind no white space
@@ -34,32 +34,27 @@ known-first names words text back n at number all own bytes behind within is kno
 known-first names words text back n at number all own bytes behind within is known (Some p) named cut =
     let low : at < length words = slice_get_within words at number known in
     let read : get_or words at 0 ≡ number = get_or_from_slice_get words at number 0 known in
-    let name : take n text ≡ get_or names at [] =
-    own.own at low (take n text) (bytes-taken n text bytes) (sym is ∙ sym read) in
-    let stands : place names (take n text) ≡ Some at =
-    known-place names (take n text) at all
+    let name = own.own at low (take n text) (bytes-taken n text bytes) (sym is ∙ sym read) in
+    let stands = distinct-place names (take n text) at all.distinct
     (slice_get-get_or names at [] (omega (arith, low, own.few)) ∙ ap Some (sym name)) in
-    let some : 1 ≤ length (take n text) = (stored-name names (take n text) at all.named stands).some in
+    let some : 1 ≤ length (take n text) = (stored IsName names (take n text) at all.named stands).some in
+    let solid = stored (λ n. list_any is_space n ≡ false) names (take n text) at all.solid stands in
     let whole : text ≡ take n text ++ back =
     sym (take-append-drop n text) ∙ ap (λ ys. take n text ++ ys) (sym behind) in
-    let front : text ≡ drop_white text =
-    whole ∙ sym (solid-front (take n text) back some (stored-solid names (take n text) at all stands))
-    ∙ ap drop_white (sym whole) in
-    cut-token names text text (take n text) back p.1.now at p.0 all front
+    cut-token names text text (take n text) back p.1.now at p.0 all
+    (whole ∙ sym (solid-front (take n text) back some solid) ∙ ap drop_white (sym whole))
     (omega (arith, some, length-take n text)) whole stands named.0 named.1 cut
 
--- a line's first token, by what stands behind white space
-pub behind-white : (names : List (List ℕ)) (line rest others : List ℕ) (t : Token) → tokens line ≡ tokens rest
-    → length rest ≤ length line → StandsFirst names rest t others → StandsFirst names line t others
-behind-white names line rest others t same fewer h = (h.0, same ∙ h.1, omega (arith, h.2, fewer), h.3)
-
-shorter : (xs : List ℕ) → length (drop_white xs) ≤ length xs
-shorter [] = omega arith
-shorter (b ∷ bs) = grind (arith, nat_tests, shorter bs)
+drop_white-length : (xs : List ℕ) → length (drop_white xs) ≤ length xs
+drop_white-length [] = omega arith
+drop_white-length (b ∷ bs) = grind (arith, nat_tests, drop_white-length bs)
 
 -- a line's first token, by the line without the white space that it begins with
-pub behind-all-white : (names : List (List ℕ)) (line rest others : List ℕ) (t : Token) → rest ≡ drop_white line
+pub behind-all-white : (names : List (List ℕ)) (line others : List ℕ) (t : Token) {rest : List ℕ} → rest ≡ drop_white line
     → StandsFirst names rest t others → StandsFirst names line t others
-behind-all-white names line rest others t e h =
-    behind-white names line rest others t (sym (tokens-drop_white line) ∙ ap tokens (sym e))
-    (omega (arith, ap length e, shorter line)) h
+behind-all-white names line others t e h = (
+  h.0,
+  sym (tokens-drop_white line) ∙ ap tokens (sym e) ∙ h.1,
+  omega (arith, h.2, ap length e, drop_white-length line),
+  h.3,
+)

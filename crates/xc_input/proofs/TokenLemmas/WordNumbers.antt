@@ -79,14 +79,7 @@ eight xs =
 
 eight-is : (xs : List ℕ) → 8 ≤ length xs → eight xs ≡ number_l 256 (take 8 xs)
 eight-is (a ∷ b ∷ c ∷ d ∷ e ∷ f ∷ g ∷ h ∷ xs) le = omega arith
-eight-is [] le = absurd (omega (arith, le))
-eight-is (a ∷ []) le = absurd (omega (arith, le))
-eight-is (a ∷ b ∷ []) le = absurd (omega (arith, le))
-eight-is (a ∷ b ∷ c ∷ []) le = absurd (omega (arith, le))
-eight-is (a ∷ b ∷ c ∷ d ∷ []) le = absurd (omega (arith, le))
-eight-is (a ∷ b ∷ c ∷ d ∷ e ∷ []) le = absurd (omega (arith, le))
-eight-is (a ∷ b ∷ c ∷ d ∷ e ∷ f ∷ []) le = absurd (omega (arith, le))
-eight-is (a ∷ b ∷ c ∷ d ∷ e ∷ f ∷ g ∷ []) le = absurd (omega (arith, le))
+eight-is xs le = absurd (omega (arith, le))
 
 -- the number of the first of eight bytes
 pub first-word : (n first number : ℕ) (xs : List ℕ) → AreBytes xs → 8 ≤ length xs → n ≤ 7 → first ≡ eight xs

@@ -53,9 +53,8 @@ pub each-zip : {A B : Type 0} (R : A → B → Type 0) (P : A → Type 0) (Q : B
     → ((x : A) (y : B) → P x → R x y → Q y) → (xs : List A) (ys : List B) → Each P xs → AllZip R xs ys
     → Each Q ys
 each-zip R P Q f [] [] a z = tt
-each-zip R P Q f [] (y ∷ ys) a z = absurd z
-each-zip R P Q f (x ∷ xs) [] a z = absurd z
 each-zip R P Q f (x ∷ xs) (y ∷ ys) a z = (f x y a.0 z.0, each-zip R P Q f xs ys a.1 z.1)
+each-zip R P Q f xs ys a z = absurd z
 
 each-flat : {A : Type 0} (P : A → Type 0) (xss : List (List A)) → Each (Each P) xss
     → Each P (flat xss)

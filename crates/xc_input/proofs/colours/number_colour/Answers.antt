@@ -15,5 +15,5 @@ returns-clause-number c =
 
 pub returns-clause-distinct : goal.returns-clause-distinct
 returns-clause-distinct c =
-    distinct-more (key_names c.args.colours.now.keys) (key_names c.add_name.new.names.keys) c.args.colour.now
-    c.requires.distinct (sym c.known_colour.ensures ∙ c.in_default.is) c.in_ok-place.ensures.added
+    distinct-more _ c.args.colour.now c.requires.distinct (sym c.known_colour.ensures ∙ c.in_default.is)
+    c.in_ok-place.ensures.added
