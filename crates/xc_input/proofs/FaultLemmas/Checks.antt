@@ -84,7 +84,8 @@ module _ (kind : Kind) (entries : List Entry) (bar : Option ℕ) (token : List �
             past = behind ∙ past-name (names_of entries) name (sym f ∙ e)
                 ∙ rw (sym (ap (λ ns. place ns name) link) ∙ sym is ∙ none-is at (sym g ∙ h), count)
 
-            pub too-many : 100000 ≤ n → first (item_checks kind (names_of entries) (is_some bar) token) ≡ Some TooManyItems
+            pub too-many : 100000 ≤ n
+                → first (item_checks kind (names_of entries) (is_some bar) token) ≡ Some TooManyItems
             too-many m = let full : nat_lt n most_items ≡ false = grind (arith, nat_tests) in past ∙ rw full
 
             pub no-fault : n < 100000 → first (item_checks kind (names_of entries) (is_some bar) token) ≡ None

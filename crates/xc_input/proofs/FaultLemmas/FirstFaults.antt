@@ -1,6 +1,6 @@
 -- For `line`, `finish` and the laws: the first fault of a text is the first one of its lines as they are read.
 use Rattle.std.proofs.lemmas.Bool.Decides.{nat_tests}
-use Rattle.std.proofs.Common.{◌≡◌, ℕ, ◌+◌, List, [], ◌∷◌, ◌++◌, Option, None, Some, Bool, true, false, ◌||◌, ◌&&◌, cond}
+use Rattle.std.proofs.Common.{◌≡◌, ℕ, ◌+◌, List, [], ◌∷◌, ◌++◌, Option, None, Some, Bool, true, false, ◌||◌}
 use Rattle.std.proofs.Common.{not, nat_le, is_some, length, map, refl, ap, ◌∙◌, sym, subst}
 use Rattle.std.proofs.Common.{arith, if◌then◌else◌, append_assoc, append-nil}
 use Rattle.std.proofs.lemmas.Grind.{common_steps}
@@ -16,15 +16,16 @@ use Rattle.xc_input.specs.declared.fault.FaultKind.TheVariants.{NulByte, TwoBars
 use Rattle.xc_input.specs.Problem.{use_count}
 use Rattle.xc_input.specs.Words.{has}
 use Rattle.xc_input.specs.Tokens.{tokens, parts, is_bar, is_skipped}
-use Rattle.xc_input.specs.inner.Sheets.{Sheet, names_of}
+use Rattle.xc_input.specs.inner.Sheets.{names_of}
 use Rattle.xc_input.proofs.GrammarLemmas.SheetGrammar.{named_of, AreItems}
 use Rattle.xc_input.specs.Faults.{first, checks_of_each, name_of, item_checks, item_names, part_checks, Context}
 use Rattle.xc_input.specs.Faults.{context_of, item_of, token_checks, has_primary}
 use Rattle.xc_input.specs.FirstFault.{line_number, content, is_kept, kept_uses, content_checks}
 use Rattle.xc_input.specs.FirstFault.{line_checks, line_fault, first_fault}
+use Rattle.xc_input.proofs.FaultLemmas.BooleanTests.{by-test}
 use Rattle.xc_input.specs.inner.Stages.{entry, Row, row_checks, row_of, no_row, with_part, context, written, written_by}
 use Rattle.xc_input.specs.inner.Stages.{Stage, no_stage}
-use Rattle.xc_input.specs.inner.Stages.{stage_from, stage_of}
+use Rattle.xc_input.specs.inner.Stages.{with_line, stage_of}
 use Rattle.xc_input.specs.inner.Stages.{part_checks as row_part_checks, option_checks as tokens_checks}
 use Rattle.xc_input.specs.inner.Stages.{content_checks as stage_content, line_checks as stage_checks}
 use Rattle.xc_input.specs.Named.{Named}
@@ -34,9 +35,9 @@ use Rattle.xc_input.proofs.FaultLemmas.Checks.{names_of-snoc, map-snoc}
 use Rattle.std.specs.List.{before_first}
 use Rattle.std.proofs.lemmas.Slice.Zip.{AllZip-long}
 use Rattle.xc_input.specs.Text.{IsEntry}
-use Rattle.xc_input.proofs.GrammarLemmas.LawLemmas.{fault_from, end_fault, fault_or, said, start, more, S, P, row-good}
-use Rattle.xc_input.proofs.GrammarLemmas.LawLemmas.{by-part, by-line, by-first-line, clear, count-next}
-use Rattle.xc_input.proofs.GrammarLemmas.LawLemmas.{stage-behind, stage_by, stage-by, IsClearText, lines-clear}
+use Rattle.xc_input.proofs.GrammarLemmas.LawLemmas.{fault_from, end_fault, fault_or, said, P, row-good}
+use Rattle.xc_input.proofs.GrammarLemmas.LawLemmas.{clear, count-next, content_from, with_content}
+use Rattle.xc_input.proofs.GrammarLemmas.LawLemmas.{stage_by, stage-by, IsClearText}
 use Rattle.xc_input.proofs.GrammarLemmas.LawLemmas.{clear-lines}
 
 -- NUMBERED CHECKS
@@ -103,16 +104,16 @@ row-checks {kind} part r =
 
 pub row-more : {kind : Kind} {row : Row} {others : List (List ℕ)} (part : List ℕ) → IsRowOf kind row others
     → IsRowOf kind (with_part kind row part) (others ++ part ∷ [])
-row-more {kind} {row} {others} part r = by-part kind row.entries row.bar part (λ w. IsRowOf kind w (others ++ part ∷ []))
-    (λ f. record {
+row-more {kind} {row} {others} part r = by-test (is_bar part)
+    (λ f. rw f (record {
       names = r.names ∙ sym (append-nil (item_names kind others)) ∙ sym (names-snoc kind others part true f);
       barred = or-true (list_any is_bar others) ∙ sym (barred-snoc others part true f);
-    })
-    (λ f. record {
+    }))
+    (λ f. rw f (record {
       names = names_of-snoc row.entries (entry kind (is_some row.bar) part)
           ∙ ap (λ ns. ns ++ name_of kind part ∷ []) r.names ∙ sym (names-snoc kind others part false f);
       barred = r.barred ∙ or-same (list_any is_bar others) ∙ sym (barred-snoc others part false f);
-    })
+    }))
 
 pub parts-checked : {kind : Kind} (ps : List (List ℕ)) {row : Row} {before : List (List ℕ)} → IsRowOf kind row before
     → row_checks kind row ps ≡ checks_of_each (part_checks kind) before ps
@@ -129,7 +130,7 @@ row-names {kind} (p ∷ ps) {before = before} r =
 pub context-is : (kind : Kind) (ps : List (List ℕ)) → first (row_checks kind no_row ps) ≡ None
     → context_of kind ps ≡ context kind (names_of (row_of kind no_row ps).entries) (P (row_of kind no_row ps))
 context-is kind ps e =
-    let items = row-good kind [] ps (omega arith) e in
+    let items = row-good kind [] ps _ refl (omega arith) e in
     let count : length (before_first is_bar ps) ≡ P (row_of kind no_row ps) =
     omega (arith, items.count, AllZip-long (IsEntry kind false) (before_first is_bar ps) items.first items.primary) in
     λ i. context kind (sym (row-names ps (no-row kind)) i) (count i)
@@ -138,93 +139,80 @@ context-is kind ps e =
 length-snoc : {A : Type 0} (n : ℕ) (xs : List A) (x : A) → n ≡ length xs → n + 1 ≡ length (xs ++ x ∷ [])
 length-snoc n xs x h = grind (arith, common_steps, h)
 
-content-snoc : (before : List (List ℕ)) (line : List ℕ) (t : Bool) → is_skipped line ≡ t
-    → content (before ++ line ∷ []) ≡ content before ++ cond (not t) (line ∷ []) []
-content-snoc before line t f = filter-append (λ l. not (is_skipped l)) before (line ∷ [])
-    ∙ ap (λ b. content before ++ cond (not b) (line ∷ []) []) f
-
-content-same : (before : List (List ℕ)) (line : List ℕ) (done : List (List ℕ)) → is_skipped line ≡ true
-    → content before ≡ done → content (before ++ line ∷ []) ≡ done
-content-same before line done f h = content-snoc before line true f ∙ append-nil (content before) ∙ h
-
-content-more : (before : List (List ℕ)) (line : List ℕ) (done : List (List ℕ)) → is_skipped line ≡ false
-    → content before ≡ done → content (before ++ line ∷ []) ≡ done ++ line ∷ []
-content-more before line done f h = content-snoc before line false f ∙ ap (λ ls. ls ++ line ∷ []) h
-
 uses-snoc : (c : Context) (os : List (List ℕ)) (line : List ℕ) (t : Bool) → is_kept c line ≡ t
     → kept_uses c (os ++ line ∷ []) ≡ kept_uses c os + (if t then length (tokens line) else 0)
 uses-snoc c os line t f =
     grind (arith, nat_tests, filter-append (is_kept c), sum_by-append (λ (l : List ℕ). length (tokens l)))
 
--- THE LINES BEHIND THE ITEM LINE
-module _ (kind : Kind) (items : List ℕ) where
-  checks-are : (sheet : Sheet) (ignored : List ℕ) (os : List (List ℕ)) (line : List ℕ)
-      → context_of kind (parts items) ≡ said kind sheet → use_count sheet.options ≡ kept_uses (said kind sheet) os
-      → stage_content kind (S sheet ignored) line ≡ content_checks kind (items ∷ os) line
-  checks-are sheet ignored os line c u =
-      grind (arith, nat_tests, tokens-checked (said kind sheet), kept-is (said kind sheet) (tokens line))
+-- THE LINES
+-- what lines gave, by those with content among them
+abbrev Agrees : Kind → List (List ℕ) → Stage → Type 0
+Agrees kind [] stage = stage ≡ no_stage
+Agrees kind (items ∷ os) stage = (stage.started ≡ true) × (context_of kind (parts items) ≡ said kind stage.sheet)
+    × (use_count stage.sheet.options ≡ kept_uses (said kind stage.sheet) os)
 
-  rest-is : (n : ℕ) (before lines os : List (List ℕ)) (sheet : Sheet) (ignored : List ℕ)
-      → context_of kind (parts items) ≡ said kind sheet → n ≡ length before → content before ≡ items ∷ os
-      → use_count sheet.options ≡ kept_uses (said kind sheet) os
-      → fault_from kind n (S sheet ignored) lines ≡ fault_behind kind before lines
-  rest-is n before [] os sheet ignored c hn hb u = refl
-  rest-is n before (line ∷ lines) os sheet ignored c hn hb u =
-      let same : first (stage_checks kind (S sheet ignored) line) ≡ first (checks_of kind (content before) line) =
-      ap (λ cs. first ((NulByte, has 0 line) ∷ (if is_skipped line then [] else cs)))
-      (checks-are sheet ignored os line c u ∙ ap (λ d. content_checks kind d line) (sym hb)) in
-      let behind = before ++ line ∷ [] in
-      let m = length-snoc n before line hn in
-      let next = by-line kind (line_number (n + 1)) sheet ignored line
-      (λ st. fault_from kind (n + 1) st lines ≡ fault_behind kind behind lines)
-      (λ f. rest-is (n + 1) behind lines os sheet ignored c m (content-same before line (items ∷ os) f hb) u)
-      (λ f g. rest-is (n + 1) behind lines (os ++ line ∷ []) (more sheet (written_by sheet line)) ignored c m
-      (content-more before line (items ∷ os) f hb) (count-next sheet (written_by sheet line)
-      ∙ (λ i. u i + length-map (tokens line) (written (names_of sheet.entries)) i)
-      ∙ sym (uses-snoc (said kind sheet) os line true (sym (kept-is (said kind sheet) (tokens line)) ∙ g))))
-      (λ f g. rest-is (n + 1) behind lines (os ++ line ∷ []) sheet (ignored ++ line_number (n + 1) ∷ []) c m
-      (content-more before line (items ∷ os) f hb) (u ∙ omega (
-        arith,
-        uses-snoc (said kind sheet) os line false (sym (kept-is (said kind sheet) (tokens line)) ∙ g),
-      ))) in
-      (λ i. fault_or (hn i + 1) (same i) (next i)) ∙ sym (unroll kind before line lines)
+agrees-checks : (kind : Kind) (done : List (List ℕ)) (stage : Stage) (line : List ℕ) → Agrees kind done stage
+    → stage_content kind stage line ≡ content_checks kind done line
+agrees-checks kind [] stage line e =
+    ap (λ s. stage_content kind s line) e ∙ parts-checked (parts line) (no-row kind)
+agrees-checks kind (items ∷ os) stage line h =
+    let known = said kind stage.sheet in
+    grind (arith, nat_tests, tokens-checked known, kept-is known (tokens line))
 
--- ALL LINES
+agrees-next : (kind : Kind) (done : List (List ℕ)) (stage : Stage) (n : ℕ) (line : List ℕ) → Agrees kind done stage
+    → first (stage_content kind stage line) ≡ None → Agrees kind (done ++ line ∷ []) (with_content kind stage (n, line))
+agrees-next kind [] stage n line e none =
+    subst (λ s. first (stage_content kind s line) ≡ None → Agrees kind (line ∷ []) (with_content kind s (n, line)))
+    (sym e) (λ none. (refl, context-is kind (parts line) none, refl)) none
+agrees-next kind (items ∷ os) stage n line h none =
+    let known = said kind stage.sheet in
+    let us = written_by stage.sheet line in
+    let kept = sym (kept-is known (tokens line)) in by-test (has_primary stage.sheet.primaries us)
+    (λ g. rw (h.0, g) (
+      refl,
+      h.1,
+      count-next stage.sheet us
+          ∙ (λ i. h.2 i + length-map (tokens line) (written (names_of stage.sheet.entries)) i)
+          ∙ sym (uses-snoc known os line true (kept ∙ g)),
+    ))
+    (λ g. rw (h.0, g) (refl, h.1, h.2 ∙ omega (arith, uses-snoc known os line false (kept ∙ g))))
+
+agrees-line : (kind : Kind) (before : List (List ℕ)) (stage : Stage) (n : ℕ) (line : List ℕ)
+    → Agrees kind (content before) stage → first (stage_checks kind stage line) ≡ None
+    → Agrees kind (content (before ++ line ∷ [])) (with_line kind (line_number n) stage line)
+agrees-line kind before stage n line a e =
+    rw (filter-append (λ l. not (is_skipped l)) before (line ∷ [])) (by-test (is_skipped line)
+    (λ f. rw f (subst (λ d. Agrees kind d stage) (sym (append-nil (content before))) a))
+    (λ f. rw f (agrees-next kind (content before) stage n line a ((clear kind stage line e).1 f))))
+
 fault_or-same : (n : ℕ) (k : Option FaultKind) (a b : Option (ℕ × FaultKind)) → (k ≡ None → a ≡ b)
     → fault_or n k a ≡ fault_or n k b
 fault_or-same n None a b h = h refl
 fault_or-same n (Some k) a b h = refl
 
-start-is : (kind : Kind) (n : ℕ) (before lines : List (List ℕ)) → n ≡ length before → content before ≡ []
-    → fault_from kind n no_stage lines ≡ fault_behind kind before lines
-start-is kind n before [] hn hb = refl
-start-is kind n before (line ∷ lines) hn hb =
-    let same : first (stage_checks kind no_stage line) ≡ first (checks_of kind (content before) line) =
-    ap (λ cs. first ((NulByte, has 0 line) ∷ (if is_skipped line then [] else cs)))
-    (parts-checked (parts line) (no-row kind) ∙ ap (λ d. content_checks kind d line) (sym hb)) in
-    let next = λ (e : first (stage_checks kind no_stage line) ≡ None).
-    by-first-line kind (line_number (n + 1)) line
-    (λ st. fault_from kind (n + 1) st lines ≡ fault_behind kind (before ++ line ∷ []) lines)
-    (λ f. start-is kind (n + 1) (before ++ line ∷ []) lines (length-snoc n before line hn)
-    (content-same before line [] f hb))
-    (λ f. rest-is kind line (n + 1) (before ++ line ∷ []) lines [] (start kind line) []
-    (context-is kind (parts line) ((clear kind no_stage line e).1 f))
-    (length-snoc n before line hn) (content-more before line [] f hb) refl) in
-    fault_or-same (n + 1) (first (stage_checks kind no_stage line)) _ _ next
+faults-are : (kind : Kind) (n : ℕ) (before lines : List (List ℕ)) (stage : Stage) → n ≡ length before
+    → Agrees kind (content before) stage → fault_from kind n stage lines ≡ fault_behind kind before lines
+faults-are kind n before [] stage hn a = refl
+faults-are kind n before (line ∷ lines) stage hn a =
+    let same = ap (λ cs. first ((NulByte, has 0 line) ∷ (if is_skipped line then [] else cs)))
+    (agrees-checks kind (content before) stage line a) in
+    fault_or-same (n + 1) (first (stage_checks kind stage line)) _ _
+    (λ e. faults-are kind (n + 1) (before ++ line ∷ []) lines _ (length-snoc n before line hn)
+    (agrees-line kind before stage (n + 1) line a e))
     ∙ (λ i. fault_or (hn i + 1) (same i) (fault_behind kind (before ++ line ∷ []) lines))
     ∙ sym (unroll kind before line lines)
 
 pub line_fault-is : (kind : Kind) (lines : List (List ℕ)) → line_fault kind lines ≡ fault_from kind 0 no_stage lines
-line_fault-is kind lines = sym (start-is kind 0 [] lines refl refl)
+line_fault-is kind lines = sym (faults-are kind 0 [] lines no_stage refl refl)
 
-started-is : (kind : Kind) (n : ℕ) (lines : List (List ℕ)) → (stage_from kind n no_stage lines).started
-    ≡ not (list_all is_skipped lines)
-started-is kind n [] = refl
-started-is kind n (line ∷ lines) =
-    by-first-line kind (line_number (n + 1)) line
-    (λ st. (stage_from kind (n + 1) st lines).started ≡ not (is_skipped line && list_all is_skipped lines))
-    (λ f. rw f (started-is kind (n + 1) lines))
-    (λ f. rw f (ap (λ (st : Stage). st.started) (stage-behind kind (n + 1) (start kind line) [] lines)))
+started-is : (kind : Kind) (lines : List (List ℕ)) → (stage_of kind lines).started ≡ not (list_all is_skipped lines)
+started-is kind lines = ap (λ (st : Stage). st.started) (stage-by kind lines) ∙ of-content 1 lines
+  where
+    of-content : (k : ℕ) (lines : List (List ℕ)) → (stage_by kind (content_from k lines)).started
+        ≡ not (list_all is_skipped lines)
+    of-content k [] = refl
+    of-content k (line ∷ lines) =
+        by-test (is_skipped line) (λ f. rw f (of-content (k + 1) lines)) (λ f. rw f)
 
 -- the fault of a whole text is that of its lines, or that the item line isn't there
 pub first_fault-is : (kind : Kind) (lines : List (List ℕ)) → first_fault kind lines
@@ -250,10 +238,10 @@ stands : (kind : Kind) (lines : List (List ℕ)) → first_fault kind lines ≡ 
 stands kind lines e =
     let a = or-none (fault_from kind 0 no_stage lines) (end_fault (length lines) (stage_of kind lines).started)
     (sym (first_fault-is kind lines) ∙ e) in
-    let same = stage-by kind 0 lines in
+    let same = stage-by kind lines in
     let begun = sym (ap (λ (st : Stage). st.started) same)
     ∙ end-none (length lines) (stage_of kind lines).started a.1 in
-    let clear = lines-clear kind 0 lines a.0 in
+    let clear = (clear-lines kind lines).0 a.0 in
     subst (Stands kind lines) (sym same) (by-content clear.0 (numbered_content lines) refl begun clear.1)
   where
     by-content : list_any (has 0) lines ≡ false → (ls : List (ℕ × List ℕ)) → numbered_content lines ≡ ls
@@ -278,8 +266,8 @@ pub stands-only : (kind : Kind) (lines : List (List ℕ)) (named : Named) (ignor
     × (ignored ≡ (stage_of kind lines).ignored)
 stands-only kind lines named ignored h =
     let r = stands-clear kind lines named ignored h in
-    let same = stage-by kind 0 lines ∙ ap (stage_by kind) h.content in
-    let none = clear-lines kind 0 lines h.no_nul (subst (IsClearText kind) (sym h.content) r.0) in (
+    let same = stage-by kind lines ∙ ap (stage_by kind) h.content in
+    let none = (clear-lines kind lines).1 (h.no_nul, subst (IsClearText kind) (sym h.content) r.0) in (
       first_fault-is kind lines ∙ ap (λ o. option_or o (end_fault (length lines) (stage_of kind lines).started)) none
           ∙ ap (end_fault (length lines)) (ap (λ (st : Stage). st.started) same),
       r.1 ∙ ap (λ (st : Stage). named_of st.sheet) (sym same),

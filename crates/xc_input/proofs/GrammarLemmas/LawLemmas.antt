@@ -7,13 +7,15 @@ use Rattle.xc_input.specs.inner.ColourNumbers.{numbered}
 use Rattle.xc_input.proofs.OptionLemmas.Colours.{met, kept}
 use Rattle.std.specs.Prelude.{filter, flat_map}
 use Rattle.std.specs.List.{AllByRecursion, enumerate_from}
-use Rattle.std.proofs.lemmas.Bool.{or_parts, or_from}
 use Rattle.std.proofs.lemmas.List.{length-append}
 use Rattle.xc_input.specs.Faults.{Context}
 use Rattle.xc_input.specs.Sheets.{number_uses, with_colour}
 use Rattle.xc_input.specs.inner.Stages.{written_by}
 use Rattle.xc_input.proofs.OptionLemmas.Items.{AllNew, before-cons, after-cons, bar-first, word-first, no-bar}
 use Rattle.xc_input.proofs.GrammarLemmas.SheetGrammar.{AreItems, AreOthers}
+use Rattle.std.specs.Prelude.{◌↔◌, fold}
+use Rattle.xc_input.proofs.FaultLemmas.BooleanTests.{by-test}
+use Rattle.xc_input.specs.inner.Stages.{with_option, with_row, stage_of}
 use Rattle.xc_input.specs.Limits.{most_items}
 use Rattle.xc_input.specs.Text.{IsEntry}
 use Rattle.std.specs.List.{AllZip, before_first, after_first}
@@ -37,7 +39,7 @@ use Rattle.xc_input.specs.inner.Sheets.{Sheet, names_of, with_uses}
 use Rattle.xc_input.specs.Faults.{first, is_plain, is_bad_colour, has_primary}
 use Rattle.xc_input.specs.inner.Stages.{entry, Row, no_row, part_checks, with_part, row_checks, row_of, item_number}
 use Rattle.xc_input.specs.inner.Stages.{token_checks, option_checks, written, context, Stage, no_stage, content_checks}
-use Rattle.xc_input.specs.inner.Stages.{whole_checks, line_checks, with_line, stage_from}
+use Rattle.xc_input.specs.inner.Stages.{line_checks, with_line, stage_from}
 use Rattle.xc_input.specs.Limits.{most_uses}
 use Rattle.xc_input.specs.FirstFault.{line_number}
 use Rattle.xc_input.specs.Named.{IsName, IsColour}
@@ -73,17 +75,6 @@ P row = unwrap_or row.bar (length row.entries)
 abbrev pub R : List Entry → Option ℕ → Row
 R entries bar = record { entries = entries; bar = bar }
 
--- what holds of the items so far with one part more: it is a bar, or stands for an item
-pub by-part : (kind : Kind) (entries : List Entry) (bar : Option ℕ) (p : List ℕ) (Q : Row → Type 0)
-    → (is_bar p ≡ true → Q (R entries (Some (length entries))))
-    → (is_bar p ≡ false → Q (R (entries ++ entry kind (is_some bar) p ∷ []) bar))
-    → Q (with_part kind (R entries bar) p)
-by-part kind entries bar p Q a b = cases (is_bar p) refl
-  where
-    cases : (t : Bool) → is_bar p ≡ t → Q (with_part kind (R entries bar) p)
-    cases true f = rw f (a f)
-    cases false f = rw f (b f)
-
 -- parts with no fault stand for items, those behind the bar
 others-good : (kind : Kind) (es : List Entry) (n : ℕ) (ps : List (List ℕ)) → length es ≤ most_items
     → first (row_checks kind (R es (Some n)) ps) ≡ None → AreOthers kind es ps (row_of kind (R es (Some n)) ps) n
@@ -96,54 +87,52 @@ others-good kind es n [] m e = record {
 }
 others-good kind es n (p ∷ ps) m e =
     let a = split (part_checks kind (R es (Some n)) p) (row_checks kind (with_part kind (R es (Some n)) p) ps) e in
-    by-part kind es (Some n) p
-    (λ row. first (row_checks kind row ps) ≡ None → AreOthers kind es (p ∷ ps) (row_of kind row ps) n)
-    (λ f q. absurd (let two = rw f at a.0 in cc))
-    (λ f q.
+    by-test (is_bar p) (λ f. absurd (let two = rw f at a.0 in cc)) (λ f.
     let new : Entry = entry kind true p in
     let g = item-good kind (names_of es) true p (rw f at a.0) in
     let l = length-append es (new ∷ []) in
-    let r = others-good kind (es ++ new ∷ []) n ps (omega (arith, g.2, names_of-length es, l)) q in record {
+    let r = others-good kind (es ++ new ∷ []) n ps (omega (arith, g.2, names_of-length es, l)) (rw f at a.1) in
+    rw f (record {
       others = new ∷ r.others;
       all = rw (append_assoc es (new ∷ []) r.others) at r.all;
       secondary = (g.0, r.secondary);
       new = (g.1, subst (λ ns. AllNew ns (names_of r.others)) (names_of-snoc es new) r.new);
       few = omega (arith, r.few, l);
-    }) a.1
+    }))
 
 -- and from the front
-pub row-good : (kind : Kind) (es : List Entry) (ps : List (List ℕ)) → length es ≤ most_items
-    → first (row_checks kind (R es None) ps) ≡ None
-    → AreItems kind es ps (row_of kind (R es None) ps).entries (P (row_of kind (R es None) ps))
-row-good kind es [] m e = record {
+pub row-good : (kind : Kind) (es : List Entry) (ps : List (List ℕ)) (row : Row) → row_of kind (R es None) ps ≡ row
+    → length es ≤ most_items → first (row_checks kind (R es None) ps) ≡ None → AreItems kind es ps row.entries (P row)
+row-good kind es [] row is m e = record {
   first = [];
   others = [];
-  all = sym (append-nil es);
-  count = omega arith;
+  all = ap (λ (r : Row). r.entries) (sym is) ∙ sym (append-nil es);
+  count = omega (arith, ap P is);
   primary = tt;
   secondary = tt;
   new = tt;
   few = omega (arith, m);
 }
-row-good kind es (p ∷ ps) m e =
+row-good kind es (p ∷ ps) row is m e =
     let a = split (part_checks kind (R es None) p) (row_checks kind (with_part kind (R es None) p) ps) e in
-    by-part kind es None p (λ row. first (row_checks kind row ps) ≡ None
-    → AreItems kind es (p ∷ ps) (row_of kind row ps).entries (P (row_of kind row ps)))
-    (λ f q. let r = others-good kind es (length es) ps m q in record {
+    by-test (is_bar p)
+    (λ f. let r = others-good kind es (length es) ps m (rw f at a.1) in
+    let all = sym (rw f at is) ∙ r.all in record {
       first = [];
       others = r.others;
-      all = ap (λ (row : Row). row.entries) r.all;
-      count = omega (arith, ap P r.all);
+      all = ap (λ (row : Row). row.entries) all;
+      count = omega (arith, ap P all);
       primary = rw (before-cons p ps true f) tt;
       secondary = rw (after-cons p ps true f) r.secondary;
       new = r.new;
       few = r.few;
     })
-    (λ f q.
-    let new : Entry = entry kind false p in
+    (λ f. let new : Entry = entry kind false p in
     let g = item-good kind (names_of es) false p (rw f at a.0) in
     let l = length-append es (new ∷ []) in
-    let r = row-good kind (es ++ new ∷ []) ps (omega (arith, g.2, names_of-length es, l)) q in record {
+    let r =
+    row-good kind (es ++ new ∷ []) ps row (rw f at is) (omega (arith, g.2, names_of-length es, l)) (rw f at a.1) in
+    record {
       first = new ∷ r.first;
       others = r.others;
       all = rw (append_assoc es (new ∷ []) (r.first ++ r.others)) at r.all;
@@ -152,7 +141,7 @@ row-good kind es (p ∷ ps) m e =
       secondary = rw (after-cons p ps false f) r.secondary;
       new = (g.1, subst (λ ns. AllNew ns (names_of (r.first ++ r.others))) (names_of-snoc es new) r.new);
       few = omega (arith, r.few, l);
-    }) a.1
+    })
 
 -- one part more that stands for an item, and any part that has no fault
 word-step : (kind : Kind) (es : List Entry) (bar : Option ℕ) (p : List ℕ) (e : Entry) → is_bar p ≡ false
@@ -295,12 +284,6 @@ S sheet ignored = record { started = true; sheet = sheet; ignored = ignored }
 abbrev pub said : Kind → Sheet → Context
 said kind sheet = context kind (names_of sheet.entries) sheet.primaries
 
--- a line and those behind it have no fault
-none-from : (kind : Kind) (n : ℕ) (stage : Stage) (line : List ℕ) (lines : List (List ℕ))
-    → fault_from kind n stage (line ∷ lines) ≡ None → (first (line_checks kind stage line) ≡ None)
-    × (fault_from kind (n + 1) (with_line kind (line_number (n + 1)) stage line) lines ≡ None)
-none-from kind n stage line lines e = grind (arith, nat_tests)
-
 -- a line with no fault
 pub clear : (kind : Kind) (stage : Stage) (line : List ℕ) → first (line_checks kind stage line) ≡ None
     → (has 0 line ≡ false) × (is_skipped line ≡ false → first (content_checks kind stage line) ≡ None)
@@ -308,36 +291,12 @@ clear kind stage line e =
     let a = split ((NulByte, has 0 line) ∷ []) (if is_skipped line then [] else content_checks kind stage line) e in
     (fails ((NulByte, has 0 line) ∷ []) a.0 NulByte, λ f. rw f at a.1)
 
-skipped-clear : (kind : Kind) (stage : Stage) (line : List ℕ) → has 0 line ≡ false → is_skipped line ≡ true
-    → first (line_checks kind stage line) ≡ None
-skipped-clear kind stage line e f = rw (e, f)
-
-content-clear : (kind : Kind) (stage : Stage) (line : List ℕ) → has 0 line ≡ false → is_skipped line ≡ false
-    → first (content_checks kind stage line) ≡ None → first (line_checks kind stage line) ≡ None
-content-clear kind stage line e f g = rw (e, f) g
-
 -- the sheet with one option more
 abbrev pub more : Sheet → List Written → Sheet
 more sheet us = record sheet {
   options = sheet.options ++ numbered sheet.colours us ∷ [];
   colours = with_uses sheet.colours us;
 }
-
--- what holds of the lines with one more: it is skipped, it is kept, or its number is
-pub by-line : (kind : Kind) (m : ℕ) (sheet : Sheet) (ignored line : List ℕ) (Q : Stage → Type 0)
-    → (is_skipped line ≡ true → Q (S sheet ignored))
-    → (is_skipped line ≡ false → has_primary sheet.primaries (written_by sheet line) ≡ true
-    → Q (S (more sheet (written_by sheet line)) ignored))
-    → (is_skipped line ≡ false → has_primary sheet.primaries (written_by sheet line) ≡ false
-    → Q (S sheet (ignored ++ m ∷ []))) → Q (with_line kind m (S sheet ignored) line)
-by-line kind m sheet ignored line Q a b c =
-    cases (is_skipped line) (has_primary sheet.primaries (written_by sheet line)) refl refl
-  where
-    cases : (s p : Bool) → is_skipped line ≡ s → has_primary sheet.primaries (written_by sheet line) ≡ p
-        → Q (with_line kind m (S sheet ignored) line)
-    cases true p f g = rw f (a f)
-    cases false true f g = rw (f, g) (b f g)
-    cases false false f g = rw (f, g) (c f g)
 
 pub count-next : (sheet : Sheet) (us : List Written)
     → use_count (more sheet us).options ≡ use_count sheet.options + length us
@@ -348,22 +307,17 @@ count-next sheet us =
       numbered-length sheet.colours us,
     )
 
-room-of : (sheet : Sheet) (line : List ℕ) → has_primary sheet.primaries (written_by sheet line) ≡ true
-    → (has_primary sheet.primaries (written_by sheet line)
-    && nat_lt most_uses (use_count sheet.options + length (tokens line))) ≡ false
-    → use_count sheet.options + length (written_by sheet line) ≤ most_uses
-room-of sheet line e f =
+-- room for the uses of an option, by the check of its line
+room : (sheet : Sheet) (line : List ℕ)
+    → (first ((TooManyUses, nat_lt most_uses (use_count sheet.options + length (tokens line))) ∷ []) ≡ None)
+    ↔ (use_count sheet.options + length (written_by sheet line) ≤ most_uses)
+room sheet line =
     let l = length-map (tokens line) (written (names_of sheet.entries)) in
-    let g : nat_lt most_uses (use_count sheet.options + length (tokens line)) ≡ false = rw e at f in
-    grind (arith, nat_tests)
-
-no-room : (sheet : Sheet) (line : List ℕ) → use_count sheet.options + length (written_by sheet line) ≤ most_uses
-    → (has_primary sheet.primaries (written_by sheet line)
-    && nat_lt most_uses (use_count sheet.options + length (tokens line))) ≡ false
-no-room sheet line h =
-    let l = length-map (tokens line) (written (names_of sheet.entries)) in
-    let g : nat_lt most_uses (use_count sheet.options + length (tokens line)) ≡ false = grind (arith, nat_tests) in
-    rw g (and-false (has_primary sheet.primaries (written_by sheet line)))
+    let n = use_count sheet.options + length (tokens line) in (
+      λ e. (let low : nat_lt most_uses n ≡ false = fails ((TooManyUses, nat_lt most_uses n) ∷ []) e TooManyUses in
+          grind (arith, nat_tests)),
+      λ h. (let low : nat_lt most_uses n ≡ false = grind (arith, nat_tests) in rw low),
+    )
 
 -- the items of the item line, before any option
 abbrev pub start : Kind → List ℕ → Sheet
@@ -371,18 +325,26 @@ start kind line =
     let row = row_of kind no_row (parts line) in
     record { entries = row.entries; primaries = P row; options = []; colours = [] }
 
--- what holds of the lines up to the first one with content: it is skipped, or is the item line
-pub by-first-line : (kind : Kind) (m : ℕ) (line : List ℕ) (Q : Stage → Type 0) → (is_skipped line ≡ true → Q no_stage)
-    → (is_skipped line ≡ false → Q (S (start kind line) [])) → Q (with_line kind m no_stage line)
-by-first-line kind m line Q a b = cases (is_skipped line) refl
-  where
-    cases : (t : Bool) → is_skipped line ≡ t → Q (with_line kind m no_stage line)
-    cases true f = rw f (a f)
-    cases false f = rw f (b f)
-
 -- WHAT LINES GIVE
 abbrev pub content_from : ℕ → List (List ℕ) → List (ℕ × List ℕ)
 content_from k lines = filter (λ line. not (is_skipped line.1)) (enumerate_from k lines)
+
+-- what a line with content gives
+abbrev pub with_content : Kind → Stage → ℕ × List ℕ → Stage
+with_content kind stage l =
+    (if stage.started then with_option (line_number l.0) stage (written_by stage.sheet l.1)
+    else record stage { started = true; sheet = with_row stage.sheet (row_of kind no_row (parts l.1)) })
+
+-- such lines, one after another
+abbrev stage_on : Kind → Stage → List (ℕ × List ℕ) → Stage
+stage_on kind stage ls = fold (with_content kind) stage ls
+
+stage-content : (kind : Kind) (n : ℕ) (stage : Stage) (lines : List (List ℕ))
+    → stage_from kind n stage lines ≡ stage_on kind stage (content_from (n + 1) lines)
+stage-content kind n stage [] = refl
+stage-content kind n stage (line ∷ lines) = by-test (is_skipped line)
+    (λ f. rw f (stage-content kind (n + 1) stage lines))
+    (λ f. rw f (stage-content kind (n + 1) (with_content kind stage (n + 1, line)) lines))
 
 abbrev pub flat : List (List Written) → List Written
 flat uss = flat_map (λ us. us) uss
@@ -436,108 +398,78 @@ with_kept-more sheet us uss =
 abbrev pub stage_behind : Sheet → List ℕ → List (ℕ × List ℕ) → Stage
 stage_behind sheet ignored ls = S (with_kept sheet (kept_in sheet ls)) (ignored ++ ignored_in sheet ls)
 
-pub stage-behind : (kind : Kind) (n : ℕ) (sheet : Sheet) (ignored : List ℕ) (lines : List (List ℕ))
-    → stage_from kind n (S sheet ignored) lines ≡ stage_behind sheet ignored (content_from (n + 1) lines)
-stage-behind kind n sheet ignored [] =
+stage-behind : (kind : Kind) (sheet : Sheet) (ignored : List ℕ) (ls : List (ℕ × List ℕ))
+    → stage_on kind (S sheet ignored) ls ≡ stage_behind sheet ignored ls
+stage-behind kind sheet ignored [] =
     λ i. S (record sheet { options = sym (append-nil sheet.options) i }) (sym (append-nil ignored) i)
-stage-behind kind n sheet ignored (line ∷ lines) =
-    let ls = content_from (n + 1 + 1) lines in
-    let us = written_by sheet line in
-    by-line kind (line_number (n + 1)) sheet ignored line
-    (λ st. stage_from kind (n + 1) st lines ≡ stage_behind sheet ignored (content_from (n + 1) (line ∷ lines)))
-    (λ f. rw f (stage-behind kind (n + 1) sheet ignored lines))
-    (λ f g. rw (f, g) (stage-behind kind (n + 1) (more sheet us) ignored lines
+stage-behind kind sheet ignored (l ∷ ls) =
+    let us = written_by sheet l.1 in
+    let n = line_number l.0 in by-test (has_primary sheet.primaries us)
+    (λ g. rw g (stage-behind kind (more sheet us) ignored ls
     ∙ ap (λ s. S s (ignored ++ ignored_in sheet ls)) (with_kept-more sheet us (kept_in sheet ls))))
-    (λ f g. rw (f, g) (stage-behind kind (n + 1) sheet (ignored ++ line_number (n + 1) ∷ []) lines
-    ∙ ap (S (with_kept sheet (kept_in sheet ls)))
-    (append_assoc ignored (line_number (n + 1) ∷ []) (ignored_in sheet ls))))
+    (λ g. rw g (stage-behind kind sheet (ignored ++ n ∷ []) ls
+    ∙ ap (S (with_kept sheet (kept_in sheet ls))) (append_assoc ignored (n ∷ []) (ignored_in sheet ls))))
 
 -- what all lines give, by those with content
 abbrev pub stage_by : Kind → List (ℕ × List ℕ) → Stage
 stage_by kind [] = no_stage
 stage_by kind (item ∷ rest) = stage_behind (start kind item.1) [] rest
 
-pub stage-by : (kind : Kind) (n : ℕ) (lines : List (List ℕ))
-    → stage_from kind n no_stage lines ≡ stage_by kind (content_from (n + 1) lines)
-stage-by kind n [] = refl
-stage-by kind n (line ∷ lines) =
-    by-first-line kind (line_number (n + 1)) line
-    (λ st. stage_from kind (n + 1) st lines ≡ stage_by kind (content_from (n + 1) (line ∷ lines)))
-    (λ f. rw f (stage-by kind (n + 1) lines)) (λ f. rw f (stage-behind kind (n + 1) (start kind line) [] lines))
+pub stage-by : (kind : Kind) (lines : List (List ℕ)) → stage_of kind lines ≡ stage_by kind (content_from 1 lines)
+stage-by kind lines = stage-content kind 0 no_stage lines ∙ of-content (content_from 1 lines)
+  where
+    of-content : (ls : List (ℕ × List ℕ)) → stage_on kind no_stage ls ≡ stage_by kind ls
+    of-content [] = refl
+    of-content (item ∷ rest) = stage-behind kind (start kind item.1) [] rest
 
 -- LINES WITHOUT A FAULT
+abbrev AreFaultless : Kind → Stage → List (ℕ × List ℕ) → Type 0
+AreFaultless kind stage [] = Unit {0}
+AreFaultless kind stage (l ∷ ls) =
+    (first (content_checks kind stage l.1) ≡ None) × AreFaultless kind (with_content kind stage l) ls
+
+or-none : (n : ℕ) (k : Option FaultKind) (later : Option (ℕ × FaultKind)) (A B : Type 0) → ((later ≡ None) ↔ (A × B))
+    → (fault_or n k later ≡ None) ↔ (A × ((k ≡ None) × B))
+or-none n None later A B h = (λ e. (let r = h.0 e in (r.0, (refl, r.1))), λ x. h.1 (x.0, x.1.1))
+or-none n (Some k) later A B h = (λ e. absurd (cc), λ x. absurd (let e = x.1.0 in cc))
+
+faultless : (kind : Kind) (n : ℕ) (stage : Stage) (lines : List (List ℕ)) → (fault_from kind n stage lines ≡ None)
+    ↔ ((list_any (has 0) lines ≡ false) × AreFaultless kind stage (content_from (n + 1) lines))
+faultless kind n stage [] = (λ e. (refl, tt), λ h. refl)
+faultless kind n stage (line ∷ lines) = by-test (has 0 line)
+    (λ z. rw z (λ e. absurd (cc), λ h. absurd (let e = h.0 in cc)))
+    (λ z. by-test (is_skipped line) (λ f. rw (z, f) (faultless kind (n + 1) stage lines))
+    (λ f. rw (z, f) (or-none (n + 1) (first (content_checks kind stage line)) _ _ _
+    (faultless kind (n + 1) (with_content kind stage (n + 1, line)) lines))))
+
 -- options behind the item line
-pub record AreClear (kind : Kind) (sheet : Sheet) (ls : List (ℕ × List ℕ)) : Type 0 where
-  pub tokens : AllByRecursion (λ l. first (option_checks (said kind sheet) [] (tokens l.1)) ≡ None) ls
-  pub few : use_count sheet.options + length (flat (kept_in sheet ls)) ≤ most_uses
+abbrev pub AreClear : Kind → Sheet → List (ℕ × List ℕ) → Type 0
+AreClear kind sheet ls = AllByRecursion (λ l. first (option_checks (said kind sheet) [] (tokens l.1)) ≡ None) ls
+    × (use_count sheet.options + length (flat (kept_in sheet ls)) ≤ most_uses)
 
-behind-clear : (kind : Kind) (n : ℕ) (sheet : Sheet) (ignored : List ℕ) (lines : List (List ℕ))
-    → use_count sheet.options ≤ most_uses → fault_from kind n (S sheet ignored) lines ≡ None
-    → (list_any (has 0) lines ≡ false) × AreClear kind sheet (content_from (n + 1) lines)
-behind-clear kind n sheet ignored [] l e = (refl, record { tokens = tt; few = omega (arith, l) })
-behind-clear kind n sheet ignored (line ∷ lines) l e =
-    let a = none-from kind n (S sheet ignored) line lines e in
-    let b = clear kind (S sheet ignored) line a.0 in
-    let us = written_by sheet line in
-    let checks = λ (f : is_skipped line ≡ false). split (option_checks (said kind sheet) [] (tokens line))
-    (whole_checks sheet line) (b.1 f) in
-    by-line kind (line_number (n + 1)) sheet ignored line
-    (λ st. fault_from kind (n + 1) st lines ≡ None
-    → (list_any (has 0) (line ∷ lines) ≡ false) × AreClear kind sheet (content_from (n + 1) (line ∷ lines)))
-    (λ f q. let r = behind-clear kind (n + 1) sheet ignored lines l q in
-    (or_from (has 0 line) _ b.0 r.0, record { tokens = rw f r.1.tokens; few = rw f r.1.few }))
-    (λ f g q.
-    let room = room-of sheet line g (fails (whole_checks sheet line) (checks f).1 TooManyUses) in
-    let r = behind-clear kind (n + 1) (more sheet us) ignored lines (omega (arith, room, count-next sheet us)) q in (
-      or_from (has 0 line) _ b.0 r.0,
-      record {
-        tokens = rw f ((checks f).0, r.1.tokens);
-        few = rw (f, g) (omega (
-          arith,
-          r.1.few,
-          count-next sheet us,
-          length-append us (flat (kept_in sheet (content_from (n + 1 + 1) lines))),
-        ));
-      },
+clear-options : (kind : Kind) (sheet : Sheet) (ignored : List ℕ) (ls : List (ℕ × List ℕ))
+    → use_count sheet.options ≤ most_uses → AreFaultless kind (S sheet ignored) ls ↔ AreClear kind sheet ls
+clear-options kind sheet ignored [] m = (λ e. (tt, omega (arith, m)), λ h. tt)
+clear-options kind sheet ignored (l ∷ ls) m =
+    let us = written_by sheet l.1 in
+    let checks = option_checks (said kind sheet) [] (tokens l.1) in
+    let uses = length-append us (flat (kept_in sheet ls)) in
+    let count = count-next sheet us in by-test (has_primary sheet.primaries us)
+    (λ g. rw g (
+      λ q. (let s = split checks _ q.0 in
+          let few = (room sheet l.1).0 s.1 in
+          let r = (clear-options kind (more sheet us) ignored ls (omega (arith, few, count))).0 q.1 in
+          ((s.0, r.0), omega (arith, r.1, count, uses))),
+      λ h. (let few : use_count sheet.options + length us ≤ most_uses = omega (arith, h.1, uses) in (
+        first-all checks _ h.0.0 ((room sheet l.1).1 few),
+        (clear-options kind (more sheet us) ignored ls (omega (arith, few, count))).1
+            (h.0.1, omega (arith, h.1, count, uses)),
+      )),
     ))
-    (λ f g q. let r = behind-clear kind (n + 1) sheet (ignored ++ line_number (n + 1) ∷ []) lines l q in
-    (or_from (has 0 line) _ b.0 r.0, record { tokens = rw f ((checks f).0, r.1.tokens); few = rw (f, g) r.1.few })) a.1
-
-clear-behind : (kind : Kind) (n : ℕ) (sheet : Sheet) (ignored : List ℕ) (lines : List (List ℕ))
-    → list_any (has 0) lines ≡ false → AreClear kind sheet (content_from (n + 1) lines)
-    → fault_from kind n (S sheet ignored) lines ≡ None
-clear-behind kind n sheet ignored [] z h = refl
-clear-behind kind n sheet ignored (line ∷ lines) z h =
-    let y = or_parts (has 0 line) (list_any (has 0) lines) z in
-    let us = written_by sheet line in
-    let checks = option_checks (said kind sheet) [] (tokens line) in
-    let m = line_number (n + 1) in
-    let r = by-line kind m sheet ignored line (λ st. (first (line_checks kind (S sheet ignored) line) ≡ None)
-    × (fault_from kind (n + 1) st lines ≡ None))
-    (λ f. (
-      skipped-clear kind (S sheet ignored) line y.0 f,
-      clear-behind kind (n + 1) sheet ignored lines y.1
-          (record { tokens = rw f at h.tokens; few = rw f at h.few }),
+    (λ g. let r = clear-options kind sheet (ignored ++ line_number l.0 ∷ []) ls m in rw g (
+      λ q. (let s = split checks _ q.0 in let o = r.0 q.1 in ((s.0, o.0), o.1)),
+      λ h. (first-all checks _ h.0.0 refl, r.1 (h.0.1, h.1)),
     ))
-    (λ f g.
-    let o = rw f at h.tokens in
-    let l : use_count sheet.options + length us + length (flat (kept_in sheet (content_from (n + 1 + 1) lines)))
-    ≤ most_uses = omega (
-      arith,
-      rw (f, g) at h.few,
-      length-append us (flat (kept_in sheet (content_from (n + 1 + 1) lines))),
-    ) in (
-      content-clear kind (S sheet ignored) line y.0 f
-          (first-all checks (whole_checks sheet line) o.0 (rw (no-room sheet line (omega (arith, l))))),
-      clear-behind kind (n + 1) (more sheet us) ignored lines y.1
-          (record { tokens = o.1; few = omega (arith, l, count-next sheet us) }),
-    ))
-    (λ f g. let o = rw f at h.tokens in (
-      content-clear kind (S sheet ignored) line y.0 f (first-all checks (whole_checks sheet line) o.0 (rw g)),
-      clear-behind kind (n + 1) sheet (ignored ++ m ∷ []) lines y.1
-          (record { tokens = o.1; few = rw (f, g) at h.few }),
-    )) in
-    (λ i. fault_or (n + 1) (r.0 i) (fault_from kind (n + 1) (with_line kind m (S sheet ignored) line) lines)) ∙ r.1
 
 -- all lines with content
 abbrev pub IsClearText : Kind → List (ℕ × List ℕ) → Type 0
@@ -545,30 +477,15 @@ IsClearText kind [] = Unit {0}
 IsClearText kind (item ∷ rest) =
     (first (row_checks kind no_row (parts item.1)) ≡ None) × AreClear kind (start kind item.1) rest
 
-pub lines-clear : (kind : Kind) (n : ℕ) (lines : List (List ℕ)) → fault_from kind n no_stage lines ≡ None
-    → (list_any (has 0) lines ≡ false) × IsClearText kind (content_from (n + 1) lines)
-lines-clear kind n [] e = (refl, tt)
-lines-clear kind n (line ∷ lines) e =
-    let a = none-from kind n no_stage line lines e in
-    let b = clear kind no_stage line a.0 in
-    by-first-line kind (line_number (n + 1)) line
-    (λ st. fault_from kind (n + 1) st lines ≡ None
-    → (list_any (has 0) (line ∷ lines) ≡ false) × IsClearText kind (content_from (n + 1) (line ∷ lines)))
-    (λ f q. let r = lines-clear kind (n + 1) lines q in (or_from (has 0 line) _ b.0 r.0, rw f r.1))
-    (λ f q. let r = behind-clear kind (n + 1) (start kind line) [] lines (omega arith) q in
-    (or_from (has 0 line) _ b.0 r.0, rw f (b.1 f, r.1))) a.1
-
-pub clear-lines : (kind : Kind) (n : ℕ) (lines : List (List ℕ)) → list_any (has 0) lines ≡ false
-    → IsClearText kind (content_from (n + 1) lines) → fault_from kind n no_stage lines ≡ None
-clear-lines kind n [] z h = refl
-clear-lines kind n (line ∷ lines) z h =
-    let y = or_parts (has 0 line) (list_any (has 0) lines) z in
-    let m = line_number (n + 1) in
-    let r = by-first-line kind m line (λ st. (first (line_checks kind no_stage line) ≡ None)
-    × (fault_from kind (n + 1) st lines ≡ None))
-    (λ f. (skipped-clear kind no_stage line y.0 f, clear-lines kind (n + 1) lines y.1 (rw f at h)))
-    (λ f. let k = rw f at h in (
-      content-clear kind no_stage line y.0 f k.0,
-      clear-behind kind (n + 1) (start kind line) [] lines y.1 k.1,
-    )) in
-    (λ i. fault_or (n + 1) (r.0 i) (fault_from kind (n + 1) (with_line kind m no_stage line) lines)) ∙ r.1
+pub clear-lines : (kind : Kind) (lines : List (List ℕ)) → (fault_from kind 0 no_stage lines ≡ None)
+    ↔ ((list_any (has 0) lines ≡ false) × IsClearText kind (content_from 1 lines))
+clear-lines kind lines =
+    let all = faultless kind 0 no_stage lines in
+    let text = of-content (content_from 1 lines) in
+    (λ e. (let r = all.0 e in (r.0, text.0 r.1)), λ h. all.1 (h.0, text.1 h.1))
+  where
+    of-content : (ls : List (ℕ × List ℕ)) → AreFaultless kind no_stage ls ↔ IsClearText kind ls
+    of-content [] = (λ e. tt, λ h. tt)
+    of-content (item ∷ rest) =
+        let o = clear-options kind (start kind item.1) [] rest (omega arith) in
+        (λ q. (q.0, o.0 q.1), λ h. (h.0, o.1 h.1))

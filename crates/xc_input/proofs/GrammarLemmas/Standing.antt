@@ -75,7 +75,7 @@ pub clear-stands : (kind : Kind) (lines : List (List ℕ)) (item : ℕ × List �
     × StandsFor kind lines (named_of (stage_by kind (item ∷ rest)).sheet) (stage_by kind (item ∷ rest)).ignored
 clear-stands kind lines item rest z e h =
     let s = start kind item.1 in
-    let items = row-good kind [] (parts item.1) (omega arith) h.0 in
+    let items = row-good kind [] (parts item.1) _ refl (omega arith) h.0 in
     let many : length (bounds_in (take s.primaries s.entries)) ≡ s.primaries = omega (
       arith,
       length-map {B = Bounds} (take s.primaries s.entries) (λ e. record { low = e.low; high = e.high }),
@@ -87,11 +87,11 @@ clear-stands kind lines item rest z e h =
     let all : Sheet = with_kept s (kept_in s rest) in
     let options : HaveOptions (said kind s) rest (named_of all) (ignored_in s rest) = record {
       options = written_in s rest;
-      stand = good-lines kind s rest h.1.tokens;
+      stand = good-lines kind s rest h.1.0;
       others = refl;
       kept = kept_in s rest;
       are_kept = refl;
-      few = omega (arith, h.1.few);
+      few = omega (arith, h.1.1);
       colours = refl;
       numbered = refl;
     } in (
@@ -144,7 +144,7 @@ stands-clear kind lines named ignored h =
       };
     } in
     let behind : IsBehind kind named ignored rest s = (
-      record { tokens = w.1; few = omega (arith, o.few, ap (λ uss. length (flat uss)) kept) },
+      (w.1, omega (arith, o.few, ap (λ uss. length (flat uss)) kept)),
       sheet,
       o.others ∙ ap (ignored_of (length h.items.primary)) w.0,
     ) in

@@ -92,7 +92,8 @@ module _ (kind : Kind) {d : ProblemBuilder} (line : List ℕ) (s : IsBuilder d) 
           l,
         )
 
-        pub too-long : b ≡ true → most_uses < n → first (content_checks kind (stage_of_builder d) line) ≡ Some TooManyUses
+        pub too-long : b ≡ true → most_uses < n
+            → first (content_checks kind (stage_of_builder d) line) ≡ Some TooManyUses
         too-long e h = let full : nat_lt most_uses n ≡ true = grind (arith, nat_tests) in
             whole-line ∙ rw (kept, count, e, full)
 

@@ -50,8 +50,8 @@ drop_white-length [] = omega arith
 drop_white-length (b ∷ bs) = grind (arith, nat_tests, drop_white-length bs)
 
 -- a line's first token, by the line without the white space that it begins with
-pub behind-all-white : (names : List (List ℕ)) (line others : List ℕ) (t : Token) {rest : List ℕ} → rest ≡ drop_white line
-    → StandsFirst names rest t others → StandsFirst names line t others
+pub behind-all-white : (names : List (List ℕ)) (line others : List ℕ) (t : Token) {rest : List ℕ}
+    → rest ≡ drop_white line → StandsFirst names rest t others → StandsFirst names line t others
 behind-all-white names line others t e h = (
   h.0,
   sym (tokens-drop_white line) ∙ ap tokens (sym e) ∙ h.1,

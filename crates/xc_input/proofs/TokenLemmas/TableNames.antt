@@ -86,8 +86,8 @@ distinct-place names name k distinct e =
     ap (λ t. if t then Some (position_or_len (bytes_eq name) names) else None) low ∙ ap Some at
 
 -- no colour comes twice
-pub distinct-more : (old : List (List ℕ)) {new : List (List ℕ)} (name : List ℕ) → AreDistinct old → place old name ≡ None
-    → new ≡ old ++ name ∷ [] → AreDistinct new
+pub distinct-more : (old : List (List ℕ)) {new : List (List ℕ)} (name : List ℕ) → AreDistinct old
+    → place old name ≡ None → new ≡ old ++ name ∷ [] → AreDistinct new
 distinct-more old name distinct none e =
     subst AreDistinct (sym e) (all_pairs_push (λ x y. x ≢ y) old name distinct (apart old name none))
 

@@ -8,6 +8,6 @@ pub returns-in-Some : goal.returns-in-Some
 returns-in-Some c =
     let full = sym c.has_byte.ensures ∙ c.if-has_byte.false in
     let told = sym c.is_skipped_line.ensures ∙ c.if-is_skipped_line.false in
-    subst (λ (given : Option (List ℕ)). IfOk c.faulty_use.result (Tells (IsFaultyToken c.args.kind given c.args.line.now)))
+    subst (λ (o : Option (List ℕ)). IfOk c.faulty_use.result (Tells (IsFaultyToken c.args.kind o c.args.line.now)))
     (sym (ap (option_map (λ (bytes : Bor (List ℕ)). bytes.now)) c.in-Some.is))
     (ok-tells-same c.faulty_use.result (λ t p. (full, told, p)) (λ t q. q.2) c.faulty_use.ensures)
