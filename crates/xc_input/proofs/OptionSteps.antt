@@ -66,13 +66,13 @@ module _ {kind : Kind} {names : List (List ℕ)} {primary : ℕ} {line : List (L
     behind_few less = omega (arith, b.few_colours, uses_count, b.few, less)
 
     -- behind one token more
-    pub behind_more : (token : List ℕ) (others : List (List ℕ)) (u : Written) (colours' : List (List ℕ))
-        (uses' : List Use) → rest ≡ token ∷ others
+    pub behind_more : {token : List ℕ} {others : List (List ℕ)} {u : Written} {colours' : List (List ℕ)}
+        {uses' : List Use} → rest ≡ token ∷ others
         → (first (token_checks (context kind names primary) (items_of b.us) token) ≡ None) × (u ≡ written names token)
         → IsMarkable (length marks) u.item → get_or marks (u.item - 1) false ≡ false
         → uses' ≡ uses ++ use_behind colours u ∷ [] → colours' ≡ with_colour colours u.colour → AreDistinct colours'
         → IsBehind kind names primary line others met old (set marks (u.item - 1) true) colours' uses'
-    behind_more token others u colours' uses' cut is within free more known distinct =
+    behind_more {token} {others} {u} {colours'} {uses'} cut is within free more known distinct =
         let step = token-step kind names primary b.us token rest others _ _ u b.decided b.split cut is in
         let turn = in_turn_more met b.us u in
         let here : use_behind colours u ≡ use_behind (with_uses met b.us) u = ap (λ cs. use_behind cs u) b.known in

@@ -1,4 +1,5 @@
 -- For `line`, `finish` and the laws: the first fault of a text is the first one of its lines as they are read.
+use Rattle.std.proofs.Math.Bool.{or-true, or-false}
 use Rattle.std.proofs.lemmas.Bool.Decides.{nat_tests}
 use Rattle.std.proofs.Common.{◌≡◌, ℕ, ◌+◌, List, [], ◌∷◌, ◌++◌, Option, None, Some, Bool, true, false, ◌||◌}
 use Rattle.std.proofs.Common.{not, nat_le, is_some, length, map, refl, ap, ◌∙◌, sym, subst}
@@ -77,18 +78,6 @@ names-snoc : (kind : Kind) (before : List (List ℕ)) (p : List ℕ) (t : Bool) 
     → item_names kind (before ++ p ∷ []) ≡ item_names kind before ++ (if t then [] else name_of kind p ∷ [])
 names-snoc kind before p t f = grind (arith, nat_tests, filter-append, map-append (name_of kind))
 
-barred-snoc : (before : List (List ℕ)) (p : List ℕ) (t : Bool) → is_bar p ≡ t
-    → list_any is_bar (before ++ p ∷ []) ≡ (list_any is_bar before || t)
-barred-snoc before p t f = grind (arith, nat_tests, list_any-append is_bar before (p ∷ []))
-
-or-true : (b : Bool) → true ≡ (b || true)
-or-true true = refl
-or-true false = refl
-
-or-same : (b : Bool) → b ≡ (b || false)
-or-same true = refl
-or-same false = refl
-
 -- the items of these parts of an item line
 pub record IsRowOf (kind : Kind) (row : Row) (others : List (List ℕ)) : Type 0 where
   pub names : names_of row.entries ≡ item_names kind others
@@ -107,12 +96,12 @@ pub row-more : {kind : Kind} {row : Row} {others : List (List ℕ)} (part : List
 row-more {kind} {row} {others} part r = by-test (is_bar part)
     (λ f. rw f (record {
       names = r.names ∙ sym (append-nil (item_names kind others)) ∙ sym (names-snoc kind others part true f);
-      barred = or-true (list_any is_bar others) ∙ sym (barred-snoc others part true f);
+      barred = sym (list_any-append is_bar others (part ∷ []) ∙ rw f (or-true (list_any is_bar others)));
     }))
     (λ f. rw f (record {
       names = names_of-snoc row.entries (entry kind (is_some row.bar) part)
           ∙ ap (λ ns. ns ++ name_of kind part ∷ []) r.names ∙ sym (names-snoc kind others part false f);
-      barred = r.barred ∙ or-same (list_any is_bar others) ∙ sym (barred-snoc others part false f);
+      barred = r.barred ∙ sym (list_any-append is_bar others (part ∷ []) ∙ rw f (or-false (list_any is_bar others)));
     }))
 
 pub parts-checked : {kind : Kind} (ps : List (List ℕ)) {row : Row} {before : List (List ℕ)} → IsRowOf kind row before

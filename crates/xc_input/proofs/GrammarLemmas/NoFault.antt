@@ -113,8 +113,7 @@ module _ (kind : Kind) (names : List (List ℕ)) (sec : Bool) (token : List ℕ)
       let lt : nat_lt (length names) most_items ≡ true = not-false _ (no TooManyItems) in (
         (solid name (no EmptyName) (no NameTooLong) (no BadByteInName), shape (has_prefix kind token) refl a.0),
         none-of (place names name) (no RepeatedName),
-        grind
-            (arith, nat_tests),
+        grind (arith, nat_tests),
       )
 
   -- a token that stands for an item stands for no other, and has no fault

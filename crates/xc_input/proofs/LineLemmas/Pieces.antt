@@ -19,7 +19,7 @@ use Rattle.xc_input.specs.Readings.{Reading}
 use Rattle.xc_input.specs.inner.Feeding.{fed, IsBetween, Spoils, EndsAs}
 use Rattle.xc_input.specs.Lines.{lines_of}
 use Rattle.xc_input.specs.Pieces.{SourceState, Gave, GaveAll, IsOpen, IsWhole, IsPart}
-use Rattle.xc_input.proofs.LineLemmas.Sources.{error-ends}
+use Rattle.xc_input.proofs.LineLemmas.Reading.{error-ends}
 use Prim.Native.Char.{code}
 
 pub gave_nothing : (s : SourceState) → Gave s s []

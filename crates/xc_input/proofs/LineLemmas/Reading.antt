@@ -71,17 +71,18 @@ pub line-stays : (kind : Kind) (lines more : List (List ℕ)) (p : ℕ × FaultK
 line-stays kind lines more p h = line_fault-is kind (lines ++ more)
     ∙ fault-stays kind 0 no_stage lines more p (sym (line_fault-is kind lines) ∙ h)
 
-IsErrorOf-stays : (kind : Kind) (lines : List (List ℕ)) (line : List ℕ) (e : InputError) → IsErrorOf kind lines e
-    → IsErrorOf kind (lines ++ line ∷ []) e
-IsErrorOf-stays kind lines line (Fault n k) h = line-stays kind lines (line ∷ []) (n, k) h
-IsErrorOf-stays kind lines line Device h = h
-IsErrorOf-stays kind lines line Memory h = tt
+-- an error of some lines is that of all
+pub IsErrorOf-more : (kind : Kind) (ls ms : List (List ℕ)) (e : InputError) → IsErrorOf kind ls e
+    → IsErrorOf kind (ls ++ ms) e
+IsErrorOf-more kind ls ms (Fault n k) h = line-stays kind ls ms (n, k) h
+IsErrorOf-more kind ls ms Device h = h
+IsErrorOf-more kind ls ms Memory h = tt
 
 -- one line more, after an error
 pub stays : (kind : Kind) (old new : List (List ℕ)) (line : List ℕ) (o : Option InputError) (e : InputError)
     → new ≡ old ++ line ∷ [] → o ≡ Some e → IsStateOf kind old o → IsErrorOf kind new e
 stays kind old new line o e f g h =
-    subst (λ ls. IsErrorOf kind ls e) (sym f) (IsErrorOf-stays kind old line e (subst (IsStateOf kind old) g h))
+    subst (λ ls. IsErrorOf kind ls e) (sym f) (IsErrorOf-more kind old (line ∷ []) e (subst (IsStateOf kind old) g h))
 
 pub counts : (old new : List (List ℕ)) (line : List ℕ) (count next : ℕ) → new ≡ old ++ line ∷ []
     → count ≡ line_number (length old) → next ≡ min (count + 1) (2 ^ 64 - 1) → next ≡ line_number (length new)
@@ -113,16 +114,16 @@ module _ (kind : Kind) (old new : List (List ℕ)) (line : List ℕ) (f : new �
   stage-is count d' c t = grind (arith, nat_tests, stage-snoc kind 0 no_stage old line)
 
 -- the end of the text
-pub fault-ends : (kind : Kind) (lines : List (List ℕ)) (p : ℕ × FaultKind) → line_fault kind lines ≡ Some p
-    → first_fault kind lines ≡ Some p
-fault-ends kind lines p h =
+-- the error of the lines is that of the text
+pub error-ends : (kind : Kind) (lines : List (List ℕ)) (e : InputError) → IsErrorOf kind lines e → IsEndOf kind lines e
+error-ends kind lines (Fault n k) h =
     ap (λ q. option_or q (if list_all is_skipped lines then Some (line_number (length lines + 1), NoItems) else None)) h
+error-ends kind lines Device h = h
+error-ends kind lines Memory h = tt
 
 pub ends-at : (kind : Kind) (lines : List (List ℕ)) (o : Option InputError) (e : InputError) → o ≡ Some e
     → IsStateOf kind lines o → IsEndOf kind lines e
-ends-at kind lines o (Fault n k) f h = fault-ends kind lines (n, k) (subst (IsStateOf kind lines) f h)
-ends-at kind lines o Device f h = subst (IsStateOf kind lines) f h
-ends-at kind lines o Memory f h = tt
+ends-at kind lines o e f h = error-ends kind lines e (subst (IsStateOf kind lines) f h)
 
 pub end-is : (kind : Kind) (lines : List (List ℕ)) (b : Bool) (o : Option InputError) → o ≡ None
     → IsStateOf kind lines o → b ≡ (stage_of kind lines).started → first_fault kind lines ≡ end_fault (length lines) b

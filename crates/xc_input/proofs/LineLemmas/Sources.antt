@@ -2,13 +2,12 @@
 use Rattle.std.proofs.Common.{arith}
 use Rattle.std.proofs.lemmas.Bool.Decides.{nat_tests}
 use Rattle.std.proofs.Common.{◌≡◌, ℕ, ◌<◌, List, [], ◌∷◌, ◌++◌, Result, Err, length, sym, ap, ◌∙◌, subst, append-nil}
-use Rattle.xc_input.proofs.LineLemmas.Reading.{fault-ends}
+use Rattle.xc_input.proofs.LineLemmas.Reading.{error-ends}
 use Rattle.xc_input.specs.declared.kind.Kind.{Kind}
 use Rattle.xc_input.specs.declared.fault.InputError.{InputError}
-use Rattle.xc_input.specs.declared.fault.InputError.TheVariants.{Fault, Device, Memory}
 use Rattle.xc_input.specs.declared.reader.Read.{Read}
 use Rattle.xc_input.specs.Readings.{Reading}
-use Rattle.xc_input.specs.inner.Feeding.{IsErrorOf, IsEndOf, fed, IsBetween, EndsAs}
+use Rattle.xc_input.specs.inner.Feeding.{IsErrorOf, fed, IsBetween, EndsAs}
 use Rattle.xc_input.specs.Lines.{lines_of}
 use Rattle.xc_input.proofs.LineLemmas.Finish.{refutes}
 use Rattle.xc_input.proofs.LineLemmas.TextLines.{lines_of-ended, lines_of-part}
@@ -17,12 +16,6 @@ use Rattle.std.proofs.lemmas.List.{nil_from_length}
 pub ends-as : (kind now : Kind) (lines told : List (List ℕ)) (r : Result Read InputError) → now ≡ kind → told ≡ lines
     → EndsAs now told r → EndsAs kind lines r
 ends-as kind now lines told r e f h = subst (λ k. EndsAs k lines r) e (subst (λ ls. EndsAs now ls r) f h)
-
--- the error of a line is that of the text
-pub error-ends : (kind : Kind) (lines : List (List ℕ)) (e : InputError) → IsErrorOf kind lines e → IsEndOf kind lines e
-error-ends kind lines (Fault n k) h = fault-ends kind lines (n, k) h
-error-ends kind lines Device h = h
-error-ends kind lines Memory h = tt
 
 pub line-ends : (kind : Kind) (lines : List (List ℕ)) (e : InputError) → IsErrorOf kind lines e
     → EndsAs kind lines (Err e)

@@ -7,7 +7,6 @@ use Rattle.std.proofs.lemmas.List.Folds.{list_any-append}
 use Rattle.std.specs.Result.{result_err}
 use Rattle.xc_input.specs.declared.kind.Kind.{Kind}
 use Rattle.xc_input.specs.declared.fault.InputError.{InputError}
-use Rattle.xc_input.specs.declared.fault.InputError.TheVariants.{Fault, Device, Memory}
 use Rattle.xc_input.specs.Words.{has, before, after}
 use Rattle.xc_input.specs.Readings.{Reading, IsStateOf}
 use Rattle.xc_input.specs.inner.Feeding.{IsErrorOf, fed, IsBetween, Spoils, Ended}
@@ -15,7 +14,7 @@ use Rattle.xc_input.specs.Lines.{lines_of}
 use Rattle.xc_input.specs.inner.EndedLines.{ended, AreWhole}
 use Rattle.xc_input.proofs.GrammarLemmas.NoFault.{cut-is}
 use Rattle.std.proofs.lemmas.Bool.{or_parts, or_from}
-use Rattle.xc_input.proofs.LineLemmas.Reading.{line-stays}
+use Rattle.xc_input.proofs.LineLemmas.Reading.{IsErrorOf-more}
 
 pub lacks-append : (b : ℕ) (xs ys : List ℕ) → has b xs ≡ false → has b ys ≡ false → has b (xs ++ ys) ≡ false
 lacks-append b xs ys p q = list_any-append (λ x. nat_eq x b) xs ys ∙ or_from (has b xs) (has b ys) p q
@@ -77,13 +76,7 @@ lines_of-part (x ∷ []) h p = other x _ _ (or_parts (nat_eq x 10) false h).0
 lines_of-part (x ∷ y ∷ l) h p = let apart = or_parts (nat_eq x 10) (has 10 (y ∷ l)) h in other x _ _ apart.0
     ∙ ap (onto_first x) (lines_of-part (y ∷ l) apart.1 (omega arith))
 
--- an error of some lines is that of all
-IsErrorOf-more : (kind : Kind) (ls ms : List (List ℕ)) (e : InputError) → IsErrorOf kind ls e
-    → IsErrorOf kind (ls ++ ms) e
-IsErrorOf-more kind ls ms (Fault n k) h = line-stays kind ls ms (n, k) h
-IsErrorOf-more kind ls ms Device h = h
-IsErrorOf-more kind ls ms Memory h = tt
-
+-- and of the bytes of some lines
 Spoils-ended : (kind : Kind) (ls : List (List ℕ)) (e : InputError) (bytes : List ℕ) → AreWhole ls → bytes ≡ ended ls
     → IsErrorOf kind ls e → Spoils kind bytes e
 Spoils-ended kind ls e bytes w f h =
@@ -105,23 +98,22 @@ pub ends : (old new : Reading) (carry end whole left : List ℕ) (r : Result (Un
     → has 10 end ≡ false → whole ≡ carry ++ end → new.kind ≡ old.kind
     → new.lines ≡ old.lines ++ whole ∷ [] → new.error ≡ result_err r → IsStateOf new.kind new.lines (result_err r)
     → left ≡ [] → Ended old new carry end left r
-ends old new carry end whole left (Ok x) b l f k g e s n =
-    let lack : has 10 whole ≡ false = ap (has 10) f ∙ lacks-append 10 carry end b.partial l in
-    let w : AreWhole new.lines = whole-more old.lines new.lines whole g b.whole lack in
-    record {
+ends old new carry end whole left r b l f k g e s n =
+    by-result r e s
+    (whole-more old.lines new.lines whole g b.whole (ap (has 10) f ∙ lacks-append 10 carry end b.partial l))
+  where
+    by-result : (r : Result (Unit {0}) InputError) → new.error ≡ result_err r
+        → IsStateOf new.kind new.lines (result_err r) → AreWhole new.lines → Ended old new carry end left r
+    by-result (Ok x) e s w = record {
       bytes = ap (λ xs. ended new.lines ++ xs) n ∙ append-nil (ended new.lines)
           ∙ sym (bytes-are old new carry end whole f g);
       state = record { no_error = e; no_fault = s; whole = w; partial = ap (has 10) n };
       err = tt;
     }
-ends old new carry end whole left (Err x) b l f k g e s n =
-    let lack : has 10 whole ≡ false = ap (has 10) f ∙ lacks-append 10 carry end b.partial l in
-    let w : AreWhole new.lines = whole-more old.lines new.lines whole g b.whole lack in
-    record {
+    by-result (Err x) e s w = record {
       bytes = tt;
       state = tt;
-      err =
-          subst (λ kind. Spoils kind ((fed old carry ++ end) ++ 10 ∷ []) x) k
+      err = subst (λ kind. Spoils kind ((fed old carry ++ end) ++ 10 ∷ []) x) k
           (Spoils-ended new.kind new.lines x _ w (bytes-are old new carry end whole f g) s);
     }
 

@@ -1,7 +1,7 @@
 -- A colour keeps the number that it has where it is met first.
 use Rattle.std.proofs.Common.{◌≡◌, ℕ, suc, ◌+◌, ◌<◌, ◌≤◌, List, [], ◌∷◌, ◌++◌, Option, None, Some, Bool, true, false}
 use Rattle.std.proofs.Common.{◌||◌, nat_le}
-use Rattle.std.proofs.Common.{not, nat_lt, is_none, unwrap_or, length, map, take, append-nil, append_assoc, refl}
+use Rattle.std.proofs.Common.{not, nat_lt, unwrap_or, length, map, take, append-nil, append_assoc, refl}
 use Rattle.std.proofs.Common.{sym, ap, ◌∙◌, length-append, arith, if◌then◌else◌}
 use Rattle.xc_input.specs.declared.problem.Use.{Use}
 use Rattle.std.proofs.lemmas.Bool.Decides.{nat_tests}
@@ -58,23 +58,16 @@ abbrev pub Knows : List (List ℕ) → List ℕ → Type 0
 Knows cs [] = Unit {0}
 Knows cs (b ∷ bs) = (i : ℕ) × (place cs (b ∷ bs) ≡ Some i)
 
--- what holds of the colours with one more: it is a new one, or is there
-pub by-colour : (cs : List (List ℕ)) (b : ℕ) (bs : List ℕ) (Q : List (List ℕ) → Type 0)
-    → (place cs (b ∷ bs) ≡ None → Q (cs ++ (b ∷ bs) ∷ [])) → ((i : ℕ) → place cs (b ∷ bs) ≡ Some i → Q cs)
-    → Q (with_colour cs (b ∷ bs))
-by-colour cs b bs Q new old = cases (place cs (b ∷ bs)) refl
-  where
-    cases : (o : Option ℕ) → place cs (b ∷ bs) ≡ o → Q (if is_none o then cs ++ (b ∷ bs) ∷ [] else cs)
-    cases None e = new e
-    cases (Some i) e = old i e
+-- a place is none, or there is one
+pub by-place : {A : Type 0} (o : Option ℕ) → (o ≡ None → A) → ((i : ℕ) → o ≡ Some i → A) → A
+by-place None new old = new refl
+by-place (Some i) new old = old i refl
 
 pub met : (cs : List (List ℕ)) (c : List ℕ) → Knows (with_colour cs c) c
 met cs [] = tt
-met cs (b ∷ bs) = by-colour cs b bs (λ ds. Knows ds (b ∷ bs))
-    (λ e. (
-      length cs,
-      last-position (bytes_eq (b ∷ bs)) cs (b ∷ bs) e ((bytes_eq-Decides (b ∷ bs) (b ∷ bs)).1 refl),
-    )) (λ i e. (i, e))
+met cs (b ∷ bs) =
+    let same = (bytes_eq-Decides (b ∷ bs) (b ∷ bs)).1 refl in by-place (place cs (b ∷ bs))
+    (λ e. rw e (length cs, last-position (bytes_eq (b ∷ bs)) cs (b ∷ bs) e same)) (λ i e. rw e (i, e))
 
 knows-more : (cs : List (List ℕ)) (d c : List ℕ) → Knows cs c → Knows (with_colour cs d) c
     × (colour_number (with_colour cs d) c ≡ colour_number cs c)
@@ -82,8 +75,8 @@ knows-more cs [] c k = (k, refl)
 knows-more cs (b ∷ bs) [] k = (tt, refl)
 knows-more cs (b ∷ bs) (x ∷ xs) k =
     let stays = position-stays (bytes_eq (x ∷ xs)) cs ((b ∷ bs) ∷ []) k.0 k.1 in
-    by-colour cs b bs (λ ds. Knows ds (x ∷ xs) × (colour_number ds (x ∷ xs) ≡ colour_number cs (x ∷ xs)))
-    (λ e. ((k.0, stays), ap (λ o. unwrap_or o 0 + 1) (stays ∙ sym k.1))) (λ i e. (k, refl))
+    by-place (place cs (b ∷ bs)) (λ e. rw e ((k.0, stays), ap (λ o. unwrap_or o 0 + 1) (stays ∙ sym k.1)))
+    (λ i e. rw e (k, refl))
 
 pub kept : (cs : List (List ℕ)) (us : List Written) (c : List ℕ) → Knows cs c
     → Knows (with_uses cs us) c × (colour_number (with_uses cs us) c ≡ colour_number cs c)
@@ -138,8 +131,8 @@ in_turn_items cs (u ∷ us) = ap (λ is. u.item ∷ is) (in_turn_items (with_col
 -- at most one colour more
 pub colours_more : (cs : List (List ℕ)) (c : List ℕ) → length (with_colour cs c) ≤ length cs + 1
 colours_more cs [] = omega arith
-colours_more cs (b ∷ bs) = by-colour cs b bs (λ ds. length ds ≤ length cs + 1)
-    (λ e. omega (arith, length-append cs ((b ∷ bs) ∷ []))) (λ i e. omega arith)
+colours_more cs (b ∷ bs) = by-place (place cs (b ∷ bs)) (λ e. rw e (omega (arith, length-append cs ((b ∷ bs) ∷ []))))
+    (λ i e. rw e (omega arith))
 
 -- the colours that were met stand first
 pub first_met : (cs : List (List ℕ)) (us : List Written) → take (length cs) (with_uses cs us) ≡ cs
@@ -147,8 +140,8 @@ first_met cs us = let m = more us cs in ap (take (length cs)) m.1 ∙ take-appen
   where
     new_or_not : (cs : List (List ℕ)) (c : List ℕ) → (d : List (List ℕ)) × (with_colour cs c ≡ cs ++ d)
     new_or_not cs [] = ([], sym (append-nil cs))
-    new_or_not cs (b ∷ bs) = by-colour cs b bs (λ ds. (d : List (List ℕ)) × (ds ≡ cs ++ d))
-        (λ e. ((b ∷ bs) ∷ [], refl)) (λ i e. ([], sym (append-nil cs)))
+    new_or_not cs (b ∷ bs) =
+        by-place (place cs (b ∷ bs)) (λ e. rw e ((b ∷ bs) ∷ [], refl)) (λ i e. rw e ([], sym (append-nil cs)))
 
     more : (us : List Written) (cs : List (List ℕ)) → (d : List (List ℕ)) × (with_uses cs us ≡ cs ++ d)
     more [] cs = ([], sym (append-nil cs))

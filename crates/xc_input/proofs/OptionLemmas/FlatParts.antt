@@ -30,14 +30,16 @@ length-pieces [] us h = absurd h
 length-pieces (a ∷ []) us h = omega arith
 length-pieces (a ∷ b ∷ starts) us h = omega (arith, length-pieces (b ∷ starts) us h.1)
 
+starts-low : (a : ℕ) (starts : List ℕ) (n : ℕ) → AreStarts (a ∷ starts) n → a ≤ n
+starts-low a [] n h = omega (arith, h)
+starts-low a (b ∷ starts) n h = let later = starts-low b starts n h.1 in omega (arith, h.0, later)
+
 -- a part lies within the list
-pub start_range : (starts : List ℕ) (n k : ℕ) → AreStarts starts n → k + 1 < length starts
+start_range : (starts : List ℕ) (n k : ℕ) → AreStarts starts n → k + 1 < length starts
     → (get_or starts k 0 ≤ get_or starts (suc k) 0) × (get_or starts (suc k) 0 ≤ n)
 start_range [] n k h l = absurd h
 start_range (a ∷ []) n k h l = absurd (omega (arith, l))
-start_range (a ∷ b ∷ []) n zero h l = (h.0, omega (arith, h.1))
-start_range (a ∷ b ∷ c ∷ starts) n zero h l =
-    let later = start_range (b ∷ c ∷ starts) n zero h.1 (omega arith) in (h.0, omega (arith, later.0, later.1))
+start_range (a ∷ b ∷ starts) n zero h l = (h.0, starts-low b starts n h.1)
 start_range (a ∷ b ∷ starts) n (suc k) h l = start_range (b ∷ starts) n k h.1 (omega (arith, l))
 
 pub piece_at : {X : Type 0} (starts : List ℕ) (us : List X) (k : ℕ) → k + 1 < length starts
@@ -51,12 +53,6 @@ pub numbered_get-at : {X : Type 0} (xs : List X) (i k : ℕ) → i ≡ k + 1 →
 numbered_get-at xs zero k e = absurd (omega (arith, e))
 numbered_get-at xs (suc i) k e = let same : i ≡ k = omega (arith, e) in ap (slice_get xs) same
 
--- the part between two starts that were read
-pub part_range : (starts : List ℕ) (n k a b : ℕ) → AreStarts starts n → k + 1 < length starts → a ≡ get_or starts k 0
-    → b ≡ get_or starts (suc k) 0 → (a ≤ b) × (b ≤ n)
-part_range starts n k a b h l e f =
-    let r = start_range starts n k h l in (omega (arith, r.0, e, f), omega (arith, r.1, f))
-
 pub option_part : {X : Type 0} (starts : List ℕ) (us : List X) (o a b : ℕ) → AreStarts starts (length us) → 1 ≤ o
     → o < length starts → a ≡ get_or starts (o - 1) a → b ≡ get_or starts o b →
     (a ≤ b) × (b ≤ length us) × (numbered_get (pieces starts us) o ≡ Some (slice_range us a b))
@@ -68,8 +64,11 @@ option_part starts us (suc k) a b h l m e f =
     let from : a ≡ get_or starts k 0 =
     e ∙ ap (λ n. get_or starts n a) before ∙ get_or_default_zero starts k a in_front in
     let to : b ≡ get_or starts (suc k) 0 = f ∙ get_or_default_zero starts (suc k) b m in
-    let range = part_range starts (length us) k a b h two from to in
-    (range.0, range.1, piece_at starts us k two ∙ ap₂ (λ x y. Some (slice_range us x y)) (sym from) (sym to))
+    let range = start_range starts (length us) k h two in (
+      omega (arith, range.0, from, to),
+      omega (arith, range.1, to),
+      piece_at starts us k two ∙ ap₂ (λ x y. Some (slice_range us x y)) (sym from) (sym to),
+    )
 
 pub slice-front : {X : Type 0} (us vs : List X) (a b : ℕ) → a ≤ b → b ≤ length us
     → slice_range (us ++ vs) a b ≡ slice_range us a b
@@ -83,10 +82,6 @@ slice-back : {X : Type 0} (us vs : List X) (a n : ℕ) → a ≡ length us → n
 slice-back us vs a n e f =
     let count : n - a ≡ length vs = omega arith in
     (λ i. take (count i) (drop (e i) (us ++ vs))) ∙ ap (take (length vs)) (drop-append_seam us vs) ∙ take-length vs
-
-starts-low : (a : ℕ) (starts : List ℕ) (n : ℕ) → AreStarts (a ∷ starts) n → a ≤ n
-starts-low a [] n h = omega (arith, h)
-starts-low a (b ∷ starts) n h = let later = starts-low b starts n h.1 in omega (arith, h.0, later)
 
 -- one part more
 pub pieces-snoc : {X : Type 0} (a : ℕ) (starts : List ℕ) (us vs : List X) (n : ℕ) → AreStarts (a ∷ starts) (length us)

@@ -7,6 +7,7 @@ use Rattle.std.proofs.lemmas.Bool.Decides.{nat_tests}
 use Rattle.std.proofs.lemmas.List.Folds.{list_any-append}
 use Rattle.std.proofs.lemmas.Slice.Eq.{bytes_eq-Decides}
 use Rattle.std.specs.List.{list_any, AllZip, position, position_or_len, before_first, after_first}
+use Rattle.xc_input.proofs.FaultLemmas.BooleanTests.{by-test}
 use Rattle.xc_input.specs.declared.kind.Kind.{Kind}
 use Rattle.xc_input.specs.Words.{has, place}
 use Rattle.xc_input.specs.Tokens.{is_bar}
@@ -49,19 +50,11 @@ no-bar kind p e (name, inr h) = let f : true ≡ false = h.2 in absurd (cc)
 -- an item or none before the bar
 pub bar-first : (kind : Kind) (p : List ℕ) (ps : List (List ℕ))
     → AllZip (IsEntry kind false) (before_first is_bar (p ∷ ps)) [] → is_bar p ≡ true
-bar-first kind p ps y = cases (is_bar p) refl
-  where
-    cases : (t : Bool) → is_bar p ≡ t → t ≡ true
-    cases true f = refl
-    cases false f = absurd (rw (before-cons p ps false f) at y)
+bar-first kind p ps y = by-test (is_bar p) (λ f. f) (λ f. absurd (rw (before-cons p ps false f) at y))
 
 pub word-first : (kind : Kind) (p : List ℕ) (ps : List (List ℕ)) (e : Entry) (es : List Entry)
     → AllZip (IsEntry kind false) (before_first is_bar (p ∷ ps)) (e ∷ es) → is_bar p ≡ false
-word-first kind p ps e es y = cases (is_bar p) refl
-  where
-    cases : (t : Bool) → is_bar p ≡ t → t ≡ false
-    cases true f = absurd (rw (before-cons p ps true f) at y)
-    cases false f = refl
+word-first kind p ps e es y = by-test (is_bar p) (λ f. absurd (rw (before-cons p ps true f) at y)) (λ f. f)
 
 -- NEW NAMES
 absent-is : {A : Type 0} (p : A → Bool) (xs : List A) → list_any p xs ≡ false → position p xs ≡ None

@@ -1,4 +1,5 @@
 -- Marks at the items of a line.
+use Rattle.std.proofs.Math.Seq.{take-append_seam}
 use Rattle.std.proofs.Common.{◌≡◌, ℕ, zero, suc, ◌+◌, ◌-◌, ◌<◌, ◌≤◌, List, [], ◌∷◌, ◌++◌, Bool, true, false}
 use Rattle.std.proofs.Common.{true≢false, nat_eq, length, map, get_or, set, take, drop, All, refl, ap, ◌∙◌, sym}
 use Rattle.std.proofs.Common.{subst, arith, length-set, Some, position}
@@ -67,12 +68,8 @@ pub mark-at : (marks : List Bool) (names : List (List ℕ)) (name : List ℕ) (s
     → get_or marks place false ≡ list_any (λ i. nat_eq i (place + 1)) seen
 mark-at marks names name seen place are count e = grind (arith, nat_tests, in-range (bytes_eq name) names place e)
 
-written : (new old : List Bool) → length new ≡ length old → take (length new) (new ++ drop (length new) old) ≡ new
-written [] old e = refl
-written (x ∷ new) [] e = absurd (omega (arith, e))
-written (x ∷ new) (y ∷ old) e = ap (λ ms. x ∷ ms) (written new old (omega (arith, e)))
-
 -- marks that were written through a slice
 pub written-back : (n : ℕ) (new old : List Bool) → length new ≡ length old → n ≡ length old
     → take n (new ++ drop (length new) old) ≡ new
-written-back n new old e f = ap (λ m. take m (new ++ drop (length new) old)) (f ∙ sym e) ∙ written new old e
+written-back n new old e f = ap (λ m. take m (new ++ drop (length new) old)) (f ∙ sym e)
+    ∙ take-append_seam new (drop (length new) old)

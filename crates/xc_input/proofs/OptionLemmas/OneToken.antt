@@ -1,7 +1,7 @@
 -- One token of an option line, for `use_of` and the loop of `option_line`.
 use Rattle.std.proofs.Common.{arith, ◌<◌, ◌≤◌, ◌≡◌, ℕ, ◌+◌, List, [], ◌∷◌, ◌++◌, Option, None, Some, Bool, true, false}
 use Rattle.std.proofs.Common.{◌&&◌, nat_lt, nat_eq, map, refl, ap, ◌∙◌, sym}
-use Rattle.std.proofs.Common.{length, drop, if◌then◌else◌, MatchOption, Result, Ok, Err, append_assoc, is_ok}
+use Rattle.std.proofs.Common.{length, drop, MatchOption, append_assoc}
 use Rattle.std.proofs.lemmas.Bool.Decides.{nat_tests}
 use Rattle.std.specs.List.{list_any}
 use Rattle.xc_input.specs.declared.kind.Kind.{Kind}
@@ -122,11 +122,12 @@ module _ (kind : Kind) (primary : ℕ) (seen : List ℕ) {names : List (List ℕ
             )
 
 -- a step of the loop over the tokens
-pub token-stop : (kind : Kind) (names : List (List ℕ)) (primary : ℕ) (seen token : List ℕ) (line others : List (List ℕ))
-    (a : Option FaultKind) (k : FaultKind) → a ≡ first (option_checks (context kind names primary) seen line)
+pub token-stop : (kind : Kind) (names : List (List ℕ)) (primary : ℕ) (seen : List ℕ) {token : List ℕ}
+    {line others : List (List ℕ)} {a : Option FaultKind} {k : FaultKind}
+    → a ≡ first (option_checks (context kind names primary) seen line)
     → line ≡ token ∷ others
     → first (token_checks (context kind names primary) seen token) ≡ Some k → a ≡ Some k
-token-stop kind names primary seen token line others a k e l f =
+token-stop kind names primary seen {token} {others = others} {k = k} e l f =
     e ∙ ap (λ ts. first (option_checks (context kind names primary) seen ts)) l
     ∙ first-front (token_checks (context kind names primary) seen token)
     (option_checks (context kind names primary) (seen ++ item_number names (before COLON token) ∷ []) others) k f
@@ -147,8 +148,3 @@ token-step kind names primary us token line others a all u e f l g =
           primary) (items_of us ++ item_number names (before COLON token) ∷ []) others) g.0,
       append_assoc us (written names token ∷ []) (map (written names) others),
     )
-
-pub pushed : {A E : Type 0} (r : Result (Unit {0}) E) (old new : List A) (x : A) → is_ok r ≡ true
-    → new ≡ (if is_ok r then old ++ x ∷ [] else old) → new ≡ old ++ x ∷ []
-pushed (Ok y) old new x e f = f
-pushed (Err y) old new x e f = absurd (cc)

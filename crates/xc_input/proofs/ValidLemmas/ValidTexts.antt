@@ -22,7 +22,7 @@ use Rattle.xc_input.specs.declared.kind.Kind.{Kind}
 use Rattle.xc_input.specs.declared.problem.Bounds.{Bounds}
 use Rattle.xc_input.specs.declared.problem.Use.{Use}
 use Rattle.xc_input.specs.Problem.{Puzzle, AreSoundBounds, IsSoundUse, IsSoundOption, item_count, use_count}
-use Rattle.xc_input.specs.Words.{has, are_digits, number}
+use Rattle.xc_input.specs.Words.{place, has, are_digits, number}
 use Rattle.xc_input.specs.Tokens.{tokens, parts, is_bar, is_skipped, split_bars, is_space}
 use Rattle.xc_input.specs.Sheets.{Entry, Written, with_colour, colour_number, number_uses}
 use Rattle.xc_input.specs.Limits.{greatest_bound}
@@ -41,7 +41,7 @@ use Rattle.xc_input.proofs.TokenLemmas.DecimalValues.{value_from}
 use Rattle.xc_input.proofs.TokenLemmas.Separators.{BAR, COLON}
 use Rattle.xc_input.proofs.TokenLemmas.TableNames.{apart}
 use Rattle.xc_input.proofs.TokenLemmas.Unbroken.{unbroken-tokens, unbroken-parts, unbroken-behind}
-use Rattle.xc_input.proofs.OptionLemmas.Colours.{Knows, by-colour, met, kept, in-range, colours_more, primary-numbered}
+use Rattle.xc_input.proofs.OptionLemmas.Colours.{Knows, by-place, met, kept, in-range, colours_more, primary-numbered}
 use Rattle.xc_input.proofs.OptionLemmas.Items.{before-cons}
 
 -- LISTS
@@ -152,12 +152,12 @@ record AreGood (cs : List (List ℕ)) : Type 0 where
 good-more : (cs : List (List ℕ)) (c : List ℕ) → (0 < length c → IsColour c × IsUnbroken c) → AreGood cs
     → AreGood (with_colour cs c)
 good-more cs [] f g = g
-good-more cs (b ∷ bs) f g = by-colour cs b bs AreGood
-    (λ e. let k = f (omega arith) in record {
+good-more cs (b ∷ bs) f g = by-place (place cs (b ∷ bs))
+    (λ e. let k = f (omega arith) in rw e (record {
       form = All-push IsColour cs (b ∷ bs) g.form k.0;
       unbroken = All-push IsUnbroken cs (b ∷ bs) g.unbroken k.1;
       distinct = all_pairs_push (λ x y. x ≢ y) cs (b ∷ bs) g.distinct (apart cs (b ∷ bs) e);
-    }) (λ i e. g)
+    })) (λ i e. rw e g)
 
 good-colours : (c : Context) (us : List Written) (cs : List (List ℕ)) → Each (IsGoodUse c) us → AreGood cs
     → AreGood (with_uses cs us)

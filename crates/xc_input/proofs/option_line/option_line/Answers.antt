@@ -1,9 +1,8 @@
 use Rattle.std.proofs.Common.{◌∙◌, ap, sym, subst, List, map, drop, arith}
 use Rattle.std.proofs.lemmas.List.{length-map, take_rest}
-use Rattle.xc_input.specs.Tokens.{tokens}
 use Rattle.xc_input.specs.declared.problem.Use.{Use}
 use Rattle.xc_input.specs.declared.line_error.LineError.TheVariants.{Fault}
-use Rattle.xc_input.specs.inner.Builders.{AreMarks, items_of, written_of}
+use Rattle.xc_input.specs.inner.Builders.{AreMarks, items_of}
 use Rattle.xc_input.specs.inner.Stored.{key_names}
 use Rattle.xc_input.proofs.FaultLemmas.Checks.{err-judged, items-length}
 use Rattle.xc_input.proofs.OptionLemmas.OneToken.{token-stop}
@@ -20,10 +19,9 @@ pub returns-in_err-written-clause-judged : goal.returns-in_err-written-clause-ju
 returns-in_err-written-clause-judged c =
     let b = c.loop-token.invariant in
     err-judged _ c.from_residual.result (Fault c.in_err-written.field-0.0) c.from_residual.ensures.1
-    (token-stop c.args.kind (key_names c.args.names.now.keys) c.args.primary (items_of b.us) c.in-Some.ensures.0
-    (tokens c.loop-token.rest.now) (tokens c.in-Some.others.now) _ _ b.decided c.in-Some.ensures.1
-    (c.in_err-written.ensures.judged (key_names c.args.names.now.keys) c.in-Some.ensures.0 (items_of b.us)
-    c.requires.named.named b.count c.in-Some.ensures.3 b.marked))
+    (token-stop c.args.kind (key_names c.args.names.now.keys) c.args.primary (items_of b.us) b.decided
+    c.in-Some.ensures.1 (c.in_err-written.ensures.judged (key_names c.args.names.now.keys) c.in-Some.ensures.0
+    (items_of b.us) c.requires.named.named b.count c.in-Some.ensures.3 b.marked))
 
 pub add_use-requires-clause-few : goal.add_use-requires-clause-few
 add_use-requires-clause-few c = behind_few c.loop-token.invariant c.requires.few_uses
@@ -34,10 +32,8 @@ loop-token-preserved c =
     let is =
     c.in_ok-written.ensures.judged (key_names c.args.names.now.keys) c.in-Some.ensures.0 (items_of b.us)
     c.requires.named.named b.count c.in-Some.ensures.3 b.marked in
-    behind_more b c.in-Some.ensures.0 (tokens c.in-Some.others.now) (written_of c.in_ok-written.written)
-    (key_names c.add_use.new.colours.keys) c.add_use.new.uses.items c.in-Some.ensures.1 is
-    c.in_ok-written.ensures.within c.in_ok-written.ensures.unmarked c.in_ok-add_use.ensures.added
-    c.in_ok-add_use.ensures.colours c.in_ok-add_use.ensures.distinct
+    behind_more b c.in-Some.ensures.1 is c.in_ok-written.ensures.within c.in_ok-written.ensures.unmarked
+    c.in_ok-add_use.ensures.added c.in_ok-add_use.ensures.colours c.in_ok-add_use.ensures.distinct
 
 pub clear-requires-clause-marked : goal.clear-requires-clause-marked
 clear-requires-clause-marked c =

@@ -4,6 +4,9 @@ use Rattle.xc_input.proofs.LineLemmas.Reading.{stays, counts, fails, goes, stage
 use Rattle.xc_input.proofs.LineLemmas.TextLines.{whole-more}
 use Rattle.xc_input.proofs.reader.Reader.line.Goals as goal
 
+pub returns-in-Some-clause-state : goal.returns-in-Some-clause-state
+returns-in-Some-clause-state c = stays _ _ _ _ _ _ c.after.ensures c.in-Some.is c.self.invariant.1
+
 pub invariant_of-self : goal.invariant_of-self
 invariant_of-self c = (
   counts _ _ _ _ _ c.after.ensures c.self.invariant.0 c.saturating_add-self-inside.ensures,
@@ -12,20 +15,6 @@ invariant_of-self c = (
   whole-more _ _ _ c.after.ensures c.self.invariant.3 c.requires,
 )
 
-pub returns-in-Some-clause-state : goal.returns-in-Some-clause-state
-returns-in-Some-clause-state c = stays _ _ _ _ _ _ c.after.ensures c.in-Some.is c.self.invariant.1
-
-pub invariant_of-self-in-Err : goal.invariant_of-self-in-Err
-invariant_of-self-in-Err c =
-    let counted = counts _ _ _ _ _ c.after.ensures c.self.invariant.0 c.saturating_add-self-inside.ensures in (
-      counted,
-      subst (IsErrorOf c.self.inside.kind c.after.result.lines) (sym c.at_line-error.ensures)
-          (fails c.self.inside.kind _ _ _ c.after.ensures _ c.in_default.is c.self.invariant.1 c.self.inside.builder
-          c.self.invariant.2 _ c.in-Err.e (Unit {0}) counted c.in-Err.ensures.judged),
-      tt,
-      whole-more _ _ _ c.after.ensures c.self.invariant.3 c.requires,
-    )
-
 pub returns-in-Err-clause-state : goal.returns-in-Err-clause-state
 returns-in-Err-clause-state c =
     subst (IsErrorOf c.self.inside.kind c.after.result.lines) (sym c.at_line-error.ensures)
@@ -33,18 +22,25 @@ returns-in-Err-clause-state c =
     c.self.invariant.2 _ c.in-Err.e (Unit {0})
     (counts _ _ _ _ _ c.after.ensures c.self.invariant.0 c.saturating_add-self-inside.ensures) c.in-Err.ensures.judged)
 
-pub invariant_of-self-in_default-take : goal.invariant_of-self-in_default-take
-invariant_of-self-in_default-take c =
-    let counted = counts _ _ _ _ _ c.after.ensures c.self.invariant.0 c.saturating_add-self-inside.ensures in (
-      counted,
-      rw c.in_default.is (goes c.self.inside.kind _ _ _ c.after.ensures _ c.in_default.is c.self.invariant.1
-          c.self.inside.builder c.self.invariant.2 c.in_default-take.ensures.judged),
-      rw c.in_default.is (stage-is c.self.inside.kind _ _ _ c.after.ensures _ c.in_default.is c.self.invariant.1
-          c.self.inside.builder c.self.invariant.2 _ c.take.new.self counted c.in_default-take.ensures.taken),
-      whole-more _ _ _ c.after.ensures c.self.invariant.3 c.requires,
-    )
+pub invariant_of-self-in-Err : goal.invariant_of-self-in-Err
+invariant_of-self-in-Err c = (
+  counts _ _ _ _ _ c.after.ensures c.self.invariant.0 c.saturating_add-self-inside.ensures,
+  returns-in-Err-clause-state c,
+  tt,
+  whole-more _ _ _ c.after.ensures c.self.invariant.3 c.requires,
+)
 
 pub returns-clause-state : goal.returns-clause-state
 returns-clause-state c =
     goes c.self.inside.kind _ _ _ c.after.ensures _ c.in_default.is c.self.invariant.1 c.self.inside.builder
     c.self.invariant.2 c.in_default-take.ensures.judged
+
+pub invariant_of-self-in_default-take : goal.invariant_of-self-in_default-take
+invariant_of-self-in_default-take c =
+    let counted = counts _ _ _ _ _ c.after.ensures c.self.invariant.0 c.saturating_add-self-inside.ensures in (
+      counted,
+      rw c.in_default.is (returns-clause-state c),
+      rw c.in_default.is (stage-is c.self.inside.kind _ _ _ c.after.ensures _ c.in_default.is c.self.invariant.1
+          c.self.inside.builder c.self.invariant.2 _ c.take.new.self counted c.in_default-take.ensures.taken),
+      whole-more _ _ _ c.after.ensures c.self.invariant.3 c.requires,
+    )
