@@ -1,13 +1,14 @@
 -- For `finish` and the laws: what parts, tokens and lines give, and that they have no fault exactly where they stand
 -- for items, uses and options.
 use Rattle.std.proofs.Common.{◌≡◌, ℕ, ◌+◌, ◌<◌, ◌≤◌, List, [], ◌∷◌, ◌++◌, Option, None, Some, Bool, true, false, ◌&&◌}
-use Rattle.std.proofs.Common.{not, nat_lt, nat_eq, is_some, unwrap_or, length, refl, ap, ◌∙◌, sym, subst}
+use Rattle.std.proofs.Common.{not, nat_lt, nat_eq, unwrap_or, length, refl, ap, ◌∙◌, sym, subst}
 use Rattle.std.proofs.Common.{arith, if◌then◌else◌, inl, inr, ◌⊎◌, append_assoc, map}
 use Rattle.xc_input.specs.inner.ColourNumbers.{numbered}
 use Rattle.xc_input.proofs.OptionLemmas.Colours.{met, kept}
 use Rattle.std.specs.Prelude.{filter, flat_map}
 use Rattle.std.specs.List.{AllByRecursion, enumerate_from}
 use Rattle.std.proofs.lemmas.List.{length-append}
+use Rattle.xc_input.specs.Faults.{item_checks}
 use Rattle.xc_input.specs.Faults.{Context}
 use Rattle.xc_input.specs.Sheets.{number_uses, with_colour}
 use Rattle.xc_input.specs.inner.Stages.{written_by}
@@ -143,23 +144,6 @@ row-good kind es (p ∷ ps) row is m e =
       few = omega (arith, r.few, l);
     })
 
--- one part more that stands for an item, and any part that has no fault
-word-step : (kind : Kind) (es : List Entry) (bar : Option ℕ) (p : List ℕ) (e : Entry) → is_bar p ≡ false
-    → IsEntry kind (is_some bar) p e → place (names_of es) e.name ≡ None → length es < most_items
-    → (first (part_checks kind (R es bar) p) ≡ None) × (with_part kind (R es bar) p ≡ R (es ++ e ∷ []) bar)
-word-step kind es bar p e b i new few =
-    let g = good-item kind (names_of es) (is_some bar) p e i new (omega (arith, few, names_of-length es)) in
-    (rw b g.1, rw b (ap (λ e. R (es ++ e ∷ []) bar) (sym g.0)))
-
-go-on : (kind : Kind) (row next : Row) (p : List ℕ) (ps : List (List ℕ)) → first (part_checks kind row p) ≡ None
-    → with_part kind row p ≡ next → first (row_checks kind next ps) ≡ None
-    → (first (row_checks kind row (p ∷ ps)) ≡ None) × (row_of kind row (p ∷ ps) ≡ row_of kind next ps)
-go-on kind row next p ps e w q = (
-  first-all (part_checks kind row p) (row_checks kind (with_part kind row p) ps) e
-      (ap (λ row. first (row_checks kind row ps)) w ∙ q),
-  ap (λ row. row_of kind row ps) w,
-)
-
 new-names : (es xs : List Entry) (e : Entry) → AllNew (names_of es ++ e.name ∷ []) (names_of xs)
     → AllNew (names_of (es ++ e ∷ [])) (names_of xs)
 new-names es xs e = subst (λ ns. AllNew ns (names_of xs)) (sym (names_of-snoc es e))
@@ -171,11 +155,13 @@ good-others : (kind : Kind) (es : List Entry) (n : ℕ) (ps : List (List ℕ)) (
     × (row_of kind (R es (Some n)) ps ≡ R (es ++ xs) (Some n))
 good-others kind es n [] [] z f m = (refl, ap (λ es. R es (Some n)) (sym (append-nil es)))
 good-others kind es n (p ∷ ps) (x ∷ xs) z f m =
-    let s = word-step kind es (Some n) p x (no-bar kind p x z.0) z.0 f.0 (omega (arith, m)) in
+    let g = good-item kind (names_of es) true p x z.0 f.0 (omega (arith, m, names_of-length es)) in
     let r = good-others kind (es ++ x ∷ []) n ps xs z.1 (new-names es xs x f.1)
     (omega (arith, m, length-append es (x ∷ []))) in
-    let o = go-on kind (R es (Some n)) (R (es ++ x ∷ []) (Some n)) p ps s.0 s.1 r.0 in
-    (o.0, o.1 ∙ r.1 ∙ ap (λ es. R es (Some n)) (append_assoc es (x ∷ []) xs))
+    rw (no-bar kind p x z.0, ← g.0) (
+      first-all (item_checks kind (names_of es) true p) (row_checks kind (R (es ++ x ∷ []) (Some n)) ps) g.1 r.0,
+      r.1 ∙ ap (λ es. R es (Some n)) (append_assoc es (x ∷ []) xs),
+    )
 good-others kind es n ps xs z f m = absurd z
 
 pub good-row : (kind : Kind) (es : List Entry) (ps : List (List ℕ)) (xs ys : List Entry)
@@ -190,19 +176,20 @@ good-row kind es [] (x ∷ xs) ys y z f m = absurd y
 good-row kind es (p ∷ ps) [] ys y z f m =
     let b = bar-first kind p ps y in
     let r = good-others kind es (length es) ps ys (rw (after-cons p ps true b) at z) f m in
-    let o = go-on kind (R es None) (R es (Some (length es))) p ps (rw b) (rw b) r.0 in
-    (o.0, ap (λ (row : Row). row.entries) (o.1 ∙ r.1), omega (arith, ap P (o.1 ∙ r.1)))
+    let step : row_of kind (R es None) (p ∷ ps) ≡ row_of kind (R es (Some (length es))) ps = rw b in
+    (rw b r.0, ap (λ (row : Row). row.entries) (step ∙ r.1), omega (arith, ap P (step ∙ r.1)))
 good-row kind es (p ∷ ps) (x ∷ xs) ys y z f m =
     let b = word-first kind p ps x xs y in
     let h = rw (before-cons p ps false b) at y in
-    let s = word-step kind es None p x b h.0 f.0 (omega (arith, m)) in
+    let g = good-item kind (names_of es) false p x h.0 f.0 (omega (arith, m, names_of-length es)) in
     let l = length-append es (x ∷ []) in
     let r = good-row kind (es ++ x ∷ []) ps xs ys h.1 (rw (after-cons p ps false b) at z)
     (new-names es (xs ++ ys) x f.1) (omega (arith, m, l)) in
-    let o = go-on kind (R es None) (R (es ++ x ∷ []) None) p ps s.0 s.1 r.0 in (
-      o.0,
-      ap (λ (row : Row). row.entries) o.1 ∙ r.1 ∙ append_assoc es (x ∷ []) (xs ++ ys),
-      omega (arith, r.2, l, ap P o.1),
+    let step : row_of kind (R es None) (p ∷ ps) ≡ row_of kind (R (es ++ x ∷ []) None) ps = rw (b, ← g.0) in (
+      rw (b, ← g.0) (first-all (item_checks kind (names_of es) false p) (row_checks kind (R (es ++ x ∷ []) None) ps)
+          g.1 r.0),
+      ap (λ (row : Row). row.entries) step ∙ r.1 ∙ append_assoc es (x ∷ []) (xs ++ ys),
+      omega (arith, r.2, l, ap P step),
     )
 
 -- AN OPTION LINE

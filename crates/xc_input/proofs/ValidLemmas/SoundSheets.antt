@@ -66,5 +66,5 @@ behind-bounds {kind} {ps} items {n} h =
     let same : h.others ≡ map entry_of (drop n items) = sym (drop-append_seam h.first h.others)
     ∙ (λ i. drop (sym count i) (sym h.all i)) ∙ drop-map entry_of n items in
     All-from_recursion IsOptional (drop n items) (each-of _ entry_of (drop n items) (subst (AllByRecursion _) same
-    (each-zip (IsEntry kind true) (λ t. Unit {0}) _ (λ t e u. optional kind t e) (after_first is_bar ps) h.others
+    (each-zip {P = λ t. Unit {0}} (λ t e u. optional kind t e) (after_first is_bar ps) h.others
     (each_of_all _ _ (λ t. tt)) h.secondary)))

@@ -3,7 +3,7 @@ use Rattle.std.proofs.Common.{◌≡◌, ◌≢◌, ℕ, ◌+◌, ◌*◌, ◌-�
 use Rattle.std.proofs.Common.{Bool, true, false, nat_eq, nat_le, not, map, length, All, AllPairs, refl}
 use Rattle.std.proofs.Common.{ap, ◌∙◌, sym, subst, arith, if◌then◌else◌, inl, inr, length-append}
 use Rattle.std.specs.Prelude.{flat_map}
-use Rattle.std.specs.List.{list_all, list_any, AllZip, AllByRecursion as Each, before_first, after_first}
+use Rattle.std.specs.List.{list_all, list_any, AllZip, AllByRecursion as Each, before_first}
 use Rattle.std.specs.List.{enumerate_from}
 use Rattle.std.specs.Char.{is_ascii_digit}
 use Rattle.std.specs.Str.{bytes_eq}
@@ -28,7 +28,7 @@ use Rattle.xc_input.specs.Sheets.{Entry, Written, with_colour, colour_number, nu
 use Rattle.xc_input.specs.Limits.{greatest_bound}
 use Rattle.xc_input.specs.Faults.{Context, has_primary}
 use Rattle.xc_input.specs.Named.{Named, IsName, IsColour, IsUnbroken, IsSound}
-use Rattle.xc_input.specs.Text.{IsEntry, AreBounds, IsUse, IsOptionLine, StandsFor}
+use Rattle.xc_input.specs.Text.{IsEntry, AreBounds, IsUse, StandsFor}
 use Rattle.xc_input.specs.inner.Sheets.{with_uses}
 use Rattle.xc_input.specs.inner.Fronts.{drop_white, word}
 use Rattle.xc_input.specs.inner.EndedLines.{AreWhole}
@@ -49,12 +49,11 @@ abbrev flat : {A : Type 0} → List (List A) → List A
 flat xss = flat_map (λ xs. xs) xss
 
 -- what holds of the elements of one list, and of each beside one of another
-pub each-zip : {A B : Type 0} (R : A → B → Type 0) (P : A → Type 0) (Q : B → Type 0)
-    → ((x : A) (y : B) → P x → R x y → Q y) → (xs : List A) (ys : List B) → Each P xs → AllZip R xs ys
-    → Each Q ys
-each-zip R P Q f [] [] a z = tt
-each-zip R P Q f (x ∷ xs) (y ∷ ys) a z = (f x y a.0 z.0, each-zip R P Q f xs ys a.1 z.1)
-each-zip R P Q f xs ys a z = absurd z
+pub each-zip : {A B : Type 0} {R : A → B → Type 0} {P : A → Type 0} {Q : B → Type 0}
+    → ((x : A) (y : B) → P x → R x y → Q y) → (xs : List A) (ys : List B) → Each P xs → AllZip R xs ys → Each Q ys
+each-zip f [] [] a z = tt
+each-zip f (x ∷ xs) (y ∷ ys) a z = (f x y a.0 z.0, each-zip f xs ys a.1 z.1)
+each-zip f xs ys a z = absurd z
 
 each-flat : {A : Type 0} (P : A → Type 0) (xss : List (List A)) → Each (Each P) xss
     → Each P (flat xss)
@@ -67,8 +66,8 @@ flat-each P [] a = tt
 flat-each P (xs ∷ xss) a =
     let both = each_front P xs (flat xss) a in (both.0, flat-each P xss both.1)
 
-all-of : {A : Type 0} (P Q : A → Type 0) → ((x : A) → P x → Q x) → (xs : List A) → Each P xs → All Q xs
-all-of P Q f xs a = All-from_recursion Q xs (each_weaker P Q xs f a)
+all-of : {A : Type 0} {P Q : A → Type 0} → ((x : A) → P x → Q x) → (xs : List A) → Each P xs → All Q xs
+all-of {Q = Q} f xs a = All-from_recursion Q xs (each_weaker _ Q xs f a)
 
 -- NUMBERS
 value-below : (n i : ℕ) (xs : List ℕ) → n < 10 ^ i → list_all is_ascii_digit xs ≡ true
@@ -257,15 +256,12 @@ module _ (kind : Kind) (lines : List (List ℕ)) (named : Named) (ignored : List
 
   names-good : Each IsGoodName named.names
   names-good = subst (Each IsGoodName) (sym h.items.names) (each-map IsGoodName (λ e. e.name) _ (each-append _ _ _
-      (each-zip (IsEntry kind false) IsUnbroken _ (name-good kind false) (before_first is_bar ps) _ front-unbroken
-      h.items.before_bar)
-      (each-zip (IsEntry kind true) IsUnbroken _ (name-good kind true) (after_first is_bar ps) _
+      (each-zip (name-good kind false) _ _ front-unbroken h.items.before_bar) (each-zip (name-good kind true) _ _
       (recursion_from_All IsUnbroken _ (All-drop IsUnbroken _ ps parts-unbroken)) h.items.behind_bar)))
 
   bounds-good : Each (λ b. AreSoundBounds b × (b.high ≤ greatest_bound)) named.puzzle.bounds
   bounds-good = subst (Each _) (sym h.items.bounds) (each-map _ entry_bounds _
-      (each-zip (IsEntry kind false) IsUnbroken _ (λ t e u. primary-good kind t e) (before_first is_bar ps) _
-      front-unbroken h.items.before_bar))
+      (each-zip (λ t e u. primary-good kind t e) _ _ front-unbroken h.items.before_bar))
 
   primaries : length named.puzzle.bounds ≡ length h.items.primary
   primaries = ap length h.items.bounds ∙ length-map h.items.primary entry_bounds
@@ -282,8 +278,8 @@ module _ (kind : Kind) (lines : List (List ℕ)) (named : Named) (ignored : List
 
   -- OPTIONS
   lines-good : Each (λ o. IsGoodOption c o.1) h.options.options
-  lines-good = each-zip (IsOptionLine c) IsClean _ (λ l o s is. record {
-    uses = each-zip (IsUse c) IsUnbroken _ (use-good c) (tokens l.1) o.1 (unbroken-tokens l.1 s.0 s.1) is.1;
+  lines-good = each-zip (λ l o s is. record {
+    uses = each-zip (use-good c) (tokens l.1) o.1 (unbroken-tokens l.1 s.0 s.1) is.1;
     distinct = is.2;
   }) h.option_lines h.options.options lines-clean.1 h.options.stand
 
@@ -327,21 +323,21 @@ module _ (kind : Kind) (lines : List (List ℕ)) (named : Named) (ignored : List
         some-primary h.item_line.1 not-skipped,
         AllZip-long (IsEntry kind false) (before_first is_bar ps) h.items.primary h.items.before_bar,
       );
-      bounds = all-of _ AreSoundBounds (λ b g. g.0) named.puzzle.bounds bounds-good;
-      options = all-of _ (IsSoundOption named.puzzle) (λ o g. g.0) named.puzzle.options options-sound;
+      bounds = all-of (λ b g. g.0) named.puzzle.bounds bounds-good;
+      options = all-of (λ o g. g.0) named.puzzle.options options-sound;
     };
     limits = record {
       items = omega (arith, items, h.items.few);
       uses = omega (arith, uses, h.options.few);
       options = omega (arith, uses, h.options.few, few-options);
-      bounds = all-of _ (λ b. b.high ≤ greatest_bound) (λ b g. g.1) named.puzzle.bounds bounds-good;
+      bounds = all-of (λ b g. g.1) named.puzzle.bounds bounds-good;
     };
-    coloured = all-of _ _ (λ o g. g.1) named.puzzle.options options-sound;
+    coloured = all-of (λ o g. g.1) named.puzzle.options options-sound;
     few_colours = omega (arith, h.options.few, ap length h.options.colours, few-colours written []);
     named = record {
       count = items;
-      names = all-of IsGoodName IsName (λ n g. g.0) named.names names-good;
-      unbroken_names = all-of IsGoodName IsUnbroken (λ n g. g.1) named.names names-good;
+      names = all-of (λ n g. g.0) named.names names-good;
+      unbroken_names = all-of (λ n g. g.1) named.names names-good;
       distinct = h.items.distinct;
       colours = colours-good.form;
       unbroken_colours = colours-good.unbroken;
