@@ -57,18 +57,18 @@ pub gave_end : (a b c : SourceState) (bytes buf : List ℕ) (n : ℕ) → n ≡ 
 gave_end a b c bytes buf n e g same told end f = grind (arith, nat_tests, append-nil bytes, at-end a.rest c.rest bytes)
 
 -- the answer at the end of the input
-pub whole-last : (kind : Kind) (a c : SourceState) (bytes : List ℕ) (r : Result Read InputError)
+pub whole-last : {kind : Kind} {a c : SourceState} {bytes : List ℕ} (r : Result Read InputError)
     → EndsAs kind (lines_of bytes) r → GaveAll a c bytes → IfOk r (λ x. IsWhole kind a c x.problem x.ignored.items)
-whole-last kind a c bytes (Ok x) h g = record { bytes = bytes; gave = g; text = h.accepted }
-whole-last kind a c bytes (Err e) h g = tt
+whole-last {bytes = bytes} (Ok x) h g = record { bytes = bytes; gave = g; text = h.accepted }
+whole-last (Err e) h g = tt
 
-pub part-last : (kind : Kind) (a c : SourceState) (bytes : List ℕ) (r : Result Read InputError)
+pub part-last : {kind : Kind} {a c : SourceState} {bytes : List ℕ} (r : Result Read InputError)
     → EndsAs kind (lines_of bytes) r → (result_err r ≡ Some Memory → IsOpen bytes) → GaveAll a c bytes
     → IfErr r (IsPart kind a c)
-part-last kind a c bytes (Ok x) h m g = tt
-part-last kind a c bytes (Err (Fault n k)) h m g = (bytes, inl (g, h.first))
-part-last kind a c bytes (Err Device) h m g = absurd h.first
-part-last kind a c bytes (Err Memory) h m g = (bytes, g.no_failure, inr (g, m refl))
+part-last (Ok x) h m g = tt
+part-last {bytes = bytes} (Err (Fault n k)) h m g = (bytes, inl (g, h.first))
+part-last (Err Device) h m g = absurd h.first
+part-last {bytes = bytes} (Err Memory) h m g = (bytes, g.no_failure, inr (g, m refl))
 
 -- a reader that was given nothing, where nothing is carried on
 pub new-between : (reading : Reading) (carry : List ℕ) → reading.lines ≡ [] → reading.error ≡ None → carry ≡ []
@@ -82,12 +82,12 @@ open-carry reading carry between some =
     grind (arith, nat_tests, last-of-part carry between.partial some, append_assoc (ended reading.lines))
 
 -- a fault that came before the end
-pub part-spoiled : (kind : Kind) (a b : SourceState) (bytes : List ℕ) (e : InputError) → Spoils kind bytes e
+pub part-spoiled : (kind : Kind) {a b : SourceState} {bytes : List ℕ} (e : InputError) → Spoils kind bytes e
     → Gave a b bytes → b.failures ≡ a.failures → IsPart kind a b e
-part-spoiled kind a b bytes (Fault n k) h g same =
+part-spoiled kind {bytes = bytes} (Fault n k) h g same =
     (bytes, inr (g, same, λ more. error-ends kind (lines_of (bytes ++ more)) (Fault n k) (h more)))
-part-spoiled kind a b bytes Device h g same = absurd (h [])
-part-spoiled kind a b bytes Memory h g same = (bytes, same, inl g)
+part-spoiled kind Device h g same = absurd (h [])
+part-spoiled kind {bytes = bytes} Memory h g same = (bytes, same, inl g)
 
 -- a read that failed
 pub part-failed : (kind : Kind) (a b c : SourceState) (reading : Reading) (carry : List ℕ) → reading.kind ≡ kind

@@ -1,6 +1,6 @@
 -- The problem of a sheet.
-use Rattle.std.proofs.Common.{◌≡◌, ℕ, zero, suc, ◌-◌, ◌≤◌, false, List, [], ◌∷◌, true, length, map, take, drop}
-use Rattle.std.proofs.Common.{All, refl, ap}
+use Rattle.std.proofs.Common.{◌≡◌, ℕ, ◌-◌, ◌≤◌, false, List, [], ◌∷◌, true, length, map, take, drop}
+use Rattle.std.proofs.Common.{All, ap}
 use Rattle.std.proofs.Common.{arith, subst, inl, inr}
 use Rattle.std.proofs.lemmas.Bool.Decides.{nat_tests}
 use Rattle.std.proofs.lemmas.List.{length-append, length-map, drop-map}
@@ -8,6 +8,8 @@ use Rattle.std.proofs.Math.Seq.{drop-append_seam}
 use Rattle.std.proofs.Common.{sym, ◌∙◌}
 use Rattle.std.proofs.lemmas.List.Elements.{All-from_recursion}
 use Rattle.std.specs.List.{AllByRecursion, after_first}
+use Rattle.std.proofs.lemmas.List.{take-map}
+use Rattle.xc_input.proofs.lists.Filters.{map-map}
 use Rattle.xc_input.specs.declared.kind.Kind.{Kind}
 use Rattle.xc_input.specs.declared.problem.Item.{Item}
 use Rattle.xc_input.specs.declared.problem.Use.{Use}
@@ -24,14 +26,11 @@ use Rattle.xc_input.proofs.lists.EachElement.{each_of_all}
 
 -- THE PROBLEM THAT VECTORS HOLD
 pub item-names : (items : List Item) → names_of (map entry_of items) ≡ map (λ x. x.name.items) items
-item-names [] = refl
-item-names (x ∷ items) = ap (λ ns. x.name.items ∷ ns) (item-names items)
+item-names items = map-map entry_of (λ e. e.name) items
 
 item-bounds : (n : ℕ) (items : List Item)
     → map entry_bounds (take n (map entry_of items)) ≡ map bounds_of (take n items)
-item-bounds zero items = refl
-item-bounds (suc n) [] = refl
-item-bounds (suc n) (x ∷ items) = ap (λ bs. bounds_of x ∷ bs) (item-bounds n items)
+item-bounds n items = ap (map entry_bounds) (take-map entry_of n items) ∙ map-map entry_of entry_bounds (take n items)
 
 pub named-is : (items : List Item) (primary : ℕ) (options : List (List Use)) (colours : List (List ℕ))
     → named_of (record { entries = map entry_of items; primaries = primary; options = options; colours = colours })

@@ -7,14 +7,10 @@ use Rattle.xc_input.proofs.read.end_text.Goals as goal
 -- behind a line feed
 pub returns-then-is_empty-clause-answer : goal.returns-then-is_empty-clause-answer
 returns-then-is_empty-clause-answer c =
+    let f = c.finish.ensures in
     let none : length c.args.carry.now ≡ 0 = grind (arith, nat_tests) in
     ends-as _ _ _ _ _ refl (no-part c.args.reader c.args.carry.now c.requires none)
-    (record {
-      accepted = c.finish.ensures.accepted;
-      only = c.finish.ensures.only;
-      first = c.finish.ensures.first;
-      refused = c.finish.ensures.refused;
-    })
+    (record { accepted = f.accepted; only = f.only; first = f.first; refused = f.refused })
 
 pub returns-in_err-line-clause-answer : goal.returns-in_err-line-clause-answer
 returns-in_err-line-clause-answer c =
@@ -27,12 +23,8 @@ returns-in_err-line-clause-answer c =
 -- behind a last line
 pub returns-clause-answer : goal.returns-clause-answer
 returns-clause-answer c =
+    let f = c.finish-2.ensures in
     let some : 0 < length c.args.carry.now = grind (arith, nat_tests) in
     ends-as _ _ _ _ _ c.in_ok-line.ensures.kind
     (last-part c.args.reader c.args.carry.now _ c.requires some c.in_ok-line.ensures.given)
-    (record {
-      accepted = c.finish-2.ensures.accepted;
-      only = c.finish-2.ensures.only;
-      first = c.finish-2.ensures.first;
-      refused = c.finish-2.ensures.refused;
-    })
+    (record { accepted = f.accepted; only = f.only; first = f.first; refused = f.refused })

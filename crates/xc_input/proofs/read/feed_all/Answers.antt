@@ -18,7 +18,7 @@ returns-in_err-feed-clause-part g c =
     let bytes = fed c.reading.reader c.reading.carry.items ++ take c.in_ok-n.n c.read.new.buf in
     let some : 0 < length (take c.in_ok-n.n c.read.new.buf) =
     grind (arith, common_steps, c.if-n-eq0.false, c.in_ok-n.ensures.bound) in
-    rw (error.1, error.2) (part-spoiled c.args.reader.now.kind _ _ bytes c.in_err-feed.field-0.0
+    rw (error.1, error.2) (part-spoiled c.args.reader.now.kind c.in_err-feed.field-0.0
     (subst (λ kind. Spoils kind bytes c.in_err-feed.field-0.0) c.reading.invariant.1 c.in_err-feed.ensures.err)
     (gave_more _ _ _ _ _ c.reading.invariant.3 some c.in_ok-n.ensures.bytes.0 c.in_ok-n.ensures.given)
     (c.in_ok-n.ensures.failures ∙ c.reading.invariant.2))

@@ -15,11 +15,11 @@ as_fed g c =
 
 pub returns-clause-whole : goal.returns-clause-whole
 returns-clause-whole g c =
-    whole-last c.args.reader.kind _ _ _ c.end_text.result (as_fed g c) c.in_ok-feed_all.ensures.all
+    whole-last c.end_text.result (as_fed g c) c.in_ok-feed_all.ensures.all
 
 pub returns-clause-part : goal.returns-clause-part
 returns-clause-part g c =
     let some = subst (λ carry. 0 < length carry) c.as_slice.ensures.value in
-    part-last c.args.reader.kind _ _ _ c.end_text.result (as_fed g c)
+    part-last c.end_text.result (as_fed g c)
     (λ short. open-carry _ _ c.in_ok-feed_all.ensures.state (some (c.end_text.ensures.memory short)))
     c.in_ok-feed_all.ensures.all

@@ -1,6 +1,5 @@
 use Rattle.std.proofs.lemmas.List.{take_rest}
-use Rattle.std.proofs.Common.{suc, ◌≡◌, ◌+◌, take, drop, arith, sym, ap, ◌∙◌, true, add-one}
-use Rattle.xc_input.specs.Words.{has, before, after}
+use Rattle.std.proofs.Common.{◌+◌, drop, arith, sym, ap, ◌∙◌, add-one}
 use Rattle.xc_input.proofs.TokenLemmas.Bytes.{has-all, has-at, not_false}
 use Rattle.xc_input.proofs.tokens.cut_at.Goals as goal
 
@@ -20,10 +19,7 @@ returns-in-Some-clause-front c =
 pub returns-in-Some-clause-back : goal.returns-in-Some-clause-back
 returns-in-Some-clause-back c =
     let h = c.in-Some.ensures in
-    let f : (has c.args.byte c.args.bytes.now ≡ true)
-    × (take c.in-Some.i c.args.bytes.now ≡ before c.args.byte c.args.bytes.now)
-    × (drop (suc c.in-Some.i) c.args.bytes.now ≡ after c.args.byte c.args.bytes.now) =
-    has-at c.args.byte c.args.bytes.now c.in-Some.i h.0.high (λ k p. not_false _ (h.0.before k (omega arith) p))
+    let f = has-at c.args.byte c.args.bytes.now c.in-Some.i h.0.high (λ k p. not_false _ (h.0.before k (omega arith) p))
     h.1 in (
       f.0,
       take_rest c.args.bytes.now (c.in-Some.i + 1)
