@@ -41,9 +41,9 @@ pub hands-on : (a : Option FaultKind) (p q : List (FaultKind × Bool)) (e : Line
 hands-on a p q (Fault k) f h = f ∙ first-front p q k h
 hands-on a p q Memory f h = tt
 
-pub OnOk-map : {T E : Type 0} (r : Result T E) (A B : Type 0) → OnOk r A → (A → B) → OnOk r B
-OnOk-map (Ok x) A B h f = f h
-OnOk-map (Err e) A B h f = h
+pub OnOk-map : {T E : Type 0} (r : Result T E) {A B : Type 0} → OnOk r A → (A → B) → OnOk r B
+OnOk-map (Ok x) h f = f h
+OnOk-map (Err e) h f = h
 
 pub names_of-snoc : (es : List Entry) (e : Entry) → names_of (es ++ e ∷ []) ≡ names_of es ++ e.name ∷ []
 names_of-snoc es e = map-snoc (λ d. d.name) es e

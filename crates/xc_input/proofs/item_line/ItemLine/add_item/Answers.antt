@@ -33,13 +33,13 @@ returns-clause-judged c =
 
 pub returns-clause-added : goal.returns-clause-added
 returns-clause-added c =
-    OnOk-map c.push_item.result _ _ c.push_item.ensures.added (λ h.
-    let named =
-    names-more c.in_ok-token.token.name.now c.requires.table.2 c.in_ok-add_name.ensures.added c.name_fault.ensures
-    c.in_default.is (sym c.place_of.ensures ∙ none-is c.place_of.result (sym c.is_some-2.ensures ∙ c.if-is_some.false))
-    (name-solid c.args.kind _ c.args.token.now c.in_ok-token.ensures.1 c.requires.solid) in
-    let g =
-    grown c.args.kind c.args.self.now.bar c.args.token.now c.is_some.ensures AreNames c.args.self.now.items.items
-    c.push_item.new.items.items c.in_ok-token.ensures.1 c.requires.table named c.in_ok-add_name.ensures.added
-    (subst (λ n. n < 100000) (c.len.ensures ∙ items-length c.args.self.now.items) c.if-len-ge-MOST_ITEMS.false) h in
+    OnOk-map c.push_item.result c.push_item.ensures.added (λ h.
+    let named = names-more c.in_ok-token.token.name.now c.requires.table.2 c.in_ok-add_name.ensures.added
+    c.name_fault.ensures c.in_default.is (sym c.place_of.ensures ∙ none-is c.place_of.result
+    (sym c.is_some-2.ensures ∙ c.if-is_some.false)) (name-solid c.args.kind _ c.args.token.now c.in_ok-token.ensures.1
+    c.requires.solid) in
+    let g = grown c.args.kind c.args.self.now.bar c.args.token.now c.is_some.ensures AreNames
+    c.args.self.now.items.items c.push_item.new.items.items c.in_ok-token.ensures.1 c.requires.table named
+    c.in_ok-add_name.ensures.added (subst (λ n. n < 100000) (c.len.ensures ∙ items-length c.args.self.now.items)
+    c.if-len-ge-MOST_ITEMS.false) h in
     (g.0, g.1, refl))
