@@ -1,13 +1,15 @@
 -- Tables have the same columns exactly where they have the same fields; when two keepers are the same.
-use Rattle.std.proofs.Common.{◌≡◌, ◌≢◌, ℕ, suc, ◌+◌, true, false, eqb, ltb, List, length, map, Some, refl, ap, sym}
-use Rattle.std.proofs.Common.{subst, ◌∙◌, arith, eqb-true, ltb-true, ltb-false, Bool, reverse, IsTrue, Option, ℤ}
+use Rattle.std.proofs.Common.{◌≡◌, ℕ, suc, ◌+◌, cond, eqb, leb, List, [], ◌∷◌, length, map, Some, None, refl, ap, ap₂}
+use Rattle.std.proofs.Common.{sym, subst, ◌∙◌, arith, eqb-true, ne_eqb, le-leb, inl, inr, Bool, reverse, IsTrue, ℤ}
+use Rattle.std.proofs.Common.{Option}
 use Rattle.std.specs.Prelude.{slice_get, option_map}
 use Rattle.std.specs.List.{range_with_len}
-use Rattle.std.proofs.lemmas.Bool.{eqb-false}
+use Rattle.std.proofs.lemmas.Bool.{lt-leb, cases_lt}
+use Rattle.std.proofs.lemmas.Option.{same_Some}
 use Rattle.std.proofs.lemmas.List.FromFn.{length-map-range_with_len}
 use Rattle.std.proofs.lemmas.Grind.{common_steps}
 use Rattle.std.proofs.lemmas.List.{reverse-reverse}
-use Rattle.xc_input.specs.Problem.{Puzzle, item_count, primary_count}
+use Rattle.xc_input.specs.Problem.{Puzzle, item_count}
 use Rattle.xc_dance.specs.declared.dance.Move.{Move}
 use Rattle.xc_dance.specs.declared.links.field.Field.{Field}
 use Rattle.xc_dance.specs.declared.links.field.Field.TheVariants.{Llink, Rlink, Bound, Slack, Top, Ulink, Dlink, Color}
@@ -15,7 +17,7 @@ use Rattle.xc_dance.specs.declared.links.nodes.Nodes.{Nodes}
 use Rattle.xc_dance.specs.declared.links.items.Items.{Items}
 use Rattle.xc_dance.specs.Fields.{field_of}
 use Rattle.xc_dance.specs.inner.Links.Cells.{nodes_after}
-use Rattle.xc_dance.specs.inner.Links.ItemCells.{items_after, llink_at, bound_at, slack_at}
+use Rattle.xc_dance.specs.inner.Links.ItemCells.{items_after, llink_at}
 use Rattle.xc_dance.specs.inner.Links.Read.{color_read, top_read}
 use Rattle.xc_dance.specs.inner.Links.Span.{Span}
 use Rattle.xc_dance.specs.inner.Links.Made.{IsFitted}
@@ -23,123 +25,103 @@ use Rattle.xc_dance.specs.inner.Links.Taken.{taken_nodes}
 use Rattle.xc_dance.specs.Same.{IsSame}
 use Rattle.xc_dance.proofs.LinkedTables.TopCells.{llink_read, rlink_read, bound_read, slack_read, top_cell, ulink_cell}
 use Rattle.xc_dance.proofs.LinkedTables.TopCells.{dlink_cell, color_own, color_use, natural, read_same}
-use Rattle.xc_dance.proofs.LinkedTables.TopCells.{natural_same, same_list, IsSound, top_cells}
+use Rattle.xc_dance.proofs.LinkedTables.TopCells.{IsSound, top_cells, read}
 use Rattle.xc_dance.proofs.LinkedTables.LinkColumns.{same_nodes}
 use Rattle.xc_dance.proofs.LinkedTables.RingStep.{same_items}
-use Rattle.xc_dance.proofs.LinkedTables.TopCells.{pos_same}
+use Rattle.xc_dance.proofs.LinkedTables.Sweep.{by_first}
 
 -- ---- tables have the same columns exactly where they have the same fields
 
-abbrev pub FieldsSame : Puzzle → List Move → Puzzle → List Move → Type 0
+abbrev FieldsSame : Puzzle → List Move → Puzzle → List Move → Type 0
 FieldsSame p t q s = (f : Field) (k : ℕ) → field_of p t f k ≡ field_of q s f k
 
--- a fact by whether a place is 0
-pub by_zero : (P : ℕ → Type 0) → P 0 → ((k : ℕ) → k ≢ 0 → P k) → (k : ℕ) → P k
-by_zero P z h k =
-    elim (eqb k 0) as (λ b. eqb k 0 ≡ b → P k)
-    [ true ↦ λ e. subst P (sym (eqb-true k 0 e)) z | false ↦ λ e. h k (eqb-false k 0 e) ] refl
+-- a cell of the tables as it is read, with so many items
+abbrev reading : ℕ → Items → Nodes → Field → ℕ → Option ℤ
+reading many i n Llink k = read i.llink k
+reading many i n Rlink k = read i.rlink k
+reading many i n Bound k = cond (eqb k 0) None (read i.bound k)
+reading many i n Slack k = cond (eqb k 0) None (read i.slack k)
+reading many i n Top k = option_map top_read (slice_get n.top k)
+reading many i n Ulink k = read n.ulink k
+reading many i n Dlink k = read n.dlink k
+reading many i n Color k = cond (leb k many) (read n.color k) (option_map color_read (slice_get n.color k))
 
-pub row_first : (f : ℕ → ℕ) (n : ℕ) → slice_get (map f (range_with_len 0 (n + 1))) 0 ≡ Some (f 0)
+reading_is : (p : Puzzle) (t : List Move) (f : Field) (k : ℕ) → IsSound p
+    → reading (item_count p) (items_after p t) (nodes_after p t) f k ≡ field_of p t f k
+reading_is p t Llink k s = llink_read p t k
+reading_is p t Rlink k s = rlink_read p t k
+reading_is p t Bound k s = by_first _ k 0 (λ e. rw e refl) (λ ne. rw (ne_eqb k 0 ne) (bound_read p t k ne))
+reading_is p t Slack k s = by_first _ k 0 (λ e. rw e refl) (λ ne. rw (ne_eqb k 0 ne) (slack_read p t k ne))
+reading_is p t Top k s = top_cell p t k s.laid s.fit s.items
+reading_is p t Ulink k s = ulink_cell p t k s.laid
+reading_is p t Dlink k s = dlink_cell p t k s.laid
+reading_is p t Color k s = elim (cases_lt (item_count p) k) [
+  | inl gt ↦ rw (lt-leb k (item_count p) gt) (color_use p t k s.laid s.fit gt)
+  | inr le ↦ rw (le-leb k (item_count p) le) (color_own p t k s.laid le)
+]
+
+-- lists with the same elements at the same places
+same_list : (xs ys : List ℕ) → ((k : ℕ) → slice_get xs k ≡ slice_get ys k) → xs ≡ ys
+same_list [] [] h = refl
+same_list [] (y ∷ ys) h = let e : None ≡ Some y = h 0 in cc
+same_list (x ∷ xs) [] h = let e : Some x ≡ None = h 0 in cc
+same_list (x ∷ xs) (y ∷ ys) h = ap₂ (λ z zs. z ∷ zs) (same_Some x y (h 0)) (same_list xs ys (λ k. h (suc k)))
+
+natural_same : (x y : Option ℕ) → option_map natural x ≡ option_map natural y → x ≡ y
+natural_same x y e = read_same natural x y (λ v w f g h. cc) e
+
+color_same : (x y : Option ℕ) → option_map color_read x ≡ option_map color_read y → x ≡ y
+color_same x y e = read_same color_read x y (λ v w f g h. grind (arith, common_steps, eqb-true)) e
+
+row_first : (f : ℕ → ℕ) (n : ℕ) → slice_get (map f (range_with_len 0 (n + 1))) 0 ≡ Some (f 0)
 row_first f n = let s : n + 1 ≡ suc n = omega arith in ap (λ m. slice_get (map f (range_with_len 0 m)) 0) s
 
--- rows that are read alike are the same
-rows_same : (xs ys : List ℕ) (f g : ℕ → Option ℤ) → ((k : ℕ) → option_map natural (slice_get xs k) ≡ f k)
-    → ((k : ℕ) → option_map natural (slice_get ys k) ≡ g k) → ((k : ℕ) → f k ≡ g k) → xs ≡ ys
-rows_same xs ys f g a b h =
-    same_list xs ys (λ k. natural_same (slice_get xs k) (slice_get ys k) (a k ∙ h k ∙ sym (b k)))
-
-rows_behind : (xs ys : List ℕ) (f g : ℕ → Option ℤ) → slice_get xs 0 ≡ slice_get ys 0
-    → ((k : ℕ) → k ≢ 0 → option_map natural (slice_get xs k) ≡ f k)
-    → ((k : ℕ) → k ≢ 0 → option_map natural (slice_get ys k) ≡ g k) → ((k : ℕ) → f k ≡ g k) → xs ≡ ys
-rows_behind xs ys f g first a b h =
-    same_list xs ys (by_zero (λ k. slice_get xs k ≡ slice_get ys k) first
-    (λ k ne. natural_same (slice_get xs k) (slice_get ys k) (a k ne ∙ h k ∙ sym (b k ne))))
-
-pub llinks : (p q : Puzzle) (t s : List Move) → FieldsSame p t q s → (items_after p t).llink ≡ (items_after q s).llink
-llinks p q t s h = rows_same _ _ _ _ (llink_read p t) (llink_read q s) (h Llink)
-
-pub items_from : (p q : Puzzle) (t s : List Move) → FieldsSame p t q s → items_after p t ≡ items_after q s
-items_from p q t s h =
-    same_items (items_after p t) (items_after q s) (llinks p q t s h)
-    (rows_same _ _ _ _ (rlink_read p t) (rlink_read q s) (h Rlink))
-    (rows_behind _ _ _ _ (row_first (bound_at p t) (primary_count p) ∙ sym (row_first (bound_at q s) (primary_count q)))
-    (bound_read p t) (bound_read q s) (h Bound))
-    (rows_behind _ _ _ _ (row_first (slack_at p) (primary_count p) ∙ sym (row_first (slack_at q) (primary_count q)))
-    (slack_read p t) (slack_read q s) (h Slack))
-
 -- tables with equal rows of links have as many items
-pub items_many : (p q : Puzzle) (t s : List Move) → (items_after p t).llink ≡ (items_after q s).llink
+items_many : (p q : Puzzle) (t s : List Move) → (items_after p t).llink ≡ (items_after q s).llink
     → item_count p ≡ item_count q
 items_many p q t s e =
     let a = length-map-range_with_len (llink_at p t) 0 (item_count p + 2) in
     omega (arith, a, length-map-range_with_len (llink_at q s) 0 (item_count q + 2), ap length e)
 
-pub color_cells : (p q : Puzzle) (t s : List Move) (k : ℕ) → IsSound p → IsSound q → item_count p ≡ item_count q
-    → field_of p t Color k ≡ field_of q s Color k →
-    slice_get (nodes_after p t).color k ≡ slice_get (nodes_after q s).color k
-color_cells p q t s k a b items h =
-    let x = slice_get (nodes_after p t).color k in
-    let y = slice_get (nodes_after q s).color k in
-    elim (ltb (item_count p) k) as (λ c. ltb (item_count p) k ≡ c → x ≡ y) [
-      | true ↦ λ e. (let high = ltb-true (item_count p) k e in
-          read_same color_read x y (λ v w f g r. (grind (arith, common_steps, eqb-true, pos_same)))
-          (color_use p t k a.laid a.fit high ∙ h ∙ sym (color_use q s k b.laid b.fit (omega (arith, high, items)))))
-      | false ↦ λ e. (let low = ltb-false (item_count p) k e in
-          natural_same x y (color_own p t k a.laid low ∙ h ∙ sym (color_own q s k b.laid (omega (arith, low, items)))))
-    ] refl
+pub tables_from : (p q : Puzzle) (t s : List Move) → IsSound p → IsSound q → FieldsSame p t q s
+    → (items_after p t ≡ items_after q s) × (nodes_after p t ≡ nodes_after q s)
+tables_from p q t s a b h = (
+  same_items _ _ llinks (row (alike Rlink)) (same_list _ _ bounds) (same_list _ _ slacks),
+  same_nodes _ _ (same_list _ _ (λ k. top_cells p q t s k a b items (alike Top k))) (row (alike Ulink))
+      (row (alike Dlink)) (same_list _ _ colors),
+)
+  where
+    alike : (f : Field) (k : ℕ) → reading (item_count p) (items_after p t) (nodes_after p t) f k
+        ≡ reading (item_count q) (items_after q s) (nodes_after q s) f k
+    alike f k = reading_is p t f k a ∙ h f k ∙ sym (reading_is q s f k b)
 
-pub nodes_from_fields : (p q : Puzzle) (t s : List Move) → IsSound p → IsSound q → FieldsSame p t q s
-    → nodes_after p t ≡ nodes_after q s
-nodes_from_fields p q t s a b h =
-    let items = items_many p q t s (llinks p q t s h) in
-    same_nodes (nodes_after p t) (nodes_after q s) (same_list (nodes_after p t).top (nodes_after q s).top
-    (λ k. top_cells p q t s k a b items
-    (top_cell p t k a.laid a.fit a.items ∙ h Top k ∙ sym (top_cell q s k b.laid b.fit b.items))))
-    (rows_same _ _ _ _ (λ k. ulink_cell p t k a.laid) (λ k. ulink_cell q s k b.laid) (h Ulink))
-    (rows_same _ _ _ _ (λ k. dlink_cell p t k a.laid) (λ k. dlink_cell q s k b.laid) (h Dlink))
-    (same_list (nodes_after p t).color (nodes_after q s).color (λ k. color_cells p q t s k a b items (h Color k)))
+    row : {xs ys : List ℕ} → ((k : ℕ) → read xs k ≡ read ys k) → xs ≡ ys
+    row e = same_list _ _ (λ k. natural_same _ _ (e k))
+
+    llinks : (items_after p t).llink ≡ (items_after q s).llink
+    llinks = row (alike Llink)
+
+    items : item_count p ≡ item_count q
+    items = items_many p q t s llinks
+
+    bounds : (k : ℕ) → slice_get (items_after p t).bound k ≡ slice_get (items_after q s).bound k
+    bounds k = let e = alike Bound k in grind (arith, common_steps, natural_same, row_first, eqb-true)
+
+    slacks : (k : ℕ) → slice_get (items_after p t).slack k ≡ slice_get (items_after q s).slack k
+    slacks k = let e = alike Slack k in grind (arith, common_steps, natural_same, row_first, eqb-true)
+
+    colors : (k : ℕ) → slice_get (nodes_after p t).color k ≡ slice_get (nodes_after q s).color k
+    colors k = let e = alike Color k in grind (arith, common_steps, natural_same, color_same, items)
 
 -- and the other way round
 pub fields_from : (p q : Puzzle) (t s : List Move) → IsSound p → IsSound q → items_after p t ≡ items_after q s
-    → nodes_after p t ≡ nodes_after q s → (f : Field) (k : ℕ) → field_of p t f k ≡ field_of q s f k
-fields_from p q t s a b i n f k = by_field f
-  where
-    items : item_count p ≡ item_count q
-    items = items_many p q t s (ap (λ (x : Items). x.llink) i)
+    → nodes_after p t ≡ nodes_after q s → FieldsSame p t q s
+fields_from p q t s a b i n f k =
+    let many = items_many p q t s (ap (λ (x : Items). x.llink) i) in
+    sym (reading_is p t f k a) ∙ ap₂ (λ x y. reading (item_count p) x y f k) i n
+    ∙ ap (λ m. reading m (items_after q s) (nodes_after q s) f k) many ∙ reading_is q s f k b
 
-    by_field : (f : Field) → field_of p t f k ≡ field_of q s f k
-    by_field Llink =
-        sym (llink_read p t k) ∙ ap (λ (x : Items). option_map natural (slice_get x.llink k)) i ∙ llink_read q s k
-    by_field Rlink =
-        sym (rlink_read p t k) ∙ ap (λ (x : Items). option_map natural (slice_get x.rlink k)) i ∙ rlink_read q s k
-    by_field Bound =
-        by_zero (λ k. field_of p t Bound k ≡ field_of q s Bound k) refl
-        (λ k ne. sym (bound_read p t k ne) ∙ ap (λ (x : Items). option_map natural (slice_get x.bound k)) i
-        ∙ bound_read q s k ne) k
-    by_field Slack =
-        by_zero (λ k. field_of p t Slack k ≡ field_of q s Slack k) refl
-        (λ k ne. sym (slack_read p t k ne) ∙ ap (λ (x : Items). option_map natural (slice_get x.slack k)) i
-        ∙ slack_read q s k ne) k
-    by_field Top = sym (top_cell p t k a.laid a.fit a.items)
-        ∙ ap (λ (x : Nodes). option_map top_read (slice_get x.top k)) n ∙ top_cell q s k b.laid b.fit b.items
-    by_field Ulink = sym (ulink_cell p t k a.laid) ∙ ap (λ (x : Nodes). option_map natural (slice_get x.ulink k)) n
-        ∙ ulink_cell q s k b.laid
-    by_field Dlink = sym (dlink_cell p t k a.laid) ∙ ap (λ (x : Nodes). option_map natural (slice_get x.dlink k)) n
-        ∙ dlink_cell q s k b.laid
-    by_field Color =
-        elim (ltb (item_count p) k) as (λ c. ltb (item_count p) k ≡ c → field_of p t Color k ≡ field_of q s Color k) [
-          | true ↦ λ e. (let high = ltb-true (item_count p) k e in
-              sym (color_use p t k a.laid a.fit high)
-              ∙ ap (λ (x : Nodes). option_map color_read (slice_get x.color k)) n
-              ∙ color_use q s k b.laid b.fit (omega (arith, high, items)))
-          | false ↦ λ e. (let low = ltb-false (item_count p) k e in
-              sym (color_own p t k a.laid low) ∙ ap (λ (x : Nodes). option_map natural (slice_get x.color k)) n
-              ∙ color_own q s k b.laid (omega (arith, low, items)))
-        ] refl
-
--- ---- when two keepers of tables are the same
-
--- ---- two keepers
+-- ---- two keepers of tables
 
 abbrev pub AreEqual : Items → Items → Nodes → Nodes → List Move → List Move → List ℕ → List ℕ → Type 0
 AreEqual i j n m xs ys ms ns = (((i ≡ j) × (n ≡ m)) × (xs ≡ ys)) × (ms ≡ ns)
@@ -158,7 +140,7 @@ pub is_same : (p q : Puzzle) (sp sq : List Span) (i j : Items) (n m : Nodes) (xs
     → (AreEqual i j n m xs ys ms ns → IsSame p (reverse xs) q (reverse ys)) × (IsSame p (reverse xs) q (reverse ys) →
     AreEqual i j n m xs ys ms ns)
 is_same p q sp sq i j n m xs ys ms ns a b is_i is_j is_n is_m is_ms is_ns =
-    grind (arith, common_steps, fields_from, forwards, items_from, nodes_from_fields, sound)
+    grind (arith, common_steps, fields_from, forwards, sound, tables_from)
 
 -- ---- tests in a row
 
