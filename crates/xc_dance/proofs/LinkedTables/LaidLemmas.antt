@@ -1,41 +1,15 @@
 -- The options with their numbers, and the places of the node table: what the walks need of them.
-use Rattle.std.proofs.Common.{◌≡◌, ℕ, zero, suc, ◌+◌, ◌<◌, ◌≤◌, inl, inr, List, [], ◌∷◌, Some, refl, ap, ap₂, sym, ◌∙◌}
+use Rattle.std.proofs.Common.{◌≡◌, ℕ, zero, suc, ◌<◌, ◌≤◌, inl, inr, Some, refl, ap, ap₂, sym, ◌∙◌}
 use Rattle.std.proofs.Common.{subst, arith}
-use Rattle.std.specs.Prelude.{slice_get, unwrap_or}
 use Rattle.std.specs.List.{AllByRecursion}
-use Rattle.xc_input.specs.declared.problem.Use.{Use}
-use Rattle.xc_input.specs.Problem.{Puzzle, Numbered, numbered_options, numbered_get, uses_of, item_count}
-use Rattle.xc_input.proofs.OptionLemmas.NumberedOptions.{numbered_from}
+use Rattle.xc_input.specs.Problem.{Puzzle, Numbered, numbered_options, item_count}
 use Rattle.xc_input.proofs.lists.EachElement.{each_weaker, each_at}
 use Rattle.xc_dance.specs.Fields.{Node, own, used, link_place}
 use Rattle.xc_dance.specs.inner.Links.Cells.{slot_of}
 use Rattle.xc_dance.specs.inner.Links.Laid.{IsName, Placed, IsLaid, IsFit, AreDistinct}
 use Rattle.xc_dance.proofs.LinkedTables.LinkColumns.{item_of, member_of}
+pub use Rattle.xc_dance.proofs.MoveLemmas.OptionsRise.{IsOption, options_numbered}
 use Rattle.xc_dance.proofs.LinkedTables.PlaceLemmas.{IsAt, is_at, head_is, found_use, use_at, held_node}
-
--- ---- the options of a problem with their numbers, which rise from 1
-
--- the option of this number has these uses
-abbrev pub IsOption : Puzzle → Numbered → Type 0
-IsOption p o = (0 < o.number) × (uses_of p o.number ≡ o.uses)
-
-numbered_at : (all : List (List Use)) (i k : ℕ) → i ≡ k + 1 → numbered_get all i ≡ slice_get all k
-numbered_at all zero k e = absurd (omega (arith, e))
-numbered_at all (suc i) k e = let same : i ≡ k = omega (arith, e) in ap (slice_get all) same
-
-uses_from : (all os : List (List Use)) (n : ℕ) → ((j : ℕ) → slice_get all (n + j) ≡ slice_get os j)
-    → AllByRecursion (λ o. (0 < o.number) × (unwrap_or (numbered_get all o.number) [] ≡ o.uses))
-    (numbered_from (n + 1) os)
-uses_from all [] n h = tt
-uses_from all (us ∷ os) n h =
-    let z : n ≡ n + 0 = omega arith in
-    let next : (j : ℕ) → (n + 1) + j ≡ n + suc j = λ j. omega arith in
-    let rest = uses_from all os (n + 1) (λ j. ap (slice_get all) (next j) ∙ h (suc j)) in
-    ((omega arith, ap (λ o. unwrap_or o []) (numbered_at _ (n + 1) n refl ∙ ap (slice_get all) z ∙ h 0)), rest)
-
-pub options_numbered : (p : Puzzle) → AllByRecursion (IsOption p) (numbered_options p)
-options_numbered p =
-    uses_from p.options p.options 0 (λ j. let z : 0 + j ≡ j = omega arith in ap (slice_get p.options) z)
 
 pub distinct_options : {p : Puzzle} → IsFit p
     → AllByRecursion (λ (x : Numbered). AreDistinct x.uses) (numbered_options p)

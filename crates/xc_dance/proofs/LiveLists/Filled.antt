@@ -15,6 +15,7 @@ use Rattle.xc_dance.specs.inner.Lists.Losing.{enlisted_from, enlisted, has_use, 
 use Rattle.xc_dance.specs.declared.dance.Move.{Move}
 use Rattle.xc_dance.proofs.LiveLists.OptionsLost.{has_use_other}
 use Rattle.xc_dance.proofs.MoveLemmas.Shortened.{holds_use}
+use Rattle.xc_dance.proofs.MoveLemmas.ListLemmas.{numbers}
 use Rattle.std.proofs.Common.{eq-eqb}
 use Rattle.std.proofs.Math.Bool.{or-true}
 use Rattle.xc_dance.proofs.LiveLists.OptionsLost.{has_use_more}
@@ -60,7 +61,7 @@ new_use us k u0 distinct lt =
 
 -- the lists of these options
 abbrev pub lists_of : Puzzle → List (List Use) → List (List ℕ)
-lists_of p os = map (λ i. map (λ o. o.number) (holding i (numbered_from 1 os))) (range_with_len 1 (item_count p))
+lists_of p os = map (λ i. numbers (holding i (numbered_from 1 os))) (range_with_len 1 (item_count p))
 
 enlisted_range : (us : List Use) (o : ℕ) (f g : ℕ → List ℕ)
     → ((i : ℕ) → cond (has_use us i) (f i ++ o ∷ []) (f i) ≡ g i) → (a n : ℕ) →
@@ -74,13 +75,13 @@ numbered_more [] us n = grind (arith, common_steps)
 numbered_more (vs ∷ os) us n = grind (arith, common_steps, numbered_more os us (n + 1))
 
 at_end : (front : List ℕ) (x : Numbered) (n : ℕ) → n ≡ x.number → (b : Bool)
-    → cond b (front ++ n ∷ []) front ≡ front ++ map (λ (o : Numbered). o.number) (cond b (x ∷ []) [])
+    → cond b (front ++ n ∷ []) front ≡ front ++ numbers (cond b (x ∷ []) [])
 at_end front x n e true = ap (λ k. front ++ k ∷ []) e
 at_end front x n e false = sym (append-nil front)
 
 filled_more : (os : List (List Use)) (us : List Use) (i : ℕ)
-    → cond (has_use us i) (map (λ o. o.number) (holding i (numbered_from 1 os)) ++ (length os + 1) ∷ []) (map (λ o.
-    o.number) (holding i (numbered_from 1 os))) ≡ map (λ o. o.number) (holding i (numbered_from 1 (os ++ us ∷ [])))
+    → (let old = numbers (holding i (numbered_from 1 os)) in cond (has_use us i) (old ++ (length os + 1) ∷ []) old)
+    ≡ numbers (holding i (numbered_from 1 (os ++ us ∷ [])))
 filled_more os us i = grind (arith, common_steps, at_end, holds_use, numbered_more)
 
 pub lists_more : (p : Puzzle) (os : List (List Use)) (us : List Use) (o : ℕ) → o ≡ length os + 1
@@ -90,7 +91,7 @@ lists_more p os us o e = grind (arith, common_steps, enlisted_range, filled_more
 pub lists_none : (p : Puzzle) → replicate (item_count p) [] ≡ lists_of p []
 lists_none p = empty 1 (item_count p)
   where
-    empty : (a n : ℕ) → replicate n [] ≡ map (λ i. map (λ (o : Numbered). o.number) (holding i (numbered_from 1 [])))
+    empty : (a n : ℕ) → replicate n [] ≡ map (λ i. numbers (holding i (numbered_from 1 [])))
         (range_with_len a n)
     empty a zero = refl
     empty a (suc n) = ap (λ ls. [] ∷ ls) (empty (a + 1) n)

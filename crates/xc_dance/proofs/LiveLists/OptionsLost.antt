@@ -15,7 +15,7 @@ use Rattle.xc_dance.specs.declared.dance.Move.{Move}
 use Rattle.xc_dance.specs.Moves.{is_open}
 use Rattle.xc_dance.specs.inner.Lists.Taking.{less, list_at}
 use Rattle.xc_dance.specs.inner.Lists.Losing.{lose_from, has_use, IsListOf, AreListsFrom}
-use Rattle.xc_dance.proofs.MoveLemmas.ListLemmas.{Rises-filter}
+use Rattle.xc_dance.proofs.MoveLemmas.ListLemmas.{Rises-filter, by_test}
 use Rattle.xc_dance.proofs.LiveLists.Removal.{less-absent}
 use Rattle.xc_input.proofs.lists.Filters.{filter_both}
 
@@ -31,11 +31,6 @@ less_none (x ∷ l) = ap (λ k. x ∷ k) (less_none l)
 
 pub is_list_of-less : (p : Puzzle) (i : ℕ) (gone l : List ℕ) → IsListOf p i l → IsListOf p i (less gone l)
 is_list_of-less p i gone l h = (Rises-filter _ 0 l h.0, All-filter _ (λ o. IsTrue (has_use (uses_of p o) i)) l h.1)
-
-if_list_of : (p : Puzzle) (i : ℕ) (b : Bool) (k l : List ℕ) → IsListOf p i k → IsListOf p i l
-    → IsListOf p i (cond b k l)
-if_list_of p i true k l g h = g
-if_list_of p i false k l g h = h
 
 -- an option that has a use is one of the problem
 pub known_option : (p : Puzzle) (o i : ℕ) → has_use (uses_of p o) i ≡ true → (1 ≤ o) × (o ≤ option_count p)
@@ -63,17 +58,16 @@ pub lists-lose_from : (p : Puzzle) (t : List Move) (j : ℕ) (gone : List ℕ) (
     → AreListsFrom p n ls → AreListsFrom p n (lose_from t j gone n ls)
 lists-lose_from p t j gone n [] h = tt
 lists-lose_from p t j gone n (l ∷ ls) h = (
-  if_list_of p n (not (eqb n j) && is_open n t) (less gone l) l (is_list_of-less p n gone l h.0) h.0,
-  grind (arith, common_steps, lists-lose_from p t j gone (n + 1) ls h.1),
+  by_test (IsListOf p n) (not (eqb n j) && is_open n t) (is_list_of-less p n gone l h.0) h.0,
+  lists-lose_from p t j gone (n + 1) ls h.1,
 )
 
 pub lists-hidden_from : (p : Puzzle) (t : List Move) (j : ℕ) (us : List Use) (o n : ℕ) (ls : List (List ℕ))
     → AreListsFrom p n ls → AreListsFrom p n (hidden_from t j us o n ls)
 lists-hidden_from p t j us o n [] h = tt
 lists-hidden_from p t j us o n (l ∷ ls) h = (
-  if_list_of p n ((not (eqb n j) && is_open n t) && has_use us n) (less (o ∷ []) l) l
-      (is_list_of-less p n (o ∷ []) l h.0) h.0,
-  grind (arith, common_steps, lists-hidden_from p t j us o (n + 1) ls h.1),
+  by_test (IsListOf p n) ((not (eqb n j) && is_open n t) && has_use us n) (is_list_of-less p n (o ∷ []) l h.0) h.0,
+  lists-hidden_from p t j us o (n + 1) ls h.1,
 )
 
 pub list_of : (p : Puzzle) (n k : ℕ) (ls : List (List ℕ)) → AreListsFrom p n ls → k < length ls

@@ -1,13 +1,15 @@
 -- An open item's list is the options left that hold it.
 use Rattle.std.proofs.Common.{ℕ, ◌≡◌, ◌<◌, ◌≤◌, Bool, true, false, cond, not, ◌&&◌, eqb, List, [], ◌∷◌, filter, take}
-use Rattle.std.proofs.Common.{drop, Option, Some, None, refl, sym, ap, ap₂, ◌∙◌, arith, eqb-true, eq-eqb, lt-ltb}
+use Rattle.std.proofs.Common.{drop, Option, Some, None, refl, sym, ap, ap₂, ◌∙◌, arith, eq-eqb, lt-ltb}
 use Rattle.std.proofs.Common.{ne_eqb, IsTrue}
 use Rattle.std.proofs.lemmas.Grind.{common_steps}
+use Rattle.std.proofs.lemmas.Bool.Decides.{eqb_tells}
+use Rattle.std.proofs.Common.{inl, inr}
 use Rattle.std.proofs.lemmas.List.Elements.{filter_agree}
 use Rattle.std.specs.Prelude.{is_some}
 use Rattle.std.specs.List.{AllByRecursion}
 use Rattle.xc_input.specs.Problem.{Puzzle, Numbered, holds, colour_at, holding}
-use Rattle.xc_input.proofs.lists.EachElement.{each_weaker, each_both}
+use Rattle.xc_input.proofs.lists.EachElement.{each_weaker}
 use Rattle.xc_input.proofs.lists.Filters.{filter_same, filter_both, filter_swap, keep_all}
 use Rattle.xc_input.proofs.FaultLemmas.BooleanTests.{and_right}
 use Rattle.xc_dance.specs.declared.dance.Move.{Move}
@@ -39,25 +41,24 @@ not_among x n [] h r = refl
 not_among x n (o ∷ os) h r =
     rw (other o.number x.number (omega (arith, r.0))) (not_among x o.number os (omega (arith, r.0)) r.1)
 
--- among those that pass is who passes
-pub among_filter : (q : Numbered → Bool) (n : ℕ) (os : List Numbered) → NumbersRise n os
-    → AllByRecursion (λ o. is_among (filter q os) o ≡ q o) os
-among_filter q n [] r = tt
-among_filter q n (x ∷ os) r =
-    elim (q x) as (λ b. (is_among (cond b (x ∷ filter q os) (filter q os)) x ≡ b)
-    × AllByRecursion (λ o. is_among (cond b (x ∷ filter q os) (filter q os)) o ≡ q o) os) [
-      | true ↦ (
-        grind (arith, common_steps),
-        each_both (λ o. x.number < o.number) (λ o. is_among (filter q os) o ≡ q o)
-            (λ o. is_among (x ∷ filter q os) o ≡ q o) os (λ o h e. rw (before o.number x.number h) e)
-            (above x.number os r.1) (among_filter q x.number os r.1),
-      )
-      | false ↦ grind (arith, common_steps, not_among, NumbersRise-filter, among_filter q x.number os r.1)
-    ]
+-- an option below all of a list makes no difference there
+passed_over : (x : Numbered) (gone os : List Numbered) → NumbersRise x.number os
+    → without (x ∷ gone) os ≡ without gone os
+passed_over x gone os r =
+    filter_same _ _ os (each_weaker (λ o. x.number < o.number) _ os (λ o h. rw (before o.number x.number h) refl)
+    (above x.number os r))
 
 pub without_filter : (q : Numbered → Bool) (n : ℕ) (os : List Numbered) → NumbersRise n os
     → without (filter q os) os ≡ filter (λ o. not (q o)) os
-without_filter q n os r = filter_same _ _ os (each_weaker _ _ os (λ o e. ap not e) (among_filter q n os r))
+without_filter q n [] r = refl
+without_filter q n (x ∷ os) r =
+    let rest = without_filter q x.number os r.1 in
+    elim (q x) as (λ b. without (cond b (x ∷ filter q os) (filter q os)) (x ∷ os)
+    ≡ cond (not b) (x ∷ filter (λ o. not (q o)) os) (filter (λ o. not (q o)) os)) [
+      | true ↦ rw (eq-eqb x.number x.number refl) (passed_over x (filter q os) os r.1 ∙ rest)
+      | false ↦ rw (not_among x x.number (filter q os) (omega arith) (NumbersRise-filter q x.number os r.1))
+          (ap (λ l. x ∷ l) rest)
+    ]
 
 pub without_first : (n : ℕ) (os : List Numbered) → NumbersRise n os → without (take 1 os) os ≡ drop 1 os
 without_first n [] r = refl
@@ -83,24 +84,16 @@ purified_gone i j c os h r =
     ∙ gone (λ o. holds o j && is_other_colour c (colour_at o j)) i os r
     ∙ ap (holding i) (filter_agree _ _ (λ o. agree_test c (colour_at o j) h) os)
 
-tweaked_closed : (p : Puzzle) (t : List Move) (i j : ℕ) → is_open i t ≡ true → listed p t i ≡ holding i (left p t)
-    → (is_open j t ≡ true → listed p t j ≡ holding j (left p t)) →
-    eqb i j ≡ false → listed p (Tweak j ∷ t) i ≡ holding i (left p (Tweak j ∷ t))
-tweaked_closed p t i j opened at_i at_j e = grind (arith, common_steps, filter_swap)
-
-tweaked_itself : (p : Puzzle) (t : List Move) (i j : ℕ) → is_open i t ≡ true
-    → (is_open j t ≡ true → listed p t j ≡ holding j (left p t)) →
-    i ≡ j → listed p (Tweak j ∷ t) i ≡ holding i (left p (Tweak j ∷ t))
-tweaked_itself p t i j opened at_j e =
-    let j_open : is_open j t ≡ true = ap (λ k. is_open k t) (sym e) ∙ opened in
-    rw (eq-eqb i j e, j_open, e) (ap (drop 1) (at_j j_open)
-    ∙ sym (without_first 0 (holding j (left p t)) (NumbersRise-filter (λ o. holds o j) 0 (left p t) (left_rises p t)))
-    ∙ filter_swap _ _ (left p t))
-
 tweaked : (p : Puzzle) (t : List Move) (i j : ℕ) → is_open i t ≡ true → listed p t i ≡ holding i (left p t)
     → (is_open j t ≡ true → listed p t j ≡ holding j (left p t)) →
     listed p (Tweak j ∷ t) i ≡ holding i (left p (Tweak j ∷ t))
-tweaked p t i j opened at_i at_j = grind (arith, common_steps, eqb-true, tweaked_closed, tweaked_itself)
+tweaked p t i j opened at_i at_j = elim (eqb_tells i j) [
+  | inl same ↦
+      let j_open : is_open j t ≡ true = ap (λ k. is_open k t) (sym same.1) ∙ opened in
+      rw (same.0, j_open, same.1) (ap (drop 1) (at_j j_open) ∙ sym (without_first 0 (holding j (left p t))
+      (NumbersRise-filter (λ o. holds o j) 0 (left p t) (left_rises p t))) ∙ filter_swap _ _ (left p t))
+  | inr other ↦ grind (arith, common_steps, filter_swap)
+]
 
 pub listed_open : (p : Puzzle) (t : List Move) → AreLegal p t → (i : ℕ) → IsTrue (is_open i t)
     → listed p t i ≡ holding i (left p t)

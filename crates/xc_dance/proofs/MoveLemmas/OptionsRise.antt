@@ -1,9 +1,12 @@
--- Options whose numbers rise.
-use Rattle.std.proofs.Common.{ℕ, ◌+◌, ◌<◌, ◌≤◌, Bool, List, [], ◌∷◌, filter, arith}
+-- The options of a problem with their numbers, which rise from 1.
+use Rattle.std.proofs.Common.{ℕ, suc, ◌≡◌, ◌+◌, ◌<◌, ◌≤◌, Bool, List, [], ◌∷◌, filter, drop, refl, ap, sym, ◌∙◌, arith}
+use Rattle.std.specs.Prelude.{slice_get, unwrap_or}
+use Rattle.std.specs.List.{AllByRecursion}
+use Rattle.xc_input.proofs.lists.Places.{slice_get-drop, drop_one}
 use Rattle.xc_input.proofs.OptionLemmas.NumberedOptions.{numbered_from}
 use Rattle.std.proofs.lemmas.Grind.{common_steps}
 use Rattle.xc_input.specs.declared.problem.Use.{Use}
-use Rattle.xc_input.specs.Problem.{Puzzle, Numbered, numbered_options}
+use Rattle.xc_input.specs.Problem.{Puzzle, Numbered, numbered_options, uses_of}
 
 abbrev pub NumbersRise : ℕ → List Numbered → Type 0
 NumbersRise n [] = Unit {0}
@@ -25,3 +28,19 @@ NumbersRise-from n (us ∷ os) = (omega arith, NumbersRise-from (n + 1) os)
 
 pub options_rise : (p : Puzzle) → NumbersRise 0 (numbered_options p)
 options_rise p = NumbersRise-from 0 p.options
+
+-- the option of this number has these uses
+abbrev pub IsOption : Puzzle → Numbered → Type 0
+IsOption p o = (0 < o.number) × (uses_of p o.number ≡ o.uses)
+
+uses_from : (p : Puzzle) (n : ℕ) (os : List (List Use)) → drop n p.options ≡ os
+    → AllByRecursion (IsOption p) (numbered_from (n + 1) os)
+uses_from p n [] at = tt
+uses_from p n (us ∷ os) at =
+    let s : n + 1 ≡ suc n = omega arith in
+    let here = sym (slice_get-drop p.options n) ∙ ap (λ l. slice_get l 0) at in
+    let next = ap (λ m. drop m p.options) s ∙ sym (drop_one n p.options) ∙ ap (drop 1) at in
+    ((omega arith, ap (uses_of p) s ∙ ap (λ o. unwrap_or o []) here), uses_from p (n + 1) os next)
+
+pub options_numbered : (p : Puzzle) → AllByRecursion (IsOption p) (numbered_options p)
+options_numbered p = uses_from p 0 p.options refl
