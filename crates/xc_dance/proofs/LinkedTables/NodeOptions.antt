@@ -1,9 +1,9 @@
 -- What the tables answer: the node by which an option uses an item, the option of a node, and the links downwards.
 use Rattle.std.proofs.Common.{◌≡◌, ℕ, zero, suc, ◌+◌, ◌-◌, ◌<◌, ◌≤◌, Bool, true, false, not, cond, eqb, List, [], ◌∷◌}
 use Rattle.std.proofs.Common.{length, get_or, Some, None, filter, refl, ap₂, subst, arith, eqb-true, ne_eqb, le-leb}
-use Rattle.std.proofs.Common.{◌≢◌, ◌⊎◌, inl, inr, ltb, Option, ap, sym, ◌∙◌, eq-eqb}
+use Rattle.std.proofs.Common.{◌≢◌, ◌⊎◌, inl, inr, ltb, ap, sym, ◌∙◌, eq-eqb}
 use Rattle.std.specs.Prelude.{is_some, unwrap_or, slice_get, Contains}
-use Rattle.std.specs.List.{range_with_len, AllByRecursion}
+use Rattle.std.specs.List.{range_with_len}
 use Rattle.std.proofs.lemmas.Grind.{common_steps}
 use Rattle.std.proofs.lemmas.Option.{slice_get_within}
 use Rattle.xc_input.specs.Problem.{Puzzle, primary_count, item_count, high_at, IsItem, IsPrimary, uses_of, colour_in}
@@ -29,9 +29,11 @@ use Rattle.xc_dance.proofs.LinkedTables.RingStep.{row_get, row_len, right_now}
 use Rattle.xc_dance.proofs.MoveLemmas.StateLemmas.{open_or_covered, open_uncovered}
 use Rattle.xc_dance.proofs.LinkedTables.GoodLines.{Named, numbers_named}
 use Rattle.xc_dance.proofs.MoveLemmas.Shortened.{rises_listed}
-use Rattle.xc_dance.proofs.LinkedTables.PlaceLemmas.{place_is, option_nodes, HeldNode, held_node}
+use Rattle.xc_dance.proofs.LinkedTables.PlaceLemmas.{place_is, option_nodes, held_node}
 use Rattle.xc_dance.proofs.LinkedTables.PlaceLemmas.{node_between}
 use Rattle.xc_dance.proofs.LinkedTables.Sweep.{first_above-first}
+use Rattle.xc_dance.proofs.LinkedTables.UsePlaces.{use_cells, spacer_cells}
+use Rattle.xc_dance.proofs.MoveLemmas.Members.{element_of}
 use Rattle.xc_dance.specs.declared.links.nodes.TheConstants.{SPACER}
 
 -- ---- what the tables answer, against what the moves make of the lists
@@ -127,48 +129,37 @@ pub on_the_way : (p : Puzzle) (t : List Move) (i o q : ℕ) → IsLaid p → 0 <
 on_the_way p t i o q laid pos held from to =
     let w = held_node p i o pos held in
     let b = node_between p o q w.known from (omega (arith, to, w.below)) in
-    let top = get_map (top_in (line_of p t)) (layout p) q (used o b.0) b.2 in
+    let cells = use_cells p t o b.0 q b.2 in
     record {
-      within = slice_get_within (layout p) q (used o b.0) b.2;
-      found = λ e. sym (laid.unique q (used o b.0) i o b.2 (ap (λ j. let s : ℕ × ℕ = (j, o) in Some s) (sym top ∙ e)));
-      next = grind (arith, common_steps, get_map);
+      within = cells.within;
+      found = λ e. sym (laid.unique q (used o b.0) i o b.2
+          (ap (λ j. let s : ℕ × ℕ = (j, o) in Some s) (sym cells.top ∙ e)));
+      next = grind (arith, common_steps, cells.top);
     }
 
 -- ---- which option a node is of
 
--- one of the places from a node of option o on, up to the spacer behind the option
-record ToSpacer (p : Puzzle) (t : List Move) (o q : ℕ) : Type 0 where
-  within : q < length (layout p)
-  next : get_or (nodes_after p t).top q 0 < SPACER → q + 1 ≤ spacer_place p o
-  number : SPACER ≤ get_or (nodes_after p t).top q 0 → get_or (nodes_after p t).top q 0 ≡ SPACER + o
+-- a place from a node of option o on is a node's before the spacer behind the option, or that spacer's
+abbrev ToSpacer : Puzzle → List Move → ℕ → ℕ → Type 0
+ToSpacer p t o q = (q < length (layout p)) × (((get_or (nodes_after p t).top q 0 < SPACER) × (q < spacer_place p o))
+    ⊎ (get_or (nodes_after p t).top q 0 ≡ SPACER + o))
 
 to_spacer : (p : Puzzle) (t : List Move) (i o q : ℕ) → IsLaid p → 0 < o
     → is_some (colour_in (uses_of p o) i) ≡ true → link_place p i o ≤ q → q ≤ spacer_place p o → ToSpacer p t o q
-to_spacer p t i o q laid pos held from to = by_place (cases_lt q (spacer_place p o))
-  where
-    w : HeldNode p i o
-    w = held_node p i o pos held
-
-    by_place : (q < spacer_place p o) ⊎ (spacer_place p o ≤ q) → ToSpacer p t o q
-    by_place (inl lt) =
-        let b = node_between p o q w.known (omega (arith, from, w.from)) lt in
-        let top : get_or (nodes_after p t).top q 0 ≡ b.0.item =
-        get_map (top_in (line_of p t)) (layout p) q (used o b.0) b.2 in
-        let most = (laid.nodes.ranged q (used o b.0) b.0.item o b.2 refl).1 in
-        record {
-          within = slice_get_within (layout p) q (used o b.0) b.2;
-          next = λ h. omega (arith, lt);
-          number = λ h. absurd (omega (arith, h, top, most, laid.small));
-        }
-    by_place (inr ge) =
-        let at : q ≡ spacer_place p o = omega (arith, ge, to) in
-        let node = ap (slice_get (layout p)) at ∙ (option_nodes p o w.known).behind in
-        let top : get_or (nodes_after p t).top q 0 ≡ SPACER + o = grind (arith, common_steps, get_map) in
-        record {
-          within = slice_get_within (layout p) q (spacer o) node;
-          next = λ h. absurd (omega (arith, h, top));
-          number = λ h. top;
-        }
+to_spacer p t i o q laid pos held from to =
+    let w = held_node p i o pos held in
+    elim (cases_lt q (spacer_place p o)) [
+      | inl lt ↦
+          let b = node_between p o q w.known (omega (arith, from, w.from)) lt in
+          let cells = use_cells p t o b.0 q b.2 in
+          let most = (laid.nodes.ranged q (used o b.0) b.0.item o b.2 refl).1 in
+          (cells.within, inl (omega (arith, cells.top, most, laid.small), lt))
+      | inr ge ↦
+          let at : q ≡ spacer_place p o = omega (arith, ge, to) in
+          let spacer = ap (slice_get (layout p)) at ∙ (option_nodes p o w.known).behind in
+          let cells = spacer_cells p t o (o - 1) q (omega (arith, pos)) spacer in
+          (cells.within, inr cells.top)
+    ]
 
 -- a node that isn't the item's own is of an option
 name_used : (p : Puzzle) (i place x : ℕ) → IsName p i x → place ≡ link_place p i x → place ≢ i → (0 < x)
@@ -200,22 +191,28 @@ seeks p t i place q laid node other from to =
 
 -- ---- links downwards, by option numbers
 
-pub above_name : (p : Puzzle) (t : List Move) (i n : ℕ) → IsName p i (first_above 0 n (listed_numbers p t i))
-above_name p t i n = by_next (next_above n ns) refl
-  where
-    ns : List ℕ
-    ns = listed_numbers p t i
+pub contained : (xs : List ℕ) (x : ℕ) → Contains xs x → is_in x xs ≡ true
+contained xs x h = grind (arith, common_steps, eq-eqb)
 
-    found : (P : ℕ → Type 0) (xs : List ℕ) (k : ℕ) → AllByRecursion P xs → next_above n xs ≡ Some k → P k
-    found P [] k a e = cc
-    found P (x ∷ xs) k a e = elim (ltb n x) as (λ b. cond b (Some x) (next_above n xs) ≡ Some k → P k) [
-      | true ↦ λ f. (let same : x ≡ k = cc in subst P same a.0)
-      | false ↦ λ f. found P xs k a.1 f
+-- the next number is one of them
+pub next_contained : (n k : ℕ) (xs : List ℕ) → next_above n xs ≡ Some k → Contains xs k
+next_contained n k [] e = cc
+next_contained n k (x ∷ xs) e =
+    elim (ltb n x) as (λ b. cond b (Some x) (next_above n xs) ≡ Some k → Contains (x ∷ xs) k) [
+      | true ↦ λ f. (let same : x ≡ k = cc in (0, omega arith, same))
+      | false ↦ λ f. (let rest = next_contained n k xs f in (suc rest.0, omega (arith, rest.1), rest.2))
     ] e
 
-    by_next : (o : Option ℕ) → next_above n ns ≡ o → IsName p i (unwrap_or o 0)
-    by_next None e = inl refl
-    by_next (Some k) e = inr (omega (arith, next_above-gt n k ns e), found (Named p i) ns k (numbers_named p t i) e)
+pub above_name : (p : Puzzle) (t : List Move) (i n : ℕ) → IsName p i (first_above 0 n (listed_numbers p t i))
+above_name p t i n =
+    let ns = listed_numbers p t i in
+    elim (next_above n ns) as (λ o. next_above n ns ≡ o → IsName p i (unwrap_or o 0)) [
+      | None ↦ λ e. inl refl
+      | Some k ↦ λ e. inr (
+        omega (arith, next_above-gt n k ns e),
+        element_of (Named p i) k ns (numbers_named p t i) (contained ns k (next_contained n k ns e)),
+      )
+    ] refl
 
 pub own_down : (p : Puzzle) (t : List Move) (i : ℕ) → IsLaid p → 0 < i → i ≤ item_count p
     → get_or (nodes_after p t).dlink i 0 ≡ link_place p i (first_above 0 0 (listed_numbers p t i))
@@ -237,9 +234,6 @@ pub own_node : (p : Puzzle) (t : List Move) (i : ℕ) (n : Nodes) (v : Linked) (
 own_node p t i n v m k is laid seen item =
     let here : IsItem p i = subst (λ (w : Linked). IsItem w.puzzle i) (sym seen) item in
     grind (arith, common_steps, length-map, own_top, own_color, own_down, own_place p i laid here.0 here.1)
-
-pub contained : (xs : List ℕ) (x : ℕ) → Contains xs x → is_in x xs ≡ true
-contained xs x h = grind (arith, common_steps, eq-eqb)
 
 below_now : (p : Puzzle) (t : List Move) (i o : ℕ) → is_in o (listed_numbers p t i) ≡ true
     → below_of p t i o ≡ first_above 0 o (listed_numbers p t i)
@@ -273,12 +267,3 @@ pub open_place : (p : Puzzle) (t : List Move) (i : ℕ) → (i ≡ 0) ⊎ IsOpen
     → i < length (items_after p t).rlink
 open_place p t i (inl z) = let long = row_len (rlink_at p t) (item_count p + 2) in omega (arith, long, z)
 open_place p t i (inr h) = grind (arith, common_steps, row_len)
-
--- the next number is one of them
-pub next_contained : (n k : ℕ) (xs : List ℕ) → next_above n xs ≡ Some k → Contains xs k
-next_contained n k [] e = cc
-next_contained n k (x ∷ xs) e =
-    elim (ltb n x) as (λ b. cond b (Some x) (next_above n xs) ≡ Some k → Contains (x ∷ xs) k) [
-      | true ↦ λ f. (let same : x ≡ k = cc in (0, omega arith, same))
-      | false ↦ λ f. (let rest = next_contained n k xs f in (suc rest.0, omega (arith, rest.1), rest.2))
-    ] e

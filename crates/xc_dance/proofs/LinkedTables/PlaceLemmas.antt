@@ -1,6 +1,6 @@
 -- Where the nodes of each option stand in the node table, between which spacers, and its span; what a node tells of its
 -- place: for all functions that lay nodes, walk over them or ask for a place.
-use Rattle.std.proofs.Common.{◌≡◌, ℕ, zero, suc, ◌+◌, ◌-◌, ◌<◌, ◌≤◌, ◌⊎◌, inl, inr, true, false, cond, eqb, List, []}
+use Rattle.std.proofs.Common.{◌≡◌, ℕ, zero, suc, ◌+◌, ◌-◌, ◌<◌, ◌≤◌, inl, inr, true, false, cond, eqb, List, []}
 use Rattle.std.proofs.Common.{◌∷◌, ◌++◌, length, get_or, map, take, drop, Some, refl, ap, ap₂, sym, ◌∙◌, subst, arith}
 use Rattle.std.proofs.Common.{eqb-true, eq-eqb, ne_eqb, lt-ltb, sum_by}
 use Rattle.std.specs.Prelude.{slice_get, flat_map, option_map, unwrap_or, is_some}
@@ -10,7 +10,7 @@ use Rattle.std.proofs.lemmas.Bool.{false≢true, cases_lt}
 use Rattle.std.proofs.lemmas.Option.{slice_get-map, same_Some, slice_get-get_or, slice_get_within}
 use Rattle.std.proofs.lemmas.Option.{get_or_from_slice_get}
 use Rattle.std.proofs.Math.Seq.{take-length}
-use Rattle.std.proofs.lemmas.List.{length-map, length-append, length-take, length-drop, append_assoc, take-take}
+use Rattle.std.proofs.lemmas.List.{length-map, length-take, length-drop, append_assoc, take-take}
 use Rattle.std.proofs.lemmas.List.Sums.{sum_by-cons, sum_by_push, sum_by-take-le}
 use Rattle.std.proofs.lemmas.List.FromFn.{length-map-range_with_len, length-range_with_len, get_or-range_with_len}
 use Rattle.xc_input.specs.declared.problem.Use.{Use}
@@ -18,7 +18,11 @@ use Rattle.xc_input.specs.Problem.{Puzzle, numbered_get, uses_of, item_count, op
 use Rattle.xc_input.specs.Problem.{IsOption, IsWithinLimits}
 use Rattle.xc_input.specs.UsePlaces.{place_in}
 use Rattle.xc_input.proofs.OptionLemmas.NumberedOptions.{numbered_from}
-use Rattle.xc_input.proofs.lists.Places.{get_left, drop_at}
+use Rattle.xc_input.proofs.lists.Places.{get_left, drop_at, slice_get-drop}
+use Rattle.std.proofs.Math.Seq.{drop-append_seam, drop-length}
+use Rattle.std.proofs.lemmas.List.{drop-drop, take-append-drop}
+use Rattle.xc_dance.proofs.MoveLemmas.Shortened.{holds_use}
+use Rattle.xc_dance.proofs.LiveLists.OptionsLost.{known_option}
 use Rattle.xc_dance.specs.Fields.{Node, unused, own, spacer, used, nodes_of, layout, spacer_place, link_place}
 use Rattle.xc_dance.specs.inner.Links.OptionPlaces.{start_at}
 use Rattle.xc_dance.specs.inner.Links.Laid.{IsFit, AreDistinct}
@@ -30,24 +34,14 @@ use Rattle.xc_dance.proofs.Copied.{take_more-get}
 
 -- ---- lists in two parts
 
-pub get_behind : {X : Type 0} (xs ys : List X) (n k : ℕ) → n ≡ length xs + k → slice_get (xs ++ ys) n ≡ slice_get ys k
-get_behind [] ys n k e = let z : n ≡ k = omega (arith, e) in ap (slice_get ys) z
-get_behind (a ∷ xs) ys zero k e = absurd (omega (arith, e))
-get_behind (a ∷ xs) ys (suc n) k e = get_behind xs ys n k (omega (arith, e))
-
 pub get_dropped : {X : Type 0} (n k : ℕ) (xs : List X) → slice_get (drop n xs) k ≡ slice_get xs (n + k)
-get_dropped zero k xs = let e : k ≡ 0 + k = omega arith in ap (slice_get xs) e
-get_dropped (suc n) k [] = refl
-get_dropped (suc n) k (x ∷ xs) =
-    let e : suc (n + k) ≡ suc n + k = omega arith in
-    grind (arith, common_steps, get_dropped n k xs ∙ ap (slice_get (x ∷ xs)) e)
+get_dropped n k xs = sym (slice_get-drop (drop n xs) k) ∙ ap (λ l. slice_get l 0) (drop-drop k n xs)
+    ∙ slice_get-drop xs (n + k)
 
 pub get_taken : {X : Type 0} (n k : ℕ) (xs : List X) (x : X) → slice_get (take n xs) k ≡ Some x
     → slice_get xs k ≡ Some x
-get_taken zero k xs x e = cc
-get_taken (suc n) k [] x e = cc
-get_taken (suc n) zero (y ∷ ys) x e = e
-get_taken (suc n) (suc k) (y ∷ ys) x e = get_taken n k ys x e
+get_taken n k xs x e =
+    ap (λ l. slice_get l k) (sym (take-append-drop n xs)) ∙ get_left (take n xs) (drop n xs) k x e
 
 -- ---- the uses of an option
 
@@ -58,13 +52,6 @@ uses_here p o us e = ap (λ found. unwrap_or found []) (sym e)
 pub option_get : (p : Puzzle) (o : ℕ) (us : List Use) → o < option_count p → us ≡ uses_of p (o + 1)
     → slice_get p.options o ≡ Some us
 option_get p o us lt is = grind (arith, common_steps, slice_get-get_or p.options o [] lt)
-
--- an option that holds an item is there
-pub there : (os : List (List Use)) (k i : ℕ) → is_some (colour_in (unwrap_or (slice_get os k) []) i) ≡ true
-    → slice_get os k ≡ Some (unwrap_or (slice_get os k) [])
-there [] k i e = absurd (false≢true e)
-there (us ∷ os) zero i e = refl
-there (us ∷ os) (suc k) i e = there os k i e
 
 -- by which use an item is held, and the items of the others
 pub record Held (us : List Use) (i : ℕ) : Type 0 where
@@ -84,14 +71,13 @@ held_use (u ∷ us) i e =
       | false ↦ λ other f.
           let r = held_use us i f in
           let n : place_in i (u ∷ us) ≡ suc (place_in i us) = rw other (omega arith) in
-          let next : suc (place_in i us + 1) ≡ place_in i (u ∷ us) + 1 = omega (arith, n) in
-          let first : before_use i (u ∷ us) ≡ u.item ∷ before_use i us = rw other refl in
-          record {
+          let next : suc (place_in i us + 1) ≡ place_in i (u ∷ us) + 1 = omega (arith, n) in record {
             use_of = r.use_of;
             at = ap (slice_get (u ∷ us)) n ∙ r.at;
             item = r.item;
             colour = rw other r.colour;
-            before = first ∙ ap (λ l. u.item ∷ l) r.before ∙ ap (λ k. map (λ v. v.item) (take k (u ∷ us))) (sym n);
+            before = (rw other refl) ∙ ap (λ l. u.item ∷ l) r.before
+                ∙ ap (λ k. map (λ v. v.item) (take k (u ∷ us))) (sym n);
             behind = (rw other refl) ∙ r.behind ∙ ap (λ k. map (λ v. v.item) (drop k (u ∷ us))) next;
           }
     ] refl e
@@ -139,37 +125,34 @@ front p = unused ∷ map own (range_with_len 1 (item_count p))
 pub length_front : (p : Puzzle) → length (front p) ≡ item_count p + 1
 length_front p = let h = length-map-range_with_len own 1 (item_count p) in omega (arith, h)
 
--- what stands k places behind a spacer
-from_spacer : (p : Puzzle) (o k : ℕ) → o ≤ option_count p
-    → slice_get (layout p) (spacer_place p o + k) ≡ slice_get (tail_from o (drop o p.options)) k
-from_spacer p zero k le =
-    get_behind (front p) (tail_from 0 p.options) (spacer_place p 0 + k) k (omega (arith, length_front p, place_first p))
-from_spacer p (suc o) k le =
+-- the table from the spacer behind option o on
+dropped : (p : Puzzle) (o : ℕ) → o ≤ option_count p
+    → drop (spacer_place p o) (layout p) ≡ tail_from o (drop o p.options)
+dropped p zero le = ap (λ n. drop n (layout p)) (place_first p ∙ sym (length_front p))
+    ∙ drop-append_seam (front p) (tail_from 0 p.options)
+dropped p (suc o) le =
     let us = get_or p.options o [] in
     let rest = drop (suc o) p.options in
     let e = slice_get-get_or p.options o [] (omega (arith, le)) in
     let s : o + 1 ≡ suc o = omega arith in
-    let at : spacer_place p (suc o) + k ≡ spacer_place p o + suc (length us + k) =
+    let at : spacer_place p (suc o) ≡ spacer_place p o + suc (length us) =
     omega (arith, ap (spacer_place p) s, place_next p o us e) in
-    ap (slice_get (layout p)) at ∙ from_spacer p o (suc (length us + k)) (omega (arith, le))
-    ∙ ap (λ os. slice_get (tail_from o os) (suc (length us + k))) (drop_at p.options o us e)
-    ∙ ap (λ l. slice_get l (length us + k)) (next_tail o us rest)
-    ∙ get_behind (map (used (o + 1)) us) (tail_from (o + 1) rest) (length us + k) k
-    (omega (arith, length-map us (used (o + 1)))) ∙ ap (λ n. slice_get (tail_from n rest) k) s
+    ap (λ n. drop n (layout p)) at ∙ sym (drop-drop (suc (length us)) (spacer_place p o) (layout p))
+    ∙ ap (drop (suc (length us))) (dropped p o (omega (arith, le)) ∙ ap (tail_from o) (drop_at p.options o us e))
+    ∙ ap₂ (λ n l. drop n l) (sym (length-map us (used (o + 1)))) (next_tail o us rest)
+    ∙ drop-append_seam (map (used (o + 1)) us) (tail_from (o + 1) rest) ∙ ap (λ n. tail_from n rest) s
 
 pub spacer_here : (p : Puzzle) (o : ℕ) → o ≤ option_count p → slice_get (layout p) (spacer_place p o) ≡ Some (spacer o)
-spacer_here p o le =
-    let z : spacer_place p o ≡ spacer_place p o + 0 = omega arith in
-    grind (arith, common_steps, from_spacer)
+spacer_here p o le = sym (slice_get-drop (layout p) (spacer_place p o)) ∙ ap (λ l. slice_get l 0) (dropped p o le)
 
 pub use_here : (p : Puzzle) (o k n : ℕ) (us : List Use) (u : Use) → slice_get p.options o ≡ Some us
     → slice_get us k ≡ Some u → n ≡ spacer_place p o + 1 + k → slice_get (layout p) n ≡ Some (used (o + 1) u)
 use_here p o k n us u e f at =
     let is : n ≡ spacer_place p o + suc k = omega (arith, at) in
     let rest = drop (suc o) p.options in
-    ap (slice_get (layout p)) is ∙ from_spacer p o (suc k) (omega (arith, slice_get_within p.options o us e))
-    ∙ ap (λ os. slice_get (tail_from o os) (suc k)) (drop_at p.options o us e)
-    ∙ ap (λ l. slice_get l k) (next_tail o us rest)
+    ap (slice_get (layout p)) is ∙ sym (get_dropped (spacer_place p o) (suc k) (layout p))
+    ∙ ap (λ l. slice_get l (suc k)) (dropped p o (omega (arith, slice_get_within p.options o us e))
+    ∙ ap (tail_from o) (drop_at p.options o us e)) ∙ ap (λ l. slice_get l k) (next_tail o us rest)
     ∙ get_left (map (used (o + 1)) us) (tail_from (o + 1) rest) k (used (o + 1) u)
     (slice_get-map (used (o + 1)) us k ∙ ap (option_map (used (o + 1))) f)
 
@@ -189,22 +172,15 @@ head_is p (suc k) pos le =
 
 -- ---- the length of the table
 
-length_tail : (n : ℕ) (os : List (List Use)) → length (tail_from n os) ≡ sum_by size os + 1
-length_tail n [] = grind (arith, common_steps, length-append, length-map, next_tail)
-length_tail n (us ∷ os) =
-    grind (arith, common_steps, length-append, length-map, next_tail, sum_by-cons, length_tail (n + 1) os)
-
 sizes : (os : List (List Use)) → sum_by size os ≡ use_count os + length os
 sizes [] = refl
 sizes (us ∷ os) = omega (arith, sizes os, sum_by-cons size us os, sum_by-cons (λ (vs : List Use). length vs) us os)
 
 pub layout_len : (p : Puzzle) → length (layout p) ≡ spacer_place p (option_count p) + 1
-layout_len p = omega (
+layout_len p = let n = option_count p in omega (
   arith,
-  length-append (front p) (tail_from 0 p.options),
-  length_front p,
-  length_tail 0 p.options,
-  ap (sum_by size) (take-length p.options),
+  length-drop (spacer_place p n) (layout p),
+  ap length (dropped p n (omega arith) ∙ ap (tail_from n) (drop-length p.options)),
 )
 
 pub layout_small : (p : Puzzle) → IsWithinLimits p → length (layout p) ≤ 20100002
@@ -240,10 +216,8 @@ starts_to p k = map (start_at p) (range_with_len 0 k)
 -- ---- the nodes of one option
 
 -- an option that holds an item is there
-pub option_of : (p : Puzzle) (x i : ℕ) → 0 < x → is_some (colour_in (uses_of p x) i) ≡ true → IsOption p x
-option_of p zero i pos e = absurd (omega (arith, pos))
-option_of p (suc m) i pos e =
-    (omega arith, omega (arith, slice_get_within p.options m (uses_of p (suc m)) (there p.options m i e)))
+option_of : (p : Puzzle) (x i : ℕ) → is_some (colour_in (uses_of p x) i) ≡ true → IsOption p x
+option_of p x i e = known_option p x i (sym (holds_use (uses_of p x) i) ∙ e)
 
 -- the place of an item's use in option x, which is behind option m
 pub place_is : (p : Puzzle) (i x m : ℕ) → x ≡ m + 1 → link_place p i x ≡ start_at p m + place_in i (uses_of p x)
@@ -284,7 +258,7 @@ pub record HeldNode (p : Puzzle) (i x : ℕ) : Type 0 where
 
 pub held_node : (p : Puzzle) (i x : ℕ) → 0 < x → is_some (colour_in (uses_of p x) i) ≡ true → HeldNode p i x
 held_node p i x pos e =
-    let known = option_of p x i pos e in
+    let known = option_of p x i e in
     let nodes = option_nodes p x known in
     let place = nodes.place i in
     let h = held_use (uses_of p x) i e in
@@ -328,28 +302,25 @@ up_to : (p : Puzzle) (n q : ℕ) (m : Node) → n ≤ option_count p → item_co
     → slice_get (layout p) q ≡ Some m → IsAt p q m
 up_to p zero q m le gt to e = spacer_at p 0 q m le (omega (arith, gt, to, place_first p)) e
 up_to p (suc n) q m le gt to e = elim (cases_lt (spacer_place p n) q) [
-  | inl low ↦ behind low (cases_lt q (spacer_place p (suc n)))
-  | inr low ↦ up_to p n q m (omega (arith, le)) gt low e
-]
-  where
-    behind : spacer_place p n < q → (q < spacer_place p (suc n)) ⊎ (spacer_place p (suc n) ≤ q) → IsAt p q m
-    behind low (inr high) = spacer_at p (suc n) q m le (omega (arith, high, to)) e
-    behind low (inl lt) =
+  | inl low ↦ elim (cases_lt q (spacer_place p (suc n))) [
+    | inl lt ↦
         let j = suc n - 1 in
         let same : j ≡ n = omega arith in
         let from : start_at p j ≤ q = omega (arith, low, ap (spacer_place p) same) in
         let b = node_between p (suc n) q (omega arith, le) from lt in
         grind (arith, common_steps, same_Some)
+    | inr high ↦ spacer_at p (suc n) q m le (omega (arith, high, to)) e
+  ]
+  | inr low ↦ up_to p n q m (omega (arith, le)) gt low e
+]
 
 pub is_at : (p : Puzzle) (q : ℕ) (n : Node) → slice_get (layout p) q ≡ Some n → IsAt p q n
 is_at p zero n e = subst (IsAt p 0) (same_Some unused n e) refl
-is_at p (suc q) n e = by_place (cases_lt (item_count p) (suc q))
-  where
-    by_place : (item_count p < suc q) ⊎ (suc q ≤ item_count p) → IsAt p (suc q) n
-    by_place (inl gt) = grind (arith, common_steps, up_to, layout_len, slice_get_within)
-    by_place (inr le) =
-        subst (IsAt p (suc q)) (same_Some (own (suc q)) n (sym (head_is p (suc q) (omega arith) le) ∙ e))
-        (omega arith, le, refl)
+is_at p (suc q) n e = elim (cases_lt (item_count p) (suc q)) [
+  | inl gt ↦ grind (arith, common_steps, up_to, layout_len, slice_get_within)
+  | inr le ↦ subst (IsAt p (suc q)) (same_Some (own (suc q)) n (sym (head_is p (suc q) (omega arith) le) ∙ e))
+      (omega arith, le, refl)
+]
 
 -- ---- its span
 
