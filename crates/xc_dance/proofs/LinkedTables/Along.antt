@@ -1,25 +1,25 @@
 -- Along an option's nodes: which uses were committed where a walk over them stands, and what it finds there.
-use Rattle.std.proofs.Common.{true, false, ltb, ltb-true, ltb-false, ℕ, ◌≡◌, ◌+◌, ◌-◌, ◌<◌, ◌≤◌, List}
-use Rattle.std.proofs.Common.{length, drop, get_or, Some, refl, sym, ap, ◌∙◌, arith, subst, length-drop, length-take}
+use Rattle.std.proofs.Common.{ℕ, ◌≡◌, ◌+◌, ◌-◌, ◌<◌, ◌≤◌, List}
+use Rattle.std.proofs.Common.{length, drop, get_or, Some, refl, sym, ap, ◌∙◌, arith, subst, length-drop}
 use Rattle.std.specs.Prelude.{slice_get}
 use Rattle.std.proofs.lemmas.Option.{slice_get-get_or}
 use Rattle.xc_input.specs.declared.problem.Use.{Use}
-use Rattle.xc_input.specs.Problem.{Puzzle, uses_of}
+use Rattle.xc_input.specs.Problem.{Puzzle}
 use Rattle.xc_dance.specs.declared.dance.Move.{Move}
 use Rattle.xc_dance.specs.declared.links.nodes.Nodes.{Nodes}
 use Rattle.xc_dance.specs.Dancing.{Dancing}
 use Rattle.xc_dance.specs.Linked.{Linked, dancing_of}
 use Rattle.xc_dance.specs.Fields.{used, layout, spacer_place}
 use Rattle.xc_dance.specs.Commits.{CanStand, IsUseAt, after_use, after_uses}
-use Rattle.xc_input.specs.UsePlaces.{place_in}
 use Rattle.xc_dance.specs.inner.Links.Cells.{nodes_after}
 use Rattle.xc_dance.specs.inner.Links.Laid.{IsLaid}
 use Rattle.xc_dance.specs.inner.Links.OptionPlaces.{start_at}
 use Rattle.xc_dance.specs.inner.Links.UseNodes.{uses_behind, uses_before}
 use Rattle.xc_dance.proofs.MoveLemmas.Commits.{stood_before, first_use}
-use Rattle.xc_dance.proofs.LinkedTables.UsePlaces.{Segment, use_cells, spacer_cells}
-use Rattle.xc_dance.proofs.LinkedTables.PlaceLemmas.{OptionNodes, option_nodes}
-use Rattle.xc_dance.proofs.LinkedTables.UsePlaces.{place_at_use, behind_segment, before_segment}
+use Rattle.xc_dance.proofs.LinkedTables.UsePlaces.{Segment, use_cells, spacer_cells, behind_all, before_all}
+use Rattle.xc_dance.proofs.LinkedTables.UsePlaces.{behind_segment, before_segment}
+use Rattle.std.proofs.lemmas.Bool.{cases_lt}
+use Rattle.std.proofs.Common.{inl, inr}
 use Rattle.xc_dance.specs.declared.links.nodes.TheConstants.{SPACER}
 use Rattle.std.proofs.lemmas.List.{nil_from_length}
 use Rattle.std.proofs.lemmas.Grind.{common_steps}
@@ -50,11 +50,11 @@ along_next : {p : Puzzle} {off q : ℕ} {vs : List Use} {s t : List Move} → Is
 along_next {p} {off} {q} {vs} {t} a h = grind (arith, common_steps, first_use)
 
 -- behind the last one all were
-pub along_end : (p : Puzzle) (off q : ℕ) (vs : List Use) (s t : List Move) → IsAlong p off vs s t q →
+along_end : {p : Puzzle} {off q : ℕ} {vs : List Use} {s t : List Move} → IsAlong p off vs s t q →
     q ≡ off + length vs → t ≡ after_uses p vs s
-along_end p off q vs s t a e =
-    let d = length-drop (q - off) vs in
-    ap (λ us. after_uses p us t) (sym (nil_from_length (drop (q - off) vs) (omega (arith, d, e)))) ∙ a.trail
+along_end {p} {off} {q} {vs} {t = t} a e =
+    let none = nil_from_length (drop (q - off) vs) (omega (arith, length-drop (q - off) vs, e)) in
+    ap (λ us. after_uses p us t) (sym none) ∙ a.trail
 
 -- the node at place q is of the next use, u
 pub record IsNext (p : Puzzle) (x off : ℕ) (vs : List Use) (s t : List Move) (q : ℕ) : Type 0 where
@@ -65,15 +65,15 @@ pub record IsNext (p : Puzzle) (x off : ℕ) (vs : List Use) (s t : List Move) (
   pub on : IsAlong p off vs s (after_use p u t) (q + 1)
   pub stands : (room : ℕ) → CanStand p room (after_uses p vs s) → CanStand p room (after_use p u t)
 
-pub next_at : (p : Puzzle) (x off q : ℕ) (vs : List Use) (s t : List Move) → Segment p x off vs →
+next_at : {p : Puzzle} {x off q : ℕ} {vs : List Use} {s t : List Move} → Segment p x off vs →
     IsAlong p off vs s t q → q < off + length vs → IsNext p x off vs s t q
-next_at p x off q vs s t seg a h =
+next_at {p} {x} {off} {q} {vs} {s} {t} seg a h =
     let k = q - off in
     let v = use_at_place off vs q in
-    let at : off + k ≡ q = (let f = a.from in omega (arith, f)) in
-    let here : k < length vs = (let f = a.from in omega (arith, h, f)) in
-    let node = ap (slice_get (layout p)) (sym at) ∙ seg.node k v (slice_get-get_or vs k no_use here) in
-    let cells = use_cells _ t _ _ _ node in
+    let at : off + k ≡ q = omega (arith, a.from) in
+    let here : k < length vs = omega (arith, h, a.from) in
+    let node = ap (slice_get (layout p)) (sym at) ∙ seg k v (slice_get-get_or vs k no_use here) in
+    let cells = use_cells p t x v q node in
     let on = along_next a h in
     record {
       u = v;
@@ -97,27 +97,18 @@ pub record Behind (p : Puzzle) (i x place : ℕ) (s t : List Move) (q : ℕ) : T
 pub behind_at : {p : Puzzle} {i x place q : ℕ} {s t : List Move} → IsLaid p → IsUseAt p i x place →
     IsAlong p (place + 1) (uses_behind p i x) s t q → Behind p i x place s t q
 behind_at {p} {i} {x} {place} {q} {s} {t} laid held a =
-    let us = uses_of p x in
-    let vs = uses_behind p i x in
-    let k = place_in i us in
-    let o = option_nodes p x held.known in
-    let stands = place_at_use p i x (x - 1) place o held in
-    let first : start_at p (x - 1) + (k + 1) ≡ place + 1 = omega (arith, stands) in
-    let seg : Segment p x (place + 1) vs = subst (λ n. Segment p x n vs) first (behind_segment p i x (x - 1) o) in
-    let all : place + 1 + length vs ≡ start_at p (x - 1) + length us =
-    omega (arith, length-drop (k + 1) us, held.holds, stands) in
-    elim (ltb q (place + 1 + length vs)) as (λ b. ltb q (place + 1 + length vs) ≡ b → Behind p i x place s t q) [
-      | true ↦ λ e.
-          let n = next_at p x (place + 1) q vs s t seg a (ltb-true q (place + 1 + length vs) e) in
+    elim (cases_lt q (place + 1 + length (uses_behind p i x))) [
+      | inl lt ↦
+          let n = next_at (behind_segment held) a lt in
           let few = (laid.nodes.ranged q (used x n.u) n.u.item x n.node refl).1 in
           let small = laid.small in grind (arith, common_steps)
-      | false ↦ λ e.
-          let at : q ≡ place + 1 + length vs = omega (arith, ltb-false q (place + 1 + length vs) e, a.to) in
-          let is : q ≡ spacer_place p x = at ∙ all ∙ sym o.end in
-          let cells =
-          spacer_cells p t x (x - 1) q (omega (arith, held.known.0)) (ap (slice_get (layout p)) is ∙ o.behind) in
-          grind (arith, common_steps, along_end)
-    ] refl
+      | inr ge ↦
+          let at : q ≡ place + 1 + length (uses_behind p i x) = omega (arith, ge, a.to) in
+          let is = at ∙ behind_all held in
+          let cells = spacer_cells p t x q held.known is in
+          let none = λ (low : top_at p t q < SPACER). absurd (omega (arith, low, cells.top)) in
+          record { within = cells.within; node = none; end = λ high. (along_end a at, is) }
+    ]
 
 -- ---- Before it, from the option's first node up
 
@@ -126,17 +117,12 @@ pub record Before (p : Puzzle) (i x place : ℕ) (s t : List Move) (q : ℕ) : T
   pub node : q < place → IsNext p x (start_at p (x - 1)) (uses_before p i x) s t q
   pub end : place ≤ q → t ≡ after_uses p (uses_before p i x) s
 
--- the uses before end at it
-before_all : {p : Puzzle} {i x place : ℕ} → OptionNodes p x (x - 1) → IsUseAt p i x place →
-    start_at p (x - 1) + length (uses_before p i x) ≡ place
-before_all {p} {i} {x} o held =
-    omega (arith, length-take (place_in i (uses_of p x)) (uses_of p x), held.holds, place_at_use _ _ _ _ _ o held)
-
 pub before_at : {p : Puzzle} {i x place q : ℕ} {s t : List Move} → IsUseAt p i x place →
     IsAlong p (start_at p (x - 1)) (uses_before p i x) s t q → Before p i x place s t q
-before_at held a =
-    let o = option_nodes _ _ held.known in
-    grind (arith, common_steps, along_end, before_segment, next_at, a.to, before_all o held)
+before_at held a = record {
+  node = λ lt. next_at (before_segment held) a (omega (arith, lt, before_all held));
+  end = λ ge. along_end a (omega (arith, ge, a.to, before_all held));
+}
 
 -- ULINK of the spacer leads to where that walk begins
 pub record Leads (p : Puzzle) (x place end : ℕ) (t : List Move) : Type 0 where
@@ -147,10 +133,8 @@ pub record Leads (p : Puzzle) (x place end : ℕ) (t : List Move) : Type 0 where
 pub leads : {p : Puzzle} {i x place end : ℕ} (t : List Move) → IsUseAt p i x place →
     end ≡ spacer_place p x → Leads p x place end t
 leads {p} {x} t held e =
-    let o = option_nodes _ _ held.known in
-    let stands = place_at_use _ _ _ _ _ o held in
-    let cells = spacer_cells _ t x (x - 1) _ (omega (arith, held.known.0)) (ap (slice_get (layout p)) e ∙ o.behind) in
-    record { within = cells.within; behind = omega (arith, stands, e ∙ o.end, held.holds); first = cells.ulink }
+    let cells = spacer_cells p t x _ held.known e in
+    record { within = cells.within; behind = omega (arith, e, behind_all held); first = cells.ulink }
 
 -- ---- A step of the walk: the next use is committed
 

@@ -76,13 +76,11 @@ pub known_fit : (colours : List (List ℕ)) (p : Puzzle) → IsValid p → IsWit
     → AreColoursKnown colours p.options → length colours ≤ 10000000 → IsFit p
 known_fit colours p valid limits known few = grind (arith, common_steps, is_fit, layout_small)
 
-high_most : (bs : List Bounds) (k : ℕ) → AllByRecursion (λ (b : Bounds). b.high ≤ 999999999) bs
-    → (unwrap_or (slice_get bs k) (record { low = 0; high = 0 })).high ≤ 999999999
-high_most bs k a = at_place (λ (b : Bounds). b.high ≤ 999999999) (record { low = 0; high = 0 }) bs k (omega arith) a
-
 high_small : {p : Puzzle} (i : ℕ) → IsWithinLimits p → high_at p i < 2 ^ 31
 high_small zero limits = omega arith
-high_small {p} (suc k) limits = grind (arith, common_steps, high_most, recursion_from_All)
+high_small {p} (suc k) limits =
+    let at = at_place (λ (b : Bounds). b.high ≤ 999999999) (record { low = 0; high = 0 }) p.bounds k (omega arith) in
+    omega (arith, at (recursion_from_All _ _ limits.bounds))
 
 pub fitted : {p : Puzzle} {spans : List Span} → IsWithinLimits p → IsFit p → spans ≡ spans_of p → IsFitted p spans
 fitted {p} limits fit is = subst (IsFitted p) (sym is) (record {

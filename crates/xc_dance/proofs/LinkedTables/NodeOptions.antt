@@ -2,7 +2,7 @@
 use Rattle.std.proofs.Common.{◌≡◌, ℕ, zero, suc, ◌+◌, ◌-◌, ◌<◌, ◌≤◌, Bool, true, false, not, cond, eqb, List, [], ◌∷◌}
 use Rattle.std.proofs.Common.{length, get_or, Some, None, filter, refl, ap₂, subst, arith, eqb-true, ne_eqb, le-leb}
 use Rattle.std.proofs.Common.{◌≢◌, ◌⊎◌, inl, inr, ltb, ap, sym, ◌∙◌, eq-eqb}
-use Rattle.std.specs.Prelude.{is_some, unwrap_or, slice_get, Contains}
+use Rattle.std.specs.Prelude.{is_some, unwrap_or, Contains}
 use Rattle.std.specs.List.{range_with_len}
 use Rattle.std.proofs.lemmas.Grind.{common_steps}
 use Rattle.std.proofs.lemmas.Option.{slice_get_within}
@@ -15,21 +15,20 @@ use Rattle.std.proofs.lemmas.List.{length-map}
 use Rattle.xc_dance.specs.declared.dance.Move.TheVariants.{Purify, Spend}
 use Rattle.xc_dance.specs.Moves.{purified, spends, AreLegal, listed, next_above, open_items, listed_numbers}
 use Rattle.xc_dance.specs.Moves.{IsOpenPrimary}
-use Rattle.xc_dance.specs.Fields.{own, layout, first_above, ring_of, spacer, used, spacer_place, is_in, below_of}
+use Rattle.xc_dance.specs.Fields.{own, layout, first_above, ring_of, used, spacer_place, is_in, below_of}
 use Rattle.xc_dance.specs.Fields.{link_place}
-use Rattle.xc_dance.specs.inner.Links.Cells.{top_in, color_in, line_of, nodes_after, link_at, fixed_down}
-use Rattle.xc_dance.specs.inner.Links.Cells.{dlink_in}
+use Rattle.xc_dance.specs.inner.Links.Cells.{top_in, color_in, line_of, nodes_after}
 use Rattle.xc_dance.specs.inner.Links.ItemCells.{items_after, bound_at, rlink_at}
 use Rattle.xc_dance.specs.inner.Links.Laid.{IsLaid, IsName}
 use Rattle.xc_dance.specs.inner.Links.Answered.{named, IsNodeOf}
 use Rattle.xc_dance.specs.inner.Links.OptionPlaces.{start_at}
 use Rattle.xc_dance.proofs.MoveLemmas.ListLemmas.{next_above-gt, Rises-filter, Rises-range}
-use Rattle.xc_dance.proofs.LinkedTables.LinkColumns.{get_map}
+use Rattle.xc_dance.proofs.LinkedTables.LinkColumns.{get_map, get_down}
 use Rattle.xc_dance.proofs.LinkedTables.RingStep.{row_get, row_len, right_now}
 use Rattle.xc_dance.proofs.MoveLemmas.StateLemmas.{open_or_covered, open_uncovered}
 use Rattle.xc_dance.proofs.LinkedTables.GoodLines.{Named, numbers_named}
 use Rattle.xc_dance.proofs.MoveLemmas.Shortened.{rises_listed}
-use Rattle.xc_dance.proofs.LinkedTables.PlaceLemmas.{place_is, option_nodes, held_node}
+use Rattle.xc_dance.proofs.LinkedTables.PlaceLemmas.{place_is, held_node}
 use Rattle.xc_dance.proofs.LinkedTables.PlaceLemmas.{node_between}
 use Rattle.xc_dance.proofs.LinkedTables.Sweep.{first_above-first}
 use Rattle.xc_dance.proofs.LinkedTables.UsePlaces.{use_cells, spacer_cells}
@@ -69,11 +68,7 @@ own_color p t i laid pos le = get_map (color_in p t) (layout p) i (own i) (laid.
 
 purified_above : (p : Puzzle) (t : List Move) (i c : ℕ) → AreLegal p t → purified i t ≡ Some c → 0 < c
 purified_above p [] i c legal e = cc
-purified_above p (Purify j d ∷ t) i c legal e =
-    elim (eqb i j) as (λ b. cond b (Some d) (purified i t) ≡ Some c → 0 < c) [
-      | true ↦ λ f. (let same : d ≡ c = cc in subst (λ k. 0 < k) same legal.0.2)
-      | false ↦ λ f. purified_above p t i c legal.1 f
-    ] e
+purified_above p (Purify j d ∷ t) i c legal e = grind (arith, common_steps, purified_above p t i c legal.1)
 purified_above p (_ ∷ t) i c legal e = purified_above p t i c legal.1 e
 
 pub purified_read : (p : Puzzle) (t : List Move) (i : ℕ) → AreLegal p t
@@ -156,9 +151,7 @@ to_spacer p t i o q laid pos held from to =
           (cells.within, inl (omega (arith, cells.top, most, laid.small), lt))
       | inr ge ↦
           let at : q ≡ spacer_place p o = omega (arith, ge, to) in
-          let spacer = ap (slice_get (layout p)) at ∙ (option_nodes p o w.known).behind in
-          let cells = spacer_cells p t o (o - 1) q (omega (arith, pos)) spacer in
-          (cells.within, inr cells.top)
+          let cells = spacer_cells p t o q w.known at in (cells.within, inr cells.top)
     ]
 
 -- a node that isn't the item's own is of an option
@@ -216,8 +209,7 @@ above_name p t i n =
 
 pub own_down : (p : Puzzle) (t : List Move) (i : ℕ) → IsLaid p → 0 < i → i ≤ item_count p
     → get_or (nodes_after p t).dlink i 0 ≡ link_place p i (first_above 0 0 (listed_numbers p t i))
-own_down p t i laid pos le =
-    get_map (dlink_in p (line_of p t)) (layout p) i (own i) (laid.head i pos le)
+own_down p t i laid pos le = get_down p (line_of p t) i 0 (laid.there i 0 pos le (inl refl))
     ∙ ap (link_place p i) (sym (first_above-first 0 0 0 (listed_numbers p t i) (omega arith) (rises_listed p t i)))
 
 -- what the tables say at item i's own node
@@ -245,9 +237,7 @@ pub use_down : (p : Puzzle) (t : List Move) (i o : ℕ) → IsLaid p → 0 < i �
     get_or (nodes_after p t).dlink (link_place p i o) 0 ≡ link_place p i (first_above 0 o (listed_numbers p t i))
 use_down p t i zero laid pos le some held e = absurd (omega (arith, some))
 use_down p t i (suc m) laid pos le some held e =
-    let q = laid.there i (suc m) pos le (inr (some, held)) in
-    get_map (dlink_in p (line_of p t)) (layout p) (link_place p i (suc m)) q.node q.at
-    ∙ ap (link_at p (λ j x. (line_of p t j).down x) (fixed_down p q.node)) q.slot
+    get_down p (line_of p t) i (suc m) (laid.there i (suc m) pos le (inr (some, held)))
     ∙ ap (link_place p i) (below_now p t i (suc m) e)
 
 pub node_within : (p : Puzzle) (i o : ℕ) → IsLaid p → 0 < i → i ≤ item_count p → IsName p i o

@@ -1,5 +1,5 @@
 -- Which option's node stands at a place, by the spacers that a walk over the options passes.
-use Rattle.std.proofs.Common.{◌≡◌, ℕ, ◌+◌, ◌-◌, ◌<◌, ◌≤◌, ◌^◌, ◌⊎◌, inl, inr, Some, List, length, ap, ◌∙◌}
+use Rattle.std.proofs.Common.{◌≡◌, ℕ, ◌+◌, ◌-◌, ◌<◌, ◌≤◌, ◌^◌, inl, inr, Some, List, length, ap, ◌∙◌}
 use Rattle.std.proofs.Common.{arith}
 use Rattle.std.proofs.lemmas.Bool.{cases_lt}
 use Rattle.xc_input.specs.declared.problem.Use.{Use}
@@ -14,43 +14,36 @@ use Rattle.xc_dance.specs.inner.Links.OptionPlaces.{start_at}
 use Rattle.xc_dance.proofs.LinkedTables.FittedLemmas.{known_fit}
 use Rattle.xc_dance.proofs.LinkedTables.PlaceLemmas.{option_nodes, place_grows, place_within, uses_here}
 use Rattle.xc_dance.proofs.LinkedTables.UsePlaces.{place_at_use}
-use Rattle.std.proofs.lemmas.Grind.{common_steps}
 
 -- a problem that was read is fit
 pub sound_fit : (a : Named) → IsSound a → IsFit a.puzzle
 sound_fit a s = known_fit a.colours a.puzzle s.valid s.limits s.coloured s.few_colours
 
 -- an option's node stands between the spacers round it
-pub record IsBetween (p : Puzzle) (x q : ℕ) : Type 0 where
-  pub from : spacer_place p (x - 1) < q
-  pub below : q < spacer_place p x
-
-pub use_between : (p : Puzzle) (i x q : ℕ) → IsUseAt p i x q → IsBetween p x q
+use_between : (p : Puzzle) (i x q : ℕ) → IsUseAt p i x q → (spacer_place p (x - 1) < q) × (q < spacer_place p x)
 use_between p i x q u =
-    let o = option_nodes p x u.known in
-    let at = place_at_use p i x (x - 1) q o u in
-    record { from = omega (arith, at); below = omega (arith, at, u.holds, o.end) }
+    let o = option_nodes p x u.known in (omega (arith, place_at_use u), omega (arith, place_at_use u, u.holds, o.end))
 
 -- behind the first spacer
 pub behind_first : (p : Puzzle) (i x q : ℕ) → IsUseAt p i x q → spacer_place p 0 ≤ q
-behind_first p i x q u = omega (arith, (use_between p i x q u).from, place_grows p 0 (x - 1) (omega arith))
+behind_first p i x q u = omega (arith, (use_between p i x q u).0, place_grows p 0 (x - 1) (omega arith))
 
 -- and before the last
 pub before_last : (p : Puzzle) (i x q : ℕ) → IsUseAt p i x q → q < spacer_place p (option_count p)
-before_last p i x q u = omega (arith, (use_between p i x q u).below, place_grows p x (option_count p) u.known.1)
+before_last p i x q u = omega (arith, (use_between p i x q u).1, place_grows p x (option_count p) u.known.1)
 
 -- the option between two spacers: one before it would stand ahead of the first, and one behind it past the second
 pub option_between : (p : Puzzle) (i x q n : ℕ) → IsUseAt p i x q → spacer_place p n ≤ q → q < spacer_place p (n + 1)
     → n + 1 ≡ x
-option_between p i x q n u from below = by_order (cases_lt n x) (cases_lt (n + 1) x)
-  where
-    b : IsBetween p x q
-    b = use_between p i x q u
-
-    by_order : (n < x) ⊎ (x ≤ n) → (n + 1 < x) ⊎ (x ≤ n + 1) → n + 1 ≡ x
-    by_order (inr h) k = let far = place_grows p x n h in absurd (omega (arith, far, b.below, from))
-    by_order (inl h) (inl k) = grind (arith, common_steps, place_grows)
-    by_order (inl h) (inr k) = omega (arith, h, k)
+option_between p i x q n u from below =
+    let b = use_between p i x q u in
+    elim (cases_lt n x) [
+      | inl h ↦ elim (cases_lt (n + 1) x) [
+        | inl k ↦ absurd (omega (arith, place_grows p (n + 1) (x - 1) (omega (arith, k)), b.0, below))
+        | inr k ↦ omega (arith, h, k)
+      ]
+      | inr h ↦ absurd (omega (arith, place_grows p x n h, b.1, from))
+    ]
 
 -- ---- the place of a use, behind its option's first node
 

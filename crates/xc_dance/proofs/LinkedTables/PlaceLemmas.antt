@@ -334,11 +334,8 @@ row p o a (suc n) (u ∷ us) e at =
     ap₂ (λ x xs. x ∷ xs) (sym (at 0 u refl ∙ (omega arith))) (row p o (a + 1) n us (omega (arith, e))
     (λ k v f. (let s : a + suc k ≡ a + 1 + k = omega arith in at (suc k) v f ∙ s)))
 
-record SpanOf (p : Puzzle) (o i : ℕ) : Type 0 where
-  span : IsSpanOf p o i (span_at (spans_of p) (link_place p i o))
-  within : link_place p i o < length (spans_of p)
-
-span_is : (p : Puzzle) (x i : ℕ) → IsFit p → 0 < x → is_some (colour_in (uses_of p x) i) ≡ true → SpanOf p x i
+span_is : (p : Puzzle) (x i : ℕ) → IsFit p → 0 < x → is_some (colour_in (uses_of p x) i) ≡ true
+    → IsSpanOf p x i (span_at (spans_of p) (link_place p i x))
 span_is p x i fit pos e =
     let m = x - 1 in
     let us = uses_of p x in
@@ -356,30 +353,28 @@ span_is p x i fit pos e =
     get_or_from_slice_get (spans_of p) q s _
     (slice_get-map (span_of p) (layout p) q ∙ ap (option_map (span_of p)) w.node) in
     let start : start_at p m - 1 ≡ spacer_place p m = omega arith in
-    record {
-      span = subst (IsSpanOf p x i) (sym is) (record {
-        from = w.from;
-        below = w.below;
-        before = row p x (start_at p m) (q - start_at p m) (take n us)
-            (omega (arith, place, w.below, end, length-take n us))
-            (λ k u f. use_at p x m k u fit next (get_taken n k us u f))
-            ∙ ap (map (λ j. link_place p j x)) (sym h.before);
-        behind = grind (arith, common_steps, row, length-drop, use_at, get_dropped);
-        some = omega arith;
-        first = ap (slice_get (layout p)) start ∙ spacer_here p m (omega (arith, w.known.1));
-        down = grind (arith, common_steps, lt-ltb);
-        last = nodes.behind;
-        up = ap (λ y. fixed_up p (spacer y)) up;
-      });
-      within = omega (
-        arith,
-        slice_get_within (layout p) q (used x h.use_of) w.node,
-        length-map (layout p) (span_of p),
-      );
-    }
+    subst (IsSpanOf p x i) (sym is) (record {
+      from = w.from;
+      below = w.below;
+      before = row p x (start_at p m) (q - start_at p m) (take n us)
+          (omega (arith, place, w.below, end, length-take n us))
+          (λ k u f. use_at p x m k u fit next (get_taken n k us u f)) ∙ ap (map (λ j. link_place p j x)) (sym h.before);
+      behind = grind (arith, common_steps, row, length-drop, use_at, get_dropped);
+      some = omega arith;
+      first = ap (slice_get (layout p)) start ∙ spacer_here p m (omega (arith, w.known.1));
+      down = grind (arith, common_steps, lt-ltb);
+      last = nodes.behind;
+      up = ap (λ y. fixed_up p (spacer y)) up;
+    })
 
 pub has_spans : (p : Puzzle) → IsFit p → HasSpans p (spans_of p)
-has_spans p fit = grind (arith, common_steps, span_is)
+has_spans p fit = record {
+  span = λ x i pos e. span_is p x i fit pos e;
+  near = fit.near;
+  within = λ x i pos e.
+      let at = (held_node p i x pos e).node in
+      omega (arith, slice_get_within (layout p) (link_place p i x) _ at, length-map (layout p) (span_of p));
+}
 
 -- where an option's nodes stand, and how many there are
 pub ruleset option_place = (option_fits, uses_here, layout_len, layout_small, place_within)

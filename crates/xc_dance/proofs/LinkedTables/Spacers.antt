@@ -32,48 +32,44 @@ spacer_in : (p : Puzzle) (ln : ℕ → Line) (col : Node → ℕ) (z n : ℕ) �
     → IsSpacer (nodes_from p ln col) z
 spacer_in p ln col z n e = grind (arith, common_steps, get_map, length-map, size_from, slice_get_within)
 
--- the nodes of an option can be hidden, if the lists of the items behind i are as these lines say when the spacer is
--- met
-pub can_hide_node : (p : Puzzle) (ln ln' : ℕ → Line) (col : Node → ℕ) (spans : List Span) (o i : ℕ) → HasSpans p spans
-    → 0 < o → Named p i o → CanHideAll (nodes_from p ln col) (map (λ j. link_place p j o) (other_items p o i)) →
-    fold hidden (nodes_from p ln col) (map (λ j. link_place p j o) (behind_use i (uses_of p o))) ≡ nodes_from p ln' col
-    → CanHideNode spans (nodes_from p ln col) (link_place p i o)
-can_hide_node p ln ln' col spans o i spanned pos named can mid =
-    let t : Nodes = nodes_from p ln col in
-    let x = link_place p i o in
-    let s = spanned.span o i pos named in
-    let end = (span_at spans x).end in
-    let met : fold hidden t (places (x + 1) end) ≡ nodes_from p ln' col = ap (fold hidden t) s.behind ∙ mid in
-    record {
-      steps = subst (CanHideAll t) (sym (others_are p spans o i spanned pos named)) can;
-      within = s.below;
-      near = omega (arith, slice_get_within (layout p) end _ s.last, spanned.near);
-      spacer = subst (λ (u : Nodes). IsSpacer u end) (sym met) (spacer_in p ln' col end o s.last);
-      first = ap (λ (u : Nodes). get_or u.ulink end 0) met ∙ get_map (ulink_in p ln') (layout p) end (spacer o) s.last
-          ∙ s.up;
-    }
+module _ (p : Puzzle) (ln : ℕ → Line) (col : Node → ℕ) (t : Nodes) (spans : List Span) (o i : ℕ)
+    (spanned : HasSpans p spans) (pos : 0 < o) (named : Named p i o) where
+  -- the nodes of an option can be hidden, if the lists of the items behind i are as these lines say when the spacer is
+  -- met
+  can_hide_node : CanHideAll t (map (λ j. link_place p j o) (other_items p o i)) →
+      fold hidden t (map (λ j. link_place p j o) (behind_use i (uses_of p o))) ≡ nodes_from p ln col
+      → CanHideNode spans t (link_place p i o)
+  can_hide_node can mid =
+      let s = spanned.span o i pos named in
+      let end = (span_at spans (link_place p i o)).end in
+      let met : fold hidden t (places (link_place p i o + 1) end) ≡ nodes_from p ln col =
+      ap (fold hidden t) s.behind ∙ mid in
+      record {
+        steps = subst (CanHideAll t) (sym (others_are p spans o i spanned pos named)) can;
+        within = s.below;
+        near = omega (arith, slice_get_within (layout p) end _ s.last, spanned.near);
+        spacer = subst (λ (u : Nodes). IsSpacer u end) (sym met) (spacer_in p ln col end o s.last);
+        first = ap (λ (u : Nodes). get_or u.ulink end 0) met ∙ get_map (ulink_in p ln) (layout p) end _ s.last ∙ s.up;
+      }
 
--- they can come back, if the lists of the items before i are as these lines say then
-pub can_unhide_node : (p : Puzzle) (ln' : ℕ → Line) (col : Node → ℕ) (t : Nodes) (spans : List Span) (o i : ℕ)
-    → HasSpans p spans → 0 < o → Named p i o
-    → CanUnhideAll t (reverse (map (λ j. link_place p j o) (other_items p o i))) →
-    fold unhidden t (reverse (map (λ j. link_place p j o) (before_use i (uses_of p o)))) ≡ nodes_from p ln' col
-    → CanUnhideNode spans t (link_place p i o)
-can_unhide_node p ln' col t spans o i spanned pos named can mid =
-    let x = link_place p i o in
-    let s = spanned.span o i pos named in
-    let first = (span_at spans x).first in
-    let met : fold unhidden t (reverse (places first x)) ≡ nodes_from p ln' col = grind (arith, common_steps) in
-    record {
-      steps = subst (λ qs. CanUnhideAll t (reverse qs)) (sym (others_are p spans o i spanned pos named)) can;
-      from = s.some;
-      within = s.from;
-      near = omega (arith, slice_get_within (layout p) (span_at spans x).end _ s.last, spanned.near);
-      spacer =
-          subst (λ (u : Nodes). IsSpacer u (first - 1)) (sym met) (spacer_in p ln' col (first - 1) (o - 1) s.first);
-      last = ap (λ (u : Nodes). get_or u.dlink (first - 1) 0 + 1) met
-          ∙ ap (λ n. n + 1) (get_map (dlink_in p ln') (layout p) (first - 1) (spacer (o - 1)) s.first) ∙ s.down;
-    }
+  -- they can come back, if the lists of the items before i are as these lines say then
+  pub can_unhide_node : CanUnhideAll t (reverse (map (λ j. link_place p j o) (other_items p o i))) →
+      fold unhidden t (reverse (map (λ j. link_place p j o) (before_use i (uses_of p o)))) ≡ nodes_from p ln col
+      → CanUnhideNode spans t (link_place p i o)
+  can_unhide_node can mid =
+      let s = spanned.span o i pos named in
+      let first = (span_at spans (link_place p i o)).first in
+      let met : fold unhidden t (reverse (places first (link_place p i o))) ≡ nodes_from p ln col =
+      ap (λ qs. fold unhidden t (reverse qs)) s.before ∙ mid in
+      record {
+        steps = subst (λ qs. CanUnhideAll t (reverse qs)) (sym (others_are p spans o i spanned pos named)) can;
+        from = s.some;
+        within = s.from;
+        near = omega (arith, slice_get_within (layout p) (span_at spans (link_place p i o)).end _ s.last, spanned.near);
+        spacer = subst (λ (u : Nodes). IsSpacer u (first - 1)) (sym met) (spacer_in p ln col _ _ s.first);
+        last = ap (λ (u : Nodes). get_or u.dlink (first - 1) 0 + 1) met
+            ∙ ap (λ n. n + 1) (get_map (dlink_in p ln) (layout p) _ _ s.first) ∙ s.down;
+      }
 
 undone_behind : (t : Nodes) (qs rs : List ℕ) → IsUndone t (qs ++ rs) → IsUndone (fold hidden t qs) rs
 undone_behind t [] rs h = h

@@ -1,22 +1,23 @@
 -- The nodes of an option's uses, and what the tables tell there: for calls that go over an option by its nodes.
 use Rattle.std.proofs.Common.{◌≡◌, ℕ, suc, ◌+◌, ◌<◌, ◌≤◌, true, List, [], ◌∷◌, length}
-use Rattle.std.proofs.Common.{get_or, drop, take, Some, refl, ap, sym, ◌∙◌, arith, subst, eq-eqb}
-use Rattle.std.proofs.Common.{ne_eqb, inl, inr}
+use Rattle.std.proofs.Common.{get_or, Some, refl, ap, sym, ◌∙◌, arith, subst, eq-eqb}
+use Rattle.std.proofs.Common.{ne_eqb, inl, inr, ◌-◌, length-drop, length-take}
 use Rattle.std.specs.Prelude.{is_some, unwrap_or, slice_get, option_map}
 use Rattle.std.proofs.lemmas.Option.{slice_get_within}
 use Rattle.std.proofs.lemmas.Grind.{common_steps}
 use Rattle.xc_input.specs.declared.problem.Use.{Use}
-use Rattle.xc_input.specs.Problem.{Puzzle, item_count, uses_of, colour_in}
+use Rattle.xc_input.specs.Problem.{Puzzle, IsOption, item_count, uses_of, colour_in}
 use Rattle.xc_dance.specs.declared.dance.Move.{Move}
-use Rattle.xc_dance.specs.Fields.{used, spacer, layout, link_place}
+use Rattle.xc_dance.specs.Fields.{used, spacer, layout, link_place, spacer_place}
 use Rattle.xc_dance.specs.Commits.{IsUseAt, option_at, number_of}
 use Rattle.xc_input.specs.UsePlaces.{place_in}
 use Rattle.xc_dance.specs.inner.Links.Cells.{top_in, ulink_in, line_of, nodes_after}
 use Rattle.xc_dance.specs.inner.Links.Laid.{IsName}
 use Rattle.xc_dance.specs.inner.Links.Answered.{named}
 use Rattle.xc_dance.specs.inner.Links.OptionPlaces.{start_at}
+use Rattle.xc_dance.specs.inner.Links.UseNodes.{uses_behind, uses_before}
 use Rattle.xc_dance.proofs.LinkedTables.LinkColumns.{get_map}
-use Rattle.xc_dance.proofs.LinkedTables.PlaceLemmas.{OptionNodes, get_dropped, get_taken, behind_items, held_node}
+use Rattle.xc_dance.proofs.LinkedTables.PlaceLemmas.{option_nodes, get_dropped, get_taken, behind_items, held_node}
 use Rattle.xc_dance.specs.declared.links.nodes.TheConstants.{SPACER}
 
 -- an item that stands among uses is held
@@ -38,19 +39,21 @@ use_cells p t o u q node = record {
   top = get_map (top_in (line_of p t)) (layout p) q (used o u) node;
 }
 
--- what they tell at the spacer behind option x, which is behind option m
-pub record SpacerCells (p : Puzzle) (t : List Move) (x m q : ℕ) : Type 0 where
+-- what they tell at the spacer behind option x
+pub record SpacerCells (p : Puzzle) (t : List Move) (x q : ℕ) : Type 0 where
   pub within : q < length (layout p)
   pub top : get_or (nodes_after p t).top q 0 ≡ SPACER + x
-  pub ulink : get_or (nodes_after p t).ulink q 0 ≡ start_at p m
+  pub ulink : get_or (nodes_after p t).ulink q 0 ≡ start_at p (x - 1)
 
-pub spacer_cells : (p : Puzzle) (t : List Move) (x m q : ℕ) → x ≡ suc m → slice_get (layout p) q ≡ Some (spacer x)
-    → SpacerCells p t x m q
-spacer_cells p t x m q s node = record {
-  within = slice_get_within (layout p) q (spacer x) node;
-  top = get_map (top_in (line_of p t)) (layout p) q (spacer x) node;
-  ulink = get_map (ulink_in p (line_of p t)) (layout p) q (spacer (suc m)) (node ∙ ap (λ n. Some (spacer n)) s);
-}
+pub spacer_cells : (p : Puzzle) (t : List Move) (x q : ℕ) → IsOption p x → q ≡ spacer_place p x → SpacerCells p t x q
+spacer_cells p t x q known at =
+    let node = ap (slice_get (layout p)) at ∙ (option_nodes p x known).behind in
+    let s : x ≡ suc (x - 1) = omega (arith, known.0) in
+    record {
+      within = slice_get_within (layout p) q (spacer x) node;
+      top = get_map (top_in (line_of p t)) (layout p) q (spacer x) node;
+      ulink = get_map (ulink_in p (line_of p t)) (layout p) q _ (node ∙ ap (λ n. Some (spacer n)) s);
+    }
 
 -- ---- the option of a place
 
@@ -66,25 +69,32 @@ option_there p i y le (inr h) =
 -- ---- uses that stand side by side
 
 -- the uses vs of option x stand from place off on
-pub record Segment (p : Puzzle) (x off : ℕ) (vs : List Use) : Type 0 where
-  pub node : (k : ℕ) (u : Use) → slice_get vs k ≡ Some u → slice_get (layout p) (off + k) ≡ Some (used x u)
-
-pub behind_segment : (p : Puzzle) (i x m : ℕ) → OptionNodes p x m
-    → Segment p x (start_at p m + (place_in i (uses_of p x) + 1)) (drop (place_in i (uses_of p x) + 1) (uses_of p x))
-behind_segment p i x m o =
-    let n = place_in i (uses_of p x) + 1 in
-    record {
-      node = λ k u e.
-          let at : start_at p m + n + k ≡ start_at p m + (n + k) = omega arith in
-          ap (slice_get (layout p)) at ∙ o.node (n + k) u (sym (get_dropped n k (uses_of p x)) ∙ e);
-    }
-
-pub before_segment : (p : Puzzle) (i x m : ℕ) → OptionNodes p x m
-    → Segment p x (start_at p m) (take (place_in i (uses_of p x)) (uses_of p x))
-before_segment p i x m o =
-    record { node = λ k u e. o.node k u (get_taken (place_in i (uses_of p x)) k (uses_of p x) u e) }
+abbrev pub Segment : Puzzle → ℕ → ℕ → List Use → Type 0
+Segment p x off vs =
+    (k : ℕ) (u : Use) → slice_get vs k ≡ Some u → slice_get (layout p) (off + k) ≡ Some (used x u)
 
 -- where an option's use of item i stands
-pub place_at_use : (p : Puzzle) (i x m q : ℕ) → OptionNodes p x m → IsUseAt p i x q
-    → q ≡ start_at p m + place_in i (uses_of p x)
-place_at_use p i x m q o u = u.at ∙ o.place i
+pub place_at_use : {p : Puzzle} {i x q : ℕ} → IsUseAt p i x q → q ≡ start_at p (x - 1) + place_in i (uses_of p x)
+place_at_use {p} {i} {x} u = u.at ∙ (option_nodes p x u.known).place i
+
+pub behind_segment : {p : Puzzle} {i x q : ℕ} → IsUseAt p i x q → Segment p x (q + 1) (uses_behind p i x)
+behind_segment {p} {i} {x} {q} held k u e =
+    let n = place_in i (uses_of p x) + 1 in
+    let at : q + 1 + k ≡ start_at p (x - 1) + (n + k) = omega (arith, place_at_use held) in
+    ap (slice_get (layout p)) at
+    ∙ (option_nodes p x held.known).node (n + k) u (sym (get_dropped n k (uses_of p x)) ∙ e)
+
+pub before_segment : {p : Puzzle} {i x q : ℕ} → IsUseAt p i x q → Segment p x (start_at p (x - 1)) (uses_before p i x)
+before_segment {p} {i} {x} held k u e =
+    (option_nodes p x held.known).node k u (get_taken (place_in i (uses_of p x)) k (uses_of p x) u e)
+
+-- the uses behind it end at the spacer
+pub behind_all : {p : Puzzle} {i x q : ℕ} → IsUseAt p i x q → q + 1 + length (uses_behind p i x) ≡ spacer_place p x
+behind_all {p} {i} {x} held =
+    let us = uses_of p x in
+    omega (arith, length-drop (place_in i us + 1) us, held.holds, place_at_use held, (option_nodes p x held.known).end)
+
+-- and those before at it
+pub before_all : {p : Puzzle} {i x q : ℕ} → IsUseAt p i x q → start_at p (x - 1) + length (uses_before p i x) ≡ q
+before_all {p} {i} {x} held =
+    omega (arith, length-take (place_in i (uses_of p x)) (uses_of p x), held.holds, place_at_use held)

@@ -19,14 +19,13 @@ less-absent x (y ∷ ys) h =
     let here : eqb x y ≡ false = ne_eqb x y (λ e. h 0 (omega arith) (sym e)) in
     rw here (ap (λ l. y ∷ l) (less-absent x ys (λ k lt. h (suc k) (omega (arith, lt)))))
 
-pub less-below : (x n : ℕ) (xs : List ℕ) → x ≤ n → Rises n xs → less (x ∷ []) xs ≡ xs
-less-below x n [] le r = grind (arith, common_steps, ne_eqb)
-less-below x n (y ∷ ys) le r = grind (arith, common_steps, ne_eqb, less-below x y ys (omega (arith, r.0)) r.1)
-
 pub above : (n : ℕ) (xs : List ℕ) (k : ℕ) → Rises n xs → k < length xs → n < get_or xs k 0
 above n [] k r lt = absurd (omega (arith, lt))
 above n (y ∷ ys) zero r lt = r.0
 above n (y ∷ ys) (suc k) r lt = let later = above y ys k r.1 (omega (arith, lt)) in omega (arith, r.0, later)
+
+pub less-below : (x n : ℕ) (xs : List ℕ) → x ≤ n → Rises n xs → less (x ∷ []) xs ≡ xs
+less-below x n xs le r = less-absent x xs (λ k lt e. omega (arith, above n xs k r lt, le, e))
 
 -- the number goes from its place
 pub less-remove : (n : ℕ) (xs : List ℕ) (k : ℕ) → Rises n xs → k < length xs
