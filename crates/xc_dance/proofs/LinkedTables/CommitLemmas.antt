@@ -79,8 +79,8 @@ use_item {p} q {o} {u} laid at item = subst (λ i. IsItem p i) item (laid.nodes.
 
 pub colour_within : (p : Puzzle) (t : List Move) (q : ℕ) {o : ℕ} {u : Use} → slice_get (layout p) q ≡ Some (used o u) →
     q < length (nodes_after p t).color
-colour_within p t q {o} {u} at = let here = slice_get_within (layout p) q (used o u) at in
-    let long = length-map (layout p) (color_in p t) in omega (arith, here, long)
+colour_within p t q {o} {u} at =
+    omega (arith, slice_get_within (layout p) q (used o u) at, length-map (layout p) (color_in p t))
 
 pub committed_open : (p : Puzzle) (t : List Move) (q : ℕ) {o j k : ℕ} {u : Use} →
     slice_get (layout p) q ≡ Some (used o u) → u.item ≡ j → primary_count p < j → is_open j t ≡ true →

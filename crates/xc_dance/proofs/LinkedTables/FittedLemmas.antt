@@ -1,13 +1,12 @@
 -- A problem that was read is fit for the walks and fits into the tables.
-use Rattle.std.proofs.Common.{◌≡◌, ◌≢◌, ℕ, zero, suc, ◌<◌, ◌≤◌, ◌^◌, false, List, [], ◌∷◌, length, get_or, refl, sym}
+use Rattle.std.proofs.Common.{◌≡◌, ◌≢◌, ℕ, zero, suc, ◌<◌, ◌≤◌, ◌^◌, List, [], ◌∷◌, length, sym}
 use Rattle.std.proofs.Common.{arith, ne_eqb, subst}
-use Rattle.xc_input.specs.declared.problem.Bounds.{Bounds}
-use Rattle.std.specs.Prelude.{is_some, slice_get, unwrap_or, All, AllPairs}
+use Rattle.std.specs.Prelude.{slice_get, unwrap_or, All, AllPairs}
 use Rattle.std.specs.List.{AllByRecursion}
 use Rattle.std.proofs.lemmas.List.Elements.{recursion_from_All}
 use Rattle.std.proofs.lemmas.Grind.{common_steps}
 use Rattle.xc_input.specs.declared.problem.Use.{Use}
-use Rattle.xc_input.specs.Problem.{Puzzle, colour_in, uses_of, item_count, IsValid, IsSoundOption, IsSoundUse, high_at}
+use Rattle.xc_input.specs.Problem.{Puzzle, uses_of, item_count, IsValid, IsSoundOption, IsSoundUse}
 use Rattle.xc_input.specs.Problem.{IsWithinLimits}
 use Rattle.xc_input.specs.Named.{AreColoursKnown}
 use Rattle.xc_dance.specs.inner.Links.Laid.{AreDistinct, IsFit}
@@ -17,23 +16,22 @@ use Rattle.xc_dance.specs.inner.Links.Made.{IsFitted}
 use Rattle.xc_dance.specs.inner.Links.OptionSpans.{spans_of}
 use Rattle.xc_input.proofs.lists.EachElement.{each_weaker}
 use Rattle.xc_dance.proofs.LinkedTables.LaidLemmas.{is_laid}
+use Rattle.xc_dance.proofs.MoveLemmas.Shortened.{holds_use}
+use Rattle.xc_dance.proofs.MoveLemmas.StateLemmas.{high_within}
+use Rattle.std.proofs.lemmas.List.Folds.{list_any_none}
+use Rattle.std.proofs.Common.{◌∙◌, eqb}
 use Rattle.xc_dance.proofs.LinkedTables.PlaceLemmas.{layout_small, has_spans}
 use Rattle.xc_dance.specs.declared.links.nodes.TheConstants.{MARK}
 
 -- ---- a valid problem is fit for the walks
 
-absent : (us : List Use) (i : ℕ) (d : Use) → ((j : ℕ) → j < length us → i ≢ (get_or us j d).item)
-    → is_some (colour_in us i) ≡ false
-absent [] i d h = refl
-absent (u ∷ us) i d h =
-    let ne : u.item ≢ i = λ e. h 0 (omega arith) (sym e) in
-    rw (ne_eqb u.item i ne) (absent us i d (λ j lt. h (suc j) (omega (arith, lt))))
-
 pub distinct_from : (us : List Use) → AllPairs (λ u v. u.item ≢ v.item) us → AreDistinct us
 distinct_from [] h = tt
-distinct_from (u ∷ us) h =
-    let rest = distinct_from us (λ i j d a b. h (suc i) (suc j) d (omega (arith, a)) (omega (arith, b))) in
-    (absent us u.item u (λ j lt. h 0 (suc j) u (omega arith) (omega (arith, lt))), rest)
+distinct_from (u ∷ us) h = (
+  holds_use us u.item ∙ list_any_none (λ v. eqb v.item u.item) us
+      (λ j d lt. ne_eqb _ _ (λ e. h 0 (suc j) d (omega arith) (omega (arith, lt)) (sym e))),
+  distinct_from us (λ i j d a b. h (suc i) (suc j) d (omega (arith, a)) (omega (arith, b))),
+)
 
 -- what holds of all elements and of the default holds of the one at a place
 pub at_place : {X : Type 0} (P : X → Type 0) (d : X) (xs : List X) (k : ℕ) → P d → AllByRecursion P xs
@@ -76,16 +74,10 @@ pub known_fit : (colours : List (List ℕ)) (p : Puzzle) → IsValid p → IsWit
     → AreColoursKnown colours p.options → length colours ≤ 10000000 → IsFit p
 known_fit colours p valid limits known few = grind (arith, common_steps, is_fit, layout_small)
 
-high_small : {p : Puzzle} (i : ℕ) → IsWithinLimits p → high_at p i < 2 ^ 31
-high_small zero limits = omega arith
-high_small {p} (suc k) limits =
-    let at = at_place (λ (b : Bounds). b.high ≤ 999999999) (record { low = 0; high = 0 }) p.bounds k (omega arith) in
-    omega (arith, at (recursion_from_All _ _ limits.bounds))
-
 pub fitted : {p : Puzzle} {spans : List Span} → IsWithinLimits p → IsFit p → spans ≡ spans_of p → IsFitted p spans
 fitted {p} limits fit is = subst (IsFitted p) (sym is) (record {
   laid = is_laid _ fit;
   spanned = has_spans _ fit;
   fit = fit;
-  bounds = λ i. high_small i limits;
+  bounds = λ i. omega (arith, high_within _ i limits);
 })

@@ -113,17 +113,19 @@ place_grows p m n le =
 abbrev pub tail_from : ℕ → List (List Use) → List Node
 tail_from n os = spacer n ∷ flat_map nodes_of (numbered_from (n + 1) os)
 
--- behind the first option's nodes the same begins anew
-next_tail : (n : ℕ) (us : List Use) (os : List (List Use))
-    → flat_map nodes_of (numbered_from (n + 1) (us ∷ os)) ≡ map (used (n + 1)) us ++ tail_from (n + 1) os
-next_tail n us os =
-    append_assoc (map (used (n + 1)) us) (spacer (n + 1) ∷ []) (flat_map nodes_of (numbered_from (n + 1 + 1) os))
-
 abbrev pub front : Puzzle → List Node
 front p = unused ∷ map own (range_with_len 1 (item_count p))
 
 pub length_front : (p : Puzzle) → length (front p) ≡ item_count p + 1
 length_front p = let h = length-map-range_with_len own 1 (item_count p) in omega (arith, h)
+
+-- behind the spacer before an option its nodes stand, and then the same begins anew
+uses_from : (p : Puzzle) (o : ℕ) (us : List Use) → slice_get p.options o ≡ Some us
+    → drop (spacer_place p o) (layout p) ≡ tail_from o (drop o p.options)
+    → drop (start_at p o) (layout p) ≡ map (used (o + 1)) us ++ tail_from (o + 1) (drop (suc o) p.options)
+uses_from p o us e from = sym (drop-drop 1 (spacer_place p o) (layout p))
+    ∙ ap (drop 1) (from ∙ ap (tail_from o) (drop_at p.options o us e))
+    ∙ append_assoc (map (used (o + 1)) us) (spacer (o + 1) ∷ []) _
 
 -- the table from the spacer behind option o on
 dropped : (p : Puzzle) (o : ℕ) → o ≤ option_count p
@@ -132,28 +134,23 @@ dropped p zero le = ap (λ n. drop n (layout p)) (place_first p ∙ sym (length_
     ∙ drop-append_seam (front p) (tail_from 0 p.options)
 dropped p (suc o) le =
     let us = get_or p.options o [] in
-    let rest = drop (suc o) p.options in
     let e = slice_get-get_or p.options o [] (omega (arith, le)) in
     let s : o + 1 ≡ suc o = omega arith in
-    let at : spacer_place p (suc o) ≡ spacer_place p o + suc (length us) =
-    omega (arith, ap (spacer_place p) s, place_next p o us e) in
-    ap (λ n. drop n (layout p)) at ∙ sym (drop-drop (suc (length us)) (spacer_place p o) (layout p))
-    ∙ ap (drop (suc (length us))) (dropped p o (omega (arith, le)) ∙ ap (tail_from o) (drop_at p.options o us e))
-    ∙ ap₂ (λ n l. drop n l) (sym (length-map us (used (o + 1)))) (next_tail o us rest)
-    ∙ drop-append_seam (map (used (o + 1)) us) (tail_from (o + 1) rest) ∙ ap (λ n. tail_from n rest) s
+    let nodes = map (used (o + 1)) us in
+    let at : spacer_place p (suc o) ≡ start_at p o + length nodes =
+    omega (arith, ap (spacer_place p) s, place_next p o us e, length-map us (used (o + 1))) in
+    ap (λ n. drop n (layout p)) at ∙ sym (drop-drop (length nodes) (start_at p o) (layout p))
+    ∙ ap (drop (length nodes)) (uses_from p o us e (dropped p o (omega (arith, le))))
+    ∙ drop-append_seam nodes _ ∙ ap (λ n. tail_from n (drop (suc o) p.options)) s
 
 pub spacer_here : (p : Puzzle) (o : ℕ) → o ≤ option_count p → slice_get (layout p) (spacer_place p o) ≡ Some (spacer o)
 spacer_here p o le = sym (slice_get-drop (layout p) (spacer_place p o)) ∙ ap (λ l. slice_get l 0) (dropped p o le)
 
 pub use_here : (p : Puzzle) (o k n : ℕ) (us : List Use) (u : Use) → slice_get p.options o ≡ Some us
     → slice_get us k ≡ Some u → n ≡ spacer_place p o + 1 + k → slice_get (layout p) n ≡ Some (used (o + 1) u)
-use_here p o k n us u e f at =
-    let is : n ≡ spacer_place p o + suc k = omega (arith, at) in
-    let rest = drop (suc o) p.options in
-    ap (slice_get (layout p)) is ∙ sym (get_dropped (spacer_place p o) (suc k) (layout p))
-    ∙ ap (λ l. slice_get l (suc k)) (dropped p o (omega (arith, slice_get_within p.options o us e))
-    ∙ ap (tail_from o) (drop_at p.options o us e)) ∙ ap (λ l. slice_get l k) (next_tail o us rest)
-    ∙ get_left (map (used (o + 1)) us) (tail_from (o + 1) rest) k (used (o + 1) u)
+use_here p o k n us u e f at = ap (slice_get (layout p)) at ∙ sym (get_dropped (start_at p o) k (layout p))
+    ∙ ap (λ l. slice_get l k) (uses_from p o us e (dropped p o (omega (arith, slice_get_within p.options o us e))))
+    ∙ get_left (map (used (o + 1)) us) _ k (used (o + 1) u)
     (slice_get-map (used (o + 1)) us k ∙ ap (option_map (used (o + 1))) f)
 
 -- ---- the items' own nodes
@@ -177,22 +174,15 @@ sizes [] = refl
 sizes (us ∷ os) = omega (arith, sizes os, sum_by-cons size us os, sum_by-cons (λ (vs : List Use). length vs) us os)
 
 pub layout_len : (p : Puzzle) → length (layout p) ≡ spacer_place p (option_count p) + 1
-layout_len p = let n = option_count p in omega (
-  arith,
-  length-drop (spacer_place p n) (layout p),
-  ap length (dropped p n (omega arith) ∙ ap (tail_from n) (drop-length p.options)),
-)
+layout_len p =
+    let n = option_count p in
+    let last = ap length (dropped p n (omega arith) ∙ ap (tail_from n) (drop-length p.options)) in
+    omega (arith, length-drop (spacer_place p n) (layout p), last)
 
 pub layout_small : (p : Puzzle) → IsWithinLimits p → length (layout p) ≤ 20100002
-layout_small p limits = omega (
-  arith,
-  layout_len p,
-  sizes p.options,
-  limits.items,
-  limits.uses,
-  limits.options,
-  ap (sum_by size) (take-length p.options),
-)
+layout_small p limits =
+    let all = ap (sum_by size) (take-length p.options) in
+    omega (arith, layout_len p, sizes p.options, limits.items, limits.uses, limits.options, all)
 
 -- a spacer's place is among them
 pub place_within : (p : Puzzle) (o : ℕ) → o ≤ option_count p → spacer_place p o < length (layout p)
@@ -260,14 +250,13 @@ pub held_node : (p : Puzzle) (i x : ℕ) → 0 < x → is_some (colour_in (uses_
 held_node p i x pos e =
     let known = option_of p x i e in
     let nodes = option_nodes p x known in
-    let place = nodes.place i in
     let h = held_use (uses_of p x) i e in
     record {
       known = known;
       held = h;
-      node = ap (slice_get (layout p)) place ∙ nodes.node (place_in i (uses_of p x)) h.use_of h.at;
-      from = omega (arith, place);
-      below = omega (arith, place, slice_get_within (uses_of p x) (place_in i (uses_of p x)) h.use_of h.at, nodes.end);
+      node = ap (slice_get (layout p)) (nodes.place i) ∙ nodes.node _ h.use_of h.at;
+      from = omega (arith, nodes.place i);
+      below = omega (arith, nodes.place i, slice_get_within (uses_of p x) _ h.use_of h.at, nodes.end);
     }
 
 -- the use whose node stands at a place between the spacers round the option
@@ -345,7 +334,6 @@ span_is p x i fit pos e =
     let h = w.held in
     let nodes = option_nodes p x w.known in
     let place = nodes.place i in
-    let end = nodes.end in
     let next : x ≡ m + 1 = omega (arith, pos) in
     let up : x ≡ suc m = omega (arith, pos) in
     let s = span_of p (used x h.use_of) in
@@ -357,7 +345,7 @@ span_is p x i fit pos e =
       from = w.from;
       below = w.below;
       before = row p x (start_at p m) (q - start_at p m) (take n us)
-          (omega (arith, place, w.below, end, length-take n us))
+          (omega (arith, place, w.below, nodes.end, length-take n us))
           (λ k u f. use_at p x m k u fit next (get_taken n k us u f)) ∙ ap (map (λ j. link_place p j x)) (sym h.before);
       behind = grind (arith, common_steps, row, length-drop, use_at, get_dropped);
       some = omega arith;

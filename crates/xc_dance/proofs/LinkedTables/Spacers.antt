@@ -75,34 +75,25 @@ undone_behind : (t : Nodes) (qs rs : List ℕ) → IsUndone t (qs ++ rs) → IsU
 undone_behind t [] rs h = h
 undone_behind t (q ∷ qs) rs h = undone_behind (hidden t q) qs rs h.1
 
+-- the table once the option has left the lists of its items but i
+abbrev pub gone_from : Puzzle → (ℕ → Line) → (Node → ℕ) → ℕ → ℕ → Nodes
+gone_from p ln col o i = nodes_from p (left_all p col o ln (other_items p o i)) col
+
 -- an option is hidden and comes back, where the walk is known as a whole and up to the spacer
 pub record Turns (p : Puzzle) (ln : ℕ → Line) (col : Node → ℕ) (spans : List Span) (o i : ℕ) : Type 0 where
   pub hide : CanHideNode spans (nodes_from p ln col) (link_place p i o)
-  pub unhide : CanUnhideNode spans (nodes_from p (left_all p col o ln (other_items p o i)) col) (link_place p i o)
-  pub done : hidden_node spans (nodes_from p ln col) (link_place p i o) ≡ nodes_from p
-      (left_all p col o ln (other_items p o i)) col
-  pub undone : unhidden_node spans (nodes_from p (left_all p col o ln (other_items p o i)) col) (link_place p i o) ≡
-      nodes_from p ln col
+  pub unhide : CanUnhideNode spans (gone_from p ln col o i) (link_place p i o)
+  pub done : hidden_node spans (nodes_from p ln col) (link_place p i o) ≡ gone_from p ln col o i
+  pub undone : unhidden_node spans (gone_from p ln col o i) (link_place p i o) ≡ nodes_from p ln col
   pub cost : hide_costs (nodes_from p ln col) (others_of spans (link_place p i o)) ≡ 3 * gone_count p col i o
-  pub cost_back : unhide_costs (nodes_from p (left_all p col o ln (other_items p o i)) col)
-      (reverse (others_of spans (link_place p i o))) ≡ 3 * gone_count p col i o
+  pub cost_back : unhide_costs (gone_from p ln col o i) (reverse (others_of spans (link_place p i o)))
+      ≡ 3 * gone_count p col i o
+
+ruleset walks = (costs-are, fold-append, fold-unhidden-reverse, hidden_color, unhidden_color, undone_behind)
+
+ruleset others = (can_hide_node, can_unhide_node, map-append, others_are, unmarked-reverse, unmarked_items)
 
 pub turns : (p : Puzzle) (ln : ℕ → Line) (col : Node → ℕ) (lists : ℕ → List ℕ) (spans : List Span) (o i : ℕ)
     → HasSpans p spans → 0 < o → Named p i o → Walked p col ln lists o (other_items p o i) →
     Walked p col ln lists o (behind_use i (uses_of p o)) → Turns p ln col spans o i
-turns p ln col lists spans o i spanned pos named w mid = grind (
-  arith,
-  common_steps,
-  can_hide_node,
-  can_unhide_node,
-  costs-are,
-  fold-append,
-  fold-unhidden-reverse,
-  hidden_color,
-  map-append,
-  others_are,
-  unhidden_color,
-  undone_behind,
-  unmarked-reverse,
-  unmarked_items,
-)
+turns p ln col lists spans o i spanned pos named w mid = grind (arith, common_steps, walks, others)

@@ -1,23 +1,21 @@
 -- What holds of the options left.
-use Rattle.std.proofs.Common.{ℕ, ◌≡◌, true, false, cond, not, List, [], ◌∷◌, take, Some, sym, subst}
+use Rattle.std.proofs.Common.{ℕ, ◌≡◌, true, false, not, List, [], ◌∷◌, Some, sym, subst}
 use Rattle.std.proofs.lemmas.Bool.{not-true}
 use Rattle.std.proofs.lemmas.Bool.Decides.{eqb_tells}
 use Rattle.std.proofs.Common.{inl, inr}
 use Rattle.std.specs.List.{AllByRecursion}
-use Rattle.xc_input.specs.Problem.{Puzzle, Numbered, holds, colour_at, holding}
+use Rattle.xc_input.specs.Problem.{Puzzle, Numbered, holds, colour_at}
 use Rattle.xc_input.proofs.lists.EachElement.{each_weaker, each-filter, each_passes}
 use Rattle.xc_dance.specs.declared.dance.Move.{Move}
 use Rattle.xc_dance.specs.declared.dance.Move.TheVariants.{Cover, Purify, Tweak, Spend}
-use Rattle.xc_dance.specs.Moves.{is_open, is_covered, purified, without, agrees}
+use Rattle.xc_dance.specs.Moves.{is_open, is_covered, purified, agrees}
 use Rattle.xc_dance.specs.inner.Left.{left}
+use Rattle.xc_dance.proofs.MoveLemmas.ListLemmas.{by_test}
 
 -- a fact of all options left is kept by a move
 pub kept : (P : Numbered → Type 0) (p : Puzzle) (t : List Move) (m : Move) → AllByRecursion P (left p t)
     → AllByRecursion P (left p (m ∷ t))
-kept P p t (Tweak j) a =
-    elim (is_open j t) as (λ b. AllByRecursion P
-    (cond b (without (take 1 (holding j (left p t))) (left p t)) (left p t)))
-    [ true ↦ each-filter P _ (left p t) a | false ↦ a ]
+kept P p t (Tweak j) a = by_test (AllByRecursion P) (is_open j t) (each-filter P _ (left p t) a) a
 kept P p t (Spend j) a = a
 kept P p t _ a = each-filter P _ (left p t) a
 

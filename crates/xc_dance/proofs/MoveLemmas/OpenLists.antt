@@ -84,17 +84,6 @@ purified_gone i j c os h r =
     ∙ gone (λ o. holds o j && is_other_colour c (colour_at o j)) i os r
     ∙ ap (holding i) (filter_agree _ _ (λ o. agree_test c (colour_at o j) h) os)
 
-tweaked : (p : Puzzle) (t : List Move) (i j : ℕ) → is_open i t ≡ true → listed p t i ≡ holding i (left p t)
-    → (is_open j t ≡ true → listed p t j ≡ holding j (left p t)) →
-    listed p (Tweak j ∷ t) i ≡ holding i (left p (Tweak j ∷ t))
-tweaked p t i j opened at_i at_j = elim (eqb_tells i j) [
-  | inl same ↦
-      let j_open : is_open j t ≡ true = ap (λ k. is_open k t) (sym same.1) ∙ opened in
-      rw (same.0, j_open, same.1) (ap (drop 1) (at_j j_open) ∙ sym (without_first 0 (holding j (left p t))
-      (NumbersRise-filter (λ o. holds o j) 0 (left p t) (left_rises p t))) ∙ filter_swap _ _ (left p t))
-  | inr other ↦ grind (arith, common_steps, filter_swap)
-]
-
 pub listed_open : (p : Puzzle) (t : List Move) → AreLegal p t → (i : ℕ) → IsTrue (is_open i t)
     → listed p t i ≡ holding i (left p t)
 listed_open p [] legal i opened = refl
@@ -105,6 +94,15 @@ listed_open p (Cover j ∷ t) legal i opened =
 listed_open p (Purify j c ∷ t) legal i opened =
     rw opened (ap₂ (λ g os. without (other_colours j c g) os) (listed_open p t legal.1 j legal.0.1)
     (listed_open p t legal.1 i (and_right _ _ opened)) ∙ purified_gone i j c (left p t) legal.0.2 (left_rises p t))
-listed_open p (Tweak j ∷ t) legal i opened =
-    tweaked p t i j opened (listed_open p t legal.1 i opened) (λ o. listed_open p t legal.1 j o)
+listed_open p (Tweak j ∷ t) legal i opened = elim (eqb_tells i j) [
+  | inl same ↦
+      let j_open : is_open j t ≡ true = ap (λ k. is_open k t) (sym same.1) ∙ opened in
+      rw (same.0, j_open, same.1) (ap (drop 1) (listed_open p t legal.1 j j_open)
+      ∙ sym (without_first 0 (holding j (left p t)) (NumbersRise-filter _ 0 _ (left_rises p t)))
+      ∙ filter_swap _ _ (left p t))
+  | inr other ↦
+      let at_i = listed_open p t legal.1 i opened in
+      let at_j = listed_open p t legal.1 j in
+      grind (arith, common_steps, filter_swap)
+]
 listed_open p (Spend j ∷ t) legal i opened = listed_open p t legal.1 i opened

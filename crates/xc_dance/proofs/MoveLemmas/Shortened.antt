@@ -134,18 +134,12 @@ lists_purified p t j c low high = lost p t j (other_colours j c (listed p t j))
 
 -- ---- Tweak
 
+ruleset cells = (get_or-set_same, get_or-set_other, get_or-map-range_with_len, length-map-range_with_len, length-set)
+
 set_range : (f g : ℕ → List ℕ) (a n k : ℕ) (v : List ℕ) → ((i : ℕ) → i ≢ a + k → f i ≡ g i) → v ≡ g (a + k)
     → set (map f (range_with_len a n)) k v ≡ map g (range_with_len a n)
-set_range f g a n k v h e = same_lists _ _ (grind (arith, common_steps, length-map-range_with_len, length-set))
-    (λ m d lt. grind (
-      arith,
-      common_steps,
-      get_or-set_same,
-      get_or-set_other,
-      get_or-map-range_with_len,
-      length-map-range_with_len,
-      length-set,
-    ))
+set_range f g a n k v h e =
+    same_lists _ _ (grind (arith, common_steps, cells)) (λ m d lt. grind (arith, common_steps, cells))
 
 pub length_numbers : (xs : List Numbered) → length (numbers xs) ≡ length xs
 length_numbers xs = length-map xs (λ o. o.number)
