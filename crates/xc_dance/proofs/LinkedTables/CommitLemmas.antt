@@ -27,8 +27,7 @@ use Rattle.xc_dance.specs.declared.links.nodes.TheConstants.{MARK}
 
 pub in_list_name : (p : Puzzle) (t : List Move) (i x : ℕ) → is_in x (listed_numbers p t i) ≡ true → (0 < x)
     × (is_some (colour_in (uses_of p x) i) ≡ true)
-in_list_name p t i x e =
-    (in_above _ _ _ (rises_listed p t i) e, element_of (Named p i) _ _ (numbers_named p t i) e)
+in_list_name p t i x e = (in_above _ _ _ (rises_listed p t i) e, element_of (Named p i) _ _ (numbers_named p t i) e)
 
 listed_name : (p : Puzzle) (t : List Move) (i : ℕ) {x : ℕ} → (x ≡ 0) ⊎ Contains (listed_numbers p t i) x → IsName p i x
 listed_name p t i (inl z) = inl z

@@ -1,5 +1,5 @@
 -- Places in an item's list by the problem alone: the item's own node, or that of an option in the list.
-use Rattle.std.proofs.Common.{◌≡◌, ℕ, zero, suc, ◌<◌, ◌≤◌, ◌⊎◌, inl, inr, List, Some, refl, ap, sym, ◌∙◌, subst}
+use Rattle.std.proofs.Common.{◌≡◌, ℕ, zero, suc, ◌<◌, ◌≤◌, inl, inr, List, Some, refl, ap, sym, ◌∙◌, subst}
 use Rattle.std.proofs.Common.{arith}
 use Rattle.std.specs.Prelude.{Option, Contains}
 use Rattle.std.proofs.lemmas.List.Elements.{All-from_recursion}
@@ -41,11 +41,10 @@ own_place (suc m) at le = absurd (omega (arith, at.at, le))
 -- and an option's is behind them
 pub option_place : {p : Puzzle} {t : List Move} {i x q : ℕ} → IsItem p i → IsListedAt p t i x q → item_count p < q →
     Contains (listed_numbers p t i) x
-option_place {p} {t} {i} {x} {q} item at gt = by_listed at.listed
-  where
-    by_listed : (x ≡ 0) ⊎ Contains (listed_numbers p t i) x → Contains (listed_numbers p t i) x
-    by_listed (inl z) = let most = item.1 in absurd (omega (arith, at.at ∙ ap (link_place p i) z, most, gt))
-    by_listed (inr h) = h
+option_place {p} {i = i} item at gt = elim at.listed [
+  | inl z ↦ absurd (omega (arith, at.at ∙ ap (link_place p i) z, item.1, gt))
+  | inr h ↦ h
+]
 
 -- ---- what a dance finds next, by a problem that was read: at an item's own node, or at an option's
 

@@ -51,19 +51,6 @@ bound_here p t i is = grind (arith, common_steps, ne_eqb, row_get)
 pub bound_place : (p : Puzzle) (t : List Move) (i : ℕ) → IsPrimary p i → i < length (items_after p t).bound
 bound_place p t i is = let long = row_len (bound_at p t) (primary_count p + 1) in omega (arith, long, is.1)
 
--- ---- own nodes
-
-pub own_place : (p : Puzzle) (i : ℕ) → IsLaid p → 0 < i → i ≤ item_count p → i < length (layout p)
-own_place p i laid pos le = slice_get_within (layout p) i (own i) (laid.head i pos le)
-
-pub own_top : (p : Puzzle) (t : List Move) (i : ℕ) → IsLaid p → 0 < i → i ≤ item_count p
-    → get_or (nodes_after p t).top i 0 ≡ length (listed p t i)
-own_top p t i laid pos le = get_map (top_in (line_of p t)) (layout p) i (own i) (laid.head i pos le)
-
-pub own_color : (p : Puzzle) (t : List Move) (i : ℕ) → IsLaid p → 0 < i → i ≤ item_count p
-    → get_or (nodes_after p t).color i 0 ≡ unwrap_or (purified i t) 0
-own_color p t i laid pos le = get_map (color_in p t) (layout p) i (own i) (laid.head i pos le)
-
 -- ---- states
 
 purified_above : (p : Puzzle) (t : List Move) (i c : ℕ) → AreLegal p t → purified i t ≡ Some c → 0 < c
@@ -225,7 +212,11 @@ pub own_node : (p : Puzzle) (t : List Move) (i : ℕ) (n : Nodes) (v : Linked) (
     → record { puzzle = p; trail = t; room = m; written = k } ≡ v → IsItem v.puzzle i → OwnNode p t i n
 own_node p t i n v m k is laid seen item =
     let here : IsItem p i = subst (λ (w : Linked). IsItem w.puzzle i) (sym seen) item in
-    grind (arith, common_steps, length-map, own_top, own_color, own_down, own_place p i laid here.0 here.1)
+    let at = laid.head i here.0 here.1 in
+    let within = slice_get_within (layout p) i (own i) at in
+    let top = get_map (top_in (line_of p t)) (layout p) i (own i) at in
+    let color = get_map (color_in p t) (layout p) i (own i) at in
+    grind (arith, common_steps, length-map, own_down)
 
 below_now : (p : Puzzle) (t : List Move) (i o : ℕ) → is_in o (listed_numbers p t i) ≡ true
     → below_of p t i o ≡ first_above 0 o (listed_numbers p t i)

@@ -40,8 +40,7 @@ get_dropped n k xs = sym (slice_get-drop (drop n xs) k) ∙ ap (λ l. slice_get 
 
 pub get_taken : {X : Type 0} (n k : ℕ) (xs : List X) (x : X) → slice_get (take n xs) k ≡ Some x
     → slice_get xs k ≡ Some x
-get_taken n k xs x e =
-    ap (λ l. slice_get l k) (sym (take-append-drop n xs)) ∙ get_left (take n xs) (drop n xs) k x e
+get_taken n k xs x e = ap (λ l. slice_get l k) (sym (take-append-drop n xs)) ∙ get_left (take n xs) (drop n xs) k x e
 
 -- ---- the uses of an option
 

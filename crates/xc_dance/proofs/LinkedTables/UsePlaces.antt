@@ -70,8 +70,7 @@ option_there p i y le (inr h) =
 
 -- the uses vs of option x stand from place off on
 abbrev pub Segment : Puzzle → ℕ → ℕ → List Use → Type 0
-Segment p x off vs =
-    (k : ℕ) (u : Use) → slice_get vs k ≡ Some u → slice_get (layout p) (off + k) ≡ Some (used x u)
+Segment p x off vs = (k : ℕ) (u : Use) → slice_get vs k ≡ Some u → slice_get (layout p) (off + k) ≡ Some (used x u)
 
 -- where an option's use of item i stands
 pub place_at_use : {p : Puzzle} {i x q : ℕ} → IsUseAt p i x q → q ≡ start_at p (x - 1) + place_in i (uses_of p x)

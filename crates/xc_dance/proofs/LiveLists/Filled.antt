@@ -91,8 +91,7 @@ lists_more p os us o e = grind (arith, common_steps, enlisted_range, filled_more
 pub lists_none : (p : Puzzle) → replicate (item_count p) [] ≡ lists_of p []
 lists_none p = empty 1 (item_count p)
   where
-    empty : (a n : ℕ) → replicate n [] ≡ map (λ i. numbers (holding i (numbered_from 1 [])))
-        (range_with_len a n)
+    empty : (a n : ℕ) → replicate n [] ≡ map (λ i. numbers (holding i (numbered_from 1 []))) (range_with_len a n)
     empty a zero = refl
     empty a (suc n) = ap (λ ls. [] ∷ ls) (empty (a + 1) n)
 

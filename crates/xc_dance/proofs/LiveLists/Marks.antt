@@ -1,5 +1,5 @@
 -- Going back to a mark.
-use Rattle.std.proofs.Common.{ℕ, suc, ◌≡◌, ◌≤◌, true, false, cond, leb, List, [], ◌∷◌, length, refl, ap, ap₂, ◌∙◌}
+use Rattle.std.proofs.Common.{ℕ, suc, ◌≡◌, ◌≤◌, List, [], ◌∷◌, length, refl, ap, ap₂, ◌∙◌}
 use Rattle.std.proofs.Common.{arith, le-leb}
 use Rattle.std.proofs.lemmas.Grind.{common_steps}
 use Rattle.std.proofs.lemmas.Bool.{lt-leb, leb-true, leb-false}
@@ -22,11 +22,7 @@ restored_more rooms k e es new old le back = grind (arith, common_steps, le-leb)
 -- how much is still taken
 pub length-still_taken : (k : ℕ) (es : List Removed) → k ≤ length es → length (still_taken k es) ≡ k
 length-still_taken k [] le = omega (arith, le)
-length-still_taken k (e ∷ es) le =
-    elim (leb k (length es)) as (λ b. leb k (length es) ≡ b → length (cond b (still_taken k es) (e ∷ es)) ≡ k) [
-      | true ↦ λ q. length-still_taken k es (leb-true k (length es) q)
-      | false ↦ λ q. omega (arith, leb-false k (length es) q, le)
-    ] refl
+length-still_taken k (e ∷ es) le = grind (arith, common_steps, leb-true, leb-false, length-still_taken k es)
 
 -- the lists at the marks stay where a number is taken
 pub marks_more : (rooms : List ℕ) (ks : List ℕ) (e : Removed) (es : List Removed) (new old : List (List ℕ))

@@ -19,16 +19,12 @@ pub in_filter : (f : ℕ → Bool) (x : ℕ) (xs : List ℕ) → is_in x (filter
 in_filter f x [] = grind (arith, common_steps, eqb-true)
 in_filter f x (y ∷ ys) = grind (arith, common_steps, eqb-true, in_filter f x ys)
 
--- the first of one list isn't missing in the other
-first_in : (y : ℕ) (ys xs : List ℕ) → is_in y xs ≡ is_in y (y ∷ ys) → is_in y xs ≡ true
-first_in y ys xs h = h ∙ is_in-first y ys
-
 pub same_members : (n : ℕ) (xs ys : List ℕ) → Rises n xs → Rises n ys → ((x : ℕ) → is_in x xs ≡ is_in x ys) → xs ≡ ys
 same_members n [] [] r s h = refl
-same_members n [] (y ∷ ys) r s h = absurd (false≢true (first_in y ys [] (h y)))
+same_members n [] (y ∷ ys) r s h = absurd (false≢true (h y ∙ is_in-first y ys))
 same_members n (x ∷ xs) [] r s h = absurd (false≢true (sym (h x) ∙ is_in-first x xs))
 same_members n (x ∷ xs) (y ∷ ys) r s h =
-    let y_in : is_in y (x ∷ xs) ≡ true = first_in y ys (x ∷ xs) (h y) in
+    let y_in : is_in y (x ∷ xs) ≡ true = h y ∙ is_in-first y ys in
     let x_in : is_in x (y ∷ ys) ≡ true = sym (h x) ∙ is_in-first x xs in
     let le : x ≤ y = grind (arith, common_steps, eqb-true, in_above) in
     let ge : y ≤ x = grind (arith, common_steps, eqb-true, in_above) in

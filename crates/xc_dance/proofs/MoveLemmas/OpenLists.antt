@@ -9,7 +9,7 @@ use Rattle.std.proofs.lemmas.List.Elements.{filter_agree}
 use Rattle.std.specs.Prelude.{is_some}
 use Rattle.std.specs.List.{AllByRecursion}
 use Rattle.xc_input.specs.Problem.{Puzzle, Numbered, holds, colour_at, holding}
-use Rattle.xc_input.proofs.lists.EachElement.{each_weaker}
+use Rattle.xc_input.proofs.lists.EachElement.{each_of_all, each_weaker}
 use Rattle.xc_input.proofs.lists.Filters.{filter_same, filter_both, filter_swap, keep_all}
 use Rattle.xc_input.proofs.FaultLemmas.BooleanTests.{and_right}
 use Rattle.xc_dance.specs.declared.dance.Move.{Move}
@@ -29,24 +29,17 @@ above : (n : ℕ) (os : List Numbered) → NumbersRise n os → AllByRecursion (
 above n [] r = tt
 above n (o ∷ os) r = (r.0, above n os (NumbersRise-weaker n o.number os (omega (arith, r.0)) r.1))
 
-other : (k n : ℕ) → n < k → eqb k n ≡ false
-other k n h = ne_eqb k n (λ e. omega (arith, h, e))
-
-before : (k n : ℕ) → n < k → eqb n k ≡ false
-before k n h = ne_eqb n k (λ e. omega (arith, h, e))
-
 -- an option below all of a list isn't in it
 not_among : (x : Numbered) (n : ℕ) (os : List Numbered) → x.number ≤ n → NumbersRise n os → is_among os x ≡ false
 not_among x n [] h r = refl
 not_among x n (o ∷ os) h r =
-    rw (other o.number x.number (omega (arith, r.0))) (not_among x o.number os (omega (arith, r.0)) r.1)
+    rw (ne_eqb o.number x.number (λ e. omega (arith, r.0, h, e))) (not_among x o.number os (omega (arith, r.0)) r.1)
 
 -- an option below all of a list makes no difference there
 passed_over : (x : Numbered) (gone os : List Numbered) → NumbersRise x.number os
     → without (x ∷ gone) os ≡ without gone os
-passed_over x gone os r =
-    filter_same _ _ os (each_weaker (λ o. x.number < o.number) _ os (λ o h. rw (before o.number x.number h) refl)
-    (above x.number os r))
+passed_over x gone os r = filter_same _ _ os (each_weaker (λ o. x.number < o.number) _ os
+    (λ o h. rw (ne_eqb x.number o.number (λ e. omega (arith, h, e))) refl) (above x.number os r))
 
 pub without_filter : (q : Numbered → Bool) (n : ℕ) (os : List Numbered) → NumbersRise n os
     → without (filter q os) os ≡ filter (λ o. not (q o)) os
@@ -63,8 +56,7 @@ without_filter q n (x ∷ os) r =
 pub without_first : (n : ℕ) (os : List Numbered) → NumbersRise n os → without (take 1 os) os ≡ drop 1 os
 without_first n [] r = refl
 without_first n (x ∷ os) r =
-    rw (eq-eqb _ _ refl) (keep_all (λ o. not (is_among (x ∷ []) o)) os
-    (each_weaker _ _ os (λ o h. rw (before o.number x.number h) refl) (above x.number os r.1)))
+    rw (eq-eqb _ _ refl) (passed_over x [] os r.1 ∙ keep_all _ os (each_of_all _ os (λ o. refl)))
 
 -- ---- the lists
 

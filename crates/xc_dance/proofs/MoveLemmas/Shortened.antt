@@ -84,8 +84,7 @@ list_after p t i low high =
 
 -- ---- what goes, by its numbers
 
-among_numbers : (gone : List Numbered) (o : Numbered)
-    → is_among gone o ≡ list_any (λ g. eqb g o.number) (numbers gone)
+among_numbers : (gone : List Numbered) (o : Numbered) → is_among gone o ≡ list_any (λ g. eqb g o.number) (numbers gone)
 among_numbers [] o = refl
 among_numbers (x ∷ gone) o = ap (λ b. eqb x.number o.number || b) (among_numbers gone o)
 

@@ -105,9 +105,8 @@ pub ruleset next_open = (next_open_step, next_open_here, next_open_none)
 -- ---- what is left
 
 pub high_within : (p : Puzzle) (i : ℕ) → IsWithinLimits p → high_at p i ≤ 999999999
-high_within p i limits = by_item (numbered_get p.bounds i) refl
-  where
-    by_item : (o : Option Bounds) → numbered_get p.bounds i ≡ o
-        → (unwrap_or (numbered_get p.bounds i) (record { low = 0; high = 0 })).high ≤ 999999999
-    by_item None e = rw e (omega arith)
-    by_item (Some b) e = rw e (at_number (λ (b : Bounds). b.high ≤ 999999999) p.bounds i b limits.bounds e)
+high_within p i limits = elim (numbered_get p.bounds i) as (λ o. numbered_get p.bounds i ≡ o
+    → (unwrap_or o (record { low = 0; high = 0 })).high ≤ 999999999) [
+      | None ↦ λ e. omega arith
+      | Some b ↦ λ e. at_number (λ (b : Bounds). b.high ≤ 999999999) p.bounds i b limits.bounds e
+    ] refl
