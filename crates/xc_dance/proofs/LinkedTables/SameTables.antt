@@ -52,7 +52,7 @@ reading_is p t Llink k s = llink_read p t k
 reading_is p t Rlink k s = rlink_read p t k
 reading_is p t Bound k s = by_first _ k 0 (λ e. rw e refl) (λ ne. rw (ne_eqb k 0 ne) (bound_read p t k ne))
 reading_is p t Slack k s = by_first _ k 0 (λ e. rw e refl) (λ ne. rw (ne_eqb k 0 ne) (slack_read p t k ne))
-reading_is p t Top k s = top_cell p t k s.laid s.fit s.items
+reading_is p t Top k s = top_cell p t k s.laid s.fit s.laid.small
 reading_is p t Ulink k s = ulink_cell p t k s.laid
 reading_is p t Dlink k s = dlink_cell p t k s.laid
 reading_is p t Color k s = elim (cases_lt (item_count p) k) [
@@ -127,7 +127,7 @@ abbrev pub AreEqual : Items → Items → Nodes → Nodes → List Move → List
 AreEqual i j n m xs ys ms ns = (((i ≡ j) × (n ≡ m)) × (xs ≡ ys)) × (ms ≡ ns)
 
 pub sound : (p : Puzzle) (spans : List Span) → IsFitted p spans → IsSound p
-sound p spans f = record { laid = f.laid; fit = f.fit; items = f.laid.small }
+sound p spans f = record { laid = f.laid; fit = f.fit }
 
 pub forwards : {X : Type 0} (xs ys : List X) → reverse xs ≡ reverse ys → xs ≡ ys
 forwards xs ys e = sym (reverse-reverse xs) ∙ ap reverse e ∙ reverse-reverse ys

@@ -1,6 +1,6 @@
 -- What a cell that is read is, and that different cells read differently.
 use Rattle.std.proofs.Common.{◌≡◌, ℕ, suc, List, [], ◌∷◌, Option, Some, None, refl, ap, eqb-true, ◌-◌, ◌<◌, ◌≤◌}
-use Rattle.std.proofs.Common.{le-leb, arith, ◌⊎◌, inl, inr, zero, ◌+◌, ◌^◌, map, sym, ◌∙◌, ltb-true, ltb-false, ◌≢◌}
+use Rattle.std.proofs.Common.{le-leb, arith, zero, ◌+◌, ◌^◌, map, sym, ◌∙◌, ltb-true, ltb-false, ◌≢◌}
 use Rattle.std.proofs.Common.{cond, eqb, leb, ltb, ne_eqb, leb-true, lt-ltb, le-ltb}
 use Rattle.std.specs.Prelude.{ℤ, pos, slice_get, option_map, neg_ℤ}
 use Rattle.std.specs.List.{range_with_len}
@@ -47,15 +47,14 @@ read_same g (Some v) (Some w) h e = ap Some (h v w refl refl (same_Some (g v) (g
 
 -- ---- TOP, where 0 can be a length or the number of the first spacer, reads differently for different cells
 
--- a number that reads as 0 may be one of two
-top_same : (v w : ℕ) → top_read v ≡ top_read w → (v ≡ w) ⊎ ((v ≡ SPACER) ⊎ (w ≡ SPACER))
-top_same v w e = grind (arith, common_steps, ltb-false, ltb-true, le-leb, read_small)
+-- other numbers than the first spacer's are read differently
+top_same : (v w : ℕ) → v ≢ SPACER → w ≢ SPACER → top_read v ≡ top_read w → v ≡ w
+top_same v w other_v other_w e = grind (arith, common_steps, ltb-false, ltb-true, le-leb, read_small)
 
 -- what the lemmas ask of each table
 pub record IsSound (p : Puzzle) : Type 0 where
   pub laid : IsLaid p
   pub fit : IsFit p
-  pub items : item_count p < 2 ^ 31
 
 -- the first spacer alone has that number
 first_spacer : (p : Puzzle) (t : List Move) (q : ℕ) (n : Node) → IsSound p → slice_get (layout p) q ≡ Some n
@@ -65,7 +64,7 @@ first_spacer p t q (own i) s e f = grind (arith, common_steps, length-listed)
 first_spacer p t q (spacer n) s e f =
     let z : n ≡ 0 = omega (arith, f) in sym (is_at p q (spacer n) e) ∙ ap (spacer_place p) z ∙ place_first p
 first_spacer p t q (used o u) s e f =
-    absurd (omega (arith, f, (s.laid.nodes.ranged q (used o u) u.item o e refl).1, s.items))
+    absurd (omega (arith, f, (s.laid.nodes.ranged q (used o u) u.item o e refl).1, s.laid.small))
 
 top_at_first : (p : Puzzle) (t : List Move) (k : ℕ) → k ≡ item_count p + 1
     → slice_get (nodes_after p t).top k ≡ Some SPACER
@@ -86,13 +85,8 @@ pub top_cells : (p q : Puzzle) (t s : List Move) (k : ℕ) → IsSound p → IsS
     → slice_get (nodes_after p t).top k ≡ slice_get (nodes_after q s).top k
 top_cells p q t s k a b items e = by_first _ k (item_count p + 1)
     (λ is. top_at_first p t k is ∙ sym (top_at_first q s k (is ∙ ap (λ n. n + 1) items)))
-    (λ other. read_same top_read _ _ (λ v w f g h. elim (top_same v w h) [
-      | inl same ↦ same
-      | inr large ↦ elim large [
-        | inl is ↦ absurd (top_elsewhere p t k v a other f is)
-        | inr is ↦ absurd (top_elsewhere q s k w b (λ e. other (e ∙ ap (λ n. n + 1) (sym items))) g is)
-      ]
-    ]) e)
+    (λ other. read_same top_read _ _ (λ v w f g h. top_same v w (top_elsewhere p t k v a other f)
+    (top_elsewhere q s k w b (λ e. other (e ∙ ap (λ n. n + 1) (sym items))) g) h) e)
 
 -- ---- a cell that is read is the field
 

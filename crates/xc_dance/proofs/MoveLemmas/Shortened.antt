@@ -64,14 +64,10 @@ rises_listed p t i = numbers_rise 0 (listed p t i) (each_listed (NumbersRise 0) 
 
 lists_from : (p : Puzzle) (t : List Move) (a n : ℕ) → AreListsFrom p a (map (listed_numbers p t) (range_with_len a n))
 lists_from p t a zero = tt
-lists_from p t a (suc n) = (
-  (
-    rises_listed p t a,
-    All-from_recursion _ _ (each-map _ (λ o. o.number) _
-        (each_weaker _ _ _ (λ o h. ap (λ us. has_use us a) h.0 ∙ h.1) (holders p t a))),
-  ),
-  lists_from p t (a + 1) n,
-)
+lists_from p t a (suc n) =
+    let used = each_weaker (IsHolder p a) (λ o. has_use (uses_of p o.number) a ≡ true) (listed p t a)
+    (λ o h. ap (λ us. has_use us a) h.0 ∙ h.1) (holders p t a) in
+    ((rises_listed p t a, All-from_recursion _ _ (each-map _ (λ o. o.number) _ used)), lists_from p t (a + 1) n)
 
 pub lists_hold : (p : Puzzle) (t : List Move) → AreLists p (lists_after p t)
 lists_hold p t = (length-map-range_with_len (listed_numbers p t) 1 (item_count p), lists_from p t 1 (item_count p))
