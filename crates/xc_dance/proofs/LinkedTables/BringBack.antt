@@ -2,8 +2,7 @@
 -- its own.
 use Rattle.std.proofs.Common.{◌≡◌, ◌≢◌, ℕ, ◌+◌, ◌<◌, ◌≤◌, ◌^◌, true, false, cond, ◌||◌, eqb, List, [], ◌∷◌, length, map}
 use Rattle.std.proofs.Common.{fold, get_or, set, refl, ap, sym, subst, ◌∙◌, arith, eqb-true, eq-eqb, inr, Bool}
-use Rattle.std.proofs.Common.{not, ◌&&◌, ◌++◌, filter, reverse, ap₂, ne_eqb}
-use Rattle.std.specs.List.{list_any}
+use Rattle.std.proofs.Common.{not, ◌&&◌, ◌++◌, filter, reverse, ap₂}
 use Rattle.std.proofs.lemmas.Grind.{common_steps}
 use Rattle.std.proofs.lemmas.Bool.{false≢true, and_parts}
 use Rattle.std.proofs.lemmas.List.{length-map}
@@ -29,7 +28,7 @@ use Rattle.xc_dance.proofs.LinkedTables.LinkColumns.{same_nodes, unhidden-open, 
 use Rattle.xc_dance.proofs.LinkedTables.LinkColumns.{get_item, size_from, node_cells, map_same, Stands, get_down}
 use Rattle.xc_dance.proofs.LinkedTables.OneOption.{is_mark, IsApart, AllApart, changed_one, changed_all, one_other}
 use Rattle.xc_dance.proofs.LinkedTables.OneOption.{all_at, line_here, line_there}
-use Rattle.xc_dance.proofs.LinkedTables.Sweep.{mended, with_line, in_above, by_first, put_at-same, put_at-other, put_at}
+use Rattle.xc_dance.proofs.LinkedTables.Sweep.{mended, with_line, in_above, put_at}
 use Rattle.xc_dance.proofs.LinkedTables.Sweep.{other_items, is_in-first, in_more}
 use Rattle.xc_dance.proofs.LinkedTables.OtherItems.{out_of, leaves, in_others, others_apart, own_apart}
 use Rattle.xc_dance.proofs.LinkedTables.OtherItems.{item_range, in_reverse, apart_reverse}
@@ -39,7 +38,7 @@ use Rattle.xc_dance.proofs.MoveLemmas.Members.{element_of}
 use Rattle.xc_dance.proofs.MoveLemmas.Shortened.{rises_listed}
 use Rattle.xc_dance.proofs.LinkedTables.MarkedNodes.{stands_in}
 use Rattle.xc_dance.proofs.LinkedTables.Leaving.{met_at}
-use Rattle.xc_dance.proofs.LinkedTables.Regained.{Regaining, NextBack, next_back}
+use Rattle.xc_dance.proofs.LinkedTables.Regained.{Regaining, regaining_len}
 use Rattle.xc_dance.proofs.LinkedTables.Spacers.{others_are, can_unhide_node}
 use Rattle.xc_dance.proofs.LinkedTables.TweakStep.{to_come, back_writes}
 
@@ -127,16 +126,19 @@ unhidden_walk p col ln o (j ∷ js) laid pos apart h =
 
 -- ---- the lines on the way
 
--- x is below one of these
-abbrev pub is_below : Line → ℕ → List ℕ → Bool
-is_below l x os = list_any (λ o. eqb (l.down o) x) os
+-- the members of one line as they lead up, and those of another as they lead down
+abbrev pub half : ℕ → Line → Line → Line
+half n m l = record { len = n; up = m.up; down = l.down }
 
-pub record BringingBack (p : Puzzle) (t : List Move) (covered : Bool) (i : ℕ) (ln : ℕ → Line) (os : List ℕ) : Type
+-- The options os are still to come back: other lines regain those that left them, and so do item i's own upward links;
+-- downwards it leads as before the Tweaks, with n members.
+pub record BringingBack (p : Puzzle) (t : List Move) (covered : Bool) (i n : ℕ) (ln : ℕ → Line) (os : List ℕ) : Type
     0 where
   pub others : (j : ℕ) → 0 < j → j ≤ item_count p → j ≢ i
       → Regaining (line_of p t j) (ln j) (to_come p t covered i j os)
-  pub own_down : (x : ℕ) → (ln i).down x ≡ (line_of p t i).down x
-  pub own_up : (x : ℕ) → is_below (line_of p t i) x os ≡ false → (ln i).up x ≡ (line_of p t i).up x
+  pub line : Line
+  pub own : Regaining (line_of p t i) line os
+  pub is : ln i ≡ half n line (line_of p t i)
 
 -- ---- what stands above one member is written
 
@@ -181,8 +183,8 @@ pub record Opened (p : Puzzle) (t : List Move) (spans : List Span) (covered : Bo
   pub others : (j : ℕ) → 0 < j → j ≤ item_count p → j ≢ i
       → Regaining (line_of p t j) (ln1 j) (to_come p t covered i j os)
 
-opened_covered : {p : Puzzle} {t : List Move} (spans : List Span) {i : ℕ} {ln : ℕ → Line} {o : ℕ} {os : List ℕ}
-    → BringingBack p t true i ln (o ∷ os) → Opened p t spans true i ln o os
+opened_covered : {p : Puzzle} {t : List Move} (spans : List Span) {i n : ℕ} {ln : ℕ → Line} {o : ℕ} {os : List ℕ}
+    → BringingBack p t true i n ln (o ∷ os) → Opened p t spans true i ln o os
 opened_covered spans h = grind (arith, common_steps, false≢true)
 
 apart_behind : (js ks : List ℕ) → AllApart (js ++ ks) → AllApart ks
@@ -193,9 +195,9 @@ in_behind : (j : ℕ) (js ks : List ℕ) → is_in j ks ≡ true → is_in j (js
 in_behind j [] ks e = e
 in_behind j (i ∷ js) ks e = ap (λ b. eqb i j || b) (in_behind j js ks e) ∙ or-true (eqb i j)
 
-opened_open : {p : Puzzle} {t : List Move} {spans : List Span} {i : ℕ} {ln : ℕ → Line} {o : ℕ} {os : List ℕ}
+opened_open : {p : Puzzle} {t : List Move} {spans : List Span} {i n : ℕ} {ln : ℕ → Line} {o : ℕ} {os : List ℕ}
     → AreLegal p t → IsFitted p spans → is_open i t ≡ true → 0 < o → Named p i o → is_in o (listed_numbers p t i) ≡ true
-    → BringingBack p t false i ln (o ∷ os) → Opened p t spans false i ln o os
+    → BringingBack p t false i n ln (o ∷ os) → Opened p t spans false i ln o os
 opened_open {p} {t} {spans} {i} {ln} {o} {os} legal fit opened o_pos named within h =
     let col = color_in p t in
     let laid = fit.laid in
@@ -204,9 +206,9 @@ opened_open {p} {t} {spans} {i} {ln} {o} {os} legal fit opened o_pos named withi
     let back = reverse js in
     let apart : AllApart back = apart_reverse js (others_apart p o i fit.fit) in
     let comes : (j : ℕ) → leaves p col i j o ≡ true → 0 < j → j ≤ item_count p → j ≢ i
-    → NextBack (line_of p t j) (ln j) o (filter (leaves p col i j) os) = λ j e pos le ne. next_back
-    (line_of p t j) (ln j) o (filter (leaves p col i j) os) (subst (Regaining (line_of p t j) (ln j))
-    (ap (λ b. cond b (o ∷ filter (leaves p col i j) os) (filter (leaves p col i j) os)) e) (h.others j pos le ne)) in
+    → Regaining (line_of p t j) (ln j) (o ∷ filter (leaves p col i j) os) = λ j e pos le ne. subst
+    (Regaining (line_of p t j) (ln j)) (ap (λ b. cond b (o ∷ filter (leaves p col i j) os) (filter
+    (leaves p col i j) os)) e) (h.others j pos le ne) in
     let returning : (j : ℕ) → is_in j js ≡ true → Returning p col ln o j = λ j in_js.
     let both = and_parts _ _ (sym (in_others p o i j (fit.fit.distinct o)) ∙ in_js) in
     let j_named : Named p j o = both.1 in
@@ -225,9 +227,9 @@ opened_open {p} {t} {spans} {i} {ln} {o} {os} legal fit opened o_pos named withi
           let m : IsMember p j (line_of p t j) o = member p j (line_of p t j) st.ys o st.zs r.0 r.1 good in
           record {
             name = m.name;
-            above = subst (IsName p j) (sym nb.up) m.above;
-            below = subst (IsName p j) (sym nb.down) m.below;
-            few = omega (arith, (h.others j r.0 r.1 ne).len, good.len, good.few);
+            above = subst (IsName p j) (sym nb.0) m.above;
+            below = subst (IsName p j) (sym nb.1) m.below;
+            few = omega (arith, regaining_len _ _ _ (h.others j r.0 r.1 ne), good.len, good.few);
           };
     } in
     let w = unhidden_walk p col ln o back laid o_pos apart (λ j e. returning j (sym (in_reverse j js) ∙ e)) in
@@ -253,22 +255,21 @@ opened_open {p} {t} {spans} {i} {ln} {o} {os} legal fit opened o_pos named withi
           ] refl;
     }
 
-pub record BringBackStep (p : Puzzle) (t : List Move) (spans : List Span) (covered : Bool) (i : ℕ) (ln : ℕ → Line)
+pub record BringBackStep (p : Puzzle) (t : List Move) (spans : List Span) (covered : Bool) (i n : ℕ) (ln : ℕ → Line)
     (o : ℕ) (os : List ℕ) : Type 0 where
   pub ln' : ℕ → Line
   pub can : CanBringBack spans covered (nodes_from p ln (color_in p t)) (link_place p i o)
   pub done : brought_back spans covered (nodes_from p ln (color_in p t)) (link_place p i o) ≡ nodes_from p ln'
       (color_in p t)
-  pub bringing : BringingBack p t covered i ln' os
-  pub len : (ln' i).len ≡ (ln i).len
+  pub bringing : BringingBack p t covered i n ln' os
   pub cost : bring_back_cost spans covered (nodes_from p ln (color_in p t)) (link_place p i o) ≡ 1 + back_writes p
       (color_in p t) covered i o
 
-by_opened : {p : Puzzle} {t : List Move} {spans : List Span} {covered : Bool} {i : ℕ} {ln : ℕ → Line} {o : ℕ}
+by_opened : {p : Puzzle} {t : List Move} {spans : List Span} {covered : Bool} {i n : ℕ} {ln : ℕ → Line} {o : ℕ}
     {os : List ℕ} → IsFitted p spans → 0 < i → i ≤ item_count p → is_in o (listed_numbers p t i) ≡ true
-    → BringingBack p t covered i ln (o ∷ os) → Opened p t spans covered i ln o os
-    → BringBackStep p t spans covered i ln o os
-by_opened {p} {t} {covered} {i} {ln} {o} {os} fit pos le within h m1 =
+    → BringingBack p t covered i n ln (o ∷ os) → Opened p t spans covered i ln o os
+    → BringBackStep p t spans covered i n ln o os
+by_opened {p} {t} {covered} {i} {n} {ln} {o} {os} fit pos le within h m1 =
     let laid = fit.laid in
     let x = link_place p i o in
     let l : Line = line_of p t i in
@@ -276,18 +277,17 @@ by_opened {p} {t} {covered} {i} {ln} {o} {os} fit pos le within h m1 =
     let t1 : Nodes = nodes_from p ln1 (color_in p t) in
     let st : Stands (listed_numbers p t i) o = stands_in _ _ within in
     let m : IsMember p i l o = member _ _ _ _ _ _ pos le (subst (IsGood p i l) st.is (all_good _ t fit.fit i pos le)) in
-    let down_is : (ln1 i).down o ≡ l.down o = ap (λ (k : Line). k.down o) m1.own ∙ h.own_down o in
+    let own : ln1 i ≡ half n h.line l = m1.own ∙ h.is in
+    let down_is : (ln1 i).down o ≡ l.down o = ap (λ (k : Line). k.down o) own in
     let here = laid.there i o pos le m.name in
     let below = laid.there i ((ln1 i).down o) pos le (subst (IsName p i) (sym down_is) m.below) in
     let w : Line = raised (ln1 i) o in
-    let ln' : ℕ → Line = with_line ln1 i w in
-    let at_i : ln' i ≡ w = line_here ln1 _ _ in
     let x_in = slice_get_within (layout p) x here.node here.at in
     let d_in = slice_get_within (layout p) (link_place p i ((ln1 i).down o)) below.node below.at in
     let down_long : length t1.dlink ≡ length (layout p) = length-map (layout p) (dlink_in p ln1) in
     let leads : get_or t1.dlink x 0 ≡ link_place p i ((ln1 i).down o) = get_down _ ln1 _ _ here in
     record {
-      ln' = ln';
+      ln' = with_line ln1 i w;
       can = record {
         unhide = m1.can;
         place = subst (λ (u : Nodes). x < length u.dlink) (sym m1.done) (omega (arith, x_in, down_long));
@@ -297,21 +297,20 @@ by_opened {p} {t} {covered} {i} {ln} {o} {os} fit pos le within h m1 =
       bringing = record {
         others = λ j jpos jle ne. subst (λ (k : Line). Regaining (line_of p t j) k (to_come p t covered i j os))
             (sym (line_there ln1 _ _ w ne)) (m1.others j jpos jle ne);
-        own_down = λ y. ap (λ (k : Line). k.down y) at_i ∙ ap (λ (k : Line). k.down y) m1.own ∙ h.own_down y;
-        own_up = λ y e. ap (λ (k : Line). k.up y) at_i ∙ by_first (put_at (ln1 i).up ((ln1 i).down o) o y ≡ l.up y)
-            ((ln1 i).down o) y (λ s. put_at-same (ln1 i).up _ o _ (sym s) ∙ sym m.down_back ∙ ap l.up (sym down_is ∙ s))
-            (λ ne. grind (arith, common_steps, eq-eqb, eqb-true, false≢true, ne_eqb, put_at-other));
+        line = mended h.line o;
+        own = h.own.2;
+        is = line_here ln1 i w ∙ ap (λ (k : Line). raised k o) own
+            ∙ ap (λ d. half n (record { len = 0; up = put_at h.line.up d o; down = l.down }) l) (sym h.own.1);
       };
-      len = ap (λ (k : Line). k.len) at_i ∙ ap (λ (k : Line). k.len) m1.own;
       cost = ap (λ n. 1 + n) m1.cost;
     }
 
-pub bring_back_step : (p : Puzzle) (t : List Move) (spans : List Span) (covered : Bool) (i : ℕ) (ln : ℕ → Line) (o : ℕ)
-    (os : List ℕ) → AreLegal p t → IsFitted p spans → 0 < i → i ≤ item_count p → is_open i t ≡ not covered
+pub bring_back_step : (p : Puzzle) (t : List Move) (spans : List Span) (covered : Bool) (i n : ℕ) (ln : ℕ → Line)
+    (o : ℕ) (os : List ℕ) → AreLegal p t → IsFitted p spans → 0 < i → i ≤ item_count p → is_open i t ≡ not covered
     → is_in o (listed_numbers p t i) ≡ true
-    → BringingBack p t covered i ln (o ∷ os) → BringBackStep p t spans covered i ln o os
-bring_back_step p t spans true i ln o os legal fit pos le shut within h =
+    → BringingBack p t covered i n ln (o ∷ os) → BringBackStep p t spans covered i n ln o os
+bring_back_step p t spans true i n ln o os legal fit pos le shut within h =
     by_opened fit pos le within h (opened_covered spans h)
-bring_back_step p t spans false i ln o os legal fit pos le opened within h =
+bring_back_step p t spans false i n ln o os legal fit pos le opened within h =
     by_opened fit pos le within h (opened_open legal fit opened (in_above _ _ _ (rises_listed p t i) within)
     (element_of (Named p i) _ _ (numbers_named p t i) within) within h)

@@ -1,7 +1,7 @@
 -- Tweak: from the node table after moves to that after one move more, and back.
 use Rattle.std.proofs.Common.{◌≡◌, ◌≢◌, ℕ, ◌+◌, ◌*◌, ◌<◌, ◌≤◌, ◌^◌, Bool, true, false, not, cond, eqb, List, [], ◌∷◌}
 use Rattle.std.proofs.Common.{length, filter, get_or, reverse, refl, ap, sym, subst, ◌∙◌, arith, eqb-true, eq-eqb}
-use Rattle.std.proofs.Common.{ne_eqb}
+use Rattle.std.proofs.Common.{ne_eqb, ◌&&◌}
 use Rattle.std.proofs.lemmas.Grind.{common_steps}
 use Rattle.std.specs.List.{AllByRecursion}
 use Rattle.std.proofs.lemmas.Bool.{eqb-false, false≢true}
@@ -77,7 +77,7 @@ tweak_cut p t i f = record {
 
 -- the options of item i's list that leave item j's by Tweaks of i
 abbrev pub to_come : Puzzle → List Move → Bool → ℕ → ℕ → List ℕ → List ℕ
-to_come p t covered i j os = cond covered [] (filter (leaves p (color_in p t) i j) os)
+to_come p t covered i j os = filter (λ o. not covered && leaves p (color_in p t) i j o) os
 
 -- every other line loses the first too, if the item is open
 pub tweak_cuts : (p : Puzzle) (t : List Move) (spans : List Span) (covered : Bool) (i j : ℕ) → AreLegal p t

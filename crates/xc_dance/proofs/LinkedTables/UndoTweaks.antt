@@ -29,7 +29,7 @@ use Rattle.xc_dance.proofs.MoveLemmas.Shortened.{rises_listed}
 use Rattle.xc_dance.proofs.MoveLemmas.Members.{element_of}
 use Rattle.xc_dance.proofs.LinkedTables.MoveStep.{still_items, off_is}
 use Rattle.xc_dance.proofs.MoveLemmas.StateLemmas.{open_or_covered}
-use Rattle.xc_dance.proofs.LinkedTables.TweaksBack.{tweaks, Tweaked, tweaked_lines, Undoes, first_place, tweaks_back}
+use Rattle.xc_dance.proofs.LinkedTables.TweaksBack.{tweaks, kept, Tweaked, tweaked, Undoes, first_place, tweaks_back}
 
 pub tweaks_are : (k i : ℕ) (s : List Move) → k ≤ length s → take k s ≡ replicate k (Tweak i) → s ≡ tweaks k i (drop k s)
 tweaks_are zero i s h e = refl
@@ -39,19 +39,6 @@ tweaks_are (suc k) i (m ∷ s) h e = grind (arith, common_steps, tweaks_are k i 
 legal_rest : (p : Puzzle) (k i : ℕ) (t : List Move) → AreLegal p (tweaks k i t) → AreLegal p t
 legal_rest p zero i t h = h
 legal_rest p (suc k) i t h = legal_rest p k i t h.1
-
-covered_same : (k i j : ℕ) (t : List Move) → is_covered j (tweaks k i t) ≡ is_covered j t
-covered_same zero i j t = refl
-covered_same (suc k) i j t = covered_same k i j t
-
-purified_same : (k i j : ℕ) (t : List Move) → purified j (tweaks k i t) ≡ purified j t
-purified_same zero i j t = refl
-purified_same (suc k) i j t = purified_same k i j t
-
-items_same : (p : Puzzle) (k i : ℕ) (t : List Move) → items_after p (tweaks k i t) ≡ items_after p t
-items_same p zero i t = refl
-items_same p (suc k) i t =
-    still_items p (tweaks k i t) (Tweak i) (record { covered = λ q. refl; spent = λ q. refl }) ∙ items_same p k i t
 
 -- the last of a list, turned round
 pub turned_drop : {X : Type 0} (xs : List X) (k : ℕ) → k ≤ length xs
@@ -78,11 +65,11 @@ taken_last p t covered i k xs some tw e =
     let places = map (link_place p i) os in
     let b = taken_nodes p t in
     let is : xs ≡ reverse b ++ places =
-    sym (reverse-reverse xs) ∙ ap reverse (e ∙ tw.lines.taken) ∙ reverse-append (reverse places) b
+    sym (reverse-reverse xs) ∙ ap reverse (e ∙ tw.taken) ∙ reverse-append (reverse places) b
     ∙ ap (λ ys. reverse b ++ ys) (reverse-reverse places) in
     let long : length xs ≡ length (reverse b) + length places = ap length is ∙ length-append (reverse b) places in
     let at : length xs - k ≡ length (reverse b) = omega (arith, long, length-map os (link_place p i) ∙ tw.count) in
-    grind (arith, common_steps, get_or-append-add, take-append_seam, first_place os tw.count tw.lines.list)
+    grind (arith, common_steps, get_or-append-add, take-append_seam, first_place os tw.count tw.list)
   where
     first_place : (os : List ℕ) → length os ≡ k → listed_numbers p t i ≡ os ++ listed_numbers p (tweaks k i t) i
         → get_or (map (link_place p i) os) 0 0 ≡ link_place p i (first_of 0 (listed_numbers p t i))
@@ -132,18 +119,19 @@ found_by p t spans i k xs legal fit e =
     let le : i ≤ item_count p = may.0.1 in
     let before : AreLegal p t = legal_rest p (suc k) i t legal in
     let covered = is_covered i t in
-    let opened : is_open i t ≡ not covered = open_or_covered i t (sym (purified_same k i i t) ∙ may.1) in
-    let tw = tweaked_lines p t spans covered i (suc k) legal fit opened in
+    let opened : is_open i t ≡ not covered = open_or_covered i t (sym (kept (purified i) i t (λ s. refl) k) ∙ may.1) in
+    let tw = tweaked p t spans covered i (suc k) legal fit opened in
     let off = off_is p s i legal pos le in
     let some : 0 < suc k = omega arith in
     record {
       legal = before;
       taken = taken_last p t covered i (suc k) xs some tw e;
-      node = first_node p s t i tw.os (listed_numbers p s i) fit.laid pos le (omega (arith, tw.count)) tw.lines.list;
+      node = first_node p s t i tw.os (listed_numbers p s i) fit.laid pos le (omega (arith, tw.count)) tw.list;
       tell = (off.place, off.left);
-      off = off.is ∙ covered_same (suc k) i i t;
-      back = tweaks_back p t spans covered i (suc k) legal before fit pos le opened some;
-      items = items_same p (suc k) i t;
+      off = off.is ∙ kept (is_covered i) i t (λ s. refl) (suc k);
+      back = tweaks_back p t spans covered i (suc k) tw before fit pos le opened some;
+      items = kept (items_after p) i t
+          (λ s. still_items p s (Tweak i) (record { covered = λ q. refl; spent = λ q. refl })) (suc k);
     }
 
 pub tweaks_found : (p : Puzzle) (s : List Move) (spans : List Span) (k : ℕ) (xs : List ℕ) → AreTweaks k s → AreLegal p s
