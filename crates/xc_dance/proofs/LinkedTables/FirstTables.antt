@@ -1,7 +1,7 @@
 -- The tables as they are laid: columns that are filled, the nodes, the items and their rings.
 use Rattle.std.proofs.Common.{◌≡◌, ℕ, zero, suc, ◌+◌, ◌<◌, ◌≤◌, List, [], ◌∷◌, ◌++◌, length, map, set, replicate}
-use Rattle.std.proofs.Common.{Some, refl, ap, sym, ◌∙◌, arith, ◌-◌, ap₂, lt-ltb, ne_eqb, ◌≢◌, true, false, not}
-use Rattle.std.proofs.Common.{ltb, filter, le-ltb, ltb-true, ltb-false, le-leb}
+use Rattle.std.proofs.Common.{Some, refl, ap, sym, ◌∙◌, arith, ◌-◌, ap₂, lt-ltb, ne_eqb, not}
+use Rattle.std.proofs.Common.{ltb, filter, le-ltb, ltb-true, ltb-false}
 use Rattle.xc_input.specs.declared.problem.Bounds.{Bounds}
 use Rattle.std.specs.Prelude.{slice_get, unwrap_or}
 use Rattle.std.specs.List.{range_with_len, AllByRecursion}
@@ -9,7 +9,8 @@ use Rattle.std.proofs.lemmas.Grind.{common_steps}
 use Rattle.std.proofs.lemmas.Option.{same_Some}
 use Rattle.std.proofs.lemmas.List.FromFn.{length-range_with_len}
 use Rattle.std.proofs.lemmas.List.Elements.{recursion_from_All}
-use Rattle.std.proofs.lemmas.Bool.{lt-leb}
+use Rattle.std.proofs.lemmas.Bool.{leb-false}
+use Rattle.std.proofs.Common.{leb-true}
 use Rattle.xc_input.specs.declared.problem.Use.{Use}
 use Rattle.xc_input.specs.Problem.{Puzzle, item_count, option_count, primary_count, high_at, low_at, IsValid}
 use Rattle.xc_input.specs.Problem.{AreSoundBounds}
@@ -20,7 +21,7 @@ use Rattle.xc_dance.specs.inner.Links.FirstNodes.{filled, blanks, rows_of, no_ro
 use Rattle.xc_dance.proofs.Copied.{take_more-get}
 use Rattle.xc_dance.specs.declared.links.nodes.Row.{Row}
 use Rattle.xc_dance.specs.Fields.{Node, unused, own, spacer, layout, spacer_place, last_below, first_above, first_of}
-use Rattle.xc_dance.specs.Fields.{last_of, ring_of, left_of, right_of}
+use Rattle.xc_dance.specs.Fields.{last_of, ring_of}
 use Rattle.xc_dance.specs.inner.Links.Cells.{top_in, ulink_in, dlink_in, color_in, fixed_up, fixed_down, nodes_from}
 use Rattle.xc_dance.specs.inner.Links.ItemCells.{bound_at, slack_at, items_after, llink_at, rlink_at}
 use Rattle.xc_dance.specs.inner.Links.FirstItems.{linked_to, bound_to}
@@ -29,6 +30,7 @@ use Rattle.xc_dance.proofs.LinkedTables.PlaceLemmas.{head_is, place_next, range_
 use Rattle.xc_dance.proofs.LinkedTables.RingStep.{same_items}
 use Rattle.xc_dance.proofs.LinkedTables.Sweep.{last_below-more, last_of-more}
 use Rattle.xc_dance.specs.declared.links.nodes.TheConstants.{SPACER}
+use Rattle.std.proofs.Common.{cond, eqb, leb}
 
 -- ---- columns that are filled from the first cell on; what isn't filled yet is 0
 
@@ -154,26 +156,32 @@ low_most {p} (suc k) valid = low_high _ _ (recursion_from_All AreSoundBounds p.b
 
 -- ---- neighbours in a row of numbers
 
-none_below : (other i a n : ℕ) → i ≤ a → last_below other i (range_with_len a n) ≡ other
-none_below other i a zero le = refl
-none_below other i a (suc n) le = rw (le-ltb a i le) (none_below other i (a + 1) n (omega arith))
+below_range : (other i a n : ℕ) → i ≤ a + n → last_below other i (range_with_len a n) ≡ cond (ltb a i) (i - 1) other
+below_range other i a zero le = rw (le-ltb a i (omega (arith, le))) refl
+below_range other i a (suc n) le = grind (
+  arith,
+  common_steps,
+  last_below-more,
+  ltb-true,
+  ltb-false,
+  lt-ltb,
+  le-ltb,
+  below_range a i (a + 1) n (omega (arith, le)),
+  below_range other i (a + 1) n (omega (arith, le)),
+)
 
-below_in : (other i a n : ℕ) → a < i → i ≤ a + n → last_below other i (range_with_len a n) ≡ i - 1
-below_in other i a zero lt le = absurd (omega (arith, lt, le))
-below_in other i a (suc n) lt le =
-    grind (arith, common_steps, last_below-more, ltb-true, ltb-false, none_below, below_in a i (a + 1) n)
+above_range : (other i a n : ℕ) → a ≤ i + 1
+    → first_above other i (range_with_len a n) ≡ cond (ltb (i + 1) (a + n)) (i + 1) other
+above_range other i a zero le = rw (le-ltb (i + 1) (a + 0) (omega (arith, le))) refl
+above_range other i a (suc n) le = grind (arith, common_steps, ltb-true, ltb-false, above_range other i (a + 1) n)
 
-above_in : (other i a n : ℕ) → a ≤ i + 1 → i + 1 < a + n → first_above other i (range_with_len a n) ≡ i + 1
-above_in other i a zero le lt = absurd (omega (arith, le, lt))
-above_in other i a (suc n) le lt = grind (arith, common_steps, ltb-true, ltb-false, above_in other i (a + 1) n)
+last_range : (other a n : ℕ) → last_of other (range_with_len a n) ≡ cond (eqb n 0) other (a + n - 1)
+last_range other a zero = refl
+last_range other a (suc n) = grind (arith, common_steps, last_of-more, ne_eqb, last_range a (a + 1) n)
 
-none_above : (other i a n : ℕ) → a + n ≤ i + 1 → first_above other i (range_with_len a n) ≡ other
-none_above other i a zero le = refl
-none_above other i a (suc n) le = rw (le-ltb i a (omega (arith, le))) (none_above other i (a + 1) n (omega (arith, le)))
-
-last_in : (other a n : ℕ) → last_of other (range_with_len a (suc n)) ≡ a + n
-last_in other a zero = grind (arith, common_steps, last_of-more)
-last_in other a (suc n) = grind (arith, common_steps, last_of-more, last_in a (a + 1) n)
+first_range : (other a n : ℕ) → first_of other (range_with_len a n) ≡ cond (eqb n 0) other a
+first_range other a zero = refl
+first_range other a (suc n) = rw (ne_eqb (suc n) 0 (λ z. omega (arith, z))) refl
 
 -- ---- the rings
 
@@ -181,70 +189,20 @@ keep : (js : List ℕ) → filter (λ j. not (is_covered j [])) js ≡ js
 keep [] = refl
 keep (j ∷ js) = ap (λ l. j ∷ l) (keep js)
 
-low_ring : (p : Puzzle) (i : ℕ) → i ≤ primary_count p → ring_of p [] i ≡ range_with_len 1 (primary_count p)
-low_ring p i le = rw (le-leb i (primary_count p) le) (keep (range_with_len 1 (primary_count p)))
+first_ring : (p : Puzzle) (i : ℕ) → ring_of p [] i ≡
+    cond (leb i (primary_count p)) (range_with_len 1 (primary_count p)) (range_with_len (primary_count p + 1) p.secondary)
+first_ring p i = keep _
 
-high_ring : (p : Puzzle) (i : ℕ) → primary_count p < i
-    → ring_of p [] i ≡ range_with_len (primary_count p + 1) p.secondary
-high_ring p i lt = rw (lt-leb i (primary_count p) lt) (keep (range_with_len (primary_count p + 1) p.secondary))
+ruleset neighbours = (above_range, below_range, first_range, first_ring, last_range, leb-false, leb-true, ltb-false, ltb-true)
 
--- ---- the cells
+-- where the links of a place lead before any move
+pub left_is : (p : Puzzle) (i : ℕ) → i ≤ item_count p + 1
+    → llink_at p [] i ≡ cond (eqb i 0) (primary_count p) (cond (eqb i (primary_count p + 1)) (item_count p + 1) (i - 1))
+left_is p i le = grind (arith, common_steps, neighbours)
 
-inner_left : (p : Puzzle) (i : ℕ) → i ≢ 0 → i ≤ item_count p → llink_at p [] i ≡ left_of p [] i
-inner_left p i ne le = rw (ne_eqb i 0 ne, le-leb i (item_count p) le) refl
-
-inner_right : (p : Puzzle) (i : ℕ) → i ≢ 0 → i ≤ item_count p → rlink_at p [] i ≡ right_of p [] i
-inner_right p i ne le = rw (ne_eqb i 0 ne, le-leb i (item_count p) le) refl
-
-end_left : (p : Puzzle) (i : ℕ) → item_count p < i
-    → llink_at p [] i ≡ last_of (item_count p + 1) (range_with_len (primary_count p + 1) p.secondary)
-end_left p i lt = grind (arith, common_steps, high_ring, lt-leb, ne_eqb)
-
--- a fact by which of two numbers is greater
-by_size : (P : Type 0) (m n : ℕ) → (m ≤ n → P) → (n < m → P) → P
-by_size P m n low high =
-    elim (ltb n m) as (λ b. ltb n m ≡ b → P)
-    [ true ↦ λ e. high (ltb-true n m e) | false ↦ λ e. low (ltb-false n m e) ] refl
-
-last_primary : (n : ℕ) → last_of 0 (range_with_len 1 n) ≡ n
-last_primary zero = refl
-last_primary (suc n) = last_in 0 1 n ∙ omega arith
-
-last_secondary : (other a n : ℕ) → n ≢ 0 → last_of other (range_with_len a n) ≡ a + n - 1
-last_secondary other a zero ne = absurd (ne refl)
-last_secondary other a (suc n) ne = last_in other a n ∙ omega arith
-
-pub left_head : (p : Puzzle) {i : ℕ} → i ≡ 0 → primary_count p ≡ llink_at p [] i
-left_head p e = grind (arith, common_steps, low_ring, last_primary)
-
--- the first secondary item, or the head of the secondary items where there is none
-pub left_first : (p : Puzzle) (i : ℕ) → i ≡ primary_count p + 1 → item_count p + 1 ≡ llink_at p [] i
-left_first p i e = grind (arith, common_steps, by_size, end_left, high_ring, inner_left, lt-leb, none_below)
-
-ruleset left_rules = (below_in, by_size, end_left, high_ring, inner_left, last_secondary, low_ring, none_below)
-
-pub left_inner : (p : Puzzle) (i : ℕ) → i ≢ 0 → i ≢ primary_count p + 1 → i ≤ item_count p + 1 → i - 1 ≡ llink_at p [] i
-left_inner p i nz ne le = grind (arith, common_steps, le-leb, lt-leb, left_rules)
-
-pub right_last : (p : Puzzle) {i : ℕ} → i ≡ primary_count p → 0 ≡ rlink_at p [] i
-right_last p e = grind (arith, common_steps, by_size, inner_right, le-leb, low_ring, none_above)
-
-first_secondary : (a n : ℕ) → first_of (a + n) (range_with_len a n) ≡ a
-first_secondary a zero = omega arith
-first_secondary a (suc n) = refl
-
-pub right_head : (p : Puzzle) (i : ℕ) → i ≡ item_count p + 1 → primary_count p + 1 ≡ rlink_at p [] i
-right_head p i e = grind (arith, common_steps, keep, first_secondary, le-leb, lt-leb, ne_eqb)
-
-first_primary : (n : ℕ) → n ≢ 0 → first_of 0 (range_with_len 1 n) ≡ 1
-first_primary zero ne = absurd (ne refl)
-first_primary (suc n) ne = refl
-
-ruleset right_rules = (above_in, by_size, first_primary, high_ring, inner_right, low_ring, le-leb, lt-leb, none_above)
-
-pub right_inner : (p : Puzzle) (i : ℕ) → i ≢ primary_count p → i ≢ item_count p + 1 → i ≤ item_count p + 1
-    → i + 1 ≡ rlink_at p [] i
-right_inner p i ne nl le = grind (arith, common_steps, right_rules)
+pub right_is : (p : Puzzle) (i : ℕ) → i ≤ item_count p + 1 → rlink_at p [] i ≡
+    cond (eqb i (primary_count p)) 0 (cond (eqb i (item_count p + 1)) (primary_count p + 1) (i + 1))
+right_is p i le = grind (arith, common_steps, neighbours)
 
 -- the columns of the item table, as they are filled
 pub ruleset item_columns = (column_none, column_len, column_more, rings_linked, same_items)
