@@ -28,7 +28,10 @@ use Rattle.xc_dance.proofs.Copied.{take_more-get}
 use Rattle.xc_dance.proofs.LinkedTables.LaidLemmas.{distinct_options, is_laid}
 use Rattle.xc_dance.proofs.LinkedTables.PlaceLemmas.{length_front, tail_from, layout_small, get_taken}
 use Rattle.xc_dance.proofs.LinkedTables.LinkColumns.{get_map, same_nodes, column, put_link, column_same, get_link}
-use Rattle.xc_dance.proofs.LinkedTables.LinkColumns.{set_link, set_top, get_len, map_same}
+use Rattle.xc_dance.proofs.LinkedTables.LinkColumns.{set_link, set_top, get_len, map_same, member_of}
+use Rattle.xc_dance.proofs.LinkedTables.GoodLines.{link_same}
+use Rattle.std.proofs.Common.{◌⊎◌}
+use Rattle.xc_dance.specs.inner.Links.Cells.{slot_of}
 use Rattle.xc_dance.proofs.MoveLemmas.Shortened.{rises_listed}
 use Rattle.xc_dance.specs.declared.links.nodes.TheConstants.{SPACER}
 
@@ -118,10 +121,7 @@ pub held_each : (P : ℕ → Type 0) (j : ℕ) (ns : List Node)
     → ((k o : ℕ) (u : Use) → slice_get ns k ≡ Some (used o u) → u.item ≡ j → P o) → AllByRecursion P (held j ns)
 held_each P j [] h = tt
 held_each P j (used o u ∷ ns) h =
-    elim (eqb u.item j) as (λ b. eqb u.item j ≡ b → AllByRecursion P (cond b (o ∷ held j ns) (held j ns))) [
-      | true ↦ λ f. (h 0 o u refl (eqb-true u.item j f), held_each P j ns (λ k o u e f. h (suc k) o u e f))
-      | false ↦ λ f. held_each P j ns (λ k o u e f. h (suc k) o u e f)
-    ] refl
+    let rest = held_each P j ns (λ k o u e f. h (suc k) o u e f) in grind (arith, common_steps, eqb-true, h 0 o u refl)
 held_each P j (_ ∷ ns) h = held_each P j ns (λ k o u e f. h (suc k) o u e f)
 
 -- each use's option is in its item's list
@@ -143,12 +143,7 @@ held_none p j = grind (arith, common_steps, length_front, owns_hold_none)
 
 pub absent_none : (j o : ℕ) (us : List Use) → is_some (colour_in us j) ≡ false → held j (map (used o) us) ≡ []
 absent_none j o [] e = refl
-absent_none j o (u ∷ us) e =
-    elim (eqb u.item j) as (λ b. is_some (cond b (Some u.colour) (colour_in us j)) ≡ false
-    → cond b (o ∷ held j (map (used o) us)) (held j (map (used o) us)) ≡ []) [
-      | true ↦ λ f. absurd (false≢true (sym f))
-      | false ↦ λ f. absent_none j o us f
-    ] e
+absent_none j o (u ∷ us) e = grind (arith, common_steps, false≢true, absent_none j o us)
 
 -- an option that holds an item has one node of it
 pub one_use : (j o : ℕ) (us : List Use) → AreDistinct us
@@ -159,15 +154,10 @@ one_use j o (u ∷ us) d = grind (arith, common_steps, absent_none, eqb-true, on
 pub options_hold : (j : ℕ) (os : List Numbered) → AllByRecursion (λ (x : Numbered). AreDistinct x.uses) os
     → held j (flat_map nodes_of os) ≡ map (λ (o : Numbered). o.number) (holding j os)
 options_hold j [] d = refl
-options_hold j (x ∷ os) d = held-append j (nodes_of x) (flat_map nodes_of os)
-    ∙ ap (λ l. l ++ held j (flat_map nodes_of os)) (held-append j (map (used x.number) x.uses) (spacer x.number ∷ [])
-    ∙ append-nil (held j (map (used x.number) x.uses)) ∙ one_use j x.number _ d.0)
-    ∙ elim (is_some (colour_in x.uses j)) as
-    (λ b. cond b (x.number ∷ []) [] ++ held j (flat_map nodes_of os) ≡ map (λ (o : Numbered). o.number)
-    (cond b (x ∷ holding j os) (holding j os))) [
-      | true ↦ ap (λ l. x.number ∷ l) (options_hold j os d.1)
-      | false ↦ options_hold j os d.1
-    ]
+options_hold j (x ∷ os) d =
+    let here : held j (nodes_of x) ≡ cond (is_some (colour_in x.uses j)) (x.number ∷ []) [] =
+    held-append j (map (used x.number) x.uses) (spacer x.number ∷ []) ∙ append-nil _ ∙ one_use j x.number _ d.0 in
+    held-append j (nodes_of x) (flat_map nodes_of os) ∙ grind (arith, common_steps, options_hold j os d.1)
 
 pub owns_none : (j : ℕ) (js : List ℕ) (ns : List Node) → held j (map own js ++ ns) ≡ held j ns
 owns_none j [] ns = refl
@@ -306,41 +296,31 @@ none_entered p = nodes_same _ blanks (lines_of (take (item_count p + 1) (layout 
 abbrev whole : Puzzle → ℕ → Line
 whole p j = grown_all (listed_numbers p [] j)
 
-up_is : (p : Puzzle) (j o : ℕ) → is_in o (listed_numbers p [] j) ≡ true → 0 < o → (whole p j).up o ≡ up_of p [] j o
-up_is p j zero e pos = absurd (omega (arith, pos))
-up_is p j (suc o) e pos = (along _ (rises_listed p [] j)).up_in (suc o) e
+-- members stand in their lists
+slot_in : {p : Puzzle} (q : ℕ) (n : Node) {j x : ℕ} → IsFit p → slice_get (layout p) q ≡ Some n → slot_of n ≡ Some (j, x)
+    → (x ≡ 0) ⊎ ((0 < x) × (is_in x (listed_numbers p [] j) ≡ true))
+slot_in q (own i) fit e s = inl (sym (ap member_of s))
+slot_in {p} q (used o u) fit e s = grind (arith, common_steps, held_in (layout p) q o u e, held_all u.item fit, is_laid p fit)
+slot_in q _ fit e s = cc
 
-down_is : (p : Puzzle) (j o : ℕ) → is_in o (listed_numbers p [] j) ≡ true → 0 < o
-    → (whole p j).down o ≡ down_of p [] j o
-down_is p j zero e pos = absurd (omega (arith, pos))
-down_is p j (suc o) e pos = (along _ (rises_listed p [] j)).down_in (suc o) (λ z. omega (arith, z)) e
+up_is : (p : Puzzle) (j x : ℕ) → (x ≡ 0) ⊎ ((0 < x) × (is_in x (listed_numbers p [] j) ≡ true))
+    → (whole p j).up x ≡ up_of p [] j x
+up_is p j zero h = (along _ (rises_listed p [] j)).last
+up_is p j (suc o) h = grind (arith, common_steps, along (listed_numbers p [] j) (rises_listed p [] j))
 
-in_list : {p : Puzzle} (q : ℕ) {o : ℕ} {u : Use} → IsFit p → slice_get (layout p) q ≡ Some (used o u)
-    → is_in o (listed_numbers p [] u.item) ≡ true
-in_list {p} q {o} {u} fit e = ap (is_in o) (sym (held_all u.item fit)) ∙ held_in (layout p) q _ _ e
+down_is : (p : Puzzle) (j x : ℕ) → (x ≡ 0) ⊎ ((0 < x) × (is_in x (listed_numbers p [] j) ≡ true))
+    → (whole p j).down x ≡ down_of p [] j x
+down_is p j zero h = (along _ (rises_listed p [] j)).first
+down_is p j (suc o) h = grind (arith, common_steps, along (listed_numbers p [] j) (rises_listed p [] j))
 
 top_is : (p : Puzzle) (n : Node) → top_in (whole p) n ≡ top_in (line_of p []) n
 top_is p (own i) = grown_len _ ∙ length-map (listed p [] i) (λ o. o.number)
 top_is p _ = refl
-
-ulink_is : {p : Puzzle} (q : ℕ) (n : Node) → IsFit p → slice_get (layout p) q ≡ Some n
-    → ulink_in p (whole p) n ≡ ulink_in p (line_of p []) n
-ulink_is {p} q (own i) fit e = ap (link_place p i) (along _ (rises_listed p [] i)).last
-ulink_is {p} q (used o u) fit e =
-    ap (link_place p u.item) (up_is p u.item _ (in_list _ fit e) ((is_laid _ fit).nodes.numbered q o u e))
-ulink_is q _ fit e = refl
-
-dlink_is : {p : Puzzle} (q : ℕ) (n : Node) → IsFit p → slice_get (layout p) q ≡ Some n
-    → dlink_in p (whole p) n ≡ dlink_in p (line_of p []) n
-dlink_is {p} q (own i) fit e = ap (link_place p i) (along _ (rises_listed p [] i)).first
-dlink_is {p} q (used o u) fit e =
-    ap (link_place p u.item) (down_is p u.item _ (in_list _ fit e) ((is_laid _ fit).nodes.numbered q o u e))
-dlink_is q _ fit e = refl
 
 pub all_entered : (p : Puzzle) (n : ℕ) → IsFit p → length (layout p) ≤ n
     → nodes_from p (lines_of (take n (layout p))) (color_in p []) ≡ nodes_after p []
 all_entered p n fit le = nodes_same _ (lines_of (take n (layout p))) (whole p) (color_in p [])
     (λ j. ap (λ ns. lines_of ns j) (take_all n (layout p) le) ∙ ap grown_all (held_all j fit))
     ∙ same_nodes _ _ (map_same (top_in (line_of p [])) (top_in (whole p)) (layout p) (λ q m e. top_is p m))
-    (map_same (ulink_in p (line_of p [])) (ulink_in p (whole p)) (layout p) (λ q m e. ulink_is _ _ fit e))
-    (map_same (dlink_in p (line_of p [])) (dlink_in p (whole p)) (layout p) (λ q m e. dlink_is _ _ fit e)) refl
+    (map_same (ulink_in p (line_of p [])) (ulink_in p (whole p)) (layout p) (λ q m e. link_same _ _ _ _ _ (λ j x s. up_is p j x (slot_in q m fit e s))))
+    (map_same (dlink_in p (line_of p [])) (dlink_in p (whole p)) (layout p) (λ q m e. link_same _ _ _ _ _ (λ j x s. down_is p j x (slot_in q m fit e s)))) refl

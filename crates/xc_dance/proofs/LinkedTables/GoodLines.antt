@@ -209,7 +209,7 @@ line_after p t m j ks c =
 
 -- ---- tables of the same lines
 
-link_same : (p : Puzzle) (f g : ℕ → ℕ → ℕ) (fixed : ℕ) (s : Option (ℕ × ℕ))
+pub link_same : (p : Puzzle) (f g : ℕ → ℕ → ℕ) (fixed : ℕ) (s : Option (ℕ × ℕ))
     → ((j x : ℕ) → s ≡ Some (j, x) → g j x ≡ f j x) → link_at p g fixed s ≡ link_at p f fixed s
 link_same p f g fixed None h = refl
 link_same p f g fixed (Some s) h = ap (link_place p s.0) (h s.0 s.1 refl)
