@@ -21,11 +21,11 @@ use Rattle.xc_dance.specs.inner.Links.Tweaking.{CanTweakAt, CanUntweak, tweak_co
 use Rattle.xc_dance.specs.inner.Links.Cells.{color_in, dlink_in, nodes_from, nodes_after, line_of}
 use Rattle.xc_dance.specs.inner.Links.Made.{IsFitted}
 use Rattle.std.proofs.lemmas.Option.{slice_get_within}
-use Rattle.xc_dance.proofs.LinkedTables.LinkColumns.{relinked-unlinked, CanRelink-unlinked, get_down, size_from}
+use Rattle.xc_dance.proofs.LinkedTables.LinkColumns.{relinked-unlinked, CanRelink, CanRelink-unlinked, get_down, size_from}
 use Rattle.xc_dance.proofs.LinkedTables.GoodLines.{IsMember, unlinked-is, linked-is, member_cells, Named, IsGood}
 use Rattle.xc_dance.proofs.LinkedTables.GoodLines.{member, all_good, numbers_named, SameCut, line_after, tables_same}
 use Rattle.xc_dance.proofs.LinkedTables.Sweep.{Rises, stay, cuts, is_in-first, drop_first, stay_all, leave_none, cut}
-use Rattle.xc_dance.proofs.LinkedTables.Sweep.{with_line, other_items}
+use Rattle.xc_dance.proofs.LinkedTables.Sweep.{with_line, other_items, by_first}
 use Rattle.xc_dance.proofs.LinkedTables.OneOption.{left_all, all_other, line_here, line_there, gone_count}
 use Rattle.xc_dance.proofs.LinkedTables.OtherItems.{leaves, list_at, each_apart, own_apart}
 use Rattle.xc_dance.proofs.LinkedTables.Leaving.{ready_at, cut_others, leaves_own, total, total_same, total_plus}
@@ -64,16 +64,14 @@ one_only o n (x ∷ xs) le r = grind (arith, common_steps, one_only o x xs (omeg
 
 -- its own line loses the first
 pub tweak_cut : (p : Puzzle) (t : List Move) (i : ℕ) (f : HasFirst p t i) → SameCut p t (Tweak i) i (f.o ∷ [])
-tweak_cut p t i f = record {
-  test = λ x. eqb x f.o;
-  cut_is =
-      ap (λ ks. f.o ∷ ks) (sym (one_only f.o f.o f.os (omega arith) (subst (Rises 0) f.is (rises_listed p t i)).1))
-      ∙ ap (λ b. cond b (f.o ∷ filter (λ x. eqb x f.o) f.os) (filter (λ x. eqb x f.o) f.os))
-      (sym (eq-eqb f.o f.o refl)) ∙ ap (filter (λ x. eqb x f.o)) (sym f.is);
-  stay_is =
-      tweak_own p t i ∙ drop_first 0 (listed_numbers p t i) (rises_listed p t i)
-      ∙ ap (λ ks. stay (λ x. eqb x (first_of 0 ks)) (listed_numbers p t i)) f.is;
-}
+tweak_cut p t i f =
+    let rise : Rises 0 (f.o ∷ f.os) = subst (Rises 0) f.is (rises_listed p t i) in
+    record {
+      test = λ x. eqb x f.o;
+      cut_is = grind (arith, common_steps, eq-eqb, one_only f.o f.o f.os (omega arith) rise.1);
+      stay_is = tweak_own p t i ∙ drop_first 0 (listed_numbers p t i) (rises_listed p t i)
+          ∙ ap (λ ks. stay (λ x. eqb x (first_of 0 ks)) (listed_numbers p t i)) f.is;
+    }
 
 -- the options of item i's list that leave item j's by Tweaks of i
 abbrev pub to_come : Puzzle → List Move → Bool → ℕ → ℕ → List ℕ → List ℕ
@@ -106,8 +104,7 @@ come_count p t false i o fit = let e = exchanged p (color_in p t) i (o ∷ []) f
 
 come_own : (p : Puzzle) (t : List Move) (covered : Bool) (i o : ℕ) → IsFit p → 0 < o
     → to_come p t covered i i (o ∷ []) ≡ []
-come_own p t true i o fit pos = refl
-come_own p t false i o fit pos = leaves_own p t i (o ∷ []) fit (pos, tt)
+come_own p t covered i o fit pos = grind (arith, common_steps, leaves_own p t i (o ∷ []) fit (pos, tt))
 
 -- one node leaves i's list, and those of the other lines
 pub tweak_cost_is : (p : Puzzle) (t : List Move) (spans : List Span) (covered : Bool) (i : ℕ) → AreLegal p t
@@ -118,19 +115,12 @@ tweak_cost_is p t spans covered i legal fit opened pos le f =
     let ks : ℕ → List ℕ = λ j. to_come p t covered i j (f.o ∷ []) in
     let k : ℕ → List ℕ = λ j. cond (eqb i j) (f.o ∷ []) (ks j) in
     let all : leaving p t (Tweak i) ≡ total (λ j. length (k j)) 1 n = leaving_is p t (Tweak i) k (λ j r.
-    elim (eqb i j) as (λ b. eqb i j ≡ b → SameCut p t (Tweak i) j (cond b (f.o ∷ []) (ks j))) [
-      | true ↦ λ e. subst (λ m. SameCut p t (Tweak i) m (f.o ∷ [])) (eqb-true i j e) (tweak_cut p t i f)
-      | false ↦ λ e. tweak_cuts p t spans covered i j legal fit opened f r (λ g. eqb-false i j e (sym g))
-    ] refl) in
+    by_first (SameCut p t (Tweak i) j (k j)) i j
+    (λ same. grind (arith, common_steps, eq-eqb, tweak_cut p t i f))
+    (λ ne. rw (ne_eqb i j ne) (tweak_cuts p t spans covered i j legal fit opened f r (λ e. ne (sym e))))) in
     let o_pos : 0 < f.o = (subst (Rises 0) f.is (rises_listed p t i)).0 in
     let split : total (λ j. length (k j)) 1 n ≡ total (λ j. cond (eqb i j) 1 0 + length (ks j)) 1 n =
-    total_same _ _ 1 n (λ j u v.
-    elim (eqb i j) as (λ b. eqb i j ≡ b → length (cond b (f.o ∷ []) (ks j)) ≡ cond b 1 0 + length (ks j)) [
-      | true ↦ λ e. let z : length (ks j) ≡ 0 =
-          ap (λ m. length (ks m)) (sym (eqb-true i j e)) ∙ ap length (come_own p t covered i f.o fit.fit o_pos) in
-          omega (arith, z)
-      | false ↦ λ e. omega arith
-    ] refl) in
+    total_same _ _ 1 n (λ j u v. grind (arith, common_steps, eqb-true, come_own p t covered i f.o fit.fit o_pos)) in
     let sum = total_plus (λ j. cond (eqb i j) 1 0) (λ j. length (ks j)) 1 n in
     let point = total_point i 1 1 n (omega (arith, pos)) (omega (arith, le)) in
     omega (arith, all, split, sum, point, come_count p t covered i f.o fit.fit)
@@ -230,8 +220,9 @@ tweak_made p t spans covered i legal fit pos le some opened =
     let first : get_or t0.dlink i 0 ≡ x = grind (arith, common_steps, get_down, own_placed) in
     let taken : link_place p i (first_of 0 (listed_numbers p t i)) ≡ x = grind (arith, common_steps) in
     let down_long : length t0.dlink ≡ length (layout p) = length-map (layout p) (dlink_in p (line_of p t)) in
-    let back = CanRelink-unlinked u x size cells.names linked (omega (arith, count, few)) in
     let same : unlinked u x ≡ next = unlinked-is p col ln i o laid s ∙ sym end in
+    let back : CanRelink next x = subst (λ (v : Nodes). CanRelink v x) same
+    (CanRelink-unlinked u x size cells.names linked (omega (arith, count, few))) in
     let again : relinked next x ≡ u = ap (λ (v : Nodes). relinked v x) (sym same) ∙ relinked-unlinked u x linked in
     record {
       can = subst (λ k. CanTweakAt spans covered t0 i k) (sym first) (record {
@@ -243,9 +234,9 @@ tweak_made p t spans covered i legal fit pos le some opened =
       });
       done = grind (arith, common_steps);
       can_back = subst (CanUntweak spans covered next) (sym taken) (record {
-        size = subst (λ (v : Nodes). HasSize v (length v.top)) same back.size;
-        names = subst (λ (v : Nodes). NamesPlaces v x) same back.names;
-        few = subst (λ (v : Nodes). get_or v.top (get_or v.top x 0) 0 < 2 ^ 31) same back.few;
+        size = back.size;
+        names = back.names;
+        few = back.few;
         unhide =
             subst (λ (v : Nodes). covered ≡ false → (x < length spans) × CanUnhideNode spans v x) (sym again) m.unhide;
       });

@@ -7,7 +7,6 @@ use Rattle.std.proofs.lemmas.List.{append_assoc, length-map}
 use Rattle.std.proofs.lemmas.List.Sums.{fold-append}
 use Rattle.std.proofs.lemmas.List.Elements.{filter-append}
 use Rattle.std.proofs.lemmas.Option.{slice_get_within}
-use Rattle.std.proofs.lemmas.Bool.{eqb-false}
 use Rattle.std.proofs.lemmas.List.Folds.{list_any-append}
 use Rattle.xc_input.specs.Problem.{Puzzle, item_count}
 use Rattle.xc_dance.specs.declared.dance.Move.{Move}
@@ -248,19 +247,21 @@ lowered_is p col ln i o laid pos le =
     (top_kept p ln i (lowered (ln i) o) refl) (up_kept p ln i (lowered (ln i) o) (λ x. refl))
     (sym (set_link p (λ k x. (ln k).down x) (fixed_down p) i 0 o laid (own_placed p i laid pos le))) refl
 
--- and its LEN
-abbrev longer : Line → ℕ → Line
-longer l n = record { len = n; up = l.up; down = l.down }
+-- and its LEN, once all other lines are as before
+table_regained : (p : Puzzle) (t : List Move) (ln : ℕ → Line) (i n : ℕ) → IsLaid p → 0 < i → i ≤ item_count p
+    → half n (ln i) (ln i) ≡ line_of p t i → ((j : ℕ) → 0 < j → j ≤ item_count p → j ≢ i → ln j ≡ line_of p t j)
+    → with_top (nodes_from p ln (color_in p t)) i n ≡ nodes_after p t
+table_regained p t ln i n laid pos le here others =
+    let l : Line = half n (ln i) (ln i) in
+    same_nodes (with_top (nodes_from p ln (color_in p t)) i n) (nodes_from p (with_line ln i l) (color_in p t))
+    (sym (set_top p ln i l laid pos le)) (up_kept p ln i l (λ x. refl)) (down_kept p ln i l (λ x. refl)) refl
+    ∙ tables_same p (line_of p t) (with_line ln i l) (color_in p t) (color_in p t) laid
+    (λ j r. by_first (with_line ln i l j ≡ line_of p t j) i j
+    (λ same. subst (λ k. with_line ln i l k ≡ line_of p t k) same (line_here ln i l ∙ here))
+    (λ ne. line_there ln i j l (λ e. ne (sym e)) ∙ others j r.0 r.1 (λ e. ne (sym e)))) (λ m k e. refl)
 
-longer_is : (p : Puzzle) (col : Node → ℕ) (ln : ℕ → Line) (i n : ℕ) → IsLaid p → 0 < i → i ≤ item_count p
-    → with_top (nodes_from p ln col) i n ≡ nodes_from p (with_line ln i (longer (ln i) n)) col
-longer_is p col ln i n laid pos le =
-    same_nodes (with_top (nodes_from p ln col) i n) (nodes_from p (with_line ln i (longer (ln i) n)) col)
-    (sym (set_top p ln i (longer (ln i) n) laid pos le))
-    (up_kept p ln i (longer (ln i) n) (λ x. refl)) (down_kept p ln i (longer (ln i) n) (λ x. refl)) refl
-
-end_is : (l c m : Line) (n all : ℕ) → c ≡ half n m l → m ≡ l → all ≡ l.len → longer c all ≡ l
-end_is l c m n all is back long = ap (λ (k : Line). longer k all) is ∙ ap₂ (λ (k : Line) n. half n k l) back long
+end_is : (l c m : Line) (n all : ℕ) → c ≡ half n m l → m ≡ l → all ≡ l.len → half all c c ≡ l
+end_is l c m n all is back long = ap (λ (k : Line). half all k k) is ∙ ap₂ (λ (k : Line) n. half n k l) back long
 
 -- ---- all together
 
@@ -338,13 +339,5 @@ tweaks_back p t spans covered i k h legal fit pos le opened some =
     let all = get_or (nodes_from p cw.end col).top i 0 + k in
     let end_line = end_is l (cw.end i) cw.bringing.line n all cw.bringing.is cw.bringing.own
     (omega (arith, len_end, lost, h.count)) in
-    let end : with_top (nodes_from p cw.end col) i all ≡ nodes_after p t =
-    longer_is p col cw.end i all laid pos le
-    ∙ tables_same p (line_of p t) (with_line cw.end i (longer (cw.end i) all)) col col laid
-    (λ j r. elim (eqb j i) as (λ b. eqb j i ≡ b → with_line cw.end i (longer (cw.end i) all) j ≡ line_of p t j) [
-      | true ↦ λ e. subst (λ m. with_line cw.end i (longer (cw.end i) all) m ≡ line_of p t m) (sym (eqb-true j i e))
-          (line_here cw.end i (longer (cw.end i) all) ∙ end_line)
-      | false ↦ λ e. line_there cw.end i j (longer (cw.end i) all) (eqb-false j i e)
-          ∙ cw.bringing.others j r.0 r.1 (eqb-false j i e)
-    ] refl) (λ m k e. refl) in
+    let end = table_regained p t cw.end i all laid pos le end_line cw.bringing.others in
     grind (arith, common_steps, fewer, h.costs)

@@ -1,5 +1,5 @@
 -- The newest moves are Tweaks of one item: what their undoing at once finds, and what it leaves.
-use Rattle.std.proofs.Common.{◌≡◌, ℕ, zero, suc, ◌+◌, ◌-◌, ◌<◌, ◌≤◌, inr, Bool, true, not, List, [], ◌∷◌, ◌++◌, length}
+use Rattle.std.proofs.Common.{◌≡◌, ℕ, zero, suc, ◌+◌, ◌-◌, ◌<◌, ◌≤◌, Bool, not, List, [], ◌∷◌, ◌++◌, length}
 use Rattle.std.proofs.Common.{map, drop, take, reverse, get_or, refl, ap, ap₂, sym, subst, ◌∙◌, arith, length-append}
 use Rattle.std.proofs.lemmas.Grind.{common_steps}
 use Rattle.std.specs.Prelude.{replicate}
@@ -10,25 +10,23 @@ use Rattle.xc_dance.specs.declared.dance.Move.{Move}
 use Rattle.xc_dance.specs.declared.dance.Move.TheVariants.{Tweak}
 use Rattle.xc_dance.specs.inner.Links.Span.{Span}
 use Rattle.xc_input.specs.Problem.{Puzzle, item_count}
-use Rattle.xc_dance.specs.Moves.{AreTweaks, AreLegal, is_covered, is_open, purified, listed_numbers}
-use Rattle.xc_dance.specs.Fields.{layout, link_place, first_of, is_in}
+use Rattle.xc_dance.specs.Moves.{AreTweaks, AreLegal, is_covered, is_open, purified, listed_numbers, listed}
+use Rattle.xc_dance.specs.Fields.{layout, link_place, first_of}
 use Rattle.xc_dance.specs.declared.links.nodes.Nodes.{Nodes}
 use Rattle.xc_dance.specs.Cost.{undo_tweaks_cost}
 use Rattle.xc_dance.specs.declared.links.items.Items.{Items}
 use Rattle.xc_dance.specs.inner.Links.Rings.{is_off}
 use Rattle.xc_dance.specs.inner.Links.Taken.{taken_nodes}
-use Rattle.xc_dance.specs.inner.Links.Cells.{top_in, line_of, nodes_after}
+use Rattle.xc_dance.specs.inner.Links.Cells.{line_of, nodes_after}
 use Rattle.xc_dance.specs.inner.Links.ItemCells.{items_after}
-use Rattle.xc_dance.specs.inner.Links.Laid.{IsLaid}
+use Rattle.xc_dance.specs.inner.Links.Laid.{IsLaid, IsFit}
 use Rattle.xc_dance.specs.inner.Links.Made.{IsFitted, CanTell}
 use Rattle.std.proofs.lemmas.Option.{slice_get_within}
 use Rattle.xc_dance.proofs.LinkedTables.LinkColumns.{get_item}
-use Rattle.xc_dance.proofs.LinkedTables.Sweep.{in_above, is_in-first}
-use Rattle.xc_dance.proofs.LinkedTables.GoodLines.{Named, numbers_named}
-use Rattle.xc_dance.proofs.MoveLemmas.Shortened.{rises_listed}
-use Rattle.xc_dance.proofs.MoveLemmas.Members.{element_of}
 use Rattle.xc_dance.proofs.LinkedTables.MoveStep.{still_items, off_is}
 use Rattle.xc_dance.proofs.MoveLemmas.StateLemmas.{open_or_covered}
+use Rattle.xc_dance.proofs.LinkedTables.TweakStep.{HasFirst, has_first}
+use Rattle.xc_dance.proofs.LinkedTables.GoodLines.{IsGood, all_good, member}
 use Rattle.xc_dance.proofs.LinkedTables.TweaksBack.{tweaks, kept, Tweaked, tweaked, Undoes, first_place, tweaks_back}
 
 pub tweaks_are : (k i : ℕ) (s : List Move) → k ≤ length s → take k s ≡ replicate k (Tweak i) → s ≡ tweaks k i (drop k s)
@@ -81,22 +79,14 @@ pub record FirstNode (p : Puzzle) (s t : List Move) (i : ℕ) : Type 0 where
   pub within : first_place p t i < length (nodes_after p s).top
   pub item : get_or (nodes_after p s).top (first_place p t i) 0 ≡ i
 
-first_node : (p : Puzzle) (s t : List Move) (i : ℕ) (os rest : List ℕ) → IsLaid p → 0 < i → i ≤ item_count p
-    → 0 < length os → listed_numbers p t i ≡ os ++ rest → FirstNode p s t i
-first_node p s t i [] rest laid pos le some l = absurd (omega (arith, some))
-first_node p s t i (o ∷ os) rest laid pos le some l =
-    let is : first_of 0 (listed_numbers p t i) ≡ o = ap (first_of 0) l in
-    let in_list = subst (λ ks. is_in o ks ≡ true) (sym l) (is_in-first o (os ++ rest)) in
-    let o_pos : 0 < o = in_above 0 o (listed_numbers p t i) (rises_listed p t i) in_list in
-    let named : Named p i o = element_of (Named p i) o (listed_numbers p t i) (numbers_named p t i) in_list in
-    let here = laid.there i o pos le (inr (o_pos, named)) in
-    let at = slice_get_within (layout p) (link_place p i o) here.node here.at in
-    let long : length (map (top_in (line_of p s)) (layout p)) ≡ length (layout p) =
-    grind (arith, common_steps, length-map) in
-    record {
-      within = subst (λ n. link_place p i n < length (nodes_after p s).top) (sym is) (omega (arith, at, long));
-      item = ap (λ n. get_or (nodes_after p s).top (link_place p i n) 0) is ∙ get_item p (line_of p s) i o here o_pos;
-    }
+first_node : (p : Puzzle) (s t : List Move) (i : ℕ) → IsLaid p → IsFit p → 0 < i → i ≤ item_count p → HasFirst p t i
+    → FirstNode p s t i
+first_node p s t i laid fit pos le f =
+    let m = member p i (line_of p t i) [] f.o f.os pos le (subst (IsGood p i (line_of p t i)) f.is (all_good p t fit i pos le)) in
+    let here = laid.there i f.o pos le m.name in
+    let at = slice_get_within (layout p) (link_place p i f.o) here.node here.at in
+    let item = get_item p (line_of p s) i f.o here m.pos in
+    grind (arith, common_steps, length-map, ap (first_of 0) f.is)
 
 -- the moves s are t and k Tweaks of item i
 pub record Found (p : Puzzle) (s t : List Move) (spans : List Span) (i k : ℕ) (xs : List ℕ) : Type 0 where
@@ -123,10 +113,12 @@ found_by p t spans i k xs legal fit e =
     let tw = tweaked p t spans covered i (suc k) legal fit opened in
     let off = off_is p s i legal pos le in
     let some : 0 < suc k = omega arith in
+    let first = length-map (listed p t i) (λ o. o.number) in
+    let long = ap length tw.list ∙ length-append tw.os (listed_numbers p s i) in
     record {
       legal = before;
       taken = taken_last p t covered i (suc k) xs some tw e;
-      node = first_node p s t i tw.os (listed_numbers p s i) fit.laid pos le (omega (arith, tw.count)) tw.list;
+      node = first_node p s t i fit.laid fit.fit pos le (has_first p t i (omega (arith, first, tw.count, long)));
       tell = (off.place, off.left);
       off = off.is ∙ kept (is_covered i) i t (λ s. refl) (suc k);
       back = tweaks_back p t spans covered i (suc k) tw before fit pos le opened some;
