@@ -1,13 +1,13 @@
 -- Down the nodes that Tweaks of one item took off: each option comes back into the lists of its other items, and into
 -- its own.
-use Rattle.std.proofs.Common.{◌≡◌, ◌≢◌, ℕ, ◌+◌, ◌<◌, ◌≤◌, ◌^◌, true, false, cond, ◌||◌, eqb, List, [], ◌∷◌, length, map}
+use Rattle.std.proofs.Common.{◌≡◌, ◌≢◌, ℕ, ◌+◌, ◌<◌, ◌≤◌, ◌^◌, true, false, cond, List, [], ◌∷◌, length, map}
 use Rattle.std.proofs.Common.{fold, get_or, set, refl, ap, sym, subst, ◌∙◌, arith, eqb-true, eq-eqb, inr, Bool}
 use Rattle.std.proofs.Common.{not, ◌&&◌, ◌++◌, filter, reverse, ap₂}
 use Rattle.std.proofs.lemmas.Grind.{common_steps}
 use Rattle.std.proofs.lemmas.Bool.{false≢true, and_parts}
 use Rattle.std.proofs.lemmas.List.{length-map}
 use Rattle.std.proofs.lemmas.Option.{slice_get_within}
-use Rattle.std.proofs.Math.Bool.{or-true}
+use Rattle.std.proofs.lemmas.List.Folds.{list_any-append}
 use Rattle.xc_input.specs.Problem.{Puzzle, item_count, uses_of}
 use Rattle.xc_dance.specs.declared.links.nodes.Nodes.{Nodes}
 use Rattle.xc_dance.specs.Fields.{Node, layout, link_place, is_in}
@@ -191,10 +191,6 @@ apart_behind : (js ks : List ℕ) → AllApart (js ++ ks) → AllApart ks
 apart_behind [] ks h = h
 apart_behind (j ∷ js) ks h = apart_behind js ks h.1
 
-in_behind : (j : ℕ) (js ks : List ℕ) → is_in j ks ≡ true → is_in j (js ++ ks) ≡ true
-in_behind j [] ks e = e
-in_behind j (i ∷ js) ks e = ap (λ b. eqb i j || b) (in_behind j js ks e) ∙ or-true (eqb i j)
-
 opened_open : {p : Puzzle} {t : List Move} {spans : List Span} {i n : ℕ} {ln : ℕ → Line} {o : ℕ} {os : List ℕ}
     → AreLegal p t → IsFitted p spans → is_open i t ≡ true → 0 < o → Named p i o → is_in o (listed_numbers p t i) ≡ true
     → BringingBack p t false i n ln (o ∷ os) → Opened p t spans false i ln o os
@@ -236,7 +232,7 @@ opened_open {p} {t} {spans} {i} {ln} {o} {os} legal fit opened o_pos named withi
     let before = before_use i (uses_of p o) in
     let mid = unhidden_walk p col ln o (reverse before) laid o_pos
     (apart_reverse before (apart_behind (behind_use i (uses_of p o)) before (others_apart p o i fit.fit)))
-    (λ j e. returning j (in_behind j (behind_use i (uses_of p o)) before (sym (in_reverse j before) ∙ e))) in
+    (λ j e. returning j (grind (arith, common_steps, list_any-append, in_reverse))) in
     let place : ℕ → ℕ = λ j. link_place p j o in
     let ln1 : ℕ → Line = back_all p col o ln back in
     let at : (j : ℕ) → ln1 j ≡ cond (leaves p col i j o) (mended (ln j) o) (ln j) =

@@ -158,17 +158,10 @@ low_most {p} (suc k) valid = low_high _ _ (recursion_from_All AreSoundBounds p.b
 
 below_range : (other i a n : ℕ) → i ≤ a + n → last_below other i (range_with_len a n) ≡ cond (ltb a i) (i - 1) other
 below_range other i a zero le = rw (le-ltb a i (omega (arith, le))) refl
-below_range other i a (suc n) le = grind (
-  arith,
-  common_steps,
-  last_below-more,
-  ltb-true,
-  ltb-false,
-  lt-ltb,
-  le-ltb,
-  below_range a i (a + 1) n (omega (arith, le)),
-  below_range other i (a + 1) n (omega (arith, le)),
-)
+below_range other i a (suc n) le =
+    let inner = below_range a i (a + 1) n (omega (arith, le)) in
+    let outer = below_range other i (a + 1) n (omega (arith, le)) in
+    grind (arith, common_steps, last_below-more, ltb-true, ltb-false, lt-ltb, le-ltb)
 
 above_range : (other i a n : ℕ) → a ≤ i + 1
     → first_above other i (range_with_len a n) ≡ cond (ltb (i + 1) (a + n)) (i + 1) other

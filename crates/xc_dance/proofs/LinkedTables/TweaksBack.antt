@@ -36,7 +36,7 @@ use Rattle.xc_dance.proofs.LinkedTables.Leaving.{leaves_are, tweak_own, AreOf}
 use Rattle.xc_dance.proofs.LinkedTables.TweakStep.{has_first, tweak_cut, tweak_colours, tweak_cost_is, to_come}
 use Rattle.xc_dance.proofs.LinkedTables.TweakStep.{back_writes, tweak_cuts}
 use Rattle.xc_dance.proofs.LinkedTables.BringBack.{BringingBack, bring_back_step, half, top_kept, down_kept}
-use Rattle.xc_dance.proofs.LinkedTables.OneOption.{gone_count, line_there, line_here}
+use Rattle.xc_dance.proofs.LinkedTables.OneOption.{line_there, line_here}
 use Rattle.xc_dance.proofs.LinkedTables.HideMoves.{own_placed, follow_down}
 use Rattle.xc_dance.proofs.MoveLemmas.Shortened.{rises_listed}
 use Rattle.xc_dance.proofs.MoveLemmas.Members.{element_of, in_filter, same_members}
@@ -79,18 +79,6 @@ pub record Tweaked (p : Puzzle) (t : List Move) (covered : Bool) (i k : ℕ) : T
   pub taken : taken_nodes p (tweaks k i t) ≡ reverse (map (link_place p i) os) ++ taken_nodes p t
   pub costs : cost_of_newest k p (tweaks k i t) ≡ tweak_writes p (color_in p t) covered i os
 
-come_same : (p : Puzzle) (t s : List Move) (covered : Bool) (i j : ℕ) (os : List ℕ)
-    → map (color_in p s) (layout p) ≡ map (color_in p t) (layout p)
-    → to_come p s covered i j os ≡ to_come p t covered i j os
-come_same p t s covered i j os same =
-    ap (λ (cs : List ℕ).
-    filter (λ o. not covered && (is_in j (other_items p o i) && not (eqb (get_or cs (link_place p j o) 0) MARK))) os) same
-
-gone_alike : (p : Puzzle) (col now : Node → ℕ) (i o : ℕ) → map now (layout p) ≡ map col (layout p)
-    → gone_count p now i o ≡ gone_count p col i o
-gone_alike p col now i o e =
-    ap (λ (cs : List ℕ). length (filter (λ j. not (eqb (get_or cs (link_place p j o) 0) MARK)) (other_items p o i))) e
-
 pub colours_kept : (p : Puzzle) (i : ℕ) (t : List Move) (k : ℕ)
     → map (color_in p (tweaks k i t)) (layout p) ≡ map (color_in p t) (layout p)
 colours_kept p i t = kept (λ s. map (color_in p s) (layout p)) i t
@@ -125,7 +113,8 @@ tweaked p t spans covered i (suc k) legal fit opened =
           ∙ sym (fold-append cut (line_of p t i) os (o ∷ []));
       others = λ j jpos jle ne.
           let one = to_come p t covered i j (o ∷ []) in
-          line_after p s (Tweak i) j one (subst (SameCut p s (Tweak i) j) (come_same p t s covered i j (o ∷ []) same)
+          line_after p s (Tweak i) j one (subst (λ (cs : List ℕ). SameCut p s (Tweak i) j (filter (λ o. not covered
+          && (is_in j (other_items p o i) && not (eqb (get_or cs (link_place p j o) 0) MARK))) (o ∷ []))) same
           (tweak_cuts p s spans covered i j legal.1 fit opened_s f (jpos, jle) ne))
           ∙ ap (λ (m : Line). cuts m one) (h.others j jpos jle ne)
           ∙ sym (ap (cuts (line_of p t j)) (filter-append (λ o. not covered && leaves p (color_in p t) i j o) os (o ∷ []))
@@ -134,7 +123,8 @@ tweaked p t spans covered i (suc k) legal fit opened =
       costs =
           let one = tweak_cost_is p s spans covered i legal.1 fit opened_s pos legal.0.0.1 f in
           let alike : back_writes p (color_in p s) covered i o ≡ back_writes p (color_in p t) covered i o =
-          ap (λ n. cond covered 0 (3 * n)) (gone_alike p (color_in p t) (color_in p s) i o same) in
+          ap (λ (cs : List ℕ). cond covered 0 (3 * length (filter (λ j. not (eqb (get_or cs (link_place p j o) 0) MARK))
+          (other_items p o i)))) same in
           omega (arith, one, alike, h.costs, tweak_writes-append p (color_in p t) covered i os o);
     }
 
@@ -177,15 +167,10 @@ bring_back_walk p t spans covered i n ln a (o ∷ os) rest legal fit pos le open
     (λ z e. among z (in_more o z os e)) linked.3 s.bringing in
     let x_in = slice_get_within (layout p) (link_place p i o) here.node here.at in
     let down_is : (s.ln' i).down o ≡ (line_of p t i).down o = ap (λ (l : Line). l.down o) s.bringing.is in
-    grind (
-      arith,
-      common_steps,
-      ap (link_place p i) linked.1,
-      map (link_place p i) os,
-      get_down p s.ln' i o here ∙ ap (link_place p i) down_is,
-      length-map (layout p) (dlink_in p s.ln'),
-      nodes_from p s.ln' col,
-    )
+    let first = ap (link_place p i) linked.1 in
+    let next = get_down p s.ln' i o here ∙ ap (link_place p i) down_is in
+    let long = length-map (layout p) (dlink_in p s.ln') in
+    grind (arith, common_steps, map (link_place p i) os, nodes_from p s.ln' col)
 
 -- ---- some Tweaks of one item undone at once: from the node table after them to that before
 

@@ -1,6 +1,6 @@
 -- The newest moves are Tweaks of one item: what their undoing at once finds, and what it leaves.
 use Rattle.std.proofs.Common.{◌≡◌, ℕ, zero, suc, ◌+◌, ◌-◌, ◌<◌, ◌≤◌, Bool, not, List, [], ◌∷◌, ◌++◌, length}
-use Rattle.std.proofs.Common.{map, drop, take, reverse, get_or, refl, ap, ap₂, sym, subst, ◌∙◌, arith, length-append}
+use Rattle.std.proofs.Common.{map, drop, take, reverse, get_or, refl, ap, sym, subst, ◌∙◌, arith, length-append}
 use Rattle.std.proofs.lemmas.Grind.{common_steps}
 use Rattle.std.specs.Prelude.{replicate}
 use Rattle.std.proofs.lemmas.List.{reverse-append, reverse-reverse, length-reverse, length-drop, length-map}
@@ -43,12 +43,9 @@ pub turned_drop : {X : Type 0} (xs : List X) (k : ℕ) → k ≤ length xs
     → reverse (take (length xs - k) xs) ≡ drop k (reverse xs)
 turned_drop xs k h =
     let m = length xs - k in
-    let a = take m xs in
-    let b = drop m xs in
-    let whole : reverse xs ≡ reverse b ++ reverse a = ap reverse (sym (take-append-drop m xs)) ∙ reverse-append a b in
-    let long : length (reverse b) ≡ k =
-    let u = length-reverse b in let v = length-drop m xs in omega (arith, u, v, h) in
-    sym (drop-append_seam (reverse b) (reverse a)) ∙ ap₂ drop long (sym whole)
+    let whole = ap reverse (sym (take-append-drop m xs)) ∙ reverse-append (take m xs) (drop m xs) in
+    let long = length-reverse (drop m xs) ∙ length-drop m xs in
+    grind (arith, common_steps, drop-append_seam (reverse (drop m xs)) (reverse (take m xs)))
 
 -- the nodes that they took off stand last
 pub record TakenLast (p : Puzzle) (t : List Move) (i k : ℕ) (xs : List ℕ) : Type 0 where
