@@ -71,14 +71,14 @@ past_covered p (Cover k ∷ t) i legal pos le e =
     elim (eqb i k) as (λ b. eqb i k ≡ b → (b || is_covered i t) ≡ true → (l < item_count p + 2) × (next ≢ i)) [
       | true ↦ λ f g.
           let same : i ≡ k = eqb-true i k f in
-          let side = link_beside p false t i (omega (arith, le)) (λ _ _. (ap (λ j. is_covered j t) same ∙ un)) in
+          let side = link_beside p false t i legal.1 (omega (arith, le)) (λ _ _. (ap (λ j. is_covered j t) same ∙ un)) in
           let ne = link_other p true t k k_pos k_le un in grind (arith, common_steps, eq-eqb)
       | false ↦ λ f g.
-          let r = link_beside p true t k (omega (arith, k_le)) (λ _ _. un) in
+          let r = link_beside p true t k legal.1 (omega (arith, k_le)) (λ _ _. un) in
           let r_ne : rlink_at p t k ≢ i = λ s. false≢true (sym (subst (Stays p t) s r.stays pos le) ∙ g) in
           grind (arith, common_steps, past_covered p t i legal.1 pos le g)
     ] refl e in
-    let leads = ap (rlink_at p (Cover k ∷ t)) gone ∙ link_next p true t k k_pos k_le un l beyond.0 in
+    let leads = ap (rlink_at p (Cover k ∷ t)) gone ∙ link_next p true t k legal.1 k_pos k_le un l beyond.0 in
     record { place = omega (arith, gone, beyond.0); past = λ h. beyond.1 (sym leads ∙ h) }
 past_covered p (m ∷ t) i legal pos le e = still_past p t m i (λ q. refl) (past_covered p t i legal.1 pos le e)
 
@@ -98,8 +98,8 @@ off_is p t i legal pos le =
     elim (is_covered i t) as (λ b. is_covered i t ≡ b → (l < n) × (eqb (rlink_at p t l) i ≡ not b)) [
       | true ↦ λ e. let h = past_covered p _ _ legal pos le e in (h.place, ne_eqb (rlink_at p t l) i h.past)
       | false ↦ λ e.
-          let side = link_beside p false t _ within (λ _ _. e) in
-          (side.place, eq-eqb (rlink_at p t l) i (link_back p false t _ within (λ _ _. e)))
+          let side = link_beside p false t _ legal within (λ _ _. e) in
+          (side.place, eq-eqb (rlink_at p t l) i (link_back p false t _ legal within (λ _ _. e)))
     ] refl in
     let get_r = ap (λ k. get_or (items_after p t).rlink k 0) get_l ∙ row_get (rlink_at p t) _ _ both.0 in
     grind (arith, common_steps, row_len)
@@ -146,7 +146,7 @@ pub move_step : {p : Puzzle} (t : List Move) {spans : List Span} (m : Move) → 
 move_step {p} t {spans} (Cover i) legal may f =
     let pos : 0 < i = omega (arith, may.0.0) in
     let w = walk_made p t spans (Cover i) i None (color_in p t) legal f pos may.0.1 may.1 (cover_hides p t i) in
-    grind (arith, common_steps, cover_writes, ring_step p t i may)
+    grind (arith, common_steps, cover_writes, ring_step p t i legal may)
 move_step {p} t {spans} (Purify i c) legal may f =
     let still = still_items p t (Purify i c) (record { covered = λ q. refl; spent = λ q. refl }) in
     grind (arith, common_steps, purify_made p t spans i c legal f (omega (arith, may.0.0)) may.0.1 may.1)

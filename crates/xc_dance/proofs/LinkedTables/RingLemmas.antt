@@ -1,103 +1,78 @@
--- The way through a list of numbers that are apart: what stands behind each of them, also on the way back, and also
--- where one has left. For the rings of items.
-use Rattle.std.proofs.Common.{◌≡◌, ◌≢◌, ℕ, ◌⊎◌, true, false, cond, eqb, List, [], ◌∷◌, ◌++◌}
-use Rattle.std.proofs.Common.{reverse, refl, ap, sym, ◌∙◌, arith, eq-eqb, ne_eqb, eqb-true}
+-- In numbers that rise: what stands beside one of them, or at an end, once another has left. For the rings of items.
+use Rattle.std.proofs.Common.{◌≡◌, ◌≢◌, ℕ, ◌≤◌, Bool, true, false, cond, eqb, List, [], ◌∷◌, refl, arith, eqb-true, ne_eqb}
 use Rattle.std.proofs.lemmas.Grind.{common_steps}
-use Rattle.std.proofs.lemmas.Bool.{false≢true, eqb-false}
 use Rattle.xc_dance.specs.Fields.{last_below, first_above, first_of, last_of, is_in}
-use Rattle.xc_dance.proofs.LinkedTables.Sweep.{Rises, stay, is_in-first, by_first, in_more, stay_same, last_of-more}
-use Rattle.xc_dance.proofs.LinkedTables.Sweep.{out_rest, is_in-other, above, below, members}
-use Rattle.xc_dance.proofs.LinkedTables.OneOption.{AllApart}
-use Rattle.xc_dance.proofs.LinkedTables.OtherItems.{out_of, in_reverse}
+use Rattle.xc_dance.proofs.LinkedTables.Sweep.{Rises, Rises-filter, stay, stay_same, above, below, members, first_above-first}
+use Rattle.xc_dance.proofs.LinkedTables.Sweep.{last_below-more, last_below-none}
+use Rattle.std.proofs.Common.{not, ltb, ltb-true, ltb-false, ◌<◌}
 
 abbrev pub less : ℕ → List ℕ → List ℕ
 less i xs = stay (λ x. eqb x i) xs
 
--- behind q on the way through these numbers to e
-abbrev pub behind : ℕ → ℕ → List ℕ → ℕ
-behind e q [] = e
-behind e q (y ∷ ys) = cond (eqb y q) (first_of e ys) (behind e q ys)
+-- where the link to the right, or to the left, of place q leads in a ring with this head
+abbrev pub beside : Bool → ℕ → ℕ → List ℕ → ℕ
+beside true h q xs = cond (eqb q h) (first_of h xs) (first_above h q xs)
+beside false h q xs = cond (eqb q h) (last_of h xs) (last_below h q xs)
 
-first_push : (e y : ℕ) (ys : List ℕ) → first_of e (ys ++ y ∷ []) ≡ first_of y ys
-first_push e y [] = refl
-first_push e y (z ∷ zs) = refl
+above_other : (h q i : ℕ) (xs : List ℕ) → h ≢ i → is_in i xs ≡ false → first_above h q xs ≢ i
+above_other h q i [] ne out = ne
+above_other h q i (y ∷ ys) ne out = grind (arith, common_steps, members, above_other h q i ys ne)
 
-behind_push : (e y q : ℕ) (ys : List ℕ) → behind e q (ys ++ y ∷ []) ≡ cond (is_in q ys) (behind y q ys) e
-behind_push e y q [] = grind (arith, common_steps)
-behind_push e y q (z ∷ zs) = grind (arith, common_steps, first_push, behind_push e y q zs)
+above_less : (h q i n : ℕ) (xs : List ℕ) → Rises n xs → h ≢ i
+    → first_above h q (less i xs) ≡ cond (eqb (first_above h q xs) i) (first_above h i xs) (first_above h q xs)
+above_less h q i n [] r ne = grind (arith, common_steps, ne_eqb)
+above_less h q i n (y ∷ ys) r ne =
+    grind (arith, common_steps, above, members, ne_eqb, stay_same, above_other, above_less h q i y ys r.1 ne)
 
--- ---- in a list that rises it is the first number above, and on the way back the last below
+last_high : (h n : ℕ) (xs : List ℕ) → Rises h xs → h ≤ last_of h xs
+last_high h n [] r = omega arith
+last_high h n (y ∷ ys) r = grind (arith, common_steps, below, last_high y n ys r.1)
 
-pub behind_above : (e q n : ℕ) (xs : List ℕ) → Rises n xs → is_in q xs ≡ true → behind e q xs ≡ first_above e q xs
-behind_above e q n [] r h = absurd (false≢true h)
-behind_above e q n (y ∷ ys) r h =
-    grind (arith, common_steps, above, members, eqb-false, eqb-true, behind_above e q y ys r.1)
+last_less : (h i n : ℕ) (xs : List ℕ) → Rises n xs → h ≢ i
+    → last_of h (less i xs) ≡ cond (eqb (last_of h xs) i) (last_below h i xs) (last_of h xs)
+last_less h i n [] r ne = grind (arith, common_steps, ne_eqb)
+last_less h i n (y ∷ []) r ne = grind (arith, common_steps, below, members, ne_eqb, eqb-true, stay_same)
+last_less h i n (y ∷ z ∷ zs) r ne =
+    grind (arith, common_steps, below, members, ne_eqb, eqb-true, stay_same, last_high z z zs r.1.1, last_less y i y (z ∷ zs) r.1)
 
-pub first_back : (e : ℕ) (xs : List ℕ) → first_of e (reverse xs) ≡ last_of e xs
-first_back e [] = refl
-first_back e (y ∷ ys) = grind (arith, common_steps, first_push, last_of-more, first_back y ys)
+below_high : (h q : ℕ) (xs : List ℕ) → Rises h xs → h ≤ last_below h q xs
+below_high h q [] r = omega arith
+below_high h q (y ∷ ys) r = grind (arith, common_steps, below, below_high y q ys r.1)
 
-pub behind_below : (e q n : ℕ) (xs : List ℕ) → Rises n xs → is_in q xs ≡ true
-    → behind e q (reverse xs) ≡ last_below e q xs
-behind_below e q n [] r h = absurd (false≢true h)
-behind_below e q n (y ∷ ys) r h =
-    grind (arith, common_steps, below, members, behind_push, in_reverse, behind_below y q y ys r.1)
+below_over : (h q i y : ℕ) (ys : List ℕ) → Rises y ys → h ≢ i → y < q
+    → (y ≢ i → last_below y q (less i ys) ≡ cond (eqb (last_below y q ys) i) (last_below y i ys) (last_below y q ys))
+    → last_below h q (less i (y ∷ ys)) ≡
+    cond (eqb (last_below h q (y ∷ ys)) i) (last_below h i (y ∷ ys)) (last_below h q (y ∷ ys))
+below_over h q i y [] r ne lt rest = grind (arith, common_steps, below, members, ne_eqb, eqb-true)
+below_over h q i y (z ∷ zs) r ne lt rest =
+    let high = below_high y q (z ∷ zs) r in
+    let high' = below_high z q zs r.1 in
+    let none = last_below-none i q z zs in
+    grind (arith, common_steps, below, members, ne_eqb, eqb-true, stay_same)
 
--- ---- what is behind a number
+below_less : (h q i n : ℕ) (xs : List ℕ) → Rises n xs → h ≢ i
+    → last_below h q (less i xs) ≡ cond (eqb (last_below h q xs) i) (last_below h i xs) (last_below h q xs)
+below_less h q i n [] r ne = grind (arith, common_steps, ne_eqb)
+below_less h q i n (y ∷ ys) r ne = elim (ltb y q) as (λ b. ltb y q ≡ b → last_below h q (less i (y ∷ ys)) ≡
+    cond (eqb (last_below h q (y ∷ ys)) i) (last_below h i (y ∷ ys)) (last_below h q (y ∷ ys))) [
+      | true ↦ λ e. below_over h q i y ys r.1 ne (ltb-true y q e) (λ ni. below_less y q i y ys r.1 ni)
+      | false ↦ λ e.
+          let none = last_below-none h q y ys (ltb-false y q e) r.1 in
+          let none' = last_below-none h q y (less i ys) (ltb-false y q e) (Rises-filter (λ x. not (eqb x i)) y ys r.1) in
+          grind (arith, common_steps, ne_eqb)
+    ] refl
 
-first_within : (e : ℕ) (ys : List ℕ) → is_in (first_of e ys) (e ∷ ys) ≡ true
-first_within e [] = is_in-first e []
-first_within e (y ∷ ys) = in_more e y (y ∷ ys) (is_in-first y ys)
+pub beside_less : (d : Bool) (h q i : ℕ) (xs : List ℕ) → Rises 0 xs → h ≢ i
+    → beside d h q (less i xs) ≡ cond (eqb (beside d h q xs) i) (beside d h i xs) (beside d h q xs)
+beside_less true h q i xs r ne =
+    let first = first_above-first h 0 0 xs (omega arith) r in
+    let first' = first_above-first h 0 0 (less i xs) (omega arith) (Rises-filter (λ x. not (eqb x i)) 0 xs r) in
+    grind (arith, common_steps, ne_eqb, above_less h q i 0 xs r ne, above_less h 0 i 0 xs r ne)
+beside_less false h q i xs r ne =
+    grind (arith, common_steps, ne_eqb, last_less h i 0 xs r ne, below_less h q i 0 xs r ne)
 
-pub behind_within : (e q : ℕ) (ys : List ℕ) → is_in (behind e q ys) (e ∷ ys) ≡ true
-behind_within e q [] = is_in-first e []
-behind_within e q (y ∷ ys) = grind (arith, common_steps, first_within, behind_within e q ys)
-
--- so also on the way round from h to h
-pub round_within : (h q : ℕ) (ys : List ℕ) → is_in (behind h q (h ∷ ys)) (h ∷ ys) ≡ true
-round_within h q ys = grind (arith, common_steps, behind_within, first_within)
-
-first_other : (e q : ℕ) (ys : List ℕ) → e ≢ q → is_in q ys ≡ false → first_of e ys ≢ q
-first_other e q [] ne out = ne
-first_other e q (y ∷ ys) ne out = out_rest y q ys out
-
-pub behind_other : (e q : ℕ) (ys : List ℕ) → AllApart ys → e ≢ q → behind e q ys ≢ q
-behind_other e q [] apart ne = ne
-behind_other e q (y ∷ ys) apart ne = elim (eqb y q) as (λ b. eqb y q ≡ b → cond b (first_of e ys) (behind e q ys) ≢ q) [
-  | true ↦ λ f. first_other e q ys ne (ap (λ k. is_in k ys) (sym (eqb-true y q f)) ∙ out_of y ys apart.0)
-  | false ↦ λ f. behind_other e q ys apart.1 ne
-] refl
-
--- ---- one has left
-
-first_less : (e i : ℕ) (ys : List ℕ) → AllApart ys → e ≢ i
-    → first_of e (less i ys) ≡ cond (eqb (first_of e ys) i) (behind e i ys) (first_of e ys)
-first_less e i [] apart ne = rw (ne_eqb e i ne) refl
-first_less e i (y ∷ ys) apart ne = grind (arith, common_steps, eqb-false, eqb-true, false≢true, out_of, stay_same)
-
-pub behind_less : (e i q : ℕ) (ys : List ℕ) → AllApart ys → e ≢ i → q ≢ i
-    → behind e q (less i ys) ≡ cond (eqb (behind e q ys) i) (behind e i ys) (behind e q ys)
-behind_less e i q [] apart ne nq = rw (ne_eqb e i ne) refl
-behind_less e i q (y ∷ ys) apart ne nq =
-    by_first (behind e q (less i (y ∷ ys)) ≡ cond (eqb (behind e q (y ∷ ys)) i) (behind e i (y ∷ ys))
-    (behind e q (y ∷ ys))) y i (λ same.
-    let out : is_in i ys ≡ false = ap (λ k. is_in k ys) (sym same) ∙ out_of y ys apart.0 in
-    let no : behind e q ys ≢ i = λ s. false≢true (sym (is_in-other e i ys ne ∙ out)
-    ∙ ap (λ k. is_in k (e ∷ ys)) (sym s) ∙ behind_within e q ys) in
-    rw (eq-eqb y i same, ne_eqb y q (λ s. nq (sym s ∙ same)), ne_eqb (behind e q ys) i no)
-    (ap (behind e q) (stay_same i ys (λ f. false≢true (sym out ∙ f)))))
-    (λ other. grind (arith, common_steps, ne_eqb, first_less, behind_less e i q ys apart.1 ne nq))
-
--- ---- there and back
-
--- from a on through the numbers to e
-round_from : (a e q : ℕ) (ys : List ℕ) → AllApart (a ∷ ys) → is_in q (a ∷ ys) ≡ true
-    → ((behind e q (a ∷ ys) ≡ e) × (first_of a (reverse ys) ≡ q))
-    ⊎ ((is_in (behind e q (a ∷ ys)) ys ≡ true) × (behind a (behind e q (a ∷ ys)) (reverse ys) ≡ q))
-round_from a e q [] apart h = grind (arith, common_steps, eqb-true)
-round_from a e q (y ∷ ys) apart h =
-    grind (arith, common_steps, members, behind_push, first_push, in_reverse, out_of, round_from y e q ys apart.1)
-
-pub round : (h q : ℕ) (xs : List ℕ) → AllApart (h ∷ xs) → is_in q (h ∷ xs) ≡ true
-    → behind h (behind h q (h ∷ xs)) (h ∷ reverse xs) ≡ q
-round h q xs apart e = grind (arith, common_steps, eq-eqb, false≢true, out_of, round_from)
+pub beside_other : (d : Bool) (h q : ℕ) (xs : List ℕ) → h ≢ q → beside d h q xs ≢ q
+beside_other true h q [] ne = grind (arith, common_steps, ne_eqb)
+beside_other true h q (y ∷ ys) ne = grind (arith, common_steps, ne_eqb, beside_other true h q ys ne)
+beside_other false h q [] ne = grind (arith, common_steps, ne_eqb)
+beside_other false h q (y ∷ ys) ne = grind (arith, common_steps, ne_eqb, below, last_below-more, beside_other false h q ys ne)
