@@ -297,10 +297,11 @@ abbrev whole : Puzzle → ℕ → Line
 whole p j = grown_all (listed_numbers p [] j)
 
 -- members stand in their lists
-slot_in : {p : Puzzle} (q : ℕ) (n : Node) {j x : ℕ} → IsFit p → slice_get (layout p) q ≡ Some n → slot_of n ≡ Some (j, x)
-    → (x ≡ 0) ⊎ ((0 < x) × (is_in x (listed_numbers p [] j) ≡ true))
+slot_in : {p : Puzzle} (q : ℕ) (n : Node) {j x : ℕ} → IsFit p → slice_get (layout p) q ≡ Some n
+    → slot_of n ≡ Some (j, x) → (x ≡ 0) ⊎ ((0 < x) × (is_in x (listed_numbers p [] j) ≡ true))
 slot_in q (own i) fit e s = inl (sym (ap member_of s))
-slot_in {p} q (used o u) fit e s = grind (arith, common_steps, held_in (layout p) q o u e, held_all u.item fit, is_laid p fit)
+slot_in {p} q (used o u) fit e s =
+    grind (arith, common_steps, held_in (layout p) q o u e, held_all u.item fit, is_laid p fit)
 slot_in q _ fit e s = cc
 
 up_is : (p : Puzzle) (j x : ℕ) → (x ≡ 0) ⊎ ((0 < x) × (is_in x (listed_numbers p [] j) ≡ true))
@@ -322,5 +323,7 @@ pub all_entered : (p : Puzzle) (n : ℕ) → IsFit p → length (layout p) ≤ n
 all_entered p n fit le = nodes_same _ (lines_of (take n (layout p))) (whole p) (color_in p [])
     (λ j. ap (λ ns. lines_of ns j) (take_all n (layout p) le) ∙ ap grown_all (held_all j fit))
     ∙ same_nodes _ _ (map_same (top_in (line_of p [])) (top_in (whole p)) (layout p) (λ q m e. top_is p m))
-    (map_same (ulink_in p (line_of p [])) (ulink_in p (whole p)) (layout p) (λ q m e. link_same _ _ _ _ _ (λ j x s. up_is p j x (slot_in q m fit e s))))
-    (map_same (dlink_in p (line_of p [])) (dlink_in p (whole p)) (layout p) (λ q m e. link_same _ _ _ _ _ (λ j x s. down_is p j x (slot_in q m fit e s)))) refl
+    (map_same (ulink_in p (line_of p [])) (ulink_in p (whole p)) (layout p)
+    (λ q m e. link_same _ _ _ _ _ (λ j x s. up_is p j x (slot_in q m fit e s))))
+    (map_same (dlink_in p (line_of p [])) (dlink_in p (whole p)) (layout p)
+    (λ q m e. link_same _ _ _ _ _ (λ j x s. down_is p j x (slot_in q m fit e s)))) refl

@@ -183,10 +183,12 @@ keep [] = refl
 keep (j ∷ js) = ap (λ l. j ∷ l) (keep js)
 
 first_ring : (p : Puzzle) (i : ℕ) → ring_of p [] i ≡
-    cond (leb i (primary_count p)) (range_with_len 1 (primary_count p)) (range_with_len (primary_count p + 1) p.secondary)
+    cond (leb i (primary_count p)) (range_with_len 1 (primary_count p))
+    (range_with_len (primary_count p + 1) p.secondary)
 first_ring p i = keep _
 
-ruleset neighbours = (above_range, below_range, first_range, first_ring, last_range, leb-false, leb-true, ltb-false, ltb-true)
+ruleset neighbours =
+    (above_range, below_range, first_range, first_ring, last_range, leb-false, leb-true, ltb-false, ltb-true)
 
 -- where the links of a place lead before any move
 pub left_is : (p : Puzzle) (i : ℕ) → i ≤ item_count p + 1

@@ -71,7 +71,7 @@ past_covered p (Cover k ∷ t) i legal pos le e =
     elim (eqb i k) as (λ b. eqb i k ≡ b → (b || is_covered i t) ≡ true → (l < item_count p + 2) × (next ≢ i)) [
       | true ↦ λ f g.
           let same : i ≡ k = eqb-true i k f in
-          let side = link_beside p false t i legal.1 (omega (arith, le)) (λ _ _. (ap (λ j. is_covered j t) same ∙ un)) in
+          let side = link_beside p false t i legal.1 (omega (arith, le)) (λ _ _. ap (λ j. is_covered j t) same ∙ un) in
           let ne = link_other p true t k k_pos k_le un in grind (arith, common_steps, eq-eqb)
       | false ↦ λ f g.
           let r = link_beside p true t k legal.1 (omega (arith, k_le)) (λ _ _. un) in

@@ -63,7 +63,8 @@ behind_first l m a y (k ∷ ks) some down up b below mu md h = (
   grind (arith, common_steps, put_at-same, put_at-other),
   grind (arith, common_steps, put_at-same, put_at-other),
   subst (λ (n : Line). Regaining l n ks) (swapped l m a y k up b below.0 mu md h.0 h.1)
-      (behind_first l (mended m k) a y ks some down up b below.1 (grind (arith, common_steps, put_at-same, put_at-other))
+      (behind_first l (mended m k) a y ks some down up b below.1
+      (grind (arith, common_steps, put_at-same, put_at-other))
       (grind (arith, common_steps, put_at-same, put_at-other)) h.2),
 )
 

@@ -1,8 +1,10 @@
 -- In numbers that rise: what stands beside one of them, or at an end, once another has left. For the rings of items.
-use Rattle.std.proofs.Common.{◌≡◌, ◌≢◌, ℕ, ◌≤◌, Bool, true, false, cond, eqb, List, [], ◌∷◌, refl, arith, eqb-true, ne_eqb}
+use Rattle.std.proofs.Common.{◌≡◌, ◌≢◌, ℕ, ◌≤◌, Bool, true, false, cond, eqb, List, [], ◌∷◌, refl}
+use Rattle.std.proofs.Common.{arith, eqb-true, ne_eqb}
 use Rattle.std.proofs.lemmas.Grind.{common_steps}
 use Rattle.xc_dance.specs.Fields.{last_below, first_above, first_of, last_of, is_in}
-use Rattle.xc_dance.proofs.LinkedTables.Sweep.{Rises, Rises-filter, stay, stay_same, above, below, members, first_above-first}
+use Rattle.xc_dance.proofs.LinkedTables.Sweep.{Rises, Rises-filter, stay, stay_same, above, below, members}
+use Rattle.xc_dance.proofs.LinkedTables.Sweep.{first_above-first}
 use Rattle.xc_dance.proofs.LinkedTables.Sweep.{last_below-more, last_below-none}
 use Rattle.std.proofs.Common.{not, ltb, ltb-true, ltb-false, ◌<◌}
 
@@ -33,7 +35,8 @@ last_less : (h i n : ℕ) (xs : List ℕ) → Rises n xs → h ≢ i
 last_less h i n [] r ne = grind (arith, common_steps, ne_eqb)
 last_less h i n (y ∷ []) r ne = grind (arith, common_steps, below, members, ne_eqb, eqb-true, stay_same)
 last_less h i n (y ∷ z ∷ zs) r ne =
-    grind (arith, common_steps, below, members, ne_eqb, eqb-true, stay_same, last_high z z zs r.1.1, last_less y i y (z ∷ zs) r.1)
+    let rest = last_less y i y (z ∷ zs) r.1 in
+    grind (arith, common_steps, below, members, ne_eqb, eqb-true, stay_same, last_high z z zs r.1.1, rest)
 
 below_high : (h q : ℕ) (xs : List ℕ) → Rises h xs → h ≤ last_below h q xs
 below_high h q [] r = omega arith
@@ -58,7 +61,8 @@ below_less h q i n (y ∷ ys) r ne = elim (ltb y q) as (λ b. ltb y q ≡ b → 
       | true ↦ λ e. below_over h q i y ys r.1 ne (ltb-true y q e) (λ ni. below_less y q i y ys r.1 ni)
       | false ↦ λ e.
           let none = last_below-none h q y ys (ltb-false y q e) r.1 in
-          let none' = last_below-none h q y (less i ys) (ltb-false y q e) (Rises-filter (λ x. not (eqb x i)) y ys r.1) in
+          let none' = last_below-none h q y (less i ys) (ltb-false y q e)
+          (Rises-filter (λ x. not (eqb x i)) y ys r.1) in
           grind (arith, common_steps, ne_eqb)
     ] refl
 
@@ -75,4 +79,5 @@ pub beside_other : (d : Bool) (h q : ℕ) (xs : List ℕ) → h ≢ q → beside
 beside_other true h q [] ne = grind (arith, common_steps, ne_eqb)
 beside_other true h q (y ∷ ys) ne = grind (arith, common_steps, ne_eqb, beside_other true h q ys ne)
 beside_other false h q [] ne = grind (arith, common_steps, ne_eqb)
-beside_other false h q (y ∷ ys) ne = grind (arith, common_steps, ne_eqb, below, last_below-more, beside_other false h q ys ne)
+beside_other false h q (y ∷ ys) ne =
+    grind (arith, common_steps, ne_eqb, below, last_below-more, beside_other false h q ys ne)

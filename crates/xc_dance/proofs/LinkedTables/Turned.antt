@@ -19,7 +19,8 @@ use Rattle.xc_input.proofs.lists.Filters.{filter_both}
 use Rattle.xc_dance.proofs.LinkedTables.Sweep.{Rises, Rises-filter, Rises-weaker, by_first}
 use Rattle.xc_dance.proofs.LinkedTables.RingLemmas.{less, beside, beside_less, beside_other}
 use Rattle.xc_dance.proofs.LinkedTables.FirstTables.{left_is, right_is}
-use Rattle.xc_dance.proofs.LinkedTables.RingStep.{row_put, row_get, row_len, same_items, left_now, right_now, still_llink, still_rlink}
+use Rattle.xc_dance.proofs.LinkedTables.RingStep.{row_put, row_get, row_len, same_items, left_now, right_now}
+use Rattle.xc_dance.proofs.LinkedTables.RingStep.{still_llink, still_rlink}
 use Rattle.xc_dance.proofs.MoveLemmas.ListLemmas.{Rises-range}
 use Rattle.xc_dance.proofs.MoveLemmas.StateLemmas.{open_uncovered}
 use Rattle.xc_dance.specs.inner.Links.Made.{CanTurn}
@@ -72,7 +73,8 @@ pub link_gone : (p : Puzzle) (d : Bool) (t : List Move) (m : Move) (q : ℕ) →
 link_gone p true t m q pos le e = grind (arith, common_steps, item_cell)
 link_gone p false t m q pos le e = grind (arith, common_steps, item_cell)
 
-place_case : (p : Puzzle) (q : ℕ) → q < item_count p + 2 → (q ≡ 0) ⊎ (((0 < q) × (q ≤ item_count p)) ⊎ (q ≡ item_count p + 1))
+place_case : (p : Puzzle) (q : ℕ) → q < item_count p + 2
+    → (q ≡ 0) ⊎ (((0 < q) × (q ≤ item_count p)) ⊎ (q ≡ item_count p + 1))
 place_case p q lt = grind (arith, common_steps)
 
 -- the cells of places that are in their rings
@@ -129,7 +131,8 @@ next_in p t rings d i pos le un q lt stays =
     ap (λ b. beside d (cond b 0 (item_count p + 1)) i (filter (λ j. not (is_covered j t))
     (cond b (range_with_len 1 (primary_count p)) (range_with_len (primary_count p + 1) p.secondary)))) e
     ∙ sym (link_is p d t i (omega (arith, le)) (λ _ _. un)) in
-    after ∙ by_first (cond (eqb (link p d t q) i) (beyond q) (link p d t q) ≡ cond (eqb q l) (link p d t i) (link p d t q)) q l
+    after ∙ by_first (cond (eqb (link p d t q) i) (beyond q) (link p d t q) ≡ cond (eqb q l) (link p d t i)
+    (link p d t q)) q l
     (λ e. rw (eq-eqb (link p d t q) i (ap (link p d t) e ∙ back), eq-eqb q l e) (same (ap (side p) e ∙ own.0.side)))
     (λ ne. rw (ne_eqb (link p d t q) i (λ e. ne (sym here.1 ∙ ap (link p (not d) t) e)), ne_eqb q l ne) refl)
 
@@ -158,13 +161,18 @@ cover_rings p t rings i pos le un d q lt stays =
     by_first (IsBeside p (Cover i ∷ t) (side p q) (link p d (Cover i ∷ t) q)
     × (link p (not d) (Cover i ∷ t) (link p d (Cover i ∷ t) q) ≡ q)) q l
     (λ e. to (link p d t i) (next ∙ rw (eq-eqb q l e) refl)
-    (stay (link p d t i) (record { place = right.0.place; side = right.0.side ∙ sym (ap (side p) e ∙ left.0.side); stays = right.0.stays })
+    (stay (link p d t i) (record {
+      place = right.0.place;
+      side = right.0.side ∙ sym (ap (side p) e ∙ left.0.side);
+      stays = right.0.stays;
+    })
     (link_other p d t i pos le un)) (rw (eq-eqb (link p d t i) (link p d t i) refl) (sym e)))
     (λ no. to (link p d t q) (next ∙ rw (ne_eqb q l no) refl)
     (stay (link p d t q) here.0 (λ e. no (sym here.1 ∙ ap (link p (not d) t) e)))
     (rw (ne_eqb (link p d t q) (link p d t i) (λ e. ne (sym here.1 ∙ ap (link p (not d) t) e ∙ right.1))) here.1))
 
-still_link : (p : Puzzle) (d : Bool) (t : List Move) (m : Move) (q : ℕ) → ((q : ℕ) → is_covered q (m ∷ t) ≡ is_covered q t)
+still_link : (p : Puzzle) (d : Bool) (t : List Move) (m : Move) (q : ℕ)
+    → ((q : ℕ) → is_covered q (m ∷ t) ≡ is_covered q t)
     → link p d (m ∷ t) q ≡ link p d t q
 still_link p true t m q s = still_rlink p t m q s
 still_link p false t m q s = still_llink p t m q s

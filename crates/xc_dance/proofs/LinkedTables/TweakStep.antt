@@ -21,7 +21,8 @@ use Rattle.xc_dance.specs.inner.Links.Tweaking.{CanTweakAt, CanUntweak, tweak_co
 use Rattle.xc_dance.specs.inner.Links.Cells.{color_in, dlink_in, nodes_from, nodes_after, line_of}
 use Rattle.xc_dance.specs.inner.Links.Made.{IsFitted}
 use Rattle.std.proofs.lemmas.Option.{slice_get_within}
-use Rattle.xc_dance.proofs.LinkedTables.LinkColumns.{relinked-unlinked, CanRelink, CanRelink-unlinked, get_down, size_from}
+use Rattle.xc_dance.proofs.LinkedTables.LinkColumns.{relinked-unlinked, CanRelink, CanRelink-unlinked, get_down}
+use Rattle.xc_dance.proofs.LinkedTables.LinkColumns.{size_from}
 use Rattle.xc_dance.proofs.LinkedTables.GoodLines.{IsMember, unlinked-is, linked-is, member_cells, Named, IsGood}
 use Rattle.xc_dance.proofs.LinkedTables.GoodLines.{member, all_good, numbers_named, SameCut, line_after, tables_same}
 use Rattle.xc_dance.proofs.LinkedTables.Sweep.{Rises, stay, cuts, is_in-first, drop_first, stay_all, leave_none, cut}

@@ -52,8 +52,8 @@ tweaks zero i t = t
 tweaks (suc k) i t = Tweak i ∷ tweaks k i t
 
 -- what no Tweak of the item changes
-pub kept : {X : Type 0} (f : List Move → X) (i : ℕ) (t : List Move) → ((s : List Move) → f (Tweak i ∷ s) ≡ f s) → (k : ℕ)
-    → f (tweaks k i t) ≡ f t
+pub kept : {X : Type 0} (f : List Move → X) (i : ℕ) (t : List Move)
+    → ((s : List Move) → f (Tweak i ∷ s) ≡ f s) → (k : ℕ) → f (tweaks k i t) ≡ f t
 kept f i t same zero = refl
 kept f i t same (suc k) = same (tweaks k i t) ∙ kept f i t same k
 
@@ -117,7 +117,8 @@ tweaked p t spans covered i (suc k) legal fit opened =
           && (is_in j (other_items p o i) && not (eqb (get_or cs (link_place p j o) 0) MARK))) (o ∷ []))) same
           (tweak_cuts p s spans covered i j legal.1 fit opened_s f (jpos, jle) ne))
           ∙ ap (λ (m : Line). cuts m one) (h.others j jpos jle ne)
-          ∙ sym (ap (cuts (line_of p t j)) (filter-append (λ o. not covered && leaves p (color_in p t) i j o) os (o ∷ []))
+          ∙ sym (ap (cuts (line_of p t j)) (filter-append (λ o. not covered && leaves p (color_in p t) i j o) os
+          (o ∷ []))
           ∙ fold-append cut (line_of p t j) (to_come p t covered i j os) one);
       taken = grind (arith, common_steps);
       costs =

@@ -79,7 +79,8 @@ pub record FirstNode (p : Puzzle) (s t : List Move) (i : ℕ) : Type 0 where
 first_node : (p : Puzzle) (s t : List Move) (i : ℕ) → IsLaid p → IsFit p → 0 < i → i ≤ item_count p → HasFirst p t i
     → FirstNode p s t i
 first_node p s t i laid fit pos le f =
-    let m = member p i (line_of p t i) [] f.o f.os pos le (subst (IsGood p i (line_of p t i)) f.is (all_good p t fit i pos le)) in
+    let m = member p i (line_of p t i) [] f.o f.os pos le
+    (subst (IsGood p i (line_of p t i)) f.is (all_good p t fit i pos le)) in
     let here = laid.there i f.o pos le m.name in
     let at = slice_get_within (layout p) (link_place p i f.o) here.node here.at in
     let item = get_item p (line_of p s) i f.o here m.pos in
