@@ -1,18 +1,12 @@
-use Rattle.std.proofs.Common.{arith, ap, ◌∙◌, ◌≡◌, ◌+◌, ◌<◌}
+use Rattle.std.proofs.lemmas.Grind.{common_steps}
+use Rattle.std.proofs.Common.{arith, ◌+◌, ◌<◌}
 use Rattle.xc_input.specs.Problem.{option_count}
-use Rattle.xc_dance.specs.Fields.{spacer_place}
 use Rattle.xc_dance.proofs.LinkedTables.PlaceLemmas.{place_first, option_fits, uses_here}
 use Rattle.xc_dance.proofs.LinkedTables.PassedOptions.{behind_first, before_last, option_between}
 use Rattle.xc_dance.proofs.places.number_at.Goals as goal
 
 pub loop-before-init : goal.loop-before-init
-loop-before-init c =
-    let p = c.args.problem.now.puzzle in
-    let u = c.requires in
-    let first = place_first p in
-    let items = c.items-spacer.ensures.value in
-    let behind = behind_first p u.0 u.1 c.args.place u.2 in
-    record { spacer = omega (arith, items, first); passed = omega (arith, items, first, behind) }
+loop-before-init c = grind (arith, common_steps, behind_first, place_first)
 
 pub returns-then-place-spacer : goal.returns-then-place-spacer
 returns-then-place-spacer c = λ i x u.
@@ -26,10 +20,4 @@ returns-then-place-spacer c = λ i x u.
     (omega (arith, at, (option_fits p o us c.option.ensures.whole.limits within found).next, c.if-place-spacer.true))
 
 pub unreachable-requires : goal.unreachable-requires
-unreachable-requires c =
-    let p = c.args.problem.now.puzzle in
-    let u = c.requires in
-    let all : c.loop-before.before ≡ c.options-before-end.result =
-    omega (arith, c.loop-before-test.false, c.loop-before.auto.before-end) in
-    let at = c.loop-before.invariant.spacer ∙ ap (spacer_place p) (all ∙ c.options-before-end.ensures.value) in
-    omega (arith, before_last p u.0 u.1 c.args.place u.2, at, c.loop-before.invariant.passed)
+unreachable-requires c = grind (arith, common_steps, before_last)

@@ -1,4 +1,4 @@
-use Rattle.std.proofs.Common.{◌≡◌, ◌+◌, ◌-◌, ℕ, List, sym, ap, ◌∙◌, subst, drop, take, length}
+use Rattle.std.proofs.Common.{◌≡◌, ◌+◌, ◌-◌, ℕ, List, ap, subst, drop, take, length}
 use Rattle.xc_input.specs.declared.problem.Use.{Use}
 use Rattle.xc_input.specs.Problem.{Puzzle, uses_of}
 use Rattle.xc_dance.specs.Dancing.{Dancing}
@@ -43,11 +43,7 @@ commit_uses-requires-clause-stands g c =
 
 -- once the uses behind were committed, those before it lead to the end
 pub commit_uses-requires-2-clause-stands : goal.commit_uses-requires-2-clause-stands
-commit_uses-requires-2-clause-stands g c =
-    subst Stands (ap (committed (take c.place_in-at.result c.option-uses.result.now)) (sym c.commit_uses.ensures))
-    (can g (goal.at.commit_uses-requires-2-clause-stands g c).After-place_in-at)
+commit_uses-requires-2-clause-stands g c = grind (arith, common_steps, can)
 
 pub returns : goal.returns
-returns g c = λ x u.
-    c.commit_uses-2.ensures ∙ ap (committed (take c.place_in-at.result c.option-uses.result.now)) c.commit_uses.ensures
-    ∙ sym (whole g (goal.at.returns g c).After-place_in-at x u)
+returns g c = λ x u. grind (arith, common_steps, whole)

@@ -1,20 +1,14 @@
+use Rattle.std.proofs.lemmas.Grind.{common_steps}
+use Rattle.std.proofs.Common.{arith}
 use Rattle.std.proofs.Common.{◌+◌, sym, ap, ◌∙◌, subst, drop, get_or}
 use Rattle.xc_input.specs.declared.problem.Use.{Use}
-use Rattle.xc_input.specs.Problem.{Puzzle, IsItem}
 use Rattle.xc_dance.specs.Dancing.{Dancing}
 use Rattle.xc_dance.specs.Commits.{CanStand, after_use}
-use Rattle.xc_dance.proofs.MoveLemmas.Commits.{committed, at_use, stood_before}
+use Rattle.xc_dance.proofs.MoveLemmas.Commits.{at_use, stood_before}
 use Rattle.xc_dance.proofs.dance.Dance.commit_uses.Goals as goal
 
 pub commit_use-requires-clause-same : goal.commit_use-requires-clause-same
 commit_use-requires-clause-same g c = ap (λ (s : Dancing). s.puzzle) c.loop-u.invariant ∙ c.requires.same
-
-pub commit_use-requires-clause-item : goal.commit_use-requires-clause-item
-commit_use-requires-clause-item g c =
-    let d : Use = record { item = 0; colour = 0 } in
-    let k = c.loop-u.u-index in
-    subst (λ (q : Puzzle). IsItem q (get_or c.args.uses.now k d).item)
-    (sym (ap (λ (s : Dancing). s.puzzle) c.loop-u.invariant)) (c.requires.items k d c.loop-u-test.true)
 
 pub commit_use-requires-clause-stands : goal.commit_use-requires-clause-stands
 commit_use-requires-clause-stands g c =
@@ -27,9 +21,4 @@ commit_use-requires-clause-stands g c =
     (subst (λ (s : Dancing). CanStand s.puzzle s.room s.trail) next c.requires.stands)
 
 pub loop-u-preserved : goal.loop-u-preserved
-loop-u-preserved g c =
-    let d : Use = record { item = 0; colour = 0 } in
-    let us = c.args.uses.now in
-    let k = c.loop-u.u-index in
-    ap (committed (drop (k + 1) us)) c.commit_use.ensures
-    ∙ sym (at_use (g.Self.Dance.state c.loop-u.self) us k d c.loop-u-test.true) ∙ c.loop-u.invariant
+loop-u-preserved g c = grind (arith, common_steps, at_use)

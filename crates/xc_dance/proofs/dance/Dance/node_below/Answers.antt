@@ -1,6 +1,7 @@
+use Rattle.std.proofs.lemmas.Grind.{common_steps}
+use Rattle.std.proofs.Common.{arith}
 use Rattle.std.proofs.Common.{◌≡◌, ℕ, None, Some, ap, sym, ◌∙◌, subst}
 use Rattle.std.specs.Prelude.{Contains, unwrap_or}
-use Rattle.xc_input.specs.Problem.{Puzzle}
 use Rattle.xc_dance.specs.Moves.{next_above}
 use Rattle.xc_dance.specs.Fields.{link_place}
 use Rattle.xc_dance.specs.Commits.{IsListedAt, IsUseAt}
@@ -62,18 +63,10 @@ pub node_place-requires-clause-holds : goal.node_place-requires-clause-holds
 node_place-requires-clause-holds g c = (used g c).holds
 
 pub returns-in-Some-clause-place : goal.returns-in-Some-clause-place
-returns-in-Some-clause-place g c = λ x at.
-    let is = some_next g (goal.at.returns-in-Some-clause-place g c).In-Some x at in
-    c.node_place.ensures ∙ ap (λ (p : Puzzle). link_place p c.args.i c.in-Some.o) (sym c.requires.same)
-    ∙ ap (λ n. link_place (g.Self.Dance.state c.args.self.now).puzzle c.args.i (unwrap_or n 0)) (sym is)
+returns-in-Some-clause-place g c = λ x at. grind (arith, common_steps, some_next)
 
 pub returns-in-Some-clause-option : goal.returns-in-Some-clause-option
-returns-in-Some-clause-option g c = λ x at.
-    let s = g.Self.Dance.state c.args.self.now in
-    let is = some_next g (goal.at.returns-in-Some-clause-option g c).In-Some x at in
-    place_tells s c.args.i x c.node_place.result c.requires.item (c.node_place.ensures
-    ∙ ap (λ (p : Puzzle). link_place p c.args.i c.in-Some.o) (sym c.requires.same)
-    ∙ ap (λ n. link_place s.puzzle c.args.i (unwrap_or n 0)) (sym is))
+returns-in-Some-clause-option g c = λ x at. grind (arith, common_steps, place_tells, some_next)
 
 -- ---- and if there is none
 
@@ -99,7 +92,4 @@ returns-in-None-clause-place g c = λ x at.
     ap (λ n. link_place (g.Self.Dance.state c.args.self.now).puzzle c.args.i (unwrap_or n 0)) (sym (own_next g c x at))
 
 pub returns-in-None-clause-option : goal.returns-in-None-clause-option
-returns-in-None-clause-option g c = λ x at.
-    let s = g.Self.Dance.state c.args.self.now in
-    place_tells s c.args.i x c.args.i c.requires.item
-    (ap (λ n. link_place s.puzzle c.args.i (unwrap_or n 0)) (sym (own_next g c x at)))
+returns-in-None-clause-option g c = λ x at. grind (arith, common_steps, own_next, place_tells)

@@ -1,15 +1,16 @@
-use Rattle.std.proofs.Common.{◌≡◌, ◌+◌, ◌-◌, ℕ, length, get_or, ap, ◌∙◌, arith, refl}
+use Rattle.std.proofs.Common.{◌≡◌, ◌-◌, ℕ, length, get_or, ap, ◌∙◌, arith, refl}
 use Rattle.std.specs.Prelude.{slice_index}
+use Rattle.std.proofs.lemmas.Grind.{common_steps}
 use Rattle.std.proofs.lemmas.List.{length-map}
 use Rattle.xc_dance.specs.declared.links.nodes.Nodes.{Nodes}
 use Rattle.xc_dance.specs.Commits.{IsUseAt}
 use Rattle.xc_dance.specs.Fields.{layout}
-use Rattle.xc_dance.specs.inner.Links.Cells.{nodes_after, top_in, ulink_in, line_of}
+use Rattle.xc_dance.specs.inner.Links.Cells.{nodes_after, ulink_in, line_of}
 use Rattle.xc_dance.specs.inner.Links.OptionPlaces.{start_at}
 use Rattle.xc_dance.specs.inner.Links.UseNodes.{uses_before}
-use Rattle.xc_dance.proofs.LinkedTables.Along.{along_first, before_at, Leads, leads, IsNext, nodes_told, may_commit}
-use Rattle.xc_dance.proofs.LinkedTables.Along.{Committed, one_committed, whole}
-use Rattle.xc_dance.proofs.LinkedTables.Written.{written_then}
+use Rattle.xc_dance.proofs.LinkedTables.Along.{before_at, Leads, leads, IsNext, nodes_told}
+use Rattle.xc_dance.proofs.LinkedTables.Along.{whole}
+use Rattle.xc_dance.proofs.Committing.{none_yet, may, one_more}
 use Rattle.xc_dance.proofs.links.Links.commit_before.Goals as goal
 use Rattle.xc_dance.proofs.links.Links.commit_before.Goals.{After-self, After-self-in-loop-q}
 
@@ -25,9 +26,8 @@ pub ulink-first-requires : goal.ulink-first-requires
 ulink-first-requires c =
     let here = (goal.at.ulink-first-requires c).After-self in
     let s = c.args.self.now in
-    let long : length c.self.inside.nodes.ulink ≡ length (layout s.puzzle) = ap (λ (n : Nodes). length n.ulink)
-    (first_nodes here) ∙ length-map (layout s.puzzle) (ulink_in s.puzzle (line_of s.puzzle s.trail)) in
-    omega (arith, (led here c.requires.can.0 c.requires.can.1).within, long)
+    let long = length-map (layout s.puzzle) (ulink_in s.puzzle (line_of s.puzzle s.trail)) in
+    omega (arith, (led here _ c.requires.can.1).within, ap (λ (n : Nodes). length n.ulink) (first_nodes here) ∙ long)
 
 -- the walk begins at the option's first node
 first_is : (c : After-self) (first x : ℕ) → first ≡ slice_index c.self.inside.nodes.ulink c.args.end →
@@ -35,62 +35,35 @@ first_is : (c : After-self) (first x : ℕ) → first ≡ slice_index c.self.ins
 first_is c first x e held = e ∙ ap (λ (n : Nodes). get_or n.ulink c.args.end 0) (first_nodes c) ∙ (led c _ held).first
 
 pub loop-q-init : goal.loop-q-init
-loop-q-init c =
-    let s = c.args.self.now in
-    record {
-      puzzle = refl;
-      room = refl;
-      written = refl;
-      along = λ x held. along_first s.puzzle _ _ (uses_before s.puzzle c.args.i x) s.trail
-          ((first_is (goal.at.loop-q-init c).After-self c.ulink-first.result) x c.ulink-first.ensures held);
-    }
+loop-q-init c = none_yet _ (λ x. first_is (goal.at.loop-q-init c).After-self _ x c.ulink-first.ensures)
 
 nodes_is : (c : After-self-in-loop-q) → c.self-in-loop-q.inside.nodes
     ≡ nodes_after c.args.self.now.puzzle c.loop-q.self.trail
 nodes_is c = nodes_told c.self-in-loop-q.invariant.nodes c.self-in-loop-q.view_is c.loop-q.invariant.puzzle
 
 pub top-j-requires : goal.top-j-requires
-top-j-requires c =
-    let p = c.args.self.now.puzzle in
-    let spacer = led (goal.at.top-j-requires c).After-self c.requires.can.0 c.requires.can.1 in
-    let nodes = nodes_is (goal.at.top-j-requires c).After-self-in-loop-q in
-    let long : length c.self-in-loop-q.inside.nodes.top ≡ length (layout p) =
-    ap (λ (n : Nodes). length n.top) nodes ∙ length-map (layout p) (top_in (line_of p c.loop-q.self.trail)) in
-    omega (arith, spacer.within, spacer.behind, c.loop-q-test.true, long)
+top-j-requires c = grind (arith, common_steps, led, length-map, nodes_is)
 
 -- the next use
-next : (c : After-self-in-loop-q) {x : ℕ} → IsUseAt c.args.self.now.puzzle c.args.i x c.args.place →
+next : (c : After-self-in-loop-q) (x : ℕ) → IsUseAt c.args.self.now.puzzle c.args.i x c.args.place →
     IsNext c.args.self.now.puzzle x (start_at c.args.self.now.puzzle (x - 1))
     (uses_before c.args.self.now.puzzle c.args.i x) c.args.self.now.trail c.loop-q.self.trail c.loop-q.q
-next c {x} held = (before_at held (c.loop-q.invariant.along x held)).node c.loop-q-test.true
+next c x held = (before_at held (c.loop-q.invariant.along x held)).node c.loop-q-test.true
 
 pub commit_node-requires : goal.commit_node-requires
 commit_node-requires c =
     let here = (goal.at.commit_node-requires c).After-self-in-loop-q in
     let is = c.top-j.ensures ∙ ap (λ (n : Nodes). get_or n.top c.loop-q.q 0) (nodes_is here) in
-    record {
-      node = may_commit c.loop-q.self
-          (next here c.requires.can.1) c.loop-q.invariant.puzzle c.loop-q.invariant.room is c.requires.can.2;
-    }
+    record { node = may c.loop-q.invariant (next here _ c.requires.can.1) is c.requires.can.2 }
 
 pub loop-q-preserved : goal.loop-q-preserved
 loop-q-preserved c =
     let here = (goal.at.loop-q-preserved c).After-self-in-loop-q in
-    let s = c.args.self.now in
     let is = c.top-j.ensures ∙ ap (λ (n : Nodes). get_or n.top c.loop-q.q 0) (nodes_is here) in
-    let step : (x : ℕ) → IsUseAt s.puzzle c.args.i x c.args.place →
-    Committed s.puzzle (start_at s.puzzle (x - 1)) (uses_before s.puzzle c.args.i x)
-    s.trail s.room c.commit_node.new.self (c.loop-q.q + 1) = λ x held. one_committed c.loop-q.self _
-    (next here held) c.loop-q.invariant.puzzle c.loop-q.invariant.room is c.commit_node.ensures.committed in
-    record {
-      puzzle = (step c.requires.can.0 c.requires.can.1).puzzle;
-      room = (step c.requires.can.0 c.requires.can.1).room;
-      written = written_then s c.loop-q.self c.commit_node.new.self c.loop-q.invariant.puzzle
-          c.loop-q.invariant.written c.commit_node.ensures.written;
-      along = λ x held. (step x held).along;
-    }
+    one_more _ c.loop-q.invariant c.requires.can.1 (next here) is c.commit_node.ensures.committed
+    c.commit_node.ensures.written
 
 pub returns-clause-committed : goal.returns-clause-committed
 returns-clause-committed c = λ x held.
-    let all = (before_at held (c.loop-q.invariant.along x held)).end c.loop-q-test.false in
-    whole _ _ c.loop-q.self c.loop-q.invariant.puzzle c.loop-q.invariant.room all
+    whole _ _ c.loop-q.self c.loop-q.invariant.puzzle c.loop-q.invariant.room
+    ((before_at held (c.loop-q.invariant.along x held)).end c.loop-q-test.false)

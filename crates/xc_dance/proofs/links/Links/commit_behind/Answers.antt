@@ -1,15 +1,15 @@
-use Rattle.std.proofs.Common.{◌≡◌, ◌<◌, ◌≤◌, ◌+◌, ℕ, length, get_or, ap, subst, ◌∙◌, arith, refl}
+use Rattle.std.proofs.Common.{◌≡◌, ◌<◌, ◌+◌, ℕ, length, get_or, ap, subst, ◌∙◌, arith, refl}
+use Rattle.std.proofs.lemmas.Grind.{common_steps}
 use Rattle.std.proofs.lemmas.List.{length-map}
 use Rattle.xc_dance.specs.declared.links.nodes.Nodes.{Nodes}
 use Rattle.xc_dance.specs.Commits.{IsUseAt}
-use Rattle.xc_dance.specs.Fields.{layout}
 use Rattle.xc_dance.specs.Linked.{Linked}
-use Rattle.xc_dance.specs.inner.Links.Cells.{nodes_after, top_in, line_of}
+use Rattle.xc_dance.specs.inner.Links.Cells.{nodes_after}
 use Rattle.xc_dance.specs.inner.Links.Laid.{IsLaid, IsFit}
 use Rattle.xc_dance.specs.inner.Links.UseNodes.{uses_behind}
-use Rattle.xc_dance.proofs.LinkedTables.Along.{along_first, Behind, behind_at, IsNext, top_at, nodes_told, may_commit}
-use Rattle.xc_dance.proofs.LinkedTables.Along.{Committed, one_committed, whole}
-use Rattle.xc_dance.proofs.LinkedTables.Written.{written_then}
+use Rattle.xc_dance.proofs.LinkedTables.Along.{along_first, Behind, behind_at, IsNext, top_at, nodes_told}
+use Rattle.xc_dance.proofs.LinkedTables.Along.{whole}
+use Rattle.xc_dance.proofs.Committing.{none_yet, may, one_more}
 use Rattle.xc_dance.proofs.links.Links.commit_behind.Goals as goal
 use Rattle.xc_dance.proofs.links.Links.commit_behind.Goals.{After-self, After-self-in-loop-self}
 use Rattle.xc_dance.specs.declared.links.nodes.TheConstants.{SPACER}
@@ -30,18 +30,10 @@ begun c =
     s.trail refl)
 
 pub overflow_add-q : goal.overflow_add-q
-overflow_add-q c =
-    let here = (goal.at.overflow_add-q c).After-self in
-    omega (arith, (begun here).within, (fit here).near)
+overflow_add-q c = grind (arith, common_steps, begun, fit)
 
 pub loop-self-init : goal.loop-self-init
-loop-self-init c = record {
-  puzzle = refl;
-  room = refl;
-  written = refl;
-  along = λ x _. along_first c.args.self.now.puzzle (c.args.place + 1) (c.args.place + 1)
-      (uses_behind c.args.self.now.puzzle c.args.i x) c.args.self.now.trail refl;
-}
+loop-self-init c = none_yet _ (λ x held. refl)
 
 -- what stands at q
 found : (c : After-self-in-loop-self) (x : ℕ) → IsUseAt c.args.self.now.puzzle c.args.i x c.args.place →
@@ -56,11 +48,7 @@ nodes_is : (c : After-self-in-loop-self) → c.self-in-loop-self.inside.nodes
 nodes_is c = nodes_told c.self-in-loop-self.invariant.nodes c.self-in-loop-self.view_is c.loop-self.invariant.puzzle
 
 at_top : (c : After-self-in-loop-self) → c.loop-self.q < length c.self-in-loop-self.inside.nodes.top
-at_top c =
-    let p = c.args.self.now.puzzle in
-    let long : length c.self-in-loop-self.inside.nodes.top ≡ length (layout p) =
-    ap (λ (n : Nodes). length n.top) (nodes_is c) ∙ length-map (layout p) (top_in (line_of p c.loop-self.self.trail)) in
-    omega (arith, (found c c.requires.0 c.requires.1).within, long)
+at_top c = grind (arith, common_steps, found c c.requires.0 c.requires.1, length-map, nodes_is c)
 
 top_is : (c : After-self-in-loop-self) → get_or c.self-in-loop-self.inside.nodes.top c.loop-self.q 0
     ≡ top_at c.args.self.now.puzzle c.loop-self.self.trail c.loop-self.q
@@ -73,61 +61,35 @@ pub top-j-requires : goal.top-j-requires
 top-j-requires c = at_top (goal.at.top-j-requires c).After-self-in-loop-self
 
 -- the next use, where TOP isn't that of a spacer
-next : (c : After-self-in-loop-self) {x : ℕ} → IsUseAt c.args.self.now.puzzle c.args.i x c.args.place →
-    get_or c.self-in-loop-self.inside.nodes.top c.loop-self.q 0 < SPACER →
+next : (c : After-self-in-loop-self) → get_or c.self-in-loop-self.inside.nodes.top c.loop-self.q 0 < SPACER → (x : ℕ)
+    → IsUseAt c.args.self.now.puzzle c.args.i x c.args.place →
     IsNext c.args.self.now.puzzle x (c.args.place + 1) (uses_behind c.args.self.now.puzzle c.args.i x)
     c.args.self.now.trail c.loop-self.self.trail c.loop-self.q
-next c {x} held low = let is = top_is c in (found c x held).node (omega (arith, is, low))
+next c low x held = let is = top_is c in (found c x held).node (omega (arith, is, low))
 
 pub commit_node-requires : goal.commit_node-requires
 commit_node-requires c =
     let here = (goal.at.commit_node-requires c).After-self-in-loop-self in
-    let told = c.top.ensures in
-    let test = c.loop-self-test.true in
-    let low : get_or c.self-in-loop-self.inside.nodes.top c.loop-self.q 0 < SPACER = omega (arith, told, test) in
-    let is = c.top-j.ensures ∙ top_is here in
-    record {
-      node = may_commit c.loop-self.self
-          (next here c.requires.1 low) c.loop-self.invariant.puzzle c.loop-self.invariant.room is c.requires.2;
-    }
+    let next = next here (omega (arith, c.top.ensures, c.loop-self-test.true)) _ c.requires.1 in
+    record { node = may c.loop-self.invariant next (c.top-j.ensures ∙ top_is here) c.requires.2 }
 
 pub overflow_add-q-in-loop-self : goal.overflow_add-q-in-loop-self
 overflow_add-q-in-loop-self c =
-    let within = (found (goal.at.overflow_add-q-in-loop-self c).After-self-in-loop-self c.requires.0
-    c.requires.1).within in
-    omega (arith, within, (fit (goal.at.overflow_add-q-in-loop-self c).After-self).near)
+    let at = goal.at.overflow_add-q-in-loop-self c in
+    omega (arith, (found at.After-self-in-loop-self _ c.requires.1).within, (fit at.After-self).near)
 
 pub loop-self-smaller : goal.loop-self-smaller
 loop-self-smaller c =
-    let within = (found (goal.at.loop-self-smaller c).After-self-in-loop-self c.requires.0 c.requires.1).within in
+    let within = (found (goal.at.loop-self-smaller c).After-self-in-loop-self _ c.requires.1).within in
     omega (arith, within)
 
 pub loop-self-preserved : goal.loop-self-preserved
 loop-self-preserved c =
     let here = (goal.at.loop-self-preserved c).After-self-in-loop-self in
-    let s = c.args.self.now in
-    let told = c.top.ensures in
-    let test = c.loop-self-test.true in
-    let low : get_or c.self-in-loop-self.inside.nodes.top c.loop-self.q 0 < SPACER = omega (arith, told, test) in
-    let is = c.top-j.ensures ∙ top_is here in
-    let step : (x : ℕ) → IsUseAt s.puzzle c.args.i x c.args.place →
-    Committed s.puzzle (c.args.place + 1) (uses_behind s.puzzle c.args.i x)
-    s.trail s.room c.commit_node.new.self (c.loop-self.q + 1) = λ x held. one_committed c.loop-self.self _
-    (next here held low) c.loop-self.invariant.puzzle c.loop-self.invariant.room is c.commit_node.ensures.committed in
-    record {
-      puzzle = (step c.requires.0 c.requires.1).puzzle;
-      room = (step c.requires.0 c.requires.1).room;
-      written = written_then s c.loop-self.self c.commit_node.new.self c.loop-self.invariant.puzzle
-          c.loop-self.invariant.written c.commit_node.ensures.written;
-      along = λ x held. (step x held).along;
-    }
+    one_more _ c.loop-self.invariant c.requires.1 (next here (omega (arith, c.top.ensures, c.loop-self-test.true)))
+    (c.top-j.ensures ∙ top_is here) c.commit_node.ensures.committed c.commit_node.ensures.written
 
 pub returns-clause-committed : goal.returns-clause-committed
 returns-clause-committed c = λ x held.
-    let here = (goal.at.returns-clause-committed c).After-self-in-loop-self in
-    let s = c.args.self.now in
-    let is = top_is here in
-    let test = c.loop-self-test.false in
-    let high : SPACER ≤ top_at s.puzzle c.loop-self.self.trail c.loop-self.q = omega (arith, is, c.top.ensures, test) in
-    let end = (found here x held).end high in
-    (whole s.puzzle s.room c.loop-self.self c.loop-self.invariant.puzzle c.loop-self.invariant.room end.0, end.1)
+    let end = found (goal.at.returns-clause-committed c).After-self-in-loop-self x held in
+    grind (arith, common_steps, top_is, whole)

@@ -1,19 +1,13 @@
+use Rattle.std.proofs.lemmas.Grind.{common_steps}
 use Rattle.std.proofs.Common.{sym, ap, ◌∙◌, length, arith}
 use Rattle.xc_dance.proofs.LinkedTables.NodeOptions.{next_contained}
-use mathlib.Core.Logic.{inr}
 use Rattle.xc_dance.specs.Moves.{listed_numbers}
 use Rattle.xc_dance.proofs.MoveLemmas.ListLemmas.{next_above-split, next_above-none}
 use Rattle.xc_dance.proofs.MoveLemmas.Shortened.{rises_listed}
 use Rattle.xc_dance.proofs.listed.ListedIterator.next.Goals as goal
 
 pub invariant_of-self : goal.invariant_of-self
-invariant_of-self g c =
-    let d = g.D.Dance.state c.self.inside.dance.now in
-    let ns = listed_numbers d.puzzle d.trail c.self.inside.item in
-    record {
-      item = c.self.invariant.item;
-      last = inr (next_contained c.self.inside.last c.in-Some.o ns (sym c.after-next.ensures ∙ c.in-Some.is));
-    }
+invariant_of-self g c = grind (arith, common_steps, next_contained)
 
 pub returns-in-Some-clause-steps : goal.returns-in-Some-clause-steps
 returns-in-Some-clause-steps g c =

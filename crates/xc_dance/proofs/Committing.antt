@@ -1,0 +1,42 @@
+-- Commits of the uses on one side of an option's node: where a walk over their nodes stands, and its next step.
+use Rattle.std.proofs.Common.{◌≡◌, ℕ, ◌+◌, List, refl}
+use Rattle.xc_input.specs.declared.problem.Use.{Use}
+use Rattle.xc_dance.specs.Commits.{CanStand, after_uses}
+use Rattle.xc_dance.specs.Cost.{HasWritten}
+use Rattle.xc_dance.specs.Linked.{Linked}
+use Rattle.xc_dance.proofs.LinkedTables.Along.{along_first, IsAlong, IsNext, top_at, MayCommit, may_commit, Commits}
+use Rattle.xc_dance.proofs.LinkedTables.Along.{Committed, one_committed}
+use Rattle.xc_dance.proofs.LinkedTables.Written.{written_then}
+
+-- Of an option x that Held tells of, the uses vs x stand from place off x on: those before place q were committed, so
+-- state s became now.
+pub record IsCommitting (Held : ℕ → Type 0) (off : ℕ → ℕ) (vs : ℕ → List Use) (s now : Linked) (q : ℕ) : Type 0 where
+  pub puzzle : now.puzzle ≡ s.puzzle
+  pub room : now.room ≡ s.room
+  pub written : HasWritten s now
+  pub along : (x : ℕ) → Held x → IsAlong s.puzzle (off x) (vs x) s.trail now.trail q
+
+pub none_yet : {Held : ℕ → Type 0} {off : ℕ → ℕ} {vs : ℕ → List Use} (s : Linked) {q : ℕ}
+    → ((x : ℕ) → Held x → q ≡ off x) → IsCommitting Held off vs s s q
+none_yet s {q} e =
+    record { puzzle = refl; room = refl; written = refl; along = λ x held. along_first _ _ q _ _ (e x held) }
+
+-- the node at place q is of the next use, of item j
+module _ {Held : ℕ → Type 0} {off : ℕ → ℕ} {vs : ℕ → List Use} {s now : Linked} {q j : ℕ} where
+  pub may : IsCommitting Held off vs s now q → {x : ℕ} → IsNext s.puzzle x (off x) (vs x) s.trail now.trail q
+      → j ≡ top_at s.puzzle now.trail q → CanStand s.puzzle s.room (after_uses s.puzzle (vs x) s.trail)
+      → MayCommit now.puzzle now.room now.trail q j
+  may a next is can = may_commit now next a.puzzle a.room is can
+
+  pub one_more : (new : Linked) → IsCommitting Held off vs s now q → {x : ℕ} → Held x
+      → ((y : ℕ) → Held y → IsNext s.puzzle y (off y) (vs y) s.trail now.trail q) → j ≡ top_at s.puzzle now.trail q
+      → Commits now q j new → HasWritten now new → IsCommitting Held off vs s new (q + 1)
+  one_more new a {x} held next is made written =
+      let step : (y : ℕ) → Held y → Committed s.puzzle (off y) (vs y) s.trail s.room new (q + 1) =
+      λ y h. one_committed now new (next y h) a.puzzle a.room is made in
+      record {
+        puzzle = (step x held).puzzle;
+        room = (step x held).room;
+        written = written_then s now new a.puzzle a.written written;
+        along = λ y h. (step y h).along;
+      }
