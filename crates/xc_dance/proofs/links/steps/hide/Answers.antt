@@ -1,31 +1,33 @@
-use Rattle.std.proofs.Common.{◌≡◌, ℕ, ◌+◌, ◌<◌, ◌≤◌, List, fold, get_or, ap, sym, subst, arith}
+use Rattle.std.proofs.Common.{◌≡◌, ℕ, ◌+◌, ◌<◌, ◌≤◌, List, fold, get_or, ap, refl, arith}
 use Rattle.std.proofs.lemmas.Grind.{common_steps}
 use Rattle.xc_dance.specs.declared.links.nodes.Nodes.{Nodes}
 use Rattle.xc_dance.specs.inner.Links.Columns.{columns}
 use Rattle.xc_dance.specs.inner.Links.Span.{Span}
-use Rattle.xc_dance.specs.inner.Links.Steps.{hidden, hide_cost, hide_costs, CanHide, CanHideAll, CanHideNode, places}
+use Rattle.xc_dance.specs.inner.Links.Steps.{hidden, hide_cost, CanHide, CanHideAll, CanHideNode, places}
 use Rattle.xc_dance.specs.inner.Links.Steps.{span_at, others_of}
 use Rattle.xc_dance.proofs.LinkedTables.Walks.{places_none, places_more, CanAll-append, underway, step_can, step_on}
-use Rattle.xc_dance.proofs.LinkedTables.Walks.{steps_end, both_reached, Reached, Tells, tells}
+use Rattle.xc_dance.proofs.LinkedTables.Walks.{Tells, tells}
+use Rattle.xc_dance.proofs.Rounds.{Met, met}
 use Rattle.xc_dance.proofs.links.steps.hide.Goals as goal
 use Rattle.xc_dance.proofs.links.steps.hide.Goals.{After-get_at}
 use Rattle.xc_dance.specs.declared.links.nodes.TheConstants.{SPACER}
 
--- the walk up to the spacer, and the one from the first node on
-parts : {spans : List Span} {t : Nodes} {p : ℕ} → CanHideNode spans t p →
-    CanHideAll t (places (p + 1) (span_at spans p).end)
-    × CanHideAll (fold hidden t (places (p + 1) (span_at spans p).end)) (places (span_at spans p).first p)
-parts can = CanAll-append hidden CanHide _ _ _ can.steps
+-- the walk up to the spacer
+up : {spans : List Span} {t : Nodes} {p : ℕ} → CanHideNode spans t p
+    → CanHideAll t (places (p + 1) (span_at spans p).end)
+up can = (CanAll-append hidden CanHide _ _ _ can.steps).0
+
+-- the tables where the walk is
+abbrev now : After-get_at → Nodes
+now c = columns c.loop-top.top c.loop-top.links c.args.color.now
 
 -- what TOP tells
-told : (c : After-get_at) → (let s = span_at c.args.spans.now c.args.p in
-    Tells (columns c.loop-top.top c.loop-top.links c.args.color.now)
-    (fold hidden (columns c.args.top.now c.args.links.now c.args.color.now) (places (c.args.p + 1) s.end))
-    c.loop-top.q s.end (places c.loop-top.q s.end))
+told : (c : After-get_at) → (let end = (span_at c.args.spans.now c.args.p).end in
+    Tells (now c) (fold hidden (columns c.args.top.now c.args.links.now c.args.color.now) (places (c.args.p + 1) end))
+    c.loop-top.q end (places c.loop-top.q end))
 told c = grind (arith, common_steps, places_more, places_none, tells)
 
-high : (c : After-get_at) → SPACER ≤ c.get_at.result
-    → SPACER ≤ get_or (columns c.loop-top.top c.loop-top.links c.args.color.now).top c.loop-top.q 0
+high : (c : After-get_at) → SPACER ≤ c.get_at.result → SPACER ≤ get_or (now c).top c.loop-top.q 0
 high c h = let e = c.get_at.ensures in omega (arith, e, h)
 
 -- there is a step to make
@@ -34,7 +36,7 @@ goes c low = let e = c.get_at.ensures in let ne = (told c).low (omega (arith, e,
     c.loop-top.invariant.to in omega (arith, ne, to)
 
 pub loop-top-init : goal.loop-top-init
-loop-top-init c = grind (arith, common_steps, underway, parts)
+loop-top-init c = grind (arith, common_steps, underway, up)
 
 pub get_at-requires : goal.get_at-requires
 get_at-requires c = grind (arith, common_steps, places_more, places_none, tells)
@@ -58,18 +60,21 @@ up_at-first-requires c =
     let at = (goal.at.up_at-first-requires c).After-get_at in grind (arith, common_steps, told at, high at)
 
 -- the spacer leads to the first node
-leads : (c : After-get_at) → SPACER ≤ c.get_at.result → (first : ℕ)
-    → first ≡ get_or (columns c.loop-top.top c.loop-top.links c.args.color.now).ulink c.loop-top.q 0
+leads : (c : After-get_at) → SPACER ≤ c.get_at.result → (first : ℕ) → first ≡ get_or (now c).ulink c.loop-top.q 0
     → first ≡ (span_at c.args.spans.now c.args.p).first
 leads c met first is = grind (arith, common_steps, high c, told c)
 
+-- and there the rest of the walk begins
+rest : (c : After-get_at) → SPACER ≤ c.get_at.result → (first : ℕ) → first ≡ get_or (now c).ulink c.loop-top.q 0
+    → Met hidden hide_cost CanHide (columns c.args.top.now c.args.links.now c.args.color.now)
+    (others_of c.args.spans.now c.args.p) (now c) c.loop-top.above (places first c.args.p)
+rest c spacer first is =
+    met _ _ _ _ _ refl c.requires.can.steps c.loop-top.invariant.walk (told c) (high c spacer)
+    (ap (λ a. places a c.args.p) (leads c spacer first is))
+
 pub hide_range-below-requires-clause-can : goal.hide_range-below-requires-clause-can
-hide_range-below-requires-clause-can c =
-    let at = (goal.at.hide_range-below-requires-clause-can c).After-get_at in
-    let t : Nodes = columns c.loop-top.top c.loop-top.links c.args.color.now in
-    subst (λ a. CanHideAll t (places a c.args.p)) (sym (leads at c.loop-top-test.false _ c.up_at-first.ensures))
-    (subst (λ (u : Nodes). CanHideAll u (places (span_at c.args.spans.now c.args.p).first c.args.p))
-    (sym ((told at).is (high at c.loop-top-test.false))) (parts c.requires.can).1)
+hide_range-below-requires-clause-can c = (rest (goal.at.hide_range-below-requires-clause-can c).After-get_at
+    c.loop-top-test.false _ c.up_at-first.ensures).can
 
 pub hide_range-below-requires-clause-unmarked : goal.hide_range-below-requires-clause-unmarked
 hide_range-below-requires-clause-unmarked c = λ m q from below.
@@ -78,20 +83,10 @@ hide_range-below-requires-clause-unmarked c = λ m q from below.
     c.up_at-first.result c.up_at-first.ensures in
     ((c.requires.unmarked m).others c.args.p c.requires.span).1 q (omega (arith, first, from)) below
 
--- both walks
-whole : (c : After-get_at) → SPACER ≤ c.get_at.result → {first : ℕ} → first ≡ get_or
-    (columns c.loop-top.top c.loop-top.links c.args.color.now).ulink c.loop-top.q 0 → {u : Nodes} {m : ℕ} →
-    u ≡ fold hidden (columns c.loop-top.top c.loop-top.links c.args.color.now) (places first c.args.p)
-    → m ≡ hide_costs (columns c.loop-top.top c.loop-top.links c.args.color.now) (places first c.args.p) →
-    Reached hidden hide_cost (columns c.args.top.now c.args.links.now c.args.color.now)
-    (others_of c.args.spans.now c.args.p) u (c.loop-top.above + m)
-whole c met is done cost = both_reached _ _ _ _ (steps_end ((told c).none (high c met)) c.loop-top.invariant.walk)
-    (ap (λ a. places a c.args.p) (leads c met _ is)) done cost
-
 pub returns-clause-done : goal.returns-clause-done
-returns-clause-done c = (whole (goal.at.returns-clause-done c).After-get_at c.loop-top-test.false c.up_at-first.ensures
-    c.hide_range-below.ensures.done c.hide_range-below.ensures.cost).done
+returns-clause-done c = ((rest (goal.at.returns-clause-done c).After-get_at c.loop-top-test.false _
+    c.up_at-first.ensures).round _ _ c.hide_range-below.ensures.done c.hide_range-below.ensures.cost).done
 
 pub returns-clause-cost : goal.returns-clause-cost
-returns-clause-cost c = (whole (goal.at.returns-clause-cost c).After-get_at c.loop-top-test.false c.up_at-first.ensures
-    c.hide_range-below.ensures.done c.hide_range-below.ensures.cost).cost
+returns-clause-cost c = ((rest (goal.at.returns-clause-cost c).After-get_at c.loop-top-test.false _
+    c.up_at-first.ensures).round _ _ c.hide_range-below.ensures.done c.hide_range-below.ensures.cost).cost

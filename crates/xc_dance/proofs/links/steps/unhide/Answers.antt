@@ -1,14 +1,15 @@
-use Rattle.std.proofs.Common.{◌≡◌, ℕ, ◌+◌, ◌-◌, ◌<◌, ◌≤◌, ◌++◌, List, ◌∷◌, fold, reverse, get_or, ap, sym, subst}
+use Rattle.std.proofs.Common.{◌≡◌, ℕ, ◌+◌, ◌-◌, ◌<◌, ◌≤◌, ◌++◌, List, ◌∷◌, fold, reverse, get_or, ap, subst}
 use Rattle.std.proofs.Common.{arith}
 use Rattle.std.proofs.lemmas.Grind.{common_steps}
 use Rattle.std.proofs.lemmas.List.{reverse-append}
 use Rattle.xc_dance.specs.declared.links.nodes.Nodes.{Nodes}
 use Rattle.xc_dance.specs.inner.Links.Columns.{columns}
 use Rattle.xc_dance.specs.inner.Links.Span.{Span}
-use Rattle.xc_dance.specs.inner.Links.Steps.{unhidden, hide_cost, unhide_costs, CanUnhide, CanUnhideAll, CanUnhideNode}
+use Rattle.xc_dance.specs.inner.Links.Steps.{unhidden, hide_cost, CanUnhide, CanUnhideAll, CanUnhideNode}
 use Rattle.xc_dance.specs.inner.Links.Steps.{places, others, others_of, span_at}
 use Rattle.xc_dance.proofs.LinkedTables.Walks.{places_none, reverse-places, CanAll-append, underway, step_can, step_on}
-use Rattle.xc_dance.proofs.LinkedTables.Walks.{steps_end, both_reached, Reached, Tells, tells}
+use Rattle.xc_dance.proofs.LinkedTables.Walks.{Tells, tells}
+use Rattle.xc_dance.proofs.Rounds.{Met, met}
 use Rattle.xc_dance.proofs.links.steps.unhide.Goals as goal
 use Rattle.xc_dance.proofs.links.steps.unhide.Goals.{After-get_at}
 use Rattle.xc_dance.specs.declared.links.nodes.TheConstants.{SPACER}
@@ -16,27 +17,28 @@ use Rattle.xc_dance.specs.declared.links.nodes.TheConstants.{SPACER}
 both : (p first end : ℕ) → reverse (others p first end) ≡ reverse (places first p) ++ reverse (places (p + 1) end)
 both p first end = reverse-append (places (p + 1) end) (places first p)
 
--- the walk down to the spacer, and the one from the last node on
-parts : {spans : List Span} {t : Nodes} {p : ℕ} → CanUnhideNode spans t p →
-    CanUnhideAll t (reverse (places (span_at spans p).first p)) × CanUnhideAll
-    (fold unhidden t (reverse (places (span_at spans p).first p))) (reverse (places (p + 1) (span_at spans p).end))
-parts {spans} {t} {p} can =
+-- the walk down to the spacer
+down : {spans : List Span} {t : Nodes} {p : ℕ} → CanUnhideNode spans t p
+    → CanUnhideAll t (reverse (places (span_at spans p).first p))
+down {spans} {t} {p} can =
     let s = span_at spans p in
-    CanAll-append unhidden CanUnhide _ _ _ (subst (CanUnhideAll t) (both p s.first s.end) can.steps)
+    (CanAll-append unhidden CanUnhide _ _ _ (subst (CanUnhideAll t) (both p s.first s.end) can.steps)).0
 
 -- the next place down
 next : (first q : ℕ) → 0 < first → first ≤ q → reverse (places first (q + 1)) ≡ q ∷ reverse (places first (q - 1 + 1))
 next first q pos le = let same : q - 1 + 1 ≡ q = omega (arith, pos, le) in grind (arith, common_steps, reverse-places)
 
+-- the tables where the walk is
+abbrev now : After-get_at → Nodes
+now c = columns c.loop-top.top c.loop-top.links c.args.color.now
+
 -- what TOP tells
-told : (c : After-get_at) → (let s = span_at c.args.spans.now c.args.p in
-    Tells (columns c.loop-top.top c.loop-top.links c.args.color.now)
+told : (c : After-get_at) → (let s = span_at c.args.spans.now c.args.p in Tells (now c)
     (fold unhidden (columns c.args.top.now c.args.links.now c.args.color.now) (reverse (places s.first c.args.p)))
     c.loop-top.q (s.first - 1) (reverse (places s.first (c.loop-top.q + 1))))
 told c = grind (arith, common_steps, places_none, tells, next)
 
-high : (c : After-get_at) → SPACER ≤ c.get_at.result
-    → SPACER ≤ get_or (columns c.loop-top.top c.loop-top.links c.args.color.now).top c.loop-top.q 0
+high : (c : After-get_at) → SPACER ≤ c.get_at.result → SPACER ≤ get_or (now c).top c.loop-top.q 0
 high c h = let e = c.get_at.ensures in omega (arith, e, h)
 
 -- there is a step to make
@@ -45,7 +47,7 @@ goes c low = let e = c.get_at.ensures in let ne = (told c).low (omega (arith, e,
     c.loop-top.invariant.from in omega (arith, ne, from)
 
 pub loop-top-init : goal.loop-top-init
-loop-top-init c = grind (arith, common_steps, underway, parts)
+loop-top-init c = grind (arith, common_steps, underway, down)
 
 pub get_at-requires : goal.get_at-requires
 get_at-requires c = grind (arith, common_steps, places_none, tells, next)
@@ -67,22 +69,26 @@ pub down_at-requires : goal.down_at-requires
 down_at-requires c = let at = (goal.at.down_at-requires c).After-get_at in grind (arith, common_steps, told at, high at)
 
 -- the spacer leads to the last node
-leads : (c : After-get_at) → SPACER ≤ c.get_at.result → (last : ℕ)
-    → last ≡ get_or (columns c.loop-top.top c.loop-top.links c.args.color.now).dlink c.loop-top.q 0
+leads : (c : After-get_at) → SPACER ≤ c.get_at.result → (last : ℕ) → last ≡ get_or (now c).dlink c.loop-top.q 0
     → last + 1 ≡ (span_at c.args.spans.now c.args.p).end
 leads c met last is = grind (arith, common_steps, high c, told c)
 
 pub overflow_add-end : goal.overflow_add-end
 overflow_add-end c = grind (arith, common_steps, leads)
 
+-- and there the rest of the walk begins
+rest : (c : After-get_at) → SPACER ≤ c.get_at.result → (last : ℕ) → last ≡ get_or (now c).dlink c.loop-top.q 0
+    → Met unhidden hide_cost CanUnhide (columns c.args.top.now c.args.links.now c.args.color.now)
+    (reverse (others_of c.args.spans.now c.args.p)) (now c) c.loop-top.below
+    (reverse (places (c.args.p + 1) (last + 1)))
+rest c spacer last is =
+    let s = span_at c.args.spans.now c.args.p in
+    met _ _ _ _ _ (both c.args.p s.first s.end) c.requires.can.steps c.loop-top.invariant.walk (told c) (high c spacer)
+    (ap (λ b. reverse (places (c.args.p + 1) b)) (leads c spacer last is))
+
 pub unhide_range-above-requires-clause-can : goal.unhide_range-above-requires-clause-can
-unhide_range-above-requires-clause-can c =
-    let at = (goal.at.unhide_range-above-requires-clause-can c).After-get_at in
-    let t : Nodes = columns c.loop-top.top c.loop-top.links c.args.color.now in
-    subst (λ b. CanUnhideAll t (reverse (places (c.args.p + 1) b)))
-    (sym (leads at c.loop-top-test.false _ c.down_at.ensures))
-    (subst (λ (u : Nodes). CanUnhideAll u (reverse (places (c.args.p + 1) (span_at c.args.spans.now c.args.p).end)))
-    (sym ((told at).is (high at c.loop-top-test.false))) (parts c.requires.can).1)
+unhide_range-above-requires-clause-can c = (rest (goal.at.unhide_range-above-requires-clause-can c).After-get_at
+    c.loop-top-test.false _ c.down_at.ensures).can
 
 pub unhide_range-above-requires-clause-unmarked : goal.unhide_range-above-requires-clause-unmarked
 unhide_range-above-requires-clause-unmarked c = λ m q from below.
@@ -91,25 +97,10 @@ unhide_range-above-requires-clause-unmarked c = λ m q from below.
     c.down_at.result c.down_at.ensures in
     ((c.requires.unmarked m).others c.args.p c.requires.span).0 q from (omega (arith, end, below))
 
--- both walks
-whole : (c : After-get_at) → SPACER ≤ c.get_at.result → {end : ℕ} → end ≡ (span_at c.args.spans.now c.args.p).end
-    → {u : Nodes} {m : ℕ} →
-    u ≡ fold unhidden (columns c.loop-top.top c.loop-top.links c.args.color.now) (reverse (places (c.args.p + 1) end))
-    → m ≡ unhide_costs (columns c.loop-top.top c.loop-top.links c.args.color.now) (reverse (places (c.args.p + 1) end))
-    → Reached unhidden hide_cost (columns c.args.top.now c.args.links.now c.args.color.now)
-    (reverse (others_of c.args.spans.now c.args.p)) u (c.loop-top.below + m)
-whole c met is {u} {m} done cost =
-    let s = span_at c.args.spans.now c.args.p in
-    subst (λ qs. Reached unhidden hide_cost (columns c.args.top.now c.args.links.now c.args.color.now) qs u
-    (c.loop-top.below + m)) (sym (both c.args.p s.first s.end))
-    (both_reached _ _ _ _ (steps_end ((told c).none (high c met)) c.loop-top.invariant.walk)
-    (ap (λ b. reverse (places (c.args.p + 1) b)) is) done cost)
-
 pub returns-clause-done : goal.returns-clause-done
-returns-clause-done c = grind (arith, common_steps, leads, whole)
+returns-clause-done c = ((rest (goal.at.returns-clause-done c).After-get_at c.loop-top-test.false _
+    c.down_at.ensures).round _ _ c.unhide_range-above.ensures.done c.unhide_range-above.ensures.cost).done
 
 pub returns-clause-cost : goal.returns-clause-cost
-returns-clause-cost c =
-    let at = (goal.at.returns-clause-cost c).After-get_at in
-    (whole at c.loop-top-test.false (leads at c.loop-top-test.false _ c.down_at.ensures)
-    c.unhide_range-above.ensures.done c.unhide_range-above.ensures.cost).cost
+returns-clause-cost c = ((rest (goal.at.returns-clause-cost c).After-get_at c.loop-top-test.false _
+    c.down_at.ensures).round _ _ c.unhide_range-above.ensures.done c.unhide_range-above.ensures.cost).cost
