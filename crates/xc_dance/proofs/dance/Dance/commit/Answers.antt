@@ -1,6 +1,6 @@
-use Rattle.std.proofs.Common.{◌≡◌, ◌+◌, ◌-◌, ℕ, List, ap, subst, drop, take, length}
+use Rattle.std.proofs.Common.{◌≡◌, ◌+◌, ◌-◌, ℕ, List, subst, drop, take, length}
 use Rattle.xc_input.specs.declared.problem.Use.{Use}
-use Rattle.xc_input.specs.Problem.{Puzzle, uses_of}
+use Rattle.xc_input.specs.Problem.{uses_of}
 use Rattle.xc_dance.specs.Dancing.{Dancing}
 use Rattle.xc_dance.specs.Commits.{CanStand, IsUseAt, others}
 use Rattle.xc_dance.proofs.MoveLemmas.Commits.{committed, stood_before}
@@ -21,10 +21,7 @@ whole : (g : _) (c : After-place_in-at g) (x : ℕ)
     → IsUseAt (g.Self.Dance.state c.args.self.now).puzzle c.args.i x c.args.place
     → (let s = g.Self.Dance.state c.args.self.now in let us = c.option-uses.result.now in let k = c.place_in-at.result
     in committed (others c.args.i (uses_of s.puzzle x)) s ≡ committed (take k us) (behind k us s))
-whole g c x u =
-    let s = g.Self.Dance.state c.args.self.now in
-    let there = subst (λ (p : Puzzle). IsUseAt p c.args.i x c.args.place) c.requires.same u in
-    ap (λ t. record s { trail = t }) (grind (arith, common_steps, after_uses-append, length-drop, take-length))
+whole g c x u = grind (arith, common_steps, after_uses-append, length-drop, take-length)
 
 -- it may stand
 abbrev Stands : Dancing → Type 0

@@ -66,7 +66,8 @@ pub returns-in-Some-clause-place : goal.returns-in-Some-clause-place
 returns-in-Some-clause-place g c = λ x at. grind (arith, common_steps, some_next)
 
 pub returns-in-Some-clause-option : goal.returns-in-Some-clause-option
-returns-in-Some-clause-option g c = λ x at. grind (arith, common_steps, place_tells, some_next)
+returns-in-Some-clause-option g c = λ x at.
+    place_tells (g.Self.Dance.state c.args.self.now) _ x _ c.requires.item (returns-in-Some-clause-place g c x at)
 
 -- ---- and if there is none
 
@@ -92,4 +93,5 @@ returns-in-None-clause-place g c = λ x at.
     ap (λ n. link_place (g.Self.Dance.state c.args.self.now).puzzle c.args.i (unwrap_or n 0)) (sym (own_next g c x at))
 
 pub returns-in-None-clause-option : goal.returns-in-None-clause-option
-returns-in-None-clause-option g c = λ x at. grind (arith, common_steps, own_next, place_tells)
+returns-in-None-clause-option g c = λ x at.
+    place_tells (g.Self.Dance.state c.args.self.now) _ x _ c.requires.item (returns-in-None-clause-place g c x at)
