@@ -11,10 +11,9 @@ pub commit_behind-end-requires : goal.commit_behind-end-requires
 commit_behind-end-requires c =
     let s = c.args.self.now in
     let x = c.requires.can.0 in
-    let behind = uses_behind s.puzzle c.args.i x in
     let before = uses_before s.puzzle c.args.i x in
-    let can = subst (CanStand s.puzzle s.room) (after_uses-append s.puzzle behind before s.trail) c.requires.can.2 in
-    (x, c.requires.can.1, stood_before _ _ before _ can)
+    let both = after_uses-append s.puzzle (uses_behind s.puzzle c.args.i x) before s.trail in
+    (x, c.requires.can.1, stood_before _ _ before _ (subst (CanStand s.puzzle s.room) both c.requires.can.2))
 
 pub commit_before-requires-clause-can : goal.commit_before-requires-clause-can
 commit_before-requires-clause-can c = grind (arith, common_steps, after_uses-append)
