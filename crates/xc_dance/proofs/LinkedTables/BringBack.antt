@@ -1,8 +1,9 @@
 -- Down the nodes that Tweaks of one item took off: each option comes back into the lists of its other items, and into
 -- its own.
-use Rattle.std.proofs.Common.{◌≡◌, ◌≢◌, ℕ, ◌+◌, ◌<◌, ◌≤◌, ◌^◌, true, false, cond, List, [], ◌∷◌, length, map}
+use Rattle.std.proofs.Common.{◌≡◌, ◌≢◌, ℕ, ◌+◌, ◌<◌, ◌≤◌, ◌^◌, true, false, cond, ◌||◌, eqb, List, [], ◌∷◌, length, map}
 use Rattle.std.proofs.Common.{fold, get_or, set, refl, ap, sym, subst, ◌∙◌, arith, eqb-true, eq-eqb, inr, Bool}
-use Rattle.std.proofs.Common.{not, ◌&&◌, ◌++◌, filter, reverse, ap₂}
+use Rattle.std.proofs.Common.{not, ◌&&◌, ◌++◌, filter, reverse, ap₂, ne_eqb}
+use Rattle.std.specs.List.{list_any}
 use Rattle.std.proofs.lemmas.Grind.{common_steps}
 use Rattle.std.proofs.lemmas.Bool.{false≢true, and_parts}
 use Rattle.std.proofs.lemmas.List.{length-map}
@@ -25,22 +26,22 @@ use Rattle.xc_dance.specs.inner.Links.TweaksBack.{with_ulink, brought_back, brin
 use Rattle.xc_dance.specs.inner.Links.Others.{before_use, behind_use}
 use Rattle.xc_dance.specs.inner.Links.Made.{IsFitted}
 use Rattle.xc_dance.proofs.LinkedTables.LinkColumns.{same_nodes, unhidden-open, unhidden-marked, set_link, set_top}
-use Rattle.xc_dance.proofs.LinkedTables.LinkColumns.{get_item, size_from, node_cells, map_same, Stands, get_down}
-use Rattle.xc_dance.proofs.LinkedTables.OneOption.{is_mark, IsApart, AllApart, changed_one, changed_all, one_other}
+use Rattle.xc_dance.proofs.LinkedTables.LinkColumns.{get_item, size_from, node_cells, map_same, get_down}
+use Rattle.xc_dance.proofs.LinkedTables.OneOption.{is_mark, apart_in, AllApart, changed_one, changed_all, one_other}
 use Rattle.xc_dance.proofs.LinkedTables.OneOption.{all_at, line_here, line_there}
 use Rattle.xc_dance.proofs.LinkedTables.Sweep.{mended, with_line, in_above, put_at}
 use Rattle.xc_dance.proofs.LinkedTables.Sweep.{other_items, is_in-first, in_more}
 use Rattle.xc_dance.proofs.LinkedTables.OtherItems.{out_of, leaves, in_others, others_apart, own_apart}
 use Rattle.xc_dance.proofs.LinkedTables.OtherItems.{item_range, in_reverse, apart_reverse}
 use Rattle.xc_dance.proofs.LinkedTables.UnmarkedNodes.{costs-are, unhidden_color, unmarked-reverse, unmarked_items}
-use Rattle.xc_dance.proofs.LinkedTables.GoodLines.{IsMember, Named, IsGood, member, all_good, numbers_named}
+use Rattle.xc_dance.proofs.LinkedTables.GoodLines.{Named, listed_member, numbers_named}
 use Rattle.xc_dance.proofs.MoveLemmas.Members.{element_of}
 use Rattle.xc_dance.proofs.MoveLemmas.Shortened.{rises_listed}
-use Rattle.xc_dance.proofs.LinkedTables.MarkedNodes.{stands_in}
 use Rattle.xc_dance.proofs.LinkedTables.Leaving.{met_at}
 use Rattle.xc_dance.proofs.LinkedTables.Regained.{Regaining, regaining_len}
 use Rattle.xc_dance.proofs.LinkedTables.Spacers.{others_are, can_unhide_node}
 use Rattle.xc_dance.proofs.LinkedTables.TweakStep.{to_come, back_writes}
+use Rattle.xc_dance.proofs.LinkedTables.Walks.{map_reverse}
 
 -- ---- an option comes back into the lists of some of its items, whatever state these lists are in: what a step of
 -- unhide does where its neighbours are named
@@ -96,9 +97,6 @@ pub record Returning (p : Puzzle) (col : Node → ℕ) (ln : ℕ → Line) (o j 
   pub le : j ≤ item_count p
   pub name : IsName p j o
   pub returner : is_mark p col o j ≡ false → IsReturner p j (ln j) o
-
-apart_in : (j k : ℕ) (js : List ℕ) → IsApart j js → is_in k js ≡ true → j ≢ k
-apart_in j k js apart e h = false≢true (sym (out_of _ _ apart) ∙ ap (λ m. is_in m js) h ∙ e)
 
 pub record UnhiddenAll (t u : Nodes) (qs : List ℕ) : Type 0 where
   pub can : CanUnhideAll t qs
@@ -164,10 +162,6 @@ raised_is {p} col ln {i} o laid h = same_nodes _
 
 -- ---- one step
 
-pub map_reverse : (f : ℕ → ℕ) (xs : List ℕ) → reverse (map f xs) ≡ map f (reverse xs)
-map_reverse f [] = grind (arith, common_steps)
-map_reverse f (x ∷ xs) = grind (arith, common_steps, map_reverse f xs)
-
 -- the lines when the option is back in the lists of its other items
 pub record Opened (p : Puzzle) (t : List Move) (spans : List Span) (covered : Bool) (i : ℕ) (ln : ℕ → Line) (o : ℕ)
     (os : List ℕ) : Type 0 where
@@ -218,14 +212,12 @@ opened_open {p} {t} {spans} {i} {ln} {o} {os} legal fit opened o_pos named withi
           let nb = comes j (ap₂ (λ a b. a && not b) in_js un) r.0 r.1 ne in
           let met = met_at p t i legal laid fit.fit opened j o r.0 r.1 within j_named in
           let j_open : is_open j t ≡ true = grind (arith, common_steps, false≢true) in
-          let st : Stands (listed_numbers p t j) o = stands_in o (listed_numbers p t j) (met.opened j_open).1 in
-          let good = subst (IsGood p j (line_of p t j)) st.is (all_good p t fit.fit j r.0 r.1) in
-          let m : IsMember p j (line_of p t j) o = member p j (line_of p t j) st.ys o st.zs r.0 r.1 good in
+          let m = listed_member t j o fit.fit r (met.opened j_open).1 in
           record {
             name = m.name;
             above = subst (IsName p j) (sym nb.0) m.above;
             below = subst (IsName p j) (sym nb.1) m.below;
-            few = omega (arith, regaining_len _ _ _ (h.others j r.0 r.1 ne), good.len, good.few);
+            few = omega (arith, regaining_len _ _ _ (h.others j r.0 r.1 ne), m.few);
           };
     } in
     let w = unhidden_walk p col ln o back laid o_pos apart (λ j e. returning j (sym (in_reverse j js) ∙ e)) in
@@ -271,8 +263,7 @@ by_opened {p} {t} {covered} {i} {n} {ln} {o} {os} fit pos le within h m1 =
     let l : Line = line_of p t i in
     let ln1 : ℕ → Line = m1.ln1 in
     let t1 : Nodes = nodes_from p ln1 (color_in p t) in
-    let st : Stands (listed_numbers p t i) o = stands_in _ _ within in
-    let m : IsMember p i l o = member _ _ _ _ _ _ pos le (subst (IsGood p i l) st.is (all_good _ t fit.fit i pos le)) in
+    let m = listed_member t i o fit.fit (pos, le) within in
     let own : ln1 i ≡ half n h.line l = m1.own ∙ h.is in
     let down_is : (ln1 i).down o ≡ l.down o = ap (λ (k : Line). k.down o) own in
     let here = laid.there i o pos le m.name in

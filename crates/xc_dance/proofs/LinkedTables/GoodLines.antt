@@ -1,7 +1,7 @@
 -- Lines that stand for lists: a member leaves, a node leaves with it, and the lines after moves are such lines.
 use Rattle.std.proofs.Common.{◌≡◌, ◌≢◌, ℕ, ◌-◌, ◌<◌, ◌≤◌, ◌^◌, true, false, eqb, length, map, get_or, set, Some, refl}
-use Rattle.std.proofs.Common.{ap, ap₂, sym, subst, ◌∙◌, arith, eqb-true, ◌+◌, ◌⊎◌, inl, inr, Bool, cond, List, [], ◌∷◌}
-use Rattle.std.proofs.Common.{◌++◌, length-append, filter, Option, None}
+use Rattle.std.proofs.Common.{ap, ap₂, sym, subst, ◌∙◌, arith, eqb-true, ◌+◌, inl, inr, Bool, List, [], ◌∷◌}
+use Rattle.std.proofs.Common.{filter, Option, None}
 use Rattle.std.specs.Prelude.{slice_get, is_some}
 use Rattle.std.specs.List.{AllByRecursion}
 use Rattle.std.proofs.lemmas.Grind.{common_steps}
@@ -21,21 +21,26 @@ use Rattle.xc_input.proofs.lists.EachElement.{each-map, each_weaker}
 use Rattle.xc_dance.proofs.LinkedTables.PlaceLemmas.{behind_items}
 use Rattle.xc_dance.proofs.LinkedTables.LinkColumns.{set_link, set_top, size_from, NodeCells}
 use Rattle.xc_dance.proofs.LinkedTables.LinkColumns.{node_cells, get_up, get_down, CanUnhide-unlinked, same_nodes}
-use Rattle.xc_dance.proofs.LinkedTables.LinkColumns.{hidden-open, hidden-marked, unhidden-marked, unhidden-hidden}
+use Rattle.xc_dance.proofs.LinkedTables.LinkColumns.{hidden-open, hidden-marked, unhidden-marked}
 use Rattle.xc_dance.proofs.LinkedTables.LinkColumns.{IsLinked, map_same}
-use Rattle.xc_dance.proofs.LinkedTables.Sweep.{cut, with_line, IsLinkedFrom, put_at-other, cut-linked, stands, Swept}
+use Rattle.xc_dance.proofs.LinkedTables.Sweep.{cut, with_line, IsLinkedFrom, put_at-other, stands, Swept}
 use Rattle.xc_dance.proofs.LinkedTables.Sweep.{swept, swept_len, stay, cuts, up_after, down_after}
 use Rattle.xc_dance.proofs.MoveLemmas.ListLemmas.{length-listed}
 use Rattle.xc_dance.proofs.MoveLemmas.Shortened.{holds_use, holders}
 use Rattle.xc_dance.specs.declared.links.nodes.TheConstants.{MARK, SPACER}
+use Rattle.xc_dance.proofs.LinkedTables.LinkColumns.{relinked-unlinked, unhidden-open}
+use Rattle.xc_dance.specs.Fields.{is_in}
+use Rattle.std.proofs.lemmas.Bool.{false≢true}
+use Rattle.xc_dance.proofs.LinkedTables.Sweep.{by_first, put_at-same}
 
 -- ---- one node of the table leaves its list or comes back: so does one member of its item's line
 
--- ---- one step
+abbrev pub InRange : Puzzle → ℕ → Type 0
+InRange p j = (0 < j) × (j ≤ item_count p)
 
 -- what a step needs of member o of item j
 pub record IsMember (p : Puzzle) (j : ℕ) (l : Line) (o : ℕ) : Type 0 where
-  pub item : (0 < j) × (j ≤ item_count p)
+  pub item : InRange p j
   pub pos : 0 < o
   pub name : IsName p j o
   pub above : IsName p j (l.up o)
@@ -43,6 +48,7 @@ pub record IsMember (p : Puzzle) (j : ℕ) (l : Line) (o : ℕ) : Type 0 where
   pub up_back : l.down (l.up o) ≡ o
   pub down_back : l.up (l.down o) ≡ o
   pub some : 0 < l.len
+  pub few : l.len < 2 ^ 31
 
 pub member_cells : (p : Puzzle) (col : Node → ℕ) (ln : ℕ → Line) (j o : ℕ) → IsLaid p → IsMember p j (ln j) o
     → NodeCells p ln col j o
@@ -66,30 +72,28 @@ linked-is p col ln j o laid m =
 
 -- ---- a step of hide
 
--- what a walk needs of a step at q, which leads to u
+-- a step of hide at q leads from t to u, and that of unhide back
 pub record Step (t u : Nodes) (q : ℕ) : Type 0 where
   pub can : CanHide t q
-  pub undone : unhidden (hidden t q) q ≡ t
-  pub back : CanUnhide (hidden t q) q
   pub done : hidden t q ≡ u
+  pub back : CanUnhide u q
+  pub undone : unhidden u q ≡ t
 
 pub step_open : (p : Puzzle) (col : Node → ℕ) (ln : ℕ → Line) (j o : ℕ) → IsLaid p → IsMember p j (ln j) o
-    → (ln j).len < 2 ^ 31 → eqb (get_or (map (col) (layout p)) (link_place p j o) 0) MARK ≡ false →
+    → eqb (get_or (map (col) (layout p)) (link_place p j o) 0) MARK ≡ false →
     Step (nodes_from p ln col) (nodes_from p (with_line ln j (cut (ln j) o)) col) (link_place p j o)
-step_open p col ln j o laid m few color =
+step_open p col ln j o laid m color =
     let q = link_place p j o in
-    let tb : Nodes = nodes_from p ln col in
+    let t : Nodes = nodes_from p ln col in
     let c = member_cells p col ln j o laid m in
     let linked = linked-is p col ln j o laid m in
-    let is : hidden tb q ≡ unlinked tb q = hidden-open tb q color in
-    record {
+    subst (λ (u : Nodes). Step t u q) (unlinked-is p col ln j o laid m) (record {
       can = grind (arith, common_steps);
-      undone = unhidden-hidden tb q (λ e. linked);
-      back = subst (λ (u : Nodes). CanUnhide u q) (sym is)
-          (CanUnhide-unlinked tb q (size_from p ln col) c.names linked (omega (arith, c.item, m.item.1, laid.small))
-          (omega (arith, ap (λ k. get_or tb.top k 0) c.item ∙ c.len, few)));
-      done = is ∙ unlinked-is p col ln j o laid m;
-    }
+      done = hidden-open t q color;
+      back = CanUnhide-unlinked t q (size_from p ln col) c.names linked (omega (arith, c.item, m.item.1, laid.small))
+          (omega (arith, ap (λ k. get_or t.top k 0) c.item ∙ c.len, m.few));
+      undone = unhidden-open (unlinked t q) q color ∙ relinked-unlinked t q linked;
+    })
 
 pub step_marked : (p : Puzzle) (col : Node → ℕ) (ln : ℕ → Line) (q : ℕ) → q < length (layout p)
     → get_or (map (top_in ln) (layout p)) q 0 < SPACER → eqb (get_or (map (col) (layout p)) q 0) MARK ≡ true
@@ -109,69 +113,45 @@ pub record IsGood (p : Puzzle) (j : ℕ) (l : Line) (xs : List ℕ) : Type 0 whe
   pub len : l.len ≡ length xs
   pub few : length xs < 2 ^ 31
 
--- what stands at member o of a list behind a: its neighbours, which lead back to it
-record At (p : Puzzle) (j : ℕ) (l : Line) (a o : ℕ) : Type 0 where
-  name : Named p j o
-  above : IsName p j (l.up o)
-  below : IsName p j (l.down o)
-  up_back : l.down (l.up o) ≡ o
-  down_back : l.up (l.down o) ≡ o
-  higher : (a < o) × (a ≤ l.up o)
-  lower : (l.down o ≡ 0) ⊎ (o < l.down o)
+-- a member of a list that is linked from a on
+at_member : (p : Puzzle) (j : ℕ) (l : Line) (a : ℕ) (xs : List ℕ) (o : ℕ) → InRange p j → 0 < l.len → l.len < 2 ^ 31
+    → IsName p j a → IsLinkedFrom l a xs → AllByRecursion (Named p j) xs → is_in o xs ≡ true → IsMember p j l o
+at_member p j l a [] o r some few n h named e = absurd (false≢true e)
+at_member p j l a (y ∷ []) o r some few n h named e = grind (arith, common_steps, eqb-true)
+at_member p j l a (y ∷ z ∷ zs) o r some few n h named e =
+    let rest = at_member p j l y (z ∷ zs) o r some few (inr (omega (arith, h.0), named.0)) h.3 named.1 in
+    grind (arith, common_steps, eqb-true)
 
-at_member : (p : Puzzle) (j : ℕ) (l : Line) (a : ℕ) (ys : List ℕ) (o : ℕ) (zs : List ℕ) → IsName p j a
-    → IsLinkedFrom l a (ys ++ o ∷ zs) → AllByRecursion (Named p j) (ys ++ o ∷ zs) → At p j l a o
-at_member p j l a [] o [] n h named = grind (arith, common_steps)
-at_member p j l a [] o (z ∷ zs) n h named = grind (arith, common_steps)
-at_member p j l a (y ∷ ys) o zs n h named =
-    let r = at_member p j l y ys o zs (inr (omega (arith, h.0), named.0)) h.3 named.1 in grind (arith, common_steps)
+pub member : (p : Puzzle) (j : ℕ) (l : Line) (xs : List ℕ) (o : ℕ) → 0 < j → j ≤ item_count p → IsGood p j l xs
+    → is_in o xs ≡ true → IsMember p j l o
+member p j l [] o pos le g e = absurd (false≢true e)
+member p j l (x ∷ xs) o pos le g e =
+    at_member p j l 0 (x ∷ xs) o (pos, le) (omega (arith, g.len)) (omega (arith, g.len, g.few)) (inl refl) g.linked g.named
+    e
 
-pub member : (p : Puzzle) (j : ℕ) (l : Line) (ys : List ℕ) (o : ℕ) (zs : List ℕ) → 0 < j → j ≤ item_count p
-    → IsGood p j l (ys ++ o ∷ zs) → IsMember p j l o
-member p j l ys o zs pos le g =
-    let r = at_member p j l 0 ys o zs (inl refl) g.linked g.named in grind (arith, common_steps, length-append)
-
-cut_anywhere : (p : Puzzle) (j : ℕ) (l : Line) (a : ℕ) (ys : List ℕ) (o : ℕ) (zs : List ℕ) → IsName p j a
-    → IsLinkedFrom l a (ys ++ o ∷ zs) → AllByRecursion (Named p j) (ys ++ o ∷ zs) → IsLinkedFrom (cut l o) a (ys ++ zs)
-cut_anywhere p j l a [] o zs n h named = cut-linked l _ _ _ h
-cut_anywhere p j l a (y ∷ ys) o zs n h named =
-    let m : IsName p j y = inr (omega (arith, h.0), named.0) in
-    let r = at_member p j l y ys o zs m h.3 named.1 in
-    grind (arith, common_steps, cut_anywhere p j l y ys o zs m h.3 named.1, put_at-other)
-
-each_without : {X : Type 0} (P : X → Type 0) (ys : List X) (o : X) (zs : List X) → AllByRecursion P (ys ++ o ∷ zs)
-    → AllByRecursion P (ys ++ zs)
-each_without P [] o zs h = h.1
-each_without P (y ∷ ys) o zs h = (h.0, each_without P ys o zs h.1)
-
-pub good_cut : {p : Puzzle} {j : ℕ} {l : Line} (ys : List ℕ) (o : ℕ) (zs : List ℕ) → IsGood p j l (ys ++ o ∷ zs)
-    → IsGood p j (cut l o) (ys ++ zs)
-good_cut {p} {j} {l} ys o zs g =
-    grind (arith, common_steps, each_without, length-append, cut_anywhere p j l 0 ys o zs (inl refl) g.linked g.named)
+-- it is one still when another one has left
+pub cut_member : (p : Puzzle) (j : ℕ) (l : Line) (o x : ℕ) → IsMember p j l o → IsMember p j l x → x ≢ o
+    → 0 < (cut l o).len → IsMember p j (cut l o) x
+cut_member p j l o x m n ne some = record {
+  item = n.item;
+  pos = n.pos;
+  name = n.name;
+  above = by_first (IsName p j ((cut l o).up x)) x (l.down o)
+      (λ e. subst (IsName p j) (sym (put_at-same l.up (l.down o) (l.up o) x e)) m.above)
+      (λ e. subst (IsName p j) (sym (put_at-other l.up (l.down o) (l.up o) x e)) n.above);
+  below = by_first (IsName p j ((cut l o).down x)) x (l.up o)
+      (λ e. subst (IsName p j) (sym (put_at-same l.down (l.up o) (l.down o) x e)) m.below)
+      (λ e. subst (IsName p j) (sym (put_at-other l.down (l.up o) (l.down o) x e)) n.below);
+  up_back = grind (arith, common_steps, by_first, put_at-same, put_at-other);
+  down_back = grind (arith, common_steps, by_first, put_at-same, put_at-other);
+  some = some;
+  few = omega (arith, n.few);
+}
 
 -- ---- all items
 
 abbrev pub AllGood : Puzzle → (ℕ → Line) → (ℕ → List ℕ) → Type 0
 AllGood p ln lists = (j : ℕ) → 0 < j → j ≤ item_count p → IsGood p j (ln j) (lists j)
-
-abbrev pub with_list : (ℕ → List ℕ) → ℕ → List ℕ → ℕ → List ℕ
-with_list lists j xs k = cond (eqb k j) xs (lists k)
-
-pub all_good_cut : (p : Puzzle) (ln : ℕ → Line) (lists : ℕ → List ℕ) (j : ℕ) (ys : List ℕ) (o : ℕ) (zs : List ℕ) → 0 < j
-    → j ≤ item_count p → lists j ≡ ys ++ o ∷ zs → AllGood p ln lists →
-    AllGood p (with_line ln j (cut (ln j) o)) (with_list lists j (ys ++ zs))
-all_good_cut p ln lists j ys o zs pos le is good k kpos kle =
-    let own : IsGood p j (cut (ln j) o) (ys ++ zs) = good_cut _ _ _ (subst (IsGood p j (ln j)) is (good j pos le)) in
-    let l : Line = cut (ln j) o in
-    let make : Bool → Line = λ b. record {
-      len = cond b l.len (ln k).len;
-      up = λ x. cond b (l.up x) ((ln k).up x);
-      down = λ x. cond b (l.down x) ((ln k).down x);
-    } in
-    elim (eqb k j) as (λ b. eqb k j ≡ b → IsGood p k (make b) (cond b (ys ++ zs) (lists k))) [
-      | true ↦ λ e. subst (λ i. IsGood p i l (ys ++ zs)) (sym (eqb-true k j e)) own
-      | false ↦ λ e. good k kpos kle
-    ] refl
 
 -- ---- the lines after moves are good: each stands for its list, of options that hold the item
 
@@ -183,6 +163,11 @@ numbers_named p t j = grind (arith, common_steps, each-map, each_weaker, holders
 
 pub all_good : (p : Puzzle) (t : List Move) → IsFit p → AllGood p (line_of p t) (listed_numbers p t)
 all_good p t fit j jpos jle = grind (arith, common_steps, length-map, numbers_few, numbers_named, stands)
+
+-- each option of a list is a member of the line
+pub listed_member : {p : Puzzle} (t : List Move) (j x : ℕ) → IsFit p → InRange p j → is_in x (listed_numbers p t j) ≡ true
+    → IsMember p j (line_of p t j) x
+listed_member {p} t j x fit r e = member p j _ _ x r.0 r.1 (all_good p t fit j r.0 r.1) e
 
 -- ---- a line that loses what a move takes is that after the move; tables of the same lines and colours are the same
 

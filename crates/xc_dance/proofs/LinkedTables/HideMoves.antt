@@ -1,12 +1,13 @@
 -- Cover and Purify: a walk down an open item's list and back, from the node table after moves to that after one move
 -- more.
-use Rattle.std.proofs.Common.{◌≡◌, ℕ, zero, suc, ◌<◌, ◌≤◌, ◌^◌, List, [], ◌∷◌, ◌++◌, length, map, get_or, reverse, refl}
+use Rattle.std.proofs.Common.{◌++◌}
+use Rattle.std.proofs.Common.{◌≡◌, ℕ, ◌<◌, ◌≤◌, ◌^◌, List, [], ◌∷◌, length, map, get_or, reverse, refl}
 use Rattle.std.proofs.Common.{ap, ap₂, sym, ◌∙◌, arith, inl, inr, ◌+◌, ◌*◌, true, false, eqb, filter, Option, Some}
-use Rattle.std.proofs.Common.{subst, eqb-true, not, fold, None, eq-eqb, ne_eqb, append-nil}
+use Rattle.std.proofs.Common.{subst, eqb-true, not, fold, None, ne_eqb, append-nil}
 use Rattle.std.specs.List.{AllByRecursion}
 use Rattle.std.specs.Prelude.{slice_get, unwrap_or}
 use Rattle.std.proofs.lemmas.Grind.{common_steps}
-use Rattle.std.proofs.lemmas.List.{length-map, reverse-append}
+use Rattle.std.proofs.lemmas.List.{length-map}
 use Rattle.std.proofs.lemmas.Option.{slice_get_within}
 use Rattle.std.proofs.lemmas.Bool.{eqb-false, and_parts}
 use Rattle.xc_input.specs.Problem.{Puzzle, item_count, Numbered, colour_in, colour_at}
@@ -30,20 +31,26 @@ use Rattle.xc_input.proofs.lists.Filters.{filter_same}
 use Rattle.xc_input.proofs.lists.EachElement.{each_weaker}
 use Rattle.xc_dance.proofs.LinkedTables.LinkColumns.{get_up, get_down, get_len, get_map, same_nodes, written_back}
 use Rattle.xc_dance.proofs.LinkedTables.LinkColumns.{size_from}
-use Rattle.xc_dance.proofs.LinkedTables.GoodLines.{Named, numbers_few, numbers_named, all_good, SameCut, line_after}
+use Rattle.xc_dance.proofs.LinkedTables.GoodLines.{Named, numbers_few, numbers_named, SameCut, line_after}
 use Rattle.xc_dance.proofs.LinkedTables.GoodLines.{tables_same}
 use Rattle.xc_dance.proofs.LinkedTables.Sweep.{stands, IsLinkedFrom, Rises-filter, in_above, filter_numbers, leave_none}
-use Rattle.xc_dance.proofs.LinkedTables.OneList.{Listed, step_costs, left_list, leavers, marked_list, Passed}
-use Rattle.xc_dance.proofs.LinkedTables.OneList.{walked_table, listed_walk, coloured_is, color_other}
-use Rattle.xc_dance.proofs.LinkedTables.OtherItems.{leaves, list_at, each_apart}
-use Rattle.xc_dance.proofs.LinkedTables.Leaving.{exchanged, costs_split, leaving_is, each_ready, AreOf, TakesOut}
+use Rattle.xc_dance.proofs.LinkedTables.OneList.{Listed, marked_list, Passed}
+use Rattle.xc_dance.proofs.LinkedTables.OneList.{listed_walk, coloured_is, color_other}
+use Rattle.xc_dance.proofs.LinkedTables.OtherItems.{leaves, list_at}
+use Rattle.xc_dance.proofs.LinkedTables.Leaving.{exchanged, costs_split, leaving_is, AreOf, TakesOut}
 use Rattle.xc_dance.proofs.LinkedTables.Leaving.{cut_others, cut_own, listed_options, takes_cover, own_cover}
 use Rattle.xc_dance.proofs.LinkedTables.Leaving.{takes_purify, own_purify}
-use Rattle.xc_dance.proofs.MoveLemmas.Members.{in_filter, element_of}
+use Rattle.xc_dance.proofs.MoveLemmas.Members.{in_filter}
 use Rattle.xc_dance.proofs.MoveLemmas.Shortened.{rises_listed}
 use Rattle.xc_dance.proofs.MoveLemmas.StateLemmas.{open_unpurified}
 use Rattle.xc_dance.proofs.LinkedTables.MarkedNodes.{marked_none, cover_colours, purify_start, purify_colours}
 use Rattle.xc_dance.proofs.LinkedTables.LaidLemmas.{IsOption}
+use Rattle.std.proofs.Common.{sum_by}
+use Rattle.xc_dance.proofs.LinkedTables.OneList.{step_cost}
+use Rattle.xc_dance.proofs.LinkedTables.Leaving.{lines_ready, own_ready}
+use Rattle.std.proofs.lemmas.List.{length-reverse}
+use Rattle.xc_dance.proofs.LinkedTables.OtherItems.{leavers, left_list}
+use Rattle.xc_dance.proofs.LinkedTables.Walks.{Way, way_back}
 
 -- ---- a list as the links and LEN of the node table lead to it
 
@@ -59,34 +66,28 @@ follow_down p ln l i a [] rest laid pos le named h down = refl
 follow_down p ln l i a (o ∷ xs) rest laid pos le named h down =
     grind (arith, common_steps, above_zero, get_down, follow_down p ln l i o xs rest laid pos le named.1 h.3 down)
 
-abbrev led : List ℕ → ℕ → ℕ → ℕ
-led f zero q = q
-led f (suc n) q = led f n (get_or f q 0)
+-- member x, whose node has a place, stands below a
+record Beside (p : Puzzle) (i : ℕ) (l : Line) (b a x : ℕ) : Type 0 where
+  here : b ≡ x
+  above : l.up x ≡ a
+  placed : Placed p i x
 
-led_push : (f : List ℕ) (n q : ℕ) → led f (suc n) q ≡ get_or f (led f n q) 0
-led_push f zero q = refl
-led_push f (suc n) q = led_push f n (get_or f q 0)
+members_up : (p : Puzzle) (i : ℕ) (l : Line) (a : ℕ) (xs : List ℕ) → IsLaid p → 0 < i → i ≤ item_count p
+    → AllByRecursion (Named p i) xs → IsLinkedFrom l a xs → Way (λ c b x. Beside p i l b c x) a xs (l.up 0)
+members_up p i l a [] laid pos le named h = sym h.1
+members_up p i l a (x ∷ xs) laid pos le named h =
+    let placed = laid.there i x pos le (inr (above_zero l a xs x h, named.0)) in
+    (x, (record { here = refl; above = h.2; placed = placed }, members_up p i l x xs laid pos le named.1 h.3))
 
-followed_push : (f : List ℕ) (n q : ℕ) → followed f (suc n) q ≡ followed f n q ++ led f n q ∷ []
-followed_push f zero q = refl
-followed_push f (suc n) q = ap (λ qs. q ∷ qs) (followed_push f n (get_or f q 0))
-
-follow_up : (p : Puzzle) (ln : ℕ → Line) (i a : ℕ) (xs : List ℕ) → IsLaid p → 0 < i → i ≤ item_count p
-    → AllByRecursion (Named p i) xs → IsLinkedFrom (ln i) a xs →
-    (followed (map (ulink_in p ln) (layout p)) (length xs) (link_place p i ((ln i).up 0)) ≡ reverse
-    (map (link_place p i) xs))
-    × (led (map (ulink_in p ln) (layout p)) (length xs) (link_place p i ((ln i).up 0)) ≡ link_place p i a)
-follow_up p ln i a [] laid pos le named h = (refl, ap (link_place p i) h.1)
-follow_up p ln i a (o ∷ xs) laid pos le named h =
-    let links = map (ulink_in p ln) (layout p) in
-    let q0 = link_place p i ((ln i).up 0) in
-    let here = laid.there i o pos le (inr (above_zero (ln i) _ _ _ h, named.0)) in
-    let rest = follow_up p ln i o xs laid pos le named.1 h.3 in (
-      followed_push links (length xs) q0 ∙ ap₂ (λ qs q. qs ++ q ∷ []) rest.0 rest.1
-          ∙ sym (reverse-append (link_place p i o ∷ []) (map (link_place p i) xs)),
-      led_push links (length xs) q0 ∙ ap (λ q. get_or links q 0) rest.1 ∙ get_up _ ln _ _ here
-          ∙ ap (link_place p i) h.2,
-    )
+-- and up the members
+follow_up : (p : Puzzle) (ln : ℕ → Line) (i b : ℕ) (xs : List ℕ) (c : ℕ) → Way (Beside p i (ln i)) b xs c
+    → followed (map (ulink_in p ln) (layout p)) (length xs) (link_place p i b) ≡ map (link_place p i) xs
+follow_up p ln i b [] c w = refl
+follow_up p ln i b (x ∷ xs) c w =
+    let s = w.1.0 in
+    let rest = follow_up p ln i w.0 xs c w.1.1 in
+    let next = get_up p ln i x s.placed in
+    grind (arith, common_steps)
 
 -- item i's own node
 pub own_placed : (p : Puzzle) (i : ℕ) → IsLaid p → 0 < i → i ≤ item_count p → Placed p i 0
@@ -102,9 +103,13 @@ module _ {p : Puzzle} (t : List Move) {i : ℕ} (laid : IsLaid p) (pos : 0 < i) 
       (subst (AllByRecursion (Named p i)) (sym (append-nil (listed_numbers p t i))) (numbers_named p t i))
       (subst (IsLinkedFrom (line_of p t i) 0) (sym (append-nil (listed_numbers p t i))) (stands p t i)) (λ x. refl)
 
-  pub back_is : list_back (nodes_after p t) i ≡ reverse (map (link_place p i) (listed_numbers p t i))
-  back_is = ap₂ (followed (nodes_after p t).ulink) (long_is) (get_up _ (line_of p t) _ _ (own_placed _ _ laid pos le))
-      ∙ (follow_up _ (line_of p t) _ _ _ laid pos le (numbers_named p t i) (stands p t i)).0
+  pub back_is : list_back (nodes_after p t) i ≡ map (link_place p i) (reverse (listed_numbers p t i))
+  back_is =
+      let xs = listed_numbers p t i in
+      let up = follow_up p (line_of p t) i _ (reverse xs) 0 (way_back (λ c b x. Beside p i (line_of p t i) b c x) 0 xs _
+      (members_up p i (line_of p t i) 0 xs laid pos le (numbers_named p t i) (stands p t i))) in
+      ap₂ (followed (nodes_after p t).ulink) (long_is ∙ sym (length-reverse xs))
+      (get_up _ (line_of p t) _ _ (own_placed _ _ laid pos le)) ∙ up
 
   pub in_table : i < length (nodes_after p t).top
   in_table = grind (arith, common_steps, slice_get_within)
@@ -160,28 +165,26 @@ module _ (p : Puzzle) (t : List Move) (spans : List Span) (m : Move) (i : ℕ) (
         | false ↦ λ e. cut_others p t i legal f.laid f.fit opened m j going r of h.takes (eqb-false j i e)
       ] refl
 
-  hides_table : nodes_after p (m ∷ t) ≡ walked_table p (color_in p t) start i keep (line_of p t) (listed_numbers p t i)
-  hides_table = tables_same _ (left_list p (color_in p t) i (line_of p t) going) (line_of p (m ∷ t))
-      (marked_list p i keep start (listed_numbers p t i)) (color_in p (m ∷ t)) f.laid
-      (λ j r. line_after _ _ _ _ _ (hides_cut j r)
-      ∙ sym (list_at _ (color_in p t) _ (line_of p t) _ j (each_apart _ i going f.fit))) h.colours
+  hides_table : nodes_after p (m ∷ t) ≡ nodes_from p
+      (left_list p (color_in p t) i keep (line_of p t) (listed_numbers p t i))
+      (marked_list p i keep start (listed_numbers p t i))
+  hides_table = tables_same _ (left_list p (color_in p t) i keep (line_of p t) (listed_numbers p t i))
+      (line_of p (m ∷ t)) (marked_list p i keep start (listed_numbers p t i)) (color_in p (m ∷ t)) f.laid
+      (λ j r. line_after _ _ _ _ _ (hides_cut j r) ∙ sym (list_at p (color_in p t) i keep (line_of p t) (listed_numbers p t i) j f.fit)) h.colours
 
-  hides_cost : step_costs p (color_in p t) i keep (listed_numbers p t i) ≡ hide_writes p t m i keep
+  hides_cost : sum_by (step_cost p (color_in p t) i keep) (listed_numbers p t i) ≡ hide_writes p t m i keep
   hides_cost =
       let split = costs_split p (color_in p t) i keep (listed_numbers p t i) in
       omega (arith, leaving_is _ _ _ _ hides_cut, split, exchanged _ (color_in p t) i going f.fit)
 
   -- the walk down i's list and the walk back lead to the tables after the move m, and to those before it
-  hide_step : Listed p (color_in p t) start spans i keep (line_of p t) 0 (listed_numbers p t i) (nodes_after p (m ∷ t))
-      (hide_writes p t m i keep)
-  hide_step =
-      let xs = listed_numbers p t i in
-      let w = listed_walk _ (color_in p t) _ _ _ _ (line_of p t) (listed_numbers p t) _ _ f.laid f.spanned pos le
-      (all_good _ t f.fit) (stands p t i) (each_ready p t i legal f.laid f.fit opened keep xs pos le (λ x e. e))
-      (rises_listed p t i) h.passed in
-      let L : Nodes → ℕ → Type 0 = Listed p (color_in p t) start spans i keep (line_of p t) 0 xs in
-      subst (λ u. L u (hide_writes p t m i keep)) (sym hides_table)
-      (subst (L (walked_table p (color_in p t) start i keep (line_of p t) xs)) hides_cost w)
+  hide_step : Listed p (color_in p t) spans i keep (line_of p t i) (nodes_from p (line_of p t) start)
+      (listed_numbers p t i) (nodes_after p (m ∷ t))
+  hide_step = subst (Listed p (color_in p t) spans i keep (line_of p t i) (nodes_from p (line_of p t) start)
+      (listed_numbers p t i)) (sym hides_table)
+      (listed_walk p (color_in p t) spans i keep (line_of p t i) f pos le (line_of p t) start (listed_numbers p t i) refl
+      (stands p t i) (own_ready p t i legal f.laid f.fit opened keep) (lines_ready p t i legal f.laid f.fit opened)
+      (rises_listed p t i) h.passed)
 
   pub walk_made : WalkMade p t spans m i keep start
   walk_made =
@@ -190,7 +193,7 @@ module _ (p : Puzzle) (t : List Move) (spans : List Span) (m : Move) (i : ℕ) (
       let s = hide_step in
       let next = m ∷ t in
       let down = list_is t laid pos le in
-      let up = back_is next laid pos le ∙ ap (λ ks. reverse (map (link_place p i) ks)) h.own in
+      let up = back_is next laid pos le ∙ ap (λ ks. map (link_place p i) (reverse ks)) h.own in
       let first = get_down _ (line_of p t) _ _ (own_placed _ _ laid pos le) in
       let last : get_or (nodes_after p next).ulink i 0 ≡ link_place p i ((line_of p t i).up 0) =
       get_up _ (line_of p next) _ _ (own_placed _ _ laid pos le) ∙ ap (λ ks. link_place p i (last_of 0 ks)) h.own in
@@ -200,18 +203,18 @@ module _ (p : Puzzle) (t : List Move) (spans : List Span) (m : Move) (i : ℕ) (
           place = in_table t laid pos le;
           size = size_from _ (line_of p t) start;
           few = few_in t laid fit pos le;
-          walk = grind (arith, common_steps);
+          walk = rw (down, first) s.down.walk;
         };
-        done = ap (fold (left_node spans keep) t0) down ∙ s.done;
+        done = ap (fold (left_node spans keep) t0) down ∙ s.down.done;
         can_back = record {
           place = in_table next laid pos le;
           size = size_from _ (line_of p next) (color_in p next);
           few = few_in next laid fit pos le;
-          walk = grind (arith, common_steps);
+          walk = rw (up, last) s.up.walk;
         };
-        undone = ap (fold (back_node spans keep) (nodes_after p next)) up ∙ s.undone;
-        costs = ap (walk_costs spans keep t0) down ∙ s.costs;
-        costs_back = ap (back_costs spans keep (nodes_after p next)) up ∙ s.costs_back;
+        undone = ap (fold (back_node spans keep) (nodes_after p next)) up ∙ s.up.done;
+        costs = ap (walk_costs spans keep t0) down ∙ s.down.costs ∙ hides_cost;
+        costs_back = ap (back_costs spans keep (nodes_after p next)) up ∙ s.up.costs ∙ hides_cost;
       }
 
 -- ---- cover and Purify: from the node table after moves to that after one move more, and back
@@ -221,15 +224,18 @@ module _ (p : Puzzle) (t : List Move) (spans : List Span) (m : Move) (i : ℕ) (
 pub cover_hides : (p : Puzzle) (t : List Move) (i : ℕ) → Hides p t (Cover i) i None (color_in p t)
 cover_hides p t i = grind (arith, common_steps, cover_colours, marked_none, own_cover, takes_cover)
 
-purify_passed : {p : Puzzle} (t : List Move) {i : ℕ} (c : ℕ) → IsLaid p → 0 < i → i ≤ item_count p
+purify_passed : {p : Puzzle} (t : List Move) {i : ℕ} (c : ℕ)
     → Passed p i (color_in p t) (purify_start p t i c) (listed_numbers p t i)
-purify_passed t c laid pos le =
-    grind (arith, common_steps, color_other, element_of, eq-eqb, in_above, ne_eqb, numbers_named, rises_listed)
+purify_passed {p} t {i} c = record {
+  same = λ j o placed e.
+      let rise = rises_listed p t i in
+      color_other p (color_in p t) i 0 c j o placed (grind (arith, common_steps, in_above, ne_eqb));
+}
 
 pub purify_hides : (p : Puzzle) (t : List Move) (i c : ℕ) → AreLegal p t → IsLaid p → 0 < i → i ≤ item_count p
     → is_open i t ≡ true → Hides p t (Purify i c) i (Some c) (purify_start p t i c)
 purify_hides p t i c legal laid pos le opened = record {
-  passed = purify_passed t _ laid pos le;
+  passed = purify_passed t c;
   takes = takes_purify _ _ _ _ legal opened;
   own = own_purify p t i c;
   colours = purify_colours t i c laid;

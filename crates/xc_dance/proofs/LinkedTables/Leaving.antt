@@ -27,26 +27,24 @@ use Rattle.xc_input.proofs.lists.Filters.{filter_same}
 use Rattle.xc_dance.proofs.LinkedTables.Sweep.{other_items, in_above, Rises, Rises-filter, stay, stay_all, leave_none}
 use Rattle.xc_dance.proofs.LinkedTables.Sweep.{goes, without_numbers, filter_numbers, drop_numbers, is_in-first}
 use Rattle.xc_dance.proofs.LinkedTables.Sweep.{in_more}
-use Rattle.xc_dance.proofs.LinkedTables.LinkColumns.{Stands}
 use Rattle.xc_dance.proofs.MoveLemmas.OpenLists.{listed_open}
 use Rattle.xc_dance.proofs.LinkedTables.GoodLines.{Named, numbers_named, SameCut}
 use Rattle.xc_dance.proofs.LinkedTables.OneOption.{is_mark, AreReady, AllApart, gone_count}
-use Rattle.xc_dance.proofs.LinkedTables.OneList.{OwnReady, EachReady, leavers, step_costs}
-use Rattle.xc_dance.proofs.LinkedTables.OtherItems.{in_others, others_apart, item_range, own_apart, leaves, out_of}
+use Rattle.xc_dance.proofs.LinkedTables.OneList.{OwnReady}
+use Rattle.xc_dance.proofs.LinkedTables.OtherItems.{in_others, others_apart, item_range, leaves, out_of}
 use Rattle.xc_dance.proofs.MoveLemmas.Shortened.{rises_listed}
 use Rattle.xc_dance.proofs.MoveLemmas.Members.{element_of, in_filter, same_members, none_in}
-use Rattle.xc_dance.proofs.LinkedTables.MarkedNodes.{options_left, Met, each_met, stands_in, open_unmarked, color_is}
+use Rattle.xc_dance.proofs.LinkedTables.MarkedNodes.{options_left, Met, each_met, open_unmarked, color_is}
 use Rattle.xc_dance.proofs.LinkedTables.MarkedNodes.{colour_some, colour_small}
 use Rattle.xc_dance.proofs.LinkedTables.LaidLemmas.{IsOption}
 use Rattle.xc_dance.specs.declared.links.nodes.TheConstants.{MARK}
-
-ready_by : (p : Puzzle) (col : Node → ℕ) (lists : ℕ → List ℕ) (o : ℕ) (js : List ℕ)
-    → ((j : ℕ) → is_in j js ≡ true → (0 < j) × (j ≤ item_count p) × Named p j o
-    × (is_mark p col o j ≡ false → Stands (lists j) o)) → AllApart js → AreReady p col lists o js
-ready_by p col lists o [] h apart = tt
-ready_by p col lists o (j ∷ js) h apart =
-    let here = h j (is_in-first j js) in
-    (here.0, here.1, here.2, here.3, apart.0, ready_by p col lists o js (λ k e. h k (in_more j _ _ e)) apart.1)
+use Rattle.xc_dance.specs.inner.Links.Cells.{line_of}
+use Rattle.xc_input.proofs.lists.Filters.{length-filter-le}
+use Rattle.xc_dance.proofs.LinkedTables.OtherItems.{leavers, other_item}
+use Rattle.xc_dance.proofs.LinkedTables.Sweep.{cuts}
+use Rattle.xc_input.proofs.FaultLemmas.BooleanTests.{and_right}
+use Rattle.xc_dance.proofs.LinkedTables.OneList.{LinesReady, step_cost}
+use Rattle.xc_dance.proofs.LinkedTables.GoodLines.{InRange, listed_member}
 
 eqb_turn : (a b : ℕ) → eqb a b ≡ eqb b a
 eqb_turn a b = grind (arith, common_steps, eq-eqb, eqb-false, eqb-true, ne_eqb)
@@ -60,9 +58,6 @@ test_is p i (Some d) x c e = eqb_turn _ _ ∙ sym (not-not (eqb d c)) ∙ sym (a
 pub record AreOf (p : Puzzle) (t : List Move) (i : ℕ) (gs : List ℕ) : Type 0 where
   pub rise : Rises 0 gs
   pub among : (x : ℕ) → is_in x gs ≡ true → is_in x (listed_numbers p t i) ≡ true
-
-abbrev pub InRange : Puzzle → ℕ → Type 0
-InRange p j = (0 < j) × (j ≤ item_count p)
 
 -- a move that takes these options out of the lists of the open items but i
 pub record TakesOut (p : Puzzle) (t : List Move) (m : Move) (i : ℕ) (gs : List ℕ) : Type 0 where
@@ -111,33 +106,24 @@ module _ (p : Puzzle) (t : List Move) (i : ℕ) (legal : AreLegal p t) (laid : I
 
   -- its other uses are ready to leave
   pub ready_at : (x : ℕ) → is_in x (listed_numbers p t i) ≡ true
-      → AreReady p (color_in p t) (listed_numbers p t) x (other_items p x i)
-  ready_at x within = ready_by p (color_in p t) (listed_numbers p t) x (other_items p x i) (λ j e.
-      let named : Named p j x = (and_parts _ _ (sym (in_others p x i j (fit.distinct x)) ∙ e)).1 in
-      let r = item_range p _ _ (fit.items x) named in
-      let m = met_at j x r.0 r.1 within named in
-      (r.0, r.1, named, λ un. grind (arith, common_steps, false≢true, stands_in))) (others_apart _ x i fit)
+      → AreReady p (color_in p t) (line_of p t) x (other_items p x i)
+  ready_at x within j e =
+      let k = other_item x i j fit e in
+      let met = met_at j x k.item.0 k.item.1 within k.named in
+      record {
+        item = k.item;
+        named = k.named;
+        member = λ un. listed_member t j x fit k.item (grind (arith, common_steps, false≢true));
+      }
 
   -- its own node isn't marked, and tells whether it is kept
-  own_ready : (keep : Option ℕ) (x : ℕ) → 0 < i → i ≤ item_count p → is_in x (listed_numbers p t i) ≡ true
-      → OwnReady p (color_in p t) i keep x
-  own_ready keep x pos le within =
+  pub own_ready : (keep : Option ℕ) (x : ℕ) → is_in x (listed_numbers p t i) ≡ true → OwnReady p (color_in p t) i keep x
+  own_ready keep x within =
       let x_pos : 0 < x = in_above 0 x (listed_numbers p t i) (rises_listed p t i) within in
       let named : Named p i x = element_of (Named p i) x (listed_numbers p t i) (numbers_named p t i) within in
       let c = colour_some (uses_of p x) i named in
       let is = color_is p t x i c.0 x_pos c.1 ∙ ap (λ b. cond b MARK c.0) (open_unmarked p t i x c.0 opened) in
       grind (arith, common_steps, ne_eqb, test_is, colour_small (uses_of p x) i c.0 (fit.colours x) c.1)
-
-  -- options of the list, one after another
-  pub each_ready : (keep : Option ℕ) (xs : List ℕ) → 0 < i → i ≤ item_count p
-      → ((x : ℕ) → is_in x xs ≡ true → is_in x (listed_numbers p t i) ≡ true)
-      → EachReady p (color_in p t) (listed_numbers p t) i keep xs
-  each_ready keep [] pos le h = tt
-  each_ready keep (x ∷ xs) pos le h =
-      let within : is_in x (listed_numbers p t i) ≡ true = h x (is_in-first x xs) in
-      let named = element_of (Named p i) _ _ (numbers_named p t i) within in
-      let rest = each_ready keep xs pos le (λ z e. h z (in_more x _ _ e)) in
-      (named, ready_at x within, own_apart _ i x fit, own_ready keep x pos le within, rest)
 
   -- each leaves the lists of the other open items that it is in
   leaves_at : (j x : ℕ) → InRange p j → j ≢ i → is_in x (listed_numbers p t i) ≡ true
@@ -153,6 +139,15 @@ module _ (p : Puzzle) (t : List Move) (i : ℕ) (legal : AreLegal p t) (laid : I
       (Rises-filter (λ x. is_open j t && is_in x gs) 0 (listed_numbers p t j) (rises_listed p t j))
       (λ x. in_filter (leaves p (color_in p t) i j) x gs ∙ grind (arith, common_steps, and-false, leaves_at)
       ∙ sym (in_filter (λ x. is_open j t && is_in x gs) x (listed_numbers p t j)))
+
+  -- so each other item's line has them
+  pub lines_ready : LinesReady p (color_in p t) i (line_of p t) (listed_numbers p t i)
+  lines_ready j r ne =
+      let of : AreOf p t i (listed_numbers p t i) = record { rise = rises_listed p t i; among = λ x e. e } in
+      record {
+        member = λ x e lv some. listed_member t j x fit r (and_right _ _ (sym (leaves_at j x r ne e) ∙ lv));
+        enough = grind (arith, common_steps, leaves_are, length-filter-le, length-map);
+      }
 
   -- so each other item's line loses what the move takes
   pub cut_others : (m : Move) (j : ℕ) (gs : List ℕ) → InRange p j → AreOf p t i gs → TakesOut p t m i gs → j ≢ i
@@ -251,10 +246,10 @@ exchanged p col i (o ∷ os) fit =
     omega (arith, here, exchanged p col i os fit, sum, same)
 
 -- the walk's costs: 1 for each option kept, 3 for each node that leaves
-pub costs_split : (p : Puzzle) (col : Node → ℕ) (i : ℕ) (keep : Option ℕ) (xs : List ℕ)
-    → step_costs p col i keep xs ≡ length (filter (is_kept p i keep) xs) + 3 * total_gone p col i (leavers p i keep xs)
+pub costs_split : (p : Puzzle) (col : Node → ℕ) (i : ℕ) (keep : Option ℕ) (xs : List ℕ) → sum_by
+    (step_cost p col i keep) xs ≡ length (filter (is_kept p i keep) xs) + 3 * total_gone p col i (leavers p i keep xs)
 costs_split p col i keep [] = grind (arith, common_steps)
-costs_split p col i keep (o ∷ xs) = grind (arith, common_steps, costs_split p col i keep xs)
+costs_split p col i keep (o ∷ xs) = grind (arith, common_steps, costs_split p col i keep xs, sum_by-cons)
 
 -- ---- what a move takes from all lists
 

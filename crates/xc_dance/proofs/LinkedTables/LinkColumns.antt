@@ -1,18 +1,18 @@
 -- The columns of the node table, one write to them, and steps of hide that undo one another.
 use Rattle.std.proofs.Common.{◌≡◌, ◌≢◌, ℕ, zero, suc, List, [], ◌∷◌, map, get_or, set, Some, refl, ap, ap₂, arith, ◌<◌}
-use Rattle.std.proofs.Common.{true, false, cond, eqb, reverse, fold, ◌∙◌, length, ◌≤◌, Option, None, sym}
-use Rattle.std.proofs.Common.{eqb-true, eq-eqb, ne_eqb, ◌^◌, ◌++◌}
+use Rattle.std.proofs.Common.{true, false, cond, eqb, ◌∙◌, length, ◌≤◌, Option, None, sym}
+use Rattle.std.proofs.Common.{eqb-true, eq-eqb, ne_eqb, ◌^◌}
 use Rattle.std.specs.Prelude.{slice_get}
 use Rattle.std.proofs.lemmas.Option.{same_Some, slice_get_within}
 use Rattle.std.proofs.lemmas.Grind.{common_steps}
-use Rattle.std.proofs.lemmas.List.{get_or-set_same, get_or-set_other, set-set, set-get_or, reverse-append, length-map}
-use Rattle.std.proofs.lemmas.List.{length-set, map-set}
+use Rattle.std.proofs.lemmas.List.{get_or-set_same, get_or-set_other, set-set, length-map}
+use Rattle.std.proofs.lemmas.List.{map-set}
 use Rattle.std.proofs.Math.Path.{fun_ext}
 use Rattle.std.proofs.Math.Seq.{map-set_same}
 use Rattle.xc_input.specs.Problem.{Puzzle, item_count}
 use Rattle.xc_dance.specs.declared.links.nodes.Nodes.{Nodes}
-use Rattle.xc_dance.specs.inner.Links.Steps.{unlinked, relinked, hidden, unhidden, HasSize, NamesPlaces, CanHideAll}
-use Rattle.xc_dance.specs.inner.Links.Steps.{CanUnhide, CanUnhideAll}
+use Rattle.xc_dance.specs.inner.Links.Steps.{unlinked, relinked, hidden, unhidden, HasSize, NamesPlaces}
+use Rattle.xc_dance.specs.inner.Links.Steps.{CanUnhide}
 use Rattle.xc_dance.specs.Fields.{Node, own, used, layout, link_place}
 use Rattle.xc_dance.specs.inner.Links.Lines.{Line}
 use Rattle.xc_dance.specs.inner.Links.Cells.{slot_of, link_at, fixed_up, fixed_down, top_in, ulink_in, dlink_in}
@@ -84,23 +84,6 @@ unhidden-marked t q e = ap (λ b. cond b t (relinked t q)) e
 
 pub unhidden-open : (t : Nodes) (q : ℕ) → eqb (get_or t.color q 0) MARK ≡ false → unhidden t q ≡ relinked t q
 unhidden-open t q e = ap (λ b. cond b t (relinked t q)) e
-
--- a step of unhide undoes that of hide
-pub unhidden-hidden : (t : Nodes) (q : ℕ) → (eqb (get_or t.color q 0) MARK ≡ false → IsLinked t q)
-    → unhidden (hidden t q) q ≡ t
-unhidden-hidden t q h = grind (arith, common_steps, relinked-unlinked)
-
--- each step of a walk can be undone
-abbrev pub IsUndone : Nodes → List ℕ → Type 0
-IsUndone t [] = Unit {0}
-IsUndone t (q ∷ qs) = (unhidden (hidden t q) q ≡ t) × IsUndone (hidden t q) qs
-
--- unhide, from the last place back, undoes hide
-pub fold-unhidden-reverse : (t : Nodes) (qs : List ℕ) → IsUndone t qs
-    → fold unhidden (fold hidden t qs) (reverse qs) ≡ t
-fold-unhidden-reverse t [] h = grind (arith, common_steps)
-fold-unhidden-reverse t (q ∷ qs) h =
-    grind (arith, common_steps, fold-unhidden-reverse (hidden t q) qs h.1)
 
 -- ---- the columns of links and counts of a table of lines, and one write to them
 
@@ -213,28 +196,7 @@ pub column_same : (p : Puzzle) (f g : ℕ → ℕ → ℕ) (fixed : Node → ℕ
     → column p g fixed ≡ column p f fixed
 column_same p f g fixed h = ap (λ k. column p k fixed) (fun_ext (λ j. fun_ext (h j)))
 
--- ---- steps of hide that can be undone, one after another
-
--- the list has q between ys and zs
-pub record Stands (xs : List ℕ) (q : ℕ) : Type 0 where
-  pub ys : List ℕ
-  pub zs : List ℕ
-  pub is : xs ≡ ys ++ q ∷ zs
-
--- another element still stands in the list
-without_at : (ys : List ℕ) (q : ℕ) (zs : List ℕ) (r : ℕ) → r ≢ q → (as' bs : List ℕ) → ys ++ q ∷ zs ≡ as' ++ r ∷ bs
-    → Stands (ys ++ zs) r
-without_at [] q zs r ne [] bs e = let same : r ≡ q = cc in absurd (ne same)
-without_at [] q zs r ne (a ∷ as') bs e = let tail : zs ≡ as' ++ r ∷ bs = cc in record { ys = as'; zs = bs; is = tail }
-without_at (y ∷ ys) q zs r ne [] bs e =
-    let head : y ≡ r = cc in record { ys = []; zs = ys ++ zs; is = ap (λ k. k ∷ (ys ++ zs)) head }
-without_at (y ∷ ys) q zs r ne (a ∷ as') bs e =
-    let tail : ys ++ q ∷ zs ≡ as' ++ r ∷ bs = cc in
-    let s : Stands (ys ++ zs) r = without_at ys q zs r ne as' bs tail in
-    record { ys = y ∷ s.ys; zs = s.zs; is = ap (λ l. y ∷ l) s.is }
-
-pub Stands-without : (ys : List ℕ) (q : ℕ) (zs : List ℕ) (r : ℕ) → r ≢ q → Stands (ys ++ q ∷ zs) r → Stands (ys ++ zs) r
-Stands-without ys q zs r ne s = without_at _ _ _ _ ne _ _ s.is
+-- ---- a step of hide that can be undone
 
 -- a node that has just left can be put back
 pub record CanRelink (t : Nodes) (q : ℕ) : Type 0 where
@@ -251,21 +213,3 @@ CanRelink-unlinked t q size names linked few =
 pub CanUnhide-unlinked : (t : Nodes) (q : ℕ) → HasSize t (length t.top) → NamesPlaces t q → IsLinked t q
     → get_or t.top q 0 < SPACER → get_or t.top (get_or t.top q 0) 0 < 2 ^ 31 → CanUnhide (unlinked t q) q
 CanUnhide-unlinked t q size names linked use_of few = grind (arith, common_steps, CanRelink-unlinked)
-
--- one place more at the end of a walk
-CanUnhideAll-push : (t : Nodes) (ps : List ℕ) (q : ℕ) → CanUnhideAll t ps → CanUnhide (fold unhidden t ps) q
-    → CanUnhideAll t (ps ++ q ∷ [])
-CanUnhideAll-push t [] q h c = (c, tt)
-CanUnhideAll-push t (p ∷ ps) q h c = (h.0, CanUnhideAll-push (unhidden t p) ps q h.1 c)
-
--- the walk back, one node more
-pub back_more : (t : Nodes) (q : ℕ) (qs : List ℕ) → IsUndone (hidden t q) qs
-    → CanUnhideAll (fold hidden (hidden t q) qs) (reverse qs) → CanUnhide (hidden t q) q
-    → CanUnhideAll (fold hidden t (q ∷ qs)) (reverse (q ∷ qs))
-back_more t q qs undone back can = grind (arith, common_steps, CanUnhideAll-push, fold-unhidden-reverse)
-
--- the nodes can be hidden one after another, each step can be undone, and the walk back can be made
-pub record Rest (t : Nodes) (qs : List ℕ) : Type 0 where
-  pub can : CanHideAll t qs
-  pub undone : IsUndone t qs
-  pub back : CanUnhideAll (fold hidden t qs) (reverse qs)

@@ -1,5 +1,5 @@
 -- Which nodes are marked, and the colours after Cover and Purify.
-use Rattle.std.proofs.Common.{◌≡◌, ℕ, ◌<◌, ◌⊎◌, inl, inr, Bool, true, false, not, cond, ◌&&◌, ◌||◌, eqb, List, []}
+use Rattle.std.proofs.Common.{◌≡◌, ℕ, ◌<◌, ◌⊎◌, inl, inr, Bool, true, false, not, cond, ◌&&◌, eqb, List, []}
 use Rattle.std.proofs.Common.{◌∷◌, map, get_or, Some, None, refl, ap, ap₂, sym, subst, ◌∙◌, arith, eqb-true, eq-eqb}
 use Rattle.std.proofs.Common.{ne_eqb, Option}
 use Rattle.std.specs.Prelude.{is_some, slice_get}
@@ -22,7 +22,7 @@ use Rattle.xc_dance.specs.inner.Lists.Losing.{is_kept}
 use Rattle.xc_input.proofs.FaultLemmas.BooleanTests.{and_right}
 use Rattle.xc_input.proofs.lists.EachElement.{each_weaker, each_both}
 use Rattle.xc_dance.proofs.MoveLemmas.StateLemmas.{open_is}
-use Rattle.xc_dance.proofs.LinkedTables.LinkColumns.{get_map, Stands}
+use Rattle.xc_dance.proofs.LinkedTables.LinkColumns.{get_map}
 use Rattle.xc_dance.proofs.MoveLemmas.OpenLists.{listed_open}
 use Rattle.xc_dance.proofs.MoveLemmas.LeftOptions.{left_free, left_agrees, kept}
 use Rattle.xc_dance.proofs.LinkedTables.Sweep.{is_in-first, not_in, with_color}
@@ -32,6 +32,7 @@ use Rattle.xc_dance.proofs.LinkedTables.LaidLemmas.{IsOption, options_numbered}
 use Rattle.xc_dance.proofs.LinkedTables.OneList.{marked_list}
 use Rattle.xc_dance.proofs.MoveLemmas.Shortened.{rises_listed}
 use Rattle.xc_dance.specs.declared.links.nodes.TheConstants.{MARK}
+use Rattle.std.proofs.Common.{◌≢◌}
 
 -- ---- the other uses of an option in an open item's list: each is in its own item's list, or marked
 
@@ -59,14 +60,6 @@ pub in_open : (p : Puzzle) (t : List Move) (j : ℕ) → AreLegal p t → is_ope
 in_open p t j legal opened = subst (λ (os : List Numbered). AllByRecursion
     (λ o. holds o j ≡ true → is_in o.number (map (λ x. x.number) os) ≡ true) (left p t))
     (sym (listed_open _ _ legal _ opened)) (holding_in j (left p t))
-
-pub stands_in : (x : ℕ) (xs : List ℕ) → is_in x xs ≡ true → Stands xs x
-stands_in x [] e = absurd (false≢true e)
-stands_in x (y ∷ ys) e =
-    elim (eqb y x) as (λ b. eqb y x ≡ b → (b || is_in x ys) ≡ true → Stands (y ∷ ys) x) [
-      | true ↦ λ f g. record { ys = []; zs = ys; is = ap (λ k. k ∷ ys) (eqb-true y x f) }
-      | false ↦ λ f g. let s = stands_in x ys g in record { ys = y ∷ s.ys; zs = s.zs; is = ap (λ ks. y ∷ ks) s.is }
-    ] refl e
 
 -- ---- marks
 

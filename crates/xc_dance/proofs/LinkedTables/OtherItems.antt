@@ -1,6 +1,7 @@
 -- The other items of an option: what its leaving does to the line of each, and that they are apart.
+use Rattle.std.proofs.Common.{◌++◌}
 use Rattle.std.proofs.Common.{◌≡◌, ℕ, Bool, true, false, not, ◌&&◌, ◌||◌, eqb, List, [], ◌∷◌, map, filter, refl, ap}
-use Rattle.std.proofs.Common.{sym, ◌∙◌, eqb-true, eq-eqb, ne_eqb, arith, ◌≢◌, ◌<◌, ◌≤◌, ◌++◌, reverse, subst}
+use Rattle.std.proofs.Common.{sym, ◌∙◌, eqb-true, eq-eqb, ne_eqb, arith, ◌≢◌, ◌<◌, ◌≤◌, reverse, subst}
 use Rattle.std.specs.Prelude.{is_some}
 use Rattle.std.specs.List.{AllByRecursion}
 use Rattle.std.proofs.lemmas.Grind.{common_steps}
@@ -16,7 +17,11 @@ use Rattle.xc_dance.specs.inner.Links.Others.{before_use, behind_use}
 use Rattle.xc_dance.specs.inner.Links.Laid.{AreDistinct, IsFit}
 use Rattle.xc_dance.proofs.LinkedTables.Sweep.{cuts, other_items}
 use Rattle.xc_dance.proofs.LinkedTables.OneOption.{is_mark, left_all, IsApart, all_at, AllApart}
-use Rattle.xc_dance.proofs.LinkedTables.OneList.{left_list}
+use Rattle.xc_dance.specs.inner.Lists.Losing.{is_kept}
+use Rattle.xc_dance.proofs.LinkedTables.Sweep.{cut}
+use Rattle.std.proofs.lemmas.Bool.{and_parts}
+use Rattle.std.proofs.Common.{Option, cond, fold, ◌+◌}
+use Rattle.xc_dance.proofs.LinkedTables.GoodLines.{InRange, Named}
 
 -- ---- the other items of an option, and what its leaving does to the line of one item
 
@@ -49,16 +54,6 @@ apart_from k (j ∷ js) e = grind (arith, common_steps, eqb-false, false≢true,
 -- whether option o leaves item k's list by a walk down i's
 abbrev pub leaves : Puzzle → (Node → ℕ) → ℕ → ℕ → ℕ → Bool
 leaves p col i k o = is_in k (other_items p o i) && not (is_mark p col o k)
-
-abbrev pub EachApart : Puzzle → ℕ → List ℕ → Type 0
-EachApart p i [] = Unit {0}
-EachApart p i (o ∷ os) = AllApart (other_items p o i) × EachApart p i os
-
-pub list_at : (p : Puzzle) (col : Node → ℕ) (i : ℕ) (ln : ℕ → Line) (os : List ℕ) (k : ℕ) → EachApart p i os
-    → left_list p col i ln os k ≡ cuts (ln k) (filter (leaves p col i k) os)
-list_at p col i ln [] k apart = grind (arith, common_steps, all_at)
-list_at p col i ln (o ∷ os) k apart =
-    grind (arith, common_steps, all_at, list_at p col i (left_all p col o ln (other_items p o i)) os k apart.1)
 
 -- ---- the other items of an option are apart from each other and from its own
 
@@ -101,10 +96,6 @@ apart_reverse (x ∷ xs) h =
 pub others_apart : (p : Puzzle) (o i : ℕ) → IsFit p → AllApart (other_items p o i)
 others_apart p o i fit = others_apart_of (uses_of p o) i (fit.distinct o)
 
-pub each_apart : (p : Puzzle) (i : ℕ) (os : List ℕ) → IsFit p → EachApart p i os
-each_apart p i [] fit = tt
-each_apart p i (o ∷ os) fit = (others_apart p o i fit, each_apart p i os fit)
-
 pub item_range : (p : Puzzle) (us : List Use) (j : ℕ) → AllByRecursion (λ u. (0 < u.item) × (u.item ≤ item_count p)) us
     → is_some (colour_in us j) ≡ true → (0 < j) × (j ≤ item_count p)
 item_range p [] j a e = absurd (false≢true e)
@@ -115,3 +106,39 @@ pub own_apart : (p : Puzzle) (i o : ℕ) → IsFit p → IsApart i (other_items 
 own_apart p i o fit =
     apart_from i (other_items p o i)
     (in_others p o i i (fit.distinct o) ∙ ap (λ b. not b && is_some (colour_in (uses_of p o) i)) (eq-eqb i i refl))
+
+-- one of them
+pub record OtherItem (p : Puzzle) (o i j : ℕ) : Type 0 where
+  pub ne : j ≢ i
+  pub named : Named p j o
+  pub item : InRange p j
+
+pub other_item : {p : Puzzle} (o i j : ℕ) → IsFit p → is_in j (other_items p o i) ≡ true → OtherItem p o i j
+other_item {p} o i j fit e =
+    let both = and_parts _ _ (sym (in_others p o i j (fit.distinct o)) ∙ e) in
+    record {
+      ne = λ s. false≢true (sym (ap not (eq-eqb j i s)) ∙ both.0);
+      named = both.1;
+      item = item_range p _ _ (fit.items o) both.1;
+    }
+
+-- ---- a walk down item i's list, which keeps the options of a colour: what it does to the lines
+
+-- those of the options that leave
+abbrev pub leavers : Puzzle → ℕ → Option ℕ → List ℕ → List ℕ
+leavers p i keep xs = filter (λ o. not (is_kept p i keep o)) xs
+
+-- option o is met
+abbrev pub left_by : Puzzle → (Node → ℕ) → ℕ → Option ℕ → (ℕ → Line) → ℕ → ℕ → Line
+left_by p col i keep ln o = cond (is_kept p i keep o) ln (left_all p col o ln (other_items p o i))
+
+-- the options xs are met, one after another
+abbrev pub left_list : Puzzle → (Node → ℕ) → ℕ → Option ℕ → (ℕ → Line) → List ℕ → ℕ → Line
+left_list p col i keep ln xs = fold (left_by p col i keep) ln xs
+
+pub list_at : (p : Puzzle) (col : Node → ℕ) (i : ℕ) (keep : Option ℕ) (ln : ℕ → Line) (xs : List ℕ) (k : ℕ) → IsFit p
+    → left_list p col i keep ln xs k ≡ cuts (ln k) (filter (leaves p col i k) (leavers p i keep xs))
+list_at p col i keep ln [] k fit = refl
+list_at p col i keep ln (o ∷ xs) k fit =
+    let here = all_at cut p col o ln (other_items p o i) k (others_apart p o i fit) in
+    list_at p col i keep (left_by p col i keep ln o) xs k fit ∙ grind (arith, common_steps)

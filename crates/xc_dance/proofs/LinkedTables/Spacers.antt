@@ -1,10 +1,9 @@
 -- The spacers round an option lead to its ends, whatever lists its nodes stand in.
-use Rattle.std.proofs.Common.{◌≡◌, ℕ, ◌+◌, ◌-◌, ◌<◌, List, [], ◌∷◌, ◌++◌, map, fold, reverse, get_or, Some, ap, sym}
+use Rattle.std.proofs.Common.{◌≡◌, ℕ, ◌+◌, ◌-◌, ◌<◌, List, map, fold, reverse, get_or, Some, ap, sym}
 use Rattle.std.proofs.Common.{subst, ◌∙◌, arith, ◌*◌}
 use Rattle.std.proofs.lemmas.Grind.{common_steps}
 use Rattle.std.specs.Prelude.{slice_get}
 use Rattle.std.proofs.lemmas.List.{length-map, map-append}
-use Rattle.std.proofs.lemmas.List.Sums.{fold-append}
 use Rattle.xc_input.specs.Problem.{Puzzle, uses_of}
 use Rattle.xc_dance.specs.declared.links.nodes.Nodes.{Nodes}
 use Rattle.xc_dance.specs.inner.Links.Span.{Span}
@@ -16,12 +15,14 @@ use Rattle.xc_dance.specs.inner.Links.Steps.{hidden, unhidden, CanHideAll, CanUn
 use Rattle.xc_dance.specs.inner.Links.Steps.{IsSpacer, CanHideNode, CanUnhideNode, hidden_node, unhidden_node}
 use Rattle.xc_dance.specs.inner.Links.Steps.{hide_costs, unhide_costs}
 use Rattle.xc_dance.proofs.LinkedTables.GoodLines.{Named}
-use Rattle.xc_dance.proofs.LinkedTables.LinkColumns.{size_from, get_map, IsUndone, fold-unhidden-reverse}
-use Rattle.xc_dance.proofs.LinkedTables.OneOption.{Walked, left_all, gone_count}
+use Rattle.xc_dance.proofs.LinkedTables.LinkColumns.{size_from, get_map}
+use Rattle.xc_dance.proofs.LinkedTables.OneOption.{left_all, gone_count, Hides}
 use Rattle.std.proofs.lemmas.Option.{slice_get_within}
 use Rattle.xc_dance.proofs.LinkedTables.UnmarkedNodes.{costs-are, hidden_color, unhidden_color, unmarked-reverse}
 use Rattle.xc_dance.proofs.LinkedTables.UnmarkedNodes.{unmarked_items}
 use Rattle.xc_dance.proofs.LinkedTables.Sweep.{other_items}
+use Rattle.xc_dance.proofs.LinkedTables.Walks.{Way, map_reverse, way_back, way_made, way_split}
+use Rattle.xc_dance.specs.inner.Links.Steps.{CanHide, CanUnhide}
 
 -- the nodes round that of item i are those of the option's other items
 pub others_are : (p : Puzzle) (spans : List Span) (o i : ℕ) → HasSpans p spans → 0 < o → Named p i o
@@ -71,15 +72,11 @@ module _ (p : Puzzle) (ln : ℕ → Line) (col : Node → ℕ) (t : Nodes) (span
             ∙ ap (λ n. n + 1) (get_map (dlink_in p ln) (layout p) _ _ s.first) ∙ s.down;
       }
 
-undone_behind : (t : Nodes) (qs rs : List ℕ) → IsUndone t (qs ++ rs) → IsUndone (fold hidden t qs) rs
-undone_behind t [] rs h = h
-undone_behind t (q ∷ qs) rs h = undone_behind (hidden t q) qs rs h.1
-
 -- the table once the option has left the lists of its items but i
 abbrev pub gone_from : Puzzle → (ℕ → Line) → (Node → ℕ) → ℕ → ℕ → Nodes
 gone_from p ln col o i = nodes_from p (left_all p col o ln (other_items p o i)) col
 
--- an option is hidden and comes back, where the walk is known as a whole and up to the spacer
+-- an option is hidden and comes back
 pub record Turns (p : Puzzle) (ln : ℕ → Line) (col : Node → ℕ) (spans : List Span) (o i : ℕ) : Type 0 where
   pub hide : CanHideNode spans (nodes_from p ln col) (link_place p i o)
   pub unhide : CanUnhideNode spans (gone_from p ln col o i) (link_place p i o)
@@ -89,11 +86,37 @@ pub record Turns (p : Puzzle) (ln : ℕ → Line) (col : Node → ℕ) (spans : 
   pub cost_back : unhide_costs (gone_from p ln col o i) (reverse (others_of spans (link_place p i o)))
       ≡ 3 * gone_count p col i o
 
-ruleset walks = (costs-are, fold-append, fold-unhidden-reverse, hidden_color, unhidden_color, undone_behind)
-
-ruleset others = (can_hide_node, can_unhide_node, map-append, others_are, unmarked-reverse, unmarked_items)
-
-pub turns : (p : Puzzle) (ln : ℕ → Line) (col : Node → ℕ) (lists : ℕ → List ℕ) (spans : List Span) (o i : ℕ)
-    → HasSpans p spans → 0 < o → Named p i o → Walked p col ln lists o (other_items p o i) →
-    Walked p col ln lists o (behind_use i (uses_of p o)) → Turns p ln col spans o i
-turns p ln col lists spans o i spanned pos named w mid = grind (arith, common_steps, walks, others)
+pub turns : (p : Puzzle) (ln : ℕ → Line) (col : Node → ℕ) (spans : List Span) (o i : ℕ) → HasSpans p spans → 0 < o
+    → Named p i o → Way (Hides p col o) ln (other_items p o i) (left_all p col o ln (other_items p o i))
+    → Turns p ln col spans o i
+turns p ln col spans o i spanned pos named w =
+    let R = Hides p col o in
+    let table : (ℕ → Line) → Nodes = λ m. nodes_from p m col in
+    let place : ℕ → ℕ = λ j. link_place p j o in
+    let before = before_use i (uses_of p o) in
+    let behind = behind_use i (uses_of p o) in
+    let js = other_items p o i in
+    let end = left_all p col o ln js in
+    let parts = way_split R ln behind before end w in
+    let mid = parts.0 in
+    let whole = way_made R table place hidden CanHide (λ a b x s. (s.can, s.done)) ln js end w in
+    let first = way_made R table place hidden CanHide (λ a b x s. (s.can, s.done)) ln behind mid parts.1.0 in
+    let B : (ℕ → Line) → (ℕ → Line) → ℕ → Type 0 = λ a b. R b a in
+    let back = way_made B table place unhidden CanUnhide (λ a b x s. (s.back, s.undone)) end (reverse js) ln
+    (way_back R ln js end w) in
+    let last = way_made B table place unhidden CanUnhide (λ a b x s. (s.back, s.undone)) end (reverse before) mid
+    (way_back R mid before end parts.1.1) in
+    let turned : (ks : List ℕ) → map place (reverse ks) ≡ reverse (map place ks) = λ ks. sym (map_reverse place ks) in
+    let others = others_are p spans o i spanned pos named in
+    record {
+      hide = can_hide_node p mid col (table ln) spans o i spanned pos named whole.0 first.1;
+      unhide =
+          can_unhide_node p mid col (table end) spans o i spanned pos named
+          (subst (CanUnhideAll (table end)) (turned js) back.0)
+          (ap (fold unhidden (table end)) (sym (turned before)) ∙ last.1);
+      done = ap (fold hidden (table ln)) others ∙ whole.1;
+      undone = ap (λ qs. fold unhidden (table end) (reverse qs)) others ∙ ap (fold unhidden (table end)) (sym (turned js))
+          ∙ back.1;
+      cost = grind (arith, common_steps, costs-are, hidden_color, others_are, unmarked_items);
+      cost_back = grind (arith, common_steps, costs-are, others_are, unhidden_color, unmarked-reverse, unmarked_items);
+    }

@@ -24,19 +24,20 @@ use Rattle.std.proofs.lemmas.Option.{slice_get_within}
 use Rattle.xc_dance.proofs.LinkedTables.LinkColumns.{relinked-unlinked, CanRelink, CanRelink-unlinked, get_down}
 use Rattle.xc_dance.proofs.LinkedTables.LinkColumns.{size_from}
 use Rattle.xc_dance.proofs.LinkedTables.GoodLines.{IsMember, unlinked-is, linked-is, member_cells, Named, IsGood}
-use Rattle.xc_dance.proofs.LinkedTables.GoodLines.{member, all_good, numbers_named, SameCut, line_after, tables_same}
+use Rattle.xc_dance.proofs.LinkedTables.GoodLines.{member, InRange, all_good, numbers_named, SameCut, line_after, tables_same}
 use Rattle.xc_dance.proofs.LinkedTables.Sweep.{Rises, stay, cuts, is_in-first, drop_first, stay_all, leave_none, cut}
 use Rattle.xc_dance.proofs.LinkedTables.Sweep.{with_line, other_items, by_first}
 use Rattle.xc_dance.proofs.LinkedTables.OneOption.{left_all, all_other, line_here, line_there, gone_count}
-use Rattle.xc_dance.proofs.LinkedTables.OtherItems.{leaves, list_at, each_apart, own_apart}
+use Rattle.xc_dance.proofs.LinkedTables.OtherItems.{leaves, list_at, own_apart}
 use Rattle.xc_dance.proofs.LinkedTables.Leaving.{ready_at, cut_others, leaves_own, total, total_same, total_plus}
 use Rattle.xc_dance.proofs.LinkedTables.Leaving.{total_zero, total_point, exchanged, leaving_is, first_alone}
-use Rattle.xc_dance.proofs.LinkedTables.Leaving.{takes_tweak, tweak_others, tweak_own, InRange}
+use Rattle.xc_dance.proofs.LinkedTables.Leaving.{takes_tweak, tweak_others, tweak_own}
 use Rattle.xc_dance.specs.Cost.{cost_of, leaving}
 use Rattle.xc_dance.proofs.LinkedTables.HideMoves.{own_placed}
 use Rattle.xc_dance.proofs.MoveLemmas.Shortened.{rises_listed}
 use Rattle.xc_dance.specs.inner.Links.Laid.{IsFit}
 use Rattle.xc_dance.proofs.LinkedTables.OneList.{turns_ready}
+use Rattle.std.proofs.Common.{None}
 
 -- the first of item i's list
 pub record HasFirst (p : Puzzle) (t : List Move) (i : ℕ) : Type 0 where
@@ -159,11 +160,11 @@ mid_is p t spans false i legal fit opened f =
     let pos : 0 < o = (subst (Rises 0) f.is (rises_listed p t i)).0 in
     let within : is_in o (listed_numbers p t i) ≡ true = grind (arith, common_steps, is_in-first) in
     let named : Named p i o = (subst (AllByRecursion (Named p i)) f.is (numbers_named p t i)).0 in
-    let s = turns_ready p (line_of p t) col (listed_numbers p t) spans o i fit.laid fit.spanned pos named
-    (all_good p t fit.fit) (ready_at p t i legal fit.laid fit.fit opened o within) in
+    let s = turns_ready p (line_of p t) col spans o i fit pos named
+    (ready_at p t i legal fit.laid fit.fit opened o within) in
     record {
       own = all_other cut p col o (line_of p t) (other_items p o i) i (own_apart p i o fit.fit);
-      line = λ j. list_at p col i (line_of p t) (o ∷ []) j (each_apart p i (o ∷ []) fit.fit);
+      line = λ j. list_at p col i None (line_of p t) (o ∷ []) j fit.fit;
       hide = λ e. (fit.spanned.within o i pos named, s.hide);
       done = s.done;
       unhide = λ e. (fit.spanned.within o i pos named, s.unhide);
@@ -202,7 +203,7 @@ tweak_made p t spans covered i legal fit pos le some opened =
     let next : Nodes = nodes_after p (Tweak i ∷ t) in
     let l : Line = cut (ln i) o in
     let good : IsGood p i (ln i) (o ∷ f.os) = grind (arith, common_steps, all_good) in
-    let s : IsMember p i (ln i) o = member p i (ln i) [] o f.os pos le good in
+    let s : IsMember p i (ln i) o = member p i (ln i) (o ∷ f.os) o pos le good (is_in-first o f.os) in
     let few : (ln i).len < 2 ^ 31 = omega (arith, good.len, good.few) in
     let linked = linked-is p col ln i o laid s in
     let cells = member_cells p col ln i o laid s in

@@ -1,7 +1,9 @@
 -- Walks over nodes, under way and at their end, along links and over places in a row.
-use Rattle.std.proofs.Common.{◌≡◌, ◌≢◌, ℕ, zero, suc, ◌+◌, ◌<◌, ◌≤◌, true, false, eqb, List, [], ◌∷◌, ◌++◌, length}
-use Rattle.std.proofs.Common.{get_or, drop, fold, refl, ap, sym, subst, ◌∙◌, arith, eqb-true, ◌-◌, reverse}
-use Rattle.std.specs.List.{range_with_len}
+use Rattle.std.proofs.Common.{◌++◌}
+use Rattle.std.proofs.Common.{◌≡◌, ◌≢◌, ℕ, zero, suc, ◌+◌, ◌<◌, ◌≤◌, true, false, eqb, List, [], ◌∷◌, length}
+use Rattle.std.proofs.Common.{get_or, drop, fold, refl, ap, sym, subst, ◌∙◌, arith, eqb-true, ◌-◌, reverse, map, ap₂}
+use Rattle.std.specs.List.{range_with_len, sum_by}
+use Rattle.std.proofs.lemmas.List.Sums.{sum_by-cons}
 use Rattle.std.proofs.lemmas.Grind.{common_steps}
 use Rattle.std.proofs.lemmas.Bool.{eqb-false}
 use Rattle.std.proofs.lemmas.List.{drop_more, reverse-append}
@@ -50,6 +52,88 @@ pub both_reached : {step : Nodes → ℕ → Nodes} {writes : Nodes → ℕ → 
     (qs rs : List ℕ) (u : Nodes) (m : ℕ) → Reached step writes t0 ps t n → rs ≡ qs → u ≡ fold step t rs
     → m ≡ costs step writes t rs → Reached step writes t0 (ps ++ qs) u (n + m)
 both_reached {step} {writes} {t0} {ps} {t} {n} qs rs u m h same is paid = grind (arith, common_steps, costs-append)
+
+-- ---- ways there and back
+
+pub map_reverse : (f : ℕ → ℕ) (xs : List ℕ) → reverse (map f xs) ≡ map f (reverse xs)
+map_reverse f [] = grind (arith, common_steps)
+map_reverse f (x ∷ xs) = grind (arith, common_steps, map_reverse f xs)
+
+-- R leads from s to v, a step for each of xs
+abbrev pub Way : {S : Type 0} → (S → S → ℕ → Type 0) → S → List ℕ → S → Type 0
+Way R s [] v = s ≡ v
+Way {S} R s (x ∷ xs) v = (u : S) × (R s u x × Way R u xs v)
+
+way_push : {S : Type 0} (R : S → S → ℕ → Type 0) (s : S) (xs : List ℕ) (u v : S) (x : ℕ) → Way R s xs u → R u v x
+    → Way R s (xs ++ x ∷ []) v
+way_push R s [] u v x w r = (v, (subst (λ a. R a v x) (sym w) r, refl))
+way_push R s (y ∷ xs) u v x w r = (w.0, (w.1.0, way_push R w.0 xs u v x w.1.1 r))
+
+pub way_back : {S : Type 0} (R : S → S → ℕ → Type 0) (s : S) (xs : List ℕ) (v : S) → Way R s xs v
+    → Way (λ a b. R b a) v (reverse xs) s
+way_back R s [] v w = sym w
+way_back R s (x ∷ xs) v w =
+    subst (λ ys. Way (λ a b. R b a) v ys s) (sym (reverse-append (x ∷ []) xs))
+    (way_push (λ a b. R b a) v (reverse xs) w.0 s x (way_back R w.0 xs v w.1.1) w.1.0)
+
+pub way_split : {S : Type 0} (R : S → S → ℕ → Type 0) (s : S) (xs ys : List ℕ) (v : S) → Way R s (xs ++ ys) v
+    → (u : S) × (Way R s xs u × Way R u ys v)
+way_split R s [] ys v w = (s, (refl, w))
+way_split R s (x ∷ xs) ys v w = let r = way_split R w.0 xs ys v w.1.1 in (r.0, ((w.0, (w.1.0, r.1.0)), r.1.1))
+
+-- what a step at node x, to which q leads, does to a table, whose links lead on to q'
+pub record Led (step : Nodes → ℕ → Nodes) (writes : Nodes → ℕ → ℕ) (Can : Nodes → ℕ → Type 0) (links : Nodes → List ℕ)
+    (t u : Nodes) (q q' x n : ℕ) : Type 0 where
+  pub here : q ≡ x
+  pub can : Can t x
+  pub done : step t x ≡ u
+  pub within : x < length (links u)
+  pub next : get_or (links u) x 0 ≡ q'
+  pub cost : writes t x ≡ n
+
+-- and a walk of such steps
+pub record AllLed (step : Nodes → ℕ → Nodes) (writes : Nodes → ℕ → ℕ) (Can : Nodes → ℕ → Type 0)
+    (links : Nodes → List ℕ) (t u : Nodes) (q : ℕ) (qs : List ℕ) (n : ℕ) : Type 0 where
+  pub walk : CanFollow step Can links t q qs
+  pub done : fold step t qs ≡ u
+  pub costs : costs step writes t qs ≡ n
+
+module _ {S : Type 0} (R : S → S → ℕ → Type 0) (table : S → Nodes) (place : ℕ → ℕ) (step : Nodes → ℕ → Nodes)
+    (Can : Nodes → ℕ → Type 0) where
+  -- what a way makes of tables
+  pub way_made : ((s u : S) (x : ℕ) → R s u x → Can (table s) (place x) × (step (table s) (place x) ≡ table u)) → (s : S)
+      (xs : List ℕ) (v : S) → Way R s xs v
+      → CanAll step Can (table s) (map place xs) × (fold step (table s) (map place xs) ≡ table v)
+  way_made each s [] v w = (tt, ap table w)
+  way_made each s (x ∷ xs) v w =
+      let e = each s w.0 x w.1.0 in
+      let rest = way_made each w.0 xs v w.1.1 in (
+        (e.0, subst (λ (t : Nodes). CanAll step Can t (map place xs)) (sym e.1) rest.0),
+        ap (λ (t : Nodes). fold step t (map place xs)) e.1 ∙ rest.1,
+      )
+
+  -- along links
+  pub way_led : (writes : Nodes → ℕ → ℕ) (links : Nodes → List ℕ) (at : S → ℕ) (w : ℕ → ℕ)
+      → ((s u : S) (x : ℕ) → R s u x → Led step writes Can links (table s) (table u) (at s) (at u) (place x) (w x))
+      → (s : S) (xs : List ℕ) (v : S) → Way R s xs v
+      → AllLed step writes Can links (table s) (table v) (at s) (map place xs) (sum_by w xs)
+  way_led writes links at w each s [] v way = record { walk = tt; done = ap table way; costs = refl }
+  way_led writes links at w each s (x ∷ xs) v way =
+      let e = each s way.0 x way.1.0 in
+      let rest = way_led writes links at w each way.0 xs v way.1.1 in
+      let qs = map place xs in
+      record {
+        walk = (
+          e.here,
+          e.can,
+          subst (λ (t : Nodes). place x < length (links t)) (sym e.done) e.within,
+          subst (λ (t : Nodes). CanFollow step Can links t (get_or (links t) (place x) 0) qs) (sym e.done)
+              (subst (λ q. CanFollow step Can links (table way.0) q qs) (sym e.next) rest.walk),
+        );
+        done = ap (λ (t : Nodes). fold step t qs) e.done ∙ rest.done;
+        costs = ap₂ (λ a b. a + b) e.cost (ap (λ (t : Nodes). costs step writes t qs) e.done ∙ rest.costs)
+            ∙ sym (sum_by-cons w x xs);
+      }
 
 -- ---- up to a spacer
 
