@@ -31,7 +31,7 @@ use Rattle.xc_dance.proofs.LinkedTables.OneOption.{is_mark, apart_in, AllApart, 
 use Rattle.xc_dance.proofs.LinkedTables.OneOption.{all_at, line_here, line_there}
 use Rattle.xc_dance.proofs.LinkedTables.Sweep.{mended, with_line, in_above, put_at}
 use Rattle.xc_dance.proofs.LinkedTables.Sweep.{other_items, is_in-first, in_more}
-use Rattle.xc_dance.proofs.LinkedTables.OtherItems.{out_of, leaves, in_others, others_apart, own_apart}
+use Rattle.xc_dance.proofs.LinkedTables.OtherItems.{leaves, in_others, others_apart, own_apart}
 use Rattle.xc_dance.proofs.LinkedTables.OtherItems.{item_range, in_reverse, apart_reverse}
 use Rattle.xc_dance.proofs.LinkedTables.UnmarkedNodes.{costs-are, unhidden_color, unmarked-reverse, unmarked_items}
 use Rattle.xc_dance.proofs.LinkedTables.GoodLines.{Named, listed_member, numbers_named}
@@ -234,7 +234,7 @@ opened_open {p} {t} {spans} {i} {ln} {o} {os} legal fit opened o_pos named withi
       ln1 = ln1;
       can = grind (arith, common_steps, can_unhide_node, map_reverse);
       done = ap (fold unhidden (nodes_from p ln col)) nodes ∙ w.done;
-      own = grind (arith, common_steps, out_of, own_apart);
+      own = grind (arith, common_steps, own_apart);
       cost = grind (arith, common_steps, costs-are, others_are, unhidden_color, unmarked-reverse, unmarked_items);
       others = λ j pos le ne. elim (leaves p col i j o) as
           (λ b. leaves p col i j o ≡ b → Regaining (line_of p t j) (ln1 j) (filter (leaves p col i j) os)) [

@@ -31,7 +31,7 @@ use Rattle.xc_dance.proofs.MoveLemmas.OpenLists.{listed_open}
 use Rattle.xc_dance.proofs.LinkedTables.GoodLines.{Named, numbers_named, SameCut}
 use Rattle.xc_dance.proofs.LinkedTables.OneOption.{is_mark, AreReady, AllApart, gone_count}
 use Rattle.xc_dance.proofs.LinkedTables.OneList.{OwnReady}
-use Rattle.xc_dance.proofs.LinkedTables.OtherItems.{in_others, others_apart, item_range, leaves, out_of}
+use Rattle.xc_dance.proofs.LinkedTables.OtherItems.{in_others, others_apart, item_range, leaves}
 use Rattle.xc_dance.proofs.MoveLemmas.Shortened.{rises_listed}
 use Rattle.xc_dance.proofs.MoveLemmas.Members.{element_of, in_filter, same_members, none_in}
 use Rattle.xc_dance.proofs.LinkedTables.MarkedNodes.{options_left, Met, each_met, open_unmarked, color_is}
@@ -221,7 +221,7 @@ counted_over n f (j ∷ js) apart within =
     let sum = total_plus (λ k. cond (eqb j k) (one_if (f j)) 0) (λ k. one_if (is_in k js && f k)) 1 n in
     let same : total (λ k. one_if ((eqb j k || is_in k js) && f k)) 1 n ≡ total
     (λ k. cond (eqb j k) (one_if (f j)) 0 + one_if (is_in k js && f k)) 1 n =
-    grind (arith, common_steps, eqb-true, out_of, total_same) in
+    grind (arith, common_steps, eqb-true, total_same) in
     omega (arith, rest, total_point j (one_if (f j)) 1 n here.0 here.1, sum, same, length_one (f j) j (filter f js))
 
 -- ---- some options

@@ -1,4 +1,6 @@
 -- An option leaves the lists of some of its items, one after another.
+use Rattle.std.proofs.Common.{ap}
+use Rattle.xc_dance.proofs.LinkedTables.Sweep.{out_rest, is_in-other}
 use Rattle.std.proofs.Common.{◌≡◌, ◌≢◌, ℕ, ◌<◌, inr, Bool, true, false, cond, eqb, List, [], ◌∷◌}
 use Rattle.std.proofs.Common.{length, map, fold, get_or, refl, sym, subst, ◌∙◌, arith, eqb-true, ne_eqb, not, ◌&&◌}
 use Rattle.std.proofs.Common.{eq-eqb, filter}
@@ -50,24 +52,22 @@ left_all = changed_all cut
 abbrev pub gone_count : Puzzle → (Node → ℕ) → ℕ → ℕ → ℕ
 gone_count p col i o = length (filter (λ j. not (is_mark p col o j)) (other_items p o i))
 
--- j isn't one of them
-abbrev pub IsApart : ℕ → List ℕ → Type 0
-IsApart j [] = Unit {0}
-IsApart j (k ∷ ks) = (k ≢ j) × IsApart j ks
-
 pub one_other : (change : Line → ℕ → Line) (p : Puzzle) (col : Node → ℕ) (o : ℕ) (ln : ℕ → Line) (j k : ℕ) → j ≢ k
     → changed_one change p col o ln j k ≡ ln k
 one_other change p col o ln j k ne = grind (arith, common_steps, line_there)
 
 pub all_other : (change : Line → ℕ → Line) (p : Puzzle) (col : Node → ℕ) (o : ℕ) (ln : ℕ → Line) (js : List ℕ) (k : ℕ)
-    → IsApart k js → changed_all change p col o ln js k ≡ ln k
-all_other change p col o ln [] k apart = refl
-all_other change p col o ln (j ∷ js) k apart =
-    all_other change p col o (changed_one change p col o ln j) js k apart.1 ∙ one_other change p col o ln j k apart.0
+    → is_in k js ≡ false → changed_all change p col o ln js k ≡ ln k
+all_other change p col o ln [] k out = refl
+all_other change p col o ln (j ∷ js) k out =
+    let ne = out_rest j k js out in
+    all_other change p col o (changed_one change p col o ln j) js k (sym (is_in-other j k js ne) ∙ out)
+    ∙ one_other change p col o ln j k ne
 
+-- no two of them are the same
 abbrev pub AllApart : List ℕ → Type 0
 AllApart [] = Unit {0}
-AllApart (j ∷ js) = IsApart j js × AllApart js
+AllApart (j ∷ js) = (is_in j js ≡ false) × AllApart js
 
 -- the line of item k after all of them
 pub all_at : (change : Line → ℕ → Line) (p : Puzzle) (col : Node → ℕ) (o : ℕ) (ln : ℕ → Line) (js : List ℕ) (k : ℕ)
@@ -105,9 +105,8 @@ hides_one p col ln o j laid pos r =
       | false ↦ λ e. step_open p col ln j o laid (r.member e) e
     ] refl
 
-pub apart_in : (j k : ℕ) (js : List ℕ) → IsApart j js → is_in k js ≡ true → j ≢ k
-apart_in j k [] apart e = absurd (false≢true e)
-apart_in j k (i ∷ js) apart e = grind (arith, common_steps, eqb-true, apart_in j k js apart.1)
+pub apart_in : (j k : ℕ) (js : List ℕ) → is_in j js ≡ false → is_in k js ≡ true → j ≢ k
+apart_in j k js out e s = false≢true (sym out ∙ ap (λ m. is_in m js) s ∙ e)
 
 -- the walk over its nodes in the lists of the items js
 pub walked : (p : Puzzle) (col : Node → ℕ) (ln : ℕ → Line) (o : ℕ) (js : List ℕ) → IsLaid p → 0 < o → AllApart js

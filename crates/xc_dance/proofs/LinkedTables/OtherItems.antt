@@ -1,4 +1,5 @@
 -- The other items of an option: what its leaving does to the line of each, and that they are apart.
+use Rattle.std.proofs.Common.{append-nil}
 use Rattle.std.proofs.Common.{◌++◌}
 use Rattle.std.proofs.Common.{◌≡◌, ℕ, Bool, true, false, not, ◌&&◌, ◌||◌, eqb, List, [], ◌∷◌, map, filter, refl, ap}
 use Rattle.std.proofs.Common.{sym, ◌∙◌, eqb-true, eq-eqb, ne_eqb, arith, ◌≢◌, ◌<◌, ◌≤◌, reverse, subst}
@@ -16,7 +17,7 @@ use Rattle.xc_dance.specs.inner.Links.Lines.{Line}
 use Rattle.xc_dance.specs.inner.Links.Others.{before_use, behind_use}
 use Rattle.xc_dance.specs.inner.Links.Laid.{AreDistinct, IsFit}
 use Rattle.xc_dance.proofs.LinkedTables.Sweep.{cuts, other_items}
-use Rattle.xc_dance.proofs.LinkedTables.OneOption.{is_mark, left_all, IsApart, all_at, AllApart}
+use Rattle.xc_dance.proofs.LinkedTables.OneOption.{is_mark, left_all, all_at, AllApart}
 use Rattle.xc_dance.specs.inner.Lists.Losing.{is_kept}
 use Rattle.xc_dance.proofs.LinkedTables.Sweep.{cut}
 use Rattle.std.proofs.lemmas.Bool.{and_parts}
@@ -41,47 +42,30 @@ pub in_others : (p : Puzzle) (o i k : ℕ) → AreDistinct (uses_of p o)
 in_others p o i k d = list_any-append (λ j. eqb j k) (behind_use i (uses_of p o)) (before_use i (uses_of p o))
     ∙ others_by (uses_of p o) i k d
 
--- ---- apart
-
-pub out_of : (j : ℕ) (js : List ℕ) → IsApart j js → is_in j js ≡ false
-out_of j [] h = refl
-out_of j (k ∷ ks) h = ap (λ b. b || is_in j ks) (ne_eqb k j h.0) ∙ out_of j ks h.1
-
-pub apart_from : (k : ℕ) (js : List ℕ) → is_in k js ≡ false → IsApart k js
-apart_from k [] e = tt
-apart_from k (j ∷ js) e = grind (arith, common_steps, eqb-false, false≢true, apart_from k js)
-
 -- whether option o leaves item k's list by a walk down i's
 abbrev pub leaves : Puzzle → (Node → ℕ) → ℕ → ℕ → ℕ → Bool
 leaves p col i k o = is_in k (other_items p o i) && not (is_mark p col o k)
 
 -- ---- the other items of an option are apart from each other and from its own
 
-apart_insert : (x k : ℕ) (xs ys : List ℕ) → k ≢ x → IsApart x (xs ++ ys) → IsApart x (xs ++ k ∷ ys)
-apart_insert x k [] ys ne h = (ne, h)
-apart_insert x k (y ∷ xs) ys ne h = (h.0, apart_insert x k xs ys ne h.1)
+in_insert : (x k : ℕ) (xs ys : List ℕ) → is_in x (xs ++ k ∷ ys) ≡ (eqb k x || is_in x (xs ++ ys))
+in_insert x k [] ys = refl
+in_insert x k (y ∷ xs) ys = grind (arith, common_steps, in_insert x k xs ys)
 
 all_insert : (k : ℕ) (xs ys : List ℕ) → (is_in k xs || is_in k ys) ≡ false → AllApart (xs ++ ys)
     → AllApart (xs ++ k ∷ ys)
-all_insert k [] ys e h = (apart_from k ys e, h)
+all_insert k [] ys e h = (e, h)
 all_insert k (x ∷ xs) ys e h =
-    elim (eqb x k) as (λ b. eqb x k ≡ b → ((b || is_in k xs) || is_in k ys) ≡ false → AllApart (x ∷ (xs ++ k ∷ ys))) [
-      | true ↦ λ f g. absurd (false≢true (sym g))
-      | false ↦ λ f g. (apart_insert x k xs ys (λ s. eqb-false x k f (sym s)) h.0, all_insert k xs ys g h.1)
-    ] refl e
+    grind (arith, common_steps, eqb-false, eqb-true, eq-eqb, ne_eqb, in_insert, all_insert k xs ys)
 
 items_apart : (us : List Use) → AreDistinct us → AllApart (map (λ u. u.item) us)
 items_apart [] d = tt
-items_apart (u ∷ us) d = (apart_from u.item (map (λ v. v.item) us) (items_of us u.item ∙ d.0), items_apart us d.1)
-
-append_none : (xs : List ℕ) → AllApart xs → AllApart (xs ++ [])
-append_none [] h = grind (arith, common_steps)
-append_none (x ∷ xs) h = grind (arith, common_steps, append_none xs h.1)
+items_apart (u ∷ us) d = (items_of us u.item ∙ d.0, items_apart us d.1)
 
 others_apart_of : (us : List Use) (i : ℕ) → AreDistinct us → AllApart (behind_use i us ++ before_use i us)
-others_apart_of [] i d = grind (arith, common_steps, all_insert, append_none, items_apart, others_by)
+others_apart_of [] i d = grind (arith, common_steps, all_insert, append-nil, items_apart, others_by)
 others_apart_of (u ∷ us) i d =
-    grind (arith, common_steps, all_insert, append_none, items_apart, others_by, others_apart_of us i d.1)
+    grind (arith, common_steps, all_insert, append-nil, items_apart, others_by, others_apart_of us i d.1)
 
 pub in_reverse : (k : ℕ) (xs : List ℕ) → is_in k (reverse xs) ≡ is_in k xs
 in_reverse k xs = sym (list_any-IsPermutation (λ j. eqb j k) xs (reverse xs) (IsPermutation-reverse xs))
@@ -90,8 +74,8 @@ pub apart_reverse : (xs : List ℕ) → AllApart xs → AllApart (reverse xs)
 apart_reverse [] h = tt
 apart_reverse (x ∷ xs) h =
     subst AllApart (sym (reverse-append (x ∷ []) xs))
-    (all_insert x (reverse xs) [] (ap (λ b. b || false) (in_reverse x xs ∙ out_of x xs h.0))
-    (append_none (reverse xs) (apart_reverse xs h.1)))
+    (all_insert x (reverse xs) [] (ap (λ b. b || false) (in_reverse x xs ∙ h.0))
+    (rw append-nil (apart_reverse xs h.1)))
 
 pub others_apart : (p : Puzzle) (o i : ℕ) → IsFit p → AllApart (other_items p o i)
 others_apart p o i fit = others_apart_of (uses_of p o) i (fit.distinct o)
@@ -102,10 +86,9 @@ item_range p [] j a e = absurd (false≢true e)
 item_range p (u ∷ us) j a e = grind (arith, common_steps, eqb-true, item_range p us j a.1)
 
 -- the item itself isn't among them
-pub own_apart : (p : Puzzle) (i o : ℕ) → IsFit p → IsApart i (other_items p o i)
-own_apart p i o fit =
-    apart_from i (other_items p o i)
-    (in_others p o i i (fit.distinct o) ∙ ap (λ b. not b && is_some (colour_in (uses_of p o) i)) (eq-eqb i i refl))
+pub own_apart : (p : Puzzle) (i o : ℕ) → IsFit p → is_in i (other_items p o i) ≡ false
+own_apart p i o fit = in_others p o i i (fit.distinct o)
+    ∙ ap (λ b. not b && is_some (colour_in (uses_of p o) i)) (eq-eqb i i refl)
 
 -- one of them
 pub record OtherItem (p : Puzzle) (o i j : ℕ) : Type 0 where
