@@ -49,6 +49,14 @@ options_left p t = all_left (IsOption p) p t (options_numbered p)
 
 -- ---- membership
 
+-- where the option holds item j it is in the item's list
+abbrev InList : Puzzle → List Move → ℕ → Numbered → Type 0
+InList p t j o = holds o j ≡ true → is_in o.number (listed_numbers p t j) ≡ true
+
+-- and where it does its node there, of colour c, is marked
+abbrev HasMark : Puzzle → List Move → ℕ → ℕ → Numbered → Type 0
+HasMark p t j c o = holds o j ≡ true → is_marked p t j o.number c ≡ true
+
 holding_in : (j : ℕ) (os : List Numbered)
     → AllByRecursion (λ o. holds o j ≡ true → is_in o.number (map (λ x. x.number) (holding j os)) ≡ true) os
 holding_in j [] = grind (arith, common_steps, each_weaker, false≢true, is_in-first)
@@ -56,7 +64,7 @@ holding_in j (x ∷ os) = grind (arith, common_steps, each_weaker, false≢true,
 
 -- an option left that holds an open item is in its list
 pub in_open : (p : Puzzle) (t : List Move) (j : ℕ) → AreLegal p t → is_open j t ≡ true
-    → AllByRecursion (λ o. holds o j ≡ true → is_in o.number (listed_numbers p t j) ≡ true) (left p t)
+    → AllByRecursion (InList p t j) (left p t)
 in_open p t j legal opened = subst (λ (os : List Numbered). AllByRecursion
     (λ o. holds o j ≡ true → is_in o.number (map (λ x. x.number) os) ≡ true) (left p t))
     (sym (listed_open _ _ legal _ opened)) (holding_in j (left p t))
@@ -76,25 +84,19 @@ true_either false = refl
 
 -- the nodes of a purified item that are left are marked
 pub purified_marked : (p : Puzzle) (t : List Move) (j c : ℕ) → AreLegal p t → purified j t ≡ Some c
-    → AllByRecursion (λ o. holds o j ≡ true → is_marked p t j o.number c ≡ true) (left p t)
+    → AllByRecursion (HasMark p t j c) (left p t)
 purified_marked p [] j c legal e = cc
-purified_marked p (Spend k ∷ t) j c legal e = purified_marked p t j c legal.1 e
 purified_marked p (Purify k d ∷ t) j c legal e =
-    elim (eqb j k) as (λ b. eqb j k ≡ b → cond b (Some d) (purified j t) ≡ Some c
-    → AllByRecursion (λ o. holds o j ≡ true → is_marked p (Purify k d ∷ t) j o.number c ≡ true)
-    (left p (Purify k d ∷ t))) [
-      | true ↦ λ f g. kept (λ o. holds o j ≡ true → is_marked p (Purify k d ∷ t) j o.number c ≡ true) p t (Purify k d)
-          (each_weaker (λ o. holds o j ≡ true → is_in o.number (listed_numbers p t j) ≡ true)
-          (λ o. holds o j ≡ true → is_marked p (Purify k d ∷ t) j o.number c ≡ true) (left p t)
+    let P = HasMark p (Purify k d ∷ t) j c in
+    kept P p t (Purify k d) (elim (eqb j k) as (λ b. eqb j k ≡ b → cond b (Some d) (purified j t) ≡ Some c
+    → AllByRecursion P (left p t)) [
+      | true ↦ λ f g. each_weaker (InList p t j) P (left p t)
           (λ o h held. grind (arith, common_steps, eq-eqb, same_Some))
-          (in_open p t j legal.1 (ap (λ i. is_open i t) (eqb-true j k f) ∙ legal.0.1)))
-      | false ↦ λ f g. kept (λ o. holds o j ≡ true → is_marked p (Purify k d ∷ t) j o.number c ≡ true) p t (Purify k d)
-          (each_weaker (λ o. holds o j ≡ true → is_marked p t j o.number c ≡ true)
-          (λ o. holds o j ≡ true → is_marked p (Purify k d ∷ t) j o.number c ≡ true) (left p t)
-          (λ o h held. grind (arith, common_steps)) (purified_marked p t j c legal.1 g))
-    ] refl e
-purified_marked p (m ∷ t) j c legal e =
-    kept (λ o. holds o j ≡ true → is_marked p t j o.number c ≡ true) p t m (purified_marked p t j c legal.1 e)
+          (in_open p t j legal.1 (ap (λ i. is_open i t) (eqb-true j k f) ∙ legal.0.1))
+      | false ↦ λ f g. each_weaker (HasMark p t j c) P (left p t) (λ o h held. grind (arith, common_steps))
+          (purified_marked p t j c legal.1 g)
+    ] refl e)
+purified_marked p (m ∷ t) j c legal e = kept (HasMark p t j c) p t m (purified_marked p t j c legal.1 e)
 
 -- ---- a node's colour cell
 
@@ -144,10 +146,10 @@ colour_small (u ∷ us) j c a e = grind (arith, common_steps, same_Some, colour_
 
 pub each_met : {p : Puzzle} (t : List Move) (j : ℕ) → AreLegal p t → IsFit p
     → AllByRecursion (λ o. holds o j ≡ true → Met p t o.number j) (left p t)
-each_met {p} t j legal fit = elim (is_open j t) as (λ b. is_open j t ≡ b
-    → AllByRecursion (λ o. holds o j ≡ true → Met p t o.number j) (left p t)) [
-      | true ↦ λ e. each_both (IsOption p) (λ o. holds o j ≡ true → is_in o.number (listed_numbers p t j) ≡ true)
-          (λ o. holds o j ≡ true → Met p t o.number j) (left p t) (λ o is h held.
+each_met {p} t j legal fit =
+    let R : Numbered → Type 0 = λ o. holds o j ≡ true → Met p t o.number j in
+    elim (is_open j t) as (λ b. is_open j t ≡ b → AllByRecursion R (left p t)) [
+      | true ↦ λ e. each_both (IsOption p) (InList p t j) R (left p t) (λ o is h held.
           let c = colour_some (uses_of p o.number) j (ap (λ us. is_some (colour_in us j)) is.1 ∙ held) in
           let small = colour_small (uses_of p o.number) j c.0 (fit.colours o.number) c.1 in
           let m = mark_is p t o.number j c.0 is.0 c.1 in
@@ -155,13 +157,11 @@ each_met {p} t j legal fit = elim (is_open j t) as (λ b. is_open j t ≡ b
       | false ↦ λ e.
           elim (closed j t e) [
             | inl covered ↦ grind (arith, common_steps, each_weaker, false≢true, left_free)
-            | inr has ↦ each_both (IsOption p) (λ o. (holds o j ≡ true → is_marked p t j o.number has.0 ≡ true)
-                × (agrees has.0 (colour_at o j) ≡ true)) (λ o. holds o j ≡ true → Met p t o.number j) (left p t)
-                (λ o is h held.
+            | inr has ↦ each_both (IsOption p) (λ o. IsOption p o → R o) R _ (λ o is h. h is) (options_left p t)
+                (each_both (HasMark p t j has.0) (λ o. agrees has.0 (colour_at o j) ≡ true) (λ o. IsOption p o → R o)
+                (left p t) (λ o marked agree is held.
                 let c = colour_some (uses_of p o.number) j (ap (λ us. is_some (colour_in us j)) is.1 ∙ held) in
                 grind (arith, common_steps, false≢true, agrees_same has.0 c.0, mark_is p t o.number j c.0 is.0 c.1))
-                (options_left p t) (each_both (λ o. holds o j ≡ true → is_marked p t j o.number has.0 ≡ true)
-                (λ o. agrees has.0 (colour_at o j) ≡ true) _ (left p t) (λ o a b. (a, b))
                 (purified_marked p t j has.0 legal has.1) (left_agrees p t j has.0 has.1))
           ]
     ] refl
