@@ -126,8 +126,8 @@ pub member : (p : Puzzle) (j : ℕ) (l : Line) (xs : List ℕ) (o : ℕ) → 0 <
     → is_in o xs ≡ true → IsMember p j l o
 member p j l [] o pos le g e = absurd (false≢true e)
 member p j l (x ∷ xs) o pos le g e =
-    at_member p j l 0 (x ∷ xs) o (pos, le) (omega (arith, g.len)) (omega (arith, g.len, g.few)) (inl refl) g.linked g.named
-    e
+    at_member p j l 0 (x ∷ xs) o (pos, le) (omega (arith, g.len)) (omega (arith, g.len, g.few)) (inl refl) g.linked
+    g.named e
 
 -- it is one still when another one has left
 pub cut_member : (p : Puzzle) (j : ℕ) (l : Line) (o x : ℕ) → IsMember p j l o → IsMember p j l x → x ≢ o
@@ -165,8 +165,8 @@ pub all_good : (p : Puzzle) (t : List Move) → IsFit p → AllGood p (line_of p
 all_good p t fit j jpos jle = grind (arith, common_steps, length-map, numbers_few, numbers_named, stands)
 
 -- each option of a list is a member of the line
-pub listed_member : {p : Puzzle} (t : List Move) (j x : ℕ) → IsFit p → InRange p j → is_in x (listed_numbers p t j) ≡ true
-    → IsMember p j (line_of p t j) x
+pub listed_member : {p : Puzzle} (t : List Move) (j x : ℕ) → IsFit p → InRange p j
+    → is_in x (listed_numbers p t j) ≡ true → IsMember p j (line_of p t j) x
 listed_member {p} t j x fit r e = member p j _ _ x r.0 r.1 (all_good p t fit j r.0 r.1) e
 
 -- ---- a line that loses what a move takes is that after the move; tables of the same lines and colours are the same

@@ -137,18 +137,14 @@ leavers_of p t i keep = grind (arith, common_steps, Rises-filter, and_parts, in_
 abbrev pub hide_writes : Puzzle → List Move → Move → ℕ → Option ℕ → ℕ
 hide_writes p t m i keep = length (filter (is_kept p i keep) (listed_numbers p t i)) + 3 * leaving p t m
 
-pub record WalkMade (p : Puzzle) (t : List Move) (spans : List Span) (m : Move) (i : ℕ) (keep : Option ℕ)
-    (start : Node → ℕ) : Type 0 where
-  pub can : CanHideList spans keep (nodes_from p (line_of p t) start) i
-  pub done : fold (left_node spans keep) (nodes_from p (line_of p t) start) (list_of (nodes_after p t) i) ≡ nodes_after
-      p (m ∷ t)
-  pub can_back : CanUnhideList spans keep (nodes_after p (m ∷ t)) i
-  pub undone : fold (back_node spans keep) (nodes_after p (m ∷ t)) (list_back (nodes_after p (m ∷ t)) i) ≡ nodes_from p
-      (line_of p t) start
-  pub costs : walk_costs spans keep (nodes_from p (line_of p t) start) (list_of (nodes_after p t) i) ≡ hide_writes p t
-      m i keep
-  pub costs_back : back_costs spans keep (nodes_after p (m ∷ t)) (list_back (nodes_after p (m ∷ t)) i) ≡ hide_writes p t
-      m i keep
+-- a walk down item i's list leads from the table t to u, and the walk back up to t, and each writes n cells
+pub record WalkMade (spans : List Span) (i : ℕ) (keep : Option ℕ) (t u : Nodes) (n : ℕ) : Type 0 where
+  pub can : CanHideList spans keep t i
+  pub done : fold (left_node spans keep) t (list_of t i) ≡ u
+  pub costs : walk_costs spans keep t (list_of t i) ≡ n
+  pub can_back : CanUnhideList spans keep u i
+  pub undone : fold (back_node spans keep) u (list_back u i) ≡ t
+  pub costs_back : back_costs spans keep u (list_back u i) ≡ n
 
 module _ (p : Puzzle) (t : List Move) (spans : List Span) (m : Move) (i : ℕ) (keep : Option ℕ) (start : Node → ℕ)
     (legal : AreLegal p t) (f : IsFitted p spans) (pos : 0 < i) (le : i ≤ item_count p) (opened : is_open i t ≡ true)
@@ -170,7 +166,8 @@ module _ (p : Puzzle) (t : List Move) (spans : List Span) (m : Move) (i : ℕ) (
       (marked_list p i keep start (listed_numbers p t i))
   hides_table = tables_same _ (left_list p (color_in p t) i keep (line_of p t) (listed_numbers p t i))
       (line_of p (m ∷ t)) (marked_list p i keep start (listed_numbers p t i)) (color_in p (m ∷ t)) f.laid
-      (λ j r. line_after _ _ _ _ _ (hides_cut j r) ∙ sym (list_at p (color_in p t) i keep (line_of p t) (listed_numbers p t i) j f.fit)) h.colours
+      (λ j r. line_after _ _ _ _ _ (hides_cut j r)
+      ∙ sym (list_at p (color_in p t) i keep (line_of p t) (listed_numbers p t i) j f.fit)) h.colours
 
   hides_cost : sum_by (step_cost p (color_in p t) i keep) (listed_numbers p t i) ≡ hide_writes p t m i keep
   hides_cost =
@@ -182,11 +179,12 @@ module _ (p : Puzzle) (t : List Move) (spans : List Span) (m : Move) (i : ℕ) (
       (listed_numbers p t i) (nodes_after p (m ∷ t))
   hide_step = subst (Listed p (color_in p t) spans i keep (line_of p t i) (nodes_from p (line_of p t) start)
       (listed_numbers p t i)) (sym hides_table)
-      (listed_walk p (color_in p t) spans i keep (line_of p t i) f pos le (line_of p t) start (listed_numbers p t i) refl
-      (stands p t i) (own_ready p t i legal f.laid f.fit opened keep) (lines_ready p t i legal f.laid f.fit opened)
+      (listed_walk p (color_in p t) spans i keep (line_of p t i) f pos le (line_of p t) start (listed_numbers p t i)
+      refl (stands p t i) (own_ready p t i legal f.laid f.fit opened keep) (lines_ready p t i legal f.laid f.fit opened)
       (rises_listed p t i) h.passed)
 
-  pub walk_made : WalkMade p t spans m i keep start
+  pub walk_made : WalkMade spans i keep (nodes_from p (line_of p t) start) (nodes_after p (m ∷ t))
+      (hide_writes p t m i keep)
   walk_made =
       let laid = f.laid in
       let fit = f.fit in
@@ -243,15 +241,14 @@ purify_hides p t i c legal laid pos le opened = record {
 
 -- ---- Purify's own node
 
-pub record PurifyMade (p : Puzzle) (t : List Move) (spans : List Span) (i c : ℕ) : Type 0 where
-  pub can : CanPurify spans c (nodes_after p t) i
-  pub done : purified_list spans c (nodes_after p t) i ≡ nodes_after p (Purify i c ∷ t)
-  pub can_back : CanUnpurify spans c (nodes_after p (Purify i c ∷ t)) i
-  pub undone : unpurified_list spans c (nodes_after p (Purify i c ∷ t)) i ≡ nodes_after p t
-  pub cost : walk_costs spans (Some c) (with_colour (nodes_after p t) i c) (list_of (nodes_after p t) i) + 1 ≡ cost_of p
-      t (Purify i c)
-  pub cost_back : back_costs spans (Some c) (nodes_after p (Purify i c ∷ t))
-      (list_back (nodes_after p (Purify i c ∷ t)) i) + 1 ≡ cost_of p t (Purify i c)
+-- Purify leads from the table t to u, and its undoing back to t, and each writes n cells
+pub record PurifyMade (spans : List Span) (i c : ℕ) (t u : Nodes) (n : ℕ) : Type 0 where
+  pub can : CanPurify spans c t i
+  pub done : purified_list spans c t i ≡ u
+  pub cost : walk_costs spans (Some c) (with_colour t i c) (list_of t i) + 1 ≡ n
+  pub can_back : CanUnpurify spans c u i
+  pub undone : unpurified_list spans c u i ≡ t
+  pub cost_back : back_costs spans (Some c) u (list_back u i) + 1 ≡ n
 
 -- the options kept are those that are marked
 kept_marked : (p : Puzzle) (t : List Move) (i c : ℕ) → AreLegal p t → is_open i t ≡ true
@@ -269,7 +266,8 @@ pub cover_writes : (p : Puzzle) (t : List Move) (i : ℕ) → hide_writes p t (C
 cover_writes p t i = let none = ap length (leave_none (listed_numbers p t i)) in omega (arith, none)
 
 pub purify_made : (p : Puzzle) (t : List Move) (spans : List Span) (i c : ℕ) → AreLegal p t → IsFitted p spans → 0 < i
-    → i ≤ item_count p → is_open i t ≡ true → PurifyMade p t spans i c
+    → i ≤ item_count p → is_open i t ≡ true
+    → PurifyMade spans i c (nodes_after p t) (nodes_after p (Purify i c ∷ t)) (cost_of p t (Purify i c))
 purify_made p t spans i c legal f pos le opened =
     let laid = f.laid in
     let w = walk_made p t spans (Purify i c) i (Some c) (purify_start p t i c) legal f pos le opened

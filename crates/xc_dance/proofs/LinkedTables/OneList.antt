@@ -27,12 +27,13 @@ use Rattle.xc_dance.proofs.LinkedTables.OneOption.{all_other, gone_count}
 use Rattle.xc_dance.proofs.LinkedTables.Spacers.{Turns, turns}
 use Rattle.xc_dance.specs.declared.links.nodes.TheConstants.{MARK}
 use Rattle.xc_dance.proofs.LinkedTables.OneOption.{all_at}
-use Rattle.xc_dance.proofs.LinkedTables.OtherItems.{OtherItem, leaves, left_by, left_list, other_item, others_apart, own_apart}
+use Rattle.xc_dance.proofs.LinkedTables.OtherItems.{OtherItem, leaves, left_by, left_list, other_item}
+use Rattle.xc_dance.proofs.LinkedTables.OtherItems.{others_apart, own_apart}
 use Rattle.std.proofs.lemmas.List.Sorted.{IsPermutation-reverse, sum_by-IsPermutation}
 use Rattle.xc_dance.specs.inner.Links.Made.{IsFitted}
 use Rattle.xc_dance.proofs.LinkedTables.GoodLines.{InRange, IsMember, cut_member}
 use Rattle.std.proofs.Common.{Bool, sum_by}
-use Rattle.xc_dance.proofs.LinkedTables.Walks.{AllLed, Led, Way, way_back, way_led}
+use Rattle.xc_dance.proofs.LinkedTables.Walks.{AllLed, Led, Leads, Kind, Way, way_back, way_led}
 
 -- ---- the colour of one node of the table
 
@@ -113,14 +114,19 @@ same_now p col now o ln (j ∷ js) same =
 
 -- ---- one step of the walk
 
+-- walks down and up a list
+abbrev pub down_walk : List Span → Option ℕ → Kind
+down_walk spans k =
+    record { step = left_node spans k; Can = CanLeave spans k; writes = leave_cost spans k; links = λ t. t.dlink }
+
+abbrev pub up_walk : List Span → Option ℕ → Kind
+up_walk spans k =
+    record { step = back_node spans k; Can = CanReturn spans k; writes = back_cost spans k; links = λ t. t.ulink }
+
 -- a step down from the table t to u at node x, and back, which writes n cells
 pub record OneStep (spans : List Span) (keep : Option ℕ) (t u : Nodes) (x n : ℕ) : Type 0 where
-  pub can : CanLeave spans keep t x
-  pub done : left_node spans keep t x ≡ u
-  pub back : CanReturn spans keep u x
-  pub undone : back_node spans keep u x ≡ t
-  pub cost : leave_cost spans keep t x ≡ n
-  pub cost_back : back_cost spans keep u x ≡ n
+  pub down : Leads (down_walk spans keep) t u x n
+  pub up : Leads (up_walk spans keep) u t x n
 
 -- a node of the colour kept is marked, and gets it back
 mark_step : (p : Puzzle) (now : Node → ℕ) (spans : List Span) (keep : Option ℕ) (ln : ℕ → Line) (i o : ℕ) → IsLaid p
@@ -137,18 +143,26 @@ mark_step p now spans (Some c) ln i o laid h near e =
     let marked : is_kept_mark (Some c) (get_or u.color x 0) ≡ true = grind
     (arith, common_steps, eq-eqb, get_map, with_color, slot_here) in
     record {
-      can = record { span = near; place = omega (arith, within, long); hide = λ no. absurd (false≢true (sym no ∙ e)) };
-      done = rw e is;
-      back = record {
-        span = near;
-        place = omega (arith, within, length-map (layout p) (with_color now i o MARK));
-        unhide = λ no. absurd (false≢true (sym no ∙ marked));
+      down = record {
+        can = record {
+          span = near;
+          place = omega (arith, within, long);
+          hide = λ no. absurd (false≢true (sym no ∙ e));
+        };
+        done = rw e is;
+        cost = rw e refl;
       };
-      undone = rw marked (ap (λ (w : Nodes). with_colour w x c) (sym is)
-          ∙ same_nodes (with_colour (with_colour t x MARK) x c) t refl refl refl
-          (written_back t.color x x MARK c refl (eqb-true (own_color p now i o) c e)));
-      cost = rw e refl;
-      cost_back = rw marked refl;
+      up = record {
+        can = record {
+          span = near;
+          place = omega (arith, within, length-map (layout p) (with_color now i o MARK));
+          unhide = λ no. absurd (false≢true (sym no ∙ marked));
+        };
+        done = rw marked (ap (λ (w : Nodes). with_colour w x c) (sym is)
+            ∙ same_nodes (with_colour (with_colour t x MARK) x c) t refl refl refl
+            (written_back t.color x x MARK c refl (eqb-true (own_color p now i o) c e)));
+        cost = rw marked refl;
+      };
     }
 
 no_mark : (keep : Option ℕ) (v : ℕ) → eqb v MARK ≡ false → is_kept_mark keep v ≡ false
@@ -191,9 +205,8 @@ line_on p col i j l o xs true r lv h = record {
       cut_member p j l o x (h.member o (is_in-first o xs) (lv refl) len) (h.member x (in_more o x xs e) f len)
       (λ s. omega (arith, s, in_above o x xs r e)) some;
   enough =
-      let g : length (cond (leaves p col i j o) (o ∷ filter (leaves p col i j) xs) (filter (leaves p col i j) xs)) ≤ l.len =
-      h.enough in
-      let e : length (filter (leaves p col i j) xs) + 1 ≤ l.len = grind (arith, common_steps) in omega (arith, e);
+      let e : length (filter (leaves p col i j) xs) + 1 ≤ l.len = grind (arith, common_steps, h.enough) in
+      omega (arith, e);
 }
 
 -- where the walk is: the lines and the colours, and the option that was met last
@@ -202,27 +215,27 @@ record State : Type 0 where
   colours : Node → ℕ
   last : ℕ
 
+abbrev state : (ℕ → Line) → (Node → ℕ) → ℕ → State
+state ln now a = record { lines = ln; colours = now; last = a }
+
 abbrev table_at : Puzzle → State → Nodes
 table_at p s = nodes_from p s.lines s.colours
 
 -- option o is met, item i's line being l
 record Meets (p : Puzzle) (col : Node → ℕ) (spans : List Span) (i : ℕ) (keep : Option ℕ) (l : Line) (s u : State)
     (o : ℕ) : Type 0 where
-  step : OneStep spans keep (table_at p s) (table_at p u) (link_place p i o) (step_cost p col i keep o)
-  placed : Placed p i o
-  below : l.down s.last ≡ o
-  above : l.up o ≡ s.last
-  last : u.last ≡ o
-  own : s.lines i ≡ l
-  own' : u.lines i ≡ l
+  down : Led (down_walk spans keep) (table_at p s) (table_at p u) (link_place p i (l.down s.last))
+      (link_place p i (l.down u.last)) (link_place p i o) (step_cost p col i keep o)
+  up : Led (up_walk spans keep) (table_at p u) (table_at p s) (link_place p i u.last) (link_place p i s.last)
+      (link_place p i o) (step_cost p col i keep o)
 
 -- what the walk down and the walk back up do, between the tables t and u
 pub record Listed (p : Puzzle) (col : Node → ℕ) (spans : List Span) (i : ℕ) (keep : Option ℕ) (l : Line) (t : Nodes)
     (xs : List ℕ) (u : Nodes) : Type 0 where
-  pub down : AllLed (left_node spans keep) (leave_cost spans keep) (CanLeave spans keep) (λ (v : Nodes). v.dlink) t u
-      (link_place p i (l.down 0)) (map (link_place p i) xs) (sum_by (step_cost p col i keep) xs)
-  pub up : AllLed (back_node spans keep) (back_cost spans keep) (CanReturn spans keep) (λ (v : Nodes). v.ulink) u t
-      (link_place p i (l.up 0)) (map (link_place p i) (reverse xs)) (sum_by (step_cost p col i keep) xs)
+  pub down : AllLed (down_walk spans keep) t u (link_place p i (l.down 0)) (map (link_place p i) xs)
+      (sum_by (step_cost p col i keep) xs)
+  pub up : AllLed (up_walk spans keep) u t (link_place p i (l.up 0)) (map (link_place p i) (reverse xs))
+      (sum_by (step_cost p col i keep) xs)
 
 module _ (p : Puzzle) (col : Node → ℕ) (spans : List Span) (i : ℕ) (keep : Option ℕ) (l : Line) (f : IsFitted p spans)
     (pos : 0 < i) (le : i ≤ item_count p) where
@@ -258,7 +271,7 @@ module _ (p : Puzzle) (col : Node → ℕ) (spans : List Span) (i : ℕ) (keep :
   meets ln now o xs o_pos own lines passed =
       let js = other_items p o i in
       let here = f.laid.there i o pos le (inr (o_pos, own.named)) in
-      let same : own_color p now i o ≡ own_color p col i o = passed.same i o here (grind (arith, common_steps, is_in-first)) in
+      let same = passed.same i o here (grind (arith, common_steps, is_in-first)) in
       let test : is_kept_colour keep (own_color p now i o) ≡ is_kept p i keep o = grind (arith, common_steps) in
       elim (is_kept p i keep o) as (λ b. is_kept p i keep o ≡ b → OneStep spans keep (nodes_from p ln now)
       (nodes_from p (cond b ln (left_all p col o ln js)) (cond b (with_color now i o MARK) now)) (link_place p i o)
@@ -292,63 +305,38 @@ module _ (p : Puzzle) (col : Node → ℕ) (spans : List Span) (i : ℕ) (keep :
 
   way : (ln : ℕ → Line) (now : Node → ℕ) (a : ℕ) (xs : List ℕ) → ln i ≡ l → IsLinkedFrom l a xs
       → ((o : ℕ) → is_in o xs ≡ true → OwnReady p col i keep o) → LinesReady p col i ln xs → Rises a xs
-      → Passed p i col now xs → Way (Meets p col spans i keep l) (record { lines = ln; colours = now; last = a }) xs
-      (record {
-        lines = left_list p col i keep ln xs;
-        colours = marked_list p i keep now xs;
-        last = l.up 0;
-      })
-  way ln now a [] own linked each lines r passed =
-      ap (λ k. let s : State = record { lines = ln; colours = now; last = k } in s) (sym linked.1)
+      → Passed p i col now xs → Way (Meets p col spans i keep l) (state ln now a) xs
+      (state (left_list p col i keep ln xs) (marked_list p i keep now xs) (l.up 0))
+  way ln now a [] own linked each lines r passed = ap (state ln now) (sym linked.1)
   way ln now a (o ∷ xs) own linked each lines r passed =
       let here = each o (is_in-first o xs) in
       let o_pos : 0 < o = let lt : a < o = r.0 in omega arith in
-      let own' : left_by p col i keep ln o i ≡ l = own_on ln o ∙ own in (
-        record { lines = left_by p col i keep ln o; colours = marked_by p i keep now o; last = o },
+      let m = meets ln now o xs o_pos here lines passed in
+      let ln' = left_by p col i keep ln o in
+      let own' : ln' i ≡ l = own_on ln o ∙ own in
+      let placed = f.laid.there i o pos le (inr (o_pos, here.named)) in
+      let within = slice_get_within (layout p) (link_place p i o) placed.node placed.at in (
+        state ln' (marked_by p i keep now o) o,
         (
           record {
-            step = meets ln now o xs o_pos here lines passed;
-            placed = f.laid.there i o pos le (inr (o_pos, here.named));
-            below = linked.1;
-            above = linked.2;
-            last = refl;
-            own = own;
-            own' = own';
+            down = record {
+              leads = m.down;
+              here = ap (link_place p i) linked.1;
+              within = omega (arith, within, length-map (layout p) (dlink_in p ln'));
+              next = get_down p ln' i o placed ∙ ap (λ (k : Line). link_place p i (k.down o)) own';
+            };
+            up = record {
+              leads = m.up;
+              here = refl;
+              within = omega (arith, within, length-map (layout p) (ulink_in p ln));
+              next = get_up p ln i o placed ∙ ap (λ (k : Line). link_place p i (k.up o)) own
+                  ∙ ap (link_place p i) linked.2;
+            };
           },
-          way (left_by p col i keep ln o) (marked_by p i keep now o) o xs own' linked.3
-              (λ x e. each x (in_more o x xs e)) (lines_on ln o xs r.1 lines) r.1 (passed_on now o xs r.1 passed),
+          way ln' (marked_by p i keep now o) o xs own' linked.3 (λ x e. each x (in_more o x xs e))
+              (lines_on ln o xs r.1 lines) r.1 (passed_on now o xs r.1 passed),
         ),
       )
-
-  led_down : (s u : State) (o : ℕ) → Meets p col spans i keep l s u o
-      → Led (left_node spans keep) (leave_cost spans keep) (CanLeave spans keep) (λ (v : Nodes). v.dlink) (table_at p s)
-      (table_at p u) (link_place p i (l.down s.last)) (link_place p i (l.down u.last)) (link_place p i o)
-      (step_cost p col i keep o)
-  led_down s u o m =
-      let within = slice_get_within (layout p) (link_place p i o) m.placed.node m.placed.at in
-      record {
-        here = ap (link_place p i) m.below;
-        can = m.step.can;
-        done = m.step.done;
-        within = omega (arith, within, length-map (layout p) (dlink_in p u.lines));
-        next = get_down p u.lines i o m.placed ∙ ap₂ (λ (k : Line) x. link_place p i (k.down x)) m.own' (sym m.last);
-        cost = m.step.cost;
-      }
-
-  led_up : (u s : State) (o : ℕ) → Meets p col spans i keep l s u o
-      → Led (back_node spans keep) (back_cost spans keep) (CanReturn spans keep) (λ (v : Nodes). v.ulink) (table_at p u)
-      (table_at p s) (link_place p i u.last) (link_place p i s.last) (link_place p i o) (step_cost p col i keep o)
-  led_up u s o m =
-      let within = slice_get_within (layout p) (link_place p i o) m.placed.node m.placed.at in
-      record {
-        here = ap (link_place p i) m.last;
-        can = m.step.back;
-        done = m.step.undone;
-        within = omega (arith, within, length-map (layout p) (ulink_in p s.lines));
-        next = get_up p s.lines i o m.placed ∙ ap (λ (k : Line). link_place p i (k.up o)) m.own
-            ∙ ap (link_place p i) m.above;
-        cost = m.step.cost_back;
-      }
 
   pub listed_walk : (ln : ℕ → Line) (now : Node → ℕ) (xs : List ℕ) → ln i ≡ l → IsLinkedFrom l 0 xs
       → ((o : ℕ) → is_in o xs ≡ true → OwnReady p col i keep o) → LinesReady p col i ln xs → Rises 0 xs
@@ -356,25 +344,15 @@ module _ (p : Puzzle) (col : Node → ℕ) (spans : List Span) (i : ℕ) (keep :
       (nodes_from p (left_list p col i keep ln xs) (marked_list p i keep now xs))
   listed_walk ln now xs own linked each lines r passed =
       let R = Meets p col spans i keep l in
-      let s : State = record { lines = ln; colours = now; last = 0 } in
-      let v : State = record {
-        lines = left_list p col i keep ln xs;
-        colours = marked_list p i keep now xs;
-        last = l.up 0;
-      } in
+      let s = state ln now 0 in
+      let v = state (left_list p col i keep ln xs) (marked_list p i keep now xs) (l.up 0) in
       let w = way ln now 0 xs own linked each lines r passed in
       let cost = step_cost p col i keep in
-      let up = way_led (λ a b. R b a) (table_at p) (link_place p i) (back_node spans keep) (CanReturn spans keep)
-      (back_cost spans keep) (λ (t : Nodes). t.ulink) (λ (a : State). link_place p i a.last) cost led_up v (reverse xs) s
-      (way_back R s xs v w) in
       record {
         down =
-            way_led R (table_at p) (link_place p i) (left_node spans keep) (CanLeave spans keep)
-            (leave_cost spans keep) (λ (t : Nodes). t.dlink) (λ (a : State). link_place p i (l.down a.last)) cost led_down
-            s xs v w;
-        up = record {
-          walk = up.walk;
-          done = up.done;
-          costs = up.costs ∙ sum_by-IsPermutation cost xs (reverse xs) (IsPermutation-reverse xs);
-        };
+            way_led R (down_walk spans keep) (table_at p) (λ a. link_place p i (l.down a.last)) (link_place p i) cost
+            (λ a b x m. m.down) s xs v w;
+        up = rw (← sum_by-IsPermutation cost xs (reverse xs) (IsPermutation-reverse xs))
+            (way_led (λ a b. R b a) (up_walk spans keep) (table_at p) (λ a. link_place p i a.last) (link_place p i) cost
+            (λ a b x m. m.up) v (reverse xs) s (way_back R s xs v w));
       }

@@ -115,8 +115,8 @@ turns p ln col spans o i spanned pos named w =
           (subst (CanUnhideAll (table end)) (turned js) back.0)
           (ap (fold unhidden (table end)) (sym (turned before)) ∙ last.1);
       done = ap (fold hidden (table ln)) others ∙ whole.1;
-      undone = ap (λ qs. fold unhidden (table end) (reverse qs)) others ∙ ap (fold unhidden (table end)) (sym (turned js))
-          ∙ back.1;
+      undone = ap (λ qs. fold unhidden (table end) (reverse qs)) others
+          ∙ ap (fold unhidden (table end)) (sym (turned js)) ∙ back.1;
       cost = grind (arith, common_steps, costs-are, hidden_color, others_are, unmarked_items);
       cost_back = grind (arith, common_steps, costs-are, others_are, unhidden_color, unmarked-reverse, unmarked_items);
     }

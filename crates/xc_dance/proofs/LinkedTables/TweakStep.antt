@@ -24,7 +24,8 @@ use Rattle.std.proofs.lemmas.Option.{slice_get_within}
 use Rattle.xc_dance.proofs.LinkedTables.LinkColumns.{relinked-unlinked, CanRelink, CanRelink-unlinked, get_down}
 use Rattle.xc_dance.proofs.LinkedTables.LinkColumns.{size_from}
 use Rattle.xc_dance.proofs.LinkedTables.GoodLines.{IsMember, unlinked-is, linked-is, member_cells, Named, IsGood}
-use Rattle.xc_dance.proofs.LinkedTables.GoodLines.{member, InRange, all_good, numbers_named, SameCut, line_after, tables_same}
+use Rattle.xc_dance.proofs.LinkedTables.GoodLines.{member, InRange, all_good, numbers_named}
+use Rattle.xc_dance.proofs.LinkedTables.GoodLines.{SameCut, line_after, tables_same}
 use Rattle.xc_dance.proofs.LinkedTables.Sweep.{Rises, stay, cuts, is_in-first, drop_first, stay_all, leave_none, cut}
 use Rattle.xc_dance.proofs.LinkedTables.Sweep.{with_line, other_items, by_first}
 use Rattle.xc_dance.proofs.LinkedTables.OneOption.{left_all, all_other, line_here, line_there, gone_count}

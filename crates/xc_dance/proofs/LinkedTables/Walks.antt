@@ -81,59 +81,57 @@ pub way_split : {S : Type 0} (R : S → S → ℕ → Type 0) (s : S) (xs ys : L
 way_split R s [] ys v w = (s, (refl, w))
 way_split R s (x ∷ xs) ys v w = let r = way_split R w.0 xs ys v w.1.1 in (r.0, ((w.0, (w.1.0, r.1.0)), r.1.1))
 
--- what a step at node x, to which q leads, does to a table, whose links lead on to q'
-pub record Led (step : Nodes → ℕ → Nodes) (writes : Nodes → ℕ → ℕ) (Can : Nodes → ℕ → Type 0) (links : Nodes → List ℕ)
-    (t u : Nodes) (q q' x n : ℕ) : Type 0 where
+-- what a way of steps makes of tables
+pub way_made : {S : Type 0} (R : S → S → ℕ → Type 0) (table : S → Nodes) (place : ℕ → ℕ) (step : Nodes → ℕ → Nodes)
+    (Can : Nodes → ℕ → Type 0)
+    → ((s u : S) (x : ℕ) → R s u x → Can (table s) (place x) × (step (table s) (place x) ≡ table u)) → (s : S)
+    (xs : List ℕ) (v : S) → Way R s xs v
+    → CanAll step Can (table s) (map place xs) × (fold step (table s) (map place xs) ≡ table v)
+way_made R table place step Can each s [] v w = (tt, ap table w)
+way_made R table place step Can each s (x ∷ xs) v w =
+    let e = each s w.0 x w.1.0 in
+    let rest = way_made R table place step Can each w.0 xs v w.1.1 in
+    ((e.0, rw e.1 rest.0), ap (λ (t : Nodes). fold step t (map place xs)) e.1 ∙ rest.1)
+
+-- a kind of walk along links: its step, when that may be made, and what it writes
+pub record Kind : Type 1 where
+  pub step : Nodes → ℕ → Nodes
+  pub Can : Nodes → ℕ → Type 0
+  pub writes : Nodes → ℕ → ℕ
+  pub links : Nodes → List ℕ
+
+-- a step at node x leads from t to u, and writes n cells
+pub record Leads (k : Kind) (t u : Nodes) (x n : ℕ) : Type 0 where
+  pub can : k.Can t x
+  pub done : k.step t x ≡ u
+  pub cost : k.writes t x ≡ n
+
+-- the walk is at q before it, and at q' then
+pub record Led (k : Kind) (t u : Nodes) (q q' x n : ℕ) : Type 0 where
+  pub leads : Leads k t u x n
   pub here : q ≡ x
-  pub can : Can t x
-  pub done : step t x ≡ u
-  pub within : x < length (links u)
-  pub next : get_or (links u) x 0 ≡ q'
-  pub cost : writes t x ≡ n
+  pub within : x < length (k.links u)
+  pub next : get_or (k.links u) x 0 ≡ q'
 
--- and a walk of such steps
-pub record AllLed (step : Nodes → ℕ → Nodes) (writes : Nodes → ℕ → ℕ) (Can : Nodes → ℕ → Type 0)
-    (links : Nodes → List ℕ) (t u : Nodes) (q : ℕ) (qs : List ℕ) (n : ℕ) : Type 0 where
-  pub walk : CanFollow step Can links t q qs
-  pub done : fold step t qs ≡ u
-  pub costs : costs step writes t qs ≡ n
+-- a walk of such steps
+pub record AllLed (k : Kind) (t u : Nodes) (q : ℕ) (qs : List ℕ) (n : ℕ) : Type 0 where
+  pub walk : CanFollow k.step k.Can k.links t q qs
+  pub done : fold k.step t qs ≡ u
+  pub costs : costs k.step k.writes t qs ≡ n
 
-module _ {S : Type 0} (R : S → S → ℕ → Type 0) (table : S → Nodes) (place : ℕ → ℕ) (step : Nodes → ℕ → Nodes)
-    (Can : Nodes → ℕ → Type 0) where
-  -- what a way makes of tables
-  pub way_made : ((s u : S) (x : ℕ) → R s u x → Can (table s) (place x) × (step (table s) (place x) ≡ table u)) → (s : S)
-      (xs : List ℕ) (v : S) → Way R s xs v
-      → CanAll step Can (table s) (map place xs) × (fold step (table s) (map place xs) ≡ table v)
-  way_made each s [] v w = (tt, ap table w)
-  way_made each s (x ∷ xs) v w =
-      let e = each s w.0 x w.1.0 in
-      let rest = way_made each w.0 xs v w.1.1 in (
-        (e.0, subst (λ (t : Nodes). CanAll step Can t (map place xs)) (sym e.1) rest.0),
-        ap (λ (t : Nodes). fold step t (map place xs)) e.1 ∙ rest.1,
-      )
-
-  -- along links
-  pub way_led : (writes : Nodes → ℕ → ℕ) (links : Nodes → List ℕ) (at : S → ℕ) (w : ℕ → ℕ)
-      → ((s u : S) (x : ℕ) → R s u x → Led step writes Can links (table s) (table u) (at s) (at u) (place x) (w x))
-      → (s : S) (xs : List ℕ) (v : S) → Way R s xs v
-      → AllLed step writes Can links (table s) (table v) (at s) (map place xs) (sum_by w xs)
-  way_led writes links at w each s [] v way = record { walk = tt; done = ap table way; costs = refl }
-  way_led writes links at w each s (x ∷ xs) v way =
-      let e = each s way.0 x way.1.0 in
-      let rest = way_led writes links at w each way.0 xs v way.1.1 in
-      let qs = map place xs in
-      record {
-        walk = (
-          e.here,
-          e.can,
-          subst (λ (t : Nodes). place x < length (links t)) (sym e.done) e.within,
-          subst (λ (t : Nodes). CanFollow step Can links t (get_or (links t) (place x) 0) qs) (sym e.done)
-              (subst (λ q. CanFollow step Can links (table way.0) q qs) (sym e.next) rest.walk),
-        );
-        done = ap (λ (t : Nodes). fold step t qs) e.done ∙ rest.done;
-        costs = ap₂ (λ a b. a + b) e.cost (ap (λ (t : Nodes). costs step writes t qs) e.done ∙ rest.costs)
-            ∙ sym (sum_by-cons w x xs);
-      }
+pub way_led : {S : Type 0} (R : S → S → ℕ → Type 0) (k : Kind) (table : S → Nodes) (at : S → ℕ) (place w : ℕ → ℕ)
+    → ((s u : S) (x : ℕ) → R s u x → Led k (table s) (table u) (at s) (at u) (place x) (w x)) → (s : S) (xs : List ℕ)
+    (v : S) → Way R s xs v → AllLed k (table s) (table v) (at s) (map place xs) (sum_by w xs)
+way_led R k table at place w each s [] v way = record { walk = tt; done = ap table way; costs = refl }
+way_led R k table at place w each s (x ∷ xs) v way =
+    let e = each s way.0 x way.1.0 in
+    let rest = way_led R k table at place w each way.0 xs v way.1.1 in
+    let m = e.leads in
+    record {
+      walk = (e.here, m.can, rw m.done e.within, rw (m.done, e.next) rest.walk);
+      done = ap (λ (t : Nodes). fold k.step t (map place xs)) m.done ∙ rest.done;
+      costs = rw (m.cost, m.done, rest.costs) (sym (sum_by-cons w x xs));
+    }
 
 -- ---- up to a spacer
 
