@@ -1,8 +1,8 @@
 -- Lines: one member leaves or comes back, many leave from top to bottom, and what a move makes of the line of a list.
 use Rattle.std.proofs.Common.{◌≡◌, ◌≢◌, ℕ, ◌+◌, ◌<◌, ◌≤◌, Bool, true, false, not, ◌||◌, eqb, ltb, nat_lt, List, [], ◌∷◌}
 use Rattle.std.proofs.Common.{length, filter, fold, Some, None, refl, ap, sym, ◌∙◌, arith, eqb-true, eq-eqb, ne_eqb}
-use Rattle.std.proofs.Common.{lt-ltb, le-ltb, zero, suc, cond, map, drop, subst}
-use Rattle.std.specs.Prelude.{◌-◌, ◌==◌, ◌&&◌, ◌++◌, Option, if◌then◌else◌, unwrap_or}
+use Rattle.std.proofs.Common.{lt-ltb, le-ltb, zero, suc, cond, map, drop}
+use Rattle.std.specs.Prelude.{if◌then◌else◌, ◌-◌, ◌==◌, ◌&&◌, ◌++◌, Option, unwrap_or}
 use Rattle.std.specs.List.{last_or, list_any}
 use Rattle.std.proofs.lemmas.Grind.{common_steps}
 use Rattle.std.proofs.lemmas.Bool.{eqb-false, false≢true}
@@ -289,16 +289,13 @@ pub down_after : (p : Puzzle) (t : List Move) (m : Move) (j : ℕ) (l : Line)
 down_after p t m j l s zero = grind (arith, common_steps)
 down_after p t m j l s (suc x) = grind (arith, common_steps)
 
-built : (p : Puzzle) (j : ℕ) → IsLinkedFrom (line_of p [] j) 0 (listed_numbers p [] j)
-built p j = grind (arith, common_steps, in_above, linked_by, rises_listed p [] j, listed_numbers p [] j)
+in_stay : (g : ℕ → Bool) (x : ℕ) (xs : List ℕ) → is_in x (stay g xs) ≡ true → is_in x xs ≡ true
+in_stay g x [] e = e
+in_stay g x (y ∷ ys) e = grind (arith, common_steps, in_stay g x ys)
 
 -- each item's line stands for its list
 pub stands : (p : Puzzle) (t : List Move) (j : ℕ) → IsLinkedFrom (line_of p t j) 0 (listed_numbers p t j)
-stands p [] j = built p j
+stands p [] j = grind (arith, common_steps, in_above, linked_by, rises_listed p [] j, listed_numbers p [] j)
 stands p (m ∷ t) j =
-    let xs = listed_numbers p t j in
     let sh = shrinks p t m j (rises_listed p t j) in
-    let l : Line = cuts (line_of p t j) (filter sh.test xs) in
-    let s : Swept (line_of p t j) l 0 xs (listed_numbers p (m ∷ t) j) =
-    subst (Swept (line_of p t j) l 0 xs) (sym sh.is) (swept (line_of p t j) 0 xs sh.test (stands p t j)) in
-    grind (arith, common_steps, IsLinkedFrom-same, down_after, up_after)
+    grind (arith, common_steps, in_above, in_stay, linked_by, rises_listed p (m ∷ t) j, listed_numbers p (m ∷ t) j)
