@@ -34,17 +34,13 @@ use Rattle.xc_dance.proofs.LinkedTables.LinkColumns.{get_down}
 
 -- ---- a move that neither covers nor spends leaves the item table as it is
 
--- the move covers no item and spends none
-pub record IsStill (t : List Move) (m : Move) : Type 0 where
-  pub covered : (q : ℕ) → is_covered q (m ∷ t) ≡ is_covered q t
-  pub spent : (q : ℕ) → spends q (m ∷ t) ≡ spends q t
-
-pub still_items : (p : Puzzle) (t : List Move) (m : Move) → IsStill t m → items_after p (m ∷ t) ≡ items_after p t
-still_items p t m s = same_items _ _
-    (row_same (llink_at p t) (llink_at p (m ∷ t)) (item_count p + 2) (λ q h. still_llink p t m q s.covered))
-    (row_same (rlink_at p t) (rlink_at p (m ∷ t)) (item_count p + 2) (λ q h. still_rlink p t m q s.covered))
+pub still_items : (p : Puzzle) (t : List Move) (m : Move) → ((q : ℕ) → is_covered q (m ∷ t) ≡ is_covered q t)
+    → ((q : ℕ) → spends q (m ∷ t) ≡ spends q t) → items_after p (m ∷ t) ≡ items_after p t
+still_items p t m covered spent = same_items _ _
+    (row_same (llink_at p t) (llink_at p (m ∷ t)) (item_count p + 2) (λ q h. still_llink p t m q covered))
+    (row_same (rlink_at p t) (rlink_at p (m ∷ t)) (item_count p + 2) (λ q h. still_rlink p t m q covered))
     (row_same (bound_at p t) (bound_at p (m ∷ t)) (primary_count p + 1)
-    (λ q h. ap (λ n. cond (eqb q 0) 0 (high_at p q - n)) (s.spent q))) refl
+    (λ q h. ap (λ n. cond (eqb q 0) 0 (high_at p q - n)) (spent q))) refl
 
 -- ---- whether an item is covered, read from its ring
 
@@ -148,12 +144,12 @@ move_step {p} t {spans} (Cover i) legal may f =
     let w = walk_made p t spans (Cover i) i None (color_in p t) legal f pos may.0.1 may.1 (cover_hides p t i) in
     grind (arith, common_steps, cover_writes, ring_step p t i legal may)
 move_step {p} t {spans} (Purify i c) legal may f =
-    let still = still_items p t (Purify i c) (record { covered = λ q. refl; spent = λ q. refl }) in
+    let still = still_items p t (Purify i c) (λ q. refl) (λ q. refl) in
     grind (arith, common_steps, purify_made p t spans i c legal f (omega (arith, may.0.0)) may.0.1 may.1)
 move_step {p} t {spans} (Tweak i) legal may f =
     let pos : 0 < i = omega (arith, may.0.0) in
     let w = tweak_made p t spans (is_covered i t) i legal f pos may.0.1 may.2 (open_or_covered i t may.1) in
-    let still = still_items p t (Tweak i) (record { covered = λ q. refl; spent = λ q. refl }) in
+    let still = still_items p t (Tweak i) (λ q. refl) (λ q. refl) in
     grind (arith, common_steps, off_is p (Tweak i ∷ t) i (may, legal) pos may.0.1, off_is p t i legal pos may.0.1)
 move_step {p} t {spans} (Spend i) legal may f =
     grind (arith, common_steps, spent_nodes, spend_step p t i may (f.bounds i))

@@ -121,7 +121,7 @@ found_by p t spans i k xs legal fit e =
       off = off.is ∙ kept (is_covered i) i t (λ s. refl) (suc k);
       back = tweaks_back p t spans covered i (suc k) tw before fit pos le opened some;
       items = kept (items_after p) i t
-          (λ s. still_items p s (Tweak i) (record { covered = λ q. refl; spent = λ q. refl })) (suc k);
+          (λ s. still_items p s (Tweak i) (λ q. refl) (λ q. refl)) (suc k);
     }
 
 pub tweaks_found : (p : Puzzle) (s : List Move) (spans : List Span) (k : ℕ) (xs : List ℕ) → AreTweaks k s → AreLegal p s
