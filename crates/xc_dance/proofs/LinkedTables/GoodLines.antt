@@ -21,7 +21,6 @@ use Rattle.xc_input.proofs.lists.EachElement.{each-map, each_weaker}
 use Rattle.xc_dance.proofs.LinkedTables.PlaceLemmas.{behind_items}
 use Rattle.xc_dance.proofs.LinkedTables.LinkColumns.{set_link, set_top, size_from, NodeCells}
 use Rattle.xc_dance.proofs.LinkedTables.LinkColumns.{node_cells, get_up, get_down, CanUnhide-unlinked, same_nodes}
-use Rattle.xc_dance.proofs.LinkedTables.LinkColumns.{hidden-open, hidden-marked, unhidden-marked}
 use Rattle.xc_dance.proofs.LinkedTables.LinkColumns.{IsLinked, map_same}
 use Rattle.xc_dance.proofs.LinkedTables.Sweep.{cut, with_line, IsLinkedFrom, put_at-other, stands, Swept}
 use Rattle.xc_dance.proofs.LinkedTables.Sweep.{swept, swept_len, stay, cuts, up_after, down_after}
@@ -89,7 +88,7 @@ step_open p col ln j o laid m color =
     let linked = linked-is p col ln j o laid m in
     subst (λ (u : Nodes). Step t u q) (unlinked-is p col ln j o laid m) (record {
       can = grind (arith, common_steps);
-      done = hidden-open t q color;
+      done = rw color refl;
       back = CanUnhide-unlinked t q (size_from p ln col) c.names linked (omega (arith, c.item, m.item.1, laid.small))
           (omega (arith, ap (λ k. get_or t.top k 0) c.item ∙ c.len, m.few));
       undone = unhidden-open (unlinked t q) q color ∙ relinked-unlinked t q linked;
@@ -99,7 +98,7 @@ pub step_marked : (p : Puzzle) (col : Node → ℕ) (ln : ℕ → Line) (q : ℕ
     → get_or (map (top_in ln) (layout p)) q 0 < SPACER → eqb (get_or (map (col) (layout p)) q 0) MARK ≡ true
     → Step (nodes_from p ln col) (nodes_from p ln col) q
 step_marked p col ln q within use_of color =
-    grind (arith, common_steps, eqb-true, hidden-marked, length-map, unhidden-marked, size_from)
+    grind (arith, common_steps, eqb-true, length-map, size_from)
 
 -- ---- lines that stand for lists, and one member leaving
 
@@ -148,11 +147,6 @@ cut_member p j l o x m n ne some = record {
   few = omega (arith, n.few);
 }
 
--- ---- all items
-
-abbrev pub AllGood : Puzzle → (ℕ → Line) → (ℕ → List ℕ) → Type 0
-AllGood p ln lists = (j : ℕ) → 0 < j → j ≤ item_count p → IsGood p j (ln j) (lists j)
-
 -- ---- the lines after moves are good: each stands for its list, of options that hold the item
 
 pub numbers_few : (p : Puzzle) (t : List Move) (j : ℕ) → length (listed_numbers p t j) ≤ length p.options
@@ -161,7 +155,8 @@ numbers_few p t j = grind (arith, common_steps, length-listed, length-map)
 pub numbers_named : (p : Puzzle) (t : List Move) (j : ℕ) → AllByRecursion (Named p j) (listed_numbers p t j)
 numbers_named p t j = grind (arith, common_steps, each-map, each_weaker, holders, holds_use)
 
-pub all_good : (p : Puzzle) (t : List Move) → IsFit p → AllGood p (line_of p t) (listed_numbers p t)
+pub all_good : (p : Puzzle) (t : List Move) → IsFit p → (j : ℕ) → 0 < j → j ≤ item_count p
+    → IsGood p j (line_of p t j) (listed_numbers p t j)
 all_good p t fit j jpos jle = grind (arith, common_steps, length-map, numbers_few, numbers_named, stands)
 
 -- each option of a list is a member of the line

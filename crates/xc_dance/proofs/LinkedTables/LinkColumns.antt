@@ -11,7 +11,7 @@ use Rattle.std.proofs.Math.Path.{fun_ext}
 use Rattle.std.proofs.Math.Seq.{map-set_same}
 use Rattle.xc_input.specs.Problem.{Puzzle, item_count}
 use Rattle.xc_dance.specs.declared.links.nodes.Nodes.{Nodes}
-use Rattle.xc_dance.specs.inner.Links.Steps.{unlinked, relinked, hidden, unhidden, HasSize, NamesPlaces}
+use Rattle.xc_dance.specs.inner.Links.Steps.{unlinked, relinked, unhidden, HasSize, NamesPlaces}
 use Rattle.xc_dance.specs.inner.Links.Steps.{CanUnhide}
 use Rattle.xc_dance.specs.Fields.{Node, own, used, layout, link_place}
 use Rattle.xc_dance.specs.inner.Links.Lines.{Line}
@@ -73,12 +73,6 @@ relinked-unlinked t q h =
     grind (arith, common_steps, get_or-set_kept, get_or-set_same, same_nodes, written_back)
 
 -- a marked node is passed over
-pub hidden-marked : (t : Nodes) (q : ℕ) → eqb (get_or t.color q 0) MARK ≡ true → hidden t q ≡ t
-hidden-marked t q e = ap (λ b. cond b t (unlinked t q)) e
-
-pub hidden-open : (t : Nodes) (q : ℕ) → eqb (get_or t.color q 0) MARK ≡ false → hidden t q ≡ unlinked t q
-hidden-open t q e = ap (λ b. cond b t (unlinked t q)) e
-
 pub unhidden-marked : (t : Nodes) (q : ℕ) → eqb (get_or t.color q 0) MARK ≡ true → unhidden t q ≡ t
 unhidden-marked t q e = ap (λ b. cond b t (relinked t q)) e
 

@@ -12,7 +12,7 @@ use Rattle.xc_input.specs.declared.problem.Use.{Use}
 use Rattle.xc_input.specs.Problem.{Puzzle, Numbered, numbered_options, colour_in, colour_at, uses_of, holds}
 use Rattle.xc_input.specs.Problem.{holding}
 use Rattle.xc_dance.specs.declared.dance.Move.{Move}
-use Rattle.xc_dance.specs.declared.dance.Move.TheVariants.{Cover, Purify, Spend}
+use Rattle.xc_dance.specs.declared.dance.Move.TheVariants.{Cover, Purify}
 use Rattle.xc_dance.specs.Moves.{is_open, is_covered, purified, AreLegal, listed_numbers, agrees}
 use Rattle.xc_dance.specs.Fields.{Node, unused, own, spacer, used, layout, link_place, is_in, is_marked}
 use Rattle.xc_dance.specs.inner.Left.{left}
@@ -77,10 +77,6 @@ open_unmarked p [] i o c e = refl
 open_unmarked p (Purify j d ∷ t) i o c e = grind (arith, common_steps, eqb-true, eq-eqb, open_unmarked p t i o c)
 open_unmarked p (Cover j ∷ t) i o c e = grind (arith, common_steps, open_unmarked p t i o c)
 open_unmarked p (_ ∷ t) i o c e = open_unmarked p t i o c e
-
-true_either : (b : Bool) → cond b true true ≡ true
-true_either true = refl
-true_either false = refl
 
 -- the nodes of a purified item that are left are marked
 pub purified_marked : (p : Puzzle) (t : List Move) (j c : ℕ) → AreLegal p t → purified j t ≡ Some c

@@ -1,7 +1,7 @@
 -- Walks over nodes, under way and at their end, along links and over places in a row.
 use Rattle.std.proofs.Common.{◌++◌}
 use Rattle.std.proofs.Common.{◌≡◌, ◌≢◌, ℕ, zero, suc, ◌+◌, ◌<◌, ◌≤◌, true, false, eqb, List, [], ◌∷◌, length}
-use Rattle.std.proofs.Common.{get_or, drop, fold, refl, ap, sym, subst, ◌∙◌, arith, eqb-true, ◌-◌, reverse, map, ap₂}
+use Rattle.std.proofs.Common.{get_or, drop, fold, refl, ap, sym, subst, ◌∙◌, arith, eqb-true, ◌-◌, reverse, map}
 use Rattle.std.specs.List.{range_with_len, sum_by}
 use Rattle.std.proofs.lemmas.List.Sums.{sum_by-cons}
 use Rattle.std.proofs.lemmas.Grind.{common_steps}
