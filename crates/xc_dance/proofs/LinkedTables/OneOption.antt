@@ -12,7 +12,7 @@ use Rattle.xc_dance.specs.inner.Links.Cells.{nodes_from}
 use Rattle.xc_dance.specs.inner.Links.Laid.{IsLaid}
 use Rattle.std.proofs.lemmas.Option.{slice_get_within}
 use Rattle.xc_dance.proofs.LinkedTables.LinkColumns.{get_item}
-use Rattle.xc_dance.proofs.LinkedTables.GoodLines.{Step, step_open, step_marked, Named, member}
+use Rattle.xc_dance.proofs.LinkedTables.GoodLines.{Step, step_open, step_marked, Named}
 use Rattle.std.proofs.lemmas.Bool.{eqb-false}
 use Rattle.xc_dance.proofs.LinkedTables.Sweep.{other_items, cut, with_line}
 use Rattle.xc_dance.specs.declared.links.nodes.TheConstants.{MARK}

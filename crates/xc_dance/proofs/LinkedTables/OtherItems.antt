@@ -21,7 +21,7 @@ use Rattle.xc_dance.proofs.LinkedTables.OneOption.{is_mark, left_all, all_at, Al
 use Rattle.xc_dance.specs.inner.Lists.Losing.{is_kept}
 use Rattle.xc_dance.proofs.LinkedTables.Sweep.{cut}
 use Rattle.std.proofs.lemmas.Bool.{and_parts}
-use Rattle.std.proofs.Common.{Option, cond, fold, ◌+◌}
+use Rattle.std.proofs.Common.{Option, cond, fold}
 use Rattle.xc_dance.proofs.LinkedTables.GoodLines.{InRange, Named}
 
 -- ---- the other items of an option, and what its leaving does to the line of one item

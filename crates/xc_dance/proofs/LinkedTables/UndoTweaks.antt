@@ -11,7 +11,7 @@ use Rattle.xc_dance.specs.declared.dance.Move.TheVariants.{Tweak}
 use Rattle.xc_dance.specs.inner.Links.Span.{Span}
 use Rattle.xc_input.specs.Problem.{Puzzle, item_count}
 use Rattle.xc_dance.specs.Moves.{AreTweaks, AreLegal, is_covered, is_open, purified, listed_numbers, listed}
-use Rattle.xc_dance.specs.Fields.{layout, link_place, first_of}
+use Rattle.xc_dance.specs.Fields.{layout, link_place, first_of, is_in}
 use Rattle.xc_dance.specs.declared.links.nodes.Nodes.{Nodes}
 use Rattle.xc_dance.specs.Cost.{undo_tweaks_cost}
 use Rattle.xc_dance.specs.declared.links.items.Items.{Items}
@@ -26,7 +26,8 @@ use Rattle.xc_dance.proofs.LinkedTables.LinkColumns.{get_item}
 use Rattle.xc_dance.proofs.LinkedTables.MoveStep.{still_items, off_is}
 use Rattle.xc_dance.proofs.MoveLemmas.StateLemmas.{open_or_covered}
 use Rattle.xc_dance.proofs.LinkedTables.TweakStep.{HasFirst, has_first}
-use Rattle.xc_dance.proofs.LinkedTables.GoodLines.{IsGood, all_good, member}
+use Rattle.xc_dance.proofs.LinkedTables.GoodLines.{listed_member}
+use Rattle.xc_dance.proofs.LinkedTables.Sweep.{is_in-first}
 use Rattle.xc_dance.proofs.LinkedTables.TweaksBack.{tweaks, kept, Tweaked, tweaked, Undoes, first_place, tweaks_back}
 
 pub tweaks_are : (k i : ℕ) (s : List Move) → k ≤ length s → take k s ≡ replicate k (Tweak i) → s ≡ tweaks k i (drop k s)
@@ -79,8 +80,7 @@ pub record FirstNode (p : Puzzle) (s t : List Move) (i : ℕ) : Type 0 where
 first_node : (p : Puzzle) (s t : List Move) (i : ℕ) → IsLaid p → IsFit p → 0 < i → i ≤ item_count p → HasFirst p t i
     → FirstNode p s t i
 first_node p s t i laid fit pos le f =
-    let m = member p i (line_of p t i) [] f.o f.os pos le
-    (subst (IsGood p i (line_of p t i)) f.is (all_good p t fit i pos le)) in
+    let m = listed_member t i f.o fit (pos, le) (ap (is_in f.o) f.is ∙ is_in-first f.o f.os) in
     let here = laid.there i f.o pos le m.name in
     let at = slice_get_within (layout p) (link_place p i f.o) here.node here.at in
     let item = get_item p (line_of p s) i f.o here m.pos in
