@@ -10,5 +10,4 @@ pub mod NextOption
 pub mod PassedOver
 pub mod ShownLevels
 pub mod Start
-pub mod TakenOption
 pub mod WorkUnrolled

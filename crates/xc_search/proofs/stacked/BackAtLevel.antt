@@ -1,6 +1,6 @@
 -- Back at a level, and its end.
 use Rattle.std.proofs.lemmas.Grind.{common_steps}
-use Rattle.std.proofs.Common.{◌≡◌, ◌+◌, ◌<◌, ◌≤◌, List, ◌∷◌, ◌++◌, length, take, drop, sym, ap, ap₂, ◌∙◌}
+use Rattle.std.proofs.Common.{◌≡◌, ◌+◌, ◌<◌, ◌≤◌, List, ◌∷◌, ◌++◌, length, take, drop, ap, ap₂, ◌∙◌}
 use Rattle.std.proofs.Common.{arith, length-append}
 use Rattle.std.proofs.lemmas.List.{take_at, length-replicate}
 use Rattle.std.specs.Prelude.{replicate}
@@ -15,11 +15,11 @@ use Rattle.xc_search.specs.inner.Residual.{residual_of}
 use Rattle.xc_search.specs.inner.Levels.{members_of, IsLevel, AreStacked, choices_of}
 use Rattle.xc_search.specs.inner.Levels.{to_give}
 use Rattle.xc_dance.specs.Commits.{after_spend}
-use Rattle.xc_search.specs.inner.Commits.{oldest, tweaked}
+use Rattle.xc_search.specs.inner.Commits.{oldest}
 use Rattle.xc_search.specs.inner.Ahead.{visits}
-use Rattle.xc_search.proofs.moves.OldestMoves.{oldest_all}
 use Rattle.xc_search.proofs.listing.BranchLists.{branches_end}
 use Rattle.xc_search.proofs.stacked.NextLevel.{ext_after_spend, ext_longer, length-oldest, oldest-oldest, branches_here}
+use Rattle.xc_search.proofs.stacked.NextLevel.{ground_is}
 
 pub returned : (p : Puzzle) (t : List Move) (l : Level) (ls : List Level) → AreStacked p t (l ∷ ls) →
     AreStacked p (oldest l.base t) (l ∷ ls) × (to_give p (oldest l.base t) (l ∷ ls) ≡ to_give p t (l ∷ ls))
@@ -43,7 +43,7 @@ pub closing : (p : Puzzle) (t : List Move) (l : Level) → IsLevel p t l → l.b
 closing p t l is_level whole =
     let u = oldest l.mark t in
     let s = after_spend p l.item u in
-    let t_is : t ≡ tweaked l.tweaks l.item s = sym (ap (λ n. oldest n t) whole ∙ oldest_all t) ∙ is_level.base in
+    let t_is = ground_is is_level whole in
     let long : length t ≡ l.tweaks + length s = ap length t_is ∙ length-append (replicate l.tweaks (Tweak l.item)) s
     ∙ ap (λ n. n + length s) (length-replicate l.tweaks (Tweak l.item)) in
     let mark_is : length u ≡ l.mark = length-oldest l.mark t (omega (arith, is_level.within)) in

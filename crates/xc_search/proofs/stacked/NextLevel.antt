@@ -31,6 +31,8 @@ use Rattle.xc_search.proofs.stacked.WorkUnrolled.{work_unrolled}
 use Rattle.xc_input.proofs.lists.EachElement.{each_weaker, each-map, each-filter, each_passes, each_both}
 use Rattle.xc_input.proofs.lists.Filters.{map-map}
 use Rattle.xc_search.proofs.Cases.{mapped_none, mapped_some}
+use Rattle.xc_search.specs.inner.Commits.{tweaked}
+use Rattle.xc_search.specs.inner.Levels.{IsLevel}
 
 -- ---- the oldest moves
 
@@ -80,6 +82,15 @@ ext_drop (suc n) (m ∷ t) = ext_more (ext_drop n t)
 pub oldest-oldest : (m n : ℕ) (t : List Move) → m ≤ n → n ≤ length t → oldest m (oldest n t) ≡ oldest m t
 oldest-oldest m n t h k =
     sym (ext_oldest m (ext_drop (length t - n) t) (omega (arith, length-oldest n t k, h)))
+
+-- m tweaks of the level's item, on the moves on which it was begun
+abbrev pub tweaked_at : Puzzle → List Move → Level → ℕ → List Move
+tweaked_at p t l m = tweaked m l.item (after_spend p l.item (oldest l.mark t))
+
+-- a level's own moves
+pub ground_is : {p : Puzzle} {t : List Move} {l : Level} → IsLevel p t l → l.base ≡ length t
+    → t ≡ tweaked_at p t l l.tweaks
+ground_is {t = t} is_level whole = sym (ap (λ n. oldest n t) whole ∙ oldest_all t) ∙ is_level.base
 
 -- ---- the item of a level
 

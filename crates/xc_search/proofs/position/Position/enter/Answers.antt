@@ -1,7 +1,7 @@
 use Rattle.std.proofs.Common.{arith}
 use Rattle.std.proofs.lemmas.Grind.{common_steps}
 use Rattle.xc_search.proofs.stacked.NextLevel.{at_own, at_other}
-use Rattle.xc_search.proofs.stacked.TakenOption.{entered_none}
+use Rattle.xc_search.proofs.stacked.NextBranch.{entered_none}
 use Rattle.xc_search.proofs.position.Position.enter.Goals as goal
 
 pub returns-then-place-level-clause-entered : goal.returns-then-place-level-clause-entered

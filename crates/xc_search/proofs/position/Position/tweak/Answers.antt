@@ -1,6 +1,6 @@
 use Rattle.std.proofs.Common.{arith}
 use Rattle.std.proofs.lemmas.Grind.{common_steps}
-use Rattle.xc_search.proofs.stacked.TakenOption.{may_tweak}
+use Rattle.xc_search.proofs.stacked.NextBranch.{may_tweak}
 use Rattle.xc_search.proofs.room.BranchFits.{fits_tweak}
 use Rattle.xc_search.proofs.position.Position.tweak.Goals as goal
 
