@@ -10,7 +10,7 @@ use Rattle.xc_input.specs.Problem.{Puzzle}
 use Rattle.xc_search.specs.Listing.{Residual, branch_item, listing}
 use Rattle.xc_dance.specs.Dancing.{Dancing}
 use Rattle.xc_search.specs.inner.Residual.{residual_of}
-use Rattle.xc_search.specs.inner.Levels.{Levels, IsStanding, AreStacked, choices_of, to_give, coming}
+use Rattle.xc_search.specs.inner.Levels.{Levels, IsStanding, choices_of, to_give, coming}
 use Rattle.xc_search.specs.inner.Ahead.{work, visits, ahead, GoesOn}
 use Rattle.xc_search.specs.inner.Paths.{IsPart, AreLed, KeepsPath, ground}
 use Rattle.xc_search.specs.Cut.{Uncut, below}
@@ -18,15 +18,12 @@ use Rattle.xc_search.proofs.paths.Led.{led_ground}
 use Rattle.xc_search.proofs.paths.Below.{comes_below}
 use Rattle.xc_search.proofs.stacked.WorkUnrolled.{work_unrolled}
 use Rattle.xc_search.proofs.Cases.{by_option}
+use Rattle.xc_search.proofs.stacked.PassedOver.{stands_behind}
 
 some_work : (r : Residual) → 0 < work r
 some_work r =
     let unrolled = work_unrolled r in
     by_option (branch_item r) (λ e. omega (arith, rw e at unrolled)) (λ w e. omega (arith, rw e at unrolled))
-
--- the search stands behind a node that was looked at
-pub stands_behind : (p : Puzzle) (t : List Move) (ls : List Level) → AreStacked p t ls → IsStanding p t ls false
-stands_behind p t ls a = record { stacked = a; searchable = λ e. cc; shallow = λ e. cc }
 
 -- a node without a solution
 pub goes_behind : (d e : Dancing) (ls : Levels) → e ≡ d → IsStanding d.puzzle d.trail ls.levels true

@@ -1,6 +1,6 @@
 -- A search that goes on over many members.
 use Rattle.std.proofs.Common.{ℕ, zero, suc, ◌≡◌, ◌+◌, ◌<◌, ◌≤◌, Bool, true, false, List, [], ◌∷◌, ◌++◌, length, drop}
-use Rattle.std.proofs.Common.{min, refl, sym, ap, ap₂, ◌∙◌, arith, subst, ltb, ltb-true, ltb-false, ◌≢◌}
+use Rattle.std.proofs.Common.{min, refl, sym, ap, ap₂, ◌∙◌, arith, subst, ltb-true, ltb-false, ◌≢◌}
 use Rattle.std.proofs.lemmas.Grind.{common_steps}
 use Rattle.std.proofs.lemmas.List.{drop-map, map-id}
 use Rattle.xc_search.specs.declared.choice.Choice.{Choice}
@@ -14,6 +14,9 @@ use Rattle.xc_search.specs.inner.Ahead.{IsSolved, StandsOver, EndsOver, WentOver
 use Rattle.xc_search.proofs.stacked.NextLevel.{solution}
 use Rattle.xc_search.proofs.Cases.{by_number}
 use Rattle.std.proofs.lemmas.List.{drop-drop, drop_all}
+use Rattle.xc_search.specs.inner.Levels.{AreStacked}
+use Rattle.xc_search.proofs.Cases.{by_bool}
+use Rattle.std.specs.Prelude.{nat_lt}
 
 rest_behind : {X : Type 0} (n : ℕ) (ms : List X) (m : X) (rest : List X) → drop n ms ≡ m ∷ rest → rest ≡ drop (n + 1) ms
 rest_behind n ms m rest e = sym (ap (drop 1) e) ∙ drop-drop 1 n ms
@@ -38,6 +41,10 @@ shown_past zero [] s h = absurd (omega (arith, h))
 shown_past (suc n) [] s h = refl
 shown_past zero (x ∷ ms) s h = absurd (omega (arith, h))
 shown_past (suc n) (x ∷ ms) s h = shown_past n ms x (omega (arith, h))
+
+-- the search stands behind what was looked at
+pub stands_behind : (p : Puzzle) (t : List Move) (ls : List Level) → AreStacked p t ls → IsStanding p t ls false
+stands_behind p t ls a = record { stacked = a; searchable = λ e. cc; shallow = λ e. cc }
 
 -- what stays over two steps
 pub then_still : (d e f : Dancing) (ls ks js : Levels) → (e ≡ record d { trail = e.trail })
@@ -111,42 +118,38 @@ outlook_past : (d e : Dancing) (ls ks : Levels) (down : Bool) (n many : ℕ) →
     → (outlook e ks false ≡ past many (outlook d ls down)) × (n ≡ min many (length (outlook d ls down).to_come))
 outlook_past d e ls ks down n many w less = grind (arith, common_steps, drop_past, shown_past)
 
-by_order : {C : Type 0} (n many : ℕ) → n ≤ many → (n < many → C) → (n ≡ many → C) → C
-by_order {C = C} n many within less all = by_test (ltb n many) refl
-  where
-    by_test : (b : Bool) → ltb n many ≡ b → C
-    by_test true h = less (ltb-true n many h)
-    by_test false h = all (omega (arith, within, ltb-false n many h))
-
 module _ (d e : Dancing) (ls ks : Levels) (down below : Bool) (many n : ℕ) (p : Passed d ls down many n e ks below)
   where
+    -- by how it went
+    by_end : {C : Type 0} → (n < many → WentPast d ls down n e ks → C)
+        → (n ≡ many → WentOver d ls down many e ks → C) → C
+    by_end past over = by_bool (nat_lt n many)
+        (λ h. let less = ltb-true n many h in past less (p.past less))
+        (λ h. let all : n ≡ many = omega (arith, p.within, ltb-false n many h) in over all (p.over all))
+
     pub outlook_passed : (o : Outlook) → outlook d ls down ≡ o
         → (outlook e ks below ≡ past many o) × (n ≡ min many (length o.to_come))
     outlook_passed o is =
-        let went = by_order n many p.within (λ less. outlook_past d e ls ks down n many (p.past less) less)
-        (λ all. let to = outlook_over d e ls ks down many (p.over all) in (to.0, all ∙ to.1)) in
+        let went = by_end (λ less w. outlook_past d e ls ks down n many w less)
+        (λ all w. let to = outlook_over d e ls ks down many w in (to.0, all ∙ to.1)) in
         grind (arith, common_steps, went.0, went.1, is, p.searched)
 
     -- and where it stands
     pub stands_there : IsStanding e.puzzle e.trail ks.levels below
         × (ks.levels ≢ [] → IsSolved e.puzzle e.trail ks.levels) × (e.puzzle ≡ d.puzzle) × (ks.room ≡ ls.room)
-    stands_there = by_order n many p.within
-        (λ less. let w = p.past less in (
-          record { stacked = rw w.ended tt; searchable = λ e. cc (e, p.searched); shallow = λ e. cc (e, p.searched) },
-          (λ some. absurd (some w.ended)),
+    stands_there = rw p.searched (by_end
+        (λ less w. (
+          stands_behind e.puzzle e.trail ks.levels (rw w.ended tt),
+          λ some. absurd (some w.ended),
           ap (λ (s : Dancing). s.puzzle) w.still.0,
           ap (λ (s : Levels). s.room) w.still.1,
         ))
-        (λ all. let w = p.over all in (
-          record {
-            stacked = w.solved.standing.stacked;
-            searchable = λ e. cc (e, p.searched);
-            shallow = λ e. cc (e, p.searched);
-          },
-          (λ some. w.solved),
+        (λ all w. (
+          stands_behind e.puzzle e.trail ks.levels w.solved.standing.stacked,
+          λ some. w.solved,
           ap (λ (s : Dancing). s.puzzle) w.still.0,
           ap (λ (s : Levels). s.room) w.still.1,
-        ))
+        )))
 
 -- what a search stands for behind the choices before its first level
 abbrev of_search : List Choice → List Choice → Outlook → Outlook
