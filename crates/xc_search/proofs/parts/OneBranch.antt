@@ -44,8 +44,8 @@ no_branches : (r : Residual) (v : Wanted) → branch_count r v ≡ 0 → branche
 no_branches r v e = grind (arith, common_steps, ne_eqb)
 
 -- ends the listing
-nothing_listed : (r : Residual) (v : Wanted) → IsIn r.items v → branch_count r v ≡ 0 → listing r ≡ []
-nothing_listed r v h e = listing_unrolled r ∙ by_items r.items refl h
+pub none_listed : (r : Residual) (v : Wanted) → IsIn r.items v → branch_count r v ≡ 0 → listing r ≡ []
+none_listed r v h e = listing_unrolled r ∙ by_items r.items refl h
   where
     by_items : (ws : List Wanted) → r.items ≡ ws → IsIn ws v → level listing (branch_item r) r ≡ []
     by_items [] q k = absurd k
@@ -107,4 +107,4 @@ one_branch r w ws x first low held sound = grind (arith, common_steps, listing_u
         still_short r w.item x z (subst (λ os. IsIn os x) (sym held) (inl refl)) known (sound z known) none_left in
         ap (flat_map (behind listing)) (no_branches r z none_left)
         ∙ sym (ap (map (λ m. only_choice w.item x ∷ m))
-        (nothing_listed (pick r w.item x) (spend_one x z) short.0 short.1))
+        (none_listed (pick r w.item x) (spend_one x z) short.0 short.1))

@@ -13,7 +13,7 @@ use Rattle.xc_search.specs.Residuals.{choice_after}
 use Rattle.xc_dance.specs.Commits.{option_at, after_spend}
 use Rattle.xc_search.specs.inner.Commits.{oldest}
 use Rattle.xc_search.specs.inner.Levels.{Levels, IsNode, IsLevel, AreStacked, to_give, IsStanding, MayBegin}
-use Rattle.xc_search.specs.inner.Levels.{IsBegun, IsEntered, IsPlace, CanBranch, first_level}
+use Rattle.xc_search.specs.inner.Levels.{IsBegun, IsEntered, first_level}
 use Rattle.xc_search.specs.inner.Levels.{begun_level, newest_begun}
 use Rattle.xc_search.specs.inner.Ahead.{visits, ahead, GoesOn, EntersBranch, branched}
 use Rattle.xc_search.proofs.moves.OldestMoves.{oldest_all}
@@ -21,6 +21,15 @@ use Rattle.xc_search.proofs.stacked.NextLevel.{descended, chosen_item, oldest-ol
 use Rattle.xc_search.proofs.stacked.BackAtLevel.{returned, finished, closing}
 use Rattle.xc_search.proofs.stacked.BegunComesFirst.{begun_coming}
 use Rattle.xc_search.proofs.stacked.Depth.{shallower}
+use Rattle.xc_search.specs.inner.Levels.{coming, after_branch}
+use Rattle.xc_search.proofs.stacked.NextLevel.{ext_whole, ext_after_spend}
+use Rattle.xc_search.specs.inner.Paths.{KeepsPath, AreLed}
+use Rattle.xc_search.proofs.paths.Led.{led_begun}
+use Rattle.xc_search.specs.inner.Ahead.{work_left}
+use Rattle.xc_search.specs.inner.Residual.{residual_of}
+use Rattle.xc_search.proofs.parts.OneBranch.{none_listed}
+use Rattle.xc_search.proofs.listing.BranchesLess.{least_is_one}
+use Rattle.xc_search.proofs.paths.Settled.{goes_behind}
 
 pub GoesOn-trans : (d e f : Dancing) (ls ks js : Levels) (x y z : Bool) → GoesOn d ls x e ks y → GoesOn e ks y f js z
     → GoesOn d ls x f js z
@@ -46,26 +55,33 @@ pub opens : {d e : Dancing} {ls : Levels} {i n : ℕ} {l : Level}
     → IsStanding d.puzzle d.trail ls.levels true → choice_after d.puzzle d.trail ≡ Some (i, n) → Opens d e ls i n l
 opens spent level standing chosen = record { spent = spent; level = level; standing = standing; chosen = chosen }
 
+-- it stands with its own moves, nothing is lost, and less is ahead
 deepens : {d e : Dancing} {ls : Levels} {i n : ℕ} {l : Level} → Opens d e ls i n l →
-    GoesOn d ls true e (with_level l ls) false
-    × (visits e.puzzle e.trail (l ∷ ls.levels) < ahead d.puzzle d.trail ls.levels true)
+    AreStacked d.puzzle e.trail (l ∷ ls.levels)
+    × (coming d.puzzle d.trail ls.levels true ≡ to_give d.puzzle e.trail (l ∷ ls.levels))
+    × (visits d.puzzle e.trail (l ∷ ls.levels) < ahead d.puzzle d.trail ls.levels true)
+    × (oldest l.mark e.trail ≡ d.trail) × (l.base ≡ length e.trail)
 deepens {d} {e} {ls} {i} {n} {l} o =
     let p = d.puzzle in
     let t = d.trail in
     let here = o.standing.searchable refl in
     let all = descended p t ls.levels i n here (o.standing.shallow refl) (chosen_item p t i n here.legal o.chosen)
     o.standing.stacked in
-    subst (λ (f : Dancing). GoesOn d ls true f (with_level l ls) false
-    × (visits f.puzzle f.trail (l ∷ ls.levels) < ahead p t ls.levels true)) (sym o.spent)
-    (subst (λ (l : Level). GoesOn d ls true (record d { trail = after_spend p i t }) (with_level l ls) false
-    × (visits p (after_spend p i t) (l ∷ ls.levels) < ahead p t ls.levels true)) (sym o.level) (
-      record {
-        still = (refl, refl);
-        standing = record { stacked = all.0; searchable = λ e. cc; shallow = λ e. cc };
-        members = all.1;
-      },
-      all.2,
-    ))
+    rw (o.spent, o.level) (all.0, all.1, all.2, ext_whole (ext_after_spend p i t), refl)
+
+pub begins_at : {d e : Dancing} {ls : Levels} {i n : ℕ} {l : Level} → Opens d e ls i n l
+    → AreStacked e.puzzle e.trail (l ∷ ls.levels)
+begins_at {e = e} {ls = ls} {l = l} o =
+    subst (λ p. AreStacked p e.trail (l ∷ ls.levels)) (sym (ap (λ (e : Dancing). e.puzzle) o.spent)) (deepens o).0
+
+-- a level's first branch may be entered
+pub may_enter : {d e : Dancing} {ls : Levels} {i n : ℕ} {l : Level} → Opens d e ls i n l → 0 < n
+    → MayBegin e.puzzle e.trail l
+may_enter o some = record {
+  level = (begins_at o).0;
+  whole = (deepens o).4;
+  more = omega (arith, ap (λ (l : Level). l.begun) o.level, ap (λ (l : Level). l.count) o.level, some);
+}
 
 -- the newest of the levels ended
 pub goes_back : (d e : Dancing) (l : Level) (vs ks : Levels) → AreStacked d.puzzle d.trail vs.levels
@@ -74,118 +90,82 @@ pub goes_back : (d e : Dancing) (l : Level) (vs ks : Levels) → AreStacked d.pu
     GoesOn d vs false e ks false × (visits e.puzzle e.trail ks.levels < visits d.puzzle d.trail vs.levels)
 goes_back d e l vs ks stacked top h ed ek = grind (arith, common_steps, returned, finished, oldest-oldest)
 
--- the newest of the levels goes on with a branch
-goes_to : (d e : Dancing) (l : Level) (b : Begun) (vs ks : Levels) → AreStacked d.puzzle d.trail vs.levels
-    → vs.levels ≡ l ∷ drop 1 vs.levels →
-    e ≡ record d { trail = e.trail } → IsBegun d.puzzle (oldest l.base d.trail) l e.trail (begun_level b l)
-    → ks ≡ record vs { levels = newest_begun b vs.levels } →
-    GoesOn d vs false e ks true × (ahead e.puzzle e.trail ks.levels true < visits d.puzzle d.trail vs.levels)
-goes_to d e l b vs ks stacked top ed begun ek =
+-- A step enters a branch, and keeps the path.
+abbrev pub Enters : Dancing → Levels → Bool → Dancing → Levels → ℕ → ℕ → Type 0
+Enters d ls x f ks i q = EntersBranch d ls x f ks i q × KeepsPath d ls (branched f i q) ks
+
+-- Level l stands on the moves t, with its own on r, and has still to come what was: a branch of it is entered.
+enters : (d f : Dancing) (ls ks : Levels) (x : Bool) (l : Level) (b : Begun) (js : List Level) (t r : List Move)
+    → AreStacked d.puzzle t (l ∷ js) → r ≡ oldest l.base t
+    → coming d.puzzle d.trail ls.levels x ≡ to_give d.puzzle t (l ∷ js)
+    → visits d.puzzle t (l ∷ js) ≤ ahead d.puzzle d.trail ls.levels x
+    → ((u : List Move) → AreLed d.puzzle u d.trail ls.levels → AreLed d.puzzle u (oldest l.mark t) js)
+    → f ≡ record d { trail = f.trail } → IsEntered d.puzzle r l f.trail (begun_level b l)
+    → ks ≡ record ls { levels = begun_level b l ∷ js } → Enters d ls x f ks l.item b.place
+enters d f ls ks x l b js t r stacked base come less path ed entered ek =
     let p = d.puzzle in
-    let t = d.trail in
-    let s = e.trail in
     let k = begun_level b l in
-    let ls = drop 1 vs.levels in
-    let u = oldest l.base t in
-    let back = returned p t l ls (subst (AreStacked p t) top stacked) in
-    let all = begun_coming p u s l k ls back.0 begun in
-    subst (λ (f : Dancing). GoesOn d vs false f ks true
-    × (ahead f.puzzle f.trail ks.levels true < visits p t vs.levels)) (sym ed)
-    (subst (λ (js : Levels). GoesOn d vs false (record d { trail = s }) js true
-    × (ahead p s js.levels true < visits p t vs.levels))
-    (sym (ek ∙ ap (λ ls. record vs { levels = newest_begun b ls }) top)) (
+    let s = oldest l.base t in
+    let v = after_branch p l.item (option_at p l.item b.place) f.trail in
+    let begun : IsBegun p s l v k = subst (λ r. IsBegun p r l v k) base entered.begun in
+    let back = returned p t l js stacked in
+    let all = begun_coming p s v l k js back.0 begun in
+    let under = oldest-oldest l.mark l.base t stacked.0.within.0 stacked.0.within.1 in
+    subst (λ (f : Dancing). Enters d ls x f ks l.item b.place) (sym ed)
+    (subst (λ (ks : Levels). Enters d ls x (record d { trail = f.trail }) ks l.item b.place) (sym ek) (
       record {
-        still = (refl, refl);
-        standing =
-            record {
-              stacked = all.1;
-              searchable = λ e. begun.searchable;
-              shallow = λ e. shallower p u s l k ls back.0 begun;
-            };
-        members = ap (to_give p t) top ∙ sym back.1 ∙ sym all.0;
+        can = entered.can;
+        place = entered.begun.level.place;
+        goes_on = record {
+          still = (refl, refl);
+          standing = record {
+            stacked = all.1;
+            searchable = λ e. begun.searchable;
+            shallow = λ e. shallower p s v l k js back.0 begun;
+          };
+          members = come ∙ sym back.1 ∙ sym all.0;
+        };
+        less = omega (arith, all.2, back.2, less);
       },
-      omega (arith, all.2, back.2, ap (visits p t) top),
+      λ u a. led_begun p u s v l k js begun (rw under (path u a)),
     ))
-
--- it stands with its own moves
-pub begins_at : {d e : Dancing} {ls : Levels} {i n : ℕ} {l : Level} → Opens d e ls i n l
-    → AreStacked e.puzzle e.trail (l ∷ ls.levels)
-begins_at o = (deepens o).0.standing.stacked
-
-stands_alone : {d e : Dancing} {ls : Levels} {i n : ℕ} {l : Level} → Opens d e ls i n l → l.base ≡ length e.trail
-stands_alone o = ap (λ (l : Level). l.base) o.level ∙ sym (ap (λ (e : Dancing). length e.trail) o.spent)
-
--- a level's first branch may be entered
-pub may_enter : {d e : Dancing} {ls : Levels} {i n : ℕ} {l : Level} → Opens d e ls i n l → 0 < n
-    → MayBegin e.puzzle e.trail l
-may_enter o some = record {
-  level = (begins_at o).0;
-  whole = stands_alone o;
-  more = omega (arith, ap (λ (l : Level). l.begun) o.level, ap (λ (l : Level). l.count) o.level, some);
-}
-
--- a level goes on with its first branch
-begins_first : {d e : Dancing} {ls : Levels} {i n : ℕ} {l : Level} → Opens d e ls i n l → (f : Dancing) (ks : Levels)
-    (b : Begun) → f ≡ record e { trail = f.trail } → IsBegun e.puzzle e.trail l f.trail (begun_level b l)
-    → ks ≡ with_level (begun_level b l) ls →
-    GoesOn d ls true f ks true × (ahead f.puzzle f.trail ks.levels true < ahead d.puzzle d.trail ls.levels true)
-begins_first {d} {e} {ls} {i} {n} {l} o f ks b ef begun ek =
-    let js = with_level l ls in
-    let down = deepens o in
-    let base_is : oldest l.base e.trail ≡ e.trail = ap (λ n. oldest n e.trail) (stands_alone o) ∙ oldest_all e.trail in
-    let on = goes_to e f l b js ks (begins_at o) refl ef
-    (subst (λ t. IsBegun e.puzzle t l f.trail (begun_level b l)) (sym base_is) begun) ek in
-    (GoesOn-trans d e f ls js ks true false true down.0 on.0, omega (arith, down.1, on.1))
-
--- what is asked of the moves of a branch that was entered
--- State e was entered as state f: once the moves of the branch were made too, it was begun.
-pub record Branched (e f : Dancing) (u : List Move) (i : ℕ) (l : Level) (b : Begun) : Type 0 where
-  pub still : branched f i b.place ≡ record e { trail = (branched f i b.place).trail }
-  pub begun : IsBegun e.puzzle u l (branched f i b.place).trail (begun_level b l)
-  pub can : CanBranch f.puzzle i (option_at f.puzzle i b.place) f.trail
-  pub place : IsPlace f.puzzle i b.place
-
-pub branch_made : (e f : Dancing) (u : List Move) (i : ℕ) (l : Level) (b : Begun) → f ≡ record e { trail = f.trail }
-    → l.item ≡ i → IsEntered e.puzzle u l f.trail (begun_level b l) → Branched e f u i l b
-branch_made e f u i l b ef item entered =
-    let made = ap₂ (λ (s : Dancing) j. branched s j b.place) ef (sym item) in
-    record {
-      still = made ∙ ap (λ (h : Dancing). record e { trail = h.trail }) (sym made);
-      begun = subst (λ (h : Dancing). IsBegun e.puzzle u l h.trail (begun_level b l)) (sym made) entered.begun;
-      can = grind (arith, common_steps);
-      place = grind (arith, common_steps);
-    }
 
 -- a new level's first branch is entered
 pub enters_first : {d e : Dancing} {ls : Levels} {i n : ℕ} {l : Level} → Opens d e ls i n l → (f : Dancing)
     (ks : Levels) (b : Begun) → f ≡ record e { trail = f.trail }
     → IsEntered e.puzzle e.trail l f.trail (begun_level b l) → ks ≡ with_level (begun_level b l) ls
-    → EntersBranch d ls true f ks i b.place
-enters_first {e = e} {i = i} {l = l} o f ks b ef entered ek =
-    let h = branch_made e f e.trail i l b ef (ap (λ (l : Level). l.item) o.level) entered in
-    let on = begins_first o (branched f i b.place) ks b h.still h.begun ek in
-    record { can = h.can; place = h.place; goes_on = on.0; less = on.1 }
-
--- a level without branches ends at once
-pub passes_over : {d e : Dancing} {ls : Levels} {i n : ℕ} {l : Level} → Opens d e ls i n l → (f : Dancing) → n ≡ 0
-    → f ≡ record e { trail = oldest l.mark e.trail } →
-    GoesOn d ls true f ls false × (visits f.puzzle f.trail ls.levels < ahead d.puzzle d.trail ls.levels true)
-passes_over {d} {e} {ls} {i} {n} {l} o f none ef =
-    let js = with_level l ls in
+    → Enters d ls true f ks i b.place
+enters_first {d} {e} {ls} {i} {n} {l} o f ks b ef entered ek =
     let down = deepens o in
-    let back = goes_back e f l js ls (begins_at o) refl (omega (arith, ap (λ (l : Level). l.count) o.level, none)) ef
-    refl in
-    (GoesOn-trans d e f ls js ls true false false down.0 back.0, omega (arith, down.1, back.1))
+    let item : l.item ≡ i = ap (λ (l : Level). l.item) o.level in
+    let same : e.puzzle ≡ d.puzzle = ap (λ (e : Dancing). e.puzzle) o.spent in
+    let base : e.trail ≡ oldest l.base e.trail = rw (down.4, oldest_all e.trail) refl in
+    rw (← item) (enters d f ls ks true l b ls.levels e.trail e.trail down.0 base down.1 (omega (arith, down.2))
+    (λ u a. subst (λ t. AreLed d.puzzle u t ls.levels) (sym down.3) a)
+    (ef ∙ ap (λ (e : Dancing). record e { trail = f.trail }) o.spent)
+    (subst (λ p. IsEntered p e.trail l f.trail (begun_level b l)) same entered) ek)
 
 -- the next branch of the newest level is entered
-pub enters : (d f : Dancing) (l : Level) (b : Begun) (vs ks : Levels) → AreStacked d.puzzle d.trail vs.levels
+pub enters_next : (d f : Dancing) (l : Level) (b : Begun) (vs ks : Levels) → AreStacked d.puzzle d.trail vs.levels
     → vs.levels ≡ l ∷ drop 1 vs.levels → f ≡ record d { trail = f.trail }
     → IsEntered d.puzzle (oldest l.base d.trail) l f.trail (begun_level b l)
-    → ks ≡ record vs { levels = newest_begun b vs.levels } → EntersBranch d vs false f ks l.item b.place
-enters d f l b vs ks stacked top ef entered ek =
-    let h = branch_made d f (oldest l.base d.trail) l.item l b ef refl entered in
-    let on = goes_to d (branched f l.item b.place) l b vs ks stacked top h.still h.begun ek in
-    record { can = h.can; place = h.place; goes_on = on.0; less = on.1 }
+    → ks ≡ record vs { levels = newest_begun b vs.levels } → Enters d vs false f ks l.item b.place
+enters_next d f l b vs ks stacked top ef entered ek =
+    enters d f vs ks false l b (drop 1 vs.levels) d.trail (oldest l.base d.trail) (rw top at stacked) refl
+    (ap (to_give d.puzzle d.trail) top) (omega (arith, ap (visits d.puzzle d.trail) top))
+    (λ u a. (subst (AreLed d.puzzle u d.trail) top a).1) ef entered
+    (ek ∙ ap (λ ls. record vs { levels = newest_begun b ls }) top)
+
+-- a level without branches ends at once, in the state before
+pub passes_over : {d e : Dancing} {ls : Levels} {i n : ℕ} {l : Level} → Opens d e ls i n l → (f : Dancing) → n ≡ 0
+    → f ≡ record e { trail = oldest l.mark e.trail } → GoesOn d ls true f ls false
+    × (work_left f ls false < work_left d ls true) × KeepsPath d ls f ls
+passes_over {d} {ls = ls} {i = i} {n = n} o f none ef =
+    let r = residual_of d.puzzle d.trail in
+    let c = chosen_item d.puzzle d.trail i n (o.standing.searchable refl).legal o.chosen in
+    let same : f ≡ d = ef ∙ ap₂ (λ (e : Dancing) t. record e { trail = t }) o.spent (deepens o).3 in
+    let listed = none_listed r _ (least_is_one _ _ _ c.branch) (omega (arith, c.count, none)) in
+    let went = goes_behind d f ls same o.standing listed in (went.0, went.1, rw same (λ u a. a))
 
 -- what goes on and then enters a branch enters it
 pub goes_on_to : (d e f : Dancing) (ls ks js : Levels) (x y : Bool) (i q : ℕ) → GoesOn d ls x e ks y →
