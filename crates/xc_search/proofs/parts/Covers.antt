@@ -5,8 +5,8 @@ use Rattle.std.specs.Prelude.{Contains}
 use Rattle.std.specs.List.{AllByRecursion}
 use Rattle.std.proofs.lemmas.List.Elements.{recursion_from_All}
 use Rattle.xc_input.specs.Problem.{Puzzle, Numbered, numbered_options, holds, IsValid, holding}
-use Rattle.xc_search.specs.Cover.{IsCover, SameSet}
-use Rattle.xc_search.specs.Parts.{IsHeldOnce, is_in_part, part, number_in_problem, in_problem}
+use Rattle.xc_search.specs.Cover.{IsCover}
+use Rattle.xc_search.specs.Parts.{IsHeldOnce, is_in_part, part, number_in_problem}
 use Rattle.xc_search.specs.Parts.{IsPartCover, PartsJoin, PartsAreApart}
 use Rattle.xc_dance.proofs.MoveLemmas.OptionsRise.{options_rise}
 use Rattle.xc_search.proofs.completeness.Covering.{bounded}
@@ -19,6 +19,7 @@ use Rattle.xc_search.proofs.parts.Numbers.{IsNumber, at_place, number_of_option,
 use Rattle.xc_search.proofs.residual.NumberedOnce.{same_number}
 use Rattle.xc_input.proofs.FaultLemmas.BooleanTests.{and_left, and_right, or_other}
 use Rattle.xc_search.proofs.Cases.{by_bool}
+use Rattle.xc_search.proofs.parts.InOrder.{of_item}
 
 -- an option of the cover holds the item, and no other does
 pub record IsOne (p : Puzzle) (i : ℕ) (s : List ℕ) (x : Numbered) : Type 0 where
@@ -30,27 +31,6 @@ pub record IsOne (p : Puzzle) (i : ℕ) (s : List ℕ) (x : Numbered) : Type 0 w
 one_of : (xs : List Numbered) → 1 ≤ length xs → (x : Numbered) × IsIn xs x
 one_of [] h = absurd (omega (arith, h))
 one_of (x ∷ xs) h = (x, inl refl)
-
-pub the_one : (p : Puzzle) (i : ℕ) (s : List ℕ) → IsValid p → IsHeldOnce p i → IsCover p s → (x : Numbered)
-    × IsOne p i s x
-the_one p i s v once c =
-    let w = bounded p i (record { low = 1; high = 1 }) once in
-    let met = (covers_whole p s v c).met w.0 w.1 in
-    let times = ap (λ j. passing (is_held (is_listed s) j) (numbered_options p)) w.2 in
-    let x = one_of (filter (is_held (is_listed s) i) (numbered_options p)) (omega (arith, met.0, times, w.3)) in
-    let found = in-filter _ _ _ x.1 in (
-      x.0,
-      record {
-        known = found.0;
-        at = and_left _ _ found.1;
-        taken = listed_in s x.0.number (and_right _ _ found.1);
-        only = λ y h at taken.
-            let held : is_held (is_listed s) i y ≡ true = rw (at, in_listed s y.number taken) refl in
-            let twice : y.number ≢ x.0.number → 2 ≤ passing (is_held (is_listed s) i) (numbered_options p) =
-            λ apart. two_pass _ _ _ _ h found.0 held found.1 apart in
-            grind (arith, twice, met.1, times, w.4);
-      },
-    )
 
 -- numbers of which each is one under f
 before : (f : ℕ → ℕ) (P : ℕ → Type 0) (s : List ℕ) → ((o : ℕ) → IsIn s o → (k : ℕ) × P k × (f k ≡ o)) → (t : List ℕ)
@@ -73,47 +53,64 @@ in_its_part p i s x c one o h =
     let at = number_of_option p i x y.0 (filter-in _ _ _ y.1 kept) in
     (at.0, at.1, at.2 ∙ y.2)
 
-pub parts_join : (p : Puzzle) → IsValid p → (i : ℕ) → IsHeldOnce p i → PartsJoin p i
-parts_join p v i once s = (there, λ h. subst (IsCover p) (sym h.1.3) (cover_of_problem p i h.0 h.1.1 h.1.2))
-  where
-    there : IsCover p s → (x : Numbered) × IsPartCover p i x s
-    there c =
-        let x = the_one p i s v once c in
-        let t = before (number_in_problem p i x.0) (IsNumber (part p i x.0)) s (in_its_part p i s x.0 c x.1) in (
-          x.0,
-          (
-            contains-in _ _ (filter-in _ _ _ x.1.known x.1.at),
-            t.0,
-            cover_of_part p i x.0 t.0 t.1 (subst (IsCover p) t.2 c),
-            t.2,
-          ),
-        )
+-- each is held once
+module _ (p : Puzzle) (v : IsValid p) (i : ℕ) (once : IsHeldOnce p i) where
+  pub the_one : (s : List ℕ) → IsCover p s → (x : Numbered) × IsOne p i s x
+  the_one s c =
+      let w = bounded p i (record { low = 1; high = 1 }) once in
+      let met = (covers_whole p s v c).met w.0 w.1 in
+      let times = ap (λ j. passing (is_held (is_listed s) j) (numbered_options p)) w.2 in
+      let x = one_of (filter (is_held (is_listed s) i) (numbered_options p)) (omega (arith, met.0, times, w.3)) in
+      let found = in-filter _ _ _ x.1 in (
+        x.0,
+        record {
+          known = found.0;
+          at = and_left _ _ found.1;
+          taken = listed_in s x.0.number (and_right _ _ found.1);
+          only = λ y h at taken.
+              let held : is_held (is_listed s) i y ≡ true = rw (at, in_listed s y.number taken) refl in
+              let twice : y.number ≢ x.0.number → 2 ≤ passing (is_held (is_listed s) i) (numbered_options p) =
+              λ apart. two_pass _ _ _ _ h found.0 held found.1 apart in
+              grind (arith, twice, met.1, times, w.4);
+        },
+      )
 
--- the option of a part is in each cover of it
-own_option : (p : Puzzle) (i : ℕ) (x : Numbered) (t : List ℕ) → IsValid p → IsHeldOnce p i → IsCover (part p i x) t
-    → IsIn (in_problem p i x t) x.number
-own_option p i x t v once c =
-    let one = the_one p i (in_problem p i x t) v once (cover_of_problem p i x t c) in
-    let from = in-map _ _ _ one.1.taken in
-    let known = recursion_from_All (IsNumber (part p i x)) t c.known in
-    let at = at_place p i x from.0 (each_in _ _ _ known from.1) in
-    let found = in-filter _ _ _ (in-slice_get _ _ _ at.3) in
-    let is : at.1 ≡ one.0 = same_number _ _ _ _ (options_rise p) found.0 one.1.known (sym at.4 ∙ from.2) in
-    let same = or_other _ _ (ap not one.1.at) (subst (λ o. is_in_part i x o ≡ true) is found.1) in
-    subst (IsIn (in_problem p i x t)) (eqb-true one.0.number x.number same) one.1.taken
+  -- two options of one cover that hold the item are one
+  pub same_one : (x y : Numbered) (s : List ℕ) → IsCover p s → Contains (holding i (numbered_options p)) x
+      → Contains (holding i (numbered_options p)) y → IsIn s x.number → IsIn s y.number → x ≡ y
+  same_one x y s c h k a b =
+      let one = the_one s c in
+      let of_x = of_item p i x (in-contains _ _ h) in
+      let of_y = of_item p i y (in-contains _ _ k) in
+      same_number _ _ _ _ (options_rise p) of_x.0 of_y.0
+      (one.1.only x of_x.0 of_x.1 a ∙ sym (one.1.only y of_y.0 of_y.1 b))
 
-apart_by_parts : (p : Puzzle) → IsValid p → (i : ℕ) → IsHeldOnce p i → (x y : Numbered)
-    → Contains (holding i (numbered_options p)) x → Contains (holding i (numbered_options p)) y → (t u : List ℕ)
-    → IsCover (part p i x) t → IsCover (part p i y) u → SameSet (in_problem p i x t) (in_problem p i y u) → x ≡ y
-apart_by_parts p v i once x y h k t u c d same =
-    let ofx = in-filter (λ o. holds o i) _ _ (in-contains (holding i (numbered_options p)) x h) in
-    let ofy = in-filter (λ o. holds o i) _ _ (in-contains (holding i (numbered_options p)) y k) in
-    let one = the_one p i (in_problem p i y u) v once (cover_of_problem p i y u d) in
-    let there = (same x.number).0 (contains-in _ _ (own_option p i x t v once c)) in
-    same_number _ _ _ _ (options_rise p) ofx.0 ofy.0 (one.1.only x ofx.0 ofx.1 (in-contains _ _ there)
-    ∙ sym (one.1.only y ofy.0 ofy.1 (own_option p i y u v once d)))
+  as_cover : {x : Numbered} {s : List ℕ} → IsPartCover p i x s → IsCover p s
+  as_cover {x} h = subst (IsCover p) (sym h.3) (cover_of_problem p i x h.1 h.2)
 
-pub parts_are_apart : (p : Puzzle) → IsValid p → (i : ℕ) → IsHeldOnce p i → PartsAreApart p i
-parts_are_apart p v i once x y s t h k same =
-    apart_by_parts p v i once x y h.0 k.0 h.1 k.1 h.2 k.2 (subst (λ a. SameSet a (in_problem p i y k.1)) h.3
-    (subst (SameSet s) k.3 same))
+  pub parts_join : PartsJoin p i
+  parts_join s = (there, λ h. as_cover h.1)
+    where
+      there : IsCover p s → (x : Numbered) × IsPartCover p i x s
+      there c =
+          let x = the_one s c in
+          let t = before (number_in_problem p i x.0) (IsNumber (part p i x.0)) s (in_its_part p i s x.0 c x.1) in
+          let held = contains-in _ _ (filter-in _ _ _ x.1.known x.1.at) in
+          (x.0, (held, t.0, cover_of_part p i x.0 t.0 t.1 (subst (IsCover p) t.2 c), t.2))
+
+  -- the option of a part is in each cover of it
+  own_option : {x : Numbered} {s : List ℕ} → IsPartCover p i x s → IsIn s x.number
+  own_option {x} {s} h =
+      let one = the_one s (as_cover h) in
+      let from = in-map _ _ _ (subst (λ s. IsIn s one.0.number) h.3 one.1.taken) in
+      let known = each_in _ _ _ (recursion_from_All (IsNumber (part p i x)) h.1 h.2.known) from.1 in
+      let at = at_place p i x from.0 known in
+      let found = in-filter _ _ _ (in-slice_get _ _ _ at.3) in
+      let is : at.1 ≡ one.0 = same_number _ _ _ _ (options_rise p) found.0 one.1.known (sym at.4 ∙ from.2) in
+      let same = or_other _ _ (ap not one.1.at) (subst (λ o. is_in_part i x o ≡ true) is found.1) in
+      subst (IsIn s) (eqb-true one.0.number x.number same) one.1.taken
+
+  pub parts_are_apart : PartsAreApart p i
+  parts_are_apart x y s t h k same =
+      let there = (same x.number).0 (contains-in _ _ (own_option h)) in
+      same_one x y t (as_cover k) h.0 k.0 (in-contains _ _ there) (own_option k)
