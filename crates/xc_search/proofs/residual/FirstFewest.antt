@@ -36,9 +36,13 @@ first_open : (p : Puzzle) (t : List Move) (k : ℕ) → next_above 0 (open_items
 first_open p t k e =
     sym (above_all 0 (open_items p t) (open_rises p t)) ∙ next_above-split 0 0 k (open_items p t) (open_rises p t) e
 
-pub choice_first : (p : Puzzle) (t : List Move) (k : ℕ) → next_above 0 (open_items p t) ≡ Some k →
-    first_least (branches_after p t) (wanted_after p t) ≡ Some
-    (best_from p t (wanted_at p t k) (filter (λ j. ltb k j) (open_items p t)))
+-- w is the best up to item n: with it and the open items behind n the branch item is found
+abbrev pub IsBest : Puzzle → List Move → Wanted → ℕ → Type 0
+IsBest p t w n = first_least (branches_after p t) (wanted_after p t) ≡ Some
+    (best_from p t w (filter (λ j. ltb n j) (open_items p t)))
+
+pub choice_first : (p : Puzzle) (t : List Move) (k : ℕ) → next_above 0 (open_items p t) ≡ Some k
+    → IsBest p t (wanted_at p t k) k
 choice_first p t k e = ap (λ is. first_least (branches_after p t) (map (wanted_at p t) is)) (first_open p t k e)
 
 pub choice_none : (p : Puzzle) (t : List Move) → next_above 0 (open_items p t) ≡ None → choice_after p t ≡ None
@@ -51,12 +55,9 @@ abbrev pub fewer : Puzzle → List Move → ℕ → ℕ → Bool
 fewer p t k i = nat_lt (branches_after p t (wanted_at p t k)) (branches_after p t (wanted_at p t i))
 
 -- one item more
-pub choice_next : (p : Puzzle) (t : List Move) (i n k : ℕ) (b : Bool) →
-    first_least (branches_after p t) (wanted_after p t) ≡ Some
-    (best_from p t (wanted_at p t i) (filter (λ j. ltb n j) (open_items p t))) →
-    next_above n (open_items p t) ≡ Some k → fewer p t k i ≡ b →
-    first_least (branches_after p t) (wanted_after p t) ≡ Some
-    (best_from p t (cond b (wanted_at p t k) (wanted_at p t i)) (filter (λ j. ltb k j) (open_items p t)))
+pub choice_next : (p : Puzzle) (t : List Move) (i n k : ℕ) (b : Bool) → IsBest p t (wanted_at p t i) n
+    → next_above n (open_items p t) ≡ Some k → fewer p t k i ≡ b
+    → IsBest p t (cond b (wanted_at p t k) (wanted_at p t i)) k
 choice_next p t i n k b best e f =
     best
     ∙ ap (λ is. Some (best_from p t (wanted_at p t i) is)) (next_above-split 0 n k (open_items p t) (open_rises p t) e)
@@ -74,10 +75,8 @@ choice_settled p t i [] e = refl
 choice_settled p t i (k ∷ is) e = grind (arith, common_steps, choice_settled p t i is e, le-ltb)
 
 -- no later item is better
-pub choice_done : (p : Puzzle) (t : List Move) (i n count : ℕ) →
-    first_least (branches_after p t) (wanted_after p t) ≡ Some
-    (best_from p t (wanted_at p t i) (filter (λ j. ltb n j) (open_items p t))) →
-    count ≡ branches_after p t (wanted_at p t i)
+pub choice_done : (p : Puzzle) (t : List Move) (i n count : ℕ) → IsBest p t (wanted_at p t i) n
+    → count ≡ branches_after p t (wanted_at p t i)
     → best_from p t (wanted_at p t i) (filter (λ j. ltb n j) (open_items p t)) ≡ wanted_at p t i
     → Some (i, count) ≡ choice_after p t
 choice_done p t i n count best counted stays = grind (arith, common_steps)
