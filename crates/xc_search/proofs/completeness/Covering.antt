@@ -19,7 +19,7 @@ use Rattle.xc_search.specs.Listing.{branches_of, listing_to, listing}
 use Rattle.xc_search.specs.Cover.{IsCover, times_held, options_of, members, EachMemberCovers}
 use Rattle.xc_input.proofs.lists.Members.{IsIn, in-map, each_in, each_from, in-contains}
 use Rattle.xc_search.proofs.completeness.Solved.{count, Solves, solves_pick, solves_none}
-use Rattle.xc_search.proofs.completeness.Proper.{IsProper, sound_items, low_items, proper_pick, proper_none}
+use Rattle.xc_search.proofs.completeness.Proper.{IsProper, proper_pick, proper_none}
 use Rattle.xc_search.proofs.completeness.Proper.{proper_whole}
 use Rattle.xc_search.proofs.listing.EachBranch.{IsTaken, IsNone, in-branches, in-level, no_items_left, branch_item-in}
 use Rattle.xc_search.proofs.listing.EachBranch.{less_behind}
@@ -51,8 +51,7 @@ solution_back : (n : ℕ) (r : Residual) (w : Wanted) (b : Branch) (l : List Cho
 solution_back n r w b l p h (inl t) s =
     let solved : Solves n (pick r w.item t.x) s.0 = subst (λ z. Solves n z s.0) t.next s.1 in (
       t.x ∷ s.0,
-      solves_pick n w.item r t.x s.0 p.options_rise (sound_items n r p) (λ j v e. low_items n r j v p e) t.known t.at
-          solved,
+      solves_pick w.item t.x s.0 p t.known t.at solved,
       ap (λ o. cons_option o (options_of l)) t.option ∙ ap (λ ks. t.x.number ∷ ks) s.2,
     )
 solution_back n r w b l p h (inr t) s =

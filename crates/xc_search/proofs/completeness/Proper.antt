@@ -10,14 +10,19 @@ use Rattle.std.proofs.lemmas.List.Elements.{recursion_from_All}
 use Rattle.xc_input.specs.Problem.{Puzzle, Numbered, primary_count, holds, AreSoundBounds, IsSoundUse, IsSoundOption}
 use Rattle.xc_input.specs.Problem.{IsValid}
 use Rattle.xc_search.specs.Listing.{Wanted, Residual, wanted_from, whole, spend_one, item_left, stays, pick, none}
-use Rattle.xc_input.proofs.lists.Members.{IsIn, in-filter, filter-in, in-map, map-in, each_in, each_from, in-contains}
+use Rattle.xc_input.proofs.lists.Members.{IsIn, in-filter, filter-in, in-map, map-in, each_in, in-contains}
 use Rattle.xc_dance.proofs.MoveLemmas.OptionsRise.{NumbersRise, NumbersRise-filter, options_rise}
-use Rattle.xc_search.proofs.completeness.Solved.{IsSound, used_up}
 use Rattle.xc_input.proofs.FaultLemmas.BooleanTests.{and_right}
 use Rattle.xc_search.proofs.residual.OptionUses.{held_by, holds_use}
 use Rattle.xc_search.proofs.listing.Numbering.{option_sound}
 use Rattle.xc_search.proofs.Cases.{by_bool}
 use Rattle.std.proofs.lemmas.Bool.{eqb-false}
+use Rattle.xc_input.specs.declared.problem.Use.{Use}
+use Rattle.std.specs.List.{list_all}
+use Rattle.std.specs.Prelude.{is_some}
+use Rattle.xc_input.specs.Problem.{colour_in}
+use Rattle.xc_input.proofs.FaultLemmas.BooleanTests.{and_left}
+use Rattle.std.proofs.Common.{false}
 
 -- items in order
 abbrev pub ItemsRise : ℕ → List Wanted → Type 0
@@ -79,12 +84,17 @@ same_wanted n r v w p h k e =
     let two = find-in 0 r.items w p.items_rise k in
     let found = ap (item_left r) (eqb-true _ _ e) in cc
 
--- the facts that `solves_pick` asks for
-pub sound_items : (n : ℕ) (r : Residual) → IsProper n r → AllByRecursion (IsSound n r) r.items
-sound_items n r p = grind (arith, common_steps, each_from, find-in)
+-- ---- the use of an item
 
-pub low_items : (n : ℕ) (r : Residual) (j : ℕ) (w : Wanted) → IsProper n r → item_left r j ≡ Some w → j ≤ n
-low_items n r j w p e = let found = in-find r.items j w e in let s = p.sound w found.0 in omega (arith, s.0, found.1)
+pub use_passes : (f : Use → Bool) (us : List Use) (j : ℕ) → list_all f us ≡ true → is_some (colour_in us j) ≡ true
+    → (u : Use) × (u.item ≡ j) × (f u ≡ true)
+use_passes f [] j all held = cc
+use_passes f (u ∷ us) j all held = grind (arith, common_steps, use_passes f us j, eqb-true, and_left, and_right)
+
+-- an item that x uses up is held by no option that stays
+pub used_up : (r : Residual) (x y : Numbered) (w : Wanted) → stays r x y ≡ true → holds x w.item ≡ true
+    → item_left r w.item ≡ Some w → nat_lt 1 w.high ≡ false → holds y w.item ≡ false
+used_up r x y w stay held left full = grind (arith, common_steps, use_passes)
 
 -- ---- one branch on
 

@@ -3,20 +3,21 @@ use Rattle.std.proofs.lemmas.Grind.{common_steps}
 use Rattle.std.proofs.Common.{ℕ, ◌≡◌, ◌≢◌, ◌<◌, ◌≤◌, Bool, true, false, not, ◌&&◌, ◌||◌, eqb, List, []}
 use Rattle.std.proofs.Common.{◌∷◌, length, map, filter, Some, refl, ap, arith, eqb-true}
 use Rattle.std.proofs.Common.{lt-ltb, le-ltb, ltb-false, le-leb}
-use Rattle.std.specs.Prelude.{nat_lt, nat_le, is_some}
+use Rattle.std.specs.Prelude.{nat_lt, nat_le}
 use Rattle.std.specs.List.{AllByRecursion, list_all}
 use Rattle.xc_input.specs.declared.problem.Use.{Use}
-use Rattle.xc_input.specs.Problem.{Numbered, colour_in, holds, colour_at, holding}
-use Rattle.xc_search.specs.Listing.{Wanted, Residual, spend_one, may_stay, item_left, stays, pick, none}
+use Rattle.xc_input.specs.Problem.{Numbered, holds, colour_at, holding}
+use Rattle.xc_search.specs.Listing.{Wanted, Residual, spend_one, may_stay, item_left, pick, none}
 use Rattle.xc_input.proofs.lists.Members.{IsIn, in-filter}
 use Rattle.xc_search.proofs.residual.NumberedOnce.{same_number}
 use Rattle.xc_dance.specs.Moves.{agrees}
-use Rattle.xc_dance.proofs.MoveLemmas.OptionsRise.{NumbersRise}
 use Rattle.xc_input.proofs.lists.EachElement.{each_weaker}
 use Rattle.std.proofs.Math.Bool.{or-true}
 use Rattle.std.proofs.lemmas.Bool.{not-true}
 use Rattle.xc_input.proofs.FaultLemmas.BooleanTests.{and_left, and_right}
 use Rattle.xc_input.proofs.lists.EachTwo.{EachTwo}
+use Rattle.xc_search.proofs.completeness.Proper.{IsProper, goes_on, used_up, find-in, in-find}
+use Rattle.xc_input.proofs.lists.Members.{each_from}
 
 -- how many of the selection hold item j
 abbrev pub count : ℕ → List Numbered → ℕ
@@ -39,21 +40,7 @@ pub record Solves (n : ℕ) (r : Residual) (s : List Numbered) : Type 0 where
   pub met : AllByRecursion (IsMet s) r.items
   pub agreed : EachTwo (IsBeside n) s
 
--- an item that is left is of the first n, stands once, and can be met
-abbrev pub IsSound : ℕ → Residual → Wanted → Type 0
-IsSound n r w = (w.item ≤ n) × (w.low ≤ w.high) × (0 < w.high) × (item_left r w.item ≡ Some w)
-
--- ---- the use of an item
-
-pub use_passes : (f : Use → Bool) (us : List Use) (j : ℕ) → list_all f us ≡ true → is_some (colour_in us j) ≡ true
-    → (u : Use) × (u.item ≡ j) × (f u ≡ true)
-use_passes f [] j all held = cc
-use_passes f (u ∷ us) j all held = grind (arith, common_steps, use_passes f us j, eqb-true, and_left, and_right)
-
--- an item that x uses up is held by no option that stays
-pub used_up : (r : Residual) (x y : Numbered) (w : Wanted) → stays r x y ≡ true → holds x w.item ≡ true
-    → item_left r w.item ≡ Some w → nat_lt 1 w.high ≡ false → holds y w.item ≡ false
-used_up r x y w stay held left full = grind (arith, common_steps, use_passes)
+-- ---- one branch back
 
 -- whoever stays agrees above n
 stays_beside : (n : ℕ) (r : Residual) (y : Numbered) (us : List Use)
@@ -68,8 +55,6 @@ none_hold : (j : ℕ) (s : List Numbered) → AllByRecursion (λ y. holds y j �
 none_hold j [] a = refl
 none_hold j (y ∷ s) a = rw a.0 (none_hold j s a.1)
 
--- ---- one branch back
-
 met_back : (x : Numbered) (s : List Numbered) (ws : List Wanted) →
     AllByRecursion (λ w. (w.low ≤ w.high) × (0 < w.high)
     × (holds x w.item ≡ true → nat_lt 1 w.high ≡ false → count w.item s ≡ 0)) ws →
@@ -78,25 +63,19 @@ met_back x s [] a m = tt
 met_back x s (w ∷ ws) a m = grind (arith, common_steps, met_back x s ws a.1, ltb-false, le-ltb, lt-ltb)
 
 -- A selection that solves what is left by taking x solves with x what was left before.
-pub solves_pick : (n i : ℕ) (r : Residual) (x : Numbered) (s : List Numbered) → NumbersRise 0 r.options
-    → AllByRecursion (IsSound n r) r.items → ((j : ℕ) (w : Wanted) → item_left r j ≡ Some w → j ≤ n) →
-    IsIn r.options x → holds x i ≡ true → Solves n (pick r i x) s → Solves n r (x ∷ s)
-solves_pick n i r x s rising sound low in_x at solved =
-    let passes = each_weaker _
-    (λ y. IsIn r.options y × ((not (holds y i && nat_le y.number x.number) && stays r x y) ≡ true)) s
-    (λ y k. in-filter _ _ _ k) solved.chosen in
+pub solves_pick : {n : ℕ} {r : Residual} (i : ℕ) (x : Numbered) (s : List Numbered) → IsProper n r → IsIn r.options x
+    → holds x i ≡ true → Solves n (pick r i x) s → Solves n r (x ∷ s)
+solves_pick {n} {r} i x s p in_x at solved =
+    let passes = each_weaker _ (λ y. IsIn r.options y × (goes_on r i x y ≡ true)) s (λ y k. in-filter _ _ _ k)
+    solved.chosen in
     record {
       chosen = (in_x, each_weaker _ (IsIn r.options) s (λ y k. k.0) passes);
-      met = met_back x s r.items
-          (each_weaker (IsSound n r) _ r.items
-          (λ w k. (
-            k.1,
-            k.2,
-            λ h full. ap length
-                (none_hold w.item s (each_weaker _ (λ y. holds y w.item ≡ false) s
-                (λ y q. used_up r x y w (and_right _ _ q.1) h k.3 full) passes)),
-          )) sound)
-          solved.met;
+      met = met_back x s r.items (each_from _ r.items (λ w k. let sound = p.sound w k in (
+        sound.1,
+        sound.2,
+        λ h full. ap length (none_hold w.item s (each_weaker _ (λ y. holds y w.item ≡ false) s
+            (λ y q. used_up r x y w (and_right _ _ q.1) h (find-in _ _ _ p.items_rise k) full) passes)),
+      ))) solved.met;
       agreed = (
         each_weaker _ (IsBeside n x) s
             (λ y q. (apart y q.0 (and_left _ _ q.1), stays_beside n r y x.uses low (and_right _ _ q.1))) passes,
@@ -104,8 +83,11 @@ solves_pick n i r x s rising sound low in_x at solved =
       );
     }
   where
+    low : (j : ℕ) (w : Wanted) → item_left r j ≡ Some w → j ≤ n
+    low j w e = let found = in-find r.items j w e in let s = p.sound w found.0 in omega (arith, s.0, found.1)
+
     apart : (y : Numbered) → IsIn r.options y → not (holds y i && nat_le y.number x.number) ≡ true → x.number ≢ y.number
-    apart y k e same = grind (arith, common_steps, same_number, le-leb)
+    apart y k e same = let rise = p.options_rise in grind (arith, common_steps, same_number, le-leb)
 
 none_back : (i : ℕ) (s : List Numbered) (ws : List Wanted) → count i s ≡ 0
     → AllByRecursion (λ w. eqb w.item i ≡ true → w.low ≡ 0) ws →

@@ -19,7 +19,6 @@ use Rattle.xc_input.proofs.FaultLemmas.BooleanTests.{and_right, or_other}
 use Rattle.xc_input.proofs.lists.Filters.{filter_both, filter_same, filter-map, map-map, flat_map-same}
 use Rattle.xc_input.proofs.lists.Members.{IsIn, in-filter, filter-in, in-enumerated, each_from}
 use Rattle.xc_search.proofs.completeness.Proper.{IsProper, find-in, goes_on, proper_whole}
-use Rattle.xc_search.proofs.completeness.Solved.{used_up}
 use Rattle.xc_search.proofs.listing.EachBranch.{behind, branch_item-in}
 use Rattle.xc_search.proofs.listing.Numbering.{with_bounds}
 use Rattle.xc_search.proofs.listing.Unrolled.{listing_unrolled}
@@ -28,6 +27,7 @@ use Rattle.xc_search.proofs.residual.PickedByUses.{as_residual, is_wanted}
 use Rattle.xc_search.proofs.completeness.Proper.{same_wanted}
 use Rattle.xc_search.proofs.Cases.{by_bool}
 use Rattle.xc_search.specs.Listing.{stays}
+use Rattle.xc_search.proofs.completeness.Proper.{used_up}
 
 -- ---- the option of a part is the one that holds the item
 

@@ -15,7 +15,7 @@ use Rattle.xc_input.proofs.lists.Members.{IsIn, filter-in, in-map, map-in, in-sl
 use Rattle.xc_input.proofs.lists.Members.{in-contains, contains-in}
 use Rattle.xc_search.proofs.completeness.Complete.{IsFirst, covers_pick, listed_for, member_pick}
 use Rattle.xc_search.proofs.completeness.Once.{Differ, all_differ, one_place}
-use Rattle.xc_search.proofs.completeness.Proper.{proper_whole, proper_pick, sound_items, low_items}
+use Rattle.xc_search.proofs.completeness.Proper.{proper_whole, proper_pick}
 use Rattle.xc_search.proofs.completeness.Solved.{solves_pick}
 use Rattle.xc_search.proofs.completeness.Whole.{is_listed, listed_in, in_listed, covers_whole, same_set}
 use Rattle.xc_search.proofs.parts.Covers.{the_one}
@@ -50,9 +50,7 @@ module _ (p : Puzzle) (v : IsValid p) (w : Wanted) (h : Contains (whole p).items
       let from = behind_choice k t in
       let q = pick (whole p) w.item x in
       let s = members_solve n (size_of q) q from.0 (proper_pick n w.item (whole p) x proper) (omega arith) from.1 in
-      let solved =
-      solves_pick n w.item (whole p) x s.0 proper.options_rise (sound_items n (whole p) proper)
-      (λ j u e. low_items n (whole p) j u proper e) found.0 found.1 s.1 in
+      let solved = solves_pick w.item x s.0 proper found.0 found.1 s.1 in
       subst (IsCover p) (ap (λ ks. x.number ∷ ks) (sym s.2) ∙ ap options_of from.2) (solution_covers p (x ∷ s.0) solved)
 
   pub parts_list_covers : PartsListCovers p w
