@@ -86,18 +86,18 @@ pub down_none : (p : Puzzle) (numbers all : List ℕ) (path other : List Choice)
 down_none p numbers all path other t k ks d none e is = grind (arith, common_steps, no_further)
 
 -- a search stands there
-pub down_standing : (p : Puzzle) (numbers : List ℕ) (path : List Choice) (t : List Move) (ls : List Level) →
-    IsDown p numbers path t → ls ≡ [] → IsStanding p t ls true
-down_standing p numbers path t ls d e =
+pub down_standing : {p : Puzzle} {numbers : List ℕ} {path : List Choice} {t : List Move} → IsDown p numbers path t
+    → (ls : List Level) → ls ≡ [] → IsStanding p t ls true
+down_standing {p} {path = path} {t} d ls e =
     let less = left_less path (whole p) (residual_of p t) d.left in
     let shallow : IsShallow p t [] = omega (arith, less, ap size_of (no_moves_leave_all p), shallow_first p) in
     subst (λ ls. IsStanding p t ls true) (sym e)
     (record { stacked = tt; searchable = λ _. d.searchable; shallow = λ _. shallow })
 
 -- with the members below the path to come
-pub down_coming : (p : Puzzle) (numbers : List ℕ) (path : List Choice) (t : List Move) (ls : List Level)
-    → IsDown p numbers path t → ls ≡ [] → behind path (coming p t ls true) ≡ below p path
-down_coming p numbers path t ls d e =
+pub down_coming : {p : Puzzle} {numbers : List ℕ} {path : List Choice} {t : List Move} → IsDown p numbers path t
+    → (ls : List Level) → ls ≡ [] → behind path (coming p t ls true) ≡ below p path
+down_coming {p} {path = path} {t} d ls e =
     let ms = listing (residual_of p t) in
     ap (λ ls. behind path (coming p t ls true)) e
     ∙ ap (behind path) (append-nil (map (λ (m : List Choice). m) ms) ∙ map-id ms)

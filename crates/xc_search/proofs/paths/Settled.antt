@@ -47,8 +47,8 @@ comes_back d e f ls ks none ed keeps ef =
     ∙ ap (λ t. record d { trail = t }) (led_ground e.puzzle d.trail e.trail ks.levels (keeps d.trail here))
 
 -- what was to come begins with what is below the part's path
-pub part_below : (d e : Dancing) (ls ks : Levels) (down : Bool) (path : List Choice) (o : Uncut)
+pub part_below : {d e : Dancing} {ls ks : Levels} {down : Bool} (path : List Choice) (o : Uncut)
     → IsPart d ls down e ks → AreLed e.puzzle [] e.trail ks.levels →
     record { puzzle = d.puzzle; to_come = coming d.puzzle d.trail ls.levels down; path = path; room = d.room } ≡ o →
     o.to_come ≡ below o.puzzle (choices_of e.puzzle ks.levels) ++ to_give e.puzzle e.trail ks.levels
-part_below d e ls ks down path o a led is = grind (arith, common_steps, comes_below)
+part_below path o a led is = grind (arith, common_steps, comes_below)

@@ -18,9 +18,9 @@ pub record FallsBack (d : Dancing) (ls : Levels) (m : ℕ) (e : Dancing) (ks : L
   pub less : work_left e ks false ≤ work_left d ls true
 
 -- an item without branches leaves no member
-pub falls_barren : (d e : Dancing) (ls ks : Levels) (m : ℕ) → GoesOn d ls true e ks false
+pub falls_barren : {d e : Dancing} {ls ks : Levels} (m : ℕ) → GoesOn d ls true e ks false
     → work_left e ks false < work_left d ls true → FallsBack d ls m e ks m
-falls_barren d e ls ks m on less = grind (arith, common_steps)
+falls_barren m on less = grind (arith, common_steps)
 
 -- a solution is one of them
 pub falls_solved : (d : Dancing) (ls : Levels) (m n : ℕ) → IsStanding d.puzzle d.trail ls.levels true
@@ -28,16 +28,16 @@ pub falls_solved : (d : Dancing) (ls : Levels) (m n : ℕ) → IsStanding d.puzz
 falls_solved d ls m n s none more = grind (arith, common_steps, solution)
 
 -- a branch below is entered
-pub enters_below : (d e : Dancing) (ls ks : Levels) (m i q : ℕ) → EntersBranch d ls true e ks i q
+pub enters_below : {d e : Dancing} {ls ks : Levels} (m : ℕ) {i q : ℕ} → EntersBranch d ls true e ks i q
     → EntersOver d ls m e ks m i q
-enters_below d e ls ks m i q b = grind (arith, common_steps)
+enters_below m b = grind (arith, common_steps)
 
 -- a branch of a level is entered
-pub enters_back : (d e f : Dancing) (ls ks js : Levels) (m n i q : ℕ) → FallsBack d ls m e ks n
+pub enters_back : {d e f : Dancing} {ls ks js : Levels} {m n i q : ℕ} → FallsBack d ls m e ks n
     → EntersBranch e ks false f js i q → EntersOver d ls m f js n i q
-enters_back d e f ls ks js m n i q back b = grind (arith, common_steps, then_still)
+enters_back back b = grind (arith, common_steps, then_still)
 
 -- all levels end
-pub ends_back : (d e f : Dancing) (ls ks js : Levels) (m n : ℕ) → FallsBack d ls m e ks n → IsDone e ks false f js
+pub ends_back : {d e f : Dancing} {ls ks js : Levels} {m n : ℕ} → FallsBack d ls m e ks n → IsDone e ks false f js
     → EndsOver d ls m f js n
-ends_back d e f ls ks js m n back done = grind (arith, common_steps, then_still)
+ends_back back done = grind (arith, common_steps, then_still)

@@ -66,12 +66,12 @@ pub record HasToPass (p : Puzzle) (t : List Move) (ls : List Level) (down : Bool
   pub again : down ≡ false → (many ≡ more) × IsSolved p t ls
 
 -- and does so
-pub went_over : (d e : Dancing) (ls ks : Levels) (down : Bool) (many more : ℕ) → 0 < many
+pub went_over : {d e : Dancing} {ls ks : Levels} (down : Bool) {many more : ℕ} → 0 < many
     → HasToPass d.puzzle d.trail ls.levels down many more → StandsOver d ls more e ks 0 → WentOver d ls down many e ks
-went_over d e ls ks true many more some has at =
+went_over {d} {e} {ls} {ks} true {more = more} some has at =
     subst (λ n. WentOver d ls true n e ks) (sym (has.first refl))
     (went_to d e ls ks true more at.over.still at.solved at.over.members)
-went_over d e ls ks false many more some has at = by_number many (λ h. absurd (omega (arith, some, h))) (λ n h.
+went_over {d} {e} {ls} {ks} false {many} some has at = by_number many (λ h. absurd (omega (arith, some, h))) (λ n h.
     let was = (has.again refl).1 in
     let found = solution d.puzzle d.trail ls.levels (was.standing.searchable refl).legal was.none in
     let ms = coming d.puzzle d.trail ls.levels true in
@@ -81,11 +81,11 @@ went_over d e ls ks false many more some has at = by_number many (λ h. absurd (
     (went_to d e ls ks false n at.over.still at.solved (over ∙ at.over.members)))
 
 -- there were no more
-pub went_past : (d e : Dancing) (ls ks : Levels) (down : Bool) (many more n lacks : ℕ)
+pub went_past : {d e : Dancing} {ls ks : Levels} (down : Bool) {many more : ℕ} (n : ℕ) {lacks : ℕ}
     → HasToPass d.puzzle d.trail ls.levels down many more → EndsOver d ls more e ks lacks →
     (lacks < many) × (n + 1 + lacks ≡ many → WentPast d ls down n e ks)
-went_past d e ls ks true many more n lacks has ends = grind (arith, common_steps)
-went_past d e ls ks false many more n lacks has ends = grind (arith, common_steps, solution)
+went_past true n has ends = grind (arith, common_steps)
+went_past false n has ends = grind (arith, common_steps, solution)
 
 -- a member is shown behind the choices before it
 shown_behind : (n : ℕ) (before : List Choice) (ms : List (List Choice)) (s t : List Choice) → 0 < n → n ≤ length ms →
@@ -118,7 +118,7 @@ outlook_past : (d e : Dancing) (ls ks : Levels) (down : Bool) (n many : ℕ) →
     → (outlook e ks false ≡ past many (outlook d ls down)) × (n ≡ min many (length (outlook d ls down).to_come))
 outlook_past d e ls ks down n many w less = grind (arith, common_steps, drop_past, shown_past)
 
-module _ (d e : Dancing) (ls ks : Levels) (down below : Bool) (many n : ℕ) (p : Passed d ls down many n e ks below)
+module _ {d e : Dancing} {ls ks : Levels} {down below : Bool} {many n : ℕ} (p : Passed d ls down many n e ks below)
   where
     -- by how it went
     by_end : {C : Type 0} → (n < many → WentPast d ls down n e ks → C)

@@ -8,8 +8,7 @@ use Rattle.xc_search.proofs.levels.go_on.Goals.{Joined-deepen, in-Nothing, in-So
 pub returns-in-Branch-clause-entered : goal.returns-in-Branch-clause-entered
 returns-in-Branch-clause-entered g c b is =
     let same : c.in-Branch.entered ≡ b = cc is in
-    enters_below c.args.position.now c.deepen.new.position c.args.stack.now c.deepen.new.stack c.args.more.now b.item
-    b.place (c.deepen.ensures.deeper b (c.in-Branch.is ∙ ap Branch same))
+    enters_below c.args.more.now (c.deepen.ensures.deeper b (c.in-Branch.is ∙ ap Branch same))
 
 falls : (g : _) (c : Joined-deepen g) → FallsBack c.args.position.now c.args.stack.now c.args.more.now
     c.deepen.new.position c.deepen.new.stack c.match-deepen.more
@@ -17,8 +16,8 @@ falls g c =
     elim c.match-deepen.branch [
       | in-Nothing w ↦
           rw w.more-is
-          (falls_barren c.args.position.now c.deepen.new.position c.args.stack.now c.deepen.new.stack c.args.more.now
-          (c.deepen.ensures.nothing w.in-Nothing.is) (c.deepen.ensures.fewer w.in-Nothing.is))
+          (falls_barren c.args.more.now (c.deepen.ensures.nothing w.in-Nothing.is)
+          (c.deepen.ensures.fewer w.in-Nothing.is))
       | in-Solution+else-more-eq0 w ↦
           let same = c.deepen.ensures.same w.in-Solution.is in
           rw (same.0, same.1)
@@ -30,12 +29,9 @@ pub returns-in-Some-clause-entered : goal.returns-in-Some-clause-entered
 returns-in-Some-clause-entered g c b is =
     let same : c.in-Some.entered ≡ b = cc is in
     rw (← same)
-    (enters_back c.args.position.now c.deepen.new.position c.resume.new.position c.args.stack.now c.deepen.new.stack
-    c.resume.new.stack c.args.more.now c.match-deepen.more c.in-Some.entered.item c.in-Some.entered.place
-    (falls g (goal.at.returns-in-Some-clause-entered g c).Joined-deepen) c.in-Some.ensures.resumed)
+    (enters_back (falls g (goal.at.returns-in-Some-clause-entered g c).Joined-deepen) c.in-Some.ensures.resumed)
 
 pub returns-in-None-clause-done : goal.returns-in-None-clause-done
 returns-in-None-clause-done g c _ =
-    ends_back c.args.position.now c.deepen.new.position c.resume.new.position c.args.stack.now c.deepen.new.stack
-    c.resume.new.stack c.args.more.now c.match-deepen.more
-    (falls g (goal.at.returns-in-None-clause-done g c).Joined-deepen) (c.resume.ensures.done (rw c.in-None.is refl))
+    ends_back (falls g (goal.at.returns-in-None-clause-done g c).Joined-deepen)
+    (c.resume.ensures.done (rw c.in-None.is refl))

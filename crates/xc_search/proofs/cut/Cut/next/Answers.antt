@@ -16,10 +16,7 @@ returns-clause-known g c is = grind (arith, common_steps, primary_choices)
 
 pub returns-clause-part : goal.returns-clause-part
 returns-clause-part g c is =
-    let e = c.next_part-found.new.position in
     let found = c.next_part-found.ensures in
-    let at = c.self.inside in
-    let below =
-    part_below at.position e at.stack c.next_part-found.new.stack at.down at.path.items c.args.self.now
-    (found.part is) (found.path [] c.self.invariant.led) c.self.view_is in
+    let below = part_below c.self.inside.path.items c.args.self.now (found.part is) (found.path [] c.self.invariant.led)
+    c.self.view_is in
     grind (arith, common_steps, below, c.show.ensures.items)

@@ -10,8 +10,7 @@ pub from-requires-clause-standing : goal.from-requires-clause-standing
 from-requires-clause-standing g c =
     let e = c.go_down.new.position in
     let here : IsDown e.puzzle c.args.numbers.now c.go_down.new.path.items e.trail = grind (arith, common_steps) in
-    down_standing e.puzzle c.args.numbers.now c.go_down.new.path.items e.trail c.in-Ok-new.stack.levels here
-    (ap (λ (s : Levels). s.levels) c.in-Ok-new.ensures)
+    down_standing here c.in-Ok-new.stack.levels (ap (λ (s : Levels). s.levels) c.in-Ok-new.ensures)
 
 pub returns-clause-begun : goal.returns-clause-begun
 returns-clause-begun g c =
@@ -22,9 +21,7 @@ returns-clause-begun g c =
     let puzzle : e.puzzle ≡ p = grind (arith, common_steps) in
     let down : IsDown p c.args.numbers.now path e.trail =
     subst (λ p. IsDown p c.args.numbers.now path e.trail) puzzle here in
-    let come =
-    down_coming e.puzzle c.args.numbers.now path e.trail c.in-Ok-new.stack.levels here
-    (ap (λ (s : Levels). s.levels) c.in-Ok-new.ensures) in (
+    let come = down_coming here c.in-Ok-new.stack.levels (ap (λ (s : Levels). s.levels) c.in-Ok-new.ensures) in (
       path,
       ((residual_of p e.trail, down.left), down.told),
       grind (arith, common_steps, come),

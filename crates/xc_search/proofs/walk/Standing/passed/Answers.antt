@@ -10,26 +10,20 @@ has g c = grind (arith, common_steps)
 
 pub fewer-passed-requires : goal.fewer-passed-requires
 fewer-passed-requires g c =
-    let s = c.args.self in
-    let has = has g (goal.at.fewer-passed-requires g c).Joined-down in
-    (went_past s.position c.advance.new.position s.stack c.advance.new.stack s.down c.args.many c.if-down.more 0
-    c.in-Some.more has c.in-Some.ensures.ended).0
+    (went_past c.args.self.down 0 (has g (goal.at.fewer-passed-requires g c).Joined-down) c.in-Some.ensures.ended).0
 
 pub returns : goal.returns
 returns g c =
-    let s = c.args.self in
     let has = has g (goal.at.returns g c).Joined-down in
     elim c.match-advance.branch [
       | in-None w ↦ record {
         within = omega (arith, w.passed-is);
-        over = λ _. went_over s.position c.advance.new.position s.stack c.advance.new.stack s.down c.args.many
-            c.if-down.more c.requires.some has (w.in-None.ensures.stands refl);
+        over = λ _. went_over c.args.self.down c.requires.some has (w.in-None.ensures.stands refl);
         past = λ less. absurd (omega (arith, less, w.passed-is));
         searched = refl;
       }
       | in-Some w ↦
-          let past = went_past s.position c.advance.new.position s.stack c.advance.new.stack s.down c.args.many
-          c.if-down.more c.match-advance.passed w.in-Some.more has w.in-Some.ensures.ended in
+          let past = went_past c.args.self.down c.match-advance.passed has w.in-Some.ensures.ended in
           let count : c.match-advance.passed + 1 + w.in-Some.more ≡ c.args.many =
           omega (arith, w.passed-is, w.fewer-passed.ensures) in
           record {

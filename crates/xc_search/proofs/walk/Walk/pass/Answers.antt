@@ -5,11 +5,7 @@ use Rattle.xc_search.proofs.walk.Walk.pass.Goals as goal
 
 pub invariant_of-self-2 : goal.invariant_of-self-2
 invariant_of-self-2 g c =
-    let was = c.self.inside.standing in
-    let at = c.replace_with.new.dest in
-    let there =
-    stands_there was.position at.position was.stack at.stack was.down at.down c.args.many at.passed
-    c.replace_with.ensures in
+    let there = stands_there c.replace_with.ensures in
     record {
       standing = there.0;
       solved = λ _. there.1;
@@ -17,15 +13,7 @@ invariant_of-self-2 g c =
     }
 
 pub returns-clause-went : goal.returns-clause-went
-returns-clause-went g c =
-    let was = c.self.inside.standing in
-    let at = c.replace_with.new.dest in
-    (outlook_passed was.position at.position was.stack at.stack was.down at.down c.args.many at.passed
-    c.replace_with.ensures c.args.self.now c.self.view_is).0
+returns-clause-went g c = (outlook_passed c.replace_with.ensures c.args.self.now c.self.view_is).0
 
 pub returns-clause-count : goal.returns-clause-count
-returns-clause-count g c =
-    let was = c.self.inside.standing in
-    let at = c.replace_with.new.dest in
-    (outlook_passed was.position at.position was.stack at.stack was.down at.down c.args.many at.passed
-    c.replace_with.ensures c.args.self.now c.self.view_is).1
+returns-clause-count g c = (outlook_passed c.replace_with.ensures c.args.self.now c.self.view_is).1
