@@ -11,15 +11,16 @@ use Rattle.xc_search.specs.Listing.{Wanted, Residual, Branch, whole, pick, none,
 use Rattle.xc_search.specs.Listing.{none_branch, branches_of, listing_to, listing}
 use Rattle.xc_search.specs.Cover.{options_of, SameSet, members, NoSetTwice}
 use Rattle.xc_input.proofs.lists.Members.{IsIn, in-filter, in-map, in-take, in-enumerated, in-contains, contains-in}
-use Rattle.xc_input.proofs.lists.Members.{each_from}
-use Rattle.xc_search.proofs.residual.NumberedOnce.{same_number, above_in}
+use Rattle.xc_search.proofs.residual.NumberedOnce.{same_number}
 use Rattle.xc_dance.proofs.MoveLemmas.OptionsRise.{NumbersRise, NumbersRise-filter, options_rise}
-use Rattle.xc_search.proofs.listing.EachBranch.{IsTaken, IsNone, takes, nones, in-branches, in-nones, in-level, behind}
+use Rattle.xc_search.proofs.listing.EachBranch.{IsTaken, IsNone, nones, in-branches, in-nones, in-level, behind}
 use Rattle.xc_search.proofs.completeness.Proper.{goes_on}
 use Rattle.xc_input.proofs.lists.EachTwo.{EachTwo, EachTwo-append, EachTwo-map, EachTwo-flat_map, EachTwo-at}
 use Rattle.xc_input.proofs.lists.EachTwo.{EachTwo-weaker, EachTwo-take, EachTwo-enumerated}
 use Rattle.xc_input.proofs.FaultLemmas.BooleanTests.{and_left}
 use Rattle.xc_search.proofs.Cases.{by_option}
+use Rattle.xc_search.proofs.listing.BranchLists.{takes}
+use Rattle.xc_search.proofs.residual.NumberedOnce.{two_rise}
 
 -- an option of this number is left
 abbrev HasNumber : Residual → ℕ → Type 0
@@ -85,11 +86,6 @@ rise_behind r w b rise (inl t) =
 rise_behind r w b rise (inr t) =
     subst (λ (z : Residual). NumbersRise 0 z.options) (sym t.next)
     (NumbersRise-filter (λ o. not (holds o w.item)) 0 r.options rise)
-
--- numbers that rise, two by two
-pub two_rise : (n : ℕ) (os : List Numbered) → NumbersRise n os → EachTwo (λ x y. x.number < y.number) os
-two_rise n [] r = tt
-two_rise n (o ∷ os) r = grind (arith, common_steps, two_rise o.number os r.1, each_from, above_in)
 
 -- all members behind one branch differ from all behind another
 abbrev AreApart : ℕ → Branch → Branch → Type 0

@@ -11,20 +11,21 @@ use Rattle.std.proofs.lemmas.List.{length-map, length-take}
 use Rattle.std.proofs.lemmas.List.FromFn.{length-enumerate_from}
 use Rattle.xc_input.proofs.lists.Places.{get_left, get_seam, get_numbered, get_take, not_some}
 
-abbrev picks : Residual → Wanted → List Branch
-picks r w =
+-- the branches that take an option
+abbrev pub takes : Residual → Wanted → List Branch
+takes r w =
     map (take_branch r w.item (branch_count r w))
     (enumerate_from 1 (take (branch_count r w) (holding w.item r.options)))
 
-length-picks : (r : Residual) (w : Wanted)
-    → length (picks r w) ≡ length (take (branch_count r w) (holding w.item r.options))
-length-picks r w = length-map _ (take_branch r w.item (branch_count r w)) ∙ length-enumerate_from 1 _
+length-takes : (r : Residual) (w : Wanted)
+    → length (takes r w) ≡ length (take (branch_count r w) (holding w.item r.options))
+length-takes r w = length-map _ (take_branch r w.item (branch_count r w)) ∙ length-enumerate_from 1 _
 
 pub branch_takes : (r : Residual) (w : Wanted) (k : ℕ) (x : Numbered) → k < branch_count r w
     → slice_get (holding w.item r.options) k ≡ Some x →
     slice_get (branches_of r w) k ≡ Some (take_branch r w.item (branch_count r w) (1 + k, x))
 branch_takes r w k x h e =
-    get_left (picks r w) _ k _
+    get_left (takes r w) _ k _
     (slice_get-map (take_branch r w.item (branch_count r w))
     (enumerate_from 1 (take (branch_count r w) (holding w.item r.options))) k
     ∙ ap (option_map (take_branch r w.item (branch_count r w)))
@@ -40,13 +41,13 @@ branch_none r w k h e =
     let past = not_some (holding w.item r.options) k e in
     let not_wanted : w.low ≡ 0 = omega (arith, past, h) in
     let test : eqb w.low 0 ≡ true = eq-eqb w.low 0 not_wanted in
-    let last : k ≡ length (picks r w) =
-    omega (arith, length-picks r w, length-take (branch_count r w) (holding w.item r.options), past, h) in (
-      rw (test, last) (get_seam (picks r w) (none_branch r w.item (branch_count r w))),
+    let last : k ≡ length (takes r w) =
+    omega (arith, length-takes r w, length-take (branch_count r w) (holding w.item r.options), past, h) in (
+      rw (test, last) (get_seam (takes r w) (none_branch r w.item (branch_count r w))),
       omega (arith, past, h),
       omega
           (arith, past, h),
     )
 
 pub branches_end : (r : Residual) (w : Wanted) → drop (branch_count r w) (branches_of r w) ≡ []
-branches_end r w = grind (arith, common_steps, length-picks, eqb-true)
+branches_end r w = grind (arith, common_steps, length-takes, eqb-true)

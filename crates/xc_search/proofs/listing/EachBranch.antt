@@ -4,7 +4,6 @@ use Rattle.std.proofs.lemmas.Grind.{common_steps}
 use Rattle.std.proofs.Common.{ℕ, ◌≡◌, ◌<◌, true, cond, eqb, List, [], ◌∷◌, map, take, Some, None, refl}
 use Rattle.std.proofs.Common.{◌⊎◌, eqb-true, eq-eqb}
 use Rattle.xc_search.specs.inner.Sizes.{size_of}
-use Rattle.std.specs.List.{enumerate_from}
 use Rattle.xc_search.specs.declared.choice.Choice.{Choice}
 use Rattle.xc_input.specs.Problem.{Numbered, holds, holding}
 use Rattle.xc_search.specs.Listing.{Wanted, Residual, Branch, branch_count, branch_item, first_least, pick, none}
@@ -12,6 +11,7 @@ use Rattle.xc_search.specs.Listing.{take_branch, none_branch, branches_of, level
 use Rattle.xc_input.proofs.lists.Members.{IsIn, in-filter, in-append, append-in_left, append-in_right, in-map, map-in}
 use Rattle.xc_input.proofs.lists.Members.{in-flat_map, flat_map-in, in-take, in-enumerated, enumerated-in, each_in}
 use Rattle.xc_search.proofs.listing.BranchesLess.{least_is_one, branches_less}
+use Rattle.xc_search.proofs.listing.BranchLists.{takes}
 
 -- a branch takes an option of the item
 pub record IsTaken (r : Residual) (w : Wanted) (b : Branch) : Type 0 where
@@ -26,11 +26,6 @@ pub record IsNone (r : Residual) (w : Wanted) (b : Branch) : Type 0 where
   pub free : w.low ≡ 0
   pub next : b.next ≡ none r w.item
   pub option : b.choice.option ≡ None
-
-abbrev pub takes : Residual → Wanted → List Branch
-takes r w =
-    map (take_branch r w.item (branch_count r w))
-    (enumerate_from 1 (take (branch_count r w) (holding w.item r.options)))
 
 abbrev pub nones : Residual → Wanted → List Branch
 nones r w = cond (eqb w.low 0) (none_branch r w.item (branch_count r w) ∷ []) []

@@ -29,6 +29,9 @@ use Rattle.xc_input.proofs.lists.Filters.{filter_both, keep_all}
 use Rattle.xc_input.proofs.FaultLemmas.BooleanTests.{only_rest}
 use Rattle.xc_input.proofs.lists.Places.{slice_get-drop, before_some, drop_one}
 use Rattle.xc_search.proofs.Cases.{by_bool}
+use Rattle.xc_search.proofs.residual.NumberedOnce.{above_in, two_rise}
+use Rattle.xc_input.proofs.lists.Members.{in-slice_get}
+use Rattle.xc_input.proofs.lists.EachTwo.{EachTwo-at}
 
 -- ---- what tweaks leave as it was
 
@@ -87,15 +90,12 @@ without_head i n os x r e = ap (λ g. without g os) (sym (first_below i n os x r
 
 pub rise_above : (n : ℕ) (os : List Numbered) (m : ℕ) (x : Numbered) → NumbersRise n os → slice_get os m ≡ Some x
     → n < x.number
-rise_above n [] m x r e = cc
-rise_above n (o ∷ os) zero x r e = let same : o ≡ x = cc in omega (arith, r.0, ap (λ (y : Numbered). y.number) same)
-rise_above n (o ∷ os) (suc m) x r e = let later = rise_above o.number os m x r.1 e in omega (arith, r.0, later)
+rise_above n os m x r e = above_in n os x r (in-slice_get os m x e)
 
-pub rise_step : (n : ℕ) (os : List Numbered) (m : ℕ) (y x : Numbered) → NumbersRise n os → slice_get os m ≡ Some y
+rise_step : (n : ℕ) (os : List Numbered) (m : ℕ) (y x : Numbered) → NumbersRise n os → slice_get os m ≡ Some y
     → slice_get os (suc m) ≡ Some x → y.number < x.number
-rise_step n [] m y x r d e = cc
-rise_step n (o ∷ os) zero y x r d e = grind (arith, common_steps, rise_above)
-rise_step n (o ∷ os) (suc m) y x r d e = rise_step o.number os m y x r.1 d e
+rise_step n os m y x r d e =
+    EachTwo-at (λ (x y : Numbered). x.number < y.number) os m (suc m) y x (two_rise n os r) (omega arith) d e
 
 cut_more : (a b c : Bool) → (b ≡ true → c ≡ true) → (not (a && b) && not (a && c)) ≡ not (a && c)
 cut_more false b c h = refl

@@ -19,9 +19,9 @@ use Rattle.xc_input.proofs.lists.EachTwo.{each_two_from_AllPairs}
 use Rattle.xc_input.proofs.lists.Members.{IsIn, in-filter, in-map, map-in, in-slice_get, slice_get-in, each_in}
 use Rattle.xc_input.proofs.lists.Members.{each_from, in-contains, contains-in}
 use Rattle.xc_input.proofs.lists.Places.{not_some}
-use Rattle.xc_search.proofs.completeness.Once.{two_rise}
 use Rattle.xc_search.proofs.listing.Numbering.{numbered_at, uses_known, all_options}
 use Rattle.xc_search.proofs.Cases.{by_option}
+use Rattle.xc_search.proofs.residual.NumberedOnce.{two_rise}
 
 abbrev pub IsNumber : Puzzle → ℕ → Type 0
 IsNumber p k = (1 ≤ k) × (k ≤ option_count p)

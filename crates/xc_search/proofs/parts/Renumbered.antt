@@ -21,9 +21,10 @@ use Rattle.xc_search.specs.Parts.{AreKeptInOrder, ListsAlike}
 use Rattle.xc_input.proofs.lists.Filters.{filter-map, filter_same, map-same, map-map}
 use Rattle.xc_input.proofs.lists.Members.{IsIn, in-filter, in-take, each_from, contains-in}
 use Rattle.xc_search.proofs.completeness.Proper.{goes_on}
-use Rattle.xc_search.proofs.listing.EachBranch.{IsTaken, IsNone, takes, nones, behind, in-branches}
+use Rattle.xc_search.proofs.listing.EachBranch.{IsTaken, IsNone, nones, behind, in-branches}
 use Rattle.xc_search.proofs.residual.PickedByUses.{as_residual, is_wanted}
 use Rattle.xc_search.proofs.Cases.{by_bool, by_option}
+use Rattle.xc_search.proofs.listing.BranchLists.{takes}
 
 module _ (f g : ℕ → ℕ) (apart : AreKeptApart f) where
   same_item : (i j : ℕ) → eqb (f i) (f j) ≡ eqb i j
