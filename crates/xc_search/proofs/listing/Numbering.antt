@@ -55,10 +55,9 @@ pub with_bounds : (k : ℕ) (bs : List Bounds) (w : Wanted) → IsIn (wanted_fro
     × (w.item ≡ k + suc j) × (j < length bs) × (slice_get bs j ≡ Some b) × (w.low ≡ b.low) × (w.high ≡ b.high)
 with_bounds k [] w h = absurd h
 with_bounds k (b ∷ bs) w (inl q) =
-    let item = ap (λ (z : Wanted). z.item) q in
     let low = ap (λ (z : Wanted). z.low) q in
     let high = ap (λ (z : Wanted). z.high) q in
-    (zero, b, omega (arith, item), omega arith, refl, sym low, sym high)
+    (zero, b, omega (arith, ap (λ (z : Wanted). z.item) q), omega arith, refl, sym low, sym high)
 with_bounds k (b ∷ bs) w (inr q) =
     let later = with_bounds (k + 1) bs w q in
     (suc later.0, later.1, omega (arith, later.2), omega (arith, later.3), later.4, later.5, later.6)
@@ -68,7 +67,5 @@ pub at_item : (k : ℕ) (bs : List Bounds) (j : ℕ) (b : Bounds) → slice_get 
 at_item k [] j b e = cc
 at_item k (c ∷ bs) zero b e =
     let same : c ≡ b = cc in
-    let low = ap (λ (z : Bounds). z.low) same in
-    let high = ap (λ (z : Bounds). z.high) same in
-    (record { item = k + 1; low = c.low; high = c.high }, inl refl, omega arith, low, high)
+    let w : Wanted = record { item = k + 1; low = c.low; high = c.high } in (w, inl refl, omega arith, cc, cc)
 at_item k (c ∷ bs) (suc j) b e = grind (arith, common_steps, at_item (k + 1) bs j b e)
