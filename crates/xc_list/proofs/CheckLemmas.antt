@@ -1,5 +1,6 @@
 -- What helps to prove the checker of listings.
 pub mod AskedClasses
+pub mod BesideLists
 pub mod BodiesOfClasses
 pub mod CheckedLines
 pub mod ClassUses
@@ -11,6 +12,7 @@ pub mod CutLines
 pub mod DecidedByClasses
 pub mod DifferentOptions
 pub mod FoundClasses
+pub mod GatheredColours
 pub mod HeldItems
 pub mod LastColours
 pub mod ListedNumbers

@@ -6,7 +6,7 @@ use Rattle.std.proofs.Common.{cond, ◌==◌, List, [], ◌∷◌, ◌++◌, len
 use Rattle.std.proofs.Common.{Some, sym, ap, ◌∙◌, arith, subst}
 use Rattle.std.specs.Prelude.{slice_get, All}
 use Rattle.std.specs.List.{AllByRecursion}
-use Rattle.std.proofs.lemmas.List.{append-nil, append_assoc, get_or-set_same, get_or-set_other, length-set}
+use Rattle.std.proofs.lemmas.List.{append-nil, get_or-set_same, get_or-set_other, length-set}
 use Rattle.std.proofs.lemmas.List.{length-take-le, length-replicate, get_or-replicate, get_or_past, ext_get_or}
 use Rattle.std.proofs.lemmas.List.{take_more}
 use Rattle.std.proofs.lemmas.List.Elements.{All-weaker, recursion_from_All}
@@ -16,15 +16,16 @@ use Rattle.xc_input.specs.Problem.{item_count, uses_of, IsSoundUse}
 use Rattle.xc_input.specs.Named.{Named, IsKnownUse, IsSound}
 use Rattle.xc_input.proofs.lists.EachElement.{each_weaker, each-append}
 use Rattle.xc_list.specs.inner.Classes.{Classes, AreClasses, class_of}
-use Rattle.xc_list.specs.inner.CoverCounts.{added, coloured, cleared, raised, lowered, uses_at, uses_in}
+use Rattle.xc_list.specs.inner.CoverCounts.{added, raised, lowered, uses_at, uses_in}
 use Rattle.xc_list.proofs.CheckLemmas.DifferentOptions.{counted, is_counted}
 use Rattle.std.proofs.lemmas.List.Sums.{count_by-le-length}
 use Rattle.xc_list.proofs.CheckLemmas.Rotations.{DifferInItems, differ-turned, class_start}
 use Rattle.xc_list.proofs.CheckLemmas.BodiesOfClasses.{All-turned}
 use Rattle.xc_list.proofs.CheckLemmas.DecidedByClasses.{option-sound, option-differs}
-use Rattle.xc_list.proofs.CheckLemmas.HeldItems.{AreItems, held, added-at, added-append, coloured-append}
-use Rattle.xc_list.proofs.CheckLemmas.HeldItems.{cleared-append, raised-append, lowered-append, raised-at}
-use Rattle.xc_list.proofs.CheckLemmas.HeldItems.{length-raised, length-lowered, length-added, held_once, each_take}
+use Rattle.xc_list.proofs.CheckLemmas.HeldItems.{AreItems, held, held-places, held_once, raised-at, raised-most}
+use Rattle.xc_list.proofs.CheckLemmas.HeldItems.{length-raised, length-lowered, each_take}
+use Rattle.std.proofs.lemmas.Grind.{flat_map-append}
+use Rattle.xc_list.specs.inner.CoverCounts.{item_places}
 
 -- ---- the uses of a class
 
@@ -53,37 +54,14 @@ classes_usable b s are k l =
 
 -- ---- the uses of classes
 
-pub uses_in-more : (classes : List (List Use)) (ks : List ℕ) (k : ℕ)
-    → uses_in classes (ks ++ k ∷ []) ≡ uses_in classes ks ++ uses_at classes k
-uses_in-more classes [] k = append-nil (uses_at classes k)
-uses_in-more classes (j ∷ ks) k = ap (λ us. uses_at classes j ++ us) (uses_in-more classes ks k)
-    ∙ sym (append_assoc (uses_at classes j) (uses_in classes ks) (uses_at classes k))
-
 -- where the class at place i has the uses us
-uses_in-take : (classes : List (List Use)) (ks : List ℕ) (i : ℕ) (us : List Use) → i < length ks
+pub uses_in-take : (classes : List (List Use)) (ks : List ℕ) (i : ℕ) (us : List Use) → i < length ks
     → slice_get classes (get_or ks i 0) ≡ Some us
     → uses_in classes (take (i + 1) ks) ≡ uses_in classes (take i ks) ++ us
 uses_in-take classes ks i us l e =
-    ap (uses_in classes) (take_more ks i 0 l) ∙ uses_in-more classes (take i ks) (get_or ks i 0)
-    ∙ ap (λ vs. uses_in classes (take i ks) ++ vs) (get_or_from_slice_get classes (get_or ks i 0) us [] e)
-
-pub added_class_more : (classes : List (List Use)) (ks : List ℕ) (i : ℕ) (us : List Use) (ts : List ℕ) → i < length ks
-    → slice_get classes (get_or ks i 0) ≡ Some us →
-    added (uses_in classes (take (i + 1) ks)) ts ≡ added us (added (uses_in classes (take i ks)) ts)
-added_class_more classes ks i us ts l e =
-    ap (λ vs. added vs ts) (uses_in-take classes ks i us l e) ∙ added-append (uses_in classes (take i ks)) us ts
-
-pub coloured_class_more : (classes : List (List Use)) (ks : List ℕ) (i : ℕ) (us : List Use) (cs : List ℕ)
-    → i < length ks → slice_get classes (get_or ks i 0) ≡ Some us →
-    coloured (uses_in classes (take (i + 1) ks)) cs ≡ coloured us (coloured (uses_in classes (take i ks)) cs)
-coloured_class_more classes ks i us cs l e =
-    ap (λ vs. coloured vs cs) (uses_in-take classes ks i us l e) ∙ coloured-append (uses_in classes (take i ks)) us cs
-
-pub cleared_class_more : (classes : List (List Use)) (ks : List ℕ) (i : ℕ) (us : List Use) (ts : List ℕ) → i < length ks
-    → slice_get classes (get_or ks i 0) ≡ Some us →
-    cleared (uses_in classes (take (i + 1) ks)) ts ≡ cleared us (cleared (uses_in classes (take i ks)) ts)
-cleared_class_more classes ks i us ts l e =
-    ap (λ vs. cleared vs ts) (uses_in-take classes ks i us l e) ∙ cleared-append (uses_in classes (take i ks)) us ts
+    let class : uses_at classes (get_or ks i 0) ≡ us = get_or_from_slice_get classes (get_or ks i 0) us [] e in
+    ap (uses_in classes) (take_more ks i 0 l) ∙ flat_map-append (uses_at classes) (take i ks) (get_or ks i 0 ∷ [])
+    ∙ ap (λ vs. uses_in classes (take i ks) ++ vs) (append-nil (uses_at classes (get_or ks i 0)) ∙ class)
 
 abbrev pub AreBelow : ℕ → List ℕ → Type 0
 AreBelow n ks = AllByRecursion (λ k. k < n) ks
@@ -103,42 +81,41 @@ held_few : (n i : ℕ) (classes : List (List Use)) (ks : List ℕ) → AreUsable
 held_few n i classes [] h a = omega arith
 held_few n i classes (k ∷ ks) h a = grind (arith, nat_tests, held_few n i classes ks h a.1, held-append, held_once)
 
+zeros-at : (n k : ℕ) → get_or {A = ℕ} (replicate n 0) k 0 ≡ 0
+zeros-at n k =
+    let zeros : List ℕ = replicate n 0 in
+    elim (cases_lt k n) [
+      | inl l ↦ get_or-replicate {A = ℕ} n k 0 0 l
+      | inr l ↦ get_or_past zeros k 0 (omega (arith, l, length-replicate {A = ℕ} n 0))
+    ]
+
 pub added_few : (n : ℕ) (classes : List (List Use)) (ks : List ℕ) (i k : ℕ) → AreUsable n classes
     → AreBelow (length classes) ks → i ≤ length ks
     → get_or (added (uses_in classes (take i ks)) (replicate n 0)) k 0 ≤ i
 added_few n classes ks i k h a l =
     let before = each_take (λ j. j < length classes) i ks a in
-    let few = held_few n (suc k) classes (take i ks) h before in
     let us = uses_in classes (take i ks) in
-    elim (cases_lt k n) [
-      | inl m ↦
-          let fact = added-at n us (replicate n 0) k (items_in n classes (take i ks) h before)
-          (sym (length-replicate n 0)) m in
-          omega (arith, get_or-replicate {A = ℕ} n k 0 0 m, few, length-take-le i ks l)
-      | inr m ↦
-          let sizes : n ≡ length (added us (replicate n 0)) =
-          omega (arith, length-added us (replicate n 0), length-replicate {A = ℕ} n 0) in
-          omega (arith, get_or_past (added us (replicate n 0)) k 0 (omega (arith, m, sizes)))
-    ]
+    omega (
+      arith,
+      raised-most (item_places us) (replicate n 0) k,
+      zeros-at n k,
+      length-take-le i ks l,
+      held-places n us k (items_in n classes (take i ks) h before),
+      held_few n (suc k) classes (take i ks) h before,
+    )
 
 -- ---- how often classes are asked
 
-pub raised_more : (ks : List ℕ) (i : ℕ) (ns : List ℕ) → i < length ks
-    → raised (take (i + 1) ks) ns ≡ raised (get_or ks i 0 ∷ []) (raised (take i ks) ns)
-raised_more ks i ns l = ap (λ js. raised js ns) (take_more ks i 0 l) ∙ raised-append (take i ks) (get_or ks i 0 ∷ []) ns
-
-pub lowered_more : (ks : List ℕ) (i : ℕ) (ns : List ℕ) → i < length ks
-    → lowered (take (i + 1) ks) ns ≡ lowered (get_or ks i 0 ∷ []) (lowered (take i ks) ns)
-lowered_more ks i ns l =
-    ap (λ js. lowered js ns) (take_more ks i 0 l) ∙ lowered-append (take i ks) (get_or ks i 0 ∷ []) ns
-
-pub raised_few : (n : ℕ) (ks : List ℕ) (i k : ℕ) → k < n → i ≤ length ks
-    → get_or (raised (take i ks) (replicate n 0)) k 0 ≤ i
-raised_few n ks i k l m =
-    let fact = raised-at (take i ks) (replicate n 0) k (omega (arith, l, length-replicate {A = ℕ} n 0)) in
-    let fact2 = count_by-le-length (λ j. j == k) (take i ks) in
-    let fact3 = is_counted (λ j. j == k) (take i ks) in
-    grind (arith, nat_tests, get_or-replicate {A = ℕ} n k 0 0 l, length-take-le i ks m)
+pub raised_few : (n : ℕ) (ks : List ℕ) (i k : ℕ) → i ≤ length ks → get_or (raised (take i ks) (replicate n 0)) k 0 ≤ i
+raised_few n ks i k l =
+    omega (
+      arith,
+      raised-most (take i ks) (replicate n 0) k,
+      zeros-at n k,
+      length-take-le i ks l,
+      is_counted (λ j. j == k) (take i ks),
+      count_by-le-length (λ j. j == k) (take i ks),
+    )
 
 -- ---- all 0 again
 
@@ -156,23 +133,12 @@ lowered-at (j ∷ ks) ns k l h =
 zero_or : (m n : ℕ) → m ≡ 0 + n → (m ≡ 0) ⊎ (0 < n)
 zero_or m n e = grind arith
 
-lowered_zero : (n : ℕ) (ks : List ℕ) (k : ℕ) → k < n → get_or (lowered ks (raised ks (replicate n 0))) k 0 ≡ 0
-lowered_zero n ks k l =
-    let ns : List ℕ = replicate n 0 in
-    let size : length ns ≡ n = length-replicate {A = ℕ} n 0 in
-    let begun : get_or ns k 0 ≡ 0 = get_or-replicate {A = ℕ} n k 0 0 l in
-    lowered-at ks (raised ks ns) k (omega (arith, l, length-raised ks ns, size))
-    (zero_or (get_or (raised ks ns) k 0) (counted (λ j. j == k) ks)
-    (omega (arith, raised-at ks ns k (omega (arith, l, size)), begun)))
-
-lowered_again : (n : ℕ) (ks : List ℕ) → lowered ks (raised ks (replicate n 0)) ≡ replicate n 0
-lowered_again n ks =
-    let same = length-lowered ks (raised ks (replicate n 0)) ∙ length-raised ks (replicate n 0) in
-    ext_get_or 0 (lowered ks (raised ks (replicate n 0))) (replicate n 0) same
-    (λ k l. let m : k < n = omega (arith, l, same, length-replicate {A = ℕ} n 0) in
-    lowered_zero n ks k m ∙ sym (get_or-replicate {A = ℕ} n k 0 0 m))
-
--- ---- between solutions
-
-pub lowered_back : (n : ℕ) (ks ns : List ℕ) → ns ≡ replicate n 0 → lowered ks (raised ks ns) ≡ ns
-lowered_back n ks ns e = subst (λ l. lowered ks (raised ks l) ≡ l) (sym e) (lowered_again n ks)
+pub lowered_back : (ks ns : List ℕ) → ns ≡ replicate (length ns) 0 → lowered ks (raised ks ns) ≡ ns
+lowered_back ks ns zeros =
+    let size = length-lowered ks (raised ks ns) ∙ length-raised ks ns in
+    ext_get_or 0 (lowered ks (raised ks ns)) ns size (λ k l.
+    let m : k < length ns = omega (arith, l, size) in
+    let zero : get_or ns k 0 ≡ 0 = ap (λ ms. get_or ms k 0) zeros ∙ zeros-at (length ns) k in
+    let either = zero_or (get_or (raised ks ns) k 0) (counted (λ j. j == k) ks)
+    (omega (arith, raised-at ks ns k m, zero)) in
+    lowered-at ks (raised ks ns) k (omega (arith, m, length-raised ks ns)) either ∙ sym zero)

@@ -2,30 +2,32 @@
 use Rattle.std.specs.List.{AllByRecursion}
 use Rattle.std.proofs.lemmas.Bool.Decides.{nat_tests}
 use Rattle.std.specs.List.{AllZip}
-use Rattle.std.proofs.Common.{ℕ, zero, suc, ◌≡◌, ◌≢◌, ◌+◌, ◌<◌, Bool, true, cond, List, [], ◌∷◌, filter}
-use Rattle.std.proofs.Common.{Option, Some, None, refl, sym, ap₂, ◌∙◌, arith, subst, inl, inr}
-use Rattle.std.specs.Prelude.{slice_get, is_some, All, IsTrue, ◌↔◌}
+use Rattle.std.proofs.Common.{ℕ, zero, suc, ◌≡◌, ◌≢◌, true, List, [], ◌∷◌, filter}
+use Rattle.std.proofs.Common.{refl, sym, ap₂, ◌∙◌, arith, subst, inl, inr}
+use Rattle.std.specs.Prelude.{All, IsTrue, ◌↔◌}
 use Rattle.std.proofs.lemmas.List.Elements.{recursion_from_All, All-from_recursion}
-use Rattle.std.proofs.lemmas.Slice.Zip.{AllZip-left, AllZip-right}
-use Rattle.std.specs.Option.{IsSomeAnd}
-use Rattle.std.proofs.lemmas.Bool.{cases_order}
-use Rattle.std.proofs.lemmas.Option.{same_Some}
 use Rattle.xc_input.specs.declared.problem.Use.{Use}
 use Rattle.xc_input.specs.Problem.{Puzzle, IsSoundOption, IsValid, IsSecondary, option_count, uses_of, colour_in}
 use Rattle.xc_input.specs.Problem.{IsOption}
 use Rattle.xc_search.specs.Cover.{IsCover, times_held}
 use Rattle.xc_input.specs.Named.{Named, IsKnownUse, IsSound}
 use Rattle.xc_input.proofs.ValidLemmas.Known.{known_option}
-use Rattle.xc_input.proofs.lists.Members.{IsIn, each_in, each_from, in-slice_get, slice_get-in, in-contains}
+use Rattle.xc_input.proofs.lists.Members.{IsIn, each_in, each_from, in-slice_get, in-contains}
 use Rattle.xc_input.proofs.lists.Members.{contains-in}
-use Rattle.xc_input.proofs.lists.EachTwo.{EachTwo-at, each_two_from_AllPairs, AllPairs-from_each_two}
-use Rattle.xc_list.specs.Listed.{is_body, is_known, IsListedCover, stands_for}
+use Rattle.xc_input.proofs.lists.EachTwo.{each_two_from_AllPairs, AllPairs-from_each_two}
+use Rattle.xc_list.specs.Listed.{is_known, IsListedCover, stands_for}
 use Rattle.xc_list.specs.inner.Classes.{alike, numbers, class_of, same_uses, IsCoverOfClasses}
-use Rattle.xc_list.proofs.CheckLemmas.DifferentOptions.{counted, is_counted, IsLikeness, AreAlike, AreApart}
-use Rattle.xc_list.proofs.CheckLemmas.DifferentOptions.{asked_within, give, IsGiving}
+use Rattle.xc_list.proofs.CheckLemmas.DifferentOptions.{is_counted, IsLikeness, AreAlike, AreApart}
+use Rattle.xc_list.proofs.CheckLemmas.DifferentOptions.{asked_within, give}
 use Rattle.xc_list.proofs.CheckLemmas.Rotations.{DifferInItems, colour-alike}
 use Rattle.xc_list.proofs.CheckLemmas.ListedNumbers.{in-range, range-in, range-apart, numbered_some}
 use Rattle.xc_list.proofs.CheckLemmas.BodiesOfClasses.{body-alike, body-class, same_uses-are, same_uses-itself}
+use Rattle.xc_list.proofs.CheckLemmas.GatheredColours.{gathered, length-gathered, Agree, EachTwo-kept}
+use Rattle.xc_list.proofs.CheckLemmas.GatheredColours.{gathered-agree, agree-gathered}
+use Rattle.xc_list.proofs.CheckLemmas.BesideLists.{by_pairs}
+use Rattle.xc_input.proofs.lists.EachTwo.{EachTwo, EachTwo-of, EachTwo-weaker}
+use Rattle.std.specs.List.{cons_option}
+use Rattle.std.proofs.Common.{length, ap}
 
 pub numbers-apart : (p : Puzzle) → AreApart (numbers p)
 numbers-apart p = range-apart 1 (option_count p)
@@ -82,131 +84,77 @@ zipped_alike P Q R (x ∷ xs) [] zs f h = absurd h
 zipped_alike P Q R (x ∷ xs) (y ∷ ys) [] f h = (λ k. k, λ k. k)
 zipped_alike P Q R (x ∷ xs) (y ∷ ys) (z ∷ zs) f h = grind (arith, nat_tests, zipped_alike P Q R xs ys zs)
 
--- what stands for the same bodies is alike, and what is alike stands for the same bodies
-pub stand-alike : (p : Named) → IsSound p → (bodies : List (List (List ℕ))) (reps s : List ℕ) → AreKnown p.puzzle reps
-    → AreKnown p.puzzle s → StandFor p bodies reps → StandFor p bodies s ↔ AreAlike (alike p.puzzle) reps s
-stand-alike p r bodies reps s a b =
-    zipped_alike (λ words o. IsTrue (stands_for p words o)) (λ words o. IsTrue (stands_for p words o))
-    (λ q o. alike p.puzzle q o ≡ true) bodies reps s (λ words q o in_q in_o h.
-    let x = a q in_q in
-    let y = b o in_o in
+-- a body that stands for an option stands for those that are alike, and for no others
+stands-alike : (p : Named) → IsSound p → (words : List (List ℕ)) (q o : ℕ) → IsOption p.puzzle q → IsOption p.puzzle o
+    → IsTrue (stands_for p words q) → IsTrue (stands_for p words o) ↔ alike p.puzzle q o ≡ true
+stands-alike p r words q o x y h =
     let us = uses_of p.puzzle q in
     let vs = uses_of p.puzzle o in
     let d = option-differs p.puzzle r.valid q x in
-    let e = option-differs p.puzzle r.valid o y in
-    let class =
-    λ (k : is_body p words vs ≡ true). body-class p words r us vs (option-known p r q x) (option-known p r o y) d
-    e h k in (
-      λ k. subst (λ v. same_uses (class_of us) v ≡ true) (class k) (same_uses-itself (class_of us)),
-      λ z. body-alike p
-          words us vs d e (same_uses-are (class_of us) (class_of vs) z) h,
-    ))
+    let e = option-differs p.puzzle r.valid o y in (
+      λ k. subst (λ v. same_uses (class_of us) v ≡ true)
+          (body-class p words r us vs (option-known p r q x) (option-known p r o y) d e h k)
+          (same_uses-itself (class_of us)),
+      λ z. body-alike p words us vs d e (same_uses-are (class_of us) (class_of vs) z) h,
+    )
 
--- alike options give each item the same colour
-pub colours-alike : (p : Puzzle) → IsValid p → (q o i : ℕ) → IsOption p q → IsOption p o → alike p q o ≡ true
-    → colour_in (uses_of p q) i ≡ colour_in (uses_of p o) i
-colours-alike p v q o i x y e =
-    colour-alike _ _ _ (option-differs p v q x) (option-differs p v o y) (same_uses-are _ _ e)
+-- options that are alike, each beside the other
+module _ (p : Puzzle) (v : IsValid p) (reps s : List ℕ) (known_reps : AreKnown p reps) (known : AreKnown p s)
+    (z : AreAlike (alike p) reps s) where
+  -- they give each item the same colours
+  gathered-alike : (i : ℕ) → gathered p i reps ≡ gathered p i s
+  gathered-alike i =
+      by_pairs (λ q o. alike p q o ≡ true)
+      (λ qs os. AreKnown p qs → AreKnown p os → gathered p i qs ≡ gathered p i os) (λ a b. refl)
+      (λ q o qs os h later a b.
+      let differ = option-differs p v in
+      let same = colour-alike (uses_of p q) (uses_of p o) i (differ q (a q (inl refl))) (differ o (b o (inl refl)))
+      (same_uses-are _ _ h) in
+      ap₂ cons_option same (later (λ x k. a x (inr k)) (λ x k. b x (inr k)))) reps s z known_reps known
 
-counted-alike : (p : Puzzle) → IsValid p → (i : ℕ) (reps s : List ℕ) → AreKnown p reps → AreKnown p s
-    → AreAlike (alike p) reps s →
-    counted (λ o. is_some (colour_in (uses_of p o) i)) reps ≡ counted (λ o. is_some (colour_in (uses_of p o) i)) s
-counted-alike p v i [] [] a b z = refl
-counted-alike p v i [] (o ∷ s) a b z = absurd z
-counted-alike p v i (q ∷ reps) [] a b z = absurd z
-counted-alike p v i (q ∷ reps) (o ∷ s) a b z =
-    ap₂ (λ c n. cond (is_some c) 1 0 + n) (colours-alike p v q o i (a q (inl refl)) (b o (inl refl)) z.0)
-    (counted-alike p v i reps s (λ x j. a x (inr j)) (λ x j. b x (inr j)) z.1)
+  held-alike : (i : ℕ) → times_held p i reps ≡ times_held p i s
+  held-alike i = sym (length-gathered p i reps) ∙ ap length (gathered-alike i) ∙ length-gathered p i s
 
--- Alike options hold each item equally often.
-pub held-alike : (p : Puzzle) → IsValid p → (i : ℕ) (reps s : List ℕ) → AreKnown p reps → AreKnown p s
-    → AreAlike (alike p) reps s → times_held p i reps ≡ times_held p i s
-held-alike p v i reps s a b z = is_counted _ _ ∙ counted-alike p v i reps s a b z ∙ sym (is_counted _ _)
+  pub classes_of_cover : IsCover p s → IsCoverOfClasses p reps
+  classes_of_cover c = record {
+    asked =
+        λ r.
+        let within = asked_within (alike p) (alike-classes p) (numbers p) reps s z apart (λ o k. numbers-in p o
+        (known o k)) r in
+        omega (arith, within, is_counted (alike p r) reps, is_counted (alike p r) (numbers p));
+    within = λ i b e.
+        let w = c.within i b e in
+        let h = held-alike i in
+        (omega (arith, w.0, h), omega (arith, w.1, h));
+    agree = λ j k q r i x y l e f second.
+        agree-gathered p i reps (rw (gathered-alike i) (agree i second)) j k q r x y l e f;
+  }
+    where
+      apart : AreApart s
+      apart = each_two_from_AllPairs (λ (a b : ℕ). a ≢ b) s c.distinct
 
-some_and : {X : Type 0} (o : Option X) (P : X → Type 0) → IsSomeAnd o P → (x : X) × (o ≡ Some x) × P x
-some_and (Some x) P h = (x, refl, h)
-some_and None P h = absurd h
+      agree : (i : ℕ) → IsSecondary p i → EachTwo Agree (gathered p i s)
+      agree i second = (EachTwo-kept Agree (λ o. colour_in (uses_of p o) i) s).0 (EachTwo-weaker _ _ s
+          (λ a b in_a in_b ne x y e f.
+          c.agree a b i x y (contains-in s a in_a) (contains-in s b in_b) ne second e f) apart)
 
--- the one at the same place
-alike-right : (same : ℕ → ℕ → Bool) (reps s : List ℕ) (k q : ℕ) → AreAlike same reps s → slice_get reps k ≡ Some q
-    → (o : ℕ) × (slice_get s k ≡ Some o) × (same q o ≡ true)
-alike-right same reps s k q z e = some_and (slice_get s k) _ (rw e at (AllZip-left (λ q o. same q o ≡ true) reps s z k))
-
-alike-left : (same : ℕ → ℕ → Bool) (reps s : List ℕ) (k o : ℕ) → AreAlike same reps s → slice_get s k ≡ Some o → (q : ℕ)
-    × (slice_get reps k ≡ Some q) × (same q o ≡ true)
-alike-left same reps s k o z e =
-    some_and (slice_get reps k) _ (rw e at (AllZip-right (λ q o. same q o ≡ true) reps s z k))
-
-pub classes_of_cover : (p : Puzzle) → IsValid p → (reps s : List ℕ) → AreKnown p reps → AreAlike (alike p) reps s
-    → IsCover p s → IsCoverOfClasses p reps
-classes_of_cover p v reps s a z c = record {
-  asked =
-      λ r.
-      let fact = asked_within (alike p) (alike-classes p) (numbers p) reps s z apart (λ o k. numbers-in p o (known o k))
-      r in
-      grind (arith, nat_tests, is_counted (alike p r) reps, is_counted (alike p r) (numbers p));
-  within = λ i b e. grind (arith, nat_tests, (c.within i b e).0, held-alike p v i reps s a known z, (c.within i b e).1);
-  agree = λ j k q r i x y l e f second g h. (
-      let o = alike-right (alike p) reps s j q z e in
-      let u = alike-right (alike p) reps s k r z f in
-      let in_o = in-slice_get s j o.0 o.1 in
-      let in_u = in-slice_get s k u.0 u.1 in
-      c.agree o.0 u.0 i x y (contains-in s o.0 in_o) (contains-in s u.0 in_u)
-      (EachTwo-at (λ a b. a ≢ b) s j k o.0 u.0 apart l o.1 u.1) second
-      (sym (colours-alike p v q o.0 i (a q (in-slice_get reps j q e)) (known o.0 in_o) o.2) ∙ g)
-      (sym (colours-alike p v r u.0 i (a r (in-slice_get reps k r f)) (known u.0 in_u) u.2) ∙ h)
-      );
-}
-  where
-    apart : AreApart s
-    apart = each_two_from_AllPairs (λ (a b : ℕ). a ≢ b) s c.distinct
-
-    known : AreKnown p s
-    known o k = each_in (IsOption p) s o (recursion_from_All (IsOption p) s c.known) k
-
-pub cover_of_classes : (p : Puzzle) → IsValid p → (reps s : List ℕ) → AreKnown p reps
-    → IsGiving (alike p) (numbers p) reps s → IsCoverOfClasses p reps → IsCover p s
-cover_of_classes p v reps s a g c = record {
-  known = All-from_recursion (IsOption p) s (each_from (IsOption p) s known);
-  distinct = AllPairs-from_each_two (λ (a b : ℕ). a ≢ b) s g.apart;
-  within =
-      λ i b e. (let w = c.within i b e in let h = held-alike p v i reps s a known g.alike in
-      (omega (arith, w.0, h), omega (arith, w.1, h)));
-  agree = λ o u i x y in_o in_u ne second e f. (
-      let j = slice_get-in s o (in-contains s o in_o) in
-      let k = slice_get-in s u (in-contains s u in_u) in
-      at o u i x y ne second e f j.0 k.0 j.1 k.1
-      );
-}
-  where
-    known : AreKnown p s
-    known o k = in-numbers p o (g.known o k)
-
-    colour : (q o i x : ℕ) (k : ℕ) → slice_get reps k ≡ Some q → slice_get s k ≡ Some o → alike p q o ≡ true
-        → colour_in (uses_of p o) i ≡ Some x → colour_in (uses_of p q) i ≡ Some x
-    colour q o i x k e f z h =
-        colours-alike p v q o i (a q (in-slice_get reps k q e)) (known o (in-slice_get s k o f)) z ∙ h
-
-    ordered : (o u i x y : ℕ) → IsSecondary p i → colour_in (uses_of p o) i ≡ Some x
-        → colour_in (uses_of p u) i ≡ Some y → (j k : ℕ) → j < k → slice_get s j ≡ Some o → slice_get s k ≡ Some u
-        → (x ≡ y) × (0 < x)
-    ordered o u i x y second e f j k l m n =
-        let q = alike-left (alike p) reps s j o g.alike m in
-        let r = alike-left (alike p) reps s k u g.alike n in
-        c.agree j k q.0 r.0 i x y l q.1 r.1 second (colour q.0 o i x j q.1 m q.2 e) (colour r.0 u i y k r.1 n r.2 f)
-
-    at : (o u i x y : ℕ) → o ≢ u → IsSecondary p i → colour_in (uses_of p o) i ≡ Some x
-        → colour_in (uses_of p u) i ≡ Some y → (j k : ℕ) → slice_get s j ≡ Some o → slice_get s k ≡ Some u → (x ≡ y)
-        × (0 < x)
-    at o u i x y ne second e f j k m n = elim (cases_order j k) [
-      | inl q ↦
-          (let w : slice_get s k ≡ Some o = subst (λ z. slice_get s z ≡ Some o) q m in
-          absurd (ne (same_Some o u (sym w ∙ n))))
-      | inr (inl l) ↦ ordered o u i x y second e f j k l m n
-      | inr (inr l) ↦
-          let r = ordered u o i y x second f e k j l n m in
-          (sym r.0, omega (arith, r))
-    ]
+  pub cover_of_classes : AreApart s → IsCoverOfClasses p reps → IsCover p s
+  cover_of_classes apart c = record {
+    known = All-from_recursion (IsOption p) s (each_from (IsOption p) s known);
+    distinct = AllPairs-from_each_two (λ (a b : ℕ). a ≢ b) s apart;
+    within = λ i b e.
+        let w = c.within i b e in
+        let h = held-alike i in
+        (omega (arith, w.0, h), omega (arith, w.1, h));
+    agree = λ o u i x y in_o in_u ne second e f.
+        let both = gathered-agree p i reps (λ j k a b g h l m n q w. c.agree j k a b i g h l m n second q w) in
+        elim (EachTwo-of _ s o u ((EachTwo-kept Agree _ s).1 (rw (gathered-alike i) at both)) (in-contains s o in_o)
+        (in-contains s u in_u)) [
+          | inl same ↦ absurd (ne same)
+          | inr (inl before) ↦ before x y e f
+          | inr (inr behind) ↦ let agreed = behind y x f e in (sym agreed.0, omega (arith, agreed))
+        ];
+  }
 
 -- Whatever options are taken for the bodies, different ones can be given to them so that their set is a cover exactly
 -- where those taken are a cover of their classes.
@@ -214,22 +162,32 @@ pub classes_decide : (p : Named) (bodies : List (List (List ℕ))) (reps : List 
     → AllByRecursion (IsOption p.puzzle) reps → StandFor p (filter (is_known p) bodies) reps →
     IsListedCover p bodies ↔ IsCoverOfClasses p.puzzle reps
 classes_decide p bodies reps r all h = (
-  λ (g : IsListedCover p bodies). classes_of_cover p.puzzle r.valid reps g.0 a
-      ((stand-alike p r known_bodies reps g.0 a (known g.0 g.2) h).0 g.1) g.2,
-  λ c. (let g = give (alike p.puzzle) (alike-classes p.puzzle) (numbers p.puzzle) (numbers-apart p.puzzle) reps
-      (λ q k. let all = is_counted (alike p.puzzle q) (numbers p.puzzle) in
-      omega (arith, c.asked q, is_counted (alike p.puzzle q) reps, all)) in (
+  λ (g : IsListedCover p bodies).
+      let s = known_of g.0 g.2 in
+      classes_of_cover p.puzzle r.valid reps g.0 a s ((stand-alike g.0 s).0 g.1) g.2,
+  λ c.
+      let g = give (alike p.puzzle) (alike-classes p.puzzle) (numbers p.puzzle) (numbers-apart p.puzzle) reps
+      (λ q k. omega (
+        arith,
+        c.asked q,
+        is_counted (alike p.puzzle q) reps,
+        is_counted (alike p.puzzle q)
+            (numbers p.puzzle),
+      )) in
+      let s : AreKnown p.puzzle g.0 = λ o k. in-numbers p.puzzle o (g.1.known o k) in (
         g.0,
-        (stand-alike p r known_bodies reps g.0 a (λ o k. in-numbers p.puzzle o (g.1.known o k)) h).1 g.1.alike,
-        cover_of_classes p.puzzle r.valid reps g.0 a g.1 c,
-      )),
+        (stand-alike g.0 s).1 g.1.alike,
+        cover_of_classes p.puzzle r.valid reps g.0 a s g.1.alike g.1.apart c,
+      ),
 )
   where
-    known_bodies : List (List (List ℕ))
-    known_bodies = filter (is_known p) bodies
-
     a : AreKnown p.puzzle reps
     a o k = each_in (IsOption p.puzzle) reps o all k
 
-    known : (s : List ℕ) → IsCover p.puzzle s → AreKnown p.puzzle s
-    known s c o k = each_in (IsOption p.puzzle) s o (recursion_from_All (IsOption p.puzzle) s c.known) k
+    known_of : (s : List ℕ) → IsCover p.puzzle s → AreKnown p.puzzle s
+    known_of s c o k = each_in (IsOption p.puzzle) s o (recursion_from_All (IsOption p.puzzle) s c.known) k
+
+    stand-alike : (s : List ℕ) → AreKnown p.puzzle s
+        → StandFor p (filter (is_known p) bodies) s ↔ AreAlike (alike p.puzzle) reps s
+    stand-alike s b = zipped_alike _ _ _ (filter (is_known p) bodies) reps s
+        (λ words q o in_q in_o. stands-alike p r words q o (a q in_q) (b o in_o)) h

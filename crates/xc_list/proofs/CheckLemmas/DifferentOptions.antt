@@ -1,8 +1,9 @@
 -- Different options in place of options that are alike: there are such exactly where no class is asked more often than
 -- it has members.
 use Rattle.std.proofs.lemmas.Bool.Decides.{nat_tests}
+use Rattle.std.proofs.lemmas.Bool.{cases_Bool}
 use Rattle.std.proofs.Common.{ℕ, ◌≡◌, ◌≢◌, ◌+◌, ◌<◌, ◌≤◌, Bool, true, cond, not, ◌==◌, List, [], ◌∷◌}
-use Rattle.std.proofs.Common.{length, get_or, filter, Some, refl, sym, ap₂, ◌∙◌, arith, subst, inl}
+use Rattle.std.proofs.Common.{length, get_or, filter, Some, refl, sym, ◌∙◌, arith, subst, inl}
 use Rattle.std.proofs.Common.{inr, eq-eqb}
 use Rattle.std.specs.Prelude.{slice_get, count_by}
 use Rattle.std.specs.List.{AllZip}
@@ -11,6 +12,7 @@ use Rattle.std.proofs.lemmas.List.Sums.{length-filter}
 use Rattle.std.proofs.lemmas.Option.{slice_get-get_or}
 use Rattle.xc_input.proofs.lists.Members.{IsIn, each_from, each_in, in-filter, filter-in, in-slice_get}
 use Rattle.xc_input.proofs.lists.EachTwo.{EachTwo, EachTwo-at}
+use Rattle.xc_list.proofs.CheckLemmas.BesideLists.{by_pairs}
 
 -- `count_by` by recursion from the front
 abbrev pub counted : {X : Type 0} → (X → Bool) → List X → ℕ
@@ -25,8 +27,14 @@ pub is_counted : (p : ℕ → Bool) (xs : List ℕ) → count_by p xs ≡ counte
 is_counted p xs = sym (length-filter p xs) ∙ counted-length p xs
 
 pub count_same : (p q : ℕ → Bool) (xs : List ℕ) → ((x : ℕ) → p x ≡ q x) → counted p xs ≡ counted q xs
-count_same p q [] h = refl
-count_same p q (x ∷ xs) h = ap₂ (λ b n. cond b 1 0 + n) (h x) (count_same p q xs h)
+count_same p q xs h = λ i. counted (λ x. h x i) xs
+
+pub counted_some : {X : Type 0} (p : X → Bool) (xs : List X) → 0 < counted p xs → (x : X) × IsIn xs x × (p x ≡ true)
+counted_some p [] l = absurd (omega (arith, l))
+counted_some p (x ∷ xs) l = elim (cases_Bool (p x)) [
+  | inl e ↦ (x, inl refl, e)
+  | inr e ↦ let later = counted_some p xs (omega (arith, rw e at l)) in (later.0, inr later.1, later.2)
+]
 
 pub count_filter_le : (q t : ℕ → Bool) (xs : List ℕ) → counted q (filter t xs) ≤ counted q xs
 count_filter_le q t [] = omega arith
@@ -66,10 +74,9 @@ AreAlike same reps s = AllZip (λ r o. same r o ≡ true) reps s
 -- how often a class is asked for in lists that are alike
 pub count_alike : (same : ℕ → ℕ → Bool) → IsLikeness same → (r : ℕ) (reps s : List ℕ) → AreAlike same reps s
     → counted (same r) reps ≡ counted (same r) s
-count_alike same classes r [] [] z = refl
-count_alike same classes r [] (o ∷ s) z = absurd z
-count_alike same classes r (q ∷ reps) [] z = absurd z
-count_alike same classes r (q ∷ reps) (o ∷ s) z = grind (arith, nat_tests, count_alike same classes r reps s z.1)
+count_alike same classes r =
+    by_pairs (λ q o. same q o ≡ true) (λ qs os. counted (same r) qs ≡ counted (same r) os) refl
+    (λ q o qs os alike later. grind (arith, nat_tests))
 
 -- No class is asked more often than it has members.
 pub asked_within : (same : ℕ → ℕ → Bool) → IsLikeness same → (all reps s : List ℕ) → AreAlike same reps s → AreApart s
@@ -78,17 +85,9 @@ pub asked_within : (same : ℕ → ℕ → Bool) → IsLikeness same → (all re
 asked_within same classes all reps s z d h r =
     omega (arith, count_alike same classes r reps s z, count_within (same r) s all d h)
 
-pub slice_get_there : (xs : List ℕ) (n : ℕ) → n < length xs → (x : ℕ) × (slice_get xs n ≡ Some x)
-slice_get_there xs n l = (get_or xs n 0, slice_get-get_or xs n 0 l)
-
 pub EachTwo-filter : (t : ℕ → Bool) (xs : List ℕ) → AreApart xs → AreApart (filter t xs)
 EachTwo-filter t [] a = tt
 EachTwo-filter t (x ∷ xs) a = grind (arith, nat_tests, EachTwo-filter t xs a.1, each_from, each_in, in-filter t xs)
-
--- one number at two places of a list without repetition
-pub places_differ : (xs : List ℕ) (j k o : ℕ) → AreApart xs → j < k → slice_get xs j ≡ Some o
-    → slice_get xs k ≡ Some o → ⊥
-places_differ xs j k o a l e f = EachTwo-at (λ a b. a ≢ b) xs j k o o a l e f refl
 
 -- the place of o among those of its class is below the number of times that the class is asked
 abbrev pub HasPlace : (ℕ → ℕ → Bool) → List ℕ → List ℕ → ℕ → Type 0
@@ -136,8 +135,8 @@ give_one same classes all d r reps s g o e = record {
     other : (x : ℕ) → IsIn s x → o ≡ x → ⊥
     other x k q =
         let p : HasPlace same all reps o = subst (λ v. HasPlace same all reps v) (sym q) (g.places x k) in
-        places_differ (filter (same o) all) p.0 (counted (same r) reps) o (EachTwo-filter (same o) all d)
-        (omega (arith, p.1, count_same (same r) (same o) reps as_one)) p.2 e_own
+        EachTwo-at (λ a b. a ≢ b) (filter (same o) all) p.0 (counted (same r) reps) o o (EachTwo-filter (same o) all d)
+        (omega (arith, p.1, count_same (same r) (same o) reps as_one)) p.2 e_own refl
 
 pub give : (same : ℕ → ℕ → Bool) → IsLikeness same → (all : List ℕ) → AreApart all → (reps : List ℕ) →
     ((r : ℕ) → IsIn reps r → counted (same r) reps ≤ counted (same r) all) → (s : List ℕ) × IsGiving same all reps s
@@ -145,12 +144,9 @@ give same classes all d [] h =
     ([], record { alike = tt; known = λ o k. absurd k; apart = tt; places = λ o k. absurd k })
 give same classes all d (r ∷ reps) h =
     let later = give same classes all d reps (λ q k. omega (arith, h q (inr k))) in
-    let room : counted (same r) reps < length (filter (same r) all) = enough in
-    let o = slice_get_there (filter (same r) all) (counted (same r) reps) room in
-    (o.0 ∷ later.0, give_one same classes all d r reps later.0 later.1 o.0 o.1)
-  where
-    asked : cond true 1 0 + counted (same r) reps ≤ counted (same r) all
-    asked = subst (λ b. cond b 1 0 + counted (same r) reps ≤ counted (same r) all) (classes.itself r) (h r (inl refl))
-
-    enough : counted (same r) reps < length (filter (same r) all)
-    enough = omega (arith, asked, counted-length (same r) all)
+    let n = counted (same r) reps in
+    let members = filter (same r) all in
+    let asked : cond true 1 0 + n ≤ counted (same r) all = rw (classes.itself r) at (h r (inl refl)) in
+    let room : n < length members = omega (arith, asked, counted-length (same r) all) in
+    let o = get_or members n 0 in
+    (o ∷ later.0, give_one same classes all d r reps later.0 later.1 o (slice_get-get_or members n 0 room))

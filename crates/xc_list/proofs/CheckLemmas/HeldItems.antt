@@ -4,11 +4,11 @@ use Rattle.std.proofs.Common.{ℕ, zero, suc, ◌≡◌, ◌≢◌, ◌+◌, ◌
 use Rattle.std.proofs.Common.{◌++◌, length, get_or, set, take, refl, ap, ◌∙◌, arith, ne_eqb}
 use Rattle.std.proofs.Common.{eq-eqb}
 use Rattle.std.specs.List.{AllByRecursion}
-use Rattle.std.proofs.lemmas.List.{get_or-set_same, get_or-set_other, length-set, take_more}
+use Rattle.std.proofs.lemmas.List.{get_or-set_same, get_or-set_other, length-set, get_or_past}
 use Rattle.xc_input.specs.declared.problem.Use.{Use}
 use Rattle.xc_list.specs.inner.CoverCounts.{raised, lowered, item_places, added, coloured, cleared}
 use Rattle.std.proofs.lemmas.List.{map-append}
-use Rattle.std.proofs.lemmas.Bool.{cases_eq}
+use Rattle.std.proofs.lemmas.Bool.{cases_eq, cases_lt}
 use Rattle.std.proofs.lemmas.Bool.Decides.{nat_tests}
 use Rattle.xc_list.proofs.CheckLemmas.DifferentOptions.{counted}
 use Rattle.xc_list.proofs.CheckLemmas.Rotations.{DifferInItems}
@@ -49,6 +49,13 @@ raised-at (j ∷ ks) ns k l =
     let n = get_or ns j 0 + 1 in
     omega (arith, raised-at ks (set ns j n) k (omega (arith, l, length-set ns j n)), once_more ns j k l)
 
+-- at a place behind all of them too
+pub raised-most : (ks ns : List ℕ) (k : ℕ) → get_or (raised ks ns) k 0 ≤ get_or ns k 0 + counted (λ j. j == k) ks
+raised-most ks ns k = elim (cases_lt k (length ns)) [
+  | inl l ↦ omega (arith, raised-at ks ns k l)
+  | inr l ↦ omega (arith, get_or_past (raised ks ns) k 0 (omega (arith, l, length-raised ks ns)))
+]
+
 -- ---- uses
 
 pub added-append : (us vs : List Use) (ts : List ℕ) → added (us ++ vs) ts ≡ added vs (added us ts)
@@ -73,7 +80,8 @@ length-coloured (u ∷ us) cs = length-coloured us (set cs (u.item - 1) u.colour
 pub length-cleared : (us : List Use) (ts : List ℕ) → length (cleared us ts) ≡ length ts
 length-cleared us ts = length-lowered (item_places us) ts
 
-held-places : (n : ℕ) (us : List Use) (k : ℕ) → AreItems n us → counted (λ j. j == k) (item_places us) ≡ held (suc k) us
+pub held-places : (n : ℕ) (us : List Use) (k : ℕ) → AreItems n us
+    → counted (λ j. j == k) (item_places us) ≡ held (suc k) us
 held-places n [] k a = refl
 held-places n (u ∷ us) k a = grind (arith, nat_tests, held-places n us k a.1)
 
@@ -114,13 +122,3 @@ pub each_take : {X : Type 0} (P : X → Type 0) (n : ℕ) (xs : List X) → AllB
 each_take P zero xs a = tt
 each_take P (suc n) [] a = tt
 each_take P (suc n) (x ∷ xs) a = (a.0, each_take P n xs a.1)
-
--- one use more
-pub added_more : (us : List Use) (k : ℕ) (d : Use) (ts : List ℕ) → k < length us
-    → added (take (k + 1) us) ts ≡ added (get_or us k d ∷ []) (added (take k us) ts)
-added_more us k d ts l = ap (λ vs. added vs ts) (take_more us k d l) ∙ added-append (take k us) (get_or us k d ∷ []) ts
-
-pub coloured_more : (us : List Use) (k : ℕ) (d : Use) (cs : List ℕ) → k < length us
-    → coloured (take (k + 1) us) cs ≡ coloured (get_or us k d ∷ []) (coloured (take k us) cs)
-coloured_more us k d cs l =
-    ap (λ vs. coloured vs cs) (take_more us k d l) ∙ coloured-append (take k us) (get_or us k d ∷ []) cs

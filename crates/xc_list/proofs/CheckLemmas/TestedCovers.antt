@@ -4,8 +4,7 @@ use Rattle.std.proofs.Common.{Option, Some, None, refl, sym, ap, arith, subst, i
 use Rattle.std.specs.Prelude.{All, AllPairs, nat_le, ◌||◌}
 use Rattle.std.specs.List.{list_all, list_any}
 use Rattle.std.proofs.lemmas.Bool.Decides.{nat_tests}
-use Rattle.std.proofs.lemmas.List.Elements.{recursion_from_All, All-from_recursion, All-contains}
-use Rattle.std.proofs.lemmas.List.Sums.{AllPass-from_list_all, list_all-from_AllPass}
+use Rattle.std.proofs.lemmas.List.Elements.{recursion_from_All}
 use Rattle.xc_input.specs.declared.problem.Use.{Use}
 use Rattle.xc_input.specs.declared.problem.Bounds.{Bounds}
 use Rattle.xc_input.specs.Problem.{Puzzle, IsValid, IsItem, IsOption, IsSecondary, IsSoundUse, bounds_at, colour_in}
@@ -16,18 +15,10 @@ use Rattle.xc_input.proofs.lists.EachTwo.{EachTwo}
 use Rattle.std.proofs.lemmas.Option.{slice_get_within}
 use Rattle.xc_input.proofs.lists.Members.{IsIn, each_in, each_from, in-contains, contains-in}
 use Rattle.xc_list.proofs.CheckLemmas.ListedNumbers.{any-in, in-any}
+use Rattle.xc_list.proofs.CheckLemmas.BesideLists.{each-passes, passes-at}
 use Rattle.xc_list.specs.inner.Tested.{is_colour_met, is_use_met, do_agree, is_within, is_held_within}
 use Rattle.xc_list.proofs.CheckLemmas.DecidedByClasses.{option-sound, option-differs}
 use Rattle.xc_list.proofs.CheckLemmas.Rotations.{DifferInItems}
-
--- ---- tests of lists
-
-each-passes : {X : Type 0} (f : X → Bool) (xs : List X) → ((x : X) → IsIn xs x → f x ≡ true) → list_all f xs ≡ true
-each-passes f xs h =
-    list_all-from_AllPass f xs (All-from_recursion (λ x. f x ≡ true) xs (each_from (λ x. f x ≡ true) xs h))
-
-passes-at : {X : Type 0} (f : X → Bool) (xs : List X) (x : X) → list_all f xs ≡ true → IsIn xs x → f x ≡ true
-passes-at f xs x h k = All-contains (λ x. f x ≡ true) xs x (AllPass-from_list_all f xs h) (contains-in xs x k)
 
 -- ---- colours
 

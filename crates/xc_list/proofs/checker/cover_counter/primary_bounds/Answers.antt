@@ -18,5 +18,5 @@ loop-i-preserved c =
     let read : get_or bounds i blank ≡ bounds_of item =
     get_or_from_slice_get bounds i (bounds_of item) blank
     (sym (numbered_get-at bounds (i + 1) i refl) ∙ c.item.ensures.bounds is_primary) in
-    let fact = take_more bounds i blank (omega (arith, c.primary-i-end.ensures.value, c.loop-i-test.true)) in
+    let more = take_more bounds i blank (omega (arith, c.primary-i-end.ensures.value, c.loop-i-test.true)) in
     cc (c.in_ok-push.ensures.items, c.loop-i.invariant, c.bounds.ensures, read)

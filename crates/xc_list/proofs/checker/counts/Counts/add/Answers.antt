@@ -1,27 +1,24 @@
-use Rattle.std.proofs.lemmas.Bool.Decides.{nat_tests}
 use Rattle.std.proofs.Common.{suc, arith, ◌≡◌, ◌-◌, ◌≤◌, [], ◌∷◌, length, get_or, take, sym, ◌∙◌, ap, refl}
 use Rattle.std.proofs.lemmas.List.Elements.{recursion_from_All}
 use Rattle.xc_input.specs.declared.problem.Use.{Use}
 use Rattle.xc_input.proofs.lists.EachTwo.{each_two_from_AllPairs}
 use Rattle.xc_list.specs.inner.CoverCounts.{added, coloured}
 use Rattle.xc_list.proofs.CheckLemmas.HeldItems.{AreItems, held, each_take, added-at, length-added, length-coloured}
-use Rattle.xc_list.proofs.CheckLemmas.HeldItems.{not_before, added_more, coloured_more}
+use Rattle.xc_list.proofs.CheckLemmas.HeldItems.{not_before, added-append, coloured-append}
+use Rattle.std.proofs.lemmas.List.{take_more}
 use Rattle.xc_list.proofs.checker.counts.Counts.add.Goals as goal
 
 pub hold-requires-clause-item : goal.hold-requires-clause-item
 hold-requires-clause-item c =
-    let blank : Use = record { item = 0; colour = 0 } in
-    let known = c.requires.items c.loop-u.u-index blank c.loop-u-test.true in (
-      omega (arith, known.0),
-      let fact = length-added (take c.loop-u.u-index c.args.uses.now) c.args.self.now.times.items in
-          grind (arith, nat_tests, known.1, c.loop-u.invariant.times),
-    )
+    let known = c.requires.items c.loop-u.u-index (record { item = 0; colour = 0 }) c.loop-u-test.true in
+    let size = ap length c.loop-u.invariant.times ∙ length-added (take c.loop-u.u-index c.args.uses.now) _ in
+    (omega (arith, known.0), omega (arith, known.1, size))
 
 pub hold-requires-clause-colours : goal.hold-requires-clause-colours
 hold-requires-clause-colours c =
-    let fact = length-coloured (take c.loop-u.u-index c.args.uses.now) c.args.self.now.colours.items in
-    let fact2 = length-added (take c.loop-u.u-index c.args.uses.now) c.args.self.now.times.items in
-    cc (c.loop-u.invariant.colours, c.requires.colours, c.loop-u.invariant.times)
+    let before = take c.loop-u.u-index c.args.uses.now in
+    ap length c.loop-u.invariant.colours ∙ length-coloured before _ ∙ c.requires.colours
+    ∙ sym (ap length c.loop-u.invariant.times ∙ length-added before _)
 
 pub hold-requires-clause-few : goal.hold-requires-clause-few
 hold-requires-clause-few c =
@@ -42,13 +39,11 @@ hold-requires-clause-few c =
 pub loop-u-preserved : goal.loop-u-preserved
 loop-u-preserved c =
     let blank : Use = record { item = 0; colour = 0 } in
-    let us = c.args.uses.now in
-    let k = c.loop-u.u-index in
+    let u = get_or c.args.uses.now c.loop-u.u-index blank in
+    let more = take_more c.args.uses.now c.loop-u.u-index blank c.loop-u-test.true in
     record {
-      times = c.hold.ensures.times ∙ ap (added (get_or us k blank ∷ [])) c.loop-u.invariant.times
-          ∙ sym (added_more us k blank c.args.self.now.times.items c.loop-u-test.true);
-      colours = c.hold.ensures.colours ∙ ap (coloured (get_or us k blank ∷ [])) c.loop-u.invariant.colours
-          ∙ sym (coloured_more us k blank c.args.self.now.colours.items c.loop-u-test.true);
+      times = c.hold.ensures.times ∙ rw (more, added-append) (ap (added (u ∷ [])) c.loop-u.invariant.times);
+      colours = c.hold.ensures.colours ∙ rw (more, coloured-append) (ap (coloured (u ∷ [])) c.loop-u.invariant.colours);
       asked = c.hold.ensures.asked ∙ c.loop-u.invariant.asked;
       short = c.hold.ensures.short;
     }

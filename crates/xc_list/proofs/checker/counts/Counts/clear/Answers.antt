@@ -1,7 +1,8 @@
-use Rattle.std.proofs.Common.{[], ◌∷◌, length, get_or, take, sym, ◌∙◌, ap}
+use Rattle.std.proofs.Common.{[], ◌∷◌, length, get_or, take, ◌∙◌, ap}
 use Rattle.xc_list.specs.inner.CoverCounts.{cleared, lowered, uses_in}
-use Rattle.xc_list.proofs.CheckLemmas.HeldItems.{length-cleared}
-use Rattle.xc_list.proofs.CheckLemmas.CountedClasses.{known_items, cleared_class_more, lowered_more}
+use Rattle.xc_list.proofs.CheckLemmas.HeldItems.{length-cleared, cleared-append, lowered-append}
+use Rattle.std.proofs.lemmas.List.{take_more}
+use Rattle.xc_list.proofs.CheckLemmas.CountedClasses.{known_items, uses_in-take}
 use Rattle.xc_list.proofs.checker.counts.Counts.clear.Goals as goal
 
 pub clear_uses-requires : goal.clear_uses-requires
@@ -17,16 +18,14 @@ clear_uses-requires c =
 
 pub loop-class-preserved : goal.loop-class-preserved
 loop-class-preserved c =
-    let b = c.args.options.now in
     let ks = c.args.chosen.now in
     let i = c.loop-class.class-index in
     let us = c.uses.result.now in
+    let more = uses_in-take c.args.options.now.classes ks i _ c.loop-class-test.true c.uses.ensures.value in
     record {
-      times = c.clear_uses.ensures.times ∙ ap (cleared us) c.loop-class.invariant.times
-          ∙ sym (cleared_class_more b.classes ks i us c.args.self.now.times.items c.loop-class-test.true
-          c.uses.ensures.value);
+      times = c.clear_uses.ensures.times ∙ rw (more, cleared-append) (ap (cleared us) c.loop-class.invariant.times);
       colours = c.clear_uses.ensures.colours ∙ c.loop-class.invariant.colours;
       asked = ap (λ v. v.items) c.clear_uses.ensures.asked
-          ∙ ap (lowered (get_or ks i 0 ∷ [])) c.loop-class.invariant.asked
-          ∙ sym (lowered_more ks i c.args.self.now.asked.items c.loop-class-test.true);
+          ∙ rw (take_more ks i 0 c.loop-class-test.true, lowered-append)
+          (ap (lowered (get_or ks i 0 ∷ [])) c.loop-class.invariant.asked);
     }

@@ -1,4 +1,3 @@
-use Rattle.std.proofs.lemmas.Bool.Decides.{nat_tests}
 use Rattle.std.proofs.Common.{ℕ, List, arith, ◌≡◌, ◌+◌, ◌<◌, ◌≢◌, [], ◌∷◌, length, get_or, set, take, replicate, sym}
 use Rattle.std.proofs.Common.{◌∙◌, ap, subst}
 use Rattle.std.proofs.lemmas.List.{get_or_default, length-replicate}
@@ -8,10 +7,12 @@ use Rattle.xc_input.specs.declared.problem.Use.{Use}
 use Rattle.xc_input.specs.Problem.{item_count}
 use Rattle.xc_input.proofs.lists.EachTwo.{AllPairs-from_each_two}
 use Rattle.xc_list.specs.inner.CoverCounts.{item_places, added, coloured, raised, uses_in}
-use Rattle.xc_list.proofs.CheckLemmas.HeldItems.{length-raised, length-coloured}
+use Rattle.xc_list.proofs.CheckLemmas.HeldItems.{length-raised, length-coloured, added-append, coloured-append}
+use Rattle.xc_list.proofs.CheckLemmas.HeldItems.{raised-append}
 use Rattle.xc_list.proofs.CheckLemmas.Rotations.{DifferInItems}
 use Rattle.xc_list.proofs.CheckLemmas.CountedClasses.{known_items, classes_usable, added_few}
-use Rattle.xc_list.proofs.CheckLemmas.CountedClasses.{added_class_more, coloured_class_more, raised_few, raised_more}
+use Rattle.xc_list.proofs.CheckLemmas.CountedClasses.{raised_few, uses_in-take}
+use Rattle.std.proofs.lemmas.List.{take_more}
 use Rattle.xc_list.proofs.checker.counts.Counts.count.Goals as goal
 
 -- counted from n zeros on
@@ -20,9 +21,9 @@ size_counted n ks ns now e h = ap length h ∙ length-raised ks ns ∙ ap length
 
 pub index_mut-requires : goal.index_mut-requires
 index_mut-requires c =
-    let fact = size_counted (length c.args.options.now.classes) (take c.loop-class.class-index c.args.chosen.now)
-    c.args.self.now.asked.items c.loop-class.self.asked.items c.requires.asked c.loop-class.invariant.asked in
-    grind (arith, nat_tests, c.requires.known c.loop-class.class-index 0 c.loop-class-test.true)
+    let size = size_counted _ (take c.loop-class.class-index c.args.chosen.now) _ _ c.requires.asked
+    c.loop-class.invariant.asked in
+    omega (arith, size, c.requires.known c.loop-class.class-index 0 c.loop-class-test.true)
 
 pub overflow_add-index_mut : goal.overflow_add-index_mut
 overflow_add-index_mut c =
@@ -38,7 +39,7 @@ overflow_add-index_mut c =
     size_counted n (take i ks) c.args.self.now.asked.items asked c.requires.asked c.loop-class.invariant.asked in
     let read : c.index_mut.result.now ≡ get_or asked k 0 =
     c.index_mut.ensures.value ∙ get_or_default asked k c.index_mut.result.now 0 (omega (arith, known, size)) in
-    let few = raised_few n ks i k known (omega (arith, c.loop-class-test.true)) in
+    let few = raised_few n ks i k (omega (arith, c.loop-class-test.true)) in
     omega (arith, read, ap (λ l. get_or l k 0) same, few, c.loop-class-test.true)
 
 pub add-requires-clause-items : goal.add-requires-clause-items
@@ -50,12 +51,12 @@ add-requires-clause-items c =
 
 pub add-requires-clause-distinct : goal.add-requires-clause-distinct
 add-requires-clause-distinct c =
-    let fact = AllPairs-from_each_two (λ (u v : Use). u.item ≢ v.item) c.uses.result.now (subst DifferInItems
-    (get_or_from_slice_get c.args.options.now.classes (get_or c.args.chosen.now c.loop-class.class-index 0)
-    c.uses.result.now [] c.uses.ensures.value) (classes_usable c.args.options.now c.requires.indexed.sound
-    c.requires.indexed.classes (get_or c.args.chosen.now c.loop-class.class-index 0) (c.requires.known
-    c.loop-class.class-index 0 c.loop-class-test.true)).1) in
-    grind (arith, nat_tests)
+    let b = c.args.options.now in
+    let i = c.loop-class.class-index in
+    let usable = classes_usable b c.requires.indexed.sound c.requires.indexed.classes _
+    (c.requires.known i 0 c.loop-class-test.true) in
+    let uses = get_or_from_slice_get b.classes (get_or c.args.chosen.now i 0) _ [] c.uses.ensures.value in
+    AllPairs-from_each_two (λ (u v : Use). u.item ≢ v.item) _ (subst DifferInItems uses usable.1)
 
 pub add-requires-clause-colours : goal.add-requires-clause-colours
 add-requires-clause-colours c =
@@ -67,11 +68,14 @@ add-requires-clause-colours c =
 
 pub add-requires-clause-few : goal.add-requires-clause-few
 add-requires-clause-few c = λ k.
-    let fact = added_few (item_count c.args.options.now.problem.puzzle) c.args.options.now.classes c.args.chosen.now
-    c.loop-class.class-index k (classes_usable c.args.options.now c.requires.indexed.sound c.requires.indexed.classes)
-    (recursion_from_All (λ j. j < length c.args.options.now.classes) c.args.chosen.now c.requires.known)
+    let b = c.args.options.now in
+    let few = added_few (item_count b.problem.puzzle) b.classes c.args.chosen.now c.loop-class.class-index k
+    (classes_usable b c.requires.indexed.sound c.requires.indexed.classes)
+    (recursion_from_All (λ j. j < length b.classes) c.args.chosen.now c.requires.known)
     (omega (arith, c.loop-class-test.true)) in
-    grind (arith, nat_tests, c.loop-class.invariant.times, c.requires.times, c.loop-class-test.true)
+    let times = c.loop-class.invariant.times
+    ∙ ap (added (uses_in b.classes (take c.loop-class.class-index c.args.chosen.now))) c.requires.times in
+    omega (arith, few, ap (λ ts. get_or ts k 0) times, c.loop-class-test.true)
 
 pub loop-class-preserved : goal.loop-class-preserved
 loop-class-preserved c =
@@ -79,19 +83,18 @@ loop-class-preserved c =
     let ks = c.args.chosen.now in
     let i = c.loop-class.class-index in
     let k = get_or ks i 0 in
-    let us = c.uses.result.now in
     let asked = c.loop-class.self.asked.items in
     let n = length b.classes in
+    let us = c.uses.result.now in
+    let more = uses_in-take b.classes ks i _ c.loop-class-test.true c.uses.ensures.value in
     let size : length asked ≡ n = size_counted n (take i ks) _ _ c.requires.asked c.loop-class.invariant.asked in
     let known : k < n = c.requires.known i 0 c.loop-class-test.true in
     let read : set asked k (c.index_mut.result.now + 1) ≡ set asked k (get_or asked k 0 + 1) =
     cc (c.index_mut.ensures.value, get_or_default asked k c.index_mut.result.now 0 (omega (arith, known, size))) in
     record {
-      times = c.add.ensures.times ∙ ap (added us) c.loop-class.invariant.times
-          ∙ sym (added_class_more _ _ _ _ _ c.loop-class-test.true c.uses.ensures.value);
-      colours = c.add.ensures.colours ∙ ap (coloured us) c.loop-class.invariant.colours
-          ∙ sym (coloured_class_more _ _ _ _ _ c.loop-class-test.true c.uses.ensures.value);
-      asked = ap (λ v. v.items) c.add.ensures.asked ∙ read ∙ ap (raised (k ∷ [])) c.loop-class.invariant.asked
-          ∙ sym (raised_more _ _ _ c.loop-class-test.true);
+      times = c.add.ensures.times ∙ rw (more, added-append) (ap (added us) c.loop-class.invariant.times);
+      colours = c.add.ensures.colours ∙ rw (more, coloured-append) (ap (coloured us) c.loop-class.invariant.colours);
+      asked = ap (λ v. v.items) c.add.ensures.asked ∙ read ∙ rw (take_more ks i 0 c.loop-class-test.true, raised-append)
+          (ap (raised (k ∷ [])) c.loop-class.invariant.asked);
       short = c.add.ensures.short;
     }

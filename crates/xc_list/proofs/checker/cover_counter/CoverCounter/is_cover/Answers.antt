@@ -1,43 +1,41 @@
-use Rattle.std.proofs.lemmas.Bool.Decides.{nat_tests}
-use Rattle.std.proofs.Common.{arith}
 use Rattle.std.proofs.Common.{ℕ, List, ◌≡◌, ◌∙◌, length, replicate, sym, ap, ap₂, subst}
 use Rattle.xc_input.specs.Problem.{item_count}
 use Rattle.xc_list.specs.inner.CoverCounts.{Places, item_places, uses_in, added, raised, lowered, short_of}
 use Rattle.xc_list.proofs.CheckLemmas.HeldItems.{length-raised, length-added, length-coloured}
 use Rattle.xc_list.proofs.CheckLemmas.CountedClasses.{lowered_back}
-use Rattle.xc_list.proofs.CheckLemmas.CountedCovers.{IsSolution, times_after, asked_after, is_counted_cover}
+use Rattle.xc_list.proofs.CheckLemmas.AskedClasses.{asked_after}
+use Rattle.xc_list.proofs.CheckLemmas.CountedCovers.{IsSolution, times_after, is_counted_cover}
 use Rattle.xc_list.proofs.CheckLemmas.CountedCovers.{counted-cover, cover-counted}
 use Rattle.xc_list.proofs.checker.cover_counter.CoverCounter.is_cover.Goals as goal
 
 -- what was counted from zeros and then forgotten is as before
 forgotten : (ks ns : List ℕ) {now after : List ℕ} → ns ≡ replicate (length ns) 0 → now ≡ raised ks ns
     → after ≡ lowered ks now → after ≡ ns
-forgotten ks ns z e h = h ∙ ap (lowered ks) e ∙ lowered_back (length ns) ks ns z
+forgotten ks ns z e h = h ∙ ap (lowered ks) e ∙ lowered_back ks ns z
 
 pub is_cover-cover-requires-clause-times : goal.is_cover-cover-requires-clause-times
 is_cover-cover-requires-clause-times c =
-    let fact = length-added (uses_in c.args.options.now.classes c.args.chosen.now) c.self.inside.counts.times.items in
-    grind (arith, nat_tests, c.count.ensures.times, c.self.view_is, c.requires.places)
+    ap length c.count.ensures.times ∙ length-added (uses_in c.args.options.now.classes c.args.chosen.now) _
+    ∙ ap (λ (v : Places). v.items) (c.self.view_is ∙ c.requires.places)
 
 pub is_cover-cover-requires-clause-colours : goal.is_cover-cover-requires-clause-colours
 is_cover-cover-requires-clause-colours c =
-    let us = uses_in c.args.options.now.classes c.args.chosen.now in
-    ap length c.count.ensures.colours ∙ length-coloured us c.self.inside.counts.colours.items ∙ c.self.invariant.colours
-    ∙ ap (λ (v : Places). v.items) (c.self.view_is ∙ c.requires.places)
+    ap length c.count.ensures.colours ∙ length-coloured (uses_in c.args.options.now.classes c.args.chosen.now) _
+    ∙ c.self.invariant.colours ∙ ap (λ (v : Places). v.items) (c.self.view_is ∙ c.requires.places)
 
 pub is_cover-cover-requires-clause-asked : goal.is_cover-cover-requires-clause-asked
 is_cover-cover-requires-clause-asked c =
-    ap length c.count.ensures.asked ∙ length-raised c.args.chosen.now c.self.inside.counts.asked.items
+    ap length c.count.ensures.asked ∙ length-raised c.args.chosen.now _
     ∙ ap (λ (v : Places). v.classes) (c.self.view_is ∙ c.requires.places)
 
 pub clear-requires-clause-times : goal.clear-requires-clause-times
 clear-requires-clause-times c =
-    let fact = length-added (uses_in c.args.options.now.classes c.args.chosen.now) c.self.inside.counts.times.items in
-    grind (arith, nat_tests, c.count.ensures.times, c.self.view_is, c.requires.places)
+    ap length c.count.ensures.times ∙ length-added (uses_in c.args.options.now.classes c.args.chosen.now) _
+    ∙ ap (λ (v : Places). v.items) (c.self.view_is ∙ c.requires.places)
 
 pub clear-requires-clause-asked : goal.clear-requires-clause-asked
 clear-requires-clause-asked c =
-    ap length c.count.ensures.asked ∙ length-raised c.args.chosen.now c.self.inside.counts.asked.items
+    ap length c.count.ensures.asked ∙ length-raised c.args.chosen.now _
     ∙ ap (λ (v : Places). v.classes) (c.self.view_is ∙ c.requires.places)
 
 pub invariant_of-self : goal.invariant_of-self
@@ -56,9 +54,9 @@ invariant_of-self c =
 
 pub returns-clause-same : goal.returns-clause-same
 returns-clause-same c =
-    let fact = forgotten (item_places (uses_in c.args.options.now.classes c.args.chosen.now))
-    _ c.self.invariant.times c.count.ensures.times c.clear.ensures.times in
-    let fact2 = forgotten c.args.chosen.now _ c.self.invariant.asked c.count.ensures.asked c.clear.ensures.asked in
+    let us = uses_in c.args.options.now.classes c.args.chosen.now in
+    let times = forgotten (item_places us) _ c.self.invariant.times c.count.ensures.times c.clear.ensures.times in
+    let asked = forgotten c.args.chosen.now _ c.self.invariant.asked c.count.ensures.asked c.clear.ensures.asked in
     cc (c.self.view_is)
 
 pub returns-clause-decided : goal.returns-clause-decided

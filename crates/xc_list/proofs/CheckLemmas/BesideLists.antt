@@ -1,0 +1,41 @@
+-- Two lists place by place, and tests of each element: for options that stand beside classes and bodies.
+use Rattle.std.proofs.Common.{◌≡◌, Bool, true, List, [], ◌∷◌, ◌++◌, inl, inr, refl, subst}
+use Rattle.std.specs.List.{AllZip, list_all}
+use Rattle.std.proofs.lemmas.List.Sums.{AllPass-from_list_all, list_all-from_AllPass}
+use Rattle.std.proofs.lemmas.List.Elements.{All-from_recursion, All-contains}
+use Rattle.xc_input.proofs.lists.Members.{IsIn, each_from, contains-in}
+
+-- ---- place by place
+
+-- what holds of no elements, and of one pair more, holds of all
+pub by_pairs : {A B : Type 0} (R : A → B → Type 0) (P : List A → List B → Type 0) → P [] []
+    → ((x : A) (y : B) (xs : List A) (ys : List B) → R x y → P xs ys → P (x ∷ xs) (y ∷ ys)) → (xs : List A)
+    (ys : List B) → AllZip R xs ys → P xs ys
+by_pairs R P none more [] [] z = none
+by_pairs R P none more [] (y ∷ ys) z = absurd z
+by_pairs R P none more (x ∷ xs) [] z = absurd z
+by_pairs R P none more (x ∷ xs) (y ∷ ys) z = more x y xs ys z.0 (by_pairs R P none more xs ys z.1)
+
+-- an element stands beside one of the other list
+pub beside : {A B : Type 0} (R : A → B → Type 0) (xs : List A) (ys : List B) (y : B) → AllZip R xs ys → IsIn ys y
+    → (x : A) × IsIn xs x × R x y
+beside R [] [] y z h = absurd h
+beside R [] (v ∷ ys) y z h = absurd z
+beside R (x ∷ xs) [] y z h = absurd h
+beside R (x ∷ xs) (v ∷ ys) y z (inl q) = (x, inl refl, subst (R x) q z.0)
+beside R (x ∷ xs) (v ∷ ys) y z (inr h) = let later = beside R xs ys y z.1 h in (later.0, inr later.1, later.2)
+
+pub AllZip-append : {A B : Type 0} (R : A → B → Type 0) (xs xs' : List A) (ys ys' : List B) → AllZip R xs ys
+    → AllZip R xs' ys' → AllZip R (xs ++ xs') (ys ++ ys')
+AllZip-append R xs xs' ys ys' z later =
+    by_pairs R (λ vs ws. AllZip R (vs ++ xs') (ws ++ ys')) later (λ v w vs ws h rest. (h, rest)) xs ys z
+
+-- ---- tests of each element
+
+pub each-passes : {X : Type 0} (f : X → Bool) (xs : List X) → ((x : X) → IsIn xs x → f x ≡ true)
+    → list_all f xs ≡ true
+each-passes f xs h =
+    list_all-from_AllPass f xs (All-from_recursion (λ x. f x ≡ true) xs (each_from (λ x. f x ≡ true) xs h))
+
+pub passes-at : {X : Type 0} (f : X → Bool) (xs : List X) (x : X) → list_all f xs ≡ true → IsIn xs x → f x ≡ true
+passes-at f xs x h k = All-contains (λ x. f x ≡ true) xs x (AllPass-from_list_all f xs h) (contains-in xs x k)
