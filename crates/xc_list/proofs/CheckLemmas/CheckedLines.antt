@@ -2,38 +2,29 @@
 use Rattle.std.specs.List.{AllByRecursion}
 use Rattle.std.proofs.lemmas.List.Elements.{recursion_from_All}
 use Rattle.std.proofs.Common.{get_or}
-use Rattle.std.proofs.Common.{◌≡◌, ℕ, zero, suc, ◌+◌, ◌-◌, ◌^◌, ◌<◌, Bool, true, false, not, ◌||◌, nat_eq, min, List}
+use Rattle.std.proofs.Common.{◌≡◌, ℕ, ◌+◌, ◌-◌, ◌^◌, ◌<◌, Bool, true, false, not, ◌||◌, nat_eq, min, List}
 use Rattle.std.proofs.Common.{[], ◌∷◌, ◌++◌, length, filter, Option, Some, None, is_some, refl, sym, ap, ◌∙◌, subst}
 use Rattle.std.proofs.Common.{append_assoc, append-nil, arith, eqb-true, if◌then◌else◌}
 use Rattle.xc_list.specs.inner.Listings.{Listing, before_listing, listing_of}
-use Rattle.std.specs.Prelude.{◌==◌, ◌↔◌, All, IsTrue, unwrap_or}
+use Rattle.std.specs.Prelude.{◌==◌, ◌↔◌, All, IsTrue}
 use Rattle.std.specs.List.{AllZip}
 use Rattle.std.proofs.lemmas.Bool.Decides.{nat_tests}
 use Rattle.std.proofs.lemmas.List.Elements.{filter-append}
-use Rattle.std.proofs.lemmas.Map.Keys.{any_passes_from_place}
 use Rattle.std.proofs.lemmas.Option.{slice_get-get_or}
 use Rattle.xc_input.specs.Problem.{IsOption}
-use Rattle.xc_input.specs.Named.{Named, IsSound}
+use Rattle.xc_input.specs.Named.{Named}
 use Rattle.xc_list.specs.declared.checker.Verdict.{Verdict}
 use Rattle.xc_list.specs.declared.checker.ListingFault.{ListingFault}
 use Rattle.xc_list.specs.declared.checker.ListingFault.TheVariants.{BadLine, UnknownOption}
-use Rattle.xc_list.specs.ListingLines.{header_number, body_of}
 use Rattle.xc_list.specs.inner.ReadLines.{Line, Header, Body, Other, read}
 use Rattle.std.specs.Option.{option_or}
-use Rattle.xc_list.specs.Listed.{Solution, is_body, is_known, is_none, stands_for, fault_in_lines, IsListedCover}
-use Rattle.xc_list.specs.Listed.{IsVerdictOn, AreVerdicts, IsListingFault}
-use Rattle.xc_list.specs.inner.Classes.{Classes, AreClasses, IsOfClass, IsClassOfBody, IsCoverOfClasses}
+use Rattle.xc_list.specs.Listed.{Solution, is_body, is_known, is_none, fault_in_lines}
+use Rattle.xc_list.specs.inner.Classes.{Classes, AreClasses, IsIndexed, IsOfClass, IsClassOfBody, IsCoverOfClasses}
 use Rattle.xc_input.specs.Lines.{lines_of}
-use Rattle.xc_list.specs.inner.Checking.{Progress, IsProgress, AreChosen, with_later, Closes, Takes, Refuses}
-use Rattle.xc_list.proofs.CheckLemmas.DecidedByClasses.{StandFor, classes_decide}
-
--- LISTS PLACE BY PLACE
-AllZip-append : {A B : Type 0} (R : A → B → Type 0) (xs xs' : List A) (ys ys' : List B) → AllZip R xs ys
-    → AllZip R xs' ys' → AllZip R (xs ++ xs') (ys ++ ys')
-AllZip-append R [] xs' [] ys' h g = g
-AllZip-append R [] xs' (y ∷ ys) ys' h g = absurd h
-AllZip-append R (x ∷ xs) xs' [] ys' h g = absurd h
-AllZip-append R (x ∷ xs) xs' (y ∷ ys) ys' h g = (h.0, AllZip-append R xs xs' ys ys' h.1 g)
+use Rattle.xc_list.specs.inner.Checking.{Progress, AreChosen, with_later, Closes, Takes}
+use Rattle.xc_list.proofs.CheckLemmas.DecidedByClasses.{StandFor, classes_decide, uses-in}
+use Rattle.xc_list.proofs.CheckLemmas.ListedNumbers.{any-in}
+use Rattle.xc_list.proofs.CheckLemmas.BesideLists.{AllZip-append, by_pairs}
 
 -- OPTIONS OF CLASSES
 -- a class is that of an option
@@ -43,22 +34,13 @@ option_of b k classes l =
     let at = slice_get-get_or b.classes k [] l in
     let used = classes.used k (get_or b.classes k []) at in (used.0, (used.1, at ∙ ap (λ us. Some us) (sym used.2)))
 
-record Options (b : Classes) (chosen : List ℕ) : Type 0 where
-  reps : List ℕ
-  of_class : AllZip (IsOfClass b) chosen reps
-  options : AllByRecursion (IsOption b.problem.puzzle) reps
-
 options_of : (b : Classes) (chosen : List ℕ) → AreClasses b.problem.puzzle b.classes
-    → AllByRecursion (λ k. k < length b.classes) chosen → Options b chosen
-options_of b [] classes all = record { reps = []; of_class = tt; options = tt }
+    → AllByRecursion (λ k. k < length b.classes) chosen → (reps : List ℕ) × AllZip (IsOfClass b) chosen reps
+options_of b [] classes all = ([], tt)
 options_of b (k ∷ chosen) classes all =
-    let first : (o : ℕ) × IsOfClass b k o = option_of b k classes all.0 in
-    let later : Options b chosen = options_of b chosen classes all.1 in
-    record {
-      reps = first.0 ∷ later.reps;
-      of_class = (first.1, later.of_class);
-      options = (first.1.0, later.options);
-    }
+    let first = option_of b k classes all.0 in
+    let later = options_of b chosen classes all.1 in
+    (first.0 ∷ later.0, (first.1, later.1))
 
 -- what stands for classes stands for their options
 stand : (b : Classes) (bodies : List (List (List ℕ))) (chosen reps : List ℕ)
@@ -72,39 +54,29 @@ stand b (words ∷ bodies) (k ∷ chosen) [] h g = absurd g
 stand b (words ∷ bodies) (k ∷ chosen) (o ∷ reps) h g = (h.0.1 o g.0, stand b bodies chosen reps h.1 g.1)
 
 -- the verdict by classes
-pub verdict_is : (b : Classes) (number : ℕ) (chosen : List ℕ) (cover : Bool) → IsSound b.problem
-    → AreClasses b.problem.puzzle b.classes → All (λ k. k < length b.classes) chosen
-    → ((reps : List ℕ) → AllZip (IsOfClass b) chosen reps → (IsTrue cover ↔ IsCoverOfClasses b.problem.puzzle reps))
-    → (bodies : List (List (List ℕ))) → AreChosen b bodies chosen
-    → AllZip (IsVerdictOn b.problem) (with_later (Some number) bodies (record { loose = []; solutions = [] }))
-    (record { number = number; cover = cover } ∷ [])
-verdict_is b number chosen cover sound classes all decided bodies are =
-    let options : Options b chosen =
-    options_of b chosen classes (recursion_from_All (λ k. k < length b.classes) chosen all) in
-    let counted = decided options.reps options.of_class in
-    let listed =
-    classes_decide b.problem bodies options.reps sound options.options
-    (stand b (filter (is_known b.problem) bodies) chosen options.reps are options.of_class) in
-    let verdict : IsTrue cover ↔ IsListedCover b.problem bodies =
-    (λ t. listed.1 (counted.0 t), λ c. counted.1 (listed.0 c)) in
-    let whole : bodies ++ [] ≡ bodies = append-nil bodies in
-    ((refl, subst (λ bs. IsTrue cover ↔ IsListedCover b.problem bs) (sym whole) verdict), tt)
-
 pub closed : (s : Progress) (number : ℕ) (chosen : List ℕ) (cover : Bool) (verdicts : List Verdict)
-    → IsSound s.options.problem → AreClasses s.options.problem.puzzle s.options.classes
-    → All (λ k. k < length s.options.classes) s.chosen
-    → chosen ≡ s.chosen → ((reps : List ℕ) → AllZip (IsOfClass s.options) chosen reps
+    → IsIndexed s.options → All (λ k. k < length s.options.classes) s.chosen → chosen ≡ s.chosen
+    → ((reps : List ℕ) → AllZip (IsOfClass s.options) chosen reps
     → (IsTrue cover ↔ IsCoverOfClasses s.options.problem.puzzle reps)) → s.open_number ≡ Some number
     → verdicts ≡ s.verdicts ++ record { number = number; cover = cover } ∷ []
     → Closes s (record s { verdicts = verdicts })
-closed s number chosen cover verdicts sound classes all same decided e f =
-    let vs : List Verdict = record { number = number; cover = cover } ∷ [] in
-    let decides : (reps : List ℕ) → AllZip (IsOfClass s.options) s.chosen reps
-    → (IsTrue cover ↔ IsCoverOfClasses s.options.problem.puzzle reps) =
-    rw same at decided in (
-      vs,
+closed s number chosen cover verdicts indexed all same decided e f =
+    let b = s.options in
+    let p = b.problem in
+    let options = options_of b s.chosen indexed.classes (recursion_from_All (λ k. k < length b.classes) s.chosen all) in
+    let reps = options.0 in
+    let known : AllByRecursion (IsOption p.puzzle) reps =
+    by_pairs (IsOfClass b) (λ ks os. AllByRecursion (IsOption p.puzzle) os) tt (λ k o ks os h later. (h.0, later))
+    s.chosen reps options.1 in
+    let counted = (rw same at decided) reps options.1 in (
+      record { number = number; cover = cover } ∷ [],
       f,
-      λ bodies are. rw e (verdict_is s.options number s.chosen cover sound classes all decides bodies are),
+      λ bodies are.
+          let listed =
+          classes_decide p bodies reps indexed.sound known
+          (stand b (filter (is_known p) bodies) s.chosen reps are options.1)
+          in
+          rw (e, append-nil bodies) ((refl, (λ t. listed.1 (counted.0 t), λ c. counted.1 (listed.0 c))), tt),
     )
 
 abbrev pub progress : Classes → Option ℕ → List ℕ → List Verdict → Progress
@@ -140,29 +112,11 @@ fault_said p begun n (Body words) =
     else if is_known p words || is_none p words then None else Some (UnknownOption n)
 fault_said p begun n Other = Some (BadLine n)
 
-line-said : (p : Named) (begun : Bool) (n : ℕ) (o : Option ℕ) (b : Option (List (List ℕ)))
-    → (if is_some o then None else elim (if begun then b else None) as (λ _. Option ListingFault) [
-      | None ↦
-          Some (BadLine n)
-      | Some words ↦ if is_known p words || is_none p words then None else Some (UnknownOption n)
-    ])
-    ≡ fault_said p begun n (elim o as (λ _. Line) [
-      | Some m ↦ Header m
-      | None ↦
-          elim b as (λ _. Line) [ Some words ↦ Body words | None ↦ Other ]
-    ])
-line-said p begun n (Some m) b = refl
-line-said p true n None None = refl
-line-said p false n None None = refl
-line-said p true n None (Some words) = refl
-line-said p false n None (Some words) = refl
-
 -- the first fault by what the first line says
 pub lines-cons : (p : Named) (n : ℕ) (line : List ℕ) (lines : List (List ℕ))
     → fault_in_lines p n (line ∷ lines) ≡ option_or (fault_said p (not (n == 0)) (min (n + 1) (2 ^ 64 - 1))
     (read line)) (fault_in_lines p (n + 1) lines)
-lines-cons p n line lines = ap (λ o. option_or o (fault_in_lines p (n + 1) lines))
-    (line-said p (not (n == 0)) (min (n + 1) (2 ^ 64 - 1)) (header_number line) (body_of line))
+lines-cons p n line lines = grind (arith, nat_tests)
 
 no_fault-at : (p : Named) (done : ℕ) (line : List ℕ) (rest : List (List ℕ)) (said : Line) → read line ≡ said
     → fault_said p (not (done == 0)) (min (done + 1) (2 ^ 64 - 1)) said ≡ None
@@ -177,19 +131,10 @@ header_taken s new number closes all done line rest e h = record {
   bodies = [];
   are_chosen = tt;
   verdicts = λ vs z. (
-      let p = s.options.problem in
-      let later = listing_of rest in
-      let first : List Solution = with_later s.open_number h.bodies (record { loose = []; solutions = [] }) in
-      let solutions : List Solution = with_later (Some number) [] later in
-      let both : AllZip (IsVerdictOn p) (first ++ solutions) (closes.0 ++ vs) =
-      AllZip-append (IsVerdictOn p) first solutions closes.0 vs (closes.2 h.bodies h.are_chosen) z in
-      let same : with_later s.open_number h.bodies (listing_of (line ∷ rest)) ≡ first ++ solutions =
-      cc (e, empty-append s.open_number h.bodies solutions) in
-      let whole : AreVerdicts p all (s.verdicts ++ (closes.0 ++ vs)) =
-      h.verdicts (closes.0 ++ vs) (subst (λ ss. AllZip (IsVerdictOn p) ss (closes.0 ++ vs)) (sym same) both) in
-      let grown : s.verdicts ++ (closes.0 ++ vs) ≡ new.verdicts ++ vs =
-      sym (append_assoc s.verdicts closes.0 vs) ∙ ap (λ us. us ++ vs) (sym closes.1) in
-      subst (AreVerdicts p all) grown whole
+      let later = with_later (Some number) [] (listing_of rest) in
+      let whole = rw (e, empty-append s.open_number h.bodies later) at (h.verdicts (closes.0 ++ vs)) in
+      rw (closes.1, append_assoc s.verdicts closes.0 vs)
+      (whole (AllZip-append _ _ _ _ _ (closes.2 h.bodies h.are_chosen) z))
       );
   no_fault = h.no_fault ∙ no_fault-at s.options.problem done line rest (Header number) e refl;
 }
@@ -199,43 +144,23 @@ body_taken : (s : Progress) (words : List (List ℕ)) (chosen : List ℕ) → is
     → ((bodies : List (List (List ℕ))) → AreChosen s.options bodies s.chosen
     → AreChosen s.options (bodies ++ words ∷ []) chosen) → Takes (Body words) s (record s { chosen = chosen })
 body_taken s words chosen some good more all done line rest e h =
-    let p = s.options.problem in
-    let n = min (done + 1) (2 ^ 64 - 1) in
     let begun : not (done == 0) ≡ true = sym h.begun ∙ some in
-    let fine : fault_said p (not (done == 0)) n (Body words) ≡ None = cc (begun, good) in
-    let same : with_later s.open_number h.bodies (listing_of (line ∷ rest)) ≡ with_later s.open_number
-    (h.bodies ++ words ∷ []) (listing_of rest) =
-    cc (e, body-later s.open_number h.bodies words (listing_of rest)) in
+    let fine : fault_said s.options.problem (not (done == 0)) (min (done + 1) (2 ^ 64 - 1)) (Body words) ≡ None =
+    cc (begun, good) in
     record {
       begun = some ∙ not-first done;
       bodies = h.bodies ++ words ∷ [];
       are_chosen = more h.bodies h.are_chosen;
-      verdicts = λ vs z. h.verdicts vs (subst (λ ss. AllZip (IsVerdictOn p) ss vs) (sym same) z);
-      no_fault = h.no_fault ∙ no_fault-at p done line rest (Body words) e fine;
+      verdicts = λ vs. rw (e, ← body-later s.open_number h.bodies words (listing_of rest)) at (h.verdicts vs);
+      no_fault = h.no_fault ∙ no_fault-at s.options.problem done line rest (Body words) e fine;
     }
 
 -- what stands for a class is known
 known : (b : Classes) (words : List (List ℕ)) (k : ℕ) → AreClasses b.problem.puzzle b.classes
     → IsClassOfBody b words (Some k) → is_known b.problem words ≡ true
 known b words k classes h =
-    let o : (o : ℕ) × IsOfClass b k o = option_of b k classes h.0 in
-    at o.0 o.1.0 (h.1 o.0 o.1)
-  where
-    at : (o : ℕ) → IsOption b.problem.puzzle o → stands_for b.problem words o ≡ true → is_known b.problem words ≡ true
-    at zero l e = absurd (omega (arith, l.0))
-    at (suc j) l e =
-        let get = slice_get-get_or b.problem.puzzle.options j [] (omega (arith, l.1)) in
-        any_passes_from_place (is_body b.problem words) b.problem.puzzle.options j _ get
-        (ap (λ us. is_body b.problem words (unwrap_or us [])) (sym get) ∙ e)
-
-filter-known : (p : Named) (bodies : List (List (List ℕ))) (words : List (List ℕ)) → is_known p words ≡ true
-    → filter (is_known p) (bodies ++ words ∷ []) ≡ filter (is_known p) bodies ++ words ∷ []
-filter-known p bodies words e = cc (filter-append (is_known p) bodies (words ∷ []), e)
-
-filter-other : (p : Named) (bodies : List (List (List ℕ))) (words : List (List ℕ)) → is_known p words ≡ false
-    → filter (is_known p) (bodies ++ words ∷ []) ≡ filter (is_known p) bodies
-filter-other p bodies words e = filter-append (is_known p) bodies (words ∷ [])
-    ∙ ap (λ t. filter (is_known p) bodies ++ (if t then words ∷ [] else [])) e ∙ append-nil (filter (is_known p) bodies)
+    let o = option_of b k classes h.0 in
+    any-in (is_body b.problem words) b.problem.puzzle.options _ (uses-in b.problem.puzzle o.0 o.1.0) (h.1 o.0 o.1)
 
 pub class_taken : (s : Progress) (words : List (List ℕ)) (k : ℕ) (chosen : List ℕ)
     → AreClasses s.options.problem.puzzle s.options.classes → IsClassOfBody s.options words (Some k)
@@ -244,40 +169,18 @@ pub class_taken : (s : Progress) (words : List (List ℕ)) (k : ℕ) (chosen : L
 class_taken s words k chosen classes h some e =
     let p = s.options.problem in
     let is : is_known p words ≡ true = known s.options words k classes h in
-    let R : List (List ℕ) → ℕ → Type 0 = λ ws j. IsClassOfBody s.options ws (Some j) in
     body_taken s words chosen some (ap (λ t. t || is_none p words) is) (λ bodies are.
-    subst (λ bs. AllZip R bs chosen) (sym (filter-known p bodies words is))
-    (rw e (AllZip-append R (filter (is_known p) bodies) (words ∷ []) s.chosen (k ∷ []) are (h, tt))))
+    rw (filter-append (is_known p) bodies (words ∷ []), is, e)
+    (AllZip-append (λ ws j. IsClassOfBody s.options ws (Some j)) _ (words ∷ []) _ (k ∷ []) are (h, tt)))
 
 pub none_taken : (s : Progress) (words : List (List ℕ)) → IsClassOfBody s.options words None
     → is_none s.options.problem words ≡ true → is_some s.open_number ≡ true → Takes (Body words) s s
 none_taken s words h e some =
     let p = s.options.problem in
-    let R : List (List ℕ) → ℕ → Type 0 = λ ws j. IsClassOfBody s.options ws (Some j) in
-    body_taken s words s.chosen some (ap (λ t. t || is_none p words) h ∙ e)
-    (λ bodies are. subst (λ bs. AllZip R bs s.chosen) (sym (filter-other p bodies words h)) are)
+    body_taken s words s.chosen some (ap (λ t. t || is_none p words) h ∙ e) (λ bodies are.
+    rw (filter-append (is_known p) bodies (words ∷ []), h, append-nil (filter (is_known p) bodies)) are)
 
 -- THE WHOLE PASS
--- the fault of a line that is refused is the first one
-pub refused : (p : Named) (all : List (List ℕ)) (done number : ℕ) (line : List ℕ) (left others : List (List ℕ))
-    (s : Progress) (e : ListingFault) → s.options.problem ≡ p → left ≡ line ∷ others
-    → number ≡ min (done + 1) (2 ^ 64 - 1) → IsProgress all done left s → Refuses number (read line) s e
-    → IsListingFault p all e
-refused p all done number line left others s e of_problem cut count progress refuses =
-    subst (λ (q : Named). IsListingFault q all e) of_problem
-    (refuses all done line others refl count
-    (subst (λ (ls : List (List ℕ)). IsProgress all done ls s) cut progress))
-
--- nothing is left: the verdicts are those on all solutions
-pub judged : (p : Named) (all : List (List ℕ)) (done : ℕ) (left : List (List ℕ)) (s : Progress) (vs : List Verdict)
-    → s.options.problem ≡ p → left ≡ []
-    → IsProgress all done left s
-    → ((all : List (List ℕ)) (done : ℕ) → IsProgress all done [] s → AreVerdicts s.options.problem all vs)
-    → AreVerdicts p all vs
-judged p all done left s vs of_problem none progress finished =
-    subst (λ (q : Named). AreVerdicts q all vs) of_problem
-    (finished all done (subst (λ (ls : List (List ℕ)). IsProgress all done ls s) none progress))
-
 pub ends : (rest : List ℕ) (empty : Bool) → empty ≡ (length rest == 0) → empty ≡ true → lines_of rest ≡ []
 ends [] empty is e = refl
 ends (b ∷ rest) empty is e = let none = eqb-true (length (b ∷ rest)) 0 (sym is ∙ e) in absurd (omega (arith, none))

@@ -1,10 +1,9 @@
-use Rattle.std.proofs.Common.{refl, ◌∙◌, ap, subst}
+use Rattle.std.proofs.Common.{◌∙◌, ap, subst}
 use Rattle.std.proofs.lemmas.Result.{err_from_is_err_and}
 use Rattle.xc_input.specs.Lines.{lines_of}
 use Rattle.xc_input.specs.Named.{Named, IsSound}
-use Rattle.xc_list.specs.Listed.{IsListingFault}
+use Rattle.xc_list.specs.Listed.{IsListingFault, AreVerdicts}
 use Rattle.xc_list.specs.inner.Classes.{Classes}
-use Rattle.xc_list.proofs.CheckLemmas.CheckedLines.{judged}
 use Rattle.xc_list.proofs.OutputLemmas.ListedCovers.{wants_memory, all_yes}
 use Rattle.xc_list.proofs.checker.check.Goals as goal
 
@@ -28,12 +27,10 @@ pub returns-clause-verdicts : goal.returns-clause-verdicts
 returns-clause-verdicts c =
     let taken = c.in_ok-take_lines.ensures.taken in
     let problem = ap (λ (b : Classes). b.problem) c.take_lines.ensures.options ∙ c.in_ok-checker.ensures.problem in
-    judged c.args.problem.now _ taken.done _ c.take_lines.new.self _ problem refl taken.progress c.in_ok-finish.ensures
+    subst (λ (p : Named). AreVerdicts p (lines_of c.args.listing.now) c.in_ok-finish.field-0.items) problem
+    (c.in_ok-finish.ensures _ taken.done taken.progress)
 
 pub returns-clause-outputs : goal.returns-clause-outputs
 returns-clause-outputs c = λ spacing limit fits named is.
-    let taken = c.in_ok-take_lines.ensures.taken in
-    let problem = ap (λ (b : Classes). b.problem) c.take_lines.ensures.options ∙ c.in_ok-checker.ensures.problem in
-    let verdicts = judged _ _ _ _ _ _ problem refl taken.progress c.in_ok-finish.ensures in
-    all_yes _ _ _ _ _
-    (subst IsSound c.in_ok-checker.ensures.problem c.in_ok-checker.ensures.sound) named fits is verdicts
+    all_yes _ _ _ _ _ (subst IsSound c.in_ok-checker.ensures.problem c.in_ok-checker.ensures.sound) named fits is
+    (returns-clause-verdicts c)

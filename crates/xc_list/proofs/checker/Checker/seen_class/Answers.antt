@@ -5,6 +5,5 @@ use Rattle.xc_list.proofs.checker.Checker.seen_class.Goals as goal
 
 pub returns-in-32 : goal.returns-in-32
 returns-in-32 c =
-    let fact = found-rightly c.self.inside.options c.self.inside.seen.lines.items c.args.line.now c.class_of.result
-    c.self.invariant.seen c.class_of.ensures in
+    let class = found-rightly c.self.inside.options _ _ c.class_of.result c.self.invariant.seen c.class_of.ensures in
     grind (arith, nat_tests, c.self.view_is)

@@ -34,7 +34,7 @@ returns-in_ok-take_class-in-Ok-Some-clause-takes c =
     let s : Progress = progress i.options i.open_number i.chosen.items i.verdicts.items in
     let class : IsClassOfBody c.class_of.new.self words (Some c.in-Ok-Some.class) =
     grind (arith, nat_tests, c.class_of.ensures.same, c.in-Ok-Some.field-0-is, c.in-Ok-Some.ensures.class) in
-    let fact = ap (λ (b : Classes). record s { options = b }) c.class_of.ensures.same ∙ c.self.view_is in
+    let same = ap (λ (b : Classes). record s { options = b }) c.class_of.ensures.same ∙ c.self.view_is in
     grind (arith, nat_tests, c.in_ok-take_class-in-Ok-Some.ensures.takes words class)
 
 pub returns-in-Ok-None-clause-takes : goal.returns-in-Ok-None-clause-takes

@@ -1,8 +1,9 @@
-use Rattle.std.proofs.Common.{refl, ◌∙◌, ◌+◌, ap, arith}
+use Rattle.std.proofs.Common.{refl, ◌∙◌, ◌+◌, arith, subst}
+use Rattle.xc_list.specs.Listed.{IsListingFault}
 use Rattle.std.proofs.lemmas.Result.{err_from_is_err_and}
 use Rattle.xc_input.specs.Lines.{lines_of}
 use Rattle.xc_list.specs.inner.Classes.{Classes}
-use Rattle.xc_list.proofs.CheckLemmas.CheckedLines.{refused, ends}
+use Rattle.xc_list.proofs.CheckLemmas.CheckedLines.{ends}
 use Rattle.xc_list.proofs.checker.Checker.take_lines.Goals as goal
 
 pub loop-rest-init : goal.loop-rest-init
@@ -34,5 +35,8 @@ pub returns-in_err-take_line-clause-fault : goal.returns-in_err-take_line-clause
 returns-in_err-take_line-clause-fault c =
     let so_far = c.loop-rest.invariant in
     let p = err_from_is_err_and c.from_residual.result c.from_residual.ensures.1 in
-    rw (p.1, p.2) (refused _ _ _ _ _ _ _ _ _ (ap (λ (b : Classes). b.problem) so_far.options) c.cut_line.ensures.lines
-    (omega (arith, so_far.count, c.saturating_add-lines.ensures)) so_far.progress c.in_err-take_line.ensures.fault)
+    let first = c.in_err-take_line.ensures.fault _ so_far.done _ _ refl
+    (omega (arith, so_far.count, c.saturating_add-lines.ensures)) (rw c.cut_line.ensures.lines at so_far.progress) in
+    let fault = c.in_err-take_line.field-0.0 in
+    rw (p.1, p.2) (subst (λ (b : Classes). IsListingFault b.problem (lines_of c.args.listing.now) fault)
+    so_far.options first)
