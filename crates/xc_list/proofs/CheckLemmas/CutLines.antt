@@ -3,7 +3,6 @@ use Rattle.std.proofs.lemmas.Bool.Decides.{nat_tests}
 use Rattle.std.proofs.lemmas.List.{take_rest}
 use Rattle.std.proofs.Common.{◌≡◌, ℕ, zero, suc, ◌+◌, ◌-◌, ◌<◌, Bool, true, false, nat_eq, List, [], ◌∷◌, ◌++◌, length}
 use Rattle.std.proofs.Common.{take, drop, get_or, refl, sym, ap, ◌∙◌, append_assoc, add-one, arith, if◌then◌else◌}
-use Rattle.std.proofs.Common.{Option, None, MatchOption, subst}
 use Rattle.std.specs.List.{onto_first}
 use Rattle.std.proofs.lemmas.Bool.{eqb-true}
 use Rattle.xc_input.specs.Words.{has}
@@ -53,14 +52,10 @@ one_word [] h = refl
 one_word (x ∷ word) h = let apart = or-false (nat_eq x 32) (has 32 word) h in other x _ _ apart.0
     ∙ ap (onto_first x) (one_word word apart.1)
 
-first : (word rest : List ℕ) → has 32 word ≡ false → words_in (word ++ 32 ∷ rest) ≡ word ∷ words_in rest
-first [] rest h = refl
-first (x ∷ word) rest h = let apart = or-false (nat_eq x 32) (has 32 word) h in other x _ _ apart.0
-    ∙ ap (onto_first x) (first word rest apart.1)
-
-pub first_word : (text word rest : List ℕ) → has 32 word ≡ false → text ≡ word ++ 32 ∷ rest
-    → words_in text ≡ word ∷ words_in rest
-first_word text word rest h e = ap words_in e ∙ first word rest h
+pub first_word : (word rest : List ℕ) → has 32 word ≡ false → words_in (word ++ 32 ∷ rest) ≡ word ∷ words_in rest
+first_word [] rest h = refl
+first_word (x ∷ word) rest h = let apart = or-false (nat_eq x 32) (has 32 word) h in other x _ _ apart.0
+    ∙ ap (onto_first x) (first_word word rest apart.1)
 
 onto_first-some : (x : ℕ) (ws : List (List ℕ)) → 0 < length (onto_first x ws)
 onto_first-some x [] = omega arith
@@ -84,7 +79,3 @@ last (x ∷ front) word h = grind (arith, nat_tests, last front word h, some_wor
 pub last_word : (text front word : List ℕ) → has 32 word ≡ false → text ≡ front ++ 32 ∷ word
     → words_in text ≡ words_in front ++ word ∷ []
 last_word text front word h e = ap words_in e ∙ last front word h
-
--- what holds where nothing was cut
-pub none-cut : {A : Type 0} (r : Option A) (N : Type 0) (P : A → Type 0) → r ≡ None → N → MatchOption r N P
-none-cut r N P e n = subst (λ q. MatchOption q N P) (sym e) n

@@ -1,6 +1,6 @@
 -- Classes found by their uses.
 use Rattle.xc_list.specs.inner.Classes.{same_uses}
-use Rattle.std.proofs.Common.{ℕ, suc, ◌≡◌, ◌<◌, if◌then◌else◌, Option, Bool, true, false, List, [], ◌∷◌, ◌++◌, length}
+use Rattle.std.proofs.Common.{ℕ, suc, ◌≡◌, ◌<◌, if◌then◌else◌, Option, true, false, List, [], ◌∷◌, ◌++◌, length}
 use Rattle.std.proofs.Common.{map, get_or, position, Some, None, refl, sym, ap, ◌∙◌, arith, subst}
 use Rattle.std.specs.Prelude.{Vec, IsTrue, slice_get, unwrap_or}
 use Rattle.std.specs.List.{list_any}
@@ -18,7 +18,7 @@ use Rattle.xc_list.specs.ListingLines.{words_in}
 use Rattle.xc_list.specs.Output.{rotated_at, use_word}
 use Rattle.xc_list.specs.Listed.{is_body, is_known, stands_for}
 use Rattle.xc_list.specs.inner.Classes.{IsOfClass, IsClassOfBody, class_of, class_at}
-use Rattle.xc_list.specs.inner.OptionIndex.{HaveWords, IsReading, IsOptionIndex, key_uses}
+use Rattle.xc_list.specs.inner.OptionIndex.{HaveWords, IsOptionIndex, key_uses}
 use Rattle.xc_list.proofs.CheckLemmas.Rotations.{DifferInItems, class_start, class-turned, turned-alike, differ-turned}
 use Rattle.xc_list.proofs.CheckLemmas.Rotations.{turned-differ}
 use Rattle.xc_list.proofs.CheckLemmas.BodiesOfClasses.{uses-same, All-turned, body-is, is-body, same_uses_by_words}
@@ -131,14 +131,3 @@ module _ (p : Named) (keys : List (Vec Use Global)) (counts : List ℕ) (b : IsO
 pub some-uses : (p : Named) (text : List ℕ) (us : List Use) → HaveWords p (words_in text) us → 0 < length us
 some-uses p text [] h = (let w = words-some text in let e : [] ≡ words_in text = h.words_so in cc)
 some-uses p text (u ∷ us) h = omega arith
-
--- what was read or wasn't
-pub was_read : (p : Named) (words : List (List ℕ)) (r : Bool) (us : List Use) → r ≡ true → IsReading p words r us
-    → HaveWords p words us
-was_read p words true us e h = h
-was_read p words false us e h = cc
-
-pub not_read : (p : Named) (words : List (List ℕ)) (r : Bool) (us : List Use) → r ≡ false → IsReading p words r us
-    → (vs : List Use) → HaveWords p words vs → ⊥
-not_read p words true us e h = cc
-not_read p words false us e h = h

@@ -9,13 +9,6 @@ use Rattle.xc_list.specs.declared.checker.seen_lines.SeenLine.{SeenLine}
 use Rattle.xc_list.specs.inner.Classes.{Classes}
 use Rattle.xc_list.specs.inner.SeenLines.{IsFoundIn, IsNotedIn, IsClassOfLine, IsRightly}
 
--- at a line's own class
-of_class : (b : Classes) (l : SeenLine) (line : List ℕ) (o : Option ℕ) (class : ℕ) → o ≡ Some class
-    → l.line.items ≡ line → IfSome o (IsClassOfLine b l.line.items) → IsClassOfLine b line class
-of_class b l line None class e f h = cc
-of_class b l line (Some k) class e f h =
-    (let same : k ≡ class = cc in subst (λ x. IsClassOfLine b x class) f (subst (IsClassOfLine b l.line.items) same h))
-
 -- a line that stands at a place is found there
 pub found-at : (lines : List SeenLine) (place : ℕ) (l : SeenLine) (line text : List ℕ) → place < length lines
     → l ≡ get_or lines place l → pointwise (λ a b. a == b) text line ≡ true → text ≡ l.line.items
@@ -32,8 +25,7 @@ found-at lines place l line text within at equal is =
 pub found-rightly : (b : Classes) (lines : List SeenLine) (line : List ℕ) (r : Option ℕ) → All (IsRightly b) lines
     → IfSome r (IsFoundIn lines line) → IfSome r (IsClassOfLine b line)
 found-rightly b lines line None all h = tt
-found-rightly b lines line (Some k) all h =
-    of_class b h.0 line h.0.class k h.3 h.2 (All-contains (IsRightly b) lines h.0 all h.1)
+found-rightly b lines line (Some k) all h = rw (h.3, h.2) at (All-contains (IsRightly b) lines h.0 all h.1)
 
 rightly : (b : Classes) (l : SeenLine) (line : List ℕ) (class : ℕ) (o : Option ℕ) → IsClassOfLine b line class
     → IfSome o (λ k. (k ≡ class) × (l.line.items ≡ line)) → IfSome o (IsClassOfLine b l.line.items)

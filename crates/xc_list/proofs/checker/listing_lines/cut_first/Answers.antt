@@ -1,11 +1,11 @@
 use Rattle.std.proofs.Common.{refl, arith}
 use Rattle.xc_input.proofs.TokenLemmas.Bytes.{has-all, not_false}
-use Rattle.xc_list.proofs.CheckLemmas.CutLines.{first_cut, none-cut}
+use Rattle.xc_list.proofs.CheckLemmas.CutLines.{first_cut}
 use Rattle.xc_list.proofs.checker.listing_lines.cut_first.Goals as goal
 
 pub returns-in_err-k : goal.returns-in_err-k
 returns-in_err-k c =
-    none-cut _ _ _ c.from_residual.ensures (has-all _ _ (λ k p. not_false _ (c.in_err-k.ensures k (omega arith) p))).0
+    rw c.from_residual.ensures (has-all _ _ (λ k p. not_false _ (c.in_err-k.ensures k (omega arith) p))).0
 
 pub returns : goal.returns
 returns c =

@@ -1,11 +1,11 @@
 use Rattle.std.proofs.Common.{refl, arith}
 use Rattle.xc_input.proofs.TokenLemmas.Bytes.{has-all, not_false}
-use Rattle.xc_list.proofs.CheckLemmas.CutLines.{last_cut, last_word, none-cut, one_word}
+use Rattle.xc_list.proofs.CheckLemmas.CutLines.{last_cut, last_word, one_word}
 use Rattle.xc_list.proofs.checker.listing_lines.cut_last_word.Goals as goal
 
 pub returns-in_err-k : goal.returns-in_err-k
 returns-in_err-k c =
-    none-cut _ _ _ c.from_residual.ensures
+    rw c.from_residual.ensures
     (one_word c.args.text.now
     (has-all 32 c.args.text.now (λ k p. not_false _ (c.in_err-k.ensures k (omega arith) p))).0)
 

@@ -1,4 +1,5 @@
-use Rattle.std.proofs.Common.{arith}
+use Rattle.std.proofs.Common.{arith, ap, ◌∙◌}
+use Rattle.xc_list.specs.ListingLines.{words_in}
 use Rattle.std.proofs.lemmas.Grind.{common_steps}
 use Rattle.xc_list.proofs.CheckLemmas.CutLines.{first_word, one_word}
 use Rattle.xc_list.proofs.checker.listing_lines.cut_word.Goals as goal
@@ -6,7 +7,7 @@ use Rattle.xc_list.proofs.checker.listing_lines.cut_word.Goals as goal
 pub returns-in-Some : goal.returns-in-Some
 returns-in-Some c =
     let e = c.in-Some.ensures.1 in (
-      first_word c.args.text.now c.in-Some.word.now c.in-Some.rest.now c.in-Some.ensures.0 e,
+      ap words_in e ∙ first_word _ _ c.in-Some.ensures.0,
       grind
           (arith, common_steps, e),
     )

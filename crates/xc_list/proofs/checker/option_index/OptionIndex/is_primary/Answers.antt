@@ -7,13 +7,13 @@ use Rattle.xc_list.proofs.checker.option_index.OptionIndex.is_primary.Goals as g
 pub returns-in-Some : goal.returns-in-Some
 returns-in-Some c =
     let p = c.self.inside.problem.now in
-    let name = c.args.name.now in
-    let fact = any-take-number (bytes_eq name) p.names c.in-Some.item (primary_count p.puzzle) (sym c.find.ensures.value
-    ∙ c.in-Some.is) in
+    let primary = any-take-number (bytes_eq c.args.name.now) p.names _ (primary_count p.puzzle)
+    (sym c.find.ensures.value ∙ c.in-Some.is) in
     cc (c.primary.ensures.value, c.self.view_is)
 
 pub returns-in-None : goal.returns-in-None
 returns-in-None c =
-    let fact = any-take-no_number (bytes_eq c.args.name.now) c.self.inside.problem.now.names (primary_count
-    c.self.inside.problem.now.puzzle) (sym c.find.ensures.value ∙ c.in-None.is) in
+    let p = c.self.inside.problem.now in
+    let none = any-take-no_number (bytes_eq c.args.name.now) p.names (primary_count p.puzzle)
+    (sym c.find.ensures.value ∙ c.in-None.is) in
     cc (c.self.view_is)

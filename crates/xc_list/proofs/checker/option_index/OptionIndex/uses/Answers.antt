@@ -5,6 +5,5 @@ use Rattle.xc_list.proofs.checker.option_index.OptionIndex.uses.Goals as goal
 
 pub returns-clause-known : goal.returns-clause-known
 returns-clause-known c =
-    let fact = known-uses c.self.inside.problem.now c.self.inside.classes.keys c.self.inside.sizes.items
-    c.self.invariant c.args.class c.in-Some.uses.now c.in-Some.ensures.key in
+    let known = known-uses _ _ _ c.self.invariant c.args.class _ c.in-Some.ensures.key in
     grind (arith, nat_tests, c.self.view_is, c.as_slice.ensures.value)

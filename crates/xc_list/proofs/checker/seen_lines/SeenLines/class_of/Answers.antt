@@ -6,7 +6,7 @@ use Rattle.xc_list.proofs.checker.seen_lines.SeenLines.class_of.Goals as goal
 
 pub returns-then-eq : goal.returns-then-eq
 returns-then-eq c =
-    let fact = found-at c.deref.result.now c.slot_of.result c.in_ok-seen.seen.now c.args.line.now c.as_slice.result.now
-    c.in_ok-seen.ensures.lookup.3.0 (c.in_ok-seen.ensures.lookup.3.1 c.in_ok-seen.seen.now) (sym c.eq.ensures
+    let found = found-at c.deref.result.now _ _ c.args.line.now _ c.in_ok-seen.ensures.lookup.3.0
+    (c.in_ok-seen.ensures.lookup.3.1 c.in_ok-seen.seen.now) (sym c.eq.ensures
     ∙ c.if-eq.true) c.as_slice.ensures.value in
     grind (arith, nat_tests, c.deref.ensures.value)
