@@ -62,10 +62,11 @@ pub body-class : (p : Named) (words : List (List ℕ)) → IsSound p → (us vs 
     → All (IsKnownUse p) vs → DifferInItems us → DifferInItems vs →
     is_body p words us ≡ true → is_body p words vs ≡ true → class_of us ≡ class_of vs
 body-class p words s us vs a b d e h k =
-    let fact = same_uses_by_words p s (rotated_at (body-is p words us h).0 us) (rotated_at (body-is p words vs k).0 vs)
-    (All-turned (IsKnownUse p) (body-is p words us h).0 us a) (All-turned (IsKnownUse p) (body-is p words vs k).0 vs b)
-    ((body-is p words us h).2 ∙ sym (body-is p words vs k).2) in
-    cc (class-turned (body-is p words us h).0 us d, class-turned (body-is p words vs k).0 vs e)
+    let j = body-is p words us h in
+    let l = body-is p words vs k in
+    let same = same_uses_by_words p s (rotated_at j.0 us) (rotated_at l.0 vs) (All-turned (IsKnownUse p) j.0 us a)
+    (All-turned (IsKnownUse p) l.0 vs b) (j.2 ∙ sym l.2) in
+    sym (class-turned j.0 us d) ∙ ap class_of same ∙ class-turned l.0 vs e
 
 -- ---- equal uses
 

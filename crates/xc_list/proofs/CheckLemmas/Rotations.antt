@@ -145,7 +145,7 @@ pub class-turned : (k : ℕ) (us : List Use) → DifferInItems us → class_of (
 class-turned zero [] d = refl
 class-turned (suc k) [] d = refl
 class-turned k (u ∷ us) d =
-    let fact = item-turned (least_of (u ∷ us)) k (u ∷ us) d (least-held u us) in
+    let turned = item-turned (least_of (u ∷ us)) k (u ∷ us) d (least-held u us) in
     cc (least-swapped (take k (u ∷ us)) (drop k (u ∷ us)), take-append-drop k (u ∷ us))
 
 -- Uses of one class hold the same items, and turned to one of them they are the same.
