@@ -13,16 +13,12 @@ part g c =
 
 pub returns-in-Err-clause-plan : goal.returns-in-Err-clause-plan
 returns-in-Err-clause-plan g c =
-    let at = part g (goal.at.returns-in-Err-clause-plan g c).After-path in
-    planned_broke _ _ _ _ _ _ _ _ c.loop-found.invariant.planned at.0 at.1 c.in-Err.ensures
+    planned_broke _ _ c.path.result.now c.loop-found.invariant.planned
+    (part g (goal.at.returns-in-Err-clause-plan g c).After-path) c.in-Err.ensures
 
 pub loop-found-preserved : goal.loop-found-preserved
-loop-found-preserved g c =
-    let at = part g (goal.at.loop-found-preserved g c).After-path in
-    record {
-      still = rw (c.next.ensures.still, c.loop-found.invariant.still);
-      planned =
-          planned_more c.args.problem.now c.loop-found.found c.path.result.now c.loop-found.cut.to_come
-          c.next.new.self.to_come _ _ _
-          c.loop-found.invariant.planned at.0 at.1 c.in-Ok.ensures;
-    }
+loop-found-preserved g c = record {
+  still = rw (c.next.ensures.still, c.loop-found.invariant.still);
+  planned = planned_more _ _ c.path.result.now c.loop-found.invariant.planned
+      (part g (goal.at.loop-found-preserved g c).After-path) c.in-Ok.ensures;
+}
