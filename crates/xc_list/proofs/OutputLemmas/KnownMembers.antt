@@ -1,40 +1,37 @@
 -- The choices of a member can be told, and the counts in them are small.
+use Rattle.xc_input.proofs.lists.Members.{IsIn, in-map, in-filter, in-append, each_in, each_from, in-take}
+use Rattle.xc_search.proofs.listing.Numbering.{with_bounds, numbered_at, uses_known}
+use Rattle.xc_search.proofs.listing.EachBranch.{in-level, branch_item-in, takes, nones}
+use Rattle.xc_search.proofs.Cases.{by_option, by_bool}
+use Rattle.xc_search.proofs.completeness.Proper.{item-spend_one, goes_on}
+use Rattle.xc_input.specs.Problem.{numbered_options}
+use Rattle.xc_input.proofs.lists.Filters.{length-filter-le}
+use Rattle.xc_dance.proofs.MoveLemmas.ListLemmas.{length-numbered_from}
+use Rattle.std.proofs.Common.{inl, inr}
 use Rattle.std.proofs.Common.{◌<◌}
 use Rattle.std.proofs.lemmas.List.{length-take}
-use Rattle.std.proofs.lemmas.List.Sums.{length-filter, count_by-le-length}
-use Rattle.std.proofs.lemmas.Bool.Decides.{nat_tests}
-use Rattle.std.proofs.Common.{◌≡◌, ℕ, zero, suc, ◌+◌, ◌≤◌, Bool, true, false, cond, not, ◌&&◌, List, [], ◌∷◌, Option}
-use Rattle.std.proofs.Common.{None, Some, length, take, filter, refl, sym, ap, ◌∙◌, arith, subst, nat_lt}
-use Rattle.xc_search.proofs.Spent.{less_one}
+use Rattle.std.proofs.Common.{◌≡◌, ℕ, zero, suc, ◌+◌, ◌≤◌, true, not, List, [], ◌∷◌}
+use Rattle.std.proofs.Common.{length, take, sym, ap, ◌∙◌, arith, subst}
 use Rattle.xc_search.specs.inner.Sizes.{size_of}
-use Rattle.xc_input.proofs.OptionLemmas.NumberedOptions.{numbered_from}
-use Rattle.xc_input.specs.declared.problem.Bounds.{Bounds}
-use Rattle.std.specs.Prelude.{All, flat_map, unwrap_or, is_some, nat_le, ◌==◌}
-use Rattle.std.specs.List.{enumerate_from, best_of}
+use Rattle.std.specs.Prelude.{All, is_some, ◌==◌}
+use Rattle.std.specs.List.{enumerate_from}
 use Rattle.std.proofs.lemmas.List.Elements.{All-from_recursion}
 use Rattle.std.specs.List.{AllByRecursion}
-use Rattle.xc_input.proofs.lists.EachElement.{each_weaker, each-append, each-map, each-filter, each_passes, each_both}
-use Rattle.xc_list.proofs.CheckLemmas.HeldItems.{each_take}
-use Rattle.xc_input.specs.declared.problem.Use.{Use}
+use Rattle.xc_input.proofs.lists.EachElement.{each_weaker}
 use Rattle.xc_search.specs.declared.choice.Choice.{Choice}
-use Rattle.xc_input.specs.Problem.{Puzzle, Numbered, numbered_get, uses_of, option_count, primary_count, holds}
+use Rattle.xc_input.specs.Problem.{Puzzle, Numbered, option_count, holds}
 use Rattle.xc_input.specs.Problem.{colour_in, IsPrimary}
-use Rattle.xc_search.specs.Listing.{Wanted, Residual, whole, wanted_from, branch_count, first_least, branch_item}
-use Rattle.xc_search.specs.Listing.{spend_one, stays, pick, none, Branch, take_branch, none_branch, branches_of, level}
+use Rattle.xc_search.specs.Listing.{Wanted, Residual, whole, branch_count, branch_item}
+use Rattle.xc_search.specs.Listing.{pick, none, Branch, branches_of}
 use Rattle.xc_search.specs.Listing.{listing_to, listing}
 use Rattle.xc_input.specs.Problem.{holding}
 use Rattle.xc_search.specs.Cover.{members}
 use Rattle.xc_list.specs.Known.{IsKnownChoice}
 
-abbrev IsKnownItem : Puzzle → Wanted → Type 0
-IsKnownItem p w = IsPrimary p w.item
-
-abbrev IsKnownOption : Puzzle → Numbered → Type 0
-IsKnownOption p o = (1 ≤ o.number) × (o.number ≤ option_count p) × (uses_of p o.number ≡ o.uses)
-
+-- a residual of a problem: its items are primary, and its options are some of the problem's
 record IsKnownResidual (p : Puzzle) (r : Residual) : Type 0 where
-  pub items : AllByRecursion (IsKnownItem p) r.items
-  pub options : AllByRecursion (IsKnownOption p) r.options
+  pub items : (w : Wanted) → IsIn r.items w → IsPrimary p w.item
+  pub options : (o : Numbered) → IsIn r.options o → IsIn (numbered_options p) o
   pub few : length r.options ≤ option_count p
 
 -- a choice whose counts are at most the options and one
@@ -50,142 +47,97 @@ record IsKnownBranch (p : Puzzle) (b : Branch) : Type 0 where
   pub choice : IsCounted p b.choice
   pub next : IsKnownResidual p b.next
 
-each-flat_map : {X Y : Type 0} (P : X → Type 0) (Q : Y → Type 0) (f : X → List Y) (xs : List X)
-    → ((x : X) → P x → AllByRecursion Q (f x)) → AllByRecursion P xs → AllByRecursion Q (flat_map f xs)
-each-flat_map P Q f [] step all = tt
-each-flat_map P Q f (x ∷ xs) step all =
-    each-append Q (f x) (flat_map f xs) (step x all.0) (each-flat_map P Q f xs step all.1)
-
 -- numbered elements, with numbers below b
 pub each_numbered : {X : Type 0} (P : X → Type 0) (a b : ℕ) (xs : List X) → a + length xs ≤ b → AllByRecursion P xs
     → AllByRecursion (λ (kx : ℕ × X). (kx.0 < b) × P kx.1) (enumerate_from a xs)
 each_numbered P a b [] h all = tt
 each_numbered P a b (x ∷ xs) h all = ((omega (arith, h), all.0), each_numbered P (a + 1) b xs (omega (arith, h)) all.1)
 
-fewer : {X : Type 0} (p : X → Bool) (xs : List X) (most : ℕ) → length xs ≤ most → length (filter p xs) ≤ most
-fewer p xs most h = omega (arith, length-filter p xs, count_by-le-length p xs)
-
-each_best : {X : Type 0} (P : X → Type 0) (beats : X → X → Bool) (x : X) (xs : List X) → P x → AllByRecursion P xs
-    → P (best_of beats x xs)
-each_best P beats x [] p all = p
-each_best P beats x (y ∷ ys) p all =
-    each_best P beats _ ys (elim (beats y x) as (λ b. P (cond b y x)) [ true ↦ all.0 | false ↦ p ]) all.1
-
-branch_known : (p : Puzzle) (count : Wanted → ℕ) (ws : List Wanted) (w : Wanted) → AllByRecursion (IsKnownItem p) ws
-    → first_least count ws ≡ Some w → IsKnownItem p w
-branch_known p count [] w all e = absurd (cc e)
-branch_known p count (v ∷ vs) w all e =
-    let same : best_of (λ x best. nat_lt (count x) (count best)) v vs ≡ w = cc e in
-    subst (IsKnownItem p) same (each_best (IsKnownItem p) _ v vs all.0 all.1)
-
-spend_item : (x : Numbered) (w : Wanted) → (spend_one x w).item ≡ w.item
-spend_item x w = grind (arith, nat_tests, less_one w)
-
 pick_known : (p : Puzzle) (r : Residual) (i : ℕ) (x : Numbered) → IsKnownResidual p r → IsKnownResidual p (pick r i x)
 pick_known p r i x known = record {
-  items = each-filter _ _ _
-      (each-map _ _ _ (each_weaker _ _ _ (λ w h. subst (IsPrimary p) (sym (spend_item x w)) h) known.items));
-  options = each-filter _ _ _ known.options;
-  few = fewer (λ o. not (holds o i && nat_le o.number x.number) && stays r x o) r.options (option_count p) known.few;
+  items = λ w h.
+      let from = in-map _ _ _ (in-filter _ _ _ h).0 in
+      subst (IsPrimary p) (sym (item-spend_one x from.0) ∙ ap (λ (w : Wanted). w.item) from.2)
+      (known.items from.0 from.1);
+  options = λ o h. known.options o (in-filter _ _ _ h).0;
+  few = omega (arith, length-filter-le (goes_on r i x) r.options, known.few);
 }
 
 none_known : (p : Puzzle) (r : Residual) (i : ℕ) → IsKnownResidual p r → IsKnownResidual p (none r i)
 none_known p r i known = record {
-  items = each-filter (IsKnownItem p) (λ w. not (w.item == i)) r.items known.items;
-  options = each-filter (IsKnownOption p) (λ o. not (holds o i)) r.options known.options;
-  few = fewer (λ o. not (holds o i)) r.options (option_count p) known.few;
+  items = λ w h. known.items w (in-filter _ _ _ h).0;
+  options = λ o h. known.options o (in-filter _ _ _ h).0;
+  few = omega (arith, length-filter-le (λ o. not (holds o i)) r.options, known.few);
 }
 
-branches_known : (p : Puzzle) (r : Residual) (w : Wanted) → IsKnownResidual p r → IsKnownItem p w
-    → AllByRecursion (IsKnownBranch p) (branches_of r w)
-branches_known p r w known item =
-    each-append _ _ _ (each-map _ _ _ (each_weaker _ _ _ taken
-    (each_numbered _ _ _ _ (omega (arith, length-take n (holding w.item r.options))) (each_take _ _ _
-    (each_both _ _ _ _ (λ o k h. (k, h)) (each-filter _ _ _ known.options)
-    (each_passes (λ o. holds o w.item) r.options))))))
-    (elim (w.low == 0) as (λ b. AllByRecursion (IsKnownBranch p) (cond b (none_branch r w.item n ∷ []) [])) [
-      | true ↦
-          (record { choice = record { known = (item, tt); k = few; n = few }; next = none_known p r w.item known }, tt)
-      | false ↦ tt
-    ])
+branch_known : (p : Puzzle) (r : Residual) (w : Wanted) (b : Branch) → IsKnownResidual p r → IsPrimary p w.item
+    → IsIn (branches_of r w) b → IsKnownBranch p b
+branch_known p r w b known item h = elim (in-append (takes r w) (nones r w) b h) [
+  | inl h ↦
+      let from = in-map _ _ _ h in
+      let at = each_in _ _ _ (each_numbered (IsIn held) 1 (n + 1) (take n held)
+      (omega (arith, length-take n held)) (each_from _ _ (λ o. in-take n held o))) from.1 in
+      let x = in-filter _ _ _ at.1 in
+      let number = numbered_at 0 p.options from.0.1 (known.options _ x.0) in
+      subst (IsKnownBranch p) from.2 (record {
+        choice = record {
+          known = (
+            item,
+            (
+              (omega (arith, number.1), omega (arith, number.1, number.2)),
+              subst (λ us. is_some (colour_in us w.item) ≡ true) (sym (uses_known p _ (known.options _ x.0))) x.1,
+            ),
+          );
+          k = omega (arith, at.0, few);
+          n = few;
+        };
+        next = pick_known p r w.item from.0.1 known;
+      })
+  | inr h ↦ by_bool (w.low == 0)
+      (λ e. elim (rw e at h) [
+        | inl q ↦ subst (IsKnownBranch p) q (record {
+          choice = record { known = (item, tt); k = few; n = few };
+          next = none_known p r w.item known;
+        })
+        | inr q ↦ absurd q
+      ])
+      (λ e. absurd (rw e at h))
+]
   where
     n : ℕ
     n = branch_count r w
 
-    options : List Numbered
-    options = take n (holding w.item r.options)
+    held : List Numbered
+    held = holding w.item r.options
 
     few : n ≤ option_count p + 1
-    few = let f = fewer (λ o. holds o w.item) r.options (option_count p) known.few in omega (arith, f)
+    few = omega (arith, length-filter-le (λ o. holds o w.item) r.options, known.few)
 
-    Held : Numbered → Type 0
-    Held o = IsKnownOption p o × (holds o w.item ≡ true)
+no_choice : (p : Puzzle) (m : List Choice) → IsIn ([] ∷ []) m → AreCounted p m
+no_choice p m (inl q) = subst (AreCounted p) q tt
+no_choice p m (inr q) = absurd q
 
-    taken : (kx : ℕ × Numbered) → (kx.0 < n + 1) × Held kx.1 → IsKnownBranch p (take_branch r w.item n kx)
-    taken kx h = record {
-      choice = record {
-        known = (item, ((h.1.0.0, h.1.0.1), subst (λ us. is_some (colour_in us w.item) ≡ true) (sym h.1.0.2) h.1.1));
-        k = omega (arith, h.0, few);
-        n = few;
-      };
-      next = pick_known p r w.item kx.1 known;
-    }
-
-level_known : (p : Puzzle) (rest : Residual → List (List Choice)) (r : Residual) (w : Option Wanted)
-    → ((s : Residual) → IsKnownResidual p s → AllByRecursion (AreCounted p) (rest s))
-    → IsKnownResidual p r → branch_item r ≡ w → AllByRecursion (AreCounted p) (level rest w r)
-level_known p rest r None below known e = (tt, tt)
-level_known p rest r (Some w) below known e =
-    each-flat_map _ _ _ _ (λ b kb. each-map _ _ _ (each_weaker _ _ _ (λ m km. (kb.choice, km)) (below b.next kb.next)))
-    (branches_known p r w known (branch_known p (branch_count r) r.items w known.items e))
-
-known_to : (p : Puzzle) (depth : ℕ) (r : Residual) → IsKnownResidual p r
-    → AllByRecursion (AreCounted p) (listing_to depth r)
+counted_to : (p : Puzzle) (depth : ℕ) (r : Residual) (m : List Choice) → IsKnownResidual p r
+    → IsIn (listing_to depth r) m → AreCounted p m
 unfolding listing_to
-known_to p zero r known = (tt, tt)
-known_to p (suc depth) r known = level_known p (listing_to depth) r (branch_item r) (λ s. known_to p depth s) known refl
-
-items_known : (p : Puzzle) (i : ℕ) (bs : List Bounds) → 1 ≤ i → i + length bs ≡ primary_count p + 1
-    → AllByRecursion (IsKnownItem p) (wanted_from i bs)
-items_known p i [] h e = tt
-items_known p i (b ∷ bs) h e = ((h, omega (arith, e)), items_known p (i + 1) bs (omega arith) (omega (arith, e)))
-
--- options from the one after these on
-options_known : (p : Puzzle) (n : ℕ) (os : List (List Use)) → 1 ≤ n → n + length os ≡ option_count p + 1
-    → ((k : ℕ) → numbered_get p.options (n + k) ≡ numbered_get os (k + 1))
-    → AllByRecursion (IsKnownOption p) (numbered_from n os)
-options_known p n [] h e at = tt
-options_known p n (us ∷ os) h e at =
-    let here : n + 0 ≡ n = omega arith in
-    let value : uses_of p n ≡ us = ap (λ k. uses_of p k) (sym here) ∙ ap (λ o. unwrap_or o []) (at 0) in (
-      (h, omega (arith, e), value),
-      options_known p (n + 1) os (omega arith) (omega (arith, e))
-          (λ k. let f : (n + 1) + k ≡ n + (k + 1) = omega arith in let g : (k + 1) + 1 ≡ suc (k + 1) = omega arith in
-          ap (numbered_get p.options) f ∙ at (k + 1) ∙ ap (numbered_get (us ∷ os)) g ∙ same k),
-    )
-  where
-    same : (k : ℕ) → numbered_get (us ∷ os) (suc (k + 1)) ≡ numbered_get os (k + 1)
-    same k =
-        let f : k + 1 ≡ suc k = omega arith in ap (λ j. numbered_get (us ∷ os) (suc j)) f ∙ sym (ap (numbered_get os) f)
-
-length-numbered : (n : ℕ) (os : List (List Use)) → length (numbered_from n os) ≡ length os
-length-numbered n [] = refl
-length-numbered n (us ∷ os) = ap suc (length-numbered (n + 1) os)
+counted_to p zero r m known h = no_choice p m h
+counted_to p (suc depth) r m known h = by_option (branch_item r) (λ e. no_choice p m (rw e at h)) (λ w e.
+    let at = in-level (listing_to depth) w r m (rw e at h) in
+    let b = branch_known p r w at.0 known (known.items w (branch_item-in r w e)) at.2 in
+    subst (AreCounted p) at.4 (b.choice, counted_to p depth at.0.next at.1 b.next at.3))
 
 whole_known : (p : Puzzle) → IsKnownResidual p (whole p)
 whole_known p = record {
-  items = items_known p 1 p.bounds (omega arith) (omega arith);
-  options =
-      options_known p 1 p.options (omega arith) (omega arith)
-      (λ k. let f : 1 + k ≡ k + 1 = omega arith in ap (numbered_get p.options) f);
-  few = omega (arith, length-numbered 1 p.options);
+  items = λ w h. let at = with_bounds 0 p.bounds w h in (omega (arith, at.2), omega (arith, at.2, at.3));
+  options = λ o h. h;
+  few = omega (arith, length-numbered_from 1 p.options);
 }
 
-pub members_counted : (p : Puzzle) → AllByRecursion (AreCounted p) (members p)
+pub member_counted : (p : Puzzle) (m : List Choice) → IsIn (members p) m → AreCounted p m
 unfolding listing
-members_counted p = known_to p (size_of (whole p)) (whole p) (whole_known p)
+member_counted p m h = counted_to p (size_of (whole p)) (whole p) m (whole_known p) h
 
 pub members_known : (p : Puzzle) → All (All (IsKnownChoice p)) (members p)
 members_known p =
-    All-from_recursion (All (IsKnownChoice p)) (members p) (each_weaker _ _ _
-    (λ m h. All-from_recursion (IsKnownChoice p) m (each_weaker _ _ _ (λ c k. k.known) h)) (members_counted p))
+    All-from_recursion (All (IsKnownChoice p)) (members p) (each_from _ _ (λ m h.
+    All-from_recursion (IsKnownChoice p) m (each_weaker _ _ _ (λ c k. k.known) (member_counted p m h))))

@@ -1,53 +1,39 @@
 -- What is printed for a problem is a listing without a fault, and each listed solution is a cover.
+use Rattle.xc_list.proofs.OutputLemmas.OutputLines.{IsReadable, IsReadableMember}
+use Rattle.xc_input.proofs.lists.Members.{in-take}
+use Rattle.xc_list.proofs.OutputLemmas.KnownMembers.{member_counted}
 use Rattle.std.proofs.Common.{◌≡◌, ◌≢◌, ℕ, ◌+◌, ◌^◌, ◌<◌, true, false, cond, not, List, [], ◌∷◌, ◌++◌, Option}
-use Rattle.std.proofs.Common.{None, Some, map, take, filter, min, ◌-◌, refl, sym, ap, ◌∙◌, arith, subst}
+use Rattle.std.proofs.Common.{None, Some, map, take, filter, refl, sym, ap, ◌∙◌, arith, subst}
 use Rattle.std.proofs.Common.{append-nil}
 use Rattle.xc_list.proofs.CheckLemmas.ListedSolutions.{listed_solutions}
-use Rattle.xc_list.specs.inner.Listings.{Listing, before_listing, listing_of}
-use Rattle.std.specs.Prelude.{All, IsTrue, MatchOption, codes, flat_map, ◌==◌, if◌then◌else◌}
+use Rattle.xc_list.specs.inner.Listings.{Listing, listing_of}
+use Rattle.std.specs.Prelude.{All, IsTrue, MatchOption, codes, flat_map, ◌==◌}
 use Rattle.std.specs.List.{AllZip, enumerate_from, cons_option}
 use Rattle.std.proofs.lemmas.Bool.Decides.{nat_tests}
 use Rattle.std.proofs.lemmas.List.{length-take}
 use Rattle.std.proofs.lemmas.List.Elements.{All-contains, All-from_recursion}
 use Rattle.xc_input.proofs.lists.EachElement.{each_weaker, each-map, each-filter}
-use Rattle.xc_input.proofs.lists.Members.{IsIn, each_in, each_from, contains-in}
-use Rattle.xc_list.proofs.CheckLemmas.HeldItems.{each_take}
+use Rattle.xc_input.proofs.lists.Members.{IsIn, each_from, contains-in}
 use Rattle.std.specs.List.{AllByRecursion}
-use Rattle.std.proofs.Common.{Bool}
 use Rattle.xc_input.specs.Named.{Named, IsSound}
 use Rattle.xc_input.specs.Lines.{lines_of}
 use Rattle.xc_search.specs.declared.choice.Choice.{Choice}
 use Rattle.xc_search.specs.Cover.{IsCover, options_of, members}
 use Rattle.xc_search.proofs.completeness.Covering.{each_member_covers}
 use Rattle.xc_list.specs.Output.{member_text, is_printed, output}
-use Rattle.xc_list.specs.inner.ReadLines.{Header, Body}
-use Rattle.xc_list.proofs.CheckLemmas.CheckedLines.{fault_said, lines-cons}
+use Rattle.xc_list.proofs.CheckLemmas.CheckedLines.{lines-cons}
 use Rattle.xc_list.specs.declared.checker.Verdict.{Verdict}
 use Rattle.xc_list.specs.declared.checker.ListingFault.{ListingFault}
-use Rattle.xc_list.specs.declared.checker.ListingFault.TheVariants.{UnknownOption, Memory}
-use Rattle.std.specs.Option.{option_or}
+use Rattle.xc_list.specs.declared.checker.ListingFault.TheVariants.{Memory}
 use Rattle.xc_list.specs.Listed.{Solution, IsVerdictOn, AreVerdicts, IsListingFault, stands_for, is_known}
 use Rattle.xc_list.specs.Listed.{fault_in_lines, solutions_of, IsListedCover}
-use Rattle.xc_list.proofs.OutputLemmas.KnownMembers.{IsCounted, AreCounted, each_numbered, members_counted}
-use Rattle.xc_list.proofs.OutputLemmas.OutputLines.{choice_words, choice_line, header_line, output_lines, IsPrintable}
+use Rattle.xc_list.proofs.OutputLemmas.KnownMembers.{IsCounted, each_numbered}
+use Rattle.xc_list.proofs.OutputLemmas.OutputLines.{choice_words, choice_line, header_line, output_lines}
 use Rattle.xc_list.proofs.OutputLemmas.OutputLines.{lines_of-members, read-choice_line}
 use Rattle.xc_list.proofs.OutputLemmas.OutputLines.{read-header_line}
-use Rattle.xc_list.proofs.OutputLemmas.ChoiceBodies.{IsTold, told}
-
-record IsReadable (p : Named) (c : Choice) : Type 0 where
-  pub printable : IsPrintable p c
-  pub told : IsTold p c.item c.option
-
-record IsReadableMember (p : Named) (nm : ℕ × List Choice) : Type 0 where
-  pub number : nm.0 < 2 ^ 64
-  pub choices : AllByRecursion (IsReadable p) nm.1
-  pub cover : IsCover p.puzzle (options_of nm.1)
+use Rattle.xc_list.proofs.OutputLemmas.ChoiceBodies.{told}
 
 -- ---- faults
-
--- the number of the line behind n others
-abbrev line : ℕ → ℕ
-line n = min (n + 1) (2 ^ 64 - 1)
 
 no_fault-choices : (p : Named) (n : ℕ) (m : List Choice) (rest : List (List ℕ)) → 0 < n
     → AllByRecursion (IsReadable p) m → ((k : ℕ) → 0 < k → fault_in_lines p k rest ≡ None)
@@ -55,25 +41,18 @@ no_fault-choices : (p : Named) (n : ℕ) (m : List Choice) (rest : List (List �
 no_fault-choices p n [] rest h all later = later n h
 no_fault-choices p n (c ∷ m) rest h all later =
     let begun : not (n == 0) ≡ true = grind (arith, nat_tests) in
-    lines-cons p n (choice_line p c) (map (choice_line p) m ++ rest)
-    ∙ ap (λ l. option_or (fault_said p (not (n == 0)) (line n) l)
-    (fault_in_lines p (n + 1) (map (choice_line p) m ++ rest))) (read-choice_line p c all.0.printable).0
-    ∙ ap (λ t. option_or (fault_said p t (line n) (Body (choice_words p c)))
-    (fault_in_lines p (n + 1) (map (choice_line p) m ++ rest))) begun
-    ∙ ap (λ t. option_or (if t then None else Some (UnknownOption (line n)))
-    (fault_in_lines p (n + 1) (map (choice_line p) m ++ rest))) all.0.told.accepted
-    ∙ no_fault-choices p (n + 1) m rest (omega arith) all.1 later
+    let first = lines-cons p n (choice_line p c) (map (choice_line p) m ++ rest) in
+    rw (first, (read-choice_line p c all.0).0, begun, all.0.told.accepted)
+    (no_fault-choices p (n + 1) m rest (omega arith) all.1 later)
 
 no_fault-members : (p : Named) (n : ℕ) (nms : List (ℕ × List Choice)) → AllByRecursion (IsReadableMember p) nms
     → fault_in_lines p n (output_lines p nms) ≡ None
 no_fault-members p n [] all = refl
 no_fault-members p n (nm ∷ nms) all =
-    lines-cons p n (header_line nm.0) (map (choice_line p) nm.1 ++ output_lines p nms)
-    ∙ ap (λ l. option_or (fault_said p (not (n == 0)) (line n) l)
-    (fault_in_lines p (n + 1) (map (choice_line p) nm.1 ++ output_lines p nms)))
-    (read-header_line nm.0 all.0.number)
-    ∙ no_fault-choices p (n + 1) nm.1 (output_lines p nms) (omega arith) all.0.choices
-    (λ k h. no_fault-members p k nms all.1)
+    let first = lines-cons p n (header_line nm.0) (map (choice_line p) nm.1 ++ output_lines p nms) in
+    rw (first, read-header_line nm.0 all.0.number)
+    (no_fault-choices p (n + 1) nm.1 (output_lines p nms) (omega arith) all.0.choices
+    (λ k h. no_fault-members p k nms all.1))
 
 -- ---- what is listed
 
@@ -87,19 +66,15 @@ listing_of-choices : (p : Named) (m : List Choice) (rest : List (List ℕ)) → 
     → listing_of (map (choice_line p) m ++ rest) ≡ in_parts (map (choice_words p) m ++ (listing_of rest).loose)
     (listing_of rest).solutions
 listing_of-choices p [] rest all = refl
-listing_of-choices p (c ∷ m) rest all = cc ((read-choice_line p c all.0.printable).0, listing_of-choices p m rest all.1)
+listing_of-choices p (c ∷ m) rest all = cc ((read-choice_line p c all.0).0, listing_of-choices p m rest all.1)
 
 listing_of-members : (p : Named) (nms : List (ℕ × List Choice)) → AllByRecursion (IsReadableMember p) nms
     → listing_of (output_lines p nms) ≡ in_parts [] (map (solution_of p) nms)
 listing_of-members p [] all = refl
 listing_of-members p (nm ∷ nms) all =
-    let words : List (List (List ℕ)) = map (choice_words p) nm.1 in
-    ap (λ l. before_listing l (listing_of (map (choice_line p) nm.1 ++ output_lines p nms)))
-    (read-header_line nm.0 all.0.number)
-    ∙ ap (before_listing (Header nm.0)) (listing_of-choices p nm.1 (output_lines p nms) all.0.choices)
-    ∙ ap (λ (l : Listing). before_listing (Header nm.0) (in_parts (words ++ l.loose) l.solutions))
-    (listing_of-members p nms all.1)
-    ∙ ap (λ ws. before_listing (Header nm.0) (in_parts ws (map (solution_of p) nms))) (append-nil words)
+    let choices = listing_of-choices p nm.1 (output_lines p nms) all.0.choices in
+    let others = listing_of-members p nms all.1 in
+    rw (read-header_line nm.0 all.0.number, choices, others, append-nil (map (choice_words p) nm.1))
 
 -- ---- covers
 
@@ -128,10 +103,7 @@ readable_covers : (p : Named) (nms : List (ℕ × List Choice)) → AllByRecursi
     × AllByRecursion (λ s. IsListedCover p s.bodies) (solutions_of (lines_of (flat_map (member_text p) nms)))
 readable_covers p nms all =
     let lines : lines_of (flat_map (member_text p) nms) ≡ output_lines p nms =
-    lines_of-members p nms (each_weaker _ _ _ (λ nm h. record {
-      number = h.number;
-      choices = each_weaker _ _ _ (λ c r. r.printable) h.choices;
-    }) all) in
+    lines_of-members p nms all in
     let solutions : solutions_of (lines_of (flat_map (member_text p) nms)) ≡ map (solution_of p) nms =
     ap solutions_of lines ∙ sym (listed_solutions (output_lines p nms))
     ∙ ap (λ (l : Listing). l.solutions) (listing_of-members p nms all) in (
@@ -146,59 +118,6 @@ readable_covers p nms all =
 abbrev IsNumberedMember : Named → ℕ × List Choice → Type 0
 IsNumberedMember p nm = (nm.0 < 2 ^ 64) × IsIn (members p.puzzle) nm.1
 
-readable : (p : Named) → IsSound p → All (λ n. n ≢ codes "null") p.names → (c : Choice) → IsCounted p.puzzle c
-    → IsReadable p c
-readable p sound none c counted =
-    let said : IsTold p c.item c.option = told p sound none c counted.known in
-    record {
-      printable = record {
-        some = said.some;
-        plain = said.plain;
-        k = omega (arith, counted.k, sound.limits.options);
-        n = omega (arith, counted.n, sound.limits.options);
-      };
-      told = said;
-    }
-
-readable_member : (p : Named) → IsSound p → All (λ n. n ≢ codes "null") p.names → (nm : ℕ × List Choice)
-    → IsNumberedMember p nm → IsReadableMember p nm
-readable_member p sound none nm h =
-    let ms = members p.puzzle in
-    record {
-      number = h.0;
-      choices = each_weaker (IsCounted p.puzzle) (IsReadable p) nm.1 (readable p sound none)
-          (each_in (AreCounted p.puzzle) ms nm.1 (members_counted p.puzzle) h.1);
-      cover = All-contains (λ m. IsCover p.puzzle (options_of m)) ms nm.1 (each_member_covers p.puzzle sound.valid)
-          (contains-in ms nm.1 h.1);
-    }
-
-pub outputs_are_covers : (p : Named) → IsSound p → All (λ n. n ≢ codes "null") p.names → (spacing limit : ℕ)
-    → limit < 2 ^ 64
-    → (fault_in_lines p 0 (lines_of (output p spacing limit)) ≡ None)
-    × AllByRecursion (λ s. IsListedCover p s.bodies) (solutions_of (lines_of (output p spacing limit)))
-outputs_are_covers p sound none spacing limit h =
-    readable_covers p (filter printed (enumerate_from 1 first))
-    (each_weaker (IsNumberedMember p) (IsReadableMember p) (filter printed (enumerate_from 1 first))
-    (readable_member p sound none)
-    (each-filter (IsNumberedMember p) printed (enumerate_from 1 first)
-    (each_numbered (IsIn (members p.puzzle)) 1 (2 ^ 64) first
-    (omega (arith, h, length-take limit (members p.puzzle)))
-    (each_take (IsIn (members p.puzzle)) limit (members p.puzzle)
-    (each_from (IsIn (members p.puzzle)) (members p.puzzle) (λ m k. k))))))
-  where
-    first : List (List Choice)
-    first = take limit (members p.puzzle)
-
-    printed : ℕ × List Choice → Bool
-    printed nm = is_printed spacing nm.0
-
--- ---- what is said of an output
-
-pub wants_memory : (p : Named) (listing : List ℕ) (spacing limit : ℕ) (e : ListingFault) → IsSound p
-    → All (λ n. n ≢ codes "null") p.names → limit < 2 ^ 64 → listing ≡ output p spacing limit
-    → IsListingFault p (lines_of listing) e → e ≡ Memory
-wants_memory p listing spacing limit e sound none fits is first = grind (arith, nat_tests, outputs_are_covers)
-
 each_yes : (p : Named) (ss : List Solution) (vs : List Verdict) → AllByRecursion (λ s. IsListedCover p s.bodies) ss
     → AllZip (IsVerdictOn p) ss vs → AllByRecursion (λ v. IsTrue v.cover) vs
 each_yes p [] [] covers h = tt
@@ -206,11 +125,41 @@ each_yes p [] (v ∷ vs) covers h = absurd h
 each_yes p (s ∷ ss) [] covers h = absurd h
 each_yes p (s ∷ ss) (v ∷ vs) covers h = (h.0.1.1 covers.0, each_yes p ss vs covers.1 h.1)
 
-pub all_yes : (p : Named) (listing : List ℕ) (spacing limit : ℕ) (vs : List Verdict) → IsSound p
-    → All (λ n. n ≢ codes "null") p.names → limit < 2 ^ 64 → listing ≡ output p spacing limit
-    → AreVerdicts p (lines_of listing) vs → All (λ v. IsTrue v.cover) vs
-all_yes p listing spacing limit vs sound none fits is verdicts =
-    All-from_recursion (λ v. IsTrue v.cover) vs
-    (each_yes p (solutions_of (lines_of (output p spacing limit))) vs
-    (outputs_are_covers p sound none spacing limit fits).1
-    (subst (λ text. AreVerdicts p (lines_of text) vs) is verdicts))
+module _ (p : Named) (sound : IsSound p) (none : All (λ n. n ≢ codes "null") p.names) where
+  readable : (c : Choice) → IsCounted p.puzzle c → IsReadable p c
+  readable c counted = record {
+    told = told p sound none c counted.known;
+    k = omega (arith, counted.k, sound.limits.options);
+    n = omega (arith, counted.n, sound.limits.options);
+  }
+
+  readable_member : (nm : ℕ × List Choice) → IsNumberedMember p nm → IsReadableMember p nm
+  readable_member nm h = record {
+    number = h.0;
+    choices = each_weaker (IsCounted p.puzzle) (IsReadable p) nm.1 readable (member_counted p.puzzle nm.1 h.1);
+    cover = All-contains (λ m. IsCover p.puzzle (options_of m)) (members p.puzzle) nm.1
+        (each_member_covers p.puzzle sound.valid) (contains-in (members p.puzzle) nm.1 h.1);
+  }
+
+  module _ (spacing limit : ℕ) (fits : limit < 2 ^ 64) where
+    outputs_are_covers : (fault_in_lines p 0 (lines_of (output p spacing limit)) ≡ None)
+        × AllByRecursion (λ s. IsListedCover p s.bodies) (solutions_of (lines_of (output p spacing limit)))
+    outputs_are_covers =
+        let first = take limit (members p.puzzle) in
+        readable_covers p (filter (λ nm. is_printed spacing nm.0) (enumerate_from 1 first))
+        (each_weaker (IsNumberedMember p) _ _ readable_member
+        (each-filter (IsNumberedMember p) _ (enumerate_from 1 first)
+        (each_numbered (IsIn (members p.puzzle)) 1 (2 ^ 64) first
+        (omega (arith, fits, length-take limit (members p.puzzle)))
+        (each_from _ first (in-take limit (members p.puzzle))))))
+
+    pub wants_memory : (listing : List ℕ) (e : ListingFault) → listing ≡ output p spacing limit
+        → IsListingFault p (lines_of listing) e → e ≡ Memory
+    wants_memory listing e is first = grind (arith, nat_tests, outputs_are_covers)
+
+    pub all_yes : (listing : List ℕ) (vs : List Verdict) → listing ≡ output p spacing limit
+        → AreVerdicts p (lines_of listing) vs → All (λ v. IsTrue v.cover) vs
+    all_yes listing vs is verdicts =
+        All-from_recursion (λ v. IsTrue v.cover) vs
+        (each_yes p (solutions_of (lines_of (output p spacing limit))) vs outputs_are_covers.1
+        (subst (λ text. AreVerdicts p (lines_of text) vs) is verdicts))

@@ -1,10 +1,12 @@
 -- The lines of an output.
+use Rattle.xc_list.proofs.OutputLemmas.ChoiceBodies.{body_words, IsTold}
+use Rattle.xc_search.specs.Cover.{IsCover, options_of}
+use Rattle.std.proofs.lemmas.List.Concat.{flat_map-append}
+use Rattle.std.proofs.lemmas.List.Folds.{flat_map-map}
 use Rattle.std.specs.List.{AllByRecursion}
-use Rattle.std.proofs.Common.{◌≡◌, ℕ, false, ◌^◌, ◌<◌, ◌≤◌, List, [], ◌∷◌, ◌++◌, Option, None, Some, length, map, refl}
+use Rattle.std.proofs.Common.{◌≡◌, ℕ, false, ◌^◌, ◌<◌, List, [], ◌∷◌, ◌++◌, Option, None, Some, map, refl}
 use Rattle.std.proofs.Common.{sym, ap, ◌∙◌, append_assoc, append-nil}
-use Rattle.xc_list.specs.inner.LineParts.{use_text}
 use Rattle.std.specs.Prelude.{codes, decimal, flat_map}
-use Rattle.xc_input.specs.declared.problem.Use.{Use}
 use Rattle.xc_input.specs.Problem.{uses_of}
 use Rattle.xc_input.specs.Named.{Named}
 use Rattle.xc_input.specs.Words.{has}
@@ -14,13 +16,8 @@ use Rattle.xc_input.proofs.LineLemmas.TextLines.{lines_of-ended}
 use Rattle.xc_search.specs.declared.choice.Choice.{Choice}
 use Rattle.xc_list.specs.Output.{bytes_at, from_item, use_word, body_text, choice_text, member_text}
 use Rattle.xc_list.specs.inner.ReadLines.{Header, Body, read}
-use Rattle.xc_list.proofs.OutputLemmas.ReadLines.{IsPlain, spaced, ending_words, read-header, no_feed-header}
+use Rattle.xc_list.proofs.OutputLemmas.ReadLines.{spaced, ending_words, read-header, no_feed-header}
 use Rattle.xc_list.proofs.OutputLemmas.ReadLines.{read-choice}
-
--- the words of a choice before its counts
-abbrev pub body_words : Named → ℕ → Option ℕ → List (List ℕ)
-body_words p i (Some o) = map (use_word p) (from_item i (uses_of p.puzzle o))
-body_words p i None = codes "null" ∷ bytes_at p.names i ∷ []
 
 abbrev pub choice_words : Named → Choice → List (List ℕ)
 choice_words p c = body_words p c.item c.option
@@ -38,28 +35,19 @@ abbrev pub output_lines : Named → List (ℕ × List Choice) → List (List ℕ
 output_lines p nms = flat_map (member_lines p) nms
 
 -- a choice whose line is read as its words
-pub record IsPrintable (p : Named) (c : Choice) : Type 0 where
-  pub some : 1 ≤ length (choice_words p c)
-  pub plain : AllByRecursion IsPlain (choice_words p c)
+pub record IsReadable (p : Named) (c : Choice) : Type 0 where
+  pub told : IsTold p c.item c.option
   pub k : c.k < 10 ^ 10
   pub n : c.n < 10 ^ 10
 
--- a member with its number
-pub record IsPrintableMember (p : Named) (nm : ℕ × List Choice) : Type 0 where
+-- a member with its number, of which this is so
+pub record IsReadableMember (p : Named) (nm : ℕ × List Choice) : Type 0 where
   pub number : nm.0 < 2 ^ 64
-  pub choices : AllByRecursion (IsPrintable p) nm.1
-
-spaced-append : (a b : List (List ℕ)) → spaced (a ++ b) ≡ spaced a ++ spaced b
-spaced-append [] b = refl
-spaced-append (w ∷ a) b =
-    ap (λ t. 32 ∷ w ++ t) (spaced-append a b) ∙ ap (λ t. 32 ∷ t) (sym (append_assoc w (spaced a) (spaced b)))
-
-uses-spaced : (p : Named) (us : List Use) → flat_map (use_text p) us ≡ spaced (map (use_word p) us)
-uses-spaced p [] = refl
-uses-spaced p (u ∷ us) = ap (λ t. 32 ∷ use_word p u ++ t) (uses-spaced p us)
+  pub choices : AllByRecursion (IsReadable p) nm.1
+  pub cover : IsCover p.puzzle (options_of nm.1)
 
 body-spaced : (p : Named) (i : ℕ) (o : Option ℕ) → body_text p i o ≡ spaced (body_words p i o)
-body-spaced p i (Some o) = uses-spaced p (from_item i (uses_of p.puzzle o))
+body-spaced p i (Some o) = sym (flat_map-map (λ w. 32 ∷ w) (use_word p) (from_item i (uses_of p.puzzle o)))
 body-spaced p i None = ap (λ t. codes " null " ++ t) (sym (append-nil (bytes_at p.names i)))
 
 regroup : (body ks ns : List ℕ) → body ++ (codes " (" ++ ks ++ codes " of " ++ ns ++ codes ")\n")
@@ -68,8 +56,8 @@ regroup body ks ns = simp (append_assoc {A = ℕ}, append-nil {A = ℕ})
 
 choice-ended : (p : Named) (c : Choice) → choice_text p c ≡ choice_line p c ++ 10 ∷ []
 choice-ended p c =
-    let fact = regroup (spaced (choice_words p c)) (decimal c.k) (decimal c.n) in
-    cc (body-spaced p c.item c.option, spaced-append (choice_words p c) (ending_words c.k c.n))
+    let parts = regroup (spaced (choice_words p c)) (decimal c.k) (decimal c.n) in
+    cc (body-spaced p c.item c.option, flat_map-append (λ w. 32 ∷ w) (choice_words p c) (ending_words c.k c.n))
 
 choices-ended : (p : Named) (m : List Choice) → flat_map (choice_text p) m ≡ ended (map (choice_line p) m)
 choices-ended p [] = refl
@@ -78,21 +66,21 @@ choices-ended p (c ∷ m) =
 
 member-ended : (p : Named) (nm : ℕ × List Choice) → member_text p nm ≡ ended (member_lines p nm)
 member-ended p nm =
-    let fact = append_assoc (decimal nm.0) (codes ":") (10 ∷ flat_map (choice_text p) nm.1) in
+    let header = append_assoc (decimal nm.0) (codes ":") (10 ∷ flat_map (choice_text p) nm.1) in
     cc (append_assoc (decimal nm.0) (codes ":\n") (flat_map (choice_text p) nm.1), choices-ended p nm.1)
 
-pub read-choice_line : (p : Named) (c : Choice) → IsPrintable p c → (read (choice_line p c) ≡ Body (choice_words p c))
+pub read-choice_line : (p : Named) (c : Choice) → IsReadable p c → (read (choice_line p c) ≡ Body (choice_words p c))
     × (has 10 (choice_line p c) ≡ false)
-read-choice_line p c h = read-choice (choice_words p c) c.k c.n h.some h.plain h.k h.n
+read-choice_line p c h = read-choice (choice_words p c) c.k c.n h.told.some h.told.plain h.k h.n
 
 pub read-header_line : (n : ℕ) → n < 2 ^ 64 → read (header_line n) ≡ Header n
 read-header_line n h = read-header n h
 
-choices-whole : (p : Named) (m : List Choice) → AllByRecursion (IsPrintable p) m → AreWhole (map (choice_line p) m)
+choices-whole : (p : Named) (m : List Choice) → AllByRecursion (IsReadable p) m → AreWhole (map (choice_line p) m)
 choices-whole p [] all = tt
 choices-whole p (c ∷ m) all = ((read-choice_line p c all.0).1, choices-whole p m all.1)
 
-pub lines_of-members : (p : Named) (nms : List (ℕ × List Choice)) → AllByRecursion (IsPrintableMember p) nms
+pub lines_of-members : (p : Named) (nms : List (ℕ × List Choice)) → AllByRecursion (IsReadableMember p) nms
     → lines_of (flat_map (member_text p) nms) ≡ output_lines p nms
 lines_of-members p [] all = refl
 lines_of-members p (nm ∷ nms) all =

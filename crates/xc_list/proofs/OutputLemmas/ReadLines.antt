@@ -1,15 +1,19 @@
 -- What the lines of an output are read as.
-use Rattle.std.proofs.Common.{◌≡◌, ℕ, ◌+◌, ◌-◌, ◌*◌, ◌/◌, ◌%◌, ◌^◌, ◌<◌, ◌≤◌, Bool, true, false, not, ◌&&◌, nat_lt}
+use Rattle.std.proofs.lemmas.Str.Parse.{IsNumeralModel, numerals_by_fold}
+use Rattle.std.proofs.lemmas.Fmt.{decimal_nonempty, digits_value-decimal, digits_decimal}
+use Rattle.std.proofs.Common.{flat_map}
+use Rattle.std.proofs.Common.{rules}
+use Rattle.std.proofs.Common.{◌≡◌, ℕ, ◌-◌, ◌^◌, ◌<◌, ◌≤◌, Bool, true, false, not, ◌&&◌}
 use Rattle.std.proofs.Common.{nat_eq, List, [], ◌∷◌, ◌++◌, Option, None, Some, length, drop, refl, ap, ◌∙◌}
-use Rattle.std.proofs.Common.{arith, length-append, lt-ltb}
+use Rattle.std.proofs.Common.{arith, length-append}
 use Rattle.xc_input.proofs.TokenLemmas.DecimalValues.{value_from}
 use Rattle.std.specs.Prelude.{codes, decimal, nat_le, ◌==◌, if◌then◌else◌}
 use Rattle.std.specs.List.{list_all, list_any}
 use Rattle.std.proofs.lemmas.Bool.Decides.{nat_tests}
-use Rattle.std.proofs.lemmas.Fmt.{decimal_by_steps, length-decimal-le}
+use Rattle.std.proofs.lemmas.Fmt.{length-decimal-le}
 use Rattle.xc_input.proofs.lists.EachElement.{each-append}
 use Rattle.std.specs.List.{AllByRecursion}
-use Rattle.std.proofs.lemmas.List.Folds.{list_all-append, list_any-append}
+use Rattle.std.proofs.lemmas.List.Folds.{list_any-append}
 use Rattle.std.proofs.Math.Seq.{drop-append_seam, take-append_seam}
 use Rattle.xc_input.specs.Words.{has}
 use Rattle.xc_input.specs.Tokens.{is_space}
@@ -26,54 +30,14 @@ use Rattle.xc_input.proofs.TokenLemmas.Separators.{COLON}
 
 -- ---- digits
 
--- digits that stand for n
-record AreDigitsOf (n : ℕ) (ds : List ℕ) : Type 0 where
-  pub some : 1 ≤ length ds
-  pub digits : list_all is_ascii_digit ds ≡ true
-  pub value : value_from 0 ds ≡ n
-
-value_from-append : (v : ℕ) (xs ys : List ℕ) → value_from v (xs ++ ys) ≡ value_from (value_from v xs) ys
-value_from-append v [] ys = refl
-value_from-append v (x ∷ xs) ys = value_from-append (v * 10 + (x - 48)) xs ys
-
-digit_of : (d : ℕ) → d < 10 → is_ascii_digit (48 + d) ≡ true
-digit_of d h = grind (arith, nat_tests)
-
-one_digit : (n : ℕ) → n < 10 → AreDigitsOf n ((48 + n) ∷ [])
-one_digit n h =
-    record {
-      some = omega arith;
-      digits = and-both (is_ascii_digit (48 + n)) true (digit_of n h) refl;
-      value = omega arith;
-    }
-
-one_more : (n : ℕ) (ds : List ℕ) → 10 ≤ n → AreDigitsOf (n / 10) ds → AreDigitsOf n (ds ++ (48 + n % 10) ∷ [])
-one_more n ds h known =
-    let last : n % 10 < 10 = omega arith in
-    let end : list_all is_ascii_digit ((48 + n % 10) ∷ []) ≡ true =
-    and-both (is_ascii_digit (48 + n % 10)) true (digit_of (n % 10) last) refl in
-    let front = known.value in
-    record {
-      some = omega (arith, length-append ds ((48 + n % 10) ∷ []), known.some);
-      digits = list_all-append is_ascii_digit ds ((48 + n % 10) ∷ [])
-          ∙ and-both (list_all is_ascii_digit ds) (list_all is_ascii_digit ((48 + n % 10) ∷ [])) known.digits end;
-      value = value_from-append 0 ds ((48 + n % 10) ∷ []) ∙ ap (λ v. v * 10 + ((48 + n % 10) - 48)) front ∙ back n;
-    }
-  where
-    back : (n : ℕ) → (n / 10) * 10 + ((48 + n % 10) - 48) ≡ n
-    back n = omega arith
-
-decimal_digits : (n : ℕ) → n < 2 ^ 64 → AreDigitsOf n (decimal n)
-decimal_digits n h = decimal_by_steps AreDigitsOf one_digit one_more n h
-
-are_digits-is : (most : ℕ) (text : List ℕ) → 1 ≤ length text → length text ≤ most → list_all is_ascii_digit text ≡ true
-    → are_digits most text ≡ true
-are_digits-is most text h k e = grind (arith, nat_tests)
+-- digits, and the number that they stand for: so a number in decimal is known to be read
+digits_read : IsNumeralModel (λ ds. list_all is_ascii_digit ds ≡ true) (value_from 0)
+digits_read = numerals_by_fold _ (search rules) value_from (search rules)
 
 -- a number below 10 ^ k has at most k digits
 are_digits-decimal : (k n : ℕ) → 0 < k → n < 10 ^ k → n < 2 ^ 64 → are_digits k (decimal n) ≡ true
 are_digits-decimal k n h l m =
-    let known = decimal_digits n m in are_digits-is k (decimal n) known.some (length-decimal-le k n h l m) known.digits
+    grind (arith, nat_tests, decimal_nonempty n m, length-decimal-le k n h l m, digits_decimal digits_read n m)
 
 lacks : (p q : ℕ → Bool) → ((b : ℕ) → p b ≡ true → q b ≡ false) → (bs : List ℕ) → list_all p bs ≡ true
     → list_any q bs ≡ false
@@ -101,13 +65,11 @@ solution_number text = if nat_le (length text) 20 then long_number text else Non
 
 solution_number-decimal : (n : ℕ) → n < 2 ^ 64 → solution_number (decimal n) ≡ Some n
 solution_number-decimal n h =
-    let known = decimal_digits n h in
-    let short : nat_le (length (decimal n)) 20 ≡ true =
-    (let l = length-decimal-le 20 n (omega arith) (omega (arith, h)) h in grind (arith, nat_tests)) in
-    let test : (list_all is_ascii_digit (decimal n) && nat_lt (value_from 0 (decimal n)) (2 ^ 64)) ≡ true =
-    and-both (list_all is_ascii_digit (decimal n)) (nat_lt (value_from 0 (decimal n)) (2 ^ 64)) known.digits
-    (ap (λ v. nat_lt v (2 ^ 64)) known.value ∙ lt-ltb n (2 ^ 64) h) in
-    cc (short, some_digits (decimal n) known.some, test, known.value)
+    let short = length-decimal-le 20 n (omega arith) (omega (arith, h)) h in
+    let value = digits_value-decimal digits_read n h in
+    let digits = digits_decimal digits_read n h in
+    let some = some_digits (decimal n) (decimal_nonempty n h) in
+    grind (arith, nat_tests)
 
 pub read-header : (n : ℕ) → n < 2 ^ 64 → read (decimal n ++ codes ":") ≡ Header n
 read-header n h = grind (arith, nat_tests, before_last-last COLON (decimal n), solution_number-decimal n h)
@@ -129,8 +91,7 @@ are_words (w ∷ ws) plain = and-both (is_word w) (list_all is_word ws) (is_word
 
 -- words with a space before each
 abbrev pub spaced : List (List ℕ) → List ℕ
-spaced [] = []
-spaced (w ∷ ws) = 32 ∷ w ++ spaced ws
+spaced ws = flat_map (λ w. 32 ∷ w) ws
 
 no_space-not_32 : (b : ℕ) → is_space b ≡ false → (b == 32) ≡ false
 no_space-not_32 b h = grind (arith, nat_tests)
@@ -176,10 +137,10 @@ abbrev pub ending_words : ℕ → ℕ → List (List ℕ)
 ending_words k n = (codes "(" ++ decimal k) ∷ codes "of" ∷ (decimal n ++ codes ")") ∷ []
 
 pub plain-decimal : (n : ℕ) → n < 2 ^ 64 → IsPlain (decimal n)
-plain-decimal n h = let known = decimal_digits n h in record {
-  some = known.some;
-  no_space = lacks is_ascii_digit is_space digit-no_space (decimal n) known.digits;
-  no_feed = lacks is_ascii_digit (λ x. nat_eq x 10) digit-no_feed (decimal n) known.digits;
+plain-decimal n h = record {
+  some = omega (arith, decimal_nonempty n h);
+  no_space = lacks is_ascii_digit is_space digit-no_space (decimal n) (digits_decimal digits_read n h);
+  no_feed = lacks is_ascii_digit (λ x. nat_eq x 10) digit-no_feed (decimal n) (digits_decimal digits_read n h);
 }
 
 pub plain-append : (v w : List ℕ) → IsPlain v → list_any is_space w ≡ false → has 10 w ≡ false → IsPlain (v ++ w)

@@ -20,8 +20,9 @@ returns-in_err-take_lines-clause-outputs c = λ spacing limit fits named is.
     let e = err_from_is_err_and c.from_residual-in_err-take_lines.result c.from_residual-in_err-take_lines.ensures.1 in
     let first = subst (λ (p : Named). IsListingFault p (lines_of c.args.listing.now) c.in_err-take_lines.field-0.0)
     c.in_ok-checker.ensures.problem c.in_err-take_lines.ensures.fault in
-    rw (e.1, e.2) (wants_memory c.args.problem.now c.args.listing.now spacing limit c.in_err-take_lines.field-0.0
-    (subst IsSound c.in_ok-checker.ensures.problem c.in_ok-checker.ensures.sound) named fits is first)
+    rw (e.1, e.2) (wants_memory c.args.problem.now
+    (subst IsSound c.in_ok-checker.ensures.problem c.in_ok-checker.ensures.sound) named spacing limit fits
+    c.args.listing.now c.in_err-take_lines.field-0.0 is first)
 
 pub returns-clause-verdicts : goal.returns-clause-verdicts
 returns-clause-verdicts c =
@@ -32,5 +33,5 @@ returns-clause-verdicts c =
 
 pub returns-clause-outputs : goal.returns-clause-outputs
 returns-clause-outputs c = λ spacing limit fits named is.
-    all_yes _ _ _ _ _ (subst IsSound c.in_ok-checker.ensures.problem c.in_ok-checker.ensures.sound) named fits is
+    all_yes _ (subst IsSound c.in_ok-checker.ensures.problem c.in_ok-checker.ensures.sound) named spacing limit fits _ _ is
     (returns-clause-verdicts c)
