@@ -1,13 +1,18 @@
 -- Texts of options laid out one behind another.
+use Rattle.xc_dance.proofs.Copied.{take_more-get}
+use Rattle.std.proofs.lemmas.Option.{slice_get-map, get_or_from_slice_get}
+use Rattle.xc_input.proofs.OptionLemmas.FlatParts.{numbered_get-at}
+use Rattle.xc_list.proofs.CheckLemmas.ListedNumbers.{numbered_some}
+use Rattle.std.specs.Prelude.{option_map}
 use Rattle.std.proofs.lemmas.Bool.Decides.{nat_tests}
 use Rattle.std.proofs.Math.Seq.{take-append_seam, drop-append_seam}
 use Rattle.std.proofs.lemmas.List.{drop-append-le, take-append-le, drop-take, drop-drop}
 use Rattle.std.proofs.lemmas.List.{take-take, length-take, length-map, take-append-drop}
 use Rattle.xc_list.specs.inner.LineParts.{use_text}
-use Rattle.std.proofs.Common.{ℕ, zero, suc, ◌≡◌, ◌+◌, ◌-◌, ◌<◌, ◌≤◌, List, [], ◌∷◌, ◌++◌, length, map, take, drop}
+use Rattle.std.proofs.Common.{ℕ, zero, suc, ◌≡◌, ◌+◌, ◌-◌, ◌≤◌, List, [], ◌∷◌, ◌++◌, length, map, take, drop}
 use Rattle.std.proofs.Common.{get_or, Some, refl, sym, ap, ◌∙◌, arith, length-append, length-drop}
 use Rattle.std.proofs.Common.{eq-eqb, append_assoc, append-nil}
-use Rattle.std.specs.Prelude.{flat_map, slice_range, unwrap_or}
+use Rattle.std.specs.Prelude.{flat_map, unwrap_or}
 use Rattle.std.proofs.lemmas.List.Concat.{flat_map-append}
 use Rattle.xc_input.specs.declared.problem.Use.{Use}
 use Rattle.xc_input.specs.UsePlaces.{place_in}
@@ -16,8 +21,12 @@ use Rattle.xc_input.specs.Named.{Named}
 use Rattle.xc_input.proofs.FaultLemmas.Checks.{map-snoc}
 use Rattle.xc_input.proofs.OptionLemmas.FlatParts.{length-pieces, option_part, pieces-snoc}
 use Rattle.xc_list.specs.Output.{from_item}
-use Rattle.xc_list.proofs.Writing.{flat_map-parts}
 use Rattle.xc_list.specs.inner.Layout.{AreLaid, ArePadded, first_item, uses_text}
+
+-- the option behind the first ones
+pub next_option : (os : List (List Use)) (o : ℕ) (us : List Use) → numbered_get os (o + 1) ≡ Some us
+    → take (o + 1) os ≡ take o os ++ us ∷ []
+next_option os o us e = take_more-get os o us (sym (numbered_get-at os (o + 1) o (omega arith)) ∙ e)
 
 -- as many starts as options, and the length
 pub laid-count : (a : Named) (os : List (List Use)) (texts starts : List ℕ) → AreLaid a os texts starts
@@ -25,56 +34,30 @@ pub laid-count : (a : Named) (os : List (List Use)) (texts starts : List ℕ) �
 laid-count a os texts starts l =
     omega (arith, length-pieces starts texts l.rising, ap length l.parts, length-map os (uses_text a))
 
-numbered-map : (f : List Use → List ℕ) (os : List (List Use)) (o : ℕ) → 1 ≤ o → o ≤ length os
+numbered-map : {X : Type 0} (f : List Use → X) (os : List (List Use)) (o : ℕ) → (1 ≤ o) × (o ≤ length os)
     → numbered_get (map f os) o ≡ Some (f (unwrap_or (numbered_get os o) []))
-numbered-map f os zero h l = absurd (omega (arith, h))
-numbered-map f [] (suc k) h l = absurd (omega (arith, l))
-numbered-map f (us ∷ os) (suc zero) h l = refl
-numbered-map f (us ∷ os) (suc (suc k)) h l = numbered-map f os (suc k) (omega arith) (omega (arith, l))
+numbered-map f os zero is = absurd (omega (arith, is.0))
+numbered-map f os (suc k) is = slice_get-map f os k ∙ ap (option_map f) (numbered_some os (suc k) [] is.0 is.1)
 
--- the text between two starts that were read
-pub laid_part : (a : Named) (os : List (List Use)) (texts starts : List ℕ) (o x y : ℕ) → AreLaid a os texts starts
-    → (1 ≤ o) × (o ≤ length os) → x ≡ get_or starts (o - 1) x → y ≡ get_or starts o y
-    → (x ≤ y) × (y ≤ length texts) × (slice_range texts x y ≡ uses_text a (unwrap_or (numbered_get os o) []))
-laid_part a os texts starts o x y l known e f =
-    let part =
-    option_part starts texts o x y l.rising known.0 (omega (arith, known.1, laid-count a os texts starts l)) e f in
-    let text : Some (slice_range texts x y) ≡ Some (uses_text a (unwrap_or (numbered_get os o) [])) =
-    sym part.2 ∙ ap (λ ts. numbered_get ts o) l.parts ∙ numbered-map (uses_text a) os o known.0 known.1 in
-    (part.0, part.1, cc text)
+-- the text of uses, cut where an item's use starts
+module _ (a : Named) (item : ℕ) (us : List Use) {text : List ℕ} {place : ℕ} (whole : text ≡ uses_text a us)
+    (at : place ≡ length (uses_text a (take (place_in item us) us))) where
+  halves : text ≡ uses_text a (take (place_in item us) us) ++ uses_text a (drop (place_in item us) us)
+  halves = whole ∙ ap (uses_text a) (sym (take-append-drop (place_in item us) us))
+      ∙ flat_map-append (use_text a) (take (place_in item us) us) (drop (place_in item us) us)
 
--- the text of uses, cut behind some of them
-text-cut : (a : Named) (us : List Use) (n : ℕ) → uses_text a us ≡ uses_text a (take n us) ++ uses_text a (drop n us)
-text-cut a us n = ap (uses_text a) (sym (take-append-drop n us)) ∙ flat_map-append (use_text a) (take n us) (drop n us)
+  pub cut_within : place ≤ length text
+  cut_within =
+      let all = length-append (uses_text a (take (place_in item us) us)) (uses_text a (drop (place_in item us) us)) in
+      omega (arith, at, ap length halves)
 
--- one use more is within the text
-pub length-more : (a : Named) (us : List Use) (i : ℕ) (d : Use) → i < length us
-    → length (uses_text a (take i us)) + length (use_text a (get_or us i d)) ≤ length (uses_text a us)
-length-more a us i d h =
-    let fact = length-append (uses_text a (take i us) ++ use_text a (get_or us i d)) (uses_text a (drop (i + 1) us)) in
-    let fact2 = length-append (uses_text a (take i us)) (use_text a (get_or us i d)) in
-    grind (arith, nat_tests, flat_map-parts (use_text a) us i d h)
-
--- where an item's use starts in the text of uses that were read
-pub cut_within : (a : Named) (item : ℕ) (us all : List Use) (text : List ℕ) (place : ℕ) → us ≡ all
-    → text ≡ uses_text a all
-    → place ≡ length (uses_text a (take (place_in item us) us)) → place ≤ length text
-cut_within a item us all text place e f at =
-    let fact = length-append (uses_text a (take (place_in item us) us)) (uses_text a (drop (place_in item us) us)) in
-    grind (arith, nat_tests, at, text-cut a us (place_in item us), f, e)
-
--- the text behind that place and the text before it are those of the uses from the item's on, cyclically
-pub cut_gives : (a : Named) (item : ℕ) (us all : List Use) (text before after : List ℕ) (place : ℕ) → us ≡ all
-    → text ≡ uses_text a all
-    → place ≡ length (uses_text a (take (place_in item us) us)) → before ≡ take place text
-    → after ≡ drop place text
-    → flat_map (use_text a) (from_item item all) ≡ after ++ before
-cut_gives a item us all text before after place e f at b d =
-    let fact = drop-append_seam (uses_text a (take (place_in item us) us)) (uses_text a (drop (place_in item us) us)) in
-    let fact2 = take-append_seam (uses_text a (take (place_in item us) us)) (uses_text a (drop (place_in item us) us))
-    in
-    let fact3 = flat_map-append (use_text a) (drop (place_in item us) us) (take (place_in item us) us) in
-    cc (e, d, at, f, text-cut a us (place_in item us), b)
+  -- the text behind the cut and the text before it are those of the uses from the item's on, cyclically
+  pub cut_gives : flat_map (use_text a) (from_item item us) ≡ drop place text ++ take place text
+  cut_gives =
+      let k = place_in item us in
+      let behind = drop-append_seam (uses_text a (take k us)) (uses_text a (drop k us)) in
+      let before = take-append_seam (uses_text a (take k us)) (uses_text a (drop k us)) in
+      cc (halves, at, flat_map-append (use_text a) (drop k us) (take k us))
 
 -- one option more
 pub laid_more : (a : Named) (os : List (List Use)) (us : List Use) (texts more starts : List ℕ) (n : ℕ)
@@ -91,22 +74,21 @@ laid_more a os us texts more (x ∷ starts) n l e f =
 pub length-same : (xs ys : List ℕ) → Some xs ≡ Some ys → length ys ≡ length xs
 length-same xs ys e = (let f : xs ≡ ys = cc e in ap length (sym f))
 
-front_part : (laid padding : List ℕ) (x y : ℕ) → x ≤ y → y ≤ length laid
-    → take (y - x) (drop x (laid ++ padding)) ≡ take (y - x) (drop x laid)
-front_part laid padding x y h l =
-    let within : y - x ≤ length (drop x laid) = omega (arith, length-drop x laid, h, l) in
-    cc (drop-append-le x laid padding (omega (arith, h, l)), take-append-le (y - x) (drop x laid) padding within)
-
 -- the text between two starts that were read, where 16 bytes more stand behind the texts
 pub padded_part : (a : Named) (os : List (List Use)) (texts starts : List ℕ) (o x y : ℕ) → ArePadded a os texts starts
     → (1 ≤ o) × (o ≤ length os) → x ≡ get_or starts (o - 1) x → y ≡ get_or starts o y
     → (x ≤ y) × (y + 16 ≤ length texts)
     × (take (y - x) (drop x texts) ≡ uses_text a (unwrap_or (numbered_get os o) []))
 padded_part a os texts starts o x y p known e f =
-    let part = laid_part a os p.laid starts o x y p.are_laid known e f in (
+    let l = p.are_laid in
+    let count = laid-count a os p.laid starts l in
+    let part = option_part starts p.laid o x y l.rising known.0 (omega (arith, known.1, count)) e f in
+    let within : y - x ≤ length (drop x p.laid) = omega (arith, length-drop x p.laid, part.0, part.1) in
+    let front = drop-append-le x p.laid p.padding (omega (arith, part.0, part.1)) in
+    let text = ap (λ ts. numbered_get ts o) l.parts ∙ numbered-map (uses_text a) os o known in (
       part.0,
       omega (arith, part.1, p.long, ap length p.whole, length-append p.laid p.padding),
-      ap (λ ts. take (y - x) (drop x ts)) p.whole ∙ front_part p.laid p.padding x y part.0 part.1 ∙ part.2,
+      cc (p.whole, front, take-append-le (y - x) (drop x p.laid) p.padding within, part.2, text),
     )
 
 pub span-length : (texts : List ℕ) (from count : ℕ) → from + count + 16 ≤ length texts
@@ -114,13 +96,11 @@ pub span-length : (texts : List ℕ) (from count : ℕ) → from + count + 16 �
 span-length texts from count h = omega (arith, length-take count (drop from texts), length-drop from texts, h)
 
 -- where an item's use starts in a text is within it
-pub cut_in_span : (a : Named) (item : ℕ) (us all : List Use) (texts : List ℕ) (from count place : ℕ) → us ≡ all
-    → take count (drop from texts) ≡ uses_text a all
-    → place ≡ length (uses_text a (take (place_in item us) us))
+pub cut_in_span : (a : Named) (item : ℕ) (us : List Use) (texts : List ℕ) (from count place : ℕ)
+    → take count (drop from texts) ≡ uses_text a us → place ≡ length (uses_text a (take (place_in item us) us))
     → from + count + 16 ≤ length texts → place ≤ count
-cut_in_span a item us all texts from count place e f at h =
-    let within = cut_within a item us all (take count (drop from texts)) place e f at in
-    omega (arith, within, span-length texts from count h)
+cut_in_span a item us texts from count place text at h =
+    omega (arith, cut_within a item us text at, span-length texts from count h)
 
 -- nothing is put where nothing stands before the cut
 pub nothing_put : (page texts : List ℕ) (n place : ℕ) → place ≤ 0
@@ -128,37 +108,31 @@ pub nothing_put : (page texts : List ℕ) (n place : ℕ) → place ≤ 0
 nothing_put page texts n place h = grind (arith, nat_tests, append-nil (take n page))
 
 -- the part behind the cut is put on a page, and then the part before it
-pub text_put : (a : Named) (item : ℕ) (us all : List Use) (texts page one two : List ℕ) (at from count place : ℕ)
-    → us ≡ all → take count (drop from texts) ≡ uses_text a all
-    → place ≡ length (uses_text a (take (place_in item us) us)) → from + count + 16 ≤ length texts
+pub text_put : (a : Named) (item : ℕ) (us : List Use) (texts page one two : List ℕ) (at from count place : ℕ)
+    → take count (drop from texts) ≡ uses_text a us → place ≡ length (uses_text a (take (place_in item us) us))
+    → from + count + 16 ≤ length texts
     → take (at + (count - place)) one ≡ take at page ++ take (count - place) (drop (from + place) texts)
     → take (at + (count - place) + place) two ≡ take (at + (count - place)) one ++ take place (drop from texts)
-    → take (at + count) two ≡ take at page ++ flat_map (use_text a) (from_item item all)
-text_put a item us all texts page one two at from count place e f there h first second =
-    let within : place ≤ count = cut_in_span a item us all texts from count place e f there h in
-    let text : List ℕ = take count (drop from texts) in
-    let before : take place (drop from texts) ≡ take place text =
-    sym (take-take place count (drop from texts) within) in
+    → take (at + count) two ≡ take at page ++ flat_map (use_text a) (from_item item us)
+text_put a item us texts page one two at from count place text there h first second =
+    let within = cut_in_span a item us texts from count place text there h in
+    let rest : List ℕ = drop from texts in
     let sum : place + (count - place) ≡ count = omega (arith, within) in
-    let behind : take (count - place) (drop (from + place) texts) ≡ drop place text =
-    cc (drop-drop place from texts, drop-take place (count - place) (drop from texts), sum) in
-    let turned = cut_gives a item _ _ _ _ _ _ e f there before behind in
     let end : at + (count - place) + place ≡ at + count = omega (arith, within) in
-    let fact = append_assoc (take at page) (take (count - place) (drop (from + place) texts))
-    (take place (drop from texts)) in
-    cc (end, second, first, turned)
-
-firsts-at : (os : List (List Use)) (j x : ℕ) → j < length os
-    → get_or (map first_item os) j x ≡ first_item (unwrap_or (numbered_get os (suc j)) [])
-firsts-at [] j x h = absurd (omega (arith, h))
-firsts-at (us ∷ os) zero x h = refl
-firsts-at (us ∷ os) (suc j) x h = firsts-at os j x (omega (arith, h))
+    let before = take-take place count rest within in
+    let behind : take (count - place) (drop (from + place) texts) ≡ drop place (take count rest) =
+    cc (drop-drop place from texts, drop-take place (count - place) rest, sum) in
+    let both = append_assoc (take at page) (take (count - place) (drop (from + place) texts)) (take place rest) in
+    cc (end, second, first, cut_gives a item us text there)
 
 -- the item of an option's first use, as it was read
 pub first_read : (os : List (List Use)) (firsts : List ℕ) (o x : ℕ) → firsts ≡ map first_item os
     → (1 ≤ o) × (o ≤ length os) → x ≡ get_or firsts (o - 1) x
     → first_item (unwrap_or (numbered_get os o) []) ≡ x
-first_read os firsts o x e known at = grind (arith, nat_tests, firsts-at os (o - 1) x)
+first_read os firsts o x e known at =
+    let there = numbered_get-at (map first_item os) o (o - 1) (omega (arith, known.0)) in
+    let stands = sym there ∙ numbered-map first_item os o known in
+    sym (at ∙ ap (λ xs. get_or xs (o - 1) x) e ∙ get_or_from_slice_get (map first_item os) (o - 1) _ x stands)
 
 -- from its first use's item on an option stands in file order
 pub from_first : (item : ℕ) (us : List Use) → first_item us ≡ item → from_item item us ≡ us

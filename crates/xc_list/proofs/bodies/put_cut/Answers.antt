@@ -7,8 +7,9 @@ use Rattle.xc_list.proofs.bodies.put_cut.Goals.{then-place-gt0, else-place-gt0, 
 -- the item's use starts within the text
 cut : (c : After-place_in_text-place) → c.place_in_text-place.result ≤ c.span_of-from.result.1
 cut c =
-    cut_in_span c.args.problem.now c.args.item _ _ c.args.layout.now.texts.items c.span_of-from.result.0 _ _
-    c.uses_at.ensures.value c.span_of-from.ensures.text c.place_in_text-place.ensures c.span_of-from.ensures.within
+    cut_in_span c.args.problem.now c.args.item _ c.args.layout.now.texts.items c.span_of-from.result.0 _ _
+    c.span_of-from.ensures.text (rw c.uses_at.ensures.value at c.place_in_text-place.ensures)
+    c.span_of-from.ensures.within
 
 pub overflow_sub-count : goal.overflow_sub-count
 overflow_sub-count c = cut (goal.at.overflow_sub-count c).After-place_in_text-place
@@ -19,7 +20,7 @@ overflow_add-from c =
 
 pub put_part-requires-clause-padded : goal.put_part-requires-clause-padded
 put_part-requires-clause-padded c =
-    let fact = cut (goal.at.put_part-requires-clause-padded c).After-place_in_text-place in
+    let within = cut (goal.at.put_part-requires-clause-padded c).After-place_in_text-place in
     omega (arith, c.span_of-from.ensures.within, ap length c.deref.ensures.value)
 
 pub overflow_sub-count-then-place-gt0 : goal.overflow_sub-count-then-place-gt0
@@ -27,13 +28,13 @@ overflow_sub-count-then-place-gt0 c = cut (goal.at.overflow_sub-count-then-place
 
 pub put_part-requires-then-place-gt0-clause-room : goal.put_part-requires-then-place-gt0-clause-room
 put_part-requires-then-place-gt0-clause-room c =
-    let fact = cut (goal.at.put_part-requires-then-place-gt0-clause-room c).After-place_in_text-place in
+    let within = cut (goal.at.put_part-requires-then-place-gt0-clause-room c).After-place_in_text-place in
     let long = span-length _ _ _ c.span_of-from.ensures.within in
     omega (arith, ap length c.span_of-from.ensures.text, c.put_part.ensures.size, c.requires.room.0, c.requires.room.1)
 
 pub put_part-requires-then-place-gt0-clause-padded : goal.put_part-requires-then-place-gt0-clause-padded
 put_part-requires-then-place-gt0-clause-padded c =
-    let fact = cut (goal.at.put_part-requires-then-place-gt0-clause-padded c).After-place_in_text-place in
+    let within = cut (goal.at.put_part-requires-then-place-gt0-clause-padded c).After-place_in_text-place in
     omega (arith, c.span_of-from.ensures.within, ap length c.deref-then-place-gt0.ensures.value)
 
 pub returns-clause-put : goal.returns-clause-put
@@ -47,9 +48,9 @@ returns-clause-put c =
     let one = c.put_part.new.page in
     let first : take (at + (count - place)) one ≡ take at c.args.page.now ++ take (count - place) (drop (from + place)
     texts) = cc (c.put_part.ensures.put, c.deref.ensures.value) in
-    let all = text_put a c.args.item c.uses_at.result.now (uses_of a.puzzle c.args.o) texts _ one
-    c.if-place-gt0.page at from count place c.uses_at.ensures.value c.span_of-from.ensures.text
-    c.place_in_text-place.ensures c.span_of-from.ensures.within first in
+    let all = text_put a c.args.item (uses_of a.puzzle c.args.o) texts _ one c.if-place-gt0.page at from count place
+    c.span_of-from.ensures.text (rw c.uses_at.ensures.value at c.place_in_text-place.ensures)
+    c.span_of-from.ensures.within first in
     elim c.if-place-gt0.branch [
       | then-place-gt0 w ↦ all
           (ap (take (at + (count - place) + place)) w.page-is ∙ w.put_part-then-place-gt0.ensures.put

@@ -13,7 +13,7 @@ put_cut-requires-clause-room c =
 
 pub index-first-requires : goal.index-first-requires
 index-first-requires c =
-    let fact = items-length c.args.layout.now.firsts in
+    let count = items-length c.args.layout.now.firsts in
     grind (arith, nat_tests, firsts-length _ _ c.requires.firsts, c.requires.known.0, c.requires.known.1)
 
 pub put_part-requires-clause-padded : goal.put_part-requires-clause-padded

@@ -6,12 +6,12 @@ use Rattle.xc_list.proofs.bodies.span_of.Goals as goal
 
 pub index-requires : goal.index-requires
 index-requires c =
-    let fact = laid-count _ _ _ _ c.requires.laid.are_laid in
+    let count = laid-count _ _ _ _ c.requires.laid.are_laid in
     grind (arith, nat_tests, items-length c.args.layout.now.starts, c.requires.known.0, c.requires.known.1)
 
 pub index-requires-2 : goal.index-requires-2
 index-requires-2 c =
-    let fact = laid-count _ _ _ _ c.requires.laid.are_laid in
+    let count = laid-count _ _ _ _ c.requires.laid.are_laid in
     grind (arith, nat_tests, items-length c.args.layout.now.starts, c.requires.known.1)
 
 pub overflow_sub-result : goal.overflow_sub-result

@@ -3,10 +3,10 @@ use Rattle.xc_list.proofs.bodies.Bodies.write_option.Goals as goal
 
 pub returns-in_err-write_all : goal.returns-in_err-write_all
 returns-in_err-write_all g c =
-    rw (← c.self.view_is) (rw c.cut_text.ensures
-    (failed c.from_residual.result c.from_residual.ensures.0 (broke_before _ c.in_err-write_all.ensures)))
+    rw (← c.self.view_is) (rw c.cut_text.ensures (failed _ c.from_residual.ensures.0 (broke_before _
+    c.in_err-write_all.ensures)))
 
 pub returns : goal.returns
 returns g c =
-    rw (← c.self.view_is) (rw c.cut_text.ensures
-    (then_writes _ _ c.write_all-2.result c.in_ok-write_all.ensures c.write_all-2.ensures))
+    rw (← c.self.view_is) (rw c.cut_text.ensures (then_writes _ _ c.write_all-2.result c.in_ok-write_all.ensures
+    c.write_all-2.ensures))
