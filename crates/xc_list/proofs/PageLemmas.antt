@@ -1,4 +1,5 @@
 -- A text that is put together on a page.
+use Rattle.xc_list.proofs.Writing.{then_writes}
 use Rattle.std.proofs.lemmas.Bool.Decides.{nat_tests}
 use Rattle.std.proofs.Common.{◌≡◌, ℕ, ◌+◌, ◌≤◌, List, [], ◌++◌, length, take, drop, sym, ap, ◌∙◌, arith}
 use Rattle.std.proofs.Common.{subst, append-nil, append_assoc, ◌∷◌}
@@ -8,10 +9,9 @@ use Rattle.std.proofs.lemmas.Simd.{take_more_put_chunk, length-chunk}
 use Rattle.std.proofs.lemmas.Slice.{between_is}
 use Rattle.std.specs.Prelude.{slice_set}
 use lib.Lanes.{put_chunk, chunk}
-use Rattle.std.specs.Prelude.{Result, Ok, Err, IsErr, flat_map}
+use Rattle.std.specs.Prelude.{Result, flat_map}
 use Rattle.xc_list.specs.Texts.{SinkState, Took, BrokeOff, Writes}
-use Rattle.xc_list.specs.inner.Pages.{Puts, IsPut, held_text}
-use Rattle.xc_list.specs.declared.page.Held.{Held}
+use Rattle.xc_list.specs.inner.Pages.{Puts, held_text}
 use Rattle.xc_list.proofs.Writing.{then_took, then_broke, took_nothing, broke_before}
 use Rattle.std.proofs.lemmas.Grind.{common_steps, flat_map-append}
 use Rattle.xc_input.proofs.TokenLemmas.Separators.{COLON}
@@ -61,19 +61,16 @@ pub short_put : (page text : List ℕ) (at from count : ℕ) → count ≤ 16 �
     → from + count + 16 ≤ length text
     → take (at + count) (put_chunk at page (chunk from 16 text)) ≡ take at page ++ take count (drop from text)
 short_put page text at from count few room long =
-    let fact = take_more_put_chunk at page (chunk from 16 text) (at + 16) (omega (
-      arith,
-      (length-chunk from 16 text
-          (omega (arith, long))),
-    )) (omega (arith, room)) in
-    let fact2 = take-take (at + count) (at + 16) (put_chunk at page (chunk from 16 text)) (omega (arith, few)) in
-    let fact3 = take-append-add (take at page) (chunk from 16 text) count in
+    let put = take_more_put_chunk at page (chunk from 16 text) (at + 16)
+    (omega (arith, length-chunk from 16 text (omega (arith, long)))) (omega (arith, room)) in
+    let cut = take-take (at + count) (at + 16) (put_chunk at page (chunk from 16 text)) (omega (arith, few)) in
+    let front = take-append-add (take at page) (chunk from 16 text) count in
     cc (length-take-le at page (omega (arith, room)), take-take count 16 (drop from text) few)
 
 colon_line : (page : List ℕ) → length page ≡ 4096
     → take 2 (drop 20 (slice_set (slice_set page 20 COLON) 21 10)) ≡ COLON ∷ 10 ∷ []
 colon_line page size =
-    let fact = drop-set-add 20 (slice_set page 20 COLON) 1 10 in
+    let feed = drop-set-add 20 (slice_set page 20 COLON) 1 10 in
     cc (drop-set page 20 COLON (omega (arith, size)), drop-cons page 21 0 (omega (arith, size)))
 
 -- digits that end at the place of the colon
@@ -81,57 +78,36 @@ pub header_held : (page put digits : List ℕ) (from : ℕ) → length page ≡ 
     → drop from put ≡ digits ++ drop 20 (slice_set (slice_set page 20 COLON) 21 10)
     → held_text put from 22 ≡ digits ++ COLON ∷ 10 ∷ []
 header_held page put digits from size ends e =
-    let fact = take-append-add digits (drop 20 (slice_set (slice_set page 20 COLON) 21 10)) 2 in
+    let line = take-append-add digits (drop 20 (slice_set (slice_set page 20 COLON) 21 10)) 2 in
     grind (arith, nat_tests, between_is put from 22, e, ends, colon_line page size)
 
-pub put_failed : {E : Type 0} (a b : SinkState) (before text page : List ℕ) (r : Result Held E) → IsErr r
-    → BrokeOff a b (before ++ text) → IsPut a b before r page text
-put_failed a b before text page (Ok h) is p = absurd (cc is)
-put_failed a b before text page (Err e) is p = p
-
--- what a page held before a line that it did not take
-pub kept_text : {a b : SinkState} (page more text : List ℕ) (from to : ℕ) → take to more ≡ take to page
-    → BrokeOff a b (held_text more from to ++ text) → BrokeOff a b (held_text page from to ++ text)
-kept_text {a = a} {b = b} page more text from to e p = subst (λ t. BrokeOff a b (drop from t ++ text)) e p
-
-pub kept_out : {a b : SinkState} (page more text : List ℕ) (from to : ℕ) → take to more ≡ take to page
-    → Took a b (held_text more from to ++ text) → Puts a b (held_text page from to) [] text
-kept_out {a = a} {b = b} page more text from to e p =
-    puts_out (subst (λ t. Took a b (drop from t ++ text)) e p)
-
-next_done : {X : Type 0} (done rest next all : List X) (x : X) → rest ≡ x ∷ next → done ++ rest ≡ all
-    → (done ++ x ∷ []) ++ next ≡ all
-next_done done rest next all x cut whole = grind (arith, common_steps, cut, whole)
-
 -- the texts of the first of a list, and the next one's
-module _ {X : Type 0} {a b c : SinkState} {before held : List ℕ} (f : X → List ℕ) (done rest next all : List X) (x : X)
-    (cut : rest ≡ x ∷ next) (whole : done ++ rest ≡ all) where
-  pub line_put : {text : List ℕ} → Puts a b before held (flat_map f done) → Puts b c held text (f x)
-      → PutsFront a c before text f next all
-  line_put {text = text} p q = record {
-    done = done ++ x ∷ [];
-    whole = next_done done rest next all x cut whole;
-    puts =
-        let more : flat_map f (done ++ x ∷ []) ≡ flat_map f done ++ f x =
-        grind (arith, common_steps, flat_map-append f done (x ∷ [])) in
-        subst (Puts a c before text) (sym more) (then_puts p q);
+module _ {X : Type 0} {a b : SinkState} {before held : List ℕ} {f : X → List ℕ} {rest next all : List X} {x : X}
+    (p : PutsFront a b before held f rest all) (cut : rest ≡ x ∷ next) where
+  done : (p.done ++ x ∷ []) ++ next ≡ all
+  done = grind (arith, common_steps, cut, p.whole)
+
+  texts : flat_map f (p.done ++ x ∷ []) ≡ flat_map f p.done ++ f x
+  texts = grind (arith, common_steps, flat_map-append f p.done (x ∷ []))
+
+  pub line_put : {c : SinkState} {text : List ℕ} → Puts b c held text (f x) → PutsFront a c before text f next all
+  line_put {c = c} {text = text} q = record {
+    done = p.done ++ x ∷ [];
+    whole = done;
+    puts = subst (Puts a c before text) (sym texts) (then_puts p.puts q);
   }
 
-  pub lines_broke : Puts a b before held (flat_map f done) → BrokeOff b c (held ++ f x)
-      → BrokeOff a c (before ++ flat_map f all)
-  lines_broke p q =
-      let front : List ℕ = flat_map f done ++ f x in
-      let behind : List ℕ = flat_map f next in
-      let text : flat_map f all ≡ front ++ behind =
-      ap (flat_map f) (sym (next_done done rest next all x cut whole))
-      ∙ grind (arith, common_steps, flat_map-append f (done ++ x ∷ []) next, flat_map-append f done (x ∷ [])) in
-      subst (BrokeOff a c) (append_assoc before front behind ∙ ap (λ t. before ++ t) (sym text))
-      (broke_before behind (puts_broke (f x) p q))
+  pub lines_broke : {c : SinkState} → BrokeOff b c (held ++ f x) → BrokeOff a c (before ++ flat_map f all)
+  lines_broke q =
+      let all_texts : flat_map f all ≡ (flat_map f p.done ++ f x) ++ flat_map f next =
+      ap (flat_map f) (sym done) ∙ flat_map-append f (p.done ++ x ∷ []) next ∙ ap (λ t. t ++ flat_map f next) texts in
+      rw (all_texts, ← append_assoc before (flat_map f p.done ++ f x) (flat_map f next))
+      (broke_before (flat_map f next) (puts_broke (f x) p.puts q))
 
 -- all were put
-pub all_put : {X : Type 0} {a b : SinkState} {before held : List ℕ} (f : X → List ℕ) (rest all : List X) → rest ≡ []
+pub all_put : {X : Type 0} {a b : SinkState} {before held : List ℕ} {f : X → List ℕ} {rest all : List X} → rest ≡ []
     → PutsFront a b before held f rest all → Puts a b before held (flat_map f all)
-all_put {a = a} {b = b} {before = before} {held = held} f rest all none p =
+all_put {a = a} {b = b} {before = before} {held = held} {f = f} none p =
     subst (λ xs. Puts a b before held (flat_map f xs))
     (sym (append-nil p.done) ∙ ap (λ xs. p.done ++ xs) (sym none) ∙ p.whole) p.puts
 
@@ -139,15 +115,8 @@ all_put {a = a} {b = b} {before = before} {held = held} f rest all none p =
 pub all_taken : {a b : SinkState} {text : List ℕ} → Puts a b [] [] text → Took a b text
 all_taken {a = a} {b = b} p = subst (Took a b) (sym (p.whole ∙ append-nil p.front)) p.took
 
-pub member_broke : {a b : SinkState} (head held lines : List ℕ) → held ≡ head → BrokeOff a b (held ++ lines)
-    → BrokeOff a b (head ++ lines)
-member_broke {a = a} {b = b} head held lines e p = subst (λ h. BrokeOff a b (h ++ lines)) e p
-
 -- what a page holds at last is written
-pub puts_writes : {E : Type 0} {a b : SinkState} (c : SinkState) (head before held piece lines : List ℕ)
-    (r : Result (Unit {0}) E) → before ≡ head → piece ≡ held → Puts a b before held lines → Writes b c r piece
-    → Writes a c r (head ++ lines)
-puts_writes {a = a} {b = b} c head before held piece lines (Ok u) e f p w =
-    subst (Took a c) (sym p.whole ∙ ap (λ h. h ++ lines) e) (then_took p.took (subst (Took b c) f w))
-puts_writes {a = a} {b = b} c head before held piece lines (Err x) e f p w =
-    subst (BrokeOff a c) (sym p.whole ∙ ap (λ h. h ++ lines) e) (then_broke p.took (subst (BrokeOff b c) f w))
+pub puts_writes : {E : Type 0} {a b : SinkState} {before held lines : List ℕ} (c : SinkState)
+    (r : Result (Unit {0}) E)
+    → Puts a b before held lines → Writes b c r held → Writes a c r (before ++ lines)
+puts_writes {a = a} c r p w = subst (Writes a c r) (sym p.whole) (then_writes _ _ r p.took w)

@@ -1,4 +1,5 @@
 -- What a sink has taken, text after text.
+use Rattle.std.specs.Prelude.{MatchResult}
 use Rattle.std.proofs.Common.{◌≡◌, ℕ, ◌+◌, ◌/◌, ◌%◌, ◌^◌, ◌<◌, ◌≤◌, List, [], ◌∷◌, ◌++◌, Result, Ok, Err, length, take}
 use Rattle.std.proofs.Common.{drop, get_or, sym, ap, ◌∙◌, append-nil, arith, subst, zero, suc, refl}
 use Rattle.std.proofs.KnownBytes.{Appends-nil}
@@ -64,10 +65,14 @@ pub then_writes : {E : Type 0} {a b : SinkState} {s : List ℕ} (c : SinkState) 
 then_writes c t (Ok u) p q = then_took p q
 then_writes c t (Err e) p q = then_broke p q
 
+-- what is so where a call failed
+pub if_failed : {X E Q : Type 0} (P : X → Type 0) (r : Result X E) → IsErr r → Q → MatchResult r P (λ _. Q)
+if_failed P (Ok x) is q = absurd (cc is)
+if_failed P (Err e) is q = q
+
 pub failed : {E : Type 0} {a b : SinkState} {s : List ℕ} (r : Result (Unit {0}) E) → IsErr r → BrokeOff a b s
     → Writes a b r s
-failed (Ok u) is p = absurd (cc is)
-failed (Err e) is p = p
+failed {a = a} {b = b} {s = s} r is broke = if_failed (λ _. Took a b s) r is broke
 
 pub colour_text-some : (cs : List (List ℕ)) (c : ℕ) → 0 < c → colour_text cs c ≡ codes ":" ++ bytes_at cs c
 colour_text-some cs zero h = absurd (omega (arith, h))

@@ -7,8 +7,8 @@ returns-in_err-write_numbered g c =
 
 pub returns-in_err-write_number : goal.returns-in_err-write_number
 returns-in_err-write_number g c =
-    failed c.from_residual-in_err-write_number.result c.from_residual-in_err-write_number.ensures.0
-    (broke_before _ (then_broke c.in_ok-write_numbered.ensures c.in_err-write_number.ensures))
+    failed _ c.from_residual-in_err-write_number.ensures.0 (broke_before _ (then_broke c.in_ok-write_numbered.ensures
+    c.in_err-write_number.ensures))
 
 pub returns : goal.returns
 returns g c =

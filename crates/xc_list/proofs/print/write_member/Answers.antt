@@ -3,10 +3,10 @@ use Rattle.xc_list.proofs.print.write_member.Goals as goal
 
 pub returns-in_err-write_all : goal.returns-in_err-write_all
 returns-in_err-write_all g c =
-    (failed c.from_residual-in_err-write_all.result c.from_residual-in_err-write_all.ensures.0
-    (broke_before _ (then_broke (c.in_ok-write_number.ensures) c.in_err-write_all.ensures)))
+    failed _ c.from_residual-in_err-write_all.ensures.0 (broke_before _ (then_broke c.in_ok-write_number.ensures
+    c.in_err-write_all.ensures))
 
 pub returns : goal.returns
 returns g c =
-    (then_writes _ _ c.write_choices.result (then_took (c.in_ok-write_number.ensures) c.in_ok-write_all.ensures)
-    c.write_choices.ensures)
+    then_writes _ _ c.write_choices.result (then_took c.in_ok-write_number.ensures c.in_ok-write_all.ensures)
+    c.write_choices.ensures
