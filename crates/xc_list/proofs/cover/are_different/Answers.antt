@@ -1,11 +1,8 @@
-use Rattle.std.proofs.Common.{ℕ, ◌≡◌, ◌≢◌, ◌∙◌, List, [], ◌∷◌, length, arith, refl, subst, sym}
+use Rattle.std.proofs.Common.{◌≢◌, ◌∙◌, refl, subst, sym}
+use Rattle.std.proofs.lemmas.List.{nil_from_length}
 use Rattle.xc_input.proofs.lists.EachTwo.{EachTwo, each_two_from_AllPairs, AllPairs-from_each_two}
 use Rattle.xc_list.proofs.CheckLemmas.TestedCovers.{stands_again, stands_alone}
 use Rattle.xc_list.proofs.cover.are_different.Goals as goal
-
-no_number : (xs : List ℕ) → length xs ≡ 0 → xs ≡ []
-no_number [] e = refl
-no_number (x ∷ xs) e = absurd (omega (arith, e))
 
 pub returns-then-contains : goal.returns-then-contains
 returns-then-contains c = (
@@ -25,7 +22,7 @@ loop-first-preserved c = record {
 
 pub returns : goal.returns
 returns c =
-    let none = no_number c.loop-first.rest.now c.in_default.ensures.cases in (
+    let none = nil_from_length c.loop-first.rest.now c.in_default.ensures.cases in (
       λ h. AllPairs-from_each_two _ c.args.options.now
           (c.loop-first.invariant.all (subst (EachTwo (λ a b. a ≢ b)) (sym none) tt)),
       λ apart. refl,

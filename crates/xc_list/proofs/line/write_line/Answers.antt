@@ -8,7 +8,7 @@ pub returns-in_err-write_all-in-None-2 : goal.returns-in_err-write_all-in-None-2
 returns-in_err-write_all-in-None-2 g c =
     let number : c.as_bytes-number.result.now ≡ decimal c.args.n =
     c.as_bytes-number.ensures.value ∙ c.format.ensures.text in
-    failed c.from_residual-in_err-write_all-in-None-2.result c.from_residual-in_err-write_all-in-None-2.ensures.0
+    failed _ c.from_residual-in_err-write_all-in-None-2.ensures.0
     (broke_before _ (then_broke c.in_ok-write_all-in-None.ensures
     (subst (BrokeOff _ _) number c.in_err-write_all-in-None-2.ensures)))
 

@@ -4,11 +4,9 @@ use Rattle.xc_list.proofs.messages.write_warnings.Goals as goal
 
 pub returns-in_err-write_warning : goal.returns-in_err-write_warning
 returns-in_err-write_warning g c =
-    failed c.from_residual.result c.from_residual.ensures.0
-    (loop_broke warning_text c.args.lines.now c.loop-line.line-index 0 c.loop-line-test.true c.loop-line.invariant
+    failed _ c.from_residual.ensures.0 (loop_broke warning_text _ _ 0 c.loop-line-test.true c.loop-line.invariant
     c.in_err-write_warning.ensures)
 
 pub loop-line-preserved : goal.loop-line-preserved
 loop-line-preserved g c =
-    loop_took warning_text c.args.lines.now c.loop-line.line-index 0 c.loop-line-test.true c.loop-line.invariant
-    c.in_ok-write_warning.ensures
+    loop_took warning_text _ _ 0 c.loop-line-test.true c.loop-line.invariant c.in_ok-write_warning.ensures

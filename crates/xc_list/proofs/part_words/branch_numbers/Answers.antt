@@ -7,7 +7,7 @@ pub returns-in_default : goal.returns-in_default
 returns-in_default c =
     let w = c.word-item.result.items in
     let none : branch_number w ≡ None = cc (c.branch_number.ensures, c.deref.ensures.value, c.in_default.is) in
-    let fact = none_told (map (λ w. w.items) c.args.words.now) c.loop-word.word-index c.loop-word.numbers.items w
+    let all = none_told (map (λ w. w.items) c.args.words.now) c.loop-word.word-index c.loop-word.numbers.items w
     c.loop-word.invariant.all (word_at (λ w. w.items) c.args.words.now c.loop-word.word-index c.word-item.result
     c.loop-word-test.true c.word-item.is) none in
     cc

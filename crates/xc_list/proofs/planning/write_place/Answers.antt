@@ -3,22 +3,20 @@ use Rattle.xc_list.proofs.planning.write_place.Goals as goal
 
 pub returns-in_err-write_numbered : goal.returns-in_err-write_numbered
 returns-in_err-write_numbered g c =
-    failed c.from_residual.result c.from_residual.ensures.0
-    (broke_before _ (broke_before _ (broke_before _ c.in_err-write_numbered.ensures)))
+    failed _ c.from_residual.ensures.0 (broke_before _ (broke_before _ (broke_before _
+    c.in_err-write_numbered.ensures)))
 
 pub returns-in_err-write_number : goal.returns-in_err-write_number
 returns-in_err-write_number g c =
-    failed c.from_residual-in_err-write_number.result c.from_residual-in_err-write_number.ensures.0
-    (broke_before _ (broke_before _ (then_broke c.in_ok-write_numbered.ensures c.in_err-write_number.ensures)))
+    failed _ c.from_residual-in_err-write_number.ensures.0 (broke_before _ (broke_before _ (then_broke
+    c.in_ok-write_numbered.ensures c.in_err-write_number.ensures)))
 
 pub returns-in_err-write_all : goal.returns-in_err-write_all
 returns-in_err-write_all g c =
-    failed c.from_residual-in_err-write_all.result c.from_residual-in_err-write_all.ensures.0
-    (broke_before _ (then_broke (then_took c.in_ok-write_numbered.ensures c.in_ok-write_number.ensures)
-    c.in_err-write_all.ensures))
+    failed _ c.from_residual-in_err-write_all.ensures.0 (broke_before _ (then_broke (then_took
+    c.in_ok-write_numbered.ensures c.in_ok-write_number.ensures) c.in_err-write_all.ensures))
 
 pub returns : goal.returns
 returns g c =
-    then_writes _ _ c.write_option.result
-    (then_took (then_took c.in_ok-write_numbered.ensures c.in_ok-write_number.ensures) c.in_ok-write_all.ensures)
-    c.write_option.ensures
+    then_writes _ _ c.write_option.result (then_took (then_took c.in_ok-write_numbered.ensures
+    c.in_ok-write_number.ensures) c.in_ok-write_all.ensures) c.write_option.ensures

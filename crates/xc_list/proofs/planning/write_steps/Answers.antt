@@ -5,7 +5,6 @@ use Rattle.xc_list.proofs.planning.write_steps.Goals as goal
 
 pub returns-in_err-write_step : goal.returns-in_err-write_step
 returns-in_err-write_step g c =
-    failed c.from_residual.result c.from_residual.ensures.0
-    (loop_broke (step_text c.args.problem.now) c.args.path.now c.loop-choice.choice-index
+    failed _ c.from_residual.ensures.0 (loop_broke (step_text c.args.problem.now) _ _
     (record { item = 0; option = None; k = 0; n = 0 }) c.loop-choice-test.true c.loop-choice.invariant
     c.in_err-write_step.ensures)

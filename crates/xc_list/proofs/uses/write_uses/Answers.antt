@@ -4,6 +4,6 @@ use Rattle.xc_list.proofs.uses.write_uses.Goals as goal
 
 pub returns-in_err-write_use : goal.returns-in_err-write_use
 returns-in_err-write_use g c =
-    failed c.from_residual.result c.from_residual.ensures.0
-    (loop_broke (use_text c.args.problem.now) c.args.uses.now c.loop-u.u-index (record { item = 0; colour = 0 })
-    c.loop-u-test.true c.loop-u.invariant c.in_err-write_use.ensures)
+    failed _ c.from_residual.ensures.0 (loop_broke (use_text c.args.problem.now) _ _
+    (record { item = 0; colour = 0 }) c.loop-u-test.true c.loop-u.invariant
+    c.in_err-write_use.ensures)

@@ -21,6 +21,6 @@ returns-in_err-value c =
     let some : 0 < length bytes = omega (arith, c.loop-b-test.true) in
     let large : 2 ^ 64 ≤ value * 10 + (get_or bytes i 0 - 48) =
     omega (arith, c.in_ok-checked_mul.ensures, c.from.ensures, c.in_err-value.ensures) in
-    let fact = too_large value (get_or bytes i 0) (drop (i + 1) bytes) large in
-    let fact2 = behind bytes i 0 c.loop-b-test.true in
+    let none = too_large value (get_or bytes i 0) (drop (i + 1) bytes) large in
+    let rest = behind bytes i 0 c.loop-b-test.true in
     cc (c.from_residual-in_err-value.ensures, some_digits bytes some, c.loop-b.invariant.same)
