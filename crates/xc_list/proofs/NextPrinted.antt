@@ -1,10 +1,14 @@
 -- A search that goes on to the next member that is printed.
+use Rattle.xc_list.specs.Runs.{IsRun}
+use Rattle.std.proofs.lemmas.Bool.{cases_Bool}
+use Rattle.std.proofs.Common.{inl, inr, lt-ltb, ◌∙◌}
+use Rattle.xc_list.specs.declared.runs.End.TheVariants.{Done}
+use Rattle.xc_list.proofs.Outputs.{output_all}
 use Rattle.std.proofs.lemmas.Bool.Decides.{nat_tests}
 use Rattle.std.proofs.Common.{◌≡◌, ℕ, zero, suc, ◌+◌, ◌-◌, ◌<◌, ◌≤◌, false, List, [], ◌∷◌, length}
 use Rattle.std.proofs.Common.{drop, get_or}
 use Rattle.std.proofs.Common.{sym, ap, append-nil, arith, subst, length-drop}
 use Rattle.std.proofs.lemmas.List.{drop-drop, drop_more}
-use Rattle.xc_search.specs.declared.choice.Choice.{Choice}
 use Rattle.xc_search.specs.Outlook.{Outlook, shown_after}
 use Rattle.xc_search.specs.Cover.{members}
 use Rattle.xc_search.proofs.stacked.PassedOver.{drop_past, shown_next, shown_past}
@@ -14,7 +18,7 @@ use Rattle.xc_list.specs.Texts.{SinkState, Took, BrokeOff}
 use Rattle.xc_list.specs.Runs.{StoppedAt}
 use Rattle.xc_list.specs.inner.Ends.{printed_text, StandsAt}
 use Rattle.xc_list.proofs.Writing.{then_took}
-use Rattle.xc_list.proofs.Outputs.{at_next, output_next, rest_next, stopped, within_next}
+use Rattle.xc_list.proofs.Outputs.{at_next, output_next, rest_next, within_next}
 
 next_of : {X : Type 0} (xs : List X) (n : ℕ) → n < length xs → (x : X) × (drop n xs ≡ x ∷ drop (n + 1) xs)
 next_of [] n h = absurd (omega (arith, h))
@@ -24,75 +28,86 @@ next_of (x ∷ xs) n h = (get_or (x ∷ xs) n x, drop_more (x ∷ xs) n x h)
 abbrev pub AreSilent : ℕ → ℕ → ℕ → Type 0
 AreSilent spacing k end = (j : ℕ) → k < j → j < end → is_printed spacing j ≡ false
 
-pub output_silent : (a : Named) (spacing k n : ℕ) → k + n ≤ length (members a.puzzle) → AreSilent spacing k (k + n + 1)
+output_silent : (a : Named) (spacing k n : ℕ) → k + n ≤ length (members a.puzzle) → AreSilent spacing k (k + n + 1)
     → output a spacing (k + n) ≡ output a spacing k
 output_silent a spacing k zero h s = let e : k + 0 ≡ k = omega arith in ap (output a spacing) e
 output_silent a spacing k (suc n) h s =
-    let fact = output_next a spacing (k + n) (next_of (members a.puzzle) (k + n) (omega (arith, h))).0
-    (drop ((k + n) + 1) (members a.puzzle)) (next_of (members a.puzzle) (k + n) (omega (arith, h))).1 in
-    let fact2 = output_silent a spacing k n (omega (arith, h)) (λ j from below. s j from (omega (arith, below))) in
+    let next = output_next a spacing (k + n) (next_of (members a.puzzle) (k + n) (omega (arith, h))).1 in
+    let before = output_silent a spacing k n (omega (arith, h)) (λ j from below. s j from (omega (arith, below))) in
     grind (arith, nat_tests, s ((k + n) + 1) (omega arith) (omega arith), append-nil (output a spacing (k + n)))
 
--- it reached the next member to print, or the limit: the one that it shows
-pub record Reaches (a : Named) (spacing k n : ℕ) (o : Outlook) : Type 0 where
-  pub next : drop (k + (n - 1)) (members a.puzzle) ≡ o.shown ∷ o.to_come
-  pub same : output a spacing (k + (n - 1)) ≡ output a spacing k
+-- Behind the k-th member it reached the one numbered t, the next to print or the last up to the limit, and shows it.
+pub record Reaches (a : Named) (spacing k t : ℕ) (o : Outlook) : Type 0 where
+  pub last : ℕ
+  pub number : last + 1 ≡ t
+  pub next : drop last (members a.puzzle) ≡ o.shown ∷ o.to_come
+  pub same : output a spacing last ≡ output a spacing k
 
-pub reaches : (a : Named) (spacing k n : ℕ) (o : Outlook) (s : List Choice)
-    → o.to_come ≡ drop n (drop k (members a.puzzle)) → o.shown ≡ shown_after n (drop k (members a.puzzle)) s →
-    0 < n → n ≤ length (drop k (members a.puzzle)) → AreSilent spacing k (k + n) → Reaches a spacing k n o
-reaches a spacing k n o s come shown some enough silent =
+pub reaches : (a : Named) (spacing k n : ℕ) (o p : Outlook) → o.to_come ≡ drop k (members a.puzzle)
+    → p ≡ record o { to_come = drop n o.to_come; shown = shown_after n o.to_come o.shown } → 0 < n
+    → n ≤ length o.to_come → AreSilent spacing k (k + n) → Reaches a spacing k (k + n) p
+reaches a spacing k n o p come went some enough silent =
     let ms = members a.puzzle in
-    let next = next_of (drop k ms) (n - 1) (omega (arith, some, enough)) in
-    let last : (n - 1) + 1 ≡ n = omega (arith, some) in
-    let end : k + (n - 1) + 1 ≡ k + n = omega (arith, some) in
+    let next = next_of o.to_come (n - 1) (omega (arith, some, enough)) in
+    let same : (n - 1) + 1 ≡ n = omega (arith, some) in
     record {
+      last = k + (n - 1);
+      number = omega (arith, some);
       next =
-          let fact = shown_next (n - 1) (drop k ms) s next.0 (drop ((n - 1) + 1) (drop k ms)) next.1 in
-          cc (drop-drop (n - 1) k ms, next.1, last, shown, come);
+          let shown = shown_next (n - 1) o.to_come o.shown next.0 (drop ((n - 1) + 1) o.to_come) next.1 in
+          cc (drop-drop (n - 1) k ms, next.1, same, shown, come, went);
       same =
-          output_silent a spacing k (n - 1) (omega (arith, enough, some, length-drop k ms))
-          (λ j from below. silent j from (omega (arith, below, end)));
+          output_silent a spacing k (n - 1) (omega (arith, enough, some, ap length come, length-drop k ms))
+          (λ j from below. silent j from (omega (arith, below, some)));
     }
 
 -- all members were passed over
-pub ends : (a : Named) (spacing k n passed limit : ℕ) → k ≤ length (members a.puzzle)
-    → passed ≡ length (drop k (members a.puzzle)) → passed < n → AreSilent spacing k (k + n) →
-    (k + passed ≡ length (members a.puzzle)) × (output a spacing (k + passed) ≡ output a spacing k)
-ends a spacing k n passed limit within is less silent = grind (arith, nat_tests, length-drop, output_silent)
+pub ends : (a : Named) (spacing limit k n passed : ℕ) {x y : SinkState} → k ≤ length (members a.puzzle)
+    → passed ≡ length (drop k (members a.puzzle)) → passed < n → k + n ≤ limit → AreSilent spacing k (k + n)
+    → Took x y (output a spacing k) → IsRun a spacing limit x y (Done (k + passed))
+ends a spacing limit k n passed {x = x} {y = y} within all less few silent so_far =
+    let end : k + passed ≡ length (members a.puzzle) =
+    omega (arith, all, within, length-drop k (members a.puzzle)) in
+    let below : k + passed < limit = omega (arith, less, few) in
+    let same = output_silent a spacing k passed (omega (arith, end))
+    (λ j from below. silent j from (omega (arith, below, less))) in (
+      cc (end, lt-ltb (k + passed) limit below),
+      rw (output_all a spacing (k + passed) limit (omega (arith, end)) (omega (arith, below)) ∙ same) so_far,
+    )
 
--- its text was taken, or broke off
-pub takes : (a : Named) (spacing k n : ℕ) (o : Outlook) (x y z : SinkState) → Reaches a spacing k n o → 0 < n →
-    Took x y (output a spacing k) → Took y z (printed_text a spacing (k + n, o.shown)) →
-    Took x z (output a spacing (k + n))
-takes a spacing k n o x y z r some so_far t = grind (arith, nat_tests, output_next, then_took)
+module _ {a : Named} {spacing k t : ℕ} {o : Outlook} (to : Reaches a spacing k t o) where
+  pub stands : StandsAt (members a.puzzle) t o
+  stands = subst (λ t. StandsAt (members a.puzzle) t o) to.number
+      (λ some. at_next (members a.puzzle) to.last to.next, rest_next (members a.puzzle) to.last to.next)
 
-pub stops : (a : Named) (spacing limit k n : ℕ) (o : Outlook) (x y z : SinkState) → Reaches a spacing k n o → 0 < n
-    → k + n ≤ limit → Took x y (output a spacing k) → BrokeOff y z (printed_text a spacing (k + n, o.shown))
-    → StoppedAt a spacing limit (k + n) x z
-stops a spacing limit k n o x y z r some within so_far b =
-    let last = k + (n - 1) in
-    let end : last + 1 ≡ k + n = omega (arith, some) in
-    subst (λ j. StoppedAt a spacing limit j x z) end
-    (stopped a spacing limit last o.shown o.to_come r.next (omega (arith, end, within))
-    (subst (Took x y) (sym r.same) so_far)
-    (subst (λ j. BrokeOff y z (printed_text a spacing (j, o.shown))) (sym end) b))
+  pub within : t ≤ length (members a.puzzle)
+  within = omega (arith, within_next (members a.puzzle) to.last to.next, to.number)
 
-pub stands : (a : Named) (spacing k n : ℕ) (o : Outlook) → Reaches a spacing k n o → 0 < n
-    → StandsAt (members a.puzzle) (k + n) o
-stands a spacing k n o r some = grind (arith, nat_tests, at_next, rest_next)
+  -- its text was taken, or broke off
+  pub takes : {x y z : SinkState} → Took x y (output a spacing k) → Took y z (printed_text a spacing (t, o.shown))
+      → Took x z (output a spacing t)
+  takes {x = x} {y = y} {z = z} so_far more =
+      let so_far = subst (Took x y) (sym to.same) so_far in
+      let more = subst (λ t. Took y z (printed_text a spacing (t, o.shown))) (sym to.number) more in
+      rw (← to.number, output_next a spacing to.last to.next) (then_took so_far more)
 
-pub within : (a : Named) (spacing k n : ℕ) (o : Outlook) → Reaches a spacing k n o → 0 < n
-    → k + n ≤ length (members a.puzzle)
-within a spacing k n o r some = omega (arith, within_next (members a.puzzle) (k + (n - 1)) _ _ r.next, some)
+  pub stops : (limit : ℕ) {x y z : SinkState} → t ≤ limit → Took x y (output a spacing k)
+      → BrokeOff y z (printed_text a spacing (t, o.shown)) → StoppedAt a spacing limit t x z
+  stops limit {x = x} {y = y} below so_far broke = elim (cases_Bool (is_printed spacing t)) [
+    | inl p ↦
+        let last : to.last ≡ t - 1 = omega (arith, to.number) in
+        record {
+          within = (omega (arith, to.number), below);
+          member = o.shown;
+          is_member = stands.0 (omega (arith, to.number));
+          printed = p;
+          stopped = (y, subst (Took x y) (sym to.same ∙ ap (output a spacing) last) so_far, rw p at broke);
+        }
+    | inr p ↦ absurd (let none = rw p at broke in omega (arith, none.part))
+  ]
 
 -- where there were no more, none is shown and none is to come
 pub none_left : (n : ℕ) (o p : Outlook)
     → p ≡ record o { to_come = drop n o.to_come; shown = shown_after n o.to_come o.shown } → length o.to_come < n
     → (p.shown ≡ []) × (p.to_come ≡ [])
 none_left n o p w h = grind (arith, nat_tests, shown_past n o.to_come o.shown h, drop_past n o.to_come)
-
-pub keeps : (o p q : Outlook) (ms : List (List Choice)) (m : List Choice) → q ≡ record p { to_come = ms; shown = m }
-    → p ≡ record o { to_come = p.to_come; shown = p.shown } →
-    q ≡ record o { to_come = q.to_come; shown = q.shown }
-keeps o p q ms m a b = grind (arith, nat_tests)

@@ -1,14 +1,16 @@
+use Rattle.std.proofs.lemmas.Bool.Decides.{nat_tests}
+use Rattle.std.proofs.Common.{◌<◌}
 use Rattle.std.proofs.Common.{arith, ◌≤◌, ◌∙◌, length}
 use Rattle.std.specs.Prelude.{vec_len}
 use Rattle.std.proofs.lemmas.List.{take_all}
 use Rattle.xc_input.proofs.FaultLemmas.Checks.{items-length}
-use Rattle.xc_list.proofs.BelowLemmas.{no_row, some_left}
+use Rattle.xc_list.proofs.BelowLemmas.{no_row}
 use Rattle.xc_list.proofs.below.read_paths.Goals as goal
 
 pub returns-else-is_empty : goal.returns-else-is_empty
 returns-else-is_empty c paths e =
     let path = c.loop-number.path in
     let end : length c.args.numbers.now ≤ c.loop-number.number-index = omega (arith, c.loop-number-test.false) in
-    let some = some_left c.is_empty.result (vec_len path) c.is_empty.ensures c.if-is_empty.false in
+    let some : 0 < vec_len path = grind (arith, nat_tests, c.is_empty.ensures, c.if-is_empty.false) in
     no_row _ _ _ _ (c.loop-number.invariant.told ∙ take_all c.loop-number.number-index c.args.numbers.now end)
     c.loop-number.invariant.front (omega (arith, some, items-length path)) e

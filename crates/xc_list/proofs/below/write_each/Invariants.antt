@@ -1,6 +1,5 @@
-use Rattle.std.proofs.Common.{◌≡◌, ◌≤◌, length, take, drop}
-use Rattle.std.specs.Prelude.{flat_map}
-use Rattle.std.specs.List.{enumerate_from}
+use Rattle.xc_list.proofs.Outputs.{first_texts}
+use Rattle.std.proofs.Common.{◌≡◌, ◌≤◌, length, drop}
 use Rattle.xc_list.specs.Output.{member_text}
 use Rattle.xc_list.specs.Texts.{Took}
 use Rattle.xc_list.proofs.below.write_each.Given as goal
@@ -12,5 +11,5 @@ invariant-loop-found g l = record {
   come : l.search.to_come ≡ drop l.found l.fn.search.to_come;
   within : l.found ≤ length l.fn.search.to_come;
   taken : Took (g.S.Sink.state l.fn.sink) (g.S.Sink.state l.sink)
-      (flat_map (member_text l.bodies) (enumerate_from 1 (take l.found l.fn.search.to_come)));
+      (first_texts (member_text l.bodies) l.fn.search.to_come l.found);
 }
