@@ -6,10 +6,10 @@ use Rattle.std.specs.Io.KnownBytes.{Keeps}
 use Rattle.std.proofs.lemmas.List.{drop-map, take_all}
 use Rattle.xc_input.specs.Calls.{Rose}
 use Rattle.xc_input.specs.Named.{Named}
-use Rattle.xc_list.specs.Below.{OfParts, HasNoPathAt}
+use Rattle.xc_list.specs.Below.{OfParts}
 use Rattle.xc_list.specs.PartWords.{AskForParts}
 use Rattle.xc_list.specs.Texts.{SinkState, Took, WasTold}
-use Rattle.xc_tools.specs.Parts.{AskForNone, DidListParts, PartsUnwritten}
+use Rattle.xc_tools.specs.Parts.{AskForNone, DidListParts}
 use Rattle.xc_tools.specs.Solves.{TookAll}
 use Rattle.xc_tools.proofs.RunLemmas.{took_all, failed_behind}
 
@@ -38,16 +38,30 @@ flushed_parts : {a : Named} {listed : Bool} {parts : List (List ℕ)} {old mid :
 flushed_parts new of same settled kept flushed =
     record { plan = of.plan; paths = of.paths; said = took_all new of.said same settled kept flushed }
 
--- it failed
-unflushed_parts : {a : Named} {listed : Bool} {parts : List (List ℕ)} {old mid told told_new : SinkState}
+-- the flush behind so many parts failed
+unflushed : {a : Named} {listed : Bool} {parts : List (List ℕ)} {old mid told told_new : SinkState} {status : ℕ}
     (written : ℕ) (new : SinkState) → OfParts a listed (take written parts) Took old mid
-    → Rose mid.failures new.failures → IsTrue new.failed → Keeps mid.taken new.taken → new.flushes ≡ mid.flushes + 1
-    → WasTold told told_new (codes "Write failed.\n") → PartsUnwritten a listed parts old new told told_new
-unflushed_parts written new of rose last kept flushed told = record {
-  written = written;
-  failed = inr (record { plan = of.plan; paths = of.paths; said = failed_behind new of.said rose last kept flushed });
-  told = told;
-}
+    → Keeps mid.taken new.taken → new.flushes ≡ mid.flushes + 1
+    → (status ≡ 3) × Rose mid.failures new.failures × IsTrue new.failed
+    × WasTold told told_new (codes "Write failed.\n") → DidListParts listed parts status old new told told_new a
+unflushed written new of kept flushed h =
+    let said = failed_behind new of.said h.1 h.2 kept flushed in
+    inr (inr (inl (
+      h.0,
+      record { written = written; failed = inr (record { plan = of.plan; paths = of.paths; said = said }); told = h.3 },
+    )))
+
+-- it failed, or succeeded and it was told why there are no more
+pub parts_before : {a : Named} {listed : Bool} {parts : List (List ℕ)} {old mid told told_new : SinkState}
+    {status why : ℕ} {text : List ℕ} (written : ℕ) (new : SinkState)
+    → OfParts a listed (take written parts) Took old mid → Keeps mid.taken new.taken → new.flushes ≡ mid.flushes + 1
+    → (status ≡ why → OfParts a listed (take written parts) TookAll old new → WasTold told told_new text
+    → DidListParts listed parts status old new told told_new a)
+    → ((status ≡ why) × (new.failures ≡ mid.failures) × IsTrue new.settled × WasTold told told_new text)
+    ⊎ ((status ≡ 3) × Rose mid.failures new.failures × IsTrue new.failed
+    × WasTold told told_new (codes "Write failed.\n")) → DidListParts listed parts status old new told told_new a
+parts_before written new of kept flushed so (inl h) = so h.0 (flushed_parts new of h.1 h.2 kept flushed) h.3
+parts_before written new of kept flushed so (inr h) = unflushed written new of kept flushed h
 
 pub all_parts : {a : Named} {listed : Bool} {parts : List (List ℕ)} {old mid told told_new : SinkState} {status : ℕ}
     (new : SinkState) → OfParts a listed parts Took old mid
@@ -58,47 +72,5 @@ pub all_parts : {a : Named} {listed : Bool} {parts : List (List ℕ)} {old mid t
     → DidListParts listed parts status old new told told_new a
 all_parts new of kept flushed (inl h) = inl (h.0, flushed_parts new of h.1 h.2 kept flushed)
 all_parts {a = a} {listed = listed} {parts = parts} {old = old} {mid = mid} new of kept flushed (inr h) =
-    let all = subst (λ ps. OfParts a listed ps Took old mid)
-    (sym (take_all (length parts) parts (omega arith))) of in
-    inr (inr (inl (h.0, unflushed_parts (length parts) new all h.1 h.2 kept flushed h.3)))
-
-pub parts_before_no_path : {a : Named} {listed : Bool} {parts : List (List ℕ)} {old mid told told_new : SinkState}
-    {status : ℕ} (written : ℕ) (new : SinkState) → OfParts a listed (take written parts) Took old mid
-    → HasNoPathAt a.puzzle parts written → Keeps mid.taken new.taken → new.flushes ≡ mid.flushes + 1
-    → ((status ≡ 5) × (new.failures ≡ mid.failures) × IsTrue new.settled
-    × WasTold told told_new (codes "No such path.\n"))
-    ⊎ ((status ≡ 3) × Rose mid.failures new.failures × IsTrue new.failed
-    × WasTold told told_new (codes "Write failed.\n"))
-    → DidListParts listed parts status old new told told_new a
-parts_before_no_path written new of none kept flushed (inl h) =
-    inr (inl (
-      h.0,
-      record {
-        written = written;
-        taken = flushed_parts new of h.1 h.2 kept flushed;
-        none = none;
-        told = h.3;
-      },
-    ))
-parts_before_no_path written new of none kept flushed (inr h) =
-    inr (inr (inl (h.0, unflushed_parts written new of h.1 h.2 kept flushed h.3)))
-
-pub parts_before_no_memory : {a : Named} {listed : Bool} {parts : List (List ℕ)} {old mid told told_new : SinkState}
-    {status : ℕ} (written : ℕ) (new : SinkState) → OfParts a listed (take written parts) Took old mid
-    → Keeps mid.taken new.taken → new.flushes ≡ mid.flushes + 1
-    → ((status ≡ 4) × (new.failures ≡ mid.failures) × IsTrue new.settled
-    × WasTold told told_new (codes "Out of memory.\n"))
-    ⊎ ((status ≡ 3) × Rose mid.failures new.failures × IsTrue new.failed
-    × WasTold told told_new (codes "Write failed.\n"))
-    → DidListParts listed parts status old new told told_new a
-parts_before_no_memory written new of kept flushed (inl h) =
-    inr (inr (inr (
-      h.0,
-      record {
-        written = written;
-        taken = flushed_parts new of h.1 h.2 kept flushed;
-        told = h.3;
-      },
-    )))
-parts_before_no_memory written new of kept flushed (inr h) =
-    inr (inr (inl (h.0, unflushed_parts written new of h.1 h.2 kept flushed h.3)))
+    let whole = sym (take_all (length parts) parts (omega arith)) in
+    unflushed (length parts) new (subst (λ ps. OfParts a listed ps Took old mid) whole of) kept flushed h

@@ -1,9 +1,11 @@
 -- What a writer holds, and what is held back from it.
-use Rattle.std.proofs.Common.{◌≡◌, ℕ, suc, ◌+◌, ◌-◌, ◌≤◌, List, [], ◌∷◌, ◌++◌, Option, None, Some, length, take, drop}
-use Rattle.std.proofs.Common.{refl, sym, ap, ap₂, ◌∙◌, append_assoc, arith}
+use Rattle.std.proofs.lemmas.Simd.{take_more_put_chunk}
+use Rattle.std.proofs.Math.Seq.{take-append-add}
+use Rattle.std.proofs.lemmas.List.{take-take, take-append-drop}
+use Rattle.std.proofs.Common.{◌≡◌, ℕ, ◌+◌, ◌-◌, ◌≤◌, List, ◌++◌, Option, None, Some, length, take, drop}
+use Rattle.std.proofs.Common.{refl, sym, ap, ◌∙◌, append_assoc, arith}
 use lib.Seq.{paste}
 use Rattle.std.proofs.lemmas.List.Edits.{take-paste}
-use Rattle.std.proofs.lemmas.Grind.{common_steps}
 use Rattle.std.proofs.Math.Seq.{take-add}
 use Rattle.std.proofs.lemmas.List.{drop-take, length-drop, length-take-le, take_all}
 use Rattle.std.proofs.lemmas.Slice.{drop-put_mid}
@@ -11,16 +13,12 @@ use Rattle.std.specs.Io.KnownBytes.{append_known, Appends}
 use Rattle.xc_list.proofs.TextLemmas.{appends_more}
 use Rattle.std.specs.Simd.Lanes.{chunk, put_chunk}
 use Rattle.std.proofs.lemmas.Simd.{put_chunk_is, length-put_chunk, length-chunk}
-use borrow.Rule.Slice.PartMut.{put_mid}
 
 -- one piece more was passed on
 pub pass_more : (old mid new : Option (List ℕ)) (bytes rest : List ℕ) (place n : ℕ) → rest ≡ drop place bytes
     → Appends old mid (take place bytes) → Appends mid new (take n rest) → Appends old new (take (place + n) bytes)
 pass_more old mid new bytes rest place n e p q =
     rw (take-add place n bytes) (appends_more old mid new (take place bytes) (take n (drop place bytes)) p (rw e at q))
-
-front-back : (xs : List ℕ) (l : ℕ) → take l xs ++ drop l xs ≡ xs
-front-back xs l = grind (arith, common_steps)
 
 -- the rest of a front was moved to the front
 pub moved_to_front : (bytes : List ℕ) (n end : ℕ) → n ≤ end → end ≤ length bytes
@@ -38,61 +36,36 @@ pub held_more : (known : Option (List ℕ)) (held now xs : List ℕ) → now ≡
 held_more None held now xs e = tt
 held_more (Some x) held now xs e = ap (λ l. x ++ l) e ∙ sym (append_assoc x held xs)
 
-take-behind : (xs ys : List ℕ) (l : ℕ) → take (length xs + l) (xs ++ ys) ≡ xs ++ take l ys
-take-behind [] ys l = let e : 0 + l ≡ l = omega arith in ap (λ k. take k ys) e
-take-behind (x ∷ xs) ys l = let e : length (x ∷ xs) + l ≡ suc (length xs + l) = omega arith in
-    ap (λ k. take k (x ∷ xs ++ ys)) e ∙ ap (λ r. x ∷ r) (take-behind xs ys l)
-
-take-within : (xs ys : List ℕ) (l size : ℕ) → l ≤ size → size ≤ length xs → take l (take size xs ++ ys) ≡ take l xs
-take-within xs ys l size h k = grind (arith, common_steps)
-
-drop-twice : (xs : List ℕ) (a b : ℕ) → drop b (drop a xs) ≡ drop (a + b) xs
-drop-twice xs a b = grind (arith, common_steps)
-
--- bytes that were put in the place of others by their first and their last piece
-two_ends : (held bytes first last : List ℕ) (at size m n place w : ℕ) → at + length bytes ≤ length held
-    → size ≤ length bytes → length bytes ≤ size + size
-    → first ≡ take size bytes → last ≡ take w (drop (length bytes - size) bytes) → m ≡ size → n ≡ size
-    → place ≡ at + (length bytes - size) → w ≡ size
-    → put_mid place n (put_mid at m held first) last ≡ take at held ++ bytes ++ drop (at + length bytes) held
-two_ends held bytes first last at size m n place w room few enough f l em en ep ew =
-    let back : ℕ = length bytes - size in
-    let once : List ℕ = put_mid at m held first in
-    let start : length (take at held) ≡ at = length-take-le at held (omega (arith, room)) in
-    let less : back ≤ size = omega (arith, enough) in
-    let piece : length first ≡ m = ap length f ∙ length-take-le size bytes few ∙ sym em in
-    let from : place ≡ length (take at held) + back = omega (arith, ep, start) in
-    let front : take place once ≡ take at held ++ take back bytes =
-    ap (λ k. take k once) from ∙ take-behind (take at held) (first ++ drop m (drop at held)) back
-    ∙ ap (λ x. take at held ++ take back (x ++ drop m (drop at held))) f
-    ∙ ap (λ x. take at held ++ x) (take-within bytes (drop m (drop at held)) back size less few) in
-    let to : place + n ≡ at + length bytes = omega (arith, ep, en, few) in
-    let behind : drop n (drop place once) ≡ drop (at + length bytes) held =
-    drop-twice once place n ∙ drop-put_mid at m held first (place + n) (omega (arith, ep, em, en)) (omega (arith, room))
-    piece ∙ ap (λ k. drop k held) to in
-    let last_is : last ≡ drop back bytes =
-    l ∙ take_all w (drop back bytes) (omega (arith, length-drop back bytes, ew, few)) in
-    let whole : (take at held ++ take back bytes) ++ drop back bytes ≡ take at held ++ bytes =
-    append_assoc (take at held) (take back bytes) (drop back bytes)
-    ∙ ap (λ x. take at held ++ x) (front-back bytes back) in
-    ap₂ (λ x y. x ++ (last ++ y)) front behind
-    ∙ sym (append_assoc (take at held ++ take back bytes) last (drop (at + length bytes) held))
-    ∙ ap (λ x. take at held ++ take back bytes ++ x ++ drop (at + length bytes) held) last_is
-    ∙ ap (λ x. x ++ drop (at + length bytes) held) whole
-
--- the same by loads and stores of whole pieces
+-- bytes that were put in the place of others by loads and stores of their first and their last piece
 pub two_pieces : (held bytes : List ℕ) (at size : ℕ) → at + length bytes ≤ length held → size ≤ length bytes
     → length bytes ≤ size + size
     → put_chunk (at + (length bytes - size)) (put_chunk at held (chunk 0 size bytes))
     (chunk (length bytes - size) size bytes) ≡ take at held ++ bytes ++ drop (at + length bytes) held
 two_pieces held bytes at size room few enough =
+    let end : ℕ = at + length bytes in
     let back : ℕ = length bytes - size in
     let first : List ℕ = chunk 0 size bytes in
     let last : List ℕ = chunk back size bytes in
     let once : List ℕ = put_chunk at held first in
+    let all : List ℕ = put_chunk (at + back) once last in
     let m : length first ≡ size = length-chunk 0 size bytes (omega (arith, few)) in
     let n : length last ≡ size = length-chunk back size bytes (omega (arith, few)) in
-    put_chunk_is (at + back) once last (omega (arith, room, few, n, length-put_chunk at held first))
-    ∙ ap (λ h. put_mid (at + back) (length last) h last) (put_chunk_is at held first (omega (arith, room, few, m)))
-    ∙ two_ends held bytes first last at size (length first) (length last) (at + back) size room few enough refl refl m n
-    refl refl
+    let long = length-put_chunk at held first in
+    let start = length-take-le at held (omega (arith, room)) in
+    let put_once = take_more_put_chunk at held first (at + size) (omega (arith, m)) (omega (arith, room, few)) in
+    let put_all = take_more_put_chunk (at + back) once last end (omega (arith, n, few)) (omega (arith, room, long)) in
+    let cut_once = take-take (at + back) (at + size) once (omega (arith, enough)) in
+    let cut_first = take-take back size bytes (omega (arith, enough)) in
+    let front : take (at + back) once ≡ take at held ++ take back bytes =
+    cc (take-append-add (take at held) first back) in
+    let rest = take_all size (drop back bytes) (omega (arith, length-drop back bytes, few)) in
+    let both = append_assoc (take at held) (take back bytes) (drop back bytes) in
+    let before : take end all ≡ take at held ++ bytes = cc (take-append-drop back bytes) in
+    let behind_all = drop-put_mid (at + back) (length last) once last end (omega (arith, n, few))
+    (omega (arith, room, few, long)) refl in
+    let behind_once =
+    drop-put_mid at (length first) held first end (omega (arith, m, few)) (omega (arith, room)) refl in
+    let is_all = put_chunk_is (at + back) once last (omega (arith, room, few, n, long)) in
+    let is_once = put_chunk_is at held first (omega (arith, room, few, m)) in
+    let behind : drop end all ≡ drop end held = cc in
+    cc (take-append-drop end all)
