@@ -4,7 +4,7 @@ use Rattle.xc_search.proofs.listing.Numbering.{with_bounds, numbered_at, uses_kn
 use Rattle.xc_search.proofs.listing.EachBranch.{in-level, branch_item-in, takes, nones}
 use Rattle.xc_search.proofs.Cases.{by_option, by_bool}
 use Rattle.xc_search.proofs.completeness.Proper.{item-spend_one, goes_on}
-use Rattle.xc_input.specs.Problem.{numbered_options}
+use Rattle.xc_input.specs.Problem.{numbered_options, IsOption}
 use Rattle.xc_input.proofs.lists.Filters.{length-filter-le}
 use Rattle.xc_dance.proofs.MoveLemmas.ListLemmas.{length-numbered_from}
 use Rattle.std.proofs.Common.{inl, inr}
@@ -79,18 +79,11 @@ branch_known p r w b known item h = elim (in-append (takes r w) (nones r w) b h)
       (omega (arith, length-take n held)) (each_from _ _ (λ o. in-take n held o))) from.1 in
       let x = in-filter _ _ _ at.1 in
       let number = numbered_at 0 p.options from.0.1 (known.options _ x.0) in
+      let is : IsOption p from.0.1.number = (omega (arith, number.1), omega (arith, number.1, number.2)) in
+      let holds = subst (λ us. is_some (colour_in us w.item) ≡ true)
+      (sym (uses_known p _ (known.options _ x.0))) x.1 in
       subst (IsKnownBranch p) from.2 (record {
-        choice = record {
-          known = (
-            item,
-            (
-              (omega (arith, number.1), omega (arith, number.1, number.2)),
-              subst (λ us. is_some (colour_in us w.item) ≡ true) (sym (uses_known p _ (known.options _ x.0))) x.1,
-            ),
-          );
-          k = omega (arith, at.0, few);
-          n = few;
-        };
+        choice = record { known = (item, (is, holds)); k = omega (arith, at.0, few); n = few };
         next = pick_known p r w.item from.0.1 known;
       })
   | inr h ↦ by_bool (w.low == 0)

@@ -3,8 +3,8 @@ use Rattle.std.proofs.lemmas.Str.Parse.{IsNumeralModel, numerals_by_fold}
 use Rattle.std.proofs.lemmas.Fmt.{decimal_nonempty, digits_value-decimal, digits_decimal}
 use Rattle.std.proofs.Common.{flat_map}
 use Rattle.std.proofs.Common.{rules}
-use Rattle.std.proofs.Common.{◌≡◌, ℕ, ◌-◌, ◌^◌, ◌<◌, ◌≤◌, Bool, true, false, not, ◌&&◌}
-use Rattle.std.proofs.Common.{nat_eq, List, [], ◌∷◌, ◌++◌, Option, None, Some, length, drop, refl, ap, ◌∙◌}
+use Rattle.std.proofs.Common.{◌≡◌, ℕ, ◌-◌, ◌^◌, ◌<◌, ◌≤◌, Bool, true, false, not}
+use Rattle.std.proofs.Common.{nat_eq, List, [], ◌∷◌, ◌++◌, Option, None, Some, length, refl, ap, ◌∙◌}
 use Rattle.std.proofs.Common.{arith, length-append}
 use Rattle.xc_input.proofs.TokenLemmas.DecimalValues.{value_from}
 use Rattle.std.specs.Prelude.{codes, decimal, nat_le, ◌==◌, if◌then◌else◌}
@@ -121,14 +121,9 @@ body_of_words-is : (body ending : List (List ℕ)) → 1 ≤ length body → len
     → list_all is_word (body ++ ending) ≡ true → is_ending ending ≡ true → body_of_words (body ++ ending) ≡ Some body
 body_of_words-is body ending some three words ends =
     let k : length (body ++ ending) - 3 ≡ length body = omega (arith, length-append body ending, three) in
-    let a : nat_le 1 (length body) ≡ true = grind (arith, nat_tests) in
-    let test : (nat_le 1 (length body) && list_all is_word (body ++ ending) && is_ending
-    (drop (length body) (body ++ ending))) ≡ true =
-    and-both (nat_le 1 (length body) && list_all is_word (body ++ ending))
-    (is_ending (drop (length body) (body ++ ending)))
-    (and-both (nat_le 1 (length body)) (list_all is_word (body ++ ending)) a words)
-    (ap is_ending (drop-append_seam body ending) ∙ ends) in
-    cc (k, test, take-append_seam body ending)
+    let behind = drop-append_seam body ending in
+    let before = take-append_seam body ending in
+    grind (arith, nat_tests)
 
 -- ---- choice lines
 

@@ -7,15 +7,10 @@ use Rattle.xc_list.proofs.page.put_header.Goals as goal
 use Rattle.xc_input.proofs.TokenLemmas.Separators.{COLON}
 
 pub write_digits-from-requires : goal.write_digits-from-requires
-write_digits-from-requires c = (
-  length-decimal-le 20 c.args.number (omega arith) (omega arith) (omega arith),
-  omega (
-    arith,
-    c.requires,
-    length-set (slice_set c.args.page.now 20 COLON) 21 10,
-    length-set c.args.page.now 20 COLON,
-  ),
-)
+write_digits-from-requires c =
+    let colon = length-set c.args.page.now 20 COLON in
+    let feed = length-set (slice_set c.args.page.now 20 COLON) 21 10 in
+    (length-decimal-le 20 c.args.number (omega arith) (omega arith) (omega arith), omega (arith, c.requires))
 
 pub returns-clause-put : goal.returns-clause-put
 returns-clause-put c =
