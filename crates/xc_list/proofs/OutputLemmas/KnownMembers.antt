@@ -1,7 +1,9 @@
 -- The choices of a member can be told, and the counts in them are small.
+use Rattle.xc_search.specs.Listing.{take_branch}
+use Rattle.std.proofs.Common.{map}
 use Rattle.xc_input.proofs.lists.Members.{IsIn, in-map, in-filter, in-append, each_in, each_from, in-take}
 use Rattle.xc_search.proofs.listing.Numbering.{with_bounds, numbered_at, uses_known}
-use Rattle.xc_search.proofs.listing.EachBranch.{in-level, branch_item-in, takes, nones}
+use Rattle.xc_search.proofs.listing.EachBranch.{in-level, branch_item-in, nones}
 use Rattle.xc_search.proofs.Cases.{by_option, by_bool}
 use Rattle.xc_search.proofs.completeness.Proper.{item-spend_one, goes_on}
 use Rattle.xc_input.specs.Problem.{numbered_options, IsOption}
@@ -72,30 +74,31 @@ none_known p r i known = record {
 
 branch_known : (p : Puzzle) (r : Residual) (w : Wanted) (b : Branch) → IsKnownResidual p r → IsPrimary p w.item
     → IsIn (branches_of r w) b → IsKnownBranch p b
-branch_known p r w b known item h = elim (in-append (takes r w) (nones r w) b h) [
-  | inl h ↦
-      let from = in-map _ _ _ h in
-      let at = each_in _ _ _ (each_numbered (IsIn held) 1 (n + 1) (take n held)
-      (omega (arith, length-take n held)) (each_from _ _ (λ o. in-take n held o))) from.1 in
-      let x = in-filter _ _ _ at.1 in
-      let number = numbered_at 0 p.options from.0.1 (known.options _ x.0) in
-      let is : IsOption p from.0.1.number = (omega (arith, number.1), omega (arith, number.1, number.2)) in
-      let holds = subst (λ us. is_some (colour_in us w.item) ≡ true)
-      (sym (uses_known p _ (known.options _ x.0))) x.1 in
-      subst (IsKnownBranch p) from.2 (record {
-        choice = record { known = (item, (is, holds)); k = omega (arith, at.0, few); n = few };
-        next = pick_known p r w.item from.0.1 known;
-      })
-  | inr h ↦ by_bool (w.low == 0)
-      (λ e. elim (rw e at h) [
-        | inl q ↦ subst (IsKnownBranch p) q (record {
-          choice = record { known = (item, tt); k = few; n = few };
-          next = none_known p r w.item known;
-        })
-        | inr q ↦ absurd q
-      ])
-      (λ e. absurd (rw e at h))
-]
+branch_known p r w b known item h = elim
+    (in-append (map (take_branch r w.item n) (enumerate_from 1 (take n held))) (nones r w) b h) [
+      | inl h ↦
+          let from = in-map _ _ _ h in
+          let at = each_in _ _ _ (each_numbered (IsIn held) 1 (n + 1) (take n held)
+          (omega (arith, length-take n held)) (each_from _ _ (λ o. in-take n held o))) from.1 in
+          let x = in-filter _ _ _ at.1 in
+          let number = numbered_at 0 p.options from.0.1 (known.options _ x.0) in
+          let is : IsOption p from.0.1.number = (omega (arith, number.1), omega (arith, number.1, number.2)) in
+          let holds = subst (λ us. is_some (colour_in us w.item) ≡ true)
+          (sym (uses_known p _ (known.options _ x.0))) x.1 in
+          subst (IsKnownBranch p) from.2 (record {
+            choice = record { known = (item, (is, holds)); k = omega (arith, at.0, few); n = few };
+            next = pick_known p r w.item from.0.1 known;
+          })
+      | inr h ↦ by_bool (w.low == 0)
+          (λ e. elim (rw e at h) [
+            | inl q ↦ subst (IsKnownBranch p) q (record {
+              choice = record { known = (item, tt); k = few; n = few };
+              next = none_known p r w.item known;
+            })
+            | inr q ↦ absurd q
+          ])
+          (λ e. absurd (rw e at h))
+    ]
   where
     n : ℕ
     n = branch_count r w
