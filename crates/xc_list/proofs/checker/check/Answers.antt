@@ -33,5 +33,5 @@ returns-clause-verdicts c =
 
 pub returns-clause-outputs : goal.returns-clause-outputs
 returns-clause-outputs c = λ spacing limit fits named is.
-    all_yes _ (subst IsSound c.in_ok-checker.ensures.problem c.in_ok-checker.ensures.sound) named spacing limit fits _ _ is
-    (returns-clause-verdicts c)
+    let sound = subst IsSound c.in_ok-checker.ensures.problem c.in_ok-checker.ensures.sound in
+    all_yes _ sound named spacing limit fits _ _ is (returns-clause-verdicts c)
