@@ -1,5 +1,5 @@
 -- What the system is asked and answers, what the adapters of its streams tell, and when lines are passed on.
-use Rattle.std.specs.Prelude.{ℕ, ◌+◌, ◌-◌, ◌/◌, ◌^◌, ◌<◌, ◌≡◌, ◌⊎◌, nat_eq, min, Bool, true, false, List, [], codes}
+use Rattle.std.specs.Prelude.{ℕ, ◌+◌, ◌-◌, ◌/◌, ◌^◌, ◌<◌, ◌≡◌, ◌⊎◌, nat_eq, min, Bool, true, false, List, codes}
 use Rattle.std.specs.Prelude.{length, Result, Ok, Err, if◌then◌else◌}
 use Rattle.std.specs.List.{ends_with}
 use Rattle.xc_input.specs.Calls.{one_more, counted, Rose}
