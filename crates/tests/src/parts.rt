@@ -1,24 +1,11 @@
 //! Whole runs over parts of a search.
-use crate::told::Told;
-use fixtures::{SEVEN, THREE_ALIKE, TWICE, gathered, on_one};
+use crate::told::run_gives;
+use fixtures::{SEVEN, THREE_ALIKE, TWICE, gathered};
 use std::alloc::{AllocError, Global};
 use std::test::Fail;
 use xc_input::Feed;
 use xc_list::Tray;
 use xc_tools::{Outgoing, solve_parts};
-
-/// Runs `solve_parts` over a text.
-fn give_parts(
-    alloc: Global,
-    words: &[&[u8]],
-    text: &[u8],
-    told: &mut Told,
-) -> Result<(), AllocError> {
-    let words = gathered(alloc, words)?;
-    let mut input = Feed::new(text, 100, None);
-    told.status = solve_parts(alloc, &words, &mut input, &mut told.out, &mut told.err);
-    Ok(())
-}
 
 /// Whether `solve_parts` tells this of a problem.
 fn parts_give(
@@ -29,9 +16,10 @@ fn parts_give(
     out: &[u8],
     err: &[u8],
 ) -> bool {
-    on_one(Told::new(alloc, 100, 1000), |told| {
-        give_parts(alloc, words, text, told).is_ok() && told.is(status, out, err)
-    })
+    let program = |words: &[Vec<u8>], input: &mut Feed, out: &mut Tray, err: &mut Tray| {
+        solve_parts(alloc, words, input, out, err)
+    };
+    run_gives(alloc, words, text, program, status, out, err)
 }
 
 #[test]

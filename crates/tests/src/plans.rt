@@ -1,22 +1,10 @@
 //! Whole runs of the planner.
-use crate::told::Told;
-use fixtures::{SEVEN, TWICE, gathered, on_one};
-use std::alloc::{AllocError, Global};
+use crate::told::run_gives;
+use fixtures::{SEVEN, TWICE};
+use std::alloc::Global;
 use xc_input::Feed;
+use xc_list::Tray;
 use xc_tools::make_plan;
-
-/// Runs `make_plan` over a text.
-fn give_plan(
-    alloc: Global,
-    words: &[&[u8]],
-    text: &[u8],
-    told: &mut Told,
-) -> Result<(), AllocError> {
-    let words = gathered(alloc, words)?;
-    let mut input = Feed::new(text, 100, None);
-    told.status = make_plan(alloc, &words, &mut input, &mut told.out, &mut told.err);
-    Ok(())
-}
 
 /// Whether `make_plan` tells this of a problem.
 fn plan_gives(
@@ -27,9 +15,10 @@ fn plan_gives(
     out: &[u8],
     err: &[u8],
 ) -> bool {
-    on_one(Told::new(alloc, 100, 1000), |told| {
-        give_plan(alloc, words, text, told).is_ok() && told.is(status, out, err)
-    })
+    let program = |words: &[Vec<u8>], input: &mut Feed, out: &mut Tray, err: &mut Tray| {
+        make_plan(alloc, words, input, out, err)
+    };
+    run_gives(alloc, words, text, program, status, out, err)
 }
 
 #[test]

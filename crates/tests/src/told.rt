@@ -30,6 +30,23 @@ impl Told {
         self.status == status && self.out.bytes() == out && self.err.bytes() == err
     }
 
+    /// Runs a program over a text that is read so many bytes at a time.
+    pub fn run<F: Fn(&[Vec<u8>], &mut Feed, &mut Tray, &mut Tray) -> u8>(
+        &mut self,
+        alloc: Global,
+        words: &[&[u8]],
+        text: &[u8],
+        step: usize,
+        program: F,
+    ) -> Result<(), AllocError>
+        requires { F.IsAlwaysCallable program }
+    {
+        let words = gathered(alloc, words)?;
+        let mut input = Feed::new(text, step.max(1), None);
+        self.status = program(&words, &mut input, &mut self.out, &mut self.err);
+        Ok(())
+    }
+
     /// Runs `solve` over a text that is read so many bytes at a time.
     pub fn solve(
         &mut self,
@@ -39,17 +56,9 @@ impl Told {
         text: &[u8],
         step: usize,
     ) -> Result<(), AllocError> {
-        let words = gathered(alloc, words)?;
-        let mut input = Feed::new(text, step.max(1), None);
-        self.status = solve(
-            alloc,
-            kind,
-            &words,
-            &mut input,
-            &mut self.out,
-            &mut self.err,
-        );
-        Ok(())
+        self.run(alloc, words, text, step, |words, input, out, err| {
+            solve(alloc, kind, words, input, out, err)
+        })
     }
 
     /// Runs `judge` by these words, over texts that are read so many bytes at a time.
@@ -73,6 +82,26 @@ impl Told {
             &mut self.err,
         );
         Ok(())
+    }
+}
+
+/// Whether a program tells this of a text that is read a hundred bytes at a time.
+pub fn run_gives<F: Fn(&[Vec<u8>], &mut Feed, &mut Tray, &mut Tray) -> u8>(
+    alloc: Global,
+    words: &[&[u8]],
+    text: &[u8],
+    program: F,
+    status: u8,
+    out: &[u8],
+    err: &[u8],
+) -> bool
+    requires { F.IsAlwaysCallable program }
+{
+    match Told::new(alloc, 100, 1000) {
+        Some(mut told) => {
+            told.run(alloc, words, text, 100, program).is_ok() && told.is(status, out, err)
+        }
+        None => false,
     }
 }
 
