@@ -11,15 +11,8 @@ use Rattle.xc_input.specs.Faults.{first, checks_of_each}
 use Rattle.xc_input.specs.FaultyTokens.{IsAtFault, Tells}
 use Rattle.xc_input.specs.inner.Fronts.{StandsBefore}
 use Rattle.xc_input.specs.inner.Builders.{IsItemTable, entry_of}
-use Rattle.xc_input.proofs.FaultLemmas.FirstChecks.{first-front, first-back}
+use Rattle.xc_input.proofs.FaultLemmas.FirstChecks.{first-front, first-back, first-each}
 use Rattle.xc_input.proofs.FaultLemmas.Checks.{names_of-length}
-
-checks-append : {A B : Type 0} (checks : List A → A → List B) (before xs ys : List A)
-    → checks_of_each checks before (xs ++ ys)
-    ≡ checks_of_each checks before xs ++ checks_of_each checks (before ++ xs) ys
-checks-append checks before [] ys = ap (λ b. checks_of_each checks b ys) (sym (append-nil before))
-checks-append checks before (x ∷ xs) ys =
-    grind (arith, nat_tests, checks-append checks (before ++ x ∷ []) xs ys, append_assoc)
 
 -- a line is read up to this rest: the tokens before it have no fault
 pub record IsReadTo (cut : List ℕ → List (List ℕ)) (checks : List (List ℕ) → List ℕ → List (FaultKind × Bool))
@@ -28,12 +21,6 @@ pub record IsReadTo (cut : List ℕ → List (List ℕ)) (checks : List (List �
   pub place : line ≡ front ++ rest
   pub order : cut line ≡ others ++ cut rest
   pub faultless : first (checks_of_each checks [] others) ≡ None
-
-first-each : (checks : List (List ℕ) → List ℕ → List (FaultKind × Bool)) (xs ys : List (List ℕ))
-    → first (checks_of_each checks [] xs) ≡ None
-    → first (checks_of_each checks [] (xs ++ ys)) ≡ first (checks_of_each checks xs ys)
-first-each checks xs ys e = ap first (checks-append checks [] xs ys)
-    ∙ first-back (checks_of_each checks [] xs) (checks_of_each checks xs ys) e
 
 -- before the first token
 pub read-start : {cut : List ℕ → List (List ℕ)} {checks : List (List ℕ) → List ℕ → List (FaultKind × Bool)}

@@ -1,7 +1,5 @@
 -- Items, uses and colours as lines bring them: for `builder`, `item_line` and `option_line`.
-pub mod Fresh
 pub mod Items
-pub mod Uses
 pub mod Colours
 pub mod OneToken
 pub mod Marks

@@ -2,12 +2,14 @@
 -- No list of checks is written out here or by those who use this: a check is asked for by its fault, and a list's
 -- front and rest by `take` and `drop`. So where a check is added to a list, only what speaks of that check changes.
 use Rattle.std.proofs.Common.{◌≡◌, ℕ, List, [], ◌∷◌, ◌++◌, drop, None, Some, Bool, true, false}
-use Rattle.std.proofs.Common.{length, refl, ◌∙◌, if◌then◌else◌, arith}
+use Rattle.std.proofs.lemmas.Bool.Decides.{nat_tests}
+use Rattle.std.proofs.Common.{length, refl, ap, sym, ◌∙◌, if◌then◌else◌, arith, append_assoc, append-nil}
+use Rattle.std.specs.Prelude.{◌↔◌}
 use denote.Enum.Bare.{sameb}
 use Rattle.xc_input.specs.contracts.fault.FaultKind.{the_type}
 use Rattle.xc_input.specs.declared.fault.FaultKind.{FaultKind}
 use Rattle.xc_input.specs.declared.kind.Kind.TheVariants.{Plain}
-use Rattle.xc_input.specs.Faults.{first, name_checks, item_checks}
+use Rattle.xc_input.specs.Faults.{first, checks_of_each, name_checks, item_checks}
 
 -- the test of this fault among checks
 abbrev pub test : FaultKind → List (FaultKind × Bool) → Bool
@@ -33,13 +35,43 @@ pub first-back : {A : Type 0} (a b : List (A × Bool)) → first a ≡ None → 
 first-back [] b e = refl
 first-back (c ∷ cs) b e = grind (arith, first-back cs b)
 
-pub first-all : {A : Type 0} (a b : List (A × Bool)) → first a ≡ None → first b ≡ None → first (a ++ b) ≡ None
-first-all a b e f = first-back a b e ∙ f
+-- none of all holds exactly where none of either part does
+pub none-append : {A : Type 0} (a b : List (A × Bool)) → (first (a ++ b) ≡ None) ↔ ((first a ≡ None) × (first b ≡ None))
+none-append [] b = (λ e. (refl, e), λ h. h.1)
+none-append (c ∷ cs) b =
+    let r = none-append cs b in (λ e. grind (arith, r.0), λ h. first-back (c ∷ cs) b h.0 ∙ h.1)
 
--- where none holds, none of either part does
-pub split : {A : Type 0} (a b : List (A × Bool)) → first (a ++ b) ≡ None → (first a ≡ None) × (first b ≡ None)
-split [] b e = (refl, e)
-split (c ∷ cs) b e = grind (arith, split cs b)
+-- the checks of each of two lists
+pub checks-append : {A B : Type 0} (checks : List A → A → List B) (before xs ys : List A)
+    → checks_of_each checks before (xs ++ ys)
+    ≡ checks_of_each checks before xs ++ checks_of_each checks (before ++ xs) ys
+checks-append checks before [] ys = ap (λ b. checks_of_each checks b ys) (sym (append-nil before))
+checks-append checks before (x ∷ xs) ys =
+    grind (arith, nat_tests, checks-append checks (before ++ x ∷ []) xs ys, append_assoc)
+
+pub first-each : {A B : Type 0} (checks : List A → A → List (B × Bool)) (xs ys : List A)
+    → first (checks_of_each checks [] xs) ≡ None
+    → first (checks_of_each checks [] (xs ++ ys)) ≡ first (checks_of_each checks xs ys)
+first-each checks xs ys e = ap first (checks-append checks [] xs ys)
+    ∙ first-back (checks_of_each checks [] xs) (checks_of_each checks xs ys) e
+
+-- What holds of a list with one element more exactly where it holds of the list and no check of the element does: it
+-- holds of a whole list exactly where no check of any element does.
+module _ {A B : Type 0} (checks : List A → A → List (B × Bool)) (Q : List A → Type 0)
+    (step : (before : List A) (x : A) → Q (before ++ x ∷ []) ↔ (Q before × (first (checks before x) ≡ None))) where
+  clear-behind : (before xs : List A) → Q (before ++ xs) ↔ (Q before × (first (checks_of_each checks before xs) ≡ None))
+  clear-behind before [] = rw append-nil (λ q. (q, refl), λ h. h.0)
+  clear-behind before (x ∷ xs) =
+      let s = step before x in
+      let r = clear-behind (before ++ x ∷ []) xs in
+      let n = none-append (checks before x) (checks_of_each checks (before ++ x ∷ []) xs) in
+      rw (← append_assoc before (x ∷ []) xs) (
+        λ q. (let a = r.0 q in let b = s.0 a.0 in (b.0, n.1 (b.1, a.1))),
+        λ h. (let m = n.0 h.1 in r.1 (s.1 (h.0, m.0), m.1)),
+      )
+
+  pub clear-each : Q [] → (xs : List A) → Q xs ↔ (first (checks_of_each checks [] xs) ≡ None)
+  clear-each none xs = let all = clear-behind [] xs in (λ q. (all.0 q).1, λ e. all.1 (none, e))
 
 -- the checks of an item's name, behind those of its bounds: those of a token that can have none
 abbrev pub alone : List (List ℕ) → List ℕ → List (FaultKind × Bool)

@@ -1,6 +1,6 @@
 -- Checks that don't hold, and what they say of a token: for `add_item`, `use_of` and `finish`.
 use Rattle.std.proofs.Common.{◌≡◌, ℕ, ◌<◌, ◌≤◌, List, [], ◌∷◌, ◌++◌, Option, None, Some, Bool, true, false, ◌||◌, ◌&&◌}
-use Rattle.std.proofs.Common.{not, nat_lt, nat_le, nat_eq, is_none, length, refl, ap, ◌∙◌, subst, arith}
+use Rattle.std.proofs.Common.{not, nat_lt, nat_le, nat_eq, is_none, length, refl, ◌∙◌, arith}
 use Rattle.std.proofs.Common.{inl, inr, ◌⊎◌}
 use Rattle.xc_input.specs.inner.BoundTexts.{low_text, high_text}
 use Rattle.std.specs.Char.{is_ascii_digit}
@@ -18,8 +18,9 @@ use Rattle.xc_input.specs.inner.Stages.{entry}
 use Rattle.xc_input.specs.Limits.{longest_name, most_items}
 use Rattle.xc_input.specs.Named.{IsName}
 use Rattle.xc_input.specs.Text.{AreBounds, IsBare, IsBounded, IsEntry}
-use Rattle.xc_input.proofs.FaultLemmas.FirstChecks.{fails, first-back, split, alone, past-name}
+use Rattle.xc_input.proofs.FaultLemmas.FirstChecks.{fails, none-append, alone, past-name}
 use Rattle.std.specs.List.{list_all}
+use Rattle.std.specs.Prelude.{◌↔◌}
 use Rattle.xc_input.proofs.TokenLemmas.Separators.{COLON, BAR}
 -- by the names that other crates have for them
 pub use Rattle.std.proofs.lemmas.Bool.{or_parts as or-false, or_from as or-both, and_parts as and-true}
@@ -92,44 +93,36 @@ pub good-bounds : (prefix : List ℕ) (low high : ℕ) → AreBounds prefix low 
 good-bounds prefix low high h p q = grind (arith, nat_tests, bounds-are prefix low high h)
 
 -- ITEMS
+none-of : (o : Option ℕ) → not (is_none o) ≡ false → o ≡ None
+none-of None e = refl
+none-of (Some n) e = absurd (cc)
 
-module _ (kind : Kind) (names : List (List ℕ)) (sec : Bool) (token : List ℕ) where
-  none-of : (o : Option ℕ) → not (is_none o) ≡ false → o ≡ None
-  none-of None e = refl
-  none-of (Some n) e = absurd (cc)
-
+module _ (kind : Kind) (sec : Bool) (token : List ℕ) where
   shape : (t : Bool) → has_prefix kind token ≡ t → first (bound_checks kind sec token) ≡ None
       → IsBare sec token (entry kind sec token) ⊎ IsBounded kind sec token (entry kind sec token)
   shape true f e = grind (arith, nat_tests, cut-is BAR token, bounds-good (before BAR token) sec)
   shape false f e = grind (arith, nat_tests)
 
-  -- a token with no fault stands for its item
-  pub item-good : first (item_checks kind names sec token) ≡ None → IsEntry kind sec token (entry kind sec token)
-      × (place names (entry kind sec token).name ≡ None) × (length names < most_items)
-  item-good e =
-      let name = name_of kind token in
-      let a = split (bound_checks kind sec token) (alone names name) e in
-      let no = fails (alone names name) a.1 in
-      let lt : nat_lt (length names) most_items ≡ true = not-false _ (no TooManyItems) in (
-        (solid name (no EmptyName) (no NameTooLong) (no BadByteInName), shape (has_prefix kind token) refl a.0),
-        none-of (place names name) (no RepeatedName),
-        grind (arith, nat_tests),
-      )
-
-  -- a token that stands for an item stands for no other, and has no fault
-  known : (e : Entry) → IsBare sec token e ⊎ IsBounded kind sec token e → IsName e.name → (e ≡ entry kind sec token)
+  -- a token that stands for an item stands for no other, and its prefix has no fault
+  pub known : (e : Entry) → IsEntry kind sec token e → (e ≡ entry kind sec token)
       × (first (bound_checks kind sec token) ≡ None)
-  known e (inl h) n = grind (arith, nat_tests, and-false (is_bounds kind))
-  known e (inr h) n = grind (arith, nat_tests, cut-at BAR h.0 e.name h.3, good-bounds h.0 e.low e.high h.5 h.6 h.7)
+  known e (n, inl h) = grind (arith, nat_tests, and-false (is_bounds kind))
+  known e (n, inr h) = grind (arith, nat_tests, cut-at BAR h.0 e.name h.3, good-bounds h.0 e.low e.high h.5 h.6 h.7)
 
-  pub good-item : (e : Entry) → IsEntry kind sec token e → place names e.name ≡ None → length names < most_items
-      → (e ≡ entry kind sec token) × (first (item_checks kind names sec token) ≡ None)
-  good-item e h p l =
-      let k = known e h.1 h.0 in
-      let nm : e.name ≡ name_of kind token = ap (λ x. x.name) k.0 in
-      let lt : nat_lt (length names) most_items ≡ true = grind (arith, nat_tests) in (
-        k.0,
-        first-back (bound_checks kind sec token) (alone names (name_of kind token)) k.1
-            ∙ past-name names (name_of kind token) (good-name _ (subst IsName nm h.0))
-            ∙ rw (← nm, p, lt),
+  -- a token has no fault where it stands for an item, whose name is new
+  pub item-clear : (names : List (List ℕ)) → (first (item_checks kind names sec token) ≡ None)
+      ↔ (IsEntry kind sec token (entry kind sec token) × (place names (name_of kind token) ≡ None)
+      × (length names < most_items))
+  item-clear names =
+      let name = name_of kind token in
+      let both = none-append (bound_checks kind sec token) (alone names name) in (
+        λ e. (let a = both.0 e in
+            let no = fails (alone names name) a.1 in
+            let lt : nat_lt (length names) most_items ≡ true = not-false _ (no TooManyItems) in (
+              (solid name (no EmptyName) (no NameTooLong) (no BadByteInName), shape (has_prefix kind token) refl a.0),
+              none-of (place names name) (no RepeatedName),
+              grind (arith, nat_tests),
+            )),
+        λ h. (let lt : nat_lt (length names) most_items ≡ true = grind (arith, nat_tests) in
+            both.1 ((known _ h.0).1, past-name names name (good-name name h.0.0) ∙ rw (h.1, lt))),
       )

@@ -1,7 +1,6 @@
 -- The answer at the end of a text.
 use Rattle.std.proofs.Common.{◌≡◌, ◌≢◌, ◌+◌, ◌-◌, ◌^◌, min, ℕ, List, Option, None, Some, Bool, true, false, length}
-use Rattle.std.proofs.Common.{[], refl, ap, ◌∙◌, sym, subst, arith, MatchOption}
-use Rattle.std.proofs.lemmas.List.{length-map}
+use Rattle.std.proofs.Common.{refl, ap, ◌∙◌, sym, subst, arith, MatchOption}
 use Rattle.xc_input.specs.declared.kind.Kind.{Kind}
 use Rattle.xc_input.specs.declared.fault.InputError.{InputError}
 use Rattle.xc_input.specs.declared.fault.InputError.TheVariants.{Fault, Device, Memory}
@@ -11,20 +10,20 @@ use Rattle.xc_input.proofs.GrammarLemmas.SheetGrammar.{named_of, AreItems}
 use Rattle.xc_input.specs.FirstFault.{line_number, first_fault}
 use Rattle.xc_input.specs.declared.fault.FaultKind.TheVariants.{NoItems}
 use Rattle.xc_input.specs.inner.Stages.{Stage, stage_of}
-use Rattle.std.proofs.Common.{[], map}
-use Rattle.xc_input.specs.Tokens.{parts}
+use Rattle.std.proofs.Common.{◌≤◌, All, drop}
+use Rattle.xc_input.specs.inner.Vectors.{IsOptional}
 use Rattle.xc_input.specs.Text.{StandsFor}
 use Rattle.xc_input.specs.Named.{Named, IsSound}
 use Rattle.xc_input.specs.inner.Stored.{key_names}
 use Rattle.xc_input.specs.inner.Flat.{pieces}
-use Rattle.xc_input.specs.inner.Builders.{IsBuilder, IsReadable, named_by, stage_of_builder, sheet_of_builder, entry_of}
+use Rattle.xc_input.specs.inner.Builders.{IsBuilder, IsReadable, named_by, stage_of_builder, sheet_of_builder}
 use Rattle.xc_input.specs.inner.EndedLines.{AreWhole}
 use Rattle.xc_input.specs.Readings.{Reading, IsStateOf}
 use Rattle.xc_input.specs.inner.Feeding.{IsEndOf}
 use Rattle.xc_input.proofs.LineLemmas.Reading.{ends-at, end-is}
-use Rattle.xc_input.proofs.ValidLemmas.SoundSheets.{primaries-within, item-names, named-is, behind-bounds}
+use Rattle.xc_input.proofs.ValidLemmas.SoundSheets.{item-names, named-is, behind-bounds}
 use Rattle.xc_input.proofs.ValidLemmas.ValidTexts.{sound}
-use Rattle.xc_input.proofs.GrammarLemmas.LawLemmas.{end_fault}
+use Rattle.xc_input.proofs.FaultLemmas.FirstFaults.{end_fault}
 use Rattle.xc_input.proofs.FaultLemmas.FirstFaults.{faultless-stands, faultless-items, stands-only}
 
 pub refutes : (kind : Kind) (lines : List (List ℕ)) (e : InputError) → IsEndOf kind lines e → e ≢ Memory
@@ -74,10 +73,10 @@ module _ {v : Reading} {kind : Kind} {lines : List (List ℕ)} {o : Option Input
         )
 
     module _ (g : d.started ≡ true) where
-      items : (line : List ℕ) × AreItems kind [] (parts line) (map entry_of d.items.items) d.primary
-      items =
-          subst (λ (st : Stage). (line : List ℕ) × AreItems kind [] (parts line) st.sheet.entries st.sheet.primaries)
-          (sym whole.1) (faultless-items kind lines (ended g))
+      items : (d.primary ≤ length d.items.items) × All IsOptional (drop d.primary d.items.items)
+      items = behind-bounds kind d.items.items
+          (subst (λ (st : Stage). AreItems kind st.sheet.entries st.sheet.primaries)
+          (sym whole.1) (faultless-items kind lines (ended g)))
 
       stands : StandsFor kind lines (named_by d) d.ignored.items
       stands = subst (λ p. StandsFor kind lines p d.ignored.items) (by-builder d)
@@ -93,8 +92,8 @@ module _ {v : Reading} {kind : Kind} {lines : List (List ℕ)} {o : Option Input
       pub readable : AreWhole lines → IsReadable d
       readable w = record {
         names = whole.0.names ∙ item-names d.items.items;
-        primary = omega (arith, primaries-within items.1, length-map d.items.items entry_of);
-        secondary = behind-bounds d.items.items items.1;
+        primary = items.0;
+        secondary = items.1;
         starts = whole.0.starts g;
         sound = is-sound w;
       }

@@ -3,8 +3,8 @@ use Rattle.std.proofs.lemmas.Bool.Decides.{nat_tests}
 use Rattle.std.proofs.Common.{◌≡◌, ℕ, ◌+◌, ◌-◌, ◌^◌, List, [], ◌∷◌, ◌++◌, Option, None, Some, Err, Bool, length, refl}
 use Rattle.std.proofs.Common.{ap, ◌∙◌, sym, subst, arith, min, MatchOption, if◌then◌else◌}
 use Rattle.std.proofs.lemmas.Grind.{common_steps}
+use Rattle.std.proofs.lemmas.List.{length-append}
 use Rattle.xc_input.specs.declared.kind.Kind.{Kind}
-use Rattle.xc_input.specs.declared.fault.FaultKind.{FaultKind}
 use Rattle.xc_input.specs.declared.fault.InputError.{InputError}
 use Rattle.xc_input.specs.declared.fault.InputError.TheVariants.{Fault, Device, Memory}
 use Rattle.xc_input.specs.declared.line_error.LineError.{LineError}
@@ -16,44 +16,11 @@ use Rattle.xc_input.specs.inner.Stages.{Stage, line_checks, with_line, stage_fro
 use Rattle.xc_input.specs.inner.Builders.{Judged, IsBuilder, stage_of_builder, error_at}
 use Rattle.xc_input.specs.Readings.{IsStateOf}
 use Rattle.xc_input.specs.inner.Feeding.{IsErrorOf, IsEndOf}
-use Rattle.std.specs.Option.{option_or}
+use Rattle.std.specs.Option.{option_map, option_or}
 use Rattle.std.specs.List.{list_all}
 use Rattle.xc_input.specs.declared.fault.FaultKind.TheVariants.{NoItems}
 use Rattle.xc_input.specs.Tokens.{is_skipped}
-use Rattle.xc_input.proofs.GrammarLemmas.LawLemmas.{fault_from, fault_or, end_fault}
-use Rattle.xc_input.proofs.FaultLemmas.FirstFaults.{line_fault-is, first_fault-is}
-
--- a fault stays the first one, whatever follows
-fault_or-stays : (n : ℕ) (k : Option FaultKind) (a b : Option (ℕ × FaultKind)) (p : ℕ × FaultKind)
-    → (a ≡ Some p → b ≡ Some p) → fault_or n k a ≡ Some p → fault_or n k b ≡ Some p
-fault_or-stays n None a b p h e = h e
-fault_or-stays n (Some k) a b p h e = e
-
-fault-stays : (kind : Kind) (n : ℕ) (stage : Stage) (lines more : List (List ℕ)) (p : ℕ × FaultKind)
-    → fault_from kind n stage lines ≡ Some p → fault_from kind n stage (lines ++ more) ≡ Some p
-fault-stays kind n stage [] more p e = absurd (cc)
-fault-stays kind n stage (line ∷ lines) more p e =
-    fault_or-stays (n + 1) (first (line_checks kind stage line)) _ _ p
-    (fault-stays kind (n + 1) (with_line kind (line_number (n + 1)) stage line) lines more p) e
-
-fault_or-none : (n m : ℕ) (k l : Option FaultKind) (a b : Option (ℕ × FaultKind)) → (a ≡ None → b ≡ fault_or m l None)
-    → fault_or n k a ≡ None → fault_or n k b ≡ fault_or m l None
-fault_or-none n m None l a b h e = h e
-fault_or-none n m (Some k) l a b h e = absurd (cc)
-
--- with no fault so far, it is that of the next line
-next-fault : (kind : Kind) (n : ℕ) (stage : Stage) (lines : List (List ℕ)) (line : List ℕ)
-    → fault_from kind n stage lines ≡ None
-    → fault_from kind n stage (lines ++ line ∷ []) ≡ fault_or (n + length (lines ++ line ∷ []))
-    (first (line_checks kind (stage_from kind n stage lines) line)) None
-next-fault kind n stage [] line e = refl
-next-fault kind n stage (l ∷ lines) line e =
-    let next : Stage = with_line kind (line_number (n + 1)) stage l in
-    let num : (n + 1) + length (lines ++ line ∷ []) ≡ n + length ((l ∷ lines) ++ line ∷ []) = omega arith in
-    fault_or-none (n + 1) (n + length ((l ∷ lines) ++ line ∷ [])) (first (line_checks kind stage l))
-    (first (line_checks kind (stage_from kind (n + 1) next lines) line)) _ _
-    (λ h. next-fault kind (n + 1) next lines line h
-    ∙ ap (λ m. fault_or m (first (line_checks kind (stage_from kind (n + 1) next lines) line)) None) num) e
+use Rattle.xc_input.proofs.FaultLemmas.FirstFaults.{line-stays, next-fault, first_fault-is, end_fault}
 
 stage-snoc : (kind : Kind) (n : ℕ) (stage : Stage) (lines : List (List ℕ)) (line : List ℕ)
     → stage_from kind n stage (lines ++ line ∷ []) ≡ with_line kind (line_number (n + length (lines ++ line ∷ [])))
@@ -64,12 +31,6 @@ stage-snoc kind n stage (l ∷ lines) line =
     let num : (n + 1) + length (lines ++ line ∷ []) ≡ n + length ((l ∷ lines) ++ line ∷ []) = omega arith in
     stage-snoc kind (n + 1) next lines line
     ∙ ap (λ m. with_line kind (line_number m) (stage_from kind (n + 1) next lines) line) num
-
--- and so does the first fault of lines
-pub line-stays : (kind : Kind) (lines more : List (List ℕ)) (p : ℕ × FaultKind) → line_fault kind lines ≡ Some p
-    → line_fault kind (lines ++ more) ≡ Some p
-line-stays kind lines more p h = line_fault-is kind (lines ++ more)
-    ∙ fault-stays kind 0 no_stage lines more p (sym (line_fault-is kind lines) ∙ h)
 
 -- an error of some lines is that of all
 pub IsErrorOf-more : (kind : Kind) (ls ms : List (List ℕ)) (e : InputError) → IsErrorOf kind ls e
@@ -96,17 +57,18 @@ module _ (kind : Kind) (old new : List (List ℕ)) (line : List ℕ) (f : new �
   pub sound : IsBuilder d × (stage_of_builder d ≡ stage_of kind old)
   sound = subst (λ q. MatchOption q (IsBuilder d × (stage_of_builder d ≡ stage_of kind old)) (λ _. Unit {0})) g s
 
-  fault-is : line_fault kind new ≡ fault_or (length new) (first (line_checks kind (stage_of_builder d) line)) None
-  fault-is = grind (arith, nat_tests, line_fault-is, next-fault, fault_or)
+  fault-is : line_fault kind new ≡ option_map (λ k. (line_number (length new), k))
+      (first (line_checks kind (stage_of_builder d) line))
+  fault-is = grind (arith, nat_tests, next-fault, length-append old (line ∷ []))
 
   pub fails : (count : ℕ) (e : LineError) (T : Type 0) → count ≡ line_number (length new)
       → Judged {T = T} (first (line_checks kind (stage_of_builder d) line)) (Err e)
       → IsErrorOf kind new (error_at count e)
-  fails count (Bad k) T c j = fault-is ∙ ap (λ q. fault_or (length new) q None) j ∙ ap (λ m. Some (m, k)) (sym c)
+  fails count (Bad k) T c j = fault-is ∙ (λ i. option_map (λ k. (sym c i, k)) (j i))
   fails count NoMemory T c j = tt
 
   pub goes : first (line_checks kind (stage_of_builder d) line) ≡ None → line_fault kind new ≡ None
-  goes j = fault-is ∙ ap (λ q. fault_or (length new) q None) j
+  goes j = fault-is ∙ ap (option_map (λ k. (line_number (length new), k))) j
 
   pub stage-is : (count : ℕ) (d' : ProblemBuilder) → count ≡ line_number (length new) → IsBuilder d'
       × (stage_of_builder d' ≡ with_line kind count (stage_of_builder d) line) → IsBuilder d'
@@ -128,7 +90,6 @@ ends-at kind lines o e f h = error-ends kind lines e (subst (IsStateOf kind line
 pub end-is : (kind : Kind) (lines : List (List ℕ)) (b : Bool) (o : Option InputError) → o ≡ None
     → IsStateOf kind lines o → b ≡ (stage_of kind lines).started → first_fault kind lines ≡ end_fault (length lines) b
 end-is kind lines b o f h s =
-    let g : fault_from kind 0 no_stage lines ≡ None = sym (line_fault-is kind lines)
-    ∙ subst (IsStateOf kind lines) f h in
+    let g : line_fault kind lines ≡ None = subst (IsStateOf kind lines) f h in
     first_fault-is kind lines ∙ ap (λ q. option_or q (end_fault (length lines) (stage_of kind lines).started)) g
     ∙ ap (end_fault (length lines)) (sym s)

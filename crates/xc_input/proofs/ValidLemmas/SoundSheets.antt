@@ -7,7 +7,7 @@ use Rattle.std.proofs.lemmas.List.{length-append, length-map, drop-map}
 use Rattle.std.proofs.Math.Seq.{drop-append_seam}
 use Rattle.std.proofs.Common.{sym, ◌∙◌}
 use Rattle.std.proofs.lemmas.List.Elements.{All-from_recursion}
-use Rattle.std.specs.List.{AllByRecursion, after_first}
+use Rattle.std.specs.List.{AllByRecursion, before_first, after_first}
 use Rattle.std.proofs.lemmas.List.{take-map}
 use Rattle.xc_input.proofs.lists.Filters.{map-map}
 use Rattle.xc_input.specs.declared.kind.Kind.{Kind}
@@ -18,11 +18,12 @@ use Rattle.xc_input.specs.Tokens.{is_bar}
 use Rattle.xc_input.specs.Sheets.{Entry}
 use Rattle.xc_input.specs.Text.{IsEntry}
 use Rattle.xc_input.specs.inner.Sheets.{names_of}
+use Rattle.xc_input.specs.inner.Stages.{entry}
 use Rattle.xc_input.specs.inner.Vectors.{IsOptional}
 use Rattle.xc_input.specs.inner.Builders.{entry_of}
 use Rattle.xc_input.proofs.GrammarLemmas.SheetGrammar.{AreItems, named_of}
-use Rattle.xc_input.proofs.ValidLemmas.ValidTexts.{entry_bounds, each-zip}
-use Rattle.xc_input.proofs.lists.EachElement.{each_of_all}
+use Rattle.xc_input.proofs.ValidLemmas.ValidTexts.{entry_bounds}
+use Rattle.xc_input.proofs.lists.EachElement.{each_weaker, each-map}
 
 -- THE PROBLEM THAT VECTORS HOLD
 pub item-names : (items : List Item) → names_of (map entry_of items) ≡ map (λ x. x.name.items) items
@@ -43,10 +44,6 @@ pub named-is : (items : List Item) (primary : ℕ) (options : List (List Use)) (
 named-is items primary options colours = grind (arith, nat_tests, item-names, item-bounds, length-map)
 
 -- THE ITEM LINE
-pub primaries-within : {kind : Kind} {ps : List (List ℕ)} {es : List Entry} {n : ℕ} → AreItems kind [] ps es n
-    → n ≤ length es
-primaries-within h = omega (arith, h.count, ap length h.all, length-append h.first h.others)
-
 -- the elements of a list whose images these are
 each-of : {X Y : Type 0} (P : Y → Type 0) (f : X → Y) (xs : List X) → AllByRecursion P (map f xs)
     → AllByRecursion (λ x. P (f x)) xs
@@ -57,13 +54,18 @@ optional : (kind : Kind) (token : List ℕ) (e : Entry) → IsEntry kind true to
 optional kind token e (n, inl h) = λ i. record { low = h.1 i; high = h.2 i }
 optional kind token e (n, inr h) = let f : true ≡ false = h.2 in absurd (cc)
 
--- the items behind the primary ones
-pub behind-bounds : {kind : Kind} {ps : List (List ℕ)} (items : List Item) {n : ℕ}
-    → AreItems kind [] ps (map entry_of items) n → All IsOptional (drop n items)
-behind-bounds {kind} {ps} items {n} h =
-    let count : n ≡ length h.first = omega (arith, h.count) in
-    let same : h.others ≡ map entry_of (drop n items) = sym (drop-append_seam h.first h.others)
-    ∙ (λ i. drop (sym count i) (sym h.all i)) ∙ drop-map entry_of n items in
-    All-from_recursion IsOptional (drop n items) (each-of _ entry_of (drop n items) (subst (AllByRecursion _) same
-    (each-zip {P = λ t. Unit {0}} (λ t e u. optional kind t e) (after_first is_bar ps) h.others
-    (each_of_all _ _ (λ t. tt)) h.secondary)))
+-- there are so many primary items, and the items behind them may be left out
+pub behind-bounds : (kind : Kind) (items : List Item) {n : ℕ} → AreItems kind (map entry_of items) n
+    → (n ≤ length items) × All IsOptional (drop n items)
+behind-bounds kind items {n} (ps, a, are, k) =
+    let IsFree : Entry → Type 0 = λ e. entry_bounds e ≡ secondary_bounds in
+    let front = map (entry kind false) (before_first is_bar ps) in
+    let back = map (entry kind true) (after_first is_bar ps) in
+    let count : n ≡ length front = k ∙ sym (length-map (before_first is_bar ps) _) in
+    let same : back ≡ map entry_of (drop n items) = sym (drop-append_seam front back)
+    ∙ (λ i. drop (sym count i) (sym are i)) ∙ drop-map entry_of n items in (
+      omega (arith, count, ap length are, length-append front back, length-map items entry_of),
+      All-from_recursion IsOptional (drop n items) (each-of IsFree entry_of (drop n items)
+          (subst (AllByRecursion IsFree) same (each-map IsFree (entry kind true) (after_first is_bar ps)
+          (each_weaker _ _ (after_first is_bar ps) (λ p. optional kind p (entry kind true p)) a)))),
+    )

@@ -2,8 +2,8 @@ use Rattle.std.proofs.Common.{◌++◌, ◌∷◌, [], sym, ap, ◌∙◌, subst
 use Rattle.xc_input.specs.Faults.{first}
 use Rattle.xc_input.specs.inner.Stages.{Row}
 use Rattle.xc_input.proofs.FaultyLemmas.{read-start, read-stands, read-on, read-stop, read-end}
-use Rattle.xc_input.proofs.FaultLemmas.FirstFaults.{IsRowOf, row-checks, no-row}
-use Rattle.xc_input.proofs.FaultLemmas.FirstFaults.{row-more}
+use Rattle.xc_input.proofs.GrammarLemmas.StageLemmas.{IsRowOf, row-checks, no-row}
+use Rattle.xc_input.proofs.GrammarLemmas.StageLemmas.{row-more}
 use Rattle.xc_input.proofs.TokenLemmas.Unbroken.{part-solid}
 use Rattle.xc_input.proofs.faulty.faulty_behind.Goals as goal
 

@@ -9,8 +9,8 @@ use Rattle.xc_input.specs.inner.Stages.{Row, context}
 use Rattle.xc_input.specs.inner.Builders.{entry_of}
 use Rattle.xc_input.proofs.FaultLemmas.Checks.{items-length}
 use Rattle.xc_input.proofs.FaultyLemmas.{keys-length, tells-same}
-use Rattle.xc_input.proofs.FaultLemmas.FirstFaults.{parts-checked, context-is, no-row}
-use Rattle.xc_input.proofs.GrammarLemmas.LawLemmas.{P}
+use Rattle.xc_input.proofs.GrammarLemmas.ClearLines.{parts-clear}
+use Rattle.xc_input.proofs.GrammarLemmas.StageLemmas.{parts-checked, context-is, no-row, P}
 use Rattle.xc_input.proofs.faulty.faulty_use.Goals as goal
 
 pub returns-in-Err-Fault : goal.returns-in-Err-Fault
@@ -33,6 +33,7 @@ returns c =
     let many = ap P (sym c.in-Ok.ensures.row.1) ∙ ap (λ n. unwrap_or row.bar n)
     (length-map row.items.items entry_of ∙ sym (items-length row.items) ∙ sym c.len.ensures)
     ∙ sym c.unwrap_or-primary.ensures in
-    let said = context-is c.args.kind ps c.in-Ok.ensures.judged ∙ (λ i. context c.args.kind (are i) (many i)) in
+    let said = context-is c.args.kind ps ((parts-clear c.args.kind ps).1 faultless).0.1
+    ∙ (λ i. context c.args.kind (are i) (many i)) in
     tells-same c.faulty_among.result (λ t p. (faultless, subst (λ k. IsAt k t) (sym said) p))
     (λ t q. subst (λ k. IsAt k t) said q.1) c.faulty_among.ensures

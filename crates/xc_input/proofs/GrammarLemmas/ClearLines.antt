@@ -1,0 +1,292 @@
+-- No check of parts, tokens and lines holds exactly where they stand for items, uses and options.
+use Rattle.std.proofs.Common.{◌≡◌, ◌≢◌, ℕ, ◌+◌, ◌≤◌, List, [], ◌∷◌, ◌++◌, Option, None, Some, Bool, true, false, ◌&&◌}
+use Rattle.std.proofs.Common.{not, nat_lt, nat_eq, unwrap_or, length, map, refl, ap, ◌∙◌, sym, arith, if◌then◌else◌}
+use Rattle.std.proofs.Common.{inl, inr, ◌||◌, append-nil}
+use Rattle.std.proofs.Math.Bool.{and-false, or-false}
+use Rattle.std.specs.Prelude.{◌↔◌}
+use Rattle.std.specs.Str.{bytes_eq}
+use Rattle.std.specs.Option.{option_map}
+use Rattle.std.specs.List.{AllByRecursion as Each, before_first, after_first, list_any}
+use Rattle.std.proofs.lemmas.Bool.Decides.{nat_tests}
+use Rattle.std.proofs.lemmas.Bool.{or_parts, or_from}
+use Rattle.std.proofs.lemmas.List.{length-append, map_push as map-snoc, map-append}
+use Rattle.std.proofs.lemmas.List.Elements.{filter-append}
+use Rattle.std.proofs.lemmas.List.Folds.{list_any-append}
+use Rattle.std.proofs.lemmas.List.Sums.{sum_by-append}
+use Rattle.std.proofs.lemmas.Slice.Eq.{bytes_eq-Decides}
+use Rattle.xc_input.specs.declared.kind.Kind.{Kind}
+use Rattle.xc_input.specs.declared.fault.FaultKind.{FaultKind}
+use Rattle.xc_input.specs.declared.fault.FaultKind.TheVariants.{NulByte, UnknownItem, EmptyName, NameTooLong}
+use Rattle.xc_input.specs.declared.fault.FaultKind.TheVariants.{BadByteInName, RepeatedInOption, ColourOnPrimary}
+use Rattle.xc_input.specs.declared.fault.FaultKind.TheVariants.{BadColour, ColourNotHere, TooManyUses}
+use Rattle.xc_input.specs.Limits.{most_items, most_uses}
+use Rattle.xc_input.specs.Words.{has, before, after, place}
+use Rattle.xc_input.specs.Tokens.{tokens, parts, is_bar, is_skipped}
+use Rattle.xc_input.specs.Sheets.{Written}
+use Rattle.xc_input.specs.Faults.{first, is_plain, checks_of_each, name_of, item_names, part_checks}
+use Rattle.xc_input.specs.Faults.{Context, context_of, item_of, token_checks as checks_behind}
+use Rattle.xc_input.specs.FirstFault.{line_number, content, is_kept, kept_uses, option_checks, content_checks}
+use Rattle.xc_input.specs.FirstFault.{line_checks, line_fault}
+use Rattle.xc_input.specs.Text.{IsEntry, IsUse}
+use Rattle.xc_input.specs.inner.Stages.{entry, token_checks, context, written, item_number}
+use Rattle.xc_input.proofs.FaultLemmas.BooleanTests.{by-test}
+use Rattle.xc_input.proofs.FaultLemmas.Checks.{some-is, no-place}
+use Rattle.xc_input.proofs.FaultLemmas.FirstChecks.{test, fails, none-append, clear-each}
+use Rattle.xc_input.proofs.GrammarLemmas.NoFault.{solid, cut-is, no-cut, cut-at, item-clear}
+use Rattle.xc_input.proofs.lists.EachElement.{each-append, each_front}
+use Rattle.xc_input.proofs.lists.EachTwo.{EachTwo}
+use Rattle.xc_input.proofs.OptionLemmas.Items.{before-cons, after-cons, no-bar, absent-is}
+use Rattle.xc_input.proofs.OptionLemmas.OneToken.{none-after, past-name}
+use Rattle.xc_input.proofs.TokenLemmas.Separators.{COLON}
+
+-- ONE ELEMENT MORE
+each-snoc : {X : Type 0} (P : X → Type 0) (xs : List X) (x : X) → Each P (xs ++ x ∷ []) ↔ (Each P xs × P x)
+each-snoc P xs x = (
+  λ a. (let b = each_front P xs (x ∷ []) a in (b.0, b.1.0)),
+  λ h. each-append P xs (x ∷ []) h.0 (h.1, tt),
+)
+
+two-snoc : {X : Type 0} (R : X → X → Type 0) (xs : List X) (x : X)
+    → EachTwo R (xs ++ x ∷ []) ↔ (EachTwo R xs × Each (λ y. R y x) xs)
+two-snoc R [] x = (λ a. (tt, tt), λ h. (tt, tt))
+two-snoc R (y ∷ ys) x =
+    let r = two-snoc R ys x in
+    let e = each-snoc (R y) ys x in (
+      λ a. (let b = r.0 a.1 in let d = e.0 a.0 in ((d.0, b.0), (d.1, b.1))),
+      λ h. (e.1 (h.0.0, h.1.0), r.1 (h.0.1, h.1.1)),
+    )
+
+-- each is unlike one where none passes the test for it
+none-like : {X : Type 0} (p : X → Bool) (x : X) → ((y : X) → (y ≢ x) ↔ (p y ≡ false)) → (ys : List X)
+    → Each (λ y. y ≢ x) ys ↔ (list_any p ys ≡ false)
+none-like p x d [] = (λ a. refl, λ e. tt)
+none-like p x d (y ∷ ys) =
+    let r = none-like p x d ys in (
+      λ a. or_from (p y) (list_any p ys) ((d y).0 a.0) (r.0 a.1),
+      λ e. (let h = or_parts (p y) (list_any p ys) e in ((d y).1 h.0, r.1 h.1)),
+    )
+
+new-name : (ns : List (List ℕ)) (n : List ℕ) → Each (λ m. m ≢ n) ns ↔ (place ns n ≡ None)
+new-name ns n =
+    let like = bytes_eq-Decides n in
+    let r = none-like (bytes_eq n) n
+    (λ m. (λ d. grind (arith, nat_tests, like m), λ e. grind (arith, nat_tests, like m))) ns in
+    (λ a. absent-is (bytes_eq n) ns (r.0 a), λ e. r.1 (no-place (bytes_eq n) ns e))
+
+-- THE ITEM LINE
+before-snoc : (ps : List (List ℕ)) (p : List ℕ) → before_first is_bar (ps ++ p ∷ [])
+    ≡ before_first is_bar ps ++ (if list_any is_bar ps || is_bar p then [] else p ∷ [])
+before-snoc [] p = before-cons p [] (is_bar p) refl
+before-snoc (q ∷ ps) p = by-test (is_bar q)
+    (λ f. rw (before-cons q (ps ++ p ∷ []) true f, before-cons q ps true f, f))
+    (λ f. rw (before-cons q (ps ++ p ∷ []) false f, before-cons q ps false f, f, before-snoc ps p))
+
+after-snoc : (ps : List (List ℕ)) (p : List ℕ) → after_first is_bar (ps ++ p ∷ [])
+    ≡ after_first is_bar ps ++ (if list_any is_bar ps then p ∷ [] else [])
+after-snoc [] p = by-test (is_bar p) (λ f. after-cons p [] true f) (λ f. after-cons p [] false f)
+after-snoc (q ∷ ps) p = by-test (is_bar q)
+    (λ f. rw (after-cons q (ps ++ p ∷ []) true f, after-cons q ps true f, f))
+    (λ f. rw (after-cons q (ps ++ p ∷ []) false f, after-cons q ps false f, f, after-snoc ps p))
+
+pub names-snoc : (kind : Kind) (before : List (List ℕ)) (p : List ℕ)
+    → item_names kind (before ++ p ∷ []) ≡ item_names kind before ++ (if is_bar p then [] else name_of kind p ∷ [])
+names-snoc kind before p = grind (arith, nat_tests, filter-append, map-append (name_of kind))
+
+-- parts before the first bar stand for primary items, those behind it for secondary ones
+abbrev pub StandFor : Kind → Bool → List (List ℕ) → Type 0
+StandFor kind sec ps = Each (λ p. IsEntry kind sec p (entry kind sec p)) ps
+
+abbrev pub AreClearParts : Kind → List (List ℕ) → Type 0
+AreClearParts kind ps = (StandFor kind false (before_first is_bar ps) × StandFor kind true (after_first is_bar ps))
+    × EachTwo (λ m n. m ≢ n) (item_names kind ps) × (length (item_names kind ps) ≤ most_items)
+
+module _ (kind : Kind) (earlier : List (List ℕ)) (p : List ℕ) where
+  abbrev barred : Bool
+  barred = list_any is_bar earlier
+
+  side-more : is_bar p ≡ false
+      → (StandFor kind false (before_first is_bar (earlier ++ p ∷ []))
+      × StandFor kind true (after_first is_bar (earlier ++ p ∷ [])))
+      ↔ ((StandFor kind false (before_first is_bar earlier) × StandFor kind true (after_first is_bar earlier))
+      × IsEntry kind barred p (entry kind barred p))
+  side-more f = rw (before-snoc earlier p, after-snoc earlier p, f) (by-test barred
+      (λ b. let s = each-snoc (λ p. IsEntry kind true p (entry kind true p)) (after_first is_bar earlier) p in
+      rw (b, append-nil) (λ a. (let e = s.0 a.1 in ((a.0, e.0), e.1)), λ h. (h.0.0, s.1 (h.0.1, h.1))))
+      (λ b. let s = each-snoc (λ p. IsEntry kind false p (entry kind false p)) (before_first is_bar earlier) p in
+      rw (b, append-nil) (λ a. (let e = s.0 a.0 in ((e.0, a.1), e.1)), λ h. (s.1 (h.0.0, h.1), h.0.1))))
+
+  part-clear : AreClearParts kind (earlier ++ p ∷ [])
+      ↔ (AreClearParts kind earlier × (first (part_checks kind earlier p) ≡ None))
+  part-clear = rw (names-snoc kind earlier p) (by-test (is_bar p)
+      (λ f. rw (before-snoc earlier p, after-snoc earlier p) (by-test barred
+      (λ b. rw (b, f) (
+        λ a. absurd (let e = no-bar kind p _ ((each-snoc _ (after_first is_bar earlier) p).0 a.0.1).1 in cc),
+        λ h. absurd (let e = h.1 in cc),
+      ))
+      (λ b. rw (b, f) (simp append-nil (λ a. (a, refl), λ h. h.0)))))
+      (λ f. let names = item_names kind earlier in
+      let s = side-more f in
+      let t = two-snoc (λ m n. m ≢ n) names (name_of kind p) in
+      let u = new-name names (name_of kind p) in
+      let i = item-clear kind barred p names in
+      let l = length-append names (name_of kind p ∷ []) in
+      rw f (
+        λ a. (let b = s.0 a.0 in let d = t.0 a.1 in
+            ((b.0, d.0, omega (arith, a.2, l)), i.1 (b.1, u.0 d.1, omega (arith, a.2, l)))),
+        λ h. (let e = i.0 h.1 in (s.1 (h.0.0, e.0), t.1 (h.0.1, u.1 e.1), omega (arith, e.2, l))),
+      )))
+
+pub parts-clear : (kind : Kind) (ps : List (List ℕ))
+    → AreClearParts kind ps ↔ (first (checks_of_each (part_checks kind) [] ps) ≡ None)
+parts-clear kind = clear-each (part_checks kind) (AreClearParts kind) (part-clear kind) ((tt, tt), tt, omega arith)
+
+-- AN OPTION LINE
+module _ (kind : Kind) (names : List (List ℕ)) (primaries : ℕ) (seen token : List ℕ) where
+  abbrev checks : List (FaultKind × Bool)
+  checks = token_checks (context kind names primaries) seen token
+
+  use-good : first checks ≡ None
+      → IsUse (context kind names primaries) token (written names token)
+      × (list_any (λ i. nat_eq i (item_number names (before COLON token))) seen ≡ false)
+  use-good e =
+      let no : (k : FaultKind) → test k checks ≡ false = fails checks e in
+      let i = some-is (place names (before COLON token)) (no UnknownItem) in (
+        (
+          before COLON token,
+          i.0,
+          solid (before COLON token) (no EmptyName) (no NameTooLong) (no BadByteInName),
+          i.1,
+          ap (λ o. unwrap_or o 0 + 1) i.1,
+          by-test (has COLON token)
+              (λ f. grind (arith, nat_tests, cut-is, no ColourNotHere, no ColourOnPrimary, no BadColour))
+              (λ f. inl (sym (no-cut COLON token f), none-after COLON token f)),
+        ),
+        no RepeatedInOption,
+      )
+
+  good-use : (u : Written) → IsUse (context kind names primaries) token u
+      → list_any (λ j. nat_eq j u.item) seen ≡ false → (u ≡ written names token)
+      × (first checks ≡ None)
+  good-use u (name, i, n, p, q, inl h) once =
+      let no : has COLON token ≡ false = ap (has COLON) h.0 ∙ n.no_colon in
+      let own : before COLON token ≡ name = no-cut COLON token no ∙ h.0 in
+      grind (arith, nat_tests, past-name, none-after COLON token no, and-false (is_plain kind))
+  good-use u (name, i, n, p, q, inr h) once =
+      let cut = cut-at COLON name u.colour n.no_colon in
+      let own : before COLON token ≡ name = ap (before COLON) h.0 ∙ cut.0 in
+      let colour : after COLON token ≡ u.colour = ap (after COLON) h.0 ∙ cut.1 in
+      let is : has COLON token ≡ true = ap (has COLON) h.0 ∙ cut.2 in grind (arith, nat_tests, past-name)
+
+-- a token stands for no other use
+pub use-is : (c : Context) (token : List ℕ) (u : Written) → IsUse c token u → u ≡ written c.names token
+use-is c token u h = (good-use c.kind c.names c.primaries [] token u h refl).0
+
+-- tokens stand for uses of different items
+abbrev pub AreClearTokens : Context → List (List ℕ) → Type 0
+AreClearTokens c ts =
+    Each (λ t. IsUse c t (written c.names t)) ts × EachTwo (λ u v. u.item ≢ v.item) (map (written c.names) ts)
+
+unseen : (c : Context) (i : ℕ) (ts : List (List ℕ))
+    → Each (λ (u : Written). u.item ≢ i) (map (written c.names) ts) ↔ (has i (map (item_of c) ts) ≡ false)
+unseen c i [] = (λ a. refl, λ e. tt)
+unseen c i (t ∷ ts) =
+    let r = unseen c i ts in (
+      λ a. grind (arith, nat_tests, r.0 a.1, a.0),
+      λ e. grind (arith, nat_tests, r.1, or_parts (nat_eq (item_of c t) i) _ e),
+    )
+
+token-clear : (c : Context) (earlier : List (List ℕ)) (t : List ℕ) → AreClearTokens c (earlier ++ t ∷ [])
+    ↔ (AreClearTokens c earlier × (first (checks_behind c earlier t) ≡ None))
+token-clear c earlier t =
+    let w : List Written = map (written c.names) earlier in
+    let e = each-snoc (λ t. IsUse c t (written c.names t)) earlier t in
+    let d = two-snoc (λ u v. u.item ≢ v.item) w (written c.names t) in
+    let new = unseen c (item_of c t) earlier in
+    rw (map-snoc (written c.names) earlier t) (
+      λ a. (let x = e.0 a.0 in let y = d.0 a.1 in (
+        (x.0, y.0),
+        (good-use c.kind c.names c.primaries (map (item_of c) earlier) t _ x.1 (new.0 y.1)).1,
+      )),
+      λ h. (let g = use-good c.kind c.names c.primaries (map (item_of c) earlier) t h.1 in
+          (e.1 (h.0.0, g.0), d.1 (h.0.1, new.1 g.1))),
+    )
+
+tokens-clear : (c : Context) (ts : List (List ℕ))
+    → AreClearTokens c ts ↔ (first (checks_of_each (checks_behind c) [] ts) ≡ None)
+tokens-clear c = clear-each (checks_behind c) (AreClearTokens c) (token-clear c) (tt, tt)
+
+-- option lines stand for options, and those that are kept have not too many uses
+abbrev pub AreClearOptions : Context → List (List ℕ) → Type 0
+AreClearOptions c os = Each (λ line. AreClearTokens c (tokens line)) os × (kept_uses c os ≤ most_uses)
+
+uses-snoc : (c : Context) (os : List (List ℕ)) (line : List ℕ)
+    → kept_uses c (os ++ line ∷ []) ≡ kept_uses c os + (if is_kept c line then length (tokens line) else 0)
+uses-snoc c os line =
+    grind (arith, nat_tests, filter-append (is_kept c), sum_by-append (λ (l : List ℕ). length (tokens l)))
+
+option-clear : (c : Context) (earlier : List (List ℕ)) (line : List ℕ) → AreClearOptions c (earlier ++ line ∷ [])
+    ↔ (AreClearOptions c earlier × (first (option_checks c earlier line) ≡ None))
+option-clear c earlier line =
+    let e = each-snoc (λ line. AreClearTokens c (tokens line)) earlier line in
+    let t = tokens-clear c (tokens line) in
+    let n = none-append (checks_of_each (checks_behind c) [] (tokens line))
+    ((TooManyUses, is_kept c line && nat_lt most_uses (kept_uses c earlier + length (tokens line))) ∷ []) in
+    let s = uses-snoc c earlier line in (
+      λ a. (let x = e.0 a.0 in ((x.0, grind (arith, nat_tests)), n.1 (t.0 x.1, grind (arith, nat_tests)))),
+      λ h. (let x = n.0 h.1 in (e.1 (h.0.0, t.1 x.0), grind (arith, nat_tests))),
+    )
+
+-- THE LINES
+-- lines with content, first the item line
+abbrev pub AreClear : Kind → List (List ℕ) → Type 0
+AreClear kind [] = Unit {0}
+AreClear kind (items ∷ os) = AreClearParts kind (parts items) × AreClearOptions (context_of kind (parts items)) os
+
+content-clear : (kind : Kind) (done : List (List ℕ)) (line : List ℕ) → AreClear kind (done ++ line ∷ [])
+    ↔ (AreClear kind done × (first (content_checks kind done line) ≡ None))
+content-clear kind [] line =
+    let p = parts-clear kind (parts line) in
+    (λ a. (tt, p.0 a.0), λ h. (p.1 h.1, (tt, omega arith)))
+content-clear kind (items ∷ os) line =
+    let o = option-clear (context_of kind (parts items)) os line in
+    (λ a. (let x = o.0 a.1 in ((a.0, x.0), x.1)), λ h. (h.0.0, o.1 (h.0.1, h.1)))
+
+-- the checks of a line, behind lines with this content
+abbrev pub checks_of : Kind → List (List ℕ) → List ℕ → List (FaultKind × Bool)
+checks_of kind done line = (NulByte, has 0 line) ∷ (if is_skipped line then [] else content_checks kind done line)
+
+-- the first of them, with the number of the line
+pub first-numbered : {N A : Type 0} (n : N) (cs : List (A × Bool))
+    → first {A = N × A} (map (λ c. ((n, c.0), c.1)) cs) ≡ option_map (λ k. (n, k)) (first cs)
+first-numbered n [] = refl
+first-numbered n (c ∷ cs) = grind (arith, nat_tests, first-numbered n cs)
+
+none-numbered : {N A : Type 0} (n : N) (o : Option A) → (option_map {U = N × A} (λ k. (n, k)) o ≡ None) ↔ (o ≡ None)
+none-numbered n None = (λ e. refl, λ e. refl)
+none-numbered n (Some k) = (λ e. absurd (cc), λ e. absurd (cc))
+
+-- lines without a NUL byte
+abbrev pub AreClearLines : Kind → List (List ℕ) → Type 0
+AreClearLines kind lines = (list_any (has 0) lines ≡ false) × AreClear kind (content lines)
+
+line-clear : (kind : Kind) (earlier : List (List ℕ)) (line : List ℕ) → AreClearLines kind (earlier ++ line ∷ [])
+    ↔ (AreClearLines kind earlier × (first (line_checks kind earlier line) ≡ None))
+line-clear kind earlier line =
+    let n : ℕ = line_number (length earlier + 1) in
+    rw (
+      filter-append (λ l. not (is_skipped l)) earlier (line ∷ []),
+      list_any-append (has 0) earlier (line ∷ []),
+      first-numbered n (checks_of kind (content earlier) line),
+    ) (by-test (has 0 line)
+    (λ z. rw z (λ a. absurd (let e = or_parts _ true a.0 in let d = e.1 in cc), λ h. absurd (let e = h.1 in cc)))
+    (λ z. by-test (is_skipped line)
+    (λ f. rw (z, f) (simp (append-nil, or-false) (λ a. (a, refl), λ h. h.0)))
+    (λ f. let c = content-clear kind (content earlier) line in
+    let m = none-numbered n (first (content_checks kind (content earlier) line)) in
+    rw (z, f) (simp or-false (
+      λ a. (let x = c.0 a.1 in ((a.0, x.0), m.1 x.1)),
+      λ h. (h.0.0, c.1 (h.0.1, m.0 h.1)),
+    )))))
+
+pub lines-clear : (kind : Kind) (lines : List (List ℕ)) → AreClearLines kind lines ↔ (line_fault kind lines ≡ None)
+lines-clear kind = clear-each (line_checks kind) (AreClearLines kind) (line-clear kind) (refl, tt)

@@ -1,0 +1,293 @@
+-- What lines give, by those with content, and that the checks behind it are those behind these lines.
+use Rattle.std.proofs.Common.{◌≡◌, ℕ, ◌+◌, List, [], ◌∷◌, ◌++◌, Option, None, Some, true, false, not, nat_le}
+use Rattle.std.proofs.Common.{unwrap_or, is_some, length, map, refl, ap, ◌∙◌, sym, arith, if◌then◌else◌, append_assoc}
+use Rattle.std.proofs.Common.{append-nil, ◌||◌, ◌&&◌, nat_lt}
+use Rattle.std.specs.Prelude.{filter, flat_map, fold}
+use Rattle.std.specs.List.{list_any, enumerate_from, before_first, after_first}
+use Rattle.std.proofs.Math.Bool.{or-false, or-true}
+use Rattle.std.proofs.lemmas.Bool.Decides.{nat_tests}
+use Rattle.std.proofs.lemmas.List.{length-append, length-map, map_push as map-snoc}
+use Rattle.std.proofs.lemmas.List.Folds.{list_any-append}
+use Rattle.std.proofs.lemmas.List.Sums.{sum_by-cons}
+use Rattle.xc_input.specs.declared.kind.Kind.{Kind}
+use Rattle.xc_input.specs.declared.fault.FaultKind.TheVariants.{TwoBars, TooManyUses}
+use Rattle.xc_input.specs.declared.problem.Use.{Use}
+use Rattle.xc_input.specs.Problem.{use_count}
+use Rattle.xc_input.specs.Limits.{most_uses}
+use Rattle.xc_input.specs.Tokens.{tokens, parts, is_bar, is_skipped}
+use Rattle.xc_input.specs.Sheets.{Entry, Written, with_colour, number_uses, colour_number}
+use Rattle.xc_input.specs.Faults.{checks_of_each, name_of, item_checks, item_names, part_checks, Context}
+use Rattle.xc_input.specs.Faults.{context_of, item_of, token_checks, has_primary}
+use Rattle.xc_input.specs.FirstFault.{line_number, content, is_kept, kept_uses, option_checks, content_checks}
+use Rattle.xc_input.specs.inner.ColourNumbers.{numbered}
+use Rattle.xc_input.specs.inner.Sheets.{Sheet, names_of, with_uses}
+use Rattle.xc_input.specs.inner.Stages.{entry, Row, row_checks, row_of, no_row, with_part, context, written, written_by}
+use Rattle.xc_input.specs.inner.Stages.{Stage, no_stage, with_option, with_row, stage_from, stage_of}
+use Rattle.xc_input.specs.inner.Stages.{part_checks as row_part_checks, option_checks as tokens_checks}
+use Rattle.xc_input.specs.inner.Stages.{content_checks as stage_content}
+use Rattle.xc_input.proofs.FaultLemmas.BooleanTests.{by-test}
+use Rattle.xc_input.proofs.FaultLemmas.Checks.{names_of-snoc}
+use Rattle.xc_input.proofs.GrammarLemmas.ClearLines.{StandFor, AreClear, names-snoc}
+use Rattle.xc_input.proofs.OptionLemmas.Colours.{met, kept}
+use Rattle.xc_input.proofs.OptionLemmas.Items.{before-cons, after-cons, no-bar}
+
+-- THE ITEM LINE
+-- the items of these parts of an item line
+pub record IsRowOf (kind : Kind) (row : Row) (others : List (List ℕ)) : Type 0 where
+  pub names : names_of row.entries ≡ item_names kind others
+  pub barred : is_some row.bar ≡ list_any is_bar others
+
+pub no-row : (kind : Kind) → IsRowOf kind no_row []
+no-row kind = record { names = refl; barred = refl }
+
+pub row-checks : {kind : Kind} {row : Row} {others : List (List ℕ)} (part : List ℕ) → IsRowOf kind row others
+    → row_part_checks kind row part ≡ part_checks kind others part
+row-checks {kind} part r =
+    λ i. if is_bar part then (TwoBars, r.barred i) ∷ [] else item_checks kind (r.names i) (r.barred i) part
+
+pub row-more : {kind : Kind} {row : Row} {others : List (List ℕ)} (part : List ℕ) → IsRowOf kind row others
+    → IsRowOf kind (with_part kind row part) (others ++ part ∷ [])
+row-more {kind} {row} {others} part r =
+    let names = names-snoc kind others part in
+    let barred = list_any-append is_bar others (part ∷ []) in by-test (is_bar part)
+    (λ f. rw f (record {
+      names = r.names ∙ sym (append-nil (item_names kind others)) ∙ sym (rw f at names);
+      barred = sym (barred ∙ rw f (or-true (list_any is_bar others)));
+    }))
+    (λ f. rw f (record {
+      names = names_of-snoc row.entries (entry kind (is_some row.bar) part)
+          ∙ ap (λ ns. ns ++ name_of kind part ∷ []) r.names ∙ sym (rw f at names);
+      barred = r.barred ∙ sym (barred ∙ rw f (or-false (list_any is_bar others)));
+    }))
+
+pub parts-checked : {kind : Kind} (ps : List (List ℕ)) {row : Row} {before : List (List ℕ)} → IsRowOf kind row before
+    → row_checks kind row ps ≡ checks_of_each (part_checks kind) before ps
+parts-checked [] r = refl
+parts-checked (p ∷ ps) r = λ i. row-checks p r i ++ parts-checked ps (row-more p r) i
+
+row-names : {kind : Kind} (ps : List (List ℕ)) {row : Row} {before : List (List ℕ)} → IsRowOf kind row before
+    → names_of (row_of kind row ps).entries ≡ item_names kind (before ++ ps)
+row-names {kind} [] {before = before} r = r.names ∙ ap (item_names kind) (sym (append-nil before))
+row-names {kind} (p ∷ ps) {before = before} r =
+    row-names ps (row-more p r) ∙ ap (item_names kind) (append_assoc before (p ∷ []) ps)
+
+-- the items that such parts stand for
+abbrev pub items_in : Kind → List (List ℕ) → List Entry
+items_in kind ps = map (entry kind false) (before_first is_bar ps) ++ map (entry kind true) (after_first is_bar ps)
+
+abbrev pub P : Row → ℕ
+P row = unwrap_or row.bar (length row.entries)
+
+-- a row
+abbrev R : List Entry → Option ℕ → Row
+R entries bar = record { entries = entries; bar = bar }
+
+row-behind : (kind : Kind) (es : List Entry) (n : ℕ) (ps : List (List ℕ)) → StandFor kind true ps
+    → row_of kind (R es (Some n)) ps ≡ R (es ++ map (entry kind true) ps) (Some n)
+row-behind kind es n [] a = ap (λ es. R es (Some n)) (sym (append-nil es))
+row-behind kind es n (p ∷ ps) a = rw (no-bar kind p _ a.0) (row-behind kind (es ++ entry kind true p ∷ []) n ps a.1
+    ∙ ap (λ es. R es (Some n)) (append_assoc es (entry kind true p ∷ []) (map (entry kind true) ps)))
+
+row-is : (kind : Kind) (es : List Entry) (ps : List (List ℕ)) → StandFor kind true (after_first is_bar ps)
+    → ((row_of kind (R es None) ps).entries ≡ es ++ items_in kind ps)
+    × (P (row_of kind (R es None) ps) ≡ length es + length (before_first is_bar ps))
+row-is kind es [] a = (sym (append-nil es), omega arith)
+row-is kind es (p ∷ ps) a = by-test (is_bar p)
+    (λ f. let step : row_of kind (R es None) (p ∷ ps) ≡ row_of kind (R es (Some (length es))) ps = rw f in
+    let r = step ∙ row-behind kind es (length es) ps (rw (after-cons p ps true f) at a) in
+    rw (before-cons p ps true f, after-cons p ps true f) (ap (λ (r : Row). r.entries) r, omega (arith, ap P r)))
+    (λ f. let es' = es ++ entry kind false p ∷ [] in
+    let step : row_of kind (R es None) (p ∷ ps) ≡ row_of kind (R es' None) ps = rw f in
+    let r = row-is kind es' ps (rw (after-cons p ps false f) at a) in
+    rw (before-cons p ps false f, after-cons p ps false f) (
+      ap (λ (r : Row). r.entries) step ∙ r.0 ∙ append_assoc es (entry kind false p ∷ []) (items_in kind ps),
+      omega (arith, r.1, ap P step, length-append es (entry kind false p ∷ [])),
+    ))
+
+-- the items of the item line, before any option
+abbrev pub start : Kind → List ℕ → Sheet
+start kind line = with_row no_stage.sheet (row_of kind no_row (parts line))
+
+abbrev pub said : Kind → Sheet → Context
+said kind sheet = context kind (names_of sheet.entries) sheet.primaries
+
+-- what parts of an item line say
+pub context-is : (kind : Kind) (ps : List (List ℕ)) → StandFor kind true (after_first is_bar ps) → context_of kind ps
+    ≡ context kind (names_of (row_of kind no_row ps).entries) (P (row_of kind no_row ps))
+context-is kind ps a =
+    let count : length (before_first is_bar ps) ≡ P (row_of kind no_row ps) = omega (arith, (row-is kind [] ps a).1) in
+    λ i. context kind (sym (row-names ps (no-row kind)) i) (count i)
+
+pub start-is : (kind : Kind) (line : List ℕ) → StandFor kind true (after_first is_bar (parts line))
+    → ((start kind line).entries ≡ items_in kind (parts line))
+    × ((start kind line).primaries ≡ length (before_first is_bar (parts line)))
+    × (context_of kind (parts line) ≡ said kind (start kind line))
+start-is kind line a =
+    let r = row-is kind [] (parts line) a in (r.0, omega (arith, r.1), context-is kind (parts line) a)
+
+-- OPTIONS
+abbrev pub content_from : ℕ → List (List ℕ) → List (ℕ × List ℕ)
+content_from k lines = filter (λ line. not (is_skipped line.1)) (enumerate_from k lines)
+
+abbrev pub flat : List (List Written) → List Written
+flat uss = flat_map (λ us. us) uss
+
+abbrev pub ignored_of : ℕ → List (ℕ × List Written) → List ℕ
+ignored_of p os = map (λ o. o.0) (filter (λ o. not (has_primary p o.1)) os)
+
+abbrev pub kept_of : ℕ → List (ℕ × List Written) → List (List Written)
+kept_of p os = map (λ o. o.1) (filter (λ o. has_primary p o.1) os)
+
+-- the options of lines with their numbers, those that are kept, and the numbers of the others
+abbrev pub written_in : Context → List (ℕ × List ℕ) → List (ℕ × List Written)
+written_in c ls = map (λ l. (line_number l.0, map (written c.names) (tokens l.1))) ls
+
+abbrev pub kept_in : Context → List (ℕ × List ℕ) → List (List Written)
+kept_in c ls = kept_of c.primaries (written_in c ls)
+
+abbrev pub ignored_in : Context → List (ℕ × List ℕ) → List ℕ
+ignored_in c ls = ignored_of c.primaries (written_in c ls)
+
+-- the sheet with these options more
+abbrev pub with_kept : Sheet → List (List Written) → Sheet
+with_kept sheet uss =
+    let last = with_uses sheet.colours (flat uss) in
+    record sheet { options = sheet.options ++ map (number_uses last) uss; colours = last }
+
+with_uses-append : (cs : List (List ℕ)) (us vs : List Written)
+    → with_uses cs (us ++ vs) ≡ with_uses (with_uses cs us) vs
+with_uses-append cs [] vs = refl
+with_uses-append cs (u ∷ us) vs = with_uses-append (with_colour cs u.colour) us vs
+
+-- a colour of an option has one number behind it and behind all options
+number-later : (cs : List (List ℕ)) (us more : List Written)
+    → number_uses (with_uses cs (us ++ more)) us ≡ number_uses (with_uses cs us) us
+number-later cs [] more = refl
+number-later cs (u ∷ us) more =
+    let number = (kept (with_colour cs u.colour) (us ++ more) u.colour (met cs u.colour)).1
+    ∙ sym (kept (with_colour cs u.colour) us u.colour (met cs u.colour)).1 in
+    λ i. record { item = u.item; colour = number i } ∷ number-later (with_colour cs u.colour) us more i
+
+-- the sheet with one option more
+abbrev more : Sheet → List Written → Sheet
+more sheet us = record sheet {
+  options = sheet.options ++ numbered sheet.colours us ∷ [];
+  colours = with_uses sheet.colours us;
+}
+
+with_kept-more : (sheet : Sheet) (us : List Written) (uss : List (List Written))
+    → with_kept (more sheet us) uss ≡ with_kept sheet (us ∷ uss)
+with_kept-more sheet us uss =
+    let last = sym (with_uses-append sheet.colours us (flat uss)) in
+    let here = sym (number-later sheet.colours us (flat uss)) in
+    let all = append_assoc sheet.options (numbered sheet.colours us ∷ [])
+    (map (number_uses (with_uses (with_uses sheet.colours us) (flat uss))) uss)
+    ∙ (λ i. sheet.options ++ here i ∷ map (number_uses (last i)) uss) in
+    λ i. record sheet { options = all i; colours = last i }
+
+-- THE LINES
+-- behind the item line
+abbrev S : Sheet → List ℕ → Stage
+S sheet ignored = record { started = true; sheet = sheet; ignored = ignored }
+
+-- what a line with content gives
+abbrev with_content : Kind → Stage → ℕ × List ℕ → Stage
+with_content kind stage l =
+    (if stage.started then with_option (line_number l.0) stage (written_by stage.sheet l.1)
+    else record stage { started = true; sheet = with_row stage.sheet (row_of kind no_row (parts l.1)) })
+
+stage-content : (kind : Kind) (n : ℕ) (stage : Stage) (lines : List (List ℕ))
+    → stage_from kind n stage lines ≡ fold (with_content kind) stage (content_from (n + 1) lines)
+stage-content kind n stage [] = refl
+stage-content kind n stage (line ∷ lines) = by-test (is_skipped line)
+    (λ f. rw f (stage-content kind (n + 1) stage lines))
+    (λ f. rw f (stage-content kind (n + 1) (with_content kind stage (n + 1, line)) lines))
+
+abbrev stage_behind : Kind → Sheet → List ℕ → List (ℕ × List ℕ) → Stage
+stage_behind kind sheet ignored ls =
+    let c = said kind sheet in S (with_kept sheet (kept_in c ls)) (ignored ++ ignored_in c ls)
+
+stage-behind : (kind : Kind) (sheet : Sheet) (ignored : List ℕ) (ls : List (ℕ × List ℕ))
+    → fold (with_content kind) (S sheet ignored) ls ≡ stage_behind kind sheet ignored ls
+stage-behind kind sheet ignored [] =
+    λ i. S (record sheet { options = sym (append-nil sheet.options) i }) (sym (append-nil ignored) i)
+stage-behind kind sheet ignored (l ∷ ls) =
+    let c = said kind sheet in
+    let us = written_by sheet l.1 in
+    let n = line_number l.0 in by-test (has_primary sheet.primaries us)
+    (λ g. rw g (stage-behind kind (more sheet us) ignored ls
+    ∙ ap (λ s. S s (ignored ++ ignored_in c ls)) (with_kept-more sheet us (kept_in c ls))))
+    (λ g. rw g (stage-behind kind sheet (ignored ++ n ∷ []) ls
+    ∙ ap (S (with_kept sheet (kept_in c ls))) (append_assoc ignored (n ∷ []) (ignored_in c ls))))
+
+-- what all lines give, by those with content
+abbrev pub stage_by : Kind → List (ℕ × List ℕ) → Stage
+stage_by kind [] = no_stage
+stage_by kind (item ∷ rest) = stage_behind kind (start kind item.1) [] rest
+
+pub stage-by : (kind : Kind) (lines : List (List ℕ)) → stage_of kind lines ≡ stage_by kind (content_from 1 lines)
+stage-by kind lines = stage-content kind 0 no_stage lines ∙ of-content (content_from 1 lines)
+  where
+    of-content : (ls : List (ℕ × List ℕ)) → fold (with_content kind) no_stage ls ≡ stage_by kind ls
+    of-content [] = refl
+    of-content (item ∷ rest) = stage-behind kind (start kind item.1) [] rest
+
+-- THE CHECKS OF A LINE
+-- lines without their numbers
+abbrev pub plain : List (ℕ × List ℕ) → List (List ℕ)
+plain ls = map (λ l. l.1) ls
+
+pub plain-content : (k : ℕ) (lines : List (List ℕ)) → content lines ≡ plain (content_from k lines)
+plain-content k [] = refl
+plain-content k (line ∷ lines) = grind (arith, nat_tests, plain-content (k + 1) lines)
+
+pub tokens-checked : (c : Context) (before ts : List (List ℕ)) → tokens_checks c (map (item_of c) before) ts
+    ≡ checks_of_each (token_checks c) before ts
+tokens-checked c before [] = refl
+tokens-checked c before (t ∷ ts) =
+    ap (λ rest. token_checks c before t ++ rest) (ap (λ seen. tokens_checks c seen ts)
+    (sym (map-snoc (item_of c) before t)) ∙ tokens-checked c (before ++ t ∷ []) ts)
+
+kept-is : (c : Context) (ts : List (List ℕ)) → has_primary c.primaries (map (written c.names) ts)
+    ≡ list_any (λ t. nat_le (item_of c t) c.primaries) ts
+kept-is c [] = refl
+kept-is c (t ∷ ts) = ap (λ b. nat_le (item_of c t) c.primaries || b) (kept-is c ts)
+
+pub kept-count : (c : Context) (ls : List (ℕ × List ℕ)) → kept_uses c (plain ls) ≡ length (flat (kept_in c ls))
+kept-count c [] = refl
+kept-count c (l ∷ ls) =
+    let us = map (written c.names) (tokens l.1) in
+    let e = kept-is c (tokens l.1) in
+    let r = kept-count c ls in by-test (has_primary c.primaries us)
+    (λ g. rw (sym e ∙ g, g) (omega (
+      arith,
+      r,
+      length-append us (flat (kept_in c ls)),
+      length-map (tokens l.1) (written c.names),
+      sum_by-cons (λ (t : List ℕ). length (tokens t)) l.1 (filter (is_kept c) (plain ls)),
+    )))
+    (λ g. rw (sym e ∙ g, g) r)
+
+-- how many uses options have
+pub all-counted : (cs : List (List ℕ)) (uss : List (List Written))
+    → use_count (map (number_uses cs) uss) ≡ length (flat uss)
+all-counted cs [] = refl
+all-counted cs (us ∷ uss) =
+    let n = length-map {B = Use} us (λ u. record { item = u.item; colour = colour_number cs u.colour }) in
+    omega (
+      arith,
+      all-counted cs uss,
+      n,
+      length-append us (flat uss),
+      sum_by-cons (λ (os : List Use). length os) (number_uses cs us) (map (number_uses cs) uss),
+    )
+
+pub content-checked : (kind : Kind) (ls : List (ℕ × List ℕ)) (line : List ℕ) → AreClear kind (plain ls)
+    → stage_content kind (stage_by kind ls) line ≡ content_checks kind (plain ls) line
+content-checked kind [] line h = parts-checked (parts line) (no-row kind)
+content-checked kind (item ∷ rest) line h =
+    let c = said kind (start kind item.1) in
+    let count = all-counted (with_uses [] (flat (kept_in c rest))) (kept_in c rest) ∙ sym (kept-count c rest) in
+    (λ i. tokens-checked c [] (tokens line) i
+    ++ (TooManyUses, kept-is c (tokens line) i && nat_lt most_uses (count i + length (tokens line))) ∷ [])
+    ∙ ap (λ c. option_checks c (plain rest) line) (sym (start-is kind item.1 h.0.0.1).2)
