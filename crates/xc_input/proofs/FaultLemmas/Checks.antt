@@ -35,11 +35,14 @@ pub some-is : {A : Type 0} (o : Option A) → is_none o ≡ false → (x : A) ×
 some-is None e = absurd (cc)
 some-is (Some x) e = (x, refl)
 
--- the answer that a caller hands on
-pub hands-on : (a : Option FaultKind) (p q : List (FaultKind × Bool)) (e : LineError) → a ≡ first (p ++ q)
-    → Judged {T = Unit {0}} (first p) (Err e) → Judged {T = Unit {0}} a (Err e)
-hands-on a p q (Fault k) f h = f ∙ first-front p q k h
-hands-on a p q Memory f h = tt
+-- the answer to an error that is handed on, behind the first checks
+pub stopped : {T : Type 0} {a : Option FaultKind} (p q : List (FaultKind × Bool)) (r : Result T LineError)
+    (e : LineError) → IsErrAnd r (λ x. x ≡ e) → a ≡ first (p ++ q) → Judged {T = Unit {0}} (first p) (Err e)
+    → Judged a r
+stopped p q (Ok x) e h f j = absurd h
+stopped p q (Err (Fault k)) e h f j =
+    f ∙ first-front p q k (subst (λ d. Judged {T = Unit {0}} (first p) (Err d)) (sym h) j)
+stopped p q (Err Memory) e h f j = tt
 
 pub OnOk-map : {T E : Type 0} (r : Result T E) {A B : Type 0} → OnOk r A → (A → B) → OnOk r B
 OnOk-map (Ok x) h f = f h
@@ -54,12 +57,6 @@ names_of-length es = length-map es (λ e. e.name)
 -- a token of the item line, behind these entries
 module _ (kind : Kind) (entries : List Entry) (bar : Option ℕ) (token : List ℕ) {sec : Bool} (s : sec ≡ is_some bar)
   where
-    pub bad-bound : {k : FaultKind} → first (bound_checks kind sec token) ≡ Some k
-        → first (item_checks kind (names_of entries) (is_some bar) token) ≡ Some k
-    bad-bound {k} e =
-        first-front (bound_checks kind (is_some bar) token) (alone (names_of entries) (name_of kind token)) k
-        (ap (λ b. first (bound_checks kind b token)) (sym s) ∙ e)
-
     module _ {name : List ℕ} {low high : ℕ} (t : (first (bound_checks kind sec token) ≡ None)
         × (record { name = name; low = low; high = high } ≡ entry kind sec token)) where
       behind : first (item_checks kind (names_of entries) (is_some bar) token) ≡ first (alone (names_of entries) name)
@@ -142,13 +139,6 @@ pub row-step : (kind : Kind) (row : Row) {next : Row} {line : List (List ℕ)} {
     → (a ≡ first (row_checks kind next parts)) × (b ≡ row_of kind next parts)
 row-step kind row {next} {line} {part} {parts} {a} {b} e f l g h = grind (arith, nat_tests, first-back)
 
-pub row-stop : (kind : Kind) (row : Row) {line : List (List ℕ)} {part : List ℕ} {parts : List (List ℕ)}
-    (a : Option FaultKind) (e : LineError) → a ≡ first (row_checks kind row line) → line ≡ part ∷ parts
-    → Judged {T = Unit {0}} (first (part_checks kind row part)) (Err e) → Judged {T = Unit {0}} a (Err e)
-row-stop kind row {part} {parts} a e f l j =
-    hands-on a (part_checks kind row part) (row_checks kind (with_part kind row part) parts) e
-    (f ∙ ap (λ ps. first (row_checks kind row ps)) l) j
-
 pub last-place : {A : Type 0} (p : A → Bool) (xs : List A) → list_any p xs ≡ false → position_or_len p xs ≡ length xs
 last-place p [] e = refl
 last-place p (x ∷ xs) e = grind (arith, last-place p xs)
@@ -166,10 +156,3 @@ items-length v = grind (arith, common_steps)
 
 pub length-items : (v : Vec Item Global) → vec_len v ≡ length (map entry_of v.items)
 length-items v = items-length v ∙ sym (length-map v.items entry_of)
-
--- the answer to an error that is handed on
-pub err-judged : {T : Type 0} (a : Option FaultKind) (r : Result T LineError) (e : LineError)
-    → IsErrAnd r (λ x. x ≡ e) → Judged {T = Unit {0}} a (Err e) → Judged a r
-err-judged a (Ok x) e h j = absurd h
-err-judged a (Err (Fault k)) e h j = subst (λ d. Judged {T = Unit {0}} a (Err d)) (sym h) j
-err-judged a (Err Memory) e h j = tt

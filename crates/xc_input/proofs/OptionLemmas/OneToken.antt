@@ -14,7 +14,7 @@ use Rattle.xc_input.specs.Faults.{first, is_plain, is_bad_colour, name_checks}
 use Rattle.xc_input.specs.inner.Stages.{token_checks, option_checks, item_number, written, context}
 use Rattle.xc_input.specs.inner.Builders.{items_of}
 use Rattle.xc_input.specs.Named.{IsName}
-use Rattle.xc_input.proofs.FaultLemmas.FirstChecks.{first-front, first-back}
+use Rattle.xc_input.proofs.FaultLemmas.FirstChecks.{first-back}
 use Rattle.xc_input.proofs.FaultLemmas.Checks.{map-snoc}
 use Rattle.xc_input.proofs.GrammarLemmas.NoFault.{good-name}
 use Rattle.std.proofs.Common.{Bor, is_some, get_or}
@@ -122,16 +122,6 @@ module _ (kind : Kind) (primary : ℕ) (seen : List ℕ) {names : List (List ℕ
             )
 
 -- a step of the loop over the tokens
-pub token-stop : (kind : Kind) (names : List (List ℕ)) (primary : ℕ) (seen : List ℕ) {token : List ℕ}
-    {line others : List (List ℕ)} {a : Option FaultKind} {k : FaultKind}
-    → a ≡ first (option_checks (context kind names primary) seen line)
-    → line ≡ token ∷ others
-    → first (token_checks (context kind names primary) seen token) ≡ Some k → a ≡ Some k
-token-stop kind names primary seen {token} {others = others} {k = k} e l f =
-    e ∙ ap (λ ts. first (option_checks (context kind names primary) seen ts)) l
-    ∙ first-front (token_checks (context kind names primary) seen token)
-    (option_checks (context kind names primary) (seen ++ item_number names (before COLON token) ∷ []) others) k f
-
 pub token-step : (kind : Kind) (names : List (List ℕ)) (primary : ℕ) (us : List Written) (token : List ℕ)
     (line others : List (List ℕ)) (a : Option FaultKind) (all : List Written) (u : Written)
     → a ≡ first (option_checks (context kind names primary) (items_of us) line) → all ≡ us ++ map (written names) line

@@ -1,11 +1,14 @@
 use Rattle.std.proofs.Common.{◌∙◌, ap, sym, subst, List, map, drop, arith}
 use Rattle.std.proofs.lemmas.List.{length-map, take_rest}
 use Rattle.xc_input.specs.declared.problem.Use.{Use}
+use Rattle.std.proofs.Common.{◌++◌, ◌∷◌, []}
+use Rattle.xc_input.specs.Faults.{first}
+use Rattle.xc_input.specs.Tokens.{tokens}
 use Rattle.xc_input.specs.declared.line_error.LineError.TheVariants.{Fault}
+use Rattle.xc_input.specs.inner.Stages.{context, token_checks, option_checks, written}
 use Rattle.xc_input.specs.inner.Builders.{AreMarks, items_of}
 use Rattle.xc_input.specs.inner.Stored.{key_names}
-use Rattle.xc_input.proofs.FaultLemmas.Checks.{err-judged, items-length}
-use Rattle.xc_input.proofs.OptionLemmas.OneToken.{token-stop}
+use Rattle.xc_input.proofs.FaultLemmas.Checks.{stopped, items-length}
 use Rattle.xc_input.proofs.OptionSteps.{behind_none, behind_few, behind_more, all_added, late_marked}
 use Rattle.xc_input.proofs.option_line.option_line.Goals as goal
 
@@ -18,10 +21,13 @@ loop-token-init c =
 pub returns-in_err-written-clause-judged : goal.returns-in_err-written-clause-judged
 returns-in_err-written-clause-judged c =
     let b = c.loop-token.invariant in
-    err-judged _ c.from_residual.result (Fault c.in_err-written.field-0.0) c.from_residual.ensures.1
-    (token-stop c.args.kind (key_names c.args.names.now.keys) c.args.primary (items_of b.us) b.decided
-    c.in-Some.ensures.1 (c.in_err-written.ensures.judged (key_names c.args.names.now.keys) c.in-Some.ensures.0
-    (items_of b.us) c.requires.named.named b.count c.in-Some.ensures.3 b.marked))
+    let known = context c.args.kind (key_names c.args.names.now.keys) c.args.primary in
+    stopped (token_checks known (items_of b.us) c.in-Some.ensures.0) (option_checks known (items_of b.us
+    ++ (written known.names c.in-Some.ensures.0).item ∷ []) (tokens c.in-Some.others.now)) c.from_residual.result
+    (Fault c.in_err-written.field-0.0) c.from_residual.ensures.1
+    (b.decided ∙ ap (λ ts. first (option_checks known (items_of b.us) ts)) c.in-Some.ensures.1)
+    (c.in_err-written.ensures.judged known.names c.in-Some.ensures.0 (items_of b.us) c.requires.named.named b.count
+    c.in-Some.ensures.3 b.marked)
 
 pub add_use-requires-clause-few : goal.add_use-requires-clause-few
 add_use-requires-clause-few c = behind_few c.loop-token.invariant c.requires.few_uses

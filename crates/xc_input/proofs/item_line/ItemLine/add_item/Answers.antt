@@ -1,16 +1,21 @@
 use Rattle.std.proofs.Common.{subst, sym, ◌<◌, refl, ◌∙◌, map}
 use Rattle.xc_input.specs.inner.Builders.{entry_of, AreNames}
+use Rattle.std.proofs.Common.{ap}
+use Rattle.xc_input.specs.Faults.{first, bound_checks, item_checks, name_of}
+use Rattle.xc_input.specs.inner.Sheets.{names_of}
 use Rattle.xc_input.specs.declared.line_error.LineError.TheVariants.{Fault}
+use Rattle.xc_input.proofs.FaultLemmas.FirstChecks.{alone}
 use Rattle.xc_input.proofs.TokenLemmas.TableNames.{names-more, name-solid}
-use Rattle.xc_input.proofs.FaultLemmas.Checks.{err-judged, bad-bound, bad-name, too-many, no-fault, judged-on, grown}
+use Rattle.xc_input.proofs.FaultLemmas.Checks.{stopped, bad-name, too-many, no-fault, judged-on, grown}
 use Rattle.xc_input.proofs.FaultLemmas.Checks.{OnOk-map, none-is, length-items, items-length}
 use Rattle.xc_input.proofs.item_line.ItemLine.add_item.Goals as goal
 
 pub returns-in_err-token-clause-judged : goal.returns-in_err-token-clause-judged
 returns-in_err-token-clause-judged c =
-    err-judged _ c.from_residual.result (Fault c.in_err-token.field-0.0) c.from_residual.ensures.1
-    (bad-bound c.args.kind (map entry_of c.args.self.now.items.items) _ c.args.token.now c.is_some.ensures
-    c.in_err-token.ensures)
+    let names = names_of (map entry_of c.args.self.now.items.items) in
+    stopped (bound_checks c.args.kind c.is_some.result c.args.token.now) (alone names (name_of c.args.kind
+    c.args.token.now)) c.from_residual.result (Fault c.in_err-token.field-0.0) c.from_residual.ensures.1
+    (ap (λ b. first (item_checks c.args.kind names b c.args.token.now)) (sym c.is_some.ensures)) c.in_err-token.ensures
 
 pub returns-in-Some-clause-judged : goal.returns-in-Some-clause-judged
 returns-in-Some-clause-judged c =
