@@ -26,24 +26,18 @@ module _ (a b : Kind) (bounds : is_bounds a ≡ true → is_bounds b ≡ true)
   entry-also secondary token e (name, inl h) = (name, inl h)
   entry-also secondary token e (name, inr h) = (name, inr (h.0, bounds h.1, h.2, h.3, h.4, h.5, h.6, h.7))
 
-  entries-also : (secondary : Bool) (ps : List (List ℕ)) (es : List Entry) → AllZip (IsEntry a secondary) ps es
-      → AllZip (IsEntry b secondary) ps es
-  entries-also secondary = zip-weaker (entry-also secondary)
-
   use-also : (names : List (List ℕ)) (primaries : ℕ) (token : List ℕ) (u : Written)
       → IsUse (context a names primaries) token u → IsUse (context b names primaries) token u
   use-also names primaries token u (name, i, n, p, q, inl h) = (name, i, n, p, q, inl h)
   use-also names primaries token u (name, i, n, p, q, inr h) = (name, i, n, p, q, inr (h.0, colours h.1, h.2, h.3))
 
-  uses-also : (names : List (List ℕ)) (primaries : ℕ) (ts : List (List ℕ)) (us : List Written)
-      → AllZip (IsUse (context a names primaries)) ts us → AllZip (IsUse (context b names primaries)) ts us
-  uses-also names primaries = zip-weaker (use-also names primaries)
-
   lines-also : (names : List (List ℕ)) (primaries : ℕ) (ls : List (ℕ × List ℕ)) (ws : List (ℕ × List Written))
       → AllZip (IsOptionLine (context a names primaries)) ls ws
       → AllZip (IsOptionLine (context b names primaries)) ls ws
-  lines-also names primaries = zip-weaker (λ l w h. (h.0, uses-also names primaries (tokens l.1) w.1 h.1, h.2))
+  lines-also names primaries =
+      zip-weaker (λ l w h. (h.0, zip-weaker (use-also names primaries) (tokens l.1) w.1 h.1, h.2))
 
   pub stands-also : (lines : List (List ℕ)) (named : Named) (ignored : List ℕ) → StandsFor a lines named ignored
       → StandsFor b lines named ignored
-  stands-also lines named ignored h = grind (arith, nat_tests, entries-also, lines-also)
+  stands-also lines named ignored h =
+      grind (arith, nat_tests, zip-weaker (entry-also false), zip-weaker (entry-also true), lines-also)

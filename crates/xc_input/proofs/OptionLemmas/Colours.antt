@@ -1,7 +1,7 @@
 -- A colour keeps the number that it has where it is met first.
 use Rattle.std.proofs.Common.{◌≡◌, ℕ, suc, ◌+◌, ◌<◌, ◌≤◌, List, [], ◌∷◌, ◌++◌, Option, None, Some, Bool, true, false}
 use Rattle.std.proofs.Common.{◌||◌, nat_le}
-use Rattle.std.proofs.Common.{not, nat_lt, unwrap_or, length, map, take, append-nil, append_assoc, refl}
+use Rattle.std.proofs.Common.{not, unwrap_or, length, map, take, append-nil, append_assoc, refl}
 use Rattle.std.proofs.Common.{sym, ap, ◌∙◌, length-append, arith, if◌then◌else◌}
 use Rattle.xc_input.specs.declared.problem.Use.{Use}
 use Rattle.std.proofs.lemmas.Bool.Decides.{nat_tests}
@@ -26,10 +26,7 @@ last-or-len p (y ∷ ys) x e f = grind (arith, nat_tests, last-or-len p ys x)
 pub last-position : {A : Type 0} (p : A → Bool) (xs : List A) (x : A) → position p xs ≡ None → p x ≡ true
     → position p (xs ++ x ∷ []) ≡ Some (length xs)
 last-position p xs x e f =
-    let at : position_or_len p (xs ++ x ∷ []) ≡ length xs = last-or-len p xs x (no-place p xs e) f in
-    let all : length (xs ++ x ∷ []) ≡ length xs + 1 = length-append xs (x ∷ []) in
-    let t : nat_lt (position_or_len p (xs ++ x ∷ [])) (length (xs ++ x ∷ [])) ≡ true = grind (arith, nat_tests) in
-    ap (λ b. if b then Some (position_or_len p (xs ++ x ∷ [])) else None) t ∙ ap Some at
+    grind (arith, nat_tests, last-or-len p xs x (no-place p xs e) f, length-append xs (x ∷ []))
 
 -- a place stays where more stands behind
 or-len-stays : {A : Type 0} (p : A → Bool) (xs ys : List A) → position_or_len p xs < length xs
@@ -40,18 +37,9 @@ or-len-stays p (x ∷ xs) ys h = grind (arith, nat_tests, or-len-stays p xs ys)
 pub in-range : {A : Type 0} (p : A → Bool) (xs : List A) (i : ℕ) → position p xs ≡ Some i → i < length xs
 in-range p xs i e = grind (arith, nat_tests)
 
-found-at : {A : Type 0} (p : A → Bool) (xs : List A) (i : ℕ) → position p xs ≡ Some i → position_or_len p xs ≡ i
-found-at p xs i e = grind (arith, nat_tests)
-
 position-stays : {A : Type 0} (p : A → Bool) (xs ys : List A) (i : ℕ) → position p xs ≡ Some i
     → position p (xs ++ ys) ≡ Some i
-position-stays p xs ys i e =
-    let g = found-at p xs i e in
-    let n = in-range p xs i e in
-    let k : position_or_len p (xs ++ ys) ≡ i = or-len-stays p xs ys (omega (arith, g, n)) ∙ g in
-    let l : position_or_len p (xs ++ ys) < length (xs ++ ys) = omega (arith, k, length-append xs ys, n) in
-    let t : nat_lt (position_or_len p (xs ++ ys)) (length (xs ++ ys)) ≡ true = grind (arith, nat_tests) in
-    ap (λ b. if b then Some (position_or_len p (xs ++ ys)) else None) t ∙ ap Some k
+position-stays p xs ys i e = grind (arith, nat_tests, or-len-stays p xs ys, length-append xs ys)
 
 -- a colour is none, or stands here
 abbrev pub Knows : List (List ℕ) → List ℕ → Type 0

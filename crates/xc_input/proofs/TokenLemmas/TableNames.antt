@@ -2,8 +2,8 @@
 use Rattle.std.proofs.Common.{Bor}
 use Rattle.std.proofs.Common.{◌+◌, ◌≤◌, drop, MatchOption}
 use Rattle.std.proofs.Common.{◌≡◌, ◌≢◌, ℕ, zero, suc, ◌<◌, List, [], ◌∷◌, ◌++◌, Option, None, Some, Bool, true, false}
-use Rattle.std.proofs.Common.{nat_lt, All, length, take, refl, ap, ◌∙◌, sym, subst, arith, true≢false}
-use Rattle.std.proofs.Common.{if◌then◌else◌, Vec, Global, get_or}
+use Rattle.std.proofs.Common.{All, length, take, refl, ap, ◌∙◌, sym, subst, arith, true≢false}
+use Rattle.std.proofs.Common.{Vec, Global, get_or}
 use Rattle.std.proofs.lemmas.List.Elements.{All-nil, All-cons, All-append, All-push, All-get_or}
 use Rattle.std.proofs.lemmas.List.Quantifiers.{position-Some, all_pairs_push}
 use Rattle.std.proofs.lemmas.List.Folds.{list_any_at}
@@ -82,8 +82,7 @@ distinct-place names name k distinct e =
     let at : position_or_len (bytes_eq name) names ≡ k =
     position_or_len_is (bytes_eq name) names k name (omega (arith, within)) earlier
     (λ w. (bytes_eq-Decides name (get_or names k name)).1 (sym here)) in
-    let low : nat_lt (position_or_len (bytes_eq name) names) (length names) ≡ true = grind (arith, nat_tests) in
-    ap (λ t. if t then Some (position_or_len (bytes_eq name) names) else None) low ∙ ap Some at
+    grind (arith, nat_tests)
 
 -- no colour comes twice
 pub distinct-more : (old : List (List ℕ)) {new : List (List ℕ)} (name : List ℕ) → AreDistinct old

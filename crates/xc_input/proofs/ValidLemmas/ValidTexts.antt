@@ -1,7 +1,7 @@
 -- What stands for a text is sound.
 use Rattle.std.proofs.Common.{◌≡◌, ◌≢◌, ℕ, ◌+◌, ◌*◌, ◌-◌, ◌^◌, ◌<◌, ◌≤◌, List, [], ◌∷◌, ◌++◌}
 use Rattle.std.proofs.Common.{Bool, true, false, nat_eq, nat_le, not, map, length, All, AllPairs, refl}
-use Rattle.std.proofs.Common.{ap, ◌∙◌, sym, subst, arith, if◌then◌else◌, inl, inr, length-append}
+use Rattle.std.proofs.Common.{ap, ◌∙◌, sym, subst, arith, inl, inr, length-append}
 use Rattle.std.specs.Prelude.{flat_map}
 use Rattle.std.specs.List.{list_all, list_any, AllZip, AllByRecursion as Each, before_first}
 use Rattle.std.specs.List.{enumerate_from}
@@ -30,24 +30,23 @@ use Rattle.xc_input.specs.Faults.{Context, has_primary}
 use Rattle.xc_input.specs.Named.{Named, IsName, IsColour, IsUnbroken, IsSound}
 use Rattle.xc_input.specs.Text.{IsEntry, AreBounds, IsUse, StandsFor}
 use Rattle.xc_input.specs.inner.Sheets.{with_uses}
-use Rattle.xc_input.specs.inner.Fronts.{drop_white, word}
 use Rattle.xc_input.specs.inner.EndedLines.{AreWhole}
 use Rattle.xc_input.specs.inner.Stages.{context}
 use Rattle.xc_input.proofs.lists.EachElement.{each_weaker, each-append, each-map, each-filter, each_passes, each_both}
 use Rattle.xc_input.proofs.lists.EachElement.{each_front}
 use Rattle.xc_input.proofs.lists.EachTwo.{EachTwo-map, AllPairs-from_each_two, each_two_from_AllPairs}
-use Rattle.xc_input.proofs.TokenLemmas.Bytes.{skipped-front, behind, tokens-drop_white, tokens-first, drop_white-first}
 use Rattle.xc_input.proofs.TokenLemmas.DecimalValues.{value_from}
 use Rattle.xc_input.proofs.TokenLemmas.Separators.{BAR, COLON}
 use Rattle.xc_input.proofs.TokenLemmas.TableNames.{apart}
 use Rattle.xc_input.proofs.TokenLemmas.Unbroken.{unbroken-tokens, unbroken-parts, unbroken-behind}
 use Rattle.xc_input.proofs.OptionLemmas.Colours.{Knows, by-place, met, kept, in-range, colours_more, primary-numbered}
 use Rattle.xc_input.proofs.OptionLemmas.Items.{before-cons}
+use Rattle.xc_input.proofs.FaultLemmas.BooleanTests.{by-test}
+use Rattle.xc_input.proofs.GrammarLemmas.StageLemmas.{flat, all-counted}
+use Rattle.std.proofs.Common.{◌⊎◌, nat_lt, take}
+use Rattle.std.specs.List.{slice_split}
 
 -- LISTS
-abbrev flat : {A : Type 0} → List (List A) → List A
-flat xss = flat_map (λ xs. xs) xss
-
 -- what holds of the elements of one list, and of each beside one of another
 pub each-zip : {A B : Type 0} {R : A → B → Type 0} {P : A → Type 0} {Q : B → Type 0}
     → ((x : A) (y : B) → P x → R x y → Q y) → (xs : List A) (ys : List B) → Each P xs → AllZip R xs ys → Each Q ys
@@ -55,16 +54,13 @@ each-zip f [] [] a z = tt
 each-zip f (x ∷ xs) (y ∷ ys) a z = (f x y a.0 z.0, each-zip f xs ys a.1 z.1)
 each-zip f xs ys a z = absurd z
 
-each-flat : {A : Type 0} (P : A → Type 0) (xss : List (List A)) → Each (Each P) xss
-    → Each P (flat xss)
+each-flat : (P : Written → Type 0) (uss : List (List Written)) → Each (Each P) uss → Each P (flat uss)
 each-flat P [] a = tt
-each-flat P (xs ∷ xss) a = each-append P xs (flat xss) a.0 (each-flat P xss a.1)
+each-flat P (us ∷ uss) a = each-append P us (flat uss) a.0 (each-flat P uss a.1)
 
-flat-each : {A : Type 0} (P : A → Type 0) (xss : List (List A)) → Each P (flat xss)
-    → Each (Each P) xss
+flat-each : (P : Written → Type 0) (uss : List (List Written)) → Each P (flat uss) → Each (Each P) uss
 flat-each P [] a = tt
-flat-each P (xs ∷ xss) a =
-    let both = each_front P xs (flat xss) a in (both.0, flat-each P xss both.1)
+flat-each P (us ∷ uss) a = let both = each_front P us (flat uss) a in (both.0, flat-each P uss both.1)
 
 all-of : {A : Type 0} {P Q : A → Type 0} → ((x : A) → P x → Q x) → (xs : List A) → Each P xs → All Q xs
 all-of {Q = Q} f xs a = All-from_recursion Q xs (each_weaker _ Q xs f a)
@@ -102,66 +98,54 @@ name-good : (kind : Kind) (secondary : Bool) (token : List ℕ) (e : Entry) → 
 name-good kind secondary token e u (n, inl h) = (n, subst IsUnbroken h.0 u)
 name-good kind secondary token e u (n, inr h) = (n, unbroken-behind h.0 BAR e.name (subst IsUnbroken h.4 u))
 
--- the item line begins with an item
-first-part : (xs : List ℕ) (b : ℕ) (bs : List ℕ) → drop_white xs ≡ b ∷ bs → nat_eq b BAR ≡ false → (ps : List (List ℕ))
-    × (parts xs ≡ (b ∷ word bs) ∷ ps)
-first-part xs b bs e f =
-    let dark : is_space b ≡ false = drop_white-first xs b bs e in
-    let t : tokens xs ≡ (b ∷ word bs) ∷ tokens (behind bs) =
-    sym (tokens-drop_white xs) ∙ ap tokens e ∙ tokens-first b bs dark in (
-      flat_map split_bars (tokens (behind bs)),
-      ap (flat_map split_bars) t
-          ∙ ap (λ c. (if c then (BAR ∷ []) ∷ split_bars (word bs) else (b ∷ word bs) ∷ []) ++ flat_map split_bars
-          (tokens (behind bs))) f,
-    )
-
-starts : (xs ys : List ℕ) → drop_white xs ≡ ys → is_skipped xs ≡ false → (p : List ℕ) × (ps : List (List ℕ))
-    × (parts xs ≡ p ∷ ps) × (is_bar p ≡ false)
-starts xs [] e f = let g : is_skipped xs ≡ true = sym (skipped-front xs [] (sym e)) in absurd (cc)
-starts xs (b ∷ bs) e f = grind (arith, nat_tests, skipped-front xs (b ∷ bs) (sym e), first-part xs b bs e)
-
-some-primary : (line : List ℕ) → is_skipped line ≡ false → 1 ≤ length (before_first is_bar (parts line))
-some-primary line f =
-    let s = starts line (drop_white line) refl f in
-    rw s.2 (subst (λ ps. 1 ≤ length ps) (sym (before-cons s.0 s.1 false s.3)) (omega arith))
+-- tokens with bytes, the first of which is no bar, begin with an item
+some-primary : (ts : List (List ℕ)) → Each (λ t. nat_lt 0 (length t) ≡ true) ts → list_all is_bar (take 1 ts) ≡ false
+    → 1 ≤ length (before_first is_bar (flat_map split_bars ts))
+some-primary [] a f = absurd (cc)
+some-primary ([] ∷ ts) a f = absurd (let e : false ≡ true = a.0 in cc)
+some-primary ((b ∷ bs) ∷ ts) a f = by-test (nat_eq b BAR) (λ g. absurd (let e = rw g at f in cc))
+    (λ g. let front = before-cons (b ∷ bs) (flat_map split_bars ts) false g in rw g (rw front (omega arith)))
 
 -- USES AND COLOURS
-record IsGoodUse (c : Context) (u : Written) : Type 0 where
-  item : (1 ≤ u.item) × (u.item ≤ length c.names)
-  plain : u.item ≤ c.primaries → u.colour ≡ []
-  colour : 0 < length u.colour → IsColour u.colour × IsUnbroken u.colour
+-- a colour that stands in a text
+abbrev IsGoodColour : List ℕ → Type 0
+IsGoodColour colour = IsColour colour × IsUnbroken colour
+
+abbrev IsGoodUse : Context → Written → Type 0
+IsGoodUse c u = (1 ≤ u.item) × (u.item ≤ length c.names)
+    × ((u.colour ≡ []) ⊎ ((c.primaries < u.item) × IsGoodColour u.colour))
 
 use-good : (c : Context) (token : List ℕ) (u : Written) → IsUnbroken token → IsUse c token u → IsGoodUse c u
-use-good c token u k (name, i, n, p, q, inl h) = record {
-  item = (omega (arith, q), omega (arith, q, in-range (bytes_eq name) c.names i p));
-  plain = λ l. h.1;
-  colour = λ l. absurd (omega (arith, l, ap length h.1));
-}
-use-good c token u k (name, i, n, p, q, inr h) = record {
-  item = (omega (arith, q), omega (arith, q, in-range (bytes_eq name) c.names i p));
-  plain = λ l. absurd (omega (arith, l, h.2));
-  colour = λ l. (h.3, unbroken-behind name COLON u.colour (subst IsUnbroken h.0 k));
-}
+use-good c token u k (name, i, n, p, q, h) = (
+  omega (arith, q),
+  omega (arith, q, in-range (bytes_eq name) c.names i p),
+  elim h [
+    | inl h ↦ inl h.1
+    | inr h ↦ inr (h.2, (h.3, unbroken-behind name COLON u.colour (subst IsUnbroken h.0 k)))
+  ],
+)
 
-record AreGood (cs : List (List ℕ)) : Type 0 where
-  form : All IsColour cs
-  unbroken : All IsUnbroken cs
-  distinct : AllPairs (λ x y. x ≢ y) cs
+abbrev AreGood : List (List ℕ) → Type 0
+AreGood cs = All IsGoodColour cs × AllPairs (λ x y. x ≢ y) cs
 
-good-more : (cs : List (List ℕ)) (c : List ℕ) → (0 < length c → IsColour c × IsUnbroken c) → AreGood cs
-    → AreGood (with_colour cs c)
-good-more cs [] f g = g
-good-more cs (b ∷ bs) f g = by-place (place cs (b ∷ bs))
-    (λ e. let k = f (omega arith) in rw e (record {
-      form = All-push IsColour cs (b ∷ bs) g.form k.0;
-      unbroken = All-push IsUnbroken cs (b ∷ bs) g.unbroken k.1;
-      distinct = all_pairs_push (λ x y. x ≢ y) cs (b ∷ bs) g.distinct (apart cs (b ∷ bs) e);
-    })) (λ i e. rw e g)
+good-more : (c : Context) (cs : List (List ℕ)) (u : Written) → IsGoodUse c u → AreGood cs
+    → AreGood (with_colour cs u.colour)
+good-more c cs u (low, high, inl e) g = rw e g
+good-more c cs u (low, high, inr k) g = by_colour u.colour k.1
+  where
+    by_colour : (x : List ℕ) → IsGoodColour x → AreGood (with_colour cs x)
+    by_colour [] k = g
+    by_colour (b ∷ bs) k = by-place (place cs (b ∷ bs))
+        (λ e. rw e (
+          All-push IsGoodColour cs (b ∷ bs) g.0 k,
+          all_pairs_push (λ x y. x ≢ y) cs (b ∷ bs) g.1 (apart cs (b ∷ bs) e),
+        ))
+        (λ i e. rw e g)
 
 good-colours : (c : Context) (us : List Written) (cs : List (List ℕ)) → Each (IsGoodUse c) us → AreGood cs
     → AreGood (with_uses cs us)
 good-colours c [] cs a g = g
-good-colours c (u ∷ us) cs a g = good-colours c us (with_colour cs u.colour) a.1 (good-more cs u.colour a.0.colour g)
+good-colours c (u ∷ us) cs a g = good-colours c us (with_colour cs u.colour) a.1 (good-more c cs u a.0 g)
 
 few-colours : (us : List Written) (cs : List (List ℕ)) → length (with_uses cs us) ≤ length cs + length us
 few-colours [] cs = omega arith
@@ -180,18 +164,8 @@ numbers-within (u ∷ us) cs = (
 )
 
 -- OPTIONS
-all-counted : (cs : List (List ℕ)) (uss : List (List Written))
-    → use_count (map (number_uses cs) uss) ≡ length (flat uss)
-all-counted cs [] = refl
-all-counted cs (us ∷ uss) =
-    sum_by-cons (λ us. length us) (number_uses cs us) (map (number_uses cs) uss)
-    ∙ (λ i. length-map {B = Use} us (λ u. record { item = u.item; colour = colour_number cs u.colour }) i
-    + all-counted cs uss i)
-    ∙ sym (length-append us (flat uss))
-
-record IsGoodOption (c : Context) (us : List Written) : Type 0 where
-  uses : Each (IsGoodUse c) us
-  distinct : AllPairs (λ u v. u.item ≢ v.item) us
+abbrev IsGoodOption : Context → List Written → Type 0
+IsGoodOption c us = Each (IsGoodUse c) us × AllPairs (λ u v. u.item ≢ v.item) us
 
 sound-option : (p : Puzzle) (c : Context) (cs : List (List ℕ)) (us : List Written) → length c.names ≡ item_count p
     → c.primaries ≡ length p.bounds → IsGoodOption c us → has_primary c.primaries us ≡ true
@@ -200,14 +174,14 @@ sound-option p c cs us count front g e =
     let f : Written → Use = λ u. record { item = u.item; colour = colour_number cs u.colour } in
     let some = Any-from_list_any (λ u. nat_le u.item c.primaries) (map f us) (primary-numbered c.primaries cs us ∙ e) in
     let sound : (u : Written) → IsGoodUse c u → IsSoundUse p (f u) = λ u h. (
-      (h.item.0, omega (arith, h.item.1, count)),
-      λ l. ap (colour_number cs) (h.plain (omega (arith, l, front))),
+      (h.0, omega (arith, h.1, count)),
+      λ l. elim h.2 [ inl e ↦ ap (colour_number cs) e | inr k ↦ absurd (omega (arith, l, front, k.0)) ],
     ) in
     record {
       sound = All-from_recursion (IsSoundUse p) (map f us)
-          (each-map (IsSoundUse p) f us (each_weaker (IsGoodUse c) _ us sound g.uses));
+          (each-map (IsSoundUse p) f us (each_weaker (IsGoodUse c) _ us sound g.0));
       distinct = AllPairs-from_each_two (λ u v. u.item ≢ v.item) (map f us) (EachTwo-map (λ u v. u.item ≢ v.item) f us
-          (each_two_from_AllPairs (λ u v. u.item ≢ v.item) us g.distinct));
+          (each_two_from_AllPairs (λ u v. u.item ≢ v.item) us g.1));
       one_primary = (some.0, some.1, some.2, some.3, grind (arith, nat_tests, front));
     }
 
@@ -278,10 +252,9 @@ module _ (kind : Kind) (lines : List (List ℕ)) (named : Named) (ignored : List
 
   -- OPTIONS
   lines-good : Each (λ o. IsGoodOption c o.1) h.options.options
-  lines-good = each-zip (λ l o s is. record {
-    uses = each-zip (use-good c) (tokens l.1) o.1 (unbroken-tokens l.1 s.0 s.1) is.1;
-    distinct = is.2;
-  }) h.option_lines h.options.options lines-clean.1 h.options.stand
+  lines-good = each-zip
+      (λ l o s is. (each-zip (use-good c) (tokens l.1) o.1 (unbroken-tokens l.1 s.0 s.1) is.1, is.2))
+      h.option_lines h.options.options lines-clean.1 h.options.stand
 
   options-good : Each (λ us. IsGoodOption c us × (has_primary c.primaries us ≡ true)) h.options.kept
   options-good = subst (Each _) (sym h.options.are_kept) (each-map _ (λ o. o.1) _ (each_both _ _ _ _ (λ o g p. (g, p))
@@ -302,11 +275,8 @@ module _ (kind : Kind) (lines : List (List ℕ)) (named : Named) (ignored : List
 
   colours-good : AreGood named.colours
   colours-good = subst AreGood (sym h.options.colours) (good-colours c written []
-      (each-flat _ h.options.kept (each_weaker _ _ h.options.kept (λ us g. g.0.uses) options-good)) (record {
-        form = All-nil IsColour;
-        unbroken = All-nil IsUnbroken;
-        distinct = λ i j d lt within. absurd (omega (arith, within));
-      }))
+      (each-flat _ h.options.kept (each_weaker _ _ h.options.kept (λ us g. g.0.0) options-good))
+      (All-nil IsGoodColour, λ i j d lt within. absurd (omega (arith, within))))
 
   uses : use_count named.puzzle.options ≡ length written
   uses = ap use_count h.options.numbered ∙ all-counted named.colours h.options.kept
@@ -320,7 +290,8 @@ module _ (kind : Kind) (lines : List (List ℕ)) (named : Named) (ignored : List
       one_primary = omega (
         arith,
         primaries,
-        some-primary h.item_line.1 not-skipped,
+        some-primary (tokens h.item_line.1)
+            (each_passes (λ t. nat_lt 0 (length t)) (slice_split is_space h.item_line.1)) not-skipped,
         AllZip-long (IsEntry kind false) (before_first is_bar ps) h.items.primary h.items.before_bar,
       );
       bounds = all-of (λ b g. g.0) named.puzzle.bounds bounds-good;
@@ -339,8 +310,8 @@ module _ (kind : Kind) (lines : List (List ℕ)) (named : Named) (ignored : List
       names = all-of (λ n g. g.0) named.names names-good;
       unbroken_names = all-of (λ n g. g.1) named.names names-good;
       distinct = h.items.distinct;
-      colours = colours-good.form;
-      unbroken_colours = colours-good.unbroken;
-      distinct_colours = colours-good.distinct;
+      colours = λ k d within. (colours-good.0 k d within).0;
+      unbroken_colours = λ k d within. (colours-good.0 k d within).1;
+      distinct_colours = colours-good.1;
     };
   }
