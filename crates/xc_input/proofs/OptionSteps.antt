@@ -77,6 +77,8 @@ module _ {kind : Kind} {names : List (List ℕ)} {primary : ℕ} {line : List (L
         let turn = in_turn_more met b.us u in
         let here : use_behind colours u ≡ use_behind (with_uses met b.us) u = ap (λ cs. use_behind cs u) b.known in
         let less = unmarked-less marks (u.item - 1) (omega (arith, within.0, within.1)) free in
+        let one = length-append uses (use_behind colours u ∷ []) in
+        let met_more = colours_more colours u.colour in
         record {
           us = b.us ++ u ∷ [];
           decided = step.0;
@@ -93,16 +95,7 @@ module _ {kind : Kind} {names : List (List ℕ)} {primary : ℕ} {line : List (L
               ∙ ap (λ w. old ++ (numbered_in_turn met b.us ++ w ∷ [])) here ∙ ap (λ us. old ++ us) (sym turn);
           known = known ∙ ap (λ cs. with_colour cs u.colour) b.known ∙ sym (with_more met b.us u);
           distinct = distinct;
-          few_colours =
-              omega (
-                arith,
-                b.few_colours,
-                ap length known,
-                colours_more colours u.colour,
-                ap length more,
-                length-append
-                    uses (use_behind colours u ∷ []),
-              );
+          few_colours = omega (arith, b.few_colours, ap length known, ap length more, one);
         }
 
     -- behind the last token

@@ -73,13 +73,11 @@ module _ (kind : Kind) (entries : List Entry) (bar : Option ℕ) (token : List �
         module _ (e : o ≡ None) {keys : List (List ℕ)} (link : keys ≡ names_of entries) {at : Option ℕ}
             (is : at ≡ place keys name) {b : Bool} (g : b ≡ is_some at) (h : b ≡ false) {n : ℕ} (l : n ≡ length entries)
           where
-            count : length (names_of entries) ≡ n
-            count = names_of-length entries ∙ sym l
-
             past : first (item_checks kind (names_of entries) (is_some bar) token)
                 ≡ first ((TooManyItems, not (nat_lt n most_items)) ∷ [])
             past = behind ∙ past-name (names_of entries) name (sym f ∙ e)
-                ∙ rw (sym (ap (λ ns. place ns name) link) ∙ sym is ∙ none-is at (sym g ∙ h), count)
+                ∙ (let none = sym (ap (λ ns. place ns name) link) ∙ sym is ∙ none-is at (sym g ∙ h) in
+                rw (none, names_of-length entries ∙ sym l))
 
             pub too-many : 100000 ≤ n
                 → first (item_checks kind (names_of entries) (is_some bar) token) ≡ Some TooManyItems
@@ -102,12 +100,9 @@ pub new-key : (keys : List (Vec ℕ Global)) (k : Vec ℕ Global) (all : List (V
     → all ≡ (if list_any (λ v. bytes_eq k.items v.items) keys then keys else keys ++ k ∷ [])
     → key_names all ≡ key_names keys ++ name ∷ []
 new-key keys k all name e f g =
-    let out : list_any (λ v. bytes_eq name v.items) keys ≡ false =
-    no-place (λ v. bytes_eq name v.items) keys (sym (position-map (bytes_eq name) (λ v. v.items) keys) ∙ e) in
-    let out' : list_any (λ v. bytes_eq k.items v.items) keys ≡ false =
-    ap (λ n. list_any (λ (v : Vec ℕ Global). bytes_eq n v.items) keys) f ∙ out in
-    let h : all ≡ keys ++ k ∷ [] = g ∙ ap (λ b. if b then keys else keys ++ k ∷ []) out' in
-    ap key_names h ∙ map-snoc (λ (v : Vec ℕ Global). v.items) keys k ∙ ap (λ n. key_names keys ++ n ∷ []) f
+    let out : list_any (λ v. bytes_eq k.items v.items) keys ≡ false = rw f (no-place (λ v. bytes_eq name v.items) keys
+    (sym (position-map (bytes_eq name) (λ v. v.items) keys) ∙ e)) in
+    grind (arith, nat_tests, map-snoc (λ (v : Vec ℕ Global). v.items) keys k)
 
 -- the answer to the last step
 pub judged-on : (T : Type 0) (a : Option FaultKind) (r : Result T LineError) → a ≡ None → Judged None r → Judged a r
@@ -147,9 +142,8 @@ pub new-place-is : (keys : List (Vec ℕ Global)) (k : Vec ℕ Global) (name : L
     → position (bytes_eq name) (key_names keys) ≡ None → k.items ≡ name
     → position_or_len (λ v. bytes_eq k.items v.items) keys ≡ length keys
 new-place-is keys k name e f =
-    last-place (λ v. bytes_eq k.items v.items) keys
-    (ap (λ n. list_any (λ (v : Vec ℕ Global). bytes_eq n v.items) keys) f
-    ∙ no-place (λ v. bytes_eq name v.items) keys (sym (position-map (bytes_eq name) (λ v. v.items) keys) ∙ e))
+    let out = no-place (λ v. bytes_eq name v.items) keys (sym (position-map (bytes_eq name) (λ v. v.items) keys) ∙ e) in
+    grind (arith, nat_tests, last-place (λ (v : Vec ℕ Global). bytes_eq name v.items) keys)
 
 pub items-length : {A : Type 0} (v : Vec A Global) → vec_len v ≡ length v.items
 items-length v = grind (arith, common_steps)

@@ -66,8 +66,7 @@ pub first_fault-is : (kind : Kind) (lines : List (List ℕ)) → first_fault kin
 first_fault-is kind lines = grind (arith, nat_tests, started-is)
 
 none-of : (n : ℕ) (o : Option (ℕ × FaultKind)) (b : Bool) → option_or o (end_fault n b) ≡ None → (o ≡ None) × (b ≡ true)
-none-of n None true e = (refl, refl)
-none-of n None false e = absurd (cc)
+none-of n None b e = grind (arith, nat_tests)
 none-of n (Some q) b e = absurd (cc)
 
 -- a text with no fault stands for what its lines give, and its items are those of an item line

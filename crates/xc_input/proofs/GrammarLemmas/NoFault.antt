@@ -1,11 +1,11 @@
 -- Checks that don't hold, and what they say of a token: for `add_item`, `use_of` and `finish`.
-use Rattle.std.proofs.Common.{◌≡◌, ℕ, ◌<◌, ◌≤◌, List, [], ◌∷◌, ◌++◌, Option, None, Some, Bool, true, false, ◌||◌, ◌&&◌}
-use Rattle.std.proofs.Common.{not, nat_lt, nat_le, nat_eq, is_none, length, refl, ◌∙◌, arith}
+use Rattle.std.proofs.Common.{◌≡◌, ℕ, ◌<◌, ◌≤◌, List, [], ◌∷◌, ◌++◌, Option, None, Some, Bool, true, false, ◌||◌}
+use Rattle.std.proofs.Common.{not, nat_lt, nat_le, is_none, length, refl, ◌∙◌, arith}
 use Rattle.std.proofs.Common.{inl, inr, ◌⊎◌}
 use Rattle.xc_input.specs.inner.BoundTexts.{low_text, high_text}
 use Rattle.std.specs.Char.{is_ascii_digit}
 use Rattle.std.proofs.lemmas.Bool.Decides.{nat_tests}
-use Rattle.std.proofs.lemmas.Bool.{or_parts, or_from, and_parts, not-false}
+use Rattle.std.proofs.lemmas.Bool.{or_parts, and_parts, not-false}
 use Rattle.std.proofs.Math.Bool.{and-false}
 use Rattle.xc_input.specs.declared.kind.Kind.{Kind}
 use Rattle.xc_input.specs.declared.fault.FaultKind.TheVariants.{EmptyName, NameTooLong, BadByteInName, RepeatedName}
@@ -55,42 +55,29 @@ cut-at b [] q e = grind (arith, nat_tests)
 cut-at b (x ∷ p) q e = grind (arith, cut-at b p q)
 
 -- NUMBERS
-digit-no-colon : (x : ℕ) → is_ascii_digit x ≡ true → nat_eq x COLON ≡ false
-digit-no-colon x e =
-    let a = and_parts (nat_le 48 x) (nat_le x 57) e in let b : nat_le x 57 ≡ true = a.1 in grind (arith, nat_tests)
-
 digits-no-colon : (xs : List ℕ) → list_all is_ascii_digit xs ≡ true → has COLON xs ≡ false
 digits-no-colon [] e = refl
 digits-no-colon (x ∷ xs) e =
     let a = and_parts (is_ascii_digit x) (list_all is_ascii_digit xs) e in
-    or_from (nat_eq x COLON) (has COLON xs) (digit-no-colon x a.0) (digits-no-colon xs a.1)
+    grind (arith, nat_tests, digits-no-colon xs a.1, and_parts (nat_le 48 x) (nat_le x 57) a.0)
 
 pub number-no-colon : (text : List ℕ) → are_digits 9 text ≡ true → has COLON text ≡ false
-number-no-colon text e =
-    digits-no-colon text (and_parts (nat_le 1 (length text) && nat_le (length text) 9)
-    (list_all is_ascii_digit text) e).1
+number-no-colon text e = grind (arith, nat_tests, digits-no-colon text)
 
 -- BOUNDS
-texts : (prefix : List ℕ) → are_digits 9 (low_text prefix) ≡ true → are_digits 9 (high_text prefix) ≡ true
-    → AreBounds prefix (number (low_text prefix)) (number (high_text prefix))
-texts prefix e f = grind (arith, nat_tests, cut-is COLON prefix, no-cut COLON prefix)
-
-bounds-are : (prefix : List ℕ) (low high : ℕ) → AreBounds prefix low high
-    → (are_digits 9 (low_text prefix) ≡ true) × (are_digits 9 (high_text prefix) ≡ true)
-    × (number (low_text prefix) ≡ low) × (number (high_text prefix) ≡ high)
-bounds-are prefix low high (inl h) = grind (arith, nat_tests, number-no-colon prefix h.0, no-cut COLON prefix)
-bounds-are prefix low high (inr h) =
-    grind (arith, nat_tests, cut-at COLON h.0 h.1 (number-no-colon h.0 h.3), number-no-colon h.0 h.3)
-
 pub bounds-good : (prefix : List ℕ) (sec : Bool) → first (prefix_checks prefix sec) ≡ None
     → AreBounds prefix (number (low_text prefix)) (number (high_text prefix)) × (1 ≤ number (high_text prefix))
     × (number (low_text prefix) ≤ number (high_text prefix)) × (sec ≡ false)
-bounds-good prefix sec e = grind (arith, nat_tests, fails (prefix_checks prefix sec) e, texts prefix)
+bounds-good prefix sec e =
+    grind (arith, nat_tests, fails (prefix_checks prefix sec) e, cut-is COLON prefix, no-cut COLON prefix)
 
 pub good-bounds : (prefix : List ℕ) (low high : ℕ) → AreBounds prefix low high → 1 ≤ high → low ≤ high
     → (first (prefix_checks prefix false) ≡ None) × (number (low_text prefix) ≡ low)
     × (number (high_text prefix) ≡ high)
-good-bounds prefix low high h p q = grind (arith, nat_tests, bounds-are prefix low high h)
+good-bounds prefix low high (inl h) p q =
+    grind (arith, nat_tests, number-no-colon prefix h.0, no-cut COLON prefix)
+good-bounds prefix low high (inr h) p q =
+    grind (arith, nat_tests, cut-at COLON h.0 h.1 (number-no-colon h.0 h.3), number-no-colon h.0 h.3)
 
 -- ITEMS
 none-of : (o : Option ℕ) → not (is_none o) ≡ false → o ≡ None

@@ -274,13 +274,9 @@ pub all-counted : (cs : List (List ℕ)) (uss : List (List Written))
 all-counted cs [] = refl
 all-counted cs (us ∷ uss) =
     let n = length-map {B = Use} us (λ u. record { item = u.item; colour = colour_number cs u.colour }) in
-    omega (
-      arith,
-      all-counted cs uss,
-      n,
-      length-append us (flat uss),
-      sum_by-cons (λ (os : List Use). length os) (number_uses cs us) (map (number_uses cs) uss),
-    )
+    let both = length-append us (flat uss) in
+    let split = sum_by-cons (λ (os : List Use). length os) (number_uses cs us) (map (number_uses cs) uss) in
+    omega (arith, all-counted cs uss)
 
 pub content-checked : (kind : Kind) (ls : List (ℕ × List ℕ)) (line : List ℕ) → AreClear kind (plain ls)
     → stage_content kind (stage_by kind ls) line ≡ content_checks kind (plain ls) line

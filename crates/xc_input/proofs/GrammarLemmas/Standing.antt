@@ -136,14 +136,10 @@ module _ (kind : Kind) (item : ℕ × List ℕ) (rest : List (ℕ × List ℕ)) 
       let kept = ap (λ c. kept_in c rest) (sym s.2) in
       let count : from.primaries ≡ length primary = s.1 ∙ sym few in
       let bounds = (λ i. bounds_in (take (count i) (s.0 i))) ∙ ap bounds_in (take-append_seam primary _) in
+      let back = length-map (after_first is_bar ps) (entry kind true) in
+      let all = length-append primary (map (entry kind true) (after_first is_bar ps)) in
       let behind : length from.entries - from.primaries ≡ length (after_first is_bar ps) =
-      omega (
-        arith,
-        count,
-        ap length s.0,
-        length-append primary (map (entry kind true) (after_first is_bar ps)),
-        length-map (after_first is_bar ps) (entry kind true),
-      ) in
+      omega (arith, ap length s.0) in
       λ i. (
         record {
           names = (sym s.2 i).names;

@@ -27,10 +27,7 @@ stage-snoc : (kind : Kind) (n : ℕ) (stage : Stage) (lines : List (List ℕ)) (
     (stage_from kind n stage lines) line
 stage-snoc kind n stage [] line = refl
 stage-snoc kind n stage (l ∷ lines) line =
-    let next : Stage = with_line kind (line_number (n + 1)) stage l in
-    let num : (n + 1) + length (lines ++ line ∷ []) ≡ n + length ((l ∷ lines) ++ line ∷ []) = omega arith in
-    stage-snoc kind (n + 1) next lines line
-    ∙ ap (λ m. with_line kind (line_number m) (stage_from kind (n + 1) next lines) line) num
+    grind (arith, stage-snoc kind (n + 1) (with_line kind (line_number (n + 1)) stage l) lines line)
 
 -- an error of some lines is that of all
 pub IsErrorOf-more : (kind : Kind) (ls ms : List (List ℕ)) (e : InputError) → IsErrorOf kind ls e

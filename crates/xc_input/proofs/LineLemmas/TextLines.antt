@@ -1,8 +1,8 @@
 -- What a text's lines are, once some of them were handed on.
-use Rattle.std.proofs.Common.{◌≡◌, ◌≢◌, ℕ, ◌<◌, List, [], ◌∷◌, ◌++◌, true, false, nat_eq, if◌then◌else◌, Result, Ok}
+use Rattle.xc_input.proofs.lists.EachElement.{each-append}
+use Rattle.std.proofs.Common.{◌≡◌, ◌≢◌, ℕ, ◌<◌, List, [], ◌∷◌, ◌++◌, true, false, nat_eq, Result, Ok}
 use Rattle.std.proofs.Common.{Err, length, refl, sym, ap, ◌∙◌, subst, append_assoc, append-nil, arith}
 use Rattle.std.proofs.lemmas.Bool.Decides.{nat_tests}
-use Rattle.std.specs.List.{onto_first}
 use Rattle.std.proofs.lemmas.List.Folds.{list_any-append}
 use Rattle.std.specs.Result.{result_err}
 use Rattle.xc_input.specs.declared.kind.Kind.{Kind}
@@ -19,35 +19,25 @@ use Rattle.xc_input.proofs.LineLemmas.Reading.{IsErrorOf-more}
 pub lacks-append : (b : ℕ) (xs ys : List ℕ) → has b xs ≡ false → has b ys ≡ false → has b (xs ++ ys) ≡ false
 lacks-append b xs ys p q = list_any-append (λ x. nat_eq x b) xs ys ∙ or_from (has b xs) (has b ys) p q
 
-AreWhole-append : (ls ms : List (List ℕ)) → AreWhole ls → AreWhole ms → AreWhole (ls ++ ms)
-AreWhole-append [] ms p q = q
-AreWhole-append (l ∷ ls) ms p q = (p.0, AreWhole-append ls ms p.1 q)
-
 pub whole-more : (old new : List (List ℕ)) (line : List ℕ) → new ≡ old ++ line ∷ [] → AreWhole old → has 10 line ≡ false
     → AreWhole new
-whole-more old new line e w l = subst AreWhole (sym e) (AreWhole-append old (line ∷ []) w (l, tt))
+whole-more old new line e w l = subst AreWhole (sym e) (each-append (λ l. has 10 l ≡ false) old (line ∷ []) w (l, tt))
 
 ended-append : (ls ms : List (List ℕ)) → ended (ls ++ ms) ≡ ended ls ++ ended ms
 ended-append [] ms = refl
 ended-append (l ∷ ls) ms =
     ap (λ xs. l ++ 10 ∷ xs) (ended-append ls ms) ∙ sym (append_assoc l (10 ∷ ended ls) (ended ms))
 
-other : (x : ℕ) (a b : List (List ℕ)) → nat_eq x 10 ≡ false → (if nat_eq x 10 then a else b) ≡ b
-other x a b h = ap (λ t. if t then a else b) h
-
 -- a piece is cut at its first line feed
 pub line-cut : (piece end others : List ℕ) → end ≡ before 10 piece → (has 10 piece ≡ true) × (others ≡ after 10 piece)
     → (piece ≡ end ++ 10 ∷ others) × (has 10 end ≡ false)
 line-cut piece end others e h = grind (arith, nat_tests, cut-is 10 piece h.0)
 
-no_feed : (x : ℕ) → nat_eq x 10 ≡ false → x ≢ 10
-no_feed x h = grind (arith, nat_tests)
-
 -- a line and its line feed at the front
 lines_of-line : (l rest : List ℕ) → has 10 l ≡ false → lines_of (l ++ 10 ∷ rest) ≡ l ∷ lines_of rest
 lines_of-line [] rest h = refl
-lines_of-line (x ∷ l) rest h = let apart = or_parts (nat_eq x 10) (has 10 l) h in other x _ _ apart.0
-    ∙ ap (onto_first x) (lines_of-line l rest apart.1)
+lines_of-line (x ∷ l) rest h =
+    grind (arith, nat_tests, lines_of-line l rest, or_parts (nat_eq x 10) (has 10 l) h)
 
 pub lines_of-ended : (ls : List (List ℕ)) (rest : List ℕ) → AreWhole ls
     → lines_of (ended ls ++ rest) ≡ ls ++ lines_of rest
@@ -64,7 +54,7 @@ lines_of-all ls h = ap lines_of (sym (append-nil (ended ls))) ∙ lines_of-ended
 pub last-of-part : (part : List ℕ) → has 10 part ≡ false → 0 < length part → (front : List ℕ) × (last : ℕ)
     × (part ≡ front ++ last ∷ []) × (last ≢ 10)
 last-of-part [] h p = absurd (omega arith)
-last-of-part (x ∷ []) h p = ([], x, refl, no_feed x (or_parts (nat_eq x 10) false h).0)
+last-of-part (x ∷ []) h p = ([], x, refl, grind (arith, nat_tests))
 last-of-part (x ∷ y ∷ l) h p =
     let more = last-of-part (y ∷ l) (or_parts (nat_eq x 10) (has 10 (y ∷ l)) h).1 (omega arith) in
     (x ∷ more.0, more.1, ap (λ r. x ∷ r) more.2, more.3)
@@ -72,9 +62,9 @@ last-of-part (x ∷ y ∷ l) h p =
 -- a last line without its line feed
 pub lines_of-part : (l : List ℕ) → has 10 l ≡ false → 0 < length l → lines_of l ≡ l ∷ []
 lines_of-part [] h p = absurd (omega arith)
-lines_of-part (x ∷ []) h p = other x _ _ (or_parts (nat_eq x 10) false h).0
-lines_of-part (x ∷ y ∷ l) h p = let apart = or_parts (nat_eq x 10) (has 10 (y ∷ l)) h in other x _ _ apart.0
-    ∙ ap (onto_first x) (lines_of-part (y ∷ l) apart.1 (omega arith))
+lines_of-part (x ∷ []) h p = grind (arith, nat_tests, or_parts (nat_eq x 10) false h)
+lines_of-part (x ∷ y ∷ l) h p =
+    grind (arith, nat_tests, lines_of-part (y ∷ l), or_parts (nat_eq x 10) (has 10 (y ∷ l)) h)
 
 -- and of the bytes of some lines
 Spoils-ended : (kind : Kind) (ls : List (List ℕ)) (e : InputError) (bytes : List ℕ) → AreWhole ls → bytes ≡ ended ls

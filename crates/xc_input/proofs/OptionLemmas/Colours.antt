@@ -1,8 +1,8 @@
 -- A colour keeps the number that it has where it is met first.
 use Rattle.std.proofs.Common.{◌≡◌, ℕ, suc, ◌+◌, ◌<◌, ◌≤◌, List, [], ◌∷◌, ◌++◌, Option, None, Some, Bool, true, false}
 use Rattle.std.proofs.Common.{◌||◌, nat_le}
-use Rattle.std.proofs.Common.{not, unwrap_or, length, map, take, append-nil, append_assoc, refl}
-use Rattle.std.proofs.Common.{sym, ap, ◌∙◌, length-append, arith, if◌then◌else◌}
+use Rattle.std.proofs.Common.{unwrap_or, length, map, take, append-nil, append_assoc, refl}
+use Rattle.std.proofs.Common.{sym, ap, ◌∙◌, length-append, arith}
 use Rattle.xc_input.specs.declared.problem.Use.{Use}
 use Rattle.std.proofs.lemmas.Bool.Decides.{nat_tests}
 use Rattle.std.proofs.lemmas.Slice.Eq.{bytes_eq-Decides}
@@ -20,7 +20,7 @@ use Rattle.xc_input.proofs.FaultLemmas.Checks.{no-place}
 
 last-or-len : {A : Type 0} (p : A → Bool) (xs : List A) (x : A) → list_any p xs ≡ false → p x ≡ true
     → position_or_len p (xs ++ x ∷ []) ≡ length xs
-last-or-len p [] x e f = ap (λ t. if not t then 1 + 0 else 0) f
+last-or-len p [] x e f = grind (arith, nat_tests)
 last-or-len p (y ∷ ys) x e f = grind (arith, nat_tests, last-or-len p ys x)
 
 pub last-position : {A : Type 0} (p : A → Bool) (xs : List A) (x : A) → position p xs ≡ None → p x ≡ true

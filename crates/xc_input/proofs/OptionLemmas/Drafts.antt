@@ -84,13 +84,8 @@ module _ (kind : Kind) {d : ProblemBuilder} (line : List ℕ) (s : IsBuilder d) 
 
       module _ {n : ℕ} (l : n ≡ length new) where
         count : use_count (pieces d.starts.items d.uses.items) + length (tokens line) ≡ n
-        count = omega (
-          arith,
-          all-uses d.starts.items d.uses.items (s.starts t),
-          length-map (tokens line) (written (key_names d.names.keys)),
-          long,
-          l,
-        )
+        count = let all = all-uses d.starts.items d.uses.items (s.starts t) in
+            let some = length-map (tokens line) (written (key_names d.names.keys)) in omega (arith, long)
 
         pub too-long : b ≡ true → most_uses < n
             → first (content_checks kind (stage_of_builder d) line) ≡ Some TooManyUses

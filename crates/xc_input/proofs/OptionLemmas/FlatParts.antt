@@ -1,6 +1,7 @@
 -- Options kept flat.
+use Rattle.std.proofs.lemmas.Grind.{common_steps}
 use Rattle.std.proofs.lemmas.Bool.Decides.{nat_tests}
-use Rattle.std.proofs.Common.{ℕ, zero, suc, ◌≡◌, ◌+◌, ◌-◌, ◌<◌, ◌≤◌, List, [], ◌∷◌, ◌++◌, length, map, take, drop}
+use Rattle.std.proofs.Common.{ℕ, zero, suc, ◌≡◌, ◌+◌, ◌-◌, ◌<◌, ◌≤◌, List, [], ◌∷◌, ◌++◌, length, map, drop}
 use Rattle.std.proofs.Common.{get_or, sum_by, All, Some, refl, sym, ap, ap₂, ◌∙◌, arith, length-append}
 use Rattle.std.proofs.Common.{length-drop}
 use Rattle.std.proofs.lemmas.Option.{slice_get-map as slice_get-mapped, slice_get-get_or}
@@ -21,8 +22,7 @@ pub numbered-map : {X Y : Type 0} (f : X → Y) (xs : List X) (i : ℕ) (d : X) 
 numbered-map f xs zero d l h = absurd (omega (arith, l))
 numbered-map f xs (suc k) d l h =
     let place : suc k - 1 ≡ k = omega arith in
-    slice_get-mapped f xs k ∙ ap (option_map f) (slice_get-get_or xs k d (omega (arith, h)))
-    ∙ ap (λ j. Some (f (get_or xs j d))) (sym place)
+    grind (arith, slice_get-mapped f xs k, slice_get-get_or xs k d (omega (arith, h)))
 
 pub length-pieces : {X : Type 0} (starts : List ℕ) (us : List X) → AreStarts starts (length us)
     → length (pieces starts us) + 1 ≡ length starts
@@ -72,16 +72,11 @@ option_part starts us (suc k) a b h l m e f =
 
 pub slice-front : {X : Type 0} (us vs : List X) (a b : ℕ) → a ≤ b → b ≤ length us
     → slice_range (us ++ vs) a b ≡ slice_range us a b
-slice-front us vs a b h l =
-    let whole : length (drop a us) ≡ length us - a = length-drop a us in
-    let room : b - a ≤ length (drop a us) = omega arith in
-    ap (take (b - a)) (drop-append-le a us vs (omega arith)) ∙ take-append-le (b - a) (drop a us) vs room
+slice-front us vs a b h l = grind (arith, common_steps, drop-append-le, take-append-le, length-drop)
 
 slice-back : {X : Type 0} (us vs : List X) (a n : ℕ) → a ≡ length us → n ≡ length us + length vs
     → slice_range (us ++ vs) a n ≡ vs
-slice-back us vs a n e f =
-    let count : n - a ≡ length vs = omega arith in
-    (λ i. take (count i) (drop (e i) (us ++ vs))) ∙ ap (take (length vs)) (drop-append_seam us vs) ∙ take-length vs
+slice-back us vs a n e f = grind (arith, common_steps, drop-append_seam, take-length)
 
 -- one part more
 pub pieces-snoc : {X : Type 0} (a : ℕ) (starts : List ℕ) (us vs : List X) (n : ℕ) → AreStarts (a ∷ starts) (length us)
@@ -101,13 +96,10 @@ pieces-total : {X : Type 0} (a : ℕ) (starts : List ℕ) (us : List X) → AreS
     → sum_by (λ p. length p) (pieces (a ∷ starts) us) + a ≡ length us
 pieces-total a [] us h = omega (arith, h)
 pieces-total a (b ∷ starts) us h =
-    let later : sum_by (λ p. length p) (pieces (b ∷ starts) us) + b ≡ length us = pieces-total b starts us h.1 in
+    let later = pieces-total b starts us h.1 in
     let split = sum_by-cons (λ (p : List _). length p) (slice_range us a b) (pieces (b ∷ starts) us) in
-    let rest : length (drop a us) ≡ length us - a = length-drop a us in
-    let low : b ≤ length us = starts-low b starts (length us) h.1 in
-    let part : length (slice_range us a b) ≡ b - a = length-take-le (b - a) (drop a us) (omega (arith, rest, low)) in
-    let rise : a ≤ b = h.0 in
-    omega (arith, later, split, part, rise)
+    let low = starts-low b starts (length us) h.1 in
+    let part = length-take-le (b - a) (drop a us) in grind (arith, common_steps, length-drop a us, h.0)
 
 -- the options have all uses
 pub all-uses : (starts : List ℕ) (us : List Use) → AreOptionStarts starts us → use_count (pieces starts us) ≡ length us

@@ -1,6 +1,6 @@
 -- The first bar among the parts of an item line.
 use Rattle.std.proofs.Common.{◌≡◌, ℕ, suc, ◌+◌, List, [], ◌∷◌, None, Bool, true}
-use Rattle.std.proofs.Common.{false, cond, not, nat_eq, take, drop, refl}
+use Rattle.std.proofs.Common.{false, cond, not, nat_eq, take, refl}
 use Rattle.std.proofs.Common.{ap, ◌∙◌, arith, if◌then◌else◌}
 use Rattle.std.proofs.Common.{inl, inr}
 use Rattle.std.proofs.lemmas.Bool.Decides.{nat_tests}
@@ -16,14 +16,14 @@ use Rattle.xc_input.proofs.TokenLemmas.Separators.{BAR}
 
 pub before-cons : (p : List ℕ) (ps : List (List ℕ)) (t : Bool) → is_bar p ≡ t
     → before_first is_bar (p ∷ ps) ≡ (if t then [] else p ∷ before_first is_bar ps)
-before-cons p ps true f = ap (λ b. take (cond (not b) (1 + position_or_len is_bar ps) 0) (p ∷ ps)) f
+before-cons p ps true f = grind (arith, nat_tests)
 before-cons p ps false f =
     let next : 1 + position_or_len is_bar ps ≡ suc (position_or_len is_bar ps) = omega arith in
     ap (λ b. take (cond (not b) (1 + position_or_len is_bar ps) 0) (p ∷ ps)) f ∙ ap (λ n. take n (p ∷ ps)) next
 
 pub after-cons : (p : List ℕ) (ps : List (List ℕ)) (t : Bool) → is_bar p ≡ t
     → after_first is_bar (p ∷ ps) ≡ (if t then ps else after_first is_bar ps)
-after-cons p ps true f = ap (λ b. drop (cond (not b) (1 + position_or_len is_bar ps) 0 + 1) (p ∷ ps)) f
+after-cons p ps true f = grind (arith, nat_tests)
 after-cons p ps false f = grind (arith, nat_tests)
 
 named : (p name : List ℕ) → p ≡ name → has BAR name ≡ false → is_bar p ≡ false

@@ -130,11 +130,6 @@ pub token-step : (kind : Kind) (names : List (List ℕ)) (primary : ℕ) (us : L
     → (a ≡ first (option_checks (context kind names primary) (items_of (us ++ u ∷ [])) others))
     × (all ≡ (us ++ u ∷ []) ++ map (written names) others)
 token-step kind names primary us token line others a all u e f l g =
-    grind (
-      arith,
-      nat_tests,
-      map-snoc,
-      first-back (token_checks (context kind names primary) (items_of us) token) (option_checks (context kind names
-          primary) (items_of us ++ item_number names (before COLON token) ∷ []) others) g.0,
-      append_assoc us (written names token ∷ []) (map (written names) others),
-    )
+    let stop = first-back (token_checks (context kind names primary) (items_of us) token) (option_checks (context kind
+    names primary) (items_of us ++ item_number names (before COLON token) ∷ []) others) g.0 in
+    grind (arith, nat_tests, map-snoc, stop, append_assoc us (written names token ∷ []) (map (written names) others))

@@ -1,4 +1,5 @@
 -- Where a byte stands in a list.
+use Rattle.xc_input.proofs.FaultLemmas.BooleanTests.{by-test}
 use Rattle.std.proofs.lemmas.List.{length-append}
 use Rattle.std.proofs.Common.{filter, zero, ◌^◌, ◌≡◌, ℕ, suc, ◌+◌, ◌<◌, ◌≤◌, List, [], ◌∷◌, ◌++◌, None, Some}
 use Rattle.std.proofs.Common.{Bool, length, get_or, take, drop, refl, sym, ap, ◌∙◌, arith, map}
@@ -20,9 +21,7 @@ pub use Rattle.std.proofs.lemmas.Bool.{false_from_ne_true as not_false}
 pub has-all : (b : ℕ) (xs : List ℕ) → ((k : ℕ) → k < length xs → nat_eq (get_or xs k 0) b ≡ false) → (has b xs ≡ false)
     × (before b xs ≡ xs)
 has-all b [] h = (refl, refl)
-has-all b (x ∷ xs) h =
-    let rest = has-all b xs (λ k p. h (suc k) (omega arith)) in
-    rw (h 0 (omega arith)) (rest.0, ap (λ ys. x ∷ ys) rest.1)
+has-all b (x ∷ xs) h = grind (arith, nat_tests, has-all b xs (λ k p. h (suc k) (omega arith)), h 0 (omega arith))
 
 -- a byte that is found first at i
 pub has-at : (b : ℕ) (xs : List ℕ) (i : ℕ) → i < length xs → ((k : ℕ) → k < i → nat_eq (get_or xs k 0) b ≡ false)
@@ -31,8 +30,7 @@ pub has-at : (b : ℕ) (xs : List ℕ) (i : ℕ) → i < length xs → ((k : ℕ
 has-at b [] i p h e = absurd (omega arith)
 has-at b (x ∷ xs) zero p h e = rw e (refl, refl, refl)
 has-at b (x ∷ xs) (suc i) p h e =
-    let rest = has-at b xs i (omega arith) (λ k q. h (suc k) (omega arith)) e in
-    rw (h 0 (omega arith)) (rest.0, ap (λ ys. x ∷ ys) rest.1, rest.2)
+    grind (arith, nat_tests, has-at b xs i (omega arith) (λ k q. h (suc k) (omega arith)) e, h 0 (omega arith))
 
 place-map : {A B : Type 0} (p : B → Bool) (f : A → B) (xs : List A)
     → position_or_len p (map f xs) ≡ position_or_len (λ x. p (f x)) xs
@@ -87,7 +85,7 @@ drop_white-first (x ∷ xs) b bs e = grind (arith, drop_white-first xs b bs)
 
 -- a byte that is no white space begins the first token
 pub tokens-first : (b : ℕ) (bs : List ℕ) → is_space b ≡ false → tokens (b ∷ bs) ≡ (b ∷ word bs) ∷ tokens (behind bs)
-tokens-first b [] e = tokens-cons b [] ∙ ap (λ t. if t then [] else onto b [] []) e
+tokens-first b [] e = grind (arith, tokens-cons b [])
 tokens-first b (c ∷ cs) e = grind (arith, tokens-cons b (c ∷ cs), tokens-first c cs)
 
 -- whether what stands behind leading white space begins no item or option: it is empty, or a comment
@@ -117,20 +115,15 @@ drop-word (b ∷ bs) = grind (arith, common_steps, drop-word bs)
 -- leading white space stands before what is left behind it
 drop_white-front : (xs : List ℕ) → (front : List ℕ) × (xs ≡ front ++ drop_white xs)
 drop_white-front [] = ([], refl)
-drop_white-front (b ∷ bs) =
-    let P : Bool → Type 0 = λ t. (front : List ℕ) × (b ∷ bs ≡ front ++ (if t then drop_white bs else b ∷ bs)) in
-    let r = drop_white-front bs in
-    (elim (is_space b) as P [ true ↦ (b ∷ r.0, ap (λ ys. b ∷ ys) r.1) | false ↦ ([], refl) ])
+drop_white-front (b ∷ bs) = let r = drop_white-front bs in
+    by-test (is_space b) (λ f. rw f (b ∷ r.0, ap (λ ys. b ∷ ys) r.1)) (λ f. rw f ([], refl))
 
 -- where a line is cut behind its leading white space, the front stands before the back
 cut-stands : (line rest front back : List ℕ) (n : ℕ) → rest ≡ drop_white line → front ≡ take n rest
     → back ≡ drop n rest → StandsBefore line front back
 cut-stands line rest front back n e f g =
-    let w = drop_white-front line in (
-      w.0,
-      w.1 ∙ ap (λ xs. w.0 ++ xs) (sym e ∙ sym (take-append-drop n rest) ∙ (λ i. sym f i ++ sym g i))
-          ∙ sym (append_assoc w.0 front back),
-    )
+    let w = drop_white-front line in
+    let all = take-append-drop n rest in (w.0, grind (arith, append_assoc w.0 front back))
 
 -- what is left of such a line is shorter
 stands-shorter : (line front back : List ℕ) → 0 < length front → StandsBefore line front back
@@ -149,14 +142,11 @@ pub cuts_first : (line rest front back : List ℕ) (n : ℕ) → rest ≡ drop_w
 cuts_first line [] front back n e h w f g = absurd (omega arith)
 cuts_first line (b ∷ bs) front back n e h w f g =
     let dark : is_space b ≡ false = drop_white-first line b bs (sym e) in
-    let front_is : front ≡ b ∷ word bs = f ∙ ap (λ k. take k (b ∷ bs)) w ∙ take-word (b ∷ bs) ∙ rw dark in
-    let back_is : back ≡ behind bs = g ∙ ap (λ k. drop k (b ∷ bs)) w ∙ drop-word (b ∷ bs) ∙ rw dark in
-    let stands = cut-stands line (b ∷ bs) front back n e f g in (
-      sym (tokens-drop_white line) ∙ ap tokens (sym e) ∙ tokens-first b bs dark
-          ∙ (λ i. sym front_is i ∷ tokens (sym back_is i)),
-      stands-shorter line front back (omega (arith, ap length front_is)) stands,
-      stands,
-    )
+    let stands = cut-stands line (b ∷ bs) front back n e f g in
+    let front_is : front ≡ b ∷ word bs = grind (arith, take-word (b ∷ bs)) in
+    let back_is : back ≡ behind bs = grind (arith, drop-word (b ∷ bs)) in
+    let short = stands-shorter line front back (omega (arith, ap length front_is)) stands in
+    (grind (arith, tokens-drop_white line, tokens-first b bs), short, stands)
 
 -- behind a bar, the rest of its token and what follows are the parts of the bytes behind it
 word-parts : (bs : List ℕ) → split_bars (word bs) ++ flat_map split_bars (tokens (behind bs)) ≡ parts bs
@@ -169,16 +159,11 @@ pub cuts_bar : (line rest front back : List ℕ) → rest ≡ drop_white line �
     → (parts line ≡ front ∷ parts back) × (length back < length line) × StandsBefore line front back
 cuts_bar line [] front back e h b f g = absurd (omega arith)
 cuts_bar line (b ∷ bs) front back e h is f g =
-    let first = sym (tokens-drop_white line) ∙ ap tokens (sym e)
-    ∙ tokens-first b bs (drop_white-first line b bs (sym e)) in
+    let dark : is_space b ≡ false = drop_white-first line b bs (sym e) in
     let front_is : front ≡ BAR ∷ [] = f ∙ ap (λ x. x ∷ []) is in
-    let stands = cut-stands line (b ∷ bs) front back 1 e f g in (
-      ap (flat_map split_bars) first
-          ∙ ap (λ x. split_bars (x ∷ word bs) ++ flat_map split_bars (tokens (behind bs))) is
-          ∙ ap (λ ps. (BAR ∷ []) ∷ ps) (word-parts bs) ∙ (λ i. sym front_is i ∷ parts (sym g i)),
-      stands-shorter line front back (omega (arith, ap length front_is)) stands,
-      stands,
-    )
+    let stands = cut-stands line (b ∷ bs) front back 1 e f g in
+    let short = stands-shorter line front back (omega (arith, ap length front_is)) stands in
+    (grind (arith, nat_tests, tokens-drop_white line, tokens-first b bs, word-parts bs), short, stands)
 
 -- cutting at white space gives the first part, where it is no bar
 pub cuts_part : (line rest front back : List ℕ) (n : ℕ) → rest ≡ drop_white line → 0 < length rest

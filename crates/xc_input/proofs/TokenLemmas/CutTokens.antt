@@ -1,7 +1,7 @@
 -- A token that begins with a known name is cut behind the name.
 use Rattle.std.proofs.lemmas.Bool.Decides.{nat_tests}
 use Rattle.std.proofs.Common.{◌≡◌, ℕ, ◌-◌, ◌<◌, List, [], ◌∷◌, ◌++◌, Option, None, Some, false, length}
-use Rattle.std.proofs.Common.{get_or, take, drop, refl, ap, ap₂, ◌∙◌, sym, subst, arith, if◌then◌else◌, MatchOption}
+use Rattle.std.proofs.Common.{get_or, take, drop, refl, ap, ap₂, ◌∙◌, sym, subst, arith, MatchOption}
 use Rattle.std.proofs.Common.{Bor}
 use Rattle.std.proofs.lemmas.List.{append-nil, take_all}
 use Rattle.std.specs.List.{list_any}
@@ -27,12 +27,11 @@ word-onto (x ∷ xs) ys h = grind (arith, nat_tests, word-onto xs ys, or_parts (
 behind-onto : (xs ys : List ℕ) → list_any is_space xs ≡ false → behind (xs ++ ys) ≡ behind ys
 behind-onto [] ys h = refl
 behind-onto (x ∷ xs) ys h =
-    let apart = or_parts (is_space x) (list_any is_space xs) h in
-    ap (λ t. if t then x ∷ xs ++ ys else behind (xs ++ ys)) apart.0 ∙ behind-onto xs ys apart.1
+    grind (arith, nat_tests, behind-onto xs ys, or_parts (is_space x) (list_any is_space xs) h)
 
 at-white : (ys : List ℕ) → AtWhite ys → (word ys ≡ []) × (behind ys ≡ ys)
 at-white [] w = (refl, refl)
-at-white (b ∷ bs) w = (ap (λ t. if t then [] else b ∷ word bs) w, ap (λ t. if t then b ∷ bs else behind bs) w)
+at-white (b ∷ bs) w = grind (arith, nat_tests)
 
 told : {A : Type 0} {o : Option A} (N : Type 0) (P : A → Type 0) (x : A) → o ≡ Some x → P x → MatchOption o N P
 told N P x e h = subst (λ q. MatchOption q N P) (sym e) h

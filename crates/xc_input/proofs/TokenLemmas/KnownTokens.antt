@@ -1,7 +1,7 @@
 -- A text that begins with a short name that is known by its number.
 use Rattle.std.proofs.lemmas.Bool.Decides.{nat_tests}
 use Rattle.std.proofs.Common.{◌≡◌, ℕ, ◌<◌, ◌≤◌, List, [], ◌∷◌, ◌++◌, Option, None, Some, IfSome, Bor}
-use Rattle.std.proofs.Common.{false, length, get_or, take, drop, ap, ◌∙◌, sym, arith, if◌then◌else◌, slice_get}
+use Rattle.std.proofs.Common.{false, length, get_or, take, drop, ap, ◌∙◌, sym, arith, slice_get}
 use Rattle.std.proofs.lemmas.List.{take-append-drop, length-take}
 use Rattle.std.proofs.lemmas.Option.{slice_get_within, slice_get-get_or, get_or_from_slice_get}
 use Rattle.std.specs.List.{list_any}
@@ -21,8 +21,7 @@ use Rattle.xc_input.proofs.TokenLemmas.WordNumbers.{bytes-taken}
 -- what begins with bytes that are no white space stands behind no white space
 solid-front : (xs ys : List ℕ) → 1 ≤ length xs → list_any is_space xs ≡ false → drop_white (xs ++ ys) ≡ xs ++ ys
 solid-front [] ys some solid = absurd (omega (arith, some))
-solid-front (x ∷ xs) ys some solid =
-    ap (λ t. if t then drop_white (xs ++ ys) else x ∷ xs ++ ys) (or_parts (is_space x) (list_any is_space xs) solid).0
+solid-front (x ∷ xs) ys some solid = grind (arith, nat_tests, or_parts (is_space x) (list_any is_space xs) solid)
 
 pub known-first : (names : List (List ℕ)) (words text back : List ℕ) (n at number : ℕ) → AreNames names
     → AreWords names words → AreBytes text → back ≡ drop n text → n ≤ length text → number ≡ word_number (take n text)

@@ -2,9 +2,9 @@
 use Rattle.std.proofs.Common.{Bor}
 use Rattle.std.proofs.Common.{◌+◌, ◌≤◌, drop, MatchOption}
 use Rattle.std.proofs.Common.{◌≡◌, ◌≢◌, ℕ, zero, suc, ◌<◌, List, [], ◌∷◌, ◌++◌, Option, None, Some, Bool, true, false}
-use Rattle.std.proofs.Common.{All, length, take, refl, ap, ◌∙◌, sym, subst, arith, true≢false}
+use Rattle.std.proofs.Common.{All, length, take, refl, ap, ◌∙◌, sym, subst, arith}
 use Rattle.std.proofs.Common.{Vec, Global, get_or}
-use Rattle.std.proofs.lemmas.List.Elements.{All-nil, All-cons, All-append, All-push, All-get_or}
+use Rattle.std.proofs.lemmas.List.Elements.{All-push, All-get_or}
 use Rattle.std.proofs.lemmas.List.Quantifiers.{position-Some, all_pairs_push}
 use Rattle.std.proofs.lemmas.List.Folds.{list_any_at}
 use Rattle.std.proofs.lemmas.List.Sums.{position_or_len_is}
@@ -13,7 +13,7 @@ use Rattle.std.proofs.lemmas.Bool.Decides.{nat_tests}
 use Rattle.std.specs.Prelude.{slice_get, IfSome, IfNone}
 use Rattle.std.specs.Option.{option_map}
 use Rattle.xc_input.specs.Problem.{numbered_get}
-use Rattle.std.specs.List.{list_any, position_or_len}
+use Rattle.std.specs.List.{list_any}
 use Rattle.std.proofs.lemmas.Slice.Eq.{bytes_eq-Decides}
 use Rattle.std.specs.Str.{bytes_eq}
 use Rattle.xc_input.specs.declared.fault.FaultKind.{FaultKind}
@@ -29,7 +29,6 @@ use Rattle.xc_input.specs.Named.{IsName}
 use Rattle.xc_input.proofs.GrammarLemmas.NoFault.{name-good}
 use Rattle.std.proofs.lemmas.Bool.{or_parts}
 use Rattle.xc_input.proofs.FaultLemmas.Checks.{no-place}
-use Rattle.xc_input.proofs.TokenLemmas.Bytes.{not_false}
 use Rattle.xc_input.proofs.OptionLemmas.FlatParts.{slice_get-map-some}
 use Rattle.xc_input.proofs.TokenLemmas.Separators.{BAR}
 
@@ -43,18 +42,14 @@ stored P names name k all e =
 pub apart : (earlier : List (List ℕ)) (x : List ℕ) → place earlier x ≡ None → (k : ℕ) (d : List ℕ) → k < length earlier
     → get_or earlier k d ≢ x
 apart earlier x none k d within same =
-    let missing : list_any (bytes_eq x) earlier ≡ false = no-place (bytes_eq x) earlier none in
-    let found : list_any (bytes_eq x) earlier ≡ true =
-    list_any_at (bytes_eq x) earlier k d within (ap (bytes_eq x) same ∙ (bytes_eq-Decides x x).1 refl) in
-    true≢false (sym found ∙ missing)
+    let missing = no-place (bytes_eq x) earlier none in
+    grind (arith, nat_tests, missing, list_any_at (bytes_eq x) earlier k d within, bytes_eq-Decides)
 
 pub names-more : {old new : List (List ℕ)} (name : List ℕ) {fault : Option FaultKind} → AreNames old
     → new ≡ old ++ name ∷ [] → fault ≡ first (name_checks name) → fault ≡ None → place old name ≡ None
     → list_any is_space name ≡ false → AreNames new
 names-more {old} name all e f g none solid = subst AreNames (sym e) (record {
-  named =
-      All-append IsName old (name ∷ []) all.named
-      (All-cons IsName name [] (name-good name (sym f ∙ g)) (All-nil IsName));
+  named = All-push IsName old name all.named (name-good name (sym f ∙ g));
   solid = All-push (λ n. list_any is_space n ≡ false) old name all.solid solid;
   distinct = all_pairs_push (λ x y. x ≢ y) old name all.distinct (apart old name none);
 })
@@ -76,13 +71,9 @@ distinct-place names name k distinct e =
     let within : k < length names = slice_get_within names k name e in
     let here : get_or names k name ≡ name = get_or_from_slice_get names k name name e in
     let earlier : (j : ℕ) → j < k → bytes_eq name (get_or names j name) ≡ false =
-    λ j less. not_false (bytes_eq name (get_or names j name))
-    (λ same. distinct j k name less within
-    (sym ((bytes_eq-Decides name (get_or names j name)).0 same) ∙ sym here)) in
-    let at : position_or_len (bytes_eq name) names ≡ k =
-    position_or_len_is (bytes_eq name) names k name (omega (arith, within)) earlier
-    (λ w. (bytes_eq-Decides name (get_or names k name)).1 (sym here)) in
-    grind (arith, nat_tests)
+    λ j less. grind (arith, nat_tests, distinct j k name less within, bytes_eq-Decides) in
+    let at = position_or_len_is (bytes_eq name) names k name (omega (arith, within)) earlier
+    (λ w. (bytes_eq-Decides name (get_or names k name)).1 (sym here)) in grind (arith, nat_tests)
 
 -- no colour comes twice
 pub distinct-more : (old : List (List ℕ)) {new : List (List ℕ)} (name : List ℕ) → AreDistinct old

@@ -2,7 +2,7 @@
 use Rattle.std.proofs.lemmas.Bool.Decides.{nat_tests}
 use Rattle.std.proofs.Common.{◌≡◌, ℕ, zero, suc, ◌+◌, ◌*◌, ◌<◌, ◌≤◌, ◌%◌, ◌/◌, ◌^◌, List, [], ◌∷◌, length, get_or}
 use Rattle.std.proofs.Common.{take, drop}
-use Rattle.std.proofs.Common.{refl, ap, ap₂, ◌∙◌, arith}
+use Rattle.std.proofs.Common.{refl, ap₂, ◌∙◌, arith}
 use Rattle.std.proofs.lemmas.Nat.{mod-pow-add, pow-add}
 use Rattle.std.proofs.lemmas.List.{length-drop, length-take, take-take}
 use Rattle.std.specs.Simd.Lanes.{number_l}
@@ -50,16 +50,11 @@ front zero xs p h = omega arith
 front (suc n) [] p h = absurd (omega (arith, h))
 front (suc n) (x ∷ xs) p h =
     let more = number_l 256 xs in
-    let place = 2 ^ (8 * n) in
     let count : 8 * suc n ≡ 8 * n + 8 = omega arith in
     let high : (x + 256 * more) / 256 ≡ more = omega (arith, p 0) in
     let low : (x + 256 * more) % 256 ≡ x = omega (arith, p 0) in
-    let step : (x + 256 * more) % 2 ^ (8 * suc n) ≡ more % place * 256 + x =
-    ap (λ k. (x + 256 * more) % 2 ^ k) count ∙ mod-pow-add (x + 256 * more) (8 * n) 8
-    ∙ ap₂ (λ a b. a % place * 256 + b) high low in
-    let bit : 2 ^ (8 * suc n) ≡ place * 256 = ap (λ k. 2 ^ k) count ∙ pow-add 2 (8 * n) 8 in
     let back = front n xs (λ i. p (suc i)) (omega (arith, h)) in
-    omega (arith, step, bit, back)
+    grind (arith, mod-pow-add (x + 256 * more) (8 * n) 8, pow-add 2 (8 * n) 8)
 
 pub bytes-dropped : (n : ℕ) (xs : List ℕ) → AreBytes xs → AreBytes (drop n xs)
 bytes-dropped zero xs p i = p i
@@ -84,10 +79,9 @@ eight-is xs le = absurd (omega (arith, le))
 -- the number of the first of eight bytes
 pub first-word : (n first number : ℕ) (xs : List ℕ) → AreBytes xs → 8 ≤ length xs → n ≤ 7 → first ≡ eight xs
     → number ≡ first % 2 ^ (8 * n) + 2 ^ (8 * n) → number ≡ word_number (take n xs)
-first-word n first number xs p long few read is = is
-    ∙ ap (λ m. m % 2 ^ (8 * n) + 2 ^ (8 * n)) (read ∙ eight-is xs long)
-    ∙ front n (take 8 xs) (bytes-taken 8 xs p) (omega (arith, length-take 8 xs, long, few))
-    ∙ ap word_number (take-take n 8 xs (omega (arith, few)))
+first-word n first number xs p long few read is =
+    let all = front n (take 8 xs) (bytes-taken 8 xs p) (omega (arith, length-take 8 xs, long, few)) in
+    grind (arith, eight-is xs long, take-take n 8 xs (omega (arith, few)))
 
 -- a number that no text of bytes has
 pub no-text : (name : List ℕ) → IsWordOf name 0

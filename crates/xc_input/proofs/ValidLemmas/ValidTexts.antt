@@ -241,14 +241,9 @@ module _ (kind : Kind) (lines : List (List ℕ)) (named : Named) (ignored : List
   primaries = ap length h.items.bounds ∙ length-map h.items.primary entry_bounds
 
   items : length named.names ≡ item_count named.puzzle
-  items = omega (
-    arith,
-    primaries,
-    h.items.count,
-    ap length h.items.names,
-    length-map (h.items.primary ++ h.items.secondary) (λ e. e.name),
-    length-append h.items.primary h.items.secondary,
-  )
+  items = let all = length-map (h.items.primary ++ h.items.secondary) (λ e. e.name) in
+      let both = length-append h.items.primary h.items.secondary in
+      omega (arith, primaries, h.items.count, ap length h.items.names)
 
   -- OPTIONS
   lines-good : Each (λ o. IsGoodOption c o.1) h.options.options
@@ -285,33 +280,30 @@ module _ (kind : Kind) (lines : List (List ℕ)) (named : Named) (ignored : List
   few-options = no-more named.puzzle named.puzzle.options (each_weaker _ _ _ (λ o g. g.0) options-sound)
 
   pub sound : IsSound named
-  sound = record {
-    valid = record {
-      one_primary = omega (
-        arith,
-        primaries,
-        some-primary (tokens h.item_line.1)
-            (each_passes (λ t. nat_lt 0 (length t)) (slice_split is_space h.item_line.1)) not-skipped,
-        AllZip-long (IsEntry kind false) (before_first is_bar ps) h.items.primary h.items.before_bar,
-      );
-      bounds = all-of (λ b g. g.0) named.puzzle.bounds bounds-good;
-      options = all-of (λ o g. g.0) named.puzzle.options options-sound;
-    };
-    limits = record {
-      items = omega (arith, items, h.items.few);
-      uses = omega (arith, uses, h.options.few);
-      options = omega (arith, uses, h.options.few, few-options);
-      bounds = all-of (λ b g. g.1) named.puzzle.bounds bounds-good;
-    };
-    coloured = all-of (λ o g. g.1) named.puzzle.options options-sound;
-    few_colours = omega (arith, h.options.few, ap length h.options.colours, few-colours written []);
-    named = record {
-      count = items;
-      names = all-of (λ n g. g.0) named.names names-good;
-      unbroken_names = all-of (λ n g. g.1) named.names names-good;
-      distinct = h.items.distinct;
-      colours = λ k d within. (colours-good.0 k d within).0;
-      unbroken_colours = λ k d within. (colours-good.0 k d within).1;
-      distinct_colours = colours-good.1;
-    };
-  }
+  sound = let passes = each_passes (λ t. nat_lt 0 (length t)) (slice_split is_space h.item_line.1) in
+      let one = some-primary (tokens h.item_line.1) passes not-skipped in
+      let first = AllZip-long (IsEntry kind false) (before_first is_bar ps) h.items.primary h.items.before_bar in
+      record {
+        valid = record {
+          one_primary = omega (arith, primaries, one, first);
+          bounds = all-of (λ b g. g.0) named.puzzle.bounds bounds-good;
+          options = all-of (λ o g. g.0) named.puzzle.options options-sound;
+        };
+        limits = record {
+          items = omega (arith, items, h.items.few);
+          uses = omega (arith, uses, h.options.few);
+          options = omega (arith, uses, h.options.few, few-options);
+          bounds = all-of (λ b g. g.1) named.puzzle.bounds bounds-good;
+        };
+        coloured = all-of (λ o g. g.1) named.puzzle.options options-sound;
+        few_colours = omega (arith, h.options.few, ap length h.options.colours, few-colours written []);
+        named = record {
+          count = items;
+          names = all-of (λ n g. g.0) named.names names-good;
+          unbroken_names = all-of (λ n g. g.1) named.names names-good;
+          distinct = h.items.distinct;
+          colours = λ k d within. (colours-good.0 k d within).0;
+          unbroken_colours = λ k d within. (colours-good.0 k d within).1;
+          distinct_colours = colours-good.1;
+        };
+      }

@@ -1,5 +1,5 @@
 -- A list whose last element is changed, turned round.
-use Rattle.std.proofs.Common.{ℕ, ◌≡◌, ◌-◌, ◌<◌, List, [], ◌∷◌, ◌++◌, length, reverse, sym, ap, ap₂, ◌∙◌, arith, subst}
+use Rattle.std.proofs.Common.{ℕ, ◌≡◌, ◌-◌, ◌<◌, List, [], ◌∷◌, length, reverse, ap, ◌∙◌, arith, subst}
 use Rattle.std.proofs.Math.ListN.{set, get_or}
 use Rattle.std.proofs.Math.Seq.{set-append_seam, get_or-append_seam}
 use Rattle.std.proofs.lemmas.List.{reverse-append, reverse-reverse, length-reverse}
@@ -12,14 +12,14 @@ first_changed f (x ∷ xs) = f x ∷ xs
 last_changed : {X : Type 0} (f : X → X) (rs : List X) (r d : X) (n : ℕ) → n ≡ length rs
     → set (reverse (r ∷ rs)) n (f (get_or (reverse (r ∷ rs)) n d)) ≡ reverse (f r ∷ rs)
 last_changed f rs r d n h =
-    let seam : n ≡ length (reverse rs) = h ∙ sym (length-reverse rs) in
-    let turned : reverse (r ∷ rs) ≡ reverse rs ++ r ∷ [] = reverse-append (r ∷ []) rs in
-    let last : get_or (reverse (r ∷ rs)) n d ≡ r =
-    ap₂ (λ l k. get_or l k d) turned seam ∙ get_or-append_seam (reverse rs) r [] d in
-    ap₂ (λ l k. set l k (f (get_or (reverse (r ∷ rs)) n d))) turned seam
-    ∙ ap (λ x. set (reverse rs ++ r ∷ []) (length (reverse rs)) (f x)) last
-    ∙ set-append_seam (reverse rs) r [] (f r)
-    ∙ sym (reverse-append (f r ∷ []) rs)
+    grind (
+      arith,
+      length-reverse rs,
+      reverse-append (r ∷ []) rs,
+      reverse-append (f r ∷ []) rs,
+      get_or-append_seam (reverse rs) r [] d,
+      set-append_seam (reverse rs) r [] (f r),
+    )
 
 turned_changed : {X : Type 0} (f : X → X) (rs : List X) (d : X) → 0 < length rs →
     reverse (set (reverse rs) (length (reverse rs) - 1) (f (get_or (reverse rs) (length (reverse rs) - 1) d))) ≡

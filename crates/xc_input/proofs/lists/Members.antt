@@ -90,7 +90,7 @@ each_from P (y ∷ ys) h = (h y (inl refl), each_from P ys (λ x k. h x (inr k))
 -- an element stands at a place, and what stands at a place is an element
 pub in-slice_get : {X : Type 0} (xs : List X) (k : ℕ) (x : X) → slice_get xs k ≡ Some x → IsIn xs x
 in-slice_get [] k x e = cc
-in-slice_get (y ∷ ys) zero x e = let same : y ≡ x = cc in inl same
+in-slice_get (y ∷ ys) zero x e = inl (cc)
 in-slice_get (y ∷ ys) (suc k) x e = inr (in-slice_get ys k x e)
 
 pub slice_get-in : {X : Type 0} (xs : List X) (x : X) → IsIn xs x → (k : ℕ) × (slice_get xs k ≡ Some x)

@@ -1,7 +1,7 @@
 -- Sums over numbers in a row.
 use Rattle.std.proofs.lemmas.Bool.Decides.{nat_tests}
-use Rattle.std.proofs.Common.{ℕ, zero, suc, ◌≡◌, ◌≢◌, ◌+◌, ◌<◌, ◌≤◌, Bool, true, false, cond, eqb, List, [], ◌∷◌, refl}
-use Rattle.std.proofs.Common.{sym, ap, arith, subst, eqb-true, eq-eqb, ne_eqb}
+use Rattle.std.proofs.Common.{ℕ, zero, suc, ◌≡◌, ◌+◌, ◌<◌, ◌≤◌, Bool, cond, eqb, List, [], ◌∷◌, refl}
+use Rattle.std.proofs.Common.{arith, eqb-true}
 use Rattle.std.specs.List.{range_with_len}
 
 abbrev pub total : (ℕ → ℕ) → List ℕ → ℕ
@@ -20,17 +20,7 @@ pub total_less : (f g : ℕ → ℕ) (j a n : ℕ) → a ≤ j → j < a + n →
     → total f (range_with_len a n) < total g (range_with_len a n)
 total_less f g j a zero h k le lt = absurd (omega (arith, h, k))
 total_less f g j a (suc n) h k le lt =
-    by_case (eqb a j) refl (λ l. total_less f g j (a + 1) n l (omega (arith, k)) le lt)
-  where
-    by_case : (b : Bool) → eqb a j ≡ b
-        → (a + 1 ≤ j → total f (range_with_len (a + 1) n) < total g (range_with_len (a + 1) n))
-        → total f (range_with_len a (suc n)) < total g (range_with_len a (suc n))
-    by_case true i later =
-        let here : f a < g a = subst (λ x. f x < g x) (sym (eqb-true a j i)) lt in
-        omega (arith, here, total_le f g (range_with_len (a + 1) n) le)
-    by_case false i later =
-        let apart : a ≢ j = (λ s. let same : eqb a j ≡ true = eq-eqb a j s in cc (i, same)) in
-        omega (arith, le a, later (omega (arith, h, apart)))
+    grind (arith, nat_tests, total_less f g j (a + 1) n, total_le f g (range_with_len (a + 1) n) le, le a, eqb-true a j)
 
 -- a use is listed once
 abbrev pub one_if : Bool → ℕ
@@ -46,8 +36,7 @@ total_two f g (x ∷ xs) = omega (arith, total_two f g xs)
 
 total_none : (j a n : ℕ) → j < a → total (λ i. one_if (eqb j i)) (range_with_len a n) ≡ 0
 total_none j a zero h = refl
-total_none j a (suc n) h = let apart : eqb j a ≡ false = ne_eqb j a (λ e. omega (arith, h, e)) in
-    omega (arith, ap one_if apart, total_none j (a + 1) n (omega (arith, h)))
+total_none j a (suc n) h = grind (arith, nat_tests, total_none j (a + 1) n)
 
 pub total_once : (j a n : ℕ) → total (λ i. one_if (eqb j i)) (range_with_len a n) ≤ 1
 total_once j a zero = omega arith

@@ -4,11 +4,8 @@ use Rattle.xc_input.proofs.guess.word_of.Goals as goal
 
 pub overflow_mul-number : goal.overflow_mul-number
 overflow_mul-number c =
-    omega (
-      arith,
-      short-number c.loop-n.n c.loop-n.number c.args.bytes.now (search rules) c.requires
-          c.loop-n-test.true c.loop-n.invariant.0 c.loop-n.invariant.1,
-    )
+    let small = short-number c.loop-n.n c.loop-n.number c.args.bytes.now (search rules) c.requires c.loop-n-test.true
+    c.loop-n.invariant.0 c.loop-n.invariant.1 in omega (arith, small)
 
 pub overflow_add-number : goal.overflow_add-number
 overflow_add-number c =
