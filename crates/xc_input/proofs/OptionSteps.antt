@@ -90,10 +90,8 @@ module _ {kind : Kind} {names : List (List ℕ)} {primary : ℕ} {line : List (L
               (markable-more marks (numbered_in_turn met b.us) (use_behind (with_uses met b.us) u) b.markable
               within);
           few = omega (arith, b.few, less, length-append b.us (u ∷ []));
-          added = more ∙ ap (λ us. us ++ use_behind colours u ∷ []) b.added
-              ∙ append_assoc old (numbered_in_turn met b.us) (use_behind colours u ∷ [])
-              ∙ ap (λ w. old ++ (numbered_in_turn met b.us ++ w ∷ [])) here ∙ ap (λ us. old ++ us) (sym turn);
-          known = known ∙ ap (λ cs. with_colour cs u.colour) b.known ∙ sym (with_more met b.us u);
+          added = grind (arith, turn, append_assoc old (numbered_in_turn met b.us) (use_behind colours u ∷ []));
+          known = grind (arith, with_more met b.us u);
           distinct = distinct;
           few_colours = omega (arith, b.few_colours, ap length known, ap length more, one);
         }

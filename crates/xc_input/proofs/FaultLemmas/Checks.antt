@@ -6,7 +6,7 @@ use Rattle.std.proofs.lemmas.Bool.Decides.{nat_tests}
 use Rattle.std.specs.List.{list_any, position_or_len}
 use Rattle.std.specs.Str.{bytes_eq}
 use Rattle.std.proofs.lemmas.List.{length-map}
-use Rattle.std.specs.Result.{OnOk, IsErrAnd}
+use Rattle.std.specs.Result.{IsErrAnd}
 use Rattle.xc_input.specs.declared.kind.Kind.{Kind}
 use Rattle.xc_input.specs.declared.fault.FaultKind.{FaultKind}
 use Rattle.xc_input.specs.declared.fault.FaultKind.TheVariants.{TooManyItems}
@@ -43,10 +43,6 @@ stopped p q (Ok x) e h f j = absurd h
 stopped p q (Err (Fault k)) e h f j =
     f ∙ first-front p q k (subst (λ d. Judged {T = Unit {0}} (first p) (Err d)) (sym h) j)
 stopped p q (Err Memory) e h f j = tt
-
-pub OnOk-map : {T E : Type 0} (r : Result T E) {A B : Type 0} → OnOk r A → (A → B) → OnOk r B
-OnOk-map (Ok x) h f = f h
-OnOk-map (Err e) h f = h
 
 pub names_of-snoc : (es : List Entry) (e : Entry) → names_of (es ++ e ∷ []) ≡ names_of es ++ e.name ∷ []
 names_of-snoc es e = map-snoc (λ d. d.name) es e

@@ -1,7 +1,7 @@
 -- What stands for a problem as one kind stands for it as each kind that allows more.
 use Rattle.std.proofs.Common.{arith}
 use Rattle.std.proofs.lemmas.Bool.Decides.{nat_tests}
-use Rattle.std.proofs.Common.{◌≡◌, ℕ, List, [], ◌∷◌, Bool, true, false, inl, inr}
+use Rattle.std.proofs.Common.{◌≡◌, ℕ, List, [], ◌∷◌, Bool, true, false}
 use Rattle.std.specs.List.{AllZip}
 use Rattle.xc_input.specs.declared.kind.Kind.{Kind}
 use Rattle.xc_input.specs.Tokens.{tokens}
@@ -23,13 +23,11 @@ module _ (a b : Kind) (bounds : is_bounds a ≡ true → is_bounds b ≡ true)
     (colours : is_plain a ≡ false → is_plain b ≡ false) where
   entry-also : (secondary : Bool) (token : List ℕ) (e : Entry) → IsEntry a secondary token e
       → IsEntry b secondary token e
-  entry-also secondary token e (name, inl h) = (name, inl h)
-  entry-also secondary token e (name, inr h) = (name, inr (h.0, bounds h.1, h.2, h.3, h.4, h.5, h.6, h.7))
+  entry-also secondary token e h = grind (arith, bounds)
 
   use-also : (names : List (List ℕ)) (primaries : ℕ) (token : List ℕ) (u : Written)
       → IsUse (context a names primaries) token u → IsUse (context b names primaries) token u
-  use-also names primaries token u (name, i, n, p, q, inl h) = (name, i, n, p, q, inl h)
-  use-also names primaries token u (name, i, n, p, q, inr h) = (name, i, n, p, q, inr (h.0, colours h.1, h.2, h.3))
+  use-also names primaries token u h = grind (arith, colours)
 
   lines-also : (names : List (List ℕ)) (primaries : ℕ) (ls : List (ℕ × List ℕ)) (ws : List (ℕ × List Written))
       → AllZip (IsOptionLine (context a names primaries)) ls ws

@@ -1,6 +1,6 @@
 -- Checks that don't hold, and what they say of a token: for `add_item`, `use_of` and `finish`.
-use Rattle.std.proofs.Common.{◌≡◌, ℕ, ◌<◌, ◌≤◌, List, [], ◌∷◌, ◌++◌, Option, None, Some, Bool, true, false, ◌||◌}
-use Rattle.std.proofs.Common.{not, nat_lt, nat_le, is_none, length, refl, ◌∙◌, arith}
+use Rattle.std.proofs.Common.{◌≡◌, ℕ, ◌<◌, ◌≤◌, List, [], ◌∷◌, ◌++◌, None, Bool, true, false, ◌||◌}
+use Rattle.std.proofs.Common.{nat_lt, nat_le, length, refl, ◌∙◌, arith}
 use Rattle.std.proofs.Common.{inl, inr, ◌⊎◌}
 use Rattle.xc_input.specs.inner.BoundTexts.{low_text, high_text}
 use Rattle.std.specs.Char.{is_ascii_digit}
@@ -80,10 +80,6 @@ good-bounds prefix low high (inr h) p q =
     grind (arith, nat_tests, cut-at COLON h.0 h.1 (number-no-colon h.0 h.3), number-no-colon h.0 h.3)
 
 -- ITEMS
-none-of : (o : Option ℕ) → not (is_none o) ≡ false → o ≡ None
-none-of None e = refl
-none-of (Some n) e = absurd (cc)
-
 module _ (kind : Kind) (sec : Bool) (token : List ℕ) where
   shape : (t : Bool) → has_prefix kind token ≡ t → first (bound_checks kind sec token) ≡ None
       → IsBare sec token (entry kind sec token) ⊎ IsBounded kind sec token (entry kind sec token)
@@ -107,7 +103,7 @@ module _ (kind : Kind) (sec : Bool) (token : List ℕ) where
             let no = fails (alone names name) a.1 in
             let lt : nat_lt (length names) most_items ≡ true = not-false _ (no TooManyItems) in (
               (solid name (no EmptyName) (no NameTooLong) (no BadByteInName), shape (has_prefix kind token) refl a.0),
-              none-of (place names name) (no RepeatedName),
+              grind (arith, nat_tests, no RepeatedName),
               grind (arith, nat_tests),
             )),
         λ h. (let lt : nat_lt (length names) most_items ≡ true = grind (arith, nat_tests) in

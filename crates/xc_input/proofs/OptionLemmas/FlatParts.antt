@@ -2,7 +2,7 @@
 use Rattle.std.proofs.lemmas.Grind.{common_steps}
 use Rattle.std.proofs.lemmas.Bool.Decides.{nat_tests}
 use Rattle.std.proofs.Common.{ℕ, zero, suc, ◌≡◌, ◌+◌, ◌-◌, ◌<◌, ◌≤◌, List, [], ◌∷◌, ◌++◌, length, map, drop}
-use Rattle.std.proofs.Common.{get_or, sum_by, All, Some, refl, sym, ap, ap₂, ◌∙◌, arith, length-append}
+use Rattle.std.proofs.Common.{get_or, sum_by, All, Some, refl, sym, ap, ◌∙◌, arith, length-append}
 use Rattle.std.proofs.Common.{length-drop}
 use Rattle.std.proofs.lemmas.Option.{slice_get-map as slice_get-mapped, slice_get-get_or}
 use Rattle.std.specs.Option.{option_map}
@@ -59,16 +59,11 @@ pub option_part : {X : Type 0} (starts : List ℕ) (us : List X) (o a b : ℕ) �
 option_part starts us zero a b h l m e f = absurd (omega (arith, l))
 option_part starts us (suc k) a b h l m e f =
     let before : suc k - 1 ≡ k = omega arith in
-    let in_front : k < length starts = omega (arith, m) in
     let two : k + 1 < length starts = omega (arith, m) in
     let from : a ≡ get_or starts k 0 =
-    e ∙ ap (λ n. get_or starts n a) before ∙ get_or_default_zero starts k a in_front in
+    e ∙ ap (λ n. get_or starts n a) before ∙ get_or_default_zero starts k a (omega (arith, m)) in
     let to : b ≡ get_or starts (suc k) 0 = f ∙ get_or_default_zero starts (suc k) b m in
-    let range = start_range starts (length us) k h two in (
-      omega (arith, range.0, from, to),
-      omega (arith, range.1, to),
-      piece_at starts us k two ∙ ap₂ (λ x y. Some (slice_range us x y)) (sym from) (sym to),
-    )
+    grind (arith, start_range starts (length us) k h two, piece_at starts us k two)
 
 pub slice-front : {X : Type 0} (us vs : List X) (a b : ℕ) → a ≤ b → b ≤ length us
     → slice_range (us ++ vs) a b ≡ slice_range us a b

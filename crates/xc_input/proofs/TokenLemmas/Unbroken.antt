@@ -1,7 +1,7 @@
 -- Tokens and parts of a line have no white space, and no NUL byte and no line feed where the line has none.
 use Rattle.std.proofs.Common.{arith}
 use Rattle.std.proofs.lemmas.Bool.Decides.{nat_tests}
-use Rattle.std.proofs.Common.{◌≡◌, ℕ, List, [], ◌∷◌, ◌++◌, Bool, false, nat_eq, refl, ◌∙◌, sym, subst}
+use Rattle.std.proofs.Common.{◌≡◌, ℕ, List, [], ◌∷◌, ◌++◌, Bool, false, nat_eq, refl, subst}
 use Rattle.std.proofs.lemmas.List.Folds.{list_any-append}
 use Rattle.std.specs.List.{list_any, onto_first, AllByRecursion}
 use Rattle.xc_input.specs.Words.{has}
@@ -20,8 +20,8 @@ AllLack p ts = AllByRecursion (λ t. list_any p t ≡ false) ts
 lacks-behind : (p : ℕ → Bool) (front : List ℕ) (b : ℕ) (back : List ℕ) → list_any p (front ++ b ∷ back) ≡ false
     → list_any p back ≡ false
 lacks-behind p front b back h =
-    let rest = (or_parts (list_any p front) (list_any p (b ∷ back)) (sym (list_any-append p front (b ∷ back)) ∙ h)).1 in
-    (or_parts (p b) (list_any p back) rest).1
+    let rest = or_parts (list_any p front) (list_any p (b ∷ back)) in
+    grind (arith, rest, list_any-append p front (b ∷ back), or_parts (p b) (list_any p back))
 
 -- TOKENS
 lack-front : (p : ℕ → Bool) (b : ℕ) (ts : List (List ℕ)) → p b ≡ false → AllLack p ts → AllLack p (onto_first b ts)

@@ -1,6 +1,6 @@
 -- What holds of each two elements of a list, the one before the other.
 use Rattle.std.proofs.lemmas.Bool.Decides.{nat_tests}
-use Rattle.std.proofs.Common.{ℕ, zero, suc, ◌≡◌, ◌+◌, ◌<◌, List, [], ◌∷◌, ◌++◌, map, take, Some, refl, sym, ◌∙◌, arith}
+use Rattle.std.proofs.Common.{ℕ, zero, suc, ◌≡◌, ◌+◌, ◌<◌, List, [], ◌∷◌, ◌++◌, map, take, Some, refl, arith}
 use Rattle.std.proofs.Common.{subst, ◌⊎◌, inl, inr}
 use Rattle.std.specs.Prelude.{flat_map, slice_get, AllPairs}
 use Rattle.std.specs.List.{AllByRecursion, enumerate_from}
@@ -91,7 +91,4 @@ EachTwo-enumerated {X = X} R k (x ∷ xs) a =
 pub EachTwo-of : {X : Type 0} (R : X → X → Type 0) (xs : List X) (x y : X) → EachTwo R xs → IsIn xs x → IsIn xs y
     → (x ≡ y) ⊎ (R x y ⊎ R y x)
 EachTwo-of R [] x y a h k = absurd h
-EachTwo-of R (z ∷ xs) x y a (inl h) (inl k) = inl (sym h ∙ k)
-EachTwo-of R (z ∷ xs) x y a (inl h) (inr k) = inr (inl (subst (λ v. R v y) h (each_in (R z) xs y a.0 k)))
-EachTwo-of R (z ∷ xs) x y a (inr h) (inl k) = inr (inr (subst (λ v. R v x) k (each_in (R z) xs x a.0 h)))
-EachTwo-of R (z ∷ xs) x y a (inr h) (inr k) = EachTwo-of R xs x y a.1 h k
+EachTwo-of R (z ∷ xs) x y a h k = grind (arith, EachTwo-of R xs x y a.1, each_in (R z) xs)

@@ -1,7 +1,7 @@
 -- Members of lists, and what holds of each two of them.
 use Rattle.std.proofs.lemmas.Bool.Decides.{nat_tests}
 use Rattle.std.proofs.Common.{ℕ, zero, suc, ◌≡◌, ◌+◌, ◌<◌, Bool, true, List, [], ◌∷◌, ◌++◌, length, map}
-use Rattle.std.proofs.Common.{filter, take, get_or, Some, refl, sym, ap, ◌∙◌, arith, subst, ◌⊎◌, inl, inr}
+use Rattle.std.proofs.Common.{filter, take, get_or, Some, refl, ap, ◌∙◌, arith, subst, ◌⊎◌, inl, inr}
 use Rattle.std.specs.Prelude.{flat_map, slice_get, Contains}
 use Rattle.std.specs.List.{AllByRecursion, enumerate_from}
 
@@ -23,8 +23,7 @@ filter-in p (y ∷ ys) x (inr q) e = grind (arith, nat_tests, filter-in p ys x q
 
 pub map-in : {X Y : Type 0} (f : X → Y) (xs : List X) (x : X) → IsIn xs x → IsIn (map f xs) (f x)
 map-in f [] x h = absurd h
-map-in f (y ∷ ys) x (inl q) = inl (ap f q)
-map-in f (y ∷ ys) x (inr q) = inr (map-in f ys x q)
+map-in f (y ∷ ys) x h = grind (arith, map-in f ys x)
 
 pub in-map : {X Y : Type 0} (f : X → Y) (xs : List X) (z : Y) → IsIn (map f xs) z → (x : X) × IsIn xs x × (f x ≡ z)
 in-map f [] z h = absurd h
@@ -35,8 +34,7 @@ in-map f (y ∷ ys) z (inr q) = let later = in-map f ys z q in (later.0, inr lat
 
 pub append-in_left : {X : Type 0} (xs ys : List X) (x : X) → IsIn xs x → IsIn (xs ++ ys) x
 append-in_left [] ys x h = absurd h
-append-in_left (z ∷ xs) ys x (inl q) = inl q
-append-in_left (z ∷ xs) ys x (inr q) = inr (append-in_left xs ys x q)
+append-in_left (z ∷ xs) ys x h = grind (arith, append-in_left xs ys x)
 
 pub append-in_right : {X : Type 0} (xs ys : List X) (x : X) → IsIn ys x → IsIn (xs ++ ys) x
 append-in_right [] ys x h = h
@@ -44,14 +42,13 @@ append-in_right (z ∷ xs) ys x h = inr (append-in_right xs ys x h)
 
 pub in-append : {X : Type 0} (xs ys : List X) (x : X) → IsIn (xs ++ ys) x → IsIn xs x ⊎ IsIn ys x
 in-append [] ys x h = inr h
-in-append (z ∷ xs) ys x (inl q) = inl (inl q)
-in-append (z ∷ xs) ys x (inr q) = elim (in-append xs ys x q) [ inl k ↦ inl (inr k) | inr k ↦ inr k ]
+in-append (z ∷ xs) ys x h = grind (arith, in-append xs ys x)
 
 pub flat_map-in : {X Y : Type 0} (f : X → List Y) (xs : List X) (x : X) (z : Y) → IsIn xs x → IsIn (f x) z
     → IsIn (flat_map f xs) z
 flat_map-in f [] x z h k = absurd h
-flat_map-in f (y ∷ ys) x z (inl q) k = append-in_left (f y) (flat_map f ys) z (subst (λ v. IsIn (f v) z) (sym q) k)
-flat_map-in f (y ∷ ys) x z (inr q) k = append-in_right (f y) (flat_map f ys) z (flat_map-in f ys x z q k)
+flat_map-in f (y ∷ ys) x z h k =
+    grind (arith, flat_map-in f ys x z, append-in_left (f y) (flat_map f ys) z, append-in_right (f y) (flat_map f ys) z)
 
 pub in-flat_map : {X Y : Type 0} (f : X → List Y) (xs : List X) (z : Y) → IsIn (flat_map f xs) z → (x : X) × IsIn xs x
     × IsIn (f x) z
@@ -61,8 +58,7 @@ in-flat_map f (y ∷ ys) z h = grind (arith, nat_tests, in-flat_map f ys z, in-a
 pub in-take : {X : Type 0} (n : ℕ) (xs : List X) (x : X) → IsIn (take n xs) x → IsIn xs x
 in-take zero xs x h = absurd h
 in-take (suc n) [] x h = absurd h
-in-take (suc n) (y ∷ ys) x (inl q) = inl q
-in-take (suc n) (y ∷ ys) x (inr q) = inr (in-take n ys x q)
+in-take (suc n) (y ∷ ys) x h = grind (arith, in-take n ys x)
 
 pub enumerated-in : {X : Type 0} (k : ℕ) (xs : List X) (x : X) → IsIn xs x → (j : ℕ) × IsIn (enumerate_from k xs) (j, x)
 enumerated-in k [] x h = absurd h
@@ -71,8 +67,7 @@ enumerated-in k (y ∷ ys) x (inr q) = let later = enumerated-in (k + 1) ys x q 
 
 pub in-enumerated : {X : Type 0} (k : ℕ) (xs : List X) (kx : ℕ × X) → IsIn (enumerate_from k xs) kx → IsIn xs kx.1
 in-enumerated k [] kx h = absurd h
-in-enumerated {X = X} k (y ∷ ys) kx (inl q) = inl (ap (λ (z : ℕ × X). z.1) q)
-in-enumerated k (y ∷ ys) kx (inr q) = inr (in-enumerated (k + 1) ys kx q)
+in-enumerated k (y ∷ ys) kx h = grind (arith, in-enumerated (k + 1) ys kx)
 
 -- ---- each element
 

@@ -1,13 +1,14 @@
 use Rattle.std.proofs.Common.{subst, sym, ◌<◌, refl, ◌∙◌, map}
 use Rattle.xc_input.specs.inner.Builders.{entry_of, AreNames}
 use Rattle.std.proofs.Common.{ap}
+use Rattle.std.proofs.lemmas.Result.{on_ok_weaker}
 use Rattle.xc_input.specs.Faults.{first, bound_checks, item_checks, name_of}
 use Rattle.xc_input.specs.inner.Sheets.{names_of}
 use Rattle.xc_input.specs.declared.line_error.LineError.TheVariants.{Fault}
 use Rattle.xc_input.proofs.FaultLemmas.FirstChecks.{alone}
 use Rattle.xc_input.proofs.TokenLemmas.TableNames.{names-more, name-solid}
 use Rattle.xc_input.proofs.FaultLemmas.Checks.{stopped, bad-name, too-many, no-fault, judged-on, grown}
-use Rattle.xc_input.proofs.FaultLemmas.Checks.{OnOk-map, none-is, length-items, items-length}
+use Rattle.xc_input.proofs.FaultLemmas.Checks.{none-is, length-items, items-length}
 use Rattle.xc_input.proofs.item_line.ItemLine.add_item.Goals as goal
 
 pub returns-in_err-token-clause-judged : goal.returns-in_err-token-clause-judged
@@ -38,7 +39,7 @@ returns-clause-judged c =
 
 pub returns-clause-added : goal.returns-clause-added
 returns-clause-added c =
-    OnOk-map c.push_item.result c.push_item.ensures.added (λ h.
+    on_ok_weaker c.push_item.result (λ h.
     let named = names-more c.in_ok-token.token.name.now c.requires.table.2 c.in_ok-add_name.ensures.added
     c.name_fault.ensures c.in_default.is (sym c.place_of.ensures ∙ none-is c.place_of.result
     (sym c.is_some-2.ensures ∙ c.if-is_some.false)) (name-solid c.args.kind _ c.args.token.now c.in_ok-token.ensures.1
@@ -47,4 +48,4 @@ returns-clause-added c =
     c.args.self.now.items.items c.push_item.new.items.items c.in_ok-token.ensures.1 c.requires.table named
     c.in_ok-add_name.ensures.added (subst (λ n. n < 100000) (c.len.ensures ∙ items-length c.args.self.now.items)
     c.if-len-ge-MOST_ITEMS.false) h in
-    (g.0, g.1, refl))
+    (g.0, g.1, refl)) c.push_item.ensures.added
