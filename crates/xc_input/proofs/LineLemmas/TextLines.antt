@@ -25,8 +25,7 @@ whole-more old new line e w l = subst AreWhole (sym e) (each-append (λ l. has 1
 
 ended-append : (ls ms : List (List ℕ)) → ended (ls ++ ms) ≡ ended ls ++ ended ms
 ended-append [] ms = refl
-ended-append (l ∷ ls) ms =
-    ap (λ xs. l ++ 10 ∷ xs) (ended-append ls ms) ∙ sym (append_assoc l (10 ∷ ended ls) (ended ms))
+ended-append (l ∷ ls) ms = grind (arith, ended-append ls ms, append_assoc l (10 ∷ ended ls) (ended ms))
 
 -- a piece is cut at its first line feed
 pub line-cut : (piece end others : List ℕ) → end ≡ before 10 piece → (has 10 piece ≡ true) × (others ≡ after 10 piece)
@@ -42,9 +41,12 @@ lines_of-line (x ∷ l) rest h =
 pub lines_of-ended : (ls : List (List ℕ)) (rest : List ℕ) → AreWhole ls
     → lines_of (ended ls ++ rest) ≡ ls ++ lines_of rest
 lines_of-ended [] rest h = refl
-lines_of-ended (l ∷ ls) rest h =
-    ap lines_of (append_assoc l (10 ∷ ended ls) rest) ∙ lines_of-line l (ended ls ++ rest) h.0
-    ∙ ap (λ ms. l ∷ ms) (lines_of-ended ls rest h.1)
+lines_of-ended (l ∷ ls) rest h = grind (
+  arith,
+  append_assoc l (10 ∷ ended ls) rest,
+  lines_of-line l (ended ls ++ rest) h.0,
+  lines_of-ended ls rest h.1,
+)
 
 -- lines that line feeds end
 pub lines_of-all : (ls : List (List ℕ)) → AreWhole ls → lines_of (ended ls) ≡ ls

@@ -1,7 +1,7 @@
 -- A colour keeps the number that it has where it is met first.
 use Rattle.std.proofs.Common.{◌≡◌, ℕ, suc, ◌+◌, ◌<◌, ◌≤◌, List, [], ◌∷◌, ◌++◌, Option, None, Some, Bool, true, false}
 use Rattle.std.proofs.Common.{◌||◌, nat_le}
-use Rattle.std.proofs.Common.{unwrap_or, length, map, take, append-nil, append_assoc, refl}
+use Rattle.std.proofs.Common.{length, map, take, append-nil, append_assoc, refl}
 use Rattle.std.proofs.Common.{sym, ap, ◌∙◌, length-append, arith}
 use Rattle.xc_input.specs.declared.problem.Use.{Use}
 use Rattle.std.proofs.lemmas.Bool.Decides.{nat_tests}
@@ -62,9 +62,8 @@ knows-more : (cs : List (List ℕ)) (d c : List ℕ) → Knows cs c → Knows (w
 knows-more cs [] c k = (k, refl)
 knows-more cs (b ∷ bs) [] k = (tt, refl)
 knows-more cs (b ∷ bs) (x ∷ xs) k =
-    let stays = position-stays (bytes_eq (x ∷ xs)) cs ((b ∷ bs) ∷ []) k.0 k.1 in
-    by-place (place cs (b ∷ bs)) (λ e. rw e ((k.0, stays), ap (λ o. unwrap_or o 0 + 1) (stays ∙ sym k.1)))
-    (λ i e. rw e (k, refl))
+    let stays = position-stays (bytes_eq (x ∷ xs)) cs ((b ∷ bs) ∷ []) k.0 k.1 in by-place (place cs (b ∷ bs))
+    (λ e. rw e ((k.0, stays), grind (arith))) (λ i e. rw e (k, refl))
 
 pub kept : (cs : List (List ℕ)) (us : List Written) (c : List ℕ) → Knows cs c
     → Knows (with_uses cs us) c × (colour_number (with_uses cs us) c ≡ colour_number cs c)

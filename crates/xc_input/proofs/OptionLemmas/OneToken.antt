@@ -1,7 +1,7 @@
 -- One token of an option line, for `use_of` and the loop of `option_line`.
 use Rattle.std.proofs.Common.{arith, ◌<◌, ◌≤◌, ◌≡◌, ℕ, ◌+◌, List, [], ◌∷◌, ◌++◌, Option, None, Some, Bool, true, false}
 use Rattle.std.proofs.Common.{◌&&◌, nat_lt, nat_eq, map, refl, ap, ◌∙◌, sym}
-use Rattle.std.proofs.Common.{length, drop, MatchOption, append_assoc}
+use Rattle.std.proofs.Common.{length, drop, append_assoc}
 use Rattle.std.proofs.lemmas.Bool.Decides.{nat_tests}
 use Rattle.std.specs.List.{list_any}
 use Rattle.xc_input.specs.declared.kind.Kind.{Kind}
@@ -51,12 +51,7 @@ module _ (kind : Kind) (primary : ℕ) (seen : List ℕ) {names : List (List ℕ
   judged = fault kind names primary seen text
 
   has-colour : is_some t.colour ≡ has COLON text
-  has-colour = by_colour t.colour cut.colour
-    where
-      by_colour : (c : Option (Bor (List ℕ))) → MatchOption c (has COLON text ≡ false)
-          (λ c. (has COLON text ≡ true) × (c.now ≡ after COLON text)) → is_some c ≡ has COLON text
-      by_colour None h = sym h
-      by_colour (Some c) h = sym h.0
+  has-colour = grind (arith, nat_tests, cut.colour)
 
   stray-is : (b : Bool) → stray ≡ b → (is_plain kind && has COLON text) ≡ b
   stray-is b e = ap (λ x. is_plain kind && x) (sym has-colour) ∙ sym test ∙ e

@@ -75,8 +75,7 @@ number-below : (text : List ℕ) → are_digits 9 text ≡ true → number text 
 number-below text e = grind (arith, nat_tests, value-below 0 0 text, pow-le-pow_right)
 
 high-below : (prefix : List ℕ) (low high : ℕ) → AreBounds prefix low high → high ≤ greatest_bound
-high-below prefix low high (inl h) = subst (λ n. n ≤ greatest_bound) h.2 (number-below prefix h.0)
-high-below prefix low high (inr h) = subst (λ n. n ≤ greatest_bound) h.6 (number-below h.1 h.4)
+high-below prefix low high h = grind (arith, nat_tests, number-below)
 
 -- ITEMS
 -- the bounds of an item
