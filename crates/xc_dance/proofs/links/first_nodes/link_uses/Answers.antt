@@ -51,14 +51,8 @@ use_here c =
     (omega (arith, top, c.top.ensures, c.if-top-lt-SPACER.true)) in
     (s.0, s.1, subst (λ (t : Nodes). UseStep p t q s.0 s.1) (sym c.loop-q.invariant) s.2)
 
-pub enter-requires-clause-item : goal.enter-requires-clause-item
-enter-requires-clause-item c = (use_here (goal.at.enter-requires-clause-item c).Then-top-lt-SPACER).2.item
-
-pub enter-requires-clause-last : goal.enter-requires-clause-last
-enter-requires-clause-last c = (use_here (goal.at.enter-requires-clause-last c).Then-top-lt-SPACER).2.last
-
-pub enter-requires-clause-few : goal.enter-requires-clause-few
-enter-requires-clause-few c = (use_here (goal.at.enter-requires-clause-few c).Then-top-lt-SPACER).2.few
+pub enter-requires : goal.enter-requires
+enter-requires c = let u = (use_here (goal.at.enter-requires c).Then-top-lt-SPACER).2 in grind (arith, common_steps)
 
 pub loop-q-preserved : goal.loop-q-preserved
 loop-q-preserved c =

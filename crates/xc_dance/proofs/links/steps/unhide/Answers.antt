@@ -11,7 +11,7 @@ use Rattle.xc_dance.proofs.LinkedTables.Walks.{places_none, reverse-places, CanA
 use Rattle.xc_dance.proofs.LinkedTables.Walks.{Tells, tells}
 use Rattle.xc_dance.proofs.Rounds.{Met, met}
 use Rattle.xc_dance.proofs.links.steps.unhide.Goals as goal
-use Rattle.xc_dance.proofs.links.steps.unhide.Goals.{After-get_at}
+use Rattle.xc_dance.proofs.links.steps.unhide.Goals.{After-get_at, After-down_at}
 use Rattle.xc_dance.specs.declared.links.nodes.TheConstants.{SPACER}
 
 both : (p first end : ℕ) → reverse (others p first end) ≡ reverse (places first p) ++ reverse (places (p + 1) end)
@@ -69,38 +69,38 @@ pub down_at-requires : goal.down_at-requires
 down_at-requires c = let at = (goal.at.down_at-requires c).After-get_at in grind (arith, common_steps, told at, high at)
 
 -- the spacer leads to the last node
-leads : (c : After-get_at) → SPACER ≤ c.get_at.result → (last : ℕ) → last ≡ get_or (now c).dlink c.loop-top.q 0
-    → last + 1 ≡ (span_at c.args.spans.now c.args.p).end
-leads c met last is = grind (arith, common_steps, high c, told c)
+leads : (c : After-down_at) → c.down_at.result + 1 ≡ (span_at c.args.spans.now c.args.p).end
+leads c =
+    let at = (goal.at.overflow_add-end c).After-get_at in
+    grind (arith, common_steps, high at c.loop-top-test.false, told at)
 
 pub overflow_add-end : goal.overflow_add-end
 overflow_add-end c = grind (arith, common_steps, leads)
 
 -- and there the rest of the walk begins
-rest : (c : After-get_at) → SPACER ≤ c.get_at.result → (last : ℕ) → last ≡ get_or (now c).dlink c.loop-top.q 0
+rest : (c : After-down_at)
     → Met unhidden hide_cost CanUnhide (columns c.args.top.now c.args.links.now c.args.color.now)
-    (reverse (others_of c.args.spans.now c.args.p)) (now c) c.loop-top.below
-    (reverse (places (c.args.p + 1) (last + 1)))
-rest c spacer last is =
+    (reverse (others_of c.args.spans.now c.args.p)) (columns c.loop-top.top c.loop-top.links c.args.color.now)
+    c.loop-top.below (reverse (places (c.args.p + 1) (c.down_at.result + 1)))
+rest c =
     let s = span_at c.args.spans.now c.args.p in
-    met _ _ _ _ _ (both c.args.p s.first s.end) c.requires.can.steps c.loop-top.invariant.walk (told c) (high c spacer)
-    (ap (λ b. reverse (places (c.args.p + 1) b)) (leads c spacer last is))
+    let at = (goal.at.overflow_add-end c).After-get_at in
+    met _ _ _ _ _ (both c.args.p s.first s.end) c.requires.can.steps c.loop-top.invariant.walk (told at)
+    (high at c.loop-top-test.false) (ap (λ b. reverse (places (c.args.p + 1) b)) (leads c))
 
 pub unhide_range-above-requires-clause-can : goal.unhide_range-above-requires-clause-can
-unhide_range-above-requires-clause-can c = (rest (goal.at.unhide_range-above-requires-clause-can c).After-get_at
-    c.loop-top-test.false _ c.down_at.ensures).can
+unhide_range-above-requires-clause-can c =
+    (rest (goal.at.unhide_range-above-requires-clause-can c).After-down_at).can
 
 pub unhide_range-above-requires-clause-unmarked : goal.unhide_range-above-requires-clause-unmarked
 unhide_range-above-requires-clause-unmarked c = λ m q from below.
-    let end =
-    leads (goal.at.unhide_range-above-requires-clause-unmarked c).After-get_at c.loop-top-test.false
-    c.down_at.result c.down_at.ensures in
+    let end = leads (goal.at.unhide_range-above-requires-clause-unmarked c).After-down_at in
     ((c.requires.unmarked m).others c.args.p c.requires.span).0 q from (omega (arith, end, below))
 
 pub returns-clause-done : goal.returns-clause-done
-returns-clause-done c = ((rest (goal.at.returns-clause-done c).After-get_at c.loop-top-test.false _
-    c.down_at.ensures).round _ _ c.unhide_range-above.ensures.done c.unhide_range-above.ensures.cost).done
+returns-clause-done c = ((rest (goal.at.returns-clause-done c).After-down_at).round _ _
+    c.unhide_range-above.ensures.done c.unhide_range-above.ensures.cost).done
 
 pub returns-clause-cost : goal.returns-clause-cost
-returns-clause-cost c = ((rest (goal.at.returns-clause-cost c).After-get_at c.loop-top-test.false _
-    c.down_at.ensures).round _ _ c.unhide_range-above.ensures.done c.unhide_range-above.ensures.cost).cost
+returns-clause-cost c = ((rest (goal.at.returns-clause-cost c).After-down_at).round _ _
+    c.unhide_range-above.ensures.done c.unhide_range-above.ensures.cost).cost

@@ -5,8 +5,5 @@ use Rattle.xc_dance.proofs.lists.undo_log.insert.Goals as goal
 use Rattle.std.proofs.Common.{vec_capacity}
 use Rattle.std.proofs.Math.Seq.{map-set_same}
 
-pub returns-clause-lists : goal.returns-clause-lists
-returns-clause-lists c = grind (arith, common_steps, list_at-numbers_of, numbers_of-set)
-
-pub returns-clause-rooms : goal.returns-clause-rooms
-returns-clause-rooms c = grind (arith, common_steps, list_at-numbers_of, room_at, map-set_same, vec_capacity)
+pub returns : goal.returns
+returns c = grind (arith, common_steps, list_at-numbers_of, numbers_of-set, room_at, map-set_same, vec_capacity)

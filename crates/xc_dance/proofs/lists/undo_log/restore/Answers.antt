@@ -3,8 +3,5 @@ use Rattle.std.proofs.lemmas.Grind.{common_steps}
 use Rattle.xc_dance.proofs.LiveLists.Marks.{restored_at}
 use Rattle.xc_dance.proofs.lists.undo_log.restore.Goals as goal
 
-pub returns-clause-lists : goal.returns-clause-lists
-returns-clause-lists c = grind (arith, common_steps, restored_at)
-
-pub returns-clause-taken : goal.returns-clause-taken
-returns-clause-taken c = grind (arith, common_steps, restored_at)
+pub returns : goal.returns
+returns c = grind (arith, common_steps, restored_at)
