@@ -5,9 +5,6 @@ use Rattle.xc_dance.proofs.LinkedTables.PlaceLemmas.{place_first, option_fits, u
 use Rattle.xc_dance.proofs.LinkedTables.PassedOptions.{behind_first, before_last, option_between}
 use Rattle.xc_dance.proofs.places.number_at.Goals as goal
 
-pub loop-before-init : goal.loop-before-init
-loop-before-init c = grind (arith, common_steps, behind_first, place_first)
-
 pub returns-then-place-spacer : goal.returns-then-place-spacer
 returns-then-place-spacer c = λ i x u.
     let p = c.args.problem.now.puzzle in
@@ -18,6 +15,3 @@ returns-then-place-spacer c = λ i x u.
     let at = c.loop-before.invariant.spacer in
     option_between p i x c.args.place o u (omega (arith, at, c.loop-before.invariant.passed))
     (omega (arith, at, (option_fits p o us c.option.ensures.whole.limits within found).next, c.if-place-spacer.true))
-
-pub unreachable-requires : goal.unreachable-requires
-unreachable-requires c = grind (arith, common_steps, before_last)

@@ -7,9 +7,6 @@ use Rattle.xc_dance.specs.Commits.{CanStand, after_use}
 use Rattle.xc_dance.proofs.MoveLemmas.Commits.{at_use, stood_before}
 use Rattle.xc_dance.proofs.dance.Dance.commit_uses.Goals as goal
 
-pub commit_use-requires-clause-same : goal.commit_use-requires-clause-same
-commit_use-requires-clause-same g c = ap (λ (s : Dancing). s.puzzle) c.loop-u.invariant ∙ c.requires.same
-
 pub commit_use-requires-clause-stands : goal.commit_use-requires-clause-stands
 commit_use-requires-clause-stands g c =
     let d : Use = record { item = 0; colour = 0 } in

@@ -56,19 +56,14 @@ node_place-requires g c =
     grind (arith, common_steps)
 
 pub returns-in-Some-clause-place : goal.returns-in-Some-clause-place
-returns-in-Some-clause-place g c = λ x at.
-    let next = next_is g (goal.at.returns-in-Some-clause-place g c).Joined-place-items x at in
-    grind (arith, common_steps)
+returns-in-Some-clause-place g c = λ x at. grind (arith, common_steps, next_is)
 
 pub returns-in-Some-clause-option : goal.returns-in-Some-clause-option
 returns-in-Some-clause-option g c = λ x at.
     place_tells (g.Self.Dance.state c.args.self.now) _ x _ c.requires.item (returns-in-Some-clause-place g c x at)
 
 pub returns-in-None-clause-place : goal.returns-in-None-clause-place
-returns-in-None-clause-place g c = λ x at.
-    let next = next_is g (goal.at.returns-in-None-clause-place g c).Joined-place-items x at in
-    grind (arith, common_steps)
+returns-in-None-clause-place g c = λ x at. grind (arith, common_steps, next_is)
 
 pub returns-in-None-clause-option : goal.returns-in-None-clause-option
-returns-in-None-clause-option g c = λ x at.
-    place_tells (g.Self.Dance.state c.args.self.now) _ x _ c.requires.item (returns-in-None-clause-place g c x at)
+returns-in-None-clause-option g c = λ x at. grind (arith, common_steps, place_tells, returns-in-None-clause-place)

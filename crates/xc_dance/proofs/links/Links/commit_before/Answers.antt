@@ -25,9 +25,7 @@ led c x held = leads _ held (c.requires.end x held)
 pub ulink-first-requires : goal.ulink-first-requires
 ulink-first-requires c =
     let here = (goal.at.ulink-first-requires c).After-self in
-    let s = c.args.self.now in
-    let long = length-map (layout s.puzzle) (ulink_in s.puzzle (line_of s.puzzle s.trail)) in
-    omega (arith, (led here _ c.requires.can.1).within, ap (λ (n : Nodes). length n.ulink) (first_nodes here) ∙ long)
+    grind (arith, common_steps, length-map, first_nodes here, led here)
 
 -- the walk begins at the option's first node
 first_is : (c : After-self) (first x : ℕ) → first ≡ slice_index c.self.inside.nodes.ulink c.args.end →

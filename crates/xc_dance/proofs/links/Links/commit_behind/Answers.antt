@@ -23,11 +23,7 @@ laid c = subst (λ (s : Linked). IsLaid s.puzzle) c.self.view_is c.self.invarian
 -- where the walk begins
 begun : (c : After-self) → Behind c.args.self.now.puzzle c.args.i c.requires.0 c.args.place c.args.self.now.trail
     c.args.self.now.trail (c.args.place + 1)
-begun c =
-    let s = c.args.self.now in
-    behind_at (laid c) c.requires.1
-    (along_first s.puzzle (c.args.place + 1) (c.args.place + 1) (uses_behind s.puzzle c.args.i c.requires.0)
-    s.trail refl)
+begun c = behind_at (laid c) c.requires.1 (along_first _ _ _ _ _ refl)
 
 pub overflow_add-q : goal.overflow_add-q
 overflow_add-q c = grind (arith, common_steps, begun, fit)
@@ -39,9 +35,8 @@ loop-self-init c = none_yet _ (λ x held. refl)
 found : (c : After-self-in-loop-self) (x : ℕ) → IsUseAt c.args.self.now.puzzle c.args.i x c.args.place →
     Behind c.args.self.now.puzzle c.args.i x c.args.place c.args.self.now.trail c.loop-self.self.trail c.loop-self.q
 found c x held =
-    let p = c.args.self.now.puzzle in
-    let laid : IsLaid p = subst (λ (s : Linked). IsLaid s.puzzle) c.self.view_is c.self.invariant.fitted.laid in
-    behind_at laid held (c.loop-self.invariant.along x held)
+    behind_at (subst (λ (s : Linked). IsLaid s.puzzle) c.self.view_is c.self.invariant.fitted.laid) held
+    (c.loop-self.invariant.along x held)
 
 nodes_is : (c : After-self-in-loop-self) → c.self-in-loop-self.inside.nodes
     ≡ nodes_after c.args.self.now.puzzle c.loop-self.self.trail
@@ -76,12 +71,10 @@ commit_node-requires c =
 pub overflow_add-q-in-loop-self : goal.overflow_add-q-in-loop-self
 overflow_add-q-in-loop-self c =
     let at = goal.at.overflow_add-q-in-loop-self c in
-    omega (arith, (found at.After-self-in-loop-self _ c.requires.1).within, (fit at.After-self).near)
+    grind (arith, common_steps, found at.After-self-in-loop-self, fit at.After-self)
 
 pub loop-self-smaller : goal.loop-self-smaller
-loop-self-smaller c =
-    let within = (found (goal.at.loop-self-smaller c).After-self-in-loop-self _ c.requires.1).within in
-    omega (arith, within)
+loop-self-smaller c = grind (arith, common_steps, found (goal.at.loop-self-smaller c).After-self-in-loop-self)
 
 pub loop-self-preserved : goal.loop-self-preserved
 loop-self-preserved c =

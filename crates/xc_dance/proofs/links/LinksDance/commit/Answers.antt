@@ -20,6 +20,3 @@ commit_before-requires-clause-can c = grind (arith, common_steps, after_uses-app
 
 pub returns-clause-committed : goal.returns-clause-committed
 returns-clause-committed c = λ x held. grind (arith, common_steps, after_uses-append)
-
-pub returns-clause-written : goal.returns-clause-written
-returns-clause-written c = grind (arith, common_steps, written_then)

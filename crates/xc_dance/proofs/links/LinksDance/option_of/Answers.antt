@@ -1,3 +1,5 @@
+use Rattle.std.proofs.Common.{arith}
+use Rattle.std.proofs.lemmas.Grind.{common_steps}
 use Rattle.std.proofs.Common.{ap, ◌∙◌}
 use Rattle.std.specs.Prelude.{unwrap_or}
 use Rattle.xc_dance.proofs.LinkedTables.CommitLemmas.{use_name, use_node, named_back}
@@ -7,5 +9,4 @@ pub option_at-requires-clause-node : goal.option_at-requires-clause-node
 option_at-requires-clause-node c = use_node c.requires.place.1
 
 pub returns : goal.returns
-returns c = λ x u. c.unwrap_or.ensures
-    ∙ ap (λ o. unwrap_or o 0) (c.option_at.ensures x (use_name u) u.at) ∙ named_back x
+returns c = λ x u. grind (arith, common_steps, use_name, named_back)

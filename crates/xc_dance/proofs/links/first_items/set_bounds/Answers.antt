@@ -15,25 +15,18 @@ set-requires c = grind (arith, common_steps, column_len)
 -- the item has the bounds of its number
 bounds_here : (c : After-item-item)
     → bounds_at c.args.problem.now.puzzle (c.loop-i.i + 1) ≡ Some (bounds_of c.item-item.result.now)
-bounds_here c =
-    c.item-item.ensures.bounds (omega arith, omega (arith, c.loop-i-test.true, c.primary-i-end.ensures.value))
-
-high_here : (c : After-item-item) → c.item-item.result.now.high ≡ high_at c.args.problem.now.puzzle (c.loop-i.i + 1)
-high_here c = sym (ap (λ (b : Option Bounds). (unwrap_or b (record { low = 0; high = 0 })).high) (bounds_here c))
-
-low_here : (c : After-item-item) → c.item-item.result.now.low ≡ low_at c.args.problem.now.puzzle (c.loop-i.i + 1)
-low_here c = sym (ap (λ (b : Option Bounds). (unwrap_or b (record { low = 0; high = 0 })).low) (bounds_here c))
+bounds_here c = grind (arith, common_steps)
 
 pub overflow_sub-item : goal.overflow_sub-item
 overflow_sub-item c =
-    let at = (goal.at.overflow_sub-item c).After-item-item in
-    omega (arith, low_here at, high_here at, low_most (c.loop-i.i + 1) c.requires.valid)
+    let at = bounds_here (goal.at.overflow_sub-item c).After-item-item in
+    let low = low_most (c.loop-i.i + 1) c.requires.valid in grind (arith, common_steps)
 
 pub set-requires-in-loop-i : goal.set-requires-in-loop-i
 set-requires-in-loop-i c = grind (arith, common_steps, column_len)
 
 pub loop-i-preserved : goal.loop-i-preserved
-loop-i-preserved c = grind (arith, common_steps, bound_is, column_more, same_items, slack_is)
+loop-i-preserved c = grind (arith, common_steps, bound_is, bounds_here, column_more, same_items, slack_is)
 
 pub returns : goal.returns
 returns c = grind (arith, common_steps, bounds_set)

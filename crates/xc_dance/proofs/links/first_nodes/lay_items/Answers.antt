@@ -1,3 +1,4 @@
+use Rattle.std.proofs.lemmas.Grind.{common_steps}
 use Rattle.std.proofs.Common.{arith, ◌<◌, ◌∙◌, ap, sym, subst, length}
 use Rattle.xc_dance.specs.declared.links.nodes.Row.{Row}
 use Rattle.xc_dance.specs.inner.Links.Columns.{Laying}
@@ -7,9 +8,7 @@ use Rattle.xc_dance.proofs.links.first_nodes.lay_items.Goals as goal
 
 pub lay-requires : goal.lay-requires
 lay-requires c =
-    let p = c.args.problem.now.puzzle in
-    let at = own_row p c.loop-i.i (omega (arith, c.loop-i-test.true, c.items-i-end.ensures.value)) in
-    subst (λ (t : Laying). length t.nodes.top < t.count) (sym c.loop-i.invariant) (laid_room _ _ at.1)
+    let e = own_row c.args.problem.now.puzzle c.loop-i.i in grind (arith, common_steps, laid_room)
 
 pub loop-i-preserved : goal.loop-i-preserved
 loop-i-preserved c =

@@ -1,3 +1,5 @@
+use Rattle.std.proofs.Common.{arith}
+use Rattle.std.proofs.lemmas.Grind.{common_steps}
 use Rattle.std.proofs.Common.{◌<◌, ◌∙◌, ◌+◌, ap, sym, subst, length}
 use Rattle.std.specs.Prelude.{slice_get}
 use Rattle.xc_dance.specs.Fields.{layout}
@@ -11,8 +13,7 @@ use Rattle.xc_dance.specs.declared.links.nodes.TheConstants.{SPACER}
 
 pub lay-requires : goal.lay-requires
 lay-requires c =
-    let at = ap (slice_get (layout c.args.problem.now.puzzle)) c.requires.place ∙ spacer_here _ _ c.requires.option in
-    subst (λ (t : Laying). length t.nodes.top < t.count) (sym c.requires.before) (laid_room _ _ at)
+    let at = spacer_here c.args.problem.now.puzzle c.args.o in grind (arith, common_steps, laid_room)
 
 pub returns : goal.returns
 returns c =

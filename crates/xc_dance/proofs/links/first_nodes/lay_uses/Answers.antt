@@ -1,3 +1,4 @@
+use Rattle.std.proofs.lemmas.Grind.{common_steps}
 use Rattle.std.proofs.Common.{arith, ◌≡◌, ◌<◌, ◌∙◌, ◌+◌, ap, sym, refl, subst, length, get_or}
 use Rattle.std.proofs.lemmas.Option.{slice_get-get_or}
 use Rattle.xc_input.specs.declared.problem.Use.{Use}
@@ -31,9 +32,7 @@ node c =
     use_here _ _ _ (place_now c) _ _ fits.at (slice_get-get_or us c.loop-u.u-index _ c.loop-u-test.true) refl
 
 pub lay-requires : goal.lay-requires
-lay-requires c =
-    let here = (goal.at.lay-requires c).In-loop-u in
-    subst (λ (t : Laying). length t.nodes.top < t.count) (sym c.loop-u.invariant) (laid_room _ _ (node here))
+lay-requires c = grind (arith, common_steps, laid_room, node (goal.at.lay-requires c).In-loop-u)
 
 pub loop-u-preserved : goal.loop-u-preserved
 loop-u-preserved c =
@@ -48,8 +47,6 @@ loop-u-preserved c =
 pub returns : goal.returns
 returns c =
     let p = c.args.problem.now.puzzle in
-    let fits = option_fits _ _ _ c.requires.limits c.requires.option
-    (uses_here p (c.args.o + 1) _ c.option-u-items.ensures.value) in
-    let end : spacer_place p c.args.o + 1 + c.loop-u.u-index ≡ spacer_place p (c.args.o + 1) =
-    omega (arith, fits.next, c.loop-u-test.false, c.loop-u.auto.u-index-end) in
-    c.loop-u.invariant ∙ ap (laid_to p) end
+    let found = uses_here p (c.args.o + 1) _ c.option-u-items.ensures.value in
+    let fits = option_fits _ _ _ c.requires.limits c.requires.option found in
+    grind (arith, common_steps)

@@ -15,24 +15,16 @@ fits c =
     option_fits _ _ _ c.requires within (uses_here p (c.loop-o.o + 1) _ c.option.ensures.value)
 
 pub overflow_cast-start : goal.overflow_cast-start
-overflow_cast-start c =
-    let at = fits (goal.at.overflow_cast-start c).After-option in omega (arith, at.next, at.within, at.small)
+overflow_cast-start c = grind (arith, common_steps, fits (goal.at.overflow_cast-start c).After-option)
 
 pub overflow_add-start-in-loop-o : goal.overflow_add-start-in-loop-o
-overflow_add-start-in-loop-o c =
-    let at = fits (goal.at.overflow_add-start-in-loop-o c).After-option in omega (arith, at.next, at.within, at.small)
+overflow_add-start-in-loop-o c = grind (arith, common_steps, fits (goal.at.overflow_add-start-in-loop-o c).After-option)
 
 pub overflow_add-start-in-loop-o-2 : goal.overflow_add-start-in-loop-o-2
 overflow_add-start-in-loop-o-2 c =
-    let at = fits (goal.at.overflow_add-start-in-loop-o-2 c).After-option in
-    omega (arith, at.next, at.within, at.small, c.loop-o.invariant.start)
+    grind (arith, common_steps, fits (goal.at.overflow_add-start-in-loop-o-2 c).After-option)
 
 pub loop-o-preserved : goal.loop-o-preserved
 loop-o-preserved c =
-    let o = c.loop-o.o in
-    record {
-      starts = c.in_ok-push.ensures.items ∙ ap (λ l. l ++ c.loop-o.start ∷ []) c.loop-o.invariant.starts
-          ∙ ap (λ v. starts_to c.args.problem.now.puzzle o ++ v ∷ []) c.loop-o.invariant.start
-          ∙ sym (map-range_with_len_more (start_at c.args.problem.now.puzzle) 0 o o (omega arith));
-      start = grind (arith, common_steps, option_place);
-    }
+    let e = map-range_with_len_more (start_at c.args.problem.now.puzzle) 0 c.loop-o.o c.loop-o.o in
+    grind (arith, common_steps, option_place)

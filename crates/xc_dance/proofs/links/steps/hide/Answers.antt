@@ -27,13 +27,9 @@ told : (c : After-get_at) → (let end = (span_at c.args.spans.now c.args.p).end
     c.loop-top.q end (places c.loop-top.q end))
 told c = grind (arith, common_steps, places_more, places_none, tells)
 
-high : (c : After-get_at) → SPACER ≤ c.get_at.result → SPACER ≤ get_or (now c).top c.loop-top.q 0
-high c h = let e = c.get_at.ensures in omega (arith, e, h)
-
 -- there is a step to make
 goes : (c : After-get_at) → c.get_at.result < SPACER → c.loop-top.q < (span_at c.args.spans.now c.args.p).end
-goes c low = let e = c.get_at.ensures in let ne = (told c).low (omega (arith, e, low)) in let to =
-    c.loop-top.invariant.to in omega (arith, ne, to)
+goes c low = grind (arith, common_steps, told c)
 
 pub loop-top-init : goal.loop-top-init
 loop-top-init c = grind (arith, common_steps, underway, up)
@@ -47,41 +43,39 @@ hide_one-above-requires-clause-can c =
 
 pub hide_one-above-requires-clause-unmarked : goal.hide_one-above-requires-clause-unmarked
 hide_one-above-requires-clause-unmarked c =
-    λ m. ((c.requires.unmarked m).others c.args.p c.requires.span).0 c.loop-top.q
-    (omega (arith, c.loop-top.invariant.behind))
-    (goes (goal.at.hide_one-above-requires-clause-unmarked c).After-get_at c.loop-top-test.true)
+    let below = goes (goal.at.hide_one-above-requires-clause-unmarked c).After-get_at c.loop-top-test.true in
+    λ m. ((c.requires.unmarked m).others c.args.p c.requires.span).0 c.loop-top.q (omega arith) below
 
 pub loop-top-preserved : goal.loop-top-preserved
 loop-top-preserved c =
     grind (arith, common_steps, places_more, step_on, goes (goal.at.loop-top-preserved c).After-get_at)
 
 pub up_at-first-requires : goal.up_at-first-requires
-up_at-first-requires c =
-    let at = (goal.at.up_at-first-requires c).After-get_at in grind (arith, common_steps, told at, high at)
+up_at-first-requires c = grind (arith, common_steps, told (goal.at.up_at-first-requires c).After-get_at)
 
 -- the spacer leads to the first node
 leads : (c : After-get_at) → SPACER ≤ c.get_at.result → (first : ℕ) → first ≡ get_or (now c).ulink c.loop-top.q 0
     → first ≡ (span_at c.args.spans.now c.args.p).first
-leads c met first is = grind (arith, common_steps, high c, told c)
+leads c met first is = grind (arith, common_steps, told c)
 
 -- and there the rest of the walk begins
 rest : (c : After-get_at) → SPACER ≤ c.get_at.result → (first : ℕ) → first ≡ get_or (now c).ulink c.loop-top.q 0
     → Met hidden hide_cost CanHide (columns c.args.top.now c.args.links.now c.args.color.now)
     (others_of c.args.spans.now c.args.p) (now c) c.loop-top.above (places first c.args.p)
 rest c spacer first is =
-    met _ _ _ _ _ refl c.requires.can.steps c.loop-top.invariant.walk (told c) (high c spacer)
+    let e = c.get_at.ensures in
+    met _ _ _ _ _ refl c.requires.can.steps c.loop-top.invariant.walk (told c) (omega (arith, e, spacer))
     (ap (λ a. places a c.args.p) (leads c spacer first is))
 
 pub hide_range-below-requires-clause-can : goal.hide_range-below-requires-clause-can
-hide_range-below-requires-clause-can c = (rest (goal.at.hide_range-below-requires-clause-can c).After-get_at
-    c.loop-top-test.false _ c.up_at-first.ensures).can
+hide_range-below-requires-clause-can c =
+    grind (arith, common_steps, rest (goal.at.hide_range-below-requires-clause-can c).After-get_at)
 
 pub hide_range-below-requires-clause-unmarked : goal.hide_range-below-requires-clause-unmarked
-hide_range-below-requires-clause-unmarked c = λ m q from below.
-    let first =
-    leads (goal.at.hide_range-below-requires-clause-unmarked c).After-get_at c.loop-top-test.false
+hide_range-below-requires-clause-unmarked c =
+    let first = leads (goal.at.hide_range-below-requires-clause-unmarked c).After-get_at c.loop-top-test.false
     c.up_at-first.result c.up_at-first.ensures in
-    ((c.requires.unmarked m).others c.args.p c.requires.span).1 q (omega (arith, first, from)) below
+    λ m q from below. ((c.requires.unmarked m).others c.args.p c.requires.span).1 q (omega (arith, first, from)) below
 
 pub returns-clause-done : goal.returns-clause-done
 returns-clause-done c = ((rest (goal.at.returns-clause-done c).After-get_at c.loop-top-test.false _

@@ -38,13 +38,9 @@ told : (c : After-get_at) → (let s = span_at c.args.spans.now c.args.p in Tell
     c.loop-top.q (s.first - 1) (reverse (places s.first (c.loop-top.q + 1))))
 told c = grind (arith, common_steps, places_none, tells, next)
 
-high : (c : After-get_at) → SPACER ≤ c.get_at.result → SPACER ≤ get_or (now c).top c.loop-top.q 0
-high c h = let e = c.get_at.ensures in omega (arith, e, h)
-
 -- there is a step to make
 goes : (c : After-get_at) → c.get_at.result < SPACER → (span_at c.args.spans.now c.args.p).first ≤ c.loop-top.q
-goes c low = let e = c.get_at.ensures in let ne = (told c).low (omega (arith, e, low)) in let from =
-    c.loop-top.invariant.from in omega (arith, ne, from)
+goes c low = grind (arith, common_steps, told c)
 
 pub loop-top-init : goal.loop-top-init
 loop-top-init c = grind (arith, common_steps, underway, down)
@@ -58,21 +54,18 @@ unhide_one-below-requires-clause-can c =
 
 pub unhide_one-below-requires-clause-unmarked : goal.unhide_one-below-requires-clause-unmarked
 unhide_one-below-requires-clause-unmarked c =
-    λ m. ((c.requires.unmarked m).others c.args.p c.requires.span).1 c.loop-top.q
-    (goes (goal.at.unhide_one-below-requires-clause-unmarked c).After-get_at c.loop-top-test.true)
-    c.loop-top.invariant.before
+    let low = goes (goal.at.unhide_one-below-requires-clause-unmarked c).After-get_at c.loop-top-test.true in
+    λ m. ((c.requires.unmarked m).others c.args.p c.requires.span).1 c.loop-top.q low c.loop-top.invariant.before
 
 pub loop-top-preserved : goal.loop-top-preserved
 loop-top-preserved c = grind (arith, common_steps, step_on, next, goes (goal.at.loop-top-preserved c).After-get_at)
 
 pub down_at-requires : goal.down_at-requires
-down_at-requires c = let at = (goal.at.down_at-requires c).After-get_at in grind (arith, common_steps, told at, high at)
+down_at-requires c = grind (arith, common_steps, told (goal.at.down_at-requires c).After-get_at)
 
 -- the spacer leads to the last node
 leads : (c : After-down_at) → c.down_at.result + 1 ≡ (span_at c.args.spans.now c.args.p).end
-leads c =
-    let at = (goal.at.overflow_add-end c).After-get_at in
-    grind (arith, common_steps, high at c.loop-top-test.false, told at)
+leads c = grind (arith, common_steps, told (goal.at.overflow_add-end c).After-get_at)
 
 pub overflow_add-end : goal.overflow_add-end
 overflow_add-end c = grind (arith, common_steps, leads)
@@ -86,11 +79,10 @@ rest c =
     let s = span_at c.args.spans.now c.args.p in
     let at = (goal.at.overflow_add-end c).After-get_at in
     met _ _ _ _ _ (both c.args.p s.first s.end) c.requires.can.steps c.loop-top.invariant.walk (told at)
-    (high at c.loop-top-test.false) (ap (λ b. reverse (places (c.args.p + 1) b)) (leads c))
+    (omega (arith, c.get_at.ensures, c.loop-top-test.false)) (ap (λ b. reverse (places (c.args.p + 1) b)) (leads c))
 
 pub unhide_range-above-requires-clause-can : goal.unhide_range-above-requires-clause-can
-unhide_range-above-requires-clause-can c =
-    (rest (goal.at.unhide_range-above-requires-clause-can c).After-down_at).can
+unhide_range-above-requires-clause-can c = grind (arith, common_steps, rest)
 
 pub unhide_range-above-requires-clause-unmarked : goal.unhide_range-above-requires-clause-unmarked
 unhide_range-above-requires-clause-unmarked c = λ m q from below.

@@ -13,14 +13,8 @@ use Rattle.xc_dance.proofs.lists.hide.tweak.Goals as goal
 pub hide_if_open-requires-clause-option : goal.hide_if_open-requires-clause-option
 hide_if_open-requires-clause-option c =
     let p = c.args.standing.now.puzzle in
-    let t = c.args.standing.now.trail in
-    let i = c.args.item in
-    let are = lists_hold p t in
-    let row : c.list.result.now ≡ list_at (lists_after p t) (i - 1) = grind (arith, common_steps) in
-    let list =
-    list_of p 1 (i - 1) (lists_after p t) are.1 (omega (arith, are.0, c.requires.item.0, c.requires.item.1)) in
-    let some : 0 < length (list_at (lists_after p t) (i - 1)) =
-    omega (arith, c.requires.option, ap (λ l. length l) c.list.ensures, ap (λ l. length l) row) in
+    let are = lists_hold p c.args.standing.now.trail in
+    let list = list_of p 1 (c.args.item - 1) (lists_after p c.args.standing.now.trail) are.1 in
     grind (arith, common_steps, known_option)
 
 pub hide_if_open-requires-clause-lists : goal.hide_if_open-requires-clause-lists
@@ -29,22 +23,14 @@ hide_if_open-requires-clause-lists c = grind (arith, common_steps, lists_hold)
 pub take_out-requires-clause-list : goal.take_out-requires-clause-list
 take_out-requires-clause-list c =
     let p = c.args.standing.now.puzzle in
-    let t = c.args.standing.now.trail in
-    let now = ap (λ (v : Versions). v.lists) c.hide_if_open.ensures
-    ∙ ap (λ l. first_hidden t c.args.item (get_or c.list.result.now 0 0) l) c.requires.lists in
-    let are = first_hidden_lists p t c.args.item (get_or c.list.result.now 0 0) (lists_after p t) (lists_hold p t) in
-    omega (arith, ap (λ l. length l) now, are.0, c.requires.item.0, c.requires.item.1)
+    let are = first_hidden_lists p c.args.standing.now.trail c.args.item (get_or c.list.result.now 0 0) in
+    grind (arith, common_steps, lists_hold)
 
 pub take_out-requires-clause-rises : goal.take_out-requires-clause-rises
 take_out-requires-clause-rises c =
     let p = c.args.standing.now.puzzle in
-    let t = c.args.standing.now.trail in
-    let i = c.args.item in
-    let now = ap (λ (v : Versions). v.lists) c.hide_if_open.ensures
-    ∙ ap (λ l. first_hidden t i (get_or c.list.result.now 0 0) l) c.requires.lists in
-    let are = first_hidden_lists p t i (get_or c.list.result.now 0 0) (lists_after p t) (lists_hold p t) in
-    let P : List (List ℕ) → Type 0 = λ l. Rises 0 (list_at l (i - 1)) in
-    grind (arith, common_steps, list_of)
+    let are = first_hidden_lists p c.args.standing.now.trail c.args.item (get_or c.list.result.now 0 0) in
+    grind (arith, common_steps, lists_hold, list_of)
 
 pub returns : goal.returns
 returns c = grind (arith, common_steps, length_numbers, list_after, lists_tweaked, same_versions)

@@ -5,11 +5,8 @@ use Rattle.xc_dance.proofs.lists.trail.Trail.is_purified.Goals as goal
 use Rattle.xc_dance.proofs.lists.trail.Trail.is_purified.Goals.{After-index}
 use Rattle.xc_dance.specs.inner.Lists.States.{state_of}
 
-state : (c : After-index) → state_of c.args.item (reverse c.self.inside.moves.items) ≡ c.index.result.now
-state c = grind (arith, common_steps)
-
 pub returns-in-Purified : goal.returns-in-Purified
-returns-in-Purified c = grind (arith, common_steps, purified_by_state, state)
+returns-in-Purified c = grind (arith, common_steps, purified_by_state)
 
 pub returns-in_default : goal.returns-in_default
-returns-in_default c = grind (arith, common_steps, purified_by_state, state, unpurified_state)
+returns-in_default c = grind (arith, common_steps, purified_by_state, unpurified_state)
