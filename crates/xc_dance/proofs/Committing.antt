@@ -1,3 +1,5 @@
+use Rattle.std.proofs.Common.{arith}
+use Rattle.std.proofs.lemmas.Grind.{common_steps}
 -- Commits of the uses on one side of an option's node: where a walk over their nodes stands, and its next step.
 use Rattle.std.proofs.Common.{◌≡◌, ℕ, ◌+◌, List, refl}
 use Rattle.xc_input.specs.declared.problem.Use.{Use}
@@ -18,8 +20,7 @@ pub record IsCommitting (Held : ℕ → Type 0) (off : ℕ → ℕ) (vs : ℕ �
 
 pub none_yet : {Held : ℕ → Type 0} {off : ℕ → ℕ} {vs : ℕ → List Use} (s : Linked) {q : ℕ}
     → ((x : ℕ) → Held x → q ≡ off x) → IsCommitting Held off vs s s q
-none_yet s {q} e =
-    record { puzzle = refl; room = refl; written = refl; along = λ x held. along_first _ _ q _ _ (e x held) }
+none_yet s {q} e = grind (arith, common_steps, along_first)
 
 -- the node at place q is of the next use, of item j
 module _ {Held : ℕ → Type 0} {off : ℕ → ℕ} {vs : ℕ → List Use} {s now : Linked} {q j : ℕ} where
@@ -34,9 +35,4 @@ module _ {Held : ℕ → Type 0} {off : ℕ → ℕ} {vs : ℕ → List Use} {s 
   one_more new a {x} held next is made written =
       let step : (y : ℕ) → Held y → Committed s.puzzle (off y) (vs y) s.trail s.room new (q + 1) =
       λ y h. one_committed now new (next y h) a.puzzle a.room is made in
-      record {
-        puzzle = (step x held).puzzle;
-        room = (step x held).room;
-        written = written_then s now new a.puzzle a.written written;
-        along = λ y h. (step y h).along;
-      }
+      grind (arith, common_steps)

@@ -74,8 +74,7 @@ pub list_of : (p : Puzzle) (n k : ℕ) (ls : List (List ℕ)) → AreListsFrom p
     → IsListOf p (n + k) (list_at ls k)
 list_of p n k [] h lt = absurd (omega (arith, lt))
 list_of p n zero (l ∷ ls) h lt = let same : n + 0 ≡ n = omega arith in rw same h.0
-list_of p n (suc k) (l ∷ ls) h lt =
-    let same : n + suc k ≡ (n + 1) + k = omega arith in rw same (list_of p (n + 1) k ls h.1 (omega (arith, lt)))
+list_of p n (suc k) (l ∷ ls) h lt = grind (arith, common_steps, list_of p (n + 1) k ls h.1 (omega (arith, lt)))
 
 pub lose_none : (t : List Move) (j n : ℕ) (ls : List (List ℕ)) → lose_from t j [] n ls ≡ ls
 lose_none t j n [] = grind (arith, common_steps, less_none)
@@ -101,7 +100,6 @@ pub read_option : (p : Puzzle) (t : List Move) (j : ℕ) (gone : List ℕ) (at :
     now ≡ lose_from t j gone 1 ls → row ≡ list_at now (j - 1) → at < length (list_at ls (j - 1)) →
     (row ≡ list_at ls (j - 1)) × ((1 ≤ get_or row at 0) × (get_or row at 0 ≤ option_count p))
 read_option p t j gone at row now ls low high are is read lt =
-    let place : 1 + (j - 1) ≡ j = omega (arith, low) in
     let same : row ≡ list_at ls (j - 1) = grind (arith, common_steps, lose_other) in
     let list = list_of p 1 (j - 1) ls are (omega (arith, low, high)) in
     grind (arith, common_steps, known_option p (get_or (list_at ls (j - 1)) at 0) (1 + (j - 1)) (list.1 at 0 lt))
@@ -113,12 +111,10 @@ hidden_none t j o n [] = grind (arith, common_steps, and-false)
 hidden_none t j o n (l ∷ ls) = grind (arith, common_steps, and-false, hidden_none t j o (n + 1) ls)
 
 pub has_use_more : (us : List Use) (u : Use) (i : ℕ) → has_use (us ++ u ∷ []) i ≡ (has_use us i || eqb u.item i)
-has_use_more us u i =
-    list_any-append (λ v. eqb v.item i) us (u ∷ []) ∙ ap (λ b. has_use us i || b) (or-false (eqb u.item i))
+has_use_more us u i = grind (arith, common_steps, list_any-append, or-false)
 
 pub has_use_other : (us : List Use) (u : Use) (i : ℕ) → u.item ≢ i → has_use (us ++ u ∷ []) i ≡ has_use us i
-has_use_other us u i other =
-    has_use_more us u i ∙ ap (λ b. has_use us i || b) (ne_eqb u.item i other) ∙ or-false (has_use us i)
+has_use_other us u i other = grind (arith, common_steps, has_use_more, ne_eqb, or-false)
 
 hidden_above : (t : List Move) (j : ℕ) (us : List Use) (u : Use) (o n : ℕ) (ls : List (List ℕ)) → u.item < n
     → hidden_from t j us o n ls ≡ hidden_from t j (us ++ u ∷ []) o n ls

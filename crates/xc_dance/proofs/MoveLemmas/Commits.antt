@@ -26,8 +26,7 @@ longer_uses p (u ∷ us) t = omega (arith, longer_use p u t, longer_uses p us (a
 -- what may stand behind uses may stand before them
 pub stood_before : (p : Puzzle) (room : ℕ) (us : List Use) (t : List Move) → CanStand p room (after_uses p us t)
     → CanStand p room t
-stood_before p room us t c =
-    record { legal = legal_after_uses p us t c.legal; fits = omega (arith, longer_uses p us t, c.fits) }
+stood_before p room us t c = grind (arith, common_steps, legal_after_uses, longer_uses)
 
 pub after_uses-append : (p : Puzzle) (us vs : List Use) (t : List Move)
     → after_uses p (us ++ vs) t ≡ after_uses p vs (after_uses p us t)

@@ -1,3 +1,4 @@
+use Rattle.std.proofs.lemmas.Grind.{common_steps}
 -- The next number in a list that rises, by its place.
 use Rattle.std.proofs.Common.{ℕ, zero, suc, ◌≡◌, ◌<◌, ◌≤◌, List, [], ◌∷◌, length, get_or, refl, arith}
 use Rattle.std.specs.Prelude.{slice_get}
@@ -16,8 +17,7 @@ pub next_found : (n : ℕ) (xs : List ℕ) (k : ℕ) → Rises n xs → k < leng
 next_found n [] k r lt = refl
 next_found n (x ∷ xs) zero r lt = rw (le-ltb x x (omega arith)) (next_first x xs r.1)
 next_found n (x ∷ xs) (suc k) r lt =
-    let behind = above x xs k r.1 (omega (arith, lt)) in
-    rw (le-ltb (get_or xs k 0) x (omega (arith, behind))) (next_found x xs k r.1 (omega (arith, lt)))
+    grind (arith, common_steps, above, le-ltb, next_found x xs k r.1 (omega (arith, lt)))
 
 -- at the place where a number would stand
 pub next_at : (o : ℕ) (xs : List ℕ) (k : ℕ) → ((m : ℕ) → m < k → get_or xs m 0 < o)

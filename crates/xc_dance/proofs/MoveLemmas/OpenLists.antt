@@ -32,31 +32,30 @@ above n (o ∷ os) r = (r.0, above n os (NumbersRise-weaker n o.number os (omega
 -- an option below all of a list isn't in it
 not_among : (x : Numbered) (n : ℕ) (os : List Numbered) → x.number ≤ n → NumbersRise n os → is_among os x ≡ false
 not_among x n [] h r = refl
-not_among x n (o ∷ os) h r =
-    rw (ne_eqb o.number x.number (λ e. omega (arith, r.0, h, e))) (not_among x o.number os (omega (arith, r.0)) r.1)
+not_among x n (o ∷ os) h r = grind (arith, common_steps, ne_eqb, not_among x o.number os (omega (arith, r.0)) r.1)
 
 -- an option below all of a list makes no difference there
 passed_over : (x : Numbered) (gone os : List Numbered) → NumbersRise x.number os
     → without (x ∷ gone) os ≡ without gone os
-passed_over x gone os r = filter_same _ _ os (each_weaker (λ o. x.number < o.number) _ os
-    (λ o h. rw (ne_eqb x.number o.number (λ e. omega (arith, h, e))) refl) (above x.number os r))
+passed_over x gone os r = grind (arith, common_steps, filter_same, each_weaker, ne_eqb, above)
 
 pub without_filter : (q : Numbered → Bool) (n : ℕ) (os : List Numbered) → NumbersRise n os
     → without (filter q os) os ≡ filter (λ o. not (q o)) os
 without_filter q n [] r = refl
 without_filter q n (x ∷ os) r =
-    let rest = without_filter q x.number os r.1 in
-    elim (q x) as (λ b. without (cond b (x ∷ filter q os) (filter q os)) (x ∷ os)
-    ≡ cond (not b) (x ∷ filter (λ o. not (q o)) os) (filter (λ o. not (q o)) os)) [
-      | true ↦ rw (eq-eqb x.number x.number refl) (passed_over x (filter q os) os r.1 ∙ rest)
-      | false ↦ rw (not_among x x.number (filter q os) (omega arith) (NumbersRise-filter q x.number os r.1))
-          (ap (λ l. x ∷ l) rest)
-    ]
+    grind (
+      arith,
+      common_steps,
+      eq-eqb,
+      passed_over,
+      not_among,
+      NumbersRise-filter,
+      without_filter q x.number os r.1,
+    )
 
 pub without_first : (n : ℕ) (os : List Numbered) → NumbersRise n os → without (take 1 os) os ≡ drop 1 os
 without_first n [] r = refl
-without_first n (x ∷ os) r =
-    rw (eq-eqb _ _ refl) (passed_over x [] os r.1 ∙ keep_all _ os (each_of_all _ os (λ o. refl)))
+without_first n (x ∷ os) r = grind (arith, common_steps, eq-eqb, passed_over, keep_all, each_of_all)
 
 -- ---- the lists
 

@@ -74,9 +74,7 @@ lists_hold p t = (length-map-range_with_len (listed_numbers p t) 1 (item_count p
 
 pub list_after : (p : Puzzle) (t : List Move) (i : ℕ) → 1 ≤ i → i ≤ item_count p
     → list_at (lists_after p t) (i - 1) ≡ listed_numbers p t i
-list_after p t i low high =
-    get_or-map-range_with_len (listed_numbers p t) 1 (item_count p) (i - 1) i [] (omega (arith, low, high))
-    (omega (arith, low))
+list_after p t i low high = grind (arith, common_steps, get_or-map-range_with_len)
 
 -- ---- what goes, by its numbers
 
@@ -107,8 +105,7 @@ spared p t j gone i = numbers (cond (not (eqb i j) && is_open i t) (without gone
 
 lost : (p : Puzzle) (t : List Move) (j : ℕ) (gone : List Numbered) {ns : List ℕ} → ns ≡ numbers gone
     → lose t j ns (lists_after p t) ≡ map (spared p t j gone) (range_with_len 1 (item_count p))
-lost p t j gone e = ap (λ l. lose t j l (lists_after p t)) e ∙ lose_range t j _ (listed_numbers p t) _
-    (λ i. losing gone (listed p t i) (not (eqb i j) && is_open i t)) 1 (item_count p)
+lost p t j gone e = grind (arith, common_steps, lose_range, losing, listed, is_open)
 
 pub lists_covered : (p : Puzzle) (t : List Move) (j : ℕ) → 1 ≤ j → j ≤ item_count p →
     lose t j (filter (λ o. not (is_kept p j None o)) (list_at (lists_after p t) (j - 1))) (lists_after p t) ≡

@@ -54,8 +54,7 @@ open_unpurified i t e = none (purified i t) (and_parts _ _ (open_is t i ∙ e)).
     none (Some c) h = cc
 
 pub open_or_covered : (i : ℕ) (t : List Move) → purified i t ≡ None → is_open i t ≡ not (is_covered i t)
-open_or_covered i t e =
-    sym (open_is t i) ∙ ap (λ o. not (is_covered i t) && not (is_some o)) e ∙ and-true (not (is_covered i t))
+open_or_covered i t e = grind (arith, common_steps, open_is t i, and-true (not (is_covered i t)))
 
 -- one item gets another state
 pub set_state : (p : Puzzle) (t u : List Move) (states : List ItemState) (i : ℕ) (s : ItemState) → AreStates p t states

@@ -26,8 +26,7 @@ number_at-requires g c = (c.args.i, c.requires.place.0, (use_there g c).1)
 pub below-next-requires-clause-listed : goal.below-next-requires-clause-listed
 below-next-requires-clause-listed g c =
     let u = use_there g (goal.at.below-next-requires-clause-listed g c).Else-place-items in
-    subst (Contains (list_of (g.Self.Dance.state c.args.self.now) c.args.i))
-    (sym (c.number_at.ensures c.args.i c.requires.place.0 u.1)) u.0
+    grind (arith, common_steps)
 
 -- ---- what is next
 
@@ -59,8 +58,7 @@ pub returns-in-Some-clause-place : goal.returns-in-Some-clause-place
 returns-in-Some-clause-place g c = λ x at. grind (arith, common_steps, next_is)
 
 pub returns-in-Some-clause-option : goal.returns-in-Some-clause-option
-returns-in-Some-clause-option g c = λ x at.
-    place_tells (g.Self.Dance.state c.args.self.now) _ x _ c.requires.item (returns-in-Some-clause-place g c x at)
+returns-in-Some-clause-option g c = grind (arith, common_steps, place_tells, returns-in-Some-clause-place)
 
 pub returns-in-None-clause-place : goal.returns-in-None-clause-place
 returns-in-None-clause-place g c = λ x at. grind (arith, common_steps, next_is)

@@ -30,14 +30,10 @@ step {p} q (own i) fit limits from e = let s = is_at p q (own i) e in absurd (om
 step {p} q (spacer n) fit limits from e =
     let top = spacer_top p (lines_of (take q (layout p))) (color_in p []) q n e in
     (λ small. absurd (omega (arith, top, small)), λ large. spacer_step p q n e)
-step {p} q (used o u) fit limits from e =
-    let s = use_step p q o u fit limits e in
-    (λ small. (o, u, s), λ large. absurd (omega (arith, large, s.is_item, s.item_small)))
+step {p} q (used o u) fit limits from e = grind (arith, common_steps, use_step p q o u fit limits e)
 
 pub loop-q-init : goal.loop-q-init
-loop-q-init c =
-    let p = c.args.problem.now.puzzle in
-    c.requires.before ∙ none_entered p ∙ ap (λ k. so_far p (k + 1)) (sym c.items-q.ensures.value)
+loop-q-init c = cc (none_entered c.args.problem.now.puzzle)
 
 -- a use may be entered
 use_here : (c : Then-top-lt-SPACER) → (o : ℕ) × (u : Use)

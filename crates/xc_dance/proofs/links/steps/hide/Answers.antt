@@ -38,8 +38,7 @@ pub get_at-requires : goal.get_at-requires
 get_at-requires c = grind (arith, common_steps, places_more, places_none, tells)
 
 pub hide_one-above-requires-clause-can : goal.hide_one-above-requires-clause-can
-hide_one-above-requires-clause-can c =
-    grind (arith, common_steps, places_more, step_can, goes (goal.at.hide_one-above-requires-clause-can c).After-get_at)
+hide_one-above-requires-clause-can c = grind (arith, common_steps, places_more, step_can, goes)
 
 pub hide_one-above-requires-clause-unmarked : goal.hide_one-above-requires-clause-unmarked
 hide_one-above-requires-clause-unmarked c =
@@ -47,8 +46,7 @@ hide_one-above-requires-clause-unmarked c =
     λ m. ((c.requires.unmarked m).others c.args.p c.requires.span).0 c.loop-top.q (omega arith) below
 
 pub loop-top-preserved : goal.loop-top-preserved
-loop-top-preserved c =
-    grind (arith, common_steps, places_more, step_on, goes (goal.at.loop-top-preserved c).After-get_at)
+loop-top-preserved c = grind (arith, common_steps, places_more, step_on, goes)
 
 pub up_at-first-requires : goal.up_at-first-requires
 up_at-first-requires c = grind (arith, common_steps, told (goal.at.up_at-first-requires c).After-get_at)

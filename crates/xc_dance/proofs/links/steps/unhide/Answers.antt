@@ -20,9 +20,7 @@ both p first end = reverse-append (places (p + 1) end) (places first p)
 -- the walk down to the spacer
 down : {spans : List Span} {t : Nodes} {p : ℕ} → CanUnhideNode spans t p
     → CanUnhideAll t (reverse (places (span_at spans p).first p))
-down {spans} {t} {p} can =
-    let s = span_at spans p in
-    (CanAll-append unhidden CanUnhide _ _ _ (subst (CanUnhideAll t) (both p s.first s.end) can.steps)).0
+down {spans} {t} {p} can = search (arith, span_at, CanAll-append, unhidden, both)
 
 -- the next place down
 next : (first q : ℕ) → 0 < first → first ≤ q → reverse (places first (q + 1)) ≡ q ∷ reverse (places first (q - 1 + 1))
@@ -49,8 +47,7 @@ pub get_at-requires : goal.get_at-requires
 get_at-requires c = grind (arith, common_steps, places_none, tells, next)
 
 pub unhide_one-below-requires-clause-can : goal.unhide_one-below-requires-clause-can
-unhide_one-below-requires-clause-can c =
-    grind (arith, common_steps, step_can, next, goes (goal.at.unhide_one-below-requires-clause-can c).After-get_at)
+unhide_one-below-requires-clause-can c = grind (arith, common_steps, step_can, next, goes)
 
 pub unhide_one-below-requires-clause-unmarked : goal.unhide_one-below-requires-clause-unmarked
 unhide_one-below-requires-clause-unmarked c =

@@ -1,3 +1,4 @@
+use Rattle.std.proofs.lemmas.Grind.{common_steps}
 use Rattle.std.proofs.Common.{arith}
 use Rattle.xc_dance.proofs.LinkedTables.Walks.{follow_here, follow_on, follow_end}
 use Rattle.xc_dance.proofs.links.tweaks.bring_back.Goals as goal
@@ -9,13 +10,7 @@ pub down-p-requires : goal.down-p-requires
 down-p-requires c = (follow_here c.loop-test.true c.loop.invariant.walk).within _ c.bring_back_one-count.ensures.done
 
 pub loop-preserved : goal.loop-preserved
-loop-preserved c =
-    let made = c.bring_back_one-count.ensures in
-    record {
-      walk = follow_on _ _ _ c.loop-test.true made.done c.down-p.ensures made.cost c.loop.invariant.walk;
-      counted = omega arith;
-      few = omega (arith, made.few);
-    }
+loop-preserved c = search (arith, follow_on)
 
 pub returns-clause-done : goal.returns-clause-done
 returns-clause-done c = (follow_end c.loop-test.false c.loop.invariant.walk).done

@@ -17,9 +17,7 @@ returns-in-Some-clause-steps g c =
     (rises_listed d.puzzle d.trail c.self.inside.item) (sym c.after-next.ensures ∙ c.in-Some.is)
 
 pub returns-in-Some-clause-goes : goal.returns-in-Some-clause-goes
-returns-in-Some-clause-goes g c =
-    let shorter = ap length (returns-in-Some-clause-steps g c) in
-    record { on = λ f. (tt, tt, omega (arith, shorter)); keeps = tt; rests = λ f. tt }
+returns-in-Some-clause-goes g c = grind (arith, common_steps, returns-in-Some-clause-steps)
 
 pub returns-in-None-clause-steps : goal.returns-in-None-clause-steps
 returns-in-None-clause-steps g c =

@@ -14,5 +14,4 @@ index_mut-list-requires c = grind (arith, common_steps, length-enlisted_from)
 
 pub loop-u-preserved : goal.loop-u-preserved
 loop-u-preserved c =
-    let more = take_more c.args.uses.now c.loop-u.u-index in
     grind (arith, common_steps, enlisted_more, length-enlisted_from, list_at-numbers_of, new_use, numbers_of-set)

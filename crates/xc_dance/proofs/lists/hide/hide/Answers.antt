@@ -32,7 +32,6 @@ take_out-requires-clause-rises c =
     let is =
     list_of p 1 k hidden (lists-hidden_from p t c.args.item (take i us) c.args.option 1 c.args.live.now.lists
     c.requires.lists.1) lt in
-    let P : List (List ℕ) → Type 0 = λ l. Rises 0 (list_at l k) in
     grind (arith, common_steps)
 
 pub loop-u-preserved : goal.loop-u-preserved

@@ -30,9 +30,7 @@ tweak-requires-clause-option c = grind (arith, common_steps, length_numbers, lis
 lost : (p : Puzzle) (t : List Move) (i : ℕ) (kept : Option ℕ) {m n : Move} {old new : Versions} → m ≡ n
     → new ≡ record old { lists = taken p t i kept old.lists } → old.lists ≡ lists_after p t
     → taken p t i kept (lists_after p t) ≡ lists_after p (n ∷ t) → new ≡ record old { lists = lists_after p (m ∷ t) }
-lost p t i kept {m} {n} {old} is made lists e =
-    made ∙ ap (λ l. let v : Versions = record old { lists = l } in v)
-    (ap (taken p t i kept) lists ∙ e ∙ ap (λ m. lists_after p (m ∷ t)) (sym is))
+lost p t i kept {m} {n} {old} is made lists e = grind (arith, common_steps, taken)
 
 pub returns-in-Cover : goal.returns-in-Cover
 returns-in-Cover c =
