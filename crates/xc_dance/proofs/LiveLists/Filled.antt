@@ -40,22 +40,18 @@ pub enlisted_more : (us : List Use) (u : Use) (o n k : ℕ) (ls : List (List ℕ
     set (enlisted_from us o n ls) k (list_at (enlisted_from us o n ls) k ++ o ∷ []) ≡ enlisted_from
     (us ++ u ∷ []) o n ls
 enlisted_more us u o n k [] e new lt = refl
-enlisted_more us u o n zero (l ∷ ls) e new lt = grind
-    (arith, common_steps, enlisted_above, has_use_more, eq-eqb, or-true)
+enlisted_more us u o n zero (l ∷ ls) e new lt =
+    grind (arith, common_steps, enlisted_above, has_use_more, eq-eqb, or-true)
 enlisted_more us u o n (suc k) (l ∷ ls) e new lt =
-    ap₂ (λ k ks. k ∷ ks) (ap (λ b. cond b (l ++ o ∷ []) l) (sym (has_use_other us u n (omega (arith, e)))))
-    (enlisted_more us u o (n + 1) k ls (omega (arith, e)) new (omega (arith, lt)))
+    grind (arith, common_steps, has_use_other, enlisted_more us u o (n + 1) k ls (omega (arith, e)) new)
 
 -- the uses before one are of other items
 pub new_use : (us : List Use) (k : ℕ) (u0 : Use) → AllPairs (λ u v. u.item ≢ v.item) us → k < length us
     → has_use (take k us) (get_or us k u0).item ≡ false
 new_use us k u0 distinct lt =
     list_any_none (λ v. eqb v.item (get_or us k u0).item) (take k us)
-    (λ m d within. (let front : m < k = omega (arith, within, length-take-le k us (omega (arith, lt))) in
-    rw (get_or-take k us m d front) (ne_eqb (get_or us m d).item (get_or us k u0).item (λ e. distinct_at m d front e))))
-  where
-    distinct_at : (m : ℕ) (d : Use) → m < k → (get_or us m d).item ≡ (get_or us k u0).item → ⊥
-    distinct_at m d front e = distinct m k d front lt (e ∙ ap (λ (u : Use). u.item) (get_or_default us k u0 d lt))
+    (λ m d within. let other = distinct m k d in
+    grind (arith, common_steps, length-take-le, get_or-take, get_or_default, ne_eqb))
 
 -- ---- all options
 
@@ -76,8 +72,7 @@ numbered_more (vs ∷ os) us n = grind (arith, common_steps, numbered_more os us
 
 at_end : (front : List ℕ) (x : Numbered) (n : ℕ) → n ≡ x.number → (b : Bool)
     → cond b (front ++ n ∷ []) front ≡ front ++ numbers (cond b (x ∷ []) [])
-at_end front x n e true = ap (λ k. front ++ k ∷ []) e
-at_end front x n e false = sym (append-nil front)
+at_end front x n e b = grind (arith, common_steps, append-nil)
 
 filled_more : (os : List (List Use)) (us : List Use) (i : ℕ)
     → (let old = numbers (holding i (numbered_from 1 os)) in cond (has_use us i) (old ++ (length os + 1) ∷ []) old)

@@ -39,11 +39,7 @@ pub length-lists_at_marks : (ks : List ℕ) (es : List Removed) (ls : List (List
 length-lists_at_marks [] es ls = refl
 length-lists_at_marks (k ∷ ks) es ls = ap suc (length-lists_at_marks ks (still_taken k es) (restored k es ls))
 
-versions : List (List ℕ) → List (List (List ℕ)) → ℕ → Versions
-versions ls ms r = record { lists = ls; marked = ms; room = r }
-
 pub same_versions : {ls ls' : List (List ℕ)} {ms ms' : List (List (List ℕ))} {r r' : ℕ} → ls ≡ ls' → ms ≡ ms' → r ≡ r' →
     let a : Versions = record { lists = ls; marked = ms; room = r } in let b : Versions =
     record { lists = ls'; marked = ms'; room = r' } in a ≡ b
-unfolding versions
-same_versions {ls} {ls'} {ms} {ms'} {r} {r'} p q e = ap₂ (λ l m. versions l m r) p q ∙ ap (λ n. versions ls' ms' n) e
+same_versions p q e = grind (arith, p, q, e)

@@ -57,18 +57,14 @@ length-hidden_from t j us o n (l ∷ ls) = ap suc (length-hidden_from t j us o (
 pub lists-lose_from : (p : Puzzle) (t : List Move) (j : ℕ) (gone : List ℕ) (n : ℕ) (ls : List (List ℕ))
     → AreListsFrom p n ls → AreListsFrom p n (lose_from t j gone n ls)
 lists-lose_from p t j gone n [] h = tt
-lists-lose_from p t j gone n (l ∷ ls) h = (
-  by_test (IsListOf p n) (not (eqb n j) && is_open n t) (is_list_of-less p n gone l h.0) h.0,
-  lists-lose_from p t j gone (n + 1) ls h.1,
-)
+lists-lose_from p t j gone n (l ∷ ls) h =
+    (by_test (IsListOf p n) _ (is_list_of-less p n gone l h.0) h.0, lists-lose_from p t j gone (n + 1) ls h.1)
 
 pub lists-hidden_from : (p : Puzzle) (t : List Move) (j : ℕ) (us : List Use) (o n : ℕ) (ls : List (List ℕ))
     → AreListsFrom p n ls → AreListsFrom p n (hidden_from t j us o n ls)
 lists-hidden_from p t j us o n [] h = tt
-lists-hidden_from p t j us o n (l ∷ ls) h = (
-  by_test (IsListOf p n) ((not (eqb n j) && is_open n t) && has_use us n) (is_list_of-less p n (o ∷ []) l h.0) h.0,
-  lists-hidden_from p t j us o (n + 1) ls h.1,
-)
+lists-hidden_from p t j us o n (l ∷ ls) h =
+    (by_test (IsListOf p n) _ (is_list_of-less p n (o ∷ []) l h.0) h.0, lists-hidden_from p t j us o (n + 1) ls h.1)
 
 pub list_of : (p : Puzzle) (n k : ℕ) (ls : List (List ℕ)) → AreListsFrom p n ls → k < length ls
     → IsListOf p (n + k) (list_at ls k)
@@ -100,9 +96,7 @@ pub read_option : (p : Puzzle) (t : List Move) (j : ℕ) (gone : List ℕ) (at :
     now ≡ lose_from t j gone 1 ls → row ≡ list_at now (j - 1) → at < length (list_at ls (j - 1)) →
     (row ≡ list_at ls (j - 1)) × ((1 ≤ get_or row at 0) × (get_or row at 0 ≤ option_count p))
 read_option p t j gone at row now ls low high are is read lt =
-    let same : row ≡ list_at ls (j - 1) = grind (arith, common_steps, lose_other) in
-    let list = list_of p 1 (j - 1) ls are (omega (arith, low, high)) in
-    grind (arith, common_steps, known_option p (get_or (list_at ls (j - 1)) at 0) (1 + (j - 1)) (list.1 at 0 lt))
+    let list = list_of p 1 (j - 1) ls are in grind (arith, common_steps, lose_other, known_option)
 
 -- ---- use by use
 
@@ -131,8 +125,7 @@ hidden_more t j us u o n k [] e c = refl
 hidden_more t j us u o n zero (l ∷ ls) e c = grind
     (arith, common_steps, has_use_more, eq-eqb, or-true, hidden_above, filter_both, filter_agree, and_self)
 hidden_more t j us u o n (suc k) (l ∷ ls) e c =
-    ap₂ (λ k ks. k ∷ ks) (ap (λ b. cond ((not (eqb n j) && is_open n t) && b) (less (o ∷ []) l) l)
-    (sym (has_use_other us u n (omega (arith, e))))) (hidden_more t j us u o (n + 1) k ls (omega (arith, e)) c)
+    grind (arith, common_steps, has_use_other, hidden_more t j us u o (n + 1) k ls (omega (arith, e)) c)
 
 -- a use of an item that stays as it is
 pub hidden_same : (t : List Move) (j : ℕ) (us : List Use) (u : Use) (o n : ℕ) (ls : List (List ℕ))

@@ -16,8 +16,7 @@ use Rattle.xc_dance.specs.inner.Lists.Taking.{numbers_of, rooms_of, list_at, les
 pub less-absent : (x : ℕ) (xs : List ℕ) → ((k : ℕ) → k < length xs → get_or xs k 0 ≢ x) → less (x ∷ []) xs ≡ xs
 less-absent x [] h = refl
 less-absent x (y ∷ ys) h =
-    let here : eqb x y ≡ false = ne_eqb x y (λ e. h 0 (omega arith) (sym e)) in
-    rw here (ap (λ l. y ∷ l) (less-absent x ys (λ k lt. h (suc k) (omega (arith, lt)))))
+    let rest = less-absent x ys (λ k lt. h (suc k) (omega (arith, lt))) in grind (arith, common_steps, h 0)
 
 pub above : (n : ℕ) (xs : List ℕ) (k : ℕ) → Rises n xs → k < length xs → n < get_or xs k 0
 above n [] k r lt = absurd (omega (arith, lt))
@@ -43,8 +42,7 @@ insert-remove (y ∷ ys) (suc k) d lt = ap (λ l. y ∷ l) (insert-remove ys k d
 pub rises_weakly : (n : ℕ) (xs : List ℕ) → Rises n xs → (i j : ℕ) → i ≤ j → j < length xs
     → get_or xs i 0 ≤ get_or xs j 0
 rises_weakly n [] r i j le lt = absurd (omega (arith, lt))
-rises_weakly n (y ∷ ys) r zero zero le lt = omega arith
-rises_weakly n (y ∷ ys) r zero (suc j) le lt = let a = above y ys j r.1 (omega (arith, lt)) in omega (arith, a)
+rises_weakly n (y ∷ ys) r zero j le lt = grind (arith, common_steps, above y ys)
 rises_weakly n (y ∷ ys) r (suc i) zero le lt = absurd (omega (arith, le))
 rises_weakly n (y ∷ ys) r (suc i) (suc j) le lt = rises_weakly y ys r.1 i j (omega (arith, le)) (omega (arith, lt))
 
@@ -72,23 +70,23 @@ room_at ls k d lt = get_or-map (λ (l : Vec ℕ). vec_capacity l) ls k d 0 lt
 
 -- ---- a list among lists
 
--- a number that was removed from its list can be put back
-pub removed : (rooms : List ℕ) (ls : List (List ℕ)) (list place number : ℕ) → list < length ls
-    → place < length (list_at ls list) →
-    get_or (list_at ls list) place 0 ≡ number → length (list_at ls list) ≤ get_or rooms list 0 →
-    IsPutBack rooms (record { place = place; list = list; number = number })
-    (set ls list (remove (list_at ls list) place)) ls
-removed rooms ls list place number lt within is fits =
-    grind (arith, common_steps, get_or-set_same, insert-remove, length-remove, set-set)
-
--- as a vector's row is changed
+-- a number that was removed from a vector's row can be put back
 pub row_removed : (ls : List (Vec ℕ)) (new : Vec ℕ) (list place number : ℕ) (row : Vec ℕ) → list < length ls
     → row ≡ get_or ls list row → place < length row.items → get_or row.items place 0 ≡ number
     → new.items ≡ remove row.items place → length row.items ≤ vec_capacity row
     → IsPutBack (rooms_of ls) (record { place = place; list = list; number = number }) (numbers_of (set ls list new))
     (numbers_of ls)
-row_removed ls new list place number row lt is_row within is gone fits =
-    grind (arith, common_steps, list_at-numbers_of, numbers_of-set, removed, room_at)
+row_removed ls new list place number row lt is_row within is gone fits = grind (
+  arith,
+  common_steps,
+  get_or-set_same,
+  insert-remove,
+  length-remove,
+  list_at-numbers_of,
+  numbers_of-set,
+  room_at,
+  set-set,
+)
 
 -- there is one number more after one was put back
 pub sum-put_back : (rooms : List ℕ) (e : Removed) (ls : List (List ℕ)) → HasRoom rooms e ls

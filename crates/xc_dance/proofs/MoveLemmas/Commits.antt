@@ -9,24 +9,12 @@ use Rattle.xc_dance.specs.Dancing.{Dancing}
 use Rattle.xc_dance.specs.Moves.{AreLegal}
 use Rattle.xc_dance.specs.Commits.{CanStand, after_use, after_uses}
 
-pub legal_after_use : (p : Puzzle) (u : Use) (t : List Move) → AreLegal p (after_use p u t) → AreLegal p t
-legal_after_use p u t l = grind (arith, common_steps)
-
-pub legal_after_uses : (p : Puzzle) (us : List Use) (t : List Move) → AreLegal p (after_uses p us t) → AreLegal p t
-legal_after_uses p [] t l = l
-legal_after_uses p (u ∷ us) t l = legal_after_use p u t (legal_after_uses p us (after_use p u t) l)
-
-longer_use : (p : Puzzle) (u : Use) (t : List Move) → length t ≤ length (after_use p u t)
-longer_use p u t = grind (arith, common_steps)
-
-longer_uses : (p : Puzzle) (us : List Use) (t : List Move) → length t ≤ length (after_uses p us t)
-longer_uses p [] t = omega arith
-longer_uses p (u ∷ us) t = omega (arith, longer_use p u t, longer_uses p us (after_use p u t))
-
 -- what may stand behind uses may stand before them
 pub stood_before : (p : Puzzle) (room : ℕ) (us : List Use) (t : List Move) → CanStand p room (after_uses p us t)
     → CanStand p room t
-stood_before p room us t c = grind (arith, common_steps, legal_after_uses, longer_uses)
+stood_before p room [] t c = c
+stood_before p room (u ∷ us) t c =
+    let rest = stood_before p room us (after_use p u t) c in grind (arith, common_steps)
 
 pub after_uses-append : (p : Puzzle) (us vs : List Use) (t : List Move)
     → after_uses p (us ++ vs) t ≡ after_uses p vs (after_uses p us t)

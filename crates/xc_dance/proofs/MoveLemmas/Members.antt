@@ -9,10 +9,7 @@ use Rattle.xc_dance.proofs.LinkedTables.Sweep.{Rises, not_in, in_above, is_in-fi
 
 pub element_of : (P : ℕ → Type 0) (x : ℕ) (xs : List ℕ) → AllByRecursion P xs → is_in x xs ≡ true → P x
 element_of P x [] a e = absurd (false≢true e)
-element_of P x (y ∷ ys) a e = elim (eqb y x) as (λ b. eqb y x ≡ b → (b || is_in x ys) ≡ true → P x) [
-  | true ↦ λ f g. subst P (eqb-true y x f) a.0
-  | false ↦ λ f g. element_of P x ys a.1 g
-] refl e
+element_of P x (y ∷ ys) a e = grind (arith, common_steps, eqb-true, element_of P x ys a.1)
 
 -- a filter's members
 pub in_filter : (f : ℕ → Bool) (x : ℕ) (xs : List ℕ) → is_in x (filter f xs) ≡ (f x && is_in x xs)

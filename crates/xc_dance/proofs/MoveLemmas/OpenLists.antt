@@ -22,8 +22,7 @@ use Rattle.xc_dance.proofs.MoveLemmas.OptionsRise.{NumbersRise, NumbersRise-weak
 
 pub left_rises : (p : Puzzle) (t : List Move) → NumbersRise 0 (left p t)
 left_rises p [] = grind (arith, common_steps, NumbersRise-filter, options_rise)
-left_rises p (Cover j ∷ t) = grind (arith, common_steps, NumbersRise-filter, left_rises p t)
-left_rises p (_ ∷ t) = grind (arith, common_steps, NumbersRise-filter, left_rises p t)
+left_rises p (m ∷ t) = grind (arith, common_steps, NumbersRise-filter, left_rises p t)
 
 above : (n : ℕ) (os : List Numbered) → NumbersRise n os → AllByRecursion (λ o. n < o.number) os
 above n [] r = tt
@@ -65,26 +64,23 @@ gone : (q : Numbered → Bool) (i : ℕ) (os : List Numbered) → NumbersRise 0 
 gone q i os r = filter_swap _ _ os ∙ ap (holding i) (without_filter q 0 os r)
 
 agree_test : (c : ℕ) (o : Option ℕ) → 0 < c → not (is_some o && is_other_colour c o) ≡ agrees c o
-agree_test c None h = refl
-agree_test c (Some d) h = rw (lt-ltb 0 c h) (elim (eqb c d) as (λ b. not (not b) ≡ b) [ true ↦ refl | false ↦ refl ])
+agree_test c o h = grind (arith, common_steps, lt-ltb)
 
 purified_gone : (i j c : ℕ) (os : List Numbered) → 0 < c → NumbersRise 0 os
     → without (other_colours j c (holding j os)) (holding i os) ≡ holding i (filter (λ o. agrees c (colour_at o j)) os)
 purified_gone i j c os h r =
-    ap (λ g. without g (holding i os)) (filter_both (λ o. is_other_colour c (colour_at o j)) (λ o. holds o j) os)
-    ∙ gone (λ o. holds o j && is_other_colour c (colour_at o j)) i os r
-    ∙ ap (holding i) (filter_agree _ _ (λ o. agree_test c (colour_at o j) h) os)
+    let gone = gone (λ o. holds o j && is_other_colour c (colour_at o j)) i os r in
+    let agree = filter_agree _ _ (λ o. agree_test c (colour_at o j) h) os in grind (arith, common_steps, filter_both)
 
 pub listed_open : (p : Puzzle) (t : List Move) → AreLegal p t → (i : ℕ) → IsTrue (is_open i t)
     → listed p t i ≡ holding i (left p t)
 listed_open p [] legal i opened = refl
 listed_open p (Cover j ∷ t) legal i opened =
-    rw opened
-    (ap₂ (λ g os. without g os) (listed_open p t legal.1 j legal.0.1) (listed_open p t legal.1 i (and_right _ _ opened))
-    ∙ gone (λ o. holds o j) i (left p t) (left_rises p t))
+    let at = listed_open p t legal.1 in
+    grind (arith, common_steps, at i, at j, left_rises p t, gone (λ o. holds o j) i (left p t))
 listed_open p (Purify j c ∷ t) legal i opened =
-    rw opened (ap₂ (λ g os. without (other_colours j c g) os) (listed_open p t legal.1 j legal.0.1)
-    (listed_open p t legal.1 i (and_right _ _ opened)) ∙ purified_gone i j c (left p t) legal.0.2 (left_rises p t))
+    let at = listed_open p t legal.1 in
+    grind (arith, common_steps, at i, at j, left_rises p t, purified_gone i j c (left p t))
 listed_open p (Tweak j ∷ t) legal i opened = elim (eqb_tells i j) [
   | inl same ↦
       let j_open : is_open j t ≡ true = ap (λ k. is_open k t) (sym same.1) ∙ opened in

@@ -36,11 +36,7 @@ IsOption p o = (0 < o.number) × (uses_of p o.number ≡ o.uses)
 uses_from : (p : Puzzle) (n : ℕ) (os : List (List Use)) → drop n p.options ≡ os
     → AllByRecursion (IsOption p) (numbered_from (n + 1) os)
 uses_from p n [] at = tt
-uses_from p n (us ∷ os) at =
-    let s : n + 1 ≡ suc n = omega arith in
-    let here = sym (slice_get-drop p.options n) ∙ ap (λ l. slice_get l 0) at in
-    let next = ap (λ m. drop m p.options) s ∙ sym (drop_one n p.options) ∙ ap (drop 1) at in
-    ((omega arith, ap (uses_of p) s ∙ ap (λ o. unwrap_or o []) here), uses_from p (n + 1) os next)
+uses_from p n (us ∷ os) at = grind (arith, common_steps, slice_get-drop, drop_one, uses_from p (n + 1) os)
 
 pub options_numbered : (p : Puzzle) → AllByRecursion (IsOption p) (numbered_options p)
 options_numbered p = uses_from p 0 p.options refl

@@ -40,11 +40,7 @@ pub holders : (p : Puzzle) (t : List Move) (i : ℕ) → AllByRecursion (IsHolde
 holders p t i = each_listed (AllByRecursion (IsHolder p i)) p i
     (each_both (λ o. holds o i ≡ true) (IsOption p) (IsHolder p i) _ (λ o h is. (is.1, sym (holds_use o.uses i) ∙ h))
     (each_passes (λ o. holds o i) (numbered_options p)) (each-filter (IsOption p) _ _ (options_numbered p)))
-    (λ q xs h. each-filter (IsHolder p i) q xs h) rest t
-  where
-    rest : (xs : List Numbered) → AllByRecursion (IsHolder p i) xs → AllByRecursion (IsHolder p i) (drop 1 xs)
-    rest [] h = tt
-    rest (x ∷ xs) h = h.1
+    (λ q xs h. each-filter (IsHolder p i) q xs h) (λ xs h. grind (arith, common_steps)) t
 
 -- ---- the lists rise
 
@@ -96,8 +92,7 @@ lose_range t j gone f g h a (suc n) = ap₂ (λ l ls. l ∷ ls) (h a) (lose_rang
 
 losing : (gone xs : List Numbered) (b : Bool)
     → cond b (less (numbers gone) (numbers xs)) (numbers xs) ≡ numbers (cond b (without gone xs) xs)
-losing gone xs true = sym (less_without gone xs)
-losing gone xs false = refl
+losing gone xs b = grind (arith, common_steps, less_without)
 
 -- what is left in item i's list where these options go from that of every open item but j
 abbrev spared : Puzzle → List Move → ℕ → List Numbered → ℕ → List ℕ
@@ -130,8 +125,7 @@ ruleset cells = (get_or-set_same, get_or-set_other, get_or-map-range_with_len, l
 
 set_range : (f g : ℕ → List ℕ) (a n k : ℕ) (v : List ℕ) → ((i : ℕ) → i ≢ a + k → f i ≡ g i) → v ≡ g (a + k)
     → set (map f (range_with_len a n)) k v ≡ map g (range_with_len a n)
-set_range f g a n k v h e =
-    same_lists _ _ (grind (arith, common_steps, cells)) (λ m d lt. grind (arith, common_steps, cells))
+set_range f g a n k v h e = grind (arith, common_steps, same_lists, cells)
 
 pub length_numbers : (xs : List Numbered) → length (numbers xs) ≡ length xs
 length_numbers xs = length-map xs (λ o. o.number)

@@ -26,13 +26,10 @@ is_open_state Open = true
 is_open_state _ = false
 
 pub open_by_state : (i : ℕ) (t : List Move) (s : ItemState) → state_of i t ≡ s → is_open i t ≡ is_open_state s
-open_by_state i t s e = told t ∙ ap (λ s. is_open_state s) e
-  where
-    told : (t : List Move) → is_open i t ≡ is_open_state (state_of i t)
-    told [] = refl
-    told (Cover j ∷ t) = let rest = told t in grind (arith, common_steps)
-    told (Purify j c ∷ t) = let rest = told t in grind (arith, common_steps)
-    told (_ ∷ t) = told t
+open_by_state i [] s e = grind (arith, common_steps)
+open_by_state i (Cover j ∷ t) s e = grind (arith, common_steps, open_by_state i t)
+open_by_state i (Purify j c ∷ t) s e = grind (arith, common_steps, open_by_state i t)
+open_by_state i (_ ∷ t) s e = open_by_state i t s e
 
 pub open_state : (i : ℕ) (t : List Move) → is_open i t ≡ true → state_of i t ≡ Open
 open_state i t e = grind (arith, common_steps, open_by_state)
@@ -47,11 +44,7 @@ pub open_uncovered : (i : ℕ) (t : List Move) → is_open i t ≡ true → is_c
 open_uncovered i t e = not-true (is_covered i t) (and_parts _ _ (open_is t i ∙ e)).0
 
 pub open_unpurified : (i : ℕ) (t : List Move) → is_open i t ≡ true → purified i t ≡ None
-open_unpurified i t e = none (purified i t) (and_parts _ _ (open_is t i ∙ e)).1
-  where
-    none : (o : Option ℕ) → not (is_some o) ≡ true → o ≡ None
-    none None h = refl
-    none (Some c) h = cc
+open_unpurified i t e = grind (arith, common_steps, open_is t i)
 
 pub open_or_covered : (i : ℕ) (t : List Move) → purified i t ≡ None → is_open i t ≡ not (is_covered i t)
 open_or_covered i t e = grind (arith, common_steps, open_is t i, and-true (not (is_covered i t)))
@@ -73,9 +66,7 @@ unpurified_state _ h = refl
 pub purified_by_state : (p : Puzzle) (i : ℕ) (t : List Move) → AreLegal p t
     → is_some (purified i t) ≡ is_purified_state (state_of i t)
 purified_by_state p i [] legal = grind (arith, common_steps, eqb-true, open_unpurified)
-purified_by_state p i (Cover j ∷ t) legal =
-    grind (arith, common_steps, eqb-true, open_unpurified, purified_by_state p i t legal.1)
-purified_by_state p i (_ ∷ t) legal =
+purified_by_state p i (m ∷ t) legal =
     grind (arith, common_steps, eqb-true, open_unpurified, purified_by_state p i t legal.1)
 
 -- ---- the next open item
@@ -104,8 +95,4 @@ pub ruleset next_open = (next_open_step, next_open_here, next_open_none)
 -- ---- what is left
 
 pub high_within : (p : Puzzle) (i : ℕ) → IsWithinLimits p → high_at p i ≤ 999999999
-high_within p i limits = elim (numbered_get p.bounds i) as (λ o. numbered_get p.bounds i ≡ o
-    → (unwrap_or o (record { low = 0; high = 0 })).high ≤ 999999999) [
-      | None ↦ λ e. omega arith
-      | Some b ↦ λ e. at_number (λ (b : Bounds). b.high ≤ 999999999) p.bounds i b limits.bounds e
-    ] refl
+high_within p i limits = grind (arith, common_steps, at_number (λ (b : Bounds). b.high ≤ 999999999) p.bounds i)

@@ -1,3 +1,5 @@
+use Rattle.std.proofs.Common.{arith}
+use Rattle.std.proofs.lemmas.Grind.{common_steps}
 use Rattle.std.proofs.Common.{◌<◌, ℕ, length, reverse, get_or, ap, sym, subst, ◌∙◌}
 use Rattle.xc_input.specs.Problem.{IsItem}
 use Rattle.xc_dance.specs.declared.links.nodes.Nodes.{Nodes}
@@ -20,8 +22,8 @@ at c {x} h = subst (λ (s : Linked). IsListedAt s.puzzle s.trail c.args.i x c.ar
 pub dlink-requires : goal.dlink-requires
 dlink-requires c =
     let here = (goal.at.dlink-requires c).After-self in
-    subst (λ (n : Nodes). c.args.place < length n.dlink) (sym c.self.invariant.nodes)
-    (listed_within c.self.invariant.fitted.laid (item here) (at here c.requires.place.1))
+    let e = listed_within c.self.invariant.fitted.laid (item here) (at here c.requires.place.1) in
+    grind (arith, common_steps)
 
 pub returns-clause-place : goal.returns-clause-place
 returns-clause-place c = λ x h.

@@ -42,10 +42,8 @@ use_here c =
     let p = c.args.problem.now.puzzle in
     let q = c.loop-q.q in
     let at = slice_get-get_or (layout p) q unused (omega (arith, c.loop-q-test.true, c.requires.count)) in
-    let top = ap (λ (t : Nodes). slice_index t.top q) c.loop-q.invariant in
-    let s = (step q _ c.requires.fit c.requires.limits (omega (arith, c.loop-q.auto.q, c.items-q.ensures.value)) at).0
-    (omega (arith, top, c.top.ensures, c.if-top-lt-SPACER.true)) in
-    (s.0, s.1, subst (λ (t : Nodes). UseStep p t q s.0 s.1) (sym c.loop-q.invariant) s.2)
+    let s = step q _ c.requires.fit c.requires.limits (omega (arith, c.loop-q.auto.q, c.items-q.ensures.value)) at in
+    grind (arith, common_steps)
 
 pub enter-requires : goal.enter-requires
 enter-requires c = let u = (use_here (goal.at.enter-requires c).Then-top-lt-SPACER).2 in grind (arith, common_steps)

@@ -1,3 +1,4 @@
+use Rattle.std.proofs.lemmas.Grind.{common_steps}
 use Rattle.std.proofs.Common.{arith}
 use Rattle.xc_dance.proofs.LinkedTables.Walks.{follow_here, follow_on, follow_end}
 use Rattle.xc_dance.proofs.LinkedTables.UnmarkedNodes.{back_unmarked}
@@ -12,12 +13,9 @@ up-p-requires-in-loop c = (follow_here (omega arith) c.loop.invariant.walk).with
 pub loop-preserved : goal.loop-preserved
 loop-preserved c =
     let made = c.come_back-count.ensures in
-    record {
-      walk = follow_on _ _ _ (omega arith) made.done c.up-p-in-loop.ensures made.cost c.loop.invariant.walk;
-      unmarked = back_unmarked _ _ _ _ _ _ made.done c.requires.none c.loop.invariant.unmarked;
-      counted = omega arith;
-      few = omega (arith, made.few);
-    }
+    let unmarked = back_unmarked _ _ _ _ _ _ made.done c.requires.none c.loop.invariant.unmarked in
+    let walk = follow_on _ _ _ (omega arith) made.done c.up-p-in-loop.ensures made.cost c.loop.invariant.walk in
+    grind (arith, common_steps)
 
 pub returns-clause-done : goal.returns-clause-done
 returns-clause-done c = (follow_end (omega arith) c.loop.invariant.walk).done

@@ -34,10 +34,9 @@ lost p t i kept {m} {n} {old} is made lists e = grind (arith, common_steps, take
 
 pub returns-in-Cover : goal.returns-in-Cover
 returns-in-Cover c =
-    let s = c.args.standing.now in
     let legal = rw c.in-Cover.is at c.requires.legal in
-    lost s.puzzle s.trail _ None c.in-Cover.is c.hide_options.ensures c.requires.lists
-    (lists_covered s.puzzle s.trail _ legal.0.0 legal.0.1)
+    let e = lists_covered c.args.standing.now.puzzle c.args.standing.now.trail _ legal.0.0 legal.0.1 in
+    grind (arith, common_steps, lost)
 
 pub returns-in-Purify : goal.returns-in-Purify
 returns-in-Purify c =

@@ -21,14 +21,9 @@ pub bounds-list-at : goal.bounds-list-at
 bounds-list-at c =
     let p = c.args.standing.now.puzzle in
     let ls = c.args.live.now.lists in
-    let os = list_at ls (c.args.item - 1) in
-    let lt : c.loop-at.at < length os = omega (arith, c.loop-at-test.true, ap (λ l. length l) c.list-at-end.ensures) in
-    let read =
-    read_option p c.args.standing.now.trail c.args.item (gone p c.args.item c.args.kept (take c.loop-at.at os))
-    c.loop-at.at c.list.result.now c.loop-at.live.lists ls c.requires.item.0
-    (omega (arith, c.requires.item.1, c.requires.lists.0)) c.requires.lists.1 c.loop-at.invariant.lists
-    c.list.ensures lt in
-    omega (arith, lt, ap (λ l. length l) read.0)
+    let lost = gone p c.args.item c.args.kept (take c.loop-at.at (list_at ls (c.args.item - 1))) in
+    let read = read_option p c.args.standing.now.trail c.args.item lost c.loop-at.at c.list.result.now in
+    grind (arith, common_steps, read c.loop-at.live.lists ls)
 
 pub keeps-requires : goal.keeps-requires
 keeps-requires c = grind (arith, common_steps, read_option)

@@ -14,9 +14,6 @@ returns-clause-rooms c = grind (arith, common_steps, map-set_same, vec_capacity)
 
 pub returns-clause-back : goal.returns-clause-back
 returns-clause-back c =
-    let row = c.index_mut-row.result.now in
-    let same : c.as_slice.result.now ≡ row.items = c.as_slice.ensures.value in
-    let place = c.in_ok-place.place in
-    row_removed c.args.lists.now.items c.remove.new.self c.args.list place c.args.number row c.requires.list
-    c.index_mut-row.ensures.value (rw (← same) c.in_ok-place.ensures.0) (rw (← same) c.in_ok-place.ensures.1)
-    c.remove.ensures.items (omega (arith, row.ok))
+    let e = row_removed c.args.lists.now.items c.remove.new.self c.args.list c.in_ok-place.place c.args.number
+    c.index_mut-row.result.now in
+    grind (arith, common_steps)
