@@ -70,23 +70,15 @@ room_at ls k d lt = get_or-map (λ (l : Vec ℕ). vec_capacity l) ls k d 0 lt
 
 -- ---- a list among lists
 
+ruleset rows = (get_or-set_same, insert-remove, length-remove, list_at-numbers_of, numbers_of-set, room_at, set-set)
+
 -- a number that was removed from a vector's row can be put back
 pub row_removed : (ls : List (Vec ℕ)) (new : Vec ℕ) (list place number : ℕ) (row : Vec ℕ) → list < length ls
     → row ≡ get_or ls list row → place < length row.items → get_or row.items place 0 ≡ number
     → new.items ≡ remove row.items place → length row.items ≤ vec_capacity row
     → IsPutBack (rooms_of ls) (record { place = place; list = list; number = number }) (numbers_of (set ls list new))
     (numbers_of ls)
-row_removed ls new list place number row lt is_row within is gone fits = grind (
-  arith,
-  common_steps,
-  get_or-set_same,
-  insert-remove,
-  length-remove,
-  list_at-numbers_of,
-  numbers_of-set,
-  room_at,
-  set-set,
-)
+row_removed ls new list place number row lt is_row within is gone fits = grind (arith, common_steps, rows)
 
 -- there is one number more after one was put back
 pub sum-put_back : (rooms : List ℕ) (e : Removed) (ls : List (List ℕ)) → HasRoom rooms e ls

@@ -48,13 +48,10 @@ numbers_rise : (n : ℕ) (os : List Numbered) → NumbersRise n os → Rises n (
 numbers_rise n [] r = tt
 numbers_rise n (o ∷ os) r = (r.0, numbers_rise o.number os r.1)
 
-rest_rises : (os : List Numbered) → NumbersRise 0 os → NumbersRise 0 (drop 1 os)
-rest_rises [] r = tt
-rest_rises (o ∷ os) r = NumbersRise-weaker 0 o.number os (omega arith) r.1
-
 pub rises_listed : (p : Puzzle) (t : List Move) (i : ℕ) → Rises 0 (listed_numbers p t i)
 rises_listed p t i = numbers_rise 0 (listed p t i) (each_listed (NumbersRise 0) p i
-    (NumbersRise-filter _ 0 _ (options_rise p)) (λ q xs r. NumbersRise-filter q 0 xs r) rest_rises t)
+    (NumbersRise-filter _ 0 _ (options_rise p)) (λ q xs r. NumbersRise-filter q 0 xs r)
+    (λ xs r. grind (arith, common_steps, NumbersRise-weaker)) t)
 
 -- ---- the lists of all items
 
@@ -90,23 +87,18 @@ lose_range t j gone f g h a (suc n) = ap₂ (λ l ls. l ∷ ls) (h a) (lose_rang
 
 -- ---- Cover and Purify
 
-losing : (gone xs : List Numbered) (b : Bool)
-    → cond b (less (numbers gone) (numbers xs)) (numbers xs) ≡ numbers (cond b (without gone xs) xs)
-losing gone xs b = grind (arith, common_steps, less_without)
-
 -- what is left in item i's list where these options go from that of every open item but j
 abbrev spared : Puzzle → List Move → ℕ → List Numbered → ℕ → List ℕ
 spared p t j gone i = numbers (cond (not (eqb i j) && is_open i t) (without gone (listed p t i)) (listed p t i))
 
 lost : (p : Puzzle) (t : List Move) (j : ℕ) (gone : List Numbered) {ns : List ℕ} → ns ≡ numbers gone
     → lose t j ns (lists_after p t) ≡ map (spared p t j gone) (range_with_len 1 (item_count p))
-lost p t j gone e = grind (arith, common_steps, lose_range, losing, listed, is_open)
+lost p t j gone e = grind (arith, common_steps, lose_range, less_without)
 
 pub lists_covered : (p : Puzzle) (t : List Move) (j : ℕ) → 1 ≤ j → j ≤ item_count p →
     lose t j (filter (λ o. not (is_kept p j None o)) (list_at (lists_after p t) (j - 1))) (lists_after p t) ≡
     lists_after p (Cover j ∷ t)
-lists_covered p t j low high =
-    lost p t j (listed p t j) (keep_all _ _ (each_of_all _ _ (λ o. refl)) ∙ list_after p t j low high)
+lists_covered p t j low high = grind (arith, common_steps, lost p t j (listed p t j), list_after, keep_all, each_of_all)
 
 other_numbers : (p : Puzzle) (j c : ℕ) (xs : List Numbered) → AllByRecursion (IsHolder p j) xs
     → filter (λ o. not (is_kept p j (Some c) o)) (numbers xs) ≡ numbers (other_colours j c xs)

@@ -9,9 +9,7 @@ pub returns-then-place-spacer : goal.returns-then-place-spacer
 returns-then-place-spacer c = λ i x u.
     let p = c.args.problem.now.puzzle in
     let o = c.loop-before.before in
-    let us = c.option.result.now in
     let within : o < option_count p = omega (arith, c.options-before-end.ensures.value, c.loop-before-test.true) in
-    let found = uses_here p (o + 1) us c.option.ensures.value in
-    let at = c.loop-before.invariant.spacer in
-    option_between p i x c.args.place o u (omega (arith, at, c.loop-before.invariant.passed))
-    (omega (arith, at, (option_fits p o us c.option.ensures.whole.limits within found).next, c.if-place-spacer.true))
+    let found = uses_here p (o + 1) _ c.option.ensures.value in
+    let fits = option_fits p o _ c.option.ensures.whole.limits within found in
+    grind (arith, common_steps, option_between p i x c.args.place o u)

@@ -34,9 +34,8 @@ can g c = let u = c.requires.can in subst Stands (whole g c u.0 u.1) u.2
 
 pub commit_uses-requires-clause-stands : goal.commit_uses-requires-clause-stands
 commit_uses-requires-clause-stands g c =
-    let s = g.Self.Dance.state c.args.self.now in
-    stood_before s.puzzle s.room (take c.place_in-at.result c.option-uses.result.now) _
-    (can g (goal.at.commit_uses-requires-clause-stands g c).After-place_in-at)
+    let can = can g (goal.at.commit_uses-requires-clause-stands g c).After-place_in-at in
+    stood_before _ _ (take c.place_in-at.result c.option-uses.result.now) _ can
 
 -- once the uses behind were committed, those before it lead to the end
 pub commit_uses-requires-2-clause-stands : goal.commit_uses-requires-2-clause-stands

@@ -9,13 +9,10 @@ use Rattle.xc_dance.proofs.dance.Dance.commit_uses.Goals as goal
 
 pub commit_use-requires-clause-stands : goal.commit_use-requires-clause-stands
 commit_use-requires-clause-stands g c =
-    let d : Use = record { item = 0; colour = 0 } in
     let s = g.Self.Dance.state c.loop-u.self in
-    let us = c.args.uses.now in
-    let k = c.loop-u.u-index in
-    let next = sym c.loop-u.invariant ∙ at_use s us k d c.loop-u-test.true in
-    stood_before s.puzzle s.room (drop (k + 1) us) (after_use s.puzzle (get_or us k d) s.trail)
-    (subst (λ (s : Dancing). CanStand s.puzzle s.room s.trail) next c.requires.stands)
+    let next = at_use s c.args.uses.now c.loop-u.u-index (record { item = 0; colour = 0 }) c.loop-u-test.true in
+    stood_before s.puzzle s.room (drop (c.loop-u.u-index + 1) c.args.uses.now) _
+    (subst (λ (s : Dancing). CanStand s.puzzle s.room s.trail) (sym c.loop-u.invariant ∙ next) c.requires.stands)
 
 pub loop-u-preserved : goal.loop-u-preserved
 loop-u-preserved g c = grind (arith, common_steps, at_use)

@@ -22,6 +22,5 @@ returns-in-Some-clause-goes g c = grind (arith, common_steps, returns-in-Some-cl
 pub returns-in-None-clause-steps : goal.returns-in-None-clause-steps
 returns-in-None-clause-steps g c =
     let d = g.D.Dance.state c.self.inside.dance.now in
-    let ns = listed_numbers d.puzzle d.trail c.self.inside.item in
-    let gone = sym c.self.view_is ∙ next_above-none c.self.inside.last ns (sym c.after-next.ensures ∙ c.in-None.is) in
-    (gone, gone)
+    let e = next_above-none c.self.inside.last (listed_numbers d.puzzle d.trail c.self.inside.item) in
+    grind (arith, common_steps)
