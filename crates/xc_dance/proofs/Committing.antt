@@ -1,14 +1,13 @@
 use Rattle.std.proofs.Common.{arith}
 use Rattle.std.proofs.lemmas.Grind.{common_steps}
 -- Commits of the uses on one side of an option's node: where a walk over their nodes stands, and its next step.
-use Rattle.std.proofs.Common.{◌≡◌, ℕ, ◌+◌, List, refl}
+use Rattle.std.proofs.Common.{◌≡◌, ℕ, ◌+◌, List}
 use Rattle.xc_input.specs.declared.problem.Use.{Use}
 use Rattle.xc_dance.specs.Commits.{CanStand, after_uses}
 use Rattle.xc_dance.specs.Cost.{HasWritten}
 use Rattle.xc_dance.specs.Linked.{Linked}
 use Rattle.xc_dance.proofs.LinkedTables.Along.{along_first, IsAlong, IsNext, top_at, MayCommit, may_commit, Commits}
 use Rattle.xc_dance.proofs.LinkedTables.Along.{Committed, one_committed}
-use Rattle.xc_dance.proofs.LinkedTables.Written.{written_then}
 
 -- Of an option x that Held tells of, the uses vs x stand from place off x on: those before place q were committed, so
 -- state s became now.

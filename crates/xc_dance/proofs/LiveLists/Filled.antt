@@ -1,6 +1,6 @@
 -- The lists before any move, filled option by option.
-use Rattle.std.proofs.Common.{ℕ, zero, suc, ◌≡◌, ◌≢◌, ◌+◌, ◌<◌, Bool, true, false, cond, eqb, List, [], ◌∷◌, ◌++◌}
-use Rattle.std.proofs.Common.{length, get_or, set, map, take, replicate, refl, ap, ap₂, sym, ◌∙◌, arith}
+use Rattle.std.proofs.Common.{ℕ, zero, suc, ◌≡◌, ◌≢◌, ◌+◌, ◌<◌, Bool, false, cond, eqb, List, [], ◌∷◌, ◌++◌}
+use Rattle.std.proofs.Common.{length, get_or, set, map, take, replicate, refl, ap, ap₂, arith}
 use Rattle.xc_input.proofs.OptionLemmas.NumberedOptions.{numbered_from}
 use Rattle.std.proofs.lemmas.Grind.{common_steps}
 use Rattle.std.specs.Prelude.{AllPairs}

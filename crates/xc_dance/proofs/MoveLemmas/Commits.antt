@@ -1,12 +1,11 @@
 -- Commits of uses, one after another: what is legal and fits behind them did before.
 use Rattle.std.proofs.lemmas.Grind.{common_steps}
-use Rattle.std.proofs.Common.{ℕ, ◌≡◌, ◌+◌, ◌<◌, ◌≤◌, List, [], ◌∷◌, ◌++◌, length}
+use Rattle.std.proofs.Common.{ℕ, ◌≡◌, ◌+◌, ◌<◌, List, [], ◌∷◌, ◌++◌, length}
 use Rattle.std.proofs.Common.{drop, refl, ap, arith, get_or, drop-cons}
 use Rattle.xc_input.specs.declared.problem.Use.{Use}
 use Rattle.xc_dance.specs.declared.dance.Move.{Move}
 use Rattle.xc_input.specs.Problem.{Puzzle}
 use Rattle.xc_dance.specs.Dancing.{Dancing}
-use Rattle.xc_dance.specs.Moves.{AreLegal}
 use Rattle.xc_dance.specs.Commits.{CanStand, after_use, after_uses}
 
 -- what may stand behind uses may stand before them

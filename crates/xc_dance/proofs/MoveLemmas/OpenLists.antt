@@ -1,6 +1,6 @@
 -- An open item's list is the options left that hold it.
-use Rattle.std.proofs.Common.{ℕ, ◌≡◌, ◌<◌, ◌≤◌, Bool, true, false, cond, not, ◌&&◌, eqb, List, [], ◌∷◌, filter, take}
-use Rattle.std.proofs.Common.{drop, Option, Some, None, refl, sym, ap, ap₂, ◌∙◌, arith, eq-eqb, lt-ltb}
+use Rattle.std.proofs.Common.{ℕ, ◌≡◌, ◌<◌, ◌≤◌, Bool, true, false, not, ◌&&◌, List, [], ◌∷◌, filter, take}
+use Rattle.std.proofs.Common.{drop, Option, refl, sym, ap, ◌∙◌, arith, eq-eqb, lt-ltb}
 use Rattle.std.proofs.Common.{ne_eqb, IsTrue}
 use Rattle.std.proofs.lemmas.Grind.{common_steps}
 use Rattle.std.proofs.lemmas.Bool.Decides.{eqb_tells}
@@ -11,7 +11,6 @@ use Rattle.std.specs.List.{AllByRecursion}
 use Rattle.xc_input.specs.Problem.{Puzzle, Numbered, holds, colour_at, holding}
 use Rattle.xc_input.proofs.lists.EachElement.{each_of_all, each_weaker}
 use Rattle.xc_input.proofs.lists.Filters.{filter_same, filter_both, filter_swap, keep_all}
-use Rattle.xc_input.proofs.FaultLemmas.BooleanTests.{and_right}
 use Rattle.xc_dance.specs.declared.dance.Move.{Move}
 use Rattle.xc_dance.specs.declared.dance.Move.TheVariants.{Cover, Purify, Tweak, Spend}
 use Rattle.xc_dance.specs.Moves.{listed, is_open, without, is_among, other_colours, is_other_colour, AreLegal, agrees}

@@ -1,6 +1,5 @@
 -- The options of a problem with their numbers, which rise from 1.
-use Rattle.std.proofs.Common.{ℕ, suc, ◌≡◌, ◌+◌, ◌<◌, ◌≤◌, Bool, List, [], ◌∷◌, filter, drop, refl, ap, sym, ◌∙◌, arith}
-use Rattle.std.specs.Prelude.{slice_get, unwrap_or}
+use Rattle.std.proofs.Common.{ℕ, ◌≡◌, ◌+◌, ◌<◌, ◌≤◌, Bool, List, [], ◌∷◌, filter, drop, refl, arith}
 use Rattle.std.specs.List.{AllByRecursion}
 use Rattle.xc_input.proofs.lists.Places.{slice_get-drop, drop_one}
 use Rattle.xc_input.proofs.OptionLemmas.NumberedOptions.{numbered_from}

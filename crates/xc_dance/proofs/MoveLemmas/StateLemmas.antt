@@ -1,10 +1,10 @@
 -- The states of items after moves.
 use Rattle.std.proofs.Common.{ℕ, zero, suc, ◌≡◌, ◌≢◌, ◌+◌, ◌-◌, ◌<◌, ◌≤◌, Bool, true, false, not, ◌&&◌, List, [], ◌∷◌}
-use Rattle.std.proofs.Common.{Some, None, refl, ap, sym, set, ltb-true, ltb-false, ◌∙◌, arith, eqb-true, eq-eqb}
+use Rattle.std.proofs.Common.{Some, None, refl, set, ltb-true, ltb-false, ◌∙◌, arith, eqb-true, eq-eqb}
 use Rattle.xc_input.specs.declared.problem.Bounds.{Bounds}
 use Rattle.std.proofs.lemmas.Grind.{common_steps}
 use Rattle.std.proofs.lemmas.List.{get_or-set_same}
-use Rattle.std.specs.Prelude.{Option, is_some, unwrap_or, filter}
+use Rattle.std.specs.Prelude.{is_some, filter}
 use Rattle.std.specs.List.{range_with_len}
 use Rattle.std.proofs.lemmas.Bool.{lt-ltb, le-ltb, and_parts, not-true}
 use Rattle.std.proofs.Math.Bool.{and-true, and-false}
@@ -12,7 +12,7 @@ use Rattle.xc_dance.specs.declared.dance.Move.{Move}
 use Rattle.xc_dance.specs.declared.dance.Move.TheVariants.{Cover, Purify}
 use Rattle.xc_dance.specs.declared.lists.item_states.ItemState.{ItemState}
 use Rattle.xc_dance.specs.declared.lists.item_states.ItemState.TheVariants.{Open, Purified}
-use Rattle.xc_input.specs.Problem.{Puzzle, item_count, high_at, numbered_get, IsWithinLimits}
+use Rattle.xc_input.specs.Problem.{Puzzle, item_count, high_at, IsWithinLimits}
 use Rattle.xc_input.proofs.ValidLemmas.Known.{at_number}
 use Rattle.xc_dance.specs.Moves.{is_open, is_covered, purified, next_above, AreLegal}
 use Rattle.xc_dance.specs.inner.Lists.States.{state_of, AreStates}

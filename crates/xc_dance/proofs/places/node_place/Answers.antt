@@ -1,4 +1,3 @@
-use Rattle.std.proofs.lemmas.Grind.{common_steps}
 use Rattle.std.proofs.Common.{arith}
 use Rattle.xc_dance.proofs.LinkedTables.PassedOptions.{UseStands, use_stands}
 use Rattle.xc_dance.proofs.places.node_place.Goals.{After-place_in}

@@ -1,8 +1,8 @@
 use Rattle.std.proofs.lemmas.Grind.{common_steps}
 use Rattle.std.proofs.Common.{arith, ◌+◌, ◌<◌}
 use Rattle.xc_input.specs.Problem.{option_count}
-use Rattle.xc_dance.proofs.LinkedTables.PlaceLemmas.{place_first, option_fits, uses_here}
-use Rattle.xc_dance.proofs.LinkedTables.PassedOptions.{behind_first, before_last, option_between}
+use Rattle.xc_dance.proofs.LinkedTables.PlaceLemmas.{option_fits, uses_here}
+use Rattle.xc_dance.proofs.LinkedTables.PassedOptions.{option_between}
 use Rattle.xc_dance.proofs.places.number_at.Goals as goal
 
 pub returns-then-place-spacer : goal.returns-then-place-spacer

@@ -1,9 +1,8 @@
 use Rattle.std.proofs.lemmas.Grind.{common_steps}
 use Rattle.std.proofs.Common.{arith}
-use Rattle.std.proofs.Common.{◌+◌, sym, ap, ◌∙◌, subst, drop, get_or}
-use Rattle.xc_input.specs.declared.problem.Use.{Use}
+use Rattle.std.proofs.Common.{◌+◌, sym, ◌∙◌, subst, drop}
 use Rattle.xc_dance.specs.Dancing.{Dancing}
-use Rattle.xc_dance.specs.Commits.{CanStand, after_use}
+use Rattle.xc_dance.specs.Commits.{CanStand}
 use Rattle.xc_dance.proofs.MoveLemmas.Commits.{at_use, stood_before}
 use Rattle.xc_dance.proofs.dance.Dance.commit_uses.Goals as goal
 

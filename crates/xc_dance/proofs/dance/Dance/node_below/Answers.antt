@@ -1,6 +1,6 @@
 use Rattle.std.proofs.lemmas.Grind.{common_steps}
 use Rattle.std.proofs.Common.{arith}
-use Rattle.std.proofs.Common.{◌≡◌, ℕ, sym, ◌∙◌, subst}
+use Rattle.std.proofs.Common.{◌≡◌, ℕ, ◌∙◌}
 use Rattle.std.specs.Prelude.{Contains}
 use Rattle.xc_dance.specs.Moves.{next_above}
 use Rattle.xc_dance.specs.Commits.{IsListedAt, IsUseAt}

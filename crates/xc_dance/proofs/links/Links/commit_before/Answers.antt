@@ -1,11 +1,10 @@
-use Rattle.std.proofs.Common.{◌≡◌, ◌-◌, ℕ, length, get_or, ap, ◌∙◌, arith, refl}
+use Rattle.std.proofs.Common.{◌≡◌, ◌-◌, ℕ, get_or, ap, ◌∙◌, arith, refl}
 use Rattle.std.specs.Prelude.{slice_index}
 use Rattle.std.proofs.lemmas.Grind.{common_steps}
 use Rattle.std.proofs.lemmas.List.{length-map}
 use Rattle.xc_dance.specs.declared.links.nodes.Nodes.{Nodes}
 use Rattle.xc_dance.specs.Commits.{IsUseAt}
-use Rattle.xc_dance.specs.Fields.{layout}
-use Rattle.xc_dance.specs.inner.Links.Cells.{nodes_after, ulink_in, line_of}
+use Rattle.xc_dance.specs.inner.Links.Cells.{nodes_after}
 use Rattle.xc_dance.specs.inner.Links.OptionPlaces.{start_at}
 use Rattle.xc_dance.specs.inner.Links.UseNodes.{uses_before}
 use Rattle.xc_dance.proofs.LinkedTables.Along.{before_at, Leads, leads, IsNext, nodes_told}

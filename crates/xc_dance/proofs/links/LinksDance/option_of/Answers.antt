@@ -1,7 +1,5 @@
 use Rattle.std.proofs.Common.{arith}
 use Rattle.std.proofs.lemmas.Grind.{common_steps}
-use Rattle.std.proofs.Common.{ap, ◌∙◌}
-use Rattle.std.specs.Prelude.{unwrap_or}
 use Rattle.xc_dance.proofs.LinkedTables.CommitLemmas.{use_name, use_node, named_back}
 use Rattle.xc_dance.proofs.links.LinksDance.option_of.Goals as goal
 

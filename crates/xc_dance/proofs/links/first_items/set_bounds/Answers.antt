@@ -1,9 +1,8 @@
-use Rattle.std.proofs.Common.{arith, ◌+◌, ◌≡◌, sym, ap}
-use Rattle.xc_input.specs.declared.problem.Bounds.{Bounds}
+use Rattle.std.proofs.Common.{arith, ◌+◌, ◌≡◌}
 use Rattle.std.proofs.lemmas.Grind.{common_steps}
-use Rattle.xc_input.specs.Problem.{bounds_at, high_at, low_at}
+use Rattle.xc_input.specs.Problem.{bounds_at}
 use Rattle.xc_input.specs.ItemBounds.{bounds_of}
-use Rattle.std.specs.Prelude.{Option, Some, unwrap_or}
+use Rattle.std.specs.Prelude.{Some}
 use Rattle.xc_dance.proofs.LinkedTables.FirstTables.{column_len, column_more, bound_is, slack_is, bounds_set, low_most}
 use Rattle.xc_dance.proofs.links.first_items.set_bounds.Goals as goal
 use Rattle.xc_dance.proofs.links.first_items.set_bounds.Goals.{After-item-item}

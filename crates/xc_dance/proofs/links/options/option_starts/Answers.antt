@@ -1,9 +1,9 @@
-use Rattle.std.proofs.Common.{arith, ◌<◌, ◌+◌, ◌++◌, [], ◌∷◌, ◌∙◌, ap, sym}
+use Rattle.std.proofs.Common.{arith, ◌<◌, ◌+◌}
 use Rattle.std.proofs.lemmas.Grind.{common_steps}
 use Rattle.std.proofs.lemmas.List.FromFn.{map-range_with_len_more}
 use Rattle.xc_input.specs.Problem.{option_count}
 use Rattle.xc_dance.specs.inner.Links.OptionPlaces.{start_at}
-use Rattle.xc_dance.proofs.LinkedTables.PlaceLemmas.{starts_to, OptionFits, option_fits, option_place, uses_here}
+use Rattle.xc_dance.proofs.LinkedTables.PlaceLemmas.{OptionFits, option_fits, option_place, uses_here}
 use Rattle.xc_dance.proofs.links.options.option_starts.Goals.{After-option}
 use Rattle.xc_dance.proofs.links.options.option_starts.Goals as goal
 

@@ -1,5 +1,5 @@
 use Rattle.std.proofs.lemmas.Grind.{common_steps}
-use Rattle.std.proofs.Common.{sym, ap, ◌∙◌, length, arith}
+use Rattle.std.proofs.Common.{sym, ◌∙◌, arith}
 use Rattle.xc_dance.proofs.LinkedTables.NodeOptions.{next_contained}
 use Rattle.xc_dance.specs.Moves.{listed_numbers}
 use Rattle.xc_dance.proofs.MoveLemmas.ListLemmas.{next_above-split, next_above-none}

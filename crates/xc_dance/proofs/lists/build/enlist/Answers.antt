@@ -1,6 +1,5 @@
 use Rattle.std.proofs.Common.{arith, sym}
 use Rattle.std.proofs.lemmas.Grind.{common_steps}
-use Rattle.std.proofs.lemmas.List.{take_more}
 use Rattle.xc_dance.proofs.LiveLists.Removal.{numbers_of-set, list_at-numbers_of}
 use Rattle.xc_dance.specs.inner.Lists.Taking.{numbers_of}
 use Rattle.xc_dance.proofs.LiveLists.Filled.{enlisted_none, enlisted_more, new_use, length-enlisted_from}

@@ -1,12 +1,8 @@
-use Rattle.std.proofs.Common.{arith, ℕ, ◌-◌, ◌<◌, ap, length, get_or, take, List}
+use Rattle.std.proofs.Common.{arith}
 use Rattle.std.proofs.lemmas.Grind.{common_steps}
 use Rattle.std.proofs.lemmas.List.{take_more}
-use Rattle.xc_input.specs.declared.problem.Use.{Use}
-use Rattle.xc_input.specs.Problem.{item_count}
-use Rattle.xc_dance.specs.inner.Lists.Taking.{list_at}
-use Rattle.xc_dance.specs.inner.Lists.Rising.{Rises}
 use Rattle.xc_dance.proofs.LiveLists.Marks.{same_versions}
-use Rattle.xc_dance.proofs.LiveLists.OptionsLost.{hidden_from, hidden_none, hidden_more, hidden_same, hidden_all}
+use Rattle.xc_dance.proofs.LiveLists.OptionsLost.{hidden_none, hidden_more, hidden_same, hidden_all}
 use Rattle.xc_dance.proofs.LiveLists.OptionsLost.{length-hidden_from, lists-hidden_from, list_of}
 use Rattle.xc_dance.proofs.lists.hide.hide.Goals as goal
 

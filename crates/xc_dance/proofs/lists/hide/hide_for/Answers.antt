@@ -1,4 +1,4 @@
-use Rattle.std.proofs.Common.{◌≡◌, arith, ◌∙◌, ap, sym, subst, not, filter, List, ℕ, None, Some, ◌∷◌, ◌-◌}
+use Rattle.std.proofs.Common.{◌≡◌, arith, sym, subst, not, filter, List, ℕ, Some, ◌∷◌, ◌-◌}
 use Rattle.std.proofs.lemmas.Grind.{common_steps}
 use Rattle.xc_dance.specs.declared.dance.Move.{Move}
 use Rattle.std.specs.Prelude.{Option}

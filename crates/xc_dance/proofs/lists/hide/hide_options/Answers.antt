@@ -1,4 +1,4 @@
-use Rattle.std.proofs.Common.{arith, ℕ, ◌-◌, ◌<◌, ap, length, take, List, filter, not}
+use Rattle.std.proofs.Common.{arith, ℕ, ◌-◌, take, List, filter, not}
 use Rattle.std.proofs.lemmas.Grind.{common_steps}
 use Rattle.std.specs.Prelude.{Option}
 use Rattle.xc_input.specs.Problem.{Puzzle}

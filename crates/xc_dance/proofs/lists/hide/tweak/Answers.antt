@@ -1,12 +1,9 @@
-use Rattle.std.proofs.Common.{arith, ◌≡◌, ◌∙◌, ap, length, get_or, List, ℕ, ◌<◌, ◌-◌}
+use Rattle.std.proofs.Common.{arith, get_or, ◌-◌}
 use Rattle.std.proofs.lemmas.Grind.{common_steps}
-use Rattle.xc_dance.specs.inner.Lists.Versions.{Versions}
-use Rattle.xc_dance.specs.inner.Lists.Rising.{Rises}
-use Rattle.xc_dance.specs.inner.Lists.Taking.{list_at}
 use Rattle.xc_dance.specs.inner.Lists.Losing.{lists_after}
 use Rattle.xc_dance.proofs.LiveLists.Marks.{same_versions}
 use Rattle.xc_dance.proofs.LiveLists.OptionsLost.{list_of, known_option}
-use Rattle.xc_dance.proofs.MoveLemmas.Shortened.{lists_hold, list_after, length_numbers, first_hidden}
+use Rattle.xc_dance.proofs.MoveLemmas.Shortened.{lists_hold, list_after, length_numbers}
 use Rattle.xc_dance.proofs.MoveLemmas.Shortened.{first_hidden_lists, lists_tweaked}
 use Rattle.xc_dance.proofs.lists.hide.tweak.Goals as goal
 

@@ -1,5 +1,3 @@
-use Rattle.std.proofs.Common.{arith}
-use Rattle.std.proofs.lemmas.Grind.{common_steps}
 use Rattle.std.proofs.Common.{Err}
 use Rattle.std.proofs.lemmas.List.Sorted.{searched}
 use Rattle.xc_dance.proofs.LiveLists.Removal.{less-not_found, rises_weakly}

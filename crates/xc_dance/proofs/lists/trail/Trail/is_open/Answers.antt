@@ -1,9 +1,8 @@
-use Rattle.std.proofs.Common.{arith, ◌≡◌, reverse}
+use Rattle.std.proofs.Common.{arith}
 use Rattle.std.proofs.lemmas.Grind.{common_steps}
 use Rattle.xc_dance.proofs.MoveLemmas.StateLemmas.{open_by_state, closed_state}
 use Rattle.xc_dance.proofs.lists.trail.Trail.is_open.Goals as goal
 use Rattle.xc_dance.proofs.lists.trail.Trail.is_open.Goals.{After-index}
-use Rattle.xc_dance.specs.inner.Lists.States.{state_of}
 
 pub returns-in-Open : goal.returns-in-Open
 returns-in-Open c = grind (arith, common_steps, open_by_state)
