@@ -1,18 +1,18 @@
--- Each branch leaves less.
+-- Each branch leaves less: what holds of what is left, where it holds of what its branches leave, holds of all.
 use Rattle.std.proofs.lemmas.Grind.{common_steps}
 use Rattle.std.proofs.Common.{ℕ, ◌≡◌, ◌<◌, Bool, true, false, not, ◌&&◌, List, [], ◌∷◌, length, map, filter}
-use Rattle.std.proofs.Common.{Some, refl, arith, inl, inr, le-leb, eq-eqb, eqb}
+use Rattle.std.proofs.Common.{zero, suc, Some, None, refl, arith, inl, inr, le-leb, eq-eqb, eqb}
 use Rattle.xc_search.specs.inner.Sizes.{size_of}
 use Rattle.std.specs.Prelude.{nat_lt, nat_le}
 use Rattle.std.specs.List.{AllByRecursion, best_of}
 use Rattle.xc_input.specs.Problem.{Numbered, holds, holding}
 use Rattle.xc_search.specs.Listing.{Wanted, Residual, branch_count, branch_item, first_least, spend_one, stays, pick}
-use Rattle.xc_search.specs.Listing.{take_branch, branches_of}
+use Rattle.xc_search.specs.Listing.{Branch, take_branch, branches_of}
 use Rattle.xc_input.proofs.lists.Filters.{length-filter-le, length-filter-cons}
-use Rattle.xc_input.proofs.lists.Members.{IsIn}
+use Rattle.xc_input.proofs.lists.Members.{IsIn, each_in}
 use Rattle.xc_input.proofs.lists.EachElement.{each_weaker, each-append, each-map, each-numbered}
 use Rattle.std.proofs.lemmas.List.{length-map}
-use Rattle.xc_search.proofs.Cases.{by_bool}
+use Rattle.xc_search.proofs.Cases.{by_bool, by_option}
 
 -- a test that each option of item i fails for itself leaves one out
 pub less_options : (i : ℕ) (q : Numbered → Numbered → Bool) → ((x : Numbered) → holds x i ≡ true → q x x ≡ false)
@@ -53,3 +53,14 @@ branches_less r w e =
     (each-map _ (take_branch r w.item n) _
     (each-numbered (λ x. size_of (pick r w.item x) < size_of r) n 1 (holding w.item r.options) (picks_less r w.item)))
     (by_bool (eqb w.low 0) (λ h. rw h (omega (arith, fewer, none_less), tt)) (λ h. rw h tt))
+
+-- what holds where no item is left, and where it holds of what the branches leave
+pub by_branches : (P : Residual → Type 0) → ((r : Residual) → branch_item r ≡ None → P r)
+    → ((r : Residual) (w : Wanted) → branch_item r ≡ Some w
+    → ((b : Branch) → IsIn (branches_of r w) b → P b.next) → P r) → (r : Residual) → P r
+by_branches P last next r = within (suc (size_of r)) r (omega arith)
+  where
+    within : (d : ℕ) (r : Residual) → size_of r < d → P r
+    within zero r l = absurd (omega (arith, l))
+    within (suc d) r l = by_option (branch_item r) (last r) (λ w e. next r w e (λ b h.
+        let less = each_in _ _ _ (branches_less r w e) h in within d b.next (omega (arith, less, l))))
