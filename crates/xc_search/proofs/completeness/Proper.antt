@@ -1,25 +1,28 @@
 -- What holds of the whole problem, and of all that its branches leave.
 use Rattle.std.proofs.lemmas.Grind.{common_steps}
 use Rattle.std.proofs.Common.{ℕ, ◌≡◌, ◌+◌, ◌<◌, ◌≤◌, Bool, true, not, ◌&&◌, eqb, List, [], ◌∷◌, ap}
-use Rattle.std.proofs.Common.{length, map, filter, find, Some, refl, sym, ◌∙◌, arith, subst, inl, inr, eqb-true}
+use Rattle.std.proofs.Common.{length, map, filter, find, Some, None, refl, sym, ◌∙◌, arith, subst, inl, inr, eqb-true}
 use Rattle.std.proofs.Common.{eq-eqb, lt-ltb, ltb-true, ne_eqb}
 use Rattle.xc_input.specs.declared.problem.Bounds.{Bounds}
 use Rattle.std.specs.Prelude.{nat_lt, nat_le}
 use Rattle.std.specs.List.{AllByRecursion}
 use Rattle.std.proofs.lemmas.List.Elements.{recursion_from_All}
-use Rattle.xc_input.specs.Problem.{Puzzle, Numbered, primary_count, holds, AreSoundBounds, IsSoundUse, IsSoundOption}
-use Rattle.xc_input.specs.Problem.{IsValid}
-use Rattle.xc_search.specs.Listing.{Wanted, Residual, wanted_from, whole, spend_one, item_left, stays, pick, none}
+use Rattle.xc_input.specs.Problem.{Puzzle, Numbered, numbered_options, primary_count, colour_at, holds, IsItem}
+use Rattle.xc_input.specs.Problem.{AreSoundBounds, IsSoundUse}
+use Rattle.xc_input.specs.Problem.{IsValid, IsSoundOption}
+use Rattle.xc_search.specs.Listing.{Wanted, Residual, wanted_from, whole, spend_one, item_left, may_stay, stays}
+use Rattle.xc_search.specs.Listing.{Branch, branch_item, branch_count}
 use Rattle.xc_input.proofs.lists.Members.{IsIn, in-filter, filter-in, in-map, map-in, each_in, in-contains}
-use Rattle.xc_dance.proofs.MoveLemmas.OptionsRise.{NumbersRise, NumbersRise-filter, options_rise}
+use Rattle.xc_dance.proofs.MoveLemmas.OptionsRise.{NumbersRise, options_rise}
 use Rattle.xc_input.proofs.FaultLemmas.BooleanTests.{and_right}
-use Rattle.xc_search.proofs.residual.OptionUses.{held_by, holds_use}
+use Rattle.xc_search.proofs.residual.OptionUses.{held_by, holds_use, own_colours, apart_from_pairs}
 use Rattle.xc_search.proofs.listing.Numbering.{option_sound}
-use Rattle.xc_search.proofs.Cases.{by_bool}
+use Rattle.xc_search.proofs.listing.EachBranch.{IsBranchOf, takes_one, takes_none, left_before, rise_behind}
+use Rattle.xc_search.proofs.listing.EachBranch.{no_items_left}
+use Rattle.xc_search.proofs.Cases.{by_bool, by_option}
 use Rattle.std.proofs.lemmas.Bool.{eqb-false}
 use Rattle.xc_input.specs.declared.problem.Use.{Use}
 use Rattle.std.specs.List.{list_all}
-use Rattle.std.specs.Prelude.{is_some}
 use Rattle.xc_input.specs.Problem.{colour_in}
 use Rattle.xc_input.proofs.FaultLemmas.BooleanTests.{and_left}
 use Rattle.std.proofs.Common.{false}
@@ -40,6 +43,8 @@ pub record IsProper (n : ℕ) (r : Residual) : Type 0 where
       × (w.item ≡ j)
   -- an option that is left has a primary item
   pub one_primary : (o : Numbered) → IsIn r.options o → (j : ℕ) × (j ≤ n) × (holds o j ≡ true)
+  -- and gives each item one colour
+  pub own : (o : Numbered) → IsIn r.options o → AllByRecursion (λ u. colour_at o u.item ≡ Some u.colour) o.uses
 
 -- ---- items that rise
 
@@ -86,15 +91,21 @@ same_wanted n r v w p h k e =
 
 -- ---- the use of an item
 
-pub use_passes : (f : Use → Bool) (us : List Use) (j : ℕ) → list_all f us ≡ true → is_some (colour_in us j) ≡ true
-    → (u : Use) × (u.item ≡ j) × (f u ≡ true)
-use_passes f [] j all held = cc
-use_passes f (u ∷ us) j all held = grind (arith, common_steps, use_passes f us j, eqb-true, and_left, and_right)
+pub use_passes : (f : Use → Bool) (us : List Use) (j c : ℕ) → list_all f us ≡ true → colour_in us j ≡ Some c
+    → f (record { item = j; colour = c }) ≡ true
+use_passes f [] j c all held = cc
+use_passes f (u ∷ us) j c all held = by_bool (eqb u.item j)
+    (λ e. let held = rw e at held in
+    let colour : u.colour ≡ c = cc in
+    rw (← eqb-true u.item j e, ← colour) (and_left _ _ all))
+    (λ e. use_passes f us j c (and_right _ _ all) (rw e at held))
 
 -- an item that x uses up is held by no option that stays
 pub used_up : (r : Residual) (x y : Numbered) (w : Wanted) → stays r x y ≡ true → holds x w.item ≡ true
     → item_left r w.item ≡ Some w → nat_lt 1 w.high ≡ false → holds y w.item ≡ false
-used_up r x y w stay held left full = grind (arith, common_steps, use_passes)
+used_up r x y w stay held left full = by_option (colour_at x w.item) (λ e. cc) (λ c e.
+    let may = use_passes (λ u. may_stay (item_left r u.item) u y) x.uses w.item c stay e in
+    grind (arith, common_steps))
 
 -- ---- one branch on
 
@@ -102,55 +113,53 @@ used_up r x y w stay held left full = grind (arith, common_steps, use_passes)
 abbrev pub goes_on : Residual → ℕ → Numbered → Numbered → Bool
 goes_on r i x o = not (holds o i && nat_le o.number x.number) && stays r x o
 
--- where an option is taken
-pub proper_pick : (n i : ℕ) (r : Residual) (x : Numbered) → IsProper n r → IsProper n (pick r i x)
-proper_pick n i r x p = record {
-  options_rise = NumbersRise-filter (goes_on r i x) 0 r.options p.options_rise;
-  items_rise =
-      ItemsRise-filter (λ w. nat_lt 0 w.high) 0 (map (spend_one x) r.items) (ItemsRise-spend x 0 r.items p.items_rise);
-  sound = λ w k.
-      let found = in-filter _ _ _ k in
-      let from = in-map _ _ _ found.0 in
-      let within =
-      subst (λ (z : Wanted). (z.item ≤ n) × (z.low ≤ z.high)) from.2 (spent from.0 (p.sound from.0 from.1)) in
-      (within.0, within.1, ltb-true 0 w.high found.1);
-  items_left = λ o j k l h.
-      let found = in-filter _ _ _ k in
-      let w = p.items_left o j found.0 l h in
-      let here : holds o w.0.item ≡ true = subst (λ z. holds o z ≡ true) (sym w.2) h in (
-        spend_one x w.0,
-        filter-in _ _ _ (map-in _ _ _ w.1) (still o w.0 w.1 (and_right _ _ found.1) here),
-        item-spend_one x w.0 ∙ w.2,
-      );
-  one_primary = λ o k. p.one_primary o (in-filter _ _ _ k).0;
-}
-  where
-    spent : (w : Wanted) → (w.item ≤ n) × (w.low ≤ w.high) × (0 < w.high) → ((spend_one x w).item ≤ n)
-        × ((spend_one x w).low ≤ (spend_one x w).high)
-    spent w s = grind (arith, common_steps)
+module _ {n : ℕ} {r : Residual} {w : Wanted} (p : IsProper n r) where
+  items_behind : {b : Branch} → IsBranchOf r w b → ItemsRise 0 b.next.items
+  items_behind (takes_one k m x known at) = ItemsRise-filter _ 0 _ (ItemsRise-spend x 0 r.items p.items_rise)
+  items_behind (takes_none m free) = ItemsRise-filter _ 0 _ p.items_rise
 
-    still : (o : Numbered) (w : Wanted) → IsIn r.items w → stays r x o ≡ true → holds o w.item ≡ true
-        → nat_lt 0 (spend_one x w).high ≡ true
-    still o w k stay here = grind (arith, common_steps, ltb-true, lt-ltb, used_up, find-in)
+  sound_behind : {b : Branch} → IsBranchOf r w b → (v : Wanted) → IsIn b.next.items v
+      → (v.item ≤ n) × (v.low ≤ v.high) × (0 < v.high)
+  sound_behind (takes_one k m x known at) v h =
+      let found = in-filter (λ v. nat_lt 0 v.high) (map (spend_one x) r.items) v h in
+      let from = in-map (spend_one x) r.items v found.0 in
+      let within : ((spend_one x from.0).item ≤ n) × ((spend_one x from.0).low ≤ (spend_one x from.0).high) =
+      grind (arith, common_steps, p.sound from.0 from.1) in
+      let here = subst (λ (z : Wanted). (z.item ≤ n) × (z.low ≤ z.high)) from.2 within in
+      (here.0, here.1, ltb-true 0 v.high found.1)
+  sound_behind (takes_none m free) v h = p.sound v (in-filter _ _ _ h).0
 
--- where none is
-pub proper_none : (n i : ℕ) (r : Residual) → IsProper n r → IsProper n (none r i)
-proper_none n i r p = record {
-  options_rise = NumbersRise-filter (λ o. not (holds o i)) 0 r.options p.options_rise;
-  items_rise = ItemsRise-filter (λ w. not (eqb w.item i)) 0 r.items p.items_rise;
-  sound = λ w k. p.sound w (in-filter _ _ _ k).0;
-  items_left = λ o j k l h.
-      let found = in-filter _ _ _ k in
-      let w = p.items_left o j found.0 l h in (
-        w.0,
-        filter-in _ _ _ w.1 (other o w.0.item found.1 (subst (λ z. holds o z ≡ true) (sym w.2) h)),
-        w.2,
-      );
-  one_primary = λ o k. p.one_primary o (in-filter _ _ _ k).0;
-}
-  where
-    other : (o : Numbered) (j : ℕ) → not (holds o i) ≡ true → holds o j ≡ true → not (eqb j i) ≡ true
-    other o j free here = grind (arith, common_steps, eqb-true)
+  left_behind : {b : Branch} → IsBranchOf r w b → (o : Numbered) → IsIn b.next.options o → (v : Wanted) → IsIn r.items v
+      → holds o v.item ≡ true → (z : Wanted) × IsIn b.next.items z × (z.item ≡ v.item)
+  left_behind (takes_one k m x known at) o h v j here =
+      let stay : stays r x o ≡ true = and_right _ _ (in-filter (goes_on r w.item x) _ _ h).1 in
+      let some : nat_lt 0 (spend_one x v).high ≡ true =
+      grind (arith, common_steps, p.sound v j, ltb-true, lt-ltb, used_up, find-in 0 r.items v p.items_rise j) in
+      (spend_one x v, filter-in _ _ _ (map-in _ _ _ j) some, item-spend_one x v)
+  left_behind (takes_none m free) o h v j here =
+      let out = (in-filter (λ o. not (holds o w.item)) r.options o h).1 in
+      let apart : not (eqb v.item w.item) ≡ true = grind (arith, common_steps, eqb-true, out) in
+      (v, filter-in _ _ _ j apart, refl)
+
+  pub proper_behind : {b : Branch} → IsBranchOf r w b → IsProper n b.next
+  proper_behind of = record {
+    options_rise = rise_behind of p.options_rise;
+    items_rise = items_behind of;
+    sound = sound_behind of;
+    items_left = λ o j k l h.
+        let v = p.items_left o j (left_before of o k) l h in
+        let z = left_behind of o k v.0 v.1 (subst (λ z. holds o z ≡ true) (sym v.2) h) in
+        (z.0, z.1, z.2 ∙ v.2);
+    one_primary = λ o k. p.one_primary o (left_before of o k);
+    own = λ o k. p.own o (left_before of o k);
+  }
+
+-- with no item left no option is
+pub none_left : {n : ℕ} {r : Residual} → IsProper n r → branch_item r ≡ None → (o : Numbered) → IsIn r.options o → ⊥
+none_left {n} {r} p e o h =
+    let j = p.one_primary o h in
+    let w = p.items_left o j.0 h j.1 j.2 in
+    rw (no_items_left (branch_count r) r.items e) at w.1
 
 -- ---- the whole problem
 
@@ -172,19 +181,25 @@ sound_from k [] w a h = absurd h
 sound_from k (b ∷ bs) w a (inl q) = grind (arith, common_steps)
 sound_from k (b ∷ bs) w a (inr q) = grind (arith, common_steps, sound_from (k + 1) bs w a.1 q)
 
+pub sound_item : (p : Puzzle) → IsValid p → (o : Numbered) (j : ℕ) → IsIn (numbered_options p) o → holds o j ≡ true
+    → IsItem p j
+sound_item p v o j k h =
+    let by = held_by o.uses j h in
+    let s = option_sound p 0 p.options o (recursion_from_All (IsSoundOption p) p.options v.options) k in
+    subst (IsItem p) by.2 (each_in (IsSoundUse p) _ _ (recursion_from_All _ _ s.sound) by.1).0
+
 pub proper_whole : (p : Puzzle) → IsValid p → IsProper (primary_count p) (whole p)
 proper_whole p v = record {
   options_rise = options_rise p;
   items_rise = ItemsRise-from 0 p.bounds;
   sound = λ w k. let s = sound_from 0 p.bounds w (recursion_from_All AreSoundBounds p.bounds v.bounds) k in
       (omega (arith, s.0), s.1, s.2);
-  items_left = λ o j k l h.
-      let by = held_by o.uses j h in
-      let s = option_sound p 0 p.options o (recursion_from_All (IsSoundOption p) p.options v.options) k in
-      let use_sound = each_in (IsSoundUse p) o.uses by.0 (recursion_from_All (IsSoundUse p) o.uses s.sound) by.1 in
-      has_item 0 p.bounds j (omega (arith, use_sound.0.0, by.2)) (omega (arith, l));
+  items_left = λ o j k l h. has_item 0 p.bounds j (sound_item p v o j k h).0 (omega (arith, l));
   one_primary = λ o k.
-      let s = option_sound p 0 p.options o (recursion_from_All (IsSoundOption p) p.options v.options) k in
-      let one = s.one_primary in
+      let one = (sound o k).one_primary in
       (one.1.item, one.4, holds_use o.uses one.1 (in-contains o.uses one.1 (one.0, one.2, one.3)));
+  own = λ o k. own_colours o.uses (apart_from_pairs o.uses (sound o k).distinct);
 }
+  where
+    sound : (o : Numbered) → IsIn (numbered_options p) o → IsSoundOption p o.uses
+    sound o k = option_sound p 0 p.options o (recursion_from_All (IsSoundOption p) p.options v.options) k

@@ -1,43 +1,50 @@
 -- The branches of an item, one by one.
 use Rattle.std.proofs.Common.{arith}
 use Rattle.std.proofs.lemmas.Grind.{common_steps}
-use Rattle.std.proofs.Common.{ℕ, ◌≡◌, ◌<◌, true, cond, eqb, List, [], ◌∷◌, map, take, Some, None, refl}
-use Rattle.std.proofs.Common.{◌⊎◌, eqb-true, eq-eqb}
-use Rattle.xc_search.specs.inner.Sizes.{size_of}
+use Rattle.std.proofs.Common.{ℕ, ◌≡◌, true, cond, eqb, List, [], ◌∷◌, map, take, Some, None, refl}
+use Rattle.std.proofs.Common.{inl, inr, subst, eqb-true, eq-eqb}
 use Rattle.xc_search.specs.declared.choice.Choice.{Choice}
 use Rattle.xc_input.specs.Problem.{Numbered, holds, holding}
-use Rattle.xc_search.specs.Listing.{Wanted, Residual, Branch, branch_count, branch_item, first_least, pick, none}
+use Rattle.xc_search.specs.Listing.{Wanted, Residual, Branch, branch_count, branch_item, first_least}
 use Rattle.xc_search.specs.Listing.{take_branch, none_branch, branches_of, level}
 use Rattle.xc_input.proofs.lists.Members.{IsIn, in-filter, in-append, append-in_left, append-in_right, in-map, map-in}
-use Rattle.xc_input.proofs.lists.Members.{in-flat_map, flat_map-in, in-take, in-enumerated, enumerated-in, each_in}
-use Rattle.xc_search.proofs.listing.BranchesLess.{least_is_one, branches_less}
+use Rattle.xc_input.proofs.lists.Members.{in-flat_map, flat_map-in, in-take, in-enumerated, enumerated-in}
+use Rattle.xc_search.proofs.listing.BranchesLess.{least_is_one}
+use Rattle.xc_dance.proofs.MoveLemmas.OptionsRise.{NumbersRise, NumbersRise-filter}
 use Rattle.xc_search.proofs.listing.BranchLists.{takes}
 
--- a branch takes an option of the item
-pub record IsTaken (r : Residual) (w : Wanted) (b : Branch) : Type 0 where
-  pub x : Numbered
-  pub known : IsIn r.options x
-  pub at : holds x w.item ≡ true
-  pub next : b.next ≡ pick r w.item x
-  pub option : b.choice.option ≡ Some x.number
-
--- a branch takes none
-pub record IsNone (r : Residual) (w : Wanted) (b : Branch) : Type 0 where
-  pub free : w.low ≡ 0
-  pub next : b.next ≡ none r w.item
-  pub option : b.choice.option ≡ None
+-- a branch takes an option of the item, or none where it need not be held
+pub data IsBranchOf (r : Residual) (w : Wanted) : Branch → Type 0 where
+  takes_one : (k n : ℕ) (x : Numbered) → IsIn r.options x → holds x w.item ≡ true
+      → IsBranchOf r w (take_branch r w.item n (k, x))
+  takes_none : (n : ℕ) → w.low ≡ 0 → IsBranchOf r w (none_branch r w.item n)
 
 abbrev pub nones : Residual → Wanted → List Branch
 nones r w = cond (eqb w.low 0) (none_branch r w.item (branch_count r w) ∷ []) []
 
-pub in-takes : (r : Residual) (w : Wanted) (b : Branch) → IsIn (takes r w) b → IsTaken r w b
-in-takes r w b h = grind (arith, common_steps, in-map, in-take, in-enumerated, in-filter)
-
-pub in-nones : (r : Residual) (w : Wanted) (b : Branch) → IsIn (nones r w) b → IsNone r w b
+pub in-nones : (r : Residual) (w : Wanted) (b : Branch) → IsIn (nones r w) b
+    → (w.low ≡ 0) × (none_branch r w.item (branch_count r w) ≡ b)
 in-nones r w b h = grind (arith, common_steps, eqb-true)
 
-pub in-branches : (r : Residual) (w : Wanted) (b : Branch) → IsIn (branches_of r w) b → IsTaken r w b ⊎ IsNone r w b
-in-branches r w b h = grind (arith, common_steps, in-append, in-takes, in-nones)
+pub in-branches : (r : Residual) (w : Wanted) (b : Branch) → IsIn (branches_of r w) b → IsBranchOf r w b
+in-branches r w b h = elim (in-append (takes r w) (nones r w) b h) [
+  | inl k ↦
+      let from = in-map _ _ _ k in
+      let found = in-filter _ _ _ (in-take _ _ _ (in-enumerated _ _ _ from.1)) in
+      subst (IsBranchOf r w) from.2 (takes_one from.0.0 (branch_count r w) from.0.1 found.0 found.1)
+  | inr k ↦ let none = in-nones r w b k in subst (IsBranchOf r w) none.1 (takes_none (branch_count r w) none.0)
+]
+
+-- what a branch leaves was left
+pub left_before : {r : Residual} {w : Wanted} {b : Branch} → IsBranchOf r w b → (o : Numbered)
+    → IsIn b.next.options o → IsIn r.options o
+left_before (takes_one k n x known at) o h = (in-filter _ _ _ h).0
+left_before (takes_none n free) o h = (in-filter _ _ _ h).0
+
+pub rise_behind : {r : Residual} {w : Wanted} {b : Branch} → IsBranchOf r w b → NumbersRise 0 r.options
+    → NumbersRise 0 b.next.options
+rise_behind (takes_one k n x known at) rise = NumbersRise-filter _ 0 _ rise
+rise_behind (takes_none n free) rise = NumbersRise-filter _ 0 _ rise
 
 pub takes-in : (r : Residual) (w : Wanted) (x : Numbered) → IsIn (take (branch_count r w) (holding w.item r.options)) x
     → (k : ℕ) × IsIn (branches_of r w) (take_branch r w.item (branch_count r w) (k, x))
@@ -75,7 +82,3 @@ no_items_left count (w ∷ ws) e = cc
 
 pub branch_item-in : (r : Residual) (w : Wanted) → branch_item r ≡ Some w → IsIn r.items w
 branch_item-in r w e = least_is_one _ _ _ e
-
-pub less_behind : (r : Residual) (w : Wanted) (b : Branch) → branch_item r ≡ Some w → IsIn (branches_of r w) b
-    → size_of b.next < size_of r
-less_behind r w b e h = each_in _ _ _ (branches_less r w e) h

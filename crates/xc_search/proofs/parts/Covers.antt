@@ -12,9 +12,9 @@ use Rattle.xc_dance.proofs.MoveLemmas.OptionsRise.{options_rise}
 use Rattle.xc_search.proofs.completeness.Covering.{bounded}
 use Rattle.xc_input.proofs.lists.Members.{IsIn, in-filter, filter-in, in-map, in-slice_get, each_in, in-contains}
 use Rattle.xc_input.proofs.lists.Members.{contains-in}
-use Rattle.xc_search.proofs.completeness.Complete.{is_held}
+use Rattle.xc_search.proofs.completeness.Fits.{is_held}
 use Rattle.xc_search.proofs.completeness.Passing.{passing, two_pass}
-use Rattle.xc_search.proofs.completeness.Whole.{is_listed, listed_in, in_listed, option_of, covers_whole}
+use Rattle.xc_search.proofs.completeness.Covering.{is_listed, listed_in, in_listed, option_of, covers_whole}
 use Rattle.xc_search.proofs.parts.Numbers.{IsNumber, at_place, number_of_option, cover_of_problem, cover_of_part}
 use Rattle.xc_search.proofs.residual.NumberedOnce.{same_number}
 use Rattle.xc_input.proofs.FaultLemmas.BooleanTests.{and_left, and_right, or_other}
@@ -46,7 +46,7 @@ in_its_part : (p : Puzzle) (i : ℕ) (s : List ℕ) (x : Numbered) → IsCover p
     → (k : ℕ) × IsNumber (part p i x) k × (number_in_problem p i x k ≡ o)
 in_its_part p i s x c one o h =
     let known = each_in _ _ _ (recursion_from_All (IsNumber p) s c.known) h in
-    let y = option_of p o known.0 known.1 in
+    let y = option_of p o known in
     let taken : IsIn s y.0.number = subst (IsIn s) (sym y.2) h in
     let kept : is_in_part i x y.0 ≡ true =
     by_bool (holds y.0 i) (λ at. rw (at, eq-eqb _ _ (one.only y.0 y.1 at taken)) refl) (λ at. rw at refl) in
@@ -58,7 +58,7 @@ module _ (p : Puzzle) (v : IsValid p) (i : ℕ) (once : IsHeldOnce p i) where
   pub the_one : (s : List ℕ) → IsCover p s → (x : Numbered) × IsOne p i s x
   the_one s c =
       let w = bounded p i (record { low = 1; high = 1 }) once in
-      let met = (covers_whole p s v c).met w.0 w.1 in
+      let met = (covers_whole p v s c).met w.0 w.1 in
       let times = ap (λ j. passing (is_held (is_listed s) j) (numbered_options p)) w.2 in
       let x = one_of (filter (is_held (is_listed s) i) (numbered_options p)) (omega (arith, met.0, times, w.3)) in
       let found = in-filter _ _ _ x.1 in (
@@ -70,7 +70,7 @@ module _ (p : Puzzle) (v : IsValid p) (i : ℕ) (once : IsHeldOnce p i) where
           only = λ y h at taken.
               let held : is_held (is_listed s) i y ≡ true = rw (at, in_listed s y.number taken) refl in
               let twice : y.number ≢ x.0.number → 2 ≤ passing (is_held (is_listed s) i) (numbered_options p) =
-              λ apart. two_pass _ _ _ _ h found.0 held found.1 apart in
+              λ apart. two_pass _ 0 _ _ _ (options_rise p) h found.0 held found.1 apart in
               grind (arith, twice, met.1, times, w.4);
         },
       )

@@ -2,9 +2,9 @@
 use Rattle.std.proofs.lemmas.Grind.{common_steps}
 use Rattle.xc_dance.specs.Moves.{agrees}
 use Rattle.xc_search.proofs.Spent.{count_of}
-use Rattle.std.proofs.Common.{ℕ, zero, suc, ◌≡◌, ◌+◌, true, false, cond, not, ◌&&◌, ◌||◌, eqb, List, [], ◌∷◌, ◌++◌}
+use Rattle.std.proofs.Common.{ℕ, ◌≡◌, ◌+◌, true, false, cond, not, ◌&&◌, ◌||◌, eqb, List, [], ◌∷◌, ◌++◌}
 use Rattle.std.proofs.Common.{length, map, filter, find, take, Option, Some, None, refl, sym, ap, ap₂, ◌∙◌, arith}
-use Rattle.std.proofs.Common.{subst, ◌⊎◌, inl, inr}
+use Rattle.std.proofs.Common.{inl, inr}
 use Rattle.std.specs.Prelude.{nat_lt, nat_le, is_some, flat_map, option_map}
 use Rattle.std.specs.List.{best_of, enumerate_from, list_all}
 use Rattle.std.proofs.lemmas.Bool.Decides.{nat_tests}
@@ -14,16 +14,18 @@ use Rattle.xc_input.specs.declared.problem.Use.{Use}
 use Rattle.xc_search.specs.declared.choice.Choice.{Choice}
 use Rattle.xc_input.specs.Problem.{Numbered, colour_in, holds, holding}
 use Rattle.xc_search.specs.Listing.{Wanted, Residual, Branch, branch_count, branch_item, first_least, spend_one}
-use Rattle.xc_search.specs.Listing.{may_stay, item_left, pick, none, take_branch, none_branch, branches_of, level}
-use Rattle.xc_search.specs.Listing.{listing_to, listing}
+use Rattle.xc_search.specs.Listing.{may_stay, item_left, pick, none, take_branch, none_branch, branches_of}
+use Rattle.xc_search.specs.Listing.{listing}
 use Rattle.xc_search.specs.Parts.{renumber_use, renumber_option, renumber_item, renumber, renumber_choice, AreKeptApart}
 use Rattle.xc_search.specs.Parts.{AreKeptInOrder, ListsAlike}
 use Rattle.xc_input.proofs.lists.Filters.{filter-map, filter_same, map-same, map-map}
 use Rattle.xc_input.proofs.lists.Members.{IsIn, in-filter, in-take, each_from, contains-in}
 use Rattle.xc_search.proofs.completeness.Proper.{goes_on}
-use Rattle.xc_search.proofs.listing.EachBranch.{IsTaken, IsNone, nones, behind, in-branches}
+use Rattle.xc_search.proofs.listing.BranchesLess.{by_branches}
+use Rattle.xc_search.proofs.listing.EachBranch.{nones, behind, in-branches, left_before}
+use Rattle.xc_search.proofs.listing.Unrolled.{listing_at}
 use Rattle.xc_search.proofs.residual.PickedByUses.{as_residual, is_wanted}
-use Rattle.xc_search.proofs.Cases.{by_bool, by_option}
+use Rattle.xc_search.proofs.Cases.{by_bool}
 use Rattle.xc_search.proofs.listing.BranchLists.{takes}
 
 module _ (f g : ℕ → ℕ) (apart : AreKeptApart f) where
@@ -172,25 +174,21 @@ module _ (f g : ℕ → ℕ) (apart : AreKeptApart f) where
       (same_behind rest bs (λ c k. h c (inr k)))
       ∙ sym (map-append (map (renumber_choice f g)) (behind rest b) (flat_map (behind rest) bs))
 
-  was_left : (r : Residual) (w : Wanted) (b : Branch) (o : Numbered) → IsTaken r w b ⊎ IsNone r w b
-      → IsIn b.next.options o → IsIn r.options o
-  was_left r w b o (inl t) h = (in-filter _ _ _ (subst (λ (z : Residual). IsIn z.options o) t.next h)).0
-  was_left r w b o (inr t) h = (in-filter _ _ _ (subst (λ (z : Residual). IsIn z.options o) t.next h)).0
-
-  same_listing : (d : ℕ) (r : Residual) → InOrder r.options
-      → listing_to d (renumber f g r) ≡ map (map (renumber_choice f g)) (listing_to d r)
-  unfolding listing_to
-  same_listing zero r order = refl
-  same_listing (suc d) r order =
-      ap (λ o. level (listing_to d) o (renumber f g r)) (same_branch_item r)
-      ∙ by_option (branch_item r) (λ e. rw e refl) (λ w e. rw e
-      (ap (flat_map (behind (listing_to d))) (same_branches r w order)
-      ∙ same_behind (listing_to d) (branches_of r w) (λ b h.
-      let kind = in-branches r w b h in
-      same_listing d b.next (λ x y j k. order x y (was_left r w b x kind j) (was_left r w b y kind k)))))
+  same_listing : (r : Residual) → InOrder r.options
+      → listing (renumber f g r) ≡ map (map (renumber_choice f g)) (listing r)
+  same_listing = by_branches
+      (λ r. InOrder r.options → listing (renumber f g r) ≡ map (map (renumber_choice f g)) (listing r))
+      (λ r e order. listing_at (renumber f g r) None (same_branch_item r ∙ ap (option_map (renumber_item f)) e)
+      ∙ sym (ap (map (map (renumber_choice f g))) (listing_at r None e)))
+      (λ r w e later order.
+      listing_at (renumber f g r) (Some (renumber_item f w)) (same_branch_item r ∙ ap (option_map (renumber_item f)) e)
+      ∙ ap (flat_map (behind listing)) (same_branches r w order)
+      ∙ same_behind listing (branches_of r w) (λ b h.
+      let of = in-branches r w b h in
+      later b h (λ x y j k. order x y (left_before of x j) (left_before of y k)))
+      ∙ sym (ap (map (map (renumber_choice f g))) (listing_at r (Some w) e)))
 
 pub listing_renumbered : (f g : ℕ → ℕ) → AreKeptApart f → (r : Residual) → AreKeptInOrder g r.options → ListsAlike f g r
-unfolding listing
 listing_renumbered f g apart r order = grind (arith, common_steps, same_listing, in_order)
   where
     in_order : (x y : Numbered) → IsIn r.options x → IsIn r.options y

@@ -1,4 +1,4 @@
-use Rattle.xc_search.proofs.completeness.Whole.{each_cover_is_listed}
+use Rattle.xc_search.proofs.completeness.Covering.{each_cover_is_listed}
 use Rattle.xc_search.proofs.laws.each_cover_is_listed.Goals as goal
 
 pub returns : goal.returns
