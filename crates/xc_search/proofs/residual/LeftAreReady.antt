@@ -1,6 +1,6 @@
 -- The uses of an option that is left are ready to be committed.
 use Rattle.std.proofs.lemmas.Grind.{common_steps}
-use Rattle.std.proofs.Common.{ℕ, zero, suc, ◌≡◌, ◌<◌, ◌≤◌, Bool, true, false, eqb, leb, List, []}
+use Rattle.std.proofs.Common.{ℕ, ◌≡◌, ◌<◌, ◌≤◌, Bool, true, false, leb, List, []}
 use Rattle.std.proofs.Common.{◌∷◌, filter, find, Some, None, refl, ap, ◌∙◌, arith, subst, eqb-true, ltb-true}
 use Rattle.std.proofs.Common.{leb-true}
 use Rattle.std.proofs.lemmas.Bool.{leb-false}
@@ -17,7 +17,7 @@ use Rattle.xc_dance.specs.Moves.{is_open, is_covered, purified, spends, AreLegal
 use Rattle.xc_search.specs.Residuals.{wanted_at, wanted_after}
 use Rattle.xc_search.proofs.residual.PickedByUses.{is_wanted, AreWanted}
 use Rattle.xc_dance.proofs.MoveLemmas.LeftOptions.{left_agrees, left_free, kept}
-use Rattle.xc_search.proofs.residual.ReadyUses.{Ready, blank, coloured, same_colour, found_wanted, AreReady}
+use Rattle.xc_search.proofs.residual.ReadyUses.{Ready, secondary, same_colour, found_wanted, AreReady}
 use Rattle.xc_input.proofs.lists.EachElement.{each_at, each_both}
 use Rattle.xc_search.proofs.residual.OptionUses.{apart_from_pairs, own_colours}
 use Rattle.xc_search.proofs.listing.Numbering.{IsOption, all_options}
@@ -62,10 +62,6 @@ has_left p t j a h o =
 
 -- ---- ready
 
-ne_zero : (n : ℕ) → eqb n 0 ≡ false → 0 < n
-ne_zero zero e = cc
-ne_zero (suc n) e = omega arith
-
 record IsFree (t : List Move) (x : Numbered) : Type 0 where
   uncovered : (j : ℕ) → is_covered j t ≡ true → holds x j ≡ false
   agreeing : (j d : ℕ) → purified j t ≡ Some d → agrees d (colour_at x j) ≡ true
@@ -75,7 +71,7 @@ agree_colour d c e = grind (arith, common_steps, eqb-true, ltb-true)
 
 not_covered : (t : List Move) (x : Numbered) (u : Use) → IsFree t x → colour_at x u.item ≡ Some u.colour
     → is_covered u.item t ≡ false
-not_covered t x u f e = by_bool (is_covered u.item t) (λ c. grind (arith, common_steps)) (λ c. c)
+not_covered t x u f e = grind (arith, common_steps, f.uncovered u.item)
 
 ready_use : (p : Puzzle) (t : List Move) (x : Numbered) (u : Use) → AreLegal p t → AreWanted (wanted_after p t)
     → IsFree t x → IsSoundUse p u → colour_at x u.item ≡ Some u.colour → Ready p t u
@@ -83,8 +79,7 @@ ready_use p t x u l a f s e = by_bool (leb u.item (primary_count p))
     (λ h. grind (arith, common_steps, leb-true, open_if, not_covered, primary_pure, has_left))
     (λ h. let second : IsSecondary p u.item = (leb-false _ _ h, s.0.1) in
     by_option (purified u.item t)
-    (λ i. let o = open_if u.item t (not_covered t x u f e) i in by_bool (eqb u.colour 0)
-    (λ c. blank second (eqb-true u.colour 0 c) o) (λ c. coloured second (ne_zero u.colour c) o))
+    (λ i. secondary second (open_if u.item t (not_covered t x u f e) i))
     (λ d i. let same = agree_colour d u.colour (subst (λ o. agrees d o ≡ true) e (f.agreeing u.item d i)) in
     same_colour second same.1 (closed_if u.item d t i) (i ∙ ap Some same.0)))
 

@@ -1,8 +1,8 @@
 -- Taking an option use by use comes to `pick`.
 use Rattle.std.proofs.Common.{arith}
 use Rattle.std.proofs.lemmas.Grind.{common_steps}
-use Rattle.std.proofs.Common.{ℕ, ◌≡◌, Bool, true, false, cond, ◌&&◌, eqb, List, [], ◌∷◌, map, filter, find, Option}
-use Rattle.std.proofs.Common.{Some, refl, sym, ap, ap₂, ◌∙◌, eqb-true, eq-eqb, ne_eqb}
+use Rattle.std.proofs.Common.{ℕ, ◌≡◌, Bool, true, false, cond, eqb, List, [], ◌∷◌, map, filter, find}
+use Rattle.std.proofs.Common.{refl, sym, ap, ap₂, ◌∙◌, eqb-true, eq-eqb, ne_eqb}
 use Rattle.xc_search.proofs.Spent.{less_one}
 use Rattle.std.specs.Prelude.{nat_lt, is_some}
 use Rattle.std.specs.List.{AllByRecursion, list_all}
@@ -14,7 +14,6 @@ use Rattle.xc_input.proofs.lists.EachElement.{each_of_all}
 use Rattle.std.proofs.lemmas.List.{map-id}
 use Rattle.std.proofs.lemmas.List.Elements.{filter_agree}
 use Rattle.xc_search.proofs.residual.OptionUses.{AreApart}
-use Rattle.xc_search.proofs.Cases.{by_bool}
 
 -- one use of a taken option
 abbrev pub dec : ℕ → Wanted → Wanted
@@ -58,21 +57,9 @@ pub still_wanted : (j : ℕ) (ws : List Wanted) → AreWanted (filter is_wanted 
 still_wanted j [] = tt
 still_wanted j (w ∷ ws) = grind (arith, common_steps, still_wanted j ws)
 
-spends_true : (u : Use) (us : List Use) (w : Wanted) → eqb w.item u.item ≡ true → spend_uses (u ∷ us) w ≡ less_one w
-spends_true u us w e = grind (arith, common_steps, eq-eqb, eqb-true)
-
-spends_other : (u : Use) (us : List Use) (w : Wanted) → eqb w.item u.item ≡ false
-    → spend_uses (u ∷ us) w ≡ spend_uses us w
-spends_other u us w e = grind (arith, common_steps, ne_eqb, eq-eqb)
-
-item_more : (u : Use) (us : List Use) (w : Wanted) (front rest : List Wanted)
-    → AllByRecursion (λ v. eqb u.item v.item ≡ false) us → is_wanted w ≡ true
-    → filter is_wanted (map (spend_uses us) front) ≡ rest →
-    filter is_wanted (map (spend_uses us) (cond (is_wanted (dec u.item w)) (dec u.item w ∷ front) front)) ≡ cond
-    (is_wanted (spend_uses (u ∷ us) w)) (spend_uses (u ∷ us) w ∷ rest) rest
-item_more u us w front rest a h same = by_bool (eqb w.item u.item)
-    (λ e. grind (arith, common_steps, eqb-true, not_held u.item us a, spends_true u us w e))
-    (λ e. grind (arith, common_steps, spends_other u us w e))
+spends_more : (u : Use) (us : List Use) (w : Wanted)
+    → spend_uses (u ∷ us) w ≡ cond (eqb w.item u.item) (less_one w) (spend_uses us w)
+spends_more u us w = grind (arith, common_steps, eq-eqb, eqb-true, ne_eqb)
 
 -- the items
 items_more : (u : Use) (us : List Use) (ws : List Wanted) → AllByRecursion (λ v. eqb u.item v.item ≡ false) us
@@ -80,26 +67,20 @@ items_more : (u : Use) (us : List Use) (ws : List Wanted) → AllByRecursion (λ
     filter is_wanted (map (spend_uses us) (filter is_wanted (map (dec u.item) ws))) ≡ filter is_wanted
     (map (spend_uses (u ∷ us)) ws)
 items_more u us [] a h = refl
-items_more u us (w ∷ ws) a h = item_more u us w _ _ a h.0 (items_more u us ws a h.1)
-
-other_head : (j k : ℕ) (w : Wanted) (front : List Wanted) (rest : Option Wanted) → eqb j k ≡ false → is_wanted w ≡ true
-    → find (λ w. eqb w.item k) front ≡ rest →
-    find (λ w. eqb w.item k) (cond (is_wanted (dec j w)) (dec j w ∷ front) front) ≡ cond (eqb w.item k) (Some w) rest
-other_head j k w front rest e h same = by_bool (eqb w.item j)
-    (λ i. grind (arith, common_steps, eqb-true, find))
-    (λ i. rw (i, h) (ap (λ o. cond (eqb w.item k) (Some w) o) same))
+items_more u us (w ∷ ws) a h =
+    grind (arith, common_steps, items_more u us ws a h.1, spends_more u us w, eqb-true, not_held u.item us a)
 
 -- what is left of other items
 left_same : (j k : ℕ) (ws : List Wanted) → eqb j k ≡ false → AreWanted ws →
     find (λ w. eqb w.item k) (filter is_wanted (map (dec j) ws)) ≡ find (λ w. eqb w.item k) ws
 left_same j k [] e h = refl
-left_same j k (w ∷ ws) e h = other_head j k w _ _ e h.0 (left_same j k ws e h.1)
+left_same j k (w ∷ ws) e h = grind (arith, common_steps, left_same j k ws e h.1, eqb-true, find)
 
 stay_same : (u : Use) (us : List Use) (r : Residual) (o : Numbered) → AllByRecursion (λ v. eqb u.item v.item ≡ false) us
     → AreWanted r.items → all_stay (commit_use u r) us o ≡ all_stay r us o
 stay_same u [] r o a h = refl
 stay_same u (v ∷ us) r o a h =
-    ap₂ (λ x y. may_stay x v o && y) (left_same u.item v.item r.items a.0 h) (stay_same u us r o a.1 h)
+    rw (left_same u.item v.item r.items a.0 h, stay_same u us r o a.1 h) refl
 
 pub as_residual : (a b : List Wanted) (c d : List Numbered) → a ≡ b → c ≡ d
     → ◌≡◌ {A = Residual} (record { items = a; options = c }) (record { items = b; options = d })

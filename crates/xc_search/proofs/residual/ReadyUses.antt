@@ -1,17 +1,17 @@
 -- The uses of an option left can be committed, and committing one is what `commit_use` says.
 use Rattle.std.proofs.lemmas.Grind.{common_steps}
 use Rattle.std.proofs.Common.{ℕ, zero, suc, ◌≡◌, ◌+◌, ◌-◌, ◌<◌, ◌≤◌, true, false, not, eqb, List, []}
-use Rattle.std.proofs.Common.{◌∷◌, map, filter, find, Option, Some, None, refl, sym, ap, ◌∙◌, arith, subst, eqb-true}
+use Rattle.std.proofs.Common.{◌∷◌, map, filter, find, Some, None, refl, sym, ap, ◌∙◌, arith, subst, eqb-true}
 use Rattle.std.proofs.Common.{eq-eqb, ne_eqb, le-leb, lt-ltb, le-ltb}
 use Rattle.std.proofs.lemmas.Bool.{lt-leb, eqb-false}
 use Rattle.std.proofs.lemmas.List.Elements.{filter_agree}
-use Rattle.std.specs.Prelude.{nat_lt, is_some}
+use Rattle.std.specs.Prelude.{nat_lt}
 use Rattle.std.specs.List.{AllByRecursion, range_with_len}
 use Rattle.xc_input.specs.declared.problem.Use.{Use}
 use Rattle.xc_dance.specs.declared.dance.Move.{Move}
-use Rattle.xc_dance.specs.declared.dance.Move.TheVariants.{Cover, Purify, Spend}
+use Rattle.xc_dance.specs.declared.dance.Move.TheVariants.{Spend}
 use Rattle.xc_input.specs.Problem.{Puzzle, primary_count, colour_at, high_at, IsPrimary, IsSecondary}
-use Rattle.xc_search.specs.Listing.{Wanted, none, may_stay, item_left}
+use Rattle.xc_search.specs.Listing.{Wanted, Residual, none, may_stay, item_left}
 use Rattle.xc_dance.specs.inner.Left.{left}
 use Rattle.xc_dance.specs.Moves.{is_open, purified, spends, AreLegal, agrees}
 use Rattle.xc_search.specs.Residuals.{wanted_at, wanted_after}
@@ -25,44 +25,31 @@ use Rattle.xc_dance.proofs.MoveLemmas.LeftOptions.{left_agrees}
 use Rattle.xc_input.proofs.lists.EachElement.{each_weaker, each-map, each_of_all, each_both, each-filter}
 use Rattle.xc_input.proofs.lists.Filters.{filter_same, keep_all}
 use Rattle.xc_search.proofs.residual.OptionUses.{AreApart, apart_sym}
-use Rattle.xc_search.proofs.Cases.{by_bool}
+use Rattle.xc_search.proofs.Cases.{by_bool, by_option}
 
 pub data Ready (p : Puzzle) (t : List Move) (u : Use) : Type 0 where
   primary : IsPrimary p u.item → is_open u.item t ≡ true → spends u.item t < high_at p u.item → Ready p t u
-  blank : IsSecondary p u.item → u.colour ≡ 0 → is_open u.item t ≡ true → Ready p t u
-  coloured : IsSecondary p u.item → 0 < u.colour → is_open u.item t ≡ true → Ready p t u
+  secondary : IsSecondary p u.item → is_open u.item t ≡ true → Ready p t u
   same_colour : IsSecondary p u.item → 0 < u.colour → is_open u.item t ≡ false → purified u.item t ≡ Some u.colour
       → Ready p t u
 
 -- ---- other items keep what they have
 
-after_use-same : {X : Type 0} (f : List Move → X) (p : Puzzle) (u : Use) (t : List Move)
-    → ((s : List Move) → f (Cover u.item ∷ s) ≡ f s) → ((s : List Move) → f (Purify u.item u.colour ∷ s) ≡ f s)
-    → ((s : List Move) → f (Spend u.item ∷ s) ≡ f s) → f (after_use p u t) ≡ f t
-after_use-same f p u t a b c = grind (arith, common_steps)
-
-pub open_same : (p : Puzzle) (u : Use) (t : List Move) (j : ℕ) → eqb j u.item ≡ false
-    → is_open j (after_use p u t) ≡ is_open j t
-open_same p u t j e = after_use-same (is_open j) p u t (λ s. rw e refl) (λ s. rw e refl) (λ s. refl)
-
-pub purified_same : (p : Puzzle) (u : Use) (t : List Move) (j : ℕ) → eqb j u.item ≡ false
-    → purified j (after_use p u t) ≡ purified j t
-purified_same p u t j e = after_use-same (purified j) p u t (λ s. refl) (λ s. rw e refl) (λ s. refl)
-
-pub spends_same : (p : Puzzle) (u : Use) (t : List Move) (j : ℕ) → eqb j u.item ≡ false
-    → spends j (after_use p u t) ≡ spends j t
-spends_same p u t j e = after_use-same (spends j) p u t (λ s. refl) (λ s. refl) (λ s. rw e (omega arith))
+other_same : (p : Puzzle) (u : Use) (t : List Move) (j : ℕ) → eqb j u.item ≡ false
+    → (is_open j (after_use p u t) ≡ is_open j t) × (purified j (after_use p u t) ≡ purified j t)
+    × (spends j (after_use p u t) ≡ spends j t)
+other_same p u t j e = grind (arith, common_steps)
 
 pub ready_later : (p : Puzzle) (t s : List Move) (v : Use) → is_open v.item s ≡ is_open v.item t
     → purified v.item s ≡ purified v.item t → spends v.item s ≡ spends v.item t → Ready p t v → Ready p s v
 ready_later p t s v a b c (primary h i k) = primary h (a ∙ i) (omega (arith, c, k))
-ready_later p t s v a b c (blank h i k) = blank h i (a ∙ k)
-ready_later p t s v a b c (coloured h i k) = coloured h i (a ∙ k)
+ready_later p t s v a b c (secondary h k) = secondary h (a ∙ k)
 ready_later p t s v a b c (same_colour h i k l) = same_colour h i (a ∙ k) (b ∙ l)
 
 pub ready_after : (p : Puzzle) (u : Use) (t : List Move) (v : Use) → eqb v.item u.item ≡ false → Ready p t v
     → Ready p (after_use p u t) v
-ready_after p u t v e r = grind (arith, common_steps, ready_later, open_same, purified_same, spends_same)
+ready_after p u t v e r =
+    let same = other_same p u t v.item e in ready_later p t (after_use p u t) v same.0 same.1 same.2 r
 
 -- ---- the moves are legal
 
@@ -78,8 +65,7 @@ legal_opening p i t l h o k = grind (arith, common_steps)
 
 pub legal_commit : (p : Puzzle) (u : Use) (t : List Move) → AreLegal p t → Ready p t u → AreLegal p (after_use p u t)
 legal_commit p u t l (primary h o k) = rw (le-leb u.item (primary_count p) h.1) (legal_opening p u.item t l h o k)
-legal_commit p u t l (blank h c o) = grind (arith, common_steps, lt-leb, eq-eqb)
-legal_commit p u t l (coloured h c o) = grind (arith, common_steps, lt-leb, ne_eqb)
+legal_commit p u t l (secondary h o) = grind (arith, common_steps, lt-leb, eqb-false)
 legal_commit p u t l (same_colour h c o q) = grind (arith, common_steps, lt-leb, ne_eqb)
 
 -- ---- one use
@@ -88,10 +74,7 @@ found_from : (p : Puzzle) (t : List Move) (j a n : ℕ) → a ≤ j → j < a + 
     find (λ w. eqb w.item j) (map (wanted_at p t) (filter (λ i. is_open i t) (range_with_len a n))) ≡ Some
     (wanted_at p t j)
 found_from p t j a zero h k o = absurd (omega (arith, h, k))
-found_from p t j a (suc n) h k o = by_bool (eqb a j)
-    (λ e. grind (arith, common_steps, eqb-true))
-    (λ e. let later = found_from p t j (a + 1) n (omega (arith, h, eqb-false _ _ e)) (omega (arith, k)) o in
-    grind (arith, common_steps, find))
+found_from p t j a (suc n) h k o = grind (arith, common_steps, found_from p t j (a + 1) n, eqb-true, eqb-false, find)
 
 pub found_wanted : (p : Puzzle) (t : List Move) (j : ℕ) → IsPrimary p j → is_open j t ≡ true
     → item_left (residual_of p t) j ≡ Some (wanted_at p t j)
@@ -101,42 +84,24 @@ pub not_found : (p : Puzzle) (t : List Move) (j : ℕ) → primary_count p < j
     → AllByRecursion (λ w. eqb w.item j ≡ false) (wanted_after p t)
 not_found p t j h = grind (arith, common_steps, each-map, each-filter, each_weaker, ne_eqb, in_range)
 
-none_found : (j : ℕ) (ws : List Wanted) → AllByRecursion (λ w. eqb w.item j ≡ false) ws
-    → find (λ w. eqb w.item j) ws ≡ None
-none_found j [] a = refl
-none_found j (w ∷ ws) a = rw a.0 (none_found j ws a.1)
-
-dec_nothing : (j : ℕ) (ws : List Wanted) → AllByRecursion (λ w. eqb w.item j ≡ false) ws → map (dec j) ws ≡ ws
-dec_nothing j [] a = refl
-dec_nothing j (w ∷ ws) a = rw a.0 (ap (λ vs. w ∷ vs) (dec_nothing j ws a.1))
-
--- the items keep their bounds where the item isn't primary
-second_items : (p : Puzzle) (t : List Move) (j : ℕ) → primary_count p < j → AreWanted (wanted_after p t)
-    → wanted_after p t ≡ filter is_wanted (map (dec j) (wanted_after p t))
-second_items p t j h a =
-    sym (ap (filter is_wanted) (dec_nothing j (wanted_after p t) (not_found p t j h))
-    ∙ keep_all is_wanted (wanted_after p t) a)
-
-blank_agrees : (o : Option ℕ) → not (is_some o) ≡ agrees 0 o
-blank_agrees None = refl
-blank_agrees (Some d) = refl
+-- an item that isn't left has nothing to spend
+untouched : (j : ℕ) (ws : List Wanted) → AllByRecursion (λ w. eqb w.item j ≡ false) ws
+    → (find (λ w. eqb w.item j) ws ≡ None) × (map (dec j) ws ≡ ws)
+untouched j [] a = (refl, refl)
+untouched j (w ∷ ws) a = grind (arith, common_steps, untouched j ws a.1)
 
 -- every item that is left is as the Spends leave it
 pub as_spent : (p : Puzzle) (t : List Move) → AllByRecursion (λ w. w ≡ wanted_at p t w.item) (wanted_after p t)
 as_spent p t = grind (arith, common_steps, each-map, each_of_all)
 
-covered_item : (j : ℕ) (w : Wanted) → is_wanted w ≡ true → (eqb w.item j ≡ true → w.high ≡ 1)
-    → not (eqb (dec j w).item j) ≡ is_wanted (dec j w)
-covered_item j w a h = by_bool (eqb w.item j)
-    (λ e. rw (e, e) (sym (le-ltb 0 (w.high - 1) (omega (arith, h e))))) (λ e. rw (e, e) (sym a))
+-- an item that was held once more for the last time goes, and another stays
+covered_item : (p : Puzzle) (t : List Move) (j : ℕ) (w : Wanted) → w ≡ wanted_at p t w.item → is_wanted w ≡ true
+    → high_at p j - spends j t ≡ 1 → not (eqb (dec j w).item j) ≡ is_wanted (dec j w)
+covered_item p t j w e a h = grind (arith, common_steps, le-ltb, eqb-true, ap (λ (w : Wanted). w.high) e)
 
-kept_item : (j : ℕ) (w : Wanted) → is_wanted w ≡ true → (eqb w.item j ≡ true → 1 < w.high) → is_wanted (dec j w) ≡ true
-kept_item j w a h =
-    by_bool (eqb w.item j) (λ e. rw e (lt-ltb 0 (w.high - 1) (omega (arith, h e)))) (λ e. rw e a)
-
-pub high_of : (p : Puzzle) (t : List Move) (j : ℕ) (w : Wanted) → w ≡ wanted_at p t w.item → eqb w.item j ≡ true
-    → w.high ≡ high_at p j - spends j t
-high_of p t j w e i = ap (λ (v : Wanted). v.high) e ∙ ap (λ k. high_at p k - spends k t) (eqb-true w.item j i)
+kept_item : (p : Puzzle) (t : List Move) (j : ℕ) (w : Wanted) → w ≡ wanted_at p t w.item → is_wanted w ≡ true
+    → 1 < high_at p j - spends j t → is_wanted (dec j w) ≡ true
+kept_item p t j w e a h = grind (arith, common_steps, lt-ltb, eqb-true, ap (λ (w : Wanted). w.high) e)
 
 pub opening_commits : (p : Puzzle) (u : Use) (t : List Move) → AreWanted (wanted_after p t) → IsPrimary p u.item
     → is_open u.item t ≡ true → spends u.item t < high_at p u.item →
@@ -153,7 +118,7 @@ opening_commits p u t a h o k =
     (residual_cover p (Spend u.item ∷ t) u.item ∙ ap (λ r. none r u.item) (residual_spend p t u.item)
     ∙ as_residual _ _ _ _
     (filter_same _ _ _ (each-map _ (dec u.item) (wanted_after p t) (each_both _ _ _ (wanted_after p t)
-    (λ w z i. covered_item u.item w i (λ q. high_of p t u.item w z q ∙ last)) (as_spent p t) a)))
+    (λ w z i. covered_item p t u.item w z i last) (as_spent p t) a)))
     (filter_agree _ stay (λ x. rw (found, not_more) refl) (left p t))))
     (λ e.
     let more : 1 < left_over = omega (arith, eqb-false _ _ e, spent_self u.item t, k) in
@@ -162,31 +127,34 @@ opening_commits p u t a h o k =
     (residual_spend p t u.item
     ∙ as_residual _ _ _ _
     (sym (keep_all is_wanted _ (each-map _ (dec u.item) (wanted_after p t) (each_both _ _ _ (wanted_after p t)
-    (λ w z i. kept_item u.item w i (λ q. omega (arith, high_of p t u.item w z q, more))) (as_spent p t) a))))
+    (λ w z i. kept_item p t u.item w z i more) (as_spent p t) a))))
     (sym (keep_all stay (left p t) (each_of_all _ (left p t) (λ x. rw (found, is_more) refl))))))
+
+-- a use of a secondary item keeps the options that agree
+secondary_commits : (p : Puzzle) (u : Use) (t : List Move) → AreWanted (wanted_after p t) → primary_count p < u.item
+    → (let r : Residual = record {
+      items = wanted_after p t;
+      options = filter (λ o. agrees u.colour (colour_at o u.item)) (left p t);
+    } in r) ≡ commit_use u (residual_of p t)
+secondary_commits p u t a h =
+    let out = untouched u.item (wanted_after p t) (not_found p t u.item h) in
+    as_residual _ _ _ _ (sym (ap (filter is_wanted) out.1 ∙ keep_all is_wanted (wanted_after p t) a))
+    (filter_agree _ _ (λ x. rw out.0 refl) (left p t))
 
 pub commit_one : (p : Puzzle) (u : Use) (t : List Move) → AreWanted (wanted_after p t) → Ready p t u
     → residual_of p (after_use p u t) ≡ commit_use u (residual_of p t)
 commit_one p u t a (primary h o k) = rw (le-leb u.item (primary_count p) h.1) (opening_commits p u t a h o k)
-commit_one p u t a (blank h c o) =
-    rw (lt-leb u.item (primary_count p) h.0, eq-eqb u.colour 0 c)
-    (residual_cover_secondary p t u.item h.0
-    ∙ as_residual _ _ _ _ (second_items p t u.item h.0 a)
-    (filter_agree _ _ (λ x. rw (none_found u.item (wanted_after p t) (not_found p t u.item h.0), c)
-    (blank_agrees (colour_at x u.item))) (left p t)))
-commit_one p u t a (coloured h c o) =
-    let colour : eqb u.colour 0 ≡ false = ne_eqb u.colour 0 (λ e. omega (arith, c, e)) in
-    rw (lt-leb u.item (primary_count p) h.0, colour, o)
-    (residual_purify p t u.item u.colour h.0
-    ∙ as_residual _ _ _ _ (second_items p t u.item h.0 a)
-    (filter_agree _ _ (λ x. rw (none_found u.item (wanted_after p t) (not_found p t u.item h.0)) refl) (left p t)))
+commit_one p u t a (secondary h o) = rw (lt-leb u.item (primary_count p) h.0) (by_bool (eqb u.colour 0)
+    (λ c. rw c (residual_cover_secondary p t u.item h.0
+    ∙ as_residual _ _ _ _ refl (filter_agree _ _ (λ x. by_option (colour_at x u.item) (λ e. rw e refl)
+    (λ d e. rw (e, eqb-true u.colour 0 c) refl)) (left p t))))
+    (λ c. rw (c, o) (residual_purify p t u.item u.colour h.0))
+    ∙ secondary_commits p u t a h.0)
 commit_one p u t a (same_colour h c o q) =
     let colour : eqb u.colour 0 ≡ false = ne_eqb u.colour 0 (λ e. omega (arith, c, e)) in
     rw (lt-leb u.item (primary_count p) h.0, colour, o)
-    (as_residual _ _ _ _ (second_items p t u.item h.0 a)
-    (sym (keep_all _ (left p t) (each_weaker _ _ (left p t)
-    (λ x e. rw (none_found u.item (wanted_after p t) (not_found p t u.item h.0)) e)
-    (left_agrees p t u.item u.colour q)))))
+    (as_residual _ _ _ _ refl (sym (keep_all _ (left p t) (left_agrees p t u.item u.colour q)))
+    ∙ secondary_commits p u t a h.0)
 
 -- ---- all uses
 
