@@ -1,7 +1,7 @@
 -- A part lists the same where it is a problem of its own, with its item in front.
 use Rattle.std.proofs.lemmas.Grind.{common_steps}
 use Rattle.std.proofs.Common.{ℕ, zero, suc, ◌≡◌, ◌+◌, ◌<◌, ◌≤◌, List, [], ◌∷◌, map}
-use Rattle.std.proofs.Common.{filter, Some, refl, sym, ap, ap₂, ◌∙◌, arith, eqb-true, ne_eqb}
+use Rattle.std.proofs.Common.{filter, Some, refl, sym, ap, ◌∙◌, arith, eqb-true, ne_eqb}
 use Rattle.xc_input.proofs.OptionLemmas.NumberedOptions.{numbered_from}
 use Rattle.xc_input.specs.declared.problem.Bounds.{Bounds}
 use Rattle.std.specs.Prelude.{slice_get, option_map, unwrap_or, Contains}
@@ -71,10 +71,7 @@ options_back i k g [] h numbers a = refl
 options_back i k g (o ∷ os) h numbers a =
     let later : (j : ℕ) (y : Numbered) → slice_get os j ≡ Some y → g ((k + 1) + suc j) ≡ y.number =
     λ j y e. let next : (k + 1) + suc j ≡ k + suc (suc j) = omega arith in ap g next ∙ numbers (suc j) y e in
-    ap₂ (λ z zs. z ∷ zs)
-    (ap₂ (λ n us. let z : Numbered = record { number = n; uses = us } in z) (numbers zero o refl)
-    (uses_back i o.uses h a.0))
-    (options_back i (k + 1) g os h later a.1)
+    rw (numbers zero o refl, uses_back i o.uses h a.0, options_back i (k + 1) g os h later a.1) refl
 
 -- ---- the part
 

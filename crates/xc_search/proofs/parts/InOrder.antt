@@ -26,7 +26,6 @@ use Rattle.xc_search.proofs.parts.OneBranch.{only_choice, one_branch}
 use Rattle.xc_search.proofs.residual.PickedByUses.{as_residual, is_wanted}
 use Rattle.xc_search.proofs.completeness.Proper.{same_wanted}
 use Rattle.xc_search.proofs.Cases.{by_bool}
-use Rattle.xc_search.specs.Listing.{stays}
 use Rattle.xc_search.proofs.completeness.Proper.{used_up}
 
 -- ---- the option of a part is the one that holds the item
@@ -34,8 +33,7 @@ use Rattle.xc_search.proofs.completeness.Proper.{used_up}
 single : (n : ℕ) (xs : List Numbered) (x : Numbered) → NumbersRise n xs → IsIn xs x
     → ((y : Numbered) → IsIn xs y → y.number ≡ x.number) → xs ≡ x ∷ []
 single n [] x rise h same = absurd h
-single n (y ∷ []) x rise (inl q) same = ap (λ z. z ∷ []) q
-single n (y ∷ []) x rise (inr q) same = absurd q
+single n (y ∷ []) x rise h same = grind (arith, common_steps)
 single n (y ∷ z ∷ zs) x rise h same = absurd (omega (arith, rise.1.0, same y (inl refl), same z (inr (inl refl))))
 
 abbrev pub is_other : ℕ → Wanted → Bool
@@ -100,10 +98,7 @@ module _ (p : Puzzle) (v : IsValid p) (w : Wanted) (wanted : IsIn (whole p).item
 
         kept : (v : Wanted) → IsIn (whole p).items v
             → (is_other w.item v && is_wanted (spend_one x v)) ≡ is_wanted (spend_one x v)
-        kept u k = by_bool (eqb u.item w.item)
-            (λ e. let is = same_wanted _ (whole p) u w proper k wanted e in
-            rw e (sym (ap (λ u. is_wanted (spend_one x u)) is ∙ gone)))
-            (λ e. rw e refl)
+        kept u k = grind (arith, common_steps, gone, same_wanted _ (whole p) u w proper k wanted)
 
     same_options : (pick (part_in_front p w x) w.item x).options ≡ (pick (whole p) w.item x).options
     same_options =
@@ -115,12 +110,10 @@ module _ (p : Puzzle) (v : IsValid p) (w : Wanted) (wanted : IsIn (whole p).item
       where
         kept : (o : Numbered) → IsIn (numbered_options p) o
             → (is_in_part w.item x o && goes_on (whole p) w.item x o) ≡ goes_on (whole p) w.item x o
-        kept o k = by_bool (goes_on (whole p) w.item x o)
-            (λ e.
-            let stay = and_right (not (holds o w.item && nat_le o.number x.number)) (stays (whole p) x o) e in
+        kept o k =
+            let used = used_up (whole p) x o w in
             let last = le-ltb 1 w.high (omega (arith, (held_once p w wanted once).1)) in
-            rw e (rw (used_up (whole p) x o w stay (of_item p w.item x h).1 found last) refl))
-            (λ e. rw e (and-false (is_in_part w.item x o)))
+            grind (arith, common_steps, used, last, found, and_right, of_item p w.item x h, and-false)
 
     -- a part has one branch
     pub part_branch :

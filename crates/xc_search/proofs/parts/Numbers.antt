@@ -8,7 +8,7 @@ use Rattle.std.proofs.lemmas.List.{length-map}
 use Rattle.std.proofs.lemmas.Option.{slice_get-map, slice_get_within}
 use Rattle.std.proofs.lemmas.List.Elements.{All-from_recursion, recursion_from_All}
 use Rattle.std.proofs.lemmas.List.Sums.{sum_by-cons}
-use Rattle.xc_input.specs.Problem.{Puzzle, Numbered, numbered_options, option_count, colour_in, uses_of, IsSoundOption}
+use Rattle.xc_input.specs.Problem.{Puzzle, Numbered, numbered_options, option_count, uses_of, IsSoundOption}
 use Rattle.xc_input.specs.Problem.{IsValid}
 use Rattle.xc_search.specs.Cover.{IsCover, times_held}
 use Rattle.xc_search.specs.Parts.{is_in_part, part_options, part, number_in_problem, in_problem}
@@ -98,8 +98,7 @@ module _ (p : Puzzle) (i : ℕ) (x : Numbered) where
         let to = in-map _ _ _ (in-contains _ _ k) in
         c.agree at.0 to.0 j d e (contains-in t at.0 at.1) (contains-in t to.0 to.1)
         (λ q. apart (sym at.2 ∙ ap (number_in_problem p i x) q ∙ to.2)) secondary
-        (ap (λ us. colour_in us j) (same_uses at.0 ∙ ap (uses_of p) at.2) ∙ f)
-        (ap (λ us. colour_in us j) (same_uses to.0 ∙ ap (uses_of p) to.2) ∙ g);
+        (rw (same_uses at.0, at.2) f) (rw (same_uses to.0, to.2) g);
   }
     where
       known : AllByRecursion (IsNumber (part p i x)) t
@@ -117,8 +116,7 @@ module _ (p : Puzzle) (i : ℕ) (x : Numbered) where
         let in_u = in-contains t b k in
         c.agree (number_in_problem p i x a) (number_in_problem p i x b) j d e (contains-in _ _ (map-in _ _ _ in_t))
         (contains-in _ _ (map-in _ _ _ in_u)) (λ q. apart (same_place a b (each_in _ _ _ known in_t)
-        (each_in _ _ _ known in_u) q)) secondary (subst (λ us. colour_in us j ≡ Some d) (same_uses a) f)
-        (subst (λ us. colour_in us j ≡ Some e) (same_uses b) g);
+        (each_in _ _ _ known in_u) q)) secondary (rw same_uses at f) (rw same_uses at g);
   }
 
 pub parts_are_valid : (p : Puzzle) → IsValid p → (i : ℕ) (x : Numbered) → IsValid (part p i x)

@@ -1,6 +1,6 @@
 -- The listing of what is left where its first item is to be held once and one option holds it.
 use Rattle.std.proofs.lemmas.Grind.{common_steps}
-use Rattle.std.proofs.Common.{ℕ, ◌≡◌, ◌-◌, ◌<◌, ◌≤◌, true, List, [], ◌∷◌, length, map, filter, Some}
+use Rattle.std.proofs.Common.{ℕ, ◌≡◌, ◌<◌, ◌≤◌, true, List, [], ◌∷◌, length, map, filter, Some}
 use Rattle.std.proofs.Common.{refl, sym, ap, ◌∙◌, arith, subst, ◌⊎◌, inl, inr, ltb-true, ltb-false, lt-ltb, le-leb}
 use Rattle.std.proofs.Common.{ne_eqb}
 use Rattle.std.specs.Prelude.{nat_lt, flat_map}
@@ -15,7 +15,6 @@ use Rattle.xc_search.proofs.completeness.Proper.{goes_on}
 use Rattle.xc_search.proofs.listing.BranchesLess.{less_options, least_is_one}
 use Rattle.xc_search.proofs.listing.EachBranch.{behind}
 use Rattle.xc_search.proofs.listing.Unrolled.{listing_unrolled}
-use Rattle.xc_search.proofs.Cases.{by_bool}
 
 -- ---- the item with the fewest branches
 
@@ -27,9 +26,17 @@ best_least : (count : Wanted → ℕ) (w : Wanted) (ws : List Wanted) (v : Wante
     → count (best count w ws) ≤ count v
 best_least count w [] v (inl q) = omega (arith, ap count q)
 best_least count w [] v (inr q) = absurd q
-best_least count w (u ∷ us) v h = by_bool (nat_lt (count u) (count w))
-    (λ e. grind (arith, common_steps, best_least count u us u (inl refl), best_least count u us v, ltb-true))
-    (λ e. grind (arith, common_steps, best_least count w us w (inl refl), best_least count w us v, ltb-false))
+best_least count w (u ∷ us) v h =
+    grind (
+      arith,
+      common_steps,
+      best_least count u us u (inl refl),
+      best_least count u us v,
+      ltb-true,
+      best_least count w us w (inl refl),
+      best_least count w us v,
+      ltb-false,
+    )
 
 -- it is the first, or has fewer than the first
 best_first : (count : Wanted → ℕ) (w : Wanted) (ws : List Wanted) → (best count w ws ≡ w)
@@ -56,11 +63,8 @@ still_short : (r : Residual) (i : ℕ) (x : Numbered) (v : Wanted) → IsIn (hol
     → v.low ≤ v.high → branch_count r v ≡ 0 →
     IsIn (pick r i x).items (spend_one x v) × (branch_count (pick r i x) (spend_one x v) ≡ 0)
 still_short r i x v h k sound e =
-    let kept = by_holding in (
-      filter-in (λ w. nat_lt 0 w.high) (map (spend_one x) r.items) (spend_one x v) (map-in (spend_one x) r.items v k)
-          kept.0,
-      kept.1,
-    )
+    let kept = by_holding in
+    (filter-in (λ w. nat_lt 0 w.high) (map (spend_one x) r.items) _ (map-in (spend_one x) r.items v k) kept.0, kept.1)
   where
     swap : length (holding v.item (pick r i x).options) ≡ length (filter (goes_on r i x) (holding v.item r.options))
     swap = ap length (filter_swap (λ o. holds o v.item) (goes_on r i x) r.options)
@@ -77,9 +81,7 @@ still_short r i x v h k sound e =
     by_holding : (nat_lt 0 (spend_one x v).high ≡ true) × (branch_count (pick r i x) (spend_one x v) ≡ 0)
     by_holding =
         let few = length-filter-le (goes_on r i x) (holding v.item r.options) in
-        by_bool (holds x v.item)
-        (λ at. rw at (lt-ltb 0 (v.high - 1) (omega (arith, e, sound, fewer at)), omega (arith, e, swap, fewer at)))
-        (λ at. rw at (lt-ltb 0 v.high (omega (arith, e, sound)), omega (arith, e, swap, few)))
+        grind (arith, common_steps, lt-ltb, few, fewer, swap)
 
 -- ---- one branch
 

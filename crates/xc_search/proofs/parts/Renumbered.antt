@@ -2,8 +2,8 @@
 use Rattle.std.proofs.lemmas.Grind.{common_steps}
 use Rattle.xc_dance.specs.Moves.{agrees}
 use Rattle.xc_search.proofs.Spent.{count_of}
-use Rattle.std.proofs.Common.{ℕ, ◌≡◌, ◌+◌, true, false, cond, not, ◌&&◌, ◌||◌, eqb, List, [], ◌∷◌, ◌++◌}
-use Rattle.std.proofs.Common.{length, map, filter, find, take, Option, Some, None, refl, sym, ap, ap₂, ◌∙◌, arith}
+use Rattle.std.proofs.Common.{ℕ, ◌≡◌, ◌+◌, cond, not, ◌&&◌, ◌||◌, eqb, List, [], ◌∷◌}
+use Rattle.std.proofs.Common.{length, map, find, take, Option, Some, None, refl, sym, ap, ap₂, ◌∙◌, arith}
 use Rattle.std.proofs.Common.{inl, inr}
 use Rattle.std.specs.Prelude.{nat_lt, nat_le, is_some, flat_map, option_map}
 use Rattle.std.specs.List.{best_of, enumerate_from, list_all}
@@ -14,7 +14,7 @@ use Rattle.xc_input.specs.declared.problem.Use.{Use}
 use Rattle.xc_search.specs.declared.choice.Choice.{Choice}
 use Rattle.xc_input.specs.Problem.{Numbered, colour_in, holds, holding}
 use Rattle.xc_search.specs.Listing.{Wanted, Residual, Branch, branch_count, branch_item, first_least, spend_one}
-use Rattle.xc_search.specs.Listing.{may_stay, item_left, pick, none, take_branch, none_branch, branches_of}
+use Rattle.xc_search.specs.Listing.{may_stay, item_left, pick, none, take_branch, branches_of}
 use Rattle.xc_search.specs.Listing.{listing}
 use Rattle.xc_search.specs.Parts.{renumber_use, renumber_option, renumber_item, renumber, renumber_choice, AreKeptApart}
 use Rattle.xc_search.specs.Parts.{AreKeptInOrder, ListsAlike}
@@ -58,14 +58,7 @@ module _ (f g : ℕ → ℕ) (apart : AreKeptApart f) where
       (best_of (λ x b. nat_lt (d x) (d b)) w ws)
   same_best c d w [] h = refl
   same_best c d w (v ∷ ws) h =
-      ap₂ (λ m n. best_of (λ x b. nat_lt (c x) (c b)) (cond (nat_lt m n) (renumber_item f v) (renumber_item f w))
-      (map (renumber_item f) ws)) (h v) (h w)
-      ∙ elim (nat_lt (d v) (d w)) as
-      (λ t. best_of (λ x b. nat_lt (c x) (c b)) (cond t (renumber_item f v) (renumber_item f w))
-      (map (renumber_item f) ws) ≡ renumber_item f (best_of (λ x b. nat_lt (d x) (d b)) (cond t v w) ws)) [
-        | true ↦ same_best c d v ws h
-        | false ↦ same_best c d w ws h
-      ]
+      grind (arith, common_steps, h v, h w, same_best c d v ws h, same_best c d w ws h)
 
   same_branch_item : (r : Residual) → branch_item (renumber f g r) ≡ option_map (renumber_item f) (branch_item r)
   same_branch_item r = by_items r.items
@@ -83,9 +76,7 @@ module _ (f g : ℕ → ℕ) (apart : AreKeptApart f) where
       → find (λ w. eqb w.item (f j)) (map (renumber_item f) ws) ≡ option_map (renumber_item f)
       (find (λ w. eqb w.item j) ws)
   same_left [] j = refl
-  same_left (w ∷ ws) j =
-      by_bool (eqb w.item j)
-      (λ e. rw (same_item w.item j ∙ e, e) refl) (λ e. rw (same_item w.item j ∙ e, e) (same_left ws j))
+  same_left (w ∷ ws) j = grind (arith, common_steps, same_left ws j, same_item w.item j, find)
 
   same_stay : (left : Option Wanted) (u : Use) (o : Numbered)
       → may_stay (option_map (renumber_item f) left) (renumber_use f u) (renumber_option f g o) ≡ may_stay left u o
@@ -97,14 +88,11 @@ module _ (f g : ℕ → ℕ) (apart : AreKeptApart f) where
       list_all (λ u. may_stay (item_left r u.item) u o) us
   same_stays r [] o = refl
   same_stays r (u ∷ us) o =
-      ap₂ (λ a b. a && b) (ap (λ left. may_stay left (renumber_use f u) (renumber_option f g o))
-      (same_left r.items u.item) ∙ same_stay (item_left r u.item) u o) (same_stays r us o)
+      rw (same_left r.items u.item, same_stay (item_left r u.item) u o, same_stays r us o) refl
 
   same_spend : (x : Numbered) (w : Wanted)
       → spend_one (renumber_option f g x) (renumber_item f w) ≡ renumber_item f (spend_one x w)
-  same_spend x w =
-      by_bool (holds x w.item)
-      (λ e. rw (same_holds x w.item ∙ e, e) refl) (λ e. rw (same_holds x w.item ∙ e, e) refl)
+  same_spend x w = grind (arith, common_steps, same_holds x w.item)
 
   -- options in order, of which some are left
   abbrev InOrder : List Numbered → Type 0
@@ -113,10 +101,12 @@ module _ (f g : ℕ → ℕ) (apart : AreKeptApart f) where
   same_pick : (r : Residual) (i : ℕ) (x : Numbered) → InOrder r.options → IsIn r.options x
       → pick (renumber f g r) (f i) (renumber_option f g x) ≡ renumber f g (pick r i x)
   same_pick r i x order h = as_residual _ _ _ _
-      (ap (filter is_wanted) (map-map (renumber_item f) (spend_one (renumber_option f g x)) r.items
-      ∙ map-same _ (λ w. renumber_item f (spend_one x w)) r.items (same_spend x)
-      ∙ sym (map-map (spend_one x) (renumber_item f) r.items))
-      ∙ filter-map is_wanted (renumber_item f) (map (spend_one x) r.items))
+      (rw (
+        map-map (renumber_item f) (spend_one (renumber_option f g x)) r.items,
+        map-same _ _ r.items (same_spend x),
+        ← map-map (spend_one x) (renumber_item f) r.items,
+        filter-map is_wanted (renumber_item f),
+      ) refl)
       (filter-map (goes_on (renumber f g r) (f i) (renumber_option f g x)) (renumber_option f g) r.options
       ∙ ap (map (renumber_option f g)) (filter_same _ (goes_on r i x) r.options (each_from _ r.options (λ o k.
       ap₂ (λ a b. a && b) (ap₂ (λ a b. not (a && b)) (same_holds o i) (order o x k h)) (same_stays r x.uses o)))))
@@ -139,26 +129,21 @@ module _ (f g : ℕ → ℕ) (apart : AreKeptApart f) where
       (map (take_branch r i n) (enumerate_from k xs))
   same_takes r i n k [] order h = refl
   same_takes r i n k (x ∷ xs) order h =
-      ap₂ (λ z bs. let b : Branch = record { choice = renumber_choice f g (take_branch r i n (k, x)).choice; next = z }
-      in b ∷ bs)
-      (same_pick r i x order (h x (inl refl)))
-      (same_takes r i n (k + 1) xs order (λ y j. h y (inr j)))
+      rw (same_pick r i x order (h x (inl refl)), same_takes r i n (k + 1) xs order (λ y j. h y (inr j))) refl
 
   same_branches : (r : Residual) (w : Wanted) → InOrder r.options
       → branches_of (renumber f g r) (renumber_item f w) ≡ map renumber_branch (branches_of r w)
   same_branches r w order =
       let n = branch_count r w in
       let hs = holding w.item r.options in
-      ap₂ (λ n os. map (take_branch (renumber f g r) (f w.item) n) (enumerate_from 1 (take n os)) ++ cond (eqb w.low 0)
-      (none_branch (renumber f g r) (f w.item) n ∷ []) []) (same_count r w) (same_holding r.options w.item)
-      ∙ ap₂ (λ a b. a ++ b)
-      (ap (λ os. map (take_branch (renumber f g r) (f w.item) n) (enumerate_from 1 os))
-      (take-map (renumber_option f g) n hs)
-      ∙ same_takes r w.item n 1 (take n hs) order (λ x h. (in-filter (λ o. holds o w.item) _ _ (in-take n hs x h)).0))
-      (by_bool (eqb w.low 0) (λ e. rw e (ap (λ z. let b : Branch = record
-      { choice = renumber_choice f g (none_branch r w.item n).choice; next = z } in b ∷ []) (same_none r w.item)))
-      (λ e. rw e refl))
-      ∙ sym (map-append renumber_branch (takes r w) (nones r w))
+      rw (
+        same_count r w,
+        same_holding r.options w.item,
+        take-map (renumber_option f g) n hs,
+        same_takes r w.item n 1 (take n hs) order (λ x h. (in-filter (λ o. holds o w.item) _ _ (in-take n hs x h)).0),
+        map-append renumber_branch (takes r w) (nones r w),
+      )
+      (by_bool (eqb w.low 0) (λ e. rw (e, same_none r w.item) refl) (λ e. rw e refl))
 
   -- ---- levels
 
@@ -167,12 +152,13 @@ module _ (f g : ℕ → ℕ) (apart : AreKeptApart f) where
       flat_map (behind rest) (map renumber_branch bs) ≡ map (map (renumber_choice f g)) (flat_map (behind rest) bs)
   same_behind rest [] h = refl
   same_behind rest (b ∷ bs) h =
-      ap₂ (λ ms ns. ms ++ ns)
-      (ap (map (λ m. renumber_choice f g b.choice ∷ m)) (h b (inl refl))
-      ∙ map-map (map (renumber_choice f g)) (λ m. renumber_choice f g b.choice ∷ m) (rest b.next)
-      ∙ sym (map-map (λ m. b.choice ∷ m) (map (renumber_choice f g)) (rest b.next)))
-      (same_behind rest bs (λ c k. h c (inr k)))
-      ∙ sym (map-append (map (renumber_choice f g)) (behind rest b) (flat_map (behind rest) bs))
+      rw (
+        map-append (map (renumber_choice f g)) (behind rest b) (flat_map (behind rest) bs),
+        ← same_behind rest bs (λ c k. h c (inr k)),
+        h b (inl refl),
+        map-map,
+        map-map,
+      ) refl
 
   same_listing : (r : Residual) → InOrder r.options
       → listing (renumber f g r) ≡ map (map (renumber_choice f g)) (listing r)
