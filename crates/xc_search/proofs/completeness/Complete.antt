@@ -38,14 +38,7 @@ distinct_cons (Some x) ks out a = (each_from _ ks (λ k h e. out x refl (subst (
 pub solves_back : {r : Residual} {w : Wanted} {b : Branch} (l : List Choice) → IsIn r.items w → IsBranchOf r w b
     → Solves b.next l → Solves r (b.choice ∷ l)
 solves_back {b = b} l h of s = record {
-  left = λ k j. grind (
-    arith,
-    common_steps,
-    in-cons_option b.choice.option (options_of l) k,
-    option_left of k,
-    s.left k,
-    left_before of,
-  );
+  left = λ k j. grind (arith, common_steps, in-cons_option, option_left of k, s.left k, left_before of);
   distinct = λ rise. distinct_cons b.choice.option (options_of l) (λ k q j. gone rise of k q (s.left k j))
       (s.distinct (rise_behind of rise));
   covers = λ n chosen p m.

@@ -140,17 +140,8 @@ module _ (n : ℕ) (r : Residual) (p : IsProper n r) (chosen : ℕ → Bool) whe
           → IsIn r.items w → IsMet chosen (pick r i x).options (spend_one x w)
       met_next met w h = by_bool (nat_lt 0 (spend_one x w).high)
           (λ e. met (spend_one x w) (filter-in _ _ _ (map-in _ _ _ h) e))
-          (λ e. grind (
-            arith,
-            common_steps,
-            ltb-false,
-            le-ltb,
-            p.sound w h,
-            none_pass,
-            in-filter,
-            used_up,
-            find-in 0 r.items w p.items_rise h,
-          ))
+          (λ e. let left = find-in 0 r.items w p.items_rise h in
+          grind (arith, common_steps, ltb-false, le-ltb, p.sound w h, none_pass, in-filter, used_up, left))
 
   module _ (w : Wanted) (known : IsIn r.items w) (free : w.low ≡ 0) (m : ℕ) (f : Fits r chosen (none_branch r w.item m))
     where

@@ -1,9 +1,9 @@
 -- The branches of an item in their order.
 use Rattle.std.proofs.lemmas.Grind.{common_steps}
 use Rattle.std.proofs.Common.{ℕ, suc, ◌≡◌, ◌+◌, ◌<◌, true, eqb, List, [], length, map}
-use Rattle.std.proofs.Common.{take, drop, Some, None, ap, ◌∙◌, arith, eqb-true, eq-eqb}
+use Rattle.std.proofs.Common.{take, drop, Some, None, ◌∙◌, arith, eqb-true, eq-eqb}
 use Rattle.std.proofs.lemmas.Option.{slice_get-map}
-use Rattle.std.specs.Prelude.{slice_get, option_map}
+use Rattle.std.specs.Prelude.{slice_get}
 use Rattle.std.specs.List.{enumerate_from}
 use Rattle.xc_input.specs.Problem.{Numbered, holding}
 use Rattle.xc_search.specs.Listing.{Wanted, Residual, Branch, branches_of, branch_count, take_branch, none_branch}
@@ -25,12 +25,8 @@ pub branch_takes : (r : Residual) (w : Wanted) (k : ℕ) (x : Numbered) → k < 
     → slice_get (holding w.item r.options) k ≡ Some x →
     slice_get (branches_of r w) k ≡ Some (take_branch r w.item (branch_count r w) (1 + k, x))
 branch_takes r w k x h e =
-    get_left (takes r w) _ k _
-    (slice_get-map (take_branch r w.item (branch_count r w))
-    (enumerate_from 1 (take (branch_count r w) (holding w.item r.options))) k
-    ∙ ap (option_map (take_branch r w.item (branch_count r w)))
-    (get_numbered 1 (take (branch_count r w) (holding w.item r.options)) k x
-    (get_take (branch_count r w) (holding w.item r.options) k h ∙ e)))
+    let at = get_numbered 1 _ k x (get_take (branch_count r w) (holding w.item r.options) k h ∙ e) in
+    get_left (takes r w) _ k _ (rw (slice_get-map, at))
 
 -- a branch behind the last option takes none
 pub branch_none : (r : Residual) (w : Wanted) (k : ℕ) → k < branch_count r w

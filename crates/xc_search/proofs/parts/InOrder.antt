@@ -1,17 +1,17 @@
 -- The members of a problem are those of its parts in turn.
 use Rattle.std.proofs.lemmas.Grind.{common_steps}
 use Rattle.std.proofs.Common.{ℕ, suc, ◌≡◌, ◌-◌, Bool, true, false, not, ◌&&◌, eqb, List, [], ◌∷◌, length}
-use Rattle.std.proofs.Common.{map, filter, find, Option, Some, refl, sym, ap, ◌∙◌, arith, subst, inl, inr, eqb-true}
+use Rattle.std.proofs.Common.{map, filter, find, Some, refl, sym, ap, ◌∙◌, arith, subst, inl, inr, eqb-true}
 use Rattle.std.proofs.Common.{eq-eqb, ne_eqb, le-ltb}
 use Rattle.xc_input.specs.declared.problem.Bounds.{Bounds}
-use Rattle.std.specs.Prelude.{nat_le, flat_map}
-use Rattle.std.specs.List.{list_all, enumerate_from}
+use Rattle.std.specs.Prelude.{flat_map}
+use Rattle.std.specs.List.{enumerate_from}
 use Rattle.std.proofs.Math.Bool.{and-false}
 use Rattle.std.proofs.Math.Seq.{take-length}
 use Rattle.std.proofs.lemmas.List.Folds.{flat_map-map}
 use Rattle.xc_input.specs.Problem.{Puzzle, Numbered, numbered_options, primary_count, bounds_at, holds, holding}
 use Rattle.xc_input.specs.Problem.{IsValid}
-use Rattle.xc_search.specs.Listing.{Wanted, whole, spend_one, may_stay, item_left, pick, branch_item}
+use Rattle.xc_search.specs.Listing.{Wanted, whole, spend_one, item_left, pick, branch_item}
 use Rattle.xc_search.specs.Listing.{take_branch, branches_of, level, listing}
 use Rattle.xc_search.specs.Parts.{IsHeldOnce, is_in_part, part_options, part_in_front, first_as, PartsInOrder}
 use Rattle.xc_dance.proofs.MoveLemmas.OptionsRise.{NumbersRise, NumbersRise-filter, options_rise}
@@ -102,11 +102,7 @@ module _ (p : Puzzle) (v : IsValid p) (w : Wanted) (wanted : IsIn (whole p).item
 
     same_options : (pick (part_in_front p w x) w.item x).options ≡ (pick (whole p) w.item x).options
     same_options =
-        ap (λ (left : ℕ → Option Wanted). filter
-        (λ o. not (holds o w.item && nat_le o.number x.number) && list_all (λ u. may_stay (left u.item) u o) x.uses)
-        (part_options p w.item x)) (λ k j. same_left j k) ∙ filter_both _ _ (numbered_options p)
-        ∙ filter_same (λ o. is_in_part w.item x o && goes_on (whole p) w.item x o) (goes_on (whole p) w.item x)
-        (numbered_options p) (each_from _ (numbered_options p) kept)
+        simp (same_left, filter_both) (filter_same _ _ _ (each_from _ (numbered_options p) kept))
       where
         kept : (o : Numbered) → IsIn (numbered_options p) o
             → (is_in_part w.item x o && goes_on (whole p) w.item x o) ≡ goes_on (whole p) w.item x o

@@ -27,16 +27,9 @@ best_least : (count : Wanted → ℕ) (w : Wanted) (ws : List Wanted) (v : Wante
 best_least count w [] v (inl q) = omega (arith, ap count q)
 best_least count w [] v (inr q) = absurd q
 best_least count w (u ∷ us) v h =
-    grind (
-      arith,
-      common_steps,
-      best_least count u us u (inl refl),
-      best_least count u us v,
-      ltb-true,
-      best_least count w us w (inl refl),
-      best_least count w us v,
-      ltb-false,
-    )
+    let a = best_least count u us in
+    let b = best_least count w us in
+    grind (arith, common_steps, a v, a u (inl refl), b v, b w (inl refl), ltb-true, ltb-false)
 
 -- it is the first, or has fewer than the first
 best_first : (count : Wanted → ℕ) (w : Wanted) (ws : List Wanted) → (best count w ws ≡ w)

@@ -9,7 +9,6 @@ use Rattle.std.specs.Prelude.{nat_lt, nat_le, is_some, flat_map, option_map}
 use Rattle.std.specs.List.{best_of, enumerate_from, list_all}
 use Rattle.std.proofs.lemmas.Bool.Decides.{nat_tests}
 use Rattle.std.proofs.lemmas.List.{length-map, take-map, map-append}
-use Rattle.std.proofs.lemmas.List.Elements.{filter_agree}
 use Rattle.xc_input.specs.declared.problem.Use.{Use}
 use Rattle.xc_search.specs.declared.choice.Choice.{Choice}
 use Rattle.xc_input.specs.Problem.{Numbered, colour_in, holds, holding}
@@ -18,13 +17,13 @@ use Rattle.xc_search.specs.Listing.{may_stay, item_left, pick, none, take_branch
 use Rattle.xc_search.specs.Listing.{listing}
 use Rattle.xc_search.specs.Parts.{renumber_use, renumber_option, renumber_item, renumber, renumber_choice, AreKeptApart}
 use Rattle.xc_search.specs.Parts.{AreKeptInOrder, ListsAlike}
-use Rattle.xc_input.proofs.lists.Filters.{filter-map, filter_same, map-same, map-map}
+use Rattle.xc_input.proofs.lists.Filters.{filter-map, filter_same, map-map}
 use Rattle.xc_input.proofs.lists.Members.{IsIn, in-filter, in-take, each_from, contains-in}
 use Rattle.xc_search.proofs.completeness.Proper.{goes_on}
 use Rattle.xc_search.proofs.listing.BranchesLess.{by_branches}
 use Rattle.xc_search.proofs.listing.EachBranch.{nones, behind, in-branches, left_before}
 use Rattle.xc_search.proofs.listing.Unrolled.{listing_at}
-use Rattle.xc_search.proofs.residual.PickedByUses.{as_residual, is_wanted}
+use Rattle.xc_search.proofs.residual.PickedByUses.{as_residual}
 use Rattle.xc_search.proofs.Cases.{by_bool}
 use Rattle.xc_search.proofs.listing.BranchLists.{takes}
 
@@ -45,8 +44,7 @@ module _ (f g : ℕ → ℕ) (apart : AreKeptApart f) where
 
   same_holding : (os : List Numbered) (i : ℕ)
       → holding (f i) (map (renumber_option f g) os) ≡ map (renumber_option f g) (holding i os)
-  same_holding os i = filter-map (λ o. holds o (f i)) (renumber_option f g) os
-      ∙ ap (map (renumber_option f g)) (filter_agree _ _ (λ o. same_holds o i) os)
+  same_holding os i = simp (filter-map, same_colour)
 
   same_count : (r : Residual) (w : Wanted) → branch_count (renumber f g r) (renumber_item f w) ≡ branch_count r w
   same_count r w =
@@ -101,22 +99,13 @@ module _ (f g : ℕ → ℕ) (apart : AreKeptApart f) where
   same_pick : (r : Residual) (i : ℕ) (x : Numbered) → InOrder r.options → IsIn r.options x
       → pick (renumber f g r) (f i) (renumber_option f g x) ≡ renumber f g (pick r i x)
   same_pick r i x order h = as_residual _ _ _ _
-      (rw (
-        map-map (renumber_item f) (spend_one (renumber_option f g x)) r.items,
-        map-same _ _ r.items (same_spend x),
-        ← map-map (spend_one x) (renumber_item f) r.items,
-        filter-map is_wanted (renumber_item f),
-      ) refl)
+      (simp (map-map, filter-map, same_spend x))
       (filter-map (goes_on (renumber f g r) (f i) (renumber_option f g x)) (renumber_option f g) r.options
       ∙ ap (map (renumber_option f g)) (filter_same _ (goes_on r i x) r.options (each_from _ r.options (λ o k.
       ap₂ (λ a b. a && b) (ap₂ (λ a b. not (a && b)) (same_holds o i) (order o x k h)) (same_stays r x.uses o)))))
 
   same_none : (r : Residual) (i : ℕ) → none (renumber f g r) (f i) ≡ renumber f g (none r i)
-  same_none r i = as_residual _ _ _ _
-      (filter-map (λ w. not (eqb w.item (f i))) (renumber_item f) r.items
-      ∙ ap (map (renumber_item f)) (filter_agree _ _ (λ w. ap not (same_item w.item i)) r.items))
-      (filter-map (λ o. not (holds o (f i))) (renumber_option f g) r.options
-      ∙ ap (map (renumber_option f g)) (filter_agree _ _ (λ o. ap not (same_holds o i)) r.options))
+  same_none r i = as_residual _ _ _ _ (simp (filter-map, same_item)) (simp (filter-map, same_colour))
 
   -- ---- branches
 
@@ -136,14 +125,10 @@ module _ (f g : ℕ → ℕ) (apart : AreKeptApart f) where
   same_branches r w order =
       let n = branch_count r w in
       let hs = holding w.item r.options in
-      rw (
-        same_count r w,
-        same_holding r.options w.item,
-        take-map (renumber_option f g) n hs,
-        same_takes r w.item n 1 (take n hs) order (λ x h. (in-filter (λ o. holds o w.item) _ _ (in-take n hs x h)).0),
-        map-append renumber_branch (takes r w) (nones r w),
-      )
-      (by_bool (eqb w.low 0) (λ e. rw (e, same_none r w.item) refl) (λ e. rw e refl))
+      let known = λ (x : Numbered) (h : IsIn (take n hs) x). (in-filter _ r.options x (in-take n hs x h)).0 in
+      rw (same_count r w, same_holding r.options w.item, take-map (renumber_option f g) n hs)
+      (rw (same_takes r w.item n 1 (take n hs) order known, map-append renumber_branch (takes r w) (nones r w))
+      (by_bool (eqb w.low 0) (λ e. rw (e, same_none r w.item) refl) (λ e. rw e refl)))
 
   -- ---- levels
 
@@ -152,13 +137,8 @@ module _ (f g : ℕ → ℕ) (apart : AreKeptApart f) where
       flat_map (behind rest) (map renumber_branch bs) ≡ map (map (renumber_choice f g)) (flat_map (behind rest) bs)
   same_behind rest [] h = refl
   same_behind rest (b ∷ bs) h =
-      rw (
-        map-append (map (renumber_choice f g)) (behind rest b) (flat_map (behind rest) bs),
-        ← same_behind rest bs (λ c k. h c (inr k)),
-        h b (inl refl),
-        map-map,
-        map-map,
-      ) refl
+      rw (map-append (map (renumber_choice f g)) (behind rest b) (flat_map (behind rest) bs))
+      (rw (← same_behind rest bs (λ c k. h c (inr k)), h b (inl refl), map-map, map-map) refl)
 
   same_listing : (r : Residual) → InOrder r.options
       → listing (renumber f g r) ≡ map (map (renumber_choice f g)) (listing r)
