@@ -4,7 +4,7 @@ use Rattle.std.proofs.lemmas.List.Elements.{recursion_from_All}
 use Rattle.std.proofs.Common.{get_or}
 use Rattle.std.proofs.Common.{◌≡◌, ℕ, ◌+◌, ◌-◌, ◌^◌, ◌<◌, Bool, true, false, not, ◌||◌, nat_eq, min, List}
 use Rattle.std.proofs.Common.{[], ◌∷◌, ◌++◌, length, filter, Option, Some, None, is_some, refl, sym, ap, ◌∙◌, subst}
-use Rattle.std.proofs.Common.{append_assoc, append-nil, arith, eqb-true, if◌then◌else◌}
+use Rattle.std.proofs.Common.{append_assoc, append-nil, arith, if◌then◌else◌}
 use Rattle.xc_list.specs.inner.Listings.{Listing, before_listing, listing_of}
 use Rattle.std.specs.Prelude.{◌==◌, ◌↔◌, All, IsTrue}
 use Rattle.std.specs.List.{AllZip}
@@ -20,7 +20,6 @@ use Rattle.xc_list.specs.inner.ReadLines.{Line, Header, Body, Other, read}
 use Rattle.std.specs.Option.{option_or}
 use Rattle.xc_list.specs.Listed.{Solution, is_body, is_known, is_none, fault_in_lines}
 use Rattle.xc_list.specs.inner.Classes.{Classes, AreClasses, IsIndexed, IsOfClass, IsClassOfBody, IsCoverOfClasses}
-use Rattle.xc_input.specs.Lines.{lines_of}
 use Rattle.xc_list.specs.inner.Checking.{Progress, AreChosen, with_later, Closes, Takes}
 use Rattle.xc_list.proofs.CheckLemmas.DecidedByClasses.{StandFor, classes_decide, uses-in}
 use Rattle.xc_list.proofs.CheckLemmas.ListedNumbers.{any-in}
@@ -179,8 +178,3 @@ none_taken s words h e some =
     let p = s.options.problem in
     body_taken s words s.chosen some (ap (λ t. t || is_none p words) h ∙ e) (λ bodies are.
     rw (filter-append (is_known p) bodies (words ∷ []), h, append-nil (filter (is_known p) bodies)) are)
-
--- THE WHOLE PASS
-pub ends : (rest : List ℕ) (empty : Bool) → empty ≡ (length rest == 0) → empty ≡ true → lines_of rest ≡ []
-ends [] empty is e = refl
-ends (b ∷ rest) empty is e = let none = eqb-true (length (b ∷ rest)) 0 (sym is ∙ e) in absurd (omega (arith, none))

@@ -4,7 +4,6 @@ use Rattle.std.proofs.Common.{slice_index, List, [], ◌∷◌, ◌++◌, length
 use Rattle.std.proofs.Common.{◌∙◌, append_assoc, arith, length-append, if◌then◌else◌}
 use Rattle.std.specs.List.{list_all, list_any, onto_first}
 use Rattle.std.proofs.lemmas.Bool.Decides.{nat_tests}
-use Rattle.std.proofs.lemmas.Bool.{eq-eqb, ne_eqb}
 use Rattle.std.proofs.Math.Seq.{take-append_seam, drop-append_seam}
 use Rattle.xc_input.specs.Tokens.{is_space}
 use Rattle.xc_list.specs.ListingLines.{words_in, before_last, is_word, is_ending, body_of_words}
@@ -23,14 +22,6 @@ last_byte b x front =
     (λ i. if some i && nat_eq (slice_index (front ++ x ∷ []) (n i)) b
     then Some (take (n i) (front ++ x ∷ [])) else None)
     ∙ (λ i. if nat_eq (at_seam front x i) b then Some (take-append_seam front (x ∷ []) i) else None)
-
-pub last_is : (b x : ℕ) (text front : List ℕ) → text ≡ front ++ x ∷ [] → x ≡ b → Some front ≡ before_last b text
-last_is b x text front e f =
-    sym (ap (before_last b) e ∙ last_byte b x front ∙ ap (λ t. if t then Some front else None) (eq-eqb x b f))
-
-pub last_differs : (b x : ℕ) (text front : List ℕ) → text ≡ front ++ x ∷ [] → (x ≡ b → ⊥) → None ≡ before_last b text
-last_differs b x text front e f =
-    sym (ap (before_last b) e ∙ last_byte b x front ∙ ap (λ t. if t then Some front else None) (ne_eqb x b f))
 
 -- WORDS OF A TEXT
 -- whether what is left of words is words; fresh: no byte of the first one was seen

@@ -213,8 +213,3 @@ colour-class i us = colour-turned i (class_start us) us
 pub colour-alike : (us vs : List Use) (i : ℕ) → DifferInItems us → DifferInItems vs → class_of us ≡ class_of vs
     → colour_in us i ≡ colour_in vs i
 colour-alike us vs i d e q = sym (colour-class i us d) ∙ ap (λ v. colour_in v i) q ∙ colour-class i vs e
-
--- the two pieces of a rotation, put behind nothing
-pub class_of-pieces : (us x y a b c : List Use) (k least : ℕ) → least ≡ least_of us → k ≡ place_in least us
-    → y ≡ take k us → x ≡ drop k us → a ≡ [] → b ≡ a ++ x → c ≡ b ++ y → c ≡ class_of us
-class_of-pieces us x y a b c k least l p ey ex f g h = rw (h, g, f, ex, ey, p, l) refl

@@ -10,11 +10,6 @@ use Rattle.xc_list.proofs.checker.check.Goals as goal
 pub take_lines-requires : goal.take_lines-requires
 take_lines-requires c = c.in_ok-checker.ensures.begun (lines_of c.args.listing.now)
 
-pub returns-in_err-take_lines-clause-fault : goal.returns-in_err-take_lines-clause-fault
-returns-in_err-take_lines-clause-fault c =
-    let e = err_from_is_err_and c.from_residual-in_err-take_lines.result c.from_residual-in_err-take_lines.ensures.1 in
-    rw (e.1, e.2) (rw c.in_ok-checker.ensures.problem at c.in_err-take_lines.ensures.fault)
-
 pub returns-in_err-take_lines-clause-outputs : goal.returns-in_err-take_lines-clause-outputs
 returns-in_err-take_lines-clause-outputs c = λ spacing limit fits named is.
     let e = err_from_is_err_and c.from_residual-in_err-take_lines.result c.from_residual-in_err-take_lines.ensures.1 in
