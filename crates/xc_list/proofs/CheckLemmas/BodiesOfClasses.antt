@@ -36,11 +36,11 @@ is-body p words us k l e =
     grind (arith, nat_tests, any-in, range-in 0 (length us) k, texts-same (map (use_word p) (rotated_at k us)) words)
 
 -- A body that stands for uses stands for all of their class.
-pub body-alike : (p : Named) (words : List (List ℕ)) (us vs : List Use) → DifferInItems us → DifferInItems vs
-    → class_of us ≡ class_of vs → is_body p words us ≡ true → is_body p words vs ≡ true
-body-alike p words us vs d e q h =
+pub body-alike : (p : Named) (words : List (List ℕ)) (us vs : List Use) → DifferInItems vs → class_of us ≡ class_of vs
+    → is_body p words us ≡ true → is_body p words vs ≡ true
+body-alike p words us vs d q h =
     let k = body-is p words us h in
-    let j = turned-alike us vs k.0 d e q k.1 in
+    let j = turned-alike us vs k.0 d q k.1 in
     is-body p words vs j.0 j.1 (ap (map (use_word p)) (sym j.2) ∙ k.2)
 
 pub same_uses_by_words : (p : Named) → IsSound p → (us vs : List Use) → All (IsKnownUse p) us → All (IsKnownUse p) vs

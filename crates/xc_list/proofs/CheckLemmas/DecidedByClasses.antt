@@ -95,7 +95,7 @@ stands-alike p r words q o x y h =
       λ k. subst (λ v. same_uses (class_of us) v ≡ true)
           (body-class p words r us vs (option-known p r q x) (option-known p r o y) d e h k)
           (same_uses-itself (class_of us)),
-      λ z. body-alike p words us vs d e (same_uses-are (class_of us) (class_of vs) z) h,
+      λ z. body-alike p words us vs e (same_uses-are (class_of us) (class_of vs) z) h,
     )
 
 -- options that are alike, each beside the other
@@ -108,7 +108,7 @@ module _ (p : Puzzle) (v : IsValid p) (reps s : List ℕ) (known_reps : AreKnown
       (λ qs os. AreKnown p qs → AreKnown p os → gathered p i qs ≡ gathered p i os) (λ a b. refl)
       (λ q o qs os h later a b.
       let differ = option-differs p v in
-      let same = colour-alike (uses_of p q) (uses_of p o) i (differ q (a q (inl refl))) (differ o (b o (inl refl)))
+      let same = colour-alike (uses_of p q) (uses_of p o) i (differ o (b o (inl refl)))
       (same_uses-are _ _ h) in
       ap₂ cons_option same (later (λ x k. a x (inr k)) (λ x k. b x (inr k)))) reps s z known_reps known
 

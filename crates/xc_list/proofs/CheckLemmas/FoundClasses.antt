@@ -19,8 +19,7 @@ use Rattle.xc_list.specs.Output.{rotated_at, use_word}
 use Rattle.xc_list.specs.Listed.{is_body, is_known, stands_for}
 use Rattle.xc_list.specs.inner.Classes.{IsOfClass, IsClassOfBody, class_of, class_at}
 use Rattle.xc_list.specs.inner.OptionIndex.{HaveWords, IsOptionIndex, key_uses}
-use Rattle.xc_list.proofs.CheckLemmas.Rotations.{DifferInItems, class_start, class-turned, turned-alike, differ-turned}
-use Rattle.xc_list.proofs.CheckLemmas.Rotations.{turned-differ}
+use Rattle.xc_list.proofs.CheckLemmas.Rotations.{class-turned, turned-alike}
 use Rattle.xc_list.proofs.CheckLemmas.BodiesOfClasses.{uses-same, All-turned, body-is, is-body, same_uses_by_words}
 use Rattle.xc_list.proofs.CheckLemmas.ListedNumbers.{any-in, in-any}
 use Rattle.xc_list.proofs.CheckLemmas.DecidedByClasses.{option-differs, option-known}
@@ -112,10 +111,7 @@ module _ (p : Named) (keys : List (Vec Use Global)) (counts : List ℕ) (b : IsO
           let vs = uses_of p.puzzle o in
           let differ = option-differs p.puzzle b.sound.valid o h.0 in
           let class = one_value (slice_get (key_uses keys) k) (class_of us) (class_of vs) at.1 h.1 in
-          let own_differ : DifferInItems us =
-          turned-differ (class_start us) us
-          (subst (λ v. DifferInItems v) (sym class) (differ-turned (class_start vs) vs differ)) in
-          let j = turned-alike us vs 0 own_differ differ class l in
+          let j = turned-alike us vs 0 differ class l in
           is-body p words vs j.0 j.1 (ap (map (use_word p)) (sym j.2 ∙ append-nil us) ∙ have.words_so)
 
   -- what a look-up of the class of a body's uses says
