@@ -13,7 +13,7 @@ use Rattle.std.proofs.lemmas.List.{length-replicate, get_or-replicate}
 use Rattle.xc_list.specs.inner.Classes.{Classes, AreClasses, IsOfClass, class_at, same_uses, alike, numbers, class_size}
 use Rattle.xc_list.specs.inner.CoverCounts.{raised, uses_at}
 use Rattle.xc_list.proofs.CheckLemmas.ListedNumbers.{one_place}
-use Rattle.xc_list.proofs.CheckLemmas.DifferentOptions.{counted, is_counted, one_class}
+use Rattle.xc_list.proofs.CheckLemmas.DifferentOptions.{counted, is_counted}
 use Rattle.xc_list.proofs.CheckLemmas.BodiesOfClasses.{same_uses-are, same_uses-itself}
 use Rattle.xc_list.proofs.CheckLemmas.DecidedByClasses.{alike-classes}
 use Rattle.xc_list.proofs.CheckLemmas.HeldItems.{raised-at}
@@ -76,8 +76,7 @@ module _ (b : Classes) (are : AreClasses b.problem.puzzle b.classes) (ks reps : 
         | inl l ↦
             let o = counted_some (alike p r) reps l in
             let k = beside (IsOfClass b) ks reps o.0 z o.1 in
-            let same = one_class (alike p) (alike-classes p) r o.0 o.2 in
-            subst (λ f. count_by f reps ≤ count_by f (numbers p)) (λ i x. sym (same x) i)
+            subst (λ f. count_by f reps ≤ count_by f (numbers p)) (λ i x. sym ((alike-classes p).left r o.0 x o.2) i)
             ((room_asked k.0 o.0 k.2).0 (rooms k.0 k.1))
         | inr l ↦ omega (arith, l, is_counted (alike p r) reps)
       ]

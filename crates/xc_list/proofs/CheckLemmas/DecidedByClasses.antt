@@ -16,9 +16,9 @@ use Rattle.xc_input.proofs.lists.Members.{IsIn, each_in, each_from, in-slice_get
 use Rattle.xc_input.proofs.lists.Members.{contains-in}
 use Rattle.xc_input.proofs.lists.EachTwo.{each_two_from_AllPairs, AllPairs-from_each_two}
 use Rattle.xc_list.specs.Listed.{is_known, IsListedCover, stands_for}
-use Rattle.xc_list.specs.inner.Classes.{alike, numbers, class_of, same_uses, IsCoverOfClasses}
+use Rattle.xc_list.specs.inner.Classes.{class_at, alike, numbers, class_of, same_uses, IsCoverOfClasses}
 use Rattle.xc_list.proofs.CheckLemmas.DifferentOptions.{is_counted, IsLikeness, AreAlike, AreApart}
-use Rattle.xc_list.proofs.CheckLemmas.DifferentOptions.{asked_within, give}
+use Rattle.xc_list.proofs.CheckLemmas.DifferentOptions.{count_alike, count_within, give}
 use Rattle.xc_list.proofs.CheckLemmas.Rotations.{DifferInItems, colour-alike}
 use Rattle.xc_list.proofs.CheckLemmas.ListedNumbers.{in-range, range-in, range-apart, numbered_some}
 use Rattle.xc_list.proofs.CheckLemmas.BodiesOfClasses.{body-alike, body-class, same_uses-are, same_uses-itself}
@@ -57,13 +57,10 @@ option-known p r o h =
 
 pub alike-classes : (p : Puzzle) → IsLikeness (alike p)
 alike-classes p = record {
-  itself = λ a. same_uses-itself (class a);
-  back = λ a b h. cc (same_uses-are (class a) (class b) h, same_uses-itself (class a));
-  on = λ a b c h k. subst (λ v. same_uses (class a) v ≡ true) (same_uses-are (class b) (class c) k) h;
+  itself = λ a. same_uses-itself (class_at p a);
+  left = λ a b x h. ap (λ us. same_uses us (class_at p x)) (same_uses-are (class_at p a) (class_at p b) h);
+  right = λ a b x h. ap (λ us. same_uses (class_at p x) us) (same_uses-are (class_at p a) (class_at p b) h);
 }
-  where
-    class : ℕ → List Use
-    class o = class_of (uses_of p o)
 
 abbrev AreKnown : Puzzle → List ℕ → Type 0
 AreKnown p s = (o : ℕ) → IsIn s o → IsOption p o
@@ -118,10 +115,13 @@ module _ (p : Puzzle) (v : IsValid p) (reps s : List ℕ) (known_reps : AreKnown
   pub classes_of_cover : IsCover p s → IsCoverOfClasses p reps
   classes_of_cover c = record {
     asked =
-        λ r.
-        let within = asked_within (alike p) (alike-classes p) (numbers p) reps s z apart (λ o k. numbers-in p o
-        (known o k)) r in
-        omega (arith, within, is_counted (alike p r) reps, is_counted (alike p r) (numbers p));
+        λ r. omega (
+          arith,
+          count_alike (alike p) (alike-classes p) r reps s z,
+          count_within (alike p r) s (numbers p) apart (λ o k e. numbers-in p o (known o k)),
+          is_counted (alike p r) reps,
+          is_counted (alike p r) (numbers p),
+        );
     within = λ i b e.
         let w = c.within i b e in
         let h = held-alike i in

@@ -1,6 +1,7 @@
 -- Rotations of uses, and that those of one list have one class: for `rotate` and the checker's classes.
-use Rattle.std.proofs.Common.{ℕ, zero, suc, ◌≡◌, ◌≢◌, ◌+◌, ◌<◌, ◌≤◌, ◌==◌, min, List, [], ◌∷◌, ◌++◌, length, map, drop, take}
-use Rattle.std.proofs.Common.{true, inl, inr, is_some, get_or, refl, sym, ap, ◌∙◌, arith, append_assoc, subst, eq-eqb, ne_eqb}
+use Rattle.std.proofs.Common.{ℕ, zero, suc, ◌≡◌, ◌≢◌, ◌+◌, ◌<◌, ◌≤◌, ◌==◌, min, List, [], ◌∷◌, ◌++◌, length, map}
+use Rattle.std.proofs.Common.{drop, take, true, inl, inr, is_some, get_or, refl, sym, ap, ◌∙◌, arith, append_assoc}
+use Rattle.std.proofs.Common.{subst, eq-eqb, ne_eqb}
 use Rattle.std.specs.Prelude.{◌↔◌}
 use Rattle.std.specs.List.{AllByRecursion, fold}
 use Rattle.std.proofs.Math.Seq.{drop-append_seam, take-append_seam, drop-cons}
@@ -131,12 +132,12 @@ pub turned-alike : (us vs : List Use) (k : ℕ) → DifferInItems vs → class_o
 turned-alike us vs k d q l =
     let u = get_or us k (record { item = 0; colour = 0 }) in
     let i : ℕ = u.item in
-    let first : rotated_at k us ≡ u ∷ (drop (suc k) us ++ take k us) = ap (λ ws. ws ++ take k us) (drop-cons us k _ l) in
+    let rest = drop (suc k) us ++ take k us in
+    let first : rotated_at k us ≡ u ∷ rest = ap (λ ws. ws ++ take k us) (drop-cons us k _ l) in
     let own : (i == i) ≡ true = eq-eqb i i refl in
     let t = subst (AreTurned vs) first ((turned vs us k).0 (alike us vs d q)) in
     let held : Holds i vs = rw (← t.colour i, own) refl in
-    let whole : from_item i (u ∷ (drop (suc k) us ++ take k us)) ≡ u ∷ (drop (suc k) us ++ take k us) =
-    rw own (append-nil _) in
+    let whole : from_item i (u ∷ rest) ≡ u ∷ rest = rw own (append-nil _) in
     (place_in i vs, place_held i vs held, first ∙ sym whole ∙ t.from i held)
 
 -- Uses of one class give each item the same colour.
