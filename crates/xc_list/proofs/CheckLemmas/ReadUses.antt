@@ -2,7 +2,7 @@
 use Rattle.std.proofs.lemmas.Bool.{cases_Bool}
 use Rattle.std.proofs.Common.{inr}
 use Rattle.std.proofs.lemmas.Bool.Decides.{nat_tests}
-use Rattle.std.proofs.Common.{ℕ, zero, suc, ◌≡◌, ◌⊎◌, ◌<◌, ◌≤◌, true, false, List, [], ◌∷◌, ◌++◌, length, map}
+use Rattle.std.proofs.Common.{ℕ, zero, suc, ◌≡◌, ◌<◌, ◌≤◌, true, false, List, [], ◌∷◌, ◌++◌, length, map}
 use Rattle.std.proofs.Common.{Option, MatchOption, Bor, Some, None, refl, sym, ap, ap₂, ◌∙◌, arith, append-nil, inl}
 use Rattle.std.proofs.Common.{inr}
 use Rattle.xc_list.specs.inner.LineParts.{colour_text}
@@ -12,7 +12,7 @@ use Rattle.xc_input.specs.declared.problem.Use.{Use}
 use Rattle.xc_input.specs.Problem.{numbered_get}
 use Rattle.xc_input.specs.Named.{Named, IsName, IsKnownUse, IsSound}
 use Rattle.xc_input.specs.Words.{has, before, after}
-use Rattle.xc_input.proofs.GrammarLemmas.NoFault.{cut-at, cut-is}
+use Rattle.xc_input.proofs.GrammarLemmas.NoFault.{cut-at, no-cut}
 use Rattle.xc_list.specs.ListingLines.{words_in}
 use Rattle.xc_list.specs.Output.{bytes_at, use_word}
 use Rattle.xc_list.specs.inner.OptionIndex.{IsUseOfWord, HaveWords}
@@ -23,69 +23,56 @@ use Rattle.xc_input.proofs.TokenLemmas.Separators.{COLON}
 -- ---- the word of one use
 
 -- a name, and a colour's text behind it
-coloured : (colours : List (List ℕ)) (name : List ℕ) (c : ℕ) → has COLON name ≡ false → c ≤ length colours
-    → ((c ≡ 0) × (name ++ colour_text colours c ≡ name) × (has COLON (name ++ colour_text colours c) ≡ false))
-    ⊎ ((numbered_get colours c ≡ Some (bytes_at colours c))
-    × (name ++ colour_text colours c ≡ name ++ COLON ∷ bytes_at colours c))
-coloured colours name zero h l = inl (refl, append-nil name, ap (has COLON) (append-nil name) ∙ h)
-coloured colours name (suc c) h l =
-    grind (arith, nat_tests, numbered_some colours (suc c), colour_text-some colours (suc c))
+name_and_colour : (colours : List (List ℕ)) (name : List ℕ) (c : ℕ) → has COLON name ≡ false → c ≤ length colours
+    → (w : List ℕ) → name ++ colour_text colours c ≡ w → (before COLON w ≡ name) × (has COLON w ≡ false → c ≡ 0)
+    × (has COLON w ≡ true → numbered_get colours c ≡ Some (after COLON w))
+name_and_colour colours name zero h l w e =
+    let is : name ≡ w = sym (append-nil name) ∙ e in
+    rw (← is) (no-cut COLON name h, λ f. refl, λ f. cc)
+name_and_colour colours name (suc c) h l w e = grind (
+  arith,
+  nat_tests,
+  cut-at COLON name (bytes_at colours (suc c)) h,
+  numbered_some colours (suc c),
+  colour_text-some colours (suc c),
+)
 
 module _ (p : Named) (s : IsSound p) (u : Use) (known : IsKnownUse p u) where
-  within : u.item ≤ length p.names
-  within = omega (arith, known.0.1, s.named.count)
-
-  named : numbered_get p.names u.item ≡ Some (bytes_at p.names u.item)
-  named = numbered_some p.names u.item [] known.0.0 within
-
-  no_colon : has COLON (bytes_at p.names u.item) ≡ false
-  no_colon = (at_bytes IsName p.names u.item known.0.0 within s.named.names).no_colon
+  -- a word's part before the first colon is its item's name, and its part behind that is its colour
+  parts : (w : List ℕ) → use_word p u ≡ w → (numbered_get p.names u.item ≡ Some (before COLON w))
+      × (has COLON w ≡ false → u.colour ≡ 0)
+      × (has COLON w ≡ true → numbered_get p.colours u.colour ≡ Some (after COLON w))
+  parts w e =
+      let within : u.item ≤ length p.names = omega (arith, known.0.1, s.named.count) in
+      let name = at_bytes IsName p.names u.item known.0.0 within s.named.names in
+      let cut = name_and_colour p.colours _ u.colour name.no_colon known.1 w e in
+      (numbered_some p.names u.item [] known.0.0 within ∙ ap (λ t. Some t) (sym cut.0), cut.1, cut.2)
 
   -- a word without a colon is its item's name
   pub plain-word : has COLON (use_word p u) ≡ false
       → (numbered_get p.names u.item ≡ Some (use_word p u)) × (u.colour ≡ 0)
-  plain-word h = elim (coloured p.colours (bytes_at p.names u.item) u.colour no_colon known.1) [
-    | inl q ↦ (named ∙ ap (λ t. Some t) (sym q.1), q.0)
-    | inr q ↦ absurd (let cut = cut-at COLON (bytes_at p.names u.item) (bytes_at p.colours u.colour) no_colon in let e :
-        true ≡ false = sym cut.2 ∙ ap (has COLON) (sym q.1) ∙ h in cc)
-  ]
+  plain-word h =
+      let cut = parts (use_word p u) refl in (cut.0 ∙ ap (λ t. Some t) (no-cut COLON (use_word p u) h), cut.1 h)
 
   -- what stands before and behind the first colon of a word
   pub cut-word : (front back : List ℕ) → has COLON front ≡ false → use_word p u ≡ front ++ COLON ∷ back
       → (numbered_get p.names u.item ≡ Some front) × (numbered_get p.colours u.colour ≡ Some back)
-  cut-word front back h e = elim (coloured p.colours (bytes_at p.names u.item) u.colour no_colon known.1) [
-    | inl q ↦ absurd (let cut = cut-at COLON front back h in let f : true ≡ false = sym cut.2 ∙ ap (has COLON) (sym e)
-        ∙ q.2 in cc)
-    | inr q ↦
-        let own = cut-at COLON (bytes_at p.names u.item) (bytes_at p.colours u.colour) no_colon in
-        let cut = cut-at COLON front back h in
-        let same : bytes_at p.names u.item ++ COLON ∷ bytes_at p.colours u.colour ≡ front ++ COLON ∷ back =
-        sym q.1 ∙ e in (
-          named ∙ ap (λ t. Some t) (sym own.0 ∙ ap (before COLON) same ∙ cut.0),
-          q.0
-              ∙ ap (λ t. Some t) (sym own.1 ∙ ap (after COLON) same ∙ cut.1),
-        )
-  ]
+  cut-word front back h e =
+      let own = parts (front ++ COLON ∷ back) e in
+      let cut = cut-at COLON front back h in
+      (own.0 ∙ ap (λ t. Some t) cut.0, own.2 cut.2 ∙ ap (λ t. Some t) cut.1)
 
 -- uses with one word are one
 pub one_word : (p : Named) → IsSound p → (u v : Use) → IsKnownUse p u → IsKnownUse p v → use_word p u ≡ use_word p v
     → u ≡ v
-one_word p s u v a b e = elim (cases_Bool (has COLON (use_word p u))) [
-  | inr h ↦
-      let x = plain-word p s u a h in
-      let y = plain-word p s v b (ap (has COLON) (sym e) ∙ h) in
-      same (one_number p.names u.item v.item (use_word p v) s.named.distinct (x.0 ∙ ap (λ t. Some t) e) y.0)
-      (x.1 ∙ sym y.1)
-  | inl h ↦
-      let cut = cut-is COLON (use_word p u) h in
-      let x = cut-word p s u a (before COLON (use_word p u)) (after COLON (use_word p u)) cut.1 cut.0 in
-      let y = cut-word p s v b (before COLON (use_word p u)) (after COLON (use_word p u)) cut.1 (sym e ∙ cut.0) in
-      same (one_number p.names u.item v.item (before COLON (use_word p u)) s.named.distinct x.0 y.0)
-      (one_number p.colours u.colour v.colour (after COLON (use_word p u)) s.named.distinct_colours x.1 y.1)
-]
-  where
-    same : u.item ≡ v.item → u.colour ≡ v.colour → u ≡ v
-    same i c = ap₂ (λ i c. let r : Use = record { item = i; colour = c } in r) i c
+one_word p s u v a b e =
+    let x = parts p s u a (use_word p v) e in
+    let y = parts p s v b (use_word p v) refl in
+    ap₂ (λ i c. let r : Use = record { item = i; colour = c } in r)
+    (one_number p.names u.item v.item _ s.named.distinct x.0 y.0) (elim (cases_Bool (has COLON (use_word p v))) [
+      | inl h ↦ one_number p.colours u.colour v.colour _ s.named.distinct_colours (x.2 h) (y.2 h)
+      | inr h ↦ x.1 h ∙ sym (y.1 h)
+    ])
 
 -- ---- the words of a body
 
