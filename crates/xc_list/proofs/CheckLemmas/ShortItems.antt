@@ -1,31 +1,21 @@
 -- How many items are held too seldom.
 use Rattle.std.proofs.lemmas.Bool.Decides.{nat_tests}
-use Rattle.std.proofs.Common.{ℕ, zero, suc, ◌≡◌, ◌≢◌, ◌+◌, ◌<◌, ◌≤◌, List, [], ◌∷◌, length, get_or}
-use Rattle.std.proofs.Common.{set, replicate, Some, refl, sym, cond, arith, ltb-true, ltb-false, lt-ltb, le-ltb}
+use Rattle.std.proofs.Common.{ℕ, zero, suc, ◌≡◌, ◌+◌, ◌<◌, ◌≤◌, List, [], ◌∷◌, length, get_or}
+use Rattle.std.proofs.Common.{set, replicate, Some, refl, sym, cond, arith, le-ltb}
 use Rattle.xc_input.specs.declared.problem.Bounds.{Bounds}
 use Rattle.std.proofs.lemmas.List.Recursion.{is_sum_by}
-use Rattle.std.specs.Prelude.{slice_get, nat_lt, count_by}
+use Rattle.std.specs.Prelude.{slice_get, nat_lt, count_by, ◌&&◌, ◌==◌}
 use Rattle.xc_list.specs.inner.CoverCounts.{short_of}
 
--- an item reaches its lower bound
-pub short_reached : (bs : List Bounds) (ts : List ℕ) (k t : ℕ) (d : Bounds) → k < length ts → t ≡ get_or ts k t
-    → k < length bs → t + 1 ≡ (get_or bs k d).low →
-    short_of bs (set ts k (t + 1)) + 1 ≡ short_of bs ts
-short_reached [] ts k t d l e m r = absurd (omega (arith, m))
-short_reached (b ∷ bs) [] k t d l e m r = absurd (omega (arith, l))
-short_reached (b ∷ bs) (x ∷ ts) zero t d l e m r = grind (arith, nat_tests, le-ltb, lt-ltb)
-short_reached (b ∷ bs) (x ∷ ts) (suc k) t d l e m r =
-    omega (arith, short_reached bs ts k t d (omega (arith, l)) e (omega (arith, m)) r)
-
--- an item is held once more and doesn't reach it
-pub short_kept : (bs : List Bounds) (ts : List ℕ) (k t : ℕ) (d : Bounds) → k < length ts → t ≡ get_or ts k t
-    → (k < length bs → t + 1 ≢ (get_or bs k d).low) →
-    short_of bs (set ts k (t + 1)) ≡ short_of bs ts
-short_kept [] ts k t d l e r = refl
-short_kept (b ∷ bs) [] k t d l e r = absurd (omega (arith, l))
-short_kept (b ∷ bs) (x ∷ ts) zero t d l e r = grind (arith, nat_tests, lt-ltb, ltb-true, le-ltb, ltb-false)
-short_kept (b ∷ bs) (x ∷ ts) (suc k) t d l e r =
-    omega (arith, short_kept bs ts k t d (omega (arith, l)) e (λ m. r (omega (arith, m))))
+-- an item is held once more: it may reach its lower bound
+pub held_once_more : (bs : List Bounds) (ts : List ℕ) (k t : ℕ) (d : Bounds) → k < length ts → t ≡ get_or ts k t
+    → short_of bs (set ts k (t + 1)) + cond (nat_lt k (length bs) && (t + 1) == (get_or bs k d).low) 1 0
+    ≡ short_of bs ts
+held_once_more [] ts k t d l e = grind (arith, nat_tests)
+held_once_more (b ∷ bs) [] k t d l e = absurd (omega (arith, l))
+held_once_more (b ∷ bs) (x ∷ ts) zero t d l e = grind (arith, nat_tests)
+held_once_more (b ∷ bs) (x ∷ ts) (suc k) t d l e =
+    grind (arith, nat_tests, held_once_more bs ts k t d (omega (arith, l)) e)
 
 short_here : (t n : ℕ) (x b : Bounds) → x ≡ b → cond (nat_lt t x.low) 1 0 + n ≡ 0 → b.low ≤ t
 short_here t n x b e h = grind (arith, nat_tests)
