@@ -1,12 +1,11 @@
 -- Verdicts by classes, and what a line changes.
 use Rattle.std.specs.List.{AllByRecursion}
-use Rattle.std.proofs.lemmas.List.Elements.{recursion_from_All}
 use Rattle.std.proofs.Common.{get_or}
 use Rattle.std.proofs.Common.{◌≡◌, ℕ, ◌+◌, ◌-◌, ◌^◌, ◌<◌, Bool, true, false, not, ◌||◌, nat_eq, min, List}
 use Rattle.std.proofs.Common.{[], ◌∷◌, ◌++◌, length, filter, Option, Some, None, is_some, refl, sym, ap, ◌∙◌, subst}
 use Rattle.std.proofs.Common.{append_assoc, append-nil, arith, if◌then◌else◌}
 use Rattle.xc_list.specs.inner.Listings.{Listing, before_listing, listing_of}
-use Rattle.std.specs.Prelude.{◌==◌, ◌↔◌, All, IsTrue}
+use Rattle.std.specs.Prelude.{◌==◌, ◌↔◌, IsTrue}
 use Rattle.std.specs.List.{AllZip}
 use Rattle.std.proofs.lemmas.Bool.Decides.{nat_tests}
 use Rattle.std.proofs.lemmas.List.Elements.{filter-append}
@@ -33,50 +32,35 @@ option_of b k classes l =
     let at = slice_get-get_or b.classes k [] l in
     let used = classes.used k (get_or b.classes k []) at in (used.0, (used.1, at ∙ ap (λ us. Some us) (sym used.2)))
 
-options_of : (b : Classes) (chosen : List ℕ) → AreClasses b.problem.puzzle b.classes
-    → AllByRecursion (λ k. k < length b.classes) chosen → (reps : List ℕ) × AllZip (IsOfClass b) chosen reps
-options_of b [] classes all = ([], tt)
-options_of b (k ∷ chosen) classes all =
-    let first = option_of b k classes all.0 in
-    let later = options_of b chosen classes all.1 in
-    (first.0 ∷ later.0, (first.1, later.1))
-
--- what stands for classes stands for their options
-stand : (b : Classes) (bodies : List (List (List ℕ))) (chosen reps : List ℕ)
-    → AllZip (λ words k. IsClassOfBody b words (Some k)) bodies chosen → AllZip (IsOfClass b) chosen reps
-    → StandFor b.problem bodies reps
-stand b [] [] [] h g = tt
-stand b [] [] (o ∷ reps) h g = absurd g
-stand b [] (k ∷ chosen) reps h g = absurd h
-stand b (words ∷ bodies) [] reps h g = absurd h
-stand b (words ∷ bodies) (k ∷ chosen) [] h g = absurd g
-stand b (words ∷ bodies) (k ∷ chosen) (o ∷ reps) h g = (h.0.1 o g.0, stand b bodies chosen reps h.1 g.1)
+-- bodies that stand for classes stand for options of these
+options_of : (b : Classes) (bodies : List (List (List ℕ))) (chosen : List ℕ) → AreClasses b.problem.puzzle b.classes
+    → AllZip (λ words k. IsClassOfBody b words (Some k)) bodies chosen → (reps : List ℕ)
+    × AllZip (IsOfClass b) chosen reps × AllByRecursion (IsOption b.problem.puzzle) reps
+    × StandFor b.problem bodies reps
+options_of b bodies chosen classes =
+    by_pairs _ (λ ws ks. (reps : List ℕ) × AllZip (IsOfClass b) ks reps
+    × AllByRecursion (IsOption b.problem.puzzle) reps × StandFor b.problem ws reps) ([], tt, tt, tt)
+    (λ words k ws ks h later.
+    let o = option_of b k classes h.0 in
+    (o.0 ∷ later.0, (o.1, later.1), (o.1.0, later.2), (h.1 o.0 o.1, later.3))) bodies chosen
 
 -- the verdict by classes
 pub closed : (s : Progress) (number : ℕ) (chosen : List ℕ) (cover : Bool) (verdicts : List Verdict)
-    → IsIndexed s.options → All (λ k. k < length s.options.classes) s.chosen → chosen ≡ s.chosen
+    → IsIndexed s.options → chosen ≡ s.chosen
     → ((reps : List ℕ) → AllZip (IsOfClass s.options) chosen reps
     → (IsTrue cover ↔ IsCoverOfClasses s.options.problem.puzzle reps)) → s.open_number ≡ Some number
     → verdicts ≡ s.verdicts ++ record { number = number; cover = cover } ∷ []
     → Closes s (record s { verdicts = verdicts })
-closed s number chosen cover verdicts indexed all same decided e f =
-    let b = s.options in
-    let p = b.problem in
-    let options = options_of b s.chosen indexed.classes (recursion_from_All (λ k. k < length b.classes) s.chosen all) in
-    let reps = options.0 in
-    let known : AllByRecursion (IsOption p.puzzle) reps =
-    by_pairs (IsOfClass b) (λ ks os. AllByRecursion (IsOption p.puzzle) os) tt (λ k o ks os h later. (h.0, later))
-    s.chosen reps options.1 in
-    let counted = (rw same at decided) reps options.1 in (
-      record { number = number; cover = cover } ∷ [],
-      f,
-      λ bodies are.
-          let listed =
-          classes_decide p bodies reps indexed.sound known
-          (stand b (filter (is_known p) bodies) s.chosen reps are options.1)
-          in
-          rw (e, append-nil bodies) ((refl, (λ t. listed.1 (counted.0 t), λ c. counted.1 (listed.0 c))), tt),
-    )
+closed s number chosen cover verdicts indexed same decided e f = (
+  record { number = number; cover = cover } ∷ [],
+  f,
+  λ bodies are.
+      let p = s.options.problem in
+      let o = options_of s.options (filter (is_known p) bodies) s.chosen indexed.classes are in
+      let listed = classes_decide p bodies o.0 indexed.sound o.2 o.3 in
+      let counted = (rw same at decided) o.0 o.1 in
+      rw (e, append-nil bodies) ((refl, (λ t. listed.1 (counted.0 t), λ c. counted.1 (listed.0 c))), tt),
+)
 
 abbrev pub progress : Classes → Option ℕ → List ℕ → List Verdict → Progress
 progress b number chosen verdicts = record { options = b; open_number = number; chosen = chosen; verdicts = verdicts }
