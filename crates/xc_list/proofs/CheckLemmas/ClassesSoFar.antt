@@ -1,7 +1,7 @@
 -- One option more among the classes.
-use Rattle.std.proofs.lemmas.Bool.{cases_eq}
+use Rattle.std.proofs.lemmas.Bool.{cases_eq, cases_lt}
 use Rattle.std.proofs.lemmas.Bool.Decides.{nat_tests}
-use Rattle.std.proofs.Common.{ℕ, zero, suc, ◌≡◌, ◌≢◌, ◌+◌, ◌≤◌, Bool, false, cond, List, [], ◌∷◌, ◌++◌, map}
+use Rattle.std.proofs.Common.{ℕ, zero, suc, ◌≡◌, ◌≢◌, ◌+◌, ◌≤◌, Bool, cond, List, [], ◌∷◌, ◌++◌, map}
 use Rattle.std.proofs.Common.{get_or, Some, ◌⊎◌, refl, sym, ap, ap₂, ◌∙◌, arith, subst, inl, inr}
 use Rattle.std.proofs.Common.{add-one}
 use Rattle.std.specs.Prelude.{slice_get, Contains}
@@ -13,14 +13,13 @@ use Rattle.std.proofs.lemmas.List.Sums.{count_by-le-length}
 use Rattle.xc_input.specs.declared.problem.Use.{Use}
 use Rattle.xc_input.specs.Problem.{Puzzle}
 use Rattle.xc_input.proofs.FaultLemmas.Checks.{map-snoc}
-use Rattle.xc_input.proofs.TokenLemmas.Bytes.{not_false}
 use Rattle.xc_input.proofs.lists.Members.{IsIn, each_in, in-append, in-contains, contains-in, in-slice_get}
 use Rattle.xc_input.proofs.lists.Members.{slice_get-in}
 use Rattle.xc_input.proofs.lists.EachTwo.{EachTwo, EachTwo-append, each_two_from_AllPairs, AllPairs-from_each_two}
 use Rattle.std.specs.List.{range_with_len}
 use Rattle.xc_list.specs.inner.Classes.{class_at, same_uses}
 use Rattle.xc_list.specs.inner.OptionIndex.{AreClassesTo, class_size_to}
-use Rattle.xc_list.proofs.CheckLemmas.DifferentOptions.{counted, is_counted}
+use Rattle.xc_list.proofs.CheckLemmas.DifferentOptions.{counted, is_counted, counted_some}
 use Rattle.xc_list.proofs.CheckLemmas.BodiesOfClasses.{same_uses-are, same_uses-itself}
 use Rattle.xc_list.proofs.CheckLemmas.ListedNumbers.{in-range}
 
@@ -96,21 +95,16 @@ module _ (p : Puzzle) (n : ℕ) where
 
   no-members : (classes : List (List Use)) (counts : List ℕ) → AreClassesTo p n classes counts
       → (IsIn classes added → ⊥) → class_size_to p n added ≡ 0
-  no-members classes counts a h = is_counted test (range_with_len 1 n) ∙ none (range_with_len 1 n) other
-    where
-      test : ℕ → Bool
-      test o = same_uses added (class_at p o)
-
-      none : (xs : List ℕ) → ((o : ℕ) → IsIn xs o → test o ≡ false) → counted test xs ≡ 0
-      none [] f = refl
-      none (o ∷ xs) f = rw (f o (inl refl)) (omega (arith, none xs (λ q k. f q (inr k))))
-
-      other : (o : ℕ) → IsIn (range_with_len 1 n) o → test o ≡ false
-      other o k = not_false (test o) (λ q.
-          let l = in-range 1 n o k in
-          h (in-contains classes added
-          (subst (Contains classes) (sym (same_uses-are added (class_at p o) q))
-          (a.whole o l.0 (omega (arith, l.1))))))
+  no-members classes counts a h =
+      let of_class : ℕ → Bool = λ o. same_uses added (class_at p o) in
+      elim (cases_lt 0 (counted of_class (range_with_len 1 n))) [
+        | inl l ↦
+            let o = counted_some of_class (range_with_len 1 n) l in
+            let known = in-range 1 n o.0 o.1 in
+            absurd (h (in-contains classes added (subst (Contains classes) (sym (same_uses-are added _ o.2))
+            (a.whole o.0 known.0 (omega (arith, known.1))))))
+        | inr l ↦ omega (arith, l, is_counted of_class (range_with_len 1 n))
+      ]
 
   -- an option of a new class
   pub classes-new : (classes all : List (List Use)) (counts more : List ℕ) → AreClassesTo p n classes counts
