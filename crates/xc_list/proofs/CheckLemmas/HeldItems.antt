@@ -6,8 +6,7 @@ use Rattle.std.proofs.Common.{eq-eqb}
 use Rattle.std.specs.List.{AllByRecursion}
 use Rattle.std.proofs.lemmas.List.{get_or-set_same, get_or-set_other, length-set, get_or_past}
 use Rattle.xc_input.specs.declared.problem.Use.{Use}
-use Rattle.xc_list.specs.inner.CoverCounts.{raised, lowered, item_places, added, coloured, cleared}
-use Rattle.std.proofs.lemmas.List.{map-append}
+use Rattle.xc_list.specs.inner.CoverCounts.{raised, lowered, item_places, added, coloured}
 use Rattle.std.proofs.lemmas.Bool.{cases_eq, cases_lt}
 use Rattle.std.proofs.lemmas.Bool.Decides.{nat_tests}
 use Rattle.xc_list.proofs.CheckLemmas.DifferentOptions.{counted}
@@ -58,27 +57,13 @@ raised-most ks ns k = elim (cases_lt k (length ns)) [
 
 -- ---- uses
 
-pub added-append : (us vs : List Use) (ts : List ℕ) → added (us ++ vs) ts ≡ added vs (added us ts)
-added-append us vs ts =
-    ap (λ ks. raised ks ts) (map-append (λ u. u.item - 1) us vs) ∙ raised-append (item_places us) (item_places vs) ts
-
 pub coloured-append : (us vs : List Use) (cs : List ℕ) → coloured (us ++ vs) cs ≡ coloured vs (coloured us cs)
 coloured-append [] vs cs = refl
 coloured-append (u ∷ us) vs cs = coloured-append us vs (set cs (u.item - 1) u.colour)
 
-pub cleared-append : (us vs : List Use) (ts : List ℕ) → cleared (us ++ vs) ts ≡ cleared vs (cleared us ts)
-cleared-append us vs ts =
-    ap (λ ks. lowered ks ts) (map-append (λ u. u.item - 1) us vs) ∙ lowered-append (item_places us) (item_places vs) ts
-
-pub length-added : (us : List Use) (ts : List ℕ) → length (added us ts) ≡ length ts
-length-added us ts = length-raised (item_places us) ts
-
 pub length-coloured : (us : List Use) (cs : List ℕ) → length (coloured us cs) ≡ length cs
 length-coloured [] cs = refl
 length-coloured (u ∷ us) cs = length-coloured us (set cs (u.item - 1) u.colour) ∙ length-set cs (u.item - 1) u.colour
-
-pub length-cleared : (us : List Use) (ts : List ℕ) → length (cleared us ts) ≡ length ts
-length-cleared us ts = length-lowered (item_places us) ts
 
 pub held-places : (n : ℕ) (us : List Use) (k : ℕ) → AreItems n us
     → counted (λ j. j == k) (item_places us) ≡ held (suc k) us

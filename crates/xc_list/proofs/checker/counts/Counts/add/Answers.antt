@@ -3,22 +3,21 @@ use Rattle.std.proofs.lemmas.List.Elements.{recursion_from_All}
 use Rattle.xc_input.specs.declared.problem.Use.{Use}
 use Rattle.xc_input.proofs.lists.EachTwo.{each_two_from_AllPairs}
 use Rattle.xc_list.specs.inner.CoverCounts.{added, coloured}
-use Rattle.xc_list.proofs.CheckLemmas.HeldItems.{AreItems, held, each_take, added-at, length-added, length-coloured}
-use Rattle.xc_list.proofs.CheckLemmas.HeldItems.{not_before, added-append, coloured-append}
-use Rattle.std.proofs.lemmas.List.{take_more}
+use Rattle.xc_list.proofs.CheckLemmas.HeldItems.{AreItems, held, each_take, added-at, length-raised, length-coloured}
+use Rattle.xc_list.proofs.CheckLemmas.HeldItems.{not_before, raised-append, coloured-append}
+use Rattle.std.proofs.lemmas.List.{take_more, map-append}
 use Rattle.xc_list.proofs.checker.counts.Counts.add.Goals as goal
 
 pub hold-requires-clause-item : goal.hold-requires-clause-item
 hold-requires-clause-item c =
     let known = c.requires.items c.loop-u.u-index (record { item = 0; colour = 0 }) c.loop-u-test.true in
-    let size = ap length c.loop-u.invariant.times ∙ length-added (take c.loop-u.u-index c.args.uses.now) _ in
+    let size = simp length-raised at (ap length c.loop-u.invariant.times) in
     (omega (arith, known.0), omega (arith, known.1, size))
 
 pub hold-requires-clause-colours : goal.hold-requires-clause-colours
 hold-requires-clause-colours c =
-    let before = take c.loop-u.u-index c.args.uses.now in
-    ap length c.loop-u.invariant.colours ∙ length-coloured before _ ∙ c.requires.colours
-    ∙ sym (ap length c.loop-u.invariant.times ∙ length-added before _)
+    (simp length-coloured at (ap length c.loop-u.invariant.colours)) ∙ c.requires.colours
+    ∙ sym (simp length-raised at (ap length c.loop-u.invariant.times))
 
 pub hold-requires-clause-few : goal.hold-requires-clause-few
 hold-requires-clause-few c =
@@ -42,7 +41,8 @@ loop-u-preserved c =
     let u = get_or c.args.uses.now c.loop-u.u-index blank in
     let more = take_more c.args.uses.now c.loop-u.u-index blank c.loop-u-test.true in
     record {
-      times = c.hold.ensures.times ∙ rw (more, added-append) (ap (added (u ∷ [])) c.loop-u.invariant.times);
+      times = c.hold.ensures.times
+          ∙ rw (more, map-append, raised-append) (ap (added (u ∷ [])) c.loop-u.invariant.times);
       colours = c.hold.ensures.colours ∙ rw (more, coloured-append) (ap (coloured (u ∷ [])) c.loop-u.invariant.colours);
       asked = c.hold.ensures.asked ∙ c.loop-u.invariant.asked;
       short = c.hold.ensures.short;

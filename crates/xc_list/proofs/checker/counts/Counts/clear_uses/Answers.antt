@@ -1,14 +1,14 @@
-use Rattle.std.proofs.Common.{arith, length, [], ◌∷◌, get_or, take, ◌∙◌, ap}
-use Rattle.std.proofs.lemmas.List.{take_more}
+use Rattle.std.proofs.Common.{arith, length, [], ◌∷◌, get_or, ap}
+use Rattle.std.proofs.lemmas.List.{take_more, map-append}
 use Rattle.xc_input.specs.declared.problem.Use.{Use}
 use Rattle.xc_list.specs.inner.CoverCounts.{cleared}
-use Rattle.xc_list.proofs.CheckLemmas.HeldItems.{cleared-append, length-cleared}
+use Rattle.xc_list.proofs.CheckLemmas.HeldItems.{lowered-append, length-lowered}
 use Rattle.xc_list.proofs.checker.counts.Counts.clear_uses.Goals as goal
 
 pub index_mut-requires : goal.index_mut-requires
 index_mut-requires c =
     let known = c.requires.items c.loop-u.u-index (record { item = 0; colour = 0 }) c.loop-u-test.true in
-    let size = ap length c.loop-u.invariant.times ∙ length-cleared (take c.loop-u.u-index c.args.uses.now) _ in
+    let size = simp length-lowered at (ap length c.loop-u.invariant.times) in
     omega (arith, known, size)
 
 pub loop-u-preserved : goal.loop-u-preserved
@@ -17,7 +17,7 @@ loop-u-preserved c =
     let us = c.args.uses.now in
     let k = c.loop-u.u-index in
     record {
-      times = rw (take_more us k blank c.loop-u-test.true, cleared-append)
+      times = rw (take_more us k blank c.loop-u-test.true, map-append, lowered-append)
           (ap (cleared (get_or us k blank ∷ [])) c.loop-u.invariant.times);
       colours = c.loop-u.invariant.colours;
       asked = c.loop-u.invariant.asked;

@@ -1,4 +1,4 @@
-use Rattle.std.proofs.Common.{ℕ, List, arith, ◌≡◌, ◌+◌, ◌<◌, ◌≢◌, [], ◌∷◌, length, get_or, set, take, replicate, sym}
+use Rattle.std.proofs.Common.{arith, ◌≡◌, ◌+◌, ◌<◌, ◌≢◌, [], ◌∷◌, length, get_or, set, take, replicate, sym}
 use Rattle.std.proofs.Common.{◌∙◌, ap, subst}
 use Rattle.std.proofs.lemmas.List.{get_or_default, length-replicate}
 use Rattle.std.proofs.lemmas.Option.{get_or_from_slice_get}
@@ -6,23 +6,18 @@ use Rattle.std.proofs.lemmas.List.Elements.{recursion_from_All}
 use Rattle.xc_input.specs.declared.problem.Use.{Use}
 use Rattle.xc_input.specs.Problem.{item_count}
 use Rattle.xc_input.proofs.lists.EachTwo.{AllPairs-from_each_two}
-use Rattle.xc_list.specs.inner.CoverCounts.{item_places, added, coloured, raised, uses_in}
-use Rattle.xc_list.proofs.CheckLemmas.HeldItems.{length-raised, length-coloured, added-append, coloured-append}
+use Rattle.xc_list.specs.inner.CoverCounts.{added, coloured, raised, uses_in}
+use Rattle.xc_list.proofs.CheckLemmas.HeldItems.{length-raised, length-coloured, coloured-append}
 use Rattle.xc_list.proofs.CheckLemmas.HeldItems.{raised-append}
 use Rattle.xc_list.proofs.CheckLemmas.Rotations.{DifferInItems}
 use Rattle.xc_list.proofs.CheckLemmas.CountedClasses.{known_items, classes_usable, added_few}
 use Rattle.xc_list.proofs.CheckLemmas.CountedClasses.{raised_few, uses_in-take}
-use Rattle.std.proofs.lemmas.List.{take_more}
+use Rattle.std.proofs.lemmas.List.{take_more, map-append}
 use Rattle.xc_list.proofs.checker.counts.Counts.count.Goals as goal
-
--- counted from n zeros on
-size_counted : (n : ℕ) (ks ns now : List ℕ) → ns ≡ replicate n 0 → now ≡ raised ks ns → length now ≡ n
-size_counted n ks ns now e h = ap length h ∙ length-raised ks ns ∙ ap length e ∙ length-replicate {A = ℕ} n 0
 
 pub index_mut-requires : goal.index_mut-requires
 index_mut-requires c =
-    let size = size_counted _ (take c.loop-class.class-index c.args.chosen.now) _ _ c.requires.asked
-    c.loop-class.invariant.asked in
+    let size = simp (length-raised, c.requires.asked, length-replicate) at (ap length c.loop-class.invariant.asked) in
     omega (arith, size, c.requires.known c.loop-class.class-index 0 c.loop-class-test.true)
 
 pub overflow_add-index_mut : goal.overflow_add-index_mut
@@ -36,7 +31,7 @@ overflow_add-index_mut c =
     let same : asked ≡ raised (take i ks) (replicate n 0) =
     c.loop-class.invariant.asked ∙ ap (raised (take i ks)) c.requires.asked in
     let size : length asked ≡ n =
-    size_counted n (take i ks) c.args.self.now.asked.items asked c.requires.asked c.loop-class.invariant.asked in
+    simp (length-raised, c.requires.asked, length-replicate) at (ap length c.loop-class.invariant.asked) in
     let read : c.index_mut.result.now ≡ get_or asked k 0 =
     c.index_mut.ensures.value ∙ get_or_default asked k c.index_mut.result.now 0 (omega (arith, known, size)) in
     let few = raised_few n ks i k (omega (arith, c.loop-class-test.true)) in
@@ -44,10 +39,8 @@ overflow_add-index_mut c =
 
 pub add-requires-clause-items : goal.add-requires-clause-items
 add-requires-clause-items c =
-    let b = c.args.options.now in
-    let before = uses_in b.classes (take c.loop-class.class-index c.args.chosen.now) in
-    known_items b.problem _ _ (size_counted (item_count b.problem.puzzle) (item_places before) _
-    _ c.requires.times c.loop-class.invariant.times) c.uses.ensures.known
+    known_items c.args.options.now.problem _ _ (simp (length-raised, c.requires.times, length-replicate) at
+    (ap length c.loop-class.invariant.times)) c.uses.ensures.known
 
 pub add-requires-clause-distinct : goal.add-requires-clause-distinct
 add-requires-clause-distinct c =
@@ -60,11 +53,8 @@ add-requires-clause-distinct c =
 
 pub add-requires-clause-colours : goal.add-requires-clause-colours
 add-requires-clause-colours c =
-    let b = c.args.options.now in
-    let before = uses_in b.classes (take c.loop-class.class-index c.args.chosen.now) in
-    ap length c.loop-class.invariant.colours ∙ length-coloured before c.args.self.now.colours.items ∙ c.requires.colours
-    ∙ sym (size_counted (item_count b.problem.puzzle) (item_places before) c.args.self.now.times.items
-    c.loop-class.self.times.items c.requires.times c.loop-class.invariant.times)
+    (simp length-coloured at (ap length c.loop-class.invariant.colours)) ∙ c.requires.colours
+    ∙ sym (simp (length-raised, c.requires.times, length-replicate) at (ap length c.loop-class.invariant.times))
 
 pub add-requires-clause-few : goal.add-requires-clause-few
 add-requires-clause-few c = λ k.
@@ -87,12 +77,13 @@ loop-class-preserved c =
     let n = length b.classes in
     let us = c.uses.result.now in
     let more = uses_in-take b.classes ks i _ c.loop-class-test.true c.uses.ensures.value in
-    let size : length asked ≡ n = size_counted n (take i ks) _ _ c.requires.asked c.loop-class.invariant.asked in
+    let size : length asked ≡ n =
+    simp (length-raised, c.requires.asked, length-replicate) at (ap length c.loop-class.invariant.asked) in
     let known : k < n = c.requires.known i 0 c.loop-class-test.true in
     let read : set asked k (c.index_mut.result.now + 1) ≡ set asked k (get_or asked k 0 + 1) =
     cc (c.index_mut.ensures.value, get_or_default asked k c.index_mut.result.now 0 (omega (arith, known, size))) in
     record {
-      times = c.add.ensures.times ∙ rw (more, added-append) (ap (added us) c.loop-class.invariant.times);
+      times = c.add.ensures.times ∙ rw (more, map-append, raised-append) (ap (added us) c.loop-class.invariant.times);
       colours = c.add.ensures.colours ∙ rw (more, coloured-append) (ap (coloured us) c.loop-class.invariant.colours);
       asked = ap (λ v. v.items) c.add.ensures.asked ∙ read ∙ rw (take_more ks i 0 c.loop-class-test.true, raised-append)
           (ap (raised (k ∷ [])) c.loop-class.invariant.asked);

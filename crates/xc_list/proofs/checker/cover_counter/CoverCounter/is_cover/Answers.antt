@@ -1,7 +1,6 @@
-use Rattle.std.proofs.Common.{ℕ, List, ◌≡◌, ◌∙◌, length, replicate, sym, ap, ap₂, subst}
-use Rattle.xc_input.specs.Problem.{item_count}
+use Rattle.std.proofs.Common.{ℕ, List, ◌≡◌, ◌∙◌, length, replicate, ap, ap₂}
 use Rattle.xc_list.specs.inner.CoverCounts.{Places, item_places, uses_in, added, raised, lowered, short_of}
-use Rattle.xc_list.proofs.CheckLemmas.HeldItems.{length-raised, length-added, length-coloured}
+use Rattle.xc_list.proofs.CheckLemmas.HeldItems.{length-raised, length-coloured}
 use Rattle.xc_list.proofs.CheckLemmas.CountedClasses.{lowered_back}
 use Rattle.xc_list.proofs.CheckLemmas.AskedClasses.{asked_after}
 use Rattle.xc_list.proofs.CheckLemmas.CountedCovers.{IsSolution, times_after, is_counted_cover}
@@ -15,42 +14,36 @@ forgotten ks ns z e h = h ∙ ap (lowered ks) e ∙ lowered_back ks ns z
 
 pub is_cover-cover-requires-clause-times : goal.is_cover-cover-requires-clause-times
 is_cover-cover-requires-clause-times c =
-    ap length c.count.ensures.times ∙ length-added (uses_in c.args.options.now.classes c.args.chosen.now) _
+    (simp length-raised at (ap length c.count.ensures.times))
     ∙ ap (λ (v : Places). v.items) (c.self.view_is ∙ c.requires.places)
 
 pub is_cover-cover-requires-clause-colours : goal.is_cover-cover-requires-clause-colours
 is_cover-cover-requires-clause-colours c =
-    ap length c.count.ensures.colours ∙ length-coloured (uses_in c.args.options.now.classes c.args.chosen.now) _
-    ∙ c.self.invariant.colours ∙ ap (λ (v : Places). v.items) (c.self.view_is ∙ c.requires.places)
+    (simp length-coloured at (ap length c.count.ensures.colours)) ∙ c.self.invariant.colours
+    ∙ ap (λ (v : Places). v.items) (c.self.view_is ∙ c.requires.places)
 
 pub is_cover-cover-requires-clause-asked : goal.is_cover-cover-requires-clause-asked
 is_cover-cover-requires-clause-asked c =
-    ap length c.count.ensures.asked ∙ length-raised c.args.chosen.now _
+    (simp length-raised at (ap length c.count.ensures.asked))
     ∙ ap (λ (v : Places). v.classes) (c.self.view_is ∙ c.requires.places)
 
 pub clear-requires-clause-times : goal.clear-requires-clause-times
 clear-requires-clause-times c =
-    ap length c.count.ensures.times ∙ length-added (uses_in c.args.options.now.classes c.args.chosen.now) _
+    (simp length-raised at (ap length c.count.ensures.times))
     ∙ ap (λ (v : Places). v.items) (c.self.view_is ∙ c.requires.places)
 
 pub clear-requires-clause-asked : goal.clear-requires-clause-asked
 clear-requires-clause-asked c =
-    ap length c.count.ensures.asked ∙ length-raised c.args.chosen.now _
+    (simp length-raised at (ap length c.count.ensures.asked))
     ∙ ap (λ (v : Places). v.classes) (c.self.view_is ∙ c.requires.places)
 
 pub invariant_of-self : goal.invariant_of-self
 invariant_of-self c =
     let us = uses_in c.args.options.now.classes c.args.chosen.now in
-    let old = c.self.inside.counts in
     let times = forgotten (item_places us) _ c.self.invariant.times c.count.ensures.times c.clear.ensures.times in
     let asked = forgotten c.args.chosen.now _ c.self.invariant.asked c.count.ensures.asked c.clear.ensures.asked in
-    record {
-      times = subst (λ ts. ts ≡ replicate {A = ℕ} (length ts) 0) (sym times) c.self.invariant.times;
-      colours = ap (λ v. length v.items) c.clear.ensures.colours ∙ ap length c.count.ensures.colours
-          ∙ length-coloured us old.colours.items ∙ c.self.invariant.colours ∙ sym (ap length times);
-      asked = subst (λ ns. ns ≡ replicate {A = ℕ} (length ns) 0) (sym asked) c.self.invariant.asked;
-      needed = c.self.invariant.needed ∙ ap (short_of c.self.inside.bounds.items) (sym times);
-    }
+    let size = length-coloured us c.self.inside.counts.colours.items in
+    record { times = cc (c.self.invariant.times); colours = cc; asked = cc; needed = cc }
 
 pub returns-clause-same : goal.returns-clause-same
 returns-clause-same c =
@@ -63,20 +56,16 @@ pub returns-clause-decided : goal.returns-clause-decided
 returns-clause-decided c = λ reps z.
     let b = c.args.options.now in
     let ks = c.args.chosen.now in
-    let n = item_count b.problem.puzzle in
-    let us = uses_in b.classes ks in
     let old = c.self.inside.counts in
     let stored = c.self.inside.bounds.items in
     let cs = old.colours.items in
     let places = c.self.view_is ∙ c.requires.places in
-    let zeros : old.times.items ≡ replicate n 0 =
-    c.self.invariant.times ∙ ap (λ (v : Places). replicate v.items 0) places in
-    let nones : old.asked.items ≡ replicate (length b.classes) 0 =
-    c.self.invariant.asked ∙ ap (λ (v : Places). replicate v.classes 0) places in
-    let times : c.count.new.self.times.items ≡ times_after b ks = c.count.ensures.times ∙ ap (added us) zeros in
+    let zeros = c.self.invariant.times ∙ ap (λ (v : Places). replicate v.items 0) places in
+    let nones = c.self.invariant.asked ∙ ap (λ (v : Places). replicate v.classes 0) places in
+    let times : c.count.new.self.times.items ≡ times_after b ks =
+    c.count.ensures.times ∙ ap (added (uses_in b.classes ks)) zeros in
     let asked : c.count.new.self.asked.items ≡ asked_after b ks = c.count.ensures.asked ∙ ap (raised ks) nones in
-    let short : c.count.new.self.short ≡ short_of stored (times_after b ks) =
-    c.count.ensures.short ∙ ap₂ short_of c.deref.ensures.value times in
+    let short = c.count.ensures.short ∙ ap₂ short_of c.deref.ensures.value times in
     let solution : IsSolution b stored cs ks reps = record {
       sound = c.requires.indexed.sound;
       classes = c.requires.indexed.classes;
@@ -85,8 +74,5 @@ returns-clause-decided c = λ reps z.
       taken = z;
     } in
     let is : c.is_cover-cover.result ≡ is_counted_cover b stored cs ks =
-    c.is_cover-cover.ensures ∙ simp (short, c.deref-2.ensures.value, times, c.count.ensures.colours, asked)
-    in (
-      λ h. counted-cover b stored cs ks reps solution (sym is ∙ h),
-      λ h. cc (is, cover-counted b stored cs ks reps solution h),
-    )
+    c.is_cover-cover.ensures ∙ simp (short, c.deref-2.ensures.value, times, c.count.ensures.colours, asked) in
+    rw is (counted-cover b stored cs ks reps solution, cover-counted b stored cs ks reps solution)
