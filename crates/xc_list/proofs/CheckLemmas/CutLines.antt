@@ -1,13 +1,13 @@
 -- Texts cut at a byte, and what is left of their lines and words.
 use Rattle.std.proofs.lemmas.Bool.Decides.{nat_tests}
 use Rattle.std.proofs.lemmas.List.{take_rest}
-use Rattle.std.proofs.Common.{◌≡◌, ℕ, zero, suc, ◌+◌, ◌-◌, ◌<◌, Bool, true, false, nat_eq, List, [], ◌∷◌, ◌++◌, length}
-use Rattle.std.proofs.Common.{take, drop, get_or, refl, sym, ap, ◌∙◌, append_assoc, add-one, arith, if◌then◌else◌}
+use Rattle.std.proofs.Common.{◌≡◌, ℕ, zero, suc, ◌+◌, ◌-◌, ◌<◌, true, false, nat_eq, List, [], ◌∷◌, ◌++◌, length}
+use Rattle.std.proofs.Common.{take, drop, get_or, refl, sym, ap, ◌∙◌, append_assoc, add-one, arith}
 use Rattle.std.specs.List.{onto_first}
 use Rattle.std.proofs.lemmas.Bool.{eqb-true}
 use Rattle.xc_input.specs.Words.{has}
 use Rattle.xc_input.specs.Lines.{lines_of}
-use Rattle.xc_input.proofs.GrammarLemmas.NoFault.{or-false, cut-is}
+use Rattle.xc_input.proofs.GrammarLemmas.NoFault.{cut-is}
 use Rattle.xc_input.proofs.LineLemmas.TextLines.{lines_of-ended}
 use Rattle.xc_input.proofs.TokenLemmas.Bytes.{has-all, has-at}
 use Rattle.xc_list.specs.ListingLines.{words_in}
@@ -44,18 +44,13 @@ first_line text line rest h e =
     ap lines_of (e ∙ sym (append_assoc line (10 ∷ []) rest)) ∙ lines_of-ended (line ∷ []) rest (h, tt)
 
 -- WORDS
-other : (x : ℕ) (a b : List (List ℕ)) → nat_eq x 32 ≡ false → (if nat_eq x 32 then a else b) ≡ b
-other x a b h = ap (λ t. if t then a else b) h
-
 pub one_word : (word : List ℕ) → has 32 word ≡ false → words_in word ≡ word ∷ []
 one_word [] h = refl
-one_word (x ∷ word) h = let apart = or-false (nat_eq x 32) (has 32 word) h in other x _ _ apart.0
-    ∙ ap (onto_first x) (one_word word apart.1)
+one_word (x ∷ word) h = grind (arith, nat_tests, one_word word)
 
 pub first_word : (word rest : List ℕ) → has 32 word ≡ false → words_in (word ++ 32 ∷ rest) ≡ word ∷ words_in rest
 first_word [] rest h = refl
-first_word (x ∷ word) rest h = let apart = or-false (nat_eq x 32) (has 32 word) h in other x _ _ apart.0
-    ∙ ap (onto_first x) (first_word word rest apart.1)
+first_word (x ∷ word) rest h = grind (arith, nat_tests, first_word word rest)
 
 onto_first-some : (x : ℕ) (ws : List (List ℕ)) → 0 < length (onto_first x ws)
 onto_first-some x [] = omega arith
@@ -64,9 +59,7 @@ onto_first-some x (w ∷ ws) = omega arith
 -- there is a word in every text
 pub some_words : (text : List ℕ) → 0 < length (words_in text)
 some_words [] = omega arith
-some_words (x ∷ text) =
-    let P : Bool → Type 0 = λ t. 0 < length (if t then [] ∷ words_in text else onto_first x (words_in text)) in
-    elim (nat_eq x 32) as P [ true ↦ omega arith | false ↦ onto_first-some x (words_in text) ]
+some_words (x ∷ text) = grind (arith, nat_tests, onto_first-some x (words_in text))
 
 onto_first-append : (x : ℕ) (vs ws : List (List ℕ)) → 0 < length vs → onto_first x (vs ++ ws) ≡ onto_first x vs ++ ws
 onto_first-append x [] ws l = absurd (omega (arith, l))

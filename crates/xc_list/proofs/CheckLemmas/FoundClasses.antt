@@ -23,7 +23,8 @@ use Rattle.xc_list.proofs.CheckLemmas.Rotations.{class-turned, turned-alike}
 use Rattle.xc_list.proofs.CheckLemmas.BodiesOfClasses.{uses-same, All-turned, body-is, is-body, same_uses_by_words}
 use Rattle.xc_list.proofs.CheckLemmas.ListedNumbers.{any-in, in-any}
 use Rattle.xc_list.proofs.CheckLemmas.DecidedByClasses.{option-differs, option-known}
-use Rattle.xc_list.proofs.CheckLemmas.NumberedTexts.{words-some}
+use Rattle.xc_list.proofs.CheckLemmas.CutLines.{some_words}
+use Rattle.std.proofs.lemmas.Option.{same_Some}
 
 -- uses that are found among the keys
 pub found-key : (us : List Use) (keys : List (Vec Use Global)) (k : ℕ)
@@ -36,14 +37,12 @@ found-key us keys k e =
       cc (slice_get-get_or (key_uses keys) k [] at.0, (uses-same us (get_or (key_uses keys) k [])).0 at.1),
     )
 
-absent : (us : List Use) (keys : List (Vec Use Global)) → position (λ v. same_uses us v.items) keys ≡ None
-    → list_any (same_uses us) (key_uses keys) ≡ false
-absent us keys e = no-place (same_uses us) (key_uses keys) (position-map (same_uses us) (λ v. v.items) keys ∙ e)
-
 -- uses that aren't
 pub lost-key : (us : List Use) (keys : List (Vec Use Global)) → position (λ v. same_uses us v.items) keys ≡ None
     → IsIn (key_uses keys) us → ⊥
-lost-key us keys e h = cc (absent us keys e, any-in (same_uses us) (key_uses keys) us h ((uses-same us us).1 refl))
+lost-key us keys e h =
+    let absent = no-place (same_uses us) (key_uses keys) (position-map (same_uses us) (λ v. v.items) keys ∙ e) in
+    cc (any-in (same_uses us) (key_uses keys) us h ((uses-same us us).1 refl))
 
 -- the keys behind new ones
 pub new-uses : (keys : List (Vec Use Global)) (k : Vec Use Global) (all : List (Vec Use Global)) (us : List Use)
@@ -77,9 +76,6 @@ known-as p s words h =
       },
     )
 
-one_value : (o : Option (List Use)) (a b : List Use) → o ≡ Some a → o ≡ Some b → a ≡ b
-one_value o a b e f = let both : Some a ≡ Some b = sym e ∙ f in cc
-
 module _ (p : Named) (keys : List (Vec Use Global)) (counts : List ℕ) (b : IsOptionIndex p keys counts) where
   -- a body that no uses have the words of
   pub no-uses : (words : List (List ℕ)) → ((us : List Use) → HaveWords p words us → ⊥) → is_known p words ≡ false
@@ -110,7 +106,7 @@ module _ (p : Named) (keys : List (Vec Use Global)) (counts : List ℕ) (b : IsO
       of_option o h =
           let vs = uses_of p.puzzle o in
           let differ = option-differs p.puzzle b.sound.valid o h.0 in
-          let class = one_value (slice_get (key_uses keys) k) (class_of us) (class_of vs) at.1 h.1 in
+          let class = same_Some _ _ (sym at.1 ∙ h.1) in
           let j = turned-alike us vs 0 differ class l in
           is-body p words vs j.0 j.1 (ap (map (use_word p)) (sym j.2 ∙ append-nil us) ∙ have.words_so)
 
@@ -125,5 +121,5 @@ module _ (p : Named) (keys : List (Vec Use Global)) (counts : List ℕ) (b : IsO
 
 -- a text's words are some
 pub some-uses : (p : Named) (text : List ℕ) (us : List Use) → HaveWords p (words_in text) us → 0 < length us
-some-uses p text [] h = (let w = words-some text in let e : [] ≡ words_in text = h.words_so in cc)
+some-uses p text [] h = absurd (omega (arith, some_words text, ap length h.words_so))
 some-uses p text (u ∷ us) h = omega arith

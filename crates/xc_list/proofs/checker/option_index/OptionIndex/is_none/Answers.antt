@@ -2,6 +2,7 @@ use Rattle.std.proofs.Common.{refl, sym, ap, ◌∙◌, ◌≡◌, ◌<◌, List
 use Rattle.std.proofs.lemmas.Option.{MatchOption-at_some}
 use Rattle.xc_list.specs.ListingLines.{words_in}
 use Rattle.xc_list.proofs.CheckLemmas.NumberedTexts.{none-of-three}
+use Rattle.xc_list.proofs.CheckLemmas.CutLines.{some_words}
 use Rattle.xc_list.proofs.checker.option_index.OptionIndex.is_none.Goals as goal
 
 -- what a cut says where something is left
@@ -22,4 +23,4 @@ returns-in_default-Some-cut_word c =
     c.cut_word.ensures in
     let two = cut-some _ c.cut_word-2.result.0 _ last c.in_default-Some.rest-is
     c.in_default-Some-cut_word.is-1 c.cut_word-2.ensures in
-    cc (none-of-three _ _ _ _, two, one)
+    cc (none-of-three _ _ _ _ (some_words last.now), two, one)
