@@ -9,7 +9,7 @@ use Rattle.std.specs.List.{AllByRecursion}
 use Rattle.std.proofs.lemmas.List.{append-nil, get_or-set_same, get_or-set_other, length-set}
 use Rattle.std.proofs.lemmas.List.{length-take-le, length-replicate, get_or-replicate, get_or_past, ext_get_or}
 use Rattle.std.proofs.lemmas.List.{take_more}
-use Rattle.std.proofs.lemmas.List.Elements.{All-weaker, recursion_from_All}
+use Rattle.std.proofs.lemmas.List.Elements.{All-weaker, All-take, recursion_from_All}
 use Rattle.std.proofs.lemmas.Option.{slice_get-get_or, get_or_from_slice_get}
 use Rattle.xc_input.specs.declared.problem.Use.{Use}
 use Rattle.xc_input.specs.Problem.{item_count, uses_of, IsSoundUse}
@@ -23,7 +23,7 @@ use Rattle.xc_list.proofs.CheckLemmas.Rotations.{DifferInItems, differ-turned, c
 use Rattle.xc_list.proofs.CheckLemmas.BodiesOfClasses.{All-turned}
 use Rattle.xc_list.proofs.CheckLemmas.DecidedByClasses.{option-sound, option-differs}
 use Rattle.xc_list.proofs.CheckLemmas.HeldItems.{AreItems, held, held-places, held_once, raised-at, raised-most}
-use Rattle.xc_list.proofs.CheckLemmas.HeldItems.{length-raised, length-lowered, each_take}
+use Rattle.xc_list.proofs.CheckLemmas.HeldItems.{length-raised, length-lowered}
 use Rattle.std.proofs.lemmas.Grind.{flat_map-append}
 use Rattle.xc_list.specs.inner.CoverCounts.{item_places}
 
@@ -90,10 +90,10 @@ zeros-at n k =
     ]
 
 pub added_few : (n : ℕ) (classes : List (List Use)) (ks : List ℕ) (i k : ℕ) → AreUsable n classes
-    → AreBelow (length classes) ks → i ≤ length ks
+    → All (λ j. j < length classes) ks → i ≤ length ks
     → get_or (added (uses_in classes (take i ks)) (replicate n 0)) k 0 ≤ i
 added_few n classes ks i k h a l =
-    let before = each_take (λ j. j < length classes) i ks a in
+    let before = recursion_from_All _ _ (All-take (λ j. j < length classes) i ks a) in
     let us = uses_in classes (take i ks) in
     omega (
       arith,

@@ -40,11 +40,7 @@ list_all-parts : {X Y : Type 0} (f : X → Bool) (g : Y → Bool) (parts : X →
     → list_all (λ x. f x && list_all g (parts x)) xs ≡ (list_all f xs && list_all g (flat_map parts xs))
 list_all-parts f g parts [] = refl
 list_all-parts f g parts (x ∷ xs) =
-    rw (list_all-append g (parts x) (flat_map parts xs), list_all-parts f g parts xs)
-    (regrouped (f x) (list_all g (parts x)) (list_all f xs) (list_all g (flat_map parts xs)))
-  where
-    regrouped : (a b c d : Bool) → ((a && b) && (c && d)) ≡ ((a && c) && (b && d))
-    regrouped a b c d = grind (arith, nat_tests)
+    grind (arith, nat_tests, list_all-append g (parts x) (flat_map parts xs), list_all-parts f g parts xs)
 
 -- ---- the counts of a solution
 

@@ -2,12 +2,11 @@
 use Rattle.std.proofs.Common.{inl, inr}
 use Rattle.std.proofs.Common.{ℕ, zero, suc, ◌≡◌, ◌≢◌, ◌+◌, ◌-◌, ◌<◌, ◌≤◌, cond, ◌==◌, List, [], ◌∷◌}
 use Rattle.std.proofs.Common.{◌++◌, length, get_or, set, take, refl, ap, ◌∙◌, arith, ne_eqb}
-use Rattle.std.proofs.Common.{eq-eqb}
 use Rattle.std.specs.List.{AllByRecursion}
 use Rattle.std.proofs.lemmas.List.{get_or-set_same, get_or-set_other, length-set, get_or_past}
 use Rattle.xc_input.specs.declared.problem.Use.{Use}
 use Rattle.xc_list.specs.inner.CoverCounts.{raised, lowered, item_places, added, coloured}
-use Rattle.std.proofs.lemmas.Bool.{cases_eq, cases_lt}
+use Rattle.std.proofs.lemmas.Bool.{cases_lt}
 use Rattle.std.proofs.lemmas.Bool.Decides.{nat_tests}
 use Rattle.xc_list.proofs.CheckLemmas.DifferentOptions.{counted}
 use Rattle.xc_list.proofs.CheckLemmas.Rotations.{DifferInItems}
@@ -84,10 +83,7 @@ held_none i (u ∷ us) a = grind (arith, nat_tests, held_none i us a.1)
 
 pub held_once : (i : ℕ) (us : List Use) → DifferInItems us → held i us ≤ 1
 held_once i [] d = omega arith
-held_once i (u ∷ us) d = elim (cases_eq u.item i) [
-  | inl e ↦ rw (eq-eqb u.item i e) (omega (arith, held_none i us (rw e at d.0)))
-  | inr ne ↦ rw (ne_eqb u.item i ne) (omega (arith, held_once i us d.1))
-]
+held_once i (u ∷ us) d = grind (arith, nat_tests, held_once i us d.1, held_none u.item us d.0)
 
 -- the item of a use isn't held by those before it
 pub not_before : (us : List Use) (k : ℕ) (d : Use) → DifferInItems us → k < length us
@@ -102,8 +98,3 @@ not_before (u ∷ us) (suc k) d a l =
     at P [] j h m = absurd (omega (arith, m))
     at P (v ∷ vs) zero h m = h.0
     at P (v ∷ vs) (suc j) h m = at P vs j h.1 (omega (arith, m))
-
-pub each_take : {X : Type 0} (P : X → Type 0) (n : ℕ) (xs : List X) → AllByRecursion P xs → AllByRecursion P (take n xs)
-each_take P zero xs a = tt
-each_take P (suc n) [] a = tt
-each_take P (suc n) (x ∷ xs) a = (a.0, each_take P n xs a.1)

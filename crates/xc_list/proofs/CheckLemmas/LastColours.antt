@@ -1,12 +1,11 @@
 -- The colours that options give an item, in turn.
 use Rattle.std.proofs.Common.{◌≤◌}
-use Rattle.std.proofs.lemmas.Bool.{cases_eq}
 use Rattle.std.proofs.lemmas.Bool.Decides.{nat_tests}
 use Rattle.std.specs.Prelude.{if◌then◌else◌}
-use Rattle.std.proofs.Common.{ℕ, suc, ◌≡◌, ◌≢◌, ◌-◌, ◌<◌, inl, inr, Bool, ◌==◌, List}
-use Rattle.std.proofs.Common.{[], ◌∷◌, ◌++◌, length, map, filter, get_or, set, Some, None, refl, sym, ap}
+use Rattle.std.proofs.Common.{ℕ, suc, ◌≡◌, ◌≢◌, ◌-◌, ◌<◌, ◌==◌, List}
+use Rattle.std.proofs.Common.{[], ◌∷◌, ◌++◌, length, map, filter, get_or, set, Some, None, refl, sym}
 use Rattle.std.proofs.Common.{◌∙◌, arith, subst}
-use Rattle.std.proofs.Common.{eqb-true, ne_eqb, eq-eqb}
+use Rattle.std.proofs.Common.{eq-eqb}
 use Rattle.std.specs.Prelude.{Option}
 use Rattle.std.specs.List.{AllByRecursion, AllZip}
 use Rattle.std.proofs.lemmas.List.{get_or-set_same, get_or-set_other, length-set, length-map, map-append}
@@ -14,7 +13,7 @@ use Rattle.xc_input.specs.declared.problem.Use.{Use}
 use Rattle.xc_input.specs.Problem.{colour_in, uses_of}
 use Rattle.xc_input.specs.Named.{IsSound}
 use Rattle.xc_input.proofs.lists.EachTwo.{EachTwo}
-use Rattle.xc_input.proofs.lists.EachElement.{each-map, each-filter, each_both, each_passes, each_weaker}
+use Rattle.xc_input.proofs.lists.EachElement.{each_weaker}
 use Rattle.xc_input.proofs.lists.Members.{each_in, each_from, map-in, filter-in}
 use Rattle.std.proofs.lemmas.List.Elements.{filter-append}
 use Rattle.xc_list.specs.inner.Classes.{Classes, IsOfClass, class_at}
@@ -67,10 +66,7 @@ given_none i (u ∷ us) a = grind (arith, nat_tests, given_none i us a.1)
 -- uses of different items
 given_once : (i : ℕ) (us : List Use) → DifferInItems us → given i us ≡ cons_option (colour_in us i) []
 given_once i [] d = refl
-given_once i (u ∷ us) d = elim (cases_eq u.item i) [
-  | inl e ↦ rw (eq-eqb u.item i e) (ap (λ cs. u.colour ∷ cs) (given_none i us (rw e at d.0)))
-  | inr ne ↦ rw (ne_eqb u.item i ne) (given_once i us d.1)
-]
+given_once i (u ∷ us) d = grind (arith, nat_tests, given_once i us d.1, given_none u.item us d.0)
 
 cons_option-append : (c : Option ℕ) (cs : List ℕ) → cons_option c [] ++ cs ≡ cons_option c cs
 cons_option-append None cs = refl
@@ -96,11 +92,8 @@ given-gathered i b ks reps s =
 -- what holds of the colour of each use of item i
 pub given-each : (P : ℕ → Type 0) (i : ℕ) (us : List Use) → AllByRecursion (λ u. u.item ≡ i → P u.colour) us
     → AllByRecursion P (given i us)
-given-each P i us a =
-    each-map _ _ _ (each_both _ _ _ _ (λ u h e. h (eqb-true u.item i e)) (each-filter _ _ _ a) (each_passes is us))
-  where
-    is : Use → Bool
-    is u = u.item == i
+given-each P i [] a = tt
+given-each P i (u ∷ us) a = grind (arith, nat_tests, given-each P i us a.1)
 
 pub each-given : (P : ℕ → Type 0) (i : ℕ) (us : List Use) → AllByRecursion P (given i us)
     → AllByRecursion (λ u. u.item ≡ i → P u.colour) us

@@ -1,9 +1,9 @@
 use Rattle.std.proofs.Common.{suc, arith, ◌≡◌, ◌-◌, ◌≤◌, [], ◌∷◌, length, get_or, take, sym, ◌∙◌, ap, refl}
-use Rattle.std.proofs.lemmas.List.Elements.{recursion_from_All}
+use Rattle.std.proofs.lemmas.List.Elements.{All-take, recursion_from_All}
 use Rattle.xc_input.specs.declared.problem.Use.{Use}
 use Rattle.xc_input.proofs.lists.EachTwo.{each_two_from_AllPairs}
 use Rattle.xc_list.specs.inner.CoverCounts.{added, coloured}
-use Rattle.xc_list.proofs.CheckLemmas.HeldItems.{AreItems, held, each_take, added-at, length-raised, length-coloured}
+use Rattle.xc_list.proofs.CheckLemmas.HeldItems.{AreItems, held, added-at, length-raised, length-coloured}
 use Rattle.xc_list.proofs.CheckLemmas.HeldItems.{not_before, raised-append, coloured-append}
 use Rattle.std.proofs.lemmas.List.{take_more, map-append}
 use Rattle.xc_list.proofs.checker.counts.Counts.add.Goals as goal
@@ -27,8 +27,8 @@ hold-requires-clause-few c =
     let k = c.loop-u.u-index in
     let u = get_or us k blank in
     let known = c.requires.items k blank c.loop-u-test.true in
-    let items : AreItems (length ts) (take k us) = each_take _ _ _
-    (recursion_from_All (λ v. (1 ≤ v.item) × (v.item ≤ length ts)) us c.requires.items) in
+    let items : AreItems (length ts) (take k us) =
+    recursion_from_All _ _ (All-take (λ v. (1 ≤ v.item) × (v.item ≤ length ts)) k us c.requires.items) in
     let at = added-at _ _ ts (u.item - 1) items refl (omega (arith, known)) in
     let is : suc (u.item - 1) ≡ u.item = omega (arith, known) in
     let none : held (suc (u.item - 1)) (take k us) ≡ 0 = ap (λ i. held i (take k us)) is

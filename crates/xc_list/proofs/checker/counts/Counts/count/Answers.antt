@@ -2,7 +2,6 @@ use Rattle.std.proofs.Common.{arith, ◌≡◌, ◌+◌, ◌<◌, ◌≢◌, [],
 use Rattle.std.proofs.Common.{◌∙◌, ap, subst}
 use Rattle.std.proofs.lemmas.List.{get_or_default, length-replicate}
 use Rattle.std.proofs.lemmas.Option.{get_or_from_slice_get}
-use Rattle.std.proofs.lemmas.List.Elements.{recursion_from_All}
 use Rattle.xc_input.specs.declared.problem.Use.{Use}
 use Rattle.xc_input.specs.Problem.{item_count}
 use Rattle.xc_input.proofs.lists.EachTwo.{AllPairs-from_each_two}
@@ -61,8 +60,7 @@ add-requires-clause-few c = λ k.
     let b = c.args.options.now in
     let few = added_few (item_count b.problem.puzzle) b.classes c.args.chosen.now c.loop-class.class-index k
     (classes_usable b c.requires.indexed.sound c.requires.indexed.classes)
-    (recursion_from_All (λ j. j < length b.classes) c.args.chosen.now c.requires.known)
-    (omega (arith, c.loop-class-test.true)) in
+    c.requires.known (omega (arith, c.loop-class-test.true)) in
     let times = c.loop-class.invariant.times
     ∙ ap (added (uses_in b.classes (take c.loop-class.class-index c.args.chosen.now))) c.requires.times in
     omega (arith, few, ap (λ ts. get_or ts k 0) times, c.loop-class-test.true)
