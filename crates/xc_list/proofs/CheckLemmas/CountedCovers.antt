@@ -51,20 +51,19 @@ abbrev pub colours_after : Classes → List ℕ → List ℕ → List ℕ
 colours_after b ks cs = coloured (uses_in b.classes ks) cs
 
 -- whether the counts agree
-abbrev pub is_counted_cover : Classes → List Bounds → List ℕ → List ℕ → Bool
-is_counted_cover b stored cs ks =
-    short_of stored (times_after b ks) == 0 && list_all
-    (is_class_met b stored (times_after b ks) (colours_after b ks cs) (asked_after b ks)) ks
+abbrev pub is_counted_cover : Classes → List ℕ → List ℕ → Bool
+is_counted_cover b cs ks =
+    short_of b.problem.puzzle.bounds (times_after b ks) == 0 && list_all
+    (is_class_met b b.problem.puzzle.bounds (times_after b ks) (colours_after b ks cs) (asked_after b ks)) ks
 
 -- options of these classes, with the tables that count them
-pub record IsSolution (b : Classes) (stored : List Bounds) (cs ks reps : List ℕ) : Type 0 where
+pub record IsSolution (b : Classes) (cs ks reps : List ℕ) : Type 0 where
   pub sound : IsSound b.problem
   pub classes : AreClasses b.problem.puzzle b.classes
-  pub bounds : stored ≡ b.problem.puzzle.bounds
   pub size : length cs ≡ item_count b.problem.puzzle
   pub taken : AllZip (IsOfClass b) ks reps
 
-module _ (b : Classes) (stored : List Bounds) (cs ks reps : List ℕ) (s : IsSolution b stored cs ks reps) where
+module _ (b : Classes) (cs ks reps : List ℕ) (s : IsSolution b cs ks reps) where
   abbrev p : Puzzle
   p = b.problem.puzzle
 
@@ -76,7 +75,7 @@ module _ (b : Classes) (stored : List Bounds) (cs ks reps : List ℕ) (s : IsSol
   colours_of k = gathered p (suc k) reps
 
   abbrev meets : Use → Bool
-  meets u = is_met stored (times_after b ks) (colours_after b ks cs) u
+  meets u = is_met p.bounds (times_after b ks) (colours_after b ks cs) u
 
   items : AreItems (item_count p) us
   items =
@@ -99,19 +98,20 @@ module _ (b : Classes) (stored : List Bounds) (cs ks reps : List ℕ) (s : IsSol
       )
 
   met_one : (k : ℕ) (u : Use) → k < item_count p → u.item ≡ suc k
-      → meets u ≡ agrees (slice_get stored k) (length (colours_of k)) (last_or (get_or cs k 0) (colours_of k)) u.colour
+      → meets u ≡ agrees (slice_get p.bounds k) (length (colours_of k)) (last_or (get_or cs k 0) (colours_of k))
+      u.colour
   met_one k u l e =
       let at : u.item - 1 ≡ k = omega (arith, e) in
       let colour = coloured-at _ us cs k items (sym s.size) l ∙ ap (last_or (get_or cs k 0)) (gives k) in
       rw (at, time k l, colour) refl
 
-  fits_from_met : list_all meets us ≡ true → (k : ℕ) → k < item_count p → Fits (slice_get stored k) (colours_of k)
+  fits_from_met : list_all meets us ≡ true → (k : ℕ) → k < item_count p → Fits (slice_get p.bounds k) (colours_of k)
   fits_from_met met k l =
       (agrees-fits _ (get_or cs k 0) (colours_of k)).0 (rw (gives k) at (given-each
-      (agrees_with (slice_get stored k) (get_or cs k 0) (colours_of k)) (suc k) us
+      (agrees_with (slice_get p.bounds k) (get_or cs k 0) (colours_of k)) (suc k) us
       (each_from _ us (λ u m e. sym (met_one k u l e) ∙ passes-at meets us u met m))))
 
-  met_from_fits : ((k : ℕ) → k < item_count p → Fits (slice_get stored k) (colours_of k)) → list_all meets us ≡ true
+  met_from_fits : ((k : ℕ) → k < item_count p → Fits (slice_get p.bounds k) (colours_of k)) → list_all meets us ≡ true
   met_from_fits fits = each-passes meets us (λ u m.
       let known = each_in _ _ _ items m in
       let k = u.item - 1 in
@@ -119,31 +119,29 @@ module _ (b : Classes) (stored : List Bounds) (cs ks reps : List ℕ) (s : IsSol
       let e : u.item ≡ suc k = omega (arith, known) in
       let agree = (agrees-fits _ (get_or cs k 0) (colours_of k)).1 (fits k l) in
       met_one k u l e ∙ each_in _ _ _ (each-given
-      (agrees_with (slice_get stored k) (get_or cs k 0) (colours_of k)) (suc k) us (rw (gives k) agree)) m e)
+      (agrees_with (slice_get p.bounds k) (get_or cs k 0) (colours_of k)) (suc k) us (rw (gives k) agree)) m e)
 
   -- what is asked of an item's bounds
   bounded : (k : ℕ) (d : Bounds) → bounds_at p (suc k) ≡ Some d
-      → (slice_get stored k ≡ Some d) × (k < item_count p)
-      × (get_or (times_after b ks) k 0 ≡ times_held p (suc k) reps)
+      → (k < item_count p) × (get_or (times_after b ks) k 0 ≡ times_held p (suc k) reps)
   bounded k d e =
-      let here : slice_get stored k ≡ Some d = ap (λ l. slice_get l k) s.bounds ∙ e in
       let l : k < item_count p = omega (arith, slice_get_within p.bounds k d e) in
-      (here, l, time k l ∙ length-gathered p (suc k) reps)
+      (l, time k l ∙ length-gathered p (suc k) reps)
 
-  parts : is_counted_cover b stored cs ks ≡ (short_of stored (times_after b ks) == 0
+  parts : is_counted_cover b cs ks ≡ (short_of p.bounds (times_after b ks) == 0
       && (list_all (has_room b ks) ks && list_all meets us))
   parts =
-      ap (λ t. short_of stored (times_after b ks) == 0 && t)
+      ap (λ t. short_of p.bounds (times_after b ks) == 0 && t)
       (list_all-parts (has_room b ks) meets (uses_at b.classes) ks)
 
-  pub counted-cover : is_counted_cover b stored cs ks ≡ true → IsCoverOfClasses p reps
+  pub counted-cover : is_counted_cover b cs ks ≡ true → IsCoverOfClasses p reps
   counted-cover h = record {
     asked = asked_by_rooms b s.classes ks reps s.taken (λ k m. passes-at (has_room b ks) ks k two.0 m);
     within = within;
     agree = λ j k a q i c d l e f second. agree i second j k a q c d l e f;
   }
     where
-      one : (short_of stored (times_after b ks) == 0 ≡ true)
+      one : (short_of p.bounds (times_after b ks) == 0 ≡ true)
           × ((list_all (has_room b ks) ks && list_all meets us) ≡ true)
       one = and_parts _ _ (sym parts ∙ h)
 
@@ -155,32 +153,27 @@ module _ (b : Classes) (stored : List Bounds) (cs ks reps : List ℕ) (s : IsSol
       within zero d e = cc
       within (suc k) d e =
           let at = bounded k d e in
-          let low = short_none stored (times_after b ks) (eqb-true _ 0 one.0) k d at.0 in
-          let high : length (colours_of k) ≤ d.high = rw at.0 at (fits_from_met two.1 k at.1) in
-          (omega (arith, at.2, low), omega (arith, length-gathered p (suc k) reps, high))
+          let low = short_none p.bounds (times_after b ks) (eqb-true _ 0 one.0) k d e in
+          let high : length (colours_of k) ≤ d.high = rw e at (fits_from_met two.1 k at.0) in
+          (omega (arith, at.1, low), omega (arith, length-gathered p (suc k) reps, high))
 
       agree : (i : ℕ) → IsSecondary p i → AgreeAt p i reps
       agree zero second = absurd (omega (arith, second))
       agree (suc k) second =
-          let none = slice_get_past stored k (omega (arith, second, ap length s.bounds)) in
+          let none = slice_get_past p.bounds k (omega (arith, second)) in
           agree-gathered p (suc k) reps (rw none at (fits_from_met two.1 k (omega (arith, second))))
 
-  pub cover-counted : IsCoverOfClasses p reps → is_counted_cover b stored cs ks ≡ true
+  pub cover-counted : IsCoverOfClasses p reps → is_counted_cover b cs ks ≡ true
   cover-counted c =
-      parts ∙ both_true (eq-eqb _ 0 (none_short stored (times_after b ks) low)) (both_true
+      parts ∙ both_true (eq-eqb _ 0 (none_short p.bounds (times_after b ks) low)) (both_true
       (each-passes (has_room b ks) ks (λ k m. each_in _ ks k (rooms_by_asked b s.classes ks reps s.taken c.asked) m))
-      (met_from_fits (λ k l. fits k l (slice_get stored k) refl)))
+      (met_from_fits (λ k l. fits k l (slice_get p.bounds k) refl)))
     where
-      low : (k : ℕ) (d : Bounds) → slice_get stored k ≡ Some d → d.low ≤ get_or (times_after b ks) k 0
-      low k d e =
-          let at : bounds_at p (suc k) ≡ Some d = ap (λ l. slice_get l k) (sym s.bounds) ∙ e in
-          omega (arith, (bounded k d at).2, (c.within (suc k) d at).0)
+      low : (k : ℕ) (d : Bounds) → slice_get p.bounds k ≡ Some d → d.low ≤ get_or (times_after b ks) k 0
+      low k d e = omega (arith, (bounded k d e).1, (c.within (suc k) d e).0)
 
-      fits : (k : ℕ) → k < item_count p → (v : Option Bounds) → slice_get stored k ≡ v → Fits v (colours_of k)
-      fits k l (Some d) e =
-          let at : bounds_at p (suc k) ≡ Some d = ap (λ l. slice_get l k) (sym s.bounds) ∙ e in
-          omega (arith, length-gathered p (suc k) reps, (c.within (suc k) d at).1)
+      fits : (k : ℕ) → k < item_count p → (v : Option Bounds) → slice_get p.bounds k ≡ v → Fits v (colours_of k)
+      fits k l (Some d) e = omega (arith, length-gathered p (suc k) reps, (c.within (suc k) d e).1)
       fits k l None e =
-          let second : IsSecondary p (suc k) =
-          (omega (arith, not_some stored k e, ap length s.bounds), omega (arith, l)) in
+          let second : IsSecondary p (suc k) = (omega (arith, not_some p.bounds k e), omega (arith, l)) in
           gathered-agree p (suc k) reps (λ j m a q x y o f g. c.agree j m a q (suc k) x y o f g second)

@@ -66,13 +66,13 @@ returns-clause-decided c = λ reps z.
     c.count.ensures.times ∙ ap (added (uses_in b.classes ks)) zeros in
     let asked : c.count.new.self.asked.items ≡ asked_after b ks = c.count.ensures.asked ∙ ap (raised ks) nones in
     let short = c.count.ensures.short ∙ ap₂ short_of c.deref.ensures.value times in
-    let solution : IsSolution b stored cs ks reps = record {
+    let solution : IsSolution b cs ks reps = record {
       sound = c.requires.indexed.sound;
       classes = c.requires.indexed.classes;
-      bounds = ap (λ (v : Places). v.bounds) places;
       size = c.self.invariant.colours ∙ ap (λ (v : Places). v.items) places;
       taken = z;
     } in
-    let is : c.is_cover-cover.result ≡ is_counted_cover b stored cs ks =
-    c.is_cover-cover.ensures ∙ simp (short, c.deref-2.ensures.value, times, c.count.ensures.colours, asked) in
-    rw is (counted-cover b stored cs ks reps solution, cover-counted b stored cs ks reps solution)
+    let bounds : stored ≡ b.problem.puzzle.bounds = ap (λ (v : Places). v.bounds) places in
+    let is : c.is_cover-cover.result ≡ is_counted_cover b cs ks =
+    c.is_cover-cover.ensures ∙ simp (short, c.deref-2.ensures.value, bounds, times, c.count.ensures.colours, asked) in
+    rw is (counted-cover b cs ks reps solution, cover-counted b cs ks reps solution)
