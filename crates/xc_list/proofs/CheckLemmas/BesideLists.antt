@@ -19,11 +19,12 @@ by_pairs R P none more (x ∷ xs) (y ∷ ys) z = more x y xs ys z.0 (by_pairs R 
 -- an element stands beside one of the other list
 pub beside : {A B : Type 0} (R : A → B → Type 0) (xs : List A) (ys : List B) (y : B) → AllZip R xs ys → IsIn ys y
     → (x : A) × IsIn xs x × R x y
-beside R [] [] y z h = absurd h
-beside R [] (v ∷ ys) y z h = absurd z
-beside R (x ∷ xs) [] y z h = absurd h
-beside R (x ∷ xs) (v ∷ ys) y z (inl q) = (x, inl refl, subst (R x) q z.0)
-beside R (x ∷ xs) (v ∷ ys) y z (inr h) = let later = beside R xs ys y z.1 h in (later.0, inr later.1, later.2)
+beside {A = A} R xs ys y =
+    by_pairs R (λ vs ws. IsIn ws y → (x : A) × IsIn vs x × R x y) (λ h. absurd h)
+    (λ v w vs ws r later h. elim h [
+      | inl q ↦ (v, inl refl, subst (R v) q r)
+      | inr k ↦ let l = later k in (l.0, inr l.1, l.2)
+    ]) xs ys
 
 pub AllZip-append : {A B : Type 0} (R : A → B → Type 0) (xs xs' : List A) (ys ys' : List B) → AllZip R xs ys
     → AllZip R xs' ys' → AllZip R (xs ++ xs') (ys ++ ys')

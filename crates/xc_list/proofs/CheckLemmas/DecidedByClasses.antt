@@ -122,10 +122,7 @@ module _ (p : Puzzle) (v : IsValid p) (reps s : List ℕ) (known_reps : AreKnown
           is_counted (alike p r) reps,
           is_counted (alike p r) (numbers p),
         );
-    within = λ i b e.
-        let w = c.within i b e in
-        let h = held-alike i in
-        (omega (arith, w.0, h), omega (arith, w.1, h));
+    within = λ i b e. rw (held-alike i) (c.within i b e);
     agree = λ j k q r i x y l e f second.
         agree-gathered p i reps (rw (gathered-alike i) (agree i second)) j k q r x y l e f;
   }
@@ -142,10 +139,7 @@ module _ (p : Puzzle) (v : IsValid p) (reps s : List ℕ) (known_reps : AreKnown
   cover_of_classes apart c = record {
     known = All-from_recursion (IsOption p) s (each_from (IsOption p) s known);
     distinct = AllPairs-from_each_two (λ (a b : ℕ). a ≢ b) s apart;
-    within = λ i b e.
-        let w = c.within i b e in
-        let h = held-alike i in
-        (omega (arith, w.0, h), omega (arith, w.1, h));
+    within = λ i b e. rw (held-alike i) at (c.within i b e);
     agree = λ o u i x y in_o in_u ne second e f.
         let both = gathered-agree p i reps (λ j k a b g h l m n q w. c.agree j k a b i g h l m n second q w) in
         elim (EachTwo-of _ s o u ((EachTwo-kept Agree _ s).1 (rw (gathered-alike i) at both)) (in-contains s o in_o)

@@ -2,7 +2,7 @@
 use Rattle.xc_list.specs.inner.Classes.{same_uses}
 use Rattle.std.proofs.Common.{ℕ, suc, ◌≡◌, ◌<◌, if◌then◌else◌, Option, true, false, List, [], ◌∷◌, ◌++◌, length}
 use Rattle.std.proofs.Common.{map, get_or, position, Some, None, refl, sym, ap, ◌∙◌, arith, subst}
-use Rattle.std.specs.Prelude.{Vec, IsTrue, slice_get, unwrap_or}
+use Rattle.std.specs.Prelude.{Vec, slice_get, unwrap_or}
 use Rattle.std.specs.List.{list_any}
 use Rattle.std.specs.declared.alloc.Global.{Global}
 use Rattle.std.proofs.lemmas.List.{append-nil}
@@ -16,8 +16,8 @@ use Rattle.xc_input.proofs.TokenLemmas.Bytes.{position-map, not_false}
 use Rattle.xc_input.proofs.lists.Members.{IsIn, in-contains, slice_get-in}
 use Rattle.xc_list.specs.ListingLines.{words_in}
 use Rattle.xc_list.specs.Output.{rotated_at, use_word}
-use Rattle.xc_list.specs.Listed.{is_body, is_known, stands_for}
-use Rattle.xc_list.specs.inner.Classes.{IsOfClass, IsClassOfBody, class_of, class_at}
+use Rattle.xc_list.specs.Listed.{is_body, is_known}
+use Rattle.xc_list.specs.inner.Classes.{IsClassOfBody, class_of, class_at}
 use Rattle.xc_list.specs.inner.OptionIndex.{HaveWords, IsOptionIndex, key_uses}
 use Rattle.xc_list.proofs.CheckLemmas.Rotations.{class-turned, turned-alike}
 use Rattle.xc_list.proofs.CheckLemmas.BodiesOfClasses.{uses-same, All-turned, body-is, is-body, same_uses_by_words}
@@ -61,20 +61,12 @@ known-as : (p : Named) → IsSound p → (words : List (List ℕ)) → is_known 
 known-as p s words h =
     let x = in-any (is_body p words) p.puzzle.options h in
     let at = slice_get-in p.puzzle.options x.0 x.1 in
-    let o : ℕ = suc at.0 in
-    let uses : uses_of p.puzzle o ≡ x.0 = ap (λ o. unwrap_or o []) at.1 in
+    let uses : uses_of p.puzzle (suc at.0) ≡ x.0 = ap (λ o. unwrap_or o []) at.1 in
     let within = slice_get_within p.puzzle.options at.0 x.0 at.1 in
-    let known : IsOption p.puzzle o = (omega arith, omega (arith, within)) in
-    let body : is_body p words (uses_of p.puzzle o) ≡ true = ap (is_body p words) uses ∙ x.2 in
-    let k = body-is p words (uses_of p.puzzle o) body in (
-      o,
-      known,
-      k.0,
-      record {
-        known = All-turned (IsKnownUse p) k.0 (uses_of p.puzzle o) (option-known p s o known);
-        words_so = k.2;
-      },
-    )
+    let known : IsOption p.puzzle (suc at.0) = (omega arith, omega (arith, within)) in
+    let k = body-is p words x.0 x.2 in
+    let all = All-turned (IsKnownUse p) k.0 _ (option-known p s (suc at.0) known) in
+    (suc at.0, known, k.0, rw uses (record { known = rw uses at all; words_so = k.2 }))
 
 module _ (p : Named) (keys : List (Vec Use Global)) (counts : List ℕ) (b : IsOptionIndex p keys counts) where
   -- a body that no uses have the words of
@@ -99,16 +91,14 @@ module _ (p : Named) (keys : List (Vec Use Global)) (counts : List ℕ) (b : IsO
   pub its-class : (words : List (List ℕ)) (us : List Use) (k : ℕ) → HaveWords p words us → 0 < length us
       → (k < length (key_uses keys)) × (slice_get (key_uses keys) k ≡ Some (class_of us))
       → IsClassOfBody (record { problem = p; classes = key_uses keys }) words (Some k)
-  its-class words us k have l at = (at.0, λ o h. of_option o h)
-    where
-      of_option : (o : ℕ) → IsOfClass (record { problem = p; classes = key_uses keys }) k o
-          → IsTrue (stands_for p words o)
-      of_option o h =
-          let vs = uses_of p.puzzle o in
-          let differ = option-differs p.puzzle b.sound.valid o h.0 in
-          let class = same_Some _ _ (sym at.1 ∙ h.1) in
-          let j = turned-alike us vs 0 differ class l in
-          is-body p words vs j.0 j.1 (ap (map (use_word p)) (sym j.2 ∙ append-nil us) ∙ have.words_so)
+  its-class words us k have l at = (
+    at.0,
+    λ o h. (
+        let vs = uses_of p.puzzle o in
+        let class = same_Some _ _ (sym at.1 ∙ h.1) in
+        let j = turned-alike us vs 0 (option-differs p.puzzle b.sound.valid o h.0) class l in
+        is-body p words vs j.0 j.1 (ap (map (use_word p)) (sym j.2 ∙ append-nil us) ∙ have.words_so)),
+  )
 
   -- what a look-up of the class of a body's uses says
   pub class-found : (words : List (List ℕ)) (us class : List Use) (r : Option ℕ) → HaveWords p words us → 0 < length us

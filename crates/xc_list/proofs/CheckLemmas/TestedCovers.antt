@@ -1,6 +1,7 @@
 -- Options are a cover exactly where the tests of its conditions say so.
 use Rattle.std.proofs.Common.{ℕ, zero, suc, ◌≡◌, ◌≢◌, ◌+◌, ◌<◌, ◌≤◌, Bool, true, false, ◌==◌, List, [], ◌∷◌}
-use Rattle.std.proofs.Common.{Option, Some, None, refl, sym, ap, arith, subst, inl, inr, eqb-true, eq-eqb, ne_eqb}
+use Rattle.std.proofs.Common.{Option, Some, None, refl, sym, ap, add-one, arith, subst, inl, inr, eqb-true, eq-eqb}
+use Rattle.std.proofs.Common.{ne_eqb}
 use Rattle.std.specs.Prelude.{All, AllPairs, nat_le, ◌||◌}
 use Rattle.std.specs.List.{list_all, list_any}
 use Rattle.std.proofs.lemmas.Bool.Decides.{nat_tests}
@@ -40,11 +41,7 @@ met_colour (Some e) c d h q = grind (arith, nat_tests, eqb-true, and_left)
 met_colour None c d h q = cc
 
 colour_met : (o : Option ℕ) (c : ℕ) → ((d : ℕ) → o ≡ Some d → (c ≡ d) × (0 < c)) → is_colour_met o c ≡ true
-colour_met (Some d) c h =
-    let k = h d refl in
-    let equal : (d == c) ≡ true = eq-eqb _ _ (sym k.0) in
-    let some : 0 < d = subst (λ n. 0 < n) k.0 k.1 in
-    rw equal (grind (arith, nat_tests))
+colour_met (Some d) c h = grind (arith, nat_tests, h d refl)
 colour_met None c h = refl
 
 -- ---- bounds
@@ -118,9 +115,8 @@ cover_from_tests p s known apart held all = record {
     within : (i : ℕ) (b : Bounds) → bounds_at p i ≡ Some b → (b.low ≤ times_held p i s) × (times_held p i s ≤ b.high)
     within zero b e = cc
     within (suc k) b e =
-        let one_more : k + 1 ≡ suc k = omega arith in
         within_bounds (bounds_at p (suc k)) b (times_held p (suc k) s) e
-        (subst (λ n. is_held_within p s n ≡ true) one_more (held k (slice_get_within p.bounds k b e)))
+        (rw add-one at (held k (slice_get_within p.bounds k b e)))
 
 -- and of a cover they say so
 pub tests_of_cover : (p : Puzzle) → IsValid p → (s : List ℕ) → IsCover p s
