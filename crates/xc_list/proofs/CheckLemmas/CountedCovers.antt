@@ -1,14 +1,11 @@
 -- What the counts of a solution say: they agree exactly where options of its classes are a cover of their classes.
-use Rattle.std.proofs.lemmas.Bool.{and_parts}
 use Rattle.xc_input.specs.declared.problem.Bounds.{Bounds}
-use Rattle.std.specs.Cmp.Derive.{both_true}
 use Rattle.std.proofs.lemmas.Option.{slice_get_within, slice_get_past}
 use Rattle.xc_input.proofs.lists.Places.{not_some}
 use Rattle.xc_list.proofs.CheckLemmas.ListedNumbers.{last_or}
 use Rattle.std.proofs.Common.{ℕ, zero, suc, ◌≡◌, ◌-◌, ◌<◌, ◌≤◌, Bool, true, ◌&&◌}
 use Rattle.std.proofs.Common.{◌==◌, List, [], ◌∷◌, length, get_or, replicate, Some, None, refl, sym, ap, ◌∙◌, arith}
-use Rattle.std.proofs.Common.{eqb-true, eq-eqb}
-use Rattle.std.specs.Prelude.{Option, slice_get}
+use Rattle.std.specs.Prelude.{Option, slice_get, ◌↔◌}
 use Rattle.std.specs.List.{AllByRecursion, AllZip, list_all}
 use Rattle.std.proofs.lemmas.Bool.Decides.{nat_tests}
 use Rattle.std.proofs.lemmas.List.{length-replicate, get_or-replicate}
@@ -128,46 +125,40 @@ module _ (b : Classes) (cs ks reps : List ℕ) (s : IsSolution b cs ks reps) whe
       let l : k < item_count p = omega (arith, slice_get_within p.bounds k d e) in
       (l, time k l ∙ length-gathered p (suc k) reps)
 
-  parts : is_counted_cover b cs ks ≡ (short_of p.bounds (times_after b ks) == 0
-      && (list_all (has_room b ks) ks && list_all meets us))
+  parts : is_counted_cover b cs ks ≡ true
+      ↔ ((short_of p.bounds (times_after b ks) ≡ 0) × (list_all (has_room b ks) ks ≡ true) × (list_all meets us ≡ true))
   parts =
-      ap (λ t. short_of p.bounds (times_after b ks) == 0 && t)
-      (list_all-parts (has_room b ks) meets (uses_at b.classes) ks)
+      let both = list_all-parts (has_room b ks) meets (uses_at b.classes) ks in
+      (λ h. grind (arith, nat_tests), λ h. grind (arith, nat_tests))
 
   pub counted-cover : is_counted_cover b cs ks ≡ true → IsCoverOfClasses p reps
   counted-cover h = record {
-    asked = asked_by_rooms b s.classes ks reps s.taken (λ k m. passes-at (has_room b ks) ks k two.0 m);
+    asked = asked_by_rooms b s.classes ks reps s.taken (λ k m. passes-at (has_room b ks) ks k (parts.0 h).1 m);
     within = within;
     agree = λ j k a q i c d l e f second. agree i second j k a q c d l e f;
   }
     where
-      one : (short_of p.bounds (times_after b ks) == 0 ≡ true)
-          × ((list_all (has_room b ks) ks && list_all meets us) ≡ true)
-      one = and_parts _ _ (sym parts ∙ h)
-
-      two : (list_all (has_room b ks) ks ≡ true) × (list_all meets us ≡ true)
-      two = and_parts _ _ one.1
-
       within : (i : ℕ) (d : Bounds) → bounds_at p i ≡ Some d → (d.low ≤ times_held p i reps)
           × (times_held p i reps ≤ d.high)
       within zero d e = cc
       within (suc k) d e =
           let at = bounded k d e in
-          let low = short_none p.bounds (times_after b ks) (eqb-true _ 0 one.0) k d e in
-          let high : length (colours_of k) ≤ d.high = rw e at (fits_from_met two.1 k at.0) in
+          let low = short_none p.bounds (times_after b ks) (parts.0 h).0 k d e in
+          let high : length (colours_of k) ≤ d.high = rw e at (fits_from_met (parts.0 h).2 k at.0) in
           (omega (arith, at.1, low), omega (arith, length-gathered p (suc k) reps, high))
 
       agree : (i : ℕ) → IsSecondary p i → AgreeAt p i reps
       agree zero second = absurd (omega (arith, second))
       agree (suc k) second =
           let none = slice_get_past p.bounds k (omega (arith, second)) in
-          agree-gathered p (suc k) reps (rw none at (fits_from_met two.1 k (omega (arith, second))))
+          agree-gathered p (suc k) reps (rw none at (fits_from_met (parts.0 h).2 k (omega (arith, second))))
 
   pub cover-counted : IsCoverOfClasses p reps → is_counted_cover b cs ks ≡ true
-  cover-counted c =
-      parts ∙ both_true (eq-eqb _ 0 (none_short p.bounds (times_after b ks) low)) (both_true
-      (each-passes (has_room b ks) ks (λ k m. each_in _ ks k (rooms_by_asked b s.classes ks reps s.taken c.asked) m))
-      (met_from_fits (λ k l. fits k l (slice_get p.bounds k) refl)))
+  cover-counted c = parts.1 (
+    none_short p.bounds (times_after b ks) low,
+    each-passes (has_room b ks) ks (λ k m. each_in _ ks k (rooms_by_asked b s.classes ks reps s.taken c.asked) m),
+    met_from_fits (λ k l. fits k l (slice_get p.bounds k) refl),
+  )
     where
       low : (k : ℕ) (d : Bounds) → slice_get p.bounds k ≡ Some d → d.low ≤ get_or (times_after b ks) k 0
       low k d e = omega (arith, (bounded k d e).1, (c.within (suc k) d e).0)
