@@ -17,6 +17,8 @@ use Rattle.xc_input.proofs.lists.Members.{IsIn, each_in, in-append, in-contains,
 use Rattle.xc_input.proofs.lists.Members.{slice_get-in}
 use Rattle.xc_input.proofs.lists.EachTwo.{EachTwo, EachTwo-append, each_two_from_AllPairs, AllPairs-from_each_two}
 use Rattle.std.specs.List.{range_with_len}
+use Rattle.std.proofs.lemmas.Option.{get_or_from_slice_get}
+use Rattle.xc_input.proofs.OptionLemmas.FlatParts.{slice_get-map-some}
 use Rattle.xc_list.specs.inner.Classes.{class_at, same_uses}
 use Rattle.xc_list.specs.inner.OptionIndex.{AreClassesTo, class_size_to}
 use Rattle.xc_list.proofs.CheckLemmas.DifferentOptions.{counted, is_counted, counted_some}
@@ -52,17 +54,12 @@ module _ (f g : List Use → ℕ) (x : List Use) (same : (us : List Use) → us 
       → map f classes ++ n ∷ [] ≡ map g (classes ++ x ∷ [])
   counts-new classes n h e = cc (others classes (λ us k q. h (subst (IsIn classes) q k)), e, map-snoc g classes x)
 
-count_at : (f : List Use → ℕ) (classes : List (List Use)) (k d : ℕ) (x : List Use) → slice_get classes k ≡ Some x
-    → get_or (map f classes) k d ≡ f x
-count_at f [] k d x e = cc
-count_at f (us ∷ classes) zero d x e = (let here : us ≡ x = cc in ap f here)
-count_at f (us ∷ classes) (suc k) d x e = count_at f classes k d x e
-
 -- the count of a class
 pub members_at : (p : Puzzle) (n : ℕ) (classes : List (List Use)) (counts : List ℕ) (k d : ℕ) (us : List Use)
     → AreClassesTo p n classes counts → slice_get classes k ≡ Some us → get_or counts k d ≡ class_size_to p n us
 members_at p n classes counts k d us a e =
-    ap (λ cs. get_or cs k d) a.counted ∙ count_at (class_size_to p n) classes k d us e
+    let at = slice_get-map-some (class_size_to p n) classes k us (sym e) in
+    ap (λ cs. get_or cs k d) a.counted ∙ get_or_from_slice_get (map (class_size_to p n) classes) k _ d at
 
 module _ (p : Puzzle) (n : ℕ) where
   abbrev added : List Use

@@ -3,7 +3,8 @@ use Rattle.std.proofs.Common.{inl, inr}
 use Rattle.std.proofs.Common.{ℕ, zero, suc, ◌≡◌, ◌≢◌, ◌+◌, ◌-◌, ◌<◌, ◌≤◌, cond, ◌==◌, List, [], ◌∷◌}
 use Rattle.std.proofs.Common.{◌++◌, length, get_or, set, take, refl, ap, ◌∙◌, arith, ne_eqb}
 use Rattle.std.specs.List.{AllByRecursion}
-use Rattle.std.proofs.lemmas.List.{get_or-set_same, get_or-set_other, length-set, get_or_past}
+use Rattle.xc_input.proofs.lists.Members.{each_in, in-contains}
+use Rattle.std.proofs.lemmas.List.{get_or-set_same, get_or-set_other, length-set, get_or_past, get_or_default}
 use Rattle.xc_input.specs.declared.problem.Use.{Use}
 use Rattle.xc_list.specs.inner.CoverCounts.{raised, lowered, item_places, added, coloured}
 use Rattle.std.proofs.lemmas.Bool.{cases_lt}
@@ -91,10 +92,7 @@ pub not_before : (us : List Use) (k : ℕ) (d : Use) → DifferInItems us → k 
 not_before [] k d a l = absurd (omega (arith, l))
 not_before (u ∷ us) zero d a l = refl
 not_before (u ∷ us) (suc k) d a l =
-    rw (ne_eqb _ _ (at (λ v. u.item ≢ v.item) us k a.0 (omega (arith, l))))
-    (omega (arith, not_before us k d a.1 (omega (arith, l))))
-  where
-    at : (P : Use → Type 0) (vs : List Use) (j : ℕ) → AllByRecursion P vs → j < length vs → P (get_or vs j d)
-    at P [] j h m = absurd (omega (arith, m))
-    at P (v ∷ vs) zero h m = h.0
-    at P (v ∷ vs) (suc j) h m = at P vs j h.1 (omega (arith, m))
+    let x = get_or us k d in
+    let m : k < length us = omega (arith, l) in
+    let apart = each_in (λ v. u.item ≢ v.item) us x a.0 (in-contains us x (k, m, get_or_default us k x d m)) in
+    rw (ne_eqb _ _ apart) (omega (arith, not_before us k d a.1 m))

@@ -26,7 +26,7 @@ use Rattle.xc_list.proofs.CheckLemmas.HeldItems.{AreItems, held}
 use Rattle.std.proofs.lemmas.Option.{get_or_from_slice_get}
 use Rattle.xc_list.proofs.CheckLemmas.BesideLists.{by_pairs}
 use Rattle.std.specs.List.{cons_option}
-use Rattle.std.specs.Prelude.{◌↔◌, nat_le}
+use Rattle.std.specs.Prelude.{◌↔◌}
 use Rattle.std.proofs.lemmas.Bool.{leb-true, le-leb}
 use Rattle.std.proofs.Common.{true}
 use Rattle.xc_input.specs.declared.problem.Bounds.{Bounds}
@@ -135,10 +135,7 @@ abbrev pub Fits : Option Bounds → List ℕ → Type 0
 Fits (Some x) cs = length cs ≤ x.high
 Fits None cs = EachTwo Agree cs
 
-few : (high n : ℕ) (cs : List ℕ) → n ≡ length cs → AllByRecursion (λ c. nat_le n high ≡ true) cs → n ≤ high
-few high n [] e a = omega (arith, e)
-few high n (c ∷ cs) e a = leb-true _ _ a.0
-
 pub agrees-fits : (v : Option Bounds) (d : ℕ) (cs : List ℕ) → AllByRecursion (agrees_with v d cs) cs ↔ Fits v cs
-agrees-fits (Some x) d cs = (few x.high (length cs) cs refl, λ h. each_of_all _ cs (λ c. le-leb _ _ h))
+agrees-fits (Some x) d [] = (λ a. omega arith, λ h. tt)
+agrees-fits (Some x) d (c ∷ cs) = (λ a. leb-true _ _ a.0, λ h. each_of_all _ (c ∷ cs) (λ e. le-leb _ _ h))
 agrees-fits None d cs = (last-agree d cs, agree-last d cs)
