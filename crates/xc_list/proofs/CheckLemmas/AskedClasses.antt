@@ -7,7 +7,7 @@ use Rattle.std.proofs.lemmas.Option.{slice_get_within, get_or_from_slice_get}
 use Rattle.std.proofs.Common.{ℕ, ◌≡◌, ◌+◌, ◌<◌, ◌≤◌, Bool, true, cond, ◌==◌, List, [], length}
 use Rattle.std.proofs.Common.{get_or, replicate, Some, refl, sym, ap, ap₂, ◌∙◌, arith}
 use Rattle.std.specs.Prelude.{slice_get, nat_le, count_by}
-use Rattle.std.specs.List.{AllByRecursion, AllZip}
+use Rattle.std.specs.List.{AllZip, list_all}
 use Rattle.std.proofs.lemmas.Bool.{leb-true, le-leb}
 use Rattle.std.proofs.lemmas.List.{length-replicate, get_or-replicate}
 use Rattle.xc_list.specs.inner.Classes.{Classes, AreClasses, IsOfClass, class_at, same_uses, alike, numbers, class_size}
@@ -17,8 +17,7 @@ use Rattle.xc_list.proofs.CheckLemmas.DifferentOptions.{counted, is_counted}
 use Rattle.xc_list.proofs.CheckLemmas.BodiesOfClasses.{same_uses-are, same_uses-itself}
 use Rattle.xc_list.proofs.CheckLemmas.DecidedByClasses.{alike-classes}
 use Rattle.xc_list.proofs.CheckLemmas.HeldItems.{raised-at}
-use Rattle.xc_list.proofs.CheckLemmas.BesideLists.{by_pairs, beside}
-use Rattle.xc_input.proofs.lists.Members.{IsIn}
+use Rattle.xc_list.proofs.CheckLemmas.BesideLists.{by_pairs, beside, passes-at}
 use Rattle.xc_input.specs.Problem.{Puzzle}
 use Rattle.std.proofs.Common.{subst}
 use Rattle.std.proofs.lemmas.Bool.{cases_lt}
@@ -53,12 +52,8 @@ module _ (b : Classes) (are : AreClasses b.problem.puzzle b.classes) (ks reps : 
       let same : counted (λ j. j == k) ks ≡ counted (alike b.problem.puzzle o) reps =
       by_pairs (IsOfClass b) (λ js qs. counted (λ j. j == k) js ≡ counted (alike b.problem.puzzle o) qs) refl
       (λ j q js qs h e. ap₂ (λ t n. cond t 1 0 + n) (same_test b.classes j k _ _ are.distinct h.1 g.1) e) ks reps z in
-      omega (
-        arith,
-        raised-at ks zeros k (omega (arith, l, length-replicate {A = ℕ} (length b.classes) 0)),
-        same,
-        get_or-replicate {A = ℕ} (length b.classes) k 0 0 l,
-      )
+      let raises = raised-at ks zeros k (omega (arith, l, length-replicate {A = ℕ} (length b.classes) 0)) in
+      omega (arith, raises, same, get_or-replicate {A = ℕ} (length b.classes) k 0 0 l)
 
   room_asked : (k o : ℕ) → IsOfClass b k o → has_room b ks k ≡ true ↔ IsAsked b.problem.puzzle reps o
   room_asked k o g =
@@ -69,7 +64,7 @@ module _ (b : Classes) (are : AreClasses b.problem.puzzle b.classes) (ks reps : 
         λ h. le-leb _ _ (omega (arith, h, asked, members)),
       )
 
-  pub asked_by_rooms : ((k : ℕ) → IsIn ks k → has_room b ks k ≡ true) → (r : ℕ) → IsAsked b.problem.puzzle reps r
+  pub asked_by_rooms : list_all (has_room b ks) ks ≡ true → (r : ℕ) → IsAsked b.problem.puzzle reps r
   asked_by_rooms rooms r =
       let p = b.problem.puzzle in
       elim (cases_lt 0 (counted (alike p r) reps)) [
@@ -77,11 +72,11 @@ module _ (b : Classes) (are : AreClasses b.problem.puzzle b.classes) (ks reps : 
             let o = counted_some (alike p r) reps l in
             let k = beside (IsOfClass b) ks reps o.0 z o.1 in
             subst (λ f. count_by f reps ≤ count_by f (numbers p)) (λ i x. sym ((alike-classes p).left r o.0 x o.2) i)
-            ((room_asked k.0 o.0 k.2).0 (rooms k.0 k.1))
+            ((room_asked k.0 o.0 k.2).0 (passes-at (has_room b ks) ks k.0 rooms k.1))
         | inr l ↦ omega (arith, l, is_counted (alike p r) reps)
       ]
 
-  pub rooms_by_asked : ((r : ℕ) → IsAsked b.problem.puzzle reps r) → AllByRecursion (λ k. has_room b ks k ≡ true) ks
+  pub rooms_by_asked : ((r : ℕ) → IsAsked b.problem.puzzle reps r) → list_all (has_room b ks) ks ≡ true
   rooms_by_asked asked =
-      by_pairs (IsOfClass b) (λ js qs. AllByRecursion (λ k. has_room b ks k ≡ true) js) tt
-      (λ k o js qs h later. ((room_asked k o h).1 (asked o), later)) ks reps z
+      by_pairs (IsOfClass b) (λ js qs. list_all (has_room b ks) js ≡ true) refl
+      (λ k o js qs h later. rw ((room_asked k o h).1 (asked o)) later) ks reps z

@@ -95,27 +95,18 @@ pub added_few : (n : ℕ) (classes : List (List Use)) (ks : List ℕ) (i k : ℕ
 added_few n classes ks i k h a l =
     let before = recursion_from_All _ _ (All-take (λ j. j < length classes) i ks a) in
     let us = uses_in classes (take i ks) in
-    omega (
-      arith,
-      raised-most (item_places us) (replicate n 0) k,
-      zeros-at n k,
-      length-take-le i ks l,
-      held-places n us k (items_in n classes (take i ks) h before),
-      held_few n (suc k) classes (take i ks) h before,
-    )
+    let most = raised-most (item_places us) (replicate n 0) k in
+    let places = held-places n us k (items_in n classes (take i ks) h before) in
+    let few = held_few n (suc k) classes (take i ks) h before in
+    omega (arith, most, places, few, zeros-at n k, length-take-le i ks l)
 
 -- ---- how often classes are asked
 
 pub raised_few : (n : ℕ) (ks : List ℕ) (i k : ℕ) → i ≤ length ks → get_or (raised (take i ks) (replicate n 0)) k 0 ≤ i
 raised_few n ks i k l =
-    omega (
-      arith,
-      raised-most (take i ks) (replicate n 0) k,
-      zeros-at n k,
-      length-take-le i ks l,
-      is_counted (λ j. j == k) (take i ks),
-      count_by-le-length (λ j. j == k) (take i ks),
-    )
+    let most = raised-most (take i ks) (replicate n 0) k in
+    let few = count_by-le-length (λ j. j == k) (take i ks) in
+    omega (arith, most, few, zeros-at n k, length-take-le i ks l, is_counted (λ j. j == k) (take i ks))
 
 -- ---- all 0 again
 

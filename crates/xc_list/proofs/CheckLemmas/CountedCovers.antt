@@ -86,13 +86,9 @@ module _ (b : Classes) (cs ks reps : List ℕ) (s : IsSolution b cs ks reps) whe
   time : (k : ℕ) → k < item_count p → get_or (times_after b ks) k 0 ≡ length (colours_of k)
   time k l =
       let zeros : List ℕ = replicate (item_count p) 0 in
-      omega (
-        arith,
-        added-at _ us zeros k items (sym (length-replicate {A = ℕ} (item_count p) 0)) l,
-        get_or-replicate {A = ℕ} (item_count p) k 0 0 l,
-        length-given (suc k) us,
-        ap length (gives k),
-      )
+      let adds = added-at _ us zeros k items (sym (length-replicate {A = ℕ} (item_count p) 0)) l in
+      let none = get_or-replicate {A = ℕ} (item_count p) k 0 0 l in
+      omega (arith, adds, none, length-given (suc k) us, ap length (gives k))
 
   met_one : (k : ℕ) (u : Use) → k < item_count p → u.item ≡ suc k
       → meets u ≡ agrees (slice_get p.bounds k) (length (colours_of k)) (last_or (get_or cs k 0) (colours_of k))
@@ -133,7 +129,7 @@ module _ (b : Classes) (cs ks reps : List ℕ) (s : IsSolution b cs ks reps) whe
 
   pub counted-cover : is_counted_cover b cs ks ≡ true → IsCoverOfClasses p reps
   counted-cover h = record {
-    asked = asked_by_rooms b s.classes ks reps s.taken (λ k m. passes-at (has_room b ks) ks k (parts.0 h).1 m);
+    asked = asked_by_rooms b s.classes ks reps s.taken (parts.0 h).1;
     within = within;
     agree = λ j k a q i c d l e f second. agree i second j k a q c d l e f;
   }
@@ -156,7 +152,7 @@ module _ (b : Classes) (cs ks reps : List ℕ) (s : IsSolution b cs ks reps) whe
   pub cover-counted : IsCoverOfClasses p reps → is_counted_cover b cs ks ≡ true
   cover-counted c = parts.1 (
     none_short p.bounds (times_after b ks) low,
-    each-passes (has_room b ks) ks (λ k m. each_in _ ks k (rooms_by_asked b s.classes ks reps s.taken c.asked) m),
+    rooms_by_asked b s.classes ks reps s.taken c.asked,
     met_from_fits (λ k l. fits k l (slice_get p.bounds k) refl),
   )
     where

@@ -3,7 +3,7 @@ use Rattle.std.specs.List.{AllByRecursion}
 use Rattle.std.proofs.lemmas.Bool.Decides.{nat_tests}
 use Rattle.std.specs.List.{AllZip}
 use Rattle.std.proofs.Common.{ℕ, zero, suc, ◌≡◌, ◌≢◌, true, List, [], ◌∷◌, filter}
-use Rattle.std.proofs.Common.{refl, sym, ap₂, ◌∙◌, arith, subst, inl, inr}
+use Rattle.std.proofs.Common.{refl, sym, ap₂, ◌∙◌, arith, inl, inr}
 use Rattle.std.specs.Prelude.{All, IsTrue, ◌↔◌}
 use Rattle.std.proofs.lemmas.List.Elements.{recursion_from_All, All-from_recursion}
 use Rattle.xc_input.specs.declared.problem.Use.{Use}
@@ -28,9 +28,6 @@ use Rattle.xc_list.proofs.CheckLemmas.BesideLists.{by_pairs}
 use Rattle.xc_input.proofs.lists.EachTwo.{EachTwo, EachTwo-of, EachTwo-weaker}
 use Rattle.std.specs.List.{cons_option}
 use Rattle.std.proofs.Common.{length, ap}
-
-pub numbers-apart : (p : Puzzle) → AreApart (numbers p)
-numbers-apart p = range-apart 1 (option_count p)
 
 pub in-numbers : (p : Puzzle) (o : ℕ) → IsIn (numbers p) o → IsOption p o
 in-numbers p o h = let l = in-range 1 (option_count p) o h in (l.0, omega (arith, l.1))
@@ -89,9 +86,9 @@ stands-alike p r words q o x y h =
     let vs = uses_of p.puzzle o in
     let d = option-differs p.puzzle r.valid q x in
     let e = option-differs p.puzzle r.valid o y in (
-      λ k. subst (λ v. same_uses (class_of us) v ≡ true)
-          (body-class p words r us vs (option-known p r q x) (option-known p r o y) d e h k)
-          (same_uses-itself (class_of us)),
+      λ k.
+          let same = body-class p words r us vs (option-known p r q x) (option-known p r o y) d e h k in
+          cc (same_uses-itself (class_of us)),
       λ z. body-alike p words us vs e (same_uses-are (class_of us) (class_of vs) z) h,
     )
 
@@ -115,13 +112,9 @@ module _ (p : Puzzle) (v : IsValid p) (reps s : List ℕ) (known_reps : AreKnown
   pub classes_of_cover : IsCover p s → IsCoverOfClasses p reps
   classes_of_cover c = record {
     asked =
-        λ r. omega (
-          arith,
-          count_alike (alike p) (alike-classes p) r reps s z,
-          count_within (alike p r) s (numbers p) apart (λ o k e. numbers-in p o (known o k)),
-          is_counted (alike p r) reps,
-          is_counted (alike p r) (numbers p),
-        );
+        λ r.
+        let within = count_within (alike p r) s (numbers p) apart (λ o k e. numbers-in p o (known o k)) in
+        omega (arith, within, count_alike (alike p) (alike-classes p) r reps s z, is_counted);
     within = λ i b e. rw (held-alike i) (c.within i b e);
     agree = λ j k q r i x y l e f second.
         agree-gathered p i reps (rw (gathered-alike i) (agree i second)) j k q r x y l e f;
@@ -157,17 +150,11 @@ pub classes_decide : (p : Named) (bodies : List (List (List ℕ))) (reps : List 
     IsListedCover p bodies ↔ IsCoverOfClasses p.puzzle reps
 classes_decide p bodies reps r all h = (
   λ (g : IsListedCover p bodies).
-      let s = known_of g.0 g.2 in
+      let s : AreKnown p.puzzle g.0 = λ o k. each_in _ _ _ (recursion_from_All (IsOption p.puzzle) g.0 g.2.known) k in
       classes_of_cover p.puzzle r.valid reps g.0 a s ((stand-alike g.0 s).0 g.1) g.2,
   λ c.
-      let g = give (alike p.puzzle) (alike-classes p.puzzle) (numbers p.puzzle) (numbers-apart p.puzzle) reps
-      (λ q k. omega (
-        arith,
-        c.asked q,
-        is_counted (alike p.puzzle q) reps,
-        is_counted (alike p.puzzle q)
-            (numbers p.puzzle),
-      )) in
+      let g = give (alike p.puzzle) (alike-classes p.puzzle) (numbers p.puzzle) (range-apart 1 (option_count p.puzzle))
+      reps (λ q k. omega (arith, c.asked q, is_counted)) in
       let s : AreKnown p.puzzle g.0 = λ o k. in-numbers p.puzzle o (g.1.known o k) in (
         g.0,
         (stand-alike g.0 s).1 g.1.alike,
@@ -177,9 +164,6 @@ classes_decide p bodies reps r all h = (
   where
     a : AreKnown p.puzzle reps
     a o k = each_in (IsOption p.puzzle) reps o all k
-
-    known_of : (s : List ℕ) → IsCover p.puzzle s → AreKnown p.puzzle s
-    known_of s c o k = each_in (IsOption p.puzzle) s o (recursion_from_All (IsOption p.puzzle) s c.known) k
 
     stand-alike : (s : List ℕ) → AreKnown p.puzzle s
         → StandFor p (filter (is_known p) bodies) s ↔ AreAlike (alike p.puzzle) reps s

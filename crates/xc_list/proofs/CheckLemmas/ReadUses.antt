@@ -29,13 +29,9 @@ name_and_colour : (colours : List (List ℕ)) (name : List ℕ) (c : ℕ) → ha
 name_and_colour colours name zero h l w e =
     let is : name ≡ w = sym (append-nil name) ∙ e in
     rw (← is) (no-cut COLON name h, λ f. refl, λ f. cc)
-name_and_colour colours name (suc c) h l w e = grind (
-  arith,
-  nat_tests,
-  cut-at COLON name (bytes_at colours (suc c)) h,
-  numbered_some colours (suc c),
-  colour_text-some colours (suc c),
-)
+name_and_colour colours name (suc c) h l w e =
+    let cut = cut-at COLON name (bytes_at colours (suc c)) h in
+    grind (arith, nat_tests, numbered_some colours (suc c), colour_text-some colours (suc c))
 
 module _ (p : Named) (s : IsSound p) (u : Use) (known : IsKnownUse p u) where
   -- a word's part before the first colon is its item's name, and its part behind that is its colour
