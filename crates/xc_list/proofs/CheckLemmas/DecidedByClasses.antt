@@ -93,18 +93,15 @@ stands-alike p r words q o x y h =
     )
 
 -- options that are alike, each beside the other
-module _ (p : Puzzle) (v : IsValid p) (reps s : List ℕ) (known_reps : AreKnown p reps) (known : AreKnown p s)
-    (z : AreAlike (alike p) reps s) where
+module _ (p : Puzzle) (v : IsValid p) (reps s : List ℕ) (known : AreKnown p s) (z : AreAlike (alike p) reps s) where
   -- they give each item the same colours
   gathered-alike : (i : ℕ) → gathered p i reps ≡ gathered p i s
   gathered-alike i =
-      by_pairs (λ q o. alike p q o ≡ true)
-      (λ qs os. AreKnown p qs → AreKnown p os → gathered p i qs ≡ gathered p i os) (λ a b. refl)
-      (λ q o qs os h later a b.
-      let differ = option-differs p v in
-      let same = colour-alike (uses_of p q) (uses_of p o) i (differ o (b o (inl refl)))
-      (same_uses-are _ _ h) in
-      ap₂ cons_option same (later (λ x k. a x (inr k)) (λ x k. b x (inr k)))) reps s z known_reps known
+      by_pairs (λ q o. alike p q o ≡ true) (λ qs os. AreKnown p os → gathered p i qs ≡ gathered p i os) (λ k. refl)
+      (λ q o qs os h later k.
+      let differ = option-differs p v o (k o (inl refl)) in
+      let same = colour-alike (uses_of p q) (uses_of p o) i differ (same_uses-are _ _ h) in
+      ap₂ cons_option same (later (λ x m. k x (inr m)))) reps s z known
 
   held-alike : (i : ℕ) → times_held p i reps ≡ times_held p i s
   held-alike i = sym (length-gathered p i reps) ∙ ap length (gathered-alike i) ∙ length-gathered p i s
@@ -151,14 +148,14 @@ pub classes_decide : (p : Named) (bodies : List (List (List ℕ))) (reps : List 
 classes_decide p bodies reps r all h = (
   λ (g : IsListedCover p bodies).
       let s : AreKnown p.puzzle g.0 = λ o k. each_in _ _ _ (recursion_from_All (IsOption p.puzzle) g.0 g.2.known) k in
-      classes_of_cover p.puzzle r.valid reps g.0 a s ((stand-alike g.0 s).0 g.1) g.2,
+      classes_of_cover p.puzzle r.valid reps g.0 s ((stand-alike g.0 s).0 g.1) g.2,
   λ c.
       let g = give (alike p.puzzle) (alike-classes p.puzzle) (numbers p.puzzle) (range-apart 1 (option_count p.puzzle))
       reps (λ q k. omega (arith, c.asked q, is_counted)) in
       let s : AreKnown p.puzzle g.0 = λ o k. in-numbers p.puzzle o (g.1.known o k) in (
         g.0,
         (stand-alike g.0 s).1 g.1.alike,
-        cover_of_classes p.puzzle r.valid reps g.0 a s g.1.alike g.1.apart c,
+        cover_of_classes p.puzzle r.valid reps g.0 s g.1.alike g.1.apart c,
       ),
 )
   where
