@@ -2,7 +2,7 @@
 use Rattle.std.proofs.lemmas.Bool.{cases_eq, cases_lt}
 use Rattle.std.proofs.lemmas.Bool.Decides.{nat_tests}
 use Rattle.std.proofs.Common.{ℕ, zero, suc, ◌≡◌, ◌≢◌, ◌+◌, ◌≤◌, Bool, cond, List, [], ◌∷◌, ◌++◌, map}
-use Rattle.std.proofs.Common.{get_or, Some, ◌⊎◌, refl, sym, ap, ap₂, ◌∙◌, arith, subst, inl, inr}
+use Rattle.std.proofs.Common.{get_or, Some, refl, sym, ap, ap₂, ◌∙◌, arith, subst, inl, inr}
 use Rattle.std.proofs.Common.{add-one}
 use Rattle.std.specs.Prelude.{slice_get, Contains}
 use Rattle.std.proofs.Math.ListN.{set}
@@ -108,23 +108,23 @@ module _ (p : Puzzle) (n : ℕ) where
       → (IsIn classes added → ⊥) → all ≡ classes ++ added ∷ [] → more ≡ counts ++ 1 ∷ []
       → AreClassesTo p (suc n) all more
   classes-new classes all counts more a h q r = rw (q, r) (record {
-    distinct = AllPairs-from_each_two (λ (a b : List Use). a ≢ b) (classes ++ added ∷ [])
-        (EachTwo-append (λ a b. a ≢ b) classes (added ∷ [])
-        (each_two_from_AllPairs (λ (a b : List Use). a ≢ b) classes a.distinct) (tt, tt)
+    distinct = AllPairs-from_each_two _ _ (EachTwo-append (λ (a b : List Use). a ≢ b) classes (added ∷ [])
+        (each_two_from_AllPairs _ classes a.distinct) (tt, tt)
         (λ us vs j k e. elim k [ inl z ↦ h (subst (IsIn classes) (e ∙ sym z) j) | inr z ↦ absurd z ]));
     whole =
         by_last {X = λ o. Contains (classes ++ added ∷ []) (class_at p o)}
         (λ o l m. Contains-append_left classes (added ∷ []) (class_at p o) (a.whole o l m))
         (Contains-push classes added);
-    used = λ k us e. used_one us (in-append classes (added ∷ []) us (in-slice_get (classes ++ added ∷ []) k us e));
+    used = λ k us e. elim (in-append classes (added ∷ []) us (in-slice_get (classes ++ added ∷ []) k us e)) [
+      | inl i ↦
+          let j = slice_get-in classes us i in
+          let u = a.used j.0 us j.1 in
+          let m = u.2 in
+          (u.0, u.1, omega (arith, m), u.3)
+      | inr (inl z) ↦ (suc n, omega arith, omega arith, z)
+      | inr (inr z) ↦ absurd z
+    ];
     counted = ap (λ cs. cs ++ 1 ∷ []) a.counted
         ∙ counts-new (class_size_to p n) (class_size_to p (suc n)) added same_members classes 1 h
         (omega (arith, no-members classes counts a h, one_member));
   })
-    where
-      used_one : (us : List Use) → IsIn classes us ⊎ IsIn (added ∷ []) us → (o : ℕ) × (1 ≤ o) × (o ≤ suc n)
-          × (class_at p o ≡ us)
-      used_one us (inl k) = let j = slice_get-in classes us k in let u = a.used j.0 us j.1 in let m = u.2 in
-          (u.0, u.1, omega (arith, m), u.3)
-      used_one us (inr (inl z)) = (suc n, omega arith, omega arith, z)
-      used_one us (inr (inr z)) = absurd z

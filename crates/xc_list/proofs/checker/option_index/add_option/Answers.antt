@@ -1,22 +1,19 @@
-use Rattle.std.proofs.Common.{ℕ, suc, ◌≡◌, ◌+◌, ◌++◌, ◌∷◌, [], List, ◌∙◌, Some, sym, ap, subst, arith}
-use Rattle.std.specs.Prelude.{Option, slice_get, slice_set, unwrap_or}
+use Rattle.std.proofs.Common.{add-one, ℕ, suc, ◌≡◌, ◌+◌, ◌++◌, ◌∷◌, [], List, ◌∙◌, Some, sym, ap, subst, arith}
+use Rattle.std.specs.Prelude.{Option, slice_get, unwrap_or}
 use Rattle.xc_input.specs.declared.problem.Use.{Use}
 use Rattle.xc_input.specs.Problem.{Puzzle, numbered_get}
 use Rattle.xc_input.proofs.lists.Members.{IsIn}
 use Rattle.xc_list.specs.inner.Classes.{class_of, class_at}
-use Rattle.xc_list.specs.inner.OptionIndex.{AreClassesTo, key_uses}
+use Rattle.xc_list.specs.inner.OptionIndex.{key_uses}
 use Rattle.xc_list.proofs.CheckLemmas.ClassesSoFar.{members-few, members_at, classes-found, classes-new}
 use Rattle.xc_list.proofs.CheckLemmas.FoundClasses.{found-key, lost-key, new-uses}
 use Rattle.xc_list.proofs.checker.option_index.add_option.Goals as goal
-
-next : (o : ℕ) → suc o ≡ o + 1
-next o = omega arith
 
 -- the uses that were turned are the option's class
 option_class : (p : Puzzle) (o : ℕ) (us turned slice : List Use) → numbered_get p.options (o + 1) ≡ Some us
     → turned ≡ class_of us → slice ≡ turned → slice ≡ class_at p (suc o)
 option_class p o us turned slice e f g =
-    g ∙ f ∙ ap (λ (z : Option (List Use)). class_of (unwrap_or z [])) (sym e) ∙ ap (class_at p) (sym (next o))
+    g ∙ f ∙ ap (λ (z : Option (List Use)). class_of (unwrap_or z [])) (sym e) ∙ ap (class_at p) (add-one o)
 
 pub overflow_add-index_mut : goal.overflow_add-index_mut
 overflow_add-index_mut c =
@@ -41,7 +38,7 @@ returns-in-Some c =
     c.as_slice.ensures.value in
     let at = found-key _ _ _ (sym c.in-Some.ensures.index) in
     let here : slice_get classes k ≡ Some (class_at p (suc o)) = at.1 ∙ ap (λ x. Some x) is in
-    subst (λ m. AreClassesTo p m classes (slice_set counts k (n + 1))) (next o)
+    rw (add-one o)
     (classes-found p o classes counts k n c.requires.before here
     (c.index_mut.ensures.value ∙ members_at _ _ _ _ _ _ _ c.requires.before here))
 
@@ -56,7 +53,7 @@ returns-in_ok-push-in-None c =
     let all = new-uses _ _ _ _ (sym c.in-None.ensures.index)
     (c.in_ok-from_slice-in-None.ensures.items ∙ c.as_slice-in-None.ensures.value ∙ sym c.as_slice.ensures.value)
     c.in_ok-insert-in-None.ensures.keys in
-    subst (λ m. AreClassesTo p m (key_uses c.insert.new.self.keys) c.push.new.self.items) (next o)
+    rw (add-one o)
     (classes-new p o (key_uses keys) (key_uses c.insert.new.self.keys) c.args.sizes.now.items c.push.new.self.items
     c.requires.before (λ h. lost-key us keys (sym c.in-None.ensures.index) (subst (IsIn (key_uses keys)) (sym is) h))
     (all ∙ ap (λ x. key_uses keys ++ x ∷ []) is) c.in_ok-push-in-None.ensures.items)
