@@ -1,10 +1,10 @@
 -- What classes add to the counts, and that the counts are 0 again once they were cleared.
 use Rattle.std.proofs.lemmas.Bool.{cases_lt}
 use Rattle.std.proofs.lemmas.Bool.Decides.{nat_tests}
-use Rattle.std.proofs.Common.{ℕ, suc, ◌≡◌, ◌+◌, ◌<◌, ◌≤◌, ◌⊎◌, inl, inr}
+use Rattle.std.proofs.Common.{ℕ, suc, ◌≡◌, ◌+◌, ◌<◌, ◌≤◌, inl, inr}
 use Rattle.std.proofs.Common.{cond, ◌==◌, List, [], ◌∷◌, ◌++◌, length, get_or, set, take, replicate}
-use Rattle.std.proofs.Common.{Some, sym, ap, ◌∙◌, arith, subst}
-use Rattle.std.specs.Prelude.{slice_get, All}
+use Rattle.std.proofs.Common.{Some, ap, ◌∙◌, arith, subst}
+use Rattle.std.specs.Prelude.{slice_get, All, nat_lt}
 use Rattle.std.specs.List.{AllByRecursion}
 use Rattle.std.proofs.lemmas.List.{append-nil, get_or-set_same, get_or-set_other, length-set}
 use Rattle.std.proofs.lemmas.List.{length-take-le, length-replicate, get_or-replicate, get_or_past, ext_get_or}
@@ -110,19 +110,15 @@ raised_few n ks i k l =
 
 -- ---- all 0 again
 
-lowered_once : (ns : List ℕ) (j k n : ℕ) → k < length ns → (get_or ns k 0 ≡ 0) ⊎ (0 < cond (j == k) 1 0 + n)
-    → (get_or (set ns j 0) k 0 ≡ 0) ⊎ (0 < n)
-lowered_once ns j k n l h = grind (arith, nat_tests, get_or-set_same, get_or-set_other)
+lowered_once : (ns : List ℕ) (j k n : ℕ) → k < length ns
+    → cond (nat_lt 0 n) 0 (get_or (set ns j 0) k 0) ≡ cond (nat_lt 0 (cond (j == k) 1 0 + n)) 0 (get_or ns k 0)
+lowered_once ns j k n l = grind (arith, nat_tests, get_or-set_same, get_or-set_other)
 
-lowered-at : (ks ns : List ℕ) (k : ℕ) → k < length ns → (get_or ns k 0 ≡ 0) ⊎ (0 < counted (λ j. j == k) ks)
-    → get_or (lowered ks ns) k 0 ≡ 0
-lowered-at [] ns k l (inl h) = h
-lowered-at [] ns k l (inr h) = absurd (omega (arith, h))
-lowered-at (j ∷ ks) ns k l h =
-    lowered-at ks (set ns j 0) k (omega (arith, l, length-set ns j 0)) (lowered_once _ _ _ _ l h)
-
-zero_or : (m n : ℕ) → m ≡ 0 + n → (m ≡ 0) ⊎ (0 < n)
-zero_or m n e = grind arith
+lowered-at : (ks ns : List ℕ) (k : ℕ) → k < length ns
+    → get_or (lowered ks ns) k 0 ≡ cond (nat_lt 0 (counted (λ j. j == k) ks)) 0 (get_or ns k 0)
+lowered-at [] ns k l = grind (arith, nat_tests)
+lowered-at (j ∷ ks) ns k l =
+    lowered-at ks (set ns j 0) k (omega (arith, l, length-set ns j 0)) ∙ lowered_once ns j k _ l
 
 pub lowered_back : (ks ns : List ℕ) → ns ≡ replicate (length ns) 0 → lowered ks (raised ks ns) ≡ ns
 lowered_back ks ns zeros =
@@ -130,6 +126,5 @@ lowered_back ks ns zeros =
     ext_get_or 0 (lowered ks (raised ks ns)) ns size (λ k l.
     let m : k < length ns = omega (arith, l, size) in
     let zero : get_or ns k 0 ≡ 0 = ap (λ ms. get_or ms k 0) zeros ∙ zeros-at (length ns) k in
-    let either = zero_or (get_or (raised ks ns) k 0) (counted (λ j. j == k) ks)
-    (omega (arith, raised-at ks ns k m, zero)) in
-    lowered-at ks (raised ks ns) k (omega (arith, m, length-raised ks ns)) either ∙ sym zero)
+    let back = lowered-at ks (raised ks ns) k (omega (arith, m, length-raised ks ns)) in
+    grind (arith, nat_tests, raised-at ks ns k m))
