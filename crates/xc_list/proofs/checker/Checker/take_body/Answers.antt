@@ -1,12 +1,12 @@
 use Rattle.std.proofs.lemmas.Bool.Decides.{nat_tests}
 use Rattle.std.proofs.Common.{arith}
-use Rattle.std.proofs.Common.{◌≡◌, true, not, is_some, Some, None, refl, sym, ap, ◌∙◌, subst}
+use Rattle.std.proofs.Common.{◌≡◌, true, not, is_some, Some, None, sym, ap, ◌∙◌, subst}
 use Rattle.xc_list.specs.ListingLines.{words_in}
 use Rattle.xc_list.specs.inner.ReadLines.{Body, read}
 use Rattle.xc_list.specs.Listed.{is_none}
 use Rattle.xc_list.specs.inner.Classes.{Classes, IsClassOfBody}
-use Rattle.xc_list.specs.inner.Checking.{Progress, Takes}
-use Rattle.xc_list.proofs.CheckLemmas.CheckedLines.{none_taken, moved, progress}
+use Rattle.xc_list.specs.inner.Checking.{Progress}
+use Rattle.xc_list.proofs.CheckLemmas.CheckedLines.{none_taken, progress}
 use Rattle.xc_list.specs.inner.SeenLines.{IsClassOfLine}
 use Rattle.xc_list.proofs.CheckLemmas.NotedLines.{noted-rightly}
 use Rattle.xc_list.proofs.checker.Checker.take_body.Goals as goal
@@ -48,5 +48,5 @@ returns-in-Ok-None-clause-takes c =
     subst (IsClassOfBody s.options words) c.in-Ok-None.field-0-is c.in-Ok-None.ensures.class in
     let none : is_none s.options.problem words ≡ true =
     ap (λ (b : Classes). is_none b.problem words) (sym c.class_of.ensures.same) ∙ sym c.if-is_none-2.ensures in
-    subst (λ (u : Progress). Takes (Body words) u t) c.self.view_is
-    (moved (Body words) s s t (none_taken s words other none some) (sym c.class_of.ensures.same) refl refl refl)
+    let same : s ≡ t = ap (λ (b : Classes). record s { options = b }) (sym c.class_of.ensures.same) in
+    rw (← c.self.view_is, ← same) (none_taken s words other none some)
