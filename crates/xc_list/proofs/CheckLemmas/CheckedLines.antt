@@ -2,7 +2,7 @@
 use Rattle.std.specs.List.{AllByRecursion}
 use Rattle.std.proofs.Common.{get_or}
 use Rattle.std.proofs.Common.{◌≡◌, ℕ, ◌+◌, ◌-◌, ◌^◌, ◌<◌, Bool, true, false, not, ◌||◌, nat_eq, min, List}
-use Rattle.std.proofs.Common.{[], ◌∷◌, ◌++◌, length, filter, Option, Some, None, is_some, refl, sym, ap, ◌∙◌, subst}
+use Rattle.std.proofs.Common.{[], ◌∷◌, ◌++◌, length, filter, Option, Some, None, is_some, refl, sym, ap, ◌∙◌}
 use Rattle.std.proofs.Common.{append_assoc, append-nil, arith, if◌then◌else◌}
 use Rattle.xc_list.specs.inner.Listings.{Listing, before_listing, listing_of}
 use Rattle.std.specs.Prelude.{◌==◌, ◌↔◌, IsTrue}
@@ -66,11 +66,6 @@ abbrev pub progress : Classes → Option ℕ → List ℕ → List Verdict → P
 progress b number chosen verdicts = record { options = b; open_number = number; chosen = chosen; verdicts = verdicts }
 
 -- A LINE IS PASSED
-pub moved : (said : Line) (old new t : Progress) → Takes said old new → new.options ≡ t.options
-    → new.open_number ≡ t.open_number → new.chosen ≡ t.chosen → new.verdicts ≡ t.verdicts → Takes said old t
-moved said old new t h b o k v =
-    subst (Takes said old) (λ i. record { options = b i; open_number = o i; chosen = k i; verdicts = v i }) h
-
 empty-append : (o : Option ℕ) (bodies : List (List (List ℕ))) (solutions : List Solution)
     → with_later o bodies (record { loose = []; solutions = solutions }) ≡ with_later o bodies
     (record { loose = []; solutions = [] }) ++ solutions

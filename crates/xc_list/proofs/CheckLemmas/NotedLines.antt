@@ -1,6 +1,6 @@
 -- Lines that were met, and their classes.
 use Rattle.std.proofs.Common.{ℕ, ◌≡◌, ◌<◌, ◌∙◌, length, List, Option, Some, None, get_or, eqb-true, eq-eqb, ◌==◌, true}
-use Rattle.std.proofs.Common.{refl, sym, subst, inl, inr}
+use Rattle.std.proofs.Common.{refl, sym, inl, inr}
 use Rattle.std.specs.Prelude.{All, IfSome}
 use Rattle.std.proofs.lemmas.List.Elements.{All-set, All-contains}
 use Rattle.std.proofs.lemmas.Slice.Eq.{slice_eq-Decides}
@@ -30,13 +30,11 @@ found-rightly b lines line (Some k) all h = rw (h.3, h.2) at (All-contains (IsRi
 rightly : (b : Classes) (l : SeenLine) (line : List ℕ) (class : ℕ) (o : Option ℕ) → IsClassOfLine b line class
     → IfSome o (λ k. (k ≡ class) × (l.line.items ≡ line)) → IfSome o (IsClassOfLine b l.line.items)
 rightly b l line class None is h = tt
-rightly b l line class (Some k) is h =
-    subst (λ x. IsClassOfLine b x k) (sym h.1) (subst (IsClassOfLine b line) (sym h.0) is)
+rightly b l line class (Some k) is h = rw (h.1, h.0) is
 
 -- what is noted rightly stays right
 pub noted-rightly : (b : Classes) (old new : List SeenLine) (line : List ℕ) (class : ℕ) → IsClassOfLine b line class
     → IsNotedIn old line class new → All (IsRightly b) old → All (IsRightly b) new
-noted-rightly b old new line class is (inl same) all = subst (All (IsRightly b)) (sym same) all
+noted-rightly b old new line class is (inl same) all = rw same all
 noted-rightly b old new line class is (inr h) all =
-    subst (All (IsRightly b)) (sym h.3)
-    (All-set (IsRightly b) old h.0 h.1 (rightly b h.1 line class h.1.class is h.2) all)
+    rw h.3 (All-set (IsRightly b) old h.0 h.1 (rightly b h.1 line class h.1.class is h.2) all)
