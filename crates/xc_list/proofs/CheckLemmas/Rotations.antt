@@ -1,4 +1,4 @@
--- Rotations of uses, and that those of one list have one class: for `rotate` and the checker's classes.
+-- Rotations of uses, and that those of one list have one class: for the classes of the checker.
 use Rattle.std.proofs.Common.{ℕ, zero, suc, ◌≡◌, ◌≢◌, ◌+◌, ◌<◌, ◌≤◌, ◌==◌, min, List, [], ◌∷◌, ◌++◌, length, map}
 use Rattle.std.proofs.Common.{drop, take, true, inl, inr, is_some, get_or, refl, sym, ap, ◌∙◌, arith, append_assoc}
 use Rattle.std.proofs.Common.{subst, eq-eqb, ne_eqb}
