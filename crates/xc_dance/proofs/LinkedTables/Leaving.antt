@@ -2,15 +2,16 @@
 -- leave.
 use Rattle.std.proofs.Common.{◌≡◌, ℕ, ◌<◌, ◌≤◌, true, false, not, cond, ◌||◌, eqb, List, [], ◌∷◌, map, Option, Some}
 use Rattle.std.proofs.Common.{None, refl, ap, sym, ◌∙◌, arith, eqb-true, eq-eqb, ne_eqb, ◌≢◌, ◌&&◌, filter, zero, suc}
-use Rattle.std.proofs.Common.{◌+◌, Bool, length, ap₂, ◌*◌, drop, take}
+use Rattle.std.proofs.Common.{◌+◌, Bool, length, ◌*◌, drop, take, subst}
 use Rattle.std.specs.Prelude.{is_some, sum_by}
 use Rattle.std.specs.List.{AllByRecursion, range_with_len}
 use Rattle.std.proofs.lemmas.Grind.{common_steps}
-use Rattle.std.proofs.lemmas.Bool.{eqb-false, false≢true, and_parts}
-use Rattle.std.proofs.Math.Bool.{not-not, and-false}
+use Rattle.std.proofs.lemmas.Bool.{eqb-false, false≢true}
+use Rattle.std.proofs.Math.Bool.{not-not, and-false, and-true, or-false}
 use Rattle.std.proofs.lemmas.List.Sums.{sum_by-cons}
-use Rattle.std.proofs.lemmas.List.{length-map}
+use Rattle.std.proofs.lemmas.List.{length-map, take-map, drop-map}
 use Rattle.std.proofs.lemmas.List.Elements.{filter_agree}
+use Rattle.std.proofs.lemmas.List.Filters.{length-filter_both}
 use Rattle.xc_input.specs.Problem.{Puzzle, item_count, colour_in, uses_of, holds, holding, Numbered, colour_at}
 use Rattle.xc_dance.specs.declared.dance.Move.{Move}
 use Rattle.xc_dance.specs.Moves.{listed, is_open, AreLegal, listed_numbers, is_other_colour, without, other_colours}
@@ -25,13 +26,14 @@ use Rattle.xc_dance.specs.declared.dance.Move.TheVariants.{Cover, Purify, Tweak}
 use Rattle.xc_input.proofs.lists.EachElement.{each-filter, each_both, each-map, each_weaker}
 use Rattle.xc_input.proofs.lists.Filters.{filter_same}
 use Rattle.xc_dance.proofs.LinkedTables.Sweep.{other_items, in_above, Rises, Rises-filter, stay, stay_all, leave_none}
-use Rattle.xc_dance.proofs.LinkedTables.Sweep.{goes, without_numbers, filter_numbers, drop_numbers, is_in-first}
-use Rattle.xc_dance.proofs.LinkedTables.Sweep.{in_more}
+use Rattle.xc_dance.proofs.LinkedTables.Sweep.{goes, without_numbers, filter_numbers, is_in-first, drop_first}
+use Rattle.xc_dance.proofs.LinkedTables.Sweep.{in_more, not_in}
+use Rattle.xc_dance.proofs.MoveLemmas.ListLemmas.{Rises-range}
 use Rattle.xc_dance.proofs.MoveLemmas.OpenLists.{listed_open}
 use Rattle.xc_dance.proofs.LinkedTables.GoodLines.{Named, numbers_named, SameCut}
 use Rattle.xc_dance.proofs.LinkedTables.OneOption.{is_mark, AreReady, AllApart, gone_count}
 use Rattle.xc_dance.proofs.LinkedTables.OneList.{OwnReady}
-use Rattle.xc_dance.proofs.LinkedTables.OtherItems.{in_others, others_apart, item_range, leaves}
+use Rattle.xc_dance.proofs.LinkedTables.OtherItems.{in_others, others_apart, leaves}
 use Rattle.xc_dance.proofs.MoveLemmas.Shortened.{rises_listed}
 use Rattle.xc_dance.proofs.MoveLemmas.Members.{element_of, in_filter, same_members, none_in}
 use Rattle.xc_dance.proofs.LinkedTables.MarkedNodes.{options_left, Met, each_met, open_unmarked, color_is}
@@ -46,7 +48,7 @@ use Rattle.xc_input.proofs.FaultLemmas.BooleanTests.{and_right}
 use Rattle.xc_dance.proofs.LinkedTables.OneList.{LinesReady, step_cost}
 use Rattle.xc_dance.proofs.LinkedTables.GoodLines.{InRange, listed_member}
 
-eqb_turn : (a b : ℕ) → eqb a b ≡ eqb b a
+pub eqb_turn : (a b : ℕ) → eqb a b ≡ eqb b a
 eqb_turn a b = grind (arith, common_steps, eq-eqb, eqb-false, eqb-true, ne_eqb)
 
 test_is : (p : Puzzle) (i : ℕ) (keep : Option ℕ) (x c : ℕ) → colour_in (uses_of p x) i ≡ Some c
@@ -75,6 +77,11 @@ pub leaves_own : (p : Puzzle) (t : List Move) (i : ℕ) (gs : List ℕ) → IsFi
 leaves_own p t i gs fit rise = none_in (leaves p (color_in p t) i i) 0 gs
     (Rises-filter (leaves p (color_in p t) i i) 0 gs rise) (λ x e. leaves_by t i i x fit
     ∙ ap (λ b. (not b && is_some (colour_in (uses_of p x) i)) && not (is_mark p (color_in p t) x i)) (eq-eqb i i refl))
+
+pub stay_if : (b : Bool) (gs xs : List ℕ)
+    → cond b (stay (λ x. is_in x gs) xs) xs ≡ stay (λ x. b && is_in x gs) xs
+stay_if true gs xs = refl
+stay_if false gs xs = sym (stay_all xs)
 
 -- so its own line loses none, where the move takes none from it
 pub cut_own : {p : Puzzle} (t : List Move) (m : Move) (i : ℕ) (gs : List ℕ) → IsFit p → Rises 0 gs
@@ -126,7 +133,7 @@ module _ (p : Puzzle) (t : List Move) (i : ℕ) (legal : AreLegal p t) (laid : I
       grind (arith, common_steps, ne_eqb, test_is, colour_small (uses_of p x) i c.0 (fit.colours x) c.1)
 
   -- each leaves the lists of the other open items that it is in
-  leaves_at : (j x : ℕ) → InRange p j → j ≢ i → is_in x (listed_numbers p t i) ≡ true
+  pub leaves_at : (j x : ℕ) → InRange p j → j ≢ i → is_in x (listed_numbers p t i) ≡ true
       → leaves p (color_in p t) i j x ≡ (is_open j t && is_in x (listed_numbers p t j))
   leaves_at j x r ne within =
       let there = element_of (Named p j) x _ (numbers_named p t j) in
@@ -155,99 +162,79 @@ module _ (p : Puzzle) (t : List Move) (i : ℕ) (legal : AreLegal p t) (laid : I
   cut_others m j gs r of takes ne = record {
     test = λ x. is_open j t && is_in x gs;
     cut_is = leaves_are j gs r of ne;
-    stay_is = takes.others j ne ∙ elim (is_open j t) as (λ b.
-        cond b (stay (λ x. is_in x gs) (listed_numbers p t j)) (listed_numbers p t j) ≡ stay (λ x. b && is_in x gs)
-        (listed_numbers p t j)) [ true ↦ refl | false ↦ sym (stay_all (listed_numbers p t j)) ];
+    stay_is = takes.others j ne ∙ stay_if (is_open j t) gs (listed_numbers p t j);
   }
 
--- ---- totals over numbers in a row
+-- ---- sums over the items
 
--- f(a) and on, n numbers
-abbrev pub total : (ℕ → ℕ) → ℕ → ℕ → ℕ
-total f a zero = 0
-total f a (suc n) = f a + total f (a + 1) n
+abbrev pub items : Puzzle → List ℕ
+items p = range_with_len 1 (item_count p)
 
-pub sum_is_total : (f : ℕ → ℕ) (a n : ℕ) → sum_by f (range_with_len a n) ≡ total f a n
-sum_is_total f a zero = refl
-sum_is_total f a (suc n) = sum_by-cons f a (range_with_len (a + 1) n) ∙ ap (λ k. f a + k) (sum_is_total f (a + 1) n)
+pub sum_none : (js : List ℕ) → sum_by (λ (j : ℕ). 0) js ≡ 0
+sum_none [] = refl
+sum_none (j ∷ js) = sum_none js
 
-pub total_same : (f g : ℕ → ℕ) (a n : ℕ) → ((j : ℕ) → a ≤ j → j < a + n → f j ≡ g j) → total f a n ≡ total g a n
-total_same f g a zero h = refl
-total_same f g a (suc n) h =
-    ap₂ (λ x y. x + y) (h a (omega arith) (omega arith))
-    (total_same f g (a + 1) n (λ j u v. h j (omega (arith, u)) (omega (arith, v))))
+sum_same : (f g : ℕ → ℕ) (a n : ℕ) → ((j : ℕ) → a ≤ j → j < a + n → f j ≡ g j)
+    → sum_by f (range_with_len a n) ≡ sum_by g (range_with_len a n)
+sum_same f g a zero h = refl
+sum_same f g a (suc n) h =
+    let rest = sum_same f g (a + 1) n (λ j u v. h j (omega (arith, u)) (omega (arith, v))) in
+    grind (arith, common_steps, sum_by-cons)
 
-pub total_plus : (f g : ℕ → ℕ) (a n : ℕ) → total (λ j. f j + g j) a n ≡ total f a n + total g a n
-total_plus f g a zero = refl
-total_plus f g a (suc n) = let r = total_plus f g (a + 1) n in omega (arith, r)
+-- a member more where a test holds
+pub one_more : (f : ℕ → List ℕ) (g : ℕ → Bool) (x : ℕ) (js : List ℕ)
+    → sum_by (λ j. length (cond (g j) (x ∷ f j) (f j))) js ≡ length (filter g js) + sum_by (λ j. length (f j)) js
+one_more f g x [] = refl
+one_more f g x (j ∷ js) = grind (arith, common_steps, sum_by-cons, one_more f g x js)
 
-pub total_zero : (a n : ℕ) → total (λ j. 0) a n ≡ 0
-total_zero a zero = refl
-total_zero a (suc n) = let r = total_zero (a + 1) n in omega (arith, r)
+-- a number more that passes
+pub passes_one : (b : Bool) (f g : ℕ → Bool) (x : ℕ) (ys : List ℕ) → AllApart ys → g x ≡ false
+    → ((j : ℕ) → f j ≡ (b && eqb x j || g j)) → length (filter f ys) ≡ cond (b && is_in x ys) 1 0 + length (filter g ys)
+passes_one b f g x [] apart out is = grind (arith, common_steps, and-false)
+passes_one b f g x (y ∷ ys) apart out is =
+    grind (arith, common_steps, eqb_turn, eqb-true, eqb-false, passes_one b f g x ys apart.1 out is, is y)
 
-total_none : (k v a n : ℕ) → k < a → total (λ j. cond (eqb k j) v 0) a n ≡ 0
-total_none k v a zero h = grind (arith, common_steps, ne_eqb)
-total_none k v a (suc n) h = grind (arith, common_steps, ne_eqb, total_none k v (a + 1) n (omega (arith, h)))
+-- numbers of the list ys counted there
+passing : (f : ℕ → Bool) (xs ys : List ℕ) → AllApart xs → AllApart ys
+    → ((k : ℕ) → is_in k xs ≡ true → is_in k ys ≡ true)
+    → length (filter (λ j. is_in j xs && f j) ys) ≡ length (filter f xs)
+passing f [] ys a b within = ap length (leave_none ys)
+passing f (x ∷ xs) ys a b within =
+    let here : is_in x ys ≡ true = within x (is_in-first x xs) in
+    let rest = passing f xs ys a.1 b (λ k e. within k (in_more x k xs e)) in
+    let one = passes_one (f x) (λ j. (eqb x j || is_in j xs) && f j) (λ j. is_in j xs && f j) x ys b
+    (ap (λ b. b && f x) a.0) (λ j. grind (arith, common_steps, eqb-true)) in
+    grind (arith, common_steps, and-true)
 
--- one number alone counts
-pub total_point : (k v a n : ℕ) → a ≤ k → k < a + n → total (λ j. cond (eqb k j) v 0) a n ≡ v
-total_point k v a zero u w = absurd (omega (arith, u, w))
-total_point k v a (suc n) u w = grind (arith, common_steps, eqb-false, eqb-true, total_none, total_point k v (a + 1) n)
+apart : (n : ℕ) (xs : List ℕ) → Rises n xs → AllApart xs
+apart n [] r = tt
+apart n (x ∷ xs) r = (not_in x x xs (omega arith) r.1, apart x xs r.1)
 
--- the members that pass a test and the others are all
-pub parts : (f : ℕ → Bool) (xs : List ℕ) → length (filter f xs) + length (filter (λ x. not (f x)) xs) ≡ length xs
-parts f [] = grind (arith, common_steps)
-parts f (x ∷ xs) = grind (arith, common_steps, parts f xs)
+pub in_range : (k a n : ℕ) → a < k → k ≤ a + n → is_in k (range_with_len (a + 1) n) ≡ true
+in_range k a zero u w = absurd (omega (arith, u, w))
+in_range k a (suc n) u w = grind (arith, common_steps, eq-eqb, eqb-false, in_range k (a + 1) n)
+
+pub items_apart : (p : Puzzle) → AllApart (items p)
+items_apart p = apart 0 (items p) (Rises-range 0 (item_count p))
 
 -- ---- how many nodes leave the lists of an option's other items, counted option by option and item by item
 
--- ---- one option
+pub gone_is : (p : Puzzle) (col : Node → ℕ) (i o : ℕ) → IsFit p
+    → length (filter (λ j. leaves p col i j o) (items p)) ≡ gone_count p col i o
+gone_is p col i o fit = passing (λ j. not (is_mark p col o j)) (other_items p o i) (items p) (others_apart p o i fit)
+    (items_apart p) (λ k e. let r = (other_item o i k fit e).item in in_range k 0 (item_count p) r.0 (omega (arith, r.1)))
 
-abbrev one_if : Bool → ℕ
-one_if b = cond b 1 0
-
-length_one : {X : Type 0} (b : Bool) (x : X) (xs : List X) → length (cond b (x ∷ xs) xs) ≡ cond b 1 0 + length xs
-length_one true x xs = omega arith
-length_one false x xs = omega arith
-
--- the items in a list, counted over all items
-pub counted_over : (n : ℕ) (f : ℕ → Bool) (js : List ℕ) → AllApart js
-    → ((k : ℕ) → is_in k js ≡ true → (1 ≤ k) × (k < 1 + n))
-    → length (filter f js) ≡ total (λ j. one_if (is_in j js && f j)) 1 n
-counted_over n f [] apart within = sym (total_zero 1 n)
-counted_over n f (j ∷ js) apart within =
-    let rest = counted_over n f js apart.1 (λ k e. within k (in_more j k js e)) in
-    let here = within j (is_in-first j js) in
-    let sum = total_plus (λ k. cond (eqb j k) (one_if (f j)) 0) (λ k. one_if (is_in k js && f k)) 1 n in
-    let same : total (λ k. one_if ((eqb j k || is_in k js) && f k)) 1 n ≡ total
-    (λ k. cond (eqb j k) (one_if (f j)) 0 + one_if (is_in k js && f k)) 1 n =
-    grind (arith, common_steps, eqb-true, total_same) in
-    omega (arith, rest, total_point j (one_if (f j)) 1 n here.0 here.1, sum, same, length_one (f j) j (filter f js))
-
--- ---- some options
-
-abbrev pub total_gone : Puzzle → (Node → ℕ) → ℕ → List ℕ → ℕ
-total_gone p col i [] = 0
-total_gone p col i (o ∷ os) = gone_count p col i o + total_gone p col i os
-
--- option by option or item by item
 pub exchanged : (p : Puzzle) (col : Node → ℕ) (i : ℕ) (os : List ℕ) → IsFit p
-    → total_gone p col i os ≡ total (λ j. length (filter (leaves p col i j) os)) 1 (item_count p)
-exchanged p col i [] fit = sym (total_zero 1 (item_count p))
+    → sum_by (gone_count p col i) os ≡ sum_by (λ j. length (filter (leaves p col i j) os)) (items p)
+exchanged p col i [] fit = sym (sum_none (items p))
 exchanged p col i (o ∷ os) fit =
-    let n = item_count p in
-    let here = counted_over n (λ j. not (is_mark p col o j)) (other_items p o i) (others_apart p o i fit) (λ k e.
-    grind (arith, common_steps, and_parts, in_others, item_range)) in
-    let sum = total_plus (λ j. cond (leaves p col i j o) 1 0) (λ j. length (filter (leaves p col i j) os)) 1 n in
-    let same : total (λ j. length
-    (cond (leaves p col i j o) (o ∷ filter (leaves p col i j) os) (filter (leaves p col i j) os))) 1 n ≡ total
-    (λ j. cond (leaves p col i j o) 1 0 + length (filter (leaves p col i j) os)) 1 n =
-    grind (arith, common_steps, length_one, total_same) in
-    omega (arith, here, exchanged p col i os fit, sum, same)
+    let more = one_more (λ j. filter (leaves p col i j) os) (λ j. leaves p col i j o) o (items p) in
+    omega (arith, sum_by-cons (gone_count p col i) o os, exchanged p col i os fit, more, gone_is p col i o fit)
 
 -- the walk's costs: 1 for each option kept, 3 for each node that leaves
 pub costs_split : (p : Puzzle) (col : Node → ℕ) (i : ℕ) (keep : Option ℕ) (xs : List ℕ) → sum_by
-    (step_cost p col i keep) xs ≡ length (filter (is_kept p i keep) xs) + 3 * total_gone p col i (leavers p i keep xs)
+    (step_cost p col i keep) xs ≡ length (filter (is_kept p i keep) xs)
+    + 3 * sum_by (gone_count p col i) (leavers p i keep xs)
 costs_split p col i keep [] = grind (arith, common_steps)
 costs_split p col i keep (o ∷ xs) = grind (arith, common_steps, costs_split p col i keep xs, sum_by-cons)
 
@@ -255,8 +242,11 @@ costs_split p col i keep (o ∷ xs) = grind (arith, common_steps, costs_split p 
 
 pub leaving_is : (p : Puzzle) (t : List Move) (m : Move) (k : ℕ → List ℕ)
     → ((j : ℕ) → (0 < j) × (j ≤ item_count p) → SameCut p t m j (k j))
-    → leaving p t m ≡ total (λ j. length (k j)) 1 (item_count p)
-leaving_is p t m k cuts = grind (arith, common_steps, length-map, parts, sum_is_total, total_same)
+    → leaving p t m ≡ sum_by (λ j. length (k j)) (items p)
+leaving_is p t m k cuts = sum_same _ _ 1 (item_count p) (λ j u v.
+    let c = cuts j (omega (arith, u), omega (arith, v)) in
+    let all = length-filter_both c.test (λ x. not (c.test x)) (λ x. refl) (listed_numbers p t j) in
+    grind (arith, common_steps, length-map))
 
 -- ---- what each move takes out of the lists of the other items, in option numbers
 
@@ -264,11 +254,15 @@ goes_is : (gone : List Numbered) (x : ℕ) → goes gone x ≡ is_in x (map (λ 
 goes_is [] x = refl
 goes_is (o ∷ os) x = ap (λ b. eqb o.number x || b) (goes_is os x)
 
+without_is : (gone os : List Numbered) {gs : List ℕ} → map (λ o. o.number) gone ≡ gs
+    → map (λ o. o.number) (without gone os) ≡ stay (λ x. is_in x gs) (map (λ o. o.number) os)
+without_is gone os is = grind (arith, common_steps, filter_agree, goes_is, without_numbers)
+
 pub takes_listed : (p : Puzzle) (t : List Move) (m : Move) (i : ℕ) (gone : List Numbered) {gs : List ℕ}
     → map (λ o. o.number) gone ≡ gs
     → ((j : ℕ) → j ≢ i → listed p (m ∷ t) j ≡ cond (is_open j t) (without gone (listed p t j)) (listed p t j))
     → TakesOut p t m i gs
-takes_listed p t m i gone is h = grind (arith, common_steps, filter_agree, goes_is, without_numbers)
+takes_listed p t m i gone is h = grind (arith, common_steps, without_is)
 
 pub listed_options : (p : Puzzle) (t : List Move) (i : ℕ) → AreLegal p t → is_open i t ≡ true
     → AllByRecursion (IsOption p) (listed p t i)
@@ -306,23 +300,20 @@ own_purify p t i c = grind (arith, common_steps, eq-eqb)
 
 -- ---- Tweak
 
--- the first number, in a list of its own
-abbrev pub first_alone : List ℕ → List ℕ
-first_alone [] = []
-first_alone (x ∷ xs) = x ∷ []
-
-take_numbers : (os : List Numbered) → map (λ o. o.number) (take 1 os) ≡ first_alone (map (λ o. o.number) os)
-take_numbers [] = refl
-take_numbers (o ∷ os) = refl
+drop_alone : (x : ℕ) (xs : List ℕ) → Rises 0 (x ∷ xs) → xs ≡ stay (λ y. is_in y (x ∷ [])) (x ∷ xs)
+drop_alone x xs r = drop_first 0 (x ∷ xs) r
+    ∙ filter_agree _ _ (λ y. ap not (eqb_turn y x ∙ sym (or-false (eqb x y)))) (x ∷ xs)
 
 module _ (p : Puzzle) (t : List Move) (i : ℕ) where
-  pub takes_tweak : is_open i t ≡ true → TakesOut p t (Tweak i) i (first_alone (listed_numbers p t i))
-  takes_tweak opened = takes_listed p t (Tweak i) i _ (take_numbers (listed p t i))
-      (λ j ne. grind (arith, common_steps, eq-eqb, eqb-false, eqb-true, false≢true, ne_eqb))
+  pub tweak_own : listed_numbers p (Tweak i ∷ t) i ≡ drop 1 (listed_numbers p t i)
+  tweak_own = grind (arith, common_steps, drop-map, eq-eqb)
 
-  -- a closed item's Tweak takes none out of other lists
-  pub tweak_others : (j : ℕ) → is_open i t ≡ false → j ≢ i → listed_numbers p (Tweak i ∷ t) j ≡ listed_numbers p t j
-  tweak_others j shut ne = grind (arith, common_steps, ne_eqb)
-
-pub tweak_own : (p : Puzzle) (t : List Move) (i : ℕ) → listed_numbers p (Tweak i ∷ t) i ≡ drop 1 (listed_numbers p t i)
-tweak_own p t i = grind (arith, common_steps, drop_numbers, eq-eqb)
+  -- the first option leaves item i's list, and if i is open those of the other open items
+  pub tweak_stay : (j o : ℕ) (os : List ℕ) (b : Bool) → is_open i t ≡ b → listed_numbers p t i ≡ o ∷ os
+      → listed_numbers p (Tweak i ∷ t) j ≡
+      cond (eqb j i || (b && is_open j t)) (stay (λ x. is_in x (o ∷ [])) (listed_numbers p t j)) (listed_numbers p t j)
+  tweak_stay j o os b opened is =
+      let rise : Rises 0 (o ∷ os) = subst (Rises 0) is (rises_listed p t i) in
+      let alone : map (λ o. o.number) (take 1 (listed p t i)) ≡ o ∷ [] =
+      sym (take-map (λ o. o.number) 1 (listed p t i)) ∙ ap (take 1) is in
+      grind (arith, common_steps, drop_alone, eqb-true, tweak_own, without_is)

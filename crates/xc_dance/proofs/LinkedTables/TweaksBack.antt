@@ -1,10 +1,10 @@
 -- Some Tweaks of one item undone at once: the lines before and after them, the whole way down, and the node table.
-use Rattle.std.proofs.Common.{◌≡◌, ◌≢◌, ℕ, zero, suc, ◌+◌, ◌*◌, ◌<◌, ◌≤◌, Bool, true, false, not, cond, eqb, List, []}
-use Rattle.std.proofs.Common.{◌∷◌, ◌++◌, length, map, filter, drop, reverse, get_or, refl, ap, sym, subst, ◌∙◌, arith}
-use Rattle.std.proofs.Common.{length-append, inr, fold, ap₂, eqb-true, ◌&&◌}
+use Rattle.std.proofs.Common.{◌≡◌, ◌≢◌, ℕ, zero, suc, ◌+◌, ◌*◌, ◌<◌, ◌≤◌, Bool, true, not, List, []}
+use Rattle.std.proofs.Common.{◌∷◌, ◌++◌, length, map, drop, reverse, get_or, refl, ap, sym, subst, ◌∙◌, arith}
+use Rattle.std.proofs.Common.{length-append, ap₂, eqb-true}
 use Rattle.std.proofs.lemmas.Grind.{common_steps}
 use Rattle.std.proofs.lemmas.List.{append_assoc, length-map}
-use Rattle.std.proofs.lemmas.List.Sums.{fold-append}
+use Rattle.std.proofs.lemmas.List.Sums.{fold-append, sum_by-cons, sum_by_push}
 use Rattle.std.proofs.lemmas.List.Elements.{filter-append}
 use Rattle.std.proofs.lemmas.Option.{slice_get_within}
 use Rattle.std.proofs.lemmas.List.Folds.{list_any-append}
@@ -22,27 +22,29 @@ use Rattle.xc_dance.specs.inner.Links.Made.{IsFitted}
 use Rattle.xc_dance.specs.declared.links.nodes.Nodes.{Nodes}
 use Rattle.xc_dance.specs.Cost.{cost_of_newest, undo_tweaks_cost}
 use Rattle.xc_dance.specs.inner.Links.Steps.{followed}
-use Rattle.xc_dance.specs.inner.Links.TweaksBack.{brought_back, CanBringBackAll, bring_back_costs, with_top, with_dlink}
+use Rattle.xc_dance.specs.inner.Links.TweaksBack.{brought_back, with_top, with_dlink}
 use Rattle.xc_dance.specs.inner.Links.TweaksBack.{untweaked_all, untweak_all_cost, CanUntweakAll}
 use Rattle.xc_dance.specs.inner.Links.Laid.{IsLaid}
-use Rattle.xc_dance.proofs.LinkedTables.Sweep.{other_items, cut, cuts, is_in-first, in_above, IsLinkedFrom, Rises}
+use Rattle.xc_dance.proofs.LinkedTables.Sweep.{cut, cuts, is_in-first, IsLinkedFrom, Rises}
 use Rattle.xc_dance.proofs.LinkedTables.Sweep.{rises, by_first, put_at-same, put_at-other, cut-linked, stands}
-use Rattle.xc_dance.proofs.LinkedTables.Sweep.{leave_none, put_at, with_line, in_more, Rises-filter}
+use Rattle.xc_dance.proofs.LinkedTables.Sweep.{put_at, with_line, in_more}
 use Rattle.xc_dance.proofs.LinkedTables.LinkColumns.{map_same, get_down, same_nodes, set_link, set_top, get_len}
-use Rattle.xc_dance.proofs.LinkedTables.OtherItems.{leaves}
-use Rattle.xc_dance.proofs.LinkedTables.GoodLines.{SameCut, line_after, Named, numbers_named, numbers_few, tables_same}
+use Rattle.xc_dance.proofs.LinkedTables.GoodLines.{line_after, Named, numbers_named, numbers_few, tables_same}
 use Rattle.xc_dance.proofs.LinkedTables.GoodLines.{line_is}
-use Rattle.xc_dance.proofs.LinkedTables.Leaving.{leaves_are, tweak_own, AreOf}
-use Rattle.xc_dance.proofs.LinkedTables.TweakStep.{has_first, tweak_cut, tweak_colours, tweak_cost_is, to_come}
-use Rattle.xc_dance.proofs.LinkedTables.TweakStep.{back_writes, tweak_cuts}
+use Rattle.xc_dance.proofs.LinkedTables.Leaving.{tweak_own, AreOf}
+use Rattle.xc_dance.proofs.LinkedTables.TweakStep.{has_first, tweak_colours, tweak_cost_is, back_writes, tweak_cuts, off}
+use Rattle.xc_dance.proofs.LinkedTables.TweakStep.{off_are}
+use Rattle.xc_dance.proofs.LinkedTables.Walks.{Kind, AllLed, Led, Way, way_led}
+use Rattle.xc_dance.specs.inner.Links.TweaksBack.{CanBringBack, bring_back_cost}
+use Rattle.std.proofs.Math.Path.{fun_ext}
+use Rattle.std.proofs.Common.{sum_by, ne_eqb, eq-eqb, ◌^◌}
+use Rattle.xc_dance.proofs.LinkedTables.GoodLines.{InRange, listed_member}
+use Rattle.xc_dance.proofs.LinkedTables.Sweep.{stay_all}
 use Rattle.xc_dance.proofs.LinkedTables.BringBack.{BringingBack, bring_back_step, half, top_kept, down_kept}
 use Rattle.xc_dance.proofs.LinkedTables.OneOption.{line_there, line_here}
 use Rattle.xc_dance.proofs.LinkedTables.HideMoves.{own_placed, follow_down}
-use Rattle.xc_dance.proofs.MoveLemmas.Shortened.{rises_listed}
-use Rattle.xc_dance.proofs.MoveLemmas.Members.{element_of, in_filter, same_members}
 use Rattle.xc_dance.proofs.LinkedTables.MoveStep.{none_newest}
 use Rattle.xc_dance.proofs.LinkedTables.Regained.{Regaining, regaining, regaining_len}
-use Rattle.xc_dance.specs.declared.links.nodes.TheConstants.{MARK}
 use Rattle.std.specs.List.{AllByRecursion}
 
 -- ---- the lines after some Tweaks of one item, from those before
@@ -57,32 +59,18 @@ pub kept : {X : Type 0} (f : List Move → X) (i : ℕ) (t : List Move)
 kept f i t same zero = refl
 kept f i t same (suc k) = same (tweaks k i t) ∙ kept f i t same k
 
--- what the Tweaks that took off these options wrote
-abbrev pub tweak_writes : Puzzle → (Node → ℕ) → Bool → ℕ → List ℕ → ℕ
-tweak_writes p col covered i [] = 0
-tweak_writes p col covered i (o ∷ os) = (3 + back_writes p col covered i o) + tweak_writes p col covered i os
-
-tweak_writes-append : (p : Puzzle) (col : Node → ℕ) (covered : Bool) (i : ℕ) (os : List ℕ) (o : ℕ)
-    → tweak_writes p col covered i (os ++ o ∷ []) ≡ (3 + back_writes p col covered i o) + tweak_writes p col
-    covered i os
-tweak_writes-append p col covered i [] o = refl
-tweak_writes-append p col covered i (x ∷ xs) o = let r = tweak_writes-append p col covered i xs o in omega (arith, r)
-
 -- the options that k Tweaks of item i after the moves t took off
 pub record Tweaked (p : Puzzle) (t : List Move) (covered : Bool) (i k : ℕ) : Type 0 where
   pub os : List ℕ
   pub count : length os ≡ k
   pub list : listed_numbers p t i ≡ os ++ listed_numbers p (tweaks k i t) i
-  pub own : line_of p (tweaks k i t) i ≡ cuts (line_of p t i) os
-  pub others : (j : ℕ) → 0 < j → j ≤ item_count p → j ≢ i
-      → line_of p (tweaks k i t) j ≡ cuts (line_of p t j) (to_come p t covered i j os)
+  pub lines : (j : ℕ) → InRange p j
+      → line_of p (tweaks k i t) j ≡ cuts (line_of p t j) (off p (color_in p t) covered i j os)
   pub taken : taken_nodes p (tweaks k i t) ≡ reverse (map (link_place p i) os) ++ taken_nodes p t
-  pub costs : cost_of_newest k p (tweaks k i t) ≡ tweak_writes p (color_in p t) covered i os
+  pub costs : cost_of_newest k p (tweaks k i t) ≡ 3 * k + sum_by (back_writes p (color_in p t) covered i) os
 
-pub colours_kept : (p : Puzzle) (i : ℕ) (t : List Move) (k : ℕ)
-    → map (color_in p (tweaks k i t)) (layout p) ≡ map (color_in p t) (layout p)
-colours_kept p i t = kept (λ s. map (color_in p s) (layout p)) i t
-    (λ s. map_same (color_in p s) (color_in p (Tweak i ∷ s)) (layout p) (λ q n e. tweak_colours p s i n))
+pub colours_kept : (p : Puzzle) (i : ℕ) (t : List Move) (k : ℕ) → color_in p (tweaks k i t) ≡ color_in p t
+colours_kept p i t k = kept (color_in p) i t (λ s. fun_ext (tweak_colours p s i)) k
 
 pub tweaked : (p : Puzzle) (t : List Move) (spans : List Span) (covered : Bool) (i k : ℕ) → AreLegal p (tweaks k i t)
     → IsFitted p spans → is_open i t ≡ not covered → Tweaked p t covered i k
@@ -90,8 +78,7 @@ tweaked p t spans covered i zero legal fit opened = record {
   os = [];
   count = refl;
   list = refl;
-  own = refl;
-  others = λ j pos le ne. refl;
+  lines = λ j r. refl;
   taken = refl;
   costs = none_newest p t;
 }
@@ -100,103 +87,76 @@ tweaked p t spans covered i (suc k) legal fit opened =
     let h = tweaked p t spans covered i k legal.1 fit opened in
     let os = h.os in
     let f = has_first p s i legal.0.2 in
-    let o = f.o in
+    let one = f.o ∷ [] in
     let rest : listed_numbers p (Tweak i ∷ s) i ≡ f.os = tweak_own p s i ∙ ap (drop 1) f.is in
     let pos : 0 < i = let m = legal.0.0.0 in omega (arith, m) in
     let opened_s : is_open i s ≡ not covered = kept (is_open i) i t (λ s. refl) k ∙ opened in
     let same = colours_kept p i t k in
     record {
-      os = os ++ o ∷ [];
-      count = let a = length-append os (o ∷ []) in let b = h.count in omega (arith, a, b);
+      os = os ++ one;
+      count = let a = length-append os one in let b = h.count in omega (arith, a, b);
       list = grind (arith, common_steps, append_assoc);
-      own = line_after p s (Tweak i) i (o ∷ []) (tweak_cut p s i f) ∙ ap (λ (m : Line). cut m o) h.own
-          ∙ sym (fold-append cut (line_of p t i) os (o ∷ []));
-      others = λ j jpos jle ne.
-          let one = to_come p t covered i j (o ∷ []) in
-          line_after p s (Tweak i) j one (subst (λ (cs : List ℕ). SameCut p s (Tweak i) j (filter (λ o. not covered
-          && (is_in j (other_items p o i) && not (eqb (get_or cs (link_place p j o) 0) MARK))) (o ∷ []))) same
-          (tweak_cuts p s spans covered i j legal.1 fit opened_s f (jpos, jle) ne))
-          ∙ ap (λ (m : Line). cuts m one) (h.others j jpos jle ne)
-          ∙ sym (ap (cuts (line_of p t j)) (filter-append (λ o. not covered && leaves p (color_in p t) i j o) os
-          (o ∷ []))
-          ∙ fold-append cut (line_of p t j) (to_come p t covered i j os) one);
+      lines = λ j r. line_after p s (Tweak i) j _ (tweak_cuts p s spans covered i legal.1 fit opened_s f j r)
+          ∙ ap₂ cuts (h.lines j r) (ap (λ col. off p col covered i j one) same)
+          ∙ sym (ap (cuts (line_of p t j)) (filter-append _ os one)
+          ∙ fold-append cut (line_of p t j) (off p (color_in p t) covered i j os) _);
       taken = grind (arith, common_steps);
       costs =
-          let one = tweak_cost_is p s spans covered i legal.1 fit opened_s pos legal.0.0.1 f in
-          let alike : back_writes p (color_in p s) covered i o ≡ back_writes p (color_in p t) covered i o =
-          ap (λ (cs : List ℕ). cond covered 0 (3 * length (filter (λ j. not (eqb (get_or cs (link_place p j o) 0) MARK))
-          (other_items p o i)))) same in
-          omega (arith, one, alike, h.costs, tweak_writes-append p (color_in p t) covered i os o);
+          let cost = tweak_cost_is p s spans covered i legal.1 fit opened_s pos legal.0.0.1 f in
+          let alike = ap (λ col. back_writes p col covered i f.o) same in
+          omega (arith, cost, alike, h.costs, sum_by_push (back_writes p (color_in p t) covered i) os f.o);
     }
 
 -- ---- all the way down: the nodes that k Tweaks of one item took off come back, and the lines are then those of before
 -- the Tweaks
 
--- what the steps write
-abbrev pub bring_back_writes : Puzzle → (Node → ℕ) → Bool → ℕ → List ℕ → ℕ
-bring_back_writes p col covered i [] = 0
-bring_back_writes p col covered i (o ∷ os) = (1 + back_writes p col covered i o) + bring_back_writes p col covered i os
+abbrev bringing : List Span → Bool → Kind
+bringing spans covered = record {
+  step = brought_back spans covered;
+  Can = CanBringBack spans covered;
+  writes = bring_back_cost spans covered;
+  links = λ t. t.dlink;
+}
 
-record BringBackWalk (p : Puzzle) (t : List Move) (spans : List Span) (covered : Bool) (i n : ℕ) (ln : ℕ → Line)
-    (a : ℕ) (os : List ℕ) : Type 0 where
-  end : ℕ → Line
-  walk : CanBringBackAll spans covered (nodes_from p ln (color_in p t)) (link_place p i ((line_of p t i).down a))
-      (map (link_place p i) os)
-  done : fold (brought_back spans covered) (nodes_from p ln (color_in p t)) (map (link_place p i) os) ≡ nodes_from p
-      end (color_in p t)
-  bringing : BringingBack p t covered i n end []
-  costs : bring_back_costs spans covered (nodes_from p ln (color_in p t)) (map (link_place p i) os) ≡
-      bring_back_writes p (color_in p t) covered i os
+-- a step at option o, from these lines and the member below which it comes back
+abbrev Brings : Puzzle → List Move → List Span → Bool → ℕ → (ℕ → Line) × ℕ → (ℕ → Line) × ℕ → ℕ → Type 0
+Brings p t spans covered i s u o =
+    let place : ℕ → ℕ = λ a. link_place p i ((line_of p t i).down a) in
+    Led (bringing spans covered) (nodes_from p s.0 (color_in p t)) (nodes_from p u.0 (color_in p t)) (place s.1)
+    (place u.1) (link_place p i o) (1 + back_writes p (color_in p t) covered i o)
 
 bring_back_walk : (p : Puzzle) (t : List Move) (spans : List Span) (covered : Bool) (i n : ℕ) (ln : ℕ → Line) (a : ℕ)
     (os rest : List ℕ) → AreLegal p t → IsFitted p spans → 0 < i → i ≤ item_count p → is_open i t ≡ not covered
     → ((x : ℕ) → is_in x os ≡ true → is_in x (listed_numbers p t i) ≡ true)
     → IsLinkedFrom (line_of p t i) a (os ++ rest) → BringingBack p t covered i n ln os
-    → BringBackWalk p t spans covered i n ln a os
-bring_back_walk p t spans covered i n ln a [] rest legal fit pos le opened among linked h =
-    record { end = ln; walk = tt; done = refl; bringing = h; costs = refl }
+    → (u : (ℕ → Line) × ℕ) × (BringingBack p t covered i n u.0 [] × Way (Brings p t spans covered i) (ln, a) os u)
+bring_back_walk p t spans covered i n ln a [] rest legal fit pos le opened among linked h = ((ln, a), (h, refl))
 bring_back_walk p t spans covered i n ln a (o ∷ os) rest legal fit pos le opened among linked h =
-    let col = color_in p t in
     let within : is_in o (listed_numbers p t i) ≡ true = among o (is_in-first o os) in
-    let named : Named p i o = element_of (Named p i) o (listed_numbers p t i) (numbers_named p t i) within in
-    let o_pos : 0 < o = in_above 0 o (listed_numbers p t i) (rises_listed p t i) within in
-    let here = fit.laid.there i o pos le (inr (o_pos, named)) in
+    let here = fit.laid.there i o pos le (listed_member t i o fit.fit (pos, le) within).name in
     let s = bring_back_step p t spans covered i n ln o os legal fit pos le opened within h in
-    let t0 : Nodes = nodes_from p ln col in
-    let rest' =
-    bring_back_walk p t spans covered i n s.ln' o os rest legal fit pos le opened
+    let r = bring_back_walk p t spans covered i n s.ln' o os rest legal fit pos le opened
     (λ z e. among z (in_more o z os e)) linked.3 s.bringing in
     let x_in = slice_get_within (layout p) (link_place p i o) here.node here.at in
-    let down_is : (s.ln' i).down o ≡ (line_of p t i).down o = ap (λ (l : Line). l.down o) s.bringing.is in
-    let first = ap (link_place p i) linked.1 in
-    let next = get_down p s.ln' i o here ∙ ap (link_place p i) down_is in
-    let long = length-map (layout p) (dlink_in p s.ln') in
-    grind (arith, common_steps, map (link_place p i) os, nodes_from p s.ln' col)
+    let led : Brings p t spans covered i (ln, a) (s.ln', o) o = record {
+      leads = record { can = s.can; done = s.done; cost = s.cost };
+      here = ap (link_place p i) linked.1;
+      within = omega (arith, x_in, length-map (layout p) (dlink_in p s.ln'));
+      next = get_down p s.ln' i o here ∙ ap (λ (l : Line). link_place p i (l.down o)) s.bringing.is;
+    } in
+    (r.0, (r.1.0, ((s.ln', o), (led, r.1.1))))
 
 -- ---- some Tweaks of one item undone at once: from the node table after them to that before
 
--- members that a test takes out of a list are regained by its line
-regained_by : (p : Puzzle) (t : List Move) (j : ℕ) (f : ℕ → Bool) (ks : List ℕ) → ks ≡ filter f (listed_numbers p t j)
-    → Regaining (line_of p t j) (cuts (line_of p t j) ks) ks
-regained_by p t j f ks e =
+-- the options that they took off come back to each line
+regained : (p : Puzzle) (t : List Move) (spans : List Span) (covered : Bool) (i j : ℕ) (os : List ℕ) → AreLegal p t
+    → IsFitted p spans → is_open i t ≡ not covered → AreOf p t i os → InRange p j
+    → (let ks = off p (color_in p t) covered i j os in Regaining (line_of p t j) (cuts (line_of p t j) ks) ks)
+regained p t spans covered i j os legal fit opened of r =
     let long = length-map (listed p t j) (λ o. o.number) in
-    subst (λ ks. Regaining (line_of p t j) (cuts (line_of p t j) ks) ks) (sym e)
-    (regaining (line_of p t j) 0 (listed_numbers p t j) f (stands p t j) (omega (arith, long)))
-
-others_start : (p : Puzzle) (t : List Move) (spans : List Span) (covered : Bool) (i j : ℕ) (os : List ℕ) → AreLegal p t
-    → IsFitted p spans → is_open i t ≡ not covered → AreOf p t i os → 0 < j → j ≤ item_count p → j ≢ i →
-    Regaining (line_of p t j) (cuts (line_of p t j) (to_come p t covered i j os)) (to_come p t covered i j os)
-others_start p t spans true i j os legal fit shut of pos le ne =
-    regained_by p t j (λ x. false) _ (leave_none os ∙ sym (leave_none (listed_numbers p t j)))
-others_start p t spans false i j os legal fit opened of pos le ne =
-    regained_by p t j (λ x. is_open j t && is_in x os) _
-    (leaves_are p t i legal fit.laid fit.fit opened j os (pos, le) of ne)
-
-own_start : (p : Puzzle) (t : List Move) (i : ℕ) (os : List ℕ) → AreOf p t i os
-    → Regaining (line_of p t i) (cuts (line_of p t i) os) os
-own_start p t i os of = regained_by p t i (λ x. is_in x os) os (same_members 0 os _ of.rise
-    (Rises-filter (λ x. is_in x os) 0 (listed_numbers p t i) (rises_listed p t i))
-    (λ x. sym (in_filter (λ x. is_in x os) x (listed_numbers p t i) ∙ grind (arith, common_steps, AreOf))))
+    subst (λ ks. Regaining (line_of p t j) (cuts (line_of p t j) ks) ks)
+    (sym (off_are p t spans covered i legal fit opened j os r of))
+    (regaining (line_of p t j) 0 (listed_numbers p t j) _ (stands p t j) (omega (arith, long)))
 
 rises_part : (n : ℕ) (os rest : List ℕ) → Rises n (os ++ rest) → Rises n os
 rises_part n [] rest r = tt
@@ -263,10 +223,9 @@ pub record Undoes (spans : List Span) (covered : Bool) (nodes : Nodes) (i x k : 
   pub paid : untweak_all_cost spans covered nodes i x k ≡ cost
 
 -- each step writes two cells less than the Tweak did
-fewer : (p : Puzzle) (col : Node → ℕ) (covered : Bool) (i : ℕ) (os : List ℕ)
-    → bring_back_writes p col covered i os + 2 * length os ≡ tweak_writes p col covered i os
-fewer p col covered i [] = refl
-fewer p col covered i (o ∷ os) = let r = fewer p col covered i os in omega (arith, r)
+fewer : (f : ℕ → ℕ) (os : List ℕ) → sum_by (λ o. 1 + f o) os ≡ length os + sum_by f os
+fewer f [] = refl
+fewer f (o ∷ os) = grind (arith, common_steps, sum_by-cons, fewer f os)
 
 pub tweaks_back : (p : Puzzle) (t : List Move) (spans : List Span) (covered : Bool) (i k : ℕ) → Tweaked p t covered i k
     → AreLegal p t → IsFitted p spans → 0 < i → i ≤ item_count p → is_open i t ≡ not covered → 0 < k
@@ -290,40 +249,52 @@ tweaks_back p t spans covered i k h legal fit pos le opened some =
     let T : Nodes = nodes_after p s in
     let t0 : Nodes = nodes_from p ln0 col in
     let n = (cuts l os).len in
-    let same_col : T ≡ nodes_from p lnS col =
-    same_nodes T (nodes_from p lnS col) refl refl refl (colours_kept p i t k) in
+    let same_col : T ≡ nodes_from p lnS col = ap (nodes_from p lnS) (colours_kept p i t k) in
     let start : with_dlink T i x ≡ t0 = grind (arith, common_steps, lowered_is) in
+    let all : off p col covered i i os ≡ os = rw (eq-eqb i i refl) (stay_all os) in
+    let own_lost : lnS i ≡ cuts l os = h.lines i (pos, le) ∙ ap (cuts l) all in
     let own_is : ln0 i ≡ half n (cuts l os) l =
-    line_here lnS i w ∙ ap (λ (m : Line). lowered m (l.down 0)) h.own ∙ lowered_first l os rest linked in
-    let bringing : BringingBack p t covered i n ln0 os = record {
+    line_here lnS i w ∙ ap (λ (m : Line). lowered m (l.down 0)) own_lost ∙ lowered_first l os rest linked in
+    let regains = λ (j : ℕ) (r : InRange p j). regained p t spans covered i j os legal fit opened of r in
+    let own_back : Regaining l (cuts l os) os = rw all at (regains i (pos, le)) in
+    let back : BringingBack p t covered i n ln0 os = record {
       others =
-          λ j jpos jle ne. subst (λ (m : Line). Regaining (line_of p t j) m (to_come p t covered i j os))
-          (sym (line_there lnS i j w ne ∙ h.others j jpos jle ne))
-          (others_start p t spans covered i j os legal fit opened of jpos jle ne);
+          λ j jpos jle ne. rw (line_there lnS i j w ne, h.lines j (jpos, jle), ne_eqb j i ne)
+          (rw (ne_eqb j i ne) at (regains j (jpos, jle)));
       line = cuts l os;
-      own = own_start p t i os of;
+      own = own_back;
       is = own_is;
     } in
-    let cw = bring_back_walk p t spans covered i n ln0 0 os rest legal fit pos le opened among linked bringing in
+    let cw = bring_back_walk p t spans covered i n ln0 0 os rest legal fit pos le opened among linked back in
+    let e : Nodes = nodes_from p cw.0.0 col in
+    let writes = back_writes p col covered i in
     let follow : followed t0.dlink k x ≡ map (link_place p i) os =
-    ap (λ k. followed t0.dlink k x) (sym h.count) ∙ follow_down p ln0 l i 0 os rest laid pos le
+    ap (λ (k : ℕ). followed t0.dlink k x) (sym h.count) ∙ follow_down p ln0 l i 0 os rest laid pos le
     (subst (AllByRecursion (Named p i)) h.list (numbers_named p t i)) linked
     (λ y. ap (λ (m : Line). m.down y) own_is) in
-    let follow' : followed (with_dlink T i x).dlink k x ≡ map (link_place p i) os = grind (arith, common_steps) in
-    let fold_is : fold (brought_back spans covered) (with_dlink T i x) (followed (with_dlink T i x).dlink k x) ≡
-    nodes_from p cw.end col = grind (arith, common_steps) in
+    let led = subst (λ (v : Nodes). AllLed (bringing spans covered) v e x (followed v.dlink k x)
+    (sum_by (λ o. 1 + writes o) os)) (sym start) (rw follow
+    (way_led (Brings p t spans covered i) (bringing spans covered) (λ s. nodes_from p s.0 col)
+    (λ s. link_place p i (l.down s.1)) (link_place p i) (λ o. 1 + writes o) (λ s u x m. m) (ln0, 0) os cw.0 cw.1.1)) in
     let within : i < length (layout p) = slice_get_within (layout p) i (own i) (laid.head i pos le) in
-    let top_long : length (map (top_in cw.end) (layout p)) ≡ length (layout p) =
-    grind (arith, common_steps, length-map) in
-    let down_long : length T.dlink ≡ length (layout p) = length-map (layout p) (dlink_in p lnS) in
-    let len_end : get_or (nodes_from p cw.end col).top i 0 ≡ n =
-    get_len p cw.end i laid pos le ∙ ap (λ (m : Line). m.len) cw.bringing.is in
-    let lost : n + length os ≡ l.len = regaining_len l (cuts l os) os (own_start p t i os of) in
+    let len_end : get_or e.top i 0 ≡ n = get_len p cw.0.0 i laid pos le ∙ ap (λ (m : Line). m.len) cw.1.0.is in
+    let lost : n + length os ≡ l.len = regaining_len l (cuts l os) os own_back in
     let most = numbers_few p t i in
     let long_l : length (listed_numbers p t i) ≡ l.len = length-map (listed p t i) (λ o. o.number) in
     let fit_few = fit.fit.few in
-    let all = get_or (nodes_from p cw.end col).top i 0 + k in
-    let end_line = end_is l (cw.end i) cw.bringing.line n all cw.bringing.is cw.bringing.own
+    let end_line = end_is l (cw.0.0 i) cw.1.0.line n (get_or e.top i 0 + k) cw.1.0.is cw.1.0.own
     (omega (arith, len_end, lost, h.count)) in
-    let end = table_regained p t cw.end i all laid pos le end_line cw.bringing.others in
-    grind (arith, common_steps, fewer, h.costs)
+    record {
+      can = record {
+        place = omega (arith, within, length-map (layout p) (dlink_in p lnS));
+        bring_back = led.walk;
+        many = omega (arith, lost, h.count, most, long_l, fit_few);
+        top = subst (λ (v : Nodes). i < length v.top) (sym led.done)
+            (omega (arith, within, length-map (layout p) (top_in cw.0.0)));
+        few = subst (λ (v : Nodes). get_or v.top i 0 < 2 ^ 31) (sym led.done)
+            (omega (arith, len_end, lost, most, long_l, fit_few));
+      };
+      done = ap (λ (v : Nodes). with_top v i (get_or v.top i 0 + k)) led.done
+          ∙ table_regained p t cw.0.0 i (get_or e.top i 0 + k) laid pos le end_line cw.1.0.others;
+      paid = omega (arith, led.costs, h.costs, fewer writes os, h.count, some);
+    }
