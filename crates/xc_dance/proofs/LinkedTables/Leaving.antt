@@ -222,7 +222,8 @@ items_apart p = apart 0 (items p) (Rises-range 0 (item_count p))
 pub gone_is : (p : Puzzle) (col : Node → ℕ) (i o : ℕ) → IsFit p
     → length (filter (λ j. leaves p col i j o) (items p)) ≡ gone_count p col i o
 gone_is p col i o fit = passing (λ j. not (is_mark p col o j)) (other_items p o i) (items p) (others_apart p o i fit)
-    (items_apart p) (λ k e. let r = (other_item o i k fit e).item in in_range k 0 (item_count p) r.0 (omega (arith, r.1)))
+    (items_apart p)
+    (λ k e. let r = (other_item o i k fit e).item in in_range k 0 (item_count p) r.0 (omega (arith, r.1)))
 
 pub exchanged : (p : Puzzle) (col : Node → ℕ) (i : ℕ) (os : List ℕ) → IsFit p
     → sum_by (gone_count p col i) os ≡ sum_by (λ j. length (filter (leaves p col i j) os)) (items p)

@@ -1,6 +1,6 @@
 -- Cover on the item table: an item leaves its ring and comes back.
 use Rattle.std.proofs.Common.{◌≡◌, ◌≢◌, ℕ, ◌+◌, ◌<◌, ◌≤◌, ◌⊎◌, Bool, true, false, not, cond}
-use Rattle.std.proofs.Common.{eqb, leb, List, ◌∷◌, length, map, filter, get_or, set, refl, ap, ap₂, sym, subst}
+use Rattle.std.proofs.Common.{eqb, leb, List, ◌∷◌, length, map, filter, get_or, set, refl, ap, ap₂, sym}
 use Rattle.std.proofs.Common.{◌∙◌, arith, eq-eqb, ne_eqb, le-leb, leb-true, []}
 use Rattle.std.proofs.lemmas.Grind.{common_steps}
 use Rattle.std.specs.List.{range_with_len}
@@ -16,11 +16,13 @@ use Rattle.xc_dance.specs.inner.Links.ItemCells.{items_after, llink_at, rlink_at
 use Rattle.xc_dance.specs.inner.Links.Rings.{left_ring, back_in_ring}
 use Rattle.xc_dance.proofs.LinkedTables.LinkColumns.{written_back}
 use Rattle.xc_input.proofs.lists.Filters.{filter_both}
-use Rattle.xc_dance.proofs.LinkedTables.Sweep.{Rises, Rises-filter, Rises-weaker, by_first}
+use Rattle.xc_dance.proofs.LinkedTables.Sweep.{Rises, Rises-filter, Rises-weaker, by_first, above, below, members}
+use Rattle.xc_dance.proofs.LinkedTables.Leaving.{eqb_turn, in_range}
+use Rattle.xc_dance.proofs.MoveLemmas.Members.{in_filter}
+use Rattle.std.proofs.Common.{zero, suc, ◌||◌, eqb-true}
+use Rattle.xc_dance.specs.Fields.{is_in, first_above, last_below, first_of, last_of}
 use Rattle.xc_dance.proofs.LinkedTables.RingLemmas.{less, beside, beside_less, beside_other}
-use Rattle.xc_dance.proofs.LinkedTables.FirstTables.{left_is, right_is}
 use Rattle.xc_dance.proofs.LinkedTables.RingStep.{row_put, row_get, row_len, same_items, left_now, right_now}
-use Rattle.xc_dance.proofs.LinkedTables.RingStep.{still_llink, still_rlink}
 use Rattle.xc_dance.proofs.MoveLemmas.ListLemmas.{Rises-range}
 use Rattle.xc_dance.proofs.MoveLemmas.StateLemmas.{open_uncovered}
 use Rattle.xc_dance.specs.inner.Links.Made.{CanTurn}
@@ -93,114 +95,117 @@ link_other p d t q pos le un e = beside_other d (ring_head p q) q (ring_of p t q
 
 -- ---- there and back
 
--- each link leads to a place of the same ring, from where the other link leads back
-abbrev AreRings : Puzzle → List Move → Type 0
-AreRings p t = (d : Bool) (q : ℕ) → q < item_count p + 2 → Stays p t q
-    → IsBeside p t (side p q) (link p d t q) × (link p (not d) t (link p d t q) ≡ q)
+-- from a through xs to e: r leads to the next of them, and l to the one before
+abbrev IsRow : (ℕ → ℕ) → (ℕ → ℕ) → ℕ → List ℕ → ℕ → Type 0
+IsRow r l a [] e = (r a ≡ e) × (l e ≡ a)
+IsRow r l a (x ∷ xs) e = (r a ≡ x) × (l x ≡ a) × IsRow r l x xs e
 
-first_rings : (p : Puzzle) → AreRings p []
-first_rings p true q lt stays =
-    let a = right_is p q (omega (arith, lt)) in
-    let place : rlink_at p [] q < item_count p + 2 = grind (arith, common_steps) in
-    let b = left_is p (rlink_at p [] q) (omega (arith, place)) in
-    let side : side p (rlink_at p [] q) ≡ side p q = grind (arith, common_steps, leb-true, leb-false, le-leb, lt-leb) in
-    (record { place = place; side = side; stays = λ _ _. refl }, grind (arith, common_steps))
-first_rings p false q lt stays =
-    let a = left_is p q (omega (arith, lt)) in
-    let place : llink_at p [] q < item_count p + 2 = grind (arith, common_steps) in
-    let b = right_is p (llink_at p [] q) (omega (arith, place)) in
-    let side : side p (llink_at p [] q) ≡ side p q = grind (arith, common_steps, leb-true, leb-false, le-leb, lt-leb) in
-    (record { place = place; side = side; stays = λ _ _. refl }, grind (arith, common_steps))
+row_by : (r l : ℕ → ℕ) (a n : ℕ) (xs : List ℕ) (e : ℕ) → Rises n xs
+    → ((x : ℕ) → is_in x xs ≡ true → (r x ≡ first_above e x xs) × (l x ≡ last_below a x xs)) → r a ≡ first_of e xs
+    → l e ≡ last_of a xs → IsRow r l a xs e
+row_by r l a n [] e rise inner first last = (first, last)
+row_by r l a n (y ∷ ys) e rise inner first last =
+    grind (arith, common_steps, above, below, members, row_by r l y y ys e rise.1)
+
+row_back : (r l : ℕ → ℕ) (a : ℕ) (xs : List ℕ) (e : ℕ) → IsRow r l a xs e → (x : ℕ)
+    → ((eqb x a || is_in x xs) ≡ true → (l (r x) ≡ x) × ((eqb (r x) e || is_in (r x) xs) ≡ true))
+    × ((eqb x e || is_in x xs) ≡ true → (r (l x) ≡ x) × ((eqb (l x) a || is_in (l x) xs) ≡ true))
+row_back r l a [] e row x = grind (arith, common_steps, eqb-true, eq-eqb)
+row_back r l a (y ∷ ys) e row x = grind (arith, common_steps, eqb-true, eq-eqb, eqb_turn, row_back r l y ys e row.2 x)
+
+range_in : (k a n : ℕ) → is_in k (range_with_len (a + 1) n) ≡ true → (a < k) × (k ≤ a + n)
+range_in k a zero e = grind (arith, common_steps, false≢true)
+range_in k a (suc n) e = grind (arith, common_steps, eqb-true, range_in k (a + 1) n)
+
+-- the items of one side
+abbrev whole : Puzzle → Bool → List ℕ
+whole p b = cond b (range_with_len 1 (primary_count p)) (range_with_len (primary_count p + 1) p.secondary)
+
+side_in : (p : Puzzle) (b : Bool) (r : ℕ) → 0 < r → r ≤ item_count p → side p r ≡ b → is_in r (whole p b) ≡ true
+side_in p true r pos le e = in_range r 0 (primary_count p) pos (omega (arith, leb-true r (primary_count p) e))
+side_in p false r pos le e =
+    in_range r (primary_count p) p.secondary (omega (arith, leb-false r (primary_count p) e)) (omega (arith, le))
+
+in_side : (p : Puzzle) (b : Bool) (r : ℕ) → is_in r (whole p b) ≡ true
+    → (0 < r) × (r ≤ item_count p) × (side p r ≡ b)
+in_side p true r e = let h = range_in r 0 (primary_count p) e in
+    (h.0, omega (arith, h.1), le-leb r (primary_count p) (omega (arith, h.1)))
+in_side p false r e = let h = range_in r (primary_count p) p.secondary e in
+    (omega (arith, h.0), omega (arith, h.1), lt-leb r (primary_count p) h.0)
+
+-- the head of a ring or one of its items
+abbrev InRing : Puzzle → List Move → ℕ → ℕ → Type 0
+InRing p t q r = (eqb r (ring_head p q) || is_in r (ring_of p t q)) ≡ true
+
+in_ring : (p : Puzzle) (t : List Move) (q : ℕ) → q < item_count p + 2 → Stays p t q → InRing p t q q
+in_ring p t q lt stays =
+    let here = in_filter (λ j. not (is_covered j t)) q (whole p (side p q)) in
+    grind (arith, common_steps, eq-eqb, le-leb, lt-leb, side_in p (side p q) q, place_case p q lt)
+
+ring_in : (p : Puzzle) (t : List Move) (q r : ℕ) → InRing p t q r → IsBeside p t (side p q) r
+ring_in p t q r within =
+    let here = in_filter (λ j. not (is_covered j t)) r (whole p (side p q)) in
+    grind (arith, common_steps, eqb-true, le-leb, lt-leb, in_side p (side p q) r)
+
+-- where the links of a place lead in the ring of a side
+abbrev beside_on : Puzzle → List Move → Bool → Bool → ℕ → ℕ
+beside_on p t b d r = beside d (cond b 0 (item_count p + 1)) r (filter (λ j. not (is_covered j t)) (whole p b))
+
+ring_row : (p : Puzzle) (t : List Move) (q : ℕ) → (let on = beside_on p t (side p q) in
+    IsRow (on true) (on false) (ring_head p q) (ring_of p t q) (ring_head p q))
+ring_row p t q =
+    let same : eqb (ring_head p q) (ring_head p q) ≡ true = eq-eqb (ring_head p q) (ring_head p q) refl in
+    row_by _ _ (ring_head p q) 0 (ring_of p t q) (ring_head p q) (ring_rises p t q) (λ x e.
+    let here = in_filter (λ j. not (is_covered j t)) x (whole p (side p q)) in
+    grind (arith, common_steps, ne_eqb, head_other p q x, in_side p (side p q) x)) (rw same refl) (rw same refl)
+
+beside_back : (p : Puzzle) (d : Bool) (t : List Move) (q r : ℕ) → InRing p t q r → (let on = beside_on p t (side p q) in
+    (on (not d) (on d r) ≡ r) × InRing p t q (on d r))
+beside_back p true t q r within = (row_back _ _ _ _ _ (ring_row p t q) r).0 within
+beside_back p false t q r within = (row_back _ _ _ _ _ (ring_row p t q) r).1 within
+
+pub link_beside : (p : Puzzle) (d : Bool) (t : List Move) (q : ℕ) → AreLegal p t → q < item_count p + 2 → Stays p t q
+    → IsBeside p t (side p q) (link p d t q)
+link_beside p d t q legal lt stays =
+    rw (link_is p d t q lt stays) (ring_in p t q _ (beside_back p d t q q (in_ring p t q lt stays)).1)
+
+pub link_back : (p : Puzzle) (d : Bool) (t : List Move) (q : ℕ) → AreLegal p t → q < item_count p + 2 → Stays p t q
+    → link p (not d) t (link p d t q) ≡ q
+link_back p d t q legal lt stays =
+    let s = link_beside p d t q legal lt stays in
+    let is = link_is p d t q lt stays in
+    link_is p (not d) t (link p d t q) s.place s.stays ∙ ap₂ (λ r b. beside_on p t b (not d) r) is s.side
+    ∙ (beside_back p d t q q (in_ring p t q lt stays)).0
 
 -- a Cover changes one cell each way, that of the neighbour before
-next_in : (p : Puzzle) (t : List Move) → AreRings p t → (d : Bool) (i : ℕ) → 0 < i → i ≤ item_count p
+next_in : (p : Puzzle) (t : List Move) (d : Bool) (i : ℕ) → AreLegal p t → 0 < i → i ≤ item_count p
     → is_covered i t ≡ false → (q : ℕ) → q < item_count p + 2 → Stays p (Cover i ∷ t) q
     → link p d (Cover i ∷ t) q ≡ cond (eqb q (link p (not d) t i)) (link p d t i) (link p d t q)
-next_in p t rings d i pos le un q lt stays =
+next_in p t d i legal pos le un q lt stays =
     let now : Stays p t q = λ a b. (or_parts (eqb q i) (is_covered q t) (stays a b)).1 in
-    let here = rings d q lt now in
-    let own = rings (not d) i (omega (arith, le)) (λ _ _. un) in
+    let here = link_back p d t q legal lt now in
+    let within : i < item_count p + 2 = omega (arith, le) in
+    let own = link_beside p (not d) t i legal within (λ _ _. un) in
     let l = link p (not d) t i in
-    let back : link p d t l ≡ i = ap (λ c. link p c t l) (sym (not-not d)) ∙ own.1 in
+    let back : link p d t l ≡ i =
+    ap (λ c. link p c t l) (sym (not-not d)) ∙ link_back p (not d) t i legal within (λ _ _. un) in
     let beyond = λ (k : ℕ). beside d (ring_head p k) i (ring_of p t k) in
     let after : link p d (Cover i ∷ t) q ≡ cond (eqb (link p d t q) i) (beyond q) (link p d t q) =
     link_is p d (Cover i ∷ t) q lt stays ∙ ap (beside d (ring_head p q) q) (ring_less p t i q)
     ∙ beside_less d (ring_head p q) q i (ring_of p t q) (ring_rises p t q) (head_other p q i pos le)
     ∙ ap (λ v. cond (eqb v i) (beyond q) v) (sym (link_is p d t q lt now)) in
     let same : side p q ≡ side p i → beyond q ≡ link p d t i = λ e.
-    ap (λ b. beside d (cond b 0 (item_count p + 1)) i (filter (λ j. not (is_covered j t))
-    (cond b (range_with_len 1 (primary_count p)) (range_with_len (primary_count p + 1) p.secondary)))) e
-    ∙ sym (link_is p d t i (omega (arith, le)) (λ _ _. un)) in
+    ap (λ b. beside_on p t b d i) e ∙ sym (link_is p d t i (omega (arith, le)) (λ _ _. un)) in
     after ∙ by_first (cond (eqb (link p d t q) i) (beyond q) (link p d t q) ≡ cond (eqb q l) (link p d t i)
     (link p d t q)) q l
-    (λ e. rw (eq-eqb (link p d t q) i (ap (link p d t) e ∙ back), eq-eqb q l e) (same (ap (side p) e ∙ own.0.side)))
-    (λ ne. rw (ne_eqb (link p d t q) i (λ e. ne (sym here.1 ∙ ap (link p (not d) t) e)), ne_eqb q l ne) refl)
-
-cover_rings : (p : Puzzle) (t : List Move) → AreRings p t → (i : ℕ) → 0 < i → i ≤ item_count p → is_covered i t ≡ false
-    → AreRings p (Cover i ∷ t)
-cover_rings p t rings i pos le un d q lt stays =
-    let now : Stays p t q = λ a b. (or_parts (eqb q i) (is_covered q t) (stays a b)).1 in
-    let ne : q ≢ i = grind (arith, common_steps, false≢true, eq-eqb) in
-    let here = rings d q lt now in
-    let right = rings d i (omega (arith, le)) (λ _ _. un) in
-    let left = rings (not d) i (omega (arith, le)) (λ _ _. un) in
-    let l = link p (not d) t i in
-    let back : link p d t l ≡ i = ap (λ c. link p c t l) (sym (not-not d)) ∙ left.1 in
-    let stay : (r : ℕ) → IsBeside p t (side p q) r → r ≢ i → IsBeside p (Cover i ∷ t) (side p q) r = λ r s ne.
-    record { place = s.place; side = s.side; stays = λ a b. rw (ne_eqb r i ne) (s.stays a b) } in
-    let to : (r : ℕ) → link p d (Cover i ∷ t) q ≡ r → IsBeside p (Cover i ∷ t) (side p q) r
-    → cond (eqb r (link p d t i)) l (link p (not d) t r) ≡ q
-    → IsBeside p (Cover i ∷ t) (side p q) (link p d (Cover i ∷ t) q)
-    × (link p (not d) (Cover i ∷ t) (link p d (Cover i ∷ t) q) ≡ q) = λ r e s b.
-    subst (λ r. IsBeside p (Cover i ∷ t) (side p q) r × (link p (not d) (Cover i ∷ t) r ≡ q)) (sym e) (
-      s,
-      next_in p t rings (not d) i pos le un r s.place s.stays
-          ∙ ap (λ c. cond (eqb r (link p c t i)) l (link p (not d) t r)) (not-not d) ∙ b,
-    ) in
-    let next = next_in p t rings d i pos le un q lt stays in
-    by_first (IsBeside p (Cover i ∷ t) (side p q) (link p d (Cover i ∷ t) q)
-    × (link p (not d) (Cover i ∷ t) (link p d (Cover i ∷ t) q) ≡ q)) q l
-    (λ e. to (link p d t i) (next ∙ rw (eq-eqb q l e) refl)
-    (stay (link p d t i) (record {
-      place = right.0.place;
-      side = right.0.side ∙ sym (ap (side p) e ∙ left.0.side);
-      stays = right.0.stays;
-    })
-    (link_other p d t i pos le un)) (rw (eq-eqb (link p d t i) (link p d t i) refl) (sym e)))
-    (λ no. to (link p d t q) (next ∙ rw (ne_eqb q l no) refl)
-    (stay (link p d t q) here.0 (λ e. no (sym here.1 ∙ ap (link p (not d) t) e)))
-    (rw (ne_eqb (link p d t q) (link p d t i) (λ e. ne (sym here.1 ∙ ap (link p (not d) t) e ∙ right.1))) here.1))
-
-still_link : (p : Puzzle) (d : Bool) (t : List Move) (m : Move) (q : ℕ)
-    → ((q : ℕ) → is_covered q (m ∷ t) ≡ is_covered q t)
-    → link p d (m ∷ t) q ≡ link p d t q
-still_link p true t m q s = still_rlink p t m q s
-still_link p false t m q s = still_llink p t m q s
-
-rings : (p : Puzzle) (t : List Move) → AreLegal p t → AreRings p t
-rings p [] legal = first_rings p
-rings p (Cover i ∷ t) legal = cover_rings p t (rings p t legal.1) i (omega (arith, legal.0.0.0)) legal.0.0.1
-    (open_uncovered i t legal.0.1)
-rings p (m ∷ t) legal = λ d q lt stays.
-    let h = rings p t legal.1 d q lt stays in
-    let e = still_link p d t m q (λ q. refl) in (
-      subst (IsBeside p (m ∷ t) (side p q)) (sym e) (record { place = h.0.place; side = h.0.side; stays = h.0.stays }),
-      still_link p (not d) t m _ (λ q. refl) ∙ ap (link p (not d) t) e ∙ h.1,
-    )
-
-pub link_beside : (p : Puzzle) (d : Bool) (t : List Move) (q : ℕ) → AreLegal p t → q < item_count p + 2 → Stays p t q
-    → IsBeside p t (side p q) (link p d t q)
-link_beside p d t q legal lt stays = (rings p t legal d q lt stays).0
-
-pub link_back : (p : Puzzle) (d : Bool) (t : List Move) (q : ℕ) → AreLegal p t → q < item_count p + 2 → Stays p t q
-    → link p (not d) t (link p d t q) ≡ q
-link_back p d t q legal lt stays = (rings p t legal d q lt stays).1
+    (λ e. rw (eq-eqb (link p d t q) i (ap (link p d t) e ∙ back), eq-eqb q l e) (same (ap (side p) e ∙ own.side)))
+    (λ ne. rw (ne_eqb (link p d t q) i (λ e. ne (sym here ∙ ap (link p (not d) t) e)), ne_eqb q l ne) refl)
 
 pub link_next : (p : Puzzle) (d : Bool) (t : List Move) (i : ℕ) → AreLegal p t → 0 < i → i ≤ item_count p
     → is_covered i t ≡ false → (q : ℕ) → q < item_count p + 2
     → link p d (Cover i ∷ t) q ≡ cond (eqb q (link p (not d) t i)) (link p d t i) (link p d t q)
 link_next p d t i legal pos le un q lt =
-    let next = next_in p t (rings p t legal) d i pos le un q lt in
+    let next = next_in p t d i legal pos le un q lt in
     grind (arith, common_steps, ne_eqb, by_first, link_other, link_beside, false≢true, link_gone)
 
 -- ---- both ways

@@ -84,7 +84,8 @@ off p col covered i j os = filter (λ o. eqb j i || (not covered && leaves p col
 module _ (p : Puzzle) (t : List Move) (spans : List Span) (covered : Bool) (i : ℕ) (legal : AreLegal p t)
     (fit : IsFitted p spans) (opened : is_open i t ≡ not covered) where
   off_at : (j x : ℕ) (gs : List ℕ) → InRange p j → AreOf p t i gs → j ≢ i → is_in x gs ≡ true
-      → (not covered && leaves p (color_in p t) i j x) ≡ ((not covered && is_open j t) && is_in x (listed_numbers p t j))
+      → (not covered && leaves p (color_in p t) i j x) ≡
+      ((not covered && is_open j t) && is_in x (listed_numbers p t j))
   off_at j x gs r of ne within = elim covered as (λ b. is_open i t ≡ not b
       → (not b && leaves p (color_in p t) i j x) ≡ ((not b && is_open j t) && is_in x (listed_numbers p t j))) [
         | true ↦ λ e. refl
@@ -100,7 +101,8 @@ module _ (p : Puzzle) (t : List Move) (spans : List Span) (covered : Bool) (i : 
       let at : (x : ℕ) → (gone x && is_in x gs) ≡ (test x && is_in x (listed_numbers p t j)) = λ x. by_first _ j i
       (λ e. grind (arith, common_steps, eq-eqb, of.among x))
       (λ ne. rw (ne_eqb j i ne) (grind (arith, common_steps, and-false, off_at j x gs r of ne))) in
-      same_members 0 _ _ (Rises-filter gone 0 gs of.rise) (Rises-filter test 0 (listed_numbers p t j) (rises_listed p t j))
+      let rise = rises_listed p t j in
+      same_members 0 _ _ (Rises-filter gone 0 gs of.rise) (Rises-filter test 0 (listed_numbers p t j) rise)
       (λ x. in_filter gone x gs ∙ at x ∙ sym (in_filter test x (listed_numbers p t j)))
 
   -- each line loses them by a Tweak, which takes off the first
@@ -236,9 +238,10 @@ tweak_made p t spans covered i legal fit pos le some opened =
     (λ k n at. tweak_colours p t i n)) in
     let first = ap (λ ks. link_place p i (first_of 0 ks)) f.is in
     let within = slice_get_within (layout p) i (own i) (laid.head i pos le) in
-    let down_long : length (nodes_after p t).dlink ≡ length (layout p) = length-map (layout p) (dlink_in p (line_of p t)) in
-    let made = both (get_down p (line_of p t) i 0 (own_placed p i laid pos le) ∙ first) (omega (arith, within, down_long)) (hiding p t spans covered i legal fit opened f) size
-    cells.names linked.some same (subst (λ (v : Nodes). CanRelink v x) same
+    let long = length-map (layout p) (dlink_in p (line_of p t)) in
+    let made = both (get_down p (line_of p t) i 0 (own_placed p i laid pos le) ∙ first) (omega (arith, within, long))
+    (hiding p t spans covered i legal fit opened f) size cells.names linked.some same
+    (subst (λ (v : Nodes). CanRelink v x) same
     (CanRelink-unlinked m x size cells.names linked (omega (arith, count, s.few))))
     (ap (λ (v : Nodes). relinked v x) (sym same) ∙ relinked-unlinked m x linked) in
     rw (first, tweak_cost_is p t spans covered i legal fit opened pos le f) made

@@ -32,8 +32,8 @@ use Rattle.xc_dance.proofs.LinkedTables.LinkColumns.{map_same, get_down, same_no
 use Rattle.xc_dance.proofs.LinkedTables.GoodLines.{line_after, Named, numbers_named, numbers_few, tables_same}
 use Rattle.xc_dance.proofs.LinkedTables.GoodLines.{line_is}
 use Rattle.xc_dance.proofs.LinkedTables.Leaving.{tweak_own, AreOf}
-use Rattle.xc_dance.proofs.LinkedTables.TweakStep.{has_first, tweak_colours, tweak_cost_is, back_writes, tweak_cuts, off}
-use Rattle.xc_dance.proofs.LinkedTables.TweakStep.{off_are}
+use Rattle.xc_dance.proofs.LinkedTables.TweakStep.{has_first, tweak_colours, tweak_cost_is, back_writes, tweak_cuts}
+use Rattle.xc_dance.proofs.LinkedTables.TweakStep.{off, off_are}
 use Rattle.xc_dance.proofs.LinkedTables.Walks.{Kind, AllLed, Led, Way, way_led}
 use Rattle.xc_dance.specs.inner.Links.TweaksBack.{CanBringBack, bring_back_cost}
 use Rattle.std.proofs.Math.Path.{fun_ext}
