@@ -1,5 +1,6 @@
 -- The newest moves are Tweaks of one item: what their undoing at once finds, and what it leaves.
-use Rattle.std.proofs.Common.{◌≡◌, ℕ, zero, suc, ◌+◌, ◌-◌, ◌<◌, ◌≤◌, Bool, not, List, [], ◌∷◌, ◌++◌, length}
+use Rattle.std.proofs.Common.{◌≡◌, ℕ, zero, suc, ◌-◌, ◌<◌, ◌≤◌, not, List, [], ◌∷◌, ◌++◌, length}
+use Rattle.std.proofs.Common.{ap₂, inr}
 use Rattle.std.proofs.Common.{map, drop, take, reverse, get_or, refl, ap, sym, subst, ◌∙◌, arith, length-append}
 use Rattle.std.proofs.lemmas.Grind.{common_steps}
 use Rattle.std.specs.Prelude.{replicate}
@@ -11,24 +12,21 @@ use Rattle.xc_dance.specs.declared.dance.Move.TheVariants.{Tweak}
 use Rattle.xc_dance.specs.inner.Links.Span.{Span}
 use Rattle.xc_input.specs.Problem.{Puzzle, item_count}
 use Rattle.xc_dance.specs.Moves.{AreTweaks, AreLegal, is_covered, is_open, purified, listed_numbers, listed}
-use Rattle.xc_dance.specs.Fields.{layout, link_place, first_of, is_in}
+use Rattle.xc_dance.specs.Fields.{layout, link_place, first_of}
 use Rattle.xc_dance.specs.declared.links.nodes.Nodes.{Nodes}
 use Rattle.xc_dance.specs.Cost.{undo_tweaks_cost}
 use Rattle.xc_dance.specs.declared.links.items.Items.{Items}
 use Rattle.xc_dance.specs.inner.Links.Rings.{is_off}
 use Rattle.xc_dance.specs.inner.Links.Taken.{taken_nodes}
-use Rattle.xc_dance.specs.inner.Links.Cells.{line_of, nodes_after}
+use Rattle.xc_dance.specs.inner.Links.Cells.{line_of, nodes_after, top_in}
 use Rattle.xc_dance.specs.inner.Links.ItemCells.{items_after}
-use Rattle.xc_dance.specs.inner.Links.Laid.{IsLaid, IsFit}
 use Rattle.xc_dance.specs.inner.Links.Made.{IsFitted, CanTell}
 use Rattle.std.proofs.lemmas.Option.{slice_get_within}
 use Rattle.xc_dance.proofs.LinkedTables.LinkColumns.{get_item}
 use Rattle.xc_dance.proofs.LinkedTables.MoveStep.{still_items, off_is}
 use Rattle.xc_dance.proofs.MoveLemmas.StateLemmas.{open_or_covered}
-use Rattle.xc_dance.proofs.LinkedTables.TweakStep.{HasFirst, has_first}
-use Rattle.xc_dance.proofs.LinkedTables.GoodLines.{listed_member}
-use Rattle.xc_dance.proofs.LinkedTables.Sweep.{is_in-first}
-use Rattle.xc_dance.proofs.LinkedTables.TweaksBack.{tweaks, kept, Tweaked, tweaked, Undoes, first_place, tweaks_back}
+use Rattle.xc_dance.proofs.LinkedTables.TweakStep.{has_first}
+use Rattle.xc_dance.proofs.LinkedTables.TweaksBack.{tweaks, kept, tweaked, Undoes, first_place, tweaks_back}
 
 pub tweaks_are : (k i : ℕ) (s : List Move) → k ≤ length s → take k s ≡ replicate k (Tweak i) → s ≡ tweaks k i (drop k s)
 tweaks_are zero i s h e = refl
@@ -48,54 +46,24 @@ turned_drop xs k h =
     let long = length-reverse (drop m xs) ∙ length-drop m xs in
     grind (arith, common_steps, drop-append_seam (reverse (drop m xs)) (reverse (take m xs)))
 
--- the nodes that they took off stand last
-pub record TakenLast (p : Puzzle) (t : List Move) (i k : ℕ) (xs : List ℕ) : Type 0 where
+-- the moves s are t and k Tweaks of item i; the nodes that they took off stand last, and the first is of the item
+pub record Found (p : Puzzle) (s t : List Move) (spans : List Span) (i k : ℕ) (xs : List ℕ) : Type 0 where
+  pub legal : AreLegal p t
   pub enough : k ≤ length xs
   pub first : get_or xs (length xs - k) 0 ≡ first_place p t i
   pub rest : reverse (take (length xs - k) xs) ≡ taken_nodes p t
-
-taken_last : (p : Puzzle) (t : List Move) (covered : Bool) (i k : ℕ) (xs : List ℕ) → 0 < k → Tweaked p t covered i k
-    → reverse xs ≡ taken_nodes p (tweaks k i t) → TakenLast p t i k xs
-taken_last p t covered i k xs some tw e =
-    let os = tw.os in
-    let places = map (link_place p i) os in
-    let b = taken_nodes p t in
-    let is : xs ≡ reverse b ++ places =
-    sym (reverse-reverse xs) ∙ ap reverse (e ∙ tw.taken) ∙ reverse-append (reverse places) b
-    ∙ ap (λ ys. reverse b ++ ys) (reverse-reverse places) in
-    let long : length xs ≡ length (reverse b) + length places = ap length is ∙ length-append (reverse b) places in
-    let at : length xs - k ≡ length (reverse b) = omega (arith, long, length-map os (link_place p i) ∙ tw.count) in
-    grind (arith, common_steps, get_or-append-add, take-append_seam, first_place os tw.count tw.list)
-  where
-    first_place : (os : List ℕ) → length os ≡ k → listed_numbers p t i ≡ os ++ listed_numbers p (tweaks k i t) i
-        → get_or (map (link_place p i) os) 0 0 ≡ link_place p i (first_of 0 (listed_numbers p t i))
-    first_place [] c l = absurd (omega (arith, c, some))
-    first_place (o ∷ os) c l = ap (λ ks. link_place p i (first_of 0 ks)) (sym l)
-
--- the first node that they took off is of the item
-pub record FirstNode (p : Puzzle) (s t : List Move) (i : ℕ) : Type 0 where
   pub within : first_place p t i < length (nodes_after p s).top
   pub item : get_or (nodes_after p s).top (first_place p t i) 0 ≡ i
-
-first_node : (p : Puzzle) (s t : List Move) (i : ℕ) → IsLaid p → IsFit p → 0 < i → i ≤ item_count p → HasFirst p t i
-    → FirstNode p s t i
-first_node p s t i laid fit pos le f =
-    let m = listed_member t i f.o fit (pos, le) (ap (is_in f.o) f.is ∙ is_in-first f.o f.os) in
-    let here = laid.there i f.o pos le m.name in
-    let at = slice_get_within (layout p) (link_place p i f.o) here.node here.at in
-    let item = get_item p (line_of p s) i f.o here m.pos in
-    grind (arith, common_steps, length-map, ap (first_of 0) f.is)
-
--- the moves s are t and k Tweaks of item i
-pub record Found (p : Puzzle) (s t : List Move) (spans : List Span) (i k : ℕ) (xs : List ℕ) : Type 0 where
-  pub legal : AreLegal p t
-  pub taken : TakenLast p t i k xs
-  pub node : FirstNode p s t i
   pub tell : CanTell (items_after p s) i
   pub off : is_off (items_after p s) i ≡ is_covered i t
   pub back : Undoes spans (is_covered i t) (nodes_after p s) i (first_place p t i) k (nodes_after p t)
       (undo_tweaks_cost k p s)
   pub items : items_after p s ≡ items_after p t
+
+first_taken : (p : Puzzle) (t : List Move) (i : ℕ) (os rest : List ℕ) → 0 < length os
+    → listed_numbers p t i ≡ os ++ rest → get_or (map (link_place p i) os) 0 0 ≡ first_place p t i
+first_taken p t i [] rest some e = absurd (omega (arith, some))
+first_taken p t i (o ∷ os) rest some e = ap (λ ks. link_place p i (first_of 0 ks)) (sym e)
 
 found_by : (p : Puzzle) (t : List Move) (spans : List Span) (i k : ℕ) (xs : List ℕ) → AreLegal p (tweaks (suc k) i t)
     → IsFitted p spans → reverse xs ≡ taken_nodes p (tweaks (suc k) i t)
@@ -110,18 +78,36 @@ found_by p t spans i k xs legal fit e =
     let opened : is_open i t ≡ not covered = open_or_covered i t (sym (kept (purified i) i t (λ s. refl) k) ∙ may.1) in
     let tw = tweaked p t spans covered i (suc k) legal fit opened in
     let off = off_is p s i legal pos le in
-    let some : 0 < suc k = omega arith in
-    let first = length-map (listed p t i) (λ o. o.number) in
-    let long = ap length tw.list ∙ length-append tw.os (listed_numbers p s i) in
+    let some : 0 < length tw.os = omega (arith, tw.count) in
+    let f = has_first p t i (omega (
+      arith,
+      length-map (listed p t i) (λ o. o.number),
+      some,
+      ap length tw.list
+          ∙ length-append tw.os (listed_numbers p s i),
+    )) in
+    let first : link_place p i f.o ≡ first_place p t i = sym (ap (λ ks. link_place p i (first_of 0 ks)) f.is) in
+    let here = fit.laid.there i f.o pos le (inr (f.pos, f.named)) in
+    let at = slice_get_within (layout p) (link_place p i f.o) here.node here.at in
+    let places = map (link_place p i) tw.os in
+    let old = reverse (taken_nodes p t) in
+    let is : xs ≡ old ++ places = sym (reverse-reverse xs) ∙ ap reverse (e ∙ tw.taken)
+    ∙ reverse-append (reverse places) (taken_nodes p t) ∙ ap (λ ys. old ++ ys) (reverse-reverse places) in
+    let long = ap length is ∙ length-append old places in
+    let many = length-map tw.os (link_place p i) ∙ tw.count in
     record {
       legal = before;
-      taken = taken_last p t covered i (suc k) xs some tw e;
-      node = first_node p s t i fit.laid fit.fit pos le (has_first p t i (omega (arith, first, tw.count, long)));
+      enough = omega (arith, long, many);
+      first = ap₂ (λ ys n. get_or ys n 0) is (omega (arith, long, many)) ∙ get_or-append-add old places 0 0
+          ∙ first_taken p t i tw.os (listed_numbers p s i) some tw.list;
+      rest = ap₂ (λ n ys. reverse (take n ys)) (omega (arith, long, many)) is ∙ ap reverse (take-append_seam old places)
+          ∙ reverse-reverse (taken_nodes p t);
+      within = rw (← first) (omega (arith, at, length-map (layout p) (top_in (line_of p s))));
+      item = rw (← first) (get_item p (line_of p s) i f.o here f.pos);
       tell = (off.place, off.left);
       off = off.is ∙ kept (is_covered i) i t (λ s. refl) (suc k);
-      back = tweaks_back p t spans covered i (suc k) tw before fit pos le opened some;
-      items = kept (items_after p) i t
-          (λ s. still_items p s (Tweak i) (λ q. refl) (λ q. refl)) (suc k);
+      back = tweaks_back p t spans covered i (suc k) tw before fit pos le opened (omega arith);
+      items = kept (items_after p) i t (λ s. still_items p s (Tweak i) (λ q. refl) (λ q. refl)) (suc k);
     }
 
 pub tweaks_found : (p : Puzzle) (s : List Move) (spans : List Span) (k : ℕ) (xs : List ℕ) → AreTweaks k s → AreLegal p s
@@ -145,26 +131,23 @@ pub node_is : {p : Puzzle} {s t : List Move} {spans : List Span} {i k n x : ℕ}
     → 1 ≤ k → x ≡ get_or xs (n - k) x → n ≡ length xs → x ≡ first_place p t i
 node_is {k = k} {x = x} {xs = xs} f some read long = grind (arith, common_steps)
 
--- the first node that they took off, and its item, as they were read from the tables
+-- where that node and its item were read from the tables, the code may undo the moves at once
 pub record IsRead (p : Puzzle) (s t : List Move) (spans : List Span) (i k : ℕ) (xs : List ℕ) (nodes : Nodes)
     (items : Items) (x j : ℕ) : Type 0 where
   pub found : Found p s t spans i k xs
-  pub node : x ≡ first_place p t i
-  pub item : j ≡ i
-  pub nodes_are : nodes ≡ nodes_after p s
-  pub items_are : items ≡ items_after p s
   pub tell : CanTell items j
+  pub undoes : Undoes spans (is_off items j) nodes j x k (nodes_after p t) (undo_tweaks_cost k p s)
 
 pub read : {p : Puzzle} {s t : List Move} {spans : List Span} {i k : ℕ} {xs : List ℕ} {nodes : Nodes} {items : Items}
     {x j : ℕ} → Found p s t spans i k xs → x ≡ first_place p t i → nodes ≡ nodes_after p s → items ≡ items_after p s
     → j ≡ get_or nodes.top x 0 → IsRead p s t spans i k xs nodes items x j
-read {p = p} {s = s} {j = j} f node nodes_are items_are at = grind (arith, common_steps)
-
--- so the code may undo them at once
-pub undoes : {p : Puzzle} {s t : List Move} {spans spans' : List Span} {i k : ℕ} {xs : List ℕ} {nodes : Nodes}
-    {items : Items} {x j : ℕ} {covered : Bool} → IsRead p s t spans i k xs nodes items x j → spans' ≡ spans
-    → covered ≡ is_off items j → Undoes spans' covered nodes j x k (nodes_after p t) (undo_tweaks_cost k p s)
-undoes {p} {s} {t} {spans} {spans'} {i} {k} {xs} {nodes} {items} {x} {j} {covered} r a b = grind (arith, common_steps)
+read {j = j} f node nodes_are items_are at =
+    let item : j ≡ _ = at ∙ ap₂ (λ (n : Nodes) y. get_or n.top y 0) nodes_are node ∙ f.item in
+    record {
+      found = f;
+      tell = rw (items_are, item) f.tell;
+      undoes = rw (items_are, nodes_are, item, node, f.off) f.back;
+    }
 
 pub trail_left : (xs ys : List Move) (n k : ℕ) → ys ≡ take (n - k) xs → n ≡ length xs → k ≤ length (reverse xs)
     → reverse ys ≡ drop k (reverse xs)
