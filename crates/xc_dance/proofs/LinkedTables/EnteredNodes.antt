@@ -22,8 +22,8 @@ use Rattle.xc_dance.specs.inner.Links.Laid.{IsFit, AreDistinct, IsName, Placed, 
 use Rattle.xc_dance.specs.declared.links.nodes.Nodes.{Nodes}
 use Rattle.xc_dance.specs.inner.Links.Cells.{top_in, color_in, fixed_up, fixed_down, nodes_from, ulink_in, dlink_in}
 use Rattle.xc_dance.specs.inner.Links.Cells.{line_of, up_of, down_of, nodes_after}
-use Rattle.xc_dance.proofs.LinkedTables.Sweep.{put_at-same, put_at-other, put_at, IsLinkedFrom, with_line, Swept, swept}
-use Rattle.xc_dance.proofs.LinkedTables.Sweep.{stay, cuts, stay_all, leave_none}
+use Rattle.xc_dance.proofs.LinkedTables.Sweep.{put_at-same, put_at-other, put_at, IsLinkedFrom, with_line}
+use Rattle.xc_dance.proofs.LinkedTables.Sweep.{stands}
 use Rattle.xc_dance.proofs.Copied.{take_more-get}
 use Rattle.xc_dance.proofs.LinkedTables.LaidLemmas.{distinct_options, is_laid}
 use Rattle.xc_dance.proofs.LinkedTables.PlaceLemmas.{length_front, tail_from, layout_small, get_taken}
@@ -279,13 +279,11 @@ spacer_top p ln col q n e = get_map (top_in ln) (layout p) q _ e
 
 -- ---- once every node is entered, the table is that of no moves
 
--- where the links of a line along a list lead
-along : (xs : List ℕ) → Rises 0 xs → Swept (grown_all xs) (grown_all xs) 0 xs xs
-along xs r =
-    let l = grown_all xs in
-    let s = swept _ _ _ (λ x. false) (linked_from blank [] xs (refl, refl) r (λ x h. refl)) in
-    subst (λ ks. Swept l l 0 xs ks) (stay_all xs)
-    (subst (λ ys. Swept l (cuts l ys) 0 xs (stay (λ x. false) xs)) (leave_none xs) s)
+-- lines along the same list lead the same way
+alike : (l m : Line) (a : ℕ) (xs : List ℕ) → IsLinkedFrom l a xs → IsLinkedFrom m a xs → (x : ℕ)
+    → ((x ≡ 0) ⊎ (is_in x xs ≡ true) → m.up x ≡ l.up x) × ((x ≡ a) ⊎ (is_in x xs ≡ true) → m.down x ≡ l.down x)
+alike l m a [] h k x = grind (arith, common_steps, false≢true)
+alike l m a (y ∷ ys) h k x = grind (arith, common_steps, eqb-true, alike l m y ys h.3 k.3 x)
 
 -- before the first use's node, all lists are empty
 pub none_entered : (p : Puzzle)
@@ -298,21 +296,17 @@ whole p j = grown_all (listed_numbers p [] j)
 
 -- members stand in their lists
 slot_in : {p : Puzzle} (q : ℕ) (n : Node) {j x : ℕ} → IsFit p → slice_get (layout p) q ≡ Some n
-    → slot_of n ≡ Some (j, x) → (x ≡ 0) ⊎ ((0 < x) × (is_in x (listed_numbers p [] j) ≡ true))
+    → slot_of n ≡ Some (j, x) → (x ≡ 0) ⊎ (is_in x (listed_numbers p [] j) ≡ true)
 slot_in q (own i) fit e s = inl (sym (ap member_of s))
-slot_in {p} q (used o u) fit e s =
-    grind (arith, common_steps, held_in (layout p) q o u e, held_all u.item fit, is_laid p fit)
+slot_in {p} q (used o u) fit e s = grind (arith, common_steps, held_in (layout p) q o u e, held_all u.item fit)
 slot_in q _ fit e s = cc
 
-up_is : (p : Puzzle) (j x : ℕ) → (x ≡ 0) ⊎ ((0 < x) × (is_in x (listed_numbers p [] j) ≡ true))
-    → (whole p j).up x ≡ up_of p [] j x
-up_is p j zero h = (along _ (rises_listed p [] j)).last
-up_is p j (suc o) h = grind (arith, common_steps, along (listed_numbers p [] j) (rises_listed p [] j))
-
-down_is : (p : Puzzle) (j x : ℕ) → (x ≡ 0) ⊎ ((0 < x) × (is_in x (listed_numbers p [] j) ≡ true))
-    → (whole p j).down x ≡ down_of p [] j x
-down_is p j zero h = (along _ (rises_listed p [] j)).first
-down_is p j (suc o) h = grind (arith, common_steps, along (listed_numbers p [] j) (rises_listed p [] j))
+whole_is : (p : Puzzle) (j x : ℕ) → (x ≡ 0) ⊎ (is_in x (listed_numbers p [] j) ≡ true)
+    → ((whole p j).up x ≡ up_of p [] j x) × ((whole p j).down x ≡ down_of p [] j x)
+whole_is p j x h =
+    let same = alike (line_of p [] j) (whole p j) 0 (listed_numbers p [] j) (stands p [] j)
+    (linked_from blank [] (listed_numbers p [] j) (refl, refl) (rises_listed p [] j) (λ x h. refl)) x in
+    (same.0 h, same.1 h)
 
 top_is : (p : Puzzle) (n : Node) → top_in (whole p) n ≡ top_in (line_of p []) n
 top_is p (own i) = grown_len _ ∙ length-map (listed p [] i) (λ o. o.number)
@@ -324,6 +318,6 @@ all_entered p n fit le = nodes_same _ (lines_of (take n (layout p))) (whole p) (
     (λ j. ap (λ ns. lines_of ns j) (take_all n (layout p) le) ∙ ap grown_all (held_all j fit))
     ∙ same_nodes _ _ (map_same (top_in (line_of p [])) (top_in (whole p)) (layout p) (λ q m e. top_is p m))
     (map_same (ulink_in p (line_of p [])) (ulink_in p (whole p)) (layout p)
-    (λ q m e. link_same _ _ _ _ _ (λ j x s. up_is p j x (slot_in q m fit e s))))
+    (λ q m e. link_same _ _ _ _ _ (λ j x s. (whole_is p j x (slot_in q m fit e s)).0)))
     (map_same (dlink_in p (line_of p [])) (dlink_in p (whole p)) (layout p)
-    (λ q m e. link_same _ _ _ _ _ (λ j x s. down_is p j x (slot_in q m fit e s)))) refl
+    (λ q m e. link_same _ _ _ _ _ (λ j x s. (whole_is p j x (slot_in q m fit e s)).1))) refl

@@ -157,7 +157,7 @@ module _ (p : Puzzle) (t : List Move) (spans : List Span) (m : Move) (i : ℕ) (
   hides_cut j r =
       let of = leavers_of _ _ _ _ in
       elim (eqb j i) as (λ b. eqb j i ≡ b → SameCut p t m j (filter (leaves p (color_in p t) i j) going)) [
-        | true ↦ λ e. grind (arith, common_steps, cut_own, eqb-true)
+        | true ↦ λ e. rw (eqb-true j i e) (cut_own t m i going f.fit h.own)
         | false ↦ λ e. cut_others p t i legal f.laid f.fit opened m j going r of h.takes (eqb-false j i e)
       ] refl
 

@@ -26,16 +26,16 @@ use Rattle.xc_dance.specs.declared.dance.Move.TheVariants.{Cover, Purify, Tweak}
 use Rattle.xc_input.proofs.lists.EachElement.{each-filter, each_both, each-map, each_weaker}
 use Rattle.xc_input.proofs.lists.Filters.{filter_same}
 use Rattle.xc_dance.proofs.LinkedTables.Sweep.{other_items, in_above, Rises, Rises-filter, stay, stay_all, leave_none}
-use Rattle.xc_dance.proofs.LinkedTables.Sweep.{goes, without_numbers, filter_numbers, is_in-first, drop_first}
+use Rattle.xc_dance.proofs.LinkedTables.Sweep.{goes, without_numbers, filter_numbers, is_in-first, stay_same}
 use Rattle.xc_dance.proofs.LinkedTables.Sweep.{in_more, not_in}
 use Rattle.xc_dance.proofs.MoveLemmas.ListLemmas.{Rises-range}
 use Rattle.xc_dance.proofs.MoveLemmas.OpenLists.{listed_open}
 use Rattle.xc_dance.proofs.LinkedTables.GoodLines.{Named, numbers_named, SameCut}
 use Rattle.xc_dance.proofs.LinkedTables.OneOption.{is_mark, AreReady, AllApart, gone_count}
 use Rattle.xc_dance.proofs.LinkedTables.OneList.{OwnReady}
-use Rattle.xc_dance.proofs.LinkedTables.OtherItems.{in_others, others_apart, leaves}
+use Rattle.xc_dance.proofs.LinkedTables.OtherItems.{own_apart, in_others, others_apart, leaves}
 use Rattle.xc_dance.proofs.MoveLemmas.Shortened.{rises_listed}
-use Rattle.xc_dance.proofs.MoveLemmas.Members.{element_of, in_filter, same_members, none_in}
+use Rattle.xc_dance.proofs.MoveLemmas.Members.{element_of, in_filter, same_members}
 use Rattle.xc_dance.proofs.LinkedTables.MarkedNodes.{options_left, Met, each_met, open_unmarked, color_is}
 use Rattle.xc_dance.proofs.LinkedTables.MarkedNodes.{colour_some, colour_small}
 use Rattle.xc_dance.proofs.LinkedTables.LaidLemmas.{IsOption}
@@ -71,24 +71,18 @@ leaves_by : {p : Puzzle} (t : List Move) (i j x : ℕ) → IsFit p → leaves p 
     ((not (eqb j i) && is_some (colour_in (uses_of p x) j)) && not (is_mark p (color_in p t) x j))
 leaves_by {p} t i j x fit = ap (λ b. b && not (is_mark p (color_in p t) x j)) (in_others p x i j (fit.distinct x))
 
--- none leaves the list that is walked
-pub leaves_own : (p : Puzzle) (t : List Move) (i : ℕ) (gs : List ℕ) → IsFit p → Rises 0 gs
-    → filter (leaves p (color_in p t) i i) gs ≡ []
-leaves_own p t i gs fit rise = none_in (leaves p (color_in p t) i i) 0 gs
-    (Rises-filter (leaves p (color_in p t) i i) 0 gs rise) (λ x e. leaves_by t i i x fit
-    ∙ ap (λ b. (not b && is_some (colour_in (uses_of p x) i)) && not (is_mark p (color_in p t) x i)) (eq-eqb i i refl))
-
 pub stay_if : (b : Bool) (gs xs : List ℕ)
     → cond b (stay (λ x. is_in x gs) xs) xs ≡ stay (λ x. b && is_in x gs) xs
 stay_if true gs xs = refl
 stay_if false gs xs = sym (stay_all xs)
 
--- so its own line loses none, where the move takes none from it
-pub cut_own : {p : Puzzle} (t : List Move) (m : Move) (i : ℕ) (gs : List ℕ) → IsFit p → Rises 0 gs
+-- where the move takes none from the walked list, its own line loses none
+pub cut_own : {p : Puzzle} (t : List Move) (m : Move) (i : ℕ) (gs : List ℕ) → IsFit p
     → listed_numbers p (m ∷ t) i ≡ listed_numbers p t i → SameCut p t m i (filter (leaves p (color_in p t) i i) gs)
-cut_own {p} t m i gs fit rise same = record {
+cut_own {p} t m i gs fit same = record {
   test = λ x. false;
-  cut_is = leaves_own _ t _ _ fit rise ∙ sym (leave_none (listed_numbers p t i));
+  cut_is = filter_agree _ (λ x. false) (λ x. ap (λ b. b && not (is_mark p (color_in p t) x i)) (own_apart p i x fit)) gs
+      ∙ leave_none gs ∙ sym (leave_none (listed_numbers p t i));
   stay_is = same ∙ sym (stay_all (listed_numbers p t i));
 }
 
@@ -302,8 +296,9 @@ own_purify p t i c = grind (arith, common_steps, eq-eqb)
 -- ---- Tweak
 
 drop_alone : (x : ℕ) (xs : List ℕ) → Rises 0 (x ∷ xs) → xs ≡ stay (λ y. is_in y (x ∷ [])) (x ∷ xs)
-drop_alone x xs r = drop_first 0 (x ∷ xs) r
-    ∙ filter_agree _ _ (λ y. ap not (eqb_turn y x ∙ sym (or-false (eqb x y)))) (x ∷ xs)
+drop_alone x xs r = rw (eq-eqb x x refl)
+    (sym (filter_agree _ _ (λ y. ap not (or-false (eqb x y) ∙ eqb_turn x y)) xs
+    ∙ stay_same x xs (λ e. false≢true (sym (not_in x x xs (omega arith) r.1) ∙ e))))
 
 module _ (p : Puzzle) (t : List Move) (i : ℕ) where
   pub tweak_own : listed_numbers p (Tweak i ∷ t) i ≡ drop 1 (listed_numbers p t i)

@@ -125,29 +125,18 @@ pub ruleset above = (first_above-first, le-ltb)
 IsLinkedFrom-same : (l m : Line) (a : ℕ) (xs : List ℕ) → ((k : ℕ) → a ≤ k → m.down k ≡ l.down k)
     → ((k : ℕ) → a < k → m.up k ≡ l.up k) → m.up 0 ≡ l.up 0 → IsLinkedFrom l a xs → IsLinkedFrom m a xs
 IsLinkedFrom-same l m a [] down up last h = (down a (omega arith) ∙ h.0, last ∙ h.1)
-IsLinkedFrom-same l m a (x ∷ xs) down up last h = (
-  grind (arith, common_steps),
-  grind (arith, common_steps),
-  grind (arith, common_steps),
-  IsLinkedFrom-same l m x xs (λ k le. down k (omega arith)) (λ k le. up k (omega arith)) last h.3,
-)
+IsLinkedFrom-same l m a (x ∷ xs) down up last h =
+    let rest = IsLinkedFrom-same l m x xs (λ k le. down k (omega arith)) (λ k le. up k (omega arith)) last h.3 in
+    grind (arith, common_steps)
 
 pub cut-linked : (l : Line) (a y : ℕ) (ys : List ℕ) → IsLinkedFrom l a (y ∷ ys) → IsLinkedFrom (cut l y) a ys
-cut-linked l a y [] h = (
-  grind (arith, common_steps, put_at-same),
-  grind (arith, common_steps, put_at-same),
-)
+cut-linked l a y [] h = grind (arith, common_steps, put_at-same)
 cut-linked l a y (z ∷ zs) h =
-    let is_u : l.up y ≡ a = h.2 in
     let lt' : y < z = h.3.0 in
-    let is_d : l.down y ≡ z = h.3.1 in (
-      omega arith,
-      grind (arith, common_steps, put_at-same),
-      grind (arith, common_steps, put_at-same),
-      IsLinkedFrom-same l (cut l y) z zs (λ k le. put_at-other l.down (l.up y) (l.down y) k (λ e. omega arith))
-          (λ k gt. put_at-other l.up (l.down y) (l.up y) k (λ e. omega arith))
-          (put_at-other l.up (l.down y) (l.up y) 0 (λ e. omega arith)) h.3.3,
-    )
+    let rest = IsLinkedFrom-same l (cut l y) z zs (λ k le. put_at-other l.down (l.up y) (l.down y) k (λ e. omega arith))
+    (λ k gt. put_at-other l.up (l.down y) (l.up y) k (λ e. omega arith))
+    (put_at-other l.up (l.down y) (l.up y) 0 (λ e. omega arith)) h.3.3 in
+    grind (arith, common_steps, put_at-same)
 
 -- what stands below a member is the item's own node or a later member
 below_first : (l : Line) (y : ℕ) (ys : List ℕ) (x : ℕ) → IsLinkedFrom l y ys → x ≢ 0 → is_in x ys ≡ false → x ≢ l.down y
@@ -250,30 +239,20 @@ pub leave_none : (xs : List ℕ) → filter (λ (x : ℕ). false) xs ≡ []
 leave_none [] = refl
 leave_none (x ∷ xs) = leave_none xs
 
-pub drop_first : (n : ℕ) (xs : List ℕ) → Rises n xs → drop 1 xs ≡ stay (λ x. eqb x (first_of 0 xs)) xs
-drop_first n [] r = refl
-drop_first n (x ∷ xs) r = rw (eq-eqb x x refl)
-    (sym (stay_same x xs (λ e. false≢true (sym (not_in x x xs (omega arith) r.1) ∙ e))))
+in_filtered : (q : Numbered → Bool) (x : ℕ) (os : List Numbered) → is_in x (numbers_of (filter q os)) ≡ true
+    → is_in x (numbers_of os) ≡ true
+in_filtered q x [] e = e
+in_filtered q x (o ∷ os) e = grind (arith, common_steps, in_filtered q x os)
 
-pub record Shrinks (xs ks : List ℕ) : Type 0 where
-  pub test : ℕ → Bool
-  pub is : ks ≡ stay test xs
+in_dropped : (x : ℕ) (os : List Numbered) → is_in x (numbers_of (drop 1 os)) ≡ true → is_in x (numbers_of os) ≡ true
+in_dropped x [] e = e
+in_dropped x (o ∷ os) e = in_more o.number x (numbers_of os) e
 
-same_list : (xs : List ℕ) → Shrinks xs xs
-same_list xs = record { test = λ x. false; is = sym (stay_all xs) }
-
-by_case : (b : Bool) (os gone : List Numbered) → Shrinks (numbers_of os) (numbers_of (cond b (without gone os) os))
-by_case true os gone = record { test = goes gone; is = without_numbers gone os }
-by_case false os gone = same_list (numbers_of os)
-
-pub drop_numbers : (os : List Numbered) → numbers_of (drop 1 os) ≡ drop 1 (numbers_of os)
-drop_numbers [] = refl
-drop_numbers (o ∷ os) = refl
-
-pub shrinks : (p : Puzzle) (t : List Move) (m : Move) (i : ℕ) → Rises 0 (listed_numbers p t i)
-    → Shrinks (listed_numbers p t i) (listed_numbers p (m ∷ t) i)
-shrinks p t (Cover j) i r = grind (arith, common_steps, by_case, drop_first, drop_numbers, eqb-true, same_list)
-shrinks p t _ i r = grind (arith, common_steps, by_case, drop_first, drop_numbers, eqb-true, same_list)
+-- an option of a list was in it before the move
+was_in : (p : Puzzle) (t : List Move) (m : Move) (i x : ℕ) → is_in x (listed_numbers p (m ∷ t) i) ≡ true
+    → is_in x (listed_numbers p t i) ≡ true
+was_in p t (Cover j) i x e = grind (arith, common_steps, in_filtered)
+was_in p t _ i x e = grind (arith, common_steps, in_filtered, in_dropped, eqb-true)
 
 -- ---- the line after a move
 
@@ -289,13 +268,8 @@ pub down_after : (p : Puzzle) (t : List Move) (m : Move) (j : ℕ) (l : Line)
 down_after p t m j l s zero = grind (arith, common_steps)
 down_after p t m j l s (suc x) = grind (arith, common_steps)
 
-in_stay : (g : ℕ → Bool) (x : ℕ) (xs : List ℕ) → is_in x (stay g xs) ≡ true → is_in x xs ≡ true
-in_stay g x [] e = e
-in_stay g x (y ∷ ys) e = grind (arith, common_steps, in_stay g x ys)
-
 -- each item's line stands for its list
 pub stands : (p : Puzzle) (t : List Move) (j : ℕ) → IsLinkedFrom (line_of p t j) 0 (listed_numbers p t j)
 stands p [] j = grind (arith, common_steps, in_above, linked_by, rises_listed p [] j, listed_numbers p [] j)
 stands p (m ∷ t) j =
-    let sh = shrinks p t m j (rises_listed p t j) in
-    grind (arith, common_steps, in_above, in_stay, linked_by, rises_listed p (m ∷ t) j, listed_numbers p (m ∷ t) j)
+    grind (arith, common_steps, in_above, was_in, linked_by, rises_listed p (m ∷ t) j, listed_numbers p (m ∷ t) j)
