@@ -1,12 +1,14 @@
--- In numbers that rise: what stands beside one of them, or at an end, once another has left. For the rings of items.
-use Rattle.std.proofs.Common.{◌≡◌, ◌≢◌, ℕ, ◌≤◌, Bool, true, false, cond, eqb, List, [], ◌∷◌, refl}
-use Rattle.std.proofs.Common.{arith, eqb-true, ne_eqb}
+-- Rows of numbers that lead there and back, and what stands beside one of them once another has left. For the rings of
+-- items.
+use Rattle.std.proofs.Common.{◌≡◌, ◌≢◌, ℕ, Bool, true, false, cond, eqb, List, [], ◌∷◌}
+use Rattle.std.proofs.Common.{arith, eqb-true, ne_eqb, eq-eqb, ◌||◌, subst, sym, ◌∙◌}
+use Rattle.std.proofs.lemmas.Bool.{false≢true}
+use Rattle.xc_dance.proofs.LinkedTables.Leaving.{eqb_turn}
+use Rattle.xc_dance.proofs.LinkedTables.Sweep.{by_first, not_in}
 use Rattle.std.proofs.lemmas.Grind.{common_steps}
 use Rattle.xc_dance.specs.Fields.{last_below, first_above, first_of, last_of, is_in}
-use Rattle.xc_dance.proofs.LinkedTables.Sweep.{Rises, Rises-filter, stay, stay_same, above, below, members}
-use Rattle.xc_dance.proofs.LinkedTables.Sweep.{first_above-first}
-use Rattle.xc_dance.proofs.LinkedTables.Sweep.{last_below-more, last_below-none}
-use Rattle.std.proofs.Common.{not, ltb, ltb-true, ltb-false, ◌<◌}
+use Rattle.xc_dance.proofs.LinkedTables.Sweep.{Rises, stay, stay_same, above, below, members}
+use Rattle.xc_dance.proofs.LinkedTables.Sweep.{last_below-more}
 
 abbrev pub less : ℕ → List ℕ → List ℕ
 less i xs = stay (λ x. eqb x i) xs
@@ -16,68 +18,54 @@ abbrev pub beside : Bool → ℕ → ℕ → List ℕ → ℕ
 beside true h q xs = cond (eqb q h) (first_of h xs) (first_above h q xs)
 beside false h q xs = cond (eqb q h) (last_of h xs) (last_below h q xs)
 
-above_other : (h q i : ℕ) (xs : List ℕ) → h ≢ i → is_in i xs ≡ false → first_above h q xs ≢ i
-above_other h q i [] ne out = ne
-above_other h q i (y ∷ ys) ne out = grind (arith, common_steps, members, above_other h q i ys ne)
-
-above_less : (h q i n : ℕ) (xs : List ℕ) → Rises n xs → h ≢ i
-    → first_above h q (less i xs) ≡ cond (eqb (first_above h q xs) i) (first_above h i xs) (first_above h q xs)
-above_less h q i n [] r ne = grind (arith, common_steps, ne_eqb)
-above_less h q i n (y ∷ ys) r ne =
-    grind (arith, common_steps, above, members, ne_eqb, stay_same, above_other, above_less h q i y ys r.1 ne)
-
-last_high : (h n : ℕ) (xs : List ℕ) → Rises h xs → h ≤ last_of h xs
-last_high h n [] r = omega arith
-last_high h n (y ∷ ys) r = grind (arith, common_steps, below, last_high y n ys r.1)
-
-last_less : (h i n : ℕ) (xs : List ℕ) → Rises n xs → h ≢ i
-    → last_of h (less i xs) ≡ cond (eqb (last_of h xs) i) (last_below h i xs) (last_of h xs)
-last_less h i n [] r ne = grind (arith, common_steps, ne_eqb)
-last_less h i n (y ∷ []) r ne = grind (arith, common_steps, below, members, ne_eqb, eqb-true, stay_same)
-last_less h i n (y ∷ z ∷ zs) r ne =
-    let rest = last_less y i y (z ∷ zs) r.1 in
-    grind (arith, common_steps, below, members, ne_eqb, eqb-true, stay_same, last_high z z zs r.1.1, rest)
-
-below_high : (h q : ℕ) (xs : List ℕ) → Rises h xs → h ≤ last_below h q xs
-below_high h q [] r = omega arith
-below_high h q (y ∷ ys) r = grind (arith, common_steps, below, below_high y q ys r.1)
-
-below_over : (h q i y : ℕ) (ys : List ℕ) → Rises y ys → h ≢ i → y < q
-    → (y ≢ i → last_below y q (less i ys) ≡ cond (eqb (last_below y q ys) i) (last_below y i ys) (last_below y q ys))
-    → last_below h q (less i (y ∷ ys)) ≡
-    cond (eqb (last_below h q (y ∷ ys)) i) (last_below h i (y ∷ ys)) (last_below h q (y ∷ ys))
-below_over h q i y [] r ne lt rest = grind (arith, common_steps, below, members, ne_eqb, eqb-true)
-below_over h q i y (z ∷ zs) r ne lt rest =
-    let high = below_high y q (z ∷ zs) r in
-    let high' = below_high z q zs r.1 in
-    let none = last_below-none i q z zs in
-    grind (arith, common_steps, below, members, ne_eqb, eqb-true, stay_same)
-
-below_less : (h q i n : ℕ) (xs : List ℕ) → Rises n xs → h ≢ i
-    → last_below h q (less i xs) ≡ cond (eqb (last_below h q xs) i) (last_below h i xs) (last_below h q xs)
-below_less h q i n [] r ne = grind (arith, common_steps, ne_eqb)
-below_less h q i n (y ∷ ys) r ne = elim (ltb y q) as (λ b. ltb y q ≡ b → last_below h q (less i (y ∷ ys)) ≡
-    cond (eqb (last_below h q (y ∷ ys)) i) (last_below h i (y ∷ ys)) (last_below h q (y ∷ ys))) [
-      | true ↦ λ e. below_over h q i y ys r.1 ne (ltb-true y q e) (λ ni. below_less y q i y ys r.1 ni)
-      | false ↦ λ e.
-          let none = last_below-none h q y ys (ltb-false y q e) r.1 in
-          let none' = last_below-none h q y (less i ys) (ltb-false y q e)
-          (Rises-filter (λ x. not (eqb x i)) y ys r.1) in
-          grind (arith, common_steps, ne_eqb)
-    ] refl
-
-pub beside_less : (d : Bool) (h q i : ℕ) (xs : List ℕ) → Rises 0 xs → h ≢ i
-    → beside d h q (less i xs) ≡ cond (eqb (beside d h q xs) i) (beside d h i xs) (beside d h q xs)
-beside_less true h q i xs r ne =
-    let first = first_above-first h 0 0 xs (omega arith) r in
-    let first' = first_above-first h 0 0 (less i xs) (omega arith) (Rises-filter (λ x. not (eqb x i)) 0 xs r) in
-    grind (arith, common_steps, ne_eqb, above_less h q i 0 xs r ne, above_less h 0 i 0 xs r ne)
-beside_less false h q i xs r ne =
-    grind (arith, common_steps, ne_eqb, last_less h i 0 xs r ne, below_less h q i 0 xs r ne)
-
 pub beside_other : (d : Bool) (h q : ℕ) (xs : List ℕ) → h ≢ q → beside d h q xs ≢ q
 beside_other true h q [] ne = grind (arith, common_steps, ne_eqb)
 beside_other true h q (y ∷ ys) ne = grind (arith, common_steps, ne_eqb, beside_other true h q ys ne)
 beside_other false h q [] ne = grind (arith, common_steps, ne_eqb)
 beside_other false h q (y ∷ ys) ne =
     grind (arith, common_steps, ne_eqb, below, last_below-more, beside_other false h q ys ne)
+
+-- from a through xs to e: r leads to the next of them, and l to the one before
+abbrev pub IsRow : (ℕ → ℕ) → (ℕ → ℕ) → ℕ → List ℕ → ℕ → Type 0
+IsRow r l a [] e = (r a ≡ e) × (l e ≡ a)
+IsRow r l a (x ∷ xs) e = (r a ≡ x) × (l x ≡ a) × IsRow r l x xs e
+
+pub row_by : (r l : ℕ → ℕ) (a n : ℕ) (xs : List ℕ) (e : ℕ) → Rises n xs
+    → ((x : ℕ) → is_in x xs ≡ true → (r x ≡ first_above e x xs) × (l x ≡ last_below a x xs)) → r a ≡ first_of e xs
+    → l e ≡ last_of a xs → IsRow r l a xs e
+row_by r l a n [] e rise inner first last = (first, last)
+row_by r l a n (y ∷ ys) e rise inner first last =
+    grind (arith, common_steps, above, below, members, row_by r l y y ys e rise.1)
+
+pub row_back : (r l : ℕ → ℕ) (a : ℕ) (xs : List ℕ) (e : ℕ) → IsRow r l a xs e → (x : ℕ)
+    → ((eqb x a || is_in x xs) ≡ true → (l (r x) ≡ x) × ((eqb (r x) e || is_in (r x) xs) ≡ true))
+    × ((eqb x e || is_in x xs) ≡ true → (r (l x) ≡ x) × ((eqb (l x) a || is_in (l x) xs) ≡ true))
+row_back r l a [] e row x = grind (arith, common_steps, eqb-true, eq-eqb)
+row_back r l a (y ∷ ys) e row x = grind (arith, common_steps, eqb-true, eq-eqb, eqb_turn, row_back r l y ys e row.2 x)
+
+-- rows through the same numbers lead the same way
+pub row_same : (r l r' l' : ℕ → ℕ) (a : ℕ) (xs : List ℕ) (e : ℕ) → IsRow r l a xs e → IsRow r' l' a xs e → (x : ℕ)
+    → ((eqb x a || is_in x xs) ≡ true → r x ≡ r' x) × ((eqb x e || is_in x xs) ≡ true → l x ≡ l' x)
+row_same r l r' l' a [] e row other x = grind (arith, common_steps, eqb-true)
+row_same r l r' l' a (y ∷ ys) e row other x =
+    grind (arith, common_steps, eqb-true, eqb_turn, row_same r l r' l' y ys e row.2 other.2 x)
+
+-- a link that leads past i
+abbrev pub past : ℕ → (ℕ → ℕ) → ℕ → ℕ
+past i f q = cond (eqb (f q) i) (f i) (f q)
+
+-- one that isn't an end leaves the row
+pub row_less : (r l : ℕ → ℕ) (a i n : ℕ) (xs : List ℕ) (e : ℕ) → Rises n xs → a ≢ i → e ≢ i → IsRow r l a xs e
+    → IsRow (past i r) (past i l) a (less i xs) e
+row_less r l a i n [] e rise na ne row = grind (arith, common_steps, ne_eqb)
+row_less r l a i n (y ∷ []) e rise na ne row = grind (arith, common_steps, eqb-true, ne_eqb)
+row_less r l a i n (y ∷ z ∷ zs) e rise na ne row =
+    by_first (IsRow (past i r) (past i l) a (less i (y ∷ z ∷ zs)) e) y i (λ s.
+    let zi : z ≢ i = (λ w. omega (arith, s, w, rise.1.0)) in
+    let out : is_in i zs ≡ false = not_in z i zs (omega (arith, s, rise.1.0)) rise.1.1 in
+    let rest = row_less r l z i z zs e rise.1.1 zi ne row.2.2 in
+    let same : less i zs ≡ zs = stay_same i zs (λ e. false≢true (sym out ∙ e)) in
+    rw (eq-eqb y i s, ne_eqb z i zi, same)
+    (grind (arith, common_steps, eq-eqb, subst (λ ks. IsRow (past i r) (past i l) z ks e) same rest)))
+    (λ no. rw (ne_eqb y i no)
+    (grind (arith, common_steps, ne_eqb, row_less r l y i y (z ∷ zs) e rise.1 no ne row.2)))

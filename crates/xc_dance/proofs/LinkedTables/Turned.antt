@@ -1,7 +1,7 @@
 -- Cover on the item table: an item leaves its ring and comes back.
 use Rattle.std.proofs.Common.{◌≡◌, ◌≢◌, ℕ, ◌+◌, ◌<◌, ◌≤◌, ◌⊎◌, Bool, true, false, not, cond}
-use Rattle.std.proofs.Common.{eqb, leb, List, ◌∷◌, length, map, filter, get_or, set, refl, ap, ap₂, sym}
-use Rattle.std.proofs.Common.{◌∙◌, arith, eq-eqb, ne_eqb, le-leb, leb-true, []}
+use Rattle.std.proofs.Common.{subst, eqb, leb, List, ◌∷◌, length, map, filter, get_or, set, refl, ap, ap₂, sym}
+use Rattle.std.proofs.Common.{◌∙◌, arith, eq-eqb, ne_eqb, le-leb, leb-true}
 use Rattle.std.proofs.lemmas.Grind.{common_steps}
 use Rattle.std.specs.List.{range_with_len}
 use Rattle.std.proofs.lemmas.Bool.{false≢true, lt-leb, leb-false, or_parts}
@@ -16,12 +16,13 @@ use Rattle.xc_dance.specs.inner.Links.ItemCells.{items_after, llink_at, rlink_at
 use Rattle.xc_dance.specs.inner.Links.Rings.{left_ring, back_in_ring}
 use Rattle.xc_dance.proofs.LinkedTables.LinkColumns.{written_back}
 use Rattle.xc_input.proofs.lists.Filters.{filter_both}
-use Rattle.xc_dance.proofs.LinkedTables.Sweep.{Rises, Rises-filter, Rises-weaker, by_first, above, below, members}
-use Rattle.xc_dance.proofs.LinkedTables.Leaving.{eqb_turn, in_range}
+use Rattle.xc_dance.proofs.LinkedTables.Sweep.{Rises, Rises-filter, Rises-weaker, by_first}
+use Rattle.xc_dance.proofs.LinkedTables.Leaving.{in_range}
 use Rattle.xc_dance.proofs.MoveLemmas.Members.{in_filter}
 use Rattle.std.proofs.Common.{zero, suc, ◌||◌, eqb-true}
-use Rattle.xc_dance.specs.Fields.{is_in, first_above, last_below, first_of, last_of}
-use Rattle.xc_dance.proofs.LinkedTables.RingLemmas.{less, beside, beside_less, beside_other}
+use Rattle.xc_dance.specs.Fields.{is_in}
+use Rattle.xc_dance.proofs.LinkedTables.RingLemmas.{less, beside, beside_other, IsRow, row_by, row_back}
+use Rattle.xc_dance.proofs.LinkedTables.RingLemmas.{row_same, past, row_less}
 use Rattle.xc_dance.proofs.LinkedTables.RingStep.{row_put, row_get, row_len, same_items, left_now, right_now}
 use Rattle.xc_dance.proofs.MoveLemmas.ListLemmas.{Rises-range}
 use Rattle.xc_dance.proofs.MoveLemmas.StateLemmas.{open_uncovered}
@@ -95,24 +96,6 @@ link_other p d t q pos le un e = beside_other d (ring_head p q) q (ring_of p t q
 
 -- ---- there and back
 
--- from a through xs to e: r leads to the next of them, and l to the one before
-abbrev IsRow : (ℕ → ℕ) → (ℕ → ℕ) → ℕ → List ℕ → ℕ → Type 0
-IsRow r l a [] e = (r a ≡ e) × (l e ≡ a)
-IsRow r l a (x ∷ xs) e = (r a ≡ x) × (l x ≡ a) × IsRow r l x xs e
-
-row_by : (r l : ℕ → ℕ) (a n : ℕ) (xs : List ℕ) (e : ℕ) → Rises n xs
-    → ((x : ℕ) → is_in x xs ≡ true → (r x ≡ first_above e x xs) × (l x ≡ last_below a x xs)) → r a ≡ first_of e xs
-    → l e ≡ last_of a xs → IsRow r l a xs e
-row_by r l a n [] e rise inner first last = (first, last)
-row_by r l a n (y ∷ ys) e rise inner first last =
-    grind (arith, common_steps, above, below, members, row_by r l y y ys e rise.1)
-
-row_back : (r l : ℕ → ℕ) (a : ℕ) (xs : List ℕ) (e : ℕ) → IsRow r l a xs e → (x : ℕ)
-    → ((eqb x a || is_in x xs) ≡ true → (l (r x) ≡ x) × ((eqb (r x) e || is_in (r x) xs) ≡ true))
-    × ((eqb x e || is_in x xs) ≡ true → (r (l x) ≡ x) × ((eqb (l x) a || is_in (l x) xs) ≡ true))
-row_back r l a [] e row x = grind (arith, common_steps, eqb-true, eq-eqb)
-row_back r l a (y ∷ ys) e row x = grind (arith, common_steps, eqb-true, eq-eqb, eqb_turn, row_back r l y ys e row.2 x)
-
 range_in : (k a n : ℕ) → is_in k (range_with_len (a + 1) n) ≡ true → (a < k) × (k ≤ a + n)
 range_in k a zero e = grind (arith, common_steps, false≢true)
 range_in k a (suc n) e = grind (arith, common_steps, eqb-true, range_in k (a + 1) n)
@@ -164,6 +147,20 @@ beside_back : (p : Puzzle) (d : Bool) (t : List Move) (q r : ℕ) → InRing p t
 beside_back p true t q r within = (row_back _ _ _ _ _ (ring_row p t q) r).0 within
 beside_back p false t q r within = (row_back _ _ _ _ _ (ring_row p t q) r).1 within
 
+-- once an item is covered, they lead past it
+beside_left : (p : Puzzle) (d : Bool) (t : List Move) (i q r : ℕ) → 0 < i → i ≤ item_count p
+    → InRing p (Cover i ∷ t) q r
+    → beside_on p (Cover i ∷ t) (side p q) d r ≡ past i (beside_on p t (side p q) d) r
+beside_left p d t i q r pos le within =
+    let on = beside_on p t (side p q) in
+    let h = ring_head p q in
+    let row = subst (λ ks. IsRow (past i (on true)) (past i (on false)) h ks h) (sym (ring_less p t i q))
+    (row_less (on true) (on false) h i 0 (ring_of p t q) h (ring_rises p t q) (head_other p q i pos le)
+    (head_other p q i pos le) (ring_row p t q)) in
+    let same = row_same _ _ _ _ h (ring_of p (Cover i ∷ t) q) h (ring_row p (Cover i ∷ t) q) row r in
+    elim d as (λ d. beside_on p (Cover i ∷ t) (side p q) d r ≡ past i (on d) r)
+    [ true ↦ same.0 within | false ↦ same.1 within ]
+
 pub link_beside : (p : Puzzle) (d : Bool) (t : List Move) (q : ℕ) → AreLegal p t → q < item_count p + 2 → Stays p t q
     → IsBeside p t (side p q) (link p d t q)
 link_beside p d t q legal lt stays =
@@ -189,14 +186,13 @@ next_in p t d i legal pos le un q lt stays =
     let l = link p (not d) t i in
     let back : link p d t l ≡ i =
     ap (λ c. link p c t l) (sym (not-not d)) ∙ link_back p (not d) t i legal within (λ _ _. un) in
-    let beyond = λ (k : ℕ). beside d (ring_head p k) i (ring_of p t k) in
-    let after : link p d (Cover i ∷ t) q ≡ cond (eqb (link p d t q) i) (beyond q) (link p d t q) =
-    link_is p d (Cover i ∷ t) q lt stays ∙ ap (beside d (ring_head p q) q) (ring_less p t i q)
-    ∙ beside_less d (ring_head p q) q i (ring_of p t q) (ring_rises p t q) (head_other p q i pos le)
-    ∙ ap (λ v. cond (eqb v i) (beyond q) v) (sym (link_is p d t q lt now)) in
-    let same : side p q ≡ side p i → beyond q ≡ link p d t i = λ e.
+    let on = beside_on p t (side p q) d in
+    let after : link p d (Cover i ∷ t) q ≡ cond (eqb (link p d t q) i) (on i) (link p d t q) =
+    link_is p d (Cover i ∷ t) q lt stays ∙ beside_left p d t i q q pos le (in_ring p (Cover i ∷ t) q lt stays)
+    ∙ ap (λ v. cond (eqb v i) (on i) v) (sym (link_is p d t q lt now)) in
+    let same : side p q ≡ side p i → on i ≡ link p d t i = λ e.
     ap (λ b. beside_on p t b d i) e ∙ sym (link_is p d t i (omega (arith, le)) (λ _ _. un)) in
-    after ∙ by_first (cond (eqb (link p d t q) i) (beyond q) (link p d t q) ≡ cond (eqb q l) (link p d t i)
+    after ∙ by_first (cond (eqb (link p d t q) i) (on i) (link p d t q) ≡ cond (eqb q l) (link p d t i)
     (link p d t q)) q l
     (λ e. rw (eq-eqb (link p d t q) i (ap (link p d t) e ∙ back), eq-eqb q l e) (same (ap (side p) e ∙ own.side)))
     (λ ne. rw (ne_eqb (link p d t q) i (λ e. ne (sym here ∙ ap (link p (not d) t) e)), ne_eqb q l ne) refl)
