@@ -7,14 +7,14 @@ use Rattle.std.specs.Prelude.{is_some, sum_by}
 use Rattle.std.specs.List.{AllByRecursion, range_with_len}
 use Rattle.std.proofs.lemmas.Grind.{common_steps}
 use Rattle.std.proofs.lemmas.Bool.{eqb-false, false≢true}
-use Rattle.std.proofs.Math.Bool.{not-not, and-false, and-true, or-false}
+use Rattle.std.proofs.Math.Bool.{not-not, and-false, and-true}
 use Rattle.std.proofs.lemmas.List.Sums.{sum_by-cons}
 use Rattle.std.proofs.lemmas.List.{length-map, take-map, drop-map}
 use Rattle.std.proofs.lemmas.List.Elements.{filter_agree}
 use Rattle.std.proofs.lemmas.List.Filters.{length-filter_both}
-use Rattle.xc_input.specs.Problem.{Puzzle, item_count, colour_in, uses_of, holds, holding, Numbered, colour_at}
+use Rattle.xc_input.specs.Problem.{Puzzle, item_count, colour_in, uses_of, holds, holding, Numbered}
 use Rattle.xc_dance.specs.declared.dance.Move.{Move}
-use Rattle.xc_dance.specs.Moves.{listed, is_open, AreLegal, listed_numbers, is_other_colour, without, other_colours}
+use Rattle.xc_dance.specs.Moves.{listed, is_open, AreLegal, listed_numbers, is_other_colour, without}
 use Rattle.xc_dance.specs.inner.Lists.Losing.{is_kept}
 use Rattle.xc_dance.specs.Fields.{Node, is_in}
 use Rattle.xc_dance.specs.inner.Left.{left}
@@ -23,18 +23,18 @@ use Rattle.xc_dance.specs.inner.Links.Cells.{color_in}
 use Rattle.xc_dance.specs.inner.Links.Laid.{IsLaid, IsFit}
 use Rattle.xc_dance.specs.Cost.{leaving}
 use Rattle.xc_dance.specs.declared.dance.Move.TheVariants.{Cover, Purify, Tweak}
-use Rattle.xc_input.proofs.lists.EachElement.{each-filter, each_both, each-map, each_weaker}
-use Rattle.xc_input.proofs.lists.Filters.{filter_same}
+use Rattle.xc_input.proofs.lists.EachElement.{each-filter, each_both, each-map}
 use Rattle.xc_dance.proofs.LinkedTables.Sweep.{other_items, in_above, Rises, Rises-filter, stay, stay_all, leave_none}
-use Rattle.xc_dance.proofs.LinkedTables.Sweep.{goes, without_numbers, filter_numbers, is_in-first, stay_same}
+use Rattle.xc_dance.proofs.LinkedTables.Sweep.{is_in-first}
 use Rattle.xc_dance.proofs.LinkedTables.Sweep.{in_more, not_in}
 use Rattle.xc_dance.proofs.MoveLemmas.ListLemmas.{Rises-range}
 use Rattle.xc_dance.proofs.MoveLemmas.OpenLists.{listed_open}
 use Rattle.xc_dance.proofs.LinkedTables.GoodLines.{Named, numbers_named, SameCut}
 use Rattle.xc_dance.proofs.LinkedTables.OneOption.{is_mark, AreReady, AllApart, gone_count}
+use Rattle.xc_dance.proofs.LiveLists.Removal.{less-remove}
 use Rattle.xc_dance.proofs.LinkedTables.OneList.{OwnReady}
 use Rattle.xc_dance.proofs.LinkedTables.OtherItems.{own_apart, in_others, others_apart, leaves}
-use Rattle.xc_dance.proofs.MoveLemmas.Shortened.{rises_listed}
+use Rattle.xc_dance.proofs.MoveLemmas.Shortened.{rises_listed, holders, less_without, other_numbers}
 use Rattle.xc_dance.proofs.MoveLemmas.Members.{element_of, in_filter, same_members}
 use Rattle.xc_dance.proofs.LinkedTables.MarkedNodes.{options_left, Met, each_met, open_unmarked, color_is}
 use Rattle.xc_dance.proofs.LinkedTables.MarkedNodes.{colour_some, colour_small}
@@ -245,19 +245,12 @@ leaving_is p t m k cuts = sum_same _ _ 1 (item_count p) (λ j u v.
 
 -- ---- what each move takes out of the lists of the other items, in option numbers
 
-goes_is : (gone : List Numbered) (x : ℕ) → goes gone x ≡ is_in x (map (λ o. o.number) gone)
-goes_is [] x = refl
-goes_is (o ∷ os) x = ap (λ b. eqb o.number x || b) (goes_is os x)
-
-without_is : (gone os : List Numbered) {gs : List ℕ} → map (λ o. o.number) gone ≡ gs
-    → map (λ o. o.number) (without gone os) ≡ stay (λ x. is_in x gs) (map (λ o. o.number) os)
-without_is gone os is = grind (arith, common_steps, filter_agree, goes_is, without_numbers)
-
 pub takes_listed : (p : Puzzle) (t : List Move) (m : Move) (i : ℕ) (gone : List Numbered) {gs : List ℕ}
     → map (λ o. o.number) gone ≡ gs
     → ((j : ℕ) → j ≢ i → listed p (m ∷ t) j ≡ cond (is_open j t) (without gone (listed p t j)) (listed p t j))
     → TakesOut p t m i gs
-takes_listed p t m i gone is h = grind (arith, common_steps, without_is)
+takes_listed p t m i gone is h =
+    record { others = λ j ne. grind (arith, common_steps, less_without gone (listed p t j), h j ne) }
 
 pub listed_options : (p : Puzzle) (t : List Move) (i : ℕ) → AreLegal p t → is_open i t ≡ true
     → AllByRecursion (IsOption p) (listed p t i)
@@ -278,27 +271,16 @@ own_cover p t i =
 
 -- ---- Purify
 
-others_numbers : (p : Puzzle) (i c : ℕ) (os : List Numbered) → AllByRecursion (IsOption p) os
-    → map (λ o. o.number) (other_colours i c os) ≡ leavers p i (Some c) (map (λ o. o.number) os)
-others_numbers p i c os a =
-    let f : ℕ → Bool = λ x. not (is_kept p i (Some c) x) in
-    ap (map (λ o. o.number)) (filter_same (λ o. is_other_colour c (colour_at o i)) (λ o. f o.number) _
-    (each_weaker (IsOption p) (λ o. is_other_colour c (colour_at o i) ≡ f o.number) _
-    (λ o is. grind (arith, common_steps, not-not)) a)) ∙ filter_numbers f os
-
 pub takes_purify : (p : Puzzle) (t : List Move) (i c : ℕ) → AreLegal p t → is_open i t ≡ true
     → TakesOut p t (Purify i c) i (leavers p i (Some c) (listed_numbers p t i))
-takes_purify p t i c legal opened = grind (arith, common_steps, listed_options, ne_eqb, others_numbers, takes_listed)
+takes_purify p t i c legal opened =
+    let gone = sym (other_numbers p i c (listed p t i) (holders p t i)) in
+    grind (arith, common_steps, ne_eqb, takes_listed)
 
 pub own_purify : (p : Puzzle) (t : List Move) (i c : ℕ) → listed_numbers p (Purify i c ∷ t) i ≡ listed_numbers p t i
 own_purify p t i c = grind (arith, common_steps, eq-eqb)
 
 -- ---- Tweak
-
-drop_alone : (x : ℕ) (xs : List ℕ) → Rises 0 (x ∷ xs) → xs ≡ stay (λ y. is_in y (x ∷ [])) (x ∷ xs)
-drop_alone x xs r = rw (eq-eqb x x refl)
-    (sym (filter_agree _ _ (λ y. ap not (or-false (eqb x y) ∙ eqb_turn x y)) xs
-    ∙ stay_same x xs (λ e. false≢true (sym (not_in x x xs (omega arith) r.1) ∙ e))))
 
 module _ (p : Puzzle) (t : List Move) (i : ℕ) where
   pub tweak_own : listed_numbers p (Tweak i ∷ t) i ≡ drop 1 (listed_numbers p t i)
@@ -312,4 +294,5 @@ module _ (p : Puzzle) (t : List Move) (i : ℕ) where
       let rise : Rises 0 (o ∷ os) = subst (Rises 0) is (rises_listed p t i) in
       let alone : map (λ o. o.number) (take 1 (listed p t i)) ≡ o ∷ [] =
       sym (take-map (λ o. o.number) 1 (listed p t i)) ∙ ap (take 1) is in
-      grind (arith, common_steps, drop_alone, eqb-true, tweak_own, without_is)
+      let rest : stay (λ x. is_in x (o ∷ [])) (o ∷ os) ≡ os = less-remove 0 (o ∷ os) 0 rise (omega arith) in
+      grind (arith, common_steps, eqb-true, tweak_own, less_without)

@@ -3,7 +3,7 @@ use Rattle.std.proofs.Common.{◌≡◌, ◌≢◌, ℕ, ◌+◌, ◌<◌, ◌�
 use Rattle.std.proofs.Common.{length, filter, fold, Some, None, refl, ap, sym, ◌∙◌, arith, eqb-true, eq-eqb, ne_eqb}
 use Rattle.std.proofs.Common.{lt-ltb, le-ltb, zero, suc, cond, map, drop}
 use Rattle.std.specs.Prelude.{if◌then◌else◌, ◌-◌, ◌==◌, ◌&&◌, ◌++◌, Option, unwrap_or}
-use Rattle.std.specs.List.{last_or, list_any}
+use Rattle.std.specs.List.{last_or}
 use Rattle.std.proofs.lemmas.Grind.{common_steps}
 use Rattle.std.proofs.lemmas.Bool.{eqb-false, false≢true}
 use Rattle.xc_input.specs.Problem.{Puzzle, uses_of, Numbered}
@@ -12,7 +12,7 @@ use Rattle.xc_dance.specs.inner.Links.Cells.{slot_of, line_of, up_of, down_of}
 use Rattle.xc_dance.specs.inner.Links.Others.{before_use, behind_use}
 use Rattle.xc_dance.specs.declared.dance.Move.{Move}
 use Rattle.xc_dance.specs.declared.dance.Move.TheVariants.{Cover}
-use Rattle.xc_dance.specs.Moves.{without, listed_numbers}
+use Rattle.xc_dance.specs.Moves.{listed_numbers}
 use Rattle.xc_input.proofs.lists.Filters.{filter-map}
 use Rattle.xc_dance.proofs.MoveLemmas.Shortened.{rises_listed}
 use Rattle.xc_dance.specs.inner.Links.Lines.{Line}
@@ -224,12 +224,6 @@ numbers_of os = map (λ o. o.number) os
 pub filter_numbers : (g : ℕ → Bool) (os : List Numbered)
     → numbers_of (filter (λ o. g o.number) os) ≡ filter g (numbers_of os)
 filter_numbers g os = sym (filter-map g (λ o. o.number) os)
-
-abbrev pub goes : List Numbered → ℕ → Bool
-goes gone x = list_any (λ y. eqb y.number x) gone
-
-pub without_numbers : (gone os : List Numbered) → numbers_of (without gone os) ≡ stay (goes gone) (numbers_of os)
-without_numbers gone os = filter_numbers (λ x. not (goes gone x)) os
 
 pub stay_all : (xs : List ℕ) → stay (λ x. false) xs ≡ xs
 stay_all [] = refl

@@ -75,7 +75,7 @@ among_numbers : (gone : List Numbered) (o : Numbered) → is_among gone o ≡ li
 among_numbers [] o = refl
 among_numbers (x ∷ gone) o = ap (λ b. eqb x.number o.number || b) (among_numbers gone o)
 
-less_without : (gone xs : List Numbered) → numbers (without gone xs) ≡ less (numbers gone) (numbers xs)
+pub less_without : (gone xs : List Numbered) → numbers (without gone xs) ≡ less (numbers gone) (numbers xs)
 less_without gone [] = grind (arith, common_steps, among_numbers)
 less_without gone (x ∷ xs) = grind (arith, common_steps, among_numbers, less_without gone xs)
 
@@ -100,7 +100,7 @@ pub lists_covered : (p : Puzzle) (t : List Move) (j : ℕ) → 1 ≤ j → j ≤
     lists_after p (Cover j ∷ t)
 lists_covered p t j low high = grind (arith, common_steps, lost p t j (listed p t j), list_after, keep_all, each_of_all)
 
-other_numbers : (p : Puzzle) (j c : ℕ) (xs : List Numbered) → AllByRecursion (IsHolder p j) xs
+pub other_numbers : (p : Puzzle) (j c : ℕ) (xs : List Numbered) → AllByRecursion (IsHolder p j) xs
     → filter (λ o. not (is_kept p j (Some c) o)) (numbers xs) ≡ numbers (other_colours j c xs)
 other_numbers p j c [] h = grind (arith, common_steps, not-not)
 other_numbers p j c (x ∷ xs) h = grind (arith, common_steps, not-not, other_numbers p j c xs h.1)
