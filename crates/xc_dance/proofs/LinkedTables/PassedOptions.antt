@@ -1,7 +1,7 @@
 -- Which option's node stands at a place, by the spacers that a walk over the options passes.
-use Rattle.std.proofs.Common.{◌≡◌, ℕ, ◌+◌, ◌-◌, ◌<◌, ◌≤◌, ◌^◌, inl, inr, Some, List, length, ap, ◌∙◌}
+use Rattle.std.proofs.Common.{◌≡◌, ℕ, ◌+◌, ◌-◌, ◌<◌, ◌≤◌, ◌^◌, Some, List, length, ap, ◌∙◌}
 use Rattle.std.proofs.Common.{arith}
-use Rattle.std.proofs.lemmas.Bool.{cases_lt}
+use Rattle.std.proofs.lemmas.Grind.{common_steps}
 use Rattle.xc_input.specs.declared.problem.Use.{Use}
 use Rattle.xc_input.specs.Problem.{Puzzle, IsOption, numbered_get, uses_of, option_count}
 use Rattle.xc_input.specs.Named.{Named, IsSound}
@@ -37,13 +37,7 @@ pub option_between : (p : Puzzle) (i x q n : ℕ) → IsUseAt p i x q → spacer
     → n + 1 ≡ x
 option_between p i x q n u from below =
     let b = use_between p i x q u in
-    elim (cases_lt n x) [
-      | inl h ↦ elim (cases_lt (n + 1) x) [
-        | inl k ↦ absurd (omega (arith, place_grows p (n + 1) (x - 1) (omega (arith, k)), b.0, below))
-        | inr k ↦ omega (arith, h, k)
-      ]
-      | inr h ↦ absurd (omega (arith, place_grows p x n h, b.1, from))
-    ]
+    grind (arith, common_steps, place_grows p (n + 1) (x - 1), place_grows p x n)
 
 -- ---- the place of a use, behind its option's first node
 

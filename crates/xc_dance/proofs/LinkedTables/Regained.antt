@@ -1,6 +1,6 @@
 -- Members that left one line from top to bottom come back in the same order: each finds its neighbours of before, and
 -- at the end the line is as it was. For the undoing of many Tweaks at once.
-use Rattle.std.proofs.Common.{◌≡◌, ℕ, ◌<◌, ◌≤◌, Bool, true, false, cond, List, [], ◌∷◌, filter, length, ◌+◌}
+use Rattle.std.proofs.Common.{◌≡◌, ℕ, ◌<◌, ◌≤◌, Bool, List, [], ◌∷◌, filter, length, ◌+◌}
 use Rattle.std.proofs.Common.{refl, ap, subst, ◌∙◌, arith}
 use Rattle.std.proofs.lemmas.Grind.{common_steps}
 use Rattle.std.specs.List.{AllByRecursion}
@@ -73,22 +73,15 @@ pub regaining : (l : Line) (a : ℕ) (xs : List ℕ) (g : ℕ → Bool) → IsLi
     → Regaining l (cuts l (filter g xs)) (filter g xs)
 regaining l a [] g linked long = refl
 regaining l a (y ∷ ys) g linked long =
-    elim (g y) as (λ b. Regaining l (cuts l (cond b (y ∷ filter g ys) (filter g ys))) (cond b (y ∷ filter g ys)
-    (filter g ys))) [
-      | true ↦
-          let below = linked_below l a (y ∷ ys) linked in
-          let rise = rises l a (y ∷ ys) linked in
-          let after = cut-linked l a y ys linked in
-          let s = swept (cut l y) a ys g after in
-          let m : Line = cuts (cut l y) (filter g ys) in
-          let up_kept : m.up y ≡ l.up y = grind (arith, common_steps, not_in, put_at-other) in
-          let down_kept : m.down y ≡ l.down y = grind (arith, common_steps, not_in, put_at-other, Rises-filter) in
-          let more = long in (
-            up_kept,
-            down_kept,
-            behind_first l m a y (filter g ys) (omega (arith, more)) linked.1 linked.2 below.0
-                (each-filter (IsBelow l y) g ys (linked_below l y ys linked.3)) up_kept down_kept
-                (regaining (cut l y) a ys g after (omega (arith, more))),
-          )
-      | false ↦ regaining l y ys g linked.3 (omega (arith, long))
-    ]
+    let below = linked_below l a (y ∷ ys) linked in
+    let rise = rises l a (y ∷ ys) linked in
+    let after = cut-linked l a y ys linked in
+    let s = swept (cut l y) a ys g after in
+    let m : Line = cuts (cut l y) (filter g ys) in
+    let up_kept : m.up y ≡ l.up y = grind (arith, common_steps, not_in, put_at-other) in
+    let down_kept : m.down y ≡ l.down y = grind (arith, common_steps, not_in, put_at-other, Rises-filter) in
+    let back = behind_first l m a y (filter g ys) (omega (arith, long)) linked.1 linked.2 below.0
+    (each-filter (IsBelow l y) g ys (linked_below l y ys linked.3)) up_kept down_kept
+    (regaining (cut l y) a ys g after (omega (arith, long))) in
+    let stays = regaining l y ys g linked.3 (omega (arith, long)) in
+    grind (arith, common_steps)
