@@ -174,10 +174,12 @@ down_same l [] rest linked x nz = refl
 down_same l (o ∷ os) rest linked x nz = down_same (cut l o) os rest (cut-linked l 0 o (os ++ rest) linked) x nz
     ∙ put_at-other l.down (l.up o) (l.down o) x (λ z. nz (z ∙ linked.2))
 
-lowered_first : (l : Line) (os rest : List ℕ) → IsLinkedFrom l 0 (os ++ rest)
-    → lowered (cuts l os) (l.down 0) ≡ half (cuts l os).len (cuts l os) l
-lowered_first l os rest linked =
-    line_is (half (cuts l os).len (cuts l os) l) (lowered (cuts l os) (l.down 0)) refl (λ x. refl)
+lowered_first : (ln : ℕ → Line) (i : ℕ) (l : Line) (os rest : List ℕ) → ln i ≡ cuts l os
+    → IsLinkedFrom l 0 (os ++ rest)
+    → with_line ln i (lowered (ln i) (l.down 0)) i ≡ half (cuts l os).len (cuts l os) l
+lowered_first ln i l os rest lost linked =
+    line_here ln i (lowered (ln i) (l.down 0)) ∙ ap (λ (m : Line). lowered m (l.down 0)) lost
+    ∙ line_is (half (cuts l os).len (cuts l os) l) (lowered (cuts l os) (l.down 0)) refl (λ x. refl)
     (λ x. grind (arith, common_steps, by_first, down_same, put_at-other, put_at-same))
 
 up_kept : (p : Puzzle) (ln : ℕ → Line) (i : ℕ) (l : Line) → ((x : ℕ) → l.up x ≡ (ln i).up x)
@@ -252,9 +254,8 @@ tweaks_back p t spans covered i k h legal fit pos le opened some =
     let same_col : T ≡ nodes_from p lnS col = ap (nodes_from p lnS) (colours_kept p i t k) in
     let start : with_dlink T i x ≡ t0 = grind (arith, common_steps, lowered_is) in
     let all : off p col covered i i os ≡ os = rw (eq-eqb i i refl) (stay_all os) in
-    let own_lost : lnS i ≡ cuts l os = h.lines i (pos, le) ∙ ap (cuts l) all in
-    let own_is : ln0 i ≡ half n (cuts l os) l =
-    line_here lnS i w ∙ ap (λ (m : Line). lowered m (l.down 0)) own_lost ∙ lowered_first l os rest linked in
+    let own_lost : lnS i ≡ cuts l os = rw all at (h.lines i (pos, le)) in
+    let own_is : ln0 i ≡ half n (cuts l os) l = lowered_first lnS i l os rest own_lost linked in
     let regains = λ (j : ℕ) (r : InRange p j). regained p t spans covered i j os legal fit opened of r in
     let own_back : Regaining l (cuts l os) os = rw all at (regains i (pos, le)) in
     let back : BringingBack p t covered i n ln0 os = record {

@@ -43,8 +43,8 @@ pub turned_drop : {X : Type 0} (xs : List X) (k : ℕ) → k ≤ length xs
 turned_drop xs k h =
     let m = length xs - k in
     let whole = ap reverse (sym (take-append-drop m xs)) ∙ reverse-append (take m xs) (drop m xs) in
-    grind (arith, common_steps, length-reverse, length-drop,
-    drop-append_seam (reverse (drop m xs)) (reverse (take m xs)))
+    let seam = drop-append_seam (reverse (drop m xs)) (reverse (take m xs)) in
+    grind (arith, common_steps, length-reverse, length-drop)
 
 -- the moves s are t and k Tweaks of item i; the nodes that they took off stand last, and the first is of the item
 pub record Found (p : Puzzle) (s t : List Move) (spans : List Span) (i k : ℕ) (xs : List ℕ) : Type 0 where
