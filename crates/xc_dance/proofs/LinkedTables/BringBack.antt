@@ -1,18 +1,17 @@
 -- Down the nodes that Tweaks of one item took off: each option comes back into the lists of its other items, and into
 -- its own.
 use Rattle.std.proofs.Common.{◌≡◌, ◌≢◌, ℕ, ◌+◌, ◌<◌, ◌≤◌, ◌^◌, true, false, cond, List, [], ◌∷◌, length, map}
-use Rattle.std.proofs.Common.{fold, get_or, set, refl, ap, sym, subst, ◌∙◌, arith, eqb-true, eq-eqb, inr, Bool}
-use Rattle.std.proofs.Common.{not, ◌&&◌, ◌++◌, filter, reverse, ap₂}
+use Rattle.std.proofs.Common.{get_or, set, refl, ap, sym, subst, ◌∙◌, arith, eqb-true, inr, Bool}
+use Rattle.std.proofs.Common.{not, ◌&&◌, filter, reverse, ap₂}
 use Rattle.std.proofs.lemmas.Grind.{common_steps}
-use Rattle.std.proofs.lemmas.Bool.{false≢true, and_parts}
+use Rattle.std.proofs.lemmas.Bool.{false≢true}
 use Rattle.std.proofs.lemmas.List.{length-map}
 use Rattle.std.proofs.lemmas.Option.{slice_get_within}
-use Rattle.std.proofs.lemmas.List.Folds.{list_any-append}
-use Rattle.xc_input.specs.Problem.{Puzzle, item_count, uses_of}
+use Rattle.xc_input.specs.Problem.{Puzzle, item_count}
 use Rattle.xc_dance.specs.declared.links.nodes.Nodes.{Nodes}
 use Rattle.xc_dance.specs.Fields.{Node, layout, link_place, is_in}
 use Rattle.xc_dance.specs.inner.Links.Lines.{Line}
-use Rattle.xc_dance.specs.inner.Links.Steps.{relinked, unhidden, CanUnhide, CanUnhideAll, CanUnhideNode, others_of}
+use Rattle.xc_dance.specs.inner.Links.Steps.{relinked, unhidden, CanUnhide, CanUnhideNode, others_of}
 use Rattle.xc_dance.specs.inner.Links.Steps.{unhide_costs}
 use Rattle.xc_dance.specs.inner.Links.Cells.{fixed_up, fixed_down, top_in, nodes_from, dlink_in, color_in}
 use Rattle.xc_dance.specs.inner.Links.Cells.{line_of}
@@ -22,7 +21,6 @@ use Rattle.xc_dance.specs.inner.Links.Span.{Span}
 use Rattle.xc_dance.specs.Moves.{is_open, AreLegal, listed_numbers}
 use Rattle.xc_dance.specs.inner.Links.Tweaking.{unhidden_unless}
 use Rattle.xc_dance.specs.inner.Links.TweaksBack.{with_ulink, brought_back, bring_back_cost, CanBringBack}
-use Rattle.xc_dance.specs.inner.Links.Others.{before_use, behind_use}
 use Rattle.xc_dance.specs.inner.Links.Made.{IsFitted}
 use Rattle.xc_dance.proofs.LinkedTables.LinkColumns.{same_nodes, unhidden-open, unhidden-marked, set_link, set_top}
 use Rattle.xc_dance.proofs.LinkedTables.LinkColumns.{get_item, size_from, node_cells, map_same, get_down}
@@ -30,17 +28,16 @@ use Rattle.xc_dance.proofs.LinkedTables.OneOption.{is_mark, apart_in, AllApart, 
 use Rattle.xc_dance.proofs.LinkedTables.OneOption.{all_at, line_here, line_there}
 use Rattle.xc_dance.proofs.LinkedTables.Sweep.{mended, with_line, in_above, put_at}
 use Rattle.xc_dance.proofs.LinkedTables.Sweep.{other_items, is_in-first, in_more}
-use Rattle.xc_dance.proofs.LinkedTables.OtherItems.{leaves, in_others, others_apart, own_apart}
-use Rattle.xc_dance.proofs.LinkedTables.OtherItems.{item_range, in_reverse, apart_reverse}
-use Rattle.xc_dance.proofs.LinkedTables.UnmarkedNodes.{costs-are, unhidden_color, unmarked-reverse, unmarked_items}
+use Rattle.xc_dance.proofs.LinkedTables.OtherItems.{leaves, others_apart, own_apart}
+use Rattle.xc_dance.proofs.LinkedTables.OtherItems.{other_item, in_reverse, apart_reverse}
 use Rattle.xc_dance.proofs.LinkedTables.GoodLines.{Named, listed_member, numbers_named}
 use Rattle.xc_dance.proofs.MoveLemmas.Members.{element_of}
 use Rattle.xc_dance.proofs.MoveLemmas.Shortened.{rises_listed}
 use Rattle.xc_dance.proofs.LinkedTables.Leaving.{met_at}
 use Rattle.xc_dance.proofs.LinkedTables.Regained.{Regaining, regaining_len}
-use Rattle.xc_dance.proofs.LinkedTables.Spacers.{others_are, can_unhide_node}
+use Rattle.xc_dance.proofs.LinkedTables.Spacers.{unhides}
 use Rattle.xc_dance.proofs.LinkedTables.TweakStep.{to_come, back_writes}
-use Rattle.xc_dance.proofs.LinkedTables.Walks.{map_reverse}
+use Rattle.xc_dance.proofs.LinkedTables.Walks.{Way}
 
 -- ---- an option comes back into the lists of some of its items, whatever state these lists are in: what a step of
 -- unhide does where its neighbours are named
@@ -97,26 +94,23 @@ pub record Returning (p : Puzzle) (col : Node → ℕ) (ln : ℕ → Line) (o j 
   pub name : IsName p j o
   pub returner : is_mark p col o j ≡ false → IsReturner p j (ln j) o
 
-pub record UnhiddenAll (t u : Nodes) (qs : List ℕ) : Type 0 where
-  pub can : CanUnhideAll t qs
-  pub done : fold unhidden t qs ≡ u
+-- the steps lead from one table to another
+abbrev pub Returns : Puzzle → (Node → ℕ) → ℕ → (ℕ → Line) → (ℕ → Line) → ℕ → Type 0
+Returns p col o ln ln' j = Unhidden (nodes_from p ln col) (nodes_from p ln' col) (link_place p j o)
 
 pub unhidden_walk : (p : Puzzle) (col : Node → ℕ) (ln : ℕ → Line) (o : ℕ) (js : List ℕ) → IsLaid p → 0 < o → AllApart js
-    → ((j : ℕ) → is_in j js ≡ true → Returning p col ln o j) →
-    UnhiddenAll (nodes_from p ln col) (nodes_from p (back_all p col o ln js) col) (map (λ j. link_place p j o) js)
-unhidden_walk p col ln o [] laid pos apart h = record { can = tt; done = refl }
+    → ((j : ℕ) → is_in j js ≡ true → Returning p col ln o j) → Way (Returns p col o) ln js (back_all p col o ln js)
+unhidden_walk p col ln o [] laid pos apart h = refl
 unhidden_walk p col ln o (j ∷ js) laid pos apart h =
-    let q = link_place p j o in
-    let t : Nodes = nodes_from p ln col in
     let here = h j (is_in-first j js) in
-    let first : Unhidden t (nodes_from p (back_one p col o ln j) col) q = elim (is_mark p col o j) as
-    (λ b. is_mark p col o j ≡ b → Unhidden t (nodes_from p (cond b ln (with_line ln j (mended (ln j) o))) col) q) [
+    let first = elim (is_mark p col o j) as
+    (λ b. is_mark p col o j ≡ b → Returns p col o ln (cond b ln (with_line ln j (mended (ln j) o))) j) [
       | true ↦ λ e. unhide_marked col ln laid here.pos here.le pos here.name e
       | false ↦ λ e. unhide_open col ln laid here.pos here.le pos (here.returner e) e
     ] refl in
     let rest = unhidden_walk p col (back_one p col o ln j) o js laid pos apart.1 (λ k e.
     grind (arith, common_steps, apart_in, in_more, one_other)) in
-    grind (arith, common_steps)
+    (back_one p col o ln j, (first, rest))
 
 -- ---- down the nodes that Tweaks of one item took off: each option comes back into the lists of its other items, and
 -- under the node above it into its own
@@ -176,65 +170,52 @@ pub record Opened (p : Puzzle) (t : List Move) (spans : List Span) (covered : Bo
   pub others : (j : ℕ) → 0 < j → j ≤ item_count p → j ≢ i
       → Regaining (line_of p t j) (ln1 j) (to_come p t covered i j os)
 
-opened_covered : {p : Puzzle} {t : List Move} (spans : List Span) {i n : ℕ} {ln : ℕ → Line} {o : ℕ} {os : List ℕ}
-    → BringingBack p t true i n ln (o ∷ os) → Opened p t spans true i ln o os
-opened_covered spans h = grind (arith, common_steps, false≢true)
-
-apart_behind : (js ks : List ℕ) → AllApart (js ++ ks) → AllApart ks
-apart_behind [] ks h = h
-apart_behind (j ∷ js) ks h = apart_behind js ks h.1
-
-opened_open : {p : Puzzle} {t : List Move} {spans : List Span} {i n : ℕ} {ln : ℕ → Line} {o : ℕ} {os : List ℕ}
-    → AreLegal p t → IsFitted p spans → is_open i t ≡ true → 0 < o → Named p i o → is_in o (listed_numbers p t i) ≡ true
-    → BringingBack p t false i n ln (o ∷ os) → Opened p t spans false i ln o os
-opened_open {p} {t} {spans} {i} {ln} {o} {os} legal fit opened o_pos named within h =
+opened_at : {p : Puzzle} {t : List Move} {spans : List Span} (covered : Bool) {i n : ℕ} {ln : ℕ → Line} {o : ℕ}
+    {os : List ℕ} → AreLegal p t → IsFitted p spans → is_open i t ≡ not covered → is_in o (listed_numbers p t i) ≡ true
+    → BringingBack p t covered i n ln (o ∷ os) → Opened p t spans covered i ln o os
+opened_at true legal fit shut within h = grind (arith, common_steps, false≢true)
+opened_at {p} {t} {spans} false {i} {ln = ln} {o} {os} legal fit opened within h =
+    let o_pos = in_above _ _ _ (rises_listed p t i) within in
+    let named = element_of (Named p i) _ _ (numbers_named p t i) within in
     let col = color_in p t in
     let laid = fit.laid in
     let js = other_items p o i in
-    let x = link_place p i o in
     let back = reverse js in
     let apart : AllApart back = apart_reverse js (others_apart p o i fit.fit) in
     let comes : (j : ℕ) → leaves p col i j o ≡ true → 0 < j → j ≤ item_count p → j ≢ i
     → Regaining (line_of p t j) (ln j) (o ∷ filter (leaves p col i j) os) = λ j e pos le ne. subst
     (Regaining (line_of p t j) (ln j)) (ap (λ b. cond b (o ∷ filter (leaves p col i j) os) (filter
     (leaves p col i j) os)) e) (h.others j pos le ne) in
-    let returning : (j : ℕ) → is_in j js ≡ true → Returning p col ln o j = λ j in_js.
-    let both = and_parts _ _ (sym (in_others p o i j (fit.fit.distinct o)) ∙ in_js) in
-    let j_named : Named p j o = both.1 in
-    let r = item_range p (uses_of p o) j (fit.fit.items o) j_named in
-    let ne : j ≢ i = λ s. false≢true (sym (ap not (eq-eqb j i s)) ∙ both.0) in
+    let returning : (j : ℕ) → is_in j back ≡ true → Returning p col ln o j = λ j in_back.
+    let in_js = sym (in_reverse j js) ∙ in_back in
+    let k = other_item o i j fit.fit in_js in
     record {
-      pos = r.0;
-      le = r.1;
-      name = inr (o_pos, j_named);
+      pos = k.item.0;
+      le = k.item.1;
+      name = inr (o_pos, k.named);
       returner = λ un.
-          let nb = comes j (ap₂ (λ a b. a && not b) in_js un) r.0 r.1 ne in
-          let met = met_at p t i legal laid fit.fit opened j o r.0 r.1 within j_named in
+          let nb = comes j (ap₂ (λ a b. a && not b) in_js un) k.item.0 k.item.1 k.ne in
+          let met = met_at p t i legal laid fit.fit opened j o k.item.0 k.item.1 within k.named in
           let j_open : is_open j t ≡ true = grind (arith, common_steps, false≢true) in
-          let m = listed_member t j o fit.fit r (met.opened j_open).1 in
+          let m = listed_member t j o fit.fit k.item (met.opened j_open).1 in
           record {
             name = m.name;
             above = subst (IsName p j) (sym nb.0) m.above;
             below = subst (IsName p j) (sym nb.1) m.below;
-            few = omega (arith, regaining_len _ _ _ (h.others j r.0 r.1 ne), m.few);
+            few = omega (arith, regaining_len _ _ _ (h.others j k.item.0 k.item.1 k.ne), m.few);
           };
     } in
-    let w = unhidden_walk p col ln o back laid o_pos apart (λ j e. returning j (sym (in_reverse j js) ∙ e)) in
-    let before = before_use i (uses_of p o) in
-    let mid = unhidden_walk p col ln o (reverse before) laid o_pos
-    (apart_reverse before (apart_behind (behind_use i (uses_of p o)) before (others_apart p o i fit.fit)))
-    (λ j e. returning j (grind (arith, common_steps, list_any-append, in_reverse))) in
-    let place : ℕ → ℕ = λ j. link_place p j o in
     let ln1 : ℕ → Line = back_all p col o ln back in
     let at : (j : ℕ) → ln1 j ≡ cond (leaves p col i j o) (mended (ln j) o) (ln j) =
     grind (arith, common_steps, all_at, in_reverse) in
-    let nodes = ap reverse (others_are p spans o i fit.spanned o_pos named) ∙ map_reverse (λ j. link_place p j o) js in
+    let u = unhides p col spans o i fit.spanned o_pos named (Returns p col o) (λ a b j s. (s.can, s.done)) ln ln1
+    (unhidden_walk p col ln o back laid o_pos apart returning) in
     record {
       ln1 = ln1;
-      can = grind (arith, common_steps, can_unhide_node, map_reverse);
-      done = ap (fold unhidden (nodes_from p ln col)) nodes ∙ w.done;
+      can = λ e. (fit.spanned.within o i o_pos named, u.can);
+      done = u.done;
       own = grind (arith, common_steps, own_apart);
-      cost = grind (arith, common_steps, costs-are, others_are, unhidden_color, unmarked-reverse, unmarked_items);
+      cost = u.cost;
       others = λ j pos le ne. elim (leaves p col i j o) as
           (λ b. leaves p col i j o ≡ b → Regaining (line_of p t j) (ln1 j) (filter (leaves p col i j) os)) [
             | true ↦ λ e. grind (arith, common_steps)
@@ -252,11 +233,12 @@ pub record BringBackStep (p : Puzzle) (t : List Move) (spans : List Span) (cover
   pub cost : bring_back_cost spans covered (nodes_from p ln (color_in p t)) (link_place p i o) ≡ 1 + back_writes p
       (color_in p t) covered i o
 
-by_opened : {p : Puzzle} {t : List Move} {spans : List Span} {covered : Bool} {i n : ℕ} {ln : ℕ → Line} {o : ℕ}
-    {os : List ℕ} → IsFitted p spans → 0 < i → i ≤ item_count p → is_in o (listed_numbers p t i) ≡ true
-    → BringingBack p t covered i n ln (o ∷ os) → Opened p t spans covered i ln o os
-    → BringBackStep p t spans covered i n ln o os
-by_opened {p} {t} {covered} {i} {n} {ln} {o} {os} fit pos le within h m1 =
+pub bring_back_step : (p : Puzzle) (t : List Move) (spans : List Span) (covered : Bool) (i n : ℕ) (ln : ℕ → Line)
+    (o : ℕ) (os : List ℕ) → AreLegal p t → IsFitted p spans → 0 < i → i ≤ item_count p → is_open i t ≡ not covered
+    → is_in o (listed_numbers p t i) ≡ true
+    → BringingBack p t covered i n ln (o ∷ os) → BringBackStep p t spans covered i n ln o os
+bring_back_step p t spans covered i n ln o os legal fit pos le shut within h =
+    let m1 = opened_at covered legal fit shut within h in
     let laid = fit.laid in
     let x = link_place p i o in
     let l : Line = line_of p t i in
@@ -290,13 +272,3 @@ by_opened {p} {t} {covered} {i} {n} {ln} {o} {os} fit pos le within h m1 =
       };
       cost = ap (λ n. 1 + n) m1.cost;
     }
-
-pub bring_back_step : (p : Puzzle) (t : List Move) (spans : List Span) (covered : Bool) (i n : ℕ) (ln : ℕ → Line)
-    (o : ℕ) (os : List ℕ) → AreLegal p t → IsFitted p spans → 0 < i → i ≤ item_count p → is_open i t ≡ not covered
-    → is_in o (listed_numbers p t i) ≡ true
-    → BringingBack p t covered i n ln (o ∷ os) → BringBackStep p t spans covered i n ln o os
-bring_back_step p t spans true i n ln o os legal fit pos le shut within h =
-    by_opened fit pos le within h (opened_covered spans h)
-bring_back_step p t spans false i n ln o os legal fit pos le opened within h =
-    by_opened fit pos le within h (opened_open legal fit opened (in_above _ _ _ (rises_listed p t i) within)
-    (element_of (Named p i) _ _ (numbers_named p t i) within) within h)

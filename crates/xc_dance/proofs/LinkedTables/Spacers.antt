@@ -3,7 +3,7 @@ use Rattle.std.proofs.Common.{◌≡◌, ℕ, ◌+◌, ◌-◌, ◌<◌, List, m
 use Rattle.std.proofs.Common.{subst, ◌∙◌, arith, ◌*◌}
 use Rattle.std.proofs.lemmas.Grind.{common_steps}
 use Rattle.std.specs.Prelude.{slice_get}
-use Rattle.std.proofs.lemmas.List.{length-map, map-append}
+use Rattle.std.proofs.lemmas.List.{length-map, map-append, reverse-append}
 use Rattle.xc_input.specs.Problem.{Puzzle, uses_of}
 use Rattle.xc_dance.specs.declared.links.nodes.Nodes.{Nodes}
 use Rattle.xc_dance.specs.inner.Links.Span.{Span}
@@ -33,44 +33,12 @@ spacer_in : (p : Puzzle) (ln : ℕ → Line) (col : Node → ℕ) (z n : ℕ) �
     → IsSpacer (nodes_from p ln col) z
 spacer_in p ln col z n e = grind (arith, common_steps, get_map, length-map, size_from, slice_get_within)
 
-module _ (p : Puzzle) (ln : ℕ → Line) (col : Node → ℕ) (t : Nodes) (spans : List Span) (o i : ℕ)
-    (spanned : HasSpans p spans) (pos : 0 < o) (named : Named p i o) where
-  -- the nodes of an option can be hidden, if the lists of the items behind i are as these lines say when the spacer is
-  -- met
-  can_hide_node : CanHideAll t (map (λ j. link_place p j o) (other_items p o i)) →
-      fold hidden t (map (λ j. link_place p j o) (behind_use i (uses_of p o))) ≡ nodes_from p ln col
-      → CanHideNode spans t (link_place p i o)
-  can_hide_node can mid =
-      let s = spanned.span o i pos named in
-      let end = (span_at spans (link_place p i o)).end in
-      let met : fold hidden t (places (link_place p i o + 1) end) ≡ nodes_from p ln col =
-      ap (fold hidden t) s.behind ∙ mid in
-      record {
-        steps = subst (CanHideAll t) (sym (others_are p spans o i spanned pos named)) can;
-        within = s.below;
-        near = omega (arith, slice_get_within (layout p) end _ s.last, spanned.near);
-        spacer = subst (λ (u : Nodes). IsSpacer u end) (sym met) (spacer_in p ln col end o s.last);
-        first = ap (λ (u : Nodes). get_or u.ulink end 0) met ∙ get_map (ulink_in p ln) (layout p) end _ s.last ∙ s.up;
-      }
-
-  -- they can come back, if the lists of the items before i are as these lines say then
-  pub can_unhide_node : CanUnhideAll t (reverse (map (λ j. link_place p j o) (other_items p o i))) →
-      fold unhidden t (reverse (map (λ j. link_place p j o) (before_use i (uses_of p o)))) ≡ nodes_from p ln col
-      → CanUnhideNode spans t (link_place p i o)
-  can_unhide_node can mid =
-      let s = spanned.span o i pos named in
-      let first = (span_at spans (link_place p i o)).first in
-      let met : fold unhidden t (reverse (places first (link_place p i o))) ≡ nodes_from p ln col =
-      ap (λ qs. fold unhidden t (reverse qs)) s.before ∙ mid in
-      record {
-        steps = subst (λ qs. CanUnhideAll t (reverse qs)) (sym (others_are p spans o i spanned pos named)) can;
-        from = s.some;
-        within = s.from;
-        near = omega (arith, slice_get_within (layout p) (span_at spans (link_place p i o)).end _ s.last, spanned.near);
-        spacer = subst (λ (u : Nodes). IsSpacer u (first - 1)) (sym met) (spacer_in p ln col _ _ s.first);
-        last = ap (λ (u : Nodes). get_or u.dlink (first - 1) 0 + 1) met
-            ∙ ap (λ n. n + 1) (get_map (dlink_in p ln) (layout p) _ _ s.first) ∙ s.down;
-      }
+-- option o is unhidden from the lines ln to the lines end
+pub record Unhides (p : Puzzle) (col : Node → ℕ) (spans : List Span) (o i : ℕ) (ln end : ℕ → Line) : Type 0 where
+  pub can : CanUnhideNode spans (nodes_from p ln col) (link_place p i o)
+  pub done : unhidden_node spans (nodes_from p ln col) (link_place p i o) ≡ nodes_from p end col
+  pub cost : unhide_costs (nodes_from p ln col) (reverse (others_of spans (link_place p i o)))
+      ≡ 3 * gone_count p col i o
 
 -- the table once the option has left the lists of its items but i
 abbrev pub gone_from : Puzzle → (ℕ → Line) → (Node → ℕ) → ℕ → ℕ → Nodes
@@ -86,6 +54,40 @@ pub record Turns (p : Puzzle) (ln : ℕ → Line) (col : Node → ℕ) (spans : 
   pub cost_back : unhide_costs (gone_from p ln col o i) (reverse (others_of spans (link_place p i o)))
       ≡ 3 * gone_count p col i o
 
+-- the steps of unhide at the nodes of its other items lead there: the spacer is met once those before item i's are back
+pub unhides : (p : Puzzle) (col : Node → ℕ) (spans : List Span) (o i : ℕ) → HasSpans p spans → 0 < o → Named p i o
+    → (R : (ℕ → Line) → (ℕ → Line) → ℕ → Type 0) → ((a b : ℕ → Line) (j : ℕ) → R a b j
+    → CanUnhide (nodes_from p a col) (link_place p j o)
+    × (unhidden (nodes_from p a col) (link_place p j o) ≡ nodes_from p b col))
+    → (ln end : ℕ → Line) → Way R ln (reverse (other_items p o i)) end → Unhides p col spans o i ln end
+unhides p col spans o i spanned pos named R each ln end w =
+    let table : (ℕ → Line) → Nodes = λ m. nodes_from p m col in
+    let place : ℕ → ℕ = λ j. link_place p j o in
+    let before = before_use i (uses_of p o) in
+    let behind = behind_use i (uses_of p o) in
+    let parts = way_split R ln (reverse before) (reverse behind) end
+    (subst (λ js. Way R ln js end) (reverse-append behind before) w) in
+    let whole = way_made R table place unhidden CanUnhide each ln (reverse (other_items p o i)) end w in
+    let first = way_made R table place unhidden CanUnhide each ln (reverse before) parts.0 parts.1.0 in
+    let s = spanned.span o i pos named in
+    let z = (span_at spans (link_place p i o)).first in
+    let others = ap reverse (others_are p spans o i spanned pos named) ∙ map_reverse place (other_items p o i) in
+    let met : fold unhidden (table ln) (reverse (places z (link_place p i o))) ≡ table parts.0 =
+    ap (λ qs. fold unhidden (table ln) qs) (ap reverse s.before ∙ map_reverse place before) ∙ first.1 in
+    record {
+      can = record {
+        steps = subst (CanUnhideAll (table ln)) (sym others) whole.0;
+        from = s.some;
+        within = s.from;
+        near = omega (arith, slice_get_within (layout p) (span_at spans (link_place p i o)).end _ s.last, spanned.near);
+        spacer = subst (λ (u : Nodes). IsSpacer u (z - 1)) (sym met) (spacer_in p parts.0 col _ _ s.first);
+        last = ap (λ (u : Nodes). get_or u.dlink (z - 1) 0 + 1) met
+            ∙ ap (λ n. n + 1) (get_map (dlink_in p parts.0) (layout p) _ _ s.first) ∙ s.down;
+      };
+      done = ap (fold unhidden (table ln)) others ∙ whole.1;
+      cost = grind (arith, common_steps, costs-are, others_are, unhidden_color, unmarked-reverse, unmarked_items);
+    }
+
 pub turns : (p : Puzzle) (ln : ℕ → Line) (col : Node → ℕ) (spans : List Span) (o i : ℕ) → HasSpans p spans → 0 < o
     → Named p i o → Way (Hides p col o) ln (other_items p o i) (left_all p col o ln (other_items p o i))
     → Turns p ln col spans o i
@@ -93,30 +95,30 @@ turns p ln col spans o i spanned pos named w =
     let R = Hides p col o in
     let table : (ℕ → Line) → Nodes = λ m. nodes_from p m col in
     let place : ℕ → ℕ = λ j. link_place p j o in
-    let before = before_use i (uses_of p o) in
     let behind = behind_use i (uses_of p o) in
     let js = other_items p o i in
     let end = left_all p col o ln js in
-    let parts = way_split R ln behind before end w in
-    let mid = parts.0 in
+    let parts = way_split R ln behind (before_use i (uses_of p o)) end w in
     let whole = way_made R table place hidden CanHide (λ a b x s. (s.can, s.done)) ln js end w in
-    let first = way_made R table place hidden CanHide (λ a b x s. (s.can, s.done)) ln behind mid parts.1.0 in
-    let B : (ℕ → Line) → (ℕ → Line) → ℕ → Type 0 = λ a b. R b a in
-    let back = way_made B table place unhidden CanUnhide (λ a b x s. (s.back, s.undone)) end (reverse js) ln
-    (way_back R ln js end w) in
-    let last = way_made B table place unhidden CanUnhide (λ a b x s. (s.back, s.undone)) end (reverse before) mid
-    (way_back R mid before end parts.1.1) in
-    let turned : (ks : List ℕ) → map place (reverse ks) ≡ reverse (map place ks) = λ ks. sym (map_reverse place ks) in
+    let first = way_made R table place hidden CanHide (λ a b x s. (s.can, s.done)) ln behind parts.0 parts.1.0 in
+    let s = spanned.span o i pos named in
+    let z = (span_at spans (link_place p i o)).end in
     let others = others_are p spans o i spanned pos named in
+    let met : fold hidden (table ln) (places (link_place p i o + 1) z) ≡ table parts.0 =
+    ap (fold hidden (table ln)) s.behind ∙ first.1 in
+    let back = unhides p col spans o i spanned pos named (λ a b. R b a) (λ a b x s. (s.back, s.undone)) end ln
+    (way_back R ln js end w) in
     record {
-      hide = can_hide_node p mid col (table ln) spans o i spanned pos named whole.0 first.1;
-      unhide =
-          can_unhide_node p mid col (table end) spans o i spanned pos named
-          (subst (CanUnhideAll (table end)) (turned js) back.0)
-          (ap (fold unhidden (table end)) (sym (turned before)) ∙ last.1);
+      hide = record {
+        steps = subst (CanHideAll (table ln)) (sym others) whole.0;
+        within = s.below;
+        near = omega (arith, slice_get_within (layout p) z _ s.last, spanned.near);
+        spacer = subst (λ (u : Nodes). IsSpacer u z) (sym met) (spacer_in p parts.0 col z o s.last);
+        first = ap (λ (u : Nodes). get_or u.ulink z 0) met ∙ get_map (ulink_in p parts.0) (layout p) z _ s.last ∙ s.up;
+      };
+      unhide = back.can;
       done = ap (fold hidden (table ln)) others ∙ whole.1;
-      undone = ap (λ qs. fold unhidden (table end) (reverse qs)) others
-          ∙ ap (fold unhidden (table end)) (sym (turned js)) ∙ back.1;
+      undone = back.done;
       cost = grind (arith, common_steps, costs-are, hidden_color, others_are, unmarked_items);
-      cost_back = grind (arith, common_steps, costs-are, others_are, unhidden_color, unmarked-reverse, unmarked_items);
+      cost_back = back.cost;
     }
