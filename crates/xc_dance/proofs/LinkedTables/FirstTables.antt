@@ -1,7 +1,7 @@
 -- The tables as they are laid: columns that are filled, the nodes, the items and their rings.
 use Rattle.std.proofs.Common.{◌≡◌, ℕ, zero, suc, ◌+◌, ◌<◌, ◌≤◌, List, [], ◌∷◌, ◌++◌, length, map, set, replicate}
-use Rattle.std.proofs.Common.{Some, refl, ap, sym, ◌∙◌, arith, ◌-◌, ap₂, lt-ltb, ne_eqb, not}
-use Rattle.std.proofs.Common.{ltb, filter, le-ltb, ltb-true, ltb-false}
+use Rattle.std.proofs.Common.{Some, refl, ap, sym, ◌∙◌, arith, ◌-◌, ap₂, lt-ltb, ne_eqb}
+use Rattle.std.proofs.Common.{ltb, le-ltb, ltb-true, ltb-false}
 use Rattle.xc_input.specs.declared.problem.Bounds.{Bounds}
 use Rattle.std.specs.Prelude.{slice_get, unwrap_or}
 use Rattle.std.specs.List.{range_with_len, AllByRecursion}
@@ -25,10 +25,9 @@ use Rattle.xc_dance.specs.Fields.{last_of, ring_of}
 use Rattle.xc_dance.specs.inner.Links.Cells.{top_in, ulink_in, dlink_in, color_in, fixed_up, fixed_down, nodes_from}
 use Rattle.xc_dance.specs.inner.Links.ItemCells.{bound_at, slack_at, items_after, llink_at, rlink_at}
 use Rattle.xc_dance.specs.inner.Links.FirstItems.{linked_to, bound_to}
-use Rattle.xc_dance.specs.Moves.{is_covered}
 use Rattle.xc_dance.proofs.LinkedTables.PlaceLemmas.{head_is, place_next, range_get}
 use Rattle.xc_dance.proofs.LinkedTables.RingStep.{same_items}
-use Rattle.xc_dance.proofs.LinkedTables.Sweep.{last_below-more, last_of-more}
+use Rattle.xc_dance.proofs.LinkedTables.Sweep.{last_below-more, last_of-more, stay_all}
 use Rattle.xc_dance.specs.declared.links.nodes.TheConstants.{SPACER}
 use Rattle.std.proofs.Common.{cond, eqb, leb}
 
@@ -178,14 +177,10 @@ first_range other a (suc n) = rw (ne_eqb (suc n) 0 (λ z. omega (arith, z))) ref
 
 -- ---- the rings
 
-keep : (js : List ℕ) → filter (λ j. not (is_covered j [])) js ≡ js
-keep [] = refl
-keep (j ∷ js) = ap (λ l. j ∷ l) (keep js)
-
 first_ring : (p : Puzzle) (i : ℕ) → ring_of p [] i ≡
     cond (leb i (primary_count p)) (range_with_len 1 (primary_count p))
     (range_with_len (primary_count p + 1) p.secondary)
-first_ring p i = keep _
+first_ring p i = stay_all _
 
 ruleset neighbours =
     (above_range, below_range, first_range, first_ring, last_range, leb-false, leb-true, ltb-false, ltb-true)

@@ -1,13 +1,13 @@
 -- The options with their numbers, and the places of the node table: what the walks need of them.
-use Rattle.std.proofs.Common.{◌≡◌, ℕ, zero, suc, ◌<◌, ◌≤◌, inl, inr, Some, refl, ap, ap₂, sym, ◌∙◌}
+use Rattle.std.proofs.Common.{◌≡◌, ℕ, zero, suc, ◌<◌, ◌≤◌, inl, inr, Some, refl, ap}
 use Rattle.std.proofs.Common.{subst, arith}
 use Rattle.std.specs.List.{AllByRecursion}
+use Rattle.std.proofs.lemmas.Grind.{common_steps}
 use Rattle.xc_input.specs.Problem.{Puzzle, Numbered, numbered_options, item_count}
 use Rattle.xc_input.proofs.lists.EachElement.{each_weaker, each_at}
 use Rattle.xc_dance.specs.Fields.{Node, own, used, link_place}
 use Rattle.xc_dance.specs.inner.Links.Cells.{slot_of}
 use Rattle.xc_dance.specs.inner.Links.Laid.{IsName, Placed, IsLaid, IsFit, AreDistinct}
-use Rattle.xc_dance.proofs.LinkedTables.LinkColumns.{item_of, member_of}
 pub use Rattle.xc_dance.proofs.MoveLemmas.OptionsRise.{IsOption, options_numbered}
 use Rattle.xc_dance.proofs.LinkedTables.PlaceLemmas.{IsAt, is_at, head_is, found_use, use_at, held_node}
 
@@ -27,30 +27,22 @@ placed p j (suc m) pos le (inr held) =
     record { node = _; at = w.node; slot = ap (λ i. let s : ℕ × ℕ = (i, suc m) in Some s) w.held.item }
 
 -- and stands at no other place
-slot_place : {p : Puzzle} (q : ℕ) (n : Node) {j : ℕ} (x : ℕ) → IsFit p → IsAt p q n → slot_of n ≡ Some (j, x)
-    → link_place p j x ≡ q
-slot_place {p} q (own i) x fit s f = ap₂ (link_place p) (sym (ap item_of f)) (sym (ap member_of f)) ∙ s.2
-slot_place {p} q (used o u) x fit s f =
-    ap₂ (link_place p) (sym (ap item_of f)) (sym (ap member_of f)) ∙ use_at _ _ _ _ _ fit s.2 s.3 ∙ s.4
-slot_place q _ x fit s f = cc
-
-slot_range : {p : Puzzle} (q : ℕ) (n : Node) {j : ℕ} (x : ℕ) → IsFit p → IsAt p q n → slot_of n ≡ Some (j, x)
-    → (0 < j) × (j ≤ item_count p)
-slot_range q (own i) {j} x fit s f = let a : i ≡ j = ap item_of f in (omega (arith, a, s.0), omega (arith, a, s.1))
-slot_range {p} q (used o u) {j} x fit s f =
-    let a : u.item ≡ j = ap item_of f in
+slot_at : {p : Puzzle} (q : ℕ) (n : Node) {j : ℕ} (x : ℕ) → IsFit p → IsAt p q n → slot_of n ≡ Some (j, x)
+    → (link_place p j x ≡ q) × (0 < j) × (j ≤ item_count p)
+slot_at q (own i) x fit s f = grind (arith, common_steps)
+slot_at {p} q (used o u) x fit s f =
     let r = each_at (λ v. (0 < v.item) × (v.item ≤ item_count p)) _ _ _ (fit.items o) s.3 in
-    (omega (arith, a, r.0), omega (arith, a, r.1))
-slot_range q _ x fit s f = cc
+    grind (arith, common_steps, use_at p o s.0 s.1 u fit s.2 s.3)
+slot_at q _ x fit s f = cc
 
 -- the places of a fit problem
 pub is_laid : (p : Puzzle) → IsFit p → IsLaid p
 is_laid p fit = record {
-  unique = λ q n j x e f. slot_place _ _ _ fit (is_at _ _ _ e) f;
+  unique = λ q n j x e f. (slot_at _ _ _ fit (is_at _ _ _ e) f).0;
   there = placed p;
   head = head_is p;
   nodes = record {
-    ranged = λ q n j x e f. slot_range _ _ _ fit (is_at _ _ _ e) f;
+    ranged = λ q n j x e f. (let r = slot_at _ _ _ fit (is_at _ _ _ e) f in (r.1, r.2));
     numbered = λ q o u e. let s = is_at p q (used o u) e in omega (arith, s.2);
     coloured = λ q o u e. let s = is_at p q _ e in (found_use _ _ _ (fit.distinct o) s.3).1;
   };

@@ -1,5 +1,5 @@
 -- Cover and Spend on the item table.
-use Rattle.std.proofs.Common.{◌≡◌, ◌≢◌, ℕ, zero, suc, ◌+◌, ◌-◌, ◌<◌, ◌^◌, List, [], ◌∷◌, length, map, get_or, set, refl}
+use Rattle.std.proofs.Common.{◌≡◌, ◌≢◌, ℕ, ◌+◌, ◌-◌, ◌<◌, ◌^◌, List, [], ◌∷◌, length, map, get_or, set, refl}
 use Rattle.std.proofs.Common.{ap, ◌∙◌, arith, cond, false, eq-eqb, ne_eqb, Some}
 use Rattle.std.proofs.lemmas.Grind.{common_steps}
 use Rattle.std.specs.List.{range_with_len}
@@ -17,6 +17,7 @@ use Rattle.xc_dance.specs.inner.Links.ItemCells.{items_after, llink_at, rlink_at
 use Rattle.xc_dance.specs.inner.Links.Rings.{with_bound}
 use Rattle.std.proofs.lemmas.Option.{same_Some, slice_get_within}
 use Rattle.std.proofs.lemmas.List.Elements.{filter_agree}
+use Rattle.xc_dance.proofs.LinkedTables.PlaceLemmas.{range_get}
 
 pub record SpendStep (p : Puzzle) (t : List Move) (i : ℕ) : Type 0 where
   pub can : (i < length (items_after p t).bound) × (0 < get_or (items_after p t).bound i 0)
@@ -28,11 +29,6 @@ pub record SpendStep (p : Puzzle) (t : List Move) (i : ℕ) : Type 0 where
 
 -- ---- columns over places in a row
 
-range_get : (a n q m : ℕ) → slice_get (range_with_len a n) q ≡ Some m → m ≡ a + q
-range_get a zero q m e = cc
-range_get a (suc n) zero m e = let same : a ≡ m = same_Some a m e in omega (arith, same)
-range_get a (suc n) (suc q) m e = let r = range_get (a + 1) n q m e in omega (arith, r)
-
 pub row_len : (f : ℕ → ℕ) (n : ℕ) → length (map f (range_with_len 0 n)) ≡ n
 row_len f n = length-map (range_with_len 0 n) f ∙ length-range_with_len 0 n
 
@@ -40,7 +36,7 @@ pub row_get : (f : ℕ → ℕ) (n q : ℕ) → q < n → get_or (map f (range_w
 row_get f n q h = get_or-map-range_with_len f 0 n q q 0 h (omega arith)
 
 row_at : (n q m : ℕ) → slice_get (range_with_len 0 n) q ≡ Some m → m ≡ q
-row_at n q m e = let r = range_get 0 n q m e in omega (arith, r)
+row_at n q m e = grind (arith, common_steps, length-range_with_len, range_get, same_Some, slice_get_within)
 
 pub row_put : (f g : ℕ → ℕ) (n k v : ℕ) → ((q : ℕ) → q < n → q ≢ k → g q ≡ f q) → g k ≡ v
     → map g (range_with_len 0 n) ≡ set (map f (range_with_len 0 n)) k v

@@ -1,5 +1,5 @@
 -- What a cell that is read is, and that different cells read differently.
-use Rattle.std.proofs.Common.{◌≡◌, ℕ, suc, List, [], ◌∷◌, Option, Some, None, refl, ap, eqb-true, ◌-◌, ◌<◌, ◌≤◌}
+use Rattle.std.proofs.Common.{◌≡◌, ℕ, suc, List, Option, Some, None, refl, ap, eqb-true, ◌-◌, ◌<◌, ◌≤◌}
 use Rattle.std.proofs.Common.{le-leb, arith, zero, ◌+◌, ◌^◌, map, sym, ◌∙◌, ltb-true, ltb-false, ◌≢◌}
 use Rattle.std.proofs.Common.{cond, eqb, leb, ltb, ne_eqb, leb-true, lt-ltb, le-ltb}
 use Rattle.std.specs.Prelude.{ℤ, pos, slice_get, option_map, neg_ℤ}
@@ -110,9 +110,7 @@ bound_row p f q ne = grind (arith, common_steps, le-ltb, leb-false, leb-true, lt
 column_read : {X : Type 0} (f : X → ℕ) (g : ℕ → ℤ) (h : X → ℤ) (xs : List X) (q : ℕ)
     → ((n : X) → slice_get xs q ≡ Some n → g (f n) ≡ h n)
     → option_map g (slice_get (map f xs) q) ≡ option_map h (slice_get xs q)
-column_read f g h [] q same = refl
-column_read f g h (x ∷ xs) zero same = ap Some (same x refl)
-column_read f g h (x ∷ xs) (suc q) same = column_read f g h xs q same
+column_read f g h xs q same = grind (arith, common_steps, slice_get-map)
 
 spacer_top : (n : ℕ) → top_read (SPACER + n) ≡ neg_ℤ (pos n)
 spacer_top n = let rest : SPACER + n - SPACER ≡ n = omega arith in grind (arith, common_steps, le-leb)

@@ -1,11 +1,11 @@
 -- What steps write at nodes that aren't marked, and where no node of an option is.
 use Rattle.std.proofs.Common.{◌≡◌, ℕ, ◌+◌, ◌*◌, true, false, not, cond, eqb, List, [], ◌∷◌, ◌++◌, length, map, filter}
-use Rattle.std.proofs.Common.{get_or, reverse, refl, ap, ◌∙◌, arith, fold, ◌≢◌, zero, suc, ◌<◌, ◌≤◌, Bool, ltb}
+use Rattle.std.proofs.Common.{get_or, reverse, refl, ap, ◌∙◌, arith, fold, ◌≢◌, ◌<◌, Bool, ltb}
 use Rattle.std.proofs.Common.{Option, Some, None, sym, subst, ltb-true, ltb-false, ne_eqb, option_map}
 use Rattle.std.specs.Prelude.{slice_get}
 use Rattle.std.specs.List.{AllByRecursion}
 use Rattle.std.proofs.lemmas.Grind.{common_steps}
-use Rattle.std.proofs.lemmas.List.{length-map}
+use Rattle.std.proofs.lemmas.List.{length-map, get_or_past}
 use Rattle.std.proofs.lemmas.Option.{slice_get-get_or, same_Some, slice_get-map}
 use Rattle.xc_input.specs.Problem.{Puzzle, colour_in, uses_of, item_count}
 use Rattle.xc_input.specs.declared.problem.Use.{Use}
@@ -92,11 +92,6 @@ no_color p t q (used o u) laid legal plain gt e =
     grind (arith, common_steps, never_marked)
 no_color p t q _ laid legal plain gt e = refl
 
-past_end : (f : Node → ℕ) (ns : List Node) (q : ℕ) → length ns ≤ q → get_or (map f ns) q 0 ≡ 0
-past_end f [] q le = refl
-past_end f (n ∷ ns) zero le = absurd (omega (arith, le))
-past_end f (n ∷ ns) (suc q) le = past_end f ns q (omega (arith, le))
-
 -- behind the items none is marked
 unmarked_behind : (p : Puzzle) (t : List Move) (q : ℕ) → IsLaid p → AreLegal p t → IsPlain p → item_count p < q
     → get_or (nodes_after p t).color q 0 ≢ MARK
@@ -106,7 +101,7 @@ unmarked_behind p t q laid legal plain gt =
       | true ↦ λ e.
           let here = slice_get-get_or (layout p) q unused (ltb-true q (length (layout p)) e) in
           grind (arith, common_steps, get_map, no_color, get_or (layout p) q unused)
-      | false ↦ λ e. past_end (color_in p t) (layout p) q (ltb-false q (length (layout p)) e)
+      | false ↦ λ e. grind (arith, common_steps, get_or_past, length-map, ltb-false)
     ] refl in
     grind (arith, common_steps)
 
