@@ -2,7 +2,7 @@
 -- more.
 use Rattle.std.proofs.Common.{◌++◌}
 use Rattle.std.proofs.Common.{◌≡◌, ℕ, ◌<◌, ◌≤◌, ◌^◌, List, [], ◌∷◌, length, map, get_or, reverse, refl}
-use Rattle.std.proofs.Common.{ap, ap₂, sym, ◌∙◌, arith, inl, inr, ◌+◌, ◌*◌, true, false, eqb, filter, Option, Some}
+use Rattle.std.proofs.Common.{ap, ap₂, sym, ◌∙◌, arith, inl, ◌+◌, ◌*◌, true, false, eqb, filter, Option, Some}
 use Rattle.std.proofs.Common.{subst, eqb-true, not, fold, None, ne_eqb, append-nil}
 use Rattle.std.specs.List.{AllByRecursion}
 use Rattle.std.specs.Prelude.{slice_get, unwrap_or}
@@ -76,18 +76,13 @@ members_up : (p : Puzzle) (i : ℕ) (l : Line) (a : ℕ) (xs : List ℕ) → IsL
     → AllByRecursion (Named p i) xs → IsLinkedFrom l a xs → Way (λ c b x. Beside p i l b c x) a xs (l.up 0)
 members_up p i l a [] laid pos le named h = sym h.1
 members_up p i l a (x ∷ xs) laid pos le named h =
-    let placed = laid.there i x pos le (inr (above_zero l a xs x h, named.0)) in
-    (x, (record { here = refl; above = h.2; placed = placed }, members_up p i l x xs laid pos le named.1 h.3))
+    grind (arith, common_steps, above_zero, members_up p i l x xs laid pos le named.1 h.3)
 
 -- and up the members
 follow_up : (p : Puzzle) (ln : ℕ → Line) (i b : ℕ) (xs : List ℕ) (c : ℕ) → Way (Beside p i (ln i)) b xs c
     → followed (map (ulink_in p ln) (layout p)) (length xs) (link_place p i b) ≡ map (link_place p i) xs
 follow_up p ln i b [] c w = refl
-follow_up p ln i b (x ∷ xs) c w =
-    let s = w.1.0 in
-    let rest = follow_up p ln i w.0 xs c w.1.1 in
-    let next = get_up p ln i x s.placed in
-    grind (arith, common_steps)
+follow_up p ln i b (x ∷ xs) c w = grind (arith, common_steps, get_up, follow_up p ln i w.0 xs c w.1.1)
 
 -- item i's own node
 pub own_placed : (p : Puzzle) (i : ℕ) → IsLaid p → 0 < i → i ≤ item_count p → Placed p i 0

@@ -129,8 +129,7 @@ uses_from p o us e from = sym (drop-drop 1 (spacer_place p o) (layout p))
 -- the table from the spacer behind option o on
 dropped : (p : Puzzle) (o : ℕ) → o ≤ option_count p
     → drop (spacer_place p o) (layout p) ≡ tail_from o (drop o p.options)
-dropped p zero le = ap (λ n. drop n (layout p)) (place_first p ∙ sym (length_front p))
-    ∙ drop-append_seam (front p) (tail_from 0 p.options)
+dropped p zero le = grind (arith, common_steps, place_first, length_front, drop-append_seam)
 dropped p (suc o) le =
     let us = get_or p.options o [] in
     let e = slice_get-get_or p.options o [] (omega (arith, le)) in
@@ -179,9 +178,7 @@ layout_len p =
     omega (arith, length-drop (spacer_place p n) (layout p), last)
 
 pub layout_small : (p : Puzzle) → IsWithinLimits p → length (layout p) ≤ 20100002
-layout_small p limits =
-    let all = ap (sum_by size) (take-length p.options) in
-    omega (arith, layout_len p, sizes p.options, limits.items, limits.uses, limits.options, all)
+layout_small p limits = grind (arith, common_steps, take-length, layout_len, sizes)
 
 -- a spacer's place is among them
 pub place_within : (p : Puzzle) (o : ℕ) → o ≤ option_count p → spacer_place p o < length (layout p)
@@ -229,10 +226,7 @@ pub record OptionNodes (p : Puzzle) (x m : ℕ) : Type 0 where
   pub end : spacer_place p x ≡ start_at p m + length (uses_of p x)
 
 option_nodes_at : (p : Puzzle) (x m : ℕ) → IsOption p x → x ≡ m + 1 → OptionNodes p x m
-option_nodes_at p x m known s =
-    let us = uses_of p x in
-    let here = option_get p m us (omega (arith, known.1, s)) (ap (uses_of p) s) in
-    grind (arith, common_steps, use_here, place_is, spacer_here, place_next)
+option_nodes_at p x m known s = grind (arith, common_steps, option_get, use_here, place_is, spacer_here, place_next)
 
 pub option_nodes : (p : Puzzle) (x : ℕ) → IsOption p x → OptionNodes p x (x - 1)
 option_nodes p x known = option_nodes_at p x (x - 1) known (omega (arith, known.0))
@@ -282,8 +276,7 @@ IsAt p q (used o u) = (m : ℕ) × (k : ℕ) × (o ≡ m + 1) × (slice_get (use
 
 spacer_at : (p : Puzzle) (n q : ℕ) (m : Node) → n ≤ option_count p → spacer_place p n ≡ q
     → slice_get (layout p) q ≡ Some m → IsAt p q m
-spacer_at p n q m le at e =
-    subst (IsAt p q) (same_Some (spacer n) m (sym (spacer_here p n le) ∙ ap (slice_get (layout p)) at ∙ e)) at
+spacer_at p n q m le at e = grind (arith, common_steps, same_Some, spacer_here)
 
 -- of a node up to the spacer behind option n
 up_to : (p : Puzzle) (n q : ℕ) (m : Node) → n ≤ option_count p → item_count p < q → q ≤ spacer_place p n
@@ -355,13 +348,7 @@ span_is p x i fit pos e =
     })
 
 pub has_spans : (p : Puzzle) → IsFit p → HasSpans p (spans_of p)
-has_spans p fit = record {
-  span = λ x i pos e. span_is p x i fit pos e;
-  near = fit.near;
-  within = λ x i pos e.
-      let at = (held_node p i x pos e).node in
-      omega (arith, slice_get_within (layout p) (link_place p i x) _ at, length-map (layout p) (span_of p));
-}
+has_spans p fit = grind (arith, common_steps, span_is, held_node, slice_get_within, length-map)
 
 -- where an option's nodes stand, and how many there are
 pub ruleset option_place = (option_fits, uses_here, layout_len, layout_small, place_within)
