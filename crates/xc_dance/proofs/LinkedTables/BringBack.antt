@@ -143,7 +143,7 @@ top_kept p ln i l e = grind (arith, common_steps, eqb-true, map_same)
 
 pub down_kept : (p : Puzzle) (ln : ℕ → Line) (i : ℕ) (l : Line) → ((x : ℕ) → l.down x ≡ (ln i).down x)
     → map (dlink_in p ln) (layout p) ≡ map (dlink_in p (with_line ln i l)) (layout p)
-down_kept p ln i l h = grind (arith, common_steps, map_same, with_line, eqb-true)
+down_kept p ln i l h = grind (arith, common_steps, map_same, eqb-true)
 
 raised_is : {p : Puzzle} (col : Node → ℕ) (ln : ℕ → Line) {i : ℕ} (o : ℕ) → IsLaid p → Placed p i ((ln i).down o) →
     with_ulink (nodes_from p ln col) (link_place p i ((ln i).down o)) (link_place p i o) ≡ nodes_from p
@@ -182,9 +182,8 @@ opened_at {p} {t} {spans} false {i} {ln = ln} {o} {os} legal fit opened within h
     let back = reverse js in
     let apart : AllApart back = apart_reverse js (others_apart p o i fit.fit) in
     let comes : (j : ℕ) → leaves p col i j o ≡ true → 0 < j → j ≤ item_count p → j ≢ i
-    → Regaining (line_of p t j) (ln j) (o ∷ filter (leaves p col i j) os) = λ j e pos le ne. subst
-    (Regaining (line_of p t j) (ln j)) (ap (λ b. cond b (o ∷ filter (leaves p col i j) os) (filter
-    (leaves p col i j) os)) e) (h.others j pos le ne) in
+    → Regaining (line_of p t j) (ln j) (o ∷ filter (leaves p col i j) os) =
+    λ j e pos le ne. grind (arith, common_steps) in
     let returning : (j : ℕ) → is_in j back ≡ true → Returning p col ln o j = λ j in_back.
     let in_js = sym (in_reverse j js) ∙ in_back in
     let k = other_item o i j fit.fit in_js in
@@ -197,12 +196,8 @@ opened_at {p} {t} {spans} false {i} {ln = ln} {o} {os} legal fit opened within h
           let met = met_at p t i legal laid fit.fit opened j o k.item.0 k.item.1 within k.named in
           let j_open : is_open j t ≡ true = grind (arith, common_steps, false≢true) in
           let m = listed_member t j o fit.fit k.item (met.opened j_open).1 in
-          record {
-            name = m.name;
-            above = subst (IsName p j) (sym nb.0) m.above;
-            below = subst (IsName p j) (sym nb.1) m.below;
-            few = omega (arith, regaining_len _ _ _ (h.others j k.item.0 k.item.1 k.ne), m.few);
-          };
+          let few = regaining_len _ _ _ (h.others j k.item.0 k.item.1 k.ne) in
+          grind (arith, common_steps);
     } in
     let ln1 : ℕ → Line = back_all p col o ln back in
     let at : (j : ℕ) → ln1 j ≡ cond (leaves p col i j o) (mended (ln j) o) (ln j) =
@@ -215,11 +210,7 @@ opened_at {p} {t} {spans} false {i} {ln = ln} {o} {os} legal fit opened within h
       done = u.done;
       own = grind (arith, common_steps, own_apart);
       cost = u.cost;
-      others = λ j pos le ne. elim (leaves p col i j o) as
-          (λ b. leaves p col i j o ≡ b → Regaining (line_of p t j) (ln1 j) (filter (leaves p col i j) os)) [
-            | true ↦ λ e. grind (arith, common_steps)
-            | false ↦ λ e. grind (arith, common_steps)
-          ] refl;
+      others = λ j pos le ne. grind (arith, common_steps);
     }
 
 pub record BringBackStep (p : Puzzle) (t : List Move) (spans : List Span) (covered : Bool) (i n : ℕ) (ln : ℕ → Line)
@@ -262,8 +253,7 @@ bring_back_step p t spans covered i n ln o os legal fit pos le shut within h =
       };
       done = grind (arith, common_steps, raised_is);
       bringing = record {
-        others = λ j jpos jle ne. subst (λ (k : Line). Regaining (line_of p t j) k (to_come p t covered i j os))
-            (sym (line_there ln1 _ _ w ne)) (m1.others j jpos jle ne);
+        others = λ j jpos jle ne. grind (arith, common_steps, line_there ln1 i j w ne);
         line = mended h.line o;
         own = h.own.2;
         is = line_here ln1 i w ∙ ap (λ (k : Line). raised k o) own

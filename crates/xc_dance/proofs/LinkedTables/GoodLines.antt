@@ -1,7 +1,7 @@
 -- Lines that stand for lists: a member leaves, a node leaves with it, and the lines after moves are such lines.
 use Rattle.std.proofs.Common.{◌≡◌, ◌≢◌, ℕ, ◌-◌, ◌<◌, ◌≤◌, ◌^◌, true, false, eqb, length, map, get_or, set, Some, refl}
 use Rattle.std.proofs.Common.{ap, ap₂, sym, subst, ◌∙◌, arith, eqb-true, ◌+◌, inl, inr, Bool, List, [], ◌∷◌}
-use Rattle.std.proofs.Common.{filter, Option, None}
+use Rattle.std.proofs.Common.{filter, Option}
 use Rattle.std.specs.Prelude.{slice_get, is_some}
 use Rattle.std.specs.List.{AllByRecursion}
 use Rattle.std.proofs.lemmas.Grind.{common_steps}
@@ -135,12 +135,8 @@ cut_member p j l o x m n ne some = record {
   item = n.item;
   pos = n.pos;
   name = n.name;
-  above = by_first (IsName p j ((cut l o).up x)) x (l.down o)
-      (λ e. subst (IsName p j) (sym (put_at-same l.up (l.down o) (l.up o) x e)) m.above)
-      (λ e. subst (IsName p j) (sym (put_at-other l.up (l.down o) (l.up o) x e)) n.above);
-  below = by_first (IsName p j ((cut l o).down x)) x (l.up o)
-      (λ e. subst (IsName p j) (sym (put_at-same l.down (l.up o) (l.down o) x e)) m.below)
-      (λ e. subst (IsName p j) (sym (put_at-other l.down (l.up o) (l.down o) x e)) n.below);
+  above = grind (arith, common_steps, by_first, put_at-same, put_at-other);
+  below = grind (arith, common_steps, by_first, put_at-same, put_at-other);
   up_back = grind (arith, common_steps, by_first, put_at-same, put_at-other);
   down_back = grind (arith, common_steps, by_first, put_at-same, put_at-other);
   some = some;
@@ -191,8 +187,7 @@ line_after p t m j ks c =
 
 pub link_same : (p : Puzzle) (f g : ℕ → ℕ → ℕ) (fixed : ℕ) (s : Option (ℕ × ℕ))
     → ((j x : ℕ) → s ≡ Some (j, x) → g j x ≡ f j x) → link_at p g fixed s ≡ link_at p f fixed s
-link_same p f g fixed None h = refl
-link_same p f g fixed (Some s) h = ap (link_place p s.0) (h s.0 s.1 refl)
+link_same p f g fixed s h = grind (arith, common_steps)
 
 top_same : (p : Puzzle) (ln rn : ℕ → Line) (k : ℕ) (n : Node) → ((j x : ℕ) → slot_of n ≡ Some (j, x) → rn j ≡ ln j)
     → top_in rn n ≡ top_in ln n

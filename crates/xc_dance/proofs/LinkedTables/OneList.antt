@@ -11,7 +11,7 @@ use Rattle.xc_dance.specs.Fields.{Node, layout, link_place, is_in}
 use Rattle.xc_dance.specs.inner.Links.Lines.{Line}
 use Rattle.xc_dance.specs.inner.Links.ListWalks.{with_colour, is_kept_colour, is_kept_mark, left_node, back_node}
 use Rattle.xc_dance.specs.inner.Links.ListWalks.{leave_cost, back_cost, CanLeave, CanReturn}
-use Rattle.xc_dance.specs.inner.Links.Cells.{slot_of, nodes_from, ulink_in, dlink_in}
+use Rattle.xc_dance.specs.inner.Links.Cells.{slot_of, nodes_from, dlink_in}
 use Rattle.xc_dance.specs.inner.Links.Laid.{Placed, IsLaid}
 use Rattle.xc_dance.specs.declared.links.nodes.Nodes.{Nodes}
 use Rattle.xc_dance.specs.inner.Links.Span.{Span}
@@ -143,21 +143,9 @@ mark_step p now spans (Some c) ln i o laid h near e =
     let marked : is_kept_mark (Some c) (get_or u.color x 0) ≡ true = grind
     (arith, common_steps, eq-eqb, get_map, with_color, slot_here) in
     record {
-      down = record {
-        can = record {
-          span = near;
-          place = omega (arith, within, long);
-          hide = λ no. absurd (false≢true (sym no ∙ e));
-        };
-        done = rw e is;
-        cost = rw e refl;
-      };
+      down = grind (arith, common_steps, false≢true);
       up = record {
-        can = record {
-          span = near;
-          place = omega (arith, within, length-map (layout p) (with_color now i o MARK));
-          unhide = λ no. absurd (false≢true (sym no ∙ marked));
-        };
+        can = grind (arith, common_steps, length-map, false≢true);
         done = rw marked (ap (λ (w : Nodes). with_colour w x c) (sym is)
             ∙ same_nodes (with_colour (with_colour t x MARK) x c) t refl refl refl
             (written_back t.color x x MARK c refl (eqb-true (own_color p now i o) c e)));
@@ -280,18 +268,15 @@ module _ (p : Puzzle) (col : Node → ℕ) (spans : List Span) (i : ℕ) (keep :
             mark_step p now spans keep ln i o f.laid here (f.spanned.within o i o_pos own.named) (test ∙ e)
         | false ↦ λ e.
             let other : (j : ℕ) → is_in j js ≡ true → OtherItem p o i j = λ j in_js. other_item o i j f.fit in_js in
-            let now_same : (j : ℕ) → is_in j js ≡ true → own_color p now j o ≡ own_color p col j o = λ j in_js.
-            let k = other j in_js in
-            passed.same j o (f.laid.there j o k.item.0 k.item.1 (inr (o_pos, k.named)))
-            (ap (λ b. not b || is_in o (o ∷ xs)) (ne_eqb j i k.ne)) in
+            let now_same : (j : ℕ) → is_in j js ≡ true → own_color p now j o ≡ own_color p col j o =
+            grind (arith, common_steps, ne_eqb) in
             let alike = same_now p col now o ln js now_same in
             let ready : AreReady p now ln o js = λ j in_js. let k = other j in_js in record {
               item = k.item;
               named = k.named;
               member = λ un.
                   let h = lines j k.item k.ne in
-                  let lv : leaves p col i j o ≡ true =
-                  ap₂ (λ a b. a && not b) in_js (ap (λ v. eqb v MARK) (sym (now_same j in_js)) ∙ un) in
+                  let lv : leaves p col i j o ≡ true = grind (arith, common_steps) in
                   h.member o (is_in-first o xs) lv (grind (arith, common_steps, h.enough));
             } in
             let s =
@@ -325,13 +310,7 @@ module _ (p : Puzzle) (col : Node → ℕ) (spans : List Span) (i : ℕ) (keep :
               within = omega (arith, within, length-map (layout p) (dlink_in p ln'));
               next = get_down p ln' i o placed ∙ ap (λ (k : Line). link_place p i (k.down o)) own';
             };
-            up = record {
-              leads = m.up;
-              here = refl;
-              within = omega (arith, within, length-map (layout p) (ulink_in p ln));
-              next = get_up p ln i o placed ∙ ap (λ (k : Line). link_place p i (k.up o)) own
-                  ∙ ap (link_place p i) linked.2;
-            };
+            up = grind (arith, common_steps, length-map, get_up);
           },
           way ln' (marked_by p i keep now o) o xs own' linked.3 (λ x e. each x (in_more o x xs e))
               (lines_on ln o xs r.1 lines) r.1 (passed_on now o xs r.1 passed),

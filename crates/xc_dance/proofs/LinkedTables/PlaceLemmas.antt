@@ -75,8 +75,7 @@ held_use (u ∷ us) i e =
             at = ap (slice_get (u ∷ us)) n ∙ r.at;
             item = r.item;
             colour = rw other r.colour;
-            before = (rw other refl) ∙ ap (λ l. u.item ∷ l) r.before
-                ∙ ap (λ k. map (λ v. v.item) (take k (u ∷ us))) (sym n);
+            before = grind (arith, common_steps);
             behind = (rw other refl) ∙ r.behind ∙ ap (λ k. map (λ v. v.item) (drop k (u ∷ us))) next;
           }
     ] refl e
@@ -306,9 +305,8 @@ is_at p (suc q) n e = elim (cases_lt (item_count p) (suc q)) [
 -- ---- its span
 
 -- the nodes of these uses stand one behind another from place a on
-row : (p : Puzzle) (o a n : ℕ) (us : List Use) → n ≡ length us
-    → ((k : ℕ) (u : Use) → slice_get us k ≡ Some u → link_place p u.item o ≡ a + k) →
-    range_with_len a n ≡ map (λ j. link_place p j o) (map (λ v. v.item) us)
+row : (p : Puzzle) (o a n : ℕ) (us : List Use) → n ≡ length us → ((k : ℕ) (u : Use) → slice_get us k ≡ Some u
+    → link_place p u.item o ≡ a + k) → range_with_len a n ≡ map (λ j. link_place p j o) (map (λ v. v.item) us)
 row p o a n [] e at = let z : n ≡ 0 = omega (arith, e) in ap (range_with_len a) z
 row p o a zero (u ∷ us) e at = absurd (omega (arith, e))
 row p o a (suc n) (u ∷ us) e at =
