@@ -52,9 +52,7 @@ along_next {p} {off} {q} {vs} {t} a h = grind (arith, common_steps, first_use)
 -- behind the last one all were
 along_end : {p : Puzzle} {off q : ℕ} {vs : List Use} {s t : List Move} → IsAlong p off vs s t q →
     q ≡ off + length vs → t ≡ after_uses p vs s
-along_end {p} {off} {q} {vs} {t = t} a e =
-    let none = nil_from_length (drop (q - off) vs) (omega (arith, length-drop (q - off) vs, e)) in
-    ap (λ us. after_uses p us t) (sym none) ∙ a.trail
+along_end {off} {q} {vs} a e = grind (arith, common_steps, length-drop, nil_from_length (drop (q - off) vs))
 
 -- the node at place q is of the next use, u
 pub record IsNext (p : Puzzle) (x off : ℕ) (vs : List Use) (s t : List Move) (q : ℕ) : Type 0 where
@@ -106,8 +104,7 @@ behind_at {p} {i} {x} {place} {q} {s} {t} laid held a =
           let at : q ≡ place + 1 + length (uses_behind p i x) = omega (arith, ge, a.to) in
           let is = at ∙ behind_all held in
           let cells = spacer_cells p t x q held.known is in
-          let none = λ (low : top_at p t q < SPACER). absurd (omega (arith, low, cells.top)) in
-          record { within = cells.within; node = none; end = λ high. (along_end a at, is) }
+          grind (arith, common_steps, along_end a at)
     ]
 
 -- ---- Before it, from the option's first node up
@@ -132,9 +129,8 @@ pub record Leads (p : Puzzle) (x place end : ℕ) (t : List Move) : Type 0 where
 
 pub leads : {p : Puzzle} {i x place end : ℕ} (t : List Move) → IsUseAt p i x place →
     end ≡ spacer_place p x → Leads p x place end t
-leads {p} {x} t held e =
-    let cells = spacer_cells p t x _ held.known e in
-    record { within = cells.within; behind = omega (arith, e, behind_all held); first = cells.ulink }
+leads {p} {x} {end} t held e =
+    grind (arith, common_steps, spacer_cells p t x end held.known e, behind_all held)
 
 -- ---- A step of the walk: the next use is committed
 

@@ -13,7 +13,7 @@ use Rattle.xc_dance.specs.declared.dance.Move.{Move}
 use Rattle.xc_dance.specs.Moves.{is_open, listed_numbers}
 use Rattle.xc_dance.specs.Commits.{IsListedAt, IsUseAt, after_use}
 use Rattle.xc_dance.specs.Fields.{layout, used, link_place, first_above, is_in}
-use Rattle.xc_dance.specs.inner.Links.Cells.{color_in, dlink_in, line_of, nodes_after}
+use Rattle.xc_dance.specs.inner.Links.Cells.{color_in, nodes_after}
 use Rattle.xc_dance.specs.inner.Links.Laid.{IsLaid, IsName}
 use Rattle.xc_dance.specs.inner.Links.Answered.{named, IsNodeOf}
 use Rattle.xc_dance.proofs.LinkedTables.NodeOptions.{own_down, use_down, node_within, contained}
@@ -35,9 +35,8 @@ listed_name p t i (inr h) = inr (in_list_name p t _ _ (contained _ _ h))
 
 pub listed_within : {p : Puzzle} {t : List Move} {i x q : ℕ} → IsLaid p → IsItem p i → IsListedAt p t i x q →
     q < length (nodes_after p t).dlink
-listed_within {p} {t} laid item at =
-    let place = node_within _ _ _ laid item.0 item.1 (listed_name p t _ at.listed) in
-    omega (arith, place, length-map (layout p) (dlink_in p (line_of p t)), at.at)
+listed_within {p} {t} {i} {x} laid item at =
+    grind (arith, common_steps, length-map, node_within p i x laid item.0 item.1 (listed_name p t i at.listed))
 
 down_at : {p : Puzzle} (t : List Move) (i : ℕ) {x : ℕ} → IsLaid p → IsItem p i
     → (x ≡ 0) ⊎ Contains (listed_numbers p t i) x
@@ -78,8 +77,7 @@ use_item {p} q {o} {u} laid at item = subst (λ i. IsItem p i) item (laid.nodes.
 
 pub colour_within : (p : Puzzle) (t : List Move) (q : ℕ) {o : ℕ} {u : Use} → slice_get (layout p) q ≡ Some (used o u) →
     q < length (nodes_after p t).color
-colour_within p t q {o} {u} at =
-    omega (arith, slice_get_within (layout p) q (used o u) at, length-map (layout p) (color_in p t))
+colour_within p t q at = grind (arith, common_steps, length-map, slice_get_within)
 
 pub committed_open : (p : Puzzle) (t : List Move) (q : ℕ) {o j k : ℕ} {u : Use} →
     slice_get (layout p) q ≡ Some (used o u) → u.item ≡ j → primary_count p < j → is_open j t ≡ true →

@@ -1,10 +1,12 @@
 -- The tables as they are laid: columns that are filled, the nodes, the items and their rings.
+use Rattle.xc_input.proofs.lists.EachElement.{each_weaker}
+use Rattle.xc_dance.proofs.LinkedTables.FittedLemmas.{at_place}
 use Rattle.std.proofs.Common.{◌≡◌, ℕ, zero, suc, ◌+◌, ◌<◌, ◌≤◌, List, [], ◌∷◌, ◌++◌, length, map, set, replicate}
 use Rattle.std.proofs.Common.{Some, refl, ap, sym, ◌∙◌, arith, ◌-◌, ap₂, lt-ltb, ne_eqb}
 use Rattle.std.proofs.Common.{ltb, le-ltb, ltb-true, ltb-false}
 use Rattle.xc_input.specs.declared.problem.Bounds.{Bounds}
-use Rattle.std.specs.Prelude.{slice_get, unwrap_or}
-use Rattle.std.specs.List.{range_with_len, AllByRecursion}
+use Rattle.std.specs.Prelude.{slice_get}
+use Rattle.std.specs.List.{range_with_len}
 use Rattle.std.proofs.lemmas.Grind.{common_steps}
 use Rattle.std.proofs.lemmas.Option.{same_Some}
 use Rattle.std.proofs.lemmas.List.FromFn.{length-range_with_len}
@@ -140,16 +142,10 @@ bound_is p i = rw (ne_eqb (i + 1) 0 (λ z. omega (arith, z))) (omega arith)
 pub slack_is : (p : Puzzle) (i : ℕ) → high_at p (i + 1) - low_at p (i + 1) ≡ slack_at p (i + 1)
 slack_is p i = rw (ne_eqb (i + 1) 0 (λ z. omega (arith, z))) refl
 
-low_high : (bs : List Bounds) (k : ℕ) → AllByRecursion AreSoundBounds bs
-    → (unwrap_or (slice_get bs k) (record { low = 0; high = 0 })).low ≤
-    (unwrap_or (slice_get bs k) (record { low = 0; high = 0 })).high
-low_high [] k a = omega arith
-low_high (b ∷ bs) zero a = a.0.0
-low_high (b ∷ bs) (suc k) a = low_high bs k a.1
-
 pub low_most : {p : Puzzle} (i : ℕ) → IsValid p → low_at p i ≤ high_at p i
 low_most zero valid = omega arith
-low_most {p} (suc k) valid = low_high _ _ (recursion_from_All AreSoundBounds p.bounds valid.bounds)
+low_most {p} (suc k) valid = at_place (λ (b : Bounds). b.low ≤ b.high) (record { low = 0; high = 0 }) _ k (omega arith)
+    (each_weaker AreSoundBounds _ _ (λ b a. a.0) (recursion_from_All AreSoundBounds p.bounds valid.bounds))
 
 -- ---- the rings of items before any move: who stands beside whom
 

@@ -2,6 +2,7 @@
 use Rattle.std.proofs.Common.{◌≡◌, ℕ, zero, suc, ◌<◌, ◌≤◌, inl, inr, List, Some, refl, ap, sym, ◌∙◌, subst}
 use Rattle.std.proofs.Common.{arith}
 use Rattle.std.specs.Prelude.{Option, Contains}
+use Rattle.std.proofs.lemmas.Grind.{common_steps}
 use Rattle.std.proofs.lemmas.List.Elements.{All-from_recursion}
 use Rattle.std.proofs.lemmas.Option.{slice_get_within}
 use Rattle.xc_input.specs.Problem.{Puzzle, IsItem, uses_of, item_count}
@@ -26,12 +27,8 @@ listed_use {p} t i x fit h =
     let is = in_list_name p t _ _ (contained _ _ h) in
     let us = uses_of p x in
     let w = held_node p _ _ is.0 is.1 in
-    record {
-      known = w.known;
-      holds = slice_get_within us (place_in i us) w.held.use_of w.held.at;
-      items = All-from_recursion _ us (fit.items x);
-      at = refl;
-    }
+    let items = All-from_recursion (λ u. IsItem p u.item) us (fit.items x) in
+    grind (arith, common_steps, slice_get_within us (place_in i us) w.held.use_of w.held.at)
 
 -- the place of an item's own node is below those of options
 pub own_place : {p : Puzzle} {t : List Move} {i : ℕ} (x : ℕ) {q : ℕ} → IsListedAt p t i x q → q ≤ item_count p → x ≡ 0

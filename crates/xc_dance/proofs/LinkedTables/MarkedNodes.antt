@@ -1,5 +1,5 @@
 -- Which nodes are marked, and the colours after Cover and Purify.
-use Rattle.std.proofs.Common.{◌≡◌, ℕ, ◌<◌, ◌⊎◌, inl, inr, Bool, true, false, not, cond, ◌&&◌, eqb, List, []}
+use Rattle.std.proofs.Common.{◌≡◌, ℕ, ◌<◌, ◌⊎◌, inl, inr, Bool, true, false, cond, ◌&&◌, eqb, List, []}
 use Rattle.std.proofs.Common.{◌∷◌, map, get_or, Some, None, refl, ap, ap₂, sym, subst, ◌∙◌, arith, eqb-true, eq-eqb}
 use Rattle.std.proofs.Common.{ne_eqb, Option}
 use Rattle.std.specs.Prelude.{is_some, slice_get}
@@ -112,13 +112,9 @@ mark_is p t o j c pos has = ap (λ v. eqb v MARK) (color_is _ t _ _ _ pos has)
 
 pub closed : (j : ℕ) (t : List Move) → is_open j t ≡ false → (is_covered j t ≡ true)
     ⊎ ((c : ℕ) × (purified j t ≡ Some c))
-closed j t e = by (is_covered j t) (purified j t) refl refl
-  where
-    by : (b : Bool) (o : Option ℕ) → is_covered j t ≡ b → purified j t ≡ o → (is_covered j t ≡ true)
-        ⊎ ((c : ℕ) × (purified j t ≡ Some c))
-    by true o f g = inl f
-    by false (Some c) f g = inr (c, g)
-    by false None f g = absurd (false≢true (sym (open_is t j ∙ e) ∙ ap₂ (λ b o. not b && not (is_some o)) f g))
+closed j t e =
+    elim (purified j t) as (λ o. purified j t ≡ o → (is_covered j t ≡ true) ⊎ ((c : ℕ) × (purified j t ≡ Some c)))
+    [ None ↦ λ f. inl (grind (arith, common_steps, open_is t j)) | Some c ↦ λ f. inr (c, f) ] refl
 
 pub colour_some : (us : List Use) (j : ℕ) → is_some (colour_in us j) ≡ true → (c : ℕ) × (colour_in us j ≡ Some c)
 colour_some us j e =
@@ -174,13 +170,12 @@ slot_kept p i keep xs None = false
 slot_kept p i keep xs (Some s) = eqb s.0 i && (is_in s.1 xs && is_kept p i keep s.1)
 
 cond_at : (b : Bool) (f g : Node → ℕ) (n : Node) → cond b f g n ≡ cond b (f n) (g n)
-cond_at true f g n = refl
-cond_at false f g n = refl
+cond_at b f g n = grind (arith, common_steps)
 
 none_kept : (p : Puzzle) (i : ℕ) (keep : Option ℕ) (s : Option (ℕ × ℕ)) (v : ℕ)
     → v ≡ cond (slot_kept p i keep [] s) MARK v
 none_kept p i keep None v = refl
-none_kept p i keep (Some s) v = elim (eqb s.0 i) as (λ a. v ≡ cond (a && false) MARK v) [ true ↦ refl | false ↦ refl ]
+none_kept p i keep (Some s) v = grind (arith, common_steps)
 
 pub marked_at : (p : Puzzle) (i : ℕ) (keep : Option ℕ) (now : Node → ℕ) (xs : List ℕ) (n : Node)
     → marked_list p i keep now xs n ≡ cond (slot_kept p i keep xs (slot_of n)) MARK (now n)
@@ -198,10 +193,7 @@ abbrev pub purify_start : Puzzle → List Move → ℕ → ℕ → Node → ℕ
 purify_start p t i c = with_color (color_in p t) i 0 c
 
 marks : (a b k : Bool) (v : ℕ) → cond (cond (a && b) true k) MARK v ≡ cond (b && a) MARK (cond k MARK v)
-marks true true k v = refl
-marks true false k v = refl
-marks false true k v = refl
-marks false false k v = refl
+marks a b k v = grind (arith, common_steps)
 
 pub purify_colours : {p : Puzzle} (t : List Move) (i c : ℕ) → IsLaid p → (k : ℕ) (n : Node)
     → slice_get (layout p) k ≡ Some n

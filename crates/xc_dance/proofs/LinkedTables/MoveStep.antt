@@ -127,11 +127,8 @@ spent_colours p t i _ = refl
 
 spent_cut : (p : Puzzle) (t : List Move) (i j : ℕ) → SameCut p t (Spend i) j []
 spent_cut p t i j =
-    record {
-      test = λ x. false;
-      cut_is = sym (leave_none (listed_numbers p t j));
-      stay_is = sym (stay_all (listed_numbers p t j));
-    }
+    let xs = listed_numbers p t j in
+    record { test = λ x. false; cut_is = sym (leave_none xs); stay_is = sym (stay_all xs) }
 
 spent_nodes : (p : Puzzle) (t : List Move) (i : ℕ) → IsLaid p → nodes_after p (Spend i ∷ t) ≡ nodes_after p t
 spent_nodes p t i laid = tables_same _ (line_of p t) (line_of p (Spend i ∷ t)) (color_in p t)
@@ -178,8 +175,7 @@ pub record Unmakes (p : Puzzle) (t : List Move) (m : Move) (k : ℕ) (spans : Li
 
 pub unmakes : {p : Puzzle} {t : List Move} {spans spans' : List Span} {nodes : Nodes} {items : Items} {m : Move} (k : ℕ)
     → spans' ≡ spans → nodes ≡ nodes_after p (m ∷ t) → items ≡ items_after p (m ∷ t) → IsTakenOff p t m k
-    → MoveStep p t spans m
-    → Unmakes p t m k spans' nodes items
+    → MoveStep p t spans m → Unmakes p t m k spans' nodes items
 unmakes {p} {t} {spans} {spans'} {nodes} {items} {m} k a b c off s = grind (arith, common_steps)
 
 pub none_newest : (p : Puzzle) (t : List Move) → cost_of_newest 0 p t ≡ 0

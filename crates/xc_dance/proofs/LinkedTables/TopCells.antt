@@ -77,8 +77,7 @@ node_at p f q v e = grind (arith, common_steps, same_Some, slice_get-map)
 
 top_elsewhere : (p : Puzzle) (t : List Move) (k v : ℕ) → IsSound p → k ≢ item_count p + 1
     → slice_get (nodes_after p t).top k ≡ Some v → v ≢ SPACER
-top_elsewhere p t k v s other e is =
-    let n = node_at p (top_in (line_of p t)) k v e in other (first_spacer p t k n.0 s n.1 (n.2 ∙ is))
+top_elsewhere p t k v s other e is = grind (arith, common_steps, node_at, first_spacer)
 
 pub top_cells : (p q : Puzzle) (t s : List Move) (k : ℕ) → IsSound p → IsSound q → item_count p ≡ item_count q →
     option_map top_read (slice_get (nodes_after p t).top k) ≡ option_map top_read (slice_get (nodes_after q s).top k)

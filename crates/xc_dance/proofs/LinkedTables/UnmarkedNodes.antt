@@ -6,7 +6,7 @@ use Rattle.std.specs.Prelude.{slice_get}
 use Rattle.std.specs.List.{AllByRecursion}
 use Rattle.std.proofs.lemmas.Grind.{common_steps}
 use Rattle.std.proofs.lemmas.List.{length-map, get_or_past}
-use Rattle.std.proofs.lemmas.Option.{slice_get-get_or, same_Some, slice_get-map}
+use Rattle.std.proofs.lemmas.Option.{slice_get-get_or, same_Some, slice_get-map, get_or_from_slice_get}
 use Rattle.xc_input.specs.Problem.{Puzzle, colour_in, uses_of, item_count}
 use Rattle.xc_input.specs.declared.problem.Use.{Use}
 use Rattle.xc_dance.specs.declared.links.nodes.Nodes.{Nodes}
@@ -63,9 +63,8 @@ unmarked-reverse color [] = grind (arith, common_steps, unmarked-append)
 unmarked-reverse color (q ∷ qs) = grind (arith, common_steps, unmarked-append, unmarked-reverse color qs)
 
 -- for option o's nodes in the lists of the items js
-pub unmarked_items : (p : Puzzle) (col : Node → ℕ) (o : ℕ) (js : List ℕ)
-    → unmarked_costs (map col (layout p)) (map (λ j. link_place p j o) js) ≡ 3 * length
-    (filter (λ j. not (is_mark p col o j)) js)
+pub unmarked_items : (p : Puzzle) (col : Node → ℕ) (o : ℕ) (js : List ℕ) → unmarked_costs (map col (layout p))
+    (map (λ j. link_place p j o) js) ≡ 3 * length (filter (λ j. not (is_mark p col o j)) js)
 unmarked_items p col o [] = grind (arith, common_steps)
 unmarked_items p col o (j ∷ js) = grind (arith, common_steps, unmarked_items p col o js)
 
@@ -126,16 +125,12 @@ plain_unmarked p t legal fitted plain = record {
   others = λ x lt.
       let here = slice_get-get_or (layout p) x unused (omega (arith, lt, length-map (layout p) (span_of p))) in
       let d : Span = record { first = 0; end = 0 } in
-      subst (λ (s : Span). HasUnmarked (nodes_after p t).color s x)
-      (sym (span_at (span_of p) x (get_or (layout p) x unused) d lt here))
+      let is = get_or_from_slice_get (spans_of p) x (span_of p (get_or (layout p) x unused)) d
+      (slice_get-map (span_of p) (layout p) x ∙ ap (option_map (span_of p)) here) in
+      subst (λ (s : Span). HasUnmarked (nodes_after p t).color s x) (sym is)
       (by_node p t x (get_or (layout p) x unused) fitted.laid legal plain
       (omega (arith, lt, length-map (layout p) (span_of p), fitted.fit.near)) here);
 }
-  where
-    span_at : (f : Node → Span) (k : ℕ) (n : Node) (d : Span) → k < length (map f (layout p))
-        → slice_get (layout p) k ≡ Some n → get_or (map f (layout p)) k d ≡ f n
-    span_at f k n d lt e = same_Some _ _
-        (sym (slice_get-get_or (map f (layout p)) k d lt) ∙ slice_get-map f (layout p) k ∙ ap (option_map f) e)
 
 -- the same for the tables of a keeper
 pub kept_unmarked : (p : Puzzle) (t : List Move) (coloured : Bool) (spans : List Span) (nodes : Nodes) → AreLegal p t

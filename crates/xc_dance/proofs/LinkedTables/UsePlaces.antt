@@ -11,7 +11,7 @@ use Rattle.xc_dance.specs.declared.dance.Move.{Move}
 use Rattle.xc_dance.specs.Fields.{used, spacer, layout, link_place, spacer_place}
 use Rattle.xc_dance.specs.Commits.{IsUseAt, option_at, number_of}
 use Rattle.xc_input.specs.UsePlaces.{place_in}
-use Rattle.xc_dance.specs.inner.Links.Cells.{top_in, ulink_in, line_of, nodes_after}
+use Rattle.xc_dance.specs.inner.Links.Cells.{ulink_in, line_of, nodes_after}
 use Rattle.xc_dance.specs.inner.Links.Laid.{IsName}
 use Rattle.xc_dance.specs.inner.Links.Answered.{named}
 use Rattle.xc_dance.specs.inner.Links.OptionPlaces.{start_at}
@@ -34,10 +34,7 @@ pub record UseCells (p : Puzzle) (t : List Move) (u : Use) (q : ℕ) : Type 0 wh
 
 pub use_cells : (p : Puzzle) (t : List Move) (o : ℕ) (u : Use) (q : ℕ) → slice_get (layout p) q ≡ Some (used o u)
     → UseCells p t u q
-use_cells p t o u q node = record {
-  within = slice_get_within (layout p) q (used o u) node;
-  top = get_map (top_in (line_of p t)) (layout p) q (used o u) node;
-}
+use_cells p t o u q node = grind (arith, common_steps, get_map, slice_get_within)
 
 -- what they tell at the spacer behind option x
 pub record SpacerCells (p : Puzzle) (t : List Move) (x q : ℕ) : Type 0 where
@@ -48,12 +45,9 @@ pub record SpacerCells (p : Puzzle) (t : List Move) (x q : ℕ) : Type 0 where
 pub spacer_cells : (p : Puzzle) (t : List Move) (x q : ℕ) → IsOption p x → q ≡ spacer_place p x → SpacerCells p t x q
 spacer_cells p t x q known at =
     let node = ap (slice_get (layout p)) at ∙ (option_nodes p x known).behind in
+    let up = get_map (ulink_in p (line_of p t)) (layout p) q (spacer x) node in
     let s : x ≡ suc (x - 1) = omega (arith, known.0) in
-    record {
-      within = slice_get_within (layout p) q (spacer x) node;
-      top = get_map (top_in (line_of p t)) (layout p) q (spacer x) node;
-      ulink = get_map (ulink_in p (line_of p t)) (layout p) q _ (node ∙ ap (λ n. Some (spacer n)) s);
-    }
+    grind (arith, common_steps, get_map, slice_get_within, rw s at up)
 
 -- ---- the option of a place
 
