@@ -1,7 +1,5 @@
 pub mod BranchFits
 pub mod CountedSums
-pub mod FewClosings
+pub mod FewMoves
 pub mod FewSpends
-pub mod FewTweaks
 pub mod SparingMoves
-pub mod TrailFits

@@ -13,7 +13,7 @@ use Rattle.xc_search.specs.inner.Commits.{oldest}
 use Rattle.xc_search.specs.Room.{room_for}
 use Rattle.xc_search.specs.inner.Sparing.{spendings}
 use Rattle.xc_search.specs.inner.Levels.{IsNode, next_number}
-use Rattle.xc_search.proofs.room.TrailFits.{has_room}
+use Rattle.xc_search.proofs.room.FewMoves.{has_room}
 use Rattle.xc_search.proofs.room.SparingMoves.{sparing_after_spend, spent_tweaked}
 use Rattle.xc_search.proofs.moves.LegalTweaks.{legal_node, legal_branch}
 use Rattle.xc_search.proofs.stacked.NextBranch.{may_tweak}

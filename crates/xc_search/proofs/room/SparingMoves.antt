@@ -17,7 +17,7 @@ use Rattle.xc_search.specs.inner.Commits.{tweaked, after_none}
 use Rattle.xc_search.specs.inner.Sparing.{spendings, uses_in, IsSparing}
 use Rattle.xc_input.proofs.lists.Filters.{length-filter-le}
 use Rattle.xc_search.proofs.listing.BranchesLess.{less_items, least_is_one}
-use Rattle.xc_search.proofs.room.FewTweaks.{uses_whole}
+use Rattle.xc_search.proofs.room.FewMoves.{uses_whole}
 use Rattle.std.proofs.lemmas.List.{length-map}
 use Rattle.std.proofs.lemmas.List.FromFn.{length-range_with_len}
 use Rattle.xc_search.proofs.moves.BranchMoves.{Taken}

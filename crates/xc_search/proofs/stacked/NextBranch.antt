@@ -32,7 +32,7 @@ use Rattle.xc_search.specs.inner.Levels.{MayBegin, IsEntered, begun_level, CanBr
 use Rattle.xc_search.specs.declared.level.Begun.{Begun}
 use Rattle.xc_dance.specs.Dancing.{Dancing}
 use Rattle.xc_search.proofs.stacked.NextLevel.{tweaked_at, ground_is}
-use Rattle.xc_search.proofs.room.TrailFits.{has_room}
+use Rattle.xc_search.proofs.room.FewMoves.{has_room}
 use Rattle.xc_search.proofs.Cases.{mapped_none, mapped_some}
 use Rattle.xc_dance.specs.Moves.{IsLegal}
 use Rattle.xc_dance.specs.declared.dance.Move.TheVariants.{Tweak}
