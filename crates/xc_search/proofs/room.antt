@@ -1,4 +1,3 @@
-pub mod BranchFits
 pub mod CountedSums
 pub mod FewMoves
 pub mod FewSpends

@@ -1,6 +1,6 @@
 -- The way down a path.
 use Rattle.std.proofs.Common.{ℕ, ◌≡◌, ◌+◌, ◌-◌, ◌<◌, true, List, [], ◌∷◌, ◌++◌, length, take, drop, get_or, map}
-use Rattle.std.proofs.Common.{Option, Some, None, refl, sym, ap, ap₂, ◌∙◌, arith, subst, append-nil}
+use Rattle.std.proofs.Common.{Some, None, refl, sym, ap, ap₂, ◌∙◌, arith, subst, append-nil}
 use Rattle.std.specs.Prelude.{slice_get}
 use Rattle.std.proofs.lemmas.Grind.{common_steps}
 use Rattle.std.proofs.lemmas.List.{map-id}
@@ -8,8 +8,8 @@ use Rattle.xc_dance.specs.declared.dance.Move.{Move}
 use Rattle.xc_search.specs.declared.choice.Choice.{Choice}
 use Rattle.xc_search.specs.declared.level.Level.{Level}
 use Rattle.xc_search.specs.declared.level.Begun.{Begun}
-use Rattle.xc_input.specs.Problem.{Puzzle, IsValid, uses_of}
-use Rattle.xc_dance.specs.Commits.{others, after_spend}
+use Rattle.xc_input.specs.Problem.{Puzzle, IsValid}
+use Rattle.xc_dance.specs.Commits.{after_spend}
 use Rattle.xc_search.specs.Listing.{whole, branch_item, branch_count, listing}
 use Rattle.xc_search.specs.Residuals.{wanted_at}
 use Rattle.xc_search.specs.Cut.{left_by_one, below, IsPathBy}
@@ -21,16 +21,12 @@ use Rattle.xc_search.specs.inner.Levels.{first_level, begun_level, after_branch,
 use Rattle.xc_search.specs.inner.Levels.{coming, behind}
 use Rattle.xc_search.specs.inner.Descent.{Leads, IsDown}
 use Rattle.xc_search.proofs.residual.BranchItemLeft.{no_moves_leave_all}
-use Rattle.xc_search.proofs.stacked.NextLevel.{Extends, ext_uses, ext_after_none, ext_after_spend, ext_whole}
+use Rattle.xc_search.proofs.stacked.NextLevel.{Extends, ext_after_branch, ext_after_spend, ext_whole}
 use Rattle.xc_search.proofs.stacked.NextLevel.{oldest-oldest, first_stands}
 use Rattle.xc_search.proofs.stacked.Start.{starts_standing}
 use Rattle.xc_search.proofs.stacked.Depth.{shallow_first}
 use Rattle.xc_search.proofs.paths.Below.{left_by_more}
 use Rattle.xc_search.proofs.paths.Numbers.{no_further, left_less, below_left}
-
-ext_after_branch : (p : Puzzle) (i : ℕ) (o : Option ℕ) (t : List Move) → Extends (after_branch p i o t) t
-ext_after_branch p i None t = ext_after_none i t
-ext_after_branch p i (Some o) t = ext_uses p (others i (uses_of p o)) t
 
 -- a level stands with its own moves where it stands below more
 before_branch : (p : Puzzle) (t s : List Move) (l : Level) → IsLevel p t l → Extends t s → l.base ≡ length s →

@@ -1,7 +1,7 @@
--- How many moves of a search stand at most: an item is closed once, and each of its tweaks takes an option off its list.
+-- How many moves of a search stand: an item is closed once, and each of its tweaks takes an option off its list.
 use Rattle.std.proofs.lemmas.Grind.{common_steps}
-use Rattle.std.proofs.Common.{ℕ, zero, suc, ◌≡◌, ◌+◌, ◌<◌, ◌≤◌, List, [], ◌∷◌, length, refl, arith, eq-eqb, length-drop, eqb}
-use Rattle.std.proofs.Common.{eqb-true}
+use Rattle.std.proofs.Common.{ℕ, zero, suc, ◌≡◌, ◌+◌, ◌<◌, ◌≤◌, List, [], ◌∷◌, length, refl, arith, eq-eqb}
+use Rattle.std.proofs.Common.{eqb, eqb-true, length-drop}
 use Rattle.xc_input.proofs.OptionLemmas.NumberedOptions.{numbered_from}
 use Rattle.std.proofs.lemmas.List.Sums.{sum_by-cons}
 use Rattle.std.specs.Prelude.{is_some, sum_by}

@@ -32,7 +32,10 @@ use Rattle.xc_input.proofs.lists.EachElement.{each_weaker, each-map, each-filter
 use Rattle.xc_input.proofs.lists.Filters.{map-map}
 use Rattle.xc_search.proofs.Cases.{mapped_none, mapped_some}
 use Rattle.xc_search.specs.inner.Commits.{tweaked}
-use Rattle.xc_search.specs.inner.Levels.{IsLevel}
+use Rattle.xc_search.specs.inner.Levels.{IsLevel, after_branch}
+use Rattle.std.proofs.Common.{Option}
+use Rattle.xc_dance.specs.Commits.{others}
+use Rattle.xc_input.specs.Problem.{uses_of}
 
 -- ---- the oldest moves
 
@@ -61,6 +64,10 @@ ext_uses p (u ∷ us) t = ext_trans (ext_uses p us (after_use p u t)) (ext_use p
 
 pub ext_after_none : (i : ℕ) (t : List Move) → Extends (after_none i t) t
 ext_after_none i t = grind (arith, common_steps, ext_none, ext_more)
+
+pub ext_after_branch : (p : Puzzle) (i : ℕ) (o : Option ℕ) (t : List Move) → Extends (after_branch p i o t) t
+ext_after_branch p i None t = ext_after_none i t
+ext_after_branch p i (Some o) t = ext_uses p (others i (uses_of p o)) t
 
 pub ext_longer : {s t : List Move} → Extends s t → length t ≤ length s
 ext_longer ext_none = omega arith

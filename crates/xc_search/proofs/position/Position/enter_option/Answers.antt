@@ -1,8 +1,10 @@
-use Rattle.xc_search.proofs.stacked.NextBranch.{entered_option}
+use Rattle.std.proofs.Common.{ap}
+use Rattle.xc_dance.specs.Dancing.{Dancing}
+use Rattle.xc_search.proofs.stacked.NextBranch.{entered}
 use Rattle.xc_search.proofs.position.Position.enter_option.Goals as goal
 
 pub returns-clause-entered : goal.returns-clause-entered
 returns-clause-entered g c =
-    entered_option c.args.self.now c.tweak-tweaks.new.self c.args.level.now _ c.requires.ready c.requires.some
-    c.requires.option c.requires.place c.tweak-tweaks.ensures.tweaks c.requires.number c.height-base.ensures
-    c.tweak-tweaks.ensures.trail
+    entered c.requires.ready c.tweak-tweaks.new.self.trail _ c.requires.option c.requires.place
+    (rw c.requires.some.1 c.tweak-tweaks.ensures.tweaks) c.requires.number c.height-base.ensures
+    (ap (λ (s : Dancing). s.trail) c.tweak-tweaks.ensures.trail)
