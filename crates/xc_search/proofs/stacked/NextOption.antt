@@ -69,8 +69,9 @@ pub seeking : {p : Puzzle} {t : List Move} {l : Level} → MayBegin p t l → (q
     → Seeking p t l q
 seeking {p} {t} {l} may q is =
     let level = may.level in
-    let os = options_at p (oldest l.mark t) l.item in
-    let rises = NumbersRise-filter (λ o. holds o l.item) 0 (left p (oldest l.mark t)) (left_rises p (oldest l.mark t)) in
+    let u = oldest l.mark t in
+    let os = options_at p u l.item in
+    let rises = NumbersRise-filter (λ o. holds o l.item) 0 (left p u) (left_rises p u) in
     let few : l.begun ≤ length os = omega (arith, level.count, may.more) in
     let list : listed p t l.item ≡ drop l.tweaks os = grind (arith, common_steps, oldest_all, listed_branch) in
     by_bool l.walks

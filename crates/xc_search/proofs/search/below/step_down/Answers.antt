@@ -1,5 +1,5 @@
 use Rattle.std.proofs.lemmas.Grind.{common_steps}
-use Rattle.std.proofs.Common.{arith, ◌≡◌, ◌<◌, ◌⊎◌, inl, inr, ◌∙◌}
+use Rattle.std.proofs.Common.{arith, ◌≡◌, ◌<◌, ◌⊎◌}
 use Rattle.xc_search.specs.Residuals.{wanted_at}
 use Rattle.xc_search.specs.inner.Residual.{residual_of}
 use Rattle.xc_search.proofs.stacked.NextLevel.{Chosen, chosen_item}
@@ -16,11 +16,7 @@ pub returns-then-number-eq0-clause-none : goal.returns-then-number-eq0-clause-no
 returns-then-number-eq0-clause-none g c _ x e =
     let d = c.args.position.now in
     let here = at g (goal.at.returns-then-number-eq0-clause-none g c).In_ok-item in
-    let out : (x.k ≡ 0) ⊎ (c.in_ok-item.count < x.k) =
-    elim c.then-number-eq0.branch [
-      | then-number-eq0-via-then-number-eq0 w ↦ inl (e ∙ w.if-number-eq0.true)
-      | then-number-eq0-via-else-number-eq0+then-number-count w ↦ inr (omega (arith, e, w.if-number-count.true))
-    ] in
+    let out : (x.k ≡ 0) ⊎ (c.in_ok-item.count < x.k) = grind (arith, common_steps) in
     no_branch x (residual_of d.puzzle d.trail)
     (wanted_at d.puzzle d.trail c.in_ok-item.item) c.in_ok-item.count here.branch here.count out
 
