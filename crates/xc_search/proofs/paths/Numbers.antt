@@ -1,6 +1,6 @@
 -- A path is told by the numbers of its branches, and its members are a run of the listing.
 use Rattle.std.proofs.lemmas.Grind.{common_steps}
-use Rattle.std.proofs.Common.{ℕ, zero, suc, ◌≡◌, ◌-◌, ◌<◌, ◌≤◌, true, cond, List, [], ◌∷◌, ◌++◌}
+use Rattle.std.proofs.Common.{ℕ, zero, suc, ◌≡◌, ◌-◌, ◌<◌, ◌≤◌, true, List, [], ◌∷◌, ◌++◌}
 use Rattle.std.proofs.Common.{length, map, take, drop, Option, Some, None, refl, sym, ap, ap₂, ◌∙◌, arith, length-drop}
 use Rattle.std.proofs.Common.{eqb-true, append-nil, ◌⊎◌}
 use Rattle.std.specs.Prelude.{All, slice_get, flat_map, unwrap_or, option_map, option_and_then}
@@ -11,8 +11,8 @@ use Rattle.std.proofs.lemmas.List.Elements.{recursion_from_All}
 use Rattle.xc_search.specs.declared.choice.Choice.{Choice}
 use Rattle.xc_input.specs.Problem.{Puzzle, holding}
 use Rattle.xc_search.specs.Listing.{Wanted, Residual, Branch, whole, branch_item, branch_count, branches_of}
-use Rattle.xc_search.specs.Listing.{none_branch, level, listing}
-use Rattle.xc_search.specs.Cut.{branches_left, option_or_none, has_choice, left_by_one, left_by, numbers_on, IsPath}
+use Rattle.xc_search.specs.Listing.{level, listing}
+use Rattle.xc_search.specs.Cut.{option_or_none, has_choice, left_by_one, left_by, numbers_on, IsPath}
 use Rattle.xc_search.specs.Cut.{IsCut, below}
 use Rattle.xc_search.specs.Cover.{members}
 use Rattle.xc_search.specs.inner.Sizes.{size_of}
@@ -31,33 +31,30 @@ same_option a b e = grind (arith, common_steps)
 pub its_choice : (c : Choice) (b : Branch) → has_choice c b ≡ true → b.choice ≡ c
 its_choice c b e = grind (arith, common_steps, and_left, and_right, eqb-true, same_option)
 
--- a choice of a path is that of a branch
+-- a choice of a path is that of a branch of the branch item
 record Stepped (c : Choice) (r s : Residual) : Type 0 where
+  pub item : Wanted
+  pub chosen : branch_item r ≡ Some item
   pub branch : Branch
-  pub at : slice_get (branches_left r) (c.k - 1) ≡ Some branch
+  pub at : slice_get (branches_of r item) (c.k - 1) ≡ Some branch
   pub choice : branch.choice ≡ c
   pub next : branch.next ≡ s
+
+stepped : (c : Choice) (r s : Residual) → left_by_one c r ≡ Some s → Stepped c r s
+stepped c r s e = by_option (branch_item r) (λ f. cc (rw f at e)) (λ w f.
+    by_option (slice_get (branches_of r w) (c.k - 1)) (λ g. cc (rw (f, g) at e)) (λ b g. by_bool (has_choice c b)
+    (λ t. record { item = w; chosen = f; branch = b; at = g; choice = its_choice c b t; next = cc (rw (f, g, t) at e) })
+    (λ t. cc (rw (f, g, t) at e))))
 
 then_left : {X : Type 0} (f : X → Option Residual) (o : Option X) (s : Residual) → option_and_then f o ≡ Some s →
     (x : X) × (o ≡ Some x) × (f x ≡ Some s)
 then_left f None s e = absurd (cc e)
 then_left f (Some x) s e = (x, refl, e)
 
-stepped : (c : Choice) (r s : Residual) → left_by_one c r ≡ Some s → Stepped c r s
-stepped c r s e =
-    let found = then_left (λ b. cond (has_choice c b) (Some b.next) None) (slice_get (branches_left r) (c.k - 1)) s e in
-    let b = found.0 in
-    by_bool (has_choice c b)
-    (λ t. record { branch = b; at = found.1; choice = its_choice c b t; next = cc (rw t at found.2) })
-    (λ t. absurd (cc (rw t at found.2)))
-
 -- branches of the same number are the same
 same_step : (c d : Choice) (r x y : Residual) → c.k ≡ d.k → left_by_one c r ≡ Some x → left_by_one d r ≡ Some y →
     (c ≡ d) × (x ≡ y)
 same_step c d r x y k e f = grind (arith, common_steps, stepped)
-
-first_same : (a b : ℕ) (xs ys : List ℕ) → a ∷ xs ≡ b ∷ ys → (a ≡ b) × (xs ≡ ys)
-first_same a b xs ys e = (cc e, cc e)
 
 -- two paths with the same numbers are the same
 paths_same : (a b : List Choice) (r x y : Residual) → left_by a r ≡ Some x → left_by b r ≡ Some y →
@@ -65,7 +62,7 @@ paths_same : (a b : List Choice) (r x y : Residual) → left_by a r ≡ Some x �
 paths_same [] [] r x y e f n = refl
 paths_same [] (d ∷ b) r x y e f n = absurd (cc n)
 paths_same (c ∷ a) [] r x y e f n = absurd (cc n)
-paths_same (c ∷ a) (d ∷ b) r x y e f n = grind (arith, common_steps, paths_same a b, first_same, then_left, same_step)
+paths_same (c ∷ a) (d ∷ b) r x y e f n = grind (arith, common_steps, paths_same a b, then_left, same_step)
 
 pub numbers_tell : (p : Puzzle) (a b : List Choice) → IsPath p a → IsPath p b → numbers_on a ≡ numbers_on b → a ≡ b
 numbers_tell p a b is has n = paths_same a b (whole p) is.0 has.0 is.1 has.1 n
@@ -75,45 +72,31 @@ pub no_further : (done path : List Choice) (r s x : Residual) (k : ℕ) (ks : Li
     ((c : Choice) → c.k ≡ k → left_by_one c s ≡ None) →
     numbers_on path ≡ numbers_on done ++ k ∷ ks → left_by path r ≡ Some x → ⊥
 no_further [] [] r s x k ks e none n f = absurd (cc n)
-no_further [] (c ∷ path) r s x k ks e none n f = grind (arith, common_steps, first_same)
+no_further [] (c ∷ path) r s x k ks e none n f = grind (arith, common_steps)
 no_further (d ∷ done) [] r s x k ks e none n f = absurd (cc n)
 no_further (d ∷ done) (c ∷ path) r s x k ks e none n f =
-    grind (arith, common_steps, no_further done path, first_same, then_left, same_step)
+    grind (arith, common_steps, no_further done path, then_left, same_step)
 
 -- the number of a branch is its place
-number_at : (r : Residual) (w : Wanted) (j : ℕ) (b : Branch) → j < branch_count r w → slice_get
-    (branches_of r w) j ≡ Some b → b.choice.k ≡ suc j
-number_at r w j b h e = by_option (slice_get (holding w.item r.options) j)
-    (λ f.
-    let last = branch_none r w j h f in
-    let same : b ≡ none_branch r w.item (branch_count r w) = cc (e, last.0) in
-    ap (λ (b : Branch). b.choice.k) same ∙ last.2)
-    (λ x f. grind (arith, common_steps, branch_takes r w j x h f))
-
-few_branches : (r : Residual) (w : Wanted) (j : ℕ) (b : Branch) → slice_get (branches_of r w) j ≡ Some b →
-    j < branch_count r w
-few_branches r w j b e =
+number_at : (r : Residual) (w : Wanted) (j : ℕ) (b : Branch) → slice_get (branches_of r w) j ≡ Some b
+    → (j < branch_count r w) × (b.choice.k ≡ suc j)
+number_at r w j b e =
     let n = branch_count r w in
     let bs = branches_of r w in
-    omega (arith, slice_get_within bs j b e, ap length (branches_end r w), length-drop n bs)
-
--- a branch is one of the branch item's
-item_of : (r : Residual) (j : ℕ) (b : Branch) → slice_get (branches_left r) j ≡ Some b → (w : Wanted) ×
-    (branch_item r ≡ Some w) × (slice_get (branches_of r w) j ≡ Some b)
-item_of r j b e = by_option (branch_item r) (λ f. grind (arith, common_steps))
-    (λ w f. (w, f, sym (ap (λ o. slice_get (unwrap_or (option_map (branches_of r) o) []) j) f) ∙ e))
+    let h : j < n = omega (arith, slice_get_within bs j b e, ap length (branches_end r w), length-drop n bs) in (
+      h,
+      by_option (slice_get (holding w.item r.options) j)
+          (λ f. grind (arith, common_steps, branch_none r w j h f)) (λ x f. grind (arith, common_steps, branch_takes r w j x h f)),
+    )
 
 -- and none whose number is 0 or greater than theirs
 pub no_branch : (c : Choice) (r : Residual) (w : Wanted) (n : ℕ) → branch_item r ≡ Some w → n ≡ branch_count r w →
     (c.k ≡ 0) ⊎ (n < c.k) → left_by_one c r ≡ None
 no_branch c r w n e count out = by_option (left_by_one c r) (λ none. none) (λ s f.
     let a = stepped c r s f in
-    let i = item_of r (c.k - 1) a.branch a.at in
-    let same : i.0 ≡ w = cc (i.1, e) in
-    let few = few_branches r i.0 (c.k - 1) a.branch i.2 in
-    let number = number_at r i.0 (c.k - 1) a.branch few i.2 in
-    let its = ap (λ (c : Choice). c.k) a.choice in
-    absurd (omega (arith, out, count, few, number, its, ap (branch_count r) same)))
+    let same : a.item ≡ w = cc (a.chosen, e) in
+    let its = number_at r a.item (c.k - 1) a.branch a.at in
+    absurd (omega (arith, out, count, its, ap (λ (c : Choice). c.k) a.choice, ap (branch_count r) same)))
 
 -- a path leaves no more than there was
 pub left_less : (path : List Choice) (r s : Residual) → left_by path r ≡ Some s → size_of s ≤ size_of r
@@ -121,8 +104,7 @@ left_less [] r s e = let same : r ≡ s = cc e in omega (arith, ap size_of same)
 left_less (c ∷ path) r s e =
     let t = then_left (left_by path) (left_by_one c r) s e in
     let a = stepped c r t.0 t.1 in
-    let i = item_of r (c.k - 1) a.branch a.at in
-    let less = each_at _ _ _ _ (branches_less r i.0 i.1) i.2 in
+    let less = each_at _ _ _ _ (branches_less r a.item a.chosen) a.at in
     omega (arith, left_less path t.0 s t.2, ap size_of a.next, less)
 
 -- the members of a branch
@@ -158,8 +140,7 @@ runs [] r s e =
 runs (c ∷ path) r s e =
     let t = then_left (left_by path) (left_by_one c r) s e in
     let a = stepped c r t.0 t.1 in
-    let i = item_of r (c.k - 1) a.branch a.at in
-    let bs = branches_of r i.0 in
+    let bs = branches_of r a.item in
     let rest = runs path t.0 s t.2 in
     let x = flat_map of_branch (take (c.k - 1) bs) in
     let y = flat_map of_branch (drop (suc (c.k - 1)) bs) in
@@ -167,7 +148,7 @@ runs (c ∷ path) r s e =
     record {
       front = x ++ map (λ m. c ∷ m) rest.front;
       back = map (λ m. c ∷ m) rest.back ++ y;
-      all = listing_unrolled r ∙ ap (λ o. level listing o r) i.1 ∙ split_at bs (c.k - 1) a.branch i.2
+      all = listing_unrolled r ∙ ap (λ o. level listing o r) a.chosen ∙ split_at bs (c.k - 1) a.branch a.at
           ∙ ap (λ l. x ++ (l ++ y)) here ∙ run_on c path (listing s) rest.front rest.back x y;
     }
 
