@@ -11,7 +11,7 @@ use Rattle.xc_dance.specs.declared.dance.Move.{Move}
 use Rattle.xc_dance.specs.declared.dance.Move.TheVariants.{Cover, Spend}
 use Rattle.xc_input.specs.Problem.{Puzzle, Numbered, primary_count, holds, high_at, IsItem, IsSoundUse, holding}
 use Rattle.xc_search.specs.Listing.{Wanted, Residual, pick, none}
-use Rattle.xc_dance.specs.Moves.{listed, is_open, spends, AreLegal}
+use Rattle.xc_dance.specs.Moves.{listed, is_open, purified, spends, AreLegal}
 use Rattle.xc_search.specs.Residuals.{wanted_after}
 use Rattle.xc_search.specs.inner.Residual.{residual_of}
 use Rattle.xc_dance.specs.inner.Left.{left}
@@ -26,8 +26,8 @@ use Rattle.xc_search.proofs.residual.EachMove.{residual_spend, residual_cover}
 use Rattle.xc_search.proofs.residual.ReadyUses.{Ready, AreReady, ready_after, ready_later, commit_all}
 use Rattle.xc_search.proofs.residual.LeftAreReady.{left_options, of_left, ready_left}
 use Rattle.xc_search.proofs.residual.CyclicUses.{placed, apart_turned, committed_picks, cut}
-use Rattle.xc_search.proofs.moves.LegalTweaks.{branch_cut, legal_branch, items_tweaked, open_tweaked, purified_tweaked}
-use Rattle.xc_search.proofs.moves.LegalTweaks.{spends_tweaked, left_closed, left_open}
+use Rattle.xc_search.proofs.moves.LegalTweaks.{branch_cut, legal_branch, kept_tweaked}
+use Rattle.xc_search.proofs.moves.LegalTweaks.{left_closed, left_open}
 use Rattle.xc_input.proofs.lists.EachElement.{each_weaker, each-filter, each_passes, each_at, each_turned, each_both}
 use Rattle.xc_input.proofs.lists.Filters.{filter_both}
 use Rattle.xc_input.proofs.FaultLemmas.BooleanTests.{only_rest}
@@ -43,8 +43,8 @@ ready_behind : (p : Puzzle) (u v : Use) (t : List Move) (m : ℕ) → u.item ≤
 ready_behind p u v t m h e r =
     let it_is : after_use p u t ≡ after_spend p u.item t = rw (le-leb u.item (primary_count p) h) refl in
     let s = after_spend p u.item t in
-    ready_later p s (tweaked m u.item s) v (open_tweaked v.item m u.item s) (purified_tweaked v.item m u.item s)
-    (spends_tweaked v.item m u.item s) (subst (λ s. Ready p s v) it_is (ready_after p u t v (apart_sym u v e) r))
+    ready_later p s (tweaked m u.item s) v (kept_tweaked (is_open v.item) m u.item s (λ _. refl))
+    (kept_tweaked (purified v.item) m u.item s (λ _. refl)) (kept_tweaked (spends v.item) m u.item s (λ _. refl)) (subst (λ s. Ready p s v) it_is (ready_after p u t v (apart_sym u v e) r))
 
 -- the moves of a branch of item i, with these other uses of option x
 pub record IsPicked (p : Puzzle) (t : List Move) (m i : ℕ) (x : Numbered) (us : List Use) : Type 0 where
@@ -139,22 +139,18 @@ pub none_taken : (p : Puzzle) (t : List Move) (i m : ℕ) → IsNode p t i → m
 none_taken p t i m n h = by_bool (eqb (high_at p i - spends i (Spend i ∷ t)) 0)
     (λ c.
     let s : List Move = Cover i ∷ Spend i ∷ t in
-    let it_is : after_spend p i t ≡ s = rw c refl in
     let shut : is_open i s ≡ false = rw (eq-eqb i i refl) refl in
-    let as_it_was : after_none i (tweaked m i s) ≡ tweaked m i s = rw (open_tweaked i m i s ∙ shut) refl in
-    ap (λ s. residual_of p (after_none i (tweaked m i s))) it_is ∙ ap (residual_of p) as_it_was
-    ∙ as_residual _ _ _ _ (items_tweaked p m i s) (left_closed p m i s shut)
-    ∙ residual_cover p (Spend i ∷ t) i ∙ spent_none p t i)
+    rw (c, kept_tweaked (is_open i) m i s (λ _. refl) ∙ shut)
+    (as_residual _ _ _ _ (kept_tweaked (wanted_after p) m i s (λ _. refl)) (left_closed p m i s shut)
+    ∙ residual_cover p (Spend i ∷ t) i ∙ spent_none p t i))
     (λ c.
     let s : List Move = Spend i ∷ t in
-    let it_is : after_spend p i t ≡ s = rw c refl in
-    let covers : after_none i (tweaked m i s) ≡ Cover i ∷ tweaked m i s = rw (open_tweaked i m i s ∙ n.is_open) refl in
-    let legal = subst (λ s. AreLegal p (tweaked m i s)) it_is (legal_branch p m i t n h) in
-    ap (λ s. residual_of p (after_none i (tweaked m i s))) it_is ∙ ap (residual_of p) covers
-    ∙ residual_cover p (tweaked m i s) i
-    ∙ as_residual _ _ _ _ (ap (filter (λ w. not (eqb w.item i))) (items_tweaked p m i s))
-    (rest_tweaked p m i s legal n.is_open (listed_open p t n.searchable.legal i n.is_open) h)
-    ∙ spent_none p t i)
+    rw (c, kept_tweaked (is_open i) m i s (λ _. refl) ∙ n.is_open)
+    (residual_cover p (tweaked m i s) i
+    ∙ as_residual _ _ _ _ (ap (filter (λ w. not (eqb w.item i))) (kept_tweaked (wanted_after p) m i s (λ _. refl)))
+    (rest_tweaked p m i s (rw c at (legal_branch p m i t n h)) n.is_open
+    (listed_open p t n.searchable.legal i n.is_open) h)
+    ∙ spent_none p t i))
 
 pub legal_after_none : (p : Puzzle) (i : ℕ) (t : List Move) → IsItem p i → AreLegal p t → AreLegal p (after_none i t)
 legal_after_none p i t h l = grind (arith, common_steps)

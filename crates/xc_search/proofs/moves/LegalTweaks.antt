@@ -35,21 +35,10 @@ use Rattle.xc_input.proofs.lists.EachTwo.{EachTwo-at}
 
 -- ---- what tweaks leave as it was
 
-pub items_tweaked : (p : Puzzle) (m i : ℕ) (s : List Move) → wanted_after p (tweaked m i s) ≡ wanted_after p s
-items_tweaked p zero i s = refl
-items_tweaked p (suc m) i s = items_tweaked p m i s
-
-pub open_tweaked : (j m i : ℕ) (s : List Move) → is_open j (tweaked m i s) ≡ is_open j s
-open_tweaked j zero i s = refl
-open_tweaked j (suc m) i s = open_tweaked j m i s
-
-pub purified_tweaked : (j m i : ℕ) (s : List Move) → purified j (tweaked m i s) ≡ purified j s
-purified_tweaked j zero i s = refl
-purified_tweaked j (suc m) i s = purified_tweaked j m i s
-
-pub spends_tweaked : (j m i : ℕ) (s : List Move) → spends j (tweaked m i s) ≡ spends j s
-spends_tweaked j zero i s = refl
-spends_tweaked j (suc m) i s = spends_tweaked j m i s
+pub kept_tweaked : {A : Type 0} (f : List Move → A) (m i : ℕ) (s : List Move)
+    → ((t : List Move) → f (Tweak i ∷ t) ≡ f t) → f (tweaked m i s) ≡ f s
+kept_tweaked f zero i s h = refl
+kept_tweaked f (suc m) i s h = h (tweaked m i s) ∙ kept_tweaked f m i s h
 
 pub listed_tweaked : (p : Puzzle) (m i : ℕ) (s : List Move) → listed p (tweaked m i s) i ≡ drop m (listed p s i)
 listed_tweaked p zero i s = refl
@@ -59,11 +48,11 @@ pub legal_tweaked : (p : Puzzle) (m i : ℕ) (s : List Move) → AreLegal p s �
     → m ≤ length (listed p s i) → AreLegal p (tweaked m i s)
 legal_tweaked p zero i s l h q k = l
 legal_tweaked p (suc m) i s l h q k =
-    grind (arith, common_steps, legal_tweaked p m i s l h q, purified_tweaked, listed_tweaked)
+    grind (arith, common_steps, legal_tweaked p m i s l h q, kept_tweaked (purified i) m i s (λ _. refl), listed_tweaked)
 
 pub left_closed : (p : Puzzle) (m i : ℕ) (s : List Move) → is_open i s ≡ false → left p (tweaked m i s) ≡ left p s
 left_closed p zero i s e = refl
-left_closed p (suc m) i s e = grind (arith, common_steps, left_closed p m i s e, open_tweaked)
+left_closed p (suc m) i s e = grind (arith, common_steps, left_closed p m i s e, kept_tweaked (is_open i) m i s (λ _. refl))
 
 -- ---- the first options that hold an item
 
@@ -115,7 +104,7 @@ left_open p (suc m) i s x l o h e =
     let hs = holding i (left p s) in
     let before = before_some hs m x e in
     let t = tweaked (suc m) i s in
-    let here : is_open i t ≡ true = open_tweaked i (suc m) i s ∙ o in
+    let here : is_open i t ≡ true = kept_tweaked (is_open i) (suc m) i s (λ _. refl) ∙ o in
     let head = ap (λ os. slice_get os 0) (sym (listed_open p t l i here) ∙ listed_tweaked p (suc m) i s
     ∙ ap (drop (suc m)) h) ∙ slice_get-drop hs (suc m) ∙ e in
     let fewer = rise_step 0 hs m before.0 x (NumbersRise-filter _ 0 (left p s) (left_rises p s)) before.1 e in
@@ -165,24 +154,17 @@ branch_cut p u t k m x n e h l =
     (λ c.
     let not_more = le-ltb 1 left_over (omega (arith, eqb-true _ _ c, spent_self i t)) in
     let s : List Move = Cover i ∷ Spend i ∷ t in
-    let it_is : after_spend p i t ≡ s = rw c refl in
-    let closed : is_open i s ≡ false = rw (eq-eqb i i refl) refl in
-    ap (λ s. residual_of p (tweaked m i s)) it_is
-    ∙ as_residual _ _ _ _ (items_tweaked p m i s) (left_closed p m i s closed)
-    ∙ ap (residual_of p) (sym it_is) ∙ commits
+    rw c (as_residual _ _ _ _ (kept_tweaked (wanted_after p) m i s (λ _. refl))
+    (left_closed p m i s (rw (eq-eqb i i refl) refl)) ∙ (rw c at commits)
     ∙ as_residual _ _ _ _ refl
     (filter_agree stay (λ o. above o && stay o) (λ o. rw (found, not_more)
     (sym (only_rest (holds o i) (nat_le o.number x.number)))) (left p t)
-    ∙ sym (filter_both stay above (left p t))))
+    ∙ sym (filter_both stay above (left p t)))))
     (λ c.
     let is_more = lt-ltb 1 left_over (omega (arith, eqb-false _ _ c, spent_self i t)) in
     let s : List Move = Spend i ∷ t in
-    let it_is : after_spend p i t ≡ s = rw c refl in
-    let items = ap (λ (r : Residual). r.items) (ap (residual_of p) (sym it_is) ∙ commits) in
-    let legal = subst (λ s. AreLegal p (tweaked k i s)) it_is l in
-    ap (λ s. residual_of p (tweaked m i s)) it_is
-    ∙ ap (λ m. residual_of p (tweaked m i s)) (h (eqb-false _ _ c))
-    ∙ as_residual _ _ _ _ (items_tweaked p (suc k) i s ∙ items)
-    (left_open p k i s x legal n.is_open (listed_open p t n.searchable.legal i n.is_open) e
+    rw (c, h (eqb-false _ _ c)) (as_residual _ _ _ _
+    (kept_tweaked (wanted_after p) (suc k) i s (λ _. refl) ∙ ap (λ (r : Residual). r.items) (rw c at commits))
+    (left_open p k i s x (rw c at l) n.is_open (listed_open p t n.searchable.legal i n.is_open) e
     ∙ sym (keep_all stay (filter above (left p t))
-    (each_of_all _ (filter above (left p t)) (λ o. rw (found, is_more) refl)))))
+    (each_of_all _ (filter above (left p t)) (λ o. rw (found, is_more) refl))))))

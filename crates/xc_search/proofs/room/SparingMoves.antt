@@ -21,13 +21,13 @@ use Rattle.xc_search.proofs.room.FewMoves.{uses_whole}
 use Rattle.std.proofs.lemmas.List.{length-map}
 use Rattle.std.proofs.lemmas.List.FromFn.{length-range_with_len}
 use Rattle.xc_search.proofs.moves.BranchMoves.{Taken}
+use Rattle.xc_search.proofs.moves.LegalTweaks.{kept_tweaked}
 use Rattle.xc_search.proofs.Cases.{by_bool, by_number}
 
 -- ---- Spends of the moves
 
 pub spent_tweaked : (m i : ℕ) (s : List Move) → spendings (tweaked m i s) ≡ spendings s
-spent_tweaked zero i s = refl
-spent_tweaked (suc m) i s = spent_tweaked m i s
+spent_tweaked m i s = kept_tweaked spendings m i s (λ _. refl)
 
 pub spent_after_spend : (p : Puzzle) (i : ℕ) (t : List Move) → spendings (after_spend p i t) ≡ suc (spendings t)
 spent_after_spend p i t = grind (arith, common_steps)
