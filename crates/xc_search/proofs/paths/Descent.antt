@@ -1,7 +1,6 @@
 -- The way down a path.
 use Rattle.std.proofs.Common.{ℕ, ◌≡◌, ◌+◌, ◌-◌, ◌<◌, true, List, [], ◌∷◌, ◌++◌, length, take, drop, get_or, map}
-use Rattle.std.proofs.Common.{Some, None, refl, sym, ap, ap₂, ◌∙◌, arith, subst, append-nil}
-use Rattle.std.specs.Prelude.{slice_get}
+use Rattle.std.proofs.Common.{Some, None, refl, sym, ap, ◌∙◌, arith, append-nil}
 use Rattle.std.proofs.lemmas.Grind.{common_steps}
 use Rattle.std.proofs.lemmas.List.{map-id}
 use Rattle.xc_dance.specs.declared.dance.Move.{Move}
@@ -17,7 +16,7 @@ use Rattle.xc_search.specs.inner.Commits.{oldest}
 use Rattle.xc_search.specs.inner.Residual.{residual_of}
 use Rattle.xc_search.specs.inner.Sizes.{size_of}
 use Rattle.xc_search.specs.inner.Levels.{IsLevel, IsNode, IsSearchable, IsShallow, IsStanding, IsEntered}
-use Rattle.xc_search.specs.inner.Levels.{first_level, begun_level, after_branch, taken, branches_at}
+use Rattle.xc_search.specs.inner.Levels.{first_level, begun_level, after_branch, taken}
 use Rattle.xc_search.specs.inner.Levels.{coming, behind}
 use Rattle.xc_search.specs.inner.Descent.{Leads, IsDown}
 use Rattle.xc_search.proofs.residual.BranchItemLeft.{no_moves_leave_all}
@@ -42,19 +41,7 @@ leads_on p u s t l k b a ek own entered =
     let at = before_branch p there t (begun_level b l) begun.level
     (ext_after_branch p l.item (taken p (begun_level b l)) t) own in
     let place : b.begun - 1 ≡ l.begun = omega (arith, begun.begun) in
-    subst (Leads p u t) (sym ek) (record {
-      level = at.0;
-      own = own;
-      under = at.1 ∙ begun.below ∙ a.under;
-      can = λ h. entered.can;
-      next = λ h. record {
-        branch = begun.branch;
-        at = ap₂ (λ v n. slice_get (branches_at p v) n) (sym a.under) place ∙ begun.at;
-        choice = begun.choice;
-        next = begun.next;
-        searchable = begun.searchable;
-      };
-    })
+    grind (arith, common_steps)
 
 -- a level on whose moves none was begun
 pub leads_first : (p : Puzzle) (u t : List Move) (l : Level) (i n : ℕ) → IsNode p u i → branch_item
@@ -87,8 +74,7 @@ pub down_standing : {p : Puzzle} {numbers : List ℕ} {path : List Choice} {t : 
 down_standing {p} {path = path} {t} d ls e =
     let less = left_less path (whole p) (residual_of p t) d.left in
     let shallow : IsShallow p t [] = omega (arith, less, ap size_of (no_moves_leave_all p), shallow_first p) in
-    subst (λ ls. IsStanding p t ls true) (sym e)
-    (record { stacked = tt; searchable = λ _. d.searchable; shallow = λ _. shallow })
+    grind (arith, common_steps)
 
 -- with the members below the path to come
 pub down_coming : {p : Puzzle} {numbers : List ℕ} {path : List Choice} {t : List Move} → IsDown p numbers path t

@@ -86,7 +86,8 @@ number_at r w j b e =
     let h : j < n = omega (arith, slice_get_within bs j b e, ap length (branches_end r w), length-drop n bs) in (
       h,
       by_option (slice_get (holding w.item r.options) j)
-          (λ f. grind (arith, common_steps, branch_none r w j h f)) (λ x f. grind (arith, common_steps, branch_takes r w j x h f)),
+          (λ f. grind (arith, common_steps, branch_none r w j h f))
+          (λ x f. grind (arith, common_steps, branch_takes r w j x h f)),
     )
 
 -- and none whose number is 0 or greater than theirs

@@ -1,6 +1,6 @@
 -- The Spends of a search are no more than the uses of the options that were taken and the items that were left out.
 use Rattle.std.proofs.lemmas.Grind.{common_steps}
-use Rattle.std.proofs.Common.{ℕ, zero, suc, ◌≡◌, ◌+◌, ◌<◌, ◌≤◌, Bool, true, false, not, ◌&&◌, leb, List}
+use Rattle.std.proofs.Common.{ℕ, suc, ◌≡◌, ◌+◌, ◌<◌, ◌≤◌, Bool, true, false, not, ◌&&◌, leb, List}
 use Rattle.std.proofs.Common.{[], ◌∷◌, length, map, filter, Some, refl, sym, ap, arith, le-leb}
 use Rattle.std.specs.Prelude.{slice_get, nat_lt, nat_le}
 use Rattle.xc_input.specs.declared.problem.Use.{Use}

@@ -1,8 +1,8 @@
 -- Back at a level, and its end.
 use Rattle.std.proofs.lemmas.Grind.{common_steps}
-use Rattle.std.proofs.Common.{◌≡◌, ◌+◌, ◌<◌, ◌≤◌, List, ◌∷◌, ◌++◌, length, take, drop, ap, ap₂, ◌∙◌}
+use Rattle.std.proofs.Common.{◌≡◌, ◌+◌, ◌<◌, ◌≤◌, List, ◌∷◌, ◌++◌, length, drop, ap, ap₂, ◌∙◌}
 use Rattle.std.proofs.Common.{arith, length-append}
-use Rattle.std.proofs.lemmas.List.{take_at, length-replicate}
+use Rattle.std.proofs.lemmas.List.{length-replicate}
 use Rattle.std.specs.Prelude.{replicate}
 use Rattle.xc_dance.specs.declared.dance.Move.{Move}
 use Rattle.xc_dance.specs.declared.dance.Move.TheVariants.{Tweak}
@@ -47,15 +47,5 @@ closing p t l is_level whole =
     let long : length t ≡ l.tweaks + length s = ap length t_is ∙ length-append (replicate l.tweaks (Tweak l.item)) s
     ∙ ap (λ n. n + length s) (length-replicate l.tweaks (Tweak l.item)) in
     let mark_is : length u ≡ l.mark = length-oldest l.mark t (omega (arith, is_level.within)) in
-    let longer = ext_longer (ext_after_spend p l.item u) in (
-      (λ h. (
-        h,
-        omega (arith, long),
-        (
-          l.item,
-          ap (take l.tweaks) t_is
-              ∙ take_at (replicate l.tweaks (Tweak l.item)) s l.tweaks (length-replicate l.tweaks (Tweak l.item)),
-        ),
-      )),
-      omega (arith, long, longer, mark_is),
-    )
+    let longer = ext_longer (ext_after_spend p l.item u) in
+    grind (arith, common_steps)

@@ -1,19 +1,19 @@
 -- Once a branch was begun, what it leaves comes first.
-use Rattle.std.proofs.Common.{suc, ◌≡◌, ◌<◌, true, List, [], ◌∷◌, ◌++◌, map, drop, reverse, sym, ap, ap₂, ◌∙◌, arith}
-use Rattle.std.proofs.Common.{subst, append_assoc}
+use Rattle.std.proofs.lemmas.Grind.{common_steps}
+use Rattle.std.proofs.Common.{suc, ◌≡◌, ◌<◌, true, List, [], ◌∷◌, ◌++◌, map, drop, reverse, ap, ap₂, ◌∙◌, arith}
+use Rattle.std.proofs.Common.{append_assoc}
 use Rattle.std.proofs.lemmas.List.{reverse-append, map-append}
 use Rattle.xc_dance.specs.declared.dance.Move.{Move}
 use Rattle.xc_search.specs.declared.level.Level.{Level}
 use Rattle.xc_input.specs.Problem.{Puzzle}
 use Rattle.xc_search.specs.Listing.{listing}
 use Rattle.xc_search.specs.inner.Residual.{residual_of}
-use Rattle.xc_search.specs.inner.Levels.{branches_at, members_of, IsShallow, AreStacked, chosen, choices_of, to_give}
+use Rattle.xc_search.specs.inner.Levels.{branches_at, AreStacked, chosen, choices_of, to_give}
 use Rattle.xc_search.specs.inner.Levels.{coming, IsBegun}
 use Rattle.xc_search.specs.inner.Commits.{oldest}
-use Rattle.xc_search.specs.inner.Ahead.{cost, work, visits, ahead}
+use Rattle.xc_search.specs.inner.Ahead.{visits, ahead}
 use Rattle.xc_input.proofs.lists.Filters.{map-same}
 use Rattle.xc_input.proofs.lists.Places.{drop_at}
-use Rattle.xc_search.specs.inner.Levels.{IsLevel}
 
 pub choices_more : (p : Puzzle) (k : Level) (ls : List Level)
     → choices_of p (k ∷ ls) ≡ choices_of p ls ++ chosen p k ∷ []
@@ -34,11 +34,5 @@ begun_coming p t s l k ls stacked b =
     ap (λ r. map (λ m. choices_of p (k ∷ ls) ++ m) (listing r)) b.next
     ∙ map-same (λ m. choices_of p (k ∷ ls) ++ m) (λ m. before ++ b.branch.choice ∷ m) (listing b.branch.next)
     (λ m. ap (λ c. c ++ m) (choices_more p k ls) ∙ append_assoc before (chosen p k ∷ []) m
-    ∙ ap (λ c. before ++ c ∷ m) b.choice) in (
-      ap₂ (λ x y. x ++ y) one (ap₂ (λ bs v. members_of before bs ++ to_give p v ls) still under)
-          ∙ sym (append_assoc (map (λ m. before ++ b.branch.choice ∷ m) (listing b.branch.next))
-          (members_of before rest) (to_give p u ls))
-          ∙ ap (λ bs. members_of before bs ++ to_give p u ls) (sym next),
-      subst (λ v. IsLevel p s k × IsShallow p v ls × AreStacked p v ls) (sym under) (b.level, stacked.1, stacked.2),
-      omega (arith, ap (cost work) next, ap (cost work) still, ap work b.next, ap (λ v. visits p v ls) under),
-    )
+    ∙ ap (λ c. before ++ c ∷ m) b.choice) in
+    grind (arith, common_steps)

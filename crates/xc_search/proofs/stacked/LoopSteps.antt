@@ -2,7 +2,6 @@
 use Rattle.std.proofs.lemmas.Grind.{common_steps}
 use Rattle.std.proofs.Common.{ℕ, ◌≡◌, ◌+◌, ◌-◌, ◌<◌, ◌≤◌, Bool, true, false, List, ◌∷◌, length, drop, length-drop, refl}
 use Rattle.std.proofs.Common.{Some, sym, ap, ◌∙◌, arith, subst, ap₂}
-use Rattle.std.proofs.lemmas.List.{drop-drop}
 use Rattle.xc_dance.specs.declared.dance.Move.{Move}
 use Rattle.xc_search.specs.declared.level.Level.{Level}
 use Rattle.xc_search.specs.declared.level.Begun.{Begun}
@@ -180,8 +179,7 @@ pub back_at : (p : Puzzle) (t r : List Move) (l : Level) (ls : List Level) → A
 back_at p t r l ls stacked er =
     let back = returned p t l ls stacked in
     let close = closing p (oldest l.base t) l back.0.0 back.3 in
-    subst (λ r. IsLevel p r l × (l.base ≡ length r) × (0 < l.tweaks → AreTweaks l.tweaks r)
-    × (l.mark + l.tweaks ≤ length r)) (sym er) (back.0.0, back.3, close.0, close.1)
+    grind (arith, common_steps)
 
 -- below a level's tweaks stand the moves below the level
 pub under_tweaks : (p : Puzzle) (t : List Move) (l : Level) (ls : List Level) → AreStacked p t (l ∷ ls)
@@ -191,5 +189,4 @@ under_tweaks p t l ls stacked =
     let back = back_at p t u l ls stacked refl in
     let fewer : l.tweaks + (length (drop l.tweaks u) - l.mark) ≡ length u - l.mark =
     omega (arith, length-drop l.tweaks u, back.3) in
-    drop-drop (length (drop l.tweaks u) - l.mark) l.tweaks u ∙ ap (λ n. drop n u) fewer
-    ∙ oldest-oldest l.mark l.base t stacked.0.within.0 stacked.0.within.1
+    grind (arith, common_steps)

@@ -87,8 +87,7 @@ ext_drop (suc n) [] = ext_none
 ext_drop (suc n) (m ∷ t) = ext_more (ext_drop n t)
 
 pub oldest-oldest : (m n : ℕ) (t : List Move) → m ≤ n → n ≤ length t → oldest m (oldest n t) ≡ oldest m t
-oldest-oldest m n t h k =
-    sym (ext_oldest m (ext_drop (length t - n) t) (omega (arith, length-oldest n t k, h)))
+oldest-oldest m n t h k = grind (arith, common_steps, ext_oldest, ext_drop, length-oldest)
 
 -- m tweaks of the level's item, on the moves on which it was begun
 abbrev pub tweaked_at : Puzzle → List Move → Level → ℕ → List Move
@@ -132,12 +131,7 @@ chosen_item p t i n l e =
     let one = least_is_one _ _ _ found.1 in
     let here = each_in _ _ _ (all_primary p t) one in
     let as_is : w ≡ wanted_at p t i = each_in _ _ _ (as_spent p t) one ∙ ap (wanted_at p t) item in
-    record {
-      branch = found.1 ∙ ap Some as_is;
-      count = sym (ap (λ (x : ℕ × ℕ). x.1) found.2) ∙ ap (branch_count r) as_is;
-      item = subst (IsPrimary p) item here.0;
-      is_open = ap (λ i. is_open i t) (sym item) ∙ here.1;
-    }
+    grind (arith, common_steps)
 
 pub chosen_none : (p : Puzzle) (t : List Move) → AreLegal p t → choice_after p t ≡ None
     → branch_item (residual_of p t) ≡ None

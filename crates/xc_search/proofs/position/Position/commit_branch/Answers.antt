@@ -1,8 +1,6 @@
 use Rattle.std.proofs.Common.{arith}
 use Rattle.std.proofs.lemmas.Grind.{common_steps}
-use Rattle.std.proofs.Common.{◌≡◌, None, Some, ap, ◌∙◌, subst}
-use Rattle.std.specs.Prelude.{unwrap_or}
-use Rattle.xc_dance.specs.Fields.{link_place}
+use Rattle.std.proofs.Common.{◌≡◌, None, Some, subst}
 use Rattle.xc_dance.specs.Commits.{option_at, IsUseAt}
 use Rattle.xc_search.specs.inner.Levels.{CanBranch}
 use Rattle.xc_search.proofs.stacked.NextLevel.{at_own, at_other}
@@ -23,12 +21,7 @@ can g c = subst (λ o. CanBranch c.args.self.now.puzzle c.args.item o c.args.sel
 use_at : (g : _) (c : Else-place-item g) → IsUseAt c.args.self.now.puzzle c.args.item (some g c).0 c.args.place
 use_at g c =
     let held = (can g c).option in
-    record {
-      known = held.known;
-      holds = held.holds;
-      items = held.items;
-      at = c.requires.place ∙ ap (λ o. link_place c.args.self.now.puzzle c.args.item (unwrap_or o 0)) (some g c).1;
-    }
+    grind (arith, common_steps)
 
 pub cover_if_open-requires-clause-room : goal.cover_if_open-requires-clause-room
 cover_if_open-requires-clause-room g c = grind (arith, common_steps)

@@ -1,6 +1,5 @@
 use Rattle.std.proofs.lemmas.Grind.{common_steps}
 use Rattle.std.proofs.Common.{arith, ◌≡◌, ap, subst}
-use Rattle.xc_search.specs.inner.Residual.{residual_of}
 use Rattle.xc_search.specs.inner.Levels.{Levels}
 use Rattle.xc_search.specs.inner.Descent.{IsDown}
 use Rattle.xc_search.proofs.paths.Descent.{down_standing, down_coming}
@@ -21,8 +20,5 @@ returns-clause-begun g c =
     let puzzle : e.puzzle ≡ p = grind (arith, common_steps) in
     let down : IsDown p c.args.numbers.now path e.trail =
     subst (λ p. IsDown p c.args.numbers.now path e.trail) puzzle here in
-    let come = down_coming here c.in-Ok-new.stack.levels (ap (λ (s : Levels). s.levels) c.in-Ok-new.ensures) in (
-      path,
-      ((residual_of p e.trail, down.left), down.told),
-      grind (arith, common_steps, come),
-    )
+    let come = down_coming here c.in-Ok-new.stack.levels (ap (λ (s : Levels). s.levels) c.in-Ok-new.ensures) in
+    grind (arith, common_steps)

@@ -1,8 +1,8 @@
-use Rattle.std.proofs.Common.{◌≡◌, ◌∙◌, ◌-◌, ◌<◌, List, length, reverse, ap, arith}
-use Rattle.std.proofs.lemmas.List.{length-set, length-reverse}
+use Rattle.std.proofs.lemmas.Grind.{common_steps}
+use Rattle.std.proofs.Common.{◌≡◌, ◌∙◌, ◌-◌, ◌<◌, length, reverse, ap, arith}
+use Rattle.std.proofs.lemmas.List.{length-reverse}
 use Rattle.std.proofs.Math.ListN.{set, get_or}
 use Rattle.xc_input.proofs.FaultLemmas.Checks.{items-length}
-use Rattle.xc_search.specs.declared.level.Level.{Level}
 use Rattle.xc_input.proofs.lists.LastChanged.{newest_changed, first_changed}
 use Rattle.xc_search.specs.inner.Levels.{begun_level, Levels}
 use Rattle.xc_search.proofs.stack.Stack.note_branch.Goals as goal
@@ -10,10 +10,7 @@ use Rattle.xc_search.proofs.stack.Stack.note_branch.Goals as goal
 pub invariant_of-self : goal.invariant_of-self
 invariant_of-self c =
     let levels = c.self.inside.levels.items in
-    record {
-      few = omega (arith, length-set levels (c.len-top.result - 1) c.begin_level.new.level, c.self.invariant.few);
-      levels_fit = c.self.invariant.levels_fit;
-    }
+    grind (arith, common_steps)
 
 pub returns : goal.returns
 returns c =
@@ -28,8 +25,4 @@ returns c =
     ∙ ap (λ n. reverse (set levels (n - 1) (begun_level b (get_or levels (n - 1) c.index_mut.result.now))))
     (c.len-top.ensures ∙ items-length c.self.inside.levels)
     ∙ newest_changed (begun_level b) levels c.index_mut.result.now some in
-    ap (λ (ls : List Level). record {
-      levels = ls;
-      room = c.self.inside.room;
-    }) turned ∙ ap
-    (λ (v : Levels). record v { levels = first_changed (begun_level b) v.levels }) c.self.view_is
+    grind (arith, common_steps)
