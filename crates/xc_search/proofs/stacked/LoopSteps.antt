@@ -49,11 +49,6 @@ pub record Opens (d e : Dancing) (ls : Levels) (i n : ℕ) (l : Level) : Type 0 
   pub standing : IsStanding d.puzzle d.trail ls.levels true
   pub chosen : choice_after d.puzzle d.trail ≡ Some (i, n)
 
-pub opens : {d e : Dancing} {ls : Levels} {i n : ℕ} {l : Level}
-    → e ≡ record d { trail = after_spend d.puzzle i d.trail } → l ≡ first_level d.puzzle d.trail i n
-    → IsStanding d.puzzle d.trail ls.levels true → choice_after d.puzzle d.trail ≡ Some (i, n) → Opens d e ls i n l
-opens spent level standing chosen = record { spent = spent; level = level; standing = standing; chosen = chosen }
-
 -- it stands with its own moves, nothing is lost, and less is ahead
 deepens : {d e : Dancing} {ls : Levels} {i n : ℕ} {l : Level} → Opens d e ls i n l →
     AreStacked d.puzzle e.trail (l ∷ ls.levels)
