@@ -108,48 +108,19 @@ outlook d ls down = record {
 abbrev past : ℕ → Outlook → Outlook
 past many o = record o { to_come = drop many o.to_come; shown = shown_after many o.to_come o.shown }
 
--- what the walk then stands for
-outlook_over : (d e : Dancing) (ls ks : Levels) (down : Bool) (many : ℕ) → WentOver d ls down many e ks
-    → (outlook e ks false ≡ past many (outlook d ls down)) × (many ≡ min many (length (outlook d ls down).to_come))
-outlook_over d e ls ks down many w = grind (arith, common_steps)
-
--- and where it ended
-outlook_past : (d e : Dancing) (ls ks : Levels) (down : Bool) (n many : ℕ) → WentPast d ls down n e ks → n < many
-    → (outlook e ks false ≡ past many (outlook d ls down)) × (n ≡ min many (length (outlook d ls down).to_come))
-outlook_past d e ls ks down n many w less = grind (arith, common_steps, drop_past, shown_past)
-
 module _ {d e : Dancing} {ls ks : Levels} {down below : Bool} {many n : ℕ} (p : Passed d ls down many n e ks below)
   where
-    -- by how it went
-    by_end : {C : Type 0} → (n < many → WentPast d ls down n e ks → C)
-        → (n ≡ many → WentOver d ls down many e ks → C) → C
-    by_end past over = by_bool (nat_lt n many)
-        (λ h. let less = ltb-true n many h in past less (p.past less))
-        (λ h. let all : n ≡ many = omega (arith, p.within, ltb-false n many h) in over all (p.over all))
-
     pub outlook_passed : (o : Outlook) → outlook d ls down ≡ o
         → (outlook e ks below ≡ past many o) × (n ≡ min many (length o.to_come))
-    outlook_passed o is =
-        let went = by_end (λ less w. outlook_past d e ls ks down n many w less)
-        (λ all w. let to = outlook_over d e ls ks down many w in (to.0, all ∙ to.1)) in
-        grind (arith, common_steps, went.0, went.1, is, p.searched)
+    outlook_passed o is = grind (arith, common_steps, drop_past, shown_past, p.past, p.over, p.within, p.searched)
 
     -- and where it stands
     pub stands_there : IsStanding e.puzzle e.trail ks.levels below
         × (ks.levels ≢ [] → IsSolved e.puzzle e.trail ks.levels) × (e.puzzle ≡ d.puzzle) × (ks.room ≡ ls.room)
-    stands_there = rw p.searched (by_end
-        (λ less w. (
-          stands_behind e.puzzle e.trail ks.levels (rw w.ended tt),
-          λ some. absurd (some w.ended),
-          ap (λ (s : Dancing). s.puzzle) w.still.0,
-          ap (λ (s : Levels). s.room) w.still.1,
-        ))
-        (λ all w. (
-          stands_behind e.puzzle e.trail ks.levels w.solved.standing.stacked,
-          λ some. w.solved,
-          ap (λ (s : Dancing). s.puzzle) w.still.0,
-          ap (λ (s : Levels). s.room) w.still.1,
-        )))
+    stands_there = by_bool (nat_lt n many)
+        (λ h. let w = p.past (ltb-true n many h) in grind (arith, common_steps, stands_behind, p.searched))
+        (λ h. let w = p.over (omega (arith, p.within, ltb-false n many h)) in
+        grind (arith, common_steps, stands_behind, p.searched))
 
 -- what a search stands for behind the choices before its first level
 abbrev of_search : List Choice → List Choice → Outlook → Outlook
