@@ -4,7 +4,7 @@ use Rattle.std.proofs.Common.{ℕ, zero, suc, ◌≡◌, ◌+◌, ◌-◌, ◌<�
 use Rattle.std.proofs.Common.{length, map, drop, Some, None, refl, sym, ap, ◌∙◌, arith, subst}
 use Rattle.std.proofs.Common.{eq-eqb, ne_eqb, ◌≢◌, length-drop}
 use Rattle.std.specs.Prelude.{option_map, flat_map, unwrap_or, slice_get}
-use Rattle.std.specs.List.{AllByRecursion, range_with_len}
+use Rattle.std.specs.List.{range_with_len}
 use Rattle.xc_input.specs.declared.problem.Use.{Use}
 use Rattle.xc_search.specs.declared.choice.Choice.{Choice}
 use Rattle.xc_dance.specs.declared.dance.Move.{Move}
@@ -12,7 +12,7 @@ use Rattle.xc_search.specs.declared.level.Level.{Level}
 use Rattle.xc_input.specs.Problem.{Puzzle, primary_count, IsPrimary}
 use Rattle.xc_search.specs.Listing.{Wanted, Branch, branches_of, branch_count, branch_item, listing, level}
 use Rattle.xc_dance.specs.Moves.{is_open, open_items, AreLegal}
-use Rattle.xc_search.specs.Residuals.{wanted_at, wanted_after, choice_after}
+use Rattle.xc_search.specs.Residuals.{wanted_at, choice_after}
 use Rattle.xc_search.specs.inner.Residual.{residual_of}
 use Rattle.xc_search.specs.inner.Levels.{branches_at, members_of, IsSearchable, IsLevelAt, IsShallow}
 use Rattle.xc_search.specs.inner.Levels.{AreStacked, IsPlace, choices_of, to_give, coming, first_level}
@@ -20,15 +20,12 @@ use Rattle.xc_dance.specs.Fields.{link_place, layout}
 use Rattle.xc_dance.specs.Commits.{option_at, number_of, after_spend, after_use, after_uses}
 use Rattle.xc_search.specs.inner.Commits.{oldest, after_none}
 use Rattle.xc_search.specs.inner.Ahead.{cost, work, work_level, visits, ahead}
-use Rattle.xc_input.proofs.lists.Members.{each_in}
+use Rattle.xc_input.proofs.lists.Members.{IsIn, in-map, in-filter}
 use Rattle.xc_search.proofs.listing.Unrolled.{listing_unrolled}
 use Rattle.xc_search.proofs.listing.BranchesLess.{least_is_one}
-use Rattle.xc_search.proofs.residual.EachMove.{in_range}
-use Rattle.xc_search.proofs.residual.ReadyUses.{as_spent}
 use Rattle.xc_search.proofs.residual.BranchItemLeft.{choice_is_branch_item}
 use Rattle.xc_search.proofs.moves.OldestMoves.{oldest_all, oldest-drop}
 use Rattle.xc_search.proofs.stacked.WorkUnrolled.{work_unrolled}
-use Rattle.xc_input.proofs.lists.EachElement.{each_weaker, each-map, each-filter, each_passes, each_both}
 use Rattle.xc_input.proofs.lists.Filters.{map-map}
 use Rattle.xc_search.proofs.Cases.{mapped_none, mapped_some}
 use Rattle.xc_search.specs.inner.Commits.{tweaked}
@@ -100,19 +97,9 @@ ground_is {t = t} is_level whole = sym (ap (λ n. oldest n t) whole ∙ oldest_a
 
 -- ---- the item of a level
 
-range_from : (a n : ℕ) → AllByRecursion (λ i. a ≤ i) (range_with_len a n)
-range_from a zero = tt
-range_from a (suc n) = grind (arith, common_steps, range_from (a + 1) n, each_weaker)
-
-all_primary : (p : Puzzle) (t : List Move)
-    → AllByRecursion (λ w. IsPrimary p w.item × (is_open w.item t ≡ true)) (wanted_after p t)
-all_primary p t =
-    let is = range_with_len 1 (primary_count p) in
-    each-map _ (wanted_at p t) (open_items p t)
-    (each_both (IsPrimary p) (λ i. is_open i t ≡ true) _ (open_items p t) (λ i a b. (a, b))
-    (each-filter (IsPrimary p) (λ i. is_open i t) is (each_both (λ i. 1 ≤ i) (λ i. i < 1 + primary_count p) _ is
-    (λ i a b. (a, omega (arith, b))) (range_from 1 (primary_count p)) (in_range 1 (primary_count p))))
-    (each_passes (λ i. is_open i t) is))
+in-range : (a n i : ℕ) → IsIn (range_with_len a n) i → (a ≤ i) × (i < a + n)
+in-range a zero i h = absurd h
+in-range a (suc n) i h = grind (arith, common_steps, in-range (a + 1) n i)
 
 pub record Chosen (p : Puzzle) (t : List Move) (i n : ℕ) : Type 0 where
   pub branch : branch_item (residual_of p t) ≡ Some (wanted_at p t i)
@@ -126,11 +113,9 @@ chosen_item p t i n l e =
     let r = residual_of p t in
     let found = mapped_some (λ w. (w.item, branch_count r w)) (branch_item r) (i, n)
     (sym (choice_is_branch_item p t l) ∙ e) in
-    let w = found.0 in
-    let item : w.item ≡ i = ap (λ (x : ℕ × ℕ). x.0) found.2 in
-    let one = least_is_one _ _ _ found.1 in
-    let here = each_in _ _ _ (all_primary p t) one in
-    let as_is : w ≡ wanted_at p t i = each_in _ _ _ (as_spent p t) one ∙ ap (wanted_at p t) item in
+    let at = in-map (wanted_at p t) (open_items p t) found.0 (least_is_one _ _ _ found.1) in
+    let one = in-filter (λ i. is_open i t) (range_with_len 1 (primary_count p)) at.0 at.1 in
+    let within = in-range 1 (primary_count p) at.0 one.0 in
     grind (arith, common_steps)
 
 pub chosen_none : (p : Puzzle) (t : List Move) → AreLegal p t → choice_after p t ≡ None

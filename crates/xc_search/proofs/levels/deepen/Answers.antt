@@ -66,12 +66,12 @@ pub returns-clause-deeper : goal.returns-clause-deeper
 returns-clause-deeper g c b is =
     let same : b ≡ record { item = c.in-Some.item; place = c.enter-branch.result.place } = cc is in
     rw same (enters_first (opened g (goal.at.returns-clause-deeper g c).After-descend-level)
-    c.enter-branch.new.self c.push.new.self c.enter-branch.result c.enter-branch.ensures.still c.enter-branch.ensures.entered
-    (rw c.begin_level.ensures at c.push.ensures)).0
+    c.enter-branch.new.self c.push.new.self c.enter-branch.result c.enter-branch.ensures.still
+    c.enter-branch.ensures.entered (rw c.begin_level.ensures at c.push.ensures)).0
 
 pub returns-clause-deeper_path : goal.returns-clause-deeper_path
 returns-clause-deeper_path g c b is =
     let same : b ≡ record { item = c.in-Some.item; place = c.enter-branch.result.place } = cc is in
     rw same (enters_first (opened g (goal.at.returns-clause-deeper_path g c).After-descend-level)
-    c.enter-branch.new.self c.push.new.self c.enter-branch.result c.enter-branch.ensures.still c.enter-branch.ensures.entered
-    (rw c.begin_level.ensures at c.push.ensures)).1
+    c.enter-branch.new.self c.push.new.self c.enter-branch.result c.enter-branch.ensures.still
+    c.enter-branch.ensures.entered (rw c.begin_level.ensures at c.push.ensures)).1
