@@ -29,8 +29,7 @@ use Rattle.xc_input.proofs.lists.Filters.{filter_both, keep_all}
 use Rattle.xc_input.proofs.FaultLemmas.BooleanTests.{only_rest}
 use Rattle.xc_input.proofs.lists.Places.{slice_get-drop, before_some, drop_one}
 use Rattle.xc_search.proofs.Cases.{by_bool}
-use Rattle.xc_search.proofs.residual.NumberedOnce.{above_in, two_rise}
-use Rattle.xc_input.proofs.lists.Members.{in-slice_get}
+use Rattle.xc_search.proofs.residual.NumberedOnce.{two_rise}
 use Rattle.xc_input.proofs.lists.EachTwo.{EachTwo-at}
 
 -- ---- what tweaks leave as it was
@@ -76,10 +75,6 @@ without_head : (i n : ℕ) (os : List Numbered) (x : Numbered) → NumbersRise n
     → without (take 1 (holding i os)) os ≡ filter (λ o. not (holds o i && nat_le o.number x.number)) os
 without_head i n os x r e = ap (λ g. without g os) (sym (first_below i n os x r e))
     ∙ without_filter (λ o. holds o i && nat_le o.number x.number) n os r
-
-pub rise_above : (n : ℕ) (os : List Numbered) (m : ℕ) (x : Numbered) → NumbersRise n os → slice_get os m ≡ Some x
-    → n < x.number
-rise_above n os m x r e = above_in n os x r (in-slice_get os m x e)
 
 rise_step : (n : ℕ) (os : List Numbered) (m : ℕ) (y x : Numbered) → NumbersRise n os → slice_get os m ≡ Some y
     → slice_get os (suc m) ≡ Some x → y.number < x.number

@@ -12,7 +12,7 @@ use Rattle.xc_search.specs.Residuals.{choice_after}
 use Rattle.xc_dance.specs.Commits.{option_at, after_spend}
 use Rattle.xc_search.specs.inner.Commits.{oldest}
 use Rattle.xc_search.specs.inner.Levels.{Levels, IsNode, IsLevel, AreStacked, to_give, IsStanding, MayBegin}
-use Rattle.xc_search.specs.inner.Levels.{IsBegun, IsEntered, first_level}
+use Rattle.xc_search.specs.inner.Levels.{IsEntered, first_level}
 use Rattle.xc_search.specs.inner.Levels.{begun_level, newest_begun}
 use Rattle.xc_search.specs.inner.Ahead.{visits, ahead, GoesOn, EntersBranch, branched}
 use Rattle.xc_search.proofs.moves.OldestMoves.{oldest_all}
@@ -20,7 +20,7 @@ use Rattle.xc_search.proofs.stacked.NextLevel.{descended, chosen_item, oldest-ol
 use Rattle.xc_search.proofs.stacked.BackAtLevel.{returned, finished, closing}
 use Rattle.xc_search.proofs.stacked.BegunComesFirst.{begun_coming}
 use Rattle.xc_search.proofs.stacked.Depth.{shallower}
-use Rattle.xc_search.specs.inner.Levels.{coming, after_branch}
+use Rattle.xc_search.specs.inner.Levels.{after_branch}
 use Rattle.xc_search.proofs.stacked.NextLevel.{ext_whole, ext_after_spend}
 use Rattle.xc_search.specs.inner.Paths.{KeepsPath, AreLed}
 use Rattle.xc_search.proofs.paths.Led.{led_begun}
@@ -29,6 +29,7 @@ use Rattle.xc_search.specs.inner.Residual.{residual_of}
 use Rattle.xc_search.proofs.parts.OneBranch.{none_listed}
 use Rattle.xc_search.proofs.listing.BranchesLess.{least_is_one}
 use Rattle.xc_search.proofs.paths.Settled.{goes_behind}
+use Rattle.xc_search.proofs.stacked.PassedOver.{stands_behind}
 
 pub GoesOn-trans : (d e f : Dancing) (ls ks js : Levels) (x y z : Bool) → GoesOn d ls x e ks y → GoesOn e ks y f js z
     → GoesOn d ls x f js z
@@ -50,10 +51,8 @@ pub record Opens (d e : Dancing) (ls : Levels) (i n : ℕ) (l : Level) : Type 0 
   pub chosen : choice_after d.puzzle d.trail ≡ Some (i, n)
 
 -- it stands with its own moves, nothing is lost, and less is ahead
-deepens : {d e : Dancing} {ls : Levels} {i n : ℕ} {l : Level} → Opens d e ls i n l →
-    AreStacked d.puzzle e.trail (l ∷ ls.levels)
-    × (coming d.puzzle d.trail ls.levels true ≡ to_give d.puzzle e.trail (l ∷ ls.levels))
-    × (visits d.puzzle e.trail (l ∷ ls.levels) < ahead d.puzzle d.trail ls.levels true)
+pub deepens : {d e : Dancing} {ls : Levels} {i n : ℕ} {l : Level} → Opens d e ls i n l →
+    GoesOn d ls true e (with_level l ls) false × (visits d.puzzle e.trail (l ∷ ls.levels) < work_left d ls true)
     × (oldest l.mark e.trail ≡ d.trail) × (l.base ≡ length e.trail)
 deepens {d} {e} {ls} {i} {n} {l} o =
     let p = d.puzzle in
@@ -61,19 +60,16 @@ deepens {d} {e} {ls} {i} {n} {l} o =
     let here = o.standing.searchable refl in
     let all = descended p t ls.levels i n here (o.standing.shallow refl) (chosen_item p t i n here.legal o.chosen)
     o.standing.stacked in
-    rw (o.spent, o.level) (all.0, all.1, all.2, ext_whole (ext_after_spend p i t), refl)
-
-pub begins_at : {d e : Dancing} {ls : Levels} {i n : ℕ} {l : Level} → Opens d e ls i n l
-    → AreStacked e.puzzle e.trail (l ∷ ls.levels)
-begins_at {e = e} {ls = ls} {l = l} o =
-    subst (λ p. AreStacked p e.trail (l ∷ ls.levels)) (sym (ap (λ (e : Dancing). e.puzzle) o.spent)) (deepens o).0
+    let on : GoesOn d ls true _ (with_level (first_level p t i n) ls) false =
+    record { still = (refl, refl); standing = stands_behind p (after_spend p i t) _ all.0; members = all.1 } in
+    rw (o.spent, o.level) (on, all.2, ext_whole (ext_after_spend p i t), refl)
 
 -- a level's first branch may be entered
 pub may_enter : {d e : Dancing} {ls : Levels} {i n : ℕ} {l : Level} → Opens d e ls i n l → 0 < n
     → MayBegin e.puzzle e.trail l
 may_enter o some = record {
-  level = (begins_at o).0;
-  whole = (deepens o).4;
+  level = (deepens o).0.standing.stacked.0;
+  whole = (deepens o).3;
   more = omega (arith, ap (λ (l : Level). l.begun) o.level, ap (λ (l : Level). l.count) o.level, some);
 }
 
@@ -84,29 +80,34 @@ pub goes_back : (d e : Dancing) (l : Level) (vs ks : Levels) → AreStacked d.pu
     GoesOn d vs false e ks false × (visits e.puzzle e.trail ks.levels < visits d.puzzle d.trail vs.levels)
 goes_back d e l vs ks stacked top h ed ek = grind (arith, common_steps, returned, finished, oldest-oldest)
 
--- A step enters a branch, and keeps the path.
-abbrev pub Enters : Dancing → Levels → Bool → Dancing → Levels → ℕ → ℕ → Type 0
-Enters d ls x f ks i q = EntersBranch d ls x f ks i q × KeepsPath d ls (branched f i q) ks
+-- what goes on and then enters a branch enters it
+pub goes_on_to : (d e f : Dancing) (ls ks js : Levels) (x y : Bool) (i q : ℕ) → GoesOn d ls x e ks y →
+    ahead e.puzzle e.trail ks.levels y ≤ ahead d.puzzle d.trail ls.levels x → EntersBranch e ks y f js i q
+    → EntersBranch d ls x f js i q
+goes_on_to d e f ls ks js x y i q on less enters = grind (arith, common_steps)
 
--- Level l stands on the moves t, with its own on r, and has still to come what was: a branch of it is entered.
-enters : (d f : Dancing) (ls ks : Levels) (x : Bool) (l : Level) (b : Begun) (js : List Level) (t r : List Move)
-    → AreStacked d.puzzle t (l ∷ js) → r ≡ oldest l.base t
-    → coming d.puzzle d.trail ls.levels x ≡ to_give d.puzzle t (l ∷ js)
-    → visits d.puzzle t (l ∷ js) ≤ ahead d.puzzle d.trail ls.levels x
-    → ((u : List Move) → AreLed d.puzzle u d.trail ls.levels → AreLed d.puzzle u (oldest l.mark t) js)
-    → f ≡ record d { trail = f.trail } → IsEntered d.puzzle r l f.trail (begun_level b l)
-    → ks ≡ record ls { levels = begun_level b l ∷ js } → Enters d ls x f ks l.item b.place
-enters d f ls ks x l b js t r stacked base come less path ed entered ek =
+-- the next branch of the newest level is entered, and goes on with the path below the level
+pub enters_next : (d f : Dancing) (l : Level) (b : Begun) (vs ks : Levels) → AreStacked d.puzzle d.trail vs.levels
+    → vs.levels ≡ l ∷ drop 1 vs.levels → f ≡ record d { trail = f.trail }
+    → IsEntered d.puzzle (oldest l.base d.trail) l f.trail (begun_level b l)
+    → ks ≡ record vs { levels = newest_begun b vs.levels } → EntersBranch d vs false f ks l.item b.place
+    × ((u : List Move) → AreLed d.puzzle u (oldest l.mark d.trail) (drop 1 vs.levels)
+    → AreLed f.puzzle u (branched f l.item b.place).trail ks.levels)
+enters_next d f l b vs ks stacked top ef entered ek =
     let p = d.puzzle in
     let k = begun_level b l in
-    let s = oldest l.base t in
+    let js = drop 1 vs.levels in
+    let here = rw top at stacked in
+    let s = oldest l.base d.trail in
     let v = after_branch p l.item (option_at p l.item b.place) f.trail in
-    let begun : IsBegun p s l v k = subst (λ r. IsBegun p r l v k) base entered.begun in
-    let back = returned p t l js stacked in
-    let all = begun_coming p s v l k js back.0 begun in
-    let under = oldest-oldest l.mark l.base t stacked.0.within.0 stacked.0.within.1 in
-    subst (λ (f : Dancing). Enters d ls x f ks l.item b.place) (sym ed)
-    (subst (λ (ks : Levels). Enters d ls x (record d { trail = f.trail }) ks l.item b.place) (sym ek) (
+    let back = returned p d.trail l js here in
+    let all = begun_coming p s v l k js back.0 entered.begun in
+    let under = oldest-oldest l.mark l.base d.trail here.0.within.0 here.0.within.1 in
+    let levels : ks ≡ record vs { levels = k ∷ js } =
+    ek ∙ ap (λ ls. record vs { levels = newest_begun b ls }) top in
+    rw levels (subst (λ (f : Dancing). EntersBranch d vs false f (record vs { levels = k ∷ js }) l.item b.place
+    × ((u : List Move) → AreLed p u (oldest l.mark d.trail) js
+    → AreLed f.puzzle u (branched f l.item b.place).trail (k ∷ js))) (sym ef) (
       record {
         can = entered.can;
         place = entered.begun.level.place;
@@ -114,41 +115,32 @@ enters d f ls ks x l b js t r stacked base come less path ed entered ek =
           still = (refl, refl);
           standing = record {
             stacked = all.1;
-            searchable = λ e. begun.searchable;
-            shallow = λ e. shallower p s v l k js back.0 begun;
+            searchable = λ e. entered.begun.searchable;
+            shallow = λ e. shallower p s v l k js back.0 entered.begun;
           };
-          members = come ∙ sym back.1 ∙ sym all.0;
+          members = ap (to_give p d.trail) top ∙ sym back.1 ∙ sym all.0;
         };
-        less = omega (arith, all.2, back.2, less);
+        less = omega (arith, all.2, back.2, ap (visits p d.trail) top);
       },
-      λ u a. led_begun p u s v l k js begun (rw under (path u a)),
+      λ u a. led_begun p u s v l k js entered.begun (rw under a),
     ))
 
 -- a new level's first branch is entered
 pub enters_first : {d e : Dancing} {ls : Levels} {i n : ℕ} {l : Level} → Opens d e ls i n l → (f : Dancing)
     (ks : Levels) (b : Begun) → f ≡ record e { trail = f.trail }
     → IsEntered e.puzzle e.trail l f.trail (begun_level b l) → ks ≡ with_level (begun_level b l) ls
-    → Enters d ls true f ks i b.place
+    → EntersBranch d ls true f ks i b.place × KeepsPath d ls (branched f i b.place) ks
 enters_first {d} {e} {ls} {i} {n} {l} o f ks b ef entered ek =
     let down = deepens o in
     let item : l.item ≡ i = ap (λ (l : Level). l.item) o.level in
     let same : e.puzzle ≡ d.puzzle = ap (λ (e : Dancing). e.puzzle) o.spent in
-    let base : e.trail ≡ oldest l.base e.trail = rw (down.4, oldest_all e.trail) refl in
-    rw (← item) (enters d f ls ks true l b ls.levels e.trail e.trail down.0 base down.1 (omega (arith, down.2))
-    (λ u a. subst (λ t. AreLed d.puzzle u t ls.levels) (sym down.3) a)
-    (ef ∙ ap (λ (e : Dancing). record e { trail = f.trail }) o.spent)
-    (subst (λ p. IsEntered p e.trail l f.trail (begun_level b l)) same entered) ek)
-
--- the next branch of the newest level is entered
-pub enters_next : (d f : Dancing) (l : Level) (b : Begun) (vs ks : Levels) → AreStacked d.puzzle d.trail vs.levels
-    → vs.levels ≡ l ∷ drop 1 vs.levels → f ≡ record d { trail = f.trail }
-    → IsEntered d.puzzle (oldest l.base d.trail) l f.trail (begun_level b l)
-    → ks ≡ record vs { levels = newest_begun b vs.levels } → Enters d vs false f ks l.item b.place
-enters_next d f l b vs ks stacked top ef entered ek =
-    enters d f vs ks false l b (drop 1 vs.levels) d.trail (oldest l.base d.trail) (rw top at stacked) refl
-    (ap (to_give d.puzzle d.trail) top) (omega (arith, ap (visits d.puzzle d.trail) top))
-    (λ u a. (subst (AreLed d.puzzle u d.trail) top a).1) ef entered
-    (ek ∙ ap (λ ls. record vs { levels = newest_begun b ls }) top)
+    let base : oldest l.base e.trail ≡ e.trail = rw (down.3, oldest_all e.trail) refl in
+    let next = enters_next e f l b (with_level l ls) ks down.0.standing.stacked refl ef (rw base entered) ek in
+    let work = ap (λ p. visits p e.trail (l ∷ ls.levels)) same in
+    rw (← item) (
+      goes_on_to d e f ls (with_level l ls) ks true false l.item b.place down.0 (omega (arith, down.1, work)) next.0,
+      λ u a. next.1 u (rw (down.2, same) a),
+    )
 
 -- a level without branches ends at once, in the state before
 pub passes_over : {d e : Dancing} {ls : Levels} {i n : ℕ} {l : Level} → Opens d e ls i n l → (f : Dancing) → n ≡ 0
@@ -157,15 +149,9 @@ pub passes_over : {d e : Dancing} {ls : Levels} {i n : ℕ} {l : Level} → Open
 passes_over {d} {ls = ls} {i = i} {n = n} o f none ef =
     let r = residual_of d.puzzle d.trail in
     let c = chosen_item d.puzzle d.trail i n (o.standing.searchable refl).legal o.chosen in
-    let same : f ≡ d = ef ∙ ap₂ (λ (e : Dancing) t. record e { trail = t }) o.spent (deepens o).3 in
+    let same : f ≡ d = ef ∙ ap₂ (λ (e : Dancing) t. record e { trail = t }) o.spent (deepens o).2 in
     let listed = none_listed r _ (least_is_one _ _ _ c.branch) (omega (arith, c.count, none)) in
     let went = goes_behind d f ls same o.standing listed in (went.0, went.1, rw same (λ u a. a))
-
--- what goes on and then enters a branch enters it
-pub goes_on_to : (d e f : Dancing) (ls ks js : Levels) (x y : Bool) (i q : ℕ) → GoesOn d ls x e ks y →
-    ahead e.puzzle e.trail ks.levels y ≤ ahead d.puzzle d.trail ls.levels x → EntersBranch e ks y f js i q
-    → EntersBranch d ls x f js i q
-goes_on_to d e f ls ks js x y i q on less enters = grind (arith, common_steps)
 
 -- what is asked back at a level
 pub back_at : (p : Puzzle) (t r : List Move) (l : Level) (ls : List Level) → AreStacked p t (l ∷ ls)

@@ -4,7 +4,7 @@ use Rattle.xc_search.specs.declared.level.Level.{Level}
 use Rattle.xc_search.specs.Residuals.{choice_after}
 use Rattle.xc_search.proofs.stacked.Depth.{depth_at}
 use Rattle.xc_search.proofs.stacked.NextLevel.{chosen_item}
-use Rattle.xc_search.proofs.stacked.LoopSteps.{Opens, node_at, begins_at, may_enter, enters_first}
+use Rattle.xc_search.proofs.stacked.LoopSteps.{Opens, node_at, deepens, may_enter, enters_first}
 use Rattle.xc_search.proofs.stacked.LoopSteps.{passes_over}
 use Rattle.xc_search.proofs.levels.deepen.Goals as goal
 use Rattle.xc_search.proofs.levels.deepen.Goals.{In-Some, After-descend-level}
@@ -38,7 +38,8 @@ push-requires g c =
 
 pub undo_to-requires : goal.undo_to-requires
 undo_to-requires g c =
-    let stacked = begins_at (opened g (goal.at.undo_to-requires g c).After-descend-level) in grind (arith, common_steps)
+    let on = (deepens (opened g (goal.at.undo_to-requires g c).After-descend-level)).0 in
+    omega (arith, on.standing.stacked.0.within)
 
 pub returns-then-count-eq0-clause-nothing : goal.returns-then-count-eq0-clause-nothing
 returns-then-count-eq0-clause-nothing g c _ =

@@ -5,8 +5,8 @@ use Rattle.xc_search.specs.inner.Ahead.{GoesOn, visits}
 use Rattle.xc_search.proofs.paths.Led.{keeps_back}
 use Rattle.xc_search.proofs.stacked.LoopSteps.{GoesOn-trans, goes_on_to, goes_back}
 use Rattle.xc_search.proofs.levels.resume.Goals as goal
-use Rattle.xc_search.proofs.levels.resume.Goals.{In-Some, After-note_branch, After-pop}
-use Rattle.xc_search.proofs.stacked.LoopSteps.{Enters, enters_next}
+use Rattle.xc_search.proofs.levels.resume.Goals.{In-Some, After-pop}
+use Rattle.xc_search.proofs.stacked.LoopSteps.{enters_next}
 
 pub loop-level-init : goal.loop-level-init
 loop-level-init g c = grind (arith, common_steps)
@@ -22,14 +22,6 @@ enter_next-branch-requires-clause-stacked g c = grind (arith, common_steps, stac
 pub enter_next-branch-requires-clause-more : goal.enter_next-branch-requires-clause-more
 enter_next-branch-requires-clause-more g c = c.if-level.true
 
-on : (g : _) (c : After-note_branch g)
-    → Enters c.loop-level.position c.loop-level.stack false c.enter_next-branch.new.position c.note_branch.new.self
-    c.in-Some.level.now.item c.enter_next-branch.result.place
-on g c =
-    enters_next c.loop-level.position c.enter_next-branch.new.position c.in-Some.level.now c.enter_next-branch.result
-    c.loop-level.stack c.note_branch.new.self c.loop-level.invariant.goes_on.standing.stacked c.in-Some.ensures.some
-    c.enter_next-branch.ensures.still c.enter_next-branch.ensures.entered c.note_branch.ensures
-
 back : (g : _) (c : After-pop g)
     → GoesOn c.loop-level.position c.loop-level.stack false c.end_level.new.position c.pop.new.self false
     × (visits c.end_level.new.position.puzzle c.end_level.new.position.trail c.pop.new.self.levels < visits
@@ -38,12 +30,17 @@ back g c = grind (arith, common_steps, goes_back)
 
 pub returns-then-level-clause-resumed : goal.returns-then-level-clause-resumed
 returns-then-level-clause-resumed g c =
-    goes_on_to _ _ _ _ _ _ false false _ _ c.loop-level.invariant.goes_on c.loop-level.invariant.less (on g
-    (goal.at.returns-then-level-clause-resumed g c).After-note_branch).0
+    goes_on_to _ _ _ _ _ _ false false _ _ c.loop-level.invariant.goes_on c.loop-level.invariant.less
+    (enters_next c.loop-level.position c.enter_next-branch.new.position c.in-Some.level.now c.enter_next-branch.result
+    c.loop-level.stack c.note_branch.new.self c.loop-level.invariant.goes_on.standing.stacked c.in-Some.ensures.some
+    c.enter_next-branch.ensures.still c.enter_next-branch.ensures.entered c.note_branch.ensures).0
 
 pub returns-then-level-clause-resumed_path : goal.returns-then-level-clause-resumed_path
 returns-then-level-clause-resumed_path g c = λ u a.
-    (on g (goal.at.returns-then-level-clause-resumed_path g c).After-note_branch).1 u (c.loop-level.invariant.path u a)
+    (enters_next c.loop-level.position c.enter_next-branch.new.position c.in-Some.level.now c.enter_next-branch.result
+    c.loop-level.stack c.note_branch.new.self c.loop-level.invariant.goes_on.standing.stacked c.in-Some.ensures.some
+    c.enter_next-branch.ensures.still c.enter_next-branch.ensures.entered c.note_branch.ensures).1 u
+    (rw c.in-Some.ensures.some at (c.loop-level.invariant.path u a)).1
 
 pub loop-level-smaller : goal.loop-level-smaller
 loop-level-smaller g c = (back g c).1
