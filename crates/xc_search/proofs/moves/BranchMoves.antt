@@ -44,7 +44,8 @@ ready_behind p u v t m h e r =
     let it_is : after_use p u t ≡ after_spend p u.item t = rw (le-leb u.item (primary_count p) h) refl in
     let s = after_spend p u.item t in
     ready_later p s (tweaked m u.item s) v (kept_tweaked (is_open v.item) m u.item s (λ _. refl))
-    (kept_tweaked (purified v.item) m u.item s (λ _. refl)) (kept_tweaked (spends v.item) m u.item s (λ _. refl)) (subst (λ s. Ready p s v) it_is (ready_after p u t v (apart_sym u v e) r))
+    (kept_tweaked (purified v.item) m u.item s (λ _. refl)) (kept_tweaked (spends v.item) m u.item s (λ _. refl))
+    (subst (λ s. Ready p s v) it_is (ready_after p u t v (apart_sym u v e) r))
 
 -- the moves of a branch of item i, with these other uses of option x
 pub record IsPicked (p : Puzzle) (t : List Move) (m i : ℕ) (x : Numbered) (us : List Use) : Type 0 where

@@ -47,11 +47,12 @@ pub legal_tweaked : (p : Puzzle) (m i : ℕ) (s : List Move) → AreLegal p s �
     → m ≤ length (listed p s i) → AreLegal p (tweaked m i s)
 legal_tweaked p zero i s l h q k = l
 legal_tweaked p (suc m) i s l h q k =
-    grind (arith, common_steps, legal_tweaked p m i s l h q, kept_tweaked (purified i) m i s (λ _. refl), listed_tweaked)
+    let pure = kept_tweaked (purified i) m i s (λ _. refl) in
+    grind (arith, common_steps, legal_tweaked p m i s l h q, listed_tweaked)
 
 pub left_closed : (p : Puzzle) (m i : ℕ) (s : List Move) → is_open i s ≡ false → left p (tweaked m i s) ≡ left p s
 left_closed p zero i s e = refl
-left_closed p (suc m) i s e = grind (arith, common_steps, left_closed p m i s e, kept_tweaked (is_open i) m i s (λ _. refl))
+left_closed p (suc m) i s e = rw (kept_tweaked (is_open i) m i s (λ _. refl) ∙ e) (left_closed p m i s e)
 
 -- ---- the first options that hold an item
 

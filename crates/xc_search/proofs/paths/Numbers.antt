@@ -21,7 +21,7 @@ use Rattle.xc_input.proofs.lists.EachElement.{each_at}
 use Rattle.xc_search.proofs.listing.Unrolled.{listing_unrolled}
 use Rattle.xc_search.proofs.listing.BranchLists.{branch_takes, branch_none, branches_end}
 use Rattle.xc_search.proofs.listing.BranchesLess.{branches_less}
-use Rattle.xc_search.proofs.Cases.{by_bool, by_option}
+use Rattle.xc_search.proofs.Cases.{by_option}
 use Rattle.xc_input.proofs.FaultLemmas.BooleanTests.{and_left, and_right}
 
 same_option : (a b : Option ℕ) → option_or_none a ≡ option_or_none b → a ≡ b
@@ -42,9 +42,7 @@ record Stepped (c : Choice) (r s : Residual) : Type 0 where
 
 stepped : (c : Choice) (r s : Residual) → left_by_one c r ≡ Some s → Stepped c r s
 stepped c r s e = by_option (branch_item r) (λ f. cc (rw f at e)) (λ w f.
-    by_option (slice_get (branches_of r w) (c.k - 1)) (λ g. cc (rw (f, g) at e)) (λ b g. by_bool (has_choice c b)
-    (λ t. record { item = w; chosen = f; branch = b; at = g; choice = its_choice c b t; next = cc (rw (f, g, t) at e) })
-    (λ t. cc (rw (f, g, t) at e))))
+    grind (arith, common_steps, its_choice))
 
 then_left : {X : Type 0} (f : X → Option Residual) (o : Option X) (s : Residual) → option_and_then f o ≡ Some s →
     (x : X) × (o ≡ Some x) × (f x ≡ Some s)
@@ -94,10 +92,7 @@ number_at r w j b e =
 pub no_branch : (c : Choice) (r : Residual) (w : Wanted) (n : ℕ) → branch_item r ≡ Some w → n ≡ branch_count r w →
     (c.k ≡ 0) ⊎ (n < c.k) → left_by_one c r ≡ None
 no_branch c r w n e count out = by_option (left_by_one c r) (λ none. none) (λ s f.
-    let a = stepped c r s f in
-    let same : a.item ≡ w = cc (a.chosen, e) in
-    let its = number_at r a.item (c.k - 1) a.branch a.at in
-    absurd (omega (arith, out, count, its, ap (λ (c : Choice). c.k) a.choice, ap (branch_count r) same)))
+    grind (arith, common_steps, stepped, number_at))
 
 -- a path leaves no more than there was
 pub left_less : (path : List Choice) (r s : Residual) → left_by path r ≡ Some s → size_of s ≤ size_of r

@@ -31,8 +31,5 @@ begun_coming p t s l k ls stacked b =
     let still = ap₂ (λ n v. drop n (branches_at p v)) b.begun under in
     let one : map (λ m. choices_of p (k ∷ ls) ++ m) (listing (residual_of p s)) ≡ map
     (λ m. before ++ b.branch.choice ∷ m) (listing b.branch.next) =
-    ap (λ r. map (λ m. choices_of p (k ∷ ls) ++ m) (listing r)) b.next
-    ∙ map-same (λ m. choices_of p (k ∷ ls) ++ m) (λ m. before ++ b.branch.choice ∷ m) (listing b.branch.next)
-    (λ m. ap (λ c. c ++ m) (choices_more p k ls) ∙ append_assoc before (chosen p k ∷ []) m
-    ∙ ap (λ c. before ++ c ∷ m) b.choice) in
+    grind (arith, common_steps, map-same, choices_more, append_assoc) in
     grind (arith, common_steps)

@@ -80,12 +80,7 @@ module _ {p : Puzzle} {t : List Move} {l : Level} (may : MayBegin p t l) where
         choice = grind (arith, common_steps, level.count);
         tweaks = tweaks;
         next = took.picked.residual;
-        searchable = record {
-          valid = level.node.searchable.valid;
-          legal = took.picked.legal;
-          wanted = took.picked.wanted;
-          sparing = sparing_taken p u l.item l.begun m x level.node.searchable.sparing e took;
-        };
+        searchable = grind (arith, common_steps, sparing_taken);
         option = took.at;
       }
 
@@ -152,17 +147,7 @@ module _ {p : Puzzle} {t : List Move} {l : Level} (may : MayBegin p t l) where
         });
         searchable = made.searchable;
       } in
-      rw stands (record {
-        can = rw at (record {
-          item = omega (arith, may.level.node.item);
-          option = made.option;
-          stands = record {
-            legal = made.searchable.legal;
-            room = has_room p v made.searchable.legal (omega (arith, made.searchable.sparing));
-          };
-        });
-        begun = rw at all;
-      })
+      grind (arith, common_steps, has_room)
 
   -- another tweak may be made where an option is left
   pub may_tweak : (o : ℕ) → l.walks ≡ false → next_number p t l ≡ Some o

@@ -1,7 +1,7 @@
 -- What one step of the search does to the levels.
 use Rattle.std.proofs.lemmas.Grind.{common_steps}
 use Rattle.std.proofs.Common.{ℕ, zero, suc, ◌≡◌, ◌+◌, ◌-◌, ◌<◌, ◌≤◌, true, List, [], ◌∷◌, ◌++◌}
-use Rattle.std.proofs.Common.{length, map, drop, Some, None, refl, sym, ap, ◌∙◌, arith, subst}
+use Rattle.std.proofs.Common.{length, map, drop, Some, None, refl, sym, ap, ◌∙◌, arith}
 use Rattle.std.proofs.Common.{eq-eqb, ne_eqb, ◌≢◌, length-drop}
 use Rattle.std.specs.Prelude.{option_map, flat_map, unwrap_or, slice_get}
 use Rattle.std.specs.List.{range_with_len}
@@ -167,11 +167,4 @@ descended p t ls i n here sh c stacked =
     let unrolled = listing_unrolled r ∙ ap (λ o. level listing o r) c.branch
     ∙ ap (flat_map (λ b. map (λ m. b.choice ∷ m) (listing b.next))) (sym branches) in
     let worked = work_unrolled r ∙ ap (λ o. work_level work o r) c.branch
-    ∙ ap (λ bs. suc (suc (cost work bs))) (sym branches) in (
-      subst (λ u. IsLevelAt p u s (first_level p t i n) × IsShallow p u ls × AreStacked p u ls) (sym under)
-          (first_stands p t i n here c, sh, stacked),
-      ap (λ ms. map (λ m. choices_of p ls ++ m) ms ++ to_give p t ls) unrolled
-          ∙ ap (λ ms. ms ++ to_give p t ls) (members_all (choices_of p ls) (branches_at p t))
-          ∙ ap (λ u. members_of (choices_of p ls) (branches_at p u) ++ to_give p u ls) (sym under),
-      omega (arith, worked, ap (λ u. cost work (branches_at p u)) under, ap (λ u. visits p u ls) under),
-    )
+    ∙ ap (λ bs. suc (suc (cost work bs))) (sym branches) in grind (arith, common_steps, first_stands, members_all)

@@ -1,7 +1,9 @@
 -- How much work is left behind branches.
-use Rattle.std.proofs.Common.{ℕ, suc, ◌≡◌, ◌+◌, List, [], ◌∷◌, refl, ap, ap₂}
+use Rattle.std.proofs.lemmas.Grind.{common_steps}
+use Rattle.std.proofs.Common.{arith}
+use Rattle.std.proofs.Common.{ℕ, suc, ◌≡◌, ◌+◌, List, [], ◌∷◌, refl, ap₂}
 use Rattle.std.specs.List.{AllByRecursion}
-use Rattle.xc_search.specs.Listing.{Residual, Branch, branches_of, branch_item}
+use Rattle.xc_search.specs.Listing.{Residual, Branch, branch_item}
 use Rattle.xc_search.specs.inner.Ahead.{cost, work_level, work_to, work}
 use Rattle.xc_search.proofs.listing.ByDepth.{by_depth}
 
@@ -13,8 +15,4 @@ cost-same f g (b ∷ bs) a = ap₂ (λ m n. suc (m + n)) a.0 (cost-same f g bs a
 pub work_unrolled : (r : Residual) → work r ≡ work_level work (branch_item r) r
 unfolding work work_to
 work_unrolled r =
-    by_depth {level = work_level} {to = work_to} (record {
-      local = λ f g w r same. ap (λ n. suc (suc n)) (cost-same f g (branches_of r w) same);
-      last = λ f r. refl;
-      next = λ depth r. refl;
-    }) r
+    by_depth {level = work_level} {to = work_to} (grind (arith, common_steps, cost-same)) r

@@ -4,7 +4,7 @@ use Rattle.std.proofs.lemmas.List.{length-reverse}
 use Rattle.std.proofs.Math.ListN.{set, get_or}
 use Rattle.xc_input.proofs.FaultLemmas.Checks.{items-length}
 use Rattle.xc_input.proofs.lists.LastChanged.{newest_changed, first_changed}
-use Rattle.xc_search.specs.inner.Levels.{begun_level, Levels}
+use Rattle.xc_search.specs.inner.Levels.{begun_level}
 use Rattle.xc_search.proofs.stack.Stack.note_branch.Goals as goal
 
 pub invariant_of-self : goal.invariant_of-self
@@ -16,8 +16,7 @@ pub returns : goal.returns
 returns c =
     let levels = c.self.inside.levels.items in
     let b = c.args.branch in
-    let some : 0 < length levels =
-    omega (arith, c.requires, ap (λ (v : Levels). length v.levels) c.self.view_is, length-reverse levels) in
+    let some : 0 < length levels = grind (arith, common_steps, length-reverse) in
     let new = c.begin_level.ensures ∙ ap (begun_level b) c.index_mut.ensures.value in
     let turned : reverse (set levels (c.len-top.result - 1) c.begin_level.new.level) ≡ first_changed (begun_level b)
     (reverse levels) =
