@@ -5,7 +5,6 @@ pub mod OutputLemmas
 pub mod NextPrinted
 pub mod Outputs
 pub mod PageLemmas
-pub mod PartWordLemmas
 pub mod Planned
 pub mod TextLemmas
 pub mod Writing

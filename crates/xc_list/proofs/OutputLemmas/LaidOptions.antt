@@ -1,5 +1,6 @@
 -- Texts of options laid out one behind another.
-use Rattle.xc_dance.proofs.Copied.{take_more-get}
+use Rattle.xc_input.proofs.lists.Places.{drop_at}
+use Rattle.std.proofs.Common.{add-one}
 use Rattle.std.proofs.lemmas.Option.{slice_get-map, get_or_from_slice_get}
 use Rattle.xc_input.proofs.OptionLemmas.FlatParts.{numbered_get-at}
 use Rattle.xc_list.proofs.CheckLemmas.ListedNumbers.{numbered_some}
@@ -23,10 +24,10 @@ use Rattle.xc_input.proofs.OptionLemmas.FlatParts.{length-pieces, option_part, p
 use Rattle.xc_list.specs.Output.{from_item}
 use Rattle.xc_list.specs.inner.Layout.{AreLaid, ArePadded, first_item, uses_text}
 
--- the option behind the first ones
-pub next_option : (os : List (List Use)) (o : ℕ) (us : List Use) → numbered_get os (o + 1) ≡ Some us
-    → take (o + 1) os ≡ take o os ++ us ∷ []
-next_option os o us e = take_more-get os o us (sym (numbered_get-at os (o + 1) o (omega arith)) ∙ e)
+-- the options behind the first ones
+pub options_left : (os : List (List Use)) (o : ℕ) (us : List Use) → numbered_get os (o + 1) ≡ Some us
+    → drop o os ≡ us ∷ drop (o + 1) os
+options_left os o us e = rw add-one (drop_at os o us (sym (numbered_get-at os (o + 1) o (omega arith)) ∙ e))
 
 -- as many starts as options, and the length
 pub laid-count : (a : Named) (os : List (List Use)) (texts starts : List ℕ) → AreLaid a os texts starts
