@@ -15,47 +15,31 @@ pub overflow_sub-count : goal.overflow_sub-count
 overflow_sub-count c = cut (goal.at.overflow_sub-count c).After-place_in_text-place
 
 pub overflow_add-from : goal.overflow_add-from
-overflow_add-from c =
-    omega (arith, cut (goal.at.overflow_add-from c).After-place_in_text-place, c.span_of-from.ensures.few)
+overflow_add-from c = omega (arith, cut (goal.at.overflow_add-from c).After-place_in_text-place)
 
 pub put_part-requires-clause-padded : goal.put_part-requires-clause-padded
 put_part-requires-clause-padded c =
     let within = cut (goal.at.put_part-requires-clause-padded c).After-place_in_text-place in
-    omega (arith, c.span_of-from.ensures.within, ap length c.deref.ensures.value)
+    omega (arith, ap length c.deref.ensures.value)
 
 pub overflow_sub-count-then-place-gt0 : goal.overflow_sub-count-then-place-gt0
 overflow_sub-count-then-place-gt0 c = cut (goal.at.overflow_sub-count-then-place-gt0 c).After-place_in_text-place
 
-pub put_part-requires-then-place-gt0-clause-room : goal.put_part-requires-then-place-gt0-clause-room
-put_part-requires-then-place-gt0-clause-room c =
-    let within = cut (goal.at.put_part-requires-then-place-gt0-clause-room c).After-place_in_text-place in
+pub put_part-requires-then-place-gt0 : goal.put_part-requires-then-place-gt0
+put_part-requires-then-place-gt0 c =
+    let within = cut (goal.at.put_part-requires-then-place-gt0 c).After-place_in_text-place in
     let long = span-length _ _ _ c.span_of-from.ensures.within in
-    omega (arith, ap length c.span_of-from.ensures.text, c.put_part.ensures.size, c.requires.room.0, c.requires.room.1)
-
-pub put_part-requires-then-place-gt0-clause-padded : goal.put_part-requires-then-place-gt0-clause-padded
-put_part-requires-then-place-gt0-clause-padded c =
-    let within = cut (goal.at.put_part-requires-then-place-gt0-clause-padded c).After-place_in_text-place in
-    omega (arith, c.span_of-from.ensures.within, ap length c.deref-then-place-gt0.ensures.value)
+    omega (arith, ap length c.span_of-from.ensures.text, ap length c.deref-then-place-gt0.ensures.value)
 
 pub returns-clause-put : goal.returns-clause-put
 returns-clause-put c =
-    let a = c.args.problem.now in
-    let texts = c.args.layout.now.texts.items in
-    let from = c.span_of-from.result.0 in
-    let count = c.span_of-from.result.1 in
-    let place = c.place_in_text-place.result in
-    let at = c.args.at in
-    let one = c.put_part.new.page in
-    let first : take (at + (count - place)) one ≡ take at c.args.page.now ++ take (count - place) (drop (from + place)
-    texts) = cc (c.put_part.ensures.put, c.deref.ensures.value) in
-    let all = text_put a c.args.item (uses_of a.puzzle c.args.o) texts _ one c.if-place-gt0.page at from count place
-    c.span_of-from.ensures.text (rw c.uses_at.ensures.value at c.place_in_text-place.ensures)
-    c.span_of-from.ensures.within first in
+    let at = c.args.at + (c.span_of-from.result.1 - c.place_in_text-place.result) in
+    let all = text_put c.args.problem.now c.args.item _ c.args.layout.now.texts.items c.args.page.now
+    c.put_part.new.page c.if-place-gt0.page c.args.at _ _ c.place_in_text-place.result c.span_of-from.ensures.text
+    (rw c.uses_at.ensures.value at c.place_in_text-place.ensures) c.span_of-from.ensures.within
+    (rw c.deref.ensures.value at c.put_part.ensures.put) in
     elim c.if-place-gt0.branch [
       | then-place-gt0 w ↦ all
-          (ap (take (at + (count - place) + place)) w.page-is ∙ w.put_part-then-place-gt0.ensures.put
-          ∙ ap (λ ts. take (at + (count - place)) one ++ take place (drop from ts))
-          w.deref-then-place-gt0.ensures.value)
-      | else-place-gt0 w ↦ all
-          (ap (take (at + (count - place) + place)) w.page-is ∙ nothing_put _ _ _ _ w.if-place-gt0.false)
+          (cc (w.page-is, w.put_part-then-place-gt0.ensures.put, w.deref-then-place-gt0.ensures.value))
+      | else-place-gt0 w ↦ all (rw w.page-is (nothing_put _ _ at _ w.if-place-gt0.false))
     ]

@@ -8,23 +8,16 @@ use Rattle.xc_list.proofs.bodies.put_text.Goals as goal
 
 pub put_cut-requires-clause-room : goal.put_cut-requires-clause-room
 put_cut-requires-clause-room c =
-    let long = span-length _ _ _ c.span_of-from.ensures.within in
-    (omega (arith, c.if-at-count-gt-ROOM.false, ap length c.span_of-from.ensures.text), c.requires.room.1)
+    omega (arith, span-length _ _ _ c.span_of-from.ensures.within, ap length c.span_of-from.ensures.text)
 
 pub index-first-requires : goal.index-first-requires
 index-first-requires c =
-    let count = items-length c.args.layout.now.firsts in
-    grind (arith, nat_tests, firsts-length _ _ c.requires.firsts, c.requires.known.0, c.requires.known.1)
+    omega (arith, items-length c.args.layout.now.firsts, firsts-length _ _ c.requires.firsts)
 
 pub put_part-requires-clause-padded : goal.put_part-requires-clause-padded
 put_part-requires-clause-padded c = omega (arith, c.span_of-from.ensures.within, ap length c.deref.ensures.value)
 
 pub returns-then-first-item-clause-put : goal.returns-then-first-item-clause-put
 returns-then-first-item-clause-put c =
-    let a = c.args.problem.now in
-    let from = c.span_of-from.result.0 in
-    let count = c.span_of-from.result.1 in
-    let us = uses_of a.puzzle c.args.o in
-    let is : first_item us ≡ c.args.item = first_read _ _ _ _ c.requires.firsts c.requires.known
-    c.index-first.ensures ∙ c.if-first-item.true in
-    cc (c.put_part.ensures.put, c.deref.ensures.value, c.span_of-from.ensures.text, from_first c.args.item us is)
+    let first = first_read _ _ _ _ c.requires.firsts c.requires.known c.index-first.ensures ∙ c.if-first-item.true in
+    cc (c.put_part.ensures.put, c.deref.ensures.value, c.span_of-from.ensures.text, from_first c.args.item _ first)
