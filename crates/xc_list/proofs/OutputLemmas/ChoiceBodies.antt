@@ -86,23 +86,6 @@ module _ (p : Named) (sound : IsSound p) where
       plain-append (bytes_at p.names u.item) (colour_text p.colours u.colour) (plain-name u.item known.0) colour.0
       colour.1
 
-  told-option : (i o : ℕ) → IsOption p.puzzle o → is_some (colour_in (uses_of p.puzzle o) i) ≡ true
-      → IsTold p i (Some o)
-  told-option i o is held =
-      let us = uses_of p.puzzle o in
-      let k = place_in i us in
-      let within = place-within i us held in
-      let known = known_option p.puzzle p.colours o us sound.valid sound.coloured (numbered_some _ _ _ is.0 is.1) in
-      let all = recursion_from_All _ _ (All-turned (IsKnownUse p) k us known) in
-      let stands = is-body p (body_words p i (Some o)) us k within refl in
-      let known : is_known p (body_words p i (Some o)) ≡ true = any-in _ _ _ (uses-in p.puzzle o is) stands in
-      record {
-        some = omega (arith, length-map (rotated_at k us) (use_word p), length-turned k us, within);
-        plain = each-map _ _ _ (each_weaker _ _ _ plain-use all);
-        accepted = rw known refl;
-        stands = (known, stands);
-      }
-
   module _ (none : All (λ n. n ≢ codes "null") p.names) where
     -- no use has the word null
     not_null : (us : List Use) (ws : List (List ℕ)) → All (IsKnownUse p) us
@@ -121,9 +104,24 @@ module _ (p : Named) (sound : IsSound p) where
         let turned = body-is p _ us.0 us.2 in
         not_null (rotated_at turned.0 us.0) ws (All-turned (IsKnownUse p) turned.0 us.0 known) turned.2)
 
-    told-none : (i : ℕ) → IsPrimary p.puzzle i → IsTold p i None
-    told-none zero primary = absurd (omega (arith, primary.0))
-    told-none (suc j) primary =
+    told-at : (i : ℕ) (o : Option ℕ) → IsPrimary p.puzzle i → MatchOption o (Unit {0}) (λ o. IsOption p.puzzle o
+        × (is_some (colour_in (uses_of p.puzzle o) i) ≡ true)) → IsTold p i o
+    told-at i (Some o) primary h =
+        let us = uses_of p.puzzle o in
+        let k = place_in i us in
+        let within = place-within i us h.1 in
+        let known = known_option p.puzzle p.colours o us sound.valid sound.coloured (numbered_some _ _ _ h.0.0 h.0.1) in
+        let all = recursion_from_All _ _ (All-turned (IsKnownUse p) k us known) in
+        let stands = is-body p (body_words p i (Some o)) us k within refl in
+        let known : is_known p (body_words p i (Some o)) ≡ true = any-in _ _ _ (uses-in p.puzzle o h.0) stands in
+        record {
+          some = omega (arith, length-map (rotated_at k us) (use_word p), length-turned k us, within);
+          plain = each-map _ _ _ (each_weaker _ _ _ plain-use all);
+          accepted = rw known refl;
+          stands = (known, stands);
+        }
+    told-at zero None primary h = absurd (omega (arith, primary.0))
+    told-at (suc j) None primary h =
         let name = bytes_at p.names (suc j) in
         let at = numbered_some p.names (suc j) [] primary.0 (omega (arith, primary.1, sound.named.count)) in
         let first = get_take (primary_count p.puzzle) p.names j (omega (arith, primary.1)) ∙ at in
@@ -142,8 +140,4 @@ module _ (p : Named) (sound : IsSound p) where
         }
 
     pub told : (c : Choice) → IsKnownChoice p.puzzle c → IsTold p c.item c.option
-    told c known = (elim c.option as (λ o. MatchOption o (Unit {0}) (λ o. IsOption p.puzzle o
-        × (is_some (colour_in (uses_of p.puzzle o) c.item) ≡ true)) → IsTold p c.item o) [
-          | None ↦ λ h. told-none c.item known.0
-          | Some o ↦ λ h. told-option c.item o h.0 h.1
-        ]) known.1
+    told c known = told-at c.item c.option known.0 known.1

@@ -18,6 +18,7 @@ use Rattle.std.specs.List.{AllByRecursion}
 use Rattle.xc_input.specs.Named.{Named, IsSound}
 use Rattle.xc_input.specs.Lines.{lines_of}
 use Rattle.xc_search.specs.declared.choice.Choice.{Choice}
+use Rattle.xc_search.proofs.Cases.{by_option}
 use Rattle.xc_search.specs.Cover.{IsCover, options_of, members}
 use Rattle.xc_search.proofs.completeness.Covering.{each_member_covers}
 use Rattle.xc_list.specs.Output.{member_text, is_printed, output}
@@ -30,7 +31,7 @@ use Rattle.xc_list.specs.Listed.{fault_in_lines, solutions_of, IsListedCover}
 use Rattle.xc_list.proofs.OutputLemmas.KnownMembers.{IsCounted, each_numbered}
 use Rattle.xc_list.proofs.OutputLemmas.OutputLines.{choice_words, choice_line, header_line, output_lines}
 use Rattle.xc_list.proofs.OutputLemmas.OutputLines.{lines_of-members, read-choice_line}
-use Rattle.xc_list.proofs.OutputLemmas.OutputLines.{read-header_line}
+use Rattle.xc_list.proofs.OutputLemmas.ReadLines.{read-header}
 use Rattle.xc_list.proofs.OutputLemmas.ChoiceBodies.{told}
 
 -- ---- faults
@@ -50,7 +51,7 @@ no_fault-members : (p : Named) (n : ℕ) (nms : List (ℕ × List Choice)) → A
 no_fault-members p n [] all = refl
 no_fault-members p n (nm ∷ nms) all =
     let first = lines-cons p n (header_line nm.0) (map (choice_line p) nm.1 ++ output_lines p nms) in
-    rw (first, read-header_line nm.0 all.0.number)
+    rw (first, read-header nm.0 all.0.number)
     (no_fault-choices p (n + 1) nm.1 (output_lines p nms) (omega arith) all.0.choices
     (λ k h. no_fault-members p k nms all.1))
 
@@ -74,7 +75,7 @@ listing_of-members p [] all = refl
 listing_of-members p (nm ∷ nms) all =
     let choices = listing_of-choices p nm.1 (output_lines p nms) all.0.choices in
     let others = listing_of-members p nms all.1 in
-    rw (read-header_line nm.0 all.0.number, choices, others, append-nil (map (choice_words p) nm.1))
+    rw (read-header nm.0 all.0.number, choices, others, append-nil (map (choice_words p) nm.1))
 
 -- ---- covers
 
@@ -82,18 +83,9 @@ each_stands : (p : Named) (m : List Choice) → AllByRecursion (IsReadable p) m
     → AllZip (λ words o. IsTrue (stands_for p words o)) (filter (is_known p) (map (choice_words p) m)) (options_of m)
 each_stands p [] all = tt
 each_stands p (c ∷ m) all =
-    by_option c.option (choice_words p c) all.0.told.stands (each_stands p m all.1)
-  where
-    rest : List (List (List ℕ))
-    rest = filter (is_known p) (map (choice_words p) m)
-
-    by_option : (o : Option ℕ) (words : List (List ℕ))
-        → MatchOption o (is_known p words ≡ false) (λ j. (is_known p words ≡ true) × (stands_for p words j ≡ true))
-        → AllZip (λ words o. IsTrue (stands_for p words o)) rest (options_of m)
-        → AllZip (λ words o. IsTrue (stands_for p words o)) (cond (is_known p words) (words ∷ rest) rest)
-        (cons_option o (options_of m))
-    by_option None words h later = rw h later
-    by_option (Some j) words h later = rw h.0 (h.1, later)
+    let rest = each_stands p m all.1 in
+    by_option c.option (λ e. let none = rw e at all.0.told.stands in rw (e, none) rest) (λ o e.
+    let some = rw e at all.0.told.stands in rw (e, some.0) (some.1, rest))
 
 listed_cover : (p : Named) (nm : ℕ × List Choice) → IsReadableMember p nm → IsListedCover p (solution_of p nm).bodies
 listed_cover p nm h = (options_of nm.1, each_stands p nm.1 h.choices, h.cover)
@@ -121,9 +113,8 @@ IsNumberedMember p nm = (nm.0 < 2 ^ 64) × IsIn (members p.puzzle) nm.1
 each_yes : (p : Named) (ss : List Solution) (vs : List Verdict) → AllByRecursion (λ s. IsListedCover p s.bodies) ss
     → AllZip (IsVerdictOn p) ss vs → AllByRecursion (λ v. IsTrue v.cover) vs
 each_yes p [] [] covers h = tt
-each_yes p [] (v ∷ vs) covers h = absurd h
-each_yes p (s ∷ ss) [] covers h = absurd h
 each_yes p (s ∷ ss) (v ∷ vs) covers h = (h.0.1.1 covers.0, each_yes p ss vs covers.1 h.1)
+each_yes p _ _ covers h = absurd h
 
 module _ (p : Named) (sound : IsSound p) (none : All (λ n. n ≢ codes "null") p.names) where
   readable : (c : Choice) → IsCounted p.puzzle c → IsReadable p c

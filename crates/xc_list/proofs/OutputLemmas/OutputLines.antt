@@ -15,8 +15,8 @@ use Rattle.xc_input.specs.inner.EndedLines.{ended, AreWhole}
 use Rattle.xc_input.proofs.LineLemmas.TextLines.{lines_of-ended}
 use Rattle.xc_search.specs.declared.choice.Choice.{Choice}
 use Rattle.xc_list.specs.Output.{bytes_at, from_item, use_word, body_text, choice_text, member_text}
-use Rattle.xc_list.specs.inner.ReadLines.{Header, Body, read}
-use Rattle.xc_list.proofs.OutputLemmas.ReadLines.{spaced, ending_words, read-header, no_feed-header}
+use Rattle.xc_list.specs.inner.ReadLines.{Body, read}
+use Rattle.xc_list.proofs.OutputLemmas.ReadLines.{spaced, ending_words, no_feed-header}
 use Rattle.xc_list.proofs.OutputLemmas.ReadLines.{read-choice}
 
 abbrev pub choice_words : Named → Choice → List (List ℕ)
@@ -72,9 +72,6 @@ member-ended p nm =
 pub read-choice_line : (p : Named) (c : Choice) → IsReadable p c → (read (choice_line p c) ≡ Body (choice_words p c))
     × (has 10 (choice_line p c) ≡ false)
 read-choice_line p c h = read-choice (choice_words p c) c.k c.n h.told.some h.told.plain h.k h.n
-
-pub read-header_line : (n : ℕ) → n < 2 ^ 64 → read (header_line n) ≡ Header n
-read-header_line n h = read-header n h
 
 choices-whole : (p : Named) (m : List Choice) → AllByRecursion (IsReadable p) m → AreWhole (map (choice_line p) m)
 choices-whole p [] all = tt

@@ -4,12 +4,13 @@ use Rattle.std.proofs.lemmas.Fmt.{decimal_nonempty, digits_value-decimal, digits
 use Rattle.std.proofs.Common.{flat_map}
 use Rattle.std.proofs.Common.{rules}
 use Rattle.std.proofs.Common.{◌≡◌, ℕ, ◌-◌, ◌^◌, ◌<◌, ◌≤◌, Bool, true, false, not}
-use Rattle.std.proofs.Common.{nat_eq, List, [], ◌∷◌, ◌++◌, Option, None, Some, length, refl, ap, ◌∙◌}
+use Rattle.std.proofs.Common.{nat_eq, List, [], ◌∷◌, ◌++◌, Option, None, Some, length, refl, ap, sym, ◌∙◌}
 use Rattle.std.proofs.Common.{arith, length-append}
 use Rattle.xc_input.proofs.TokenLemmas.DecimalValues.{value_from}
 use Rattle.std.specs.Prelude.{codes, decimal, nat_le, ◌==◌, if◌then◌else◌}
 use Rattle.std.specs.List.{list_all, list_any}
 use Rattle.std.proofs.lemmas.Bool.Decides.{nat_tests}
+use Rattle.std.proofs.lemmas.Grind.{common_steps}
 use Rattle.std.proofs.lemmas.Fmt.{length-decimal-le}
 use Rattle.xc_input.proofs.lists.EachElement.{each-append}
 use Rattle.std.specs.List.{AllByRecursion}
@@ -20,7 +21,7 @@ use Rattle.xc_input.specs.Tokens.{is_space}
 use Rattle.xc_input.proofs.GrammarLemmas.NoFault.{or-both, and-true, and-both}
 use Rattle.std.specs.Char.{is_ascii_digit}
 use Rattle.xc_list.specs.Settings.{long_number}
-use Rattle.xc_list.proofs.CheckLemmas.CutBodies.{last_byte}
+use Rattle.xc_list.proofs.CheckLemmas.CutBodies.{last_is}
 use Rattle.xc_list.proofs.Digits.{some_digits}
 use Rattle.xc_list.specs.ListingLines.{words_in, before_last, header_number, is_word}
 use Rattle.xc_list.specs.ListingLines.{is_ending, body_of_words}
@@ -42,37 +43,20 @@ are_digits-decimal k n h l m =
 lacks : (p q : ℕ → Bool) → ((b : ℕ) → p b ≡ true → q b ≡ false) → (bs : List ℕ) → list_all p bs ≡ true
     → list_any q bs ≡ false
 lacks p q apart [] h = refl
-lacks p q apart (b ∷ bs) h = let both = and-true (p b) (list_all p bs) h in
-    or-both (q b) (list_any q bs) (apart b both.0) (lacks p q apart bs both.1)
-
-digit-no_space : (b : ℕ) → is_ascii_digit b ≡ true → is_space b ≡ false
-digit-no_space b h = grind (arith, nat_tests)
-
-digit-no_feed : (b : ℕ) → is_ascii_digit b ≡ true → nat_eq b 10 ≡ false
-digit-no_feed b h = grind (arith, nat_tests)
+lacks p q apart (b ∷ bs) h = grind (arith, nat_tests, apart b, lacks p q apart bs)
 
 -- ---- headers
 
-same : (b : ℕ) → (b == b) ≡ true
-same b = grind (arith, nat_tests)
-
 before_last-last : (b : ℕ) (front : List ℕ) → before_last b (front ++ b ∷ []) ≡ Some front
-before_last-last b front = last_byte b b front ∙ ap (λ t. if t then Some front else None) (same b)
+before_last-last b front = sym (last_is b b (front ++ b ∷ []) front refl refl)
 
--- the number of one to twenty digits, where it fits
-abbrev solution_number : List ℕ → Option ℕ
-solution_number text = if nat_le (length text) 20 then long_number text else None
-
-solution_number-decimal : (n : ℕ) → n < 2 ^ 64 → solution_number (decimal n) ≡ Some n
-solution_number-decimal n h =
+pub read-header : (n : ℕ) → n < 2 ^ 64 → read (decimal n ++ codes ":") ≡ Header n
+read-header n h =
     let short = length-decimal-le 20 n (omega arith) (omega (arith, h)) h in
     let value = digits_value-decimal digits_read n h in
     let digits = digits_decimal digits_read n h in
     let some = some_digits (decimal n) (decimal_nonempty n h) in
-    grind (arith, nat_tests)
-
-pub read-header : (n : ℕ) → n < 2 ^ 64 → read (decimal n ++ codes ":") ≡ Header n
-read-header n h = grind (arith, nat_tests, before_last-last COLON (decimal n), solution_number-decimal n h)
+    grind (arith, nat_tests, before_last-last COLON (decimal n))
 
 -- ---- words
 
@@ -82,40 +66,29 @@ pub record IsPlain (w : List ℕ) : Type 0 where
   pub no_space : list_any is_space w ≡ false
   pub no_feed : has 10 w ≡ false
 
-is_word-plain : (w : List ℕ) → IsPlain w → is_word w ≡ true
-is_word-plain w plain = grind (arith, nat_tests, and-both (not (length w == 0)) (not (list_any is_space w)))
-
 are_words : (ws : List (List ℕ)) → AllByRecursion IsPlain ws → list_all is_word ws ≡ true
 are_words [] plain = refl
-are_words (w ∷ ws) plain = and-both (is_word w) (list_all is_word ws) (is_word-plain w plain.0) (are_words ws plain.1)
+are_words (w ∷ ws) plain = grind (arith, nat_tests, plain.0.some, plain.0.no_space, are_words ws plain.1)
 
 -- words with a space before each
 abbrev pub spaced : List (List ℕ) → List ℕ
 spaced ws = flat_map (λ w. 32 ∷ w) ws
 
-no_space-not_32 : (b : ℕ) → is_space b ≡ false → (b == 32) ≡ false
-no_space-not_32 b h = grind (arith, nat_tests)
+-- a word at the front
+words_in-front : (w rest : List ℕ) (ws : List (List ℕ)) → list_any is_space w ≡ false → words_in rest ≡ [] ∷ ws
+    → words_in (w ++ rest) ≡ w ∷ ws
+words_in-front [] rest ws h e = e
+words_in-front (b ∷ w) rest ws h e = grind (arith, nat_tests, words_in-front w rest ws)
 
--- a word at the front, before other words
-words_in-front : (w rest : List ℕ) → list_any is_space w ≡ false → words_in (w ++ 32 ∷ rest) ≡ w ∷ words_in rest
-words_in-front [] rest h = refl
-words_in-front (b ∷ w) rest h = grind (arith, nat_tests, words_in-front w rest, no_space-not_32)
-
-words_in-last : (w : List ℕ) → list_any is_space w ≡ false → words_in (w ++ []) ≡ w ∷ []
-words_in-last [] h = refl
-words_in-last (b ∷ w) h = grind (arith, nat_tests, words_in-last w, no_space-not_32)
-
-words_in-spaced : (w : List ℕ) (ws : List (List ℕ)) → IsPlain w → AllByRecursion IsPlain ws
+words_in-spaced : (w : List ℕ) (ws : List (List ℕ)) → AllByRecursion IsPlain (w ∷ ws)
     → words_in (w ++ spaced ws) ≡ w ∷ ws
-words_in-spaced w [] plain others = words_in-last w plain.no_space
-words_in-spaced w (v ∷ ws) plain others =
-    words_in-front w (v ++ spaced ws) plain.no_space ∙ ap (λ vs. w ∷ vs) (words_in-spaced v ws others.0 others.1)
+words_in-spaced w [] plain = words_in-front w [] [] plain.0.no_space refl
+words_in-spaced w (v ∷ ws) plain =
+    words_in-front w (spaced (v ∷ ws)) (v ∷ ws) plain.0.no_space (ap (λ vs. [] ∷ vs) (words_in-spaced v ws plain.1))
 
 no_feed-spaced : (ws : List (List ℕ)) → AllByRecursion IsPlain ws → has 10 (spaced ws) ≡ false
 no_feed-spaced [] plain = refl
-no_feed-spaced (w ∷ ws) plain =
-    list_any-append (λ x. nat_eq x 10) w (spaced ws)
-    ∙ or-both (has 10 w) (has 10 (spaced ws)) plain.0.no_feed (no_feed-spaced ws plain.1)
+no_feed-spaced (w ∷ ws) plain = grind (arith, common_steps, plain.0.no_feed, no_feed-spaced ws plain.1)
 
 body_of_words-is : (body ending : List (List ℕ)) → 1 ≤ length body → length ending ≡ 3
     → list_all is_word (body ++ ending) ≡ true → is_ending ending ≡ true → body_of_words (body ++ ending) ≡ Some body
@@ -134,16 +107,14 @@ ending_words k n = (codes "(" ++ decimal k) ∷ codes "of" ∷ (decimal n ++ cod
 pub plain-decimal : (n : ℕ) → n < 2 ^ 64 → IsPlain (decimal n)
 plain-decimal n h = record {
   some = omega (arith, decimal_nonempty n h);
-  no_space = lacks is_ascii_digit is_space digit-no_space (decimal n) (digits_decimal digits_read n h);
-  no_feed = lacks is_ascii_digit (λ x. nat_eq x 10) digit-no_feed (decimal n) (digits_decimal digits_read n h);
+  no_space = lacks is_ascii_digit is_space (λ b d. grind (arith, nat_tests)) (decimal n)
+      (digits_decimal digits_read n h);
+  no_feed = lacks is_ascii_digit (λ x. nat_eq x 10) (λ b d. grind (arith, nat_tests)) (decimal n)
+      (digits_decimal digits_read n h);
 }
 
 pub plain-append : (v w : List ℕ) → IsPlain v → list_any is_space w ≡ false → has 10 w ≡ false → IsPlain (v ++ w)
-plain-append v w plain space feed = record {
-  some = omega (arith, length-append v w, plain.some);
-  no_space = list_any-append is_space v w ∙ or-both (list_any is_space v) (list_any is_space w) plain.no_space space;
-  no_feed = list_any-append (λ x. nat_eq x 10) v w ∙ or-both (has 10 v) (has 10 w) plain.no_feed feed;
-}
+plain-append v w plain space feed = grind (arith, common_steps, plain.some, plain.no_space, plain.no_feed)
 
 plain-ending : (k n : ℕ) → k < 2 ^ 64 → n < 2 ^ 64 → AllByRecursion IsPlain (ending_words k n)
 plain-ending k n h l =
@@ -172,10 +143,9 @@ read-choice (w ∷ body) k n some plain h l =
     let all : AllByRecursion IsPlain ((w ∷ body) ++ ending_words k n) =
     each-append IsPlain (w ∷ body) (ending_words k n) plain
     (plain-ending k n (omega (arith, h)) (omega (arith, l))) in
-    let cut : words_in (w ++ spaced (body ++ ending_words k n)) ≡ w ∷ (body ++ ending_words k n) =
-    words_in-spaced w (body ++ ending_words k n) all.0 all.1 in
     let is : body_of_words (words_in (w ++ spaced (body ++ ending_words k n))) ≡ Some (w ∷ body) =
-    ap body_of_words cut ∙ body_of_words-is (w ∷ body) (ending_words k n) (omega arith) refl
+    ap body_of_words (words_in-spaced w (body ++ ending_words k n) all)
+    ∙ body_of_words-is (w ∷ body) (ending_words k n) (omega arith) refl
     (are_words ((w ∷ body) ++ ending_words k n) all) (is_ending-words k n h l) in (
       grind (arith, nat_tests, no_header (w ++ spaced (body ++ ending_words k n)), is),
       no_feed-spaced ((w ∷ body) ++ ending_words k n) all,
