@@ -78,10 +78,11 @@ pub colour_text-some : (cs : List (List ℕ)) (c : ℕ) → 0 < c → colour_tex
 colour_text-some cs zero h = absurd (omega (arith, h))
 colour_text-some cs (suc c) h = grind (arith, nat_tests)
 
-pub loop_broke : {X : Type 0} {a b c : SinkState} (f : X → List ℕ) (xs : List X) (i : ℕ) (d : X) → i < length xs
-    → Took a b (flat_map f (take i xs)) → BrokeOff b c (f (get_or xs i d)) → BrokeOff a c (flat_map f xs)
-loop_broke {a = a} {c = c} f xs i d h p q =
-    subst (BrokeOff a c) (sym (flat_map-parts f xs i d h)) (broke_before _ (then_broke p q))
+-- a loop over elements ended where a text was not taken
+pub loop_failed : {X E : Type 0} {a b c : SinkState} (f : X → List ℕ) (xs : List X) (i : ℕ) (d : X)
+    (r : Result (Unit {0}) E) → IsErr r → i < length xs → Took a b (flat_map f (take i xs))
+    → BrokeOff b c (f (get_or xs i d)) → Writes a c r (flat_map f xs)
+loop_failed f xs i d r is h p q = rw (flat_map-parts f xs i d h) (failed r is (broke_before _ (then_broke p q)))
 
 pub option_texts : (f : Use → List ℕ) (item : ℕ) (all us before after : List Use) (p : ℕ) → us ≡ all
     → p ≡ place_in item us

@@ -2,10 +2,6 @@ use Rattle.xc_list.proofs.BelowLemmas.{counted}
 use Rattle.xc_list.proofs.Writing.{then_writes}
 use Rattle.xc_list.proofs.below.write_listing.Goals as goal
 
-pub returns-then-not-listed-clause-wrote : goal.returns-then-not-listed-clause-wrote
-returns-then-not-listed-clause-wrote g c =
-    rw (c.if-not-listed.true, ← counted _ _ _ c.end_at.ensures c.pass-found.ensures.count) c.summary.ensures
-
 pub returns-clause-wrote : goal.returns-clause-wrote
 returns-clause-wrote g c =
     rw (c.if-not-listed.false, ← counted _ _ _ c.end_at-2.ensures c.in_ok-found.ensures.count)

@@ -6,17 +6,6 @@ use Rattle.xc_list.proofs.OutputLemmas.LaidOptions.{first_read, firsts-length, f
 use Rattle.xc_input.proofs.FaultLemmas.Checks.{items-length}
 use Rattle.xc_list.proofs.bodies.put_text.Goals as goal
 
-pub put_cut-requires-clause-room : goal.put_cut-requires-clause-room
-put_cut-requires-clause-room c =
-    omega (arith, span-length _ _ _ c.span_of-from.ensures.within, ap length c.span_of-from.ensures.text)
-
-pub index-first-requires : goal.index-first-requires
-index-first-requires c =
-    omega (arith, items-length c.args.layout.now.firsts, firsts-length _ _ c.requires.firsts)
-
-pub put_part-requires-clause-padded : goal.put_part-requires-clause-padded
-put_part-requires-clause-padded c = omega (arith, c.span_of-from.ensures.within, ap length c.deref.ensures.value)
-
 pub returns-then-first-item-clause-put : goal.returns-then-first-item-clause-put
 returns-then-first-item-clause-put c =
     let first = first_read _ _ _ _ c.requires.firsts c.requires.known c.index-first.ensures ∙ c.if-first-item.true in

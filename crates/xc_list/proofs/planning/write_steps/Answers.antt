@@ -1,10 +1,9 @@
 use Rattle.std.proofs.Common.{None}
 use Rattle.xc_list.specs.Plans.{step_text}
-use Rattle.xc_list.proofs.Writing.{failed, loop_broke}
+use Rattle.xc_list.proofs.Writing.{loop_failed}
 use Rattle.xc_list.proofs.planning.write_steps.Goals as goal
 
 pub returns-in_err-write_step : goal.returns-in_err-write_step
 returns-in_err-write_step g c =
-    failed _ c.from_residual.ensures.0 (loop_broke (step_text c.args.problem.now) _ _
-    (record { item = 0; option = None; k = 0; n = 0 }) c.loop-choice-test.true c.loop-choice.invariant
-    c.in_err-write_step.ensures)
+    loop_failed (step_text c.args.problem.now) _ _ (record { item = 0; option = None; k = 0; n = 0 }) _
+    c.from_residual.ensures.0 c.loop-choice-test.true c.loop-choice.invariant c.in_err-write_step.ensures

@@ -26,6 +26,3 @@ pub returns-in_err-next-clause-put : goal.returns-in_err-next-clause-put
 returns-in_err-next-clause-put g c =
     if_failed _ _ c.from_residual.ensures.0
     (lines_broke c.loop-choice.invariant.put c.in-Some.ensures.some c.in_err-next.ensures.put)
-
-pub returns-clause-put : goal.returns-clause-put
-returns-clause-put g c = all_put (c.in_default.ensures.none refl) c.loop-choice.invariant.put

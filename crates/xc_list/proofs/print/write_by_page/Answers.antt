@@ -3,10 +3,6 @@ use Rattle.xc_list.proofs.Writing.{failed}
 use Rattle.xc_list.proofs.PageLemmas.{puts_writes}
 use Rattle.xc_list.proofs.print.write_by_page.Goals as goal
 
-pub returns-in_err-held-clause-written : goal.returns-in_err-held-clause-written
-returns-in_err-held-clause-written g c =
-    failed _ c.from_residual.ensures.0 (rw c.put_header-header.ensures.put at c.in_err-held.ensures.put)
-
 pub returns-clause-written : goal.returns-clause-written
 returns-clause-written g c =
     let held = between_is c.put_lines.new.page c.in_ok-held.held.from c.in_ok-held.held.to in

@@ -5,12 +5,6 @@ use Rattle.xc_list.proofs.Writing.{failed}
 use Rattle.xc_list.proofs.PageLemmas.{line_put, lines_broke, puts_nothing, puts_out, all_put, all_taken}
 use Rattle.xc_list.proofs.print.write_lines.Goals as goal
 
-pub loop-choice-init : goal.loop-choice-init
-loop-choice-init g c = record {
-  took = record { done = []; whole = c.solution-choices.ensures; puts = puts_nothing _ [] };
-  known = rw c.solution-choices.ensures c.requires;
-}
-
 pub loop-choice-preserved : goal.loop-choice-preserved
 loop-choice-preserved g c = record {
   took =
@@ -24,6 +18,3 @@ pub returns-in_err-write_choice : goal.returns-in_err-write_choice
 returns-in_err-write_choice g c =
     failed _ c.from_residual.ensures.0
     (lines_broke c.loop-choice.invariant.took c.in-Some.ensures.some c.in_err-write_choice.ensures)
-
-pub returns : goal.returns
-returns g c = all_taken (all_put (c.in_default.ensures.none refl) c.loop-choice.invariant.took)

@@ -1,9 +1,8 @@
-use Rattle.xc_list.proofs.Writing.{failed, loop_broke}
+use Rattle.xc_list.proofs.Writing.{loop_failed}
 use Rattle.xc_list.specs.inner.LineParts.{use_text}
 use Rattle.xc_list.proofs.uses.write_uses.Goals as goal
 
 pub returns-in_err-write_use : goal.returns-in_err-write_use
 returns-in_err-write_use g c =
-    failed _ c.from_residual.ensures.0 (loop_broke (use_text c.args.problem.now) _ _
-    (record { item = 0; colour = 0 }) c.loop-u-test.true c.loop-u.invariant
-    c.in_err-write_use.ensures)
+    loop_failed (use_text c.args.problem.now) _ _ (record { item = 0; colour = 0 }) _ c.from_residual.ensures.0
+    c.loop-u-test.true c.loop-u.invariant c.in_err-write_use.ensures

@@ -1,7 +1,7 @@
-use Rattle.xc_list.proofs.Writing.{failed, loop_broke}
+use Rattle.xc_list.proofs.Writing.{loop_failed}
 use Rattle.xc_tools.proofs.judging.write_verdicts.Goals as goal
 
 pub returns-in_err-write_verdict : goal.returns-in_err-write_verdict
 returns-in_err-write_verdict g c =
-    failed _ c.from_residual.ensures.0 (loop_broke _ _ _ _ c.loop-verdict-test.true c.loop-verdict.invariant
-    c.in_err-write_verdict.ensures)
+    loop_failed _ _ _ _ _ c.from_residual.ensures.0 c.loop-verdict-test.true c.loop-verdict.invariant
+    c.in_err-write_verdict.ensures
