@@ -17,10 +17,6 @@ use Rattle.xc_tools.proofs.RunLemmas.{took_all, failed_behind}
 pub behind_first : {X : Type 0} (words : List X) → take (length words - 1) (drop 1 words) ≡ drop 1 words
 behind_first words = take_all (length words - 1) (drop 1 words) (omega (arith, length-drop 1 words))
 
-pub at_none : {X : Type 0} {A : Type 0} (B : X → Type 0) (o : Option X) → o ≡ None → MatchOption o A B → A
-at_none B None e m = m
-at_none B (Some x) e m = absurd (cc e)
-
 -- where those behind the first ask for none
 pub none_behind : {X : Type 0} (f : X → List ℕ) (words rest : List X) → rest ≡ drop 1 words →
     ((listed : Bool) (parts : List (List ℕ)) → AskForParts (map f rest) listed parts → ⊥) → AskForNone (map f words)
@@ -31,46 +27,42 @@ none_behind f words rest e none = λ kind listed parts asks.
 
 -- ---- how a run over parts ends, by the flush behind those that were written
 
--- the flush succeeded
-flushed_parts : {a : Named} {listed : Bool} {parts : List (List ℕ)} {old mid : SinkState} (new : SinkState)
-    → OfParts a listed parts Took old mid → new.failures ≡ mid.failures → IsTrue new.settled
-    → Keeps mid.taken new.taken → new.flushes ≡ mid.flushes + 1 → OfParts a listed parts TookAll old new
-flushed_parts new of same settled kept flushed =
-    record { plan = of.plan; paths = of.paths; said = took_all new of.said same settled kept flushed }
+-- the flush failed, and that was told
+abbrev FlushFailed : ℕ → SinkState → SinkState → SinkState → SinkState → Type 0
+FlushFailed status mid new told told_new = (status ≡ 3) × Rose mid.failures new.failures × IsTrue new.failed
+    × WasTold told told_new (codes "Write failed.\n")
 
--- the flush behind so many parts failed
-unflushed : {a : Named} {listed : Bool} {parts : List (List ℕ)} {old mid told told_new : SinkState} {status : ℕ}
-    (written : ℕ) (new : SinkState) → OfParts a listed (take written parts) Took old mid
-    → Keeps mid.taken new.taken → new.flushes ≡ mid.flushes + 1
-    → (status ≡ 3) × Rose mid.failures new.failures × IsTrue new.failed
-    × WasTold told told_new (codes "Write failed.\n") → DidListParts listed parts status old new told told_new a
-unflushed written new of kept flushed h =
-    let said = failed_behind new of.said h.1 h.2 kept flushed in
-    inr (inr (inl (
-      h.0,
-      record { written = written; failed = inr (record { plan = of.plan; paths = of.paths; said = said }); told = h.3 },
-    )))
+module _ {a : Named} {listed : Bool} {old mid : SinkState} (new : SinkState) (kept : Keeps mid.taken new.taken)
+    (flushed : new.flushes ≡ mid.flushes + 1) where
+  flushed_parts : {parts : List (List ℕ)} → OfParts a listed parts Took old mid → new.failures ≡ mid.failures
+      → IsTrue new.settled → OfParts a listed parts TookAll old new
+  flushed_parts of same settled =
+      record { plan = of.plan; paths = of.paths; said = took_all new of.said kept flushed same settled }
 
--- it failed, or succeeded and it was told why there are no more
-pub parts_before : {a : Named} {listed : Bool} {parts : List (List ℕ)} {old mid told told_new : SinkState}
-    {status why : ℕ} {text : List ℕ} (written : ℕ) (new : SinkState)
-    → OfParts a listed (take written parts) Took old mid → Keeps mid.taken new.taken → new.flushes ≡ mid.flushes + 1
-    → (status ≡ why → OfParts a listed (take written parts) TookAll old new → WasTold told told_new text
-    → DidListParts listed parts status old new told told_new a)
-    → ((status ≡ why) × (new.failures ≡ mid.failures) × IsTrue new.settled × WasTold told told_new text)
-    ⊎ ((status ≡ 3) × Rose mid.failures new.failures × IsTrue new.failed
-    × WasTold told told_new (codes "Write failed.\n")) → DidListParts listed parts status old new told told_new a
-parts_before written new of kept flushed so (inl h) = so h.0 (flushed_parts new of h.1 h.2 kept flushed) h.3
-parts_before written new of kept flushed so (inr h) = unflushed written new of kept flushed h
+  -- behind so many parts
+  unflushed : {parts : List (List ℕ)} {told told_new : SinkState} {status : ℕ} (written : ℕ)
+      → OfParts a listed (take written parts) Took old mid → FlushFailed status mid new told told_new
+      → DidListParts listed parts status old new told told_new a
+  unflushed written of h =
+      let said = failed_behind new of.said kept flushed h.1 h.2 in
+      let failed = inr (record { plan = of.plan; paths = of.paths; said = said }) in
+      inr (inr (inl (h.0, record { written = written; failed = failed; told = h.3 })))
 
-pub all_parts : {a : Named} {listed : Bool} {parts : List (List ℕ)} {old mid told told_new : SinkState} {status : ℕ}
-    (new : SinkState) → OfParts a listed parts Took old mid
-    → Keeps mid.taken new.taken → new.flushes ≡ mid.flushes + 1
-    → ((status ≡ 0) × (new.failures ≡ mid.failures) × IsTrue new.settled)
-    ⊎ ((status ≡ 3) × Rose mid.failures new.failures × IsTrue new.failed
-    × WasTold told told_new (codes "Write failed.\n"))
-    → DidListParts listed parts status old new told told_new a
-all_parts new of kept flushed (inl h) = inl (h.0, flushed_parts new of h.1 h.2 kept flushed)
-all_parts {a = a} {listed = listed} {parts = parts} {old = old} {mid = mid} new of kept flushed (inr h) =
-    let whole = sym (take_all (length parts) parts (omega arith)) in
-    unflushed (length parts) new (subst (λ ps. OfParts a listed ps Took old mid) whole of) kept flushed h
+  -- it failed, or succeeded and it was told why there are no more
+  pub parts_before : {parts : List (List ℕ)} {told told_new : SinkState} {status why : ℕ} {text : List ℕ}
+      (written : ℕ) → OfParts a listed (take written parts) Took old mid
+      → (status ≡ why → OfParts a listed (take written parts) TookAll old new → WasTold told told_new text
+      → DidListParts listed parts status old new told told_new a)
+      → ((status ≡ why) × (new.failures ≡ mid.failures) × IsTrue new.settled × WasTold told told_new text)
+      ⊎ FlushFailed status mid new told told_new → DidListParts listed parts status old new told told_new a
+  parts_before written of so (inl h) = so h.0 (flushed_parts of h.1 h.2) h.3
+  parts_before written of so (inr h) = unflushed written of h
+
+  pub all_parts : {parts : List (List ℕ)} {told told_new : SinkState} {status : ℕ}
+      → OfParts a listed parts Took old mid
+      → ((status ≡ 0) × (new.failures ≡ mid.failures) × IsTrue new.settled)
+      ⊎ FlushFailed status mid new told told_new → DidListParts listed parts status old new told told_new a
+  all_parts of (inl h) = inl (h.0, flushed_parts of h.1 h.2)
+  all_parts {parts} of (inr h) =
+      let whole = take_all (length parts) parts (omega arith) in
+      unflushed (length parts) (subst (λ ps. OfParts a listed ps Took old mid) (sym whole) of) h

@@ -3,6 +3,7 @@ use Rattle.xc_list.proofs.Outputs.{stopped_broke}
 use Rattle.std.proofs.Math.Seq.{take-length}
 use Rattle.std.proofs.Common.{◌≡◌, ◌⊎◌, ℕ, ◌+◌, List, [], length, sym, ap, subst, inl, inr, ◌∙◌, append-nil}
 use Rattle.std.proofs.Common.{arith}
+use Rattle.std.proofs.lemmas.Bool.Decides.{nat_tests}
 use Rattle.std.proofs.KnownBytes.{Keeps-refl}
 use Rattle.std.specs.Prelude.{codes, flat_map, IsTrue}
 use Rattle.std.specs.Io.KnownBytes.{Appends, Keeps}
@@ -23,27 +24,16 @@ use Rattle.xc_tools.specs.Given.{GaveProblem}
 use Rattle.xc_tools.specs.Solves.{Seen, TookAll, FailedBehind, FailedAt, warning, solution, flush, last_line, IsFailed}
 use Rattle.xc_tools.specs.Solves.{DidSearch, DidAsAsked}
 
--- a sink failed behind a text that it took
-pub failed_behind : {old mid : SinkState} {text : List ℕ} (new : SinkState) → Took old mid text
-    → Rose mid.failures new.failures → IsTrue new.failed → Keeps mid.taken new.taken
-    → new.flushes ≡ mid.flushes + 1 → FailedBehind old new text
-failed_behind {old = old} {mid = mid} {text = text} new took rose last kept flushed = record {
-  failure = subst (λ n. Rose n new.failures) took.no_failure rose;
-  last = last;
-  taken = appends_kept old.taken mid.taken new.taken text took.whole kept;
-  flushed_once = flushed ∙ ap (λ n. n + 1) took.unflushed;
-}
+-- a text was taken, and a flush behind it called
+module _ {old mid : SinkState} {text : List ℕ} (new : SinkState) (took : Took old mid text)
+    (kept : Keeps mid.taken new.taken) (flushed : new.flushes ≡ mid.flushes + 1) where
+  -- it failed
+  pub failed_behind : Rose mid.failures new.failures → IsTrue new.failed → FailedBehind old new text
+  failed_behind rose last = grind (arith, nat_tests, appends_kept)
 
--- it took the text, and the flush behind it succeeded
-pub took_all : {old mid : SinkState} {text : List ℕ} (new : SinkState) → Took old mid text
-    → new.failures ≡ mid.failures → IsTrue new.settled → Keeps mid.taken new.taken
-    → new.flushes ≡ mid.flushes + 1 → TookAll old new text
-took_all {old = old} {mid = mid} {text = text} new took same settled kept flushed = record {
-  no_failure = same ∙ took.no_failure;
-  whole = appends_kept old.taken mid.taken new.taken text took.whole kept;
-  settled = settled;
-  flushed_once = flushed ∙ ap (λ n. n + 1) took.unflushed;
-}
+  -- it succeeded
+  pub took_all : new.failures ≡ mid.failures → IsTrue new.settled → TookAll old new text
+  took_all same settled = grind (arith, nat_tests, appends_kept)
 
 pub behind_nothing : {old new : SinkState} {text : List ℕ} (says : SinkState → SinkState → List ℕ → Type 0)
     → says old new text → Behind [] says old new text
@@ -59,11 +49,11 @@ pub finished : {a : Named} {w : Words} {old mid told told_new : SinkState} {stat
     ⊎ ((status ≡ 3) × (new.failures ≡ mid.failures) × IsTrue new.settled × BrokeOff told told_new (summary_text end))
     → DidSearch w status old new told told_new a []
 finished new is took kept flushed (inl h) =
-    inl (h.0, record { output = took_all new took h.1 h.2 kept flushed; told = rw is at h.3 })
+    inl (h.0, record { output = took_all new took kept flushed h.1 h.2; told = rw is at h.3 })
 finished new is took kept flushed (inr (inl h)) =
-    inr (inl (h.0, flush, (failed_behind new took h.1 h.2 kept flushed, behind_nothing WasTold h.3)))
+    inr (inl (h.0, flush, (failed_behind new took kept flushed h.1 h.2, behind_nothing WasTold h.3)))
 finished new is took kept flushed (inr (inr h)) =
-    inr (inl (h.0, last_line, (took_all new took h.1 h.2 kept flushed, behind_nothing BrokeOff (rw is at h.3))))
+    inr (inl (h.0, last_line, (took_all new took kept flushed h.1 h.2, behind_nothing BrokeOff (rw is at h.3))))
 
 -- a text behind the warnings
 behind_more : (says : SinkState → SinkState → List ℕ → Type 0) {old mid : SinkState} (new : SinkState)

@@ -7,28 +7,17 @@ use Rattle.xc_tools.proofs.solving.solve_problem.Goals as goal
 pub returns-in-Ok-WriteFailed : goal.returns-in-Ok-WriteFailed
 returns-in-Ok-WriteFailed g c =
     let stop = rw c.in-Ok-WriteFailed.field-0-is at c.in-Ok-WriteFailed.ensures.run in
-    record {
-      did =
-          inr (inl (
-            c.tell_failed_write.ensures.status,
-            solution c.in-Ok-WriteFailed.n,
-            (stop, behind_nothing WasTold c.tell_failed_write.ensures.told),
-          ));
-    }
+    let told = c.tell_failed_write.ensures in
+    record { did = inr (inl (told.status, solution c.in-Ok-WriteFailed.n, (stop, behind_nothing WasTold told.told))) }
 
 pub returns-in-Ok-Done : goal.returns-in-Ok-Done
 returns-in-Ok-Done g c =
     let run = rw c.in-Ok-Done.field-0-is at c.in-Ok-Done.ensures.run in
-    record {
-      did = finished (g.O.Sink.state c.finish.new.out) run.0 run.1 c.finish.ensures.kept
-          c.finish.ensures.flushed_once c.finish.ensures.did;
-    }
+    let end = c.finish.ensures in
+    record { did = finished _ run.0 run.1 end.kept end.flushed_once end.did }
 
 pub returns-in-Ok-Limit : goal.returns-in-Ok-Limit
 returns-in-Ok-Limit g c =
     let run = rw c.in-Ok-Limit.field-0-is at c.in-Ok-Limit.ensures.run in
-    let finish = c.finish-in-Ok-Limit in
-    record {
-      did = finished (g.O.Sink.state finish.new.out) run.0 run.1 finish.ensures.kept finish.ensures.flushed_once
-          finish.ensures.did;
-    }
+    let end = c.finish-in-Ok-Limit.ensures in
+    record { did = finished _ run.0 run.1 end.kept end.flushed_once end.did }
