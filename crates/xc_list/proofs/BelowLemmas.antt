@@ -32,8 +32,7 @@ use Rattle.xc_list.proofs.Writing.{then_took, then_broke}
 pub known_below : (p : Puzzle) (path : List Choice) → IsPath p path → All (All (IsKnownChoice p)) (below p path)
 known_below p path is =
     let known = All (IsKnownChoice p) in
-    let run = below_run p path is in
-    let all = recursion_from_All known (run.0 ++ (below p path ++ run.1)) (subst (All known) run.2 (members_known p)) in
+    let all = recursion_from_All known _ (rw (below_run p path is).2 at (members_known p)) in
     All-from_recursion known (below p path) (each_front _ _ _ (each_front _ _ _ all).1).0
 
 -- one part more

@@ -25,25 +25,22 @@ use Rattle.xc_list.specs.Texts.{SinkState, Took, BrokeOff}
 
 -- ---- the next element of a list
 
-pub take_next : {X : Type 0} (ms : List X) (k : ℕ) {m : X} {rest : List X} → drop k ms ≡ m ∷ rest
-    → take (k + 1) ms ≡ take k ms ++ m ∷ []
-take_next ms k e = take-add k 1 ms ∙ ap (λ l. take k ms ++ take 1 l) e
+module _ {X : Type 0} (ms : List X) (k : ℕ) {m : X} {rest : List X} (e : drop k ms ≡ m ∷ rest) where
+  pub take_next : take (k + 1) ms ≡ take k ms ++ m ∷ []
+  take_next = take-add k 1 ms ∙ ap (λ l. take k ms ++ take 1 l) e
 
-pub rest_next : {X : Type 0} (ms : List X) (k : ℕ) {m : X} {rest : List X} → drop k ms ≡ m ∷ rest
-    → rest ≡ drop (k + 1) ms
-rest_next ms k e = sym (ap (drop 1) e) ∙ drop-drop 1 k ms
+  pub rest_next : rest ≡ drop (k + 1) ms
+  rest_next = sym (ap (drop 1) e) ∙ drop-drop 1 k ms
 
-pub within_next : {X : Type 0} (ms : List X) (k : ℕ) {m : X} {rest : List X} → drop k ms ≡ m ∷ rest → k < length ms
-within_next ms k e = grind (arith, common_steps)
+  pub within_next : k < length ms
+  within_next = grind (arith, common_steps)
 
-pub at_next : {X : Type 0} (ms : List X) (k : ℕ) {m : X} {rest : List X} → drop k ms ≡ m ∷ rest
-    → numbered_get ms (k + 1) ≡ Some m
-at_next ms k e = rw add-one (sym (slice_get-drop ms k) ∙ ap (λ l. slice_get l 0) e)
+  pub at_next : numbered_get ms (k + 1) ≡ Some m
+  at_next = rw add-one (sym (slice_get-drop ms k) ∙ ap (λ l. slice_get l 0) e)
 
--- what holds of all holds of the next
-pub holds_next : {X : Type 0} (P : X → Type 0) (ms : List X) (k : ℕ) {m : X} {rest : List X} → All P ms
-    → drop k ms ≡ m ∷ rest → P m
-holds_next P ms k {m = m} {rest = rest} all e = All-head P m rest (subst (All P) e (All-drop P k ms all))
+  -- what holds of all holds of the next
+  pub holds_next : (P : X → Type 0) → All P ms → P m
+  holds_next P all = All-head P m rest (subst (All P) e (All-drop P k ms all))
 
 pub all_done : {X : Type 0} (ms : List X) (k : ℕ) → drop k ms ≡ [] → k ≤ length ms → k ≡ length ms
 all_done ms k e h = omega (arith, ap length e, length-drop k ms, h)

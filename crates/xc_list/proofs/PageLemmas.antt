@@ -104,17 +104,6 @@ module _ {X : Type 0} {a b : SinkState} {before held : List ℕ} {f : X → List
       rw (all_texts, ← append_assoc before (flat_map f p.done ++ f x) (flat_map f next))
       (broke_before (flat_map f next) (puts_broke (f x) p.puts q))
 
--- all were put
-pub all_put : {X : Type 0} {a b : SinkState} {before held : List ℕ} {f : X → List ℕ} {rest all : List X} → rest ≡ []
-    → PutsFront a b before held f rest all → Puts a b before held (flat_map f all)
-all_put {a = a} {b = b} {before = before} {held = held} {f = f} none p =
-    subst (λ xs. Puts a b before held (flat_map f xs))
-    (sym (append-nil p.done) ∙ ap (λ xs. p.done ++ xs) (sym none) ∙ p.whole) p.puts
-
--- and none of it is held
-pub all_taken : {a b : SinkState} {text : List ℕ} → Puts a b [] [] text → Took a b text
-all_taken {a = a} {b = b} p = subst (Took a b) (sym (p.whole ∙ append-nil p.front)) p.took
-
 -- what a page holds at last is written
 pub puts_writes : {E : Type 0} {a b : SinkState} {before held lines : List ℕ} (c : SinkState)
     (r : Result (Unit {0}) E)

@@ -4,6 +4,7 @@ use Rattle.xc_list.proofs.CheckLemmas.ListedNumbers.{in-any}
 use Rattle.xc_input.proofs.lists.Members.{slice_get-in}
 use Rattle.xc_list.proofs.CheckLemmas.BodiesOfClasses.{body-is}
 use Rattle.std.proofs.lemmas.Bool.Decides.{nat_tests}
+use Rattle.std.proofs.lemmas.Grind.{common_steps}
 use Rattle.xc_input.proofs.TokenLemmas.Bytes.{not_false}
 use Rattle.xc_list.specs.inner.LineParts.{colour_text}
 use Rattle.xc_list.proofs.CheckLemmas.BodiesOfClasses.{All-turned, is-body}
@@ -54,9 +55,7 @@ pub record IsTold (p : Named) (i : ℕ) (o : Option ℕ) : Type 0 where
       (λ j. (is_known p (body_words p i o) ≡ true) × (stands_for p (body_words p i o) j ≡ true))
 
 length-turned : {X : Type 0} (k : ℕ) (xs : List X) → length (rotated_at k xs) ≡ length xs
-length-turned k xs =
-    let whole = ap length (take-append-drop k xs) in
-    omega (arith, length-append (drop k xs) (take k xs), length-append (take k xs) (drop k xs))
+length-turned k xs = grind (arith, common_steps)
 
 place-within : (i : ℕ) (us : List Use) → is_some (colour_in us i) ≡ true → place_in i us < length us
 place-within i [] h = absurd (cc h)

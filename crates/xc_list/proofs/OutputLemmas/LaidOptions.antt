@@ -72,9 +72,6 @@ laid_more a os us texts more (x ∷ starts) n l e f =
       parts = part.1 ∙ ap (λ ts. ts ++ uses_text a us ∷ []) l.parts ∙ sym (map-snoc (uses_text a) os us);
     })
 
-pub length-same : (xs ys : List ℕ) → Some xs ≡ Some ys → length ys ≡ length xs
-length-same xs ys e = (let f : xs ≡ ys = cc e in ap length (sym f))
-
 -- the text between two starts that were read, where 16 bytes more stand behind the texts
 pub padded_part : (a : Named) (os : List (List Use)) (texts starts : List ℕ) (o x y : ℕ) → ArePadded a os texts starts
     → (1 ≤ o) × (o ≤ length os) → x ≡ get_or starts (o - 1) x → y ≡ get_or starts o y
@@ -96,35 +93,32 @@ pub span-length : (texts : List ℕ) (from count : ℕ) → from + count + 16 �
     → length (take count (drop from texts)) ≡ count
 span-length texts from count h = omega (arith, length-take count (drop from texts), length-drop from texts, h)
 
--- where an item's use starts in a text is within it
-pub cut_in_span : (a : Named) (item : ℕ) (us : List Use) (texts : List ℕ) (from count place : ℕ)
-    → take count (drop from texts) ≡ uses_text a us → place ≡ length (uses_text a (take (place_in item us) us))
-    → from + count + 16 ≤ length texts → place ≤ count
-cut_in_span a item us texts from count place text at h =
-    omega (arith, cut_within a item us text at, span-length texts from count h)
-
 -- nothing is put where nothing stands before the cut
 pub nothing_put : (page texts : List ℕ) (n place : ℕ) → place ≤ 0
     → take (n + place) page ≡ take n page ++ take place texts
 nothing_put page texts n place h = grind (arith, nat_tests, append-nil (take n page))
 
--- the part behind the cut is put on a page, and then the part before it
-pub text_put : (a : Named) (item : ℕ) (us : List Use) (texts page one two : List ℕ) (at from count place : ℕ)
-    → take count (drop from texts) ≡ uses_text a us → place ≡ length (uses_text a (take (place_in item us) us))
-    → from + count + 16 ≤ length texts
-    → take (at + (count - place)) one ≡ take at page ++ take (count - place) (drop (from + place) texts)
-    → take (at + (count - place) + place) two ≡ take (at + (count - place)) one ++ take place (drop from texts)
-    → take (at + count) two ≡ take at page ++ flat_map (use_text a) (from_item item us)
-text_put a item us texts page one two at from count place text there h first second =
-    let within = cut_in_span a item us texts from count place text there h in
-    let rest : List ℕ = drop from texts in
-    let sum : place + (count - place) ≡ count = omega (arith, within) in
-    let end : at + (count - place) + place ≡ at + count = omega (arith, within) in
-    let before = take-take place count rest within in
-    let behind : take (count - place) (drop (from + place) texts) ≡ drop place (take count rest) =
-    cc (drop-drop place from texts, drop-take place (count - place) rest, sum) in
-    let both = append_assoc (take at page) (take (count - place) (drop (from + place) texts)) (take place rest) in
-    cc (end, second, first, cut_gives a item us text there)
+-- where an item's use starts in a text
+module _ (a : Named) (item : ℕ) (us : List Use) (texts : List ℕ) (from count place : ℕ)
+    (text : take count (drop from texts) ≡ uses_text a us)
+    (there : place ≡ length (uses_text a (take (place_in item us) us))) (h : from + count + 16 ≤ length texts) where
+  pub cut_in_span : place ≤ count
+  cut_in_span = omega (arith, cut_within a item us text there, span-length texts from count h)
+
+  -- the part behind the cut is put on a page, and then the part before it
+  pub text_put : (page one two : List ℕ) (at : ℕ)
+      → take (at + (count - place)) one ≡ take at page ++ take (count - place) (drop (from + place) texts)
+      → take (at + (count - place) + place) two ≡ take (at + (count - place)) one ++ take place (drop from texts)
+      → take (at + count) two ≡ take at page ++ flat_map (use_text a) (from_item item us)
+  text_put page one two at first second =
+      let rest : List ℕ = drop from texts in
+      let sum : place + (count - place) ≡ count = omega (arith, cut_in_span) in
+      let end : at + (count - place) + place ≡ at + count = omega (arith, cut_in_span) in
+      let before = take-take place count rest cut_in_span in
+      let behind : take (count - place) (drop (from + place) texts) ≡ drop place (take count rest) =
+      cc (drop-drop place from texts, drop-take place (count - place) rest, sum) in
+      let both = append_assoc (take at page) (take (count - place) (drop (from + place) texts)) (take place rest) in
+      cc (end, second, first, cut_gives a item us text there)
 
 -- the item of an option's first use, as it was read
 pub first_read : (os : List (List Use)) (firsts : List ℕ) (o x : ℕ) → firsts ≡ map first_item os
@@ -139,6 +133,3 @@ first_read os firsts o x e known at =
 pub from_first : (item : ℕ) (us : List Use) → first_item us ≡ item → from_item item us ≡ us
 from_first item [] e = refl
 from_first item (u ∷ us) e = grind (arith, nat_tests, eq-eqb u.item item e, append-nil (u ∷ us))
-
-pub firsts-length : (os : List (List Use)) (firsts : List ℕ) → firsts ≡ map first_item os → length firsts ≡ length os
-firsts-length os firsts e = ap length e ∙ length-map os first_item

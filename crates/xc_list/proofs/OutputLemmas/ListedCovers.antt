@@ -90,20 +90,6 @@ each_stands p (c ∷ m) all =
 listed_cover : (p : Named) (nm : ℕ × List Choice) → IsReadableMember p nm → IsListedCover p (solution_of p nm).bodies
 listed_cover p nm h = (options_of nm.1, each_stands p nm.1 h.choices, h.cover)
 
-readable_covers : (p : Named) (nms : List (ℕ × List Choice)) → AllByRecursion (IsReadableMember p) nms
-    → (fault_in_lines p 0 (lines_of (flat_map (member_text p) nms)) ≡ None)
-    × AllByRecursion (λ s. IsListedCover p s.bodies) (solutions_of (lines_of (flat_map (member_text p) nms)))
-readable_covers p nms all =
-    let lines : lines_of (flat_map (member_text p) nms) ≡ output_lines p nms =
-    lines_of-members p nms all in
-    let solutions : solutions_of (lines_of (flat_map (member_text p) nms)) ≡ map (solution_of p) nms =
-    ap solutions_of lines ∙ sym (listed_solutions (output_lines p nms))
-    ∙ ap (λ (l : Listing). l.solutions) (listing_of-members p nms all) in (
-      ap (fault_in_lines p 0) lines ∙ no_fault-members p 0 nms all,
-      subst (AllByRecursion (λ (s : Solution). IsListedCover p s.bodies)) (sym solutions)
-          (each-map _ _ _ (each_weaker _ _ _ (listed_cover p) all)),
-    )
-
 -- ---- members
 
 -- a member with its number
@@ -137,12 +123,18 @@ module _ (p : Named) (sound : IsSound p) (none : All (λ n. n ≢ codes "null") 
         × AllByRecursion (λ s. IsListedCover p s.bodies) (solutions_of (lines_of (output p spacing limit)))
     outputs_are_covers =
         let first = take limit (members p.puzzle) in
-        readable_covers p (filter (λ nm. is_printed spacing nm.0) (enumerate_from 1 first))
-        (each_weaker (IsNumberedMember p) _ _ readable_member
-        (each-filter (IsNumberedMember p) _ (enumerate_from 1 first)
-        (each_numbered (IsIn (members p.puzzle)) 1 (2 ^ 64) first
-        (omega (arith, fits, length-take limit (members p.puzzle)))
-        (each_from _ first (in-take limit (members p.puzzle))))))
+        let nms = filter (λ nm. is_printed spacing nm.0) (enumerate_from 1 first) in
+        let numbered = each_numbered (IsIn (members p.puzzle)) 1 (2 ^ 64) first
+        (omega (arith, fits, length-take limit (members p.puzzle))) (each_from _ first (in-take limit _)) in
+        let all = each_weaker (IsNumberedMember p) (IsReadableMember p) nms readable_member
+        (each-filter (IsNumberedMember p) _ (enumerate_from 1 first) numbered) in
+        let lines = lines_of-members p nms all in
+        let solutions = ap solutions_of lines ∙ sym (listed_solutions (output_lines p nms))
+        ∙ ap (λ (l : Listing). l.solutions) (listing_of-members p nms all) in (
+          ap (fault_in_lines p 0) lines ∙ no_fault-members p 0 nms all,
+          subst (AllByRecursion (λ (s : Solution). IsListedCover p s.bodies)) (sym solutions)
+              (each-map _ _ _ (each_weaker _ _ _ (listed_cover p) all)),
+        )
 
     pub wants_memory : (listing : List ℕ) (e : ListingFault) → listing ≡ output p spacing limit
         → IsListingFault p (lines_of listing) e → e ≡ Memory

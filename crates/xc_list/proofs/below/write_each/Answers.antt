@@ -31,8 +31,8 @@ returns-in-Done-clause-wrote g c =
 
 pub write_member-requires : goal.write_member-requires
 write_member-requires g c =
-    rw c.choices.ensures (holds_next (All (IsKnownChoice c.args.bodies.now.puzzle)) _ _ c.requires.known
-    (next g (goal.at.write_member-requires g c).In-Solution))
+    rw c.choices.ensures (holds_next _ _ (next g (goal.at.write_member-requires g c).In-Solution)
+    (All (IsKnownChoice c.args.bodies.now.puzzle)) c.requires.known)
 
 pub returns-in_err-write_member-clause-wrote : goal.returns-in_err-write_member-clause-wrote
 returns-in_err-write_member-clause-wrote g c =

@@ -34,9 +34,9 @@ put_part-requires-then-place-gt0 c =
 pub returns-clause-put : goal.returns-clause-put
 returns-clause-put c =
     let at = c.args.at + (c.span_of-from.result.1 - c.place_in_text-place.result) in
-    let all = text_put c.args.problem.now c.args.item _ c.args.layout.now.texts.items c.args.page.now
-    c.put_part.new.page c.if-place-gt0.page c.args.at _ _ c.place_in_text-place.result c.span_of-from.ensures.text
-    (rw c.uses_at.ensures.value at c.place_in_text-place.ensures) c.span_of-from.ensures.within
+    let all = text_put c.args.problem.now c.args.item _ c.args.layout.now.texts.items _ _ c.place_in_text-place.result
+    c.span_of-from.ensures.text (rw c.uses_at.ensures.value at c.place_in_text-place.ensures)
+    c.span_of-from.ensures.within c.args.page.now c.put_part.new.page c.if-place-gt0.page c.args.at
     (rw c.deref.ensures.value at c.put_part.ensures.put) in
     elim c.if-place-gt0.branch [
       | then-place-gt0 w ↦ all

@@ -2,7 +2,7 @@ use Rattle.std.proofs.lemmas.Bool.Decides.{nat_tests}
 use Rattle.std.proofs.Common.{arith, ap, length, ◌≡◌, ◌∙◌}
 use Rattle.xc_input.specs.Problem.{uses_of}
 use Rattle.xc_list.specs.inner.Layout.{first_item}
-use Rattle.xc_list.proofs.OutputLemmas.LaidOptions.{first_read, firsts-length, from_first, span-length}
+use Rattle.xc_list.proofs.OutputLemmas.LaidOptions.{first_read, from_first}
 use Rattle.xc_input.proofs.FaultLemmas.Checks.{items-length}
 use Rattle.xc_list.proofs.bodies.put_text.Goals as goal
 

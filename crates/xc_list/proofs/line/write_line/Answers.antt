@@ -1,21 +1,15 @@
-use Rattle.std.specs.Prelude.{◌≡◌, decimal}
-use Rattle.std.proofs.Common.{◌∙◌, subst}
-use Rattle.xc_list.specs.Texts.{Took, BrokeOff}
 use Rattle.xc_list.proofs.Writing.{then_took, then_broke, broke_before, then_writes, failed}
 use Rattle.xc_list.proofs.line.write_line.Goals as goal
 
 pub returns-in_err-write_all-in-None-2 : goal.returns-in_err-write_all-in-None-2
 returns-in_err-write_all-in-None-2 g c =
-    let number : c.as_bytes-number.result.now ≡ decimal c.args.n =
-    c.as_bytes-number.ensures.value ∙ c.format.ensures.text in
-    failed _ c.from_residual-in_err-write_all-in-None-2.ensures.0
-    (broke_before _ (then_broke c.in_ok-write_all-in-None.ensures
-    (subst (BrokeOff _ _) number c.in_err-write_all-in-None-2.ensures)))
+    failed _ c.from_residual-in_err-write_all-in-None-2.ensures.0 (broke_before _ (then_broke
+    c.in_ok-write_all-in-None.ensures (rw (c.as_bytes-number.ensures.value, c.format.ensures.text) at
+    c.in_err-write_all-in-None-2.ensures)))
 
 pub returns-in_ok-write_all-in-None-2 : goal.returns-in_ok-write_all-in-None-2
 returns-in_ok-write_all-in-None-2 g c =
-    let number : c.as_bytes-number.result.now ≡ decimal c.args.n =
-    c.as_bytes-number.ensures.value ∙ c.format.ensures.text in
-    then_writes _ _ c.write_parts.result
-    (then_took c.in_ok-write_all-in-None.ensures (subst (Took _ _) number c.in_ok-write_all-in-None-2.ensures))
-    c.write_parts.ensures
+    then_writes _ _ c.write_parts.result (then_took c.in_ok-write_all-in-None.ensures (rw (
+      c.as_bytes-number.ensures.value,
+      c.format.ensures.text,
+    ) at c.in_ok-write_all-in-None-2.ensures)) c.write_parts.ensures

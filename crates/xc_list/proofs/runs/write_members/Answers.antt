@@ -19,7 +19,7 @@ at g c enough =
 pub write_printed-requires-clause-known : goal.write_printed-requires-clause-known
 write_printed-requires-clause-known g c =
     let to = at g (goal.at.write_printed-requires-clause-known g c).After-pass-passed c.if-passed-steps.false in
-    holds_next (All (IsKnownChoice c.args.bodies.now.puzzle)) _ _ (members_known c.args.bodies.now.puzzle) to.next
+    holds_next _ _ to.next (All (IsKnownChoice c.args.bodies.now.puzzle)) (members_known c.args.bodies.now.puzzle)
 
 pub returns-in-Err-clause-run : goal.returns-in-Err-clause-run
 returns-in-Err-clause-run g c =

@@ -1,5 +1,4 @@
-use Rattle.std.proofs.Common.{◌∙◌, ◌≤◌, length, sym, subst}
-use Rattle.xc_list.specs.Texts.{BrokeOff}
+use Rattle.std.proofs.Common.{◌∙◌}
 use Rattle.xc_list.proofs.TextLemmas.{front_more}
 use Rattle.xc_list.proofs.Writing.{then_broke, then_took, failed}
 use Rattle.xc_list.proofs.write.write_rest.Goals as goal
@@ -7,13 +6,9 @@ use Rattle.xc_list.proofs.write.write_rest.Goals as goal
 pub returns-in_err-n : goal.returns-in_err-n
 returns-in_err-n g c =
     let inv = c.loop-rest.invariant in
-    failed _ c.from_residual.ensures.0 (subst (BrokeOff _ _) (sym inv.1) (then_broke inv.2 c.in_err-n.ensures.text))
+    rw inv.1 (failed _ c.from_residual.ensures.0 (then_broke inv.2 c.in_err-n.ensures.text))
 
 pub loop-rest-preserved : goal.loop-rest-preserved
 loop-rest-preserved g c =
     let inv = c.loop-rest.invariant in
-    let within : c.in_ok-n.n ≤ length c.loop-rest.rest.now = c.in_ok-n.ensures.some.1 in (
-      _,
-      inv.1 ∙ front_more _ _ _ within,
-      then_took inv.2 c.in_ok-n.ensures.text,
-    )
+    (_, inv.1 ∙ front_more _ _ _ c.in_ok-n.ensures.some.1, then_took inv.2 c.in_ok-n.ensures.text)
