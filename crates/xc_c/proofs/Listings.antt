@@ -18,10 +18,8 @@ use Rattle.xc_c.specs.Answers.{IsFilled, Lists, end_status}
 use Rattle.xc_c.specs.inner.Statuses.{listing_status}
 
 -- from nothing to these bytes by this text
-all_of : (x z : Option (List ℕ)) (xs text : List ℕ) → x ≡ Some [] → z ≡ Some xs → Appends x z text → xs ≡ text
-all_of x z xs text e f h =
-    subst (λ (z : Option (List ℕ)). Appends (Some []) z text) f
-    (subst (λ (x : Option (List ℕ)). Appends x z text) e h)
+all_of : {x z : Option (List ℕ)} {xs text : List ℕ} → x ≡ Some [] → z ≡ Some xs → Appends x z text → xs ≡ text
+all_of e f h = rw (e, f) at h
 
 -- these bytes are a beginning of a text, and not all of it
 abbrev IsShort : List ℕ → List ℕ → Type 0
@@ -34,7 +32,7 @@ stopped_short a spacing limit t x z xs e f s =
     let text = output a spacing limit in
     let broke = stopped_broke a spacing limit t s in (
       drop broke.many text,
-      rw (all_of x.taken z.taken xs _ e f broke.begun) (sym (take-append-drop broke.many text)),
+      rw (all_of e f broke.begun) (sym (take-append-drop broke.many text)),
       omega (arith, broke.part, length-drop broke.many text),
     )
 
@@ -50,38 +48,29 @@ status_of : (below : Bool) (found limit length room s : ℕ)
 status_of true found limit length room s e = cc e
 status_of false found limit length room s e = cc e
 
--- the end of a run that was not stopped
-whole : (a : Named) (spacing limit s : ℕ) (end : End) (xs buf new : List ℕ) (used : ℕ) → xs ≡ output a spacing limit
-    → end ≡ end_of a limit → listing_status end (length xs) (length buf) ≡ Some s → IsFilled xs buf new used
-    → Lists spacing limit buf new s used a
-whole a spacing limit s end xs buf new used e is st f =
-    let says = λ (xs : List ℕ). s ≡ (if nat_lt (length buf) (length xs) then 2 else end_status a limit) in
-    subst (λ xs. IsFilled xs buf new used × says xs) e (f, status_of _ _ limit _ _ s (rw is at st))
+module _ (a : Named) (spacing limit : ℕ) (xs buf new : List ℕ) (used s : ℕ) (fill : IsFilled xs buf new used) where
+  -- the end of a run that was not stopped
+  whole : (end : End) → xs ≡ output a spacing limit → end ≡ end_of a limit
+      → listing_status end (length xs) (length buf) ≡ Some s → Lists spacing limit buf new s used a
+  whole end e is st =
+      let says = λ (xs : List ℕ). s ≡ (if nat_lt (length buf) (length xs) then 2 else end_status a limit) in
+      subst (λ xs. IsFilled xs buf new used × says xs) e (fill, status_of _ _ limit _ _ s (rw is at st))
 
--- the end of one that was, since there was no room
-cut_off : (a : Named) (spacing limit s : ℕ) (xs buf new : List ℕ) (used : ℕ) (less : Bool)
-    → nat_lt (length xs) (length buf) ≡ less → IsShort xs (output a spacing limit)
-    → (if less then None else Some 2) ≡ Some s → IsFilled xs buf new used → Lists spacing limit buf new s used a
-cut_off a spacing limit s xs buf new used true is short st f = absurd (cc st)
-cut_off a spacing limit s xs buf new used false is short st f =
-    let all : List ℕ = output a spacing limit in
-    let long : length buf ≤ length xs = grind (arith, nat_tests) in
-    let over : nat_lt (length buf) (length all) ≡ true =
-    lt-ltb _ _ (omega (arith, ap length short.1, length-append xs short.0, short.2, long)) in
-    let two : s ≡ 2 = cc st in (
-      fills_as_whole xs all buf new used short long f,
-      two ∙ sym (ap (λ (b : Bool). if b then 2 else end_status a limit) over),
-    )
+  -- the end of one that was, since there was no room
+  cut_off : (less : Bool) → nat_lt (length xs) (length buf) ≡ less → IsShort xs (output a spacing limit)
+      → (if less then None else Some 2) ≡ Some s → Lists spacing limit buf new s used a
+  cut_off true is short st = absurd (cc st)
+  cut_off false is short st =
+      let long : length buf ≤ length xs = grind (arith, nat_tests) in
+      let over : nat_lt (length buf) (length (output a spacing limit)) ≡ true =
+      lt-ltb _ _ (omega (arith, ap length short.1, length-append xs short.0, short.2, long)) in
+      let two : s ≡ 2 = cc st in
+      (fills_as_whole xs (output a spacing limit) buf new used short long fill, rw over two)
 
--- what was put into the buffer, by the run's end
-pub listed : (a : Named) (spacing limit : ℕ) (x z : SinkState) (end : End) (xs buf new : List ℕ) (used s : ℕ)
-    → IsRun a spacing limit x z end → x.taken ≡ Some [] → z.taken ≡ Some xs
-    → listing_status end (length xs) (length buf) ≡ Some s → IsFilled xs buf new used
-    → Lists spacing limit buf new s used a
-listed a spacing limit x z (Done n) xs buf new used s run e f st fill =
-    whole a spacing limit s (Done n) xs buf new used (all_of x.taken z.taken xs _ e f run.1.whole) run.0 st fill
-listed a spacing limit x z (Limit n) xs buf new used s run e f st fill =
-    whole a spacing limit s (Limit n) xs buf new used (all_of x.taken z.taken xs _ e f run.1.whole) run.0 st fill
-listed a spacing limit x z (WriteFailed t) xs buf new used s run e f st fill =
-    cut_off a spacing limit s xs buf new used (nat_lt (length xs) (length buf)) refl
-    (stopped_short a spacing limit t x z xs e f run) st fill
+  -- what was put into the buffer, by the run's end
+  pub listed : (x z : SinkState) (end : End) → IsRun a spacing limit x z end → x.taken ≡ Some [] → z.taken ≡ Some xs
+      → listing_status end (length xs) (length buf) ≡ Some s → Lists spacing limit buf new s used a
+  listed x z (Done n) run e f st = whole (Done n) (all_of e f run.1.whole) run.0 st
+  listed x z (Limit n) run e f st = whole (Limit n) (all_of e f run.1.whole) run.0 st
+  listed x z (WriteFailed t) run e f st =
+      cut_off (nat_lt (length xs) (length buf)) refl (stopped_short a spacing limit t x z xs e f run) st

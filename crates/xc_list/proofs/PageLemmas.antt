@@ -34,9 +34,6 @@ pub record PutsFront (a b : SinkState) {X : Type 0} (before held : List ℕ) (f 
     pub whole : done ++ rest ≡ all
     pub puts : Puts a b before held (flat_map f done)
 
-pub puts_nothing : (s : SinkState) (before : List ℕ) → Puts s s before before []
-puts_nothing s before = record { front = []; took = took_nothing s; whole = append-nil before }
-
 -- the sink took all
 pub puts_out : {a b : SinkState} {before text : List ℕ} → Took a b (before ++ text) → Puts a b before [] text
 puts_out {before = before} {text = text} t =

@@ -12,14 +12,10 @@ read_on place (Err e) xs = Err e
 read_on place (Ok w) [] = Ok w
 read_on place (Ok w) (x ∷ xs) = read_on (place + 1) (read_word place w x) xs
 
-in_turn : (n : ℕ) (r : Result Words WordFault) (xs : List (List ℕ))
+pub in_turn : (n : ℕ) (r : Result Words WordFault) (xs : List (List ℕ))
     → fold (λ r word. elim r [ Ok w ↦ read_word word.0 w word.1 | Err e ↦ Err e ]) r (enumerate_from n xs) ≡
     read_on n r xs
 in_turn n (Err e) [] = refl
 in_turn n (Err e) (x ∷ xs) = in_turn (n + 1) (Err e) xs
 in_turn n (Ok w) [] = refl
 in_turn n (Ok w) (x ∷ xs) = in_turn (n + 1) (read_word n w x) xs
-
-pub words_in_turn : (xs : List (List ℕ))
-    → read_words xs ≡ read_on 1 (Ok (record { spacing = 0; limit = 2 ^ 64 - 1 })) xs
-words_in_turn xs = in_turn 1 (Ok (record { spacing = 0; limit = 2 ^ 64 - 1 })) xs

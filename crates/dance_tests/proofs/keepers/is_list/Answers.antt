@@ -4,13 +4,7 @@ use Rattle.xc_dance.proofs.LinkedTables.NodeOptions.{next_contained}
 use Rattle.dance_tests.proofs.keepers.is_list.Goals as goal
 
 pub loop-o-init : goal.loop-o-init
-loop-o-init g c =
-    λ x e. next_contained 0 x
-    (listed_numbers (g.D.Dance.state c.args.dance.now).puzzle (g.D.Dance.state c.args.dance.now).trail c.args.i)
-    (sym c.first-at.ensures ∙ e)
+loop-o-init g c = λ x e. next_contained 0 x _ (sym c.first-at.ensures ∙ e)
 
 pub loop-o-preserved : goal.loop-o-preserved
-loop-o-preserved g c =
-    λ x e. next_contained _ x
-    (listed_numbers (g.D.Dance.state c.args.dance.now).puzzle (g.D.Dance.state c.args.dance.now).trail c.args.i)
-    (sym c.below-at.ensures ∙ e)
+loop-o-preserved g c = λ x e. next_contained _ x _ (sym c.below-at.ensures ∙ e)

@@ -5,14 +5,4 @@ use Rattle.xc_list.proofs.laws.worked_texts.Goals as goal
 
 pub returns : goal.returns
 unfolding listing listing_to digits
-returns c = record {
-  seven = refl;
-  colours = refl;
-  spaced = refl;
-  limited = refl;
-  counted = refl;
-  done = refl;
-  limit = refl;
-  one = refl;
-  met = refl;
-}
+returns c = search

@@ -13,10 +13,8 @@ returns-in-Some-clause-put g c =
 
 pub returns-in_err-write_past-clause-put : goal.returns-in_err-write_past-clause-put
 returns-in_err-write_past-clause-put g c =
-    let held = between_is c.put_choice.new.page c.args.held.from c.args.held.to in
-    if_failed _ _ c.from_residual.ensures.0 (rw (held, c.in_default.ensures.none refl) at c.in_err-write_past.ensures)
+    if_failed _ _ c.from_residual.ensures.0
+    (rw (between_is, c.in_default.ensures.none refl) at c.in_err-write_past.ensures)
 
 pub returns-clause-put : goal.returns-clause-put
-returns-clause-put g c =
-    let held = between_is c.put_choice.new.page c.args.held.from c.args.held.to in
-    puts_out (rw (held, c.in_default.ensures.none refl) at c.in_ok-write_past.ensures)
+returns-clause-put g c = puts_out (rw (between_is, c.in_default.ensures.none refl) at c.in_ok-write_past.ensures)

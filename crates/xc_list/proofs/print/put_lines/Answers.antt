@@ -1,13 +1,13 @@
 use Rattle.xc_list.proofs.Writing.{if_failed}
-use Rattle.std.proofs.Common.{refl, []}
+use Rattle.std.proofs.Common.{sym, append-nil, refl, []}
 use Rattle.std.proofs.lemmas.List.Elements.{All-tail}
 use Rattle.xc_list.specs.Known.{IsKnownChoice}
-use Rattle.xc_list.proofs.PageLemmas.{line_put, lines_broke, puts_nothing, all_put}
+use Rattle.xc_list.proofs.PageLemmas.{line_put, lines_broke, puts_held}
 use Rattle.xc_list.proofs.print.put_lines.Goals as goal
 
 pub loop-choice-init : goal.loop-choice-init
 loop-choice-init g c = record {
-  put = record { done = []; whole = c.solution-choices.ensures; puts = puts_nothing _ _ };
+  put = record { done = []; whole = c.solution-choices.ensures; puts = puts_held _ _ _ [] (sym (append-nil _)) };
   known = rw c.solution-choices.ensures c.requires.known;
   within = c.requires.within;
   size = c.requires.size;

@@ -5,6 +5,5 @@ use Rattle.xc_list.proofs.print.write_by_page.Goals as goal
 
 pub returns-clause-written : goal.returns-clause-written
 returns-clause-written g c =
-    let held = between_is c.put_lines.new.page c.in_ok-held.held.from c.in_ok-held.held.to in
     rw (← c.put_header-header.ensures.put)
-    (puts_writes _ c.write_all.result c.in_ok-held.ensures.put (rw held at c.write_all.ensures))
+    (puts_writes _ c.write_all.result c.in_ok-held.ensures.put (rw between_is at c.write_all.ensures))

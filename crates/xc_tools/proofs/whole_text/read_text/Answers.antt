@@ -1,17 +1,8 @@
 use Rattle.std.proofs.Common.{◌≡◌, ◌<◌, ◌++◌, length, take, arith, sym, ◌∙◌, subst}
 use Rattle.std.proofs.lemmas.Grind.{common_steps}
 use Rattle.xc_input.specs.Pieces.{Gave}
-use Rattle.xc_input.proofs.LineLemmas.Pieces.{gave_more, gave_end}
+use Rattle.xc_input.proofs.LineLemmas.Pieces.{gave_more}
 use Rattle.xc_tools.proofs.whole_text.read_text.Goals as goal
-
-pub returns-then-n-eq0-clause-whole : goal.returns-then-n-eq0-clause-whole
-returns-then-n-eq0-clause-whole g c =
-    let end : c.in_ok-n.n ≡ 0 = grind (arith, common_steps, c.if-n-eq0.true) in
-    let some : 0 < length c.read.new.buf = omega arith in
-    gave_end _ _ _ _ c.read.new.buf c.in_ok-n.n end c.reading.invariant.1
-    (c.in_ok-n.ensures.failures ∙ c.reading.invariant.0) c.in_ok-n.ensures.bytes.0
-    (c.in_ok-n.ensures.bytes.1 end some)
-    c.in_ok-n.ensures.given
 
 pub reading-preserved : goal.reading-preserved
 reading-preserved g c =
