@@ -66,11 +66,8 @@ module _ (p : Named) (sound : IsSound p) where
   plain-name i item =
       let within : i ≤ length p.names = omega (arith, item.1, sound.named.count) in
       let unbroken = at_bytes IsUnbroken p.names i item.0 within sound.named.unbroken_names in
-      record {
-        some = (at_bytes IsName p.names i item.0 within sound.named.names).some;
-        no_space = unbroken.no_space;
-        no_feed = unbroken.no_feed;
-      }
+      let name = at_bytes IsName p.names i item.0 within sound.named.names in
+      record { some = name.some; no_space = unbroken.no_space; no_feed = unbroken.no_feed }
 
   plain-colour : (c : ℕ) → c ≤ length p.colours
       → (list_any is_space (colour_text p.colours c) ≡ false) × (has 10 (colour_text p.colours c) ≡ false)
@@ -82,8 +79,7 @@ module _ (p : Named) (sound : IsSound p) where
   plain-use : (u : Use) → IsKnownUse p u → IsPlain (use_word p u)
   plain-use u known =
       let colour = plain-colour u.colour known.1 in
-      plain-append (bytes_at p.names u.item) (colour_text p.colours u.colour) (plain-name u.item known.0) colour.0
-      colour.1
+      plain-append _ (colour_text p.colours u.colour) (plain-name u.item known.0) colour.0 colour.1
 
   module _ (none : All (λ n. n ≢ codes "null") p.names) where
     -- no use has the word null

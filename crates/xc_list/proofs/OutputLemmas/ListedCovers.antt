@@ -60,17 +60,14 @@ no_fault-members p n (nm ∷ nms) all =
 abbrev solution_of : Named → ℕ × List Choice → Solution
 solution_of p nm = record { number = nm.0; bodies = map (choice_words p) nm.1 }
 
-abbrev in_parts : List (List (List ℕ)) → List Solution → Listing
-in_parts loose solutions = record { loose = loose; solutions = solutions }
-
 listing_of-choices : (p : Named) (m : List Choice) (rest : List (List ℕ)) → AllByRecursion (IsReadable p) m
-    → listing_of (map (choice_line p) m ++ rest) ≡ in_parts (map (choice_words p) m ++ (listing_of rest).loose)
-    (listing_of rest).solutions
+    → listing_of (map (choice_line p) m ++ rest)
+    ≡ record { loose = map (choice_words p) m ++ (listing_of rest).loose; solutions = (listing_of rest).solutions }
 listing_of-choices p [] rest all = refl
 listing_of-choices p (c ∷ m) rest all = cc ((read-choice_line p c all.0).0, listing_of-choices p m rest all.1)
 
 listing_of-members : (p : Named) (nms : List (ℕ × List Choice)) → AllByRecursion (IsReadableMember p) nms
-    → listing_of (output_lines p nms) ≡ in_parts [] (map (solution_of p) nms)
+    → listing_of (output_lines p nms) ≡ record { loose = []; solutions = map (solution_of p) nms }
 listing_of-members p [] all = refl
 listing_of-members p (nm ∷ nms) all =
     let choices = listing_of-choices p nm.1 (output_lines p nms) all.0.choices in
