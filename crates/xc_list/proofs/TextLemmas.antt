@@ -1,8 +1,6 @@
 -- What follows when a sink takes one text after another.
 use Rattle.std.proofs.Common.{◌≡◌, ◌≢◌, ℕ, ◌≤◌, ◌-◌, List, ◌++◌, Option, None, Some, Ok, length, take, drop, ap, ◌∙◌}
 use Rattle.std.proofs.Common.{append_assoc, arith}
-use Rattle.std.proofs.lemmas.Bool.Decides.{nat_tests}
-use Rattle.xc_input.specs.Calls.{counted, is_failed_write}
 use Rattle.std.proofs.lemmas.Grind.{common_steps}
 use Rattle.std.specs.Io.KnownBytes.{Appends, Keeps}
 
@@ -22,7 +20,3 @@ appends_kept (Some x) (Some y) (Some z) xs p q = q ∙ p
 pub front_more : (written rest : List ℕ) (n : ℕ) → n ≤ length rest
     → written ++ rest ≡ (written ++ take n rest) ++ take (length rest - n) (drop n rest)
 front_more written rest n h = grind (arith, common_steps)
-
-pub good_write-counts : (a b n : ℕ) (bytes : List ℕ) → n ≢ 0 → b ≡ counted (is_failed_write {E = ℕ} (Ok n) bytes) a
-    → b ≡ a
-good_write-counts a b n bytes e p = grind (arith, nat_tests)

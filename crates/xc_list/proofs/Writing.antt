@@ -90,10 +90,6 @@ pub option_texts : (f : Use → List ℕ) (item : ℕ) (all us before after : Li
 option_texts f item all us before after p e at b a =
     cc (a, at, e, b, flat_map-append f (drop (place_in item all) all) (take (place_in item all) all))
 
-pub loop_took : {X : Type 0} {a b c : SinkState} (f : X → List ℕ) (xs : List X) (i : ℕ) (d : X) → i < length xs
-    → Took a b (flat_map f (take i xs)) → Took b c (f (get_or xs i d)) → Took a c (flat_map f (take (i + 1) xs))
-loop_took {a = a} {c = c} f xs i d h p q = subst (Took a c) (sym (flat_map-take-more f xs i d h)) (then_took p q)
-
 pub decimal_two : (n : ℕ) → (10 ≤ n) × (n < 100) → decimal n ≡ (48 + n / 10) ∷ (48 + n % 10) ∷ []
 decimal_two n h =
     let small : n < 2 ^ 64 = omega (arith, h.1) in

@@ -26,9 +26,8 @@ pub moved_to_front : (bytes : List ℕ) (n end : ℕ) → n ≤ end → end ≤ 
 moved_to_front bytes n end a b =
     let count : end - n ≡ 0 + (end - n) = omega arith in
     let whole : n + (end - n) ≡ end = omega (arith, a) in
-    ap (λ k. take k (paste bytes 0 (drop n bytes) (end - n))) count
-    ∙ take-paste bytes 0 (drop n bytes) (end - n) (omega arith) (omega (arith, b, length-drop n bytes))
-    ∙ sym (drop-take n (end - n) bytes) ∙ ap (λ k. drop n (take k bytes)) whole
+    let front = take-paste bytes 0 (drop n bytes) (end - n) (omega arith) (omega (arith, b, length-drop n bytes)) in
+    cc (count, front, drop-take n (end - n) bytes, whole)
 
 -- more is held back
 pub held_more : (known : Option (List ℕ)) (held now xs : List ℕ) → now ≡ held ++ xs

@@ -81,12 +81,15 @@ branch_known p r w b known item h = elim
           let at = each_in _ _ _ (each_numbered (IsIn held) 1 (n + 1) (take n held)
           (omega (arith, length-take n held)) (each_from _ _ (λ o. in-take n held o))) from.1 in
           let x = in-filter _ _ _ at.1 in
-          let number = numbered_at 0 p.options from.0.1 (known.options _ x.0) in
-          let is : IsOption p from.0.1.number = (omega (arith, number.1), omega (arith, number.1, number.2)) in
-          let holds = subst (λ us. is_some (colour_in us w.item) ≡ true)
-          (sym (uses_known p _ (known.options _ x.0))) x.1 in
+          let option = known.options _ x.0 in
+          let number = numbered_at 0 p.options from.0.1 option in
+          let is : IsOption p from.0.1.number = omega (arith, number.1, number.2) in
           subst (IsKnownBranch p) from.2 (record {
-            choice = record { known = (item, (is, holds)); k = omega (arith, at.0, few); n = few };
+            choice = record {
+              known = (item, (is, rw (uses_known p _ option) x.1));
+              k = omega (arith, at.0, few);
+              n = few;
+            };
             next = pick_known p r w.item from.0.1 known;
           })
       | inr h ↦ by_bool (w.low == 0)

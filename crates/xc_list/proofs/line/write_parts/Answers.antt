@@ -1,4 +1,4 @@
-use Rattle.xc_list.proofs.Writing.{loop_failed, loop_took}
+use Rattle.xc_list.proofs.Writing.{loop_failed}
 use Rattle.xc_list.proofs.line.write_parts.Goals as goal
 
 pub returns-in_err-write_all : goal.returns-in_err-write_all

@@ -1,5 +1,5 @@
 use Rattle.xc_list.specs.Messages.{warning_text}
-use Rattle.xc_list.proofs.Writing.{loop_failed, loop_took}
+use Rattle.xc_list.proofs.Writing.{flat_map-take-more, loop_failed, then_took}
 use Rattle.xc_list.proofs.messages.write_warnings.Goals as goal
 
 pub returns-in_err-write_warning : goal.returns-in_err-write_warning
@@ -9,4 +9,5 @@ returns-in_err-write_warning g c =
 
 pub loop-line-preserved : goal.loop-line-preserved
 loop-line-preserved g c =
-    loop_took warning_text _ _ 0 c.loop-line-test.true c.loop-line.invariant c.in_ok-write_warning.ensures
+    rw (flat_map-take-more warning_text _ _ 0 c.loop-line-test.true)
+    (then_took c.loop-line.invariant c.in_ok-write_warning.ensures)
