@@ -3,7 +3,7 @@ use Rattle.xc_list.specs.Runs.{IsRun}
 use Rattle.std.proofs.lemmas.Bool.{cases_Bool}
 use Rattle.std.proofs.Common.{inl, inr, lt-ltb, ◌∙◌}
 use Rattle.xc_list.specs.declared.runs.End.TheVariants.{Done}
-use Rattle.xc_list.proofs.Outputs.{output_all}
+use Rattle.xc_list.proofs.Outputs.{output_texts, texts_all}
 use Rattle.std.proofs.lemmas.Bool.Decides.{nat_tests}
 use Rattle.std.proofs.Common.{◌≡◌, ℕ, zero, suc, ◌+◌, ◌-◌, ◌<◌, ◌≤◌, false, List, [], ◌∷◌, length}
 use Rattle.std.proofs.Common.{drop, get_or}
@@ -70,10 +70,12 @@ ends a spacing limit k n passed {x = x} {y = y} within all less few silent so_fa
     omega (arith, all, within, length-drop k (members a.puzzle)) in
     let below : k + passed < limit = omega (arith, less, few) in
     let same = output_silent a spacing k passed (omega (arith, end))
-    (λ j from below. silent j from (omega (arith, below, less))) in (
-      cc (end, lt-ltb (k + passed) limit below),
-      rw (output_all a spacing (k + passed) limit (omega (arith, end)) (omega (arith, below)) ∙ same) so_far,
-    )
+    (λ j from below. silent j from (omega (arith, below, less))) in
+    let all = texts_all (printed_text a spacing) (members a.puzzle) (k + passed) limit (omega (arith, end))
+    (omega (arith, below)) in
+    let whole : output a spacing limit ≡ output a spacing k =
+    cc (all, output_texts a spacing (k + passed), output_texts a spacing limit, same) in
+    (cc (end, lt-ltb (k + passed) limit below), rw whole so_far)
 
 module _ {a : Named} {spacing k t : ℕ} {o : Outlook} (to : Reaches a spacing k t o) where
   pub stands : StandsAt (members a.puzzle) t o

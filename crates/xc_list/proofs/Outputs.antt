@@ -78,10 +78,6 @@ module _ {X : Type 0} (f : ℕ × X → List ℕ) (ms : List X) (k : ℕ) where
       let last : 1 + length front ≡ k + 1 = grind (arith, common_steps, within_next ms k e) in
       cc (take_next ms k e, texts_append f front (m ∷ []), last, append-nil (f (1 + length front, m)))
 
-  pub texts_took : {m : X} {rest : List X} {x y z : SinkState} → drop k ms ≡ m ∷ rest
-      → Took x y (first_texts f ms k) → Took y z (f (k + 1, m)) → Took x z (first_texts f ms (k + 1))
-  texts_took {x = x} {z = z} e so_far more = subst (Took x z) (sym (texts_next e)) (then_took so_far more)
-
   -- a sink that broke off in the next one broke off in all of them
   pub texts_broke : (limit : ℕ) {m : X} {rest : List X} {x y z : SinkState} → drop k ms ≡ m ∷ rest → k < limit
       → Took x y (first_texts f ms k) → BrokeOff y z (f (k + 1, m)) → BrokeOff x z (first_texts f ms limit)
@@ -97,7 +93,7 @@ printed_texts : (a : Named) (spacing : ℕ) (nms : List (ℕ × List Choice))
 printed_texts a spacing [] = refl
 printed_texts a spacing (nm ∷ nms) = grind (arith, nat_tests, printed_texts a spacing nms)
 
-output_texts : (a : Named) (spacing n : ℕ)
+pub output_texts : (a : Named) (spacing n : ℕ)
     → output a spacing n ≡ first_texts (printed_text a spacing) (members a.puzzle) n
 output_texts a spacing n = printed_texts a spacing (enumerate_from 1 (take n (members a.puzzle)))
 
@@ -107,12 +103,6 @@ pub output_next : (a : Named) (spacing k : ℕ) {m : List Choice} {rest : List (
 output_next a spacing k e =
     let next = texts_next (printed_text a spacing) (members a.puzzle) k e in
     cc (output_texts a spacing k, output_texts a spacing (k + 1))
-
-pub output_all : (a : Named) (spacing k limit : ℕ) → length (members a.puzzle) ≤ k → k ≤ limit
-    → output a spacing limit ≡ output a spacing k
-output_all a spacing k limit e h =
-    let all = texts_all (printed_text a spacing) (members a.puzzle) k limit e h in
-    cc (output_texts a spacing k, output_texts a spacing limit)
 
 -- a sink that broke off in a member's text broke off in the output
 pub stopped_broke : (a : Named) (spacing limit t : ℕ) {x z : SinkState} → StoppedAt a spacing limit t x z

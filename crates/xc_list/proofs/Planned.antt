@@ -1,14 +1,12 @@
 -- A plan that is written part by part.
 use Rattle.std.proofs.Common.{length}
 use Rattle.std.proofs.lemmas.List.Elements.{All-push}
-use Rattle.std.proofs.Common.{arith}
-use Rattle.std.proofs.lemmas.Bool.Decides.{nat_tests}
 use Rattle.std.proofs.Common.{ℕ, ◌≡◌, ◌+◌, List, [], ◌∷◌, ◌++◌, sym, ap, ◌∙◌, subst, append_assoc, append-nil}
 use Rattle.std.proofs.Common.{length-append}
 use Rattle.std.specs.Prelude.{flat_map}
 use Rattle.std.proofs.lemmas.List.Concat.{flat_map-append}
 use Rattle.xc_search.specs.declared.choice.Choice.{Choice}
-use Rattle.xc_search.specs.Cut.{Uncut, IsPath, IsCutUpTo, below}
+use Rattle.xc_search.specs.Cut.{IsPath, IsCutUpTo, below}
 use Rattle.xc_input.specs.Problem.{Puzzle}
 use Rattle.xc_input.specs.Named.{Named}
 use Rattle.xc_list.specs.Texts.{SinkState, Took, BrokeOff}
@@ -51,9 +49,3 @@ module _ {a : Named} {n : ℕ} {ms : List (List Choice)} {old mid : SinkState} (
     cut = cut;
     taken = subst (BrokeOff old new) (sym (one_more (part_text a) so.plan path)) (then_broke so.taken broke);
   }
-
--- what is known of the part that a cut stands at, in the words of the problem
-pub part_of : (p : Puzzle) (path : List Choice) (d e : Uncut) → d.puzzle ≡ p → path ≡ e.path → IsPath d.puzzle e.path
-    → d.to_come ≡ below d.puzzle e.path ++ e.to_come →
-    IsPath p path × (d.to_come ≡ below p path ++ e.to_come)
-part_of p path d e same is at here = grind (arith, nat_tests)

@@ -1,7 +1,7 @@
-use Rattle.xc_list.proofs.Outputs.{texts_all, texts_took, texts_broke, holds_next}
+use Rattle.xc_list.proofs.Outputs.{texts_all, texts_next, texts_broke, holds_next}
 use Rattle.xc_list.specs.Below.{most_counted}
 use Rattle.xc_list.specs.Output.{member_text}
-use Rattle.xc_list.proofs.Writing.{if_failed}
+use Rattle.xc_list.proofs.Writing.{if_failed, then_took}
 use Rattle.std.proofs.lemmas.Bool.Decides.{nat_tests}
 use Rattle.std.proofs.Common.{arith, ◌≡◌, ◌∙◌, ◌∷◌, drop, length, sym}
 use Rattle.std.specs.Prelude.{All}
@@ -49,8 +49,8 @@ loop-found-preserved g c =
       still = rw (c.next.ensures.still, c.loop-found.invariant.still);
       come = rest_next ms c.loop-found.found at;
       within = omega (arith, within_next ms c.loop-found.found at);
-      taken = texts_took (member_text c.args.bodies.now) ms c.loop-found.found at c.loop-found.invariant.taken
-          (rw c.choices.ensures at c.in_ok-write_member.ensures);
+      taken = rw (texts_next (member_text c.args.bodies.now) ms c.loop-found.found at)
+          (then_took c.loop-found.invariant.taken (rw c.choices.ensures at c.in_ok-write_member.ensures));
     }
 
 pub returns-clause-wrote : goal.returns-clause-wrote
