@@ -1,10 +1,10 @@
 -- Words of a command line, one after another.
-use Rattle.std.proofs.Common.{◌≡◌, ℕ, ◌+◌, ◌-◌, ◌^◌, List, [], ◌∷◌, Result, Ok, Err, refl}
+use Rattle.std.proofs.Common.{◌≡◌, ℕ, ◌+◌, List, [], ◌∷◌, Result, Ok, Err, refl}
 use Rattle.std.specs.Prelude.{fold}
 use Rattle.std.specs.List.{enumerate_from}
 use Rattle.xc_list.specs.declared.words.Words.{Words}
 use Rattle.xc_list.specs.declared.words.WordFault.{WordFault}
-use Rattle.xc_list.specs.Settings.{read_word, read_words}
+use Rattle.xc_list.specs.Settings.{read_word}
 
 -- what words make of those before them; the first faulty one ends it
 abbrev pub read_on : ℕ → Result Words WordFault → List (List ℕ) → Result Words WordFault

@@ -13,12 +13,11 @@ use Rattle.xc_list.proofs.CheckLemmas.ReadUses.{plain-word}
 use Rattle.xc_list.proofs.CheckLemmas.DecidedByClasses.{uses-in}
 use Rattle.xc_input.proofs.lists.Members.{in-slice_get}
 use Rattle.std.proofs.Common.{◌≡◌, ◌≢◌, ℕ, zero, suc, ◌<◌, ◌≤◌, true, false, ◌||◌, List}
-use Rattle.std.proofs.Common.{[], ◌∷◌, Option, None, Some, length, map, take, drop, refl, ap, ◌∙◌, arith}
-use Rattle.std.proofs.Common.{length-append}
+use Rattle.std.proofs.Common.{[], ◌∷◌, Option, None, Some, length, map, take, refl, ap, ◌∙◌, arith}
 use Rattle.std.specs.Prelude.{All, codes, is_some, MatchOption}
 use Rattle.std.specs.List.{list_any}
 use Rattle.std.specs.Str.{bytes_eq}
-use Rattle.std.proofs.lemmas.List.{length-map, take-append-drop}
+use Rattle.std.proofs.lemmas.List.{length-map}
 use Rattle.std.proofs.lemmas.List.Elements.{All-head, recursion_from_All}
 use Rattle.std.specs.List.{AllByRecursion}
 use Rattle.xc_input.proofs.lists.EachElement.{each-map, each_weaker}

@@ -2,13 +2,13 @@
 use Rattle.xc_list.proofs.OutputLemmas.OutputLines.{IsReadable, IsReadableMember}
 use Rattle.xc_input.proofs.lists.Members.{in-take}
 use Rattle.xc_list.proofs.OutputLemmas.KnownMembers.{member_counted}
-use Rattle.std.proofs.Common.{◌≡◌, ◌≢◌, ℕ, ◌+◌, ◌^◌, ◌<◌, true, false, cond, not, List, [], ◌∷◌, ◌++◌, Option}
-use Rattle.std.proofs.Common.{None, Some, map, take, filter, refl, sym, ap, ◌∙◌, arith, subst}
+use Rattle.std.proofs.Common.{◌≡◌, ◌≢◌, ℕ, ◌+◌, ◌^◌, ◌<◌, true, not, List, [], ◌∷◌, ◌++◌}
+use Rattle.std.proofs.Common.{None, map, take, filter, refl, sym, ap, ◌∙◌, arith, subst}
 use Rattle.std.proofs.Common.{append-nil}
 use Rattle.xc_list.proofs.CheckLemmas.ListedSolutions.{listed_solutions}
 use Rattle.xc_list.specs.inner.Listings.{Listing, listing_of}
-use Rattle.std.specs.Prelude.{All, IsTrue, MatchOption, codes, flat_map, ◌==◌}
-use Rattle.std.specs.List.{AllZip, enumerate_from, cons_option}
+use Rattle.std.specs.Prelude.{All, IsTrue, codes, ◌==◌}
+use Rattle.std.specs.List.{AllZip, enumerate_from}
 use Rattle.std.proofs.lemmas.Bool.Decides.{nat_tests}
 use Rattle.std.proofs.lemmas.List.{length-take}
 use Rattle.std.proofs.lemmas.List.Elements.{All-contains, All-from_recursion}
@@ -21,7 +21,7 @@ use Rattle.xc_search.specs.declared.choice.Choice.{Choice}
 use Rattle.xc_search.proofs.Cases.{by_option}
 use Rattle.xc_search.specs.Cover.{IsCover, options_of, members}
 use Rattle.xc_search.proofs.completeness.Covering.{each_member_covers}
-use Rattle.xc_list.specs.Output.{member_text, is_printed, output}
+use Rattle.xc_list.specs.Output.{is_printed, output}
 use Rattle.xc_list.proofs.CheckLemmas.CheckedLines.{lines-cons}
 use Rattle.xc_list.specs.declared.checker.Verdict.{Verdict}
 use Rattle.xc_list.specs.declared.checker.ListingFault.{ListingFault}

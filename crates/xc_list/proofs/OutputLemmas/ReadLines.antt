@@ -3,24 +3,21 @@ use Rattle.std.proofs.lemmas.Str.Parse.{IsNumeralModel, numerals_by_fold}
 use Rattle.std.proofs.lemmas.Fmt.{decimal_nonempty, digits_value-decimal, digits_decimal}
 use Rattle.std.proofs.Common.{flat_map}
 use Rattle.std.proofs.Common.{rules}
-use Rattle.std.proofs.Common.{◌≡◌, ℕ, ◌-◌, ◌^◌, ◌<◌, ◌≤◌, Bool, true, false, not}
-use Rattle.std.proofs.Common.{nat_eq, List, [], ◌∷◌, ◌++◌, Option, None, Some, length, refl, ap, sym, ◌∙◌}
+use Rattle.std.proofs.Common.{◌≡◌, ℕ, ◌-◌, ◌^◌, ◌<◌, ◌≤◌, Bool, true, false}
+use Rattle.std.proofs.Common.{nat_eq, List, [], ◌∷◌, ◌++◌, None, Some, length, refl, ap, sym, ◌∙◌}
 use Rattle.std.proofs.Common.{arith, length-append}
 use Rattle.xc_input.proofs.TokenLemmas.DecimalValues.{value_from}
-use Rattle.std.specs.Prelude.{codes, decimal, nat_le, ◌==◌, if◌then◌else◌}
+use Rattle.std.specs.Prelude.{codes, decimal}
 use Rattle.std.specs.List.{list_all, list_any}
 use Rattle.std.proofs.lemmas.Bool.Decides.{nat_tests}
 use Rattle.std.proofs.lemmas.Grind.{common_steps}
 use Rattle.std.proofs.lemmas.Fmt.{length-decimal-le}
 use Rattle.xc_input.proofs.lists.EachElement.{each-append}
 use Rattle.std.specs.List.{AllByRecursion}
-use Rattle.std.proofs.lemmas.List.Folds.{list_any-append}
 use Rattle.std.proofs.Math.Seq.{drop-append_seam, take-append_seam}
 use Rattle.xc_input.specs.Words.{has}
 use Rattle.xc_input.specs.Tokens.{is_space}
-use Rattle.xc_input.proofs.GrammarLemmas.NoFault.{or-both, and-true, and-both}
 use Rattle.std.specs.Char.{is_ascii_digit}
-use Rattle.xc_list.specs.Settings.{long_number}
 use Rattle.xc_list.proofs.CheckLemmas.CutBodies.{last_is}
 use Rattle.xc_list.proofs.Digits.{some_digits}
 use Rattle.xc_list.specs.ListingLines.{words_in, before_last, header_number, is_word}

@@ -1,5 +1,4 @@
-use Rattle.std.proofs.Common.{arith, ap, length, ◌≡◌, ◌+◌, ◌-◌, ◌≤◌, ◌++◌, take, drop, ◌∙◌}
-use Rattle.xc_input.specs.Problem.{uses_of}
+use Rattle.std.proofs.Common.{arith, ap, length, ◌+◌, ◌-◌, ◌≤◌}
 use Rattle.xc_list.proofs.OutputLemmas.LaidOptions.{cut_in_span, nothing_put, span-length, text_put}
 use Rattle.xc_list.proofs.bodies.put_cut.Goals as goal
 use Rattle.xc_list.proofs.bodies.put_cut.Goals.{then-place-gt0, else-place-gt0, After-place_in_text-place}

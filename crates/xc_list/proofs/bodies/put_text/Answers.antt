@@ -1,9 +1,5 @@
-use Rattle.std.proofs.lemmas.Bool.Decides.{nat_tests}
-use Rattle.std.proofs.Common.{arith, ap, length, ◌≡◌, ◌∙◌}
-use Rattle.xc_input.specs.Problem.{uses_of}
-use Rattle.xc_list.specs.inner.Layout.{first_item}
+use Rattle.std.proofs.Common.{◌∙◌}
 use Rattle.xc_list.proofs.OutputLemmas.LaidOptions.{first_read, from_first}
-use Rattle.xc_input.proofs.FaultLemmas.Checks.{items-length}
 use Rattle.xc_list.proofs.bodies.put_text.Goals as goal
 
 pub returns-then-first-item-clause-put : goal.returns-then-first-item-clause-put

@@ -1,4 +1,3 @@
-use Rattle.std.proofs.Common.{refl}
 use Rattle.std.specs.Fmt.{digits}
 use Rattle.xc_search.specs.Listing.{listing, listing_to}
 use Rattle.xc_list.proofs.laws.worked_texts.Goals as goal

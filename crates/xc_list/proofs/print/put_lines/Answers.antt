@@ -1,5 +1,5 @@
 use Rattle.xc_list.proofs.Writing.{if_failed}
-use Rattle.std.proofs.Common.{sym, append-nil, refl, []}
+use Rattle.std.proofs.Common.{sym, append-nil, []}
 use Rattle.std.proofs.lemmas.List.Elements.{All-tail}
 use Rattle.xc_list.specs.Known.{IsKnownChoice}
 use Rattle.xc_list.proofs.PageLemmas.{line_put, lines_broke, puts_held}

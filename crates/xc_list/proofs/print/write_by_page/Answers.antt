@@ -1,5 +1,4 @@
 use Rattle.std.proofs.lemmas.Slice.{between_is}
-use Rattle.xc_list.proofs.Writing.{failed}
 use Rattle.xc_list.proofs.PageLemmas.{puts_writes}
 use Rattle.xc_list.proofs.print.write_by_page.Goals as goal
 

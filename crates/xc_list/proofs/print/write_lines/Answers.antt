@@ -1,4 +1,4 @@
-use Rattle.std.proofs.Common.{refl, []}
+use Rattle.std.proofs.Common.{[]}
 use Rattle.std.proofs.lemmas.List.Elements.{All-tail}
 use Rattle.xc_list.specs.Known.{IsKnownChoice}
 use Rattle.xc_list.proofs.Writing.{failed}

@@ -1,4 +1,4 @@
-use Rattle.xc_list.proofs.Writing.{broke_before, then_writes, failed}
+use Rattle.xc_list.proofs.Writing.{then_writes}
 use Rattle.xc_list.proofs.print.write_past.Goals as goal
 
 pub returns : goal.returns

@@ -1,4 +1,4 @@
-use Rattle.std.proofs.Common.{arith, ◌<◌, ◌≤◌, ◌+◌, ◌-◌, ◌*◌, ◌^◌, sym, ◌∙◌, length}
+use Rattle.std.proofs.Common.{arith, sym, ◌∙◌}
 use Rattle.xc_list.proofs.Digits.{too_large}
 use Rattle.xc_list.proofs.words.long_number.Goals as goal
 
