@@ -1,5 +1,5 @@
 -- The output grows member by member.
-use Rattle.xc_list.proofs.Writing.{then_took, then_broke, broke_before}
+use Rattle.xc_list.proofs.Writing.{then_broke, broke_before}
 use Rattle.std.proofs.Common.{take_all}
 use Rattle.std.proofs.lemmas.Bool.Decides.{nat_tests}
 use Rattle.std.proofs.Common.{◌≡◌, ℕ, zero, suc, ◌+◌, ◌<◌, ◌≤◌, ◌-◌, List, [], ◌∷◌, ◌++◌, Some}

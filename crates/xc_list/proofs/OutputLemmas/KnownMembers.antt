@@ -12,17 +12,17 @@ use Rattle.xc_dance.proofs.MoveLemmas.ListLemmas.{length-numbered_from}
 use Rattle.std.proofs.Common.{inl, inr}
 use Rattle.std.proofs.Common.{◌<◌}
 use Rattle.std.proofs.lemmas.List.{length-take}
-use Rattle.std.proofs.Common.{◌≡◌, ℕ, zero, suc, ◌+◌, ◌≤◌, true, not, List, [], ◌∷◌}
+use Rattle.std.proofs.Common.{ℕ, zero, suc, ◌+◌, ◌≤◌, not, List, [], ◌∷◌}
 use Rattle.std.proofs.Common.{length, take, sym, ap, ◌∙◌, arith, subst}
 use Rattle.xc_search.specs.inner.Sizes.{size_of}
-use Rattle.std.specs.Prelude.{All, is_some, ◌==◌}
+use Rattle.std.specs.Prelude.{All, ◌==◌}
 use Rattle.std.specs.List.{enumerate_from}
 use Rattle.std.proofs.lemmas.List.Elements.{All-from_recursion}
 use Rattle.std.specs.List.{AllByRecursion}
 use Rattle.xc_input.proofs.lists.EachElement.{each_weaker}
 use Rattle.xc_search.specs.declared.choice.Choice.{Choice}
 use Rattle.xc_input.specs.Problem.{Puzzle, Numbered, option_count, holds}
-use Rattle.xc_input.specs.Problem.{colour_in, IsPrimary}
+use Rattle.xc_input.specs.Problem.{IsPrimary}
 use Rattle.xc_search.specs.Listing.{Wanted, Residual, whole, branch_count, branch_item}
 use Rattle.xc_search.specs.Listing.{pick, none, Branch, branches_of}
 use Rattle.xc_search.specs.Listing.{listing_to, listing}
