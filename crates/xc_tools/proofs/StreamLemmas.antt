@@ -29,12 +29,6 @@ moved_to_front bytes n end a b =
     let front = take-paste bytes 0 (drop n bytes) (end - n) (omega arith) (omega (arith, b, length-drop n bytes)) in
     cc (count, front, drop-take n (end - n) bytes, whole)
 
--- more is held back
-pub held_more : (known : Option (List ℕ)) (held now xs : List ℕ) → now ≡ held ++ xs
-    → Appends (append_known known held) (append_known known now) xs
-held_more None held now xs e = tt
-held_more (Some x) held now xs e = ap (λ l. x ++ l) e ∙ sym (append_assoc x held xs)
-
 -- bytes that were put in the place of others by loads and stores of their first and their last piece
 pub two_pieces : (held bytes : List ℕ) (at size : ℕ) → at + length bytes ≤ length held → size ≤ length bytes
     → length bytes ≤ size + size
