@@ -2,14 +2,14 @@
 use Rattle.std.proofs.lemmas.Simd.{take_more_put_chunk}
 use Rattle.std.proofs.Math.Seq.{take-append-add}
 use Rattle.std.proofs.lemmas.List.{take-take, take-append-drop}
-use Rattle.std.proofs.Common.{◌≡◌, ℕ, ◌+◌, ◌-◌, ◌≤◌, List, ◌++◌, Option, None, Some, length, take, drop}
-use Rattle.std.proofs.Common.{refl, sym, ap, ◌∙◌, append_assoc, arith}
+use Rattle.std.proofs.Common.{◌≡◌, ℕ, ◌+◌, ◌-◌, ◌≤◌, List, ◌++◌, Option, length, take, drop}
+use Rattle.std.proofs.Common.{refl, append_assoc, arith}
 use lib.Seq.{paste}
 use Rattle.std.proofs.lemmas.List.Edits.{take-paste}
 use Rattle.std.proofs.Math.Seq.{take-add}
 use Rattle.std.proofs.lemmas.List.{drop-take, length-drop, length-take-le, take_all}
 use Rattle.std.proofs.lemmas.Slice.{drop-put_mid}
-use Rattle.std.specs.Io.KnownBytes.{append_known, Appends}
+use Rattle.std.specs.Io.KnownBytes.{Appends}
 use Rattle.xc_list.proofs.TextLemmas.{appends_more}
 use Rattle.std.specs.Simd.Lanes.{chunk, put_chunk}
 use Rattle.std.proofs.lemmas.Simd.{put_chunk_is, length-put_chunk, length-chunk}
