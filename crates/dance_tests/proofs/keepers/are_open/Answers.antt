@@ -12,7 +12,11 @@ next_is_open p t n k e =
     ((found.0, omega (arith, found.1)), found.2)
 
 pub loop-i-init : goal.loop-i-init
-loop-i-init g c = λ x e. next_is_open _ _ 0 x (sym c.open_after-next.ensures ∙ e)
+loop-i-init g c =
+    λ x e. next_is_open (g.D.Dance.state c.args.dance.now).puzzle (g.D.Dance.state c.args.dance.now).trail 0 x
+    (sym c.open_after-next.ensures ∙ e)
 
 pub loop-i-preserved : goal.loop-i-preserved
-loop-i-preserved g c = λ x e. next_is_open _ _ _ x (sym c.open_after-next-in-loop-i.ensures ∙ e)
+loop-i-preserved g c =
+    λ x e. next_is_open (g.D.Dance.state c.args.dance.now).puzzle (g.D.Dance.state c.args.dance.now).trail _ x
+    (sym c.open_after-next-in-loop-i.ensures ∙ e)

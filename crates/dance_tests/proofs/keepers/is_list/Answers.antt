@@ -1,5 +1,4 @@
 use Rattle.std.proofs.Common.{sym, ◌∙◌}
-use Rattle.xc_dance.specs.Moves.{listed_numbers}
 use Rattle.xc_dance.proofs.LinkedTables.NodeOptions.{next_contained}
 use Rattle.dance_tests.proofs.keepers.is_list.Goals as goal
 
