@@ -18,7 +18,7 @@ use Rattle.std.proofs.Math.Seq.{drop-append_seam, take-append_seam}
 use Rattle.xc_input.specs.Words.{has}
 use Rattle.xc_input.specs.Tokens.{is_space}
 use Rattle.std.specs.Char.{is_ascii_digit}
-use Rattle.xc_list.proofs.CheckLemmas.CutBodies.{last_is}
+use Rattle.xc_list.proofs.CheckLemmas.CutBodies.{last_byte}
 use Rattle.xc_list.proofs.Digits.{some_digits}
 use Rattle.xc_list.specs.ListingLines.{words_in, before_last, header_number, is_word}
 use Rattle.xc_list.specs.ListingLines.{is_ending, body_of_words}
@@ -45,7 +45,7 @@ lacks p q apart (b ∷ bs) h = grind (arith, nat_tests, apart b, lacks p q apart
 -- ---- headers
 
 before_last-last : (b : ℕ) (front : List ℕ) → before_last b (front ++ b ∷ []) ≡ Some front
-before_last-last b front = sym (last_is b b (front ++ b ∷ []) front refl refl)
+before_last-last b front = grind (arith, nat_tests, last_byte)
 
 pub read-header : (n : ℕ) → n < 2 ^ 64 → read (decimal n ++ codes ":") ≡ Header n
 read-header n h =
