@@ -1,8 +1,9 @@
 -- The token at fault is found as its line is read, one token after another.
+use Rattle.std.proofs.lemmas.Grind.{common_steps}
 use Rattle.std.proofs.Common.{arith}
 use Rattle.std.proofs.lemmas.Bool.Decides.{nat_tests}
 use Rattle.std.proofs.lemmas.List.{length-map}
-use Rattle.std.proofs.Common.{◌≡◌, ℕ, List, [], ◌∷◌, ◌++◌, Option, None, Some, Bool, length, map}
+use Rattle.std.proofs.Common.{◌≡◌, ℕ, List, [], ◌∷◌, ◌++◌, Option, None, Some, Bool, length}
 use Rattle.std.proofs.Common.{Result, Ok, Err, IfOk, refl, sym, ap, ◌∙◌, append_assoc, append-nil}
 use Rattle.xc_input.specs.declared.fault.FaultKind.{FaultKind}
 use Rattle.xc_input.specs.declared.faulty.FaultyToken.{FaultyToken}
@@ -10,7 +11,7 @@ use Rattle.xc_input.specs.declared.item_line.ItemLine.{ItemLine}
 use Rattle.xc_input.specs.Faults.{first, checks_of_each}
 use Rattle.xc_input.specs.FaultyTokens.{IsAtFault, Tells}
 use Rattle.xc_input.specs.inner.Fronts.{StandsBefore}
-use Rattle.xc_input.specs.inner.Builders.{IsItemTable, entry_of}
+use Rattle.xc_input.specs.inner.Builders.{IsItemTable}
 use Rattle.xc_input.proofs.FaultLemmas.FirstChecks.{first-front, first-back, first-each}
 use Rattle.xc_input.proofs.FaultLemmas.Checks.{names_of-length}
 
@@ -47,21 +48,14 @@ module _ {cut : List ℕ → List (List ℕ)} {checks : List (List ℕ) → List
   pub read-stop : (behind : List ℕ) {piece : List ℕ} {k : FaultKind} (t : FaultyToken) → cut rest ≡ piece ∷ cut behind
       → first (checks others piece) ≡ Some k → line ≡ t.before.now ++ piece ++ behind → t.token.now ≡ piece
       → t.behind.now ≡ behind → t.kind ≡ k → IsAtFault cut checks line t
-  read-stop behind t e f place token back kind = record {
-    others = others;
-    place = place ∙ (λ i. t.before.now ++ sym token i ++ sym back i);
-    order = r.order ∙ ap (λ ps. others ++ ps) e ∙ (λ i. others ++ sym token i ∷ cut (sym back i));
-    faultless = r.faultless;
-    fault = ap (λ x. first (checks others x)) token ∙ f ∙ ap (λ x. Some x) (sym kind);
-  }
+  read-stop behind t e f place token back kind = grind (arith, common_steps, others, cut, first)
 
   pub read-end : cut rest ≡ [] → (t : FaultyToken) → IsAtFault cut checks line t → ⊥
   read-end e t h = grind (arith, nat_tests, append-nil, first-each, first-front)
 
 -- there are as many names as items
 pub keys-length : (i : ItemLine) → IsItemTable i → length i.names.keys ≡ length i.items.items
-keys-length i t = sym (length-map i.names.keys (λ v. v.items)) ∙ ap length t.0
-    ∙ names_of-length (map entry_of i.items.items) ∙ length-map i.items.items entry_of
+keys-length i t = grind (arith, common_steps, length-map, names_of-length)
 
 -- what is told of the one is told of the other, where both say the same
 pub tells-same : {A : Type 0} {P Q : A → Type 0} (o : Option A) → ((x : A) → P x → Q x) → ((x : A) → Q x → P x)

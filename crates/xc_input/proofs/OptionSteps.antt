@@ -1,8 +1,8 @@
 -- What the tokens of an option line leave behind, one after another.
+use Rattle.std.proofs.lemmas.Grind.{common_steps}
 use Rattle.std.proofs.Common.{◌≡◌, ℕ, ◌+◌, ◌-◌, ◌≤◌, List, [], ◌∷◌, ◌++◌, None, Bool, true, false, length, map, get_or}
-use Rattle.std.proofs.Common.{set, drop, All, refl, ap, ◌∙◌, sym, subst, arith, length-append, length-set, append-nil}
+use Rattle.std.proofs.Common.{set, drop, All, ap, ◌∙◌, sym, subst, arith, length-append, length-set, append-nil}
 use Rattle.std.proofs.Common.{append_assoc}
-use Rattle.std.proofs.lemmas.List.Elements.{All-nil}
 use Rattle.std.proofs.Math.Seq.{drop-append_seam}
 use Rattle.xc_input.specs.declared.kind.Kind.{Kind}
 use Rattle.xc_input.specs.declared.problem.Use.{Use}
@@ -41,19 +41,7 @@ module _ {kind : Kind} {names : List (List ℕ)} {primary : ℕ} {line : List (L
   pub behind_none : (marks : List Bool) → length marks ≡ length names → length names ≤ most_items → AreMarks marks []
       → AreDistinct met → length met ≤ length old
       → IsBehind kind names primary line line met old marks met old
-  behind_none marks count few marked distinct few_colours = record {
-    us = [];
-    decided = refl;
-    split = refl;
-    count = count;
-    marked = marked;
-    markable = All-nil (λ (u : Use). IsMarkable (length marks) u.item);
-    few = omega (arith, count, few, unmarked-few marks);
-    added = sym (append-nil old);
-    known = refl;
-    distinct = distinct;
-    few_colours = few_colours;
-  }
+  behind_none marks count few marked distinct few_colours = grind (arith, common_steps, unmarked-few, append-nil)
 
   module _ {rest : List (List ℕ)} {marks : List Bool} {colours : List (List ℕ)} {uses : List Use}
       (b : IsBehind kind names primary line rest met old marks colours uses) where

@@ -1,5 +1,5 @@
 -- Checks in their order, as `add_item`, `item_line` and `option_line` come to them.
-use Rattle.std.proofs.Common.{◌≡◌, ℕ, ◌+◌, ◌<◌, ◌≤◌, List, [], ◌∷◌, ◌++◌, Option, None, Some, Bool, true, false}
+use Rattle.std.proofs.Common.{◌≡◌, ℕ, ◌<◌, ◌≤◌, List, [], ◌∷◌, ◌++◌, Option, None, Some, Bool, true, false}
 use Rattle.std.proofs.Common.{not, nat_lt, is_none, is_some, length, map, position, refl, ap, ◌∙◌, sym, subst}
 use Rattle.std.proofs.Common.{arith, if◌then◌else◌, Result, Ok, Err, Vec, Global, vec_len}
 use Rattle.std.proofs.lemmas.Bool.Decides.{nat_tests}
@@ -111,17 +111,7 @@ pub grown : (kind : Kind) (bar : Option ℕ) (token : List ℕ) {sec : Bool} →
     → P keys' → keys' ≡ keys ++ e.name ∷ [] → length items < 100000 → map entry_of items' ≡ map entry_of items ++ e ∷ []
     → ((keys' ≡ names_of (map entry_of items')) × (length items' ≤ most_items) × P keys')
     × (map entry_of items' ≡ map entry_of items ++ entry kind (is_some bar) token ∷ [])
-grown kind bar token s P items items' {e} is n p k m all =
-    let l : length items' ≡ length items + 1 =
-    sym (length-map items' entry_of) ∙ ap length all ∙ grind (arith, common_steps, length-map items entry_of) in (
-      (
-        k ∙ ap (λ ns. ns ++ e.name ∷ []) n.0 ∙ sym (names_of-snoc (map entry_of items) e)
-            ∙ ap names_of (sym all),
-        omega arith,
-        p,
-      ),
-      all ∙ ap (λ d. map entry_of items ++ d ∷ []) (is ∙ ap (λ b. entry kind b token) s),
-    )
+grown kind bar token s P items items' {e} is n p k m all = grind (arith, common_steps, length-map, names_of-snoc)
 
 -- a step of the loop over the parts
 pub row-step : (kind : Kind) (row : Row) {next : Row} {line : List (List ℕ)} {part : List ℕ} {parts : List (List ℕ)}

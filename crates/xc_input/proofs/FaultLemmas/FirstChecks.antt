@@ -1,7 +1,8 @@
 -- The first of some checks that holds, for all functions that judge a token or a line.
 -- No list of checks is written out here or by those who use this: a check is asked for by its fault, and a list's
 -- front and rest by `take` and `drop`. So where a check is added to a list, only what speaks of that check changes.
-use Rattle.std.proofs.Common.{◌≡◌, ℕ, List, [], ◌∷◌, ◌++◌, drop, None, Some, Bool, true, false}
+use Rattle.std.proofs.lemmas.Grind.{common_steps}
+use Rattle.std.proofs.Common.{◌≡◌, ℕ, List, [], ◌∷◌, ◌++◌, drop, None, Some, Bool, false}
 use Rattle.std.proofs.lemmas.Bool.Decides.{nat_tests}
 use Rattle.std.proofs.Common.{length, refl, ap, sym, ◌∙◌, if◌then◌else◌, arith, append_assoc, append-nil}
 use Rattle.std.specs.Prelude.{◌↔◌}
@@ -21,9 +22,7 @@ pub fails : (cs : List (FaultKind × Bool)) → first cs ≡ None → (k : Fault
 fails [] e k = refl
 fails (c ∷ cs) e k =
     let rest : first cs ≡ None → test k cs ≡ false = λ f. fails cs f k in
-    elim c.1 as (λ t. (if t then Some c.0 else first cs) ≡ None
-    → (if sameb the_type k c.0 then t else test k cs) ≡ false)
-    [ true ↦ λ f. absurd (cc) | false ↦ λ f. grind arith ] e
+    grind (arith, common_steps)
 
 -- a check that holds among the first ones
 pub first-front : {A : Type 0} (a b : List (A × Bool)) (k : A) → first a ≡ Some k → first (a ++ b) ≡ Some k

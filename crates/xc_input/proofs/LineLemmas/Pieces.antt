@@ -4,12 +4,9 @@ use Rattle.std.proofs.Common.{◌≡◌, ℕ, ◌<◌, List, [], ◌∷◌, ◌+
 use Rattle.std.proofs.Common.{IfErr, length, take, refl, ap, ◌∙◌, append_assoc, append-nil, arith, inl, inr}
 use Rattle.xc_input.proofs.LineLemmas.TextLines.{lines_of-all, last-of-part}
 use Rattle.xc_input.specs.inner.EndedLines.{ended}
-use Rattle.std.specs.Prelude.{All}
 use Rattle.std.specs.Result.{result_err}
 use Rattle.std.specs.Io.KnownBytes.{Consumes, Keeps, IsAtEnd}
-use Rattle.std.proofs.KnownBytes.{Consumes-trans}
 use Rattle.std.proofs.lemmas.Grind.{common_steps, flat_map-append}
-use Rattle.std.proofs.lemmas.List.Elements.{All-append}
 use Rattle.xc_input.specs.Calls.{Rose}
 use Rattle.xc_input.specs.declared.kind.Kind.{Kind}
 use Rattle.xc_input.specs.declared.fault.InputError.{InputError}
@@ -28,16 +25,7 @@ gave_nothing s = grind (arith, nat_tests, append-nil s.given)
 -- one read more gave some bytes
 pub gave_more : (a b c : SourceState) (bytes piece : List ℕ) → Gave a b bytes → 0 < length piece
     → Consumes b.rest c.rest piece → c.given ≡ b.given ++ piece ∷ [] → Gave a c (bytes ++ piece)
-gave_more a b c bytes piece g some told e =
-    let one : All (λ p. 0 < length p) (piece ∷ []) = grind (arith, common_steps) in
-    record {
-      told = Consumes-trans a.rest b.rest c.rest bytes piece g.told told;
-      pieces = g.pieces ++ piece ∷ [];
-      some = All-append (λ p. 0 < length p) g.pieces (piece ∷ []) g.some one;
-      added = e ∙ ap (λ l. l ++ piece ∷ []) g.added ∙ append_assoc a.given g.pieces (piece ∷ []);
-      whole = flat_map-append (λ p. p) g.pieces (piece ∷ []) ∙ ap (λ l. l ++ (piece ++ [])) g.whole
-          ∙ ap (λ l. bytes ++ l) (append-nil piece);
-    }
+gave_more a b c bytes piece g some told e = grind (arith, common_steps, append_assoc, flat_map-append, append-nil)
 
 -- a read failed
 pub gave_kept : (a b c : SourceState) (bytes : List ℕ) → Gave a b bytes → Keeps b.rest c.rest → c.given ≡ b.given

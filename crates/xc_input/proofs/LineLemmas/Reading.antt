@@ -1,7 +1,7 @@
 -- The first fault of lines and one more.
 use Rattle.std.proofs.lemmas.Bool.Decides.{nat_tests}
 use Rattle.std.proofs.Common.{◌≡◌, ℕ, ◌+◌, ◌-◌, ◌^◌, List, [], ◌∷◌, ◌++◌, Option, None, Some, Err, Bool, length, refl}
-use Rattle.std.proofs.Common.{ap, ◌∙◌, sym, subst, arith, min, MatchOption, if◌then◌else◌}
+use Rattle.std.proofs.Common.{ap, ◌∙◌, sym, subst, arith, min, MatchOption}
 use Rattle.std.proofs.lemmas.Grind.{common_steps}
 use Rattle.std.proofs.lemmas.List.{length-append}
 use Rattle.xc_input.specs.declared.kind.Kind.{Kind}
@@ -17,9 +17,6 @@ use Rattle.xc_input.specs.inner.Builders.{Judged, IsBuilder, stage_of_builder, e
 use Rattle.xc_input.specs.Readings.{IsStateOf}
 use Rattle.xc_input.specs.inner.Feeding.{IsErrorOf, IsEndOf}
 use Rattle.std.specs.Option.{option_map, option_or}
-use Rattle.std.specs.List.{list_all}
-use Rattle.xc_input.specs.declared.fault.FaultKind.TheVariants.{NoItems}
-use Rattle.xc_input.specs.Tokens.{is_skipped}
 use Rattle.xc_input.proofs.FaultLemmas.FirstFaults.{line-stays, next-fault, first_fault-is, end_fault}
 
 stage-snoc : (kind : Kind) (n : ℕ) (stage : Stage) (lines : List (List ℕ)) (line : List ℕ)
@@ -39,13 +36,11 @@ IsErrorOf-more kind ls ms Memory h = tt
 -- one line more, after an error
 pub stays : (kind : Kind) (old new : List (List ℕ)) (line : List ℕ) (o : Option InputError) (e : InputError)
     → new ≡ old ++ line ∷ [] → o ≡ Some e → IsStateOf kind old o → IsErrorOf kind new e
-stays kind old new line o e f g h =
-    subst (λ ls. IsErrorOf kind ls e) (sym f) (IsErrorOf-more kind old (line ∷ []) e (subst (IsStateOf kind old) g h))
+stays kind old new line o e f g h = grind (arith, common_steps, IsErrorOf-more)
 
 pub counts : (old new : List (List ℕ)) (line : List ℕ) (count next : ℕ) → new ≡ old ++ line ∷ []
     → count ≡ line_number (length old) → next ≡ min (count + 1) (2 ^ 64 - 1) → next ≡ line_number (length new)
-counts old new line count next f g h =
-    let e : length new ≡ length old + 1 = ap length f ∙ grind (arith, common_steps) in omega arith
+counts old new line count next f g h = grind (arith, common_steps)
 
 -- one line more, with no error so far
 module _ (kind : Kind) (old new : List (List ℕ)) (line : List ℕ) (f : new ≡ old ++ line ∷ []) (o : Option InputError)
@@ -75,8 +70,7 @@ module _ (kind : Kind) (old new : List (List ℕ)) (line : List ℕ) (f : new �
 -- the end of the text
 -- the error of the lines is that of the text
 pub error-ends : (kind : Kind) (lines : List (List ℕ)) (e : InputError) → IsErrorOf kind lines e → IsEndOf kind lines e
-error-ends kind lines (Fault n k) h =
-    ap (λ q. option_or q (if list_all is_skipped lines then Some (line_number (length lines + 1), NoItems) else None)) h
+error-ends kind lines (Fault n k) h = grind (arith, common_steps)
 error-ends kind lines Device h = h
 error-ends kind lines Memory h = tt
 

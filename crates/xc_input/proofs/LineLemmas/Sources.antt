@@ -1,7 +1,8 @@
 -- What the end of a source says of its text.
+use Rattle.std.proofs.lemmas.Grind.{common_steps}
 use Rattle.std.proofs.Common.{arith}
 use Rattle.std.proofs.lemmas.Bool.Decides.{nat_tests}
-use Rattle.std.proofs.Common.{◌≡◌, ℕ, ◌<◌, List, [], ◌∷◌, ◌++◌, Result, Err, length, sym, ap, ◌∙◌, subst, append-nil}
+use Rattle.std.proofs.Common.{◌≡◌, ℕ, ◌<◌, List, [], ◌∷◌, ◌++◌, Result, Err, length, subst, append-nil}
 use Rattle.xc_input.proofs.LineLemmas.Reading.{error-ends}
 use Rattle.xc_input.specs.declared.kind.Kind.{Kind}
 use Rattle.xc_input.specs.declared.fault.InputError.{InputError}
@@ -25,12 +26,8 @@ line-ends kind lines e h =
 -- the lines of what was fed
 pub no-part : (reading : Reading) (carry : List ℕ) → IsBetween reading carry → length carry ≡ 0
     → reading.lines ≡ lines_of (fed reading carry)
-no-part reading carry between none =
-    sym (lines_of-ended reading.lines carry between.whole
-    ∙ ap (λ xs. reading.lines ++ lines_of xs) (nil_from_length carry none) ∙ append-nil reading.lines)
+no-part reading carry between none = grind (arith, common_steps, lines_of-ended, nil_from_length, append-nil)
 
 pub last-part : (reading : Reading) (carry : List ℕ) (after : List (List ℕ)) → IsBetween reading carry
     → 0 < length carry → after ≡ reading.lines ++ carry ∷ [] → after ≡ lines_of (fed reading carry)
-last-part reading carry after between some e =
-    e ∙ sym (lines_of-ended reading.lines carry between.whole
-    ∙ ap (λ ls. reading.lines ++ ls) (lines_of-part carry between.partial some))
+last-part reading carry after between some e = grind (arith, common_steps, lines_of-ended, lines_of-part)

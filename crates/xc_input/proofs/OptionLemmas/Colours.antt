@@ -1,4 +1,5 @@
 -- A colour keeps the number that it has where it is met first.
+use Rattle.std.proofs.lemmas.Grind.{common_steps}
 use Rattle.std.proofs.Common.{◌≡◌, ℕ, suc, ◌+◌, ◌<◌, ◌≤◌, List, [], ◌∷◌, ◌++◌, Option, None, Some, Bool, true, false}
 use Rattle.std.proofs.Common.{◌||◌, nat_le}
 use Rattle.std.proofs.Common.{length, map, take, append-nil, append_assoc, refl}
@@ -80,8 +81,7 @@ primary-numbered primary cs (u ∷ us) = ap (λ t. nat_le u.item primary || t) (
 
 -- an option keeps its number of uses
 pub numbered-length : (colours : List (List ℕ)) (us : List Written) → length (numbered colours us) ≡ length us
-numbered-length colours us =
-    length-map us (λ u. record { item = u.item; colour = colour_number (with_uses colours us) u.colour })
+numbered-length colours us = grind (arith, common_steps, length-map)
 
 -- uses of an option that is kept, each numbered as soon as it is met, behind options that used these colours
 abbrev pub numbered_in_turn : List (List ℕ) → List Written → List Use
@@ -118,8 +118,7 @@ in_turn_items cs (u ∷ us) = ap (λ is. u.item ∷ is) (in_turn_items (with_col
 -- at most one colour more
 pub colours_more : (cs : List (List ℕ)) (c : List ℕ) → length (with_colour cs c) ≤ length cs + 1
 colours_more cs [] = omega arith
-colours_more cs (b ∷ bs) = by-place (place cs (b ∷ bs)) (λ e. rw e (omega (arith, length-append cs ((b ∷ bs) ∷ []))))
-    (λ i e. rw e (omega arith))
+colours_more cs (b ∷ bs) = grind (arith, common_steps, by-place, place, length-append)
 
 -- the colours that were met stand first
 pub first_met : (cs : List (List ℕ)) (us : List Written) → take (length cs) (with_uses cs us) ≡ cs

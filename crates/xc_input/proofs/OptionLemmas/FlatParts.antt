@@ -78,9 +78,7 @@ pub pieces-snoc : {X : Type 0} (a : ℕ) (starts : List ℕ) (us vs : List X) (n
     → n ≡ length us + length vs
     → AreStarts (a ∷ starts ++ n ∷ []) (length (us ++ vs))
     × (pieces (a ∷ starts ++ n ∷ []) (us ++ vs) ≡ pieces (a ∷ starts) us ++ vs ∷ [])
-pieces-snoc a [] us vs n h e =
-    let all : length (us ++ vs) ≡ length us + length vs = length-append us vs in
-    ((omega (arith, h, e), e ∙ sym all), ap (λ p. p ∷ []) (slice-back us vs a n h e))
+pieces-snoc a [] us vs n h e = grind (arith, common_steps, length-append, slice-back)
 pieces-snoc a (b ∷ starts) us vs n h e =
     let later = pieces-snoc b starts us vs n h.1 e in
     let same = slice-front us vs a b h.0 (starts-low b starts (length us) h.1) in

@@ -1,13 +1,13 @@
 -- Marks at the items of a line.
+use Rattle.std.proofs.lemmas.Grind.{common_steps}
 use Rattle.std.proofs.Math.Seq.{take-append_seam}
 use Rattle.std.proofs.Common.{◌≡◌, ℕ, zero, suc, ◌+◌, ◌-◌, ◌<◌, ◌≤◌, List, [], ◌∷◌, ◌++◌, Bool, true, false}
-use Rattle.std.proofs.Common.{true≢false, nat_eq, length, map, get_or, set, take, drop, All, refl, ap, ◌∙◌, sym}
-use Rattle.std.proofs.Common.{subst, arith, length-set, Some, position}
+use Rattle.std.proofs.Common.{true≢false, nat_eq, length, map, get_or, set, take, drop, All, refl, ap}
+use Rattle.std.proofs.Common.{arith, length-set, Some, position}
 use Rattle.std.proofs.lemmas.Bool.Decides.{nat_tests}
 use Rattle.std.proofs.Math.Bool.{or-true}
 use Rattle.std.proofs.lemmas.Grind.{get_or-set_at}
 use Rattle.std.proofs.lemmas.List.{get_or-set_other}
-use Rattle.std.proofs.lemmas.List.Elements.{All-push}
 use Rattle.std.proofs.lemmas.List.Folds.{list_any-append}
 use Rattle.std.specs.List.{list_any}
 use Rattle.std.specs.Str.{bytes_eq}
@@ -15,7 +15,6 @@ use Rattle.xc_input.proofs.OptionLemmas.Colours.{in-range}
 use Rattle.xc_input.specs.declared.problem.Use.{Use}
 use Rattle.xc_input.specs.Sheets.{Written}
 use Rattle.xc_input.specs.inner.Builders.{AreMarks, IsMarkable, items_of}
-use Rattle.xc_input.proofs.FaultLemmas.Checks.{map-snoc}
 
 -- one item more
 pub mark : (marks : List Bool) (seen : List ℕ) (i : ℕ) → AreMarks marks seen → 1 ≤ i → i ≤ length marks
@@ -26,16 +25,12 @@ mark marks seen i are low high =
 -- the item of one use more
 pub mark-more : (marks : List Bool) (us : List Written) (u : Written) → AreMarks marks (items_of us)
     → IsMarkable (length marks) u.item → AreMarks (set marks (u.item - 1) true) (items_of (us ++ u ∷ []))
-mark-more marks us u are within =
-    subst (AreMarks (set marks (u.item - 1) true)) (sym (map-snoc (λ (w : Written). w.item) us u))
-    (mark marks (items_of us) u.item are within.0 within.1)
+mark-more marks us u are within = grind (arith, common_steps, mark, items_of)
 
 pub markable-more : (marks : List Bool) (uses : List Use) (u : Use) → All (λ w. IsMarkable (length marks) w.item) uses
     → IsMarkable (length marks) u.item
     → All (λ w. IsMarkable (length (set marks (u.item - 1) true)) w.item) (uses ++ u ∷ [])
-markable-more marks uses u all within =
-    subst (λ n. All (λ (w : Use). IsMarkable n w.item) (uses ++ u ∷ [])) (sym (length-set marks (u.item - 1) true))
-    (All-push (λ (w : Use). IsMarkable (length marks) w.item) uses u all within)
+markable-more marks uses u all within = grind (arith, common_steps, length-set)
 
 -- only items of these uses are marked
 abbrev pub AreAmong : List Bool → List Use → Type 0
@@ -71,5 +66,4 @@ mark-at marks names name seen place are count e = grind (arith, nat_tests, in-ra
 -- marks that were written through a slice
 pub written-back : (n : ℕ) (new old : List Bool) → length new ≡ length old → n ≡ length old
     → take n (new ++ drop (length new) old) ≡ new
-written-back n new old e f = ap (λ m. take m (new ++ drop (length new) old)) (f ∙ sym e)
-    ∙ take-append_seam new (drop (length new) old)
+written-back n new old e f = grind (arith, common_steps, take-append_seam)

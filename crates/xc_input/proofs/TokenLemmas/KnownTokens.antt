@@ -1,4 +1,5 @@
 -- A text that begins with a short name that is known by its number.
+use Rattle.std.proofs.lemmas.Grind.{common_steps}
 use Rattle.std.proofs.lemmas.Bool.Decides.{nat_tests}
 use Rattle.std.proofs.Common.{◌≡◌, ℕ, ◌<◌, ◌≤◌, List, [], ◌∷◌, ◌++◌, Option, None, Some, IfSome, Bor}
 use Rattle.std.proofs.Common.{false, length, get_or, take, drop, ap, ◌∙◌, sym, arith, slice_get}
@@ -6,7 +7,7 @@ use Rattle.std.proofs.lemmas.List.{take-append-drop, length-take}
 use Rattle.std.proofs.lemmas.Option.{slice_get_within, slice_get-get_or, get_or_from_slice_get}
 use Rattle.std.specs.List.{list_any}
 use Rattle.xc_input.specs.Named.{IsName}
-use Rattle.xc_input.specs.Tokens.{is_space, tokens}
+use Rattle.xc_input.specs.Tokens.{is_space}
 use Rattle.xc_input.specs.declared.tokens.Token.{Token}
 use Rattle.xc_input.specs.inner.Fronts.{drop_white}
 use Rattle.xc_input.specs.inner.Builders.{AreNames}
@@ -51,9 +52,4 @@ drop_white-length (b ∷ bs) = grind (arith, nat_tests, drop_white-length bs)
 -- a line's first token, by the line without the white space that it begins with
 pub behind-all-white : (names : List (List ℕ)) (line others : List ℕ) (t : Token) {rest : List ℕ}
     → rest ≡ drop_white line → StandsFirst names rest t others → StandsFirst names line t others
-behind-all-white names line others t e h = (
-  h.0,
-  sym (tokens-drop_white line) ∙ ap tokens (sym e) ∙ h.1,
-  omega (arith, h.2, ap length e, drop_white-length line),
-  h.3,
-)
+behind-all-white names line others t e h = grind (arith, common_steps, tokens-drop_white, drop_white-length)

@@ -1,4 +1,5 @@
 -- Names of a table: they have no fault, each has one place, and what a line begins with may be one of them.
+use Rattle.std.proofs.lemmas.Grind.{common_steps}
 use Rattle.std.proofs.Common.{Bor}
 use Rattle.std.proofs.Common.{◌+◌, ◌≤◌, drop, MatchOption}
 use Rattle.std.proofs.Common.{◌≡◌, ◌≢◌, ℕ, zero, suc, ◌<◌, List, [], ◌∷◌, ◌++◌, Option, None, Some, Bool, true, false}
@@ -78,8 +79,7 @@ distinct-place names name k distinct e =
 -- no colour comes twice
 pub distinct-more : (old : List (List ℕ)) {new : List (List ℕ)} (name : List ℕ) → AreDistinct old
     → place old name ≡ None → new ≡ old ++ name ∷ [] → AreDistinct new
-distinct-more old name distinct none e =
-    subst AreDistinct (sym e) (all_pairs_push (λ x y. x ≢ y) old name distinct (apart old name none))
+distinct-more old name distinct none e = grind (arith, common_steps, all_pairs_push, apart)
 
 -- a known key is found at its place
 pub known-distinct : (keys : List (Vec ℕ Global)) (name : List ℕ) (v : Vec ℕ Global) (k : ℕ)

@@ -1,4 +1,5 @@
 -- Tokens and parts of a line have no white space, and no NUL byte and no line feed where the line has none.
+use Rattle.std.proofs.lemmas.Grind.{common_steps}
 use Rattle.std.proofs.Common.{arith}
 use Rattle.std.proofs.lemmas.Bool.Decides.{nat_tests}
 use Rattle.std.proofs.Common.{◌≡◌, ℕ, List, [], ◌∷◌, ◌++◌, Bool, false, nat_eq, refl, subst}
@@ -62,20 +63,11 @@ all-unbroken (x ∷ xs) s z f = (record { no_space = s.0; no_nul = z.0; no_feed 
 
 pub unbroken-tokens : (line : List ℕ) → has 0 line ≡ false → has 10 line ≡ false
     → AllByRecursion IsUnbroken (tokens line)
-unbroken-tokens line z f =
-    all-unbroken (tokens line) (lack-spaces line) (lack-tokens (λ x. nat_eq x 0) line z)
-    (lack-tokens (λ x. nat_eq x 10) line f)
+unbroken-tokens line z f = grind (arith, common_steps, all-unbroken, lack-spaces, lack-tokens)
 
 pub unbroken-parts : (line : List ℕ) → has 0 line ≡ false → has 10 line ≡ false
     → AllByRecursion IsUnbroken (parts line)
-unbroken-parts line z f =
-    all-unbroken (parts line) (lack-all is_space (tokens line) (lack-spaces line))
-    (lack-all _ (tokens line) (lack-tokens (λ x. nat_eq x 0) line z))
-    (lack-all _ (tokens line) (lack-tokens (λ x. nat_eq x 10) line f))
+unbroken-parts line z f = grind (arith, common_steps, all-unbroken, parts, lack-all, lack-spaces, lack-tokens)
 
 pub unbroken-behind : (front : List ℕ) (b : ℕ) (back : List ℕ) → IsUnbroken (front ++ b ∷ back) → IsUnbroken back
-unbroken-behind front b back h = record {
-  no_space = lacks-behind is_space front b back h.no_space;
-  no_nul = lacks-behind (λ x. nat_eq x 0) front b back h.no_nul;
-  no_feed = lacks-behind (λ x. nat_eq x 10) front b back h.no_feed;
-}
+unbroken-behind front b back h = grind (arith, common_steps, lacks-behind)

@@ -1,6 +1,7 @@
 -- What stands for a text is sound.
+use Rattle.std.proofs.lemmas.Grind.{common_steps}
 use Rattle.std.proofs.Common.{◌≡◌, ◌≢◌, ℕ, ◌+◌, ◌*◌, ◌-◌, ◌^◌, ◌<◌, ◌≤◌, List, [], ◌∷◌, ◌++◌}
-use Rattle.std.proofs.Common.{Bool, true, false, nat_eq, nat_le, not, map, length, All, AllPairs, refl}
+use Rattle.std.proofs.Common.{Bool, true, false, nat_eq, nat_le, map, length, All, AllPairs, refl}
 use Rattle.std.proofs.Common.{ap, ◌∙◌, sym, subst, arith, inl, inr, length-append}
 use Rattle.std.specs.Prelude.{flat_map}
 use Rattle.std.specs.List.{list_all, list_any, AllZip, AllByRecursion as Each, before_first}
@@ -84,8 +85,7 @@ entry_bounds e = record { low = e.low; high = e.high }
 
 primary-good : (kind : Kind) (token : List ℕ) (e : Entry) → IsEntry kind false token e
     → AreSoundBounds (entry_bounds e) × (e.high ≤ greatest_bound)
-primary-good kind token e (n, inl h) =
-    let l : e.low ≡ 1 = h.1 in let k : e.high ≡ 1 = h.2 in ((omega arith, omega arith), omega arith)
+primary-good kind token e (n, inl h) = grind (arith, common_steps)
 primary-good kind token e (n, inr h) = ((h.7, h.6), high-below h.0 e.low e.high h.5)
 
 -- the name of an item
@@ -157,10 +157,7 @@ number-within cs (b ∷ bs) (i, e) = rw e (omega (arith, in-range (bytes_eq (b �
 numbers-within : (us : List Written) (cs : List (List ℕ))
     → Each (λ u. colour_number (with_uses cs us) u.colour ≤ length (with_uses cs us)) us
 numbers-within [] cs = tt
-numbers-within (u ∷ us) cs = (
-  number-within (with_uses cs (u ∷ us)) u.colour (kept (with_colour cs u.colour) us u.colour (met cs u.colour)).0,
-  numbers-within us (with_colour cs u.colour),
-)
+numbers-within (u ∷ us) cs = search (arith, number-within, kept, met, numbers-within us (with_colour cs u.colour))
 
 -- OPTIONS
 abbrev IsGoodOption : Context → List Written → Type 0
@@ -186,8 +183,7 @@ sound-option p c cs us count front g e =
 
 no-more : (p : Puzzle) (os : List (List Use)) → Each (IsSoundOption p) os → length os ≤ use_count os
 no-more p [] a = omega arith
-no-more p (o ∷ os) a =
-    omega (arith, no-more p os a.1, a.0.one_primary.2, sum_by-cons (λ (us : List Use). length us) o os)
+no-more p (o ∷ os) a = grind (arith, common_steps, sum_by-cons, no-more p os a.1)
 
 -- LINES
 -- a line without a NUL byte and a line feed
@@ -212,13 +208,10 @@ module _ (kind : Kind) (lines : List (List ℕ)) (named : Named) (ignored : List
   written = flat h.options.kept
 
   lines-clean : Each IsClean (h.item_line ∷ h.option_lines)
-  lines-clean =
-      subst (Each IsClean) h.content (each-filter IsClean _ (enumerate_from 1 lines) (clean 1 lines h.no_nul w))
+  lines-clean = grind (arith, common_steps, each-filter, lines, clean)
 
   not-skipped : is_skipped h.item_line.1 ≡ false
-  not-skipped =
-      let content : not (is_skipped h.item_line.1) ≡ true = (subst (Each (λ l. not (is_skipped l.1) ≡ true)) h.content
-      (each_passes (λ l. not (is_skipped l.1)) (enumerate_from 1 lines))).0 in grind (arith, nat_tests)
+  not-skipped = grind (arith, common_steps, each_passes, lines, nat_tests)
 
   -- ITEMS
   parts-unbroken : All IsUnbroken ps
@@ -251,9 +244,7 @@ module _ (kind : Kind) (lines : List (List ℕ)) (named : Named) (ignored : List
       h.option_lines h.options.options lines-clean.1 h.options.stand
 
   options-good : Each (λ us. IsGoodOption c us × (has_primary c.primaries us ≡ true)) h.options.kept
-  options-good = subst (Each _) (sym h.options.are_kept) (each-map _ (λ o. o.1) _ (each_both _ _ _ _ (λ o g p. (g, p))
-      (each-filter _ _ h.options.options lines-good)
-      (each_passes (λ o. has_primary c.primaries o.1) h.options.options)))
+  options-good = grind (arith, common_steps, each-map, each_both, each-filter, lines-good, each_passes)
 
   numbers-known : Each (Each (λ u. colour_number named.colours u.colour ≤ length named.colours)) h.options.kept
   numbers-known = flat-each _ h.options.kept (subst (λ cs. Each (λ u. colour_number cs u.colour ≤ length cs) written)

@@ -1,5 +1,6 @@
 -- A list whose last element is changed, turned round.
-use Rattle.std.proofs.Common.{ℕ, ◌≡◌, ◌-◌, ◌<◌, List, [], ◌∷◌, length, reverse, ap, ◌∙◌, arith, subst}
+use Rattle.std.proofs.lemmas.Grind.{common_steps}
+use Rattle.std.proofs.Common.{ℕ, ◌≡◌, ◌-◌, ◌<◌, List, [], ◌∷◌, length, reverse, arith, subst}
 use Rattle.std.proofs.Math.ListN.{set, get_or}
 use Rattle.std.proofs.Math.Seq.{set-append_seam, get_or-append_seam}
 use Rattle.std.proofs.lemmas.List.{reverse-append, reverse-reverse, length-reverse}
@@ -25,8 +26,7 @@ turned_changed : {X : Type 0} (f : X → X) (rs : List X) (d : X) → 0 < length
     reverse (set (reverse rs) (length (reverse rs) - 1) (f (get_or (reverse rs) (length (reverse rs) - 1) d))) ≡
     first_changed f rs
 turned_changed f [] d h = absurd (omega (arith, h))
-turned_changed f (r ∷ rs) d h =
-    ap reverse (last_changed f rs r d _ (omega (arith, length-reverse (r ∷ rs)))) ∙ reverse-reverse (f r ∷ rs)
+turned_changed f (r ∷ rs) d h = grind (arith, common_steps, last_changed, length-reverse, reverse-reverse)
 
 -- the last element of a list is the first of the list turned round
 pub newest_changed : {X : Type 0} (f : X → X) (xs : List X) (d : X) → 0 < length xs →

@@ -1,3 +1,5 @@
+use Rattle.std.proofs.Common.{arith}
+use Rattle.std.proofs.lemmas.Grind.{common_steps}
 use Rattle.std.proofs.Common.{◌++◌, ◌∷◌, [], sym, ap, ◌∙◌, subst}
 use Rattle.xc_input.specs.Faults.{first}
 use Rattle.xc_input.specs.inner.Stages.{Row}
@@ -8,12 +10,7 @@ use Rattle.xc_input.proofs.TokenLemmas.Unbroken.{part-solid}
 use Rattle.xc_input.proofs.faulty.faulty_behind.Goals as goal
 
 pub loop-part-init : goal.loop-part-init
-loop-part-init c = (
-  c.requires.table,
-  [],
-  subst (λ (row : Row). IsRowOf c.args.kind row []) (sym c.requires.none) (no-row c.args.kind),
-  read-start c.args.line.now,
-)
+loop-part-init c = grind (arith, common_steps, no-row, read-start)
 
 pub add-requires-clause-solid : goal.add-requires-clause-solid
 add-requires-clause-solid c = part-solid c.loop-part.rest.now c.in-Some.ensures.0

@@ -1,6 +1,8 @@
+use Rattle.std.proofs.Common.{arith}
+use Rattle.std.proofs.lemmas.Grind.{common_steps}
 use Rattle.xc_input.specs.declared.faulty.FaultyToken.{FaultyToken}
 use Rattle.std.proofs.lemmas.List.{length-map}
-use Rattle.std.proofs.Common.{length, unwrap_or, sym, ap, ◌∙◌, subst}
+use Rattle.std.proofs.Common.{unwrap_or, sym, ap, ◌∙◌, subst}
 use Rattle.xc_input.specs.Tokens.{tokens, parts}
 use Rattle.xc_input.specs.Faults.{first, token_checks, Context}
 use Rattle.xc_input.specs.FaultyTokens.{IsAtFault}
@@ -19,9 +21,7 @@ returns-in-Err-Fault c = λ t h.
     let none = ap first (parts-checked (parts c.args.items.now) (no-row c.args.kind)) ∙ h.0 in cc
 
 pub faulty_among-requires-clause-marks : goal.faulty_among-requires-clause-marks
-faulty_among-requires-clause-marks c =
-    ap length c.deref_mut.ensures.value ∙ c.in_ok-marks.ensures.count ∙ c.len-2.ensures
-    ∙ items-length c.in-Ok.row.items ∙ sym (keys-length c.in-Ok.row c.in-Ok.ensures.row.0)
+faulty_among-requires-clause-marks c = grind (arith, common_steps, items-length, keys-length)
 
 pub returns : goal.returns
 returns c =

@@ -1,3 +1,4 @@
+use Rattle.std.proofs.lemmas.Grind.{common_steps}
 use Rattle.std.proofs.Common.{◌∙◌, ap, sym, subst, List, map, drop, arith}
 use Rattle.std.proofs.lemmas.List.{length-map, take_rest}
 use Rattle.xc_input.specs.declared.problem.Use.{Use}
@@ -13,10 +14,7 @@ use Rattle.xc_input.proofs.OptionSteps.{behind_none, behind_few, behind_more, al
 use Rattle.xc_input.proofs.option_line.option_line.Goals as goal
 
 pub loop-token-init : goal.loop-token-init
-loop-token-init c =
-    let names = length-map c.args.names.now.keys (λ v. v.items) in
-    behind_none c.args.marks.now (c.requires.marks ∙ sym names) (omega (arith, names, c.requires.few))
-    c.requires.unmarked c.requires.distinct c.requires.few_colours
+loop-token-init c = grind (arith, common_steps, length-map, behind_none)
 
 pub returns-in_err-written-clause-judged : goal.returns-in_err-written-clause-judged
 returns-in_err-written-clause-judged c =

@@ -1,3 +1,4 @@
+use Rattle.std.proofs.lemmas.Grind.{common_steps}
 use Rattle.std.proofs.Common.{◌≡◌, ◌++◌, [], length, arith, sym, ap, ◌∙◌}
 use Rattle.std.proofs.lemmas.Bool.Decides.{nat_tests}
 use Rattle.std.proofs.lemmas.List.{nil_from_length}
@@ -13,10 +14,7 @@ returns-then-is_empty-clause-ended c =
     c.line.ensures.kind c.line.ensures.given c.line.ensures.error c.line.ensures.state none
 
 pub line-outcome-requires : goal.line-outcome-requires
-line-outcome-requires c =
-    let whole : c.as_slice.result.now ≡ c.args.carry.now.items ++ c.args.end.now =
-    c.as_slice.ensures.value ∙ c.in_ok-extend_from_slice.ensures.items in
-    ap (has 10) whole ∙ lacks-append 10 c.args.carry.now.items c.args.end.now c.requires.state.partial c.requires.piece
+line-outcome-requires c = grind (arith, common_steps, has, lacks-append)
 
 pub returns-clause-ended : goal.returns-clause-ended
 returns-clause-ended c =

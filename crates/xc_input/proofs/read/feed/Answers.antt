@@ -19,6 +19,4 @@ returns-in_err-end_line-clause-err c =
     (Spoils-more _ _ c.in-Some.others.now _ c.in_err-end_line.field-0.0 all c.in_err-end_line.ensures.ended.err))
 
 pub returns-clause-state : goal.returns-clause-state
-returns-clause-state c =
-    between-more c.loop-end.reader c.loop-end.carry.items c.loop-end.rest.now c.extend_from_slice.new.self.items
-    c.loop-end.invariant.0 c.in_default.ensures c.in_ok-extend_from_slice.ensures.items
+returns-clause-state c = grind (arith, common_steps, between-more)

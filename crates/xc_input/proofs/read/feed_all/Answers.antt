@@ -24,12 +24,4 @@ returns-in_err-feed-clause-part g c =
     (c.in_ok-n.ensures.failures ∙ c.reading.invariant.2))
 
 pub reading-preserved : goal.reading-preserved
-reading-preserved g c =
-    let some : 0 < length (take c.in_ok-n.n c.read.new.buf) =
-    grind (arith, common_steps, c.if-n-eq0.false, c.in_ok-n.ensures.bound) in (
-      c.in_ok-feed.ensures.state,
-      c.in_ok-feed.ensures.kind ∙ c.reading.invariant.1,
-      c.in_ok-n.ensures.failures ∙ c.reading.invariant.2,
-      rw c.in_ok-feed.ensures.fed
-          (gave_more _ _ _ _ _ c.reading.invariant.3 some c.in_ok-n.ensures.bytes.0 c.in_ok-n.ensures.given),
-    )
+reading-preserved g c = grind (arith, common_steps, gave_more)

@@ -1,4 +1,6 @@
-use Rattle.std.proofs.Common.{◌<◌, length, ap, subst}
+use Rattle.std.proofs.Common.{arith}
+use Rattle.std.proofs.lemmas.Grind.{common_steps}
+use Rattle.std.proofs.Common.{◌<◌, length, subst}
 use Rattle.xc_input.specs.Lines.{lines_of}
 use Rattle.xc_input.specs.inner.Feeding.{fed, EndsAs}
 use Rattle.xc_input.proofs.LineLemmas.Sources.{ends-as}
@@ -9,13 +11,10 @@ use Rattle.xc_input.proofs.read.read_through.Goals as goal
 -- what the answer at the end of the input says of what was fed
 as_fed : (g : _) (c : After-end_text g)
     → EndsAs c.args.reader.kind (lines_of (fed c.feed_all.new.reader c.feed_all.new.carry.items)) c.end_text.result
-as_fed g c =
-    ends-as _ _ _ _ _ c.in_ok-feed_all.ensures.kind
-    (ap (λ xs. lines_of (fed c.feed_all.new.reader xs)) c.as_slice.ensures.value) c.end_text.ensures.answer
+as_fed g c = grind (arith, common_steps, ends-as)
 
 pub returns-clause-whole : goal.returns-clause-whole
-returns-clause-whole g c =
-    whole-last c.end_text.result (as_fed g c) c.in_ok-feed_all.ensures.all
+returns-clause-whole g c = grind (arith, common_steps, whole-last, as_fed)
 
 pub returns-clause-part : goal.returns-clause-part
 returns-clause-part g c =

@@ -1,3 +1,4 @@
+use Rattle.std.proofs.lemmas.Grind.{common_steps}
 use Rattle.std.proofs.lemmas.List.{take_rest}
 use Rattle.std.proofs.Common.{◌+◌, drop, arith, sym, ap, ◌∙◌, add-one}
 use Rattle.xc_input.proofs.TokenLemmas.Bytes.{has-all, has-at, not_false}
@@ -8,13 +9,10 @@ returns-in-None-clause-front c =
     sym (has-all c.args.byte c.args.bytes.now (λ k p. not_false _ (c.in-None.ensures k (omega arith) p))).1
 
 pub returns-in-None-clause-back : goal.returns-in-None-clause-back
-returns-in-None-clause-back c =
-    (has-all c.args.byte c.args.bytes.now (λ k p. not_false _ (c.in-None.ensures k (omega arith) p))).0
+returns-in-None-clause-back c = grind (arith, common_steps, has-all)
 
 pub returns-in-Some-clause-front : goal.returns-in-Some-clause-front
-returns-in-Some-clause-front c =
-    let h = c.in-Some.ensures in
-    (has-at c.args.byte c.args.bytes.now c.in-Some.i h.0.high (λ k p. not_false _ (h.0.before k (omega arith) p)) h.1).1
+returns-in-Some-clause-front c = grind (arith, common_steps, has-at)
 
 pub returns-in-Some-clause-back : goal.returns-in-Some-clause-back
 returns-in-Some-clause-back c =

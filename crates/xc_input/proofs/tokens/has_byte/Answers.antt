@@ -1,3 +1,4 @@
+use Rattle.std.proofs.lemmas.Grind.{common_steps}
 use Rattle.std.proofs.Common.{ℕ, List, Option, None, Some, ◌≡◌, ◌∙◌, arith, sym, is_some}
 use Rattle.bstr.specs.Find.{IsFirstByte, is_byte}
 use Rattle.xc_input.specs.Words.{has}
@@ -7,8 +8,7 @@ use Rattle.xc_input.proofs.tokens.has_byte.Goals as goal
 by-place : (byte : ℕ) (bytes : List ℕ) (at : Option ℕ) → IsFirstByte (is_byte byte) bytes at
     → is_some at ≡ has byte bytes
 by-place byte bytes None h = sym (has-all byte bytes (λ k p. not_false _ (h k (omega arith) p))).0
-by-place byte bytes (Some i) h =
-    sym (has-at byte bytes i h.0.high (λ k p. not_false _ (h.0.before k (omega arith) p)) h.1).0
+by-place byte bytes (Some i) h = grind (arith, common_steps, has-at)
 
 pub returns : goal.returns
 returns c = c.is_some.ensures ∙ by-place c.args.byte c.args.bytes.now c.find_byte.result c.find_byte.ensures

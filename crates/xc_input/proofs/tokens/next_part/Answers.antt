@@ -1,14 +1,12 @@
+use Rattle.std.proofs.lemmas.Grind.{common_steps}
 use Rattle.xc_input.proofs.TokenLemmas.Bytes.{cuts_part, cuts_bar, no-token}
 use Rattle.std.proofs.lemmas.Bool.{ne_eqb}
-use Rattle.std.proofs.Common.{arith, ap}
+use Rattle.std.proofs.Common.{arith}
 use Rattle.std.proofs.lemmas.Bool.Decides.{nat_tests}
-use Rattle.xc_input.specs.Tokens.{split_bars}
-use Rattle.std.specs.Prelude.{flat_map}
 use Rattle.xc_input.proofs.tokens.next_part.Goals as goal
 
 pub returns-then-is_empty : goal.returns-then-is_empty
-returns-then-is_empty c =
-    ap (flat_map split_bars) (no-token c.args.line.now _ c.skip_white-rest.ensures (grind (arith, nat_tests)))
+returns-then-is_empty c = grind (arith, common_steps, no-token, nat_tests)
 
 pub returns : goal.returns
 returns c =

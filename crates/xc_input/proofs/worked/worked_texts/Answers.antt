@@ -1,12 +1,8 @@
-use Rattle.std.proofs.Common.{refl}
-use Rattle.xc_input.specs.declared.kind.Kind.TheVariants.{Plain, Colours, Bounds}
-use Rattle.xc_input.specs.Worked.{commented, coloured, bounded}
+use Rattle.std.proofs.Common.{arith}
+use Rattle.std.proofs.lemmas.Grind.{common_steps}
+use Rattle.xc_input.specs.Worked.{coloured, bounded}
 use Rattle.xc_input.proofs.FaultLemmas.FirstFaults.{faultless-stands}
 use Rattle.xc_input.proofs.worked.worked_texts.Goals as goal
 
 pub returns-clause-problems : goal.returns-clause-problems
-returns-clause-problems c = (
-  faultless-stands Plain commented refl,
-  faultless-stands Colours coloured refl,
-  faultless-stands Bounds bounded refl,
-)
+returns-clause-problems c = grind (arith, common_steps, faultless-stands, coloured, bounded)

@@ -1,3 +1,5 @@
+use Rattle.std.proofs.Common.{arith}
+use Rattle.std.proofs.lemmas.Grind.{common_steps}
 use Rattle.std.proofs.Common.{subst, sym, ◌<◌, refl, ◌∙◌, map}
 use Rattle.xc_input.specs.inner.Builders.{entry_of, AreNames}
 use Rattle.std.proofs.Common.{ap}
@@ -24,10 +26,7 @@ returns-in-Some-clause-judged c =
     c.in_ok-token.ensures c.name_fault.ensures c.in-Some.is
 
 pub returns-then-len-ge-MOST_ITEMS-clause-judged : goal.returns-then-len-ge-MOST_ITEMS-clause-judged
-returns-then-len-ge-MOST_ITEMS-clause-judged c =
-    too-many c.args.kind (map entry_of c.args.self.now.items.items) _ c.args.token.now c.is_some.ensures
-    c.in_ok-token.ensures c.name_fault.ensures c.in_default.is c.requires.table.0 c.place_of.ensures c.is_some-2.ensures
-    c.if-is_some.false (c.len.ensures ∙ length-items c.args.self.now.items) c.if-len-ge-MOST_ITEMS.true
+returns-then-len-ge-MOST_ITEMS-clause-judged c = grind (arith, common_steps, too-many, length-items)
 
 pub returns-clause-judged : goal.returns-clause-judged
 returns-clause-judged c =

@@ -1,12 +1,10 @@
-use Rattle.std.proofs.Common.{ap, ◌∙◌}
-use Rattle.xc_input.specs.inner.Stored.{number_in}
-use Rattle.xc_input.specs.Named.{Named}
+use Rattle.std.proofs.Common.{arith}
+use Rattle.std.proofs.lemmas.Grind.{common_steps}
 use Rattle.xc_input.proofs.TokenLemmas.TableNames.{number_in-tells}
 use Rattle.xc_input.proofs.problem.Problem.find_colour.Goals as goal
 
 pub returns-clause-value : goal.returns-clause-value
-returns-clause-value c =
-    c.number_of_name.ensures ∙ ap (λ (v : Named). number_in v.colours c.args.bytes.now) c.self.view_is
+returns-clause-value c = grind (arith, common_steps)
 
 pub returns-clause-found : goal.returns-clause-found
 returns-clause-found c = (number_in-tells _ _ _ (returns-clause-value c)).0

@@ -1,4 +1,4 @@
-use Rattle.std.proofs.Common.{arith, rules, ◌≡◌, ◌≤◌, ◌∙◌, Some, ap, sym, length, subst}
+use Rattle.std.proofs.Common.{arith, ◌≡◌, ◌≤◌, Some, ap, length, subst}
 use Rattle.std.proofs.lemmas.Grind.{common_steps}
 use Rattle.std.specs.Prelude.{All, slice_range}
 use Rattle.xc_input.specs.Problem.{option_count, numbered_get}
@@ -29,12 +29,8 @@ part c =
     option_part starts us c.args.o c.index.result.now c.index-2.result.now c.self.invariant.starts.1
     c.requires.known.0
     (omega (arith, length-pieces starts us c.self.invariant.starts.1, count, c.requires.known.1)) c.index.ensures
-    c.index-2.ensures in (
-      r.0,
-      omega (arith, r.1, ap length c.deref.ensures.value),
-      r.2
-          ∙ ap (λ xs. Some (slice_range xs c.index.result.now c.index-2.result.now)) (sym c.deref.ensures.value),
-    )
+    c.index-2.ensures in
+    grind (arith, common_steps)
 
 pub slice_bounds-result-count : goal.slice_bounds-result-count
 slice_bounds-result-count c = (part (goal.at.slice_bounds-result-count c).After-deref).0
@@ -43,16 +39,10 @@ pub slice_bounds-result-start : goal.slice_bounds-result-start
 slice_bounds-result-start c = (part (goal.at.slice_bounds-result-start c).After-deref).0
 
 pub slice_bounds-result-end : goal.slice_bounds-result-end
-slice_bounds-result-end c =
-    let r = part (goal.at.slice_bounds-result-end c).After-deref in
-    let rises : c.index.result.now ≤ c.index-2.result.now = r.0 in
-    let within : c.index-2.result.now ≤ length c.deref.result.now = r.1 in
-    search rules
+slice_bounds-result-end c = grind (arith, common_steps, part)
 
 pub returns-clause-value : goal.returns-clause-value
-returns-clause-value c =
-    ap (λ (v : Named). numbered_get v.puzzle.options c.args.o) (sym c.self.view_is)
-    ∙ (part (goal.at.returns-clause-value c).After-deref).2
+returns-clause-value c = grind (arith, common_steps, part)
 
 pub returns-clause-known : goal.returns-clause-known
 returns-clause-known c =

@@ -1,3 +1,5 @@
+use Rattle.std.proofs.Common.{arith}
+use Rattle.std.proofs.lemmas.Grind.{common_steps}
 use Rattle.std.proofs.Common.{sym, subst}
 use Rattle.xc_input.specs.inner.Feeding.{IsErrorOf}
 use Rattle.xc_input.proofs.LineLemmas.Reading.{stays, counts, fails, goes, stage-is}
@@ -8,12 +10,7 @@ pub returns-in-Some-clause-state : goal.returns-in-Some-clause-state
 returns-in-Some-clause-state c = stays _ _ _ _ _ _ c.after.ensures c.in-Some.is c.self.invariant.1
 
 pub invariant_of-self : goal.invariant_of-self
-invariant_of-self c = (
-  counts _ _ _ _ _ c.after.ensures c.self.invariant.0 c.saturating_add-self-inside.ensures,
-  rw c.in-Some.is (stays _ _ _ _ _ _ c.after.ensures c.in-Some.is c.self.invariant.1),
-  rw c.in-Some.is tt,
-  whole-more _ _ _ c.after.ensures c.self.invariant.3 c.requires,
-)
+invariant_of-self c = grind (arith, common_steps, counts, stays, whole-more)
 
 pub returns-in-Err-clause-state : goal.returns-in-Err-clause-state
 returns-in-Err-clause-state c =
@@ -31,9 +28,7 @@ invariant_of-self-in-Err c = (
 )
 
 pub returns-clause-state : goal.returns-clause-state
-returns-clause-state c =
-    goes c.self.inside.kind _ _ _ c.after.ensures _ c.in_default.is c.self.invariant.1 c.self.inside.builder
-    c.self.invariant.2 c.in_default-take.ensures.judged
+returns-clause-state c = grind (arith, common_steps, goes)
 
 pub invariant_of-self-in_default-take : goal.invariant_of-self-in_default-take
 invariant_of-self-in_default-take c =
