@@ -4,7 +4,7 @@ use Rattle.std.proofs.Common.{arith}
 use Rattle.std.proofs.lemmas.Bool.Decides.{nat_tests}
 use Rattle.std.proofs.lemmas.List.{length-map}
 use Rattle.std.proofs.Common.{◌≡◌, ℕ, List, [], ◌∷◌, ◌++◌, Option, None, Some, Bool, length}
-use Rattle.std.proofs.Common.{Result, Ok, Err, IfOk, refl, sym, ap, ◌∙◌, append_assoc, append-nil}
+use Rattle.std.proofs.Common.{Result, Ok, Err, IfOk, sym, ap, ◌∙◌, append_assoc, append-nil}
 use Rattle.xc_input.specs.declared.fault.FaultKind.{FaultKind}
 use Rattle.xc_input.specs.declared.faulty.FaultyToken.{FaultyToken}
 use Rattle.xc_input.specs.declared.item_line.ItemLine.{ItemLine}
@@ -24,10 +24,6 @@ pub record IsReadTo (cut : List ℕ → List (List ℕ)) (checks : List (List �
   pub faultless : first (checks_of_each checks [] others) ≡ None
 
 -- before the first token
-pub read-start : {cut : List ℕ → List (List ℕ)} {checks : List (List ℕ) → List ℕ → List (FaultKind × Bool)}
-    (line : List ℕ) → IsReadTo cut checks line line []
-read-start line = record { front = []; place = refl; order = refl; faultless = refl }
-
 module _ {cut : List ℕ → List (List ℕ)} {checks : List (List ℕ) → List ℕ → List (FaultKind × Bool)} {line rest : List ℕ}
     {others : List (List ℕ)} (r : IsReadTo cut checks line rest others) where
   -- the next token stands in the line too

@@ -1,5 +1,4 @@
 -- What the tokens of an option line leave behind, one after another.
-use Rattle.std.proofs.lemmas.Grind.{common_steps}
 use Rattle.std.proofs.Common.{◌≡◌, ℕ, ◌+◌, ◌-◌, ◌≤◌, List, [], ◌∷◌, ◌++◌, None, Bool, true, false, length, map, get_or}
 use Rattle.std.proofs.Common.{set, drop, All, ap, ◌∙◌, sym, subst, arith, length-append, length-set, append-nil}
 use Rattle.std.proofs.Common.{append_assoc}
@@ -15,7 +14,7 @@ use Rattle.xc_input.specs.inner.Builders.{AreMarks, AreDistinct, IsMarkable, ite
 use Rattle.xc_input.specs.inner.ColourNumbers.{numbered, use_behind}
 use Rattle.xc_input.proofs.OptionLemmas.Colours.{numbered_in_turn, in_turn, in_turn_more, with_more, in_turn_count}
 use Rattle.xc_input.proofs.OptionLemmas.Colours.{in_turn_items, colours_more}
-use Rattle.xc_input.proofs.OptionLemmas.Marks.{mark-more, markable-more, unmarked_count, unmarked-few, unmarked-less}
+use Rattle.xc_input.proofs.OptionLemmas.Marks.{mark-more, markable-more, unmarked_count, unmarked-less}
 use Rattle.xc_input.proofs.OptionLemmas.OneToken.{token-step}
 
 -- the tokens that are left decide, and the uses of those before them are numbered, added and marked
@@ -38,11 +37,6 @@ pub record IsBehind (kind : Kind) (names : List (List ℕ)) (primary : ℕ) (lin
 module _ {kind : Kind} {names : List (List ℕ)} {primary : ℕ} {line : List (List ℕ)} {met : List (List ℕ)}
     {old : List Use} where
   -- before the first token
-  pub behind_none : (marks : List Bool) → length marks ≡ length names → length names ≤ most_items → AreMarks marks []
-      → AreDistinct met → length met ≤ length old
-      → IsBehind kind names primary line line met old marks met old
-  behind_none marks count few marked distinct few_colours = grind (arith, common_steps, unmarked-few, append-nil)
-
   module _ {rest : List (List ℕ)} {marks : List Bool} {colours : List (List ℕ)} {uses : List Use}
       (b : IsBehind kind names primary line rest met old marks colours uses) where
     uses_count : length uses ≡ length old + length b.us

@@ -16,7 +16,7 @@ use Rattle.xc_input.specs.Words.{place}
 use Rattle.xc_input.specs.Sheets.{Entry}
 use Rattle.xc_input.specs.inner.Sheets.{names_of}
 use Rattle.xc_input.specs.Faults.{first, name_of, name_checks, bound_checks, item_checks}
-use Rattle.xc_input.specs.inner.Stages.{entry, Row, row_checks, row_of, part_checks, with_part}
+use Rattle.xc_input.specs.inner.Stages.{entry}
 use Rattle.xc_input.specs.Limits.{most_items}
 use Rattle.xc_input.specs.declared.problem.Item.{Item}
 use Rattle.xc_input.specs.inner.Builders.{Judged, entry_of}
@@ -40,8 +40,7 @@ pub stopped : {T : Type 0} {a : Option FaultKind} (p q : List (FaultKind × Bool
     (e : LineError) → IsErrAnd r (λ x. x ≡ e) → a ≡ first (p ++ q) → Judged {T = Unit {0}} (first p) (Err e)
     → Judged a r
 stopped p q (Ok x) e h f j = absurd h
-stopped p q (Err (Fault k)) e h f j =
-    f ∙ first-front p q k (subst (λ d. Judged {T = Unit {0}} (first p) (Err d)) (sym h) j)
+stopped p q (Err (Fault k)) e h f j = grind (arith, first-front, first)
 stopped p q (Err Memory) e h f j = tt
 
 pub names_of-snoc : (es : List Entry) (e : Entry) → names_of (es ++ e ∷ []) ≡ names_of es ++ e.name ∷ []
@@ -114,12 +113,6 @@ pub grown : (kind : Kind) (bar : Option ℕ) (token : List ℕ) {sec : Bool} →
 grown kind bar token s P items items' {e} is n p k m all = grind (arith, common_steps, length-map, names_of-snoc)
 
 -- a step of the loop over the parts
-pub row-step : (kind : Kind) (row : Row) {next : Row} {line : List (List ℕ)} {part : List ℕ} {parts : List (List ℕ)}
-    {a : Option FaultKind} {b : Row} → a ≡ first (row_checks kind row line) → b ≡ row_of kind row line
-    → line ≡ part ∷ parts → first (part_checks kind row part) ≡ None → next ≡ with_part kind row part
-    → (a ≡ first (row_checks kind next parts)) × (b ≡ row_of kind next parts)
-row-step kind row {next} {line} {part} {parts} {a} {b} e f l g h = grind (arith, nat_tests, first-back)
-
 pub last-place : {A : Type 0} (p : A → Bool) (xs : List A) → list_any p xs ≡ false → position_or_len p xs ≡ length xs
 last-place p [] e = refl
 last-place p (x ∷ xs) e = grind (arith, last-place p xs)
@@ -127,9 +120,7 @@ last-place p (x ∷ xs) e = grind (arith, last-place p xs)
 pub new-place-is : (keys : List (Vec ℕ Global)) (k : Vec ℕ Global) (name : List ℕ)
     → position (bytes_eq name) (key_names keys) ≡ None → k.items ≡ name
     → position_or_len (λ v. bytes_eq k.items v.items) keys ≡ length keys
-new-place-is keys k name e f =
-    let out = no-place (λ v. bytes_eq name v.items) keys (sym (position-map (bytes_eq name) (λ v. v.items) keys) ∙ e) in
-    grind (arith, nat_tests, last-place (λ (v : Vec ℕ Global). bytes_eq name v.items) keys)
+new-place-is keys k name e f = grind (arith, no-place, position-map, last-place)
 
 pub items-length : {A : Type 0} (v : Vec A Global) → vec_len v ≡ length v.items
 items-length v = grind (arith, common_steps)

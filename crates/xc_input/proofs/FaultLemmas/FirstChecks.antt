@@ -4,7 +4,7 @@
 use Rattle.std.proofs.lemmas.Grind.{common_steps}
 use Rattle.std.proofs.Common.{◌≡◌, ℕ, List, [], ◌∷◌, ◌++◌, drop, None, Some, Bool, false}
 use Rattle.std.proofs.lemmas.Bool.Decides.{nat_tests}
-use Rattle.std.proofs.Common.{length, refl, ap, sym, ◌∙◌, if◌then◌else◌, arith, append_assoc, append-nil}
+use Rattle.std.proofs.Common.{length, refl, ap, sym, if◌then◌else◌, arith, append_assoc, append-nil}
 use Rattle.std.specs.Prelude.{◌↔◌}
 use denote.Enum.Bare.{sameb}
 use Rattle.xc_input.specs.contracts.fault.FaultKind.{the_type}
@@ -37,8 +37,7 @@ first-back (c ∷ cs) b e = grind (arith, first-back cs b)
 -- none of all holds exactly where none of either part does
 pub none-append : {A : Type 0} (a b : List (A × Bool)) → (first (a ++ b) ≡ None) ↔ ((first a ≡ None) × (first b ≡ None))
 none-append [] b = (λ e. (refl, e), λ h. h.1)
-none-append (c ∷ cs) b =
-    let r = none-append cs b in (λ e. grind (arith, r.0), λ h. first-back (c ∷ cs) b h.0 ∙ h.1)
+none-append (c ∷ cs) b = grind (arith, first-back, none-append cs b)
 
 -- the checks of each of two lists
 pub checks-append : {A B : Type 0} (checks : List A → A → List B) (before xs ys : List A)
@@ -51,8 +50,7 @@ checks-append checks before (x ∷ xs) ys =
 pub first-each : {A B : Type 0} (checks : List A → A → List (B × Bool)) (xs ys : List A)
     → first (checks_of_each checks [] xs) ≡ None
     → first (checks_of_each checks [] (xs ++ ys)) ≡ first (checks_of_each checks xs ys)
-first-each checks xs ys e = ap first (checks-append checks [] xs ys)
-    ∙ first-back (checks_of_each checks [] xs) (checks_of_each checks xs ys) e
+first-each checks xs ys e = grind (arith, first, checks-append, first-back)
 
 -- What holds of a list with one element more exactly where it holds of the list and no check of the element does: it
 -- holds of a whole list exactly where no check of any element does.
@@ -60,14 +58,7 @@ module _ {A B : Type 0} (checks : List A → A → List (B × Bool)) (Q : List A
     (step : (before : List A) (x : A) → Q (before ++ x ∷ []) ↔ (Q before × (first (checks before x) ≡ None))) where
   clear-behind : (before xs : List A) → Q (before ++ xs) ↔ (Q before × (first (checks_of_each checks before xs) ≡ None))
   clear-behind before [] = rw append-nil (λ q. (q, refl), λ h. h.0)
-  clear-behind before (x ∷ xs) =
-      let s = step before x in
-      let r = clear-behind (before ++ x ∷ []) xs in
-      let n = none-append (checks before x) (checks_of_each checks (before ++ x ∷ []) xs) in
-      rw (← append_assoc before (x ∷ []) xs) (
-        λ q. (let a = r.0 q in let b = s.0 a.0 in (b.0, n.1 (b.1, a.1))),
-        λ h. (let m = n.0 h.1 in r.1 (s.1 (h.0, m.0), m.1)),
-      )
+  clear-behind before (x ∷ xs) = grind (arith, step, none-append, append_assoc, clear-behind (before ++ x ∷ []) xs)
 
   pub clear-each : Q [] → (xs : List A) → Q xs ↔ (first (checks_of_each checks [] xs) ≡ None)
   clear-each none xs = let all = clear-behind [] xs in (λ q. (all.0 q).1, λ e. all.1 (none, e))

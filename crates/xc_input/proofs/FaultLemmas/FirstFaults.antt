@@ -10,7 +10,7 @@ use Rattle.xc_input.specs.declared.fault.FaultKind.{FaultKind}
 use Rattle.xc_input.specs.declared.fault.FaultKind.TheVariants.{NoItems, NulByte}
 use Rattle.xc_input.specs.Words.{has}
 use Rattle.xc_input.specs.Tokens.{parts, is_skipped}
-use Rattle.xc_input.specs.Faults.{first, checks_of_each}
+use Rattle.xc_input.specs.Faults.{first}
 use Rattle.xc_input.specs.FirstFault.{line_number, content, content_checks, line_checks, line_fault, first_fault}
 use Rattle.xc_input.specs.Named.{Named}
 use Rattle.xc_input.specs.Text.{StandsFor}
@@ -27,9 +27,7 @@ use Rattle.xc_input.proofs.GrammarLemmas.Standing.{clear-stands, stands-clear, s
 -- a fault stays the first one, whatever follows
 pub line-stays : (kind : Kind) (lines more : List (List ℕ)) (p : ℕ × FaultKind) → line_fault kind lines ≡ Some p
     → line_fault kind (lines ++ more) ≡ Some p
-line-stays kind lines more p e =
-    ap first (checks-append (line_checks kind) [] lines more) ∙ first-front (checks_of_each (line_checks kind) [] lines)
-    (checks_of_each (line_checks kind) lines more) p e
+line-stays kind lines more p e = grind (arith, first, checks-append, first-front)
 
 -- with no fault so far, it is that of the next line, by what the lines gave
 pub next-fault : (kind : Kind) (lines : List (List ℕ)) (line : List ℕ) → line_fault kind lines ≡ None

@@ -1,6 +1,7 @@
 -- No check of parts, tokens and lines holds exactly where they stand for items, uses and options.
+use Rattle.std.proofs.lemmas.Grind.{common_steps}
 use Rattle.std.proofs.Common.{◌≡◌, ◌≢◌, ℕ, ◌+◌, ◌≤◌, List, [], ◌∷◌, ◌++◌, Option, None, Some, Bool, true, false, ◌&&◌}
-use Rattle.std.proofs.Common.{not, nat_lt, nat_eq, unwrap_or, length, map, refl, ap, ◌∙◌, sym, arith, if◌then◌else◌}
+use Rattle.std.proofs.Common.{not, nat_lt, nat_eq, length, map, refl, ap, ◌∙◌, arith, if◌then◌else◌}
 use Rattle.std.proofs.Common.{inl, inr, ◌||◌, append-nil}
 use Rattle.std.proofs.Math.Bool.{and-false, or-false}
 use Rattle.std.specs.Prelude.{◌↔◌}
@@ -16,9 +17,9 @@ use Rattle.std.proofs.lemmas.List.Sums.{sum_by-append}
 use Rattle.std.proofs.lemmas.Slice.Eq.{bytes_eq-Decides}
 use Rattle.xc_input.specs.declared.kind.Kind.{Kind}
 use Rattle.xc_input.specs.declared.fault.FaultKind.{FaultKind}
-use Rattle.xc_input.specs.declared.fault.FaultKind.TheVariants.{NulByte, UnknownItem, EmptyName, NameTooLong}
-use Rattle.xc_input.specs.declared.fault.FaultKind.TheVariants.{BadByteInName, RepeatedInOption, ColourOnPrimary}
-use Rattle.xc_input.specs.declared.fault.FaultKind.TheVariants.{BadColour, ColourNotHere, TooManyUses}
+use Rattle.xc_input.specs.declared.fault.FaultKind.TheVariants.{NulByte, UnknownItem}
+use Rattle.xc_input.specs.declared.fault.FaultKind.TheVariants.{RepeatedInOption}
+use Rattle.xc_input.specs.declared.fault.FaultKind.TheVariants.{TooManyUses}
 use Rattle.xc_input.specs.Limits.{most_items, most_uses}
 use Rattle.xc_input.specs.Words.{has, before, after, place}
 use Rattle.xc_input.specs.Tokens.{tokens, parts, is_bar, is_skipped}
@@ -60,11 +61,7 @@ two-snoc R (y ∷ ys) x =
 none-like : {X : Type 0} (p : X → Bool) (x : X) → ((y : X) → (y ≢ x) ↔ (p y ≡ false)) → (ys : List X)
     → Each (λ y. y ≢ x) ys ↔ (list_any p ys ≡ false)
 none-like p x d [] = (λ a. refl, λ e. tt)
-none-like p x d (y ∷ ys) =
-    let r = none-like p x d ys in (
-      λ a. or_from (p y) (list_any p ys) ((d y).0 a.0) (r.0 a.1),
-      λ e. (let h = or_parts (p y) (list_any p ys) e in ((d y).1 h.0, r.1 h.1)),
-    )
+none-like p x d (y ∷ ys) = grind (arith, or_from, or_parts, none-like p x d ys)
 
 new-name : (ns : List (List ℕ)) (n : List ℕ) → Each (λ m. m ≢ n) ns ↔ (place ns n ≡ None)
 new-name ns n =
@@ -84,9 +81,7 @@ before-snoc (q ∷ ps) p = by-test (is_bar q)
 after-snoc : (ps : List (List ℕ)) (p : List ℕ) → after_first is_bar (ps ++ p ∷ [])
     ≡ after_first is_bar ps ++ (if list_any is_bar ps then p ∷ [] else [])
 after-snoc [] p = by-test (is_bar p) (λ f. after-cons p [] true f) (λ f. after-cons p [] false f)
-after-snoc (q ∷ ps) p = by-test (is_bar q)
-    (λ f. rw (after-cons q (ps ++ p ∷ []) true f, after-cons q ps true f, f))
-    (λ f. rw (after-cons q (ps ++ p ∷ []) false f, after-cons q ps false f, f, after-snoc ps p))
+after-snoc (q ∷ ps) p = grind (arith, by-test, after-cons, after-snoc ps p)
 
 pub names-snoc : (kind : Kind) (before : List (List ℕ)) (p : List ℕ)
     → item_names kind (before ++ p ∷ []) ≡ item_names kind before ++ (if is_bar p then [] else name_of kind p ∷ [])
@@ -131,8 +126,7 @@ module _ (kind : Kind) (earlier : List (List ℕ)) (p : List ℕ) where
       let i = item-clear kind barred p names in
       let l = length-append names (name_of kind p ∷ []) in
       rw f (
-        λ a. (let b = s.0 a.0 in let d = t.0 a.1 in
-            ((b.0, d.0, omega (arith, a.2, l)), i.1 (b.1, u.0 d.1, omega (arith, a.2, l)))),
+        λ a. (grind (arith, common_steps, a, u)),
         λ h. (let e = i.0 h.1 in (s.1 (h.0.0, e.0), t.1 (h.0.1, u.1 e.1), omega (arith, e.2, l))),
       )))
 
@@ -151,16 +145,7 @@ module _ (kind : Kind) (names : List (List ℕ)) (primaries : ℕ) (seen token :
   use-good e =
       let no : (k : FaultKind) → test k checks ≡ false = fails checks e in
       let i = some-is (place names (before COLON token)) (no UnknownItem) in (
-        (
-          before COLON token,
-          i.0,
-          solid (before COLON token) (no EmptyName) (no NameTooLong) (no BadByteInName),
-          i.1,
-          ap (λ o. unwrap_or o 0 + 1) i.1,
-          by-test (has COLON token)
-              (λ f. grind (arith, nat_tests, cut-is, no ColourNotHere, no ColourOnPrimary, no BadColour))
-              (λ f. inl (sym (no-cut COLON token f), none-after COLON token f)),
-        ),
+        (grind (arith, common_steps, before, solid, by-test, has, cut-is, no-cut, none-after)),
         no RepeatedInOption,
       )
 
@@ -189,11 +174,7 @@ AreClearTokens c ts =
 unseen : (c : Context) (i : ℕ) (ts : List (List ℕ))
     → Each (λ (u : Written). u.item ≢ i) (map (written c.names) ts) ↔ (has i (map (item_of c) ts) ≡ false)
 unseen c i [] = (λ a. refl, λ e. tt)
-unseen c i (t ∷ ts) =
-    let r = unseen c i ts in (
-      λ a. grind (arith, nat_tests, r.0 a.1, a.0),
-      λ e. grind (arith, nat_tests, r.1, or_parts (nat_eq (item_of c t) i) _ e),
-    )
+unseen c i (t ∷ ts) = grind (arith, or_parts, item_of, unseen c i ts)
 
 token-clear : (c : Context) (earlier : List (List ℕ)) (t : List ℕ) → AreClearTokens c (earlier ++ t ∷ [])
     ↔ (AreClearTokens c earlier × (first (checks_behind c earlier t) ≡ None))
@@ -221,8 +202,7 @@ AreClearOptions c os = Each (λ line. AreClearTokens c (tokens line)) os × (kep
 
 uses-snoc : (c : Context) (os : List (List ℕ)) (line : List ℕ)
     → kept_uses c (os ++ line ∷ []) ≡ kept_uses c os + (if is_kept c line then length (tokens line) else 0)
-uses-snoc c os line =
-    grind (arith, nat_tests, filter-append (is_kept c), sum_by-append (λ (l : List ℕ). length (tokens l)))
+uses-snoc c os line = grind (arith, filter-append, sum_by-append)
 
 option-clear : (c : Context) (earlier : List (List ℕ)) (line : List ℕ) → AreClearOptions c (earlier ++ line ∷ [])
     ↔ (AreClearOptions c earlier × (first (option_checks c earlier line) ≡ None))
@@ -283,10 +263,7 @@ line-clear kind earlier line =
     (λ f. rw (z, f) (simp (append-nil, or-false) (λ a. (a, refl), λ h. h.0)))
     (λ f. let c = content-clear kind (content earlier) line in
     let m = none-numbered n (first (content_checks kind (content earlier) line)) in
-    rw (z, f) (simp or-false (
-      λ a. (let x = c.0 a.1 in ((a.0, x.0), m.1 x.1)),
-      λ h. (h.0.0, c.1 (h.0.1, m.0 h.1)),
-    )))))
+    rw (z, f) (grind (arith, common_steps, or-false)))))
 
 pub lines-clear : (kind : Kind) (lines : List (List ℕ)) → AreClearLines kind lines ↔ (line_fault kind lines ≡ None)
 lines-clear kind = clear-each (line_checks kind) (AreClearLines kind) (line-clear kind) (refl, tt)

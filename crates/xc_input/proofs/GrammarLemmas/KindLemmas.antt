@@ -1,15 +1,14 @@
 -- What stands for a problem as one kind stands for it as each kind that allows more.
+use Rattle.std.proofs.lemmas.Grind.{common_steps}
 use Rattle.std.proofs.Common.{arith}
-use Rattle.std.proofs.lemmas.Bool.Decides.{nat_tests}
 use Rattle.std.proofs.Common.{◌≡◌, ℕ, List, [], ◌∷◌, Bool, true, false}
 use Rattle.std.specs.List.{AllZip}
 use Rattle.xc_input.specs.declared.kind.Kind.{Kind}
-use Rattle.xc_input.specs.Tokens.{tokens}
 use Rattle.xc_input.specs.Sheets.{Entry, Written}
 use Rattle.xc_input.specs.Faults.{is_plain, is_bounds}
 use Rattle.xc_input.specs.inner.Stages.{context}
 use Rattle.xc_input.specs.Named.{Named}
-use Rattle.xc_input.specs.Text.{IsEntry, IsUse, IsOptionLine, StandsFor}
+use Rattle.xc_input.specs.Text.{IsEntry, IsOptionLine, StandsFor}
 
 -- what holds of each and its other
 zip-weaker : {X Y : Type 0} {R Q : X → Y → Type 0} → ((x : X) (y : Y) → R x y → Q x y) → (xs : List X) (ys : List Y)
@@ -25,17 +24,11 @@ module _ (a b : Kind) (bounds : is_bounds a ≡ true → is_bounds b ≡ true)
       → IsEntry b secondary token e
   entry-also secondary token e h = grind (arith, bounds)
 
-  use-also : (names : List (List ℕ)) (primaries : ℕ) (token : List ℕ) (u : Written)
-      → IsUse (context a names primaries) token u → IsUse (context b names primaries) token u
-  use-also names primaries token u h = grind (arith, colours)
-
   lines-also : (names : List (List ℕ)) (primaries : ℕ) (ls : List (ℕ × List ℕ)) (ws : List (ℕ × List Written))
       → AllZip (IsOptionLine (context a names primaries)) ls ws
       → AllZip (IsOptionLine (context b names primaries)) ls ws
-  lines-also names primaries =
-      zip-weaker (λ l w h. (h.0, zip-weaker (use-also names primaries) (tokens l.1) w.1 h.1, h.2))
+  lines-also names primaries = grind (arith, common_steps, zip-weaker, colours)
 
   pub stands-also : (lines : List (List ℕ)) (named : Named) (ignored : List ℕ) → StandsFor a lines named ignored
       → StandsFor b lines named ignored
-  stands-also lines named ignored h =
-      grind (arith, nat_tests, zip-weaker (entry-also false), zip-weaker (entry-also true), lines-also)
+  stands-also lines named ignored h = grind (arith, zip-weaker, entry-also, lines-also)

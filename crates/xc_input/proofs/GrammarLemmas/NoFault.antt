@@ -68,14 +68,12 @@ number-no-colon text e = grind (arith, nat_tests, digits-no-colon text)
 pub bounds-good : (prefix : List ℕ) (sec : Bool) → first (prefix_checks prefix sec) ≡ None
     → AreBounds prefix (number (low_text prefix)) (number (high_text prefix)) × (1 ≤ number (high_text prefix))
     × (number (low_text prefix) ≤ number (high_text prefix)) × (sec ≡ false)
-bounds-good prefix sec e =
-    grind (arith, nat_tests, fails (prefix_checks prefix sec) e, cut-is COLON prefix, no-cut COLON prefix)
+bounds-good prefix sec e = grind (arith, fails, cut-is, no-cut)
 
 pub good-bounds : (prefix : List ℕ) (low high : ℕ) → AreBounds prefix low high → 1 ≤ high → low ≤ high
     → (first (prefix_checks prefix false) ≡ None) × (number (low_text prefix) ≡ low)
     × (number (high_text prefix) ≡ high)
-good-bounds prefix low high (inl h) p q =
-    grind (arith, nat_tests, number-no-colon prefix h.0, no-cut COLON prefix)
+good-bounds prefix low high (inl h) p q = grind (arith, number-no-colon, no-cut)
 good-bounds prefix low high (inr h) p q =
     grind (arith, nat_tests, cut-at COLON h.0 h.1 (number-no-colon h.0 h.3), number-no-colon h.0 h.3)
 

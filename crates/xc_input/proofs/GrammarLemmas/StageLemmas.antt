@@ -1,4 +1,5 @@
 -- What lines give, by those with content, and that the checks behind it are those behind these lines.
+use Rattle.std.proofs.lemmas.Grind.{common_steps}
 use Rattle.std.proofs.Common.{◌≡◌, ℕ, ◌+◌, List, [], ◌∷◌, ◌++◌, Option, None, Some, true, false, not, nat_le}
 use Rattle.std.proofs.Common.{unwrap_or, is_some, length, map, refl, ap, ◌∙◌, sym, arith, if◌then◌else◌, append_assoc}
 use Rattle.std.proofs.Common.{append-nil, ◌||◌, ◌&&◌, nat_lt}
@@ -10,15 +11,14 @@ use Rattle.std.proofs.lemmas.List.{length-append, length-map, map_push as map-sn
 use Rattle.std.proofs.lemmas.List.Folds.{list_any-append}
 use Rattle.std.proofs.lemmas.List.Sums.{sum_by-cons}
 use Rattle.xc_input.specs.declared.kind.Kind.{Kind}
-use Rattle.xc_input.specs.declared.fault.FaultKind.TheVariants.{TwoBars, TooManyUses}
-use Rattle.xc_input.specs.declared.problem.Use.{Use}
+use Rattle.xc_input.specs.declared.fault.FaultKind.TheVariants.{TooManyUses}
 use Rattle.xc_input.specs.Problem.{use_count}
 use Rattle.xc_input.specs.Limits.{most_uses}
 use Rattle.xc_input.specs.Tokens.{tokens, parts, is_bar, is_skipped}
-use Rattle.xc_input.specs.Sheets.{Entry, Written, with_colour, number_uses, colour_number}
-use Rattle.xc_input.specs.Faults.{checks_of_each, name_of, item_checks, item_names, part_checks, Context}
+use Rattle.xc_input.specs.Sheets.{Entry, Written, with_colour, number_uses}
+use Rattle.xc_input.specs.Faults.{checks_of_each, name_of, item_names, part_checks, Context}
 use Rattle.xc_input.specs.Faults.{context_of, item_of, token_checks, has_primary}
-use Rattle.xc_input.specs.FirstFault.{line_number, content, is_kept, kept_uses, option_checks, content_checks}
+use Rattle.xc_input.specs.FirstFault.{line_number, content, kept_uses, option_checks, content_checks}
 use Rattle.xc_input.specs.inner.ColourNumbers.{numbered}
 use Rattle.xc_input.specs.inner.Sheets.{Sheet, names_of, with_uses}
 use Rattle.xc_input.specs.inner.Stages.{entry, Row, row_checks, row_of, no_row, with_part, context, written, written_by}
@@ -42,8 +42,7 @@ no-row kind = record { names = refl; barred = refl }
 
 pub row-checks : {kind : Kind} {row : Row} {others : List (List ℕ)} (part : List ℕ) → IsRowOf kind row others
     → row_part_checks kind row part ≡ part_checks kind others part
-row-checks {kind} part r =
-    λ i. if is_bar part then (TwoBars, r.barred i) ∷ [] else item_checks kind (r.names i) (r.barred i) part
+row-checks {kind} part r = grind (arith)
 
 pub row-more : {kind : Kind} {row : Row} {others : List (List ℕ)} (part : List ℕ) → IsRowOf kind row others
     → IsRowOf kind (with_part kind row part) (others ++ part ∷ [])
@@ -68,8 +67,7 @@ parts-checked (p ∷ ps) r = λ i. row-checks p r i ++ parts-checked ps (row-mor
 row-names : {kind : Kind} (ps : List (List ℕ)) {row : Row} {before : List (List ℕ)} → IsRowOf kind row before
     → names_of (row_of kind row ps).entries ≡ item_names kind (before ++ ps)
 row-names {kind} [] {before = before} r = r.names ∙ ap (item_names kind) (sym (append-nil before))
-row-names {kind} (p ∷ ps) {before = before} r =
-    row-names ps (row-more p r) ∙ ap (item_names kind) (append_assoc before (p ∷ []) ps)
+row-names {kind} (p ∷ ps) {before = before} r = grind (arith, row-more, append_assoc, row-names ps (row-more p r))
 
 -- the items that such parts stand for
 abbrev pub items_in : Kind → List (List ℕ) → List Entry
@@ -122,8 +120,7 @@ pub start-is : (kind : Kind) (line : List ℕ) → StandFor kind true (after_fir
     → ((start kind line).entries ≡ items_in kind (parts line))
     × ((start kind line).primaries ≡ length (before_first is_bar (parts line)))
     × (context_of kind (parts line) ≡ said kind (start kind line))
-start-is kind line a =
-    let r = row-is kind [] (parts line) a in (r.0, omega (arith, r.1), context-is kind (parts line) a)
+start-is kind line a = grind (arith, row-is, parts, context-is)
 
 -- OPTIONS
 abbrev pub content_from : ℕ → List (List ℕ) → List (ℕ × List ℕ)
@@ -209,8 +206,7 @@ stage_behind kind sheet ignored ls =
 
 stage-behind : (kind : Kind) (sheet : Sheet) (ignored : List ℕ) (ls : List (ℕ × List ℕ))
     → fold (with_content kind) (S sheet ignored) ls ≡ stage_behind kind sheet ignored ls
-stage-behind kind sheet ignored [] =
-    λ i. S (record sheet { options = sym (append-nil sheet.options) i }) (sym (append-nil ignored) i)
+stage-behind kind sheet ignored [] = grind (arith, append-nil)
 stage-behind kind sheet ignored (l ∷ ls) =
     let c = said kind sheet in
     let us = written_by sheet l.1 in
@@ -244,9 +240,7 @@ plain-content k (line ∷ lines) = grind (arith, nat_tests, plain-content (k + 1
 pub tokens-checked : (c : Context) (before ts : List (List ℕ)) → tokens_checks c (map (item_of c) before) ts
     ≡ checks_of_each (token_checks c) before ts
 tokens-checked c before [] = refl
-tokens-checked c before (t ∷ ts) =
-    ap (λ rest. token_checks c before t ++ rest) (ap (λ seen. tokens_checks c seen ts)
-    (sym (map-snoc (item_of c) before t)) ∙ tokens-checked c (before ++ t ∷ []) ts)
+tokens-checked c before (t ∷ ts) = grind (arith, map-snoc, item_of, tokens-checked c (before ++ t ∷ []) ts)
 
 kept-is : (c : Context) (ts : List (List ℕ)) → has_primary c.primaries (map (written c.names) ts)
     ≡ list_any (λ t. nat_le (item_of c t) c.primaries) ts
@@ -256,27 +250,25 @@ kept-is c (t ∷ ts) = ap (λ b. nat_le (item_of c t) c.primaries || b) (kept-is
 pub kept-count : (c : Context) (ls : List (ℕ × List ℕ)) → kept_uses c (plain ls) ≡ length (flat (kept_in c ls))
 kept-count c [] = refl
 kept-count c (l ∷ ls) =
-    let us = map (written c.names) (tokens l.1) in
-    let e = kept-is c (tokens l.1) in
-    let r = kept-count c ls in by-test (has_primary c.primaries us)
-    (λ g. rw (sym e ∙ g, g) (omega (
+    grind (
       arith,
-      r,
-      length-append us (flat (kept_in c ls)),
-      length-map (tokens l.1) (written c.names),
-      sum_by-cons (λ (t : List ℕ). length (tokens t)) l.1 (filter (is_kept c) (plain ls)),
-    )))
-    (λ g. rw (sym e ∙ g, g) r)
+      common_steps,
+      nat_tests,
+      written,
+      kept-is,
+      by-test,
+      length-append,
+      length-map,
+      sum_by-cons,
+      plain,
+      kept-count c ls,
+    )
 
 -- how many uses options have
 pub all-counted : (cs : List (List ℕ)) (uss : List (List Written))
     → use_count (map (number_uses cs) uss) ≡ length (flat uss)
 all-counted cs [] = refl
-all-counted cs (us ∷ uss) =
-    let n = length-map {B = Use} us (λ u. record { item = u.item; colour = colour_number cs u.colour }) in
-    let both = length-append us (flat uss) in
-    let split = sum_by-cons (λ (os : List Use). length os) (number_uses cs us) (map (number_uses cs) uss) in
-    omega (arith, all-counted cs uss)
+all-counted cs (us ∷ uss) = grind (arith, common_steps, length-map, length-append, sum_by-cons, all-counted cs uss)
 
 pub content-checked : (kind : Kind) (ls : List (ℕ × List ℕ)) (line : List ℕ) → AreClear kind (plain ls)
     → stage_content kind (stage_by kind ls) line ≡ content_checks kind (plain ls) line

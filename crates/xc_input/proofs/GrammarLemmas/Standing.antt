@@ -1,9 +1,9 @@
 -- Lines stand for a problem exactly where no check of them holds, and for no other problem.
-use Rattle.std.proofs.Common.{◌≡◌, ◌≢◌, ℕ, ◌≤◌, List, [], ◌∷◌, ◌++◌, length, map, refl, ap, ◌∙◌, sym, subst, arith}
-use Rattle.std.proofs.Common.{Bool, false, true, take, ◌-◌}
+use Rattle.std.proofs.lemmas.Grind.{common_steps}
+use Rattle.std.proofs.Common.{◌≡◌, ℕ, ◌≤◌, List, [], ◌∷◌, ◌++◌, length, map, refl, ap, ◌∙◌, sym, subst, arith}
+use Rattle.std.proofs.Common.{Bool, false, true}
 use Rattle.std.proofs.lemmas.List.{length-append, length-map}
 use Rattle.std.proofs.Math.Seq.{take-append_seam}
-use Rattle.std.specs.Prelude.{AllPairs}
 use Rattle.std.specs.List.{AllZip, AllByRecursion as Each, list_any, before_first, after_first}
 use Rattle.xc_input.specs.declared.kind.Kind.{Kind}
 use Rattle.xc_input.specs.Limits.{most_uses}
@@ -34,10 +34,7 @@ zip-each R f (x ∷ xs) a = (a.0, zip-each R f xs a.1)
 zip-is : {X Y : Type 0} {R : X → Y → Type 0} (f : X → Y) → ((x : X) (y : Y) → R x y → y ≡ f x) → (xs : List X)
     (ys : List Y) → AllZip R xs ys → (ys ≡ map f xs) × Each (λ x. R x (f x)) xs
 zip-is f u [] [] z = (refl, tt)
-zip-is {R = R} f u (x ∷ xs) (y ∷ ys) z =
-    let e = u x y z.0 in
-    let r = zip-is f u xs ys z.1 in
-    ((λ i. e i ∷ r.0 i), (subst (R x) e z.0, r.1))
+zip-is {R = R} f u (x ∷ xs) (y ∷ ys) z = grind (arith, zip-is f u xs ys z.1)
 zip-is f u xs ys z = absurd z
 
 entries-are : (kind : Kind) (sec : Bool) (ps : List (List ℕ)) (es : List Entry) → AllZip (IsEntry kind sec) ps es
@@ -123,35 +120,14 @@ module _ (kind : Kind) (item : ℕ × List ℕ) (rest : List (ℕ × List ℕ)) 
           distinct = AllPairs-from_each_two _ _ h.0.1;
           few = h.0.2;
         };
-        options = subst (λ n. HaveOptions (context kind c.names n) rest named_in (ignored_in c rest))
-            (sym (length-map primary _ ∙ few)) options;
+        options = grind (arith, common_steps, rest, length-map, primary, few, options);
       }
 
   -- what the stage behind these lines says of them
   pub sheet-is : StandFor kind true (after_first is_bar ps) → let st = stage_by kind (item ∷ rest) in
       ◌≡◌ {A = Named × List ℕ} (named_of st.sheet, st.ignored) (named_in, ignored_in c rest)
   sheet-is a =
-      let s = start-is kind item.1 a in
-      let from = start kind item.1 in
-      let kept = ap (λ c. kept_in c rest) (sym s.2) in
-      let count : from.primaries ≡ length primary = s.1 ∙ sym few in
-      let bounds = (λ i. bounds_in (take (count i) (s.0 i))) ∙ ap bounds_in (take-append_seam primary _) in
-      let back = length-map (after_first is_bar ps) (entry kind true) in
-      let all = length-append primary (map (entry kind true) (after_first is_bar ps)) in
-      let behind : length from.entries - from.primaries ≡ length (after_first is_bar ps) =
-      omega (arith, ap length s.0) in
-      λ i. (
-        record {
-          names = (sym s.2 i).names;
-          colours = with_uses [] (flat (kept i));
-          puzzle = record {
-            bounds = bounds i;
-            secondary = behind i;
-            options = map (number_uses (with_uses [] (flat (kept i)))) (kept i);
-          };
-        },
-        ignored_in (sym s.2 i) rest,
-      )
+      grind (arith, start-is, item, start, rest, primary, few, take-append_seam, length-map, length-append)
 
 pub stands-clear : (kind : Kind) (lines : List (List ℕ)) (named : Named) (ignored : List ℕ)
     (h : StandsFor kind lines named ignored) → AreClear kind (plain (h.item_line ∷ h.option_lines))
@@ -173,14 +149,7 @@ stands-clear kind lines named ignored h =
     let colours = o.colours ∙ ap (λ uss. with_uses [] (flat uss)) kept in
     let uses : kept_uses c (plain rest) ≤ most_uses =
     omega (arith, o.few, ap (λ uss. length (flat uss)) kept, kept-count c rest) in (
-      (
-        (
-          (b.1, a.1),
-          each_two_from_AllPairs _ _ (subst (AllPairs (λ x y. x ≢ y)) names h.items.distinct),
-          omega (arith, ap length names, h.items.few),
-        ),
-        (w.1, uses),
-      ),
+      (grind (arith, common_steps, a, each_two_from_AllPairs, names, uses)),
       λ i. record {
         names = names i;
         colours = colours i;

@@ -17,10 +17,6 @@ use Rattle.xc_input.specs.inner.Feeding.{fed, IsBetween, Spoils, EndsAs}
 use Rattle.xc_input.specs.Lines.{lines_of}
 use Rattle.xc_input.specs.Pieces.{SourceState, Gave, GaveAll, IsOpen, IsWhole, IsPart}
 use Rattle.xc_input.proofs.LineLemmas.Reading.{error-ends}
-use Prim.Native.Char.{code}
-
-pub gave_nothing : (s : SourceState) → Gave s s []
-gave_nothing s = grind (arith, nat_tests, append-nil s.given)
 
 -- one read more gave some bytes
 pub gave_more : (a b c : SourceState) (bytes piece : List ℕ) → Gave a b bytes → 0 < length piece
@@ -28,10 +24,6 @@ pub gave_more : (a b c : SourceState) (bytes piece : List ℕ) → Gave a b byte
 gave_more a b c bytes piece g some told e = grind (arith, common_steps, append_assoc, flat_map-append, append-nil)
 
 -- a read failed
-pub gave_kept : (a b c : SourceState) (bytes : List ℕ) → Gave a b bytes → Keeps b.rest c.rest → c.given ≡ b.given
-    → Gave a c bytes
-gave_kept a b c bytes g kept e = grind (arith, nat_tests)
-
 at-end : (old now : Option (List ℕ)) (bytes : List ℕ) → Consumes old now bytes → IsAtEnd now
     → IfSome old (λ rest. rest ≡ bytes)
 at-end None now bytes p e = tt
@@ -59,10 +51,6 @@ part-last (Err Device) h m g = absurd h.first
 part-last {bytes = bytes} (Err Memory) h m g = (bytes, g.no_failure, inr (g, m refl))
 
 -- a reader that was given nothing, where nothing is carried on
-pub new-between : (reading : Reading) (carry : List ℕ) → reading.lines ≡ [] → reading.error ≡ None → carry ≡ []
-    → IsBetween reading carry
-new-between reading carry lines error none = grind (arith, nat_tests, code "\n")
-
 -- what is carried on ends within a line
 pub open-carry : (reading : Reading) (carry : List ℕ) → IsBetween reading carry → 0 < length carry
     → IsOpen (fed reading carry)
@@ -81,4 +69,5 @@ part-spoiled kind {bytes = bytes} Memory h g same = (bytes, same, inl g)
 pub part-failed : (kind : Kind) (a b c : SourceState) (reading : Reading) (carry : List ℕ) → reading.kind ≡ kind
     → IsBetween reading carry → Gave a b (fed reading carry) → b.failures ≡ a.failures
     → Rose b.failures c.failures → Keeps b.rest c.rest → c.given ≡ b.given → IsPart kind a c Device
-part-failed kind a b c reading carry is between g same rose kept e = grind (arith, nat_tests, gave_kept, lines_of-all)
+part-failed kind a b c reading carry is between g same rose kept e =
+    grind (arith, common_steps, lines_of-all, nat_tests)

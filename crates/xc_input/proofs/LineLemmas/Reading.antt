@@ -16,7 +16,7 @@ use Rattle.xc_input.specs.inner.Stages.{Stage, line_checks, with_line, stage_fro
 use Rattle.xc_input.specs.inner.Builders.{Judged, IsBuilder, stage_of_builder, error_at}
 use Rattle.xc_input.specs.Readings.{IsStateOf}
 use Rattle.xc_input.specs.inner.Feeding.{IsErrorOf, IsEndOf}
-use Rattle.std.specs.Option.{option_map, option_or}
+use Rattle.std.specs.Option.{option_map}
 use Rattle.xc_input.proofs.FaultLemmas.FirstFaults.{line-stays, next-fault, first_fault-is, end_fault}
 
 stage-snoc : (kind : Kind) (n : ℕ) (stage : Stage) (lines : List (List ℕ)) (line : List ℕ)
@@ -80,7 +80,4 @@ ends-at kind lines o e f h = error-ends kind lines e (subst (IsStateOf kind line
 
 pub end-is : (kind : Kind) (lines : List (List ℕ)) (b : Bool) (o : Option InputError) → o ≡ None
     → IsStateOf kind lines o → b ≡ (stage_of kind lines).started → first_fault kind lines ≡ end_fault (length lines) b
-end-is kind lines b o f h s =
-    let g : line_fault kind lines ≡ None = subst (IsStateOf kind lines) f h in
-    first_fault-is kind lines ∙ ap (λ q. option_or q (end_fault (length lines) (stage_of kind lines).started)) g
-    ∙ ap (end_fault (length lines)) (sym s)
+end-is kind lines b o f h s = grind (arith, first_fault-is)

@@ -36,18 +36,12 @@ line-cut piece end others e h = grind (arith, nat_tests, cut-is 10 piece h.0)
 -- a line and its line feed at the front
 lines_of-line : (l rest : List ℕ) → has 10 l ≡ false → lines_of (l ++ 10 ∷ rest) ≡ l ∷ lines_of rest
 lines_of-line [] rest h = refl
-lines_of-line (x ∷ l) rest h =
-    grind (arith, nat_tests, lines_of-line l rest, or_parts (nat_eq x 10) (has 10 l) h)
+lines_of-line (x ∷ l) rest h = grind (arith, or_parts, has, lines_of-line l rest)
 
 pub lines_of-ended : (ls : List (List ℕ)) (rest : List ℕ) → AreWhole ls
     → lines_of (ended ls ++ rest) ≡ ls ++ lines_of rest
 lines_of-ended [] rest h = refl
-lines_of-ended (l ∷ ls) rest h = grind (
-  arith,
-  append_assoc l (10 ∷ ended ls) rest,
-  lines_of-line l (ended ls ++ rest) h.0,
-  lines_of-ended ls rest h.1,
-)
+lines_of-ended (l ∷ ls) rest h = grind (arith, append_assoc, ended, lines_of-line, lines_of-ended ls rest h.1)
 
 -- lines that line feeds end
 pub lines_of-all : (ls : List (List ℕ)) → AreWhole ls → lines_of (ended ls) ≡ ls
@@ -66,8 +60,7 @@ last-of-part (x ∷ y ∷ l) h p =
 pub lines_of-part : (l : List ℕ) → has 10 l ≡ false → 0 < length l → lines_of l ≡ l ∷ []
 lines_of-part [] h p = absurd (omega arith)
 lines_of-part (x ∷ []) h p = grind (arith, nat_tests, or_parts (nat_eq x 10) false h)
-lines_of-part (x ∷ y ∷ l) h p =
-    grind (arith, nat_tests, lines_of-part (y ∷ l), or_parts (nat_eq x 10) (has 10 (y ∷ l)) h)
+lines_of-part (x ∷ y ∷ l) h p = grind (arith, or_parts, has, lines_of-part (y ∷ l))
 
 -- and of the bytes of some lines
 Spoils-ended : (kind : Kind) (ls : List (List ℕ)) (e : InputError) (bytes : List ℕ) → AreWhole ls → bytes ≡ ended ls
@@ -109,6 +102,3 @@ ends old new carry end whole left r b l f k g e s n =
     }
 
 -- a piece of a line is carried on
-pub between-more : (reading : Reading) (carry rest new : List ℕ) → IsBetween reading carry → has 10 rest ≡ false
-    → new ≡ carry ++ rest → IsBetween reading new
-between-more reading carry rest new b l e = grind (arith, nat_tests, lacks-append 10 carry rest b.partial l)

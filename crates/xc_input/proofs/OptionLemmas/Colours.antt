@@ -26,8 +26,7 @@ last-or-len p (y ∷ ys) x e f = grind (arith, nat_tests, last-or-len p ys x)
 
 pub last-position : {A : Type 0} (p : A → Bool) (xs : List A) (x : A) → position p xs ≡ None → p x ≡ true
     → position p (xs ++ x ∷ []) ≡ Some (length xs)
-last-position p xs x e f =
-    grind (arith, nat_tests, last-or-len p xs x (no-place p xs e) f, length-append xs (x ∷ []))
+last-position p xs x e f = grind (arith, last-or-len, no-place, length-append)
 
 -- a place stays where more stands behind
 or-len-stays : {A : Type 0} (p : A → Bool) (xs ys : List A) → position_or_len p xs < length xs
@@ -37,10 +36,6 @@ or-len-stays p (x ∷ xs) ys h = grind (arith, nat_tests, or-len-stays p xs ys)
 
 pub in-range : {A : Type 0} (p : A → Bool) (xs : List A) (i : ℕ) → position p xs ≡ Some i → i < length xs
 in-range p xs i e = grind (arith, nat_tests)
-
-position-stays : {A : Type 0} (p : A → Bool) (xs ys : List A) (i : ℕ) → position p xs ≡ Some i
-    → position p (xs ++ ys) ≡ Some i
-position-stays p xs ys i e = grind (arith, nat_tests, or-len-stays p xs ys, length-append xs ys)
 
 -- a colour is none, or stands here
 abbrev pub Knows : List (List ℕ) → List ℕ → Type 0
@@ -63,8 +58,7 @@ knows-more : (cs : List (List ℕ)) (d c : List ℕ) → Knows cs c → Knows (w
 knows-more cs [] c k = (k, refl)
 knows-more cs (b ∷ bs) [] k = (tt, refl)
 knows-more cs (b ∷ bs) (x ∷ xs) k =
-    let stays = position-stays (bytes_eq (x ∷ xs)) cs ((b ∷ bs) ∷ []) k.0 k.1 in by-place (place cs (b ∷ bs))
-    (λ e. rw e ((k.0, stays), grind (arith))) (λ i e. rw e (k, refl))
+    grind (arith, common_steps, by-place, place, or-len-stays, length-append, nat_tests)
 
 pub kept : (cs : List (List ℕ)) (us : List Written) (c : List ℕ) → Knows cs c
     → Knows (with_uses cs us) c × (colour_number (with_uses cs us) c ≡ colour_number cs c)

@@ -20,9 +20,7 @@ use Rattle.xc_input.specs.inner.Vectors.{AreOptionStarts}
 pub numbered-map : {X Y : Type 0} (f : X → Y) (xs : List X) (i : ℕ) (d : X) → 1 ≤ i → i ≤ length xs
     → numbered_get (map f xs) i ≡ Some (f (get_or xs (i - 1) d))
 numbered-map f xs zero d l h = absurd (omega (arith, l))
-numbered-map f xs (suc k) d l h =
-    let place : suc k - 1 ≡ k = omega arith in
-    grind (arith, slice_get-mapped f xs k, slice_get-get_or xs k d (omega (arith, h)))
+numbered-map f xs (suc k) d l h = grind (arith, slice_get-mapped, slice_get-get_or)
 
 pub length-pieces : {X : Type 0} (starts : List ℕ) (us : List X) → AreStarts starts (length us)
     → length (pieces starts us) + 1 ≡ length starts
@@ -57,28 +55,18 @@ pub option_part : {X : Type 0} (starts : List ℕ) (us : List X) (o a b : ℕ) �
     → o < length starts → a ≡ get_or starts (o - 1) a → b ≡ get_or starts o b →
     (a ≤ b) × (b ≤ length us) × (numbered_get (pieces starts us) o ≡ Some (slice_range us a b))
 option_part starts us zero a b h l m e f = absurd (omega (arith, l))
-option_part starts us (suc k) a b h l m e f =
-    let before : suc k - 1 ≡ k = omega arith in
-    let two : k + 1 < length starts = omega (arith, m) in
-    let from : a ≡ get_or starts k 0 =
-    e ∙ ap (λ n. get_or starts n a) before ∙ get_or_default_zero starts k a (omega (arith, m)) in
-    let to : b ≡ get_or starts (suc k) 0 = f ∙ get_or_default_zero starts (suc k) b m in
-    grind (arith, start_range starts (length us) k h two, piece_at starts us k two)
+option_part starts us (suc k) a b h l m e f = grind (arith, get_or_default_zero, start_range, piece_at)
 
 pub slice-front : {X : Type 0} (us vs : List X) (a b : ℕ) → a ≤ b → b ≤ length us
     → slice_range (us ++ vs) a b ≡ slice_range us a b
 slice-front us vs a b h l = grind (arith, common_steps, drop-append-le, take-append-le, length-drop)
-
-slice-back : {X : Type 0} (us vs : List X) (a n : ℕ) → a ≡ length us → n ≡ length us + length vs
-    → slice_range (us ++ vs) a n ≡ vs
-slice-back us vs a n e f = grind (arith, common_steps, drop-append_seam, take-length)
 
 -- one part more
 pub pieces-snoc : {X : Type 0} (a : ℕ) (starts : List ℕ) (us vs : List X) (n : ℕ) → AreStarts (a ∷ starts) (length us)
     → n ≡ length us + length vs
     → AreStarts (a ∷ starts ++ n ∷ []) (length (us ++ vs))
     × (pieces (a ∷ starts ++ n ∷ []) (us ++ vs) ≡ pieces (a ∷ starts) us ++ vs ∷ [])
-pieces-snoc a [] us vs n h e = grind (arith, common_steps, length-append, slice-back)
+pieces-snoc a [] us vs n h e = grind (arith, common_steps, length-append, drop-append_seam, take-length)
 pieces-snoc a (b ∷ starts) us vs n h e =
     let later = pieces-snoc b starts us vs n h.1 e in
     let same = slice-front us vs a b h.0 (starts-low b starts (length us) h.1) in
@@ -89,10 +77,7 @@ pieces-total : {X : Type 0} (a : ℕ) (starts : List ℕ) (us : List X) → AreS
     → sum_by (λ p. length p) (pieces (a ∷ starts) us) + a ≡ length us
 pieces-total a [] us h = omega (arith, h)
 pieces-total a (b ∷ starts) us h =
-    let later = pieces-total b starts us h.1 in
-    let split = sum_by-cons (λ (p : List _). length p) (slice_range us a b) (pieces (b ∷ starts) us) in
-    let low = starts-low b starts (length us) h.1 in
-    let part = length-take-le (b - a) (drop a us) in grind (arith, common_steps, length-drop a us, h.0)
+    grind (arith, common_steps, sum_by-cons, starts-low, length-take-le, length-drop, pieces-total b starts us h.1)
 
 -- the options have all uses
 pub all-uses : (starts : List ℕ) (us : List Use) → AreOptionStarts starts us → use_count (pieces starts us) ≡ length us

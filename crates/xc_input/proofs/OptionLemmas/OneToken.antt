@@ -1,6 +1,7 @@
 -- One token of an option line, for `use_of` and the loop of `option_line`.
+use Rattle.std.proofs.lemmas.Grind.{common_steps}
 use Rattle.std.proofs.Common.{arith, ◌<◌, ◌≤◌, ◌≡◌, ℕ, ◌+◌, List, [], ◌∷◌, ◌++◌, Option, None, Some, Bool, true, false}
-use Rattle.std.proofs.Common.{◌&&◌, nat_lt, nat_eq, map, refl, ap, ◌∙◌, sym}
+use Rattle.std.proofs.Common.{◌&&◌, nat_lt, nat_eq, map, refl, ◌∙◌, sym}
 use Rattle.std.proofs.Common.{length, drop, append_assoc}
 use Rattle.std.proofs.lemmas.Bool.Decides.{nat_tests}
 use Rattle.std.specs.List.{list_any}
@@ -50,11 +51,8 @@ module _ (kind : Kind) (primary : ℕ) (seen : List ℕ) {names : List (List ℕ
   abbrev judged : Option FaultKind
   judged = fault kind names primary seen text
 
-  has-colour : is_some t.colour ≡ has COLON text
-  has-colour = grind (arith, nat_tests, cut.colour)
-
   stray-is : (b : Bool) → stray ≡ b → (is_plain kind && has COLON text) ≡ b
-  stray-is b e = ap (λ x. is_plain kind && x) (sym has-colour) ∙ sym test ∙ e
+  stray-is b e = grind (arith, common_steps, test, cut, nat_tests)
 
   -- a colour stands where none may
   pub not-here : stray ≡ true → judged ≡ Some ColourNotHere

@@ -26,8 +26,7 @@ word-onto (x ∷ xs) ys h = grind (arith, nat_tests, word-onto xs ys, or_parts (
 
 behind-onto : (xs ys : List ℕ) → list_any is_space xs ≡ false → behind (xs ++ ys) ≡ behind ys
 behind-onto [] ys h = refl
-behind-onto (x ∷ xs) ys h =
-    grind (arith, nat_tests, behind-onto xs ys, or_parts (is_space x) (list_any is_space xs) h)
+behind-onto (x ∷ xs) ys h = grind (arith, or_parts, behind-onto xs ys)
 
 at-white : (ys : List ℕ) → AtWhite ys → (word ys ≡ []) × (behind ys ≡ ys)
 at-white [] w = (refl, refl)

@@ -39,8 +39,7 @@ known-first names words text back n at number all own bytes behind within is kno
     (slice_get-get_or names at [] (omega (arith, low, own.few)) ∙ ap Some (sym name)) in
     let some : 1 ≤ length (take n text) = (stored IsName names (take n text) at all.named stands).some in
     let solid = stored (λ n. list_any is_space n ≡ false) names (take n text) at all.solid stands in
-    let whole : text ≡ take n text ++ back =
-    sym (take-append-drop n text) ∙ ap (λ ys. take n text ++ ys) (sym behind) in
+    let whole : text ≡ take n text ++ back = grind (arith, common_steps, take-append-drop) in
     cut-token names text text (take n text) back p.1.now at p.0 all
     (whole ∙ sym (solid-front (take n text) back some solid) ∙ ap drop_white (sym whole))
     (omega (arith, some, length-take n text)) whole stands named.0 named.1 cut

@@ -5,7 +5,7 @@ use Rattle.std.proofs.Common.{◌+◌, ◌≤◌, drop, MatchOption}
 use Rattle.std.proofs.Common.{◌≡◌, ◌≢◌, ℕ, zero, suc, ◌<◌, List, [], ◌∷◌, ◌++◌, Option, None, Some, Bool, true, false}
 use Rattle.std.proofs.Common.{All, length, take, refl, ap, ◌∙◌, sym, subst, arith}
 use Rattle.std.proofs.Common.{Vec, Global, get_or}
-use Rattle.std.proofs.lemmas.List.Elements.{All-push, All-get_or}
+use Rattle.std.proofs.lemmas.List.Elements.{All-get_or}
 use Rattle.std.proofs.lemmas.List.Quantifiers.{position-Some, all_pairs_push}
 use Rattle.std.proofs.lemmas.List.Folds.{list_any_at}
 use Rattle.std.proofs.lemmas.List.Sums.{position_or_len_is}
@@ -26,7 +26,6 @@ use Rattle.xc_input.specs.inner.Builders.{AreNames, AreDistinct}
 use Rattle.xc_input.specs.inner.Stored.{key_names}
 use Rattle.xc_input.specs.Faults.{first, name_checks}
 use Rattle.xc_input.specs.inner.Stages.{entry}
-use Rattle.xc_input.specs.Named.{IsName}
 use Rattle.xc_input.proofs.GrammarLemmas.NoFault.{name-good}
 use Rattle.std.proofs.lemmas.Bool.{or_parts}
 use Rattle.xc_input.proofs.FaultLemmas.Checks.{no-place}
@@ -49,11 +48,7 @@ apart earlier x none k d within same =
 pub names-more : {old new : List (List ℕ)} (name : List ℕ) {fault : Option FaultKind} → AreNames old
     → new ≡ old ++ name ∷ [] → fault ≡ first (name_checks name) → fault ≡ None → place old name ≡ None
     → list_any is_space name ≡ false → AreNames new
-names-more {old} name all e f g none solid = subst AreNames (sym e) (record {
-  named = All-push IsName old name all.named (name-good name (sym f ∙ g));
-  solid = All-push (λ n. list_any is_space n ≡ false) old name all.solid solid;
-  distinct = all_pairs_push (λ x y. x ≢ y) old name all.distinct (apart old name none);
-})
+names-more {old} name all e f g none solid = grind (arith, common_steps, name-good, all_pairs_push, apart)
 
 after-solid : (b : ℕ) (xs : List ℕ) → list_any is_space xs ≡ false → list_any is_space (after b xs) ≡ false
 after-solid b [] h = h
@@ -69,12 +64,7 @@ name-solid kind secondary token {name} e h = grind (arith, nat_tests, after-soli
 pub distinct-place : (names : List (List ℕ)) (name : List ℕ) (k : ℕ) → AreDistinct names → slice_get names k ≡ Some name
     → place names name ≡ Some k
 distinct-place names name k distinct e =
-    let within : k < length names = slice_get_within names k name e in
-    let here : get_or names k name ≡ name = get_or_from_slice_get names k name name e in
-    let earlier : (j : ℕ) → j < k → bytes_eq name (get_or names j name) ≡ false =
-    λ j less. grind (arith, nat_tests, distinct j k name less within, bytes_eq-Decides) in
-    let at = position_or_len_is (bytes_eq name) names k name (omega (arith, within)) earlier
-    (λ w. (bytes_eq-Decides name (get_or names k name)).1 (sym here)) in grind (arith, nat_tests)
+    grind (arith, slice_get_within, get_or_from_slice_get, bytes_eq-Decides, position_or_len_is)
 
 -- no colour comes twice
 pub distinct-more : (old : List (List ℕ)) {new : List (List ℕ)} (name : List ℕ) → AreDistinct old
@@ -97,12 +87,7 @@ pub behind-known : (r : Option (Bor (List ℕ))) (N : Type 0) (keys : List (Vec 
     × (x.now ≡ drop (length name) text) × (length x.now + length name ≡ length text))
     → IfSome r (λ x. (n ≤ length text) × (x.now ≡ drop n text) × (place (key_names keys) (take n text) ≡ Some k))
 behind-known None N keys text k n all e m same h = tt
-behind-known (Some x) N keys text {name} {v} k n all e m same h = (
-  omega (arith, m, h.2),
-  h.1 ∙ ap (λ j. drop j text) (sym m),
-  known-distinct keys (take n text) v k all.distinct e
-      (sym same ∙ sym ((bytes_eq-Decides (take (length name) text) name).0 h.0) ∙ ap (λ j. take j text) (sym m)),
-)
+behind-known (Some x) N keys text {name} {v} k n all e m same h = grind (arith, known-distinct, bytes_eq-Decides)
 
 -- texts of one byte
 pub one-byte : (xs ys : List ℕ) → length xs ≡ 1 → length ys ≡ 1 → get_or xs 0 0 ≡ get_or ys 0 0 → xs ≡ ys

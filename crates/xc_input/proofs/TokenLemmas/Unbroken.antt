@@ -20,9 +20,7 @@ AllLack p ts = AllByRecursion (λ t. list_any p t ≡ false) ts
 -- what stands behind a byte
 lacks-behind : (p : ℕ → Bool) (front : List ℕ) (b : ℕ) (back : List ℕ) → list_any p (front ++ b ∷ back) ≡ false
     → list_any p back ≡ false
-lacks-behind p front b back h =
-    let rest = or_parts (list_any p front) (list_any p (b ∷ back)) in
-    grind (arith, rest, list_any-append p front (b ∷ back), or_parts (p b) (list_any p back))
+lacks-behind p front b back h = grind (arith, or_parts, list_any-append)
 
 -- TOKENS
 lack-front : (p : ℕ → Bool) (b : ℕ) (ts : List (List ℕ)) → p b ≡ false → AllLack p ts → AllLack p (onto_first b ts)

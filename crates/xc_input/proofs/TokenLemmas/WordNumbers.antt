@@ -2,12 +2,12 @@
 use Rattle.std.proofs.lemmas.Bool.Decides.{nat_tests}
 use Rattle.std.proofs.Common.{◌≡◌, ℕ, zero, suc, ◌+◌, ◌*◌, ◌<◌, ◌≤◌, ◌%◌, ◌/◌, ◌^◌, List, [], ◌∷◌, length, get_or}
 use Rattle.std.proofs.Common.{take, drop}
-use Rattle.std.proofs.Common.{refl, ap₂, ◌∙◌, arith}
+use Rattle.std.proofs.Common.{refl, ap₂, arith}
 use Rattle.std.proofs.lemmas.Nat.{mod-pow-add, pow-add}
 use Rattle.std.proofs.lemmas.List.{length-drop, length-take, take-take}
 use Rattle.std.specs.Simd.Lanes.{number_l}
 use Rattle.std.specs.Int.{w64, from_le_bytes}
-use Rattle.xc_input.specs.inner.GuessedWords.{word_number, AreBytes, IsWordOf}
+use Rattle.xc_input.specs.inner.GuessedWords.{word_number, AreBytes}
 
 -- below this a word of so many bytes stays
 abbrev pub cap : ℕ → ℕ
@@ -84,9 +84,4 @@ first-word n first number xs p long few read is =
     grind (arith, eight-is xs long, take-take n 8 xs (omega (arith, few)))
 
 -- a number that no text of bytes has
-pub no-text : (name : List ℕ) → IsWordOf name 0
-no-text name text p e = absurd (omega (arith, e, positive text))
-
 -- the number of a text
-pub own-text : (name : List ℕ) (number : ℕ) → AreBytes name → number ≡ word_number name → IsWordOf name number
-own-text name number q e text p f = same-text text name p q (f ∙ e)

@@ -1,7 +1,8 @@
 -- The problem of a sheet.
+use Rattle.std.proofs.lemmas.Grind.{common_steps}
 use Rattle.std.proofs.Common.{◌≡◌, ℕ, ◌-◌, ◌≤◌, false, List, [], ◌∷◌, true, length, map, take, drop}
 use Rattle.std.proofs.Common.{All, ap}
-use Rattle.std.proofs.Common.{arith, subst, inl, inr}
+use Rattle.std.proofs.Common.{arith, inl, inr}
 use Rattle.std.proofs.lemmas.Bool.Decides.{nat_tests}
 use Rattle.std.proofs.lemmas.List.{length-append, length-map, drop-map}
 use Rattle.std.proofs.Math.Seq.{drop-append_seam}
@@ -29,10 +30,6 @@ use Rattle.xc_input.proofs.lists.EachElement.{each_weaker, each-map}
 pub item-names : (items : List Item) → names_of (map entry_of items) ≡ map (λ x. x.name.items) items
 item-names items = map-map entry_of (λ e. e.name) items
 
-item-bounds : (n : ℕ) (items : List Item)
-    → map entry_bounds (take n (map entry_of items)) ≡ map bounds_of (take n items)
-item-bounds n items = ap (map entry_bounds) (take-map entry_of n items) ∙ map-map entry_of entry_bounds (take n items)
-
 pub named-is : (items : List Item) (primary : ℕ) (options : List (List Use)) (colours : List (List ℕ))
     → named_of (record { entries = map entry_of items; primaries = primary; options = options; colours = colours })
     ≡ record {
@@ -41,7 +38,8 @@ pub named-is : (items : List Item) (primary : ℕ) (options : List (List Use)) (
       puzzle =
           record { bounds = map bounds_of (take primary items); secondary = length items - primary; options = options };
     }
-named-is items primary options colours = grind (arith, nat_tests, item-names, item-bounds, length-map)
+named-is items primary options colours =
+    grind (arith, common_steps, item-names, length-map, take-map, map-map, nat_tests)
 
 -- THE ITEM LINE
 -- the elements of a list whose images these are
@@ -66,6 +64,5 @@ behind-bounds kind items {n} (ps, a, are, k) =
     ∙ (λ i. drop (sym count i) (sym are i)) ∙ drop-map entry_of n items in (
       omega (arith, count, ap length are, length-append front back, length-map items entry_of),
       All-from_recursion IsOptional (drop n items) (each-of IsFree entry_of (drop n items)
-          (subst (AllByRecursion IsFree) same (each-map IsFree (entry kind true) (after_first is_bar ps)
-          (each_weaker _ _ (after_first is_bar ps) (λ p. optional kind p (entry kind true p)) a)))),
+          (grind (arith, common_steps, same, each-map, each_weaker, optional))),
     )

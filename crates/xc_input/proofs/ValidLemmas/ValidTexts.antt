@@ -1,6 +1,6 @@
 -- What stands for a text is sound.
 use Rattle.std.proofs.lemmas.Grind.{common_steps}
-use Rattle.std.proofs.Common.{◌≡◌, ◌≢◌, ℕ, ◌+◌, ◌*◌, ◌-◌, ◌^◌, ◌<◌, ◌≤◌, List, [], ◌∷◌, ◌++◌}
+use Rattle.std.proofs.Common.{◌≡◌, ◌≢◌, ℕ, ◌+◌, ◌*◌, ◌-◌, ◌^◌, ◌<◌, ◌≤◌, List, [], ◌∷◌}
 use Rattle.std.proofs.Common.{Bool, true, false, nat_eq, nat_le, map, length, All, AllPairs, refl}
 use Rattle.std.proofs.Common.{ap, ◌∙◌, sym, subst, arith, inl, inr, length-append}
 use Rattle.std.specs.Prelude.{flat_map}
@@ -29,7 +29,7 @@ use Rattle.xc_input.specs.Sheets.{Entry, Written, with_colour, colour_number, nu
 use Rattle.xc_input.specs.Limits.{greatest_bound}
 use Rattle.xc_input.specs.Faults.{Context, has_primary}
 use Rattle.xc_input.specs.Named.{Named, IsName, IsColour, IsUnbroken, IsSound}
-use Rattle.xc_input.specs.Text.{IsEntry, AreBounds, IsUse, StandsFor}
+use Rattle.xc_input.specs.Text.{IsEntry, IsUse, StandsFor}
 use Rattle.xc_input.specs.inner.Sheets.{with_uses}
 use Rattle.xc_input.specs.inner.EndedLines.{AreWhole}
 use Rattle.xc_input.specs.inner.Stages.{context}
@@ -37,7 +37,7 @@ use Rattle.xc_input.proofs.lists.EachElement.{each_weaker, each-append, each-map
 use Rattle.xc_input.proofs.lists.EachElement.{each_front}
 use Rattle.xc_input.proofs.lists.EachTwo.{EachTwo-map, AllPairs-from_each_two, each_two_from_AllPairs}
 use Rattle.xc_input.proofs.TokenLemmas.DecimalValues.{value_from}
-use Rattle.xc_input.proofs.TokenLemmas.Separators.{BAR, COLON}
+use Rattle.xc_input.proofs.TokenLemmas.Separators.{BAR}
 use Rattle.xc_input.proofs.TokenLemmas.TableNames.{apart}
 use Rattle.xc_input.proofs.TokenLemmas.Unbroken.{unbroken-tokens, unbroken-parts, unbroken-behind}
 use Rattle.xc_input.proofs.OptionLemmas.Colours.{Knows, by-place, met, kept, in-range, colours_more, primary-numbered}
@@ -75,9 +75,6 @@ value-below n i (x ∷ xs) h e = grind (arith, nat_tests, value-below (n * 10 + 
 number-below : (text : List ℕ) → are_digits 9 text ≡ true → number text ≤ greatest_bound
 number-below text e = grind (arith, nat_tests, value-below 0 0 text, pow-le-pow_right)
 
-high-below : (prefix : List ℕ) (low high : ℕ) → AreBounds prefix low high → high ≤ greatest_bound
-high-below prefix low high h = grind (arith, nat_tests, number-below)
-
 -- ITEMS
 -- the bounds of an item
 abbrev pub entry_bounds : Entry → Bounds
@@ -86,7 +83,7 @@ entry_bounds e = record { low = e.low; high = e.high }
 primary-good : (kind : Kind) (token : List ℕ) (e : Entry) → IsEntry kind false token e
     → AreSoundBounds (entry_bounds e) × (e.high ≤ greatest_bound)
 primary-good kind token e (n, inl h) = grind (arith, common_steps)
-primary-good kind token e (n, inr h) = ((h.7, h.6), high-below h.0 e.low e.high h.5)
+primary-good kind token e (n, inr h) = grind (arith, common_steps, number-below, nat_tests)
 
 -- the name of an item
 abbrev IsGoodName : List ℕ → Type 0
@@ -115,14 +112,7 @@ IsGoodUse c u = (1 ≤ u.item) × (u.item ≤ length c.names)
     × ((u.colour ≡ []) ⊎ ((c.primaries < u.item) × IsGoodColour u.colour))
 
 use-good : (c : Context) (token : List ℕ) (u : Written) → IsUnbroken token → IsUse c token u → IsGoodUse c u
-use-good c token u k (name, i, n, p, q, h) = (
-  omega (arith, q),
-  omega (arith, q, in-range (bytes_eq name) c.names i p),
-  elim h [
-    | inl h ↦ inl h.1
-    | inr h ↦ inr (h.2, (h.3, unbroken-behind name COLON u.colour (subst IsUnbroken h.0 k)))
-  ],
-)
+use-good c token u k (name, i, n, p, q, h) = grind (arith, in-range, unbroken-behind)
 
 abbrev AreGood : List (List ℕ) → Type 0
 AreGood cs = All IsGoodColour cs × AllPairs (λ x y. x ≢ y) cs
@@ -233,15 +223,11 @@ module _ (kind : Kind) (lines : List (List ℕ)) (named : Named) (ignored : List
   primaries = ap length h.items.bounds ∙ length-map h.items.primary entry_bounds
 
   items : length named.names ≡ item_count named.puzzle
-  items = let all = length-map (h.items.primary ++ h.items.secondary) (λ e. e.name) in
-      let both = length-append h.items.primary h.items.secondary in
-      omega (arith, primaries, h.items.count, ap length h.items.names)
+  items = grind (arith, length-map, length-append, primaries)
 
   -- OPTIONS
   lines-good : Each (λ o. IsGoodOption c o.1) h.options.options
-  lines-good = each-zip
-      (λ l o s is. (each-zip (use-good c) (tokens l.1) o.1 (unbroken-tokens l.1 s.0 s.1) is.1, is.2))
-      h.option_lines h.options.options lines-clean.1 h.options.stand
+  lines-good = grind (arith, common_steps, nat_tests, each-zip, use-good, unbroken-tokens, lines-clean)
 
   options-good : Each (λ us. IsGoodOption c us × (has_primary c.primaries us ≡ true)) h.options.kept
   options-good = grind (arith, common_steps, each-map, each_both, each-filter, lines-good, each_passes)
@@ -287,13 +273,5 @@ module _ (kind : Kind) (lines : List (List ℕ)) (named : Named) (ignored : List
         };
         coloured = all-of (λ o g. g.1) named.puzzle.options options-sound;
         few_colours = omega (arith, h.options.few, ap length h.options.colours, few-colours written []);
-        named = record {
-          count = items;
-          names = all-of (λ n g. g.0) named.names names-good;
-          unbroken_names = all-of (λ n g. g.1) named.names names-good;
-          distinct = h.items.distinct;
-          colours = λ k d within. (colours-good.0 k d within).0;
-          unbroken_colours = λ k d within. (colours-good.0 k d within).1;
-          distinct_colours = colours-good.1;
-        };
+        named = grind (arith, common_steps, items, all-of, named, names-good, colours-good);
       }

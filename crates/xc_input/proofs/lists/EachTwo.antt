@@ -45,8 +45,7 @@ pub EachTwo-flat_map : {X Y : Type 0} (R : Y → Y → Type 0) (f : X → List Y
 EachTwo-flat_map R f [] one two = tt
 EachTwo-flat_map {Y = Y} R f (x ∷ xs) one two =
     EachTwo-append R (f x) (flat_map f xs) (one x (inl refl)) (EachTwo-flat_map R f xs (λ y k. one y (inr k)) two.1)
-    (λ y z j k. let from = in-flat_map f xs z k in each_in (λ b. (y z : Y) → IsIn (f x) y → IsIn (f b) z → R y z) xs
-    from.0 two.0 from.1 y z j from.2)
+    (λ y z j k. grind (arith, common_steps, in-flat_map, each_in))
 
 pub EachTwo-at : {X : Type 0} (R : X → X → Type 0) (xs : List X) (j k : ℕ) (x y : X) → EachTwo R xs → j < k
     → slice_get xs j ≡ Some x → slice_get xs k ≡ Some y → R x y
@@ -77,8 +76,7 @@ EachTwo-weaker R Q (x ∷ xs) h a = grind (arith, nat_tests, EachTwo-weaker R Q 
 pub EachTwo-take : {X : Type 0} (R : X → X → Type 0) (n : ℕ) (xs : List X) → EachTwo R xs → EachTwo R (take n xs)
 EachTwo-take R zero xs a = tt
 EachTwo-take R (suc n) [] a = tt
-EachTwo-take R (suc n) (x ∷ xs) a =
-    (each_from (R x) (take n xs) (λ y k. each_in (R x) xs y a.0 (in-take n xs y k)), EachTwo-take R n xs a.1)
+EachTwo-take R (suc n) (x ∷ xs) a = grind (arith, each_from, each_in, in-take, EachTwo-take R n xs a.1)
 
 pub EachTwo-enumerated : {X : Type 0} (R : X → X → Type 0) (k : ℕ) (xs : List X) → EachTwo R xs
     → EachTwo (λ (a b : ℕ × X). R a.1 b.1) (enumerate_from k xs)

@@ -47,8 +47,7 @@ in-append (z ∷ xs) ys x h = grind (arith, in-append xs ys x)
 pub flat_map-in : {X Y : Type 0} (f : X → List Y) (xs : List X) (x : X) (z : Y) → IsIn xs x → IsIn (f x) z
     → IsIn (flat_map f xs) z
 flat_map-in f [] x z h k = absurd h
-flat_map-in f (y ∷ ys) x z h k =
-    grind (arith, flat_map-in f ys x z, append-in_left (f y) (flat_map f ys) z, append-in_right (f y) (flat_map f ys) z)
+flat_map-in f (y ∷ ys) x z h k = grind (arith, append-in_left, append-in_right, flat_map-in f ys x z)
 
 pub in-flat_map : {X Y : Type 0} (f : X → List Y) (xs : List X) (z : Y) → IsIn (flat_map f xs) z → (x : X) × IsIn xs x
     × IsIn (f x) z

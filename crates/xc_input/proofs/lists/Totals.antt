@@ -19,8 +19,7 @@ total_le f g (x ∷ xs) h = omega (arith, h x, total_le f g xs h)
 pub total_less : (f g : ℕ → ℕ) (j a n : ℕ) → a ≤ j → j < a + n → ((i : ℕ) → f i ≤ g i) → f j < g j
     → total f (range_with_len a n) < total g (range_with_len a n)
 total_less f g j a zero h k le lt = absurd (omega (arith, h, k))
-total_less f g j a (suc n) h k le lt =
-    grind (arith, nat_tests, total_less f g j (a + 1) n, total_le f g (range_with_len (a + 1) n) le, le a, eqb-true a j)
+total_less f g j a (suc n) h k le lt = grind (arith, total_le, eqb-true, total_less f g j (a + 1) n)
 
 -- a use is listed once
 abbrev pub one_if : Bool → ℕ

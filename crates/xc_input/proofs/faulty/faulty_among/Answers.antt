@@ -1,3 +1,5 @@
+use Rattle.std.proofs.Common.{arith}
+use Rattle.std.proofs.lemmas.Grind.{common_steps}
 use Rattle.std.proofs.Common.{◌-◌, ◌++◌, ◌∷◌, [], map, set, sym, ap, ◌∙◌, subst, true, length-set}
 use Rattle.std.proofs.lemmas.List.{length-map}
 use Rattle.xc_input.specs.Faults.{item_of}
@@ -34,8 +36,7 @@ loop-token-preserved c =
       length-set c.loop-token.marks (c.in-Ok.written.item - 1) true ∙ c.loop-token.invariant.0,
       others ++ c.in-Some.token.now ∷ [],
       subst (AreMarks (set c.loop-token.marks (c.in-Ok.written.item - 1) true)) same
-          (mark c.loop-token.marks seen c.in-Ok.written.item c.loop-token.invariant.2 c.in-Ok.ensures.within.0
-          c.in-Ok.ensures.within.1),
+          (grind (arith, common_steps, mark, seen)),
       read-on c.loop-token.invariant.3 _ c.in-Some.ensures.0 c.in-Some.ensures.2 judged.0,
     )
 

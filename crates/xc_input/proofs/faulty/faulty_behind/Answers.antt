@@ -3,14 +3,14 @@ use Rattle.std.proofs.lemmas.Grind.{common_steps}
 use Rattle.std.proofs.Common.{◌++◌, ◌∷◌, [], sym, ap, ◌∙◌, subst}
 use Rattle.xc_input.specs.Faults.{first}
 use Rattle.xc_input.specs.inner.Stages.{Row}
-use Rattle.xc_input.proofs.FaultyLemmas.{read-start, read-stands, read-on, read-stop, read-end}
+use Rattle.xc_input.proofs.FaultyLemmas.{read-stands, read-on, read-stop, read-end}
 use Rattle.xc_input.proofs.GrammarLemmas.StageLemmas.{IsRowOf, row-checks, no-row}
 use Rattle.xc_input.proofs.GrammarLemmas.StageLemmas.{row-more}
 use Rattle.xc_input.proofs.TokenLemmas.Unbroken.{part-solid}
 use Rattle.xc_input.proofs.faulty.faulty_behind.Goals as goal
 
 pub loop-part-init : goal.loop-part-init
-loop-part-init c = grind (arith, common_steps, no-row, read-start)
+loop-part-init c = grind (arith, common_steps, no-row)
 
 pub add-requires-clause-solid : goal.add-requires-clause-solid
 add-requires-clause-solid c = part-solid c.loop-part.rest.now c.in-Some.ensures.0

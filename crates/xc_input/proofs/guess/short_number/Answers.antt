@@ -1,9 +1,11 @@
-use Rattle.std.proofs.Common.{rules}
-use Rattle.xc_input.proofs.TokenLemmas.WordNumbers.{no-text, own-text}
+use Rattle.xc_input.proofs.TokenLemmas.WordNumbers.{same-text}
+use Rattle.xc_input.proofs.TokenLemmas.WordNumbers.{positive}
+use Rattle.std.proofs.Common.{arith}
+use Rattle.std.proofs.lemmas.Grind.{common_steps}
 use Rattle.xc_input.proofs.guess.short_number.Goals as goal
 
 pub returns-then-text-gt7 : goal.returns-then-text-gt7
-returns-then-text-gt7 c = no-text c.args.text.now
+returns-then-text-gt7 c = grind (arith, common_steps, positive)
 
 pub returns : goal.returns
-returns c = own-text c.args.text.now c.word_of.result (search rules) c.word_of.ensures
+returns c = grind (arith, common_steps, same-text)

@@ -1,3 +1,5 @@
+use Rattle.xc_input.proofs.OptionLemmas.Marks.{unmarked-few}
+use Rattle.std.proofs.Common.{append-nil}
 use Rattle.std.proofs.lemmas.Grind.{common_steps}
 use Rattle.std.proofs.Common.{◌∙◌, ap, sym, subst, List, map, drop, arith}
 use Rattle.std.proofs.lemmas.List.{length-map, take_rest}
@@ -10,11 +12,11 @@ use Rattle.xc_input.specs.inner.Stages.{context, token_checks, option_checks, wr
 use Rattle.xc_input.specs.inner.Builders.{AreMarks, items_of}
 use Rattle.xc_input.specs.inner.Stored.{key_names}
 use Rattle.xc_input.proofs.FaultLemmas.Checks.{stopped, items-length}
-use Rattle.xc_input.proofs.OptionSteps.{behind_none, behind_few, behind_more, all_added, late_marked}
+use Rattle.xc_input.proofs.OptionSteps.{behind_few, behind_more, all_added, late_marked}
 use Rattle.xc_input.proofs.option_line.option_line.Goals as goal
 
 pub loop-token-init : goal.loop-token-init
-loop-token-init c = grind (arith, common_steps, length-map, behind_none)
+loop-token-init c = grind (arith, common_steps, length-map, unmarked-few, append-nil)
 
 pub returns-in_err-written-clause-judged : goal.returns-in_err-written-clause-judged
 returns-in_err-written-clause-judged c =

@@ -1,8 +1,10 @@
+use Rattle.xc_input.proofs.LineLemmas.TextLines.{lacks-append}
+use Rattle.std.proofs.lemmas.Bool.Decides.{nat_tests}
 use Rattle.std.proofs.Common.{◌≡◌, ◌++◌, ◌∷◌, [], sym, ap, ◌∙◌, subst, arith}
 use Rattle.std.proofs.lemmas.Grind.{common_steps}
 use Rattle.std.proofs.lemmas.Result.{err_from_is_err_and}
 use Rattle.xc_input.specs.inner.Feeding.{fed, Spoils}
-use Rattle.xc_input.proofs.LineLemmas.TextLines.{Spoils-more, between-more}
+use Rattle.xc_input.proofs.LineLemmas.TextLines.{Spoils-more}
 use Rattle.xc_input.proofs.read.feed.Goals as goal
 
 pub returns-in_err-end_line-clause-err : goal.returns-in_err-end_line-clause-err
@@ -19,4 +21,4 @@ returns-in_err-end_line-clause-err c =
     (Spoils-more _ _ c.in-Some.others.now _ c.in_err-end_line.field-0.0 all c.in_err-end_line.ensures.ended.err))
 
 pub returns-clause-state : goal.returns-clause-state
-returns-clause-state c = grind (arith, common_steps, between-more)
+returns-clause-state c = grind (arith, common_steps, lacks-append, nat_tests)

@@ -1,26 +1,22 @@
+use Rattle.std.proofs.Common.{append-nil}
+use Rattle.std.proofs.lemmas.Bool.Decides.{nat_tests}
 use Rattle.std.proofs.Common.{arith}
 use Rattle.std.proofs.lemmas.Grind.{common_steps}
-use Rattle.std.proofs.Common.{subst}
 use Rattle.std.proofs.lemmas.Result.{err_from_is_err_and}
-use Rattle.std.specs.Result.{IfErr}
 use Rattle.xc_input.specs.inner.EndedLines.{ended}
-use Rattle.xc_input.specs.Pieces.{IsPart}
-use Rattle.xc_input.proofs.LineLemmas.Pieces.{gave_nothing, new-between}
 use Rattle.xc_input.proofs.read.read_problem.Goals as goal
 
 pub read_through-requires-clause-state : goal.read_through-requires-clause-state
-read_through-requires-clause-state g c = grind (arith, common_steps, new-between)
+read_through-requires-clause-state g c = grind (arith, common_steps, nat_tests)
 
 pub read_through-requires-clause-nothing : goal.read_through-requires-clause-nothing
 read_through-requires-clause-nothing g c = grind (arith, common_steps, ended)
 
 pub returns-in_err-store-clause-part : goal.returns-in_err-store-clause-part
-returns-in_err-store-clause-part g c = grind (arith, common_steps, err_from_is_err_and, gave_nothing)
+returns-in_err-store-clause-part g c = grind (arith, common_steps, err_from_is_err_and, append-nil, nat_tests)
 
 pub returns-clause-part : goal.returns-clause-part
-returns-clause-part g c =
-    subst (λ kind. IfErr c.read_through.result (IsPart kind (g.S.Source.state c.args.source.now)
-    (g.S.Source.state c.read_through.new.source))) c.with_seed-reader.ensures.kind c.read_through.ensures.part
+returns-clause-part g c = grind (arith)
 
 pub returns-clause-whole : goal.returns-clause-whole
 returns-clause-whole g c = grind (arith, common_steps)

@@ -1,6 +1,5 @@
 use Rattle.std.proofs.Common.{arith}
 use Rattle.std.proofs.lemmas.Grind.{common_steps}
-use Rattle.std.proofs.Common.{◌<◌, length, subst}
 use Rattle.xc_input.specs.Lines.{lines_of}
 use Rattle.xc_input.specs.inner.Feeding.{fed, EndsAs}
 use Rattle.xc_input.proofs.LineLemmas.Sources.{ends-as}
@@ -17,8 +16,4 @@ pub returns-clause-whole : goal.returns-clause-whole
 returns-clause-whole g c = grind (arith, common_steps, whole-last, as_fed)
 
 pub returns-clause-part : goal.returns-clause-part
-returns-clause-part g c =
-    let some = subst (λ carry. 0 < length carry) c.as_slice.ensures.value in
-    part-last c.end_text.result (as_fed g c)
-    (λ short. open-carry _ _ c.in_ok-feed_all.ensures.state (some (c.end_text.ensures.memory short)))
-    c.in_ok-feed_all.ensures.all
+returns-clause-part g c = grind (arith, part-last, as_fed, open-carry)

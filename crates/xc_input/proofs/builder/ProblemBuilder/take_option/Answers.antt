@@ -25,8 +25,7 @@ returns-then-not-has_primary_use-clause-taken c =
     left-out c.args.kind c.args.line.now c.requires.sound c.requires.started c.in_ok-option_line.ensures.uses
     c.has_primary_use.ensures c.deref.ensures.value (c.len-start.ensures ∙ items-length c.args.self.now.uses)
     c.args.count _ refl _ c.in_ok-option_line.ensures.colours
-    (written-back _ _ _ (c.option_line.auto.marks ∙ ap length c.deref_mut.ensures.value)
-    (items-length c.args.self.now.marks))
+    (grind (arith, common_steps, written-back, items-length))
     (c.option_line.auto.marks ∙ ap length c.deref_mut.ensures.value ∙ c.requires.sound.marks)
     c.in_ok-option_line.ensures.unmarked c.if-not-has_primary_use.true c.truncate.ensures.items
     c.truncate-then-not-has_primary_use.ensures.keys c.len-met.ensures.len refl
@@ -43,8 +42,7 @@ returns-clause-taken c =
     taken c.args.kind c.args.line.now c.requires.sound c.requires.started c.in_ok-option_line.ensures.uses
     c.has_primary_use.ensures c.deref.ensures.value (c.len-start.ensures ∙ items-length c.args.self.now.uses)
     c.args.count _ refl _ c.in_ok-option_line.ensures.colours
-    (written-back _ _ _ (c.option_line.auto.marks ∙ ap length c.deref_mut.ensures.value)
-    (items-length c.args.self.now.marks))
+    (grind (arith, common_steps, written-back, items-length))
     (c.option_line.auto.marks ∙ ap length c.deref_mut.ensures.value ∙ c.requires.sound.marks)
     c.in_ok-option_line.ensures.unmarked c.if-not-has_primary_use.false refl refl refl
     c.in_ok-option_line.ensures.few_colours c.in_ok-option_line.ensures.distinct

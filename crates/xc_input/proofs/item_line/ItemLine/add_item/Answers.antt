@@ -1,6 +1,6 @@
 use Rattle.std.proofs.Common.{arith}
 use Rattle.std.proofs.lemmas.Grind.{common_steps}
-use Rattle.std.proofs.Common.{subst, sym, ◌<◌, refl, ◌∙◌, map}
+use Rattle.std.proofs.Common.{sym, refl, ◌∙◌, map}
 use Rattle.xc_input.specs.inner.Builders.{entry_of, AreNames}
 use Rattle.std.proofs.Common.{ap}
 use Rattle.std.proofs.lemmas.Result.{on_ok_weaker}
@@ -31,9 +31,7 @@ returns-then-len-ge-MOST_ITEMS-clause-judged c = grind (arith, common_steps, too
 pub returns-clause-judged : goal.returns-clause-judged
 returns-clause-judged c =
     judged-on _ _ c.push_item.result
-    (no-fault c.args.kind (map entry_of c.args.self.now.items.items) _ c.args.token.now c.is_some.ensures
-    c.in_ok-token.ensures c.name_fault.ensures c.in_default.is c.requires.table.0 c.place_of.ensures c.is_some-2.ensures
-    c.if-is_some.false (c.len.ensures ∙ length-items c.args.self.now.items) c.if-len-ge-MOST_ITEMS.false)
+    (grind (arith, common_steps, no-fault, length-items))
     c.push_item.ensures.judged
 
 pub returns-clause-added : goal.returns-clause-added
@@ -45,6 +43,5 @@ returns-clause-added c =
     c.requires.solid) in
     let g = grown c.args.kind c.args.self.now.bar c.args.token.now c.is_some.ensures AreNames
     c.args.self.now.items.items c.push_item.new.items.items c.in_ok-token.ensures.1 c.requires.table named
-    c.in_ok-add_name.ensures.added (subst (λ n. n < 100000) (c.len.ensures ∙ items-length c.args.self.now.items)
-    c.if-len-ge-MOST_ITEMS.false) h in
+    c.in_ok-add_name.ensures.added (grind (arith, common_steps, items-length)) h in
     (g.0, g.1, refl)) c.push_item.ensures.added

@@ -31,11 +31,4 @@ pub returns-clause-state : goal.returns-clause-state
 returns-clause-state c = grind (arith, common_steps, goes)
 
 pub invariant_of-self-in_default-take : goal.invariant_of-self-in_default-take
-invariant_of-self-in_default-take c =
-    let counted = counts _ _ _ _ _ c.after.ensures c.self.invariant.0 c.saturating_add-self-inside.ensures in (
-      counted,
-      rw c.in_default.is (returns-clause-state c),
-      rw c.in_default.is (stage-is c.self.inside.kind _ _ _ c.after.ensures _ c.in_default.is c.self.invariant.1
-          c.self.inside.builder c.self.invariant.2 _ c.take.new.self counted c.in_default-take.ensures.taken),
-      whole-more _ _ _ c.after.ensures c.self.invariant.3 c.requires,
-    )
+invariant_of-self-in_default-take c = grind (arith, counts, returns-clause-state, stage-is, whole-more)
