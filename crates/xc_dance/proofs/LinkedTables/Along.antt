@@ -41,9 +41,7 @@ pub record IsAlong (p : Puzzle) (off : ℕ) (vs : List Use) (s t : List Move) (q
   pub trail : after_uses p (drop (q - off) vs) t ≡ after_uses p vs s
 
 pub along_first : (p : Puzzle) (off q : ℕ) (vs : List Use) (t : List Move) → q ≡ off → IsAlong p off vs t t q
-along_first p off q vs t e =
-    let none : q - off ≡ 0 = omega (arith, e) in
-    record { from = omega (arith, e); to = omega (arith, e); trail = ap (λ n. after_uses p (drop n vs) t) none }
+along_first p off q vs t e = grind (arith, common_steps)
 
 along_next : {p : Puzzle} {off q : ℕ} {vs : List Use} {s t : List Move} → IsAlong p off vs s t q → q < off + length vs →
     IsAlong p off vs s (after_use p (use_at_place off vs q) t) (q + 1)
@@ -137,8 +135,7 @@ leads {p} {x} {end} t held e =
 -- the tables of linked tables in state s, of problem p
 pub nodes_told : {n : Nodes} {a s : Linked} {p : Puzzle} → n ≡ nodes_after a.puzzle a.trail → a ≡ s → s.puzzle ≡ p →
     n ≡ nodes_after p s.trail
-nodes_told {s} e is same = e ∙ ap (λ (s : Linked). nodes_after s.puzzle s.trail) is
-    ∙ ap (λ q. nodes_after q s.trail) same
+nodes_told {s} e is same = grind (arith, common_steps)
 
 -- what is asked for a commit of the use of item j at place q
 abbrev pub MayCommit : Puzzle → ℕ → List Move → ℕ → ℕ → Type 0

@@ -77,7 +77,6 @@ pub unhide_marked : {p : Puzzle} (col : Node → ℕ) (ln : ℕ → Line) {j o :
     → Unhidden (nodes_from p ln col) (nodes_from p ln col) (link_place p j o)
 unhide_marked {p} col ln {j} {o} laid pos le o_pos name marked =
     let here = laid.there j o pos le name in
-    let within = slice_get_within (layout p) (link_place p j o) here.node here.at in
     grind (arith, common_steps, eqb-true, size_from, unhidden-marked, get_item _ ln _ _ here o_pos)
 
 -- ---- some items in turn

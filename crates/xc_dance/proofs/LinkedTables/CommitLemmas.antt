@@ -1,6 +1,6 @@
 -- Which node is which use, and what stands below a node.
 use Rattle.std.proofs.Common.{Bool, Some, subst, le-leb, ◌≡◌, ℕ, ◌<◌, ◌⊎◌, inl, inr, true}
-use Rattle.std.proofs.Common.{cond, eqb, List, ◌∷◌, length, get_or, refl, ap, sym, ◌∙◌, arith}
+use Rattle.std.proofs.Common.{cond, eqb, List, ◌∷◌, length, get_or, refl, ap, ◌∙◌, arith}
 use Rattle.std.specs.Prelude.{is_some, slice_get, Contains, unwrap_or}
 use Rattle.std.proofs.lemmas.Grind.{common_steps}
 use Rattle.std.proofs.lemmas.List.{length-map}
@@ -41,8 +41,7 @@ listed_within {p} {t} {i} {x} laid item at =
 down_at : {p : Puzzle} (t : List Move) (i : ℕ) {x : ℕ} → IsLaid p → IsItem p i
     → (x ≡ 0) ⊎ Contains (listed_numbers p t i) x
     → get_or (nodes_after p t).dlink (link_place p i x) 0 ≡ link_place p i (first_above 0 x (listed_numbers p t i))
-down_at {p} t i laid item (inl z) = ap (λ k. get_or (nodes_after p t).dlink (link_place p i k) 0) z
-    ∙ own_down _ t _ laid item.0 item.1 ∙ ap (λ k. link_place p i (first_above 0 k (listed_numbers p t i))) (sym z)
+down_at {p} t i laid item (inl z) = grind (arith, common_steps, own_down, first_above)
 down_at {p} t i laid item (inr h) = grind (arith, common_steps, contained, in_list_name, use_down)
 
 -- DLINK of a node in an item's list leads to the next one there

@@ -2,7 +2,7 @@
 use Rattle.std.proofs.Common.{◌≡◌, ℕ, ◌+◌, ◌<◌, ◌≤◌, List, [], ◌∷◌, ◌++◌, length, fold, refl, sym, subst, ◌∙◌, arith}
 use Rattle.std.proofs.Common.{zero, suc, true, false, cond, eqb, map, take, Some, ap, eqb-true, eq-eqb, inl}
 use Rattle.std.proofs.Common.{get_or, set, ne_eqb}
-use Rattle.std.specs.List.{AllByRecursion, range_with_len}
+use Rattle.std.specs.List.{AllByRecursion}
 use Rattle.std.specs.Prelude.{slice_get, is_some, flat_map, slice_index}
 use Rattle.std.proofs.lemmas.Grind.{common_steps}
 use Rattle.std.proofs.lemmas.List.Sums.{fold-append}
@@ -26,7 +26,7 @@ use Rattle.xc_dance.proofs.LinkedTables.Sweep.{put_at-same, put_at-other, put_at
 use Rattle.xc_dance.proofs.LinkedTables.Sweep.{stands}
 use Rattle.xc_dance.proofs.Copied.{take_more-get}
 use Rattle.xc_dance.proofs.LinkedTables.LaidLemmas.{distinct_options, is_laid}
-use Rattle.xc_dance.proofs.LinkedTables.PlaceLemmas.{length_front, tail_from, layout_small, get_taken}
+use Rattle.xc_dance.proofs.LinkedTables.PlaceLemmas.{length_front, layout_small, get_taken}
 use Rattle.xc_dance.proofs.LinkedTables.LinkColumns.{get_map, same_nodes, column, put_link, column_same, get_link}
 use Rattle.xc_dance.proofs.LinkedTables.LinkColumns.{set_link, set_top, get_len, map_same, member_of}
 use Rattle.xc_dance.proofs.LinkedTables.GoodLines.{link_same}
@@ -165,8 +165,7 @@ owns_none j (i ∷ js) ns = owns_none j js ns
 
 -- in the end each item's list is that of all options
 pub held_all : {p : Puzzle} (j : ℕ) → IsFit p → held j (layout p) ≡ listed_numbers p [] j
-held_all {p} j fit = owns_none j (range_with_len 1 (item_count p)) (tail_from 0 p.options)
-    ∙ options_hold j _ (distinct_options fit)
+held_all {p} j fit = grind (arith, common_steps, owns_none, options_hold, distinct_options)
 
 -- ---- a use's node enters its item's list: so does its option the item's line
 
@@ -288,8 +287,7 @@ alike l m a (y ∷ ys) h k x = grind (arith, common_steps, eqb-true, alike l m y
 -- before the first use's node, all lists are empty
 pub none_entered : (p : Puzzle)
     → nodes_from p blanks (color_in p []) ≡ nodes_from p (lines_of (take (item_count p + 1) (layout p))) (color_in p [])
-none_entered p = nodes_same _ blanks (lines_of (take (item_count p + 1) (layout p))) (color_in p [])
-    (λ j. ap grown_all (sym (held_none p j)))
+none_entered p = grind (arith, common_steps, nodes_same, held_none)
 
 abbrev whole : Puzzle → ℕ → Line
 whole p j = grown_all (listed_numbers p [] j)

@@ -2,7 +2,7 @@
 use Rattle.xc_input.proofs.lists.EachElement.{each_weaker}
 use Rattle.xc_dance.proofs.LinkedTables.FittedLemmas.{at_place}
 use Rattle.std.proofs.Common.{◌≡◌, ℕ, zero, suc, ◌+◌, ◌<◌, ◌≤◌, List, [], ◌∷◌, ◌++◌, length, map, set, replicate}
-use Rattle.std.proofs.Common.{Some, refl, ap, sym, ◌∙◌, arith, ◌-◌, ap₂, lt-ltb, ne_eqb}
+use Rattle.std.proofs.Common.{Some, refl, ap, sym, ◌∙◌, arith, ◌-◌, lt-ltb, ne_eqb}
 use Rattle.std.proofs.Common.{ltb, le-ltb, ltb-true, ltb-false}
 use Rattle.xc_input.specs.declared.problem.Bounds.{Bounds}
 use Rattle.std.specs.Prelude.{slice_get}
@@ -94,8 +94,7 @@ up_next p o = let s : suc o ≡ o + 1 = omega arith in ap (λ n. fixed_up p (spa
 
 pub down_next : (p : Puzzle) (o : ℕ) (us : List Use) → o < option_count p → slice_get p.options o ≡ Some us
     → spacer_place p o + length us ≡ fixed_down p (spacer o)
-down_next p o us lt e =
-    rw (lt-ltb o (option_count p) lt) (omega (arith, place_next p o us e))
+down_next p o us lt e = grind (arith, common_steps, lt-ltb, place_next)
 
 -- ---- the rows
 
@@ -108,8 +107,7 @@ own_row p (suc i) le = (own (suc i), head_is _ (suc i) (omega arith) le, refl)
 pub spacer_row : (p : Puzzle) (o : ℕ) {above below : ℕ} → above ≡ fixed_up p (spacer o)
     → below ≡ fixed_down p (spacer o)
     → (let r : Row = record { top = SPACER + o; ulink = above; dlink = below; color = 0 } in r ≡ row_of p (spacer o))
-spacer_row p o e f =
-    let row : ℕ → ℕ → Row = λ a b. record { top = SPACER + o; ulink = a; dlink = b; color = 0 } in ap₂ row e f
+spacer_row p o e f = grind (arith, common_steps)
 
 -- ---- the item table as it is filled place by place
 

@@ -6,7 +6,7 @@ use Rattle.std.specs.List.{AllByRecursion}
 use Rattle.std.proofs.lemmas.List.Elements.{recursion_from_All}
 use Rattle.std.proofs.lemmas.Grind.{common_steps}
 use Rattle.xc_input.specs.declared.problem.Use.{Use}
-use Rattle.xc_input.specs.Problem.{Puzzle, uses_of, item_count, IsValid, IsSoundOption, IsSoundUse}
+use Rattle.xc_input.specs.Problem.{Puzzle, uses_of, item_count, IsValid, IsSoundOption}
 use Rattle.xc_input.specs.Problem.{IsWithinLimits}
 use Rattle.xc_input.specs.Named.{AreColoursKnown}
 use Rattle.xc_dance.specs.inner.Links.Laid.{AreDistinct, IsFit}
@@ -53,8 +53,7 @@ abbrev IsBelow : Use → Type 0
 IsBelow u = u.colour < MARK
 
 sound_items : (p : Puzzle) (us : List Use) → IsSoundOption p us → AllByRecursion (InRange p) us
-sound_items p us s = each_weaker (IsSoundUse p) (InRange p) _ (λ u h. (let a = h.0.0 in omega (arith, a), h.0.1))
-    (recursion_from_All (IsSoundUse p) us s.sound)
+sound_items p us s = grind (arith, common_steps, each_weaker, recursion_from_All)
 
 -- the rules of a problem say nothing of the colours: they are to be below the mark
 pub is_fit : (p : Puzzle) → IsValid p → All (λ us. All (λ u. u.colour < MARK) us) p.options → length p.options < 2 ^ 30

@@ -18,7 +18,6 @@ use Rattle.xc_dance.specs.inner.Links.Laid.{IsName, IsLaid, IsFit}
 use Rattle.xc_dance.specs.declared.dance.Move.{Move}
 use Rattle.xc_dance.specs.Moves.{listed_numbers, listed}
 use Rattle.xc_input.proofs.lists.EachElement.{each-map, each_weaker}
-use Rattle.xc_dance.proofs.LinkedTables.PlaceLemmas.{behind_items}
 use Rattle.xc_dance.proofs.LinkedTables.LinkColumns.{set_link, set_top, size_from, NodeCells}
 use Rattle.xc_dance.proofs.LinkedTables.LinkColumns.{node_cells, get_up, get_down, CanUnhide-unlinked, same_nodes}
 use Rattle.xc_dance.proofs.LinkedTables.LinkColumns.{IsLinked, map_same}
@@ -65,9 +64,7 @@ unlinked-is p col ln j o laid m =
 
 pub linked-is : (p : Puzzle) (col : Node → ℕ) (ln : ℕ → Line) (j o : ℕ) → IsLaid p → IsMember p j (ln j) o
     → IsLinked (nodes_from p ln col) (link_place p j o)
-linked-is p col ln j o laid m =
-    let not_head : j ≢ (link_place p j o) = λ e. omega (arith, e, m.item.1, behind_items p j o m.pos) in
-    grind (arith, common_steps, get_down, get_up, m.some, member_cells p col ln j o laid m)
+linked-is p col ln j o laid m = grind (arith, common_steps, get_down, get_up, member_cells p col ln j o laid m)
 
 -- ---- a step of hide
 
@@ -97,8 +94,7 @@ step_open p col ln j o laid m color =
 pub step_marked : (p : Puzzle) (col : Node → ℕ) (ln : ℕ → Line) (q : ℕ) → q < length (layout p)
     → get_or (map (top_in ln) (layout p)) q 0 < SPACER → eqb (get_or (map (col) (layout p)) q 0) MARK ≡ true
     → Step (nodes_from p ln col) (nodes_from p ln col) q
-step_marked p col ln q within use_of color =
-    grind (arith, common_steps, eqb-true, length-map, size_from)
+step_marked p col ln q within use_of color = grind (arith, common_steps, eqb-true, length-map, size_from)
 
 -- ---- lines that stand for lists, and one member leaving
 

@@ -227,12 +227,8 @@ purify_passed {p} t {i} c = record {
 
 pub purify_hides : (p : Puzzle) (t : List Move) (i c : ℕ) → AreLegal p t → IsLaid p → 0 < i → i ≤ item_count p
     → is_open i t ≡ true → Hides p t (Purify i c) i (Some c) (purify_start p t i c)
-purify_hides p t i c legal laid pos le opened = record {
-  passed = purify_passed t c;
-  takes = takes_purify _ _ _ _ legal opened;
-  own = own_purify p t i c;
-  colours = purify_colours t i c laid;
-}
+purify_hides p t i c legal laid pos le opened =
+    search (arith, purify_passed, takes_purify, own_purify, purify_colours)
 
 -- ---- Purify's own node
 

@@ -1,6 +1,6 @@
 -- The options with their numbers, and the places of the node table: what the walks need of them.
 use Rattle.std.proofs.Common.{◌≡◌, ℕ, zero, suc, ◌<◌, ◌≤◌, inl, inr, Some, refl, ap}
-use Rattle.std.proofs.Common.{subst, arith}
+use Rattle.std.proofs.Common.{arith}
 use Rattle.std.specs.List.{AllByRecursion}
 use Rattle.std.proofs.lemmas.Grind.{common_steps}
 use Rattle.xc_input.specs.Problem.{Puzzle, Numbered, numbered_options, item_count}
@@ -13,8 +13,7 @@ use Rattle.xc_dance.proofs.LinkedTables.PlaceLemmas.{IsAt, is_at, head_is, found
 
 pub distinct_options : {p : Puzzle} → IsFit p
     → AllByRecursion (λ (x : Numbered). AreDistinct x.uses) (numbered_options p)
-distinct_options {p} fit = each_weaker (IsOption p) (λ x. AreDistinct x.uses) _
-    (λ x is. subst AreDistinct is.1 (fit.distinct x.number)) (options_numbered p)
+distinct_options {p} fit = grind (arith, common_steps, each_weaker, options_numbered)
 
 -- ---- the places of the node table
 

@@ -265,9 +265,7 @@ takes_cover p t i =
     grind (arith, common_steps, ne_eqb, takes_listed)
 
 pub own_cover : (p : Puzzle) (t : List Move) (i : ℕ) → listed_numbers p (Cover i ∷ t) i ≡ listed_numbers p t i
-own_cover p t i =
-    ap (λ b. map (λ o. o.number) (cond (not b && is_open i t) (without (listed p t i) (listed p t i)) (listed p t i)))
-    (eq-eqb i i refl)
+own_cover p t i = grind (arith, common_steps, is_open, listed, eq-eqb)
 
 -- ---- Purify
 

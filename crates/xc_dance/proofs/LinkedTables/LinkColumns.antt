@@ -69,8 +69,7 @@ pub record IsLinked (t : Nodes) (q : ℕ) : Type 0 where
 
 -- a node that left its list goes back to where it was
 pub relinked-unlinked : (t : Nodes) (q : ℕ) → IsLinked t q → relinked (unlinked t q) q ≡ t
-relinked-unlinked t q h =
-    grind (arith, common_steps, get_or-set_kept, get_or-set_same, same_nodes, written_back)
+relinked-unlinked t q h = grind (arith, common_steps, get_or-set_kept, get_or-set_same, same_nodes, written_back)
 
 -- a marked node is passed over
 pub unhidden-marked : (t : Nodes) (q : ℕ) → eqb (get_or t.color q 0) MARK ≡ true → unhidden t q ≡ t
@@ -98,8 +97,7 @@ at_slot p f fixed x e = ap (link_at p f fixed) e
 
 pub get_link : (p : Puzzle) (f : ℕ → ℕ → ℕ) (fixed : Node → ℕ) (j x : ℕ) → Placed p j x
     → get_or (column p f fixed) (link_place p j x) 0 ≡ link_place p j (f j x)
-get_link p f fixed j x h = get_map (λ n. link_at p f (fixed n) (slot_of n)) (layout p) (link_place p j x) _ h.at
-    ∙ at_slot p f (fixed h.node) _ h.slot
+get_link p f fixed j x h = grind (arith, common_steps, get_map, at_slot)
 
 pub get_up : (p : Puzzle) (ln : ℕ → Line) (j x : ℕ) → Placed p j x
     → get_or (map (ulink_in p ln) (layout p)) (link_place p j x) 0 ≡ link_place p j ((ln j).up x)
@@ -200,8 +198,7 @@ pub record CanRelink (t : Nodes) (q : ℕ) : Type 0 where
 
 pub CanRelink-unlinked : (t : Nodes) (q : ℕ) → HasSize t (length t.top) → NamesPlaces t q → IsLinked t q
     → get_or t.top (get_or t.top q 0) 0 < 2 ^ 31 → CanRelink (unlinked t q) q
-CanRelink-unlinked t q size names linked few =
-    grind (arith, common_steps, get_or-set_kept, get_or-set_same)
+CanRelink-unlinked t q size names linked few = grind (arith, common_steps, get_or-set_kept, get_or-set_same)
 
 -- so a step of unhide may be made there
 pub CanUnhide-unlinked : (t : Nodes) (q : ℕ) → HasSize t (length t.top) → NamesPlaces t q → IsLinked t q

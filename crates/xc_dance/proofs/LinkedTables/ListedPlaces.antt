@@ -55,8 +55,7 @@ list_of s i = listed_numbers s.puzzle s.trail i
 pub next_of_own : (s : Dancing) (a : Named) (i x q items : ℕ) (n : Option ℕ) → s.puzzle ≡ a.puzzle →
     items ≡ item_count a.puzzle → IsListedAt s.puzzle s.trail i x q → q ≤ items → n ≡ next_above 0 (list_of s i) →
     next_above x (list_of s i) ≡ n
-next_of_own s a i x q items n same count at le is =
-    ap (λ y. next_above y (list_of s i)) (own_place _ at (omega (arith, le, count ∙ ap item_count (sym same)))) ∙ sym is
+next_of_own s a i x q items n same count at le is = grind (arith, common_steps, list_of, own_place)
 
 -- an option's use stands there
 pub option_use : (s : Dancing) (a : Named) (i x q items : ℕ) → s.puzzle ≡ a.puzzle → IsSound a →
@@ -86,6 +85,4 @@ next_use s a i x o same sound is = subst (λ (p : Puzzle). IsUseAt p i o (link_p
 -- its place, or the item's own node, tells what is next
 pub place_tells : (s : Dancing) (i x r : ℕ) → IsItem s.puzzle i →
     r ≡ link_place s.puzzle i (first_above 0 x (list_of s i)) → option_at s.puzzle i r ≡ next_above x (list_of s i)
-place_tells s i x r item is =
-    let p = s.puzzle in
-    ap (option_at p i) is ∙ option_there _ _ _ item.1 (above_name p s.trail i x) ∙ above_named x (list_of s i)
+place_tells s i x r item is = grind (arith, common_steps, option_there, above_name, above_named, list_of)

@@ -117,9 +117,7 @@ closed j t e =
     [ None ↦ λ f. inl (grind (arith, common_steps, open_is t j)) | Some c ↦ λ f. inr (c, f) ] refl
 
 pub colour_some : (us : List Use) (j : ℕ) → is_some (colour_in us j) ≡ true → (c : ℕ) × (colour_in us j ≡ Some c)
-colour_some us j e =
-    elim (colour_in us j) as (λ o. is_some o ≡ true → (c : ℕ) × (o ≡ Some c))
-    [ None ↦ λ f. absurd (false≢true f) | Some c ↦ λ f. (c, refl) ] e
+colour_some us j e = grind (arith, common_steps, is_some, false≢true)
 
 agrees_same : (c d : ℕ) → agrees c (Some d) ≡ true → d ≡ c
 agrees_same c d e = sym (eqb-true c d (and_right _ _ e))

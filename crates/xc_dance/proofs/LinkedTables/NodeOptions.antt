@@ -233,8 +233,7 @@ use_down p t i (suc m) laid pos le some held e =
 
 pub node_within : (p : Puzzle) (i o : ℕ) → IsLaid p → 0 < i → i ≤ item_count p → IsName p i o
     → link_place p i o < length (layout p)
-node_within p i o laid pos le name =
-    let q = laid.there i o pos le name in slice_get_within (layout p) (link_place p i o) q.node q.at
+node_within p i o laid pos le name = grind (arith, common_steps, slice_get_within)
 
 -- ---- the ring of primary items
 

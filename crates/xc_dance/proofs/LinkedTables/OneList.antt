@@ -108,7 +108,6 @@ same_now : (p : Puzzle) (col now : Node → ℕ) (o : ℕ) (ln : ℕ → Line) (
     × (filter (λ j. not (is_mark p now o j)) js ≡ filter (λ j. not (is_mark p col o j)) js)
 same_now p col now o ln [] same = (refl, refl)
 same_now p col now o ln (j ∷ js) same =
-    let here = same j (is_in-first j js) in
     let rest = same_now p col now o (left_one p col o ln j) js (λ k e. same k (in_more j k js e)) in
     grind (arith, common_steps)
 
@@ -165,7 +164,6 @@ hide_step : (p : Puzzle) (now : Node → ℕ) (spans : List Span) (keep : Option
     p i o) (3 * gone_count p now i o)
 hide_step p now spans keep ln i o spanned h pos named other unmarked s =
     let within = slice_get_within (layout p) (link_place p i o) h.node h.at in
-    let place : link_place p i o < length (map now (layout p)) = omega (arith, within, length-map (layout p) now) in
     let span = spanned.within o i pos named in
     let no = no_mark keep (own_color p now i o) unmarked in
     grind (arith, common_steps)
@@ -173,9 +171,7 @@ hide_step p now spans keep ln i o spanned h pos named other unmarked s =
 -- an option whose other items are ready is hidden and comes back
 pub turns_ready : (p : Puzzle) (ln : ℕ → Line) (col : Node → ℕ) (spans : List Span) (o i : ℕ) → IsFitted p spans → 0 < o
     → Named p i o → AreReady p col ln o (other_items p o i) → Turns p ln col spans o i
-turns_ready p ln col spans o i f pos named ready =
-    turns p ln col spans o i f.spanned pos named
-    (walked p col ln o (other_items p o i) f.laid pos (others_apart p o i f.fit) ready)
+turns_ready p ln col spans o i f pos named ready = search (arith, turns, walked, others_apart)
 
 -- ---- the walk
 

@@ -1,8 +1,8 @@
 -- The other items of an option: what its leaving does to the line of each, and that they are apart.
 use Rattle.std.proofs.Common.{append-nil}
 use Rattle.std.proofs.Common.{◌++◌}
-use Rattle.std.proofs.Common.{◌≡◌, ℕ, Bool, true, false, not, ◌&&◌, ◌||◌, eqb, List, [], ◌∷◌, map, filter, refl, ap}
-use Rattle.std.proofs.Common.{sym, ◌∙◌, eqb-true, eq-eqb, ne_eqb, arith, ◌≢◌, ◌<◌, ◌≤◌, reverse, subst}
+use Rattle.std.proofs.Common.{◌≡◌, ℕ, Bool, true, false, not, ◌&&◌, ◌||◌, eqb, List, [], ◌∷◌, map, filter, refl}
+use Rattle.std.proofs.Common.{sym, ◌∙◌, eqb-true, eq-eqb, ne_eqb, arith, ◌≢◌, ◌<◌, ◌≤◌, reverse}
 use Rattle.std.specs.Prelude.{is_some}
 use Rattle.std.specs.List.{AllByRecursion}
 use Rattle.std.proofs.lemmas.Grind.{common_steps}
@@ -39,8 +39,7 @@ others_by (u ∷ us) i k d =
 
 pub in_others : (p : Puzzle) (o i k : ℕ) → AreDistinct (uses_of p o)
     → is_in k (other_items p o i) ≡ (not (eqb k i) && is_some (colour_in (uses_of p o) k))
-in_others p o i k d = list_any-append (λ j. eqb j k) (behind_use i (uses_of p o)) (before_use i (uses_of p o))
-    ∙ others_by (uses_of p o) i k d
+in_others p o i k d = grind (arith, common_steps, list_any-append, others_by)
 
 -- whether option o leaves item k's list by a walk down i's
 abbrev pub leaves : Puzzle → (Node → ℕ) → ℕ → ℕ → ℕ → Bool
@@ -73,9 +72,7 @@ in_reverse k xs = sym (list_any-IsPermutation (λ j. eqb j k) xs (reverse xs) (I
 pub apart_reverse : (xs : List ℕ) → AllApart xs → AllApart (reverse xs)
 apart_reverse [] h = tt
 apart_reverse (x ∷ xs) h =
-    subst AllApart (sym (reverse-append (x ∷ []) xs))
-    (all_insert x (reverse xs) [] (ap (λ b. b || false) (in_reverse x xs ∙ h.0))
-    (rw append-nil (apart_reverse xs h.1)))
+    grind (arith, common_steps, reverse-append, all_insert, in_reverse, append-nil, apart_reverse xs h.1)
 
 pub others_apart : (p : Puzzle) (o i : ℕ) → IsFit p → AllApart (other_items p o i)
 others_apart p o i fit = others_apart_of (uses_of p o) i (fit.distinct o)
@@ -87,8 +84,7 @@ item_range p (u ∷ us) j a e = grind (arith, common_steps, eqb-true, item_range
 
 -- the item itself isn't among them
 pub own_apart : (p : Puzzle) (i o : ℕ) → IsFit p → is_in i (other_items p o i) ≡ false
-own_apart p i o fit = in_others p o i i (fit.distinct o)
-    ∙ ap (λ b. not b && is_some (colour_in (uses_of p o) i)) (eq-eqb i i refl)
+own_apart p i o fit = grind (arith, common_steps, in_others, is_some, eq-eqb)
 
 -- one of them
 pub record OtherItem (p : Puzzle) (o i j : ℕ) : Type 0 where
@@ -97,13 +93,7 @@ pub record OtherItem (p : Puzzle) (o i j : ℕ) : Type 0 where
   pub item : InRange p j
 
 pub other_item : {p : Puzzle} (o i j : ℕ) → IsFit p → is_in j (other_items p o i) ≡ true → OtherItem p o i j
-other_item {p} o i j fit e =
-    let both = and_parts _ _ (sym (in_others p o i j (fit.distinct o)) ∙ e) in
-    record {
-      ne = λ s. false≢true (sym (ap not (eq-eqb j i s)) ∙ both.0);
-      named = both.1;
-      item = item_range p _ _ (fit.items o) both.1;
-    }
+other_item {p} o i j fit e = grind (arith, common_steps, and_parts, in_others, false≢true, eq-eqb, item_range)
 
 -- ---- a walk down item i's list, which keeps the options of a colour: what it does to the lines
 

@@ -21,8 +21,7 @@ sound_fit a s = known_fit a.colours a.puzzle s.valid s.limits s.coloured s.few_c
 
 -- an option's node stands between the spacers round it
 use_between : (p : Puzzle) (i x q : ℕ) → IsUseAt p i x q → (spacer_place p (x - 1) < q) × (q < spacer_place p x)
-use_between p i x q u =
-    let o = option_nodes p x u.known in (omega (arith, place_at_use u), omega (arith, place_at_use u, u.holds, o.end))
+use_between p i x q u = grind (arith, common_steps, place_at_use u, option_nodes p x u.known)
 
 -- behind the first spacer
 pub behind_first : (p : Puzzle) (i x q : ℕ) → IsUseAt p i x q → spacer_place p 0 ≤ q

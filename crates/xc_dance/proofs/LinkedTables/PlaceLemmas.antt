@@ -35,8 +35,7 @@ use Rattle.xc_dance.proofs.Copied.{take_more-get}
 -- ---- lists in two parts
 
 pub get_dropped : {X : Type 0} (n k : ℕ) (xs : List X) → slice_get (drop n xs) k ≡ slice_get xs (n + k)
-get_dropped n k xs = sym (slice_get-drop (drop n xs) k) ∙ ap (λ l. slice_get l 0) (drop-drop k n xs)
-    ∙ slice_get-drop xs (n + k)
+get_dropped n k xs = cc (slice_get-drop (drop n xs) k, drop-drop k n xs, slice_get-drop xs (n + k))
 
 pub get_taken : {X : Type 0} (n k : ℕ) (xs : List X) (x : X) → slice_get (take n xs) k ≡ Some x
     → slice_get xs k ≡ Some x
@@ -98,8 +97,7 @@ place_first p = omega arith
 pub place_next : (p : Puzzle) (o : ℕ) (us : List Use) → slice_get p.options o ≡ Some us
     → spacer_place p (o + 1) ≡ spacer_place p o + 1 + length us
 place_next p o us e =
-    let h = ap (sum_by size) (take_more-get p.options o us e) ∙ sum_by_push size (take o p.options) us in
-    omega (arith, h)
+    grind (arith, common_steps, take_more-get p.options o us e, sum_by_push size (take o p.options) us)
 
 -- they rise
 pub place_grows : (p : Puzzle) (m n : ℕ) → m ≤ n → spacer_place p m ≤ spacer_place p n
@@ -259,7 +257,6 @@ node_between p x q known from below =
     let nodes = option_nodes p x known in
     let k = q - start_at p (x - 1) in
     let d : Use = record { item = 0; colour = 0 } in
-    let u = get_or (uses_of p x) k d in
     let use_is = slice_get-get_or (uses_of p x) k d (omega (arith, from, below, nodes.end)) in
     let at : start_at p (x - 1) + k ≡ q = omega (arith, from) in
     grind (arith, common_steps)

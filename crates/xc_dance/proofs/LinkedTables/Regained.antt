@@ -28,31 +28,22 @@ record IsBelow (l : Line) (a x : ℕ) : Type 0 where
 below_more : (l : Line) (a b : ℕ) (xs : List ℕ) → a ≤ b → AllByRecursion (IsBelow l b) xs
     → AllByRecursion (IsBelow l a) xs
 below_more l a b [] le h = tt
-below_more l a b (x ∷ xs) le h = (
-  record { over = omega (arith, le, h.0.over); up_back = h.0.up_back; down_back = h.0.down_back },
-  below_more l a b xs le h.1,
-)
+below_more l a b (x ∷ xs) le h = grind (arith, common_steps, below_more l a b xs le h.1)
 
 linked_below : (l : Line) (a : ℕ) (xs : List ℕ) → IsLinkedFrom l a xs → AllByRecursion (IsBelow l a) xs
 linked_below l a [] h = tt
 linked_below l a (x ∷ []) h = (grind (arith, common_steps), tt)
-linked_below l a (x ∷ y ∷ xs) h =
-    (grind (arith, common_steps), below_more l a x (y ∷ xs) (omega (arith, h.0)) (linked_below l x (y ∷ xs) h.3))
+linked_below l a (x ∷ y ∷ xs) h = grind (arith, common_steps, below_more, linked_below l x (y ∷ xs) h.3)
 
 -- the first member that leaves comes back to its line
 first_back : (l : Line) (a y : ℕ) → 0 < l.len → l.down a ≡ y → l.up y ≡ a → IsBelow l a y
     → mended (cut l y) y ≡ l
-first_back l a y some down up b =
-    line_is l (mended (cut l y) y) (omega (arith, some)) (λ x. grind (arith, common_steps, put_at-same, put_at-other))
-    (λ x. grind (arith, common_steps, put_at-same, put_at-other))
+first_back l a y some down up b = grind (arith, common_steps, line_is, cut, put_at-same, put_at-other)
 
 -- two members come back in either order
 swapped : (l m : Line) (a y k : ℕ) → l.up y ≡ a → IsBelow l a y → IsBelow l y k → m.up y ≡ l.up y → m.down y ≡ l.down y
     → m.up k ≡ (cut l y).up k → m.down k ≡ (cut l y).down k → mended (mended m k) y ≡ mended (mended m y) k
-swapped l m a y k up b h my_up my_down mk_up mk_down =
-    line_is (mended (mended m y) k) (mended (mended m k) y) refl
-    (λ x. grind (arith, common_steps, put_at-same, put_at-other))
-    (λ x. grind (arith, common_steps, put_at-same, put_at-other))
+swapped l m a y k up b h my_up my_down mk_up mk_down = grind (arith, common_steps, put_at-same, put_at-other)
 
 -- what comes back to the line without its member y does so once y is back
 behind_first : (l m : Line) (a y : ℕ) (ks : List ℕ) → 0 < l.len → l.down a ≡ y → l.up y ≡ a → IsBelow l a y

@@ -116,10 +116,7 @@ tables_from p q t s a b h = (
 -- and the other way round
 pub fields_from : (p q : Puzzle) (t s : List Move) → IsSound p → IsSound q → items_after p t ≡ items_after q s
     → nodes_after p t ≡ nodes_after q s → FieldsSame p t q s
-fields_from p q t s a b i n f k =
-    let many = items_many p q t s (ap (λ (x : Items). x.llink) i) in
-    sym (reading_is p t f k a) ∙ ap₂ (λ x y. reading (item_count p) x y f k) i n
-    ∙ ap (λ m. reading m (items_after q s) (nodes_after q s) f k) many ∙ reading_is q s f k b
+fields_from p q t s a b i n f k = grind (arith, common_steps, items_many, reading_is)
 
 -- ---- two keepers of tables
 
@@ -148,8 +145,7 @@ abbrev pub Tells : Bool → Type 0 → Type 0
 Tells b P = (IsTrue b → P) × (P → IsTrue b)
 
 pub tells_both : (v a b : Bool) (P Q : Type 0) → IsTrue a → Tells a P → v ≡ b → Tells b Q → Tells v (P × Q)
-tells_both v a b P Q holds x is y =
-    ((λ e. (x.0 holds, y.0 (subst IsTrue is e))), (λ h. subst IsTrue (sym is) (y.1 h.1)))
+tells_both v a b P Q holds x is y = grind (arith, common_steps)
 
 pub tells_none : (v a : Bool) (P Q : Type 0) → (IsTrue a → ⊥) → Tells a P → v ≡ a → Tells v (P × Q)
 tells_none v a P Q fails x is = ((λ e. absurd (fails (subst IsTrue is e))), (λ h. absurd (fails (x.1 h.0))))

@@ -1,7 +1,7 @@
 -- Lines: one member leaves or comes back, many leave from top to bottom, and what a move makes of the line of a list.
 use Rattle.std.proofs.Common.{◌≡◌, ◌≢◌, ℕ, ◌+◌, ◌<◌, ◌≤◌, Bool, true, false, not, ◌||◌, eqb, ltb, nat_lt, List, [], ◌∷◌}
 use Rattle.std.proofs.Common.{length, filter, fold, Some, None, refl, ap, sym, ◌∙◌, arith, eqb-true, eq-eqb, ne_eqb}
-use Rattle.std.proofs.Common.{lt-ltb, le-ltb, zero, suc, cond, map, drop}
+use Rattle.std.proofs.Common.{lt-ltb, le-ltb, zero, suc, map, drop}
 use Rattle.std.specs.Prelude.{if◌then◌else◌, ◌-◌, ◌==◌, ◌&&◌, ◌++◌, Option, unwrap_or}
 use Rattle.std.specs.List.{last_or}
 use Rattle.std.proofs.lemmas.Grind.{common_steps}
@@ -74,8 +74,7 @@ rises l a (x ∷ xs) h = (h.0, rises l x xs h.3)
 -- one that is no higher than the start isn't in
 pub not_in : (n x : ℕ) (xs : List ℕ) → x ≤ n → Rises n xs → is_in x xs ≡ false
 not_in n x [] h r = refl
-not_in n x (y ∷ ys) h r =
-    grind (arith, common_steps, not_in y x ys (omega (arith, r.0)) r.1, ne_eqb y x (λ e. omega (arith, e, r.0)))
+not_in n x (y ∷ ys) h r = grind (arith, common_steps, ne_eqb, not_in y x ys (omega (arith, r.0)) r.1)
 
 -- a member is higher than the start
 pub in_above : (n x : ℕ) (xs : List ℕ) → Rises n xs → is_in x xs ≡ true → n < x
@@ -162,9 +161,7 @@ pub record Swept (l m : Line) (a : ℕ) (xs ks : List ℕ) : Type 0 where
 
 -- a fact by whether a number is the first of a list
 pub by_first : (P : Type 0) (y x : ℕ) → (y ≡ x → P) → (y ≢ x → P) → P
-by_first P y x same other =
-    elim (eqb y x) as (λ b. eqb y x ≡ b → P)
-    [ true ↦ λ e. same (eqb-true y x e) | false ↦ λ e. other (eqb-false y x e) ] refl
+by_first P y x same other = grind (arith, common_steps, eqb-true, eqb-false)
 
 pub in_rest : (y x : ℕ) (ys : List ℕ) → y ≢ x → is_in x (y ∷ ys) ≡ true → is_in x ys ≡ true
 in_rest y x ys ne e = sym (is_in-other y x ys ne) ∙ e

@@ -19,7 +19,6 @@ use Rattle.xc_dance.specs.declared.links.field.Field.TheVariants.{Llink, Rlink, 
 use Rattle.xc_dance.specs.Moves.{listed, spends}
 use Rattle.xc_dance.specs.inner.Links.ItemCells.{items_after}
 use Rattle.xc_dance.proofs.MoveLemmas.ListLemmas.{length-listed}
-use Rattle.xc_dance.specs.Fields.{spacer_place}
 use Rattle.xc_dance.proofs.LinkedTables.PlaceLemmas.{is_at, spacer_here, place_first}
 use Rattle.xc_dance.proofs.LinkedTables.MarkedNodes.{colour_small}
 use Rattle.xc_dance.proofs.LinkedTables.GoodLines.{numbers_few}
@@ -61,8 +60,7 @@ first_spacer : (p : Puzzle) (t : List Move) (q : ℕ) (n : Node) → IsSound p �
     → top_in (line_of p t) n ≡ SPACER → q ≡ item_count p + 1
 first_spacer p t q unused s e f = absurd (omega (arith, f))
 first_spacer p t q (own i) s e f = grind (arith, common_steps, length-listed)
-first_spacer p t q (spacer n) s e f =
-    let z : n ≡ 0 = omega (arith, f) in sym (is_at p q (spacer n) e) ∙ ap (spacer_place p) z ∙ place_first p
+first_spacer p t q (spacer n) s e f = grind (arith, common_steps, is_at p q (spacer n) e, place_first p)
 first_spacer p t q (used o u) s e f =
     absurd (omega (arith, f, (s.laid.nodes.ranged q (used o u) u.item o e refl).1, s.laid.small))
 

@@ -45,18 +45,13 @@ pub record IsBeside (p : Puzzle) (t : List Move) (b : Bool) (q : ℕ) : Type 0 w
   pub stays : Stays p t q
 
 ring_rises : (p : Puzzle) (t : List Move) (q : ℕ) → Rises 0 (ring_of p t q)
-ring_rises p t q = Rises-filter (λ j. not (is_covered j t)) 0 _ (elim (side p q) as (λ b. Rises 0
-    (cond b (range_with_len 1 (primary_count p)) (range_with_len (primary_count p + 1) p.secondary))) [
-      | true ↦ Rises-range 0 (primary_count p)
-      | false ↦ Rises-weaker 0 (primary_count p) _ (omega arith) (Rises-range (primary_count p) p.secondary)
-    ])
+ring_rises p t q = grind (arith, common_steps, Rises-filter, side, Rises-range, Rises-weaker)
 
 ring_less : (p : Puzzle) (t : List Move) (i q : ℕ) → ring_of p (Cover i ∷ t) q ≡ less i (ring_of p t q)
 ring_less p t i q = grind (arith, common_steps, filter_agree, filter_both)
 
 head_other : (p : Puzzle) (q i : ℕ) → 0 < i → i ≤ item_count p → ring_head p q ≢ i
-head_other p q i pos le = elim (side p q) as (λ b. cond b 0 (item_count p + 1) ≢ i)
-    [ true ↦ λ e. omega (arith, e, pos) | false ↦ λ e. omega (arith, e, le) ]
+head_other p q i pos le = grind (arith, common_steps, side)
 
 -- ---- cells of the table
 
@@ -67,8 +62,7 @@ link p false t q = llink_at p t q
 
 item_cell : (p : Puzzle) (q first inner last : ℕ) → 0 < q → q ≤ item_count p
     → cond (eqb q 0) first (cond (leb q (item_count p)) inner last) ≡ inner
-item_cell p q first inner last pos le =
-    ap₂ (λ u v. cond u first (cond v inner last)) (ne_eqb q 0 (λ e. omega (arith, e, pos))) (le-leb q (item_count p) le)
+item_cell p q first inner last pos le = grind (arith, common_steps, ne_eqb, le-leb)
 
 -- a covered item's cells stay
 pub link_gone : (p : Puzzle) (d : Bool) (t : List Move) (m : Move) (q : ℕ) → 0 < q → q ≤ item_count p
@@ -91,8 +85,7 @@ link_is p false t q lt stays =
 -- an item's links lead to others
 pub link_other : (p : Puzzle) (d : Bool) (t : List Move) (q : ℕ) → 0 < q → q ≤ item_count p → is_covered q t ≡ false
     → link p d t q ≢ q
-link_other p d t q pos le un e = beside_other d (ring_head p q) q (ring_of p t q) (head_other p q q pos le)
-    (sym (link_is p d t q (omega (arith, le)) (λ _ _. un)) ∙ e)
+link_other p d t q pos le un e = grind (arith, common_steps, beside_other, head_other, link_is)
 
 -- ---- there and back
 
@@ -235,7 +228,6 @@ way_step p d t i legal pos le un =
     grind (arith, common_steps, eq-eqb, ne_eqb, row_put, link_next) in
     let there : link p d t (link p (not d) t i) ≡ i =
     ap (λ c. link p c t (link p (not d) t i)) (sym (not-not d)) ∙ link_back p (not d) t i legal within (λ _ _. un) in
-    let gone : link p d (Cover i ∷ t) i ≡ link p d t i = grind (arith, common_steps, link_gone, eq-eqb) in
     grind (arith, common_steps, row_get, row_len, written_back)
 
 pub ring_step : (p : Puzzle) (t : List Move) (i : ℕ) → AreLegal p t → IsLegal p t (Cover i) → RingStep p t i
@@ -243,6 +235,5 @@ ring_step p t i legal may =
     let pos : 0 < i = let h = may.0.0 in omega (arith, h) in
     let le : i ≤ item_count p = may.0.1 in
     let un : is_covered i t ≡ false = open_uncovered i t may.1 in
-    let now = items_after p t in
     let next = items_after p (Cover i ∷ t) in
     grind (arith, common_steps, same_items, way_step p false t i legal pos le un, way_step p true t i legal pos le un)

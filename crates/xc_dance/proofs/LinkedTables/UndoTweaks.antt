@@ -151,5 +151,4 @@ read {j = j} f node nodes_are items_are at =
 
 pub trail_left : (xs ys : List Move) (n k : ℕ) → ys ≡ take (n - k) xs → n ≡ length xs → k ≤ length (reverse xs)
     → reverse ys ≡ drop k (reverse xs)
-trail_left xs ys n k e long h = ap reverse (e ∙ ap (λ m. take (m - k) xs) long)
-    ∙ turned_drop xs k (let d = length-reverse xs in omega (arith, h, d))
+trail_left xs ys n k e long h = grind (arith, common_steps, turned_drop, length-reverse)

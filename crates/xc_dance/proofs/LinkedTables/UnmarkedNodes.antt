@@ -44,8 +44,7 @@ unhidden_color t q = grind (arith, common_steps)
 pub costs-are : (step : Nodes → ℕ → Nodes) → ((t : Nodes) (q : ℕ) → (step t q).color ≡ t.color)
     → (t : Nodes) (qs : List ℕ) → costs step hide_cost t qs ≡ unmarked_costs t.color qs
 costs-are step same t [] = refl
-costs-are step same t (q ∷ qs) =
-    ap (λ n. hide_cost t q + n) (costs-are step same (step t q) qs ∙ ap (λ c. unmarked_costs c qs) (same t q))
+costs-are step same t (q ∷ qs) = grind (arith, common_steps, costs-are step same (step t q) qs)
 
 pub colors-are : (step : Nodes → ℕ → Nodes) → ((t : Nodes) (q : ℕ) → (step t q).color ≡ t.color)
     → (t : Nodes) (qs : List ℕ) → (fold step t qs).color ≡ t.color
@@ -84,8 +83,7 @@ never_marked p (_ ∷ t) i o legal = grind (arith, common_steps, ne_eqb, never_m
 
 no_color : (p : Puzzle) (t : List Move) (q : ℕ) (n : Node) → IsLaid p → AreLegal p t → IsPlain p → item_count p < q
     → slice_get (layout p) q ≡ Some n → color_in p t n ≡ 0
-no_color p t q (own i) laid legal plain gt e =
-    let s = is_at p q (own i) e in absurd (omega (arith, s.1, s.2, gt))
+no_color p t q (own i) laid legal plain gt e = grind (arith, common_steps, is_at p q (own i) e)
 no_color p t q (used o u) laid legal plain gt e =
     let none : u.colour ≡ 0 = no_colour (uses_of p o) u.item u.colour (plain o) (laid.nodes.coloured q o u e) in
     grind (arith, common_steps, never_marked)
@@ -136,16 +134,13 @@ plain_unmarked p t legal fitted plain = record {
 pub kept_unmarked : (p : Puzzle) (t : List Move) (coloured : Bool) (spans : List Span) (nodes : Nodes) → AreLegal p t
     → IsFitted p (spans_of p) → spans ≡ spans_of p → nodes ≡ nodes_after p t → (coloured ≡ false → IsPlain p) →
     coloured ≡ false → IsUnmarked spans nodes.color
-kept_unmarked p t coloured spans nodes legal fitted a b plain none =
-    subst (λ (x : List Span). IsUnmarked x nodes.color) (sym a)
-    (subst (λ (x : Nodes). IsUnmarked (spans_of p) x.color) (sym b) (plain_unmarked p t legal fitted (plain none)))
+kept_unmarked p t coloured spans nodes legal fitted a b plain none = grind (arith, common_steps, plain_unmarked)
 
 -- ---- the walks
 
 kept_color : (step : Nodes → ℕ → Nodes) → ((t : Nodes) (q : ℕ) → (step t q).color ≡ t.color) → (spans : List Span)
     (t u : Nodes) (qs : List ℕ) → u ≡ fold step t qs → IsUnmarked spans t.color → IsUnmarked spans u.color
-kept_color step same spans t u qs done =
-    subst (IsUnmarked spans) (sym (ap (λ (v : Nodes). v.color) done ∙ colors-are step same t qs))
+kept_color step same spans t u qs done = grind (arith, common_steps, colors-are)
 
 -- a step down that keeps no colour marks none
 pub left_unmarked : (spans : List Span) (marks : Bool) (keep : Option ℕ) (t u : Nodes) (x : ℕ)

@@ -1,15 +1,15 @@
 -- The nodes of an option's uses, and what the tables tell there: for calls that go over an option by its nodes.
 use Rattle.std.proofs.Common.{◌≡◌, ℕ, suc, ◌+◌, ◌<◌, ◌≤◌, true, List, [], ◌∷◌, length}
 use Rattle.std.proofs.Common.{get_or, Some, refl, ap, sym, ◌∙◌, arith, subst, eq-eqb}
-use Rattle.std.proofs.Common.{ne_eqb, inl, inr, ◌-◌, length-drop, length-take}
-use Rattle.std.specs.Prelude.{is_some, unwrap_or, slice_get, option_map}
+use Rattle.std.proofs.Common.{inl, inr, ◌-◌, length-drop, length-take}
+use Rattle.std.specs.Prelude.{is_some, slice_get}
 use Rattle.std.proofs.lemmas.Option.{slice_get_within}
 use Rattle.std.proofs.lemmas.Grind.{common_steps}
 use Rattle.xc_input.specs.declared.problem.Use.{Use}
 use Rattle.xc_input.specs.Problem.{Puzzle, IsOption, item_count, uses_of, colour_in}
 use Rattle.xc_dance.specs.declared.dance.Move.{Move}
 use Rattle.xc_dance.specs.Fields.{used, spacer, layout, link_place, spacer_place}
-use Rattle.xc_dance.specs.Commits.{IsUseAt, option_at, number_of}
+use Rattle.xc_dance.specs.Commits.{IsUseAt, option_at}
 use Rattle.xc_input.specs.UsePlaces.{place_in}
 use Rattle.xc_dance.specs.inner.Links.Cells.{ulink_in, line_of, nodes_after}
 use Rattle.xc_dance.specs.inner.Links.Laid.{IsName}
@@ -55,10 +55,7 @@ spacer_cells p t x q known at =
 pub option_there : (p : Puzzle) (i y : ℕ) → i ≤ item_count p → IsName p i y → option_at p i (link_place p i y) ≡ named y
 option_there p i y le (inl z) =
     subst (λ y. option_at p i (link_place p i y) ≡ named y) (sym z) (rw (eq-eqb i i refl) refl)
-option_there p i y le (inr h) =
-    let other = ne_eqb (link_place p i y) i (λ e. omega (arith, e, le, behind_items p i y h.0)) in
-    let some = ne_eqb y 0 (λ z. omega (arith, z, h.0)) in
-    rw (other, some) (ap (λ o. Some (unwrap_or (option_map number_of o) 0)) (held_node p i y h.0 h.1).node)
+option_there p i y le (inr h) = grind (arith, common_steps, behind_items p i y h.0, held_node p i y h.0 h.1)
 
 -- ---- uses that stand side by side
 
@@ -89,5 +86,4 @@ behind_all {p} {i} {x} held =
 
 -- and those before at it
 pub before_all : {p : Puzzle} {i x q : ℕ} → IsUseAt p i x q → start_at p (x - 1) + length (uses_before p i x) ≡ q
-before_all {p} {i} {x} held =
-    omega (arith, length-take (place_in i (uses_of p x)) (uses_of p x), held.holds, place_at_use held)
+before_all {p} {i} {x} held = grind (arith, common_steps, length-take, place_at_use)

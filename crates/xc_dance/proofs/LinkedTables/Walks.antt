@@ -43,9 +43,7 @@ pub record Reached (step : Nodes → ℕ → Nodes) (writes : Nodes → ℕ → 
 
 pub underway : {step : Nodes → ℕ → Nodes} {Can : Nodes → ℕ → Type 0} (writes : Nodes → ℕ → ℕ) (t0 : Nodes)
     (all left : List ℕ) → left ≡ all → CanAll step Can t0 all → Underway step writes Can t0 all t0 left 0
-underway {step} {Can} writes t0 all left e can =
-    subst (λ qs. Underway step writes Can t0 all t0 qs 0) (sym e)
-    (record { can = can; done = refl; cost = omega arith })
+underway {step} {Can} writes t0 all left e can = grind (arith, common_steps)
 
 -- one walk behind another
 pub both_reached : {step : Nodes → ℕ → Nodes} {writes : Nodes → ℕ → ℕ} {t0 : Nodes} {ps : List ℕ} {t : Nodes} {n : ℕ}
@@ -72,9 +70,7 @@ way_push R s (y ∷ xs) u v x w r = (w.0, (w.1.0, way_push R w.0 xs u v x w.1.1 
 pub way_back : {S : Type 0} (R : S → S → ℕ → Type 0) (s : S) (xs : List ℕ) (v : S) → Way R s xs v
     → Way (λ a b. R b a) v (reverse xs) s
 way_back R s [] v w = sym w
-way_back R s (x ∷ xs) v w =
-    subst (λ ys. Way (λ a b. R b a) v ys s) (sym (reverse-append (x ∷ []) xs))
-    (way_push (λ a b. R b a) v (reverse xs) w.0 s x (way_back R w.0 xs v w.1.1) w.1.0)
+way_back R s (x ∷ xs) v w = grind (arith, common_steps, reverse-append, way_push, way_back R w.0 xs v w.1.1)
 
 pub way_split : {S : Type 0} (R : S → S → ℕ → Type 0) (s : S) (xs ys : List ℕ) (v : S) → Way R s (xs ++ ys) v
     → (u : S) × (Way R s xs u × Way R u ys v)
@@ -89,9 +85,7 @@ pub way_made : {S : Type 0} (R : S → S → ℕ → Type 0) (table : S → Node
     → CanAll step Can (table s) (map place xs) × (fold step (table s) (map place xs) ≡ table v)
 way_made R table place step Can each s [] v w = (tt, ap table w)
 way_made R table place step Can each s (x ∷ xs) v w =
-    let e = each s w.0 x w.1.0 in
-    let rest = way_made R table place step Can each w.0 xs v w.1.1 in
-    ((e.0, rw e.1 rest.0), ap (λ (t : Nodes). fold step t (map place xs)) e.1 ∙ rest.1)
+    grind (arith, common_steps, way_made R table place step Can each w.0 xs v w.1.1)
 
 -- a kind of walk along links: its step, when that may be made, and what it writes
 pub record Kind : Type 1 where
@@ -124,14 +118,7 @@ pub way_led : {S : Type 0} (R : S → S → ℕ → Type 0) (k : Kind) (table : 
     (v : S) → Way R s xs v → AllLed k (table s) (table v) (at s) (map place xs) (sum_by w xs)
 way_led R k table at place w each s [] v way = record { walk = tt; done = ap table way; costs = refl }
 way_led R k table at place w each s (x ∷ xs) v way =
-    let e = each s way.0 x way.1.0 in
-    let rest = way_led R k table at place w each way.0 xs v way.1.1 in
-    let m = e.leads in
-    record {
-      walk = (e.here, m.can, rw m.done e.within, rw (m.done, e.next) rest.walk);
-      done = ap (λ (t : Nodes). fold k.step t (map place xs)) m.done ∙ rest.done;
-      costs = rw (m.cost, m.done, rest.costs) (sym (sum_by-cons w x xs));
-    }
+    grind (arith, common_steps, sum_by-cons, way_led R k table at place w each way.0 xs v way.1.1)
 
 -- ---- up to a spacer
 
@@ -199,10 +186,7 @@ module _ {step : Nodes → ℕ → Nodes} {writes : Nodes → ℕ → ℕ} {Can 
 
   pub follow_on : (u : Nodes) (q w : ℕ) → k < m → u ≡ step t p → q ≡ get_or (links u) p 0 → w ≡ writes t p
       → Following step writes Can links t0 m x t p k n → Following step writes Can links t0 m x u q (k + 1) (n + w)
-  follow_on u q w lt is to paid h =
-      let here = follow_here lt h in
-      let next : q ≡ get_or (links (step t p)) p 0 = to ∙ ap (λ (v : Nodes). get_or (links v) p 0) is in
-      grind (arith, common_steps, h.cost, ap (costs step writes t) here.first, drop (k + 1) (followed (links t0) m x))
+  follow_on u q w lt is to paid h = grind (arith, common_steps, follow_here, links, step, costs, writes, k, x)
 
   pub follow_end : m ≤ k → Following step writes Can links t0 m x t p k n
       → Reached step writes t0 (followed (links t0) m x) t n

@@ -2,7 +2,6 @@ use Rattle.std.proofs.Common.{arith}
 use Rattle.std.proofs.lemmas.Grind.{common_steps}
 use Rattle.xc_dance.proofs.MoveLemmas.StateLemmas.{open_by_state, closed_state}
 use Rattle.xc_dance.proofs.lists.trail.Trail.is_open.Goals as goal
-use Rattle.xc_dance.proofs.lists.trail.Trail.is_open.Goals.{After-index}
 
 pub returns-in-Open : goal.returns-in-Open
 returns-in-Open c = grind (arith, common_steps, open_by_state)
