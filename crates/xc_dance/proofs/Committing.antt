@@ -7,7 +7,7 @@ use Rattle.xc_dance.specs.Commits.{CanStand, after_uses}
 use Rattle.xc_dance.specs.Cost.{HasWritten}
 use Rattle.xc_dance.specs.Linked.{Linked}
 use Rattle.xc_dance.proofs.LinkedTables.Along.{along_first, IsAlong, IsNext, top_at, MayCommit, may_commit, Commits}
-use Rattle.xc_dance.proofs.LinkedTables.Along.{Committed, one_committed}
+use Rattle.xc_dance.proofs.LinkedTables.Along.{one_committed}
 
 -- Of an option x that Held tells of, the uses vs x stand from place off x on: those before place q were committed, so
 -- state s became now.
@@ -31,7 +31,4 @@ module _ {Held : ℕ → Type 0} {off : ℕ → ℕ} {vs : ℕ → List Use} {s 
   pub one_more : (new : Linked) → IsCommitting Held off vs s now q → {x : ℕ} → Held x
       → ((y : ℕ) → Held y → IsNext s.puzzle y (off y) (vs y) s.trail now.trail q) → j ≡ top_at s.puzzle now.trail q
       → Commits now q j new → HasWritten now new → IsCommitting Held off vs s new (q + 1)
-  one_more new a {x} held next is made written =
-      let step : (y : ℕ) → Held y → Committed s.puzzle (off y) (vs y) s.trail s.room new (q + 1) =
-      λ y h. one_committed now new (next y h) a.puzzle a.room is made in
-      grind (arith, common_steps)
+  one_more new a {x} held next is made written = grind (arith, off, one_committed)

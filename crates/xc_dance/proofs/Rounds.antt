@@ -1,9 +1,12 @@
 -- A walk round an option, for hide and unhide: to its spacer, and from where that leads on to the node of the start.
-use Rattle.std.proofs.Common.{◌≡◌, ℕ, ◌+◌, ◌≤◌, List, ◌++◌, fold, get_or, subst, sym}
+use Rattle.xc_dance.proofs.LinkedTables.Walks.{costs-append}
+use Rattle.std.proofs.Common.{arith}
+use Rattle.std.proofs.lemmas.Grind.{common_steps}
+use Rattle.std.proofs.Common.{◌≡◌, ℕ, ◌+◌, ◌≤◌, List, ◌++◌, fold, get_or}
 use Rattle.xc_dance.specs.declared.links.nodes.Nodes.{Nodes}
 use Rattle.xc_dance.specs.declared.links.nodes.TheConstants.{SPACER}
 use Rattle.xc_dance.specs.inner.Links.Walks.{costs, CanAll}
-use Rattle.xc_dance.proofs.LinkedTables.Walks.{CanAll-append, Underway, steps_end, both_reached, Reached, Tells}
+use Rattle.xc_dance.proofs.LinkedTables.Walks.{CanAll-append, Underway, steps_end, Reached, Tells}
 
 -- the spacer was met: the steps that are left may be made, and lead to the end of all
 pub record Met (step : Nodes → ℕ → Nodes) (writes : Nodes → ℕ → ℕ) (Can : Nodes → ℕ → Type 0) (t0 : Nodes)
@@ -17,9 +20,4 @@ pub met : {step : Nodes → ℕ → Nodes} {writes : Nodes → ℕ → ℕ} {Can
     → Underway step writes Can t0 ps t here n → Tells t (fold step t0 ps) q z here → SPACER ≤ get_or t.top q 0
     → left ≡ qs → Met step writes Can t0 all t n left
 met {step} {writes} {Can} {t0} {t} {n = n} ps qs left q z parts can h tells high is =
-    let two = CanAll-append step Can t0 ps qs (subst (CanAll step Can t0) parts can) in
-    record {
-      can = subst (CanAll step Can t) (sym is) (subst (λ u. CanAll step Can u qs) (sym (tells.is high)) two.1);
-      round = λ u m done cost. subst (λ qs. Reached step writes t0 qs u (n + m)) (sym parts)
-          (both_reached qs left u m (steps_end (tells.none high) h) is done cost);
-    }
+    grind (arith, common_steps, CanAll-append, steps_end, costs-append)

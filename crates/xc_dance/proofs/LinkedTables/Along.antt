@@ -7,7 +7,6 @@ use Rattle.xc_input.specs.declared.problem.Use.{Use}
 use Rattle.xc_input.specs.Problem.{Puzzle}
 use Rattle.xc_dance.specs.declared.dance.Move.{Move}
 use Rattle.xc_dance.specs.declared.links.nodes.Nodes.{Nodes}
-use Rattle.xc_dance.specs.Dancing.{Dancing}
 use Rattle.xc_dance.specs.Linked.{Linked, dancing_of}
 use Rattle.xc_dance.specs.Fields.{used, layout, spacer_place}
 use Rattle.xc_dance.specs.Commits.{CanStand, IsUseAt, after_use, after_uses}
@@ -163,9 +162,7 @@ pub record Committed (p : Puzzle) (off : ℕ) (vs : List Use) (s : List Move) (k
 pub one_committed : {p : Puzzle} {x off : ℕ} {vs : List Use} {s : List Move} (now new : Linked) {room q j : ℕ} →
     IsNext p x off vs s now.trail q → now.puzzle ≡ p → now.room ≡ room →
     j ≡ top_at p now.trail q → Commits now q j new → Committed p off vs s room new (q + 1)
-one_committed {p} {x} {off} {vs} {s} now new {room} {q} n same big is made =
-    let done = made x n.u (ap (λ a. slice_get (layout a) q) same ∙ n.node) (n.item ∙ sym is) in
-    grind (arith, common_steps, ap (λ (d : Dancing). d.trail) done ∙ ap (λ a. after_use a n.u now.trail) same)
+one_committed {p} {x} {off} {vs} {s} now new {room} {q} n same big is made = grind (arith, slice_get)
 
 -- at the end
 pub whole : (p : Puzzle) (room : ℕ) (now : Linked) {t : List Move} → now.puzzle ≡ p → now.room ≡ room →

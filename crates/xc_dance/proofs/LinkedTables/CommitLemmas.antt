@@ -1,7 +1,7 @@
 -- Which node is which use, and what stands below a node.
 use Rattle.std.proofs.Common.{Bool, Some, subst, le-leb, ◌≡◌, ℕ, ◌<◌, ◌⊎◌, inl, inr, true}
 use Rattle.std.proofs.Common.{cond, eqb, List, ◌∷◌, length, get_or, refl, ap, ◌∙◌, arith}
-use Rattle.std.specs.Prelude.{is_some, slice_get, Contains, unwrap_or}
+use Rattle.std.specs.Prelude.{is_some, slice_get, Contains}
 use Rattle.std.proofs.lemmas.Grind.{common_steps}
 use Rattle.std.proofs.lemmas.List.{length-map}
 use Rattle.std.proofs.lemmas.Option.{slice_get_within}
@@ -13,9 +13,9 @@ use Rattle.xc_dance.specs.declared.dance.Move.{Move}
 use Rattle.xc_dance.specs.Moves.{is_open, listed_numbers}
 use Rattle.xc_dance.specs.Commits.{IsListedAt, IsUseAt, after_use}
 use Rattle.xc_dance.specs.Fields.{layout, used, link_place, first_above, is_in}
-use Rattle.xc_dance.specs.inner.Links.Cells.{color_in, nodes_after}
+use Rattle.xc_dance.specs.inner.Links.Cells.{nodes_after}
 use Rattle.xc_dance.specs.inner.Links.Laid.{IsLaid, IsName}
-use Rattle.xc_dance.specs.inner.Links.Answered.{named, IsNodeOf}
+use Rattle.xc_dance.specs.inner.Links.Answered.{IsNodeOf}
 use Rattle.xc_dance.proofs.LinkedTables.NodeOptions.{own_down, use_down, node_within, contained}
 use Rattle.xc_dance.proofs.LinkedTables.GoodLines.{Named, numbers_named}
 use Rattle.xc_dance.proofs.LinkedTables.Sweep.{in_above}
@@ -23,7 +23,6 @@ use Rattle.xc_dance.proofs.LinkedTables.MarkedNodes.{open_unmarked}
 use Rattle.xc_dance.proofs.LinkedTables.UsePlaces.{held_of}
 use Rattle.xc_dance.proofs.MoveLemmas.Members.{element_of}
 use Rattle.xc_dance.proofs.MoveLemmas.Shortened.{rises_listed}
-use Rattle.xc_dance.specs.declared.links.nodes.TheConstants.{MARK}
 
 pub in_list_name : (p : Puzzle) (t : List Move) (i x : ℕ) → is_in x (listed_numbers p t i) ≡ true → (0 < x)
     × (is_some (colour_in (uses_of p x) i) ≡ true)
@@ -55,20 +54,12 @@ use_name u = inr (u.known.0, held_of _ _ u.holds)
 pub use_node : {p : Puzzle} {i x q : ℕ} → IsUseAt p i x q → IsNodeOf p i q
 use_node {x} u = record { number = x; name = use_name u; at = u.at }
 
-pub named_back : (x : ℕ) → unwrap_or (named x) 0 ≡ x
-named_back x = grind (arith, common_steps)
-
 -- ---- the use of a secondary item
 
 -- COLOR of a node of an open item, which isn't marked, is its use's colour
 pub open_colour : (p : Puzzle) (t : List Move) (q : ℕ) {o : ℕ} {u : Use} → slice_get (layout p) q ≡ Some (used o u) →
     is_open u.item t ≡ true → get_or (nodes_after p t).color q 0 ≡ u.colour
-open_colour p t q {o} {u} at e =
-    get_map (color_in p t) (layout p) q _ at ∙ ap (λ b. cond b MARK u.colour) (open_unmarked p t u.item o u.colour e)
-
-pub after_open : (p : Puzzle) (u : Use) (t : List Move) → primary_count p < u.item → is_open u.item t ≡ true →
-    after_use p u t ≡ cond (eqb u.colour 0) (Cover u.item) (Purify u.item u.colour) ∷ t
-after_open p u t high e = grind (arith, common_steps, le-leb)
+open_colour p t q {o} {u} at e = grind (arith, get_map, open_unmarked)
 
 pub use_item : {p : Puzzle} (q : ℕ) {o j : ℕ} {u : Use} → IsLaid p → slice_get (layout p) q ≡ Some (used o u) →
     u.item ≡ j → IsItem p j
@@ -81,7 +72,7 @@ colour_within p t q at = grind (arith, common_steps, length-map, slice_get_withi
 pub committed_open : (p : Puzzle) (t : List Move) (q : ℕ) {o j k : ℕ} {u : Use} →
     slice_get (layout p) q ≡ Some (used o u) → u.item ≡ j → primary_count p < j → is_open j t ≡ true →
     k ≡ get_or (nodes_after p t).color q 0 → cond (eqb k 0) (Cover j) (Purify j k) ∷ t ≡ after_use p u t
-committed_open p t q {u} at item high still read = grind (arith, common_steps, after_open, open_colour)
+committed_open p t q {u} at item high still read = grind (arith, common_steps, open_colour, le-leb)
 
 -- the moves of such a use, of which a Cover may be still to be made
 pub still_covers : (j k : ℕ) (t : List Move) {new : List Move} {r : Bool} → r ≡ eqb k 0

@@ -1,4 +1,6 @@
 -- The nodes of uses enter the lists of their items one by one, until the table is that of no moves.
+use Rattle.xc_input.proofs.lists.EachElement.{each_weaker}
+use Rattle.xc_dance.proofs.LinkedTables.LaidLemmas.{options_numbered}
 use Rattle.std.proofs.Common.{◌≡◌, ℕ, ◌+◌, ◌<◌, ◌≤◌, List, [], ◌∷◌, ◌++◌, length, fold, refl, sym, subst, ◌∙◌, arith}
 use Rattle.std.proofs.Common.{zero, suc, true, false, cond, eqb, map, take, Some, ap, eqb-true, eq-eqb, inl}
 use Rattle.std.proofs.Common.{get_or, set, ne_eqb}
@@ -25,7 +27,7 @@ use Rattle.xc_dance.specs.inner.Links.Cells.{line_of, up_of, down_of, nodes_afte
 use Rattle.xc_dance.proofs.LinkedTables.Sweep.{put_at-same, put_at-other, put_at, IsLinkedFrom, with_line}
 use Rattle.xc_dance.proofs.LinkedTables.Sweep.{stands}
 use Rattle.xc_dance.proofs.Copied.{take_more-get}
-use Rattle.xc_dance.proofs.LinkedTables.LaidLemmas.{distinct_options, is_laid}
+use Rattle.xc_dance.proofs.LinkedTables.LaidLemmas.{is_laid}
 use Rattle.xc_dance.proofs.LinkedTables.PlaceLemmas.{length_front, layout_small, get_taken}
 use Rattle.xc_dance.proofs.LinkedTables.LinkColumns.{get_map, same_nodes, column, put_link, column_same, get_link}
 use Rattle.xc_dance.proofs.LinkedTables.LinkColumns.{set_link, set_top, get_len, map_same, member_of}
@@ -165,7 +167,7 @@ owns_none j (i ∷ js) ns = owns_none j js ns
 
 -- in the end each item's list is that of all options
 pub held_all : {p : Puzzle} (j : ℕ) → IsFit p → held j (layout p) ≡ listed_numbers p [] j
-held_all {p} j fit = grind (arith, common_steps, owns_none, options_hold, distinct_options)
+held_all {p} j fit = grind (arith, common_steps, owns_none, options_hold, each_weaker, options_numbered)
 
 -- ---- a use's node enters its item's list: so does its option the item's line
 

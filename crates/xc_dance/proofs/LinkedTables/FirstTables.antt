@@ -25,7 +25,7 @@ use Rattle.xc_dance.specs.declared.links.nodes.Row.{Row}
 use Rattle.xc_dance.specs.Fields.{Node, unused, own, spacer, layout, spacer_place, last_below, first_above, first_of}
 use Rattle.xc_dance.specs.Fields.{last_of, ring_of}
 use Rattle.xc_dance.specs.inner.Links.Cells.{top_in, ulink_in, dlink_in, color_in, fixed_up, fixed_down, nodes_from}
-use Rattle.xc_dance.specs.inner.Links.ItemCells.{bound_at, slack_at, items_after, llink_at, rlink_at}
+use Rattle.xc_dance.specs.inner.Links.ItemCells.{llink_at, rlink_at}
 use Rattle.xc_dance.specs.inner.Links.FirstItems.{linked_to, bound_to}
 use Rattle.xc_dance.proofs.LinkedTables.PlaceLemmas.{head_is, place_next, range_get}
 use Rattle.xc_dance.proofs.LinkedTables.RingStep.{same_items}
@@ -130,15 +130,6 @@ column_all f n k le = filled_all f (range_with_len 0 n) k (omega (arith, length-
 
 pub rings_linked : (p : Puzzle) (k : ℕ) → item_count p + 2 ≤ k → linked_to p k ≡ bound_to p 1
 rings_linked p k le = grind (arith, common_steps, column_all, same_items)
-
-pub bounds_set : (p : Puzzle) (k : ℕ) → primary_count p + 1 ≤ k → bound_to p k ≡ items_after p []
-bounds_set p k le = grind (arith, common_steps, column_all, same_items)
-
-pub bound_is : (p : Puzzle) (i : ℕ) → high_at p (i + 1) ≡ bound_at p [] (i + 1)
-bound_is p i = rw (ne_eqb (i + 1) 0 (λ z. omega (arith, z))) (omega arith)
-
-pub slack_is : (p : Puzzle) (i : ℕ) → high_at p (i + 1) - low_at p (i + 1) ≡ slack_at p (i + 1)
-slack_is p i = rw (ne_eqb (i + 1) 0 (λ z. omega (arith, z))) refl
 
 pub low_most : {p : Puzzle} (i : ℕ) → IsValid p → low_at p i ≤ high_at p i
 low_most zero valid = omega arith

@@ -1,18 +1,19 @@
 -- Cover and Purify: a walk down an open item's list and back, from the node table after moves to that after one move
 -- more.
+use Rattle.std.proofs.Common.{eq-eqb}
 use Rattle.std.proofs.Common.{◌++◌}
 use Rattle.std.proofs.Common.{◌≡◌, ℕ, ◌<◌, ◌≤◌, ◌^◌, List, [], ◌∷◌, length, map, get_or, reverse, refl}
 use Rattle.std.proofs.Common.{ap, ap₂, sym, ◌∙◌, arith, inl, ◌+◌, ◌*◌, true, false, eqb, filter, Option, Some}
-use Rattle.std.proofs.Common.{subst, eqb-true, not, fold, None, ne_eqb, append-nil}
+use Rattle.std.proofs.Common.{subst, eqb-true, fold, None, ne_eqb, append-nil}
 use Rattle.std.specs.List.{AllByRecursion}
 use Rattle.std.specs.Prelude.{slice_get, unwrap_or}
 use Rattle.std.proofs.lemmas.Grind.{common_steps}
 use Rattle.std.proofs.lemmas.List.{length-map}
 use Rattle.std.proofs.lemmas.Option.{slice_get_within}
 use Rattle.std.proofs.lemmas.Bool.{eqb-false, and_parts}
-use Rattle.xc_input.specs.Problem.{Puzzle, item_count, Numbered, colour_in, colour_at}
+use Rattle.xc_input.specs.Problem.{Puzzle, item_count, Numbered}
 use Rattle.xc_dance.specs.declared.dance.Move.{Move}
-use Rattle.xc_dance.specs.Moves.{listed, listed_numbers, is_open, AreLegal, is_other_colour}
+use Rattle.xc_dance.specs.Moves.{listed, listed_numbers, is_open, AreLegal}
 use Rattle.xc_dance.specs.Fields.{layout, link_place, Node, own, last_of}
 use Rattle.xc_dance.specs.inner.Links.Lines.{Line}
 use Rattle.xc_dance.specs.inner.Links.Steps.{followed, list_of, list_back}
@@ -38,13 +39,12 @@ use Rattle.xc_dance.proofs.LinkedTables.OneList.{Listed, marked_list, Passed}
 use Rattle.xc_dance.proofs.LinkedTables.OneList.{listed_walk, coloured_is, color_other}
 use Rattle.xc_dance.proofs.LinkedTables.OtherItems.{leaves, list_at}
 use Rattle.xc_dance.proofs.LinkedTables.Leaving.{exchanged, costs_split, leaving_is, AreOf, TakesOut}
-use Rattle.xc_dance.proofs.LinkedTables.Leaving.{cut_others, cut_own, listed_options, takes_cover, own_cover}
+use Rattle.xc_dance.proofs.LinkedTables.Leaving.{cut_others, cut_own, listed_options, takes_cover}
 use Rattle.xc_dance.proofs.LinkedTables.Leaving.{takes_purify, own_purify}
 use Rattle.xc_dance.proofs.MoveLemmas.Members.{in_filter}
 use Rattle.xc_dance.proofs.MoveLemmas.Shortened.{rises_listed}
 use Rattle.xc_dance.proofs.MoveLemmas.StateLemmas.{open_unpurified}
 use Rattle.xc_dance.proofs.LinkedTables.MarkedNodes.{marked_none, cover_colours, purify_start, purify_colours}
-use Rattle.xc_dance.proofs.LinkedTables.LaidLemmas.{IsOption}
 use Rattle.std.proofs.Common.{sum_by}
 use Rattle.xc_dance.proofs.LinkedTables.OneList.{step_cost}
 use Rattle.xc_dance.proofs.LinkedTables.Leaving.{lines_ready, own_ready}
@@ -215,7 +215,7 @@ module _ (p : Puzzle) (t : List Move) (spans : List Span) (m : Move) (i : ℕ) (
 -- ---- what the two moves hide
 
 pub cover_hides : (p : Puzzle) (t : List Move) (i : ℕ) → Hides p t (Cover i) i None (color_in p t)
-cover_hides p t i = grind (arith, common_steps, cover_colours, marked_none, own_cover, takes_cover)
+cover_hides p t i = grind (arith, common_steps, cover_colours, marked_none, takes_cover, is_open, listed, eq-eqb)
 
 purify_passed : {p : Puzzle} (t : List Move) {i : ℕ} (c : ℕ)
     → Passed p i (color_in p t) (purify_start p t i c) (listed_numbers p t i)
@@ -248,9 +248,7 @@ kept_marked p t i c legal opened =
     let os = listed p t i in
     let kept : List Numbered = filter (λ o. is_kept p i (Some c) o.number) os in
     ap length (sym (filter_numbers (is_kept p i (Some c)) os)) ∙ length-map kept (λ o. o.number)
-    ∙ ap length (filter_same (λ o. is_kept p i (Some c) o.number) (λ o. not (is_other_colour c (colour_at o i))) _
-    (each_weaker (IsOption p) (λ o. is_kept p i (Some c) o.number ≡ not (is_other_colour c (colour_at o i))) _
-    (λ o is. ap (λ us. not (is_other_colour c (colour_in us i))) is.1) (listed_options _ _ _ legal opened)))
+    ∙ ap length (grind (arith, common_steps, filter_same, each_weaker, listed_options))
 
 -- a Cover keeps none
 pub cover_writes : (p : Puzzle) (t : List Move) (i : ℕ) → hide_writes p t (Cover i) i None + 2 ≡ cost_of p t (Cover i)

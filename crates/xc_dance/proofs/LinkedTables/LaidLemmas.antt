@@ -1,19 +1,14 @@
 -- The options with their numbers, and the places of the node table: what the walks need of them.
 use Rattle.std.proofs.Common.{◌≡◌, ℕ, zero, suc, ◌<◌, ◌≤◌, inl, inr, Some, refl, ap}
 use Rattle.std.proofs.Common.{arith}
-use Rattle.std.specs.List.{AllByRecursion}
 use Rattle.std.proofs.lemmas.Grind.{common_steps}
-use Rattle.xc_input.specs.Problem.{Puzzle, Numbered, numbered_options, item_count}
-use Rattle.xc_input.proofs.lists.EachElement.{each_weaker, each_at}
+use Rattle.xc_input.specs.Problem.{Puzzle, item_count}
+use Rattle.xc_input.proofs.lists.EachElement.{each_at}
 use Rattle.xc_dance.specs.Fields.{Node, own, used, link_place}
 use Rattle.xc_dance.specs.inner.Links.Cells.{slot_of}
-use Rattle.xc_dance.specs.inner.Links.Laid.{IsName, Placed, IsLaid, IsFit, AreDistinct}
+use Rattle.xc_dance.specs.inner.Links.Laid.{IsName, Placed, IsLaid, IsFit}
 pub use Rattle.xc_dance.proofs.MoveLemmas.OptionsRise.{IsOption, options_numbered}
 use Rattle.xc_dance.proofs.LinkedTables.PlaceLemmas.{IsAt, is_at, head_is, found_use, use_at, held_node}
-
-pub distinct_options : {p : Puzzle} → IsFit p
-    → AllByRecursion (λ (x : Numbered). AreDistinct x.uses) (numbered_options p)
-distinct_options {p} fit = grind (arith, common_steps, each_weaker, options_numbered)
 
 -- ---- the places of the node table
 

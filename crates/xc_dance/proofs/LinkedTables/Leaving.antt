@@ -138,8 +138,7 @@ module _ (p : Puzzle) (t : List Move) (i : ℕ) (legal : AreLegal p t) (laid : I
       filter (leaves p (color_in p t) i j) gs ≡ filter (λ x. is_open j t && is_in x gs) (listed_numbers p t j)
   leaves_are j gs r of ne = same_members _ _ _ (Rises-filter (leaves p (color_in p t) i j) 0 gs of.rise)
       (Rises-filter (λ x. is_open j t && is_in x gs) 0 (listed_numbers p t j) (rises_listed p t j))
-      (λ x. in_filter (leaves p (color_in p t) i j) x gs ∙ grind (arith, common_steps, and-false, leaves_at)
-      ∙ sym (in_filter (λ x. is_open j t && is_in x gs) x (listed_numbers p t j)))
+      (λ x. grind (arith, common_steps, in_filter, and-false, leaves_at, is_open))
 
   -- so each other item's line has them
   pub lines_ready : LinesReady p (color_in p t) i (line_of p t) (listed_numbers p t i)
@@ -153,11 +152,7 @@ module _ (p : Puzzle) (t : List Move) (i : ℕ) (legal : AreLegal p t) (laid : I
   -- so each other item's line loses what the move takes
   pub cut_others : (m : Move) (j : ℕ) (gs : List ℕ) → InRange p j → AreOf p t i gs → TakesOut p t m i gs → j ≢ i
       → SameCut p t m j (filter (leaves p (color_in p t) i j) gs)
-  cut_others m j gs r of takes ne = record {
-    test = λ x. is_open j t && is_in x gs;
-    cut_is = leaves_are j gs r of ne;
-    stay_is = takes.others j ne ∙ stay_if (is_open j t) gs (listed_numbers p t j);
-  }
+  cut_others m j gs r of takes ne = grind (arith, is_open, leaves_are, stay_if)
 
 -- ---- sums over the items
 
@@ -238,10 +233,7 @@ costs_split p col i keep (o ∷ xs) = grind (arith, common_steps, costs_split p 
 pub leaving_is : (p : Puzzle) (t : List Move) (m : Move) (k : ℕ → List ℕ)
     → ((j : ℕ) → (0 < j) × (j ≤ item_count p) → SameCut p t m j (k j))
     → leaving p t m ≡ sum_by (λ j. length (k j)) (items p)
-leaving_is p t m k cuts = sum_same _ _ 1 (item_count p) (λ j u v.
-    let c = cuts j (omega (arith, u), omega (arith, v)) in
-    let all = length-filter_both c.test (λ x. not (c.test x)) (λ x. refl) (listed_numbers p t j) in
-    grind (arith, common_steps, length-map))
+leaving_is p t m k cuts = grind (arith, sum_same, length-filter_both, length-map)
 
 -- ---- what each move takes out of the lists of the other items, in option numbers
 
@@ -263,9 +255,6 @@ pub takes_cover : (p : Puzzle) (t : List Move) (i : ℕ)
 takes_cover p t i =
     let all : leavers p i None (listed_numbers p t i) ≡ listed_numbers p t i = stay_all _ in
     grind (arith, common_steps, ne_eqb, takes_listed)
-
-pub own_cover : (p : Puzzle) (t : List Move) (i : ℕ) → listed_numbers p (Cover i ∷ t) i ≡ listed_numbers p t i
-own_cover p t i = grind (arith, common_steps, is_open, listed, eq-eqb)
 
 -- ---- Purify
 

@@ -1,5 +1,5 @@
 -- Places in an item's list by the problem alone: the item's own node, or that of an option in the list.
-use Rattle.std.proofs.Common.{◌≡◌, ℕ, zero, suc, ◌<◌, ◌≤◌, inl, inr, List, Some, refl, ap, sym, ◌∙◌, subst}
+use Rattle.std.proofs.Common.{◌≡◌, ℕ, zero, suc, ◌<◌, ◌≤◌, List, Some, refl, ap, sym, ◌∙◌, subst}
 use Rattle.std.proofs.Common.{arith}
 use Rattle.std.specs.Prelude.{Option, Contains}
 use Rattle.std.proofs.lemmas.Grind.{common_steps}
@@ -38,10 +38,7 @@ own_place (suc m) at le = absurd (omega (arith, at.at, le))
 -- and an option's is behind them
 pub option_place : {p : Puzzle} {t : List Move} {i x q : ℕ} → IsItem p i → IsListedAt p t i x q → item_count p < q →
     Contains (listed_numbers p t i) x
-option_place {p} {i = i} item at gt = elim at.listed [
-  | inl z ↦ absurd (omega (arith, at.at ∙ ap (link_place p i) z, item.1, gt))
-  | inr h ↦ h
-]
+option_place {p} {i = i} item at gt = grind (arith)
 
 -- ---- what a dance finds next, by a problem that was read: at an item's own node, or at an option's
 
@@ -72,9 +69,7 @@ pub next_of_option : (s : Dancing) (a : Named) (i x q items o : ℕ) (n : Option
     items ≡ item_count a.puzzle → IsItem s.puzzle i → IsListedAt s.puzzle s.trail i x q → items < q →
     ((j y : ℕ) → IsUseAt a.puzzle j y q → o ≡ y) → n ≡ next_above o (list_of s i) →
     next_above x (list_of s i) ≡ n
-next_of_option s a i x q items o n same sound count item at gt number is =
-    let u = option_use s _ _ _ _ _ same sound count item at gt in
-    ap (λ y. next_above y (list_of s i)) (sym (number i x u.1)) ∙ sym is
+next_of_option s a i x q items o n same sound count item at gt number is = grind (arith, option_use, list_of)
 
 -- the option that is next uses the item
 pub next_use : (s : Dancing) (a : Named) (i x o : ℕ) → s.puzzle ≡ a.puzzle → IsSound a →

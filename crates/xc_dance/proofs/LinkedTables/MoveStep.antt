@@ -1,14 +1,15 @@
 -- From one move to the next: the tables after moves let the next legal move be made, and are then those after it; and
 -- back.
-use Rattle.std.proofs.Common.{◌≡◌, ℕ, ◌+◌, ◌-◌, cond, eqb, List, ◌∷◌, refl, ap, ◌≢◌, ◌<◌, ◌≤◌, true, false, not, ◌||◌}
+use Rattle.xc_dance.proofs.LinkedTables.HideMoves.{cover_writes}
+use Rattle.std.proofs.Common.{◌≡◌, ℕ, ◌+◌, cond, eqb, List, ◌∷◌, refl, ap, ◌≢◌, ◌<◌, ◌≤◌, true, false, not, ◌||◌}
 use Rattle.std.proofs.Common.{[], length, get_or, sym, subst, ◌∙◌, arith, eqb-true, eq-eqb, ne_eqb, None, ◌++◌, reverse}
 use Rattle.std.proofs.lemmas.Grind.{common_steps}
 use Rattle.std.proofs.lemmas.Bool.{false≢true}
 use Rattle.std.proofs.lemmas.List.{reverse-append}
-use Rattle.xc_input.specs.Problem.{Puzzle, primary_count, item_count, high_at}
+use Rattle.xc_input.specs.Problem.{Puzzle, item_count}
 use Rattle.xc_dance.specs.declared.dance.Move.{Move}
 use Rattle.xc_dance.specs.Moves.{spends, is_covered, AreLegal, IsLegal, listed_numbers}
-use Rattle.xc_dance.specs.inner.Links.ItemCells.{items_after, llink_at, rlink_at, bound_at}
+use Rattle.xc_dance.specs.inner.Links.ItemCells.{items_after, llink_at, rlink_at}
 use Rattle.xc_dance.specs.declared.dance.Move.TheVariants.{Cover, Purify, Tweak, Spend}
 use Rattle.xc_dance.specs.Fields.{Node, unused, link_place, first_of}
 use Rattle.xc_dance.specs.inner.Links.Rings.{is_off}
@@ -29,7 +30,7 @@ use Rattle.xc_dance.proofs.MoveLemmas.StateLemmas.{open_uncovered, open_or_cover
 use Rattle.xc_dance.proofs.LinkedTables.Sweep.{leave_none, stay_all}
 use Rattle.xc_dance.proofs.LinkedTables.GoodLines.{SameCut, line_after, tables_same}
 use Rattle.xc_dance.proofs.LinkedTables.TweakStep.{tweak_made}
-use Rattle.xc_dance.proofs.LinkedTables.HideMoves.{cover_hides, cover_writes, walk_made, purify_made, own_placed}
+use Rattle.xc_dance.proofs.LinkedTables.HideMoves.{cover_hides, walk_made, purify_made, own_placed}
 use Rattle.xc_dance.proofs.LinkedTables.LinkColumns.{get_down}
 
 -- ---- a move that neither covers nor spends leaves the item table as it is
@@ -39,8 +40,7 @@ pub still_items : (p : Puzzle) (t : List Move) (m : Move) → ((q : ℕ) → is_
 still_items p t m covered spent = same_items _ _
     (row_same (llink_at p t) (llink_at p (m ∷ t)) (item_count p + 2) (λ q h. still_llink p t m q covered))
     (row_same (rlink_at p t) (rlink_at p (m ∷ t)) (item_count p + 2) (λ q h. still_rlink p t m q covered))
-    (row_same (bound_at p t) (bound_at p (m ∷ t)) (primary_count p + 1)
-    (λ q h. ap (λ n. cond (eqb q 0) 0 (high_at p q - n)) (spent q))) refl
+    (grind (arith, common_steps, row_same)) refl
 
 -- ---- whether an item is covered, read from its ring
 

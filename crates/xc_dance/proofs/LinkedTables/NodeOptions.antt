@@ -6,7 +6,7 @@ use Rattle.std.specs.Prelude.{is_some, unwrap_or, Contains}
 use Rattle.std.specs.List.{range_with_len}
 use Rattle.std.proofs.lemmas.Grind.{common_steps}
 use Rattle.std.proofs.lemmas.Option.{slice_get_within}
-use Rattle.xc_input.specs.Problem.{Puzzle, primary_count, item_count, high_at, IsItem, IsPrimary, uses_of, colour_in}
+use Rattle.xc_input.specs.Problem.{Puzzle, primary_count, item_count, high_at, IsItem, uses_of, colour_in}
 use Rattle.std.proofs.lemmas.Bool.{cases_lt}
 use Rattle.xc_dance.specs.declared.dance.Move.{Move}
 use Rattle.xc_dance.specs.declared.links.nodes.Nodes.{Nodes}
@@ -18,7 +18,7 @@ use Rattle.xc_dance.specs.Moves.{IsOpenPrimary}
 use Rattle.xc_dance.specs.Fields.{own, layout, first_above, ring_of, used, spacer_place, is_in, below_of}
 use Rattle.xc_dance.specs.Fields.{link_place}
 use Rattle.xc_dance.specs.inner.Links.Cells.{top_in, color_in, line_of, nodes_after}
-use Rattle.xc_dance.specs.inner.Links.ItemCells.{items_after, bound_at, rlink_at}
+use Rattle.xc_dance.specs.inner.Links.ItemCells.{items_after, rlink_at}
 use Rattle.xc_dance.specs.inner.Links.Laid.{IsLaid, IsName}
 use Rattle.xc_dance.specs.inner.Links.Answered.{named, IsNodeOf}
 use Rattle.xc_dance.specs.inner.Links.OptionPlaces.{start_at}
@@ -28,7 +28,7 @@ use Rattle.xc_dance.proofs.LinkedTables.RingStep.{row_get, row_len, right_now}
 use Rattle.xc_dance.proofs.MoveLemmas.StateLemmas.{open_or_covered, open_uncovered}
 use Rattle.xc_dance.proofs.LinkedTables.GoodLines.{Named, numbers_named}
 use Rattle.xc_dance.proofs.MoveLemmas.Shortened.{rises_listed}
-use Rattle.xc_dance.proofs.LinkedTables.PlaceLemmas.{place_is, held_node}
+use Rattle.xc_dance.proofs.LinkedTables.PlaceLemmas.{held_node}
 use Rattle.xc_dance.proofs.LinkedTables.PlaceLemmas.{node_between}
 use Rattle.xc_dance.proofs.LinkedTables.Sweep.{first_above-first}
 use Rattle.xc_dance.proofs.LinkedTables.UsePlaces.{use_cells, spacer_cells}
@@ -43,13 +43,6 @@ pub spent_within : (p : Puzzle) (t : List Move) (i : ℕ) → AreLegal p t → s
 spent_within p [] i legal = grind (arith, common_steps, eqb-true)
 spent_within p (Spend j ∷ t) i legal = grind (arith, common_steps, eqb-true, spent_within p t i legal.1)
 spent_within p (_ ∷ t) i legal = grind (arith, common_steps, eqb-true, spent_within p t i legal.1)
-
-pub bound_here : (p : Puzzle) (t : List Move) (i : ℕ) → IsPrimary p i
-    → get_or (items_after p t).bound i 0 ≡ high_at p i - spends i t
-bound_here p t i is = grind (arith, common_steps, ne_eqb, row_get)
-
-pub bound_place : (p : Puzzle) (t : List Move) (i : ℕ) → IsPrimary p i → i < length (items_after p t).bound
-bound_place p t i is = let long = row_len (bound_at p t) (primary_count p + 1) in omega (arith, long, is.1)
 
 -- ---- states
 
@@ -71,8 +64,7 @@ above_named n xs = grind (arith, common_steps, ne_eqb, next_above-gt)
 
 primary_unpurified : (p : Puzzle) (t : List Move) (i : ℕ) → AreLegal p t → i ≤ primary_count p → purified i t ≡ None
 primary_unpurified p [] i legal le = grind (arith, common_steps, ne_eqb)
-primary_unpurified p (Purify j c ∷ t) i legal le =
-    grind (arith, common_steps, ne_eqb, primary_unpurified p t i legal.1 le)
+primary_unpurified p (Purify j c ∷ t) i legal le = grind (arith, ne_eqb, primary_unpurified p t i legal.1 le)
 primary_unpurified p (_ ∷ t) i legal le = grind (arith, common_steps, ne_eqb, primary_unpurified p t i legal.1 le)
 
 same_filter : (f g : ℕ → Bool) (a n : ℕ) → ((k : ℕ) → k < a + n → f k ≡ g k)
@@ -103,9 +95,6 @@ pub record OnTheWay (p : Puzzle) (t : List Move) (i o q : ℕ) : Type 0 where
   pub found : get_or (nodes_after p t).top q 0 ≡ i → q ≡ link_place p i o
   pub next : get_or (nodes_after p t).top q 0 ≢ i → q + 1 ≤ link_place p i o
 
-pub starts_below : (p : Puzzle) (i o : ℕ) → 0 < o → start_at p (o - 1) ≤ link_place p i o
-starts_below p i o pos = omega (arith, place_is p i o (o - 1) (omega (arith, pos)))
-
 pub on_the_way : (p : Puzzle) (t : List Move) (i o q : ℕ) → IsLaid p → 0 < o
     → is_some (colour_in (uses_of p o) i) ≡ true → start_at p (o - 1) ≤ q → q ≤ link_place p i o → OnTheWay p t i o q
 on_the_way p t i o q laid pos held from to =
@@ -114,8 +103,7 @@ on_the_way p t i o q laid pos held from to =
     let cells = use_cells p t o b.0 q b.2 in
     record {
       within = cells.within;
-      found = λ e. sym (laid.unique q (used o b.0) i o b.2
-          (ap (λ j. let s : ℕ × ℕ = (j, o) in Some s) (sym cells.top ∙ e)));
+      found = λ e. sym (grind (arith, common_steps));
       next = grind (arith, common_steps, cells.top);
     }
 

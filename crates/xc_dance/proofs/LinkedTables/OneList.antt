@@ -11,7 +11,7 @@ use Rattle.xc_dance.specs.Fields.{Node, layout, link_place, is_in}
 use Rattle.xc_dance.specs.inner.Links.Lines.{Line}
 use Rattle.xc_dance.specs.inner.Links.ListWalks.{with_colour, is_kept_colour, is_kept_mark, left_node, back_node}
 use Rattle.xc_dance.specs.inner.Links.ListWalks.{leave_cost, back_cost, CanLeave, CanReturn}
-use Rattle.xc_dance.specs.inner.Links.Cells.{slot_of, nodes_from, dlink_in}
+use Rattle.xc_dance.specs.inner.Links.Cells.{nodes_from, dlink_in}
 use Rattle.xc_dance.specs.inner.Links.Laid.{Placed, IsLaid}
 use Rattle.xc_dance.specs.declared.links.nodes.Nodes.{Nodes}
 use Rattle.xc_dance.specs.inner.Links.Span.{Span}
@@ -48,9 +48,7 @@ pub color_put : (p : Puzzle) (col : Node → ℕ) (j x v : ℕ) → IsLaid p →
     → map (with_color col j x v) (layout p) ≡ set (map col (layout p)) (link_place p j x) v
 color_put p col j x v laid h =
     map_put col (with_color col j x v) (layout p) (link_place p j x) v
-    (λ q n at ne. grind (arith, common_steps, slot_is)) (λ n at.
-    let same : n ≡ h.node = same_at (layout p) (link_place p j x) n h.node at h.at in
-    ap (λ b. cond b v (col n)) (slot_here j x (slot_of n) (ap slot_of same ∙ h.slot)))
+    (λ q n at ne. grind (arith, common_steps, slot_is)) (λ n at. grind (arith, common_steps, same_at, slot_here))
 
 -- a node is coloured in the table
 pub coloured_is : (p : Puzzle) (col : Node → ℕ) (ln : ℕ → Line) (j x v : ℕ) → IsLaid p → Placed p j x
@@ -179,10 +177,7 @@ turns_ready p ln col spans o i f pos named ready = search (arith, turns, walked,
 line_on : (p : Puzzle) (col : Node → ℕ) (i j : ℕ) (l : Line) (o : ℕ) (xs : List ℕ) (b : Bool) → Rises o xs
     → (b ≡ true → leaves p col i j o ≡ true) → LineReady p col i j l (o ∷ xs)
     → LineReady p col i j (cond b (cut l o) l) xs
-line_on p col i j l o xs false r lv h = record {
-  member = λ x e. h.member x (in_more o x xs e);
-  enough = grind (arith, common_steps, h.enough);
-}
+line_on p col i j l o xs false r lv h = grind (arith, in_more)
 line_on p col i j l o xs true r lv h = record {
   member = λ x e f some.
       let len : 0 < l.len = omega (arith, some) in
@@ -240,13 +235,7 @@ module _ (p : Puzzle) (col : Node → ℕ) (spans : List Span) (i : ℕ) (keep :
 
   passed_on : (now : Node → ℕ) (o : ℕ) (xs : List ℕ) → Rises o xs → Passed p i col now (o ∷ xs)
       → Passed p i col (marked_by p i keep now o) xs
-  passed_on now o xs r h = record {
-    same = λ j y placed e.
-        let rest = h.same j y placed (grind (arith, common_steps)) in
-        let other : (eqb j i && eqb y o) ≡ false = grind (arith, common_steps, in_above, ne_eqb) in
-        elim (is_kept p i keep o) as (λ b. own_color p (cond b (with_color now i o MARK) now) j y ≡ own_color p col j y)
-        [ true ↦ color_other p now i o MARK j y placed other ∙ rest | false ↦ rest ];
-  }
+  passed_on now o xs r h = grind (arith, in_above, ne_eqb, keep, color_other)
 
   meets : (ln : ℕ → Line) (now : Node → ℕ) (o : ℕ) (xs : List ℕ) → 0 < o → OwnReady p col i keep o
       → LinesReady p col i ln (o ∷ xs) → Passed p i col now (o ∷ xs)

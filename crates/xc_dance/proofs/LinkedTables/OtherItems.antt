@@ -34,8 +34,7 @@ items_of (u ∷ us) k = grind (arith, common_steps, items_of us k)
 pub others_by : (us : List Use) (i k : ℕ) → AreDistinct us
     → (is_in k (behind_use i us) || is_in k (before_use i us)) ≡ (not (eqb k i) && is_some (colour_in us k))
 others_by [] i k d = elim (eqb k i) as (λ b. false ≡ (not b && false)) [ true ↦ refl | false ↦ refl ]
-others_by (u ∷ us) i k d =
-    grind (arith, common_steps, eq-eqb, eqb-false, eqb-true, items_of, ne_eqb, others_by us i k d.1)
+others_by (u ∷ us) i k d = grind (arith, eq-eqb, eqb-false, eqb-true, items_of, ne_eqb, others_by us i k d.1)
 
 pub in_others : (p : Puzzle) (o i k : ℕ) → AreDistinct (uses_of p o)
     → is_in k (other_items p o i) ≡ (not (eqb k i) && is_some (colour_in (uses_of p o) k))
@@ -54,8 +53,7 @@ in_insert x k (y ∷ xs) ys = grind (arith, common_steps, in_insert x k xs ys)
 all_insert : (k : ℕ) (xs ys : List ℕ) → (is_in k xs || is_in k ys) ≡ false → AllApart (xs ++ ys)
     → AllApart (xs ++ k ∷ ys)
 all_insert k [] ys e h = (e, h)
-all_insert k (x ∷ xs) ys e h =
-    grind (arith, common_steps, eqb-false, eqb-true, eq-eqb, ne_eqb, in_insert, all_insert k xs ys)
+all_insert k (x ∷ xs) ys e h = grind (arith, eqb-false, eqb-true, eq-eqb, ne_eqb, in_insert, all_insert k xs ys)
 
 items_apart : (us : List Use) → AreDistinct us → AllApart (map (λ u. u.item) us)
 items_apart [] d = tt

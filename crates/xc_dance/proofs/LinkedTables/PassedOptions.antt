@@ -1,4 +1,5 @@
 -- Which option's node stands at a place, by the spacers that a walk over the options passes.
+use Rattle.xc_dance.proofs.LinkedTables.FittedLemmas.{known_fit}
 use Rattle.std.proofs.Common.{◌≡◌, ℕ, ◌+◌, ◌-◌, ◌<◌, ◌≤◌, ◌^◌, Some, List, length, ap, ◌∙◌}
 use Rattle.std.proofs.Common.{arith}
 use Rattle.std.proofs.lemmas.Grind.{common_steps}
@@ -11,7 +12,6 @@ use Rattle.xc_input.specs.UsePlaces.{place_in}
 use Rattle.xc_dance.specs.inner.Links.Laid.{IsFit}
 use Rattle.xc_dance.specs.Fields.{spacer_place}
 use Rattle.xc_dance.specs.inner.Links.OptionPlaces.{start_at}
-use Rattle.xc_dance.proofs.LinkedTables.FittedLemmas.{known_fit}
 use Rattle.xc_dance.proofs.LinkedTables.PlaceLemmas.{option_nodes, place_grows, place_within, uses_here}
 use Rattle.xc_dance.proofs.LinkedTables.UsePlaces.{place_at_use}
 

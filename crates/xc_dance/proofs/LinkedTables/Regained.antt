@@ -1,7 +1,7 @@
 -- Members that left one line from top to bottom come back in the same order: each finds its neighbours of before, and
 -- at the end the line is as it was. For the undoing of many Tweaks at once.
 use Rattle.std.proofs.Common.{◌≡◌, ℕ, ◌<◌, ◌≤◌, Bool, List, [], ◌∷◌, filter, length, ◌+◌}
-use Rattle.std.proofs.Common.{refl, ap, subst, ◌∙◌, arith}
+use Rattle.std.proofs.Common.{refl, ap, subst, arith}
 use Rattle.std.proofs.lemmas.Grind.{common_steps}
 use Rattle.std.specs.List.{AllByRecursion}
 use Rattle.xc_input.proofs.lists.EachElement.{each-filter}
@@ -36,10 +36,6 @@ linked_below l a (x ∷ []) h = (grind (arith, common_steps), tt)
 linked_below l a (x ∷ y ∷ xs) h = grind (arith, common_steps, below_more, linked_below l x (y ∷ xs) h.3)
 
 -- the first member that leaves comes back to its line
-first_back : (l : Line) (a y : ℕ) → 0 < l.len → l.down a ≡ y → l.up y ≡ a → IsBelow l a y
-    → mended (cut l y) y ≡ l
-first_back l a y some down up b = grind (arith, common_steps, line_is, cut, put_at-same, put_at-other)
-
 -- two members come back in either order
 swapped : (l m : Line) (a y k : ℕ) → l.up y ≡ a → IsBelow l a y → IsBelow l y k → m.up y ≡ l.up y → m.down y ≡ l.down y
     → m.up k ≡ (cut l y).up k → m.down k ≡ (cut l y).down k → mended (mended m k) y ≡ mended (mended m y) k
@@ -49,7 +45,8 @@ swapped l m a y k up b h my_up my_down mk_up mk_down = grind (arith, common_step
 behind_first : (l m : Line) (a y : ℕ) (ks : List ℕ) → 0 < l.len → l.down a ≡ y → l.up y ≡ a → IsBelow l a y
     → AllByRecursion (IsBelow l y) ks → m.up y ≡ l.up y → m.down y ≡ l.down y → Regaining (cut l y) m ks
     → Regaining l (mended m y) ks
-behind_first l m a y [] some down up b below mu md h = ap (λ (k : Line). mended k y) h ∙ first_back l a y some down up b
+behind_first l m a y [] some down up b below mu md h =
+    grind (arith, common_steps, line_is, cut, put_at-same, put_at-other)
 behind_first l m a y (k ∷ ks) some down up b below mu md h = (
   grind (arith, common_steps, put_at-same, put_at-other),
   grind (arith, common_steps, put_at-same, put_at-other),

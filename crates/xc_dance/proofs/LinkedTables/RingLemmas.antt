@@ -22,8 +22,7 @@ pub beside_other : (d : Bool) (h q : ℕ) (xs : List ℕ) → h ≢ q → beside
 beside_other true h q [] ne = grind (arith, common_steps, ne_eqb)
 beside_other true h q (y ∷ ys) ne = grind (arith, common_steps, ne_eqb, beside_other true h q ys ne)
 beside_other false h q [] ne = grind (arith, common_steps, ne_eqb)
-beside_other false h q (y ∷ ys) ne =
-    grind (arith, common_steps, ne_eqb, below, last_below-more, beside_other false h q ys ne)
+beside_other false h q (y ∷ ys) ne = grind (arith, ne_eqb, below, last_below-more, beside_other false h q ys ne)
 
 -- from a through xs to e: r leads to the next of them, and l to the one before
 abbrev pub IsRow : (ℕ → ℕ) → (ℕ → ℕ) → ℕ → List ℕ → ℕ → Type 0

@@ -174,8 +174,7 @@ pub ruleset members = (by_first, in_above, in_more, in_rest, is_in-first, is_in-
 
 first_leaves : (l m : Line) (a y : ℕ) (ys ks : List ℕ) → IsLinkedFrom l a (y ∷ ys) → Rises a ks → Rises y ks
     → Swept (cut l y) m a ys ks → Swept l m a (y ∷ ys) ks
-first_leaves l m a y ys ks h ra ry s =
-    grind (arith, common_steps, above, below, members, below_first, put_at-other, rises l y ys h.3)
+first_leaves l m a y ys ks h ra ry s = grind (arith, above, below, members, below_first, put_at-other, rises)
 
 first_stays : (l m : Line) (a y : ℕ) (ys ks : List ℕ) → IsLinkedFrom l a (y ∷ ys) → Rises y ks → Swept l m y ys ks
     → Swept l m a (y ∷ ys) (y ∷ ks)
@@ -194,8 +193,7 @@ pub swept_len : (l : Line) (xs : List ℕ) (g : ℕ → Bool) (n : ℕ) → l.le
     → (cuts l (filter g xs)).len ≡ n + length (stay g xs)
 swept_len l [] g n e = grind (arith, common_steps)
 swept_len l (y ∷ ys) g n e =
-    let gone = swept_len (cut l y) ys g n (omega (arith, e)) in
-    grind (arith, common_steps, swept_len l ys g (n + 1) (omega (arith, e)))
+    grind (arith, cut, swept_len (cut l y) ys g n (omega (arith, e)), swept_len l ys g (n + 1) (omega (arith, e)))
 
 -- a number that isn't in is not taken out
 pub stay_same : (i : ℕ) (xs : List ℕ) → (is_in i xs ≡ true → ⊥) → stay (λ x. eqb x i) xs ≡ xs

@@ -96,8 +96,7 @@ row_read f a (suc n) (suc q) = grind (arith, common_steps, le-ltb, lt-ltb, ltb-f
 item_row : (p : Puzzle) (inner : ℕ → ℕ) (first last q : ℕ)
     → read (map (λ k. cond (eqb k 0) first (cond (leb k (item_count p)) (inner k) last))
     (range_with_len 0 (item_count p + 2))) q ≡ item_cell p q inner first last
-item_row p inner first last q =
-    grind (arith, common_steps, eqb-false, eqb-true, le-ltb, leb-false, leb-true, lt-ltb, row_read)
+item_row p inner first last q = grind (arith, eqb-false, eqb-true, le-ltb, leb-false, leb-true, lt-ltb, row_read)
 
 bound_row : (p : Puzzle) (f : ℕ → ℕ) (q : ℕ) → q ≢ 0
     → read (map (λ k. cond (eqb k 0) 0 (f k)) (range_with_len 0 (primary_count p + 1))) q ≡ primary_cell p q (f q)

@@ -1,6 +1,6 @@
 -- Cover on the item table: an item leaves its ring and comes back.
 use Rattle.std.proofs.Common.{◌≡◌, ◌≢◌, ℕ, ◌+◌, ◌<◌, ◌≤◌, ◌⊎◌, Bool, true, false, not, cond}
-use Rattle.std.proofs.Common.{subst, eqb, leb, List, ◌∷◌, length, map, filter, get_or, set, refl, ap, ap₂, sym}
+use Rattle.std.proofs.Common.{subst, eqb, leb, List, ◌∷◌, length, map, filter, get_or, set, refl, ap, sym}
 use Rattle.std.proofs.Common.{◌∙◌, arith, eq-eqb, ne_eqb, le-leb, leb-true}
 use Rattle.std.proofs.lemmas.Grind.{common_steps}
 use Rattle.std.specs.List.{range_with_len}
@@ -99,29 +99,23 @@ whole p b = cond b (range_with_len 1 (primary_count p)) (range_with_len (primary
 
 side_in : (p : Puzzle) (b : Bool) (r : ℕ) → 0 < r → r ≤ item_count p → side p r ≡ b → is_in r (whole p b) ≡ true
 side_in p true r pos le e = in_range r 0 (primary_count p) pos (omega (arith, leb-true r (primary_count p) e))
-side_in p false r pos le e =
-    in_range r (primary_count p) p.secondary (omega (arith, leb-false r (primary_count p) e)) (omega (arith, le))
+side_in p false r pos le e = grind (arith, in_range, leb-false)
 
 in_side : (p : Puzzle) (b : Bool) (r : ℕ) → is_in r (whole p b) ≡ true
     → (0 < r) × (r ≤ item_count p) × (side p r ≡ b)
 in_side p true r e = let h = range_in r 0 (primary_count p) e in
     (h.0, omega (arith, h.1), le-leb r (primary_count p) (omega (arith, h.1)))
-in_side p false r e = let h = range_in r (primary_count p) p.secondary e in
-    (omega (arith, h.0), omega (arith, h.1), lt-leb r (primary_count p) h.0)
+in_side p false r e = grind (arith, range_in, lt-leb)
 
 -- the head of a ring or one of its items
 abbrev InRing : Puzzle → List Move → ℕ → ℕ → Type 0
 InRing p t q r = (eqb r (ring_head p q) || is_in r (ring_of p t q)) ≡ true
 
 in_ring : (p : Puzzle) (t : List Move) (q : ℕ) → q < item_count p + 2 → Stays p t q → InRing p t q q
-in_ring p t q lt stays =
-    let here = in_filter (λ j. not (is_covered j t)) q (whole p (side p q)) in
-    grind (arith, common_steps, eq-eqb, le-leb, lt-leb, side_in p (side p q) q, place_case p q lt)
+in_ring p t q lt stays = grind (arith, in_filter, whole, side, eq-eqb, le-leb, lt-leb, side_in, place_case)
 
 ring_in : (p : Puzzle) (t : List Move) (q r : ℕ) → InRing p t q r → IsBeside p t (side p q) r
-ring_in p t q r within =
-    let here = in_filter (λ j. not (is_covered j t)) r (whole p (side p q)) in
-    grind (arith, common_steps, eqb-true, le-leb, lt-leb, in_side p (side p q) r)
+ring_in p t q r within = grind (arith, in_filter, whole, side, eqb-true, le-leb, lt-leb, in_side)
 
 -- where the links of a place lead in the ring of a side
 abbrev beside_on : Puzzle → List Move → Bool → Bool → ℕ → ℕ
@@ -161,11 +155,7 @@ link_beside p d t q legal lt stays =
 
 pub link_back : (p : Puzzle) (d : Bool) (t : List Move) (q : ℕ) → AreLegal p t → q < item_count p + 2 → Stays p t q
     → link p (not d) t (link p d t q) ≡ q
-link_back p d t q legal lt stays =
-    let s = link_beside p d t q legal lt stays in
-    let is = link_is p d t q lt stays in
-    link_is p (not d) t (link p d t q) s.place s.stays ∙ ap₂ (λ r b. beside_on p t b (not d) r) is s.side
-    ∙ (beside_back p d t q q (in_ring p t q lt stays)).0
+link_back p d t q legal lt stays = grind (arith, link_beside, link_is, beside_back, in_ring)
 
 -- a Cover changes one cell each way, that of the neighbour before
 next_in : (p : Puzzle) (t : List Move) (d : Bool) (i : ℕ) → AreLegal p t → 0 < i → i ≤ item_count p
@@ -194,8 +184,7 @@ pub link_next : (p : Puzzle) (d : Bool) (t : List Move) (i : ℕ) → AreLegal p
     → is_covered i t ≡ false → (q : ℕ) → q < item_count p + 2
     → link p d (Cover i ∷ t) q ≡ cond (eqb q (link p (not d) t i)) (link p d t i) (link p d t q)
 link_next p d t i legal pos le un q lt =
-    let next = next_in p t d i legal pos le un q lt in
-    grind (arith, common_steps, ne_eqb, by_first, link_other, link_beside, false≢true, link_gone)
+    grind (arith, next_in, ne_eqb, by_first, link_other, link_beside, false≢true, link_gone)
 
 -- ---- both ways
 

@@ -86,11 +86,7 @@ module _ (p : Puzzle) (t : List Move) (spans : List Span) (covered : Bool) (i : 
   off_at : (j x : ℕ) (gs : List ℕ) → InRange p j → AreOf p t i gs → j ≢ i → is_in x gs ≡ true
       → (not covered && leaves p (color_in p t) i j x) ≡
       ((not covered && is_open j t) && is_in x (listed_numbers p t j))
-  off_at j x gs r of ne within = elim covered as (λ b. is_open i t ≡ not b
-      → (not b && leaves p (color_in p t) i j x) ≡ ((not b && is_open j t) && is_in x (listed_numbers p t j))) [
-        | true ↦ λ e. refl
-        | false ↦ λ e. leaves_at p t i legal fit.laid fit.fit e j x r ne (of.among x within)
-      ] opened
+  off_at j x gs r of ne within = grind (arith, is_open, leaves_at, legal, fit, opened)
 
   -- they are members of item j's list that pass a test
   pub off_are : (j : ℕ) (gs : List ℕ) → InRange p j → AreOf p t i gs → off p (color_in p t) covered i j gs ≡
@@ -98,9 +94,8 @@ module _ (p : Puzzle) (t : List Move) (spans : List Span) (covered : Bool) (i : 
   off_are j gs r of =
       let gone : ℕ → Bool = λ o. eqb j i || (not covered && leaves p (color_in p t) i j o) in
       let test : ℕ → Bool = λ x. (eqb j i || (not covered && is_open j t)) && is_in x gs in
-      let at : (x : ℕ) → (gone x && is_in x gs) ≡ (test x && is_in x (listed_numbers p t j)) = λ x. by_first _ j i
-      (λ e. grind (arith, common_steps, eq-eqb, of.among x))
-      (λ ne. rw (ne_eqb j i ne) (grind (arith, common_steps, and-false, off_at j x gs r of ne))) in
+      let at : (x : ℕ) → (gone x && is_in x gs) ≡ (test x && is_in x (listed_numbers p t j)) =
+      grind (arith, common_steps, by_first, eq-eqb, ne_eqb, and-false, off_at) in
       let rise = rises_listed p t j in
       same_members 0 _ _ (Rises-filter gone 0 gs of.rise) (Rises-filter test 0 (listed_numbers p t j) rise)
       (λ x. in_filter gone x gs ∙ at x ∙ sym (in_filter test x (listed_numbers p t j)))
@@ -195,20 +190,7 @@ pub record TweakMade (spans : List Span) (covered : Bool) (i x n : ℕ) (t u : N
 both : {spans : List Span} {covered : Bool} {i x n : ℕ} {t m u : Nodes} → get_or t.dlink i 0 ≡ x → i < length t.dlink
     → Hiding spans covered x n t m → HasSize m (length m.top) → NamesPlaces m x → 0 < get_or m.top (get_or m.top x 0) 0
     → unlinked m x ≡ u → CanRelink u x → relinked u x ≡ m → TweakMade spans covered i x (3 + n) t u
-both first within h size names some done back undone = record {
-  can = rw first (record {
-    place = within;
-    hide = h.hide;
-    size = rw h.done size;
-    names = rw h.done names;
-    some = rw h.done some;
-  });
-  done = rw (first, h.done) done;
-  can_back = record { size = back.size; names = back.names; few = back.few; unhide = rw undone h.unhide };
-  undone = rw undone h.undone;
-  cost = rw first (ap (λ k. 3 + k) h.cost);
-  cost_back = rw undone (ap (λ k. 3 + k) h.cost_back);
-}
+both first within h size names some done back undone = grind (arith)
 
 pub tweak_made : (p : Puzzle) (t : List Move) (spans : List Span) (covered : Bool) (i : ℕ) → AreLegal p t
     → IsFitted p spans → 0 < i → i ≤ item_count p → 0 < length (listed p t i) → is_open i t ≡ not covered

@@ -74,14 +74,7 @@ colours_kept p i t k = kept (color_in p) i t (λ s. fun_ext (tweak_colours p s i
 
 pub tweaked : (p : Puzzle) (t : List Move) (spans : List Span) (covered : Bool) (i k : ℕ) → AreLegal p (tweaks k i t)
     → IsFitted p spans → is_open i t ≡ not covered → Tweaked p t covered i k
-tweaked p t spans covered i zero legal fit opened = record {
-  os = [];
-  count = refl;
-  list = refl;
-  lines = λ j r. refl;
-  taken = refl;
-  costs = none_newest p t;
-}
+tweaked p t spans covered i zero legal fit opened = grind (arith, none_newest)
 tweaked p t spans covered i (suc k) legal fit opened =
     let s = tweaks k i t in
     let h = tweaked p t spans covered i k legal.1 fit opened in
@@ -203,9 +196,7 @@ table_regained p t ln i n laid pos le here others =
     same_nodes (with_top (nodes_from p ln (color_in p t)) i n) (nodes_from p (with_line ln i l) (color_in p t))
     (sym (set_top p ln i l laid pos le)) (up_kept p ln i l (λ x. refl)) (down_kept p ln i l (λ x. refl)) refl
     ∙ tables_same p (line_of p t) (with_line ln i l) (color_in p t) (color_in p t) laid
-    (λ j r. by_first (with_line ln i l j ≡ line_of p t j) i j
-    (λ same. subst (λ k. with_line ln i l k ≡ line_of p t k) same (line_here ln i l ∙ here))
-    (λ ne. line_there ln i j l (λ e. ne (sym e)) ∙ others j r.0 r.1 (λ e. ne (sym e)))) (λ m k e. refl)
+    (λ j r. grind (arith, common_steps, by_first, line_here, line_there)) (λ m k e. refl)
 
 end_is : (l c m : Line) (n all : ℕ) → c ≡ half n m l → m ≡ l → all ≡ l.len → half all c c ≡ l
 end_is l c m n all is back long = ap (λ (k : Line). half all k k) is ∙ ap₂ (λ (k : Line) n. half n k l) back long

@@ -141,14 +141,4 @@ pub record IsRead (p : Puzzle) (s t : List Move) (spans : List Span) (i k : ℕ)
 pub read : {p : Puzzle} {s t : List Move} {spans : List Span} {i k : ℕ} {xs : List ℕ} {nodes : Nodes} {items : Items}
     {x j : ℕ} → Found p s t spans i k xs → x ≡ first_place p t i → nodes ≡ nodes_after p s → items ≡ items_after p s
     → j ≡ get_or nodes.top x 0 → IsRead p s t spans i k xs nodes items x j
-read {j = j} f node nodes_are items_are at =
-    let item : j ≡ _ = at ∙ ap₂ (λ (n : Nodes) y. get_or n.top y 0) nodes_are node ∙ f.item in
-    record {
-      found = f;
-      tell = rw (items_are, item) f.tell;
-      undoes = rw (items_are, nodes_are, item, node, f.off) f.back;
-    }
-
-pub trail_left : (xs ys : List Move) (n k : ℕ) → ys ≡ take (n - k) xs → n ≡ length xs → k ≤ length (reverse xs)
-    → reverse ys ≡ drop k (reverse xs)
-trail_left xs ys n k e long h = grind (arith, common_steps, turned_drop, length-reverse)
+read {j = j} f node nodes_are items_are at = grind (arith)

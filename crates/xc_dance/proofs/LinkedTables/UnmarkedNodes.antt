@@ -11,7 +11,7 @@ use Rattle.xc_input.specs.Problem.{Puzzle, colour_in, uses_of, item_count}
 use Rattle.xc_input.specs.declared.problem.Use.{Use}
 use Rattle.xc_dance.specs.declared.links.nodes.Nodes.{Nodes}
 use Rattle.xc_dance.specs.Fields.{Node, layout, link_place, unused, own, used, is_marked}
-use Rattle.xc_dance.specs.inner.Links.Steps.{hidden, unhidden, hide_cost, others_of}
+use Rattle.xc_dance.specs.inner.Links.Steps.{hidden, unhidden, hide_cost}
 use Rattle.xc_dance.specs.inner.Links.Walks.{costs}
 use Rattle.xc_dance.specs.declared.dance.Move.{Move}
 use Rattle.xc_dance.specs.declared.dance.Move.TheVariants.{Purify}
@@ -113,8 +113,7 @@ by_node p t x (used o u) laid legal plain small e = (
   λ q from below. unmarked_behind p t q laid legal plain (omega (arith, used_behind p x o u e, from)),
   λ q from below. unmarked_behind p t q laid legal plain (omega (arith, from)),
 )
-by_node p t x _ laid legal plain small e =
-    (λ q from below. absurd (omega (arith, below)), λ q from below. absurd (omega (arith, small, from, below)))
+by_node p t x _ laid legal plain small e = grind (arith)
 
 -- no node of an option is marked
 pub plain_unmarked : (p : Puzzle) (t : List Move) → AreLegal p t → IsFitted p (spans_of p) → IsPlain p
@@ -146,13 +145,10 @@ kept_color step same spans t u qs done = grind (arith, common_steps, colors-are)
 pub left_unmarked : (spans : List Span) (marks : Bool) (keep : Option ℕ) (t u : Nodes) (x : ℕ)
     → u ≡ left_node spans keep t x → (marks ≡ false → keep ≡ None) → (marks ≡ false → IsUnmarked spans t.color) →
     marks ≡ false → IsUnmarked spans u.color
-left_unmarked spans marks keep t u x done none h m =
-    kept_color hidden hidden_color spans t u (others_of spans x) (done ∙ ap (λ k. left_node spans k t x) (none m)) (h m)
+left_unmarked spans marks keep t u x done none h m = grind (arith, kept_color, hidden, hidden_color)
 
 -- nor does a step up
 pub back_unmarked : (spans : List Span) (marks : Bool) (keep : Option ℕ) (t u : Nodes) (x : ℕ)
     → u ≡ back_node spans keep t x → (marks ≡ false → keep ≡ None) → (marks ≡ false → IsUnmarked spans t.color) →
     marks ≡ false → IsUnmarked spans u.color
-back_unmarked spans marks keep t u x done none h m =
-    kept_color unhidden unhidden_color spans t u (reverse (others_of spans x))
-    (done ∙ ap (λ k. back_node spans k t x) (none m)) (h m)
+back_unmarked spans marks keep t u x done none h m = grind (arith, kept_color, unhidden, unhidden_color)

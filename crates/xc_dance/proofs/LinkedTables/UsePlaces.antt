@@ -1,6 +1,6 @@
 -- The nodes of an option's uses, and what the tables tell there: for calls that go over an option by its nodes.
 use Rattle.std.proofs.Common.{◌≡◌, ℕ, suc, ◌+◌, ◌<◌, ◌≤◌, true, List, [], ◌∷◌, length}
-use Rattle.std.proofs.Common.{get_or, Some, refl, ap, sym, ◌∙◌, arith, subst, eq-eqb}
+use Rattle.std.proofs.Common.{get_or, Some, ap, sym, ◌∙◌, arith, eq-eqb}
 use Rattle.std.proofs.Common.{inl, inr, ◌-◌, length-drop, length-take}
 use Rattle.std.specs.Prelude.{is_some, slice_get}
 use Rattle.std.proofs.lemmas.Option.{slice_get_within}
@@ -53,8 +53,7 @@ spacer_cells p t x q known at =
 
 -- the option at the place where one uses an item, and none at the item's own node
 pub option_there : (p : Puzzle) (i y : ℕ) → i ≤ item_count p → IsName p i y → option_at p i (link_place p i y) ≡ named y
-option_there p i y le (inl z) =
-    subst (λ y. option_at p i (link_place p i y) ≡ named y) (sym z) (rw (eq-eqb i i refl) refl)
+option_there p i y le (inl z) = grind (arith, named, eq-eqb)
 option_there p i y le (inr h) = grind (arith, common_steps, behind_items p i y h.0, held_node p i y h.0 h.1)
 
 -- ---- uses that stand side by side

@@ -1,7 +1,7 @@
 -- Walks over nodes, under way and at their end, along links and over places in a row.
 use Rattle.std.proofs.Common.{◌++◌}
-use Rattle.std.proofs.Common.{◌≡◌, ◌≢◌, ℕ, zero, suc, ◌+◌, ◌<◌, ◌≤◌, true, false, eqb, List, [], ◌∷◌, length}
-use Rattle.std.proofs.Common.{get_or, drop, fold, refl, ap, sym, subst, ◌∙◌, arith, eqb-true, ◌-◌, reverse, map}
+use Rattle.std.proofs.Common.{◌≡◌, ◌≢◌, ℕ, zero, suc, ◌+◌, ◌<◌, ◌≤◌, List, [], ◌∷◌, length}
+use Rattle.std.proofs.Common.{get_or, drop, fold, refl, ap, sym, subst, arith, eqb-true, ◌-◌, reverse, map}
 use Rattle.std.specs.List.{range_with_len, sum_by}
 use Rattle.std.proofs.lemmas.List.Sums.{sum_by-cons}
 use Rattle.std.proofs.lemmas.Grind.{common_steps}
@@ -46,11 +46,6 @@ pub underway : {step : Nodes → ℕ → Nodes} {Can : Nodes → ℕ → Type 0}
 underway {step} {Can} writes t0 all left e can = grind (arith, common_steps)
 
 -- one walk behind another
-pub both_reached : {step : Nodes → ℕ → Nodes} {writes : Nodes → ℕ → ℕ} {t0 : Nodes} {ps : List ℕ} {t : Nodes} {n : ℕ}
-    (qs rs : List ℕ) (u : Nodes) (m : ℕ) → Reached step writes t0 ps t n → rs ≡ qs → u ≡ fold step t rs
-    → m ≡ costs step writes t rs → Reached step writes t0 (ps ++ qs) u (n + m)
-both_reached {step} {writes} {t0} {ps} {t} {n} qs rs u m h same is paid = grind (arith, common_steps, costs-append)
-
 -- ---- ways there and back
 
 pub map_reverse : (f : ℕ → ℕ) (xs : List ℕ) → reverse (map f xs) ≡ map f (reverse xs)
@@ -146,11 +141,7 @@ module _ {step : Nodes → ℕ → Nodes} {writes : Nodes → ℕ → ℕ} {Can 
   pub tells : (q z : ℕ) → ((v : Nodes) (x : ℕ) → Can v x → (x < length v.top) × (get_or v.top x 0 < SPACER))
       → (q ≡ z → left ≡ []) → (q ≢ z → (more : List ℕ) × (left ≡ q ∷ more)) → IsSpacer (fold step t0 all) z
       → Underway step writes Can t0 all t left n → Tells t (fold step t0 all) q z left
-  tells q z knows met on spacer h =
-      elim (eqb q z) as (λ b. eqb q z ≡ b → Tells t (fold step t0 all) q z left) [
-        | true ↦ λ e. grind (arith, common_steps, eqb-true, steps_end)
-        | false ↦ λ e. grind (arith, common_steps, eqb-false, step_can)
-      ] refl
+  tells q z knows met on spacer h = grind (arith, step, all, left, eqb-true, steps_end, eqb-false, step_can)
 
 -- ---- along links
 
@@ -206,12 +197,9 @@ range_with_len_push a zero = grind (arith, common_steps)
 range_with_len_push a (suc n) = grind (arith, common_steps, range_with_len_push (a + 1) n)
 
 -- the last of the places comes behind the others
-pub places_push : (a b : ℕ) → a ≤ b → places a (b + 1) ≡ places a b ++ b ∷ []
-places_push a b h = grind (arith, common_steps, range_with_len_push)
-
 -- from the last back
 pub reverse-places : (a b : ℕ) → a ≤ b → reverse (places a (b + 1)) ≡ b ∷ reverse (places a b)
-reverse-places a b h = ap reverse (places_push a b h) ∙ reverse-append (places a b) (b ∷ [])
+reverse-places a b h = grind (arith, common_steps, reverse-append, range_with_len_push)
 
 -- the places up to q, from the last back
 pub last_first : (a q : ℕ) → a < q → reverse (places a q) ≡ (q - 1) ∷ reverse (places a (q - 1))

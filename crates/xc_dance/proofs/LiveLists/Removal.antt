@@ -1,15 +1,13 @@
 -- A number that is taken out of a list that rises, and put back.
-use Rattle.std.proofs.Common.{ℕ, zero, suc, ◌≡◌, ◌≢◌, ◌+◌, ◌<◌, ◌≤◌, Bool, true, false, ltb, ltb-true, ltb-false}
+use Rattle.std.proofs.Common.{ℕ, zero, suc, ◌≡◌, ◌≢◌, ◌<◌, ◌≤◌, Bool, true, false, ltb, ltb-true, ltb-false}
 use Rattle.std.proofs.Common.{List, [], ◌∷◌, length, get_or, set, refl, ap, arith, eq-eqb, vec_capacity}
-use Rattle.std.proofs.Common.{sum_by}
 use Rattle.std.proofs.lemmas.Grind.{common_steps}
 use Rattle.std.specs.List.{insert, remove}
 use Rattle.std.specs.Global.{Vec}
 use Rattle.std.proofs.lemmas.List.{map-set, get_or-map, get_or-set_same, set-set}
-use Rattle.std.proofs.lemmas.List.Edits.{length-insert, length-remove}
-use Rattle.xc_dance.specs.declared.lists.undo_log.Removed.{Removed}
+use Rattle.std.proofs.lemmas.List.Edits.{length-remove}
 use Rattle.xc_dance.specs.inner.Lists.Rising.{Rises}
-use Rattle.xc_dance.specs.inner.Lists.Taking.{numbers_of, rooms_of, list_at, less, put_back, HasRoom, IsPutBack}
+use Rattle.xc_dance.specs.inner.Lists.Taking.{numbers_of, rooms_of, list_at, less, IsPutBack}
 
 -- ---- one list
 
@@ -23,14 +21,11 @@ above n [] k r lt = absurd (omega (arith, lt))
 above n (y ∷ ys) zero r lt = r.0
 above n (y ∷ ys) (suc k) r lt = let later = above y ys k r.1 (omega (arith, lt)) in omega (arith, r.0, later)
 
-pub less-below : (x n : ℕ) (xs : List ℕ) → x ≤ n → Rises n xs → less (x ∷ []) xs ≡ xs
-less-below x n xs le r = less-absent x xs (λ k lt e. omega (arith, above n xs k r lt, le, e))
-
 -- the number goes from its place
 pub less-remove : (n : ℕ) (xs : List ℕ) (k : ℕ) → Rises n xs → k < length xs
     → less (get_or xs k 0 ∷ []) xs ≡ remove xs k
 less-remove n [] k r lt = absurd (omega (arith, lt))
-less-remove n (y ∷ ys) zero r lt = grind (arith, common_steps, eq-eqb, less-below)
+less-remove n (y ∷ ys) zero r lt = grind (arith, common_steps, eq-eqb, less-absent, above)
 less-remove n (y ∷ ys) (suc k) r lt = grind (arith, common_steps, less-remove y ys k r.1 (omega (arith, lt)), above)
 
 pub insert-remove : {X : Type 0} (xs : List X) (k : ℕ) (d : X) → k < length xs
@@ -81,6 +76,3 @@ pub row_removed : (ls : List (Vec ℕ)) (new : Vec ℕ) (list place number : ℕ
 row_removed ls new list place number row lt is_row within is gone fits = grind (arith, common_steps, rows)
 
 -- there is one number more after one was put back
-pub sum-put_back : (rooms : List ℕ) (e : Removed) (ls : List (List ℕ)) → HasRoom rooms e ls
-    → sum_by length (put_back e ls) ≡ sum_by length ls + 1
-sum-put_back rooms e ls h = grind (arith, common_steps, length-insert)

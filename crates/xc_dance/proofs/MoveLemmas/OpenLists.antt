@@ -41,15 +41,7 @@ pub without_filter : (q : Numbered → Bool) (n : ℕ) (os : List Numbered) → 
     → without (filter q os) os ≡ filter (λ o. not (q o)) os
 without_filter q n [] r = refl
 without_filter q n (x ∷ os) r =
-    grind (
-      arith,
-      common_steps,
-      eq-eqb,
-      passed_over,
-      not_among,
-      NumbersRise-filter,
-      without_filter q x.number os r.1,
-    )
+    grind (arith, eq-eqb, passed_over, not_among, NumbersRise-filter, without_filter q x.number os r.1)
 
 pub without_first : (n : ℕ) (os : List Numbered) → NumbersRise n os → without (take 1 os) os ≡ drop 1 os
 without_first n [] r = refl

@@ -18,8 +18,7 @@ NumbersRise-weaker m n (o ∷ os) h r = (omega (arith, r.0), r.1)
 pub NumbersRise-filter : (p : Numbered → Bool) (n : ℕ) (os : List Numbered) → NumbersRise n os
     → NumbersRise n (filter p os)
 NumbersRise-filter p n [] r = grind (arith, common_steps, NumbersRise-weaker)
-NumbersRise-filter p n (o ∷ os) r =
-    grind (arith, common_steps, NumbersRise-filter p o.number os r.1, NumbersRise-weaker)
+NumbersRise-filter p n (o ∷ os) r = grind (arith, NumbersRise-weaker, NumbersRise-filter p o.number os r.1)
 
 pub NumbersRise-from : (n : ℕ) (os : List (List Use)) → NumbersRise n (numbered_from (n + 1) os)
 NumbersRise-from n [] = tt

@@ -86,8 +86,7 @@ next_open_here t n a (suc len) e low high =
 pub next_open_none : (t : List Move) (n a len : ℕ) → a + len ≤ n + 1
     → next_above n (filter (λ i. is_open i t) (range_with_len a len)) ≡ None
 next_open_none t n a zero le = grind (arith, common_steps, le-ltb)
-next_open_none t n a (suc len) le =
-    grind (arith, common_steps, le-ltb, next_open_none t n (a + 1) len (omega (arith, le)))
+next_open_none t n a (suc len) le = grind (arith, le-ltb, next_open_none t n (a + 1) len (omega (arith, le)))
 
 -- what a step to the next place tells
 pub ruleset next_open = (next_open_step, next_open_here, next_open_none)

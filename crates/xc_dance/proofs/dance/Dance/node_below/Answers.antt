@@ -6,8 +6,7 @@ use Rattle.xc_dance.specs.Moves.{next_above}
 use Rattle.xc_dance.specs.Commits.{IsListedAt, IsUseAt}
 use Rattle.xc_dance.proofs.LinkedTables.ListedPlaces.{list_of, next_of_own, option_use, next_of_option, next_use}
 use Rattle.xc_dance.proofs.LinkedTables.ListedPlaces.{place_tells}
-use Rattle.xc_dance.proofs.dance.Dance.node_below.Goals.{Else-place-items, Joined-place-items, then-place-items}
-use Rattle.xc_dance.proofs.dance.Dance.node_below.Goals.{else-place-items}
+use Rattle.xc_dance.proofs.dance.Dance.node_below.Goals.{Else-place-items, Joined-place-items}
 use Rattle.xc_dance.proofs.dance.Dance.node_below.Goals as goal
 
 -- ---- at an option's place
@@ -33,19 +32,7 @@ below-next-requires-clause-listed g c =
 next_is : (g : _) (c : Joined-place-items g) (x : ℕ) →
     (let s = g.Self.Dance.state c.args.self.now in IsListedAt s.puzzle s.trail c.args.i x c.args.place) →
     next_above x (list_of (g.Self.Dance.state c.args.self.now) c.args.i) ≡ c.if-place-items.next
-next_is g c x at =
-    let s = g.Self.Dance.state c.args.self.now in
-    let a = c.args.problem.now in
-    let items = c.items.ensures in
-    let same = c.requires.same in
-    elim c.if-place-items.branch [
-      | then-place-items w ↦
-          next_of_own s a c.args.i x c.args.place c.items.result _ same items.value at
-          w.if-place-items.true (w.next-is ∙ w.first-next.ensures)
-      | else-place-items w ↦
-          next_of_option s a c.args.i x c.args.place c.items.result _ _ same items.whole items.value c.requires.item at
-          w.if-place-items.false w.number_at.ensures (w.next-is ∙ w.below-next.ensures)
-    ]
+next_is g c x at = grind (arith, next_of_own, next_of_option)
 
 pub node_place-requires : goal.node_place-requires
 node_place-requires g c =

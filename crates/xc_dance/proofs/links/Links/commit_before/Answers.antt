@@ -1,5 +1,4 @@
 use Rattle.std.proofs.Common.{◌≡◌, ◌-◌, ℕ, get_or, ap, ◌∙◌, arith, refl}
-use Rattle.std.specs.Prelude.{slice_index}
 use Rattle.std.proofs.lemmas.Grind.{common_steps}
 use Rattle.std.proofs.lemmas.List.{length-map}
 use Rattle.xc_dance.specs.declared.links.nodes.Nodes.{Nodes}
@@ -27,12 +26,8 @@ ulink-first-requires c =
     grind (arith, common_steps, length-map, first_nodes here, led here)
 
 -- the walk begins at the option's first node
-first_is : (c : After-self) (first x : ℕ) → first ≡ slice_index c.self.inside.nodes.ulink c.args.end →
-    IsUseAt c.args.self.now.puzzle c.args.i x c.args.place → first ≡ start_at c.args.self.now.puzzle (x - 1)
-first_is c first x e held = e ∙ ap (λ (n : Nodes). get_or n.ulink c.args.end 0) (first_nodes c) ∙ (led c _ held).first
-
 pub loop-q-init : goal.loop-q-init
-loop-q-init c = none_yet _ (λ x. first_is (goal.at.loop-q-init c).After-self _ x c.ulink-first.ensures)
+loop-q-init c = grind (arith, common_steps, none_yet, first_nodes, led)
 
 nodes_is : (c : After-self-in-loop-q) → c.self-in-loop-q.inside.nodes
     ≡ nodes_after c.args.self.now.puzzle c.loop-q.self.trail

@@ -1,9 +1,11 @@
+use Rattle.xc_dance.proofs.LinkedTables.FirstTables.{column_all}
+use Rattle.std.proofs.Common.{ne_eqb}
 use Rattle.std.proofs.Common.{arith, ◌+◌, ◌≡◌}
 use Rattle.std.proofs.lemmas.Grind.{common_steps}
 use Rattle.xc_input.specs.Problem.{bounds_at}
 use Rattle.xc_input.specs.ItemBounds.{bounds_of}
 use Rattle.std.specs.Prelude.{Some}
-use Rattle.xc_dance.proofs.LinkedTables.FirstTables.{column_len, column_more, bound_is, slack_is, bounds_set, low_most}
+use Rattle.xc_dance.proofs.LinkedTables.FirstTables.{column_len, column_more, low_most}
 use Rattle.xc_dance.proofs.links.first_items.set_bounds.Goals as goal
 use Rattle.xc_dance.proofs.links.first_items.set_bounds.Goals.{After-item-item}
 use Rattle.xc_dance.proofs.LinkedTables.RingStep.{same_items}
@@ -25,7 +27,7 @@ pub set-requires-in-loop-i : goal.set-requires-in-loop-i
 set-requires-in-loop-i c = grind (arith, common_steps, column_len)
 
 pub loop-i-preserved : goal.loop-i-preserved
-loop-i-preserved c = grind (arith, common_steps, bound_is, bounds_here, column_more, same_items, slack_is)
+loop-i-preserved c = grind (arith, common_steps, bounds_here, column_more, same_items, ne_eqb)
 
 pub returns : goal.returns
-returns c = grind (arith, common_steps, bounds_set)
+returns c = grind (arith, common_steps, column_all, same_items)

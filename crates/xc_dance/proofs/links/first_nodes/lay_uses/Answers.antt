@@ -25,11 +25,7 @@ place_now c = spacer_place c.args.problem.now.puzzle c.args.o + 1 + c.loop-u.u-i
 -- its node stands there
 node : (c : In-loop-u) → slice_get (layout c.args.problem.now.puzzle) (place_now c)
     ≡ Some (used (c.args.o + 1) (use_now c))
-node c =
-    let us = c.option-u-items.result.now in
-    let fits = option_fits _ _ _ c.requires.limits c.requires.option
-    (uses_here c.args.problem.now.puzzle (c.args.o + 1) _ c.option-u-items.ensures.value) in
-    use_here _ _ _ (place_now c) _ _ fits.at (slice_get-get_or us c.loop-u.u-index _ c.loop-u-test.true) refl
+node c = grind (arith, option_fits, uses_here, use_here, slice_get-get_or)
 
 pub lay-requires : goal.lay-requires
 lay-requires c = grind (arith, common_steps, laid_room, node (goal.at.lay-requires c).In-loop-u)
@@ -45,8 +41,4 @@ loop-u-preserved c =
     ∙ laid_more _ _ row (node here) refl ∙ ap (laid_to p) next
 
 pub returns : goal.returns
-returns c =
-    let p = c.args.problem.now.puzzle in
-    let found = uses_here p (c.args.o + 1) _ c.option-u-items.ensures.value in
-    let fits = option_fits _ _ _ c.requires.limits c.requires.option found in
-    grind (arith, common_steps)
+returns c = grind (arith, uses_here, option_fits)

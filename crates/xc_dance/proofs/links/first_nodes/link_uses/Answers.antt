@@ -1,3 +1,5 @@
+use Rattle.xc_dance.proofs.LinkedTables.EnteredNodes.{spacer_step}
+use Rattle.xc_dance.proofs.LinkedTables.EnteredNodes.{none_entered}
 use Rattle.std.proofs.Common.{arith, ◌≡◌, ◌≤◌, ◌<◌, ◌∙◌, ◌+◌, ap, take, get_or, Some, [], ℕ}
 use Rattle.std.proofs.lemmas.Grind.{common_steps}
 use Rattle.std.specs.Prelude.{slice_get, slice_index}
@@ -9,8 +11,8 @@ use Rattle.xc_dance.specs.inner.Links.Laid.{IsFit}
 use Rattle.xc_dance.specs.inner.Links.Cells.{nodes_from, color_in}
 use Rattle.xc_dance.specs.inner.Links.FirstNodes.{entered}
 use Rattle.std.proofs.lemmas.Option.{slice_get-get_or}
-use Rattle.xc_dance.proofs.LinkedTables.EnteredNodes.{lines_of, UseStep, use_step, spacer_step, spacer_top}
-use Rattle.xc_dance.proofs.LinkedTables.EnteredNodes.{none_entered, all_entered}
+use Rattle.xc_dance.proofs.LinkedTables.EnteredNodes.{lines_of, UseStep, use_step, spacer_top}
+use Rattle.xc_dance.proofs.LinkedTables.EnteredNodes.{all_entered}
 use Rattle.xc_dance.proofs.LinkedTables.PlaceLemmas.{is_at}
 use Rattle.xc_dance.proofs.links.first_nodes.link_uses.Goals as goal
 use Rattle.xc_dance.proofs.links.first_nodes.link_uses.Goals.{Then-top-lt-SPACER, then-top-lt-SPACER}

@@ -1,7 +1,6 @@
-use Rattle.std.proofs.Common.{arith, ◌<◌, ◌+◌}
+use Rattle.std.proofs.Common.{arith}
 use Rattle.std.proofs.lemmas.Grind.{common_steps}
 use Rattle.std.proofs.lemmas.List.FromFn.{map-range_with_len_more}
-use Rattle.xc_input.specs.Problem.{option_count}
 use Rattle.xc_dance.specs.inner.Links.OptionPlaces.{start_at}
 use Rattle.xc_dance.proofs.LinkedTables.PlaceLemmas.{OptionFits, option_fits, option_place, uses_here}
 use Rattle.xc_dance.proofs.links.options.option_starts.Goals.{After-option}
@@ -9,10 +8,7 @@ use Rattle.xc_dance.proofs.links.options.option_starts.Goals as goal
 
 -- the option has its place among the nodes
 fits : (c : After-option) → OptionFits c.args.problem.now.puzzle c.loop-o.o c.option.result.now
-fits c =
-    let p = c.args.problem.now.puzzle in
-    let within : c.loop-o.o < option_count p = omega (arith, c.loop-o-test.true, c.options-o-end.ensures.value) in
-    option_fits _ _ _ c.requires within (uses_here p (c.loop-o.o + 1) _ c.option.ensures.value)
+fits c = grind (arith, option_fits, uses_here)
 
 pub overflow_cast-start : goal.overflow_cast-start
 overflow_cast-start c = grind (arith, common_steps, fits (goal.at.overflow_cast-start c).After-option)

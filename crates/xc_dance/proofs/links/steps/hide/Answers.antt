@@ -66,8 +66,7 @@ rest c spacer first is =
     (ap (λ a. places a c.args.p) (leads c spacer first is))
 
 pub hide_range-below-requires-clause-can : goal.hide_range-below-requires-clause-can
-hide_range-below-requires-clause-can c =
-    grind (arith, common_steps, rest (goal.at.hide_range-below-requires-clause-can c).After-get_at)
+hide_range-below-requires-clause-can c = grind (arith, rest)
 
 pub hide_range-below-requires-clause-unmarked : goal.hide_range-below-requires-clause-unmarked
 hide_range-below-requires-clause-unmarked c =
