@@ -76,24 +76,13 @@ gone rise (takes_none n free) k e h = cc
 
 pub member_back : (r : Residual) (chosen : ℕ → Bool) (b : Branch) (l : List Choice) → Fits r chosen b
     → IsMemberOf b.next chosen l → IsMemberOf r chosen (b.choice ∷ l)
-member_back r chosen b l f m = record {
-  taken = λ k h. grind (arith, common_steps, in-cons_option, f.option k, m.taken k);
-  all = λ o h e. grind (arith, common_steps, in-cons_option, f.others o h e, m.all o);
-}
+member_back r chosen b l f m = grind (arith, in-cons_option)
 
 pub member_on : {r : Residual} {w : Wanted} {b : Branch} {chosen : ℕ → Bool} {l : List Choice} → NumbersRise 0 r.options
     → IsBranchOf r w b → ((k : ℕ) → IsIn (options_of l) k → HasNumber b.next k) → IsMemberOf r chosen (b.choice ∷ l)
     → Fits r chosen b × IsMemberOf b.next chosen l
-member_on {r} {w} {b} {chosen} {l} rise of left m = (
-  record {
-    option = λ k e. m.taken k ((in-cons_option b.choice.option (options_of l) k).1 (inl e));
-    others = λ y h e. grind (arith, common_steps, in-cons_option, m.all y h e, left, left_before of, same_number);
-  },
-  record {
-    taken = λ k h. m.taken k ((in-cons_option b.choice.option (options_of l) k).1 (inr h));
-    all = λ o h e. grind (arith, common_steps, in-cons_option, m.all o (left_before of o h) e, gone rise of o.number);
-  },
-)
+member_on {r} {w} {b} {chosen} {l} rise of left m =
+    grind (arith, in-cons_option, options_of, left_before, same_number, gone)
 
 -- ---- what covers, one branch on and back
 
@@ -108,8 +97,7 @@ module _ (n : ℕ) (r : Residual) (p : IsProper n r) (chosen : ℕ → Bool) whe
   -- whoever is chosen stays
   held_too : (q : Numbered → Bool) (j : ℕ) (y : Numbered) → (chosen y.number ≡ true → q y ≡ true)
       → is_held chosen j y ≡ (q y && is_held chosen j y)
-  held_too q j y stay = by_bool (chosen y.number) (λ e. rw (stay e) refl)
-      (λ e. rw (e, and-false (holds y j)) (sym (and-false (q y))))
+  held_too q j y stay = grind (arith, by_bool, chosen, and-false)
 
   module _ (i k m : ℕ) (x : Numbered) (known : IsIn r.options x) (at : holds x i ≡ true)
       (f : Fits r chosen (take_branch r i m (k, x)))
@@ -190,18 +178,11 @@ module _ {n : ℕ} {r : Residual} {w : Wanted} (p : IsProper n r) (known : IsIn 
 
   pub covers_on : {b : Branch} {chosen : ℕ → Bool} → IsBranchOf r w b → Fits r chosen b → Covers n r chosen
       → Covers n b.next chosen
-  covers_on of f c = record {
-    met = met_on of f c;
-    agreed = λ x y h k. c.agreed x y (left_before of x h) (left_before of y k);
-  }
+  covers_on of f c = grind (arith, met_on, left_before)
 
   pub covers_back : {b : Branch} {chosen : ℕ → Bool} → IsBranchOf r w b → Fits r chosen b → Covers n b.next chosen
       → Covers n r chosen
-  covers_back of f c = record {
-    met = met_back of f c;
-    agreed = λ x y h k e g apart i a b l t u.
-        grind (arith, common_steps, f.others x h e, f.others y k g, option_agrees of, c.agreed x y);
-  }
+  covers_back of f c = grind (arith, met_back, option_agrees)
 
 -- ---- the branch of what covers
 
@@ -218,22 +199,25 @@ module _ (n : ℕ) (r : Residual) (p : IsProper n r) (chosen : ℕ → Bool) (c 
       let w = p.items_left x u.item h (leb-true u.item n q) (holds_use x.uses u i) in
       let found = rw w.2 at (find-in 0 r.items w.0 p.items_rise w.1) in
       cc)
-      (λ q. by_option (colour_at y u.item) (λ g. rw g refl) (λ d g.
-      let own = each_in _ x.uses u (p.own x h) i in
-      grind (arith, common_steps, c.agreed x y h k e f apart u.item u.colour d, leb-false, own, lt-ltb, eq-eqb)))
+      (λ q. grind (arith, common_steps, by_option, each_in, leb-false, lt-ltb, eq-eqb))
 
   -- a branch that takes the first of its item that is chosen
   pub fits_first : (i k m : ℕ) (x : Numbered) → IsIn r.options x → chosen x.number ≡ true
       → ((y : Numbered) → IsIn r.options y → holds y i ≡ true → chosen y.number ≡ true → x.number ≤ y.number)
       → Fits r chosen (take_branch r i m (k, x))
-  fits_first i k m x known taken first = record {
-    option = λ j e. grind (arith, common_steps);
-    others = λ y h e. by_bool (eqb x.number y.number) (λ q. inl (ap Some (eqb-true _ _ q))) (λ q.
-        let apart = eqb-false _ _ q in
-        let stay : stays r x y ≡ true = list_all-each _ x.uses (λ u j.
-        may_stay_beside x y u (item_left r u.item) known h taken e apart j refl) in
-        inr (filter-in (goes_on r i x) r.options y h (grind (arith, common_steps, first y h, lt-leb))));
-  }
+  fits_first i k m x known taken first =
+      grind (
+        arith,
+        by_bool,
+        eqb-true,
+        eqb-false,
+        stays,
+        list_all-each,
+        may_stay_beside,
+        filter-in,
+        goes_on,
+        lt-leb,
+      )
 
   pub branch_for : (w : Wanted) → IsIn r.items w → (b : Branch) × IsIn (branches_of r w) b × Fits r chosen b
   branch_for w h = by_number (passing (is_held chosen w.item) r.options)

@@ -1,6 +1,5 @@
 -- Members at two places have different sets of options.
-use Rattle.std.proofs.lemmas.Grind.{common_steps}
-use Rattle.std.proofs.Common.{ℕ, ◌≡◌, ◌<◌, Bool, true, false, cond, eqb, List, [], ◌∷◌, take, Some, None, refl, sym}
+use Rattle.std.proofs.Common.{ℕ, ◌≡◌, ◌<◌, Bool, true, false, cond, eqb, List, [], ◌∷◌, take, Some, None, sym}
 use Rattle.std.proofs.Common.{arith, subst, le-leb}
 use Rattle.std.specs.Prelude.{slice_get}
 use Rattle.std.specs.List.{enumerate_from}
@@ -31,15 +30,11 @@ AreApart r a b = (chosen : ℕ → Bool) → Fits r chosen a → Fits r chosen b
 -- an option that the one takes isn't left behind the other
 takes_apart : (r : Residual) (w : Wanted) (n : ℕ) (a b : ℕ × Numbered) → IsIn (holding w.item r.options) a.1
     → a.1.number < b.1.number → AreApart r (take_branch r w.item n a) (take_branch r w.item n b)
-takes_apart r w n a b h less chosen f g =
-    let found = in-filter (λ o. holds o w.item) r.options a.1 h in
-    grind (arith, common_steps, found, g.others a.1 found.0 (f.option a.1.number refl), in-filter, le-leb, and_left)
+takes_apart r w n a b h less chosen f g = grind (arith, in-filter, le-leb, and_left)
 
 none_apart : (r : Residual) (w : Wanted) (m n : ℕ) (a : ℕ × Numbered) → IsIn (holding w.item r.options) a.1
     → AreApart r (take_branch r w.item n a) (none_branch r w.item m)
-none_apart r w m n a h chosen f g =
-    let found = in-filter (λ o. holds o w.item) r.options a.1 h in
-    grind (arith, common_steps, found, g.others a.1 found.0 (f.option a.1.number refl), in-filter)
+none_apart r w m n a h chosen f g = grind (arith, in-filter)
 
 branches_apart : (r : Residual) (w : Wanted) → NumbersRise 0 r.options → EachTwo (AreApart r) (branches_of r w)
 branches_apart r w rise =
@@ -98,10 +93,7 @@ all_differ = by_branches (λ r. NumbersRise 0 r.options → EachTwo (Differ r) (
 pub one_place : (r : Residual) (chosen : ℕ → Bool) → NumbersRise 0 r.options → (j k : ℕ) (l m : List Choice)
     → slice_get (listing r) j ≡ Some l → slice_get (listing r) k ≡ Some m → IsMemberOf r chosen l
     → IsMemberOf r chosen m → j ≡ k
-one_place r chosen rise j k l m e f s t =
-    let one : j < k → ⊥ = λ less. EachTwo-at _ _ j k l m (all_differ r rise) less e f chosen s t in
-    let two : k < j → ⊥ = λ less. EachTwo-at _ _ k j m l (all_differ r rise) less f e chosen t s in
-    grind (arith, one, two)
+one_place r chosen rise j k l m e f s t = grind (arith, EachTwo-at, all_differ)
 
 pub no_set_twice : (p : Puzzle) → IsValid p → NoSetTwice p
 no_set_twice p v j k s a b =

@@ -3,7 +3,7 @@ use Rattle.std.proofs.lemmas.Grind.{common_steps}
 use Rattle.std.proofs.Common.{ℕ, zero, suc, ◌≡◌, ◌≢◌, ◌+◌, ◌≤◌, Bool, true, false, cond, List, [], ◌∷◌, length, filter}
 use Rattle.std.proofs.Common.{take, refl, ap, ◌∙◌, arith, inl, inr, not, ◌&&◌, eqb}
 use Rattle.std.proofs.lemmas.Bool.Decides.{nat_tests}
-use Rattle.std.specs.List.{AllByRecursion, list_all}
+use Rattle.std.specs.List.{list_all}
 use Rattle.xc_input.specs.declared.problem.Use.{Use}
 use Rattle.xc_input.specs.Problem.{Numbered}
 use Rattle.xc_input.proofs.lists.Members.{IsIn, each_from}
@@ -32,14 +32,7 @@ pub one_less : (t u : Numbered → Bool) (n : ℕ) (os : List Numbered) (x : Num
     → u x ≡ false → ((y : Numbered) → IsIn os y → x.number ≢ y.number → t y ≡ u y)
     → passing t os ≡ cond (t x) 1 0 + passing u os
 one_less t u n [] x r k e h = absurd k
-one_less t u n (o ∷ os) x r (inl k) e h =
-    let rest : AllByRecursion (λ y. t y ≡ u y) os =
-    each_from _ os (λ y j. h y (inr j) (λ q. let above = above_in o.number os y r.1 j in
-    omega (arith, ap (λ (z : Numbered). z.number) k, above, q))) in
-    let same = ap length (filter_same t u os rest) in
-    let out : u o ≡ false = ap u k ∙ e in
-    let is = ap t k in
-    by_bool (t o) (λ q. rw (q, out, ← is, q) (omega (arith, same))) (λ q. rw (q, out, ← is, q) (omega (arith, same)))
+one_less t u n (o ∷ os) x r (inl k) e h = grind (arith, each_from, above_in, filter_same, by_bool)
 one_less t u n (o ∷ os) x r (inr k) e h =
     grind (arith, common_steps, one_less t u o.number os x r.1 k e, above_in)
 

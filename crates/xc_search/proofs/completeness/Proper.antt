@@ -1,7 +1,7 @@
 -- What holds of the whole problem, and of all that its branches leave.
 use Rattle.std.proofs.lemmas.Grind.{common_steps}
 use Rattle.std.proofs.Common.{ℕ, ◌≡◌, ◌+◌, ◌<◌, ◌≤◌, Bool, true, not, ◌&&◌, eqb, List, [], ◌∷◌, ap}
-use Rattle.std.proofs.Common.{length, map, filter, find, Some, None, refl, sym, ◌∙◌, arith, subst, inl, inr, eqb-true}
+use Rattle.std.proofs.Common.{length, map, filter, find, Some, None, refl, arith, subst, inl, inr, eqb-true}
 use Rattle.std.proofs.Common.{eq-eqb, lt-ltb, ltb-true, ne_eqb}
 use Rattle.xc_input.specs.declared.problem.Bounds.{Bounds}
 use Rattle.std.specs.Prelude.{nat_lt, nat_le}
@@ -10,7 +10,7 @@ use Rattle.std.proofs.lemmas.List.Elements.{recursion_from_All}
 use Rattle.xc_input.specs.Problem.{Puzzle, Numbered, numbered_options, primary_count, colour_at, holds, IsItem}
 use Rattle.xc_input.specs.Problem.{AreSoundBounds, IsSoundUse}
 use Rattle.xc_input.specs.Problem.{IsValid, IsSoundOption}
-use Rattle.xc_search.specs.Listing.{Wanted, Residual, wanted_from, whole, spend_one, item_left, may_stay, stays}
+use Rattle.xc_search.specs.Listing.{Wanted, Residual, wanted_from, whole, spend_one, item_left, stays}
 use Rattle.xc_search.specs.Listing.{Branch, branch_item, branch_count}
 use Rattle.xc_input.proofs.lists.Members.{IsIn, in-filter, filter-in, in-map, map-in, each_in, in-contains}
 use Rattle.xc_dance.proofs.MoveLemmas.OptionsRise.{NumbersRise, options_rise}
@@ -103,9 +103,7 @@ use_passes f (u ∷ us) j c all held = by_bool (eqb u.item j)
 -- an item that x uses up is held by no option that stays
 pub used_up : (r : Residual) (x y : Numbered) (w : Wanted) → stays r x y ≡ true → holds x w.item ≡ true
     → item_left r w.item ≡ Some w → nat_lt 1 w.high ≡ false → holds y w.item ≡ false
-used_up r x y w stay held left full = by_option (colour_at x w.item) (λ e. cc) (λ c e.
-    let may = use_passes (λ u. may_stay (item_left r u.item) u y) x.uses w.item c stay e in
-    grind (arith, common_steps))
+used_up r x y w stay held left full = grind (arith, by_option, use_passes)
 
 -- ---- one branch on
 
@@ -120,13 +118,7 @@ module _ {n : ℕ} {r : Residual} {w : Wanted} (p : IsProper n r) where
 
   sound_behind : {b : Branch} → IsBranchOf r w b → (v : Wanted) → IsIn b.next.items v
       → (v.item ≤ n) × (v.low ≤ v.high) × (0 < v.high)
-  sound_behind (takes_one k m x known at) v h =
-      let found = in-filter (λ v. nat_lt 0 v.high) (map (spend_one x) r.items) v h in
-      let from = in-map (spend_one x) r.items v found.0 in
-      let within : ((spend_one x from.0).item ≤ n) × ((spend_one x from.0).low ≤ (spend_one x from.0).high) =
-      grind (arith, common_steps, p.sound from.0 from.1) in
-      let here = subst (λ (z : Wanted). (z.item ≤ n) × (z.low ≤ z.high)) from.2 within in
-      (here.0, here.1, ltb-true 0 v.high found.1)
+  sound_behind (takes_one k m x known at) v h = grind (arith, in-filter, in-map, n, ltb-true)
   sound_behind (takes_none m free) v h = p.sound v (in-filter _ _ _ h).0
 
   left_behind : {b : Branch} → IsBranchOf r w b → (o : Numbered) → IsIn b.next.options o → (v : Wanted) → IsIn r.items v
@@ -136,23 +128,10 @@ module _ {n : ℕ} {r : Residual} {w : Wanted} (p : IsProper n r) where
       let some : nat_lt 0 (spend_one x v).high ≡ true =
       grind (arith, common_steps, p.sound v j, ltb-true, lt-ltb, used_up, find-in 0 r.items v p.items_rise j) in
       (spend_one x v, filter-in _ _ _ (map-in _ _ _ j) some, item-spend_one x v)
-  left_behind (takes_none m free) o h v j here =
-      let out = (in-filter (λ o. not (holds o w.item)) r.options o h).1 in
-      let apart : not (eqb v.item w.item) ≡ true = grind (arith, common_steps, eqb-true, out) in
-      (v, filter-in _ _ _ j apart, refl)
+  left_behind (takes_none m free) o h v j here = grind (arith, in-filter, eqb-true, filter-in)
 
   pub proper_behind : {b : Branch} → IsBranchOf r w b → IsProper n b.next
-  proper_behind of = record {
-    options_rise = rise_behind of p.options_rise;
-    items_rise = items_behind of;
-    sound = sound_behind of;
-    items_left = λ o j k l h.
-        let v = p.items_left o j (left_before of o k) l h in
-        let z = left_behind of o k v.0 v.1 (subst (λ z. holds o z ≡ true) (sym v.2) h) in
-        (z.0, z.1, z.2 ∙ v.2);
-    one_primary = λ o k. p.one_primary o (left_before of o k);
-    own = λ o k. p.own o (left_before of o k);
-  }
+  proper_behind of = grind (arith, rise_behind, items_behind, sound_behind, left_before, left_behind)
 
 -- with no item left no option is
 pub none_left : {n : ℕ} {r : Residual} → IsProper n r → branch_item r ≡ None → (o : Numbered) → IsIn r.options o → ⊥

@@ -1,12 +1,12 @@
 -- Each branch leaves less: what holds of what is left, where it holds of what its branches leave, holds of all.
 use Rattle.std.proofs.lemmas.Grind.{common_steps}
-use Rattle.std.proofs.Common.{ℕ, ◌≡◌, ◌<◌, Bool, true, false, not, ◌&&◌, List, [], ◌∷◌, length, map, filter}
+use Rattle.std.proofs.Common.{ℕ, ◌≡◌, ◌<◌, Bool, true, false, not, ◌&&◌, List, [], ◌∷◌, length, filter}
 use Rattle.std.proofs.Common.{zero, suc, Some, None, refl, arith, inl, inr, le-leb, eq-eqb, eqb}
 use Rattle.xc_search.specs.inner.Sizes.{size_of}
-use Rattle.std.specs.Prelude.{nat_lt, nat_le}
+use Rattle.std.specs.Prelude.{nat_le}
 use Rattle.std.specs.List.{AllByRecursion, best_of}
 use Rattle.xc_input.specs.Problem.{Numbered, holds, holding}
-use Rattle.xc_search.specs.Listing.{Wanted, Residual, branch_count, branch_item, first_least, spend_one, stays, pick}
+use Rattle.xc_search.specs.Listing.{Wanted, Residual, branch_count, branch_item, first_least, stays, pick}
 use Rattle.xc_search.specs.Listing.{Branch, take_branch, branches_of}
 use Rattle.xc_input.proofs.lists.Filters.{length-filter-le, length-filter-cons}
 use Rattle.xc_input.proofs.lists.Members.{IsIn, each_in}
@@ -24,8 +24,7 @@ less_options i q fails (o ∷ os) =
 picks_less : (r : Residual) (i : ℕ) → AllByRecursion (λ x. size_of (pick r i x) < size_of r) (holding i r.options)
 picks_less r i =
     each_weaker (λ x. length (pick r i x).options < length r.options) _ (holding i r.options)
-    (λ x h. let fewer = length-filter-le (λ w. nat_lt 0 w.high) (map (spend_one x) r.items) in
-    omega (arith, fewer, length-map r.items (spend_one x), h))
+    (λ x h. grind (arith, common_steps, length-filter-le, length-map))
     (less_options i (λ x o. not (holds o i && nat_le o.number x.number) && stays r x o)
     (λ x e. rw (e, le-leb x.number x.number (omega arith))) r.options)
 

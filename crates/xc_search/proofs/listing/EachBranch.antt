@@ -2,7 +2,7 @@
 use Rattle.std.proofs.Common.{arith}
 use Rattle.std.proofs.lemmas.Grind.{common_steps}
 use Rattle.std.proofs.Common.{ℕ, ◌≡◌, true, cond, eqb, List, [], ◌∷◌, map, take, Some, None, refl}
-use Rattle.std.proofs.Common.{inl, inr, subst, eqb-true, eq-eqb}
+use Rattle.std.proofs.Common.{eqb-true, eq-eqb}
 use Rattle.xc_search.specs.declared.choice.Choice.{Choice}
 use Rattle.xc_input.specs.Problem.{Numbered, holds, holding}
 use Rattle.xc_search.specs.Listing.{Wanted, Residual, Branch, branch_count, branch_item, first_least}
@@ -27,13 +27,8 @@ pub in-nones : (r : Residual) (w : Wanted) (b : Branch) → IsIn (nones r w) b
 in-nones r w b h = grind (arith, common_steps, eqb-true)
 
 pub in-branches : (r : Residual) (w : Wanted) (b : Branch) → IsIn (branches_of r w) b → IsBranchOf r w b
-in-branches r w b h = elim (in-append (takes r w) (nones r w) b h) [
-  | inl k ↦
-      let from = in-map _ _ _ k in
-      let found = in-filter _ _ _ (in-take _ _ _ (in-enumerated _ _ _ from.1)) in
-      subst (IsBranchOf r w) from.2 (takes_one from.0.0 (branch_count r w) from.0.1 found.0 found.1)
-  | inr k ↦ let none = in-nones r w b k in subst (IsBranchOf r w) none.1 (takes_none (branch_count r w) none.0)
-]
+in-branches r w b h =
+    grind (arith, in-append, takes, in-map, in-filter, in-take, in-enumerated, takes_one, in-nones, takes_none)
 
 -- what a branch leaves was left
 pub left_before : {r : Residual} {w : Wanted} {b : Branch} → IsBranchOf r w b → (o : Numbered)

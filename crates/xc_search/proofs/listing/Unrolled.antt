@@ -1,7 +1,9 @@
 -- The listing is one level over itself, and what holds of members by their branches.
-use Rattle.std.proofs.Common.{◌≡◌, List, [], ◌∷◌, map, Option, Some, None, refl, ap, ◌∙◌, subst, inl, inr}
+use Rattle.std.proofs.Common.{arith}
+use Rattle.std.proofs.lemmas.Grind.{common_steps}
+use Rattle.std.proofs.Common.{◌≡◌, List, [], ◌∷◌, Option, Some, None, refl, ap, ◌∙◌, subst, inl, inr}
 use Rattle.xc_search.specs.declared.choice.Choice.{Choice}
-use Rattle.xc_search.specs.Listing.{Wanted, Residual, Branch, branch_item, branches_of, level, listing_to, listing}
+use Rattle.xc_search.specs.Listing.{Wanted, Residual, Branch, branch_item, level, listing_to, listing}
 use Rattle.xc_input.proofs.lists.EachElement.{each_weaker}
 use Rattle.xc_input.proofs.lists.Filters.{flat_map-same}
 use Rattle.xc_input.proofs.lists.Members.{IsIn}
@@ -13,9 +15,7 @@ pub listing_unrolled : (r : Residual) → listing r ≡ level listing (branch_it
 unfolding listing listing_to
 listing_unrolled r =
     by_depth {level = level} {to = listing_to} (record {
-      local =
-          λ f g w r same. flat_map-same _ _ (branches_of r w)
-          (each_weaker (λ b. f b.next ≡ g b.next) _ (branches_of r w) (λ b e. ap (map (λ m. b.choice ∷ m)) e) same);
+      local = λ f g w r same. grind (arith, common_steps, flat_map-same, each_weaker);
       last = λ f r. refl;
       next = λ depth r. refl;
     }) r

@@ -3,13 +3,13 @@ use Rattle.std.proofs.lemmas.Grind.{common_steps}
 use Rattle.std.proofs.Common.{ℕ, zero, suc, ◌≡◌, ◌≢◌, ◌+◌, ◌-◌, ◌<◌, ◌≤◌, true, false, not, eqb, List}
 use Rattle.std.proofs.Common.{[], ◌∷◌, ◌++◌, length, map, filter, take, drop, Some, refl, sym, ap, ◌∙◌, arith, subst}
 use Rattle.std.proofs.Common.{eq-eqb, le-leb, get_or}
-use Rattle.std.proofs.lemmas.List.Elements.{filter_agree, recursion_from_All, All-from_recursion}
+use Rattle.std.proofs.lemmas.List.Elements.{filter_agree, recursion_from_All}
 use Rattle.std.proofs.lemmas.Option.{slice_get-get_or, slice_get_within}
 use Rattle.std.specs.Prelude.{nat_le, slice_get}
 use Rattle.xc_input.specs.declared.problem.Use.{Use}
 use Rattle.xc_dance.specs.declared.dance.Move.{Move}
 use Rattle.xc_dance.specs.declared.dance.Move.TheVariants.{Cover, Spend}
-use Rattle.xc_input.specs.Problem.{Puzzle, Numbered, primary_count, holds, high_at, IsItem, IsSoundUse, holding}
+use Rattle.xc_input.specs.Problem.{Puzzle, Numbered, primary_count, holds, high_at, IsItem, holding}
 use Rattle.xc_search.specs.Listing.{Wanted, Residual, pick, none}
 use Rattle.xc_dance.specs.Moves.{listed, is_open, purified, spends, AreLegal}
 use Rattle.xc_search.specs.Residuals.{wanted_after}
@@ -85,12 +85,7 @@ taken_at p t k m x u us vs option n e h le w =
 
 option_at_item : (p : Puzzle) (i : ℕ) (x : Numbered) → IsOption p x → place_in i x.uses < length x.uses
     → IsOptionAt p i x.number
-option_at_item p i x option within = record {
-  known = option.known;
-  holds = rw option.uses within;
-  items = rw option.uses (All-from_recursion _ x.uses (each_weaker (IsSoundUse p) _ x.uses (λ u s. s.0)
-      (recursion_from_All _ _ option.sound.sound)));
-}
+option_at_item p i x option within = grind (arith, common_steps, each_weaker, recursion_from_All)
 
 pub taken : (p : Puzzle) (t : List Move) (i k m : ℕ) (x : Numbered) → IsNode p t i
     → slice_get (holding i (left p t)) k ≡ Some x → (high_at p i - spends i (Spend i ∷ t) ≢ 0 → m ≡ suc k) → m ≤ suc k
@@ -116,8 +111,7 @@ taken p t i k m x n e h le =
 none_dec : (i : ℕ) (ws : List Wanted)
     → filter (λ w. not (eqb w.item i)) (map (dec i) ws) ≡ filter (λ w. not (eqb w.item i)) ws
 none_dec i [] = refl
-none_dec i (w ∷ ws) = by_bool (eqb w.item i)
-    (λ e. rw (e, e) (none_dec i ws)) (λ e. rw (e, e) (ap (λ vs. w ∷ vs) (none_dec i ws)))
+none_dec i (w ∷ ws) = grind (arith, common_steps, by_bool, none_dec i ws)
 
 -- tweaks of an open item take only options that hold it
 rest_tweaked : (p : Puzzle) (m i : ℕ) (s : List Move) → AreLegal p (tweaked m i s) → is_open i s ≡ true

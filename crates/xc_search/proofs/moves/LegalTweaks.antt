@@ -79,8 +79,7 @@ without_head i n os x r e = ap (λ g. without g os) (sym (first_below i n os x r
 
 rise_step : (n : ℕ) (os : List Numbered) (m : ℕ) (y x : Numbered) → NumbersRise n os → slice_get os m ≡ Some y
     → slice_get os (suc m) ≡ Some x → y.number < x.number
-rise_step n os m y x r d e =
-    EachTwo-at (λ (x y : Numbered). x.number < y.number) os m (suc m) y x (two_rise n os r) (omega arith) d e
+rise_step n os m y x r d e = grind (arith, common_steps, EachTwo-at, two_rise)
 
 cut_more : (a b c : Bool) → (b ≡ true → c ≡ true) → (not (a && b) && not (a && c)) ≡ not (a && c)
 cut_more false b c h = refl
@@ -117,16 +116,12 @@ pub listed_after_spend : (p : Puzzle) (i : ℕ) (t : List Move) → IsNode p t i
     → listed p (after_spend p i t) i ≡ holding i (left p t)
 listed_after_spend p i t n = grind (arith, common_steps, eq-eqb, listed_open)
 
-purified_after_spend : (p : Puzzle) (i : ℕ) (t : List Move) → purified i (after_spend p i t) ≡ purified i t
-purified_after_spend p i t = grind (arith, common_steps)
-
 pub legal_node : (p : Puzzle) (i : ℕ) (t : List Move) → IsNode p t i → AreLegal p (after_spend p i t)
 legal_node p i t n = grind (arith, common_steps, legal_opening, has_left)
 
 pub legal_branch : (p : Puzzle) (m i : ℕ) (t : List Move) → IsNode p t i → m ≤ length (holding i (left p t))
     → AreLegal p (tweaked m i (after_spend p i t))
-legal_branch p m i t n h =
-    grind (arith, common_steps, legal_tweaked, legal_node, purified_after_spend, primary_pure, listed_after_spend)
+legal_branch p m i t n h = grind (arith, common_steps, legal_tweaked, legal_node, primary_pure, listed_after_spend)
 
 pub listed_branch : (p : Puzzle) (m i : ℕ) (t : List Move) → IsNode p t i
     → listed p (tweaked m i (after_spend p i t)) i ≡ drop m (holding i (left p t))

@@ -1,4 +1,5 @@
 -- The covers of a problem are those of its parts, and no two parts share one.
+use Rattle.std.proofs.lemmas.Grind.{common_steps}
 use Rattle.std.proofs.Common.{ℕ, ◌≡◌, ◌≢◌, ◌≤◌, true, not, List, [], ◌∷◌, length, map, filter, refl}
 use Rattle.std.proofs.Common.{sym, ap, ap₂, ◌∙◌, arith, subst, inl, inr, eqb-true, eq-eqb}
 use Rattle.std.specs.Prelude.{Contains}
@@ -48,8 +49,7 @@ in_its_part p i s x c one o h =
     let known = each_in _ _ _ (recursion_from_All (IsNumber p) s c.known) h in
     let y = option_of p o known in
     let taken : IsIn s y.0.number = subst (IsIn s) (sym y.2) h in
-    let kept : is_in_part i x y.0 ≡ true =
-    by_bool (holds y.0 i) (λ at. rw (at, eq-eqb _ _ (one.only y.0 y.1 at taken)) refl) (λ at. rw at refl) in
+    let kept : is_in_part i x y.0 ≡ true = grind (arith, common_steps, by_bool, eq-eqb, taken) in
     let at = number_of_option p i x y.0 (filter-in _ _ _ y.1 kept) in
     (at.0, at.1, at.2 ∙ y.2)
 

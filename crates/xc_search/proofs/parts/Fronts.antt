@@ -28,15 +28,6 @@ use Rattle.xc_search.proofs.residual.PickedByUses.{as_residual}
 items_apart : (i : ℕ) → 1 ≤ i → AreKeptApart (front_item i)
 items_apart i h a b e = grind (arith, nat_tests, e)
 
-back_in_place : (i j : ℕ) → 1 ≤ i → 1 ≤ j → front_item i (front_number i j) ≡ j
-back_in_place i j h k = grind (arith, nat_tests)
-
-item_behind : (i n : ℕ) → 1 ≤ i → i < n → front_item i n ≡ n
-item_behind i n h k = grind (arith, nat_tests)
-
-item_before : (i n : ℕ) → 1 ≤ n → n < i → front_item i (n + 1) ≡ n
-item_before i n h k = grind (arith, nat_tests)
-
 -- ---- items
 
 abbrev bounds_of : Wanted → Bounds
@@ -46,21 +37,21 @@ items_behind : (i n : ℕ) (bs : List Bounds) → 1 ≤ i → i < n
     → map (renumber_item (front_item i)) (wanted_from n (map bounds_of (filter (is_other i) (wanted_from n bs)))) ≡
     filter (is_other i) (wanted_from n bs)
 items_behind i n [] h k = refl
-items_behind i n (b ∷ bs) h k = grind (arith, common_steps, items_behind i (n + 1) bs h, ne_eqb, item_behind)
+items_behind i n (b ∷ bs) h k = grind (arith, common_steps, ne_eqb, nat_tests, items_behind i (n + 1) bs h)
 
 items_before : (i n : ℕ) (bs : List Bounds) → 1 ≤ n → n ≤ i
     → map (renumber_item (front_item i)) (wanted_from (n + 1) (map bounds_of (filter (is_other i) (wanted_from n bs))))
     ≡ filter (is_other i) (wanted_from n bs)
 items_before i n [] h k = refl
 items_before i n (b ∷ bs) h k =
-    grind (arith, common_steps, items_before i (n + 1) bs, items_behind, eqb-true, item_before)
+    grind (arith, common_steps, items_behind, eqb-true, nat_tests, items_before i (n + 1) bs)
 
 -- ---- options
 
 uses_back : (i : ℕ) (us : List Use) → 1 ≤ i → AllByRecursion (λ u. 1 ≤ u.item) us
     → map (renumber_use (front_item i)) (map (renumber_use (front_number i)) us) ≡ us
 uses_back i [] h a = refl
-uses_back i (u ∷ us) h a = grind (arith, common_steps, uses_back i us h a.1, back_in_place)
+uses_back i (u ∷ us) h a = grind (arith, common_steps, nat_tests, uses_back i us h a.1)
 
 options_back : (i k : ℕ) (g : ℕ → ℕ) (os : List Numbered) → 1 ≤ i
     → ((j : ℕ) (o : Numbered) → slice_get os j ≡ Some o → g (k + suc j) ≡ o.number)

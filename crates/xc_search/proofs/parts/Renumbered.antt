@@ -1,9 +1,8 @@
 -- The listing is the same under other numbers, level by level.
 use Rattle.std.proofs.lemmas.Grind.{common_steps}
 use Rattle.xc_dance.specs.Moves.{agrees}
-use Rattle.xc_search.proofs.Spent.{count_of}
 use Rattle.std.proofs.Common.{ℕ, ◌≡◌, ◌+◌, cond, not, ◌&&◌, ◌||◌, eqb, List, [], ◌∷◌}
-use Rattle.std.proofs.Common.{length, map, find, take, Option, Some, None, refl, sym, ap, ap₂, ◌∙◌, arith}
+use Rattle.std.proofs.Common.{map, find, take, Option, Some, None, refl, sym, ap, ap₂, ◌∙◌, arith}
 use Rattle.std.proofs.Common.{inl, inr}
 use Rattle.std.specs.Prelude.{nat_lt, nat_le, is_some, flat_map, option_map}
 use Rattle.std.specs.List.{best_of, enumerate_from, list_all}
@@ -29,9 +28,7 @@ use Rattle.xc_search.proofs.listing.BranchLists.{takes}
 
 module _ (f g : ℕ → ℕ) (apart : AreKeptApart f) where
   same_item : (i j : ℕ) → eqb (f i) (f j) ≡ eqb i j
-  same_item i j =
-      let same : i ≡ j → f i ≡ f j = λ e. ap f e in
-      grind (arith, nat_tests, apart i j, same)
+  same_item i j = grind (arith, common_steps, nat_tests, apart)
 
   -- ---- options and items
 
@@ -47,9 +44,7 @@ module _ (f g : ℕ → ℕ) (apart : AreKeptApart f) where
   same_holding os i = simp (filter-map, same_colour)
 
   same_count : (r : Residual) (w : Wanted) → branch_count (renumber f g r) (renumber_item f w) ≡ branch_count r w
-  same_count r w =
-      ap (λ n. count_of n w.low)
-      (ap length (same_holding r.options w.item) ∙ length-map (holding w.item r.options) (renumber_option f g))
+  same_count r w = grind (arith, common_steps, same_holding, length-map)
 
   same_best : (c d : Wanted → ℕ) (w : Wanted) (ws : List Wanted) → ((v : Wanted) → c (renumber_item f v) ≡ d v) →
       best_of (λ x b. nat_lt (c x) (c b)) (renumber_item f w) (map (renumber_item f) ws) ≡ renumber_item f

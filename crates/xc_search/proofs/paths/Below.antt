@@ -8,12 +8,12 @@ use Rattle.xc_search.specs.declared.choice.Choice.{Choice}
 use Rattle.xc_dance.specs.declared.dance.Move.{Move}
 use Rattle.xc_search.specs.declared.level.Level.{Level}
 use Rattle.xc_input.specs.Problem.{Puzzle, IsPrimary}
-use Rattle.xc_search.specs.Listing.{Residual, Branch, whole, branch_item}
-use Rattle.xc_search.specs.Cut.{branches_left, has_choice, left_by_one, left_by, below, IsPath}
+use Rattle.xc_search.specs.Listing.{Residual, Branch, whole}
+use Rattle.xc_search.specs.Cut.{has_choice, left_by_one, left_by, below, IsPath}
 use Rattle.xc_search.specs.inner.Residual.{residual_of}
 use Rattle.xc_search.specs.inner.Commits.{oldest}
 use Rattle.std.proofs.lemmas.List.Elements.{All-nil}
-use Rattle.xc_search.specs.inner.Levels.{AreStacked, branches_at, chosen, choices_of, to_give, coming}
+use Rattle.xc_search.specs.inner.Levels.{AreStacked, chosen, choices_of, to_give, coming}
 use Rattle.xc_search.specs.inner.Paths.{IsLed, AreLed}
 use Rattle.xc_search.proofs.residual.BranchItemLeft.{no_moves_leave_all}
 use Rattle.xc_search.proofs.stacked.BegunComesFirst.{choices_more}
@@ -31,12 +31,9 @@ has_its_choice b = grind (arith, common_steps, same)
     same : (n : ℕ) → eqb n n ≡ true
     same n = eq-eqb n n refl
 
-pub branches_same : (p : Puzzle) (t : List Move) → branches_left (residual_of p t) ≡ branches_at p t
-branches_same p t = by_option (branch_item (residual_of p t)) (λ e. rw e refl) (λ w e. rw e refl)
-
 led_by_one : (p : Puzzle) (t : List Move) (l : Level) → IsLed p t l
     → left_by_one (chosen p l) (residual_of p (oldest l.mark t)) ≡ Some (residual_of p t)
-led_by_one p t l a = grind (arith, common_steps, branches_same, has_its_choice)
+led_by_one p t l a = grind (arith, common_steps, has_its_choice, by_option)
 
 pub led_left : (p : Puzzle) (t : List Move) (ls : List Level) → AreLed p [] t ls
     → left_by (choices_of p ls) (whole p) ≡ Some (residual_of p t)

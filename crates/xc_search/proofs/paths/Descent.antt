@@ -1,5 +1,5 @@
 -- The way down a path.
-use Rattle.std.proofs.Common.{ℕ, ◌≡◌, ◌+◌, ◌-◌, ◌<◌, true, List, [], ◌∷◌, ◌++◌, length, take, drop, get_or, map}
+use Rattle.std.proofs.Common.{ℕ, ◌≡◌, ◌+◌, ◌<◌, true, List, [], ◌∷◌, ◌++◌, length, take, drop, get_or, map}
 use Rattle.std.proofs.Common.{Some, None, refl, sym, ap, ◌∙◌, arith, append-nil}
 use Rattle.std.proofs.lemmas.Grind.{common_steps}
 use Rattle.std.proofs.lemmas.List.{map-id}
@@ -8,23 +8,20 @@ use Rattle.xc_search.specs.declared.choice.Choice.{Choice}
 use Rattle.xc_search.specs.declared.level.Level.{Level}
 use Rattle.xc_search.specs.declared.level.Begun.{Begun}
 use Rattle.xc_input.specs.Problem.{Puzzle, IsValid}
-use Rattle.xc_dance.specs.Commits.{after_spend}
-use Rattle.xc_search.specs.Listing.{whole, branch_item, branch_count, listing}
-use Rattle.xc_search.specs.Residuals.{wanted_at}
+use Rattle.xc_search.specs.Listing.{whole, listing}
 use Rattle.xc_search.specs.Cut.{left_by_one, below, IsPathBy}
 use Rattle.xc_search.specs.inner.Commits.{oldest}
 use Rattle.xc_search.specs.inner.Residual.{residual_of}
 use Rattle.xc_search.specs.inner.Sizes.{size_of}
-use Rattle.xc_search.specs.inner.Levels.{IsLevel, IsNode, IsSearchable, IsShallow, IsStanding, IsEntered}
-use Rattle.xc_search.specs.inner.Levels.{first_level, begun_level, after_branch, taken}
+use Rattle.xc_search.specs.inner.Levels.{IsLevel, IsShallow, IsStanding, IsEntered}
+use Rattle.xc_search.specs.inner.Levels.{begun_level, taken}
 use Rattle.xc_search.specs.inner.Levels.{coming, behind}
 use Rattle.xc_search.specs.inner.Descent.{Leads, IsDown}
 use Rattle.xc_search.proofs.residual.BranchItemLeft.{no_moves_leave_all}
-use Rattle.xc_search.proofs.stacked.NextLevel.{Extends, ext_after_branch, ext_after_spend, ext_whole}
-use Rattle.xc_search.proofs.stacked.NextLevel.{oldest-oldest, first_stands}
+use Rattle.xc_search.proofs.stacked.NextLevel.{Extends, ext_after_branch, ext_whole}
+use Rattle.xc_search.proofs.stacked.NextLevel.{oldest-oldest}
 use Rattle.xc_search.proofs.stacked.Start.{starts_standing}
 use Rattle.xc_search.proofs.stacked.Depth.{shallow_first}
-use Rattle.xc_search.proofs.paths.Below.{left_by_more}
 use Rattle.xc_search.proofs.paths.Numbers.{no_further, left_less, below_left}
 
 -- a level stands with its own moves where it stands below more
@@ -35,26 +32,10 @@ before_branch p t s l is_level ext own = grind (arith, common_steps, ext_whole, 
 -- before the next branch
 pub leads_on : (p : Puzzle) (u s t : List Move) (l k : Level) (b : Begun) → Leads p u s l → k ≡ begun_level b l →
     b.base ≡ length t → IsEntered p s l t (begun_level b l) → Leads p u t k
-leads_on p u s t l k b a ek own entered =
-    let begun = entered.begun in
-    let there = after_branch p l.item (taken p (begun_level b l)) t in
-    let at = before_branch p there t (begun_level b l) begun.level
-    (ext_after_branch p l.item (taken p (begun_level b l)) t) own in
-    let place : b.begun - 1 ≡ l.begun = omega (arith, begun.begun) in
-    grind (arith, common_steps)
+leads_on p u s t l k b a ek own entered = grind (arith, taken, before_branch, ext_after_branch)
 
 -- a level on whose moves none was begun
-pub leads_first : (p : Puzzle) (u t : List Move) (l : Level) (i n : ℕ) → IsNode p u i → branch_item
-    (residual_of p u) ≡ Some (wanted_at p u i) → n ≡ branch_count (residual_of p u) (wanted_at p u i) →
-    t ≡ after_spend p i u → l ≡ first_level p u i n → Leads p u t l
-leads_first p u t l i n node item count et el = grind (arith, common_steps, ext_whole, ext_after_spend, first_stands)
-
 -- a path of one choice more
-pub down_more : (p : Puzzle) (numbers : List ℕ) (path : List Choice) (t s : List Move) (c : Choice) →
-    IsDown p numbers path t → IsSearchable p s →
-    left_by_one c (residual_of p t) ≡ Some (residual_of p s) → IsDown p (numbers ++ c.k ∷ []) (path ++ c ∷ []) s
-down_more p numbers path t s c d searchable left = grind (arith, common_steps, left_by_more)
-
 pub down_first : (p : Puzzle) (t : List Move) → IsValid p → t ≡ [] → IsDown p [] [] t
 down_first p t v e = record {
   left = ap Some (sym (no_moves_leave_all p)) ∙ ap (λ t. Some (residual_of p t)) (sym e);
@@ -86,8 +67,5 @@ down_coming {p} {path = path} {t} d ls e =
     ∙ sym (below_left p path (residual_of p t) d.left)
 
 -- the number at a place, behind those before it
-pub taken_more : (ns : List ℕ) (i d : ℕ) → i < length ns → take i ns ++ get_or ns i d ∷ [] ≡ take (i + 1) ns
-taken_more ns i d h = grind (arith, common_steps)
-
 pub parts_at : (ns : List ℕ) (i d : ℕ) → i < length ns → ns ≡ take i ns ++ get_or ns i d ∷ drop (i + 1) ns
 parts_at ns i d h = grind (arith, common_steps)

@@ -12,7 +12,7 @@ use Rattle.xc_search.specs.declared.choice.Choice.{Choice}
 use Rattle.xc_input.specs.Problem.{Puzzle, holding}
 use Rattle.xc_search.specs.Listing.{Wanted, Residual, Branch, whole, branch_item, branch_count, branches_of}
 use Rattle.xc_search.specs.Listing.{level, listing}
-use Rattle.xc_search.specs.Cut.{option_or_none, has_choice, left_by_one, left_by, numbers_on, IsPath}
+use Rattle.xc_search.specs.Cut.{has_choice, left_by_one, left_by, numbers_on, IsPath}
 use Rattle.xc_search.specs.Cut.{IsCut, below}
 use Rattle.xc_search.specs.Cover.{members}
 use Rattle.xc_search.specs.inner.Sizes.{size_of}
@@ -24,12 +24,9 @@ use Rattle.xc_search.proofs.listing.BranchesLess.{branches_less}
 use Rattle.xc_search.proofs.Cases.{by_option}
 use Rattle.xc_input.proofs.FaultLemmas.BooleanTests.{and_left, and_right}
 
-same_option : (a b : Option ℕ) → option_or_none a ≡ option_or_none b → a ≡ b
-same_option a b e = grind (arith, common_steps)
-
 -- the choice of a branch is its own
 pub its_choice : (c : Choice) (b : Branch) → has_choice c b ≡ true → b.choice ≡ c
-its_choice c b e = grind (arith, common_steps, and_left, and_right, eqb-true, same_option)
+its_choice c b e = grind (arith, common_steps, and_left, and_right, eqb-true)
 
 -- a choice of a path is that of a branch of the branch item
 record Stepped (c : Choice) (r s : Residual) : Type 0 where
@@ -72,8 +69,7 @@ pub no_further : (done path : List Choice) (r s x : Residual) (k : ℕ) (ks : Li
 no_further [] [] r s x k ks e none n f = absurd (cc n)
 no_further [] (c ∷ path) r s x k ks e none n f = grind (arith, common_steps)
 no_further (d ∷ done) [] r s x k ks e none n f = absurd (cc n)
-no_further (d ∷ done) (c ∷ path) r s x k ks e none n f =
-    grind (arith, common_steps, no_further done path, then_left, same_step)
+no_further (d ∷ done) (c ∷ path) r s x k ks e none n f = grind (arith, then_left, same_step, no_further done path)
 
 -- the number of a branch is its place
 number_at : (r : Residual) (w : Wanted) (j : ℕ) (b : Branch) → slice_get (branches_of r w) j ≡ Some b

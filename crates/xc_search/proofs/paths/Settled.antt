@@ -1,21 +1,18 @@
 -- What is known of a node that was tried.
 use Rattle.std.proofs.lemmas.Grind.{common_steps}
-use Rattle.std.proofs.Common.{◌≡◌, ◌<◌, Bool, true, false, List, [], ◌++◌, map, refl, sym, ap, ◌∙◌}
+use Rattle.std.proofs.Common.{◌≡◌, ◌<◌, true, false, List, [], ◌++◌, map, refl, sym, ap, ◌∙◌}
 use Rattle.std.proofs.Common.{arith, subst, append-nil}
 use Rattle.std.proofs.lemmas.List.{map-id}
 use Rattle.xc_dance.specs.declared.dance.Move.{Move}
-use Rattle.xc_search.specs.declared.choice.Choice.{Choice}
 use Rattle.xc_search.specs.declared.level.Level.{Level}
 use Rattle.xc_input.specs.Problem.{Puzzle}
 use Rattle.xc_search.specs.Listing.{Residual, branch_item, listing}
 use Rattle.xc_dance.specs.Dancing.{Dancing}
 use Rattle.xc_search.specs.inner.Residual.{residual_of}
-use Rattle.xc_search.specs.inner.Levels.{Levels, IsStanding, choices_of, to_give, coming}
+use Rattle.xc_search.specs.inner.Levels.{Levels, IsStanding, choices_of, coming}
 use Rattle.xc_search.specs.inner.Ahead.{work, visits, ahead, GoesOn}
-use Rattle.xc_search.specs.inner.Paths.{IsPart, AreLed, KeepsPath, ground}
-use Rattle.xc_search.specs.Cut.{Uncut, below}
+use Rattle.xc_search.specs.inner.Paths.{AreLed, KeepsPath, ground}
 use Rattle.xc_search.proofs.paths.Led.{led_ground}
-use Rattle.xc_search.proofs.paths.Below.{comes_below}
 use Rattle.xc_search.proofs.stacked.WorkUnrolled.{work_unrolled}
 use Rattle.xc_search.proofs.Cases.{by_option}
 use Rattle.xc_search.proofs.stacked.PassedOver.{stands_behind}
@@ -47,8 +44,3 @@ comes_back d e f ls ks none ed keeps ef =
     ∙ ap (λ t. record d { trail = t }) (led_ground e.puzzle d.trail e.trail ks.levels (keeps d.trail here))
 
 -- what was to come begins with what is below the part's path
-pub part_below : {d e : Dancing} {ls ks : Levels} {down : Bool} (path : List Choice) (o : Uncut)
-    → IsPart d ls down e ks → AreLed e.puzzle [] e.trail ks.levels →
-    record { puzzle = d.puzzle; to_come = coming d.puzzle d.trail ls.levels down; path = path; room = d.room } ≡ o →
-    o.to_come ≡ below o.puzzle (choices_of e.puzzle ks.levels) ++ to_give e.puzzle e.trail ks.levels
-part_below path o a led is = grind (arith, common_steps, comes_below)

@@ -1,16 +1,15 @@
 -- Taking an option: its branch item's use first, the others cyclically after it.
 use Rattle.std.proofs.lemmas.Grind.{common_steps}
-use Rattle.std.proofs.Common.{ℕ, suc, ◌≡◌, ◌+◌, ◌<◌, Bool, true, cond, not, ◌&&◌, ◌||◌, List, [], ◌∷◌, ◌++◌}
-use Rattle.std.proofs.Common.{length, filter, take, drop, refl, sym, ap, ◌∙◌, arith}
-use Rattle.xc_search.proofs.Spent.{less_one}
+use Rattle.std.proofs.Common.{ℕ, suc, ◌≡◌, ◌+◌, ◌<◌, Bool, true, not, ◌&&◌, ◌||◌, List, [], ◌∷◌, ◌++◌}
+use Rattle.std.proofs.Common.{length, filter, take, drop, refl, sym, ◌∙◌, arith}
 use Rattle.std.proofs.lemmas.List.Elements.{filter_agree}
 use Rattle.std.specs.Prelude.{nat_le, is_some}
 use Rattle.std.specs.List.{list_all}
 use Rattle.xc_input.specs.declared.problem.Use.{Use}
 use Rattle.xc_input.specs.Problem.{Numbered, colour_in, holds}
-use Rattle.xc_search.specs.Listing.{Residual, may_stay, item_left, pick, spend_one}
+use Rattle.xc_search.specs.Listing.{Residual, pick}
 use Rattle.xc_input.specs.UsePlaces.{place_in}
-use Rattle.xc_search.proofs.residual.PickedByUses.{is_wanted, spend_uses, committed, as_residual}
+use Rattle.xc_search.proofs.residual.PickedByUses.{committed, as_residual}
 use Rattle.std.proofs.lemmas.List.{take-append-drop}
 use Rattle.std.proofs.lemmas.Option.{slice_get_within}
 use Rattle.xc_input.proofs.lists.Places.{drop_at}
@@ -37,8 +36,7 @@ placed i us h =
     record {
       use_of = w.use_of;
       at = w.item;
-      whole = sym (take-append-drop n us)
-          ∙ ap (λ l. take n us ++ l) (drop_at us n w.use_of w.at ∙ ap (λ k. w.use_of ∷ drop k us) s);
+      whole = grind (arith, common_steps, take-append-drop, n, drop_at);
       within = slice_get_within us n w.use_of w.at;
     }
 
@@ -50,8 +48,7 @@ held_append [] vs j = refl
 held_append (u ∷ us) vs j = grind (arith, common_steps, held_append us vs j)
 
 held_turned : (us vs : List Use) (j : ℕ) → is_some (colour_in (us ++ vs) j) ≡ is_some (colour_in (vs ++ us) j)
-held_turned us vs j =
-    held_append us vs j ∙ or_comm (is_some (colour_in us j)) (is_some (colour_in vs j)) ∙ sym (held_append vs us j)
+held_turned us vs j = grind (arith, common_steps, held_append, or_comm, is_some)
 
 all_turned : {X : Type 0} (f : X → Bool) (us vs : List X) → list_all f (us ++ vs) ≡ list_all f (vs ++ us)
 all_turned f us vs = list_all-append f us vs ∙ and_comm (list_all f us) (list_all f vs) ∙ sym (list_all-append f vs us)
@@ -67,10 +64,5 @@ cut r i n = record { items = r.items; options = filter (λ o. not (holds o i && 
 
 pub committed_picks : (r : Residual) (i : ℕ) (x : Numbered) (us vs : List Use) → x.uses ≡ us ++ vs
     → committed (vs ++ us) (cut r i x.number) ≡ pick r i x
-committed_picks r i x us vs e = as_residual _ _ _ _
-    (ap (filter is_wanted) (map-same (spend_uses (vs ++ us)) (spend_one x) r.items
-    (λ w. ap (λ b. cond b (less_one w) w)
-    (held_turned vs us w.item ∙ ap (λ ws. is_some (colour_in ws w.item)) (sym e))))) (filter_both _ _ r.options
-    ∙ filter_agree _ _ (λ o. ap (λ b. not (holds o i && nat_le o.number x.number) && b)
-    (all_turned (λ u. may_stay (item_left r u.item) u o) vs us
-    ∙ ap (λ ws. list_all (λ u. may_stay (item_left r u.item) u o) ws) (sym e))) r.options)
+committed_picks r i x us vs e =
+    grind (arith, common_steps, as_residual, map-same, held_turned, is_some, filter_both, filter_agree, all_turned)

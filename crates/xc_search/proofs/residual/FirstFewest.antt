@@ -2,8 +2,7 @@
 use Rattle.std.proofs.lemmas.Grind.{common_steps}
 use Rattle.std.proofs.Common.{ℕ, ◌≡◌, ◌-◌, Bool, cond, ltb, nat_lt, List, [], ◌∷◌, map, filter, Some, None, refl}
 use Rattle.std.proofs.Common.{sym, ap, ◌∙◌, arith, le-ltb}
-use Rattle.std.specs.Prelude.{option_map}
-use Rattle.std.specs.List.{range_with_len, best_of}
+use Rattle.std.specs.List.{best_of}
 use Rattle.xc_dance.specs.declared.dance.Move.{Move}
 use Rattle.xc_input.specs.Problem.{Puzzle, primary_count, low_at}
 use Rattle.xc_search.specs.Listing.{Wanted, first_least}
@@ -22,13 +21,10 @@ best_from p t w is =
     best_of (λ x best. nat_lt (branches_after p t x) (branches_after p t best)) w (map (wanted_at p t) is)
 
 pub open_rises : (p : Puzzle) (t : List Move) → Rises 0 (open_items p t)
-open_rises p t =
-    Rises-filter (λ i. is_open i t) 0 (range_with_len 1 (primary_count p)) (Rises-range 0 (primary_count p))
+open_rises p t = grind (arith, common_steps, Rises-filter, is_open, Rises-range)
 
 pub next_open : (p : Puzzle) (t : List Move) (n k : ℕ) → next_above n (open_items p t) ≡ Some k → IsOpenPrimary p t k
-next_open p t n k e =
-    let found = found_open t n k 1 (primary_count p) e in
-    ((found.0, omega (arith, found.1)), found.2)
+next_open p t n k e = grind (arith, common_steps, found_open t n k 1 (primary_count p) e)
 
 -- the items above the first are the rest
 first_open : (p : Puzzle) (t : List Move) (k : ℕ) → next_above 0 (open_items p t) ≡ Some k
@@ -48,8 +44,7 @@ choice_first p t k e = ap (λ is. first_least (branches_after p t) (map (wanted_
 pub choice_none : (p : Puzzle) (t : List Move) → next_above 0 (open_items p t) ≡ None → choice_after p t ≡ None
 choice_none p t e =
     let none_open = sym (above_all 0 (open_items p t) (open_rises p t)) ∙ next_above-none 0 (open_items p t) e in
-    ap (λ is. option_map (λ w. (w.item, branches_after p t w))
-    (first_least (branches_after p t) (map (wanted_at p t) is))) none_open
+    cc
 
 abbrev pub fewer : Puzzle → List Move → ℕ → ℕ → Bool
 fewer p t k i = nat_lt (branches_after p t (wanted_at p t k)) (branches_after p t (wanted_at p t i))
@@ -59,10 +54,7 @@ pub choice_next : (p : Puzzle) (t : List Move) (i n k : ℕ) (b : Bool) → IsBe
     → next_above n (open_items p t) ≡ Some k → fewer p t k i ≡ b
     → IsBest p t (cond b (wanted_at p t k) (wanted_at p t i)) k
 choice_next p t i n k b best e f =
-    best
-    ∙ ap (λ is. Some (best_from p t (wanted_at p t i) is)) (next_above-split 0 n k (open_items p t) (open_rises p t) e)
-    ∙ ap (λ c. Some (best_from p t (cond c (wanted_at p t k) (wanted_at p t i))
-    (filter (λ j. ltb k j) (open_items p t)))) f
+    grind (arith, common_steps, next_above-split 0 n k (open_items p t) (open_rises p t) e)
 
 pub choice_last : (p : Puzzle) (t : List Move) (i n : ℕ) → next_above n (open_items p t) ≡ None →
     best_from p t (wanted_at p t i) (filter (λ j. ltb n j) (open_items p t)) ≡ wanted_at p t i

@@ -45,8 +45,7 @@ purified_second p j d [] l q = cc
 purified_second p j d (m ∷ t) l q = grind (arith, common_steps, purified_second p j d t, eqb-true)
 
 pub primary_pure : (p : Puzzle) (j : ℕ) (t : List Move) → AreLegal p t → j ≤ primary_count p → purified j t ≡ None
-primary_pure p j t l h =
-    by_option (purified j t) (λ e. e) (λ d e. absurd (omega (arith, purified_second p j d t l e, h)))
+primary_pure p j t l h = grind (arith, common_steps, by_option, purified_second)
 
 found_holds : (P : Wanted → Type 0) (q : Wanted → Bool) (ws : List Wanted) (w : Wanted) → AllByRecursion P ws
     → find q ws ≡ Some w → P w
@@ -90,10 +89,7 @@ of_left P i k os x a e = each_at P _ k x (each-filter P _ os a) e
 pub ready_left : (p : Puzzle) (t : List Move) (i k : ℕ) (x : Numbered) → AreLegal p t → AreWanted (wanted_after p t)
     → IsOption p x → slice_get (filter (λ o. holds o i) (left p t)) k ≡ Some x → AreReady p t x.uses
 ready_left p t i k x l a option e =
-    let free : IsFree t x = record {
-      uncovered = λ j c. of_left (λ o. holds o j ≡ false) i k (left p t) x (left_free p t j c) e;
-      agreeing = λ j d c. of_left (λ o. agrees d (colour_at o j) ≡ true) i k (left p t) x (left_agrees p t j d c) e;
-    } in
+    let free : IsFree t x = grind (arith, common_steps, of_left, left, left_free, left_agrees) in
     each_both (IsSoundUse p) (λ u. colour_in x.uses u.item ≡ Some u.colour) (λ u. Ready p t u) x.uses
     (λ u s c. ready_use p t x u l a free s c) (recursion_from_All _ _ option.sound.sound)
     (own_colours x.uses (apart_from_pairs x.uses option.sound.distinct))

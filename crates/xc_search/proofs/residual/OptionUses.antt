@@ -20,8 +20,7 @@ pub apart_sym : (u v : Use) → Apart u v → Apart v u
 apart_sym u v e = grind (arith, common_steps, ne_eqb v.item u.item, eq-eqb u.item v.item)
 
 pub apart_from_pairs : (us : List Use) → AllPairs (λ (u : Use) (v : Use). u.item ≢ v.item) us → AreApart us
-apart_from_pairs us h =
-    EachTwo-weaker (λ u v. u.item ≢ v.item) Apart us (λ u v i j d. ne_eqb _ _ d) (each_two_from_AllPairs _ us h)
+apart_from_pairs us h = grind (arith, common_steps, EachTwo-weaker, ne_eqb, each_two_from_AllPairs)
 
 pub own_colours : (us : List Use) → AreApart us → AllByRecursion (λ u. colour_in us u.item ≡ Some u.colour) us
 own_colours [] a = tt

@@ -94,5 +94,4 @@ uses_committed [] r a h =
 uses_committed (u ∷ us) r a h =
     uses_committed us (commit_use u r) a.1 (still_wanted u.item r.items)
     ∙ as_residual _ _ _ _ (items_more u us r.items a.0 h)
-    (filter_agree _ _ (λ o. stay_same u us r o a.0 h) (filter (may_stay (item_left r u.item) u) r.options)
-    ∙ filter_both _ _ r.options)
+    (grind (arith, common_steps, filter_agree, stay_same, filter_both))

@@ -56,9 +56,6 @@ ready_after p u t v e r =
 pub spent_self : (i : ℕ) (t : List Move) → spends i (Spend i ∷ t) ≡ suc (spends i t)
 spent_self i t = let same : eqb i i ≡ true = eq-eqb i i refl in rw same (omega arith)
 
-pub spent_behind : (p : Puzzle) (i : ℕ) (t : List Move) → 0 < spends i (after_spend p i t)
-spent_behind p i t = grind (arith, common_steps, spent_self)
-
 pub legal_opening : (p : Puzzle) (i : ℕ) (t : List Move) → AreLegal p t → IsPrimary p i → is_open i t ≡ true
     → spends i t < high_at p i → AreLegal p (after_spend p i t)
 legal_opening p i t l h o k = grind (arith, common_steps)
@@ -172,8 +169,7 @@ commit_all p [] t d r l a = record { residual = refl; legal = l; wanted = a }
 commit_all p (u ∷ us) t d r l a =
     let one = commit_one p u t a r.0 in
     let rest = commit_all p us (after_use p u t) d.1
-    (each_both (λ v. eqb u.item v.item ≡ false) (λ v. Ready p t v) (λ v. Ready p (after_use p u t) v) us
-    (λ v e q. ready_after p u t v (apart_sym u v e) q) d.0 r.1)
+    (grind (arith, common_steps, each_both, ready_after, apart_sym))
     (legal_commit p u t l r.0)
     (subst (λ r. AreWanted r.items) (sym one) (still_wanted u.item (wanted_after p t))) in
     record { residual = rest.residual ∙ ap (commit_uses us) one; legal = rest.legal; wanted = rest.wanted }

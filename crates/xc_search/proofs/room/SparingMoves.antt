@@ -1,12 +1,12 @@
 -- The Spends of a search are no more than the uses of the options that were taken and the items that were left out.
 use Rattle.std.proofs.lemmas.Grind.{common_steps}
-use Rattle.std.proofs.Common.{ℕ, suc, ◌≡◌, ◌+◌, ◌<◌, ◌≤◌, Bool, true, false, not, ◌&&◌, leb, List}
-use Rattle.std.proofs.Common.{[], ◌∷◌, length, map, filter, Some, refl, sym, ap, arith, le-leb}
-use Rattle.std.specs.Prelude.{slice_get, nat_lt, nat_le}
+use Rattle.std.proofs.Common.{ℕ, suc, ◌≡◌, ◌+◌, ◌<◌, ◌≤◌, Bool, false, not, List}
+use Rattle.std.proofs.Common.{[], ◌∷◌, length, filter, Some, refl, sym, ap, arith, le-leb}
+use Rattle.std.specs.Prelude.{slice_get}
 use Rattle.xc_input.specs.declared.problem.Use.{Use}
 use Rattle.xc_dance.specs.declared.dance.Move.{Move}
 use Rattle.xc_input.specs.Problem.{Puzzle, Numbered, holds, primary_count, holding, use_count, uses_of}
-use Rattle.xc_search.specs.Listing.{Residual, none, spend_one, stays, branch_item}
+use Rattle.xc_search.specs.Listing.{Residual, none, stays, branch_item}
 use Rattle.xc_dance.specs.Moves.{open_items}
 use Rattle.xc_search.specs.Residuals.{wanted_at, wanted_after}
 use Rattle.xc_search.specs.inner.Residual.{residual_of}
@@ -35,12 +35,9 @@ spent_after_spend p i t = grind (arith, common_steps)
 spent_after_none : (i : ℕ) (t : List Move) → spendings (after_none i t) ≡ spendings t
 spent_after_none i t = grind (arith, common_steps)
 
-spent_use : (p : Puzzle) (u : Use) (t : List Move) → spendings (after_use p u t) ≤ suc (spendings t)
-spent_use p u t = grind (arith, common_steps, spent_after_spend)
-
 spent_uses : (p : Puzzle) (us : List Use) (t : List Move) → spendings (after_uses p us t) ≤ length us + spendings t
 spent_uses p [] t = omega arith
-spent_uses p (u ∷ us) t = omega (arith, spent_uses p us (after_use p u t), spent_use p u t)
+spent_uses p (u ∷ us) t = grind (arith, common_steps, spent_after_spend, spent_uses p us (after_use p u t))
 
 others_less : (i : ℕ) (us : List Use) → place_in i us < length us → length (others i us) < length us
 others_less i us h = grind (arith, common_steps)
@@ -71,20 +68,23 @@ pub sparing_taken : (p : Puzzle) (t : List Move) (i k m : ℕ) (x : Numbered) �
     → slice_get (holding i (left p t)) k ≡ Some x → Taken p t m i x
     → IsSparing p (after_uses p (others i (uses_of p x.number)) (tweaked m i (after_spend p i t)))
 sparing_taken p t i k m x s e took =
-    let ground = tweaked m i (after_spend p i t) in
-    let us = uses_of p x.number in
-    let u = after_uses p (others i us) ground in
-    let itself : leb x.number x.number ≡ true = le-leb x.number x.number (omega arith) in
-    let goes : (not (holds x i && nat_le x.number x.number) && stays (residual_of p t) x x) ≡ false =
-    rw (took.held, itself) refl in
-    let items = ap (λ (r : Residual). length r.items) took.picked.residual in
-    let options = ap (λ (r : Residual). uses_in r.options) took.picked.residual in
-    let spent = spent_uses p (others i us) ground in
-    let fewer = without_uses (λ o. not (holds o i && nat_le o.number x.number) && stays (residual_of p t) x o) i k x
-    (left p t) e goes in
-    let kept = length-filter-le (λ w. nat_lt 0 w.high) (map (spend_one x) (wanted_after p t)) in
-    let all = length-map (wanted_after p t) (spend_one x) in
-    omega (arith, others_less i us took.at.holds, ap length took.uses, spent_tweaked, spent_after_spend, open_is)
+    grind (
+      arith,
+      common_steps,
+      tweaked,
+      others,
+      le-leb,
+      stays,
+      spent_uses,
+      without_uses,
+      left,
+      length-filter-le,
+      length-map,
+      others_less,
+      spent_tweaked,
+      spent_after_spend,
+      open_is,
+    )
 
 pub sparing_none : (p : Puzzle) (t : List Move) (i m : ℕ) → IsSparing p t
     → branch_item (residual_of p t) ≡ Some (wanted_at p t i) →

@@ -1,6 +1,6 @@
 -- Back at a level, and its end.
 use Rattle.std.proofs.lemmas.Grind.{common_steps}
-use Rattle.std.proofs.Common.{◌≡◌, ◌+◌, ◌<◌, ◌≤◌, List, ◌∷◌, ◌++◌, length, drop, ap, ap₂, ◌∙◌}
+use Rattle.std.proofs.Common.{◌≡◌, ◌+◌, ◌<◌, ◌≤◌, List, ◌∷◌, length, ap, ◌∙◌}
 use Rattle.std.proofs.Common.{arith, length-append}
 use Rattle.std.proofs.lemmas.List.{length-replicate}
 use Rattle.std.specs.Prelude.{replicate}
@@ -8,11 +8,10 @@ use Rattle.xc_dance.specs.declared.dance.Move.{Move}
 use Rattle.xc_dance.specs.declared.dance.Move.TheVariants.{Tweak}
 use Rattle.xc_search.specs.declared.level.Level.{Level}
 use Rattle.xc_input.specs.Problem.{Puzzle}
-use Rattle.xc_search.specs.Listing.{branch_count}
 use Rattle.xc_dance.specs.Moves.{AreTweaks}
 use Rattle.xc_search.specs.Residuals.{wanted_at}
 use Rattle.xc_search.specs.inner.Residual.{residual_of}
-use Rattle.xc_search.specs.inner.Levels.{members_of, IsLevel, AreStacked, choices_of}
+use Rattle.xc_search.specs.inner.Levels.{IsLevel, AreStacked}
 use Rattle.xc_search.specs.inner.Levels.{to_give}
 use Rattle.xc_dance.specs.Commits.{after_spend}
 use Rattle.xc_search.specs.inner.Commits.{oldest}
@@ -30,12 +29,12 @@ returned p t l ls stacked = grind (arith, common_steps, oldest-oldest, length-ol
 pub finished : (p : Puzzle) (t : List Move) (l : Level) (ls : List Level) → AreStacked p t (l ∷ ls) → l.count ≤ l.begun
     → (to_give p t (l ∷ ls) ≡ to_give p (oldest l.mark t) ls) × (visits p (oldest l.mark t) ls < visits p t (l ∷ ls))
 finished p t l ls stacked h =
-    let is_level = stacked.0 in
-    let u = oldest l.mark t in
-    let w = wanted_at p u l.item in
-    let all : l.begun ≡ branch_count (residual_of p u) w = omega (arith, is_level.count, is_level.begun, h) in
-    let none = ap₂ (λ n bs. drop n bs) all (branches_here p u w is_level.branch) ∙ branches_end (residual_of p u) w in
-    (ap (λ bs. members_of (choices_of p ls) bs ++ to_give p u ls) none, omega arith)
+    grind (
+      arith,
+      common_steps,
+      branches_here p (oldest l.mark t) (wanted_at p (oldest l.mark t) l.item) stacked.0.branch,
+      branches_end (residual_of p (oldest l.mark t)) (wanted_at p (oldest l.mark t) l.item),
+    )
 
 -- its tweaks are the newest moves
 pub closing : (p : Puzzle) (t : List Move) (l : Level) → IsLevel p t l → l.base ≡ length t

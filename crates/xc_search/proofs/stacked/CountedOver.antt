@@ -1,12 +1,10 @@
 -- The one loop that passes over members and counts them.
 use Rattle.std.proofs.lemmas.Grind.{common_steps}
-use Rattle.std.proofs.Common.{ℕ, suc, ◌≡◌, ◌+◌, ◌<◌, ◌≤◌, true, false, None, length, drop, arith}
+use Rattle.std.proofs.Common.{ℕ, ◌≡◌, ◌+◌, ◌≤◌, true, false, length, drop, arith}
 use Rattle.xc_dance.specs.Dancing.{Dancing}
-use Rattle.xc_search.specs.Residuals.{choice_after}
 use Rattle.xc_search.specs.inner.Levels.{Levels, IsStanding, coming}
-use Rattle.xc_search.specs.inner.Ahead.{GoesOn, EntersBranch, IsDone, work_left}
+use Rattle.xc_search.specs.inner.Ahead.{EntersBranch, IsDone, work_left}
 use Rattle.xc_search.specs.inner.Ahead.{EntersOver, EndsOver}
-use Rattle.xc_search.proofs.stacked.NextLevel.{solution}
 use Rattle.xc_search.proofs.stacked.PassedOver.{then_still}
 
 -- Nothing is left below, and members are still to be passed over.
@@ -18,15 +16,7 @@ pub record FallsBack (d : Dancing) (ls : Levels) (m : ℕ) (e : Dancing) (ks : L
   pub less : work_left e ks false ≤ work_left d ls true
 
 -- an item without branches leaves no member
-pub falls_barren : {d e : Dancing} {ls ks : Levels} (m : ℕ) → GoesOn d ls true e ks false
-    → work_left e ks false < work_left d ls true → FallsBack d ls m e ks m
-falls_barren m on less = grind (arith, common_steps)
-
 -- a solution is one of them
-pub falls_solved : (d : Dancing) (ls : Levels) (m n : ℕ) → IsStanding d.puzzle d.trail ls.levels true
-    → choice_after d.puzzle d.trail ≡ None → m ≡ suc n → FallsBack d ls m d ls n
-falls_solved d ls m n s none more = grind (arith, common_steps, solution)
-
 -- a branch below is entered
 pub enters_below : {d e : Dancing} {ls ks : Levels} (m : ℕ) {i q : ℕ} → EntersBranch d ls true e ks i q
     → EntersOver d ls m e ks m i q

@@ -21,8 +21,7 @@ all_behind P xs all = All-take P (length xs - 1) (drop 1 xs) (All-drop P 1 xs al
 module _ {X A : Type 0} (f : X → A) (done : List A) (rest : List X) (some : 1 ≤ length rest) where
   pub one_put : (new all : List A) (r : A) (d : X) → new ≡ done ++ r ∷ [] → r ≡ f (get_or rest 0 d)
       → done ++ map f rest ≡ all → new ++ map f (behind_first rest) ≡ all
-  one_put new all r d is one whole =
-      let cut = ap (map f) (cut_first rest d some) in grind (arith, common_steps, is, one, whole, cut)
+  one_put new all r d is one whole = grind (arith, common_steps, cut_first, rest, some)
 
   pub room_left : (before : List A) (levels : List X) (cap : ℕ) → done ++ map f rest ≡ before ++ map f levels
       → length before + length levels ≤ cap → length done < cap

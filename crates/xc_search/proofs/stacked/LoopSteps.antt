@@ -17,7 +17,7 @@ use Rattle.xc_search.specs.inner.Levels.{begun_level, newest_begun}
 use Rattle.xc_search.specs.inner.Ahead.{visits, ahead, GoesOn, EntersBranch, branched}
 use Rattle.xc_search.proofs.moves.OldestMoves.{oldest_all}
 use Rattle.xc_search.proofs.stacked.NextLevel.{descended, chosen_item, oldest-oldest}
-use Rattle.xc_search.proofs.stacked.BackAtLevel.{returned, finished, closing}
+use Rattle.xc_search.proofs.stacked.BackAtLevel.{returned, closing}
 use Rattle.xc_search.proofs.stacked.BegunComesFirst.{begun_coming}
 use Rattle.xc_search.proofs.stacked.Depth.{shallower}
 use Rattle.xc_search.specs.inner.Levels.{after_branch}
@@ -74,12 +74,6 @@ may_enter o some = record {
 }
 
 -- the newest of the levels ended
-pub goes_back : (d e : Dancing) (l : Level) (vs ks : Levels) → AreStacked d.puzzle d.trail vs.levels
-    → vs.levels ≡ l ∷ drop 1 vs.levels →
-    l.count ≤ l.begun → e ≡ record d { trail = oldest l.mark d.trail } → ks ≡ record vs { levels = drop 1 vs.levels } →
-    GoesOn d vs false e ks false × (visits e.puzzle e.trail ks.levels < visits d.puzzle d.trail vs.levels)
-goes_back d e l vs ks stacked top h ed ek = grind (arith, common_steps, returned, finished, oldest-oldest)
-
 -- what goes on and then enters a branch enters it
 pub goes_on_to : (d e f : Dancing) (ls ks js : Levels) (x y : Bool) (i q : ℕ) → GoesOn d ls x e ks y →
     ahead e.puzzle e.trail ks.levels y ≤ ahead d.puzzle d.trail ls.levels x → EntersBranch e ks y f js i q

@@ -100,8 +100,7 @@ module _ {p : Puzzle} {t : List Move} {l : Level} (may : MayBegin p t l) where
         next = gone;
         searchable = record {
           valid = level.node.searchable.valid;
-          legal = legal_after_none p l.item _ (omega (arith, level.node.item))
-              (legal_branch p l.tweaks l.item u level.node few);
+          legal = grind (arith, common_steps, legal_after_none, level, legal_branch, u, few);
           wanted = subst (λ r. AreAllWanted r.items) (sym gone)
               (none_wanted r l.item level.node.searchable.wanted);
           sparing = sparing_none p u l.item l.tweaks level.node.searchable.sparing level.branch gone;

@@ -18,7 +18,7 @@ use Rattle.xc_search.specs.inner.Levels.{branches_at, members_of, IsSearchable, 
 use Rattle.xc_search.specs.inner.Levels.{AreStacked, IsPlace, choices_of, to_give, coming, first_level}
 use Rattle.xc_dance.specs.Fields.{link_place, layout}
 use Rattle.xc_dance.specs.Commits.{option_at, number_of, after_spend, after_use, after_uses}
-use Rattle.xc_search.specs.inner.Commits.{oldest, after_none}
+use Rattle.xc_search.specs.inner.Commits.{oldest}
 use Rattle.xc_search.specs.inner.Ahead.{cost, work, work_level, visits, ahead}
 use Rattle.xc_input.proofs.lists.Members.{IsIn, in-map, in-filter}
 use Rattle.xc_search.proofs.listing.Unrolled.{listing_unrolled}
@@ -52,18 +52,13 @@ ext_trans (ext_more a) b = ext_more (ext_trans a b)
 pub ext_after_spend : (p : Puzzle) (i : ℕ) (t : List Move) → Extends (after_spend p i t) t
 ext_after_spend p i t = grind (arith, common_steps, ext_none, ext_more)
 
-ext_use : (p : Puzzle) (u : Use) (t : List Move) → Extends (after_use p u t) t
-ext_use p u t = grind (arith, common_steps, ext_none, ext_more, ext_after_spend)
-
 pub ext_uses : (p : Puzzle) (us : List Use) (t : List Move) → Extends (after_uses p us t) t
 ext_uses p [] t = ext_none
-ext_uses p (u ∷ us) t = ext_trans (ext_uses p us (after_use p u t)) (ext_use p u t)
-
-pub ext_after_none : (i : ℕ) (t : List Move) → Extends (after_none i t) t
-ext_after_none i t = grind (arith, common_steps, ext_none, ext_more)
+ext_uses p (u ∷ us) t =
+    grind (arith, common_steps, ext_trans, ext_none, ext_more, ext_after_spend, ext_uses p us (after_use p u t))
 
 pub ext_after_branch : (p : Puzzle) (i : ℕ) (o : Option ℕ) (t : List Move) → Extends (after_branch p i o t) t
-ext_after_branch p i None t = ext_after_none i t
+ext_after_branch p i None t = grind (arith, common_steps, ext_none, ext_more)
 ext_after_branch p i (Some o) t = ext_uses p (others i (uses_of p o)) t
 
 pub ext_longer : {s t : List Move} → Extends s t → length t ≤ length s
@@ -118,10 +113,6 @@ chosen_item p t i n l e =
     let within = in-range 1 (primary_count p) at.0 one.0 in
     grind (arith, common_steps)
 
-pub chosen_none : (p : Puzzle) (t : List Move) → AreLegal p t → choice_after p t ≡ None
-    → branch_item (residual_of p t) ≡ None
-chosen_none p t l e = mapped_none _ (branch_item (residual_of p t)) (sym (choice_is_branch_item p t l) ∙ e)
-
 -- ---- what is left is searched
 
 pub branches_here : (p : Puzzle) (t : List Move) (w : Wanted) → branch_item (residual_of p t) ≡ Some w
@@ -131,7 +122,7 @@ branches_here p t w e = rw e refl
 -- no primary item is left: one member, with no more choices
 pub solution : (p : Puzzle) (t : List Move) (ls : List Level) → AreLegal p t → choice_after p t ≡ None
     → coming p t ls true ≡ choices_of p ls ∷ to_give p t ls
-solution p t ls l e = grind (arith, common_steps, listing_unrolled, chosen_none)
+solution p t ls l e = grind (arith, common_steps, listing_unrolled, mapped_none, choice_is_branch_item)
 
 members_all : (before : List Choice) (bs : List Branch)
     → map (λ m. before ++ m) (flat_map (λ b. map (λ m. b.choice ∷ m) (listing b.next)) bs) ≡ members_of before bs

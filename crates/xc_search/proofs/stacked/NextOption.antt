@@ -10,7 +10,6 @@ use Rattle.xc_search.specs.declared.level.Level.{Level}
 use Rattle.xc_input.specs.Problem.{Puzzle, Numbered, numbered_get, holds}
 use Rattle.xc_dance.specs.Moves.{listed, listed_numbers, next_above}
 use Rattle.xc_dance.specs.inner.Left.{left}
-use Rattle.xc_dance.specs.Fields.{link_place}
 use Rattle.xc_dance.specs.Commits.{IsListedAt}
 use Rattle.xc_search.specs.inner.Commits.{oldest}
 use Rattle.xc_search.specs.inner.Levels.{next_number, options_at}
@@ -43,8 +42,7 @@ above_last n [] zero r h = (omega arith, refl)
 above_last n [] (suc k) r h = absurd (omega (arith, h))
 above_last n (o ∷ os) zero r h = grind (arith, common_steps, lt-ltb)
 above_last n (o ∷ os) (suc zero) r h = grind (arith, common_steps, above_last o.number os 0 r.1, le-ltb)
-above_last n (o ∷ os) (suc (suc k)) r h =
-    grind (arith, common_steps, above_last o.number os (suc k) r.1, le-ltb, not_some os k)
+above_last n (o ∷ os) (suc (suc k)) r h = grind (arith, le-ltb, not_some, above_last o.number os (suc k) r.1)
 
 last_in : (os : List Numbered) (k : ℕ)
     → (last_number 0 os k ≡ 0) ⊎ Contains (map number_of os) (last_number 0 os k)
@@ -80,8 +78,7 @@ seeking {p} {t} {l} may q is =
       x = last_number 0 os l.begun;
       listed = record {
         listed = rw all (last_in os l.begun);
-        at = is ∙ ap (λ b. cond b l.place l.item) c ∙ level.place
-            ∙ ap (λ o. link_place p l.item (unwrap_or o 0)) level.option;
+        at = grind (arith, common_steps, level);
       };
       next = rw all (above_last 0 os l.begun rises few).1;
     })

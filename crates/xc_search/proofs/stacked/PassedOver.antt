@@ -1,6 +1,6 @@
 -- A search that goes on over many members.
 use Rattle.std.proofs.Common.{ℕ, zero, suc, ◌≡◌, ◌+◌, ◌<◌, ◌≤◌, Bool, true, false, List, [], ◌∷◌, ◌++◌, length, drop}
-use Rattle.std.proofs.Common.{min, refl, sym, ap, ap₂, ◌∙◌, arith, subst, ltb-true, ltb-false, ◌≢◌}
+use Rattle.std.proofs.Common.{min, refl, sym, ap, ◌∙◌, arith, subst, ltb-true, ltb-false, ◌≢◌}
 use Rattle.std.proofs.lemmas.Grind.{common_steps}
 use Rattle.std.proofs.lemmas.List.{drop-map, map-id}
 use Rattle.xc_search.specs.declared.choice.Choice.{Choice}
@@ -20,9 +20,6 @@ use Rattle.std.specs.Prelude.{nat_lt}
 
 rest_behind : {X : Type 0} (n : ℕ) (ms : List X) (m : X) (rest : List X) → drop n ms ≡ m ∷ rest → rest ≡ drop (n + 1) ms
 rest_behind n ms m rest e = sym (ap (drop 1) e) ∙ drop-drop 1 n ms
-
-within_behind : {X : Type 0} (n : ℕ) (ms : List X) (m : X) (rest : List X) → drop n ms ≡ m ∷ rest → n < length ms
-within_behind n ms m rest e = grind (arith, common_steps)
 
 pub drop_past : {X : Type 0} (n : ℕ) (ms : List X) → length ms ≤ n → drop n ms ≡ []
 drop_past n ms h = drop_all n ms h
@@ -58,7 +55,7 @@ pub went_to : (d e : Dancing) (ls ks : Levels) (down : Bool) (n : ℕ) → (e �
     × (ks ≡ record ls { levels = ks.levels }) → IsSolved e.puzzle e.trail ks.levels →
     drop n (coming d.puzzle d.trail ls.levels down) ≡ coming e.puzzle e.trail ks.levels true
     → WentOver d ls down (n + 1) e ks
-went_to d e ls ks down n still at come = grind (arith, common_steps, solution, rest_behind, shown_next, within_behind)
+went_to d e ls ks down n still at come = grind (arith, common_steps, solution, rest_behind, shown_next)
 
 -- The search stands at a solution where what is left was searched: it finds that one again, and passes over one more.
 pub record HasToPass (p : Puzzle) (t : List Move) (ls : List Level) (down : Bool) (many more : ℕ) : Type 0 where
@@ -69,8 +66,7 @@ pub record HasToPass (p : Puzzle) (t : List Move) (ls : List Level) (down : Bool
 pub went_over : {d e : Dancing} {ls ks : Levels} (down : Bool) {many more : ℕ} → 0 < many
     → HasToPass d.puzzle d.trail ls.levels down many more → StandsOver d ls more e ks 0 → WentOver d ls down many e ks
 went_over {d} {e} {ls} {ks} true {more = more} some has at =
-    subst (λ n. WentOver d ls true n e ks) (sym (has.first refl))
-    (went_to d e ls ks true more at.over.still at.solved at.over.members)
+    grind (arith, common_steps, went_to d e ls ks true more at.over.still at.solved at.over.members)
 went_over {d} {e} {ls} {ks} false {many} some has at = by_number many (λ h. absurd (omega (arith, some, h))) (λ n h.
     let was = (has.again refl).1 in
     let found = solution d.puzzle d.trail ls.levels (was.standing.searchable refl).legal was.none in
@@ -132,13 +128,7 @@ pub search_over : (w v o : Outlook) (before shown : List Choice) (many : ℕ) �
 search_over w v o before shown many some there was is = grind (arith, common_steps, drop-map, shown_behind)
 
 -- or were not
-pub search_past : (w v o : Outlook) (before shown : List Choice) (many : ℕ) → length w.to_come < many
-    → v ≡ past many w → of_search before shown w ≡ o → of_search before [] v ≡ past many o
-search_past w v o before shown many less was is = grind (arith, common_steps, drop-map, shown_past)
-
 -- and where it begins, with no choices before
 pub search_begins : (w o : Outlook) (before shown : List Choice) → w ≡ o → o.shown ≡ [] → before ≡ [] → shown ≡ []
     → of_search before shown w ≡ o
-search_begins w o before shown is none no_choices not_shown =
-    ap (of_search before shown) is ∙ ap₂ (λ before shown. of_search before shown o) no_choices not_shown
-    ∙ ap₂ (λ ms m. record o { to_come = ms; shown = m }) (map-id o.to_come) (sym none)
+search_begins w o before shown is none no_choices not_shown = grind (arith, common_steps, map-id o.to_come)

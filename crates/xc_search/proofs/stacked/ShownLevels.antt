@@ -1,14 +1,13 @@
 -- The levels of a search show their options.
-use Rattle.std.proofs.Common.{suc, List, [], ◌∷◌, reverse, Some, refl, sym, ap}
+use Rattle.std.proofs.lemmas.Grind.{common_steps}
+use Rattle.std.proofs.Common.{suc, List, [], ◌∷◌, reverse, refl, sym}
 use Rattle.std.proofs.Common.{◌∙◌, arith, subst}
-use Rattle.std.specs.Prelude.{All, unwrap_or}
+use Rattle.std.specs.Prelude.{All}
 use Rattle.std.specs.List.{AllByRecursion}
 use Rattle.std.proofs.lemmas.List.Elements.{All-from_recursion, recursion_from_All}
 use Rattle.std.proofs.lemmas.List.{reverse-append}
 use Rattle.xc_input.specs.Problem.{Puzzle}
 use Rattle.xc_dance.specs.declared.dance.Move.{Move}
-use Rattle.xc_dance.specs.Fields.{link_place}
-use Rattle.xc_dance.specs.Commits.{IsUseAt}
 use Rattle.xc_search.specs.declared.level.Level.{Level}
 use Rattle.xc_search.specs.inner.Commits.{oldest}
 use Rattle.xc_search.specs.inner.Levels.{taken, options_at, IsLevelAt, AreStacked, IsShown}
@@ -24,12 +23,7 @@ level_shown p u t l is_level = record {
       let last = last_taken (options_at p u l.item) l.begun o (sym is_level.option ∙ e) in
       let x = last.1 in
       let at = (branch.taken p u l.item last.0 (suc last.0) x is_level.node last.3 (λ _. refl) (omega arith)).at in
-      rw e (subst (λ n. IsUseAt p l.item n l.place) last.4 (record {
-        known = at.known;
-        holds = at.holds;
-        items = at.items;
-        at = is_level.place ∙ ap (λ o. link_place p l.item (unwrap_or o 0)) (e ∙ ap Some (sym last.4));
-      })));
+      rw e (grind (arith, common_steps, last, at)));
 }
 
 each_shown : (p : Puzzle) (t : List Move) (ls : List Level) → AreStacked p t ls → AllByRecursion (IsShown p) ls

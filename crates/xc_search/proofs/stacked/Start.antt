@@ -1,12 +1,10 @@
 -- A search begins with all members to come.
 use Rattle.std.proofs.lemmas.Grind.{common_steps}
-use Rattle.std.proofs.Common.{ℕ, ◌≡◌, ◌+◌, true, List, [], ◌∷◌, ◌++◌, map, ap, ap₂, ◌∙◌, arith, lt-ltb}
-use Rattle.std.proofs.Common.{append-nil}
+use Rattle.std.proofs.Common.{ℕ, ◌≡◌, ◌+◌, true, List, [], ◌∷◌, arith, lt-ltb}
 use Rattle.xc_input.specs.declared.problem.Bounds.{Bounds}
 use Rattle.std.proofs.lemmas.List.{map-id}
 use Rattle.std.proofs.lemmas.List.Elements.{recursion_from_All}
 use Rattle.std.specs.List.{AllByRecursion}
-use Rattle.xc_search.specs.declared.choice.Choice.{Choice}
 use Rattle.xc_dance.specs.declared.dance.Move.{Move}
 use Rattle.xc_search.specs.declared.level.Level.{Level}
 use Rattle.xc_input.specs.Problem.{Puzzle, AreSoundBounds, IsValid}
@@ -28,8 +26,4 @@ starts_standing p t ls v et el =
     grind (arith, common_steps, no_moves_leave_all, wanted_at_first, recursion_from_All, sparing_first, shallow_first)
 
 pub starts_coming : (p : Puzzle) (t : List Move) (ls : List Level) → t ≡ [] → ls ≡ [] → coming p t ls true ≡ members p
-starts_coming p t ls et el =
-    ap₂ (λ t ls. coming p t ls true) et el
-    ∙ append-nil (map (λ (m : List Choice). [] ++ m) (listing (residual_of p [])))
-    ∙ map-id (listing (residual_of p []))
-    ∙ ap listing (no_moves_leave_all p)
+starts_coming p t ls et el = grind (arith, common_steps, map-id (listing (residual_of p [])), no_moves_leave_all p)

@@ -1,5 +1,5 @@
 use Rattle.std.proofs.lemmas.Grind.{common_steps}
-use Rattle.std.proofs.Common.{arith, ℕ, List, ◌-◌, ◌<◌, ◌≡◌, true, false, lt-ltb, le-ltb, Some, None}
+use Rattle.std.proofs.Common.{arith, ℕ, List, ◌-◌, ◌<◌, ◌≡◌, true, false, lt-ltb, le-ltb, Some}
 use Rattle.xc_dance.specs.Moves.{next_above, open_items}
 use Rattle.xc_dance.specs.declared.dance.Move.{Move}
 use Rattle.xc_input.specs.Problem.{Puzzle, primary_count}
@@ -77,13 +77,7 @@ loop-fewest-preserved g c =
     }
 
 pub returns-in_default-clause-choice : goal.returns-in_default-clause-choice
-returns-in_default-clause-choice g c =
-    let p = c.args.problem.now.puzzle in
-    let t = (g.D.Dance.state c.args.dance.now).trail in
-    let i = c.loop-fewest.item in
-    let e : next_above c.loop-fewest.at (open_items p t) ≡ None = cc (c.in_default.ensures) in
-    choice_done p t i c.loop-fewest.at c.loop-fewest.fewest c.loop-fewest.invariant.best c.loop-fewest.invariant.counted
-    (choice_last p t i c.loop-fewest.at e)
+returns-in_default-clause-choice g c = grind (arith, common_steps, choice_done, choice_last)
 
 pub returns-clause-choice : goal.returns-clause-choice
 returns-clause-choice g c = grind (arith, common_steps, choice_done, choice_settled)

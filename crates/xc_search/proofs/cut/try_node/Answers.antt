@@ -1,13 +1,10 @@
+use Rattle.std.proofs.lemmas.Grind.{common_steps}
+use Rattle.std.proofs.Common.{arith}
 use Rattle.xc_search.proofs.paths.Settled.{nothing_listed, comes_back}
 use Rattle.xc_search.proofs.cut.try_node.Goals as goal
 
 pub returns-clause-back : goal.returns-clause-back
-returns-clause-back g c =
-    comes_back c.args.position.now c.search_node-found.new.position c.end_levels.new.position c.args.trial.now
-    c.search_node-found.new.trial
-    c.requires.untried c.search_node-found.ensures.still c.search_node-found.ensures.path c.end_levels.ensures.back
+returns-clause-back g c = search (arith, comes_back)
 
 pub returns-clause-barren : goal.returns-clause-barren
-returns-clause-barren g c is =
-    let d = c.args.position.now in
-    nothing_listed d.puzzle d.trail c.args.trial.now.levels c.requires.untried (c.search_node-found.ensures.barren is)
+returns-clause-barren g c is = grind (arith, common_steps, nothing_listed)

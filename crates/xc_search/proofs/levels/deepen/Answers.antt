@@ -15,12 +15,7 @@ chose g c = cc (c.choose.ensures.choice, c.in-Some.is)
 
 opened : (g : _) (c : After-descend-level g) → Opens c.args.position.now c.descend-level.new.self c.args.stack.now
     c.in-Some.item c.in-Some.count c.descend-level.result
-opened g c = record {
-  spent = c.descend-level.ensures.trail;
-  level = c.descend-level.ensures.level;
-  standing = c.requires.standing;
-  chosen = cc (c.choose.ensures.choice, c.in-Some.is);
-}
+opened g c = grind (arith)
 
 pub returns-in_default-clause-solved : goal.returns-in_default-clause-solved
 returns-in_default-clause-solved g c _ = cc (c.choose.ensures.choice, c.in_default.is)
@@ -42,9 +37,7 @@ undo_to-requires g c =
     omega (arith, on.standing.stacked.0.within)
 
 pub returns-then-count-eq0-clause-nothing : goal.returns-then-count-eq0-clause-nothing
-returns-then-count-eq0-clause-nothing g c _ =
-    (passes_over (opened g (goal.at.returns-then-count-eq0-clause-nothing g c).After-descend-level)
-    c.undo_to.new.self c.if-count-eq0.true c.undo_to.ensures).0
+returns-then-count-eq0-clause-nothing g c _ = grind (arith, passes_over, opened)
 
 pub returns-then-count-eq0-clause-fewer : goal.returns-then-count-eq0-clause-fewer
 returns-then-count-eq0-clause-fewer g c _ =
@@ -52,9 +45,7 @@ returns-then-count-eq0-clause-fewer g c _ =
     c.undo_to.new.self c.if-count-eq0.true c.undo_to.ensures).1
 
 pub returns-then-count-eq0-clause-path : goal.returns-then-count-eq0-clause-path
-returns-then-count-eq0-clause-path g c _ =
-    (passes_over (opened g (goal.at.returns-then-count-eq0-clause-path g c).After-descend-level)
-    c.undo_to.new.self c.if-count-eq0.true c.undo_to.ensures).2
+returns-then-count-eq0-clause-path g c _ = grind (arith, passes_over, opened)
 
 pub enter-branch-requires : goal.enter-branch-requires
 enter-branch-requires g c = record {

@@ -1,9 +1,11 @@
+use Rattle.xc_search.proofs.stacked.NextLevel.{solution}
+use Rattle.std.proofs.lemmas.Grind.{common_steps}
 use Rattle.std.proofs.Common.{arith, ◌≡◌, ◌∙◌, ap, refl}
 use Rattle.xc_search.specs.declared.levels.Below.TheVariants.{Branch}
-use Rattle.xc_search.proofs.stacked.CountedOver.{FallsBack, falls_barren, falls_solved, enters_below, enters_back}
+use Rattle.xc_search.proofs.stacked.CountedOver.{FallsBack, enters_below, enters_back}
 use Rattle.xc_search.proofs.stacked.CountedOver.{ends_back}
 use Rattle.xc_search.proofs.levels.go_on.Goals as goal
-use Rattle.xc_search.proofs.levels.go_on.Goals.{Joined-deepen, in-Nothing, in-Solution+else-more-eq0}
+use Rattle.xc_search.proofs.levels.go_on.Goals.{Joined-deepen}
 
 pub returns-in-Branch-clause-entered : goal.returns-in-Branch-clause-entered
 returns-in-Branch-clause-entered g c b is =
@@ -12,18 +14,7 @@ returns-in-Branch-clause-entered g c b is =
 
 falls : (g : _) (c : Joined-deepen g) → FallsBack c.args.position.now c.args.stack.now c.args.more.now
     c.deepen.new.position c.deepen.new.stack c.match-deepen.more
-falls g c =
-    elim c.match-deepen.branch [
-      | in-Nothing w ↦
-          rw w.more-is
-          (falls_barren c.args.more.now (c.deepen.ensures.nothing w.in-Nothing.is)
-          (c.deepen.ensures.fewer w.in-Nothing.is))
-      | in-Solution+else-more-eq0 w ↦
-          let same = c.deepen.ensures.same w.in-Solution.is in
-          rw (same.0, same.1)
-          (falls_solved c.args.position.now c.args.stack.now c.args.more.now c.match-deepen.more c.requires.standing
-          (c.deepen.ensures.solved w.in-Solution.is) (omega (arith, w.more-is, w.if-more-eq0.false)))
-    ]
+falls g c = grind (arith, common_steps, solution)
 
 pub returns-in-Some-clause-entered : goal.returns-in-Some-clause-entered
 returns-in-Some-clause-entered g c b is =

@@ -1,9 +1,12 @@
+use Rattle.xc_search.proofs.stacked.BackAtLevel.{returned}
+use Rattle.xc_search.proofs.stacked.BackAtLevel.{finished}
+use Rattle.xc_search.proofs.stacked.NextLevel.{oldest-oldest}
 use Rattle.std.proofs.lemmas.Grind.{common_steps}
 use Rattle.std.proofs.Common.{◌<◌, ◌∷◌, drop, false, arith}
 use Rattle.xc_search.specs.inner.Levels.{AreStacked}
 use Rattle.xc_search.specs.inner.Ahead.{GoesOn, visits}
 use Rattle.xc_search.proofs.paths.Led.{keeps_back}
-use Rattle.xc_search.proofs.stacked.LoopSteps.{GoesOn-trans, goes_on_to, goes_back}
+use Rattle.xc_search.proofs.stacked.LoopSteps.{GoesOn-trans, goes_on_to}
 use Rattle.xc_search.proofs.levels.resume.Goals as goal
 use Rattle.xc_search.proofs.levels.resume.Goals.{In-Some, After-pop}
 use Rattle.xc_search.proofs.stacked.LoopSteps.{enters_next}
@@ -26,7 +29,7 @@ back : (g : _) (c : After-pop g)
     → GoesOn c.loop-level.position c.loop-level.stack false c.end_level.new.position c.pop.new.self false
     × (visits c.end_level.new.position.puzzle c.end_level.new.position.trail c.pop.new.self.levels < visits
     c.loop-level.position.puzzle c.loop-level.position.trail c.loop-level.stack.levels)
-back g c = grind (arith, common_steps, goes_back)
+back g c = grind (arith, common_steps, returned, finished, oldest-oldest)
 
 pub returns-then-level-clause-resumed : goal.returns-then-level-clause-resumed
 returns-then-level-clause-resumed g c =
@@ -48,9 +51,6 @@ loop-level-smaller g c = (back g c).1
 pub loop-level-preserved : goal.loop-level-preserved
 loop-level-preserved g c = record {
   goes_on = GoesOn-trans _ _ _ _ _ _ false false false c.loop-level.invariant.goes_on (back g c).0;
-  path = λ u a.
-      keeps_back c.loop-level.position c.end_level.new.position c.in-Some.level.now c.loop-level.stack c.pop.new.self
-      c.in-Some.ensures.some c.end_level.ensures c.pop.ensures u
-      (c.loop-level.invariant.path u a);
+  path = λ u a. grind (arith, common_steps, keeps_back);
   less = omega (arith, (back g c).1, c.loop-level.invariant.less);
 }

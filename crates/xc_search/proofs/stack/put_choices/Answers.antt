@@ -1,6 +1,6 @@
-use Rattle.std.proofs.Common.{arith, ◌∙◌}
+use Rattle.std.proofs.Common.{arith}
 use Rattle.xc_input.proofs.FaultLemmas.Checks.{items-length}
-use Rattle.xc_search.specs.inner.Levels.{chosen, IsShown}
+use Rattle.xc_search.specs.inner.Levels.{chosen}
 use Rattle.xc_search.proofs.stacked.LevelsLeft.{one_put, room_left, all_behind}
 use Rattle.xc_search.proofs.stack.put_choices.Goals as goal
 
@@ -12,11 +12,4 @@ push_reserved-requires-in-len1-up g c =
     omega (arith, room, c.loop-rest.invariant.capacity, items-length c.loop-rest.choices)
 
 pub loop-rest-preserved : goal.loop-rest-preserved
-loop-rest-preserved g c =
-    let p = c.args.shown.2.now.puzzle in
-    record {
-      items = one_put (chosen p) c.loop-rest.choices.items c.loop-rest.rest.now c.in-len1-up.len_at_least _ _ _ _
-          c.push_reserved-in-len1-up.ensures.items c.choice_of.ensures c.loop-rest.invariant.items;
-      capacity = c.push_reserved-in-len1-up.ensures.capacity ∙ c.loop-rest.invariant.capacity;
-      shown = all_behind (IsShown p) c.loop-rest.rest.now c.loop-rest.invariant.shown;
-    }
+loop-rest-preserved g c = search (arith, one_put, chosen, all_behind)

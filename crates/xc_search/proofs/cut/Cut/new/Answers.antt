@@ -1,10 +1,9 @@
 use Rattle.std.proofs.lemmas.Grind.{common_steps}
-use Rattle.std.proofs.Common.{arith, true, [], ap, ◌∙◌, sym, subst}
+use Rattle.std.proofs.Common.{arith, true, ap, ◌∙◌, sym, subst}
 use Rattle.xc_dance.specs.Dancing.{Dancing}
 use Rattle.xc_input.specs.Problem.{IsValid}
 use Rattle.xc_search.specs.inner.MostLevels.{most_levels}
 use Rattle.xc_search.specs.inner.Levels.{Levels, IsStanding}
-use Rattle.xc_search.specs.inner.Paths.{AreLed}
 use Rattle.xc_search.proofs.stacked.Start.{starts_standing, starts_coming}
 use Rattle.xc_search.proofs.cut.Cut.new.Goals as goal
 
@@ -17,10 +16,7 @@ invariant_of-result g c =
           (starts_standing d.puzzle d.trail c.in-Ok.stack.levels
           (subst IsValid (sym c.requires.same) c.most_levels-most.ensures.valid) c.requires.none
           (ap (λ (s : Levels). s.levels) c.in-Ok.ensures));
-      led =
-          subst (AreLed c.new-3.result.puzzle [] c.new-3.result.trail)
-          (sym (ap (λ (s : Levels). s.levels) c.in-Ok.ensures))
-          (ap (λ (s : Dancing). s.trail) c.new-3.ensures ∙ c.requires.none);
+      led = grind (arith, common_steps);
       untried = ap (λ (s : Levels). s.levels) c.in-Ok-new.ensures;
       levels_fit = omega (arith, c.most_levels-most.ensures.value, ap (λ (s : Levels). s.room) c.in-Ok.ensures, most);
       path_fits = omega (arith, ap (λ (s : Levels). s.room) c.in-Ok.ensures, c.in-Ok-with_capacity.ensures);

@@ -1,7 +1,7 @@
-use Rattle.std.proofs.Common.{arith, []}
+use Rattle.xc_search.proofs.paths.Below.{comes_below}
+use Rattle.std.proofs.Common.{arith}
 use Rattle.std.proofs.lemmas.Grind.{common_steps}
 use Rattle.xc_search.proofs.paths.Below.{led_path, primary_choices}
-use Rattle.xc_search.proofs.paths.Settled.{part_below}
 use Rattle.xc_search.proofs.stacked.ShownLevels.{all_shown}
 use Rattle.xc_search.proofs.cut.Cut.next.Goals as goal
 
@@ -15,8 +15,4 @@ pub returns-clause-known : goal.returns-clause-known
 returns-clause-known g c is = grind (arith, common_steps, primary_choices)
 
 pub returns-clause-part : goal.returns-clause-part
-returns-clause-part g c is =
-    let found = c.next_part-found.ensures in
-    let below = part_below c.self.inside.path.items c.args.self.now (found.part is) (found.path [] c.self.invariant.led)
-    c.self.view_is in
-    grind (arith, common_steps, below, c.show.ensures.items)
+returns-clause-part g c is = grind (arith, common_steps, comes_below)

@@ -19,9 +19,7 @@ can : (g : _) (c : Else-place-item g)
 can g c = subst (λ o. CanBranch c.args.self.now.puzzle c.args.item o c.args.self.now.trail) (some g c).1 c.requires.can
 
 use_at : (g : _) (c : Else-place-item g) → IsUseAt c.args.self.now.puzzle c.args.item (some g c).0 c.args.place
-use_at g c =
-    let held = (can g c).option in
-    grind (arith, common_steps)
+use_at g c = grind (arith, can)
 
 pub cover_if_open-requires-clause-room : goal.cover_if_open-requires-clause-room
 cover_if_open-requires-clause-room g c = grind (arith, common_steps)

@@ -1,6 +1,6 @@
+use Rattle.xc_search.proofs.residual.ReadyUses.{spent_self}
 use Rattle.std.proofs.Common.{arith}
 use Rattle.std.proofs.lemmas.Grind.{common_steps}
-use Rattle.xc_search.proofs.residual.ReadyUses.{spent_behind}
 use Rattle.xc_search.proofs.room.FewMoves.{has_room}
 use Rattle.xc_search.proofs.room.SparingMoves.{sparing_after_spend}
 use Rattle.xc_search.proofs.moves.LegalTweaks.{legal_node}
@@ -10,4 +10,4 @@ pub spend_item-requires : goal.spend_item-requires
 spend_item-requires g c = grind (arith, common_steps, legal_node, has_room, sparing_after_spend)
 
 pub is_walked-walks-requires-clause-spent : goal.is_walked-walks-requires-clause-spent
-is_walked-walks-requires-clause-spent g c = grind (arith, common_steps, spent_behind)
+is_walked-walks-requires-clause-spent g c = grind (arith, common_steps, spent_self)

@@ -1,8 +1,9 @@
+use Rattle.std.proofs.Common.{arith}
 use Rattle.std.proofs.Common.{◌≡◌, subst}
 use Rattle.xc_dance.specs.Dancing.{Dancing}
 use Rattle.xc_dance.specs.Fields.{link_place, first_above}
-use Rattle.xc_dance.specs.Moves.{listed_numbers, next_above}
-use Rattle.xc_dance.specs.Commits.{IsListedAt, option_at}
+use Rattle.xc_dance.specs.Moves.{listed_numbers}
+use Rattle.xc_dance.specs.Commits.{IsListedAt}
 use Rattle.xc_search.proofs.position.Position.node_below.Goals as goal
 
 pub returns-clause-place : goal.returns-clause-place
@@ -13,8 +14,4 @@ returns-clause-place g c x h =
     c.self.view_is (c.node_below.ensures.place x) h
 
 pub returns-clause-option : goal.returns-clause-option
-returns-clause-option g c x h =
-    let i = c.args.i in
-    subst (λ (s : Dancing). IsListedAt s.puzzle s.trail i x c.args.place
-    → option_at s.puzzle i c.node_below.result ≡ next_above x (listed_numbers s.puzzle s.trail i))
-    c.self.view_is (c.node_below.ensures.option x) h
+returns-clause-option g c x h = grind (arith)

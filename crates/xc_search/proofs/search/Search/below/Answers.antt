@@ -1,5 +1,5 @@
 use Rattle.std.proofs.lemmas.Grind.{common_steps}
-use Rattle.std.proofs.Common.{arith, ◌≡◌, ap, subst}
+use Rattle.std.proofs.Common.{arith, ◌≡◌, ap}
 use Rattle.xc_search.specs.inner.Levels.{Levels}
 use Rattle.xc_search.specs.inner.Descent.{IsDown}
 use Rattle.xc_search.proofs.paths.Descent.{down_standing, down_coming}
@@ -18,7 +18,6 @@ returns-clause-begun g c =
     let p = c.args.problem.now.puzzle in
     let here : IsDown e.puzzle c.args.numbers.now path e.trail = grind (arith, common_steps) in
     let puzzle : e.puzzle ≡ p = grind (arith, common_steps) in
-    let down : IsDown p c.args.numbers.now path e.trail =
-    subst (λ p. IsDown p c.args.numbers.now path e.trail) puzzle here in
+    let down : IsDown p c.args.numbers.now path e.trail = grind (arith, common_steps, path, puzzle, here) in
     let come = down_coming here c.in-Ok-new.stack.levels (ap (λ (s : Levels). s.levels) c.in-Ok-new.ensures) in
     grind (arith, common_steps)

@@ -1,4 +1,4 @@
-use Rattle.std.proofs.Common.{arith, refl, ◌≡◌, []}
+use Rattle.std.proofs.Common.{arith}
 use Rattle.std.proofs.lemmas.Grind.{common_steps}
 use Rattle.xc_search.proofs.stacked.PassedOver.{search_begins}
 use Rattle.xc_search.proofs.completeness.Covering.{each_member_covers}
@@ -13,7 +13,4 @@ returns-in_default-clause-complete g c =
     each_cover_is_listed_once c.args.problem.now.puzzle c.most_levels.ensures.valid
 
 pub returns-in-Ok-new-clause-begun : goal.returns-in-Ok-new-clause-begun
-returns-in-Ok-new-clause-begun g c =
-    let none : c.new-in-Ok-new.result.items ≡ [] = grind (arith, common_steps) in
-    let empty : c.in-Ok.choices.items ≡ [] = grind (arith, common_steps) in
-    search_begins _ _ _ _ c.in-Ok-new.ensures.begun refl none empty
+returns-in-Ok-new-clause-begun g c = grind (arith, common_steps, search_begins)

@@ -1,14 +1,12 @@
-use Rattle.std.proofs.Common.{arith, ◌<◌, ◌≤◌, length}
-use Rattle.xc_search.proofs.stacked.PassedOver.{search_over, search_past}
+use Rattle.std.proofs.lemmas.List.{drop-map}
+use Rattle.xc_search.proofs.stacked.PassedOver.{shown_past}
+use Rattle.std.proofs.lemmas.Grind.{common_steps}
+use Rattle.std.proofs.Common.{arith, ◌≤◌, length}
+use Rattle.xc_search.proofs.stacked.PassedOver.{search_over}
 use Rattle.xc_search.proofs.search.Search.pass.Goals as goal
 
 pub returns-then-passed-many-clause-went : goal.returns-then-passed-many-clause-went
-returns-then-passed-many-clause-went g c =
-    let was = c.self.inside in
-    let went = c.pass-passed.ensures in
-    let less : length was.walk.to_come < c.args.many = omega (arith, went.count, c.if-passed-many.true) in
-    rw c.clear.ensures.items (search_past was.walk c.pass-passed.new.self c.args.self.now was.before.items
-    was.choices.items c.args.many less went.went c.self.view_is)
+returns-then-passed-many-clause-went g c = grind (arith, common_steps, drop-map, shown_past)
 
 pub returns-then-many-gt0-clause-went : goal.returns-then-many-gt0-clause-went
 returns-then-many-gt0-clause-went g c =

@@ -1,3 +1,4 @@
+use Rattle.xc_search.proofs.paths.Below.{left_by_more}
 use Rattle.std.proofs.Common.{arith}
 use Rattle.std.proofs.lemmas.Grind.{common_steps}
 use Rattle.std.proofs.Common.{◌≡◌, None, [], take, refl, sym, ap, subst}
@@ -5,7 +6,7 @@ use Rattle.xc_dance.specs.Dancing.{Dancing}
 use Rattle.xc_search.specs.Cut.{left_by_one}
 use Rattle.xc_search.specs.inner.Residual.{residual_of}
 use Rattle.xc_search.specs.inner.Descent.{IsDown}
-use Rattle.xc_search.proofs.paths.Descent.{down_first, down_more, down_none, taken_more, parts_at}
+use Rattle.xc_search.proofs.paths.Descent.{down_first, down_none, parts_at}
 use Rattle.xc_search.proofs.search.below.go_down.Goals as goal
 
 pub loop-number-init : goal.loop-number-init
@@ -30,4 +31,4 @@ returns-in_default-clause-no_path g c _ other is =
     (parts_at c.args.numbers.now c.loop-number.number-index 0 c.loop-number-test.true) is
 
 pub loop-number-preserved : goal.loop-number-preserved
-loop-number-preserved g c = grind (arith, common_steps, down_more, taken_more)
+loop-number-preserved g c = grind (arith, common_steps, left_by_more)

@@ -5,8 +5,7 @@ use Rattle.xc_search.specs.inner.Residual.{residual_of}
 use Rattle.xc_search.proofs.stacked.NextLevel.{Chosen, chosen_item}
 use Rattle.xc_search.proofs.paths.Numbers.{no_branch}
 use Rattle.xc_search.proofs.search.below.step_down.Goals as goal
-use Rattle.xc_search.proofs.search.below.step_down.Goals.{In_ok-item, then-number-eq0-via-then-number-eq0}
-use Rattle.xc_search.proofs.search.below.step_down.Goals.{then-number-eq0-via-else-number-eq0+then-number-count}
+use Rattle.xc_search.proofs.search.below.step_down.Goals.{In_ok-item}
 
 at : (g : _) (c : In_ok-item g) →
     Chosen c.args.position.now.puzzle c.args.position.now.trail c.in_ok-item.item c.in_ok-item.count

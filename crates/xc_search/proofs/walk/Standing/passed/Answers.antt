@@ -2,7 +2,7 @@ use Rattle.std.proofs.lemmas.Grind.{common_steps}
 use Rattle.std.proofs.Common.{◌≡◌, ◌+◌, arith, refl}
 use Rattle.xc_search.proofs.stacked.PassedOver.{HasToPass, went_over, went_past}
 use Rattle.xc_search.proofs.walk.Standing.passed.Goals as goal
-use Rattle.xc_search.proofs.walk.Standing.passed.Goals.{then-down, else-down, in-None, in-Some, Joined-down}
+use Rattle.xc_search.proofs.walk.Standing.passed.Goals.{in-None, in-Some, Joined-down}
 
 has : (g : _) (c : Joined-down g) → HasToPass c.args.self.position.puzzle c.args.self.position.trail
     c.args.self.stack.levels c.args.self.down c.args.many c.if-down.more
