@@ -39,8 +39,7 @@ pub solves_back : {r : Residual} {w : Wanted} {b : Branch} (l : List Choice) →
     → Solves b.next l → Solves r (b.choice ∷ l)
 solves_back {b = b} l h of s = record {
   left = λ k j. grind (arith, common_steps, in-cons_option, option_left of k, s.left k, left_before of);
-  distinct = λ rise. distinct_cons b.choice.option (options_of l) (λ k q j. gone rise of k q (s.left k j))
-      (s.distinct (rise_behind of rise));
+  distinct = λ rise. grind (arith, common_steps, distinct_cons, options_of, gone, rise_behind);
   covers = λ n chosen p m.
       let on = member_on p.options_rise of s.left m in
       covers_back p h of on.0 (s.covers n chosen (proper_behind p of) on.1);

@@ -111,11 +111,7 @@ module _ (p : Puzzle) (v : IsValid p) where
       record {
         known = All-from_recursion _ _ known;
         distinct = AllPairs-from_each_two _ _ two;
-        within = λ i b e.
-            let w = bounded p i b e in
-            let met = rw w.2 at (c.met w.0 w.1) in
-            let same = held_times p i s two known in
-            (omega (arith, same, met, w.3), omega (arith, same, met, w.4));
+        within = λ i b e. grind (arith, common_steps, bounded, held_times);
         agree = λ a b i d e h k apart secondary f g.
             let x = t.left a (in-contains s a h) in
             let y = t.left b (in-contains s b k) in

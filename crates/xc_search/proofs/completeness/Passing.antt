@@ -33,8 +33,7 @@ pub one_less : (t u : Numbered → Bool) (n : ℕ) (os : List Numbered) (x : Num
     → passing t os ≡ cond (t x) 1 0 + passing u os
 one_less t u n [] x r k e h = absurd k
 one_less t u n (o ∷ os) x r (inl k) e h = grind (arith, each_from, above_in, filter_same, by_bool)
-one_less t u n (o ∷ os) x r (inr k) e h =
-    grind (arith, common_steps, one_less t u o.number os x r.1 k e, above_in)
+one_less t u n (o ∷ os) x r (inr k) e h = grind (arith, above_in, one_less t u o.number os x r.1 k e)
 
 -- two pass
 pub two_pass : (t : Numbered → Bool) (n : ℕ) (os : List Numbered) (x y : Numbered) → NumbersRise n os → IsIn os x

@@ -11,7 +11,7 @@ use Rattle.xc_input.specs.Problem.{Puzzle, Numbered, numbered_options, primary_c
 use Rattle.xc_input.specs.Problem.{AreSoundBounds, IsSoundUse}
 use Rattle.xc_input.specs.Problem.{IsValid, IsSoundOption}
 use Rattle.xc_search.specs.Listing.{Wanted, Residual, wanted_from, whole, spend_one, item_left, stays}
-use Rattle.xc_search.specs.Listing.{Branch, branch_item, branch_count}
+use Rattle.xc_search.specs.Listing.{Branch, branch_item}
 use Rattle.xc_input.proofs.lists.Members.{IsIn, in-filter, filter-in, in-map, map-in, each_in, in-contains}
 use Rattle.xc_dance.proofs.MoveLemmas.OptionsRise.{NumbersRise, options_rise}
 use Rattle.xc_input.proofs.FaultLemmas.BooleanTests.{and_right}
@@ -95,9 +95,7 @@ pub use_passes : (f : Use → Bool) (us : List Use) (j c : ℕ) → list_all f u
     → f (record { item = j; colour = c }) ≡ true
 use_passes f [] j c all held = cc
 use_passes f (u ∷ us) j c all held = by_bool (eqb u.item j)
-    (λ e. let held = rw e at held in
-    let colour : u.colour ≡ c = cc in
-    rw (← eqb-true u.item j e, ← colour) (and_left _ _ all))
+    (λ e. grind (arith, common_steps, eqb-true, and_left))
     (λ e. use_passes f us j c (and_right _ _ all) (rw e at held))
 
 -- an item that x uses up is held by no option that stays
@@ -135,10 +133,7 @@ module _ {n : ℕ} {r : Residual} {w : Wanted} (p : IsProper n r) where
 
 -- with no item left no option is
 pub none_left : {n : ℕ} {r : Residual} → IsProper n r → branch_item r ≡ None → (o : Numbered) → IsIn r.options o → ⊥
-none_left {n} {r} p e o h =
-    let j = p.one_primary o h in
-    let w = p.items_left o j.0 h j.1 j.2 in
-    rw (no_items_left (branch_count r) r.items e) at w.1
+none_left {n} {r} p e o h = grind (arith, no_items_left)
 
 -- ---- the whole problem
 

@@ -1,7 +1,7 @@
 -- The listing is one level over itself, and what holds of members by their branches.
 use Rattle.std.proofs.Common.{arith}
 use Rattle.std.proofs.lemmas.Grind.{common_steps}
-use Rattle.std.proofs.Common.{◌≡◌, List, [], ◌∷◌, Option, Some, None, refl, ap, ◌∙◌, subst, inl, inr}
+use Rattle.std.proofs.Common.{◌≡◌, List, [], ◌∷◌, Option, Some, None, ap, ◌∙◌, subst, inl, inr}
 use Rattle.xc_search.specs.declared.choice.Choice.{Choice}
 use Rattle.xc_search.specs.Listing.{Wanted, Residual, Branch, branch_item, level, listing_to, listing}
 use Rattle.xc_input.proofs.lists.EachElement.{each_weaker}
@@ -14,11 +14,7 @@ use Rattle.xc_search.proofs.listing.ByDepth.{by_depth}
 pub listing_unrolled : (r : Residual) → listing r ≡ level listing (branch_item r) r
 unfolding listing listing_to
 listing_unrolled r =
-    by_depth {level = level} {to = listing_to} (record {
-      local = λ f g w r same. grind (arith, common_steps, flat_map-same, each_weaker);
-      last = λ f r. refl;
-      next = λ depth r. refl;
-    }) r
+    by_depth {level = level} {to = listing_to} (grind (arith, common_steps, flat_map-same, each_weaker)) r
 
 pub listing_at : (r : Residual) (o : Option Wanted) → branch_item r ≡ o → listing r ≡ level listing o r
 listing_at r o e = listing_unrolled r ∙ ap (λ o. level listing o r) e

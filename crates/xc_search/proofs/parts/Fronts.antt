@@ -43,8 +43,7 @@ items_before : (i n : ℕ) (bs : List Bounds) → 1 ≤ n → n ≤ i
     → map (renumber_item (front_item i)) (wanted_from (n + 1) (map bounds_of (filter (is_other i) (wanted_from n bs))))
     ≡ filter (is_other i) (wanted_from n bs)
 items_before i n [] h k = refl
-items_before i n (b ∷ bs) h k =
-    grind (arith, common_steps, items_behind, eqb-true, nat_tests, items_before i (n + 1) bs)
+items_before i n (b ∷ bs) h k = grind (arith, items_behind, eqb-true, items_before i (n + 1) bs)
 
 -- ---- options
 

@@ -26,10 +26,7 @@ best_least : (count : Wanted → ℕ) (w : Wanted) (ws : List Wanted) (v : Wante
     → count (best count w ws) ≤ count v
 best_least count w [] v (inl q) = omega (arith, ap count q)
 best_least count w [] v (inr q) = absurd q
-best_least count w (u ∷ us) v h =
-    let a = best_least count u us in
-    let b = best_least count w us in
-    grind (arith, common_steps, a v, a u (inl refl), b v, b w (inl refl), ltb-true, ltb-false)
+best_least count w (u ∷ us) v h = grind (arith, ltb-true, ltb-false, best_least count u us, best_least count w us)
 
 -- it is the first, or has fewer than the first
 best_first : (count : Wanted → ℕ) (w : Wanted) (ws : List Wanted) → (best count w ws ≡ w)

@@ -1,8 +1,8 @@
 -- The listing is the same under other numbers, level by level.
 use Rattle.std.proofs.lemmas.Grind.{common_steps}
 use Rattle.xc_dance.specs.Moves.{agrees}
-use Rattle.std.proofs.Common.{ℕ, ◌≡◌, ◌+◌, cond, not, ◌&&◌, ◌||◌, eqb, List, [], ◌∷◌}
-use Rattle.std.proofs.Common.{map, find, take, Option, Some, None, refl, sym, ap, ap₂, ◌∙◌, arith}
+use Rattle.std.proofs.Common.{ℕ, ◌≡◌, ◌+◌, cond, not, ◌||◌, eqb, List, [], ◌∷◌}
+use Rattle.std.proofs.Common.{map, find, Option, Some, None, refl, sym, ap, ap₂, ◌∙◌, arith}
 use Rattle.std.proofs.Common.{inl, inr}
 use Rattle.std.specs.Prelude.{nat_lt, nat_le, is_some, flat_map, option_map}
 use Rattle.std.specs.List.{best_of, enumerate_from, list_all}
@@ -20,7 +20,7 @@ use Rattle.xc_input.proofs.lists.Filters.{filter-map, filter_same, map-map}
 use Rattle.xc_input.proofs.lists.Members.{IsIn, in-filter, in-take, each_from, contains-in}
 use Rattle.xc_search.proofs.completeness.Proper.{goes_on}
 use Rattle.xc_search.proofs.listing.BranchesLess.{by_branches}
-use Rattle.xc_search.proofs.listing.EachBranch.{nones, behind, in-branches, left_before}
+use Rattle.xc_search.proofs.listing.EachBranch.{behind, in-branches, left_before}
 use Rattle.xc_search.proofs.listing.Unrolled.{listing_at}
 use Rattle.xc_search.proofs.residual.PickedByUses.{as_residual}
 use Rattle.xc_search.proofs.Cases.{by_bool}
@@ -50,8 +50,7 @@ module _ (f g : ℕ → ℕ) (apart : AreKeptApart f) where
       best_of (λ x b. nat_lt (c x) (c b)) (renumber_item f w) (map (renumber_item f) ws) ≡ renumber_item f
       (best_of (λ x b. nat_lt (d x) (d b)) w ws)
   same_best c d w [] h = refl
-  same_best c d w (v ∷ ws) h =
-      grind (arith, common_steps, h v, h w, same_best c d v ws h, same_best c d w ws h)
+  same_best c d w (v ∷ ws) h = grind (arith, same_best c d v ws h, same_best c d w ws h)
 
   same_branch_item : (r : Residual) → branch_item (renumber f g r) ≡ option_map (renumber_item f) (branch_item r)
   same_branch_item r = by_items r.items
@@ -95,9 +94,7 @@ module _ (f g : ℕ → ℕ) (apart : AreKeptApart f) where
       → pick (renumber f g r) (f i) (renumber_option f g x) ≡ renumber f g (pick r i x)
   same_pick r i x order h = as_residual _ _ _ _
       (simp (map-map, filter-map, same_spend x))
-      (filter-map (goes_on (renumber f g r) (f i) (renumber_option f g x)) (renumber_option f g) r.options
-      ∙ ap (map (renumber_option f g)) (filter_same _ (goes_on r i x) r.options (each_from _ r.options (λ o k.
-      ap₂ (λ a b. a && b) (ap₂ (λ a b. not (a && b)) (same_holds o i) (order o x k h)) (same_stays r x.uses o)))))
+      (grind (arith, common_steps, filter-map, goes_on, filter_same, each_from, same_holds, same_stays))
 
   same_none : (r : Residual) (i : ℕ) → none (renumber f g r) (f i) ≡ renumber f g (none r i)
   same_none r i = as_residual _ _ _ _ (simp (filter-map, same_item)) (simp (filter-map, same_colour))
@@ -118,12 +115,19 @@ module _ (f g : ℕ → ℕ) (apart : AreKeptApart f) where
   same_branches : (r : Residual) (w : Wanted) → InOrder r.options
       → branches_of (renumber f g r) (renumber_item f w) ≡ map renumber_branch (branches_of r w)
   same_branches r w order =
-      let n = branch_count r w in
-      let hs = holding w.item r.options in
-      let known = λ (x : Numbered) (h : IsIn (take n hs) x). (in-filter _ r.options x (in-take n hs x h)).0 in
-      rw (same_count r w, same_holding r.options w.item, take-map (renumber_option f g) n hs)
-      (rw (same_takes r w.item n 1 (take n hs) order known, map-append renumber_branch (takes r w) (nones r w))
-      (by_bool (eqb w.low 0) (λ e. rw (e, same_none r w.item) refl) (λ e. rw e refl)))
+      grind (
+        arith,
+        in-filter,
+        in-take,
+        same_count,
+        same_holding,
+        take-map,
+        same_takes,
+        map-append,
+        takes,
+        by_bool,
+        same_none,
+      )
 
   -- ---- levels
 

@@ -1,15 +1,15 @@
 -- What a path leaves is what the search has there.
 use Rattle.std.proofs.Common.{arith}
 use Rattle.std.proofs.lemmas.Grind.{common_steps}
-use Rattle.std.proofs.Common.{ℕ, ◌≡◌, true, eqb, List, [], ◌∷◌, ◌++◌, Some}
+use Rattle.std.proofs.Common.{◌≡◌, true, List, [], ◌∷◌, ◌++◌, Some}
 use Rattle.std.proofs.Common.{refl, sym, ap, ◌∙◌, eq-eqb}
 use Rattle.std.specs.Prelude.{All, option_and_then}
 use Rattle.xc_search.specs.declared.choice.Choice.{Choice}
 use Rattle.xc_dance.specs.declared.dance.Move.{Move}
 use Rattle.xc_search.specs.declared.level.Level.{Level}
 use Rattle.xc_input.specs.Problem.{Puzzle, IsPrimary}
-use Rattle.xc_search.specs.Listing.{Residual, Branch, whole}
-use Rattle.xc_search.specs.Cut.{has_choice, left_by_one, left_by, below, IsPath}
+use Rattle.xc_search.specs.Listing.{Residual, whole}
+use Rattle.xc_search.specs.Cut.{left_by_one, left_by, below, IsPath}
 use Rattle.xc_search.specs.inner.Residual.{residual_of}
 use Rattle.xc_search.specs.inner.Commits.{oldest}
 use Rattle.std.proofs.lemmas.List.Elements.{All-nil}
@@ -25,15 +25,9 @@ pub left_by_more : (path : List Choice) (c : Choice) (r : Residual) → left_by
 left_by_more [] c r = by_option (left_by_one c r) (λ e. rw e refl) (λ s e. rw e refl)
 left_by_more (x ∷ path) c r = by_option (left_by_one x r) (λ e. rw e refl) (λ s e. rw e (left_by_more path c s))
 
-pub has_its_choice : (b : Branch) → has_choice b.choice b ≡ true
-has_its_choice b = grind (arith, common_steps, same)
-  where
-    same : (n : ℕ) → eqb n n ≡ true
-    same n = eq-eqb n n refl
-
 led_by_one : (p : Puzzle) (t : List Move) (l : Level) → IsLed p t l
     → left_by_one (chosen p l) (residual_of p (oldest l.mark t)) ≡ Some (residual_of p t)
-led_by_one p t l a = grind (arith, common_steps, has_its_choice, by_option)
+led_by_one p t l a = grind (arith, common_steps, by_option, eq-eqb)
 
 pub led_left : (p : Puzzle) (t : List Move) (ls : List Level) → AreLed p [] t ls
     → left_by (choices_of p ls) (whole p) ≡ Some (residual_of p t)

@@ -1,6 +1,6 @@
 -- A path is told by the numbers of its branches, and its members are a run of the listing.
 use Rattle.std.proofs.lemmas.Grind.{common_steps}
-use Rattle.std.proofs.Common.{ℕ, zero, suc, ◌≡◌, ◌-◌, ◌<◌, ◌≤◌, true, List, [], ◌∷◌, ◌++◌}
+use Rattle.std.proofs.Common.{ℕ, zero, suc, ◌≡◌, ◌-◌, ◌<◌, ◌≤◌, List, [], ◌∷◌, ◌++◌}
 use Rattle.std.proofs.Common.{length, map, take, drop, Option, Some, None, refl, sym, ap, ap₂, ◌∙◌, arith, length-drop}
 use Rattle.std.proofs.Common.{eqb-true, append-nil, ◌⊎◌}
 use Rattle.std.specs.Prelude.{All, slice_get, flat_map, unwrap_or, option_map, option_and_then}
@@ -12,7 +12,7 @@ use Rattle.xc_search.specs.declared.choice.Choice.{Choice}
 use Rattle.xc_input.specs.Problem.{Puzzle, holding}
 use Rattle.xc_search.specs.Listing.{Wanted, Residual, Branch, whole, branch_item, branch_count, branches_of}
 use Rattle.xc_search.specs.Listing.{level, listing}
-use Rattle.xc_search.specs.Cut.{has_choice, left_by_one, left_by, numbers_on, IsPath}
+use Rattle.xc_search.specs.Cut.{left_by_one, left_by, numbers_on, IsPath}
 use Rattle.xc_search.specs.Cut.{IsCut, below}
 use Rattle.xc_search.specs.Cover.{members}
 use Rattle.xc_search.specs.inner.Sizes.{size_of}
@@ -25,9 +25,6 @@ use Rattle.xc_search.proofs.Cases.{by_option}
 use Rattle.xc_input.proofs.FaultLemmas.BooleanTests.{and_left, and_right}
 
 -- the choice of a branch is its own
-pub its_choice : (c : Choice) (b : Branch) → has_choice c b ≡ true → b.choice ≡ c
-its_choice c b e = grind (arith, common_steps, and_left, and_right, eqb-true)
-
 -- a choice of a path is that of a branch of the branch item
 record Stepped (c : Choice) (r s : Residual) : Type 0 where
   pub item : Wanted
@@ -38,8 +35,7 @@ record Stepped (c : Choice) (r s : Residual) : Type 0 where
   pub next : branch.next ≡ s
 
 stepped : (c : Choice) (r s : Residual) → left_by_one c r ≡ Some s → Stepped c r s
-stepped c r s e = by_option (branch_item r) (λ f. cc (rw f at e)) (λ w f.
-    grind (arith, common_steps, its_choice))
+stepped c r s e = grind (arith, common_steps, by_option, and_left, and_right, eqb-true)
 
 then_left : {X : Type 0} (f : X → Option Residual) (o : Option X) (s : Residual) → option_and_then f o ≡ Some s →
     (x : X) × (o ≡ Some x) × (f x ≡ Some s)
@@ -87,8 +83,7 @@ number_at r w j b e =
 -- and none whose number is 0 or greater than theirs
 pub no_branch : (c : Choice) (r : Residual) (w : Wanted) (n : ℕ) → branch_item r ≡ Some w → n ≡ branch_count r w →
     (c.k ≡ 0) ⊎ (n < c.k) → left_by_one c r ≡ None
-no_branch c r w n e count out = by_option (left_by_one c r) (λ none. none) (λ s f.
-    grind (arith, common_steps, stepped, number_at))
+no_branch c r w n e count out = grind (arith, by_option, stepped, number_at)
 
 -- a path leaves no more than there was
 pub left_less : (path : List Choice) (r s : Residual) → left_by path r ≡ Some s → size_of s ≤ size_of r

@@ -6,7 +6,7 @@ use Rattle.std.proofs.lemmas.List.{map-id}
 use Rattle.xc_dance.specs.declared.dance.Move.{Move}
 use Rattle.xc_search.specs.declared.level.Level.{Level}
 use Rattle.xc_input.specs.Problem.{Puzzle}
-use Rattle.xc_search.specs.Listing.{Residual, branch_item, listing}
+use Rattle.xc_search.specs.Listing.{Residual, listing}
 use Rattle.xc_dance.specs.Dancing.{Dancing}
 use Rattle.xc_search.specs.inner.Residual.{residual_of}
 use Rattle.xc_search.specs.inner.Levels.{Levels, IsStanding, choices_of, coming}
@@ -18,9 +18,7 @@ use Rattle.xc_search.proofs.Cases.{by_option}
 use Rattle.xc_search.proofs.stacked.PassedOver.{stands_behind}
 
 some_work : (r : Residual) → 0 < work r
-some_work r =
-    let unrolled = work_unrolled r in
-    by_option (branch_item r) (λ e. omega (arith, rw e at unrolled)) (λ w e. omega (arith, rw e at unrolled))
+some_work r = grind (arith, work_unrolled, by_option)
 
 -- a node without a solution
 pub goes_behind : (d e : Dancing) (ls : Levels) → e ≡ d → IsStanding d.puzzle d.trail ls.levels true

@@ -1,10 +1,9 @@
 -- Taking an option: its branch item's use first, the others cyclically after it.
 use Rattle.std.proofs.lemmas.Grind.{common_steps}
-use Rattle.std.proofs.Common.{ℕ, suc, ◌≡◌, ◌+◌, ◌<◌, Bool, true, not, ◌&&◌, ◌||◌, List, [], ◌∷◌, ◌++◌}
-use Rattle.std.proofs.Common.{length, filter, take, drop, refl, sym, ◌∙◌, arith}
+use Rattle.std.proofs.Common.{ℕ, suc, ◌≡◌, ◌+◌, ◌<◌, true, not, ◌&&◌, ◌||◌, List, [], ◌∷◌, ◌++◌}
+use Rattle.std.proofs.Common.{length, filter, take, drop, refl, arith}
 use Rattle.std.proofs.lemmas.List.Elements.{filter_agree}
 use Rattle.std.specs.Prelude.{nat_le, is_some}
-use Rattle.std.specs.List.{list_all}
 use Rattle.xc_input.specs.declared.problem.Use.{Use}
 use Rattle.xc_input.specs.Problem.{Numbered, colour_in, holds}
 use Rattle.xc_search.specs.Listing.{Residual, pick}
@@ -47,12 +46,6 @@ held_append : (us vs : List Use) (j : ℕ)
 held_append [] vs j = refl
 held_append (u ∷ us) vs j = grind (arith, common_steps, held_append us vs j)
 
-held_turned : (us vs : List Use) (j : ℕ) → is_some (colour_in (us ++ vs) j) ≡ is_some (colour_in (vs ++ us) j)
-held_turned us vs j = grind (arith, common_steps, held_append, or_comm, is_some)
-
-all_turned : {X : Type 0} (f : X → Bool) (us vs : List X) → list_all f (us ++ vs) ≡ list_all f (vs ++ us)
-all_turned f us vs = list_all-append f us vs ∙ and_comm (list_all f us) (list_all f vs) ∙ sym (list_all-append f vs us)
-
 pub apart_turned : (us vs : List Use) → AreApart (us ++ vs) → AreApart (vs ++ us)
 apart_turned us vs a = EachTwo-swapped Apart apart_sym us vs a
 
@@ -65,4 +58,16 @@ cut r i n = record { items = r.items; options = filter (λ o. not (holds o i && 
 pub committed_picks : (r : Residual) (i : ℕ) (x : Numbered) (us vs : List Use) → x.uses ≡ us ++ vs
     → committed (vs ++ us) (cut r i x.number) ≡ pick r i x
 committed_picks r i x us vs e =
-    grind (arith, common_steps, as_residual, map-same, held_turned, is_some, filter_both, filter_agree, all_turned)
+    grind (
+      arith,
+      common_steps,
+      as_residual,
+      map-same,
+      is_some,
+      filter_both,
+      filter_agree,
+      held_append,
+      or_comm,
+      list_all-append,
+      and_comm,
+    )

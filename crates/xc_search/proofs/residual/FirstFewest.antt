@@ -56,10 +56,6 @@ pub choice_next : (p : Puzzle) (t : List Move) (i n k : ℕ) (b : Bool) → IsBe
 choice_next p t i n k b best e f =
     grind (arith, common_steps, next_above-split 0 n k (open_items p t) (open_rises p t) e)
 
-pub choice_last : (p : Puzzle) (t : List Move) (i n : ℕ) → next_above n (open_items p t) ≡ None →
-    best_from p t (wanted_at p t i) (filter (λ j. ltb n j) (open_items p t)) ≡ wanted_at p t i
-choice_last p t i n e = ap (best_from p t (wanted_at p t i)) (next_above-none n (open_items p t) e)
-
 -- an item without branches stays the best
 pub choice_settled : (p : Puzzle) (t : List Move) (i : ℕ) (is : List ℕ) → branches_after p t (wanted_at p t i) ≡ 0
     → best_from p t (wanted_at p t i) is ≡ wanted_at p t i

@@ -35,11 +35,6 @@ pub data Ready (p : Puzzle) (t : List Move) (u : Use) : Type 0 where
 
 -- ---- other items keep what they have
 
-other_same : (p : Puzzle) (u : Use) (t : List Move) (j : ℕ) → eqb j u.item ≡ false
-    → (is_open j (after_use p u t) ≡ is_open j t) × (purified j (after_use p u t) ≡ purified j t)
-    × (spends j (after_use p u t) ≡ spends j t)
-other_same p u t j e = grind (arith, common_steps)
-
 pub ready_later : (p : Puzzle) (t s : List Move) (v : Use) → is_open v.item s ≡ is_open v.item t
     → purified v.item s ≡ purified v.item t → spends v.item s ≡ spends v.item t → Ready p t v → Ready p s v
 ready_later p t s v a b c (primary h i k) = primary h (a ∙ i) (omega (arith, c, k))
@@ -48,8 +43,7 @@ ready_later p t s v a b c (same_colour h i k l) = same_colour h i (a ∙ k) (b �
 
 pub ready_after : (p : Puzzle) (u : Use) (t : List Move) (v : Use) → eqb v.item u.item ≡ false → Ready p t v
     → Ready p (after_use p u t) v
-ready_after p u t v e r =
-    let same = other_same p u t v.item e in ready_later p t (after_use p u t) v same.0 same.1 same.2 r
+ready_after p u t v e r = grind (arith, common_steps, ready_later)
 
 -- ---- the moves are legal
 
@@ -123,8 +117,7 @@ opening_commits p u t a h o k =
     rw e
     (residual_spend p t u.item
     ∙ as_residual _ _ _ _
-    (sym (keep_all is_wanted _ (each-map _ (dec u.item) (wanted_after p t) (each_both _ _ _ (wanted_after p t)
-    (λ w z i. kept_item p t u.item w z i more) (as_spent p t) a))))
+    (sym (keep_all is_wanted _ (grind (arith, common_steps, each-map, each_both, kept_item, as_spent))))
     (sym (keep_all stay (left p t) (each_of_all _ (left p t) (λ x. rw (found, is_more) refl))))))
 
 -- a use of a secondary item keeps the options that agree
@@ -143,8 +136,7 @@ pub commit_one : (p : Puzzle) (u : Use) (t : List Move) → AreWanted (wanted_af
 commit_one p u t a (primary h o k) = rw (le-leb u.item (primary_count p) h.1) (opening_commits p u t a h o k)
 commit_one p u t a (secondary h o) = rw (lt-leb u.item (primary_count p) h.0) (by_bool (eqb u.colour 0)
     (λ c. rw c (residual_cover_secondary p t u.item h.0
-    ∙ as_residual _ _ _ _ refl (filter_agree _ _ (λ x. by_option (colour_at x u.item) (λ e. rw e refl)
-    (λ d e. rw (e, eqb-true u.colour 0 c) refl)) (left p t))))
+    ∙ as_residual _ _ _ _ refl (grind (arith, common_steps, filter_agree, by_option, eqb-true, left))))
     (λ c. rw (c, o) (residual_purify p t u.item u.colour h.0))
     ∙ secondary_commits p u t a h.0)
 commit_one p u t a (same_colour h c o q) =

@@ -1,6 +1,6 @@
 -- The Spends of a search are no more than the uses of the options that were taken and the items that were left out.
 use Rattle.std.proofs.lemmas.Grind.{common_steps}
-use Rattle.std.proofs.Common.{ℕ, suc, ◌≡◌, ◌+◌, ◌<◌, ◌≤◌, Bool, false, not, List}
+use Rattle.std.proofs.Common.{ℕ, suc, ◌≡◌, ◌+◌, ◌≤◌, Bool, false, not, List}
 use Rattle.std.proofs.Common.{[], ◌∷◌, length, filter, Some, refl, sym, ap, arith, le-leb}
 use Rattle.std.specs.Prelude.{slice_get}
 use Rattle.xc_input.specs.declared.problem.Use.{Use}
@@ -12,7 +12,6 @@ use Rattle.xc_search.specs.Residuals.{wanted_at, wanted_after}
 use Rattle.xc_search.specs.inner.Residual.{residual_of}
 use Rattle.xc_dance.specs.inner.Left.{left}
 use Rattle.xc_dance.specs.Commits.{after_spend, after_use, after_uses, others}
-use Rattle.xc_input.specs.UsePlaces.{place_in}
 use Rattle.xc_search.specs.inner.Commits.{tweaked, after_none}
 use Rattle.xc_search.specs.inner.Sparing.{spendings, uses_in, IsSparing}
 use Rattle.xc_input.proofs.lists.Filters.{length-filter-le}
@@ -38,9 +37,6 @@ spent_after_none i t = grind (arith, common_steps)
 spent_uses : (p : Puzzle) (us : List Use) (t : List Move) → spendings (after_uses p us t) ≤ length us + spendings t
 spent_uses p [] t = omega arith
 spent_uses p (u ∷ us) t = grind (arith, common_steps, spent_after_spend, spent_uses p us (after_use p u t))
-
-others_less : (i : ℕ) (us : List Use) → place_in i us < length us → length (others i us) < length us
-others_less i us h = grind (arith, common_steps)
 
 -- ---- uses of the options left
 
@@ -80,7 +76,6 @@ sparing_taken p t i k m x s e took =
       left,
       length-filter-le,
       length-map,
-      others_less,
       spent_tweaked,
       spent_after_spend,
       open_is,

@@ -1,9 +1,10 @@
+use Rattle.xc_dance.proofs.MoveLemmas.ListLemmas.{next_above-none}
 use Rattle.std.proofs.lemmas.Grind.{common_steps}
 use Rattle.std.proofs.Common.{arith, ℕ, List, ◌-◌, ◌<◌, ◌≡◌, true, false, lt-ltb, le-ltb, Some}
 use Rattle.xc_dance.specs.Moves.{next_above, open_items}
 use Rattle.xc_dance.specs.declared.dance.Move.{Move}
 use Rattle.xc_input.specs.Problem.{Puzzle, primary_count}
-use Rattle.xc_search.proofs.residual.FirstFewest.{next_open, choice_first, choice_none, choice_next, choice_last}
+use Rattle.xc_search.proofs.residual.FirstFewest.{next_open, choice_first, choice_none, choice_next}
 use Rattle.xc_search.proofs.residual.FirstFewest.{choice_settled, choice_done, once_more}
 use Rattle.xc_dance.proofs.MoveLemmas.ListLemmas.{next_above-gt}
 use Rattle.xc_search.proofs.branch_item.choose_by.Goals as goal
@@ -77,7 +78,7 @@ loop-fewest-preserved g c =
     }
 
 pub returns-in_default-clause-choice : goal.returns-in_default-clause-choice
-returns-in_default-clause-choice g c = grind (arith, common_steps, choice_done, choice_last)
+returns-in_default-clause-choice g c = grind (arith, common_steps, choice_done, next_above-none)
 
 pub returns-clause-choice : goal.returns-clause-choice
 returns-clause-choice g c = grind (arith, common_steps, choice_done, choice_settled)

@@ -32,9 +32,7 @@ push-requires g c =
     grind (arith, common_steps, depth_at, node_at, chosen_item)
 
 pub undo_to-requires : goal.undo_to-requires
-undo_to-requires g c =
-    let on = (deepens (opened g (goal.at.undo_to-requires g c).After-descend-level)).0 in
-    omega (arith, on.standing.stacked.0.within)
+undo_to-requires g c = grind (arith, deepens, opened)
 
 pub returns-then-count-eq0-clause-nothing : goal.returns-then-count-eq0-clause-nothing
 returns-then-count-eq0-clause-nothing g c _ = grind (arith, passes_over, opened)
