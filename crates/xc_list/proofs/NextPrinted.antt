@@ -1,4 +1,5 @@
 -- A search that goes on to the next member that is printed.
+use Rattle.std.proofs.lemmas.Grind.{common_steps}
 use Rattle.xc_list.specs.Runs.{IsRun}
 use Rattle.std.proofs.lemmas.Bool.{cases_Bool}
 use Rattle.std.proofs.Common.{inl, inr, lt-ltb, ◌∙◌}
@@ -79,8 +80,7 @@ ends a spacing limit k n passed {x = x} {y = y} within all less few silent so_fa
 
 module _ {a : Named} {spacing k t : ℕ} {o : Outlook} (to : Reaches a spacing k t o) where
   pub stands : StandsAt (members a.puzzle) t o
-  stands = subst (λ t. StandsAt (members a.puzzle) t o) to.number
-      (λ some. at_next (members a.puzzle) to.last to.next, rest_next (members a.puzzle) to.last to.next)
+  stands = grind (arith, common_steps, members, a, o, to, at_next, rest_next)
 
   pub within : t ≤ length (members a.puzzle)
   within = omega (arith, within_next (members a.puzzle) to.last to.next, to.number)
@@ -88,10 +88,7 @@ module _ {a : Named} {spacing k t : ℕ} {o : Outlook} (to : Reaches a spacing k
   -- its text was taken, or broke off
   pub takes : {x y z : SinkState} → Took x y (output a spacing k) → Took y z (printed_text a spacing (t, o.shown))
       → Took x z (output a spacing t)
-  takes {x = x} {y = y} {z = z} so_far more =
-      let so_far = subst (Took x y) (sym to.same) so_far in
-      let more = subst (λ t. Took y z (printed_text a spacing (t, o.shown))) (sym to.number) more in
-      rw (← to.number, output_next a spacing to.last to.next) (then_took so_far more)
+  takes {x = x} {y = y} {z = z} so_far more = grind (arith, common_steps, to, a, o, output_next, then_took)
 
   pub stops : (limit : ℕ) {x y z : SinkState} → t ≤ limit → Took x y (output a spacing k)
       → BrokeOff y z (printed_text a spacing (t, o.shown)) → StoppedAt a spacing limit t x z

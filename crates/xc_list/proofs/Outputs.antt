@@ -73,10 +73,7 @@ module _ {X : Type 0} (f : ℕ × X → List ℕ) (ms : List X) (k : ℕ) where
 
   pub texts_next : {m : X} {rest : List X} → drop k ms ≡ m ∷ rest
       → first_texts f ms (k + 1) ≡ first_texts f ms k ++ f (k + 1, m)
-  texts_next {m = m} e =
-      let front = take k ms in
-      let last : 1 + length front ≡ k + 1 = grind (arith, common_steps, within_next ms k e) in
-      cc (take_next ms k e, texts_append f front (m ∷ []), last, append-nil (f (1 + length front, m)))
+  texts_next {m = m} e = grind (arith, common_steps, k, within_next, take_next, texts_append, append-nil)
 
   -- a sink that broke off in the next one broke off in all of them
   pub texts_broke : (limit : ℕ) {m : X} {rest : List X} {x y z : SinkState} → drop k ms ≡ m ∷ rest → k < limit
@@ -100,9 +97,7 @@ output_texts a spacing n = printed_texts a spacing (enumerate_from 1 (take n (me
 pub output_next : (a : Named) (spacing k : ℕ) {m : List Choice} {rest : List (List Choice)}
     → drop k (members a.puzzle) ≡ m ∷ rest
     → output a spacing (k + 1) ≡ output a spacing k ++ printed_text a spacing (k + 1, m)
-output_next a spacing k e =
-    let next = texts_next (printed_text a spacing) (members a.puzzle) k e in
-    cc (output_texts a spacing k, output_texts a spacing (k + 1))
+output_next a spacing k e = grind (arith, common_steps, texts_next, members, output_texts)
 
 -- a sink that broke off in a member's text broke off in the output
 pub stopped_broke : (a : Named) (spacing limit t : ℕ) {x z : SinkState} → StoppedAt a spacing limit t x z

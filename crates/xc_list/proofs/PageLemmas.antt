@@ -19,9 +19,7 @@ use Rattle.xc_input.proofs.TokenLemmas.Separators.{COLON}
 -- a text put on the page is held behind what was held
 pub held_more : (page more text : List ℕ) (from to end : ℕ) → from ≤ to → to ≤ length page
     → take end more ≡ take to page ++ text → held_text more from end ≡ held_text page from to ++ text
-held_more page more text from to end h l e =
-    let long : from ≤ length (take to page) = omega (arith, length-take to page, h, l) in
-    ap (drop from) e ∙ drop-append-le from (take to page) text long
+held_more page more text from to end h l e = grind (arith, common_steps, length-take, drop-append-le)
 
 -- and the sink was not asked
 pub puts_held : (s : SinkState) (before after text : List ℕ) → after ≡ before ++ text → Puts s s before after text
@@ -36,8 +34,7 @@ pub record PutsFront (a b : SinkState) {X : Type 0} (before held : List ℕ) (f 
 
 -- the sink took all
 pub puts_out : {a b : SinkState} {before text : List ℕ} → Took a b (before ++ text) → Puts a b before [] text
-puts_out {before = before} {text = text} t =
-    record { front = before ++ text; took = t; whole = sym (append-nil (before ++ text)) }
+puts_out {before = before} {text = text} t = grind (arith, common_steps, append-nil)
 
 pub then_puts : {a b c : SinkState} {x y z t u : List ℕ} → Puts a b x y t → Puts b c y z u → Puts a c x z (t ++ u)
 then_puts {x = x} {y = y} {z = z} {t = t} {u = u} p q = record {
@@ -88,11 +85,7 @@ module _ {X : Type 0} {a b : SinkState} {before held : List ℕ} {f : X → List
   texts = grind (arith, common_steps, flat_map-append f p.done (x ∷ []))
 
   pub line_put : {c : SinkState} {text : List ℕ} → Puts b c held text (f x) → PutsFront a c before text f next all
-  line_put {c = c} {text = text} q = record {
-    done = p.done ++ x ∷ [];
-    whole = done;
-    puts = subst (Puts a c before text) (sym texts) (then_puts p.puts q);
-  }
+  line_put {c = c} {text = text} q = search (arith, x, done, a, before, texts, then_puts)
 
   pub lines_broke : {c : SinkState} → BrokeOff b c (held ++ f x) → BrokeOff a c (before ++ flat_map f all)
   lines_broke q =

@@ -1,7 +1,9 @@
 -- A plan that is written part by part.
+use Rattle.std.proofs.Common.{arith}
+use Rattle.std.proofs.lemmas.Grind.{common_steps}
 use Rattle.std.proofs.Common.{length}
 use Rattle.std.proofs.lemmas.List.Elements.{All-push}
-use Rattle.std.proofs.Common.{ℕ, ◌≡◌, ◌+◌, List, [], ◌∷◌, ◌++◌, sym, ap, ◌∙◌, subst, append_assoc, append-nil}
+use Rattle.std.proofs.Common.{ℕ, ◌≡◌, ◌+◌, List, [], ◌∷◌, ◌++◌, ap, ◌∙◌, append_assoc, append-nil}
 use Rattle.std.proofs.Common.{length-append}
 use Rattle.std.specs.Prelude.{flat_map}
 use Rattle.std.proofs.lemmas.List.Concat.{flat_map-append}
@@ -33,18 +35,7 @@ module _ {a : Named} {n : ℕ} {ms : List (List Choice)} {old mid : SinkState} (
   }
 
   pub planned_more : Took mid new (part_text a path) → IsPlanned a (n + 1) rest old new
-  planned_more took = record {
-    plan = so.plan ++ path ∷ [];
-    many = many;
-    cut = cut;
-    taken = subst (Took old new) (sym (one_more (part_text a) so.plan path)) (then_took so.taken took);
-  }
+  planned_more took = grind (arith, common_steps, path, many, cut, new, one_more, a, then_took)
 
   pub planned_broke : BrokeOff mid new (part_text a path) → PlanBrokeOff a (n + 1) old new
-  planned_broke broke = record {
-    rest = rest;
-    plan = so.plan ++ path ∷ [];
-    many = many;
-    cut = cut;
-    taken = subst (BrokeOff old new) (sym (one_more (part_text a) so.plan path)) (then_broke so.taken broke);
-  }
+  planned_broke broke = grind (arith, common_steps, rest, path, many, cut, new, one_more, a, then_broke)

@@ -1,7 +1,7 @@
 -- What a sink has taken, text after text.
 use Rattle.std.specs.Prelude.{MatchResult}
-use Rattle.std.proofs.Common.{◌≡◌, ℕ, ◌+◌, ◌/◌, ◌%◌, ◌^◌, ◌<◌, ◌≤◌, List, [], ◌∷◌, ◌++◌, Result, Ok, Err, length, take}
-use Rattle.std.proofs.Common.{drop, get_or, sym, ap, ◌∙◌, append-nil, arith, subst, zero, suc, refl}
+use Rattle.std.proofs.Common.{◌≡◌, ℕ, ◌+◌, ◌/◌, ◌%◌, ◌<◌, ◌≤◌, List, [], ◌∷◌, ◌++◌, Result, Ok, Err, length, take}
+use Rattle.std.proofs.Common.{drop, get_or, sym, ◌∙◌, append-nil, arith, subst, zero, suc, refl}
 use Rattle.std.proofs.KnownBytes.{Appends-nil}
 use Rattle.xc_list.specs.inner.LineParts.{colour_text}
 use Rattle.std.specs.Prelude.{flat_map, IsErr, codes, decimal}
@@ -21,9 +21,7 @@ use Rattle.xc_list.proofs.TextLemmas.{appends_more}
 
 pub flat_map-take-more : {X : Type 0} (f : X → List ℕ) (xs : List X) (i : ℕ) (d : X) → i < length xs
     → flat_map f (take (i + 1) xs) ≡ flat_map f (take i xs) ++ f (get_or xs i d)
-flat_map-take-more f xs i d h =
-    let more : take (i + 1) xs ≡ take i xs ++ (get_or xs i d ∷ []) = grind (arith, common_steps) in
-    cc (more, flat_map-append f (take i xs) (get_or xs i d ∷ []), append-nil (f (get_or xs i d)))
+flat_map-take-more f xs i d h = grind (arith, common_steps, flat_map-append, append-nil)
 
 pub flat_map-parts : {X : Type 0} (f : X → List ℕ) (xs : List X) (i : ℕ) (d : X) → i < length xs
     → flat_map f xs ≡ flat_map f (take i xs) ++ f (get_or xs i d) ++ flat_map f (drop (i + 1) xs)
@@ -87,11 +85,7 @@ loop_failed f xs i d r is h p q = rw (flat_map-parts f xs i d h) (failed r is (b
 pub option_texts : (f : Use → List ℕ) (item : ℕ) (all us before after : List Use) (p : ℕ) → us ≡ all
     → p ≡ place_in item us
     → before ≡ take p us → after ≡ drop p us → flat_map f (from_item item all) ≡ flat_map f after ++ flat_map f before
-option_texts f item all us before after p e at b a =
-    cc (a, at, e, b, flat_map-append f (drop (place_in item all) all) (take (place_in item all) all))
+option_texts f item all us before after p e at b a = grind (arith, common_steps, flat_map-append)
 
 pub decimal_two : (n : ℕ) → (10 ≤ n) × (n < 100) → decimal n ≡ (48 + n / 10) ∷ (48 + n % 10) ∷ []
-decimal_two n h =
-    let small : n < 2 ^ 64 = omega (arith, h.1) in
-    let tens : n / 10 < 10 = omega (arith, h.1) in
-    decimal_step n h.0 small ∙ ap (λ ds. ds ++ (48 + n % 10) ∷ []) (decimal_digit (n / 10) tens)
+decimal_two n h = grind (arith, common_steps, decimal_step, decimal_digit)

@@ -1,4 +1,5 @@
 -- How often classes are asked, by numbers of classes and by options.
+use Rattle.std.proofs.lemmas.Grind.{common_steps}
 use Rattle.std.proofs.Common.{◌≢◌, inl, inr}
 use Rattle.xc_input.specs.declared.problem.Use.{Use}
 use Rattle.std.specs.Prelude.{AllPairs}
@@ -8,7 +9,6 @@ use Rattle.std.proofs.Common.{ℕ, ◌≡◌, ◌+◌, ◌<◌, ◌≤◌, Bool,
 use Rattle.std.proofs.Common.{get_or, replicate, Some, refl, sym, ap, ap₂, ◌∙◌, arith}
 use Rattle.std.specs.Prelude.{slice_get, nat_le, count_by}
 use Rattle.std.specs.List.{AllZip, list_all}
-use Rattle.std.proofs.lemmas.Bool.{leb-true, le-leb}
 use Rattle.std.proofs.lemmas.List.{length-replicate, get_or-replicate}
 use Rattle.xc_list.specs.inner.Classes.{Classes, AreClasses, IsOfClass, class_at, same_uses, alike, numbers, class_size}
 use Rattle.xc_list.specs.inner.CoverCounts.{raised, uses_at}
@@ -57,11 +57,12 @@ module _ (b : Classes) (are : AreClasses b.problem.puzzle b.classes) (ks reps : 
 
   room_asked : (k o : ℕ) → IsOfClass b k o → has_room b ks k ≡ true ↔ IsAsked b.problem.puzzle reps o
   room_asked k o g =
-      let p = b.problem.puzzle in
-      let asked = asked-at k o g ∙ sym (is_counted (alike p o) reps) in
-      let members = ap (class_size p) (get_or_from_slice_get b.classes k (class_at p o) [] g.1) in (
-        λ h. omega (arith, leb-true _ _ h, asked, members),
-        λ h. le-leb _ _ (omega (arith, h, asked, members)),
+      grind (
+        arith,
+        common_steps,
+        asked-at k o g,
+        is_counted (alike b.problem.puzzle o) reps,
+        get_or_from_slice_get b.classes k (class_at b.problem.puzzle o) [] g.1,
       )
 
   pub asked_by_rooms : list_all (has_room b ks) ks ≡ true → (r : ℕ) → IsAsked b.problem.puzzle reps r

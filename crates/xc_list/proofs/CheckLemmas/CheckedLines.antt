@@ -1,6 +1,6 @@
 -- Verdicts by classes, and what a line changes.
+use Rattle.std.proofs.lemmas.Grind.{common_steps}
 use Rattle.std.specs.List.{AllByRecursion}
-use Rattle.std.proofs.Common.{get_or}
 use Rattle.std.proofs.Common.{◌≡◌, ℕ, ◌+◌, ◌-◌, ◌^◌, ◌<◌, Bool, true, false, not, ◌||◌, nat_eq, min, List}
 use Rattle.std.proofs.Common.{[], ◌∷◌, ◌++◌, length, filter, Option, Some, None, is_some, refl, sym, ap, ◌∙◌}
 use Rattle.std.proofs.Common.{append_assoc, append-nil, arith, if◌then◌else◌}
@@ -28,9 +28,7 @@ use Rattle.xc_list.proofs.CheckLemmas.BesideLists.{AllZip-append, by_pairs}
 -- a class is that of an option
 option_of : (b : Classes) (k : ℕ) → AreClasses b.problem.puzzle b.classes → k < length b.classes → (o : ℕ)
     × IsOfClass b k o
-option_of b k classes l =
-    let at = slice_get-get_or b.classes k [] l in
-    let used = classes.used k (get_or b.classes k []) at in (used.0, (used.1, at ∙ ap (λ us. Some us) (sym used.2)))
+option_of b k classes l = grind (arith, common_steps, slice_get-get_or b.classes k [] l)
 
 -- bodies that stand for classes stand for options of these
 options_of : (b : Classes) (bodies : List (List (List ℕ))) (chosen : List ℕ) → AreClasses b.problem.puzzle b.classes
@@ -75,8 +73,7 @@ empty-append (Some n) bodies solutions = refl
 body-later : (o : Option ℕ) (bodies : List (List (List ℕ))) (words : List (List ℕ)) (later : Listing)
     → with_later o (bodies ++ words ∷ []) later ≡ with_later o bodies (before_listing (Body words) later)
 body-later None bodies words later = refl
-body-later (Some n) bodies words later =
-    ap (λ bs. record { number = n; bodies = bs } ∷ later.solutions) (append_assoc bodies (words ∷ []) later.loose)
+body-later (Some n) bodies words later = grind (arith, common_steps, append_assoc)
 
 not-first : (done : ℕ) → true ≡ not (done + 1 == 0)
 not-first done = let e : nat_eq (done + 1) 0 ≡ false = grind (arith, nat_tests) in ap not (sym e)
@@ -122,16 +119,13 @@ body_taken : (s : Progress) (words : List (List ℕ)) (chosen : List ℕ) → is
     → ((bodies : List (List (List ℕ))) → AreChosen s.options bodies s.chosen
     → AreChosen s.options (bodies ++ words ∷ []) chosen) → Takes (Body words) s (record s { chosen = chosen })
 body_taken s words chosen some good more all done line rest e h =
-    let begun : not (done == 0) ≡ true = sym h.begun ∙ some in
-    let fine : fault_said s.options.problem (not (done == 0)) (min (done + 1) (2 ^ 64 - 1)) (Body words) ≡ None =
-    cc (begun, good) in
-    record {
-      begun = some ∙ not-first done;
-      bodies = h.bodies ++ words ∷ [];
-      are_chosen = more h.bodies h.are_chosen;
-      verdicts = λ vs. rw (e, ← body-later s.open_number h.bodies words (listing_of rest)) at (h.verdicts vs);
-      no_fault = h.no_fault ∙ no_fault-at s.options.problem done line rest (Body words) e fine;
-    }
+    grind (
+      arith,
+      common_steps,
+      not-first done,
+      body-later s.open_number h.bodies words (listing_of rest),
+      no_fault-at s.options.problem done line rest (Body words) e (cc ((sym h.begun ∙ some), good)),
+    )
 
 -- what stands for a class is known
 known : (b : Classes) (words : List (List ℕ)) (k : ℕ) → AreClasses b.problem.puzzle b.classes

@@ -1,7 +1,8 @@
 -- What classes add to the counts, and that the counts are 0 again once they were cleared.
+use Rattle.std.proofs.lemmas.Grind.{common_steps}
 use Rattle.std.proofs.lemmas.Bool.{cases_lt}
 use Rattle.std.proofs.lemmas.Bool.Decides.{nat_tests}
-use Rattle.std.proofs.Common.{ℕ, suc, ◌≡◌, ◌+◌, ◌<◌, ◌≤◌, inl, inr}
+use Rattle.std.proofs.Common.{ℕ, suc, ◌≡◌, ◌+◌, ◌<◌, ◌≤◌}
 use Rattle.std.proofs.Common.{cond, ◌==◌, List, [], ◌∷◌, ◌++◌, length, get_or, set, take, replicate}
 use Rattle.std.proofs.Common.{Some, ap, ◌∙◌, arith, subst}
 use Rattle.std.specs.Prelude.{slice_get, All, nat_lt}
@@ -9,7 +10,7 @@ use Rattle.std.specs.List.{AllByRecursion}
 use Rattle.std.proofs.lemmas.List.{append-nil, get_or-set_same, get_or-set_other, length-set}
 use Rattle.std.proofs.lemmas.List.{length-take-le, length-replicate, get_or-replicate, get_or_past, ext_get_or}
 use Rattle.std.proofs.lemmas.List.{take_more}
-use Rattle.std.proofs.lemmas.List.Elements.{All-weaker, All-take, recursion_from_All}
+use Rattle.std.proofs.lemmas.List.Elements.{All-take, recursion_from_All}
 use Rattle.std.proofs.lemmas.Option.{slice_get-get_or, get_or_from_slice_get}
 use Rattle.xc_input.specs.declared.problem.Use.{Use}
 use Rattle.xc_input.specs.Problem.{item_count, uses_of, IsSoundUse}
@@ -36,8 +37,7 @@ AreUsable n classes = (k : ℕ) → k < length classes → AreItems n (uses_at c
 -- known uses are of the items that there are
 pub known_items : (p : Named) (us : List Use) (n : ℕ) → n ≡ item_count p.puzzle → All (IsKnownUse p) us
     → All (λ u. (1 ≤ u.item) × (u.item ≤ n)) us
-known_items p us n e =
-    All-weaker (IsKnownUse p) (λ u. (1 ≤ u.item) × (u.item ≤ n)) (λ u h. (h.0.0, omega (arith, h.0.1, e))) us
+known_items p us n e = grind (arith, common_steps)
 
 pub classes_usable : (b : Classes) → IsSound b.problem → AreClasses b.problem.puzzle b.classes
     → AreUsable (item_count b.problem.puzzle) b.classes
@@ -59,9 +59,7 @@ pub uses_in-take : (classes : List (List Use)) (ks : List ℕ) (i : ℕ) (us : L
     → slice_get classes (get_or ks i 0) ≡ Some us
     → uses_in classes (take (i + 1) ks) ≡ uses_in classes (take i ks) ++ us
 uses_in-take classes ks i us l e =
-    let class : uses_at classes (get_or ks i 0) ≡ us = get_or_from_slice_get classes (get_or ks i 0) us [] e in
-    ap (uses_in classes) (take_more ks i 0 l) ∙ flat_map-append (uses_at classes) (take i ks) (get_or ks i 0 ∷ [])
-    ∙ ap (λ vs. uses_in classes (take i ks) ++ vs) (append-nil (uses_at classes (get_or ks i 0)) ∙ class)
+    grind (arith, common_steps, get_or_from_slice_get, take_more, flat_map-append, append-nil)
 
 abbrev pub AreBelow : ℕ → List ℕ → Type 0
 AreBelow n ks = AllByRecursion (λ k. k < n) ks
@@ -82,12 +80,7 @@ held_few n i classes [] h a = omega arith
 held_few n i classes (k ∷ ks) h a = grind (arith, nat_tests, held_few n i classes ks h a.1, held-append, held_once)
 
 zeros-at : (n k : ℕ) → get_or {A = ℕ} (replicate n 0) k 0 ≡ 0
-zeros-at n k =
-    let zeros : List ℕ = replicate n 0 in
-    elim (cases_lt k n) [
-      | inl l ↦ get_or-replicate {A = ℕ} n k 0 0 l
-      | inr l ↦ get_or_past zeros k 0 (omega (arith, l, length-replicate {A = ℕ} n 0))
-    ]
+zeros-at n k = grind (arith, common_steps, cases_lt, get_or-replicate, get_or_past, length-replicate)
 
 pub added_few : (n : ℕ) (classes : List (List Use)) (ks : List ℕ) (i k : ℕ) → AreUsable n classes
     → All (λ j. j < length classes) ks → i ≤ length ks

@@ -2,7 +2,7 @@
 use Rattle.std.proofs.lemmas.Bool.Decides.{nat_tests}
 use Rattle.std.proofs.lemmas.List.{take_rest}
 use Rattle.std.proofs.Common.{◌≡◌, ℕ, zero, suc, ◌+◌, ◌-◌, ◌<◌, true, false, nat_eq, List, [], ◌∷◌, ◌++◌, length}
-use Rattle.std.proofs.Common.{take, drop, get_or, refl, sym, ap, ◌∙◌, append_assoc, add-one, arith}
+use Rattle.std.proofs.Common.{take, drop, get_or, refl, ap, ◌∙◌, append_assoc, add-one, arith}
 use Rattle.std.specs.List.{onto_first}
 use Rattle.std.proofs.lemmas.Bool.{eqb-true}
 use Rattle.xc_input.specs.Words.{has}
@@ -40,8 +40,7 @@ last_cut b xs ys k e l h g = grind (arith, nat_tests, at_last b xs k l h g, take
 -- LINES
 pub first_line : (text line rest : List ℕ) → has 10 line ≡ false → text ≡ line ++ 10 ∷ rest
     → lines_of text ≡ line ∷ lines_of rest
-first_line text line rest h e =
-    ap lines_of (e ∙ sym (append_assoc line (10 ∷ []) rest)) ∙ lines_of-ended (line ∷ []) rest (h, tt)
+first_line text line rest h e = cc (append_assoc line (10 ∷ []) rest, lines_of-ended (line ∷ []) rest (h, tt))
 
 -- WORDS
 pub one_word : (word : List ℕ) → has 32 word ≡ false → words_in word ≡ word ∷ []

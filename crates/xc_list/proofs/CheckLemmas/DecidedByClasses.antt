@@ -1,4 +1,5 @@
 -- A listed solution is a cover exactly where its classes are, by counting.
+use Rattle.std.proofs.lemmas.Grind.{common_steps}
 use Rattle.std.specs.List.{AllByRecursion}
 use Rattle.std.proofs.lemmas.Bool.Decides.{nat_tests}
 use Rattle.std.specs.List.{AllZip}
@@ -49,8 +50,7 @@ option-differs p v o h =
 
 -- the uses of an option can be told
 pub option-known : (p : Named) → IsSound p → (o : ℕ) → IsOption p.puzzle o → All (IsKnownUse p) (uses_of p.puzzle o)
-option-known p r o h =
-    known_option p.puzzle p.colours o (uses_of p.puzzle o) r.valid r.coloured (numbered_some _ _ _ h.0 h.1)
+option-known p r o h = grind (arith, common_steps, known_option, numbered_some)
 
 pub alike-classes : (p : Puzzle) → IsLikeness (alike p)
 alike-classes p = record {

@@ -1,4 +1,5 @@
 -- Classes found by their uses.
+use Rattle.std.proofs.lemmas.Grind.{common_steps}
 use Rattle.xc_list.specs.inner.Classes.{same_uses}
 use Rattle.std.proofs.Common.{ℕ, suc, ◌≡◌, ◌<◌, if◌then◌else◌, Option, true, false, List, [], ◌∷◌, ◌++◌, length}
 use Rattle.std.proofs.Common.{map, get_or, position, Some, None, refl, sym, ap, ◌∙◌, arith, subst}
@@ -71,9 +72,7 @@ known-as p s words h =
 module _ (p : Named) (keys : List (Vec Use Global)) (counts : List ℕ) (b : IsOptionIndex p keys counts) where
   -- a body that no uses have the words of
   pub no-uses : (words : List (List ℕ)) → ((us : List Use) → HaveWords p words us → ⊥) → is_known p words ≡ false
-  no-uses words none =
-      not_false (is_known p words)
-      (λ h. let o = known-as p b.sound words h in none (rotated_at o.2 (uses_of p.puzzle o.0)) o.3)
+  no-uses words none = grind (arith, common_steps, known-as)
 
   -- a body of uses that are of no class
   pub no-class : (words : List (List ℕ)) (us : List Use) → HaveWords p words us

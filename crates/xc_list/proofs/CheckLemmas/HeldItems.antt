@@ -1,7 +1,7 @@
 -- What uses add to the counts of their items.
-use Rattle.std.proofs.Common.{inl, inr}
+use Rattle.std.proofs.lemmas.Grind.{common_steps}
 use Rattle.std.proofs.Common.{ℕ, zero, suc, ◌≡◌, ◌≢◌, ◌+◌, ◌-◌, ◌<◌, ◌≤◌, cond, ◌==◌, List, [], ◌∷◌}
-use Rattle.std.proofs.Common.{◌++◌, length, get_or, set, take, refl, ap, ◌∙◌, arith, ne_eqb}
+use Rattle.std.proofs.Common.{◌++◌, length, get_or, set, take, refl, ◌∙◌, arith, ne_eqb}
 use Rattle.std.specs.List.{AllByRecursion}
 use Rattle.xc_input.proofs.lists.Members.{each_in, in-contains}
 use Rattle.std.proofs.lemmas.List.{get_or-set_same, get_or-set_other, length-set, get_or_past, get_or_default}
@@ -50,10 +50,7 @@ raised-at (j ∷ ks) ns k l =
 
 -- at a place behind all of them too
 pub raised-most : (ks ns : List ℕ) (k : ℕ) → get_or (raised ks ns) k 0 ≤ get_or ns k 0 + counted (λ j. j == k) ks
-raised-most ks ns k = elim (cases_lt k (length ns)) [
-  | inl l ↦ omega (arith, raised-at ks ns k l)
-  | inr l ↦ omega (arith, get_or_past (raised ks ns) k 0 (omega (arith, l, length-raised ks ns)))
-]
+raised-most ks ns k = grind (arith, common_steps, cases_lt, raised-at, get_or_past, length-raised)
 
 -- ---- uses
 
@@ -73,8 +70,7 @@ held-places n (u ∷ us) k a = grind (arith, nat_tests, held-places n us k a.1)
 -- at the place of each item
 pub added-at : (n : ℕ) (us : List Use) (ts : List ℕ) (k : ℕ) → AreItems n us → n ≡ length ts → k < n
     → get_or (added us ts) k 0 ≡ get_or ts k 0 + held (suc k) us
-added-at n us ts k a e l =
-    raised-at (item_places us) ts k (omega (arith, e, l)) ∙ ap (λ m. get_or ts k 0 + m) (held-places n us k a)
+added-at n us ts k a e l = grind (arith, common_steps, raised-at, held-places)
 
 -- ---- different items
 

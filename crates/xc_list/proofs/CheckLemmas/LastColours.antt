@@ -1,4 +1,5 @@
 -- The colours that options give an item, in turn.
+use Rattle.std.proofs.lemmas.Grind.{common_steps}
 use Rattle.std.proofs.Common.{◌≤◌}
 use Rattle.std.proofs.lemmas.Bool.Decides.{nat_tests}
 use Rattle.std.specs.Prelude.{if◌then◌else◌}
@@ -112,16 +113,11 @@ agrees_with v d cs c = agrees v (length cs) (last_or d cs) c ≡ true
 agree-last : (d : ℕ) (cs : List ℕ) → EachTwo Agree cs → AllByRecursion (agrees_with None d cs) cs
 agree-last d [] h = tt
 agree-last d (x ∷ []) h = (refl, tt)
-agree-last d (x ∷ y ∷ cs) h =
-    let last = last_same x (y ∷ cs) (each_weaker (Agree x) (λ e. x ≡ e) (y ∷ cs) (λ e a. a.0) h.0) in (
-      grind (arith, nat_tests, h.0.0.1),
-      each_weaker (Agree x) (agrees_with None d (x ∷ y ∷ cs)) (y ∷ cs) (λ e a. grind (arith, nat_tests, a, last)) h.0,
-    )
+agree-last d (x ∷ y ∷ cs) h = grind (arith, common_steps, last_same, each_weaker, nat_tests)
 
 all_agree : (l : ℕ) (cs : List ℕ) → AllByRecursion (Agree l) cs → EachTwo Agree cs
 all_agree l [] a = tt
-all_agree l (c ∷ cs) a =
-    (each_weaker (Agree l) (Agree c) cs (λ e b. grind (arith, nat_tests, a.0, b)) a.1, all_agree l cs a.1)
+all_agree l (c ∷ cs) a = grind (arith, common_steps, each_weaker, nat_tests, all_agree l cs a.1)
 
 last-agree : (d : ℕ) (cs : List ℕ) → AllByRecursion (agrees_with None d cs) cs → EachTwo Agree cs
 last-agree d [] h = tt

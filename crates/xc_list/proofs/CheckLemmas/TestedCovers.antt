@@ -1,6 +1,7 @@
 -- Options are a cover exactly where the tests of its conditions say so.
+use Rattle.std.proofs.lemmas.Grind.{common_steps}
 use Rattle.std.proofs.Common.{ℕ, zero, suc, ◌≡◌, ◌≢◌, ◌+◌, ◌<◌, ◌≤◌, Bool, true, false, ◌==◌, List, [], ◌∷◌}
-use Rattle.std.proofs.Common.{Option, Some, None, refl, sym, ap, add-one, arith, subst, inl, inr, eqb-true, eq-eqb}
+use Rattle.std.proofs.Common.{Option, Some, None, refl, ap, add-one, arith, inl, inr, eqb-true, eq-eqb}
 use Rattle.std.proofs.Common.{ne_eqb}
 use Rattle.std.specs.Prelude.{All, AllPairs, nat_le, ◌||◌}
 use Rattle.std.specs.List.{list_all, list_any}
@@ -87,9 +88,7 @@ agree p v a b known h =
 -- a number that stands again behind the first
 pub stands_again : (x : ℕ) (others rest : List ℕ) → rest ≡ x ∷ others → list_any (λ y. y == x) others ≡ true
     → EachTwo (λ a b. a ≢ b) rest → ⊥
-stands_again x others rest e h apart =
-    let y = in-any (λ y. y == x) others h in
-    each_in (λ y. x ≢ y) others y.0 (subst (EachTwo (λ a b. a ≢ b)) e apart).0 y.1 (sym (eqb-true y.0 x y.2))
+stands_again x others rest e h apart = grind (arith, common_steps, in-any, each_in, eqb-true)
 
 -- one that doesn't
 pub stands_alone : (x : ℕ) (others rest : List ℕ) → rest ≡ x ∷ others → list_any (λ y. y == x) others ≡ false

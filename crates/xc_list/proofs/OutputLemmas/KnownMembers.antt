@@ -1,4 +1,5 @@
 -- The choices of a member can be told, and the counts in them are small.
+use Rattle.std.proofs.lemmas.Grind.{common_steps}
 use Rattle.xc_search.specs.Listing.{take_branch}
 use Rattle.std.proofs.Common.{map}
 use Rattle.xc_input.proofs.lists.Members.{IsIn, in-map, in-filter, in-append, each_in, each_from, in-take}
@@ -12,8 +13,8 @@ use Rattle.xc_dance.proofs.MoveLemmas.ListLemmas.{length-numbered_from}
 use Rattle.std.proofs.Common.{inl, inr}
 use Rattle.std.proofs.Common.{◌<◌}
 use Rattle.std.proofs.lemmas.List.{length-take}
-use Rattle.std.proofs.Common.{ℕ, zero, suc, ◌+◌, ◌≤◌, not, List, [], ◌∷◌}
-use Rattle.std.proofs.Common.{length, take, sym, ap, ◌∙◌, arith, subst}
+use Rattle.std.proofs.Common.{ℕ, zero, suc, ◌+◌, ◌≤◌, List, [], ◌∷◌}
+use Rattle.std.proofs.Common.{length, take, arith, subst}
 use Rattle.xc_search.specs.inner.Sizes.{size_of}
 use Rattle.std.specs.Prelude.{All, ◌==◌}
 use Rattle.std.specs.List.{enumerate_from}
@@ -56,21 +57,11 @@ each_numbered P a b [] h all = tt
 each_numbered P a b (x ∷ xs) h all = ((omega (arith, h), all.0), each_numbered P (a + 1) b xs (omega (arith, h)) all.1)
 
 pick_known : (p : Puzzle) (r : Residual) (i : ℕ) (x : Numbered) → IsKnownResidual p r → IsKnownResidual p (pick r i x)
-pick_known p r i x known = record {
-  items = λ w h.
-      let from = in-map _ _ _ (in-filter _ _ _ h).0 in
-      subst (IsPrimary p) (sym (item-spend_one x from.0) ∙ ap (λ (w : Wanted). w.item) from.2)
-      (known.items from.0 from.1);
-  options = λ o h. known.options o (in-filter _ _ _ h).0;
-  few = omega (arith, length-filter-le (goes_on r i x) r.options, known.few);
-}
+pick_known p r i x known =
+    grind (arith, common_steps, in-map, in-filter, item-spend_one, length-filter-le, goes_on)
 
 none_known : (p : Puzzle) (r : Residual) (i : ℕ) → IsKnownResidual p r → IsKnownResidual p (none r i)
-none_known p r i known = record {
-  items = λ w h. known.items w (in-filter _ _ _ h).0;
-  options = λ o h. known.options o (in-filter _ _ _ h).0;
-  few = omega (arith, length-filter-le (λ o. not (holds o i)) r.options, known.few);
-}
+none_known p r i known = grind (arith, common_steps, in-filter, length-filter-le)
 
 branch_known : (p : Puzzle) (r : Residual) (w : Wanted) (b : Branch) → IsKnownResidual p r → IsPrimary p w.item
     → IsIn (branches_of r w) b → IsKnownBranch p b

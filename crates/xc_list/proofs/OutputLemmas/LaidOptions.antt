@@ -1,4 +1,5 @@
 -- Texts of options laid out one behind another.
+use Rattle.std.proofs.lemmas.Grind.{common_steps}
 use Rattle.xc_input.proofs.lists.Places.{drop_at}
 use Rattle.std.proofs.Common.{add-one}
 use Rattle.std.proofs.lemmas.Option.{slice_get-map, get_or_from_slice_get}
@@ -7,7 +8,7 @@ use Rattle.xc_list.proofs.CheckLemmas.ListedNumbers.{numbered_some}
 use Rattle.std.specs.Prelude.{option_map}
 use Rattle.std.proofs.lemmas.Bool.Decides.{nat_tests}
 use Rattle.std.proofs.Math.Seq.{take-append_seam, drop-append_seam}
-use Rattle.std.proofs.lemmas.List.{drop-append-le, take-append-le, drop-take, drop-drop}
+use Rattle.std.proofs.lemmas.List.{drop-append-le, drop-take, drop-drop}
 use Rattle.std.proofs.lemmas.List.{take-take, length-take, length-map, take-append-drop}
 use Rattle.xc_list.specs.inner.LineParts.{use_text}
 use Rattle.std.proofs.Common.{ℕ, zero, suc, ◌≡◌, ◌+◌, ◌-◌, ◌≤◌, List, [], ◌∷◌, ◌++◌, length, map, take, drop}
@@ -19,7 +20,6 @@ use Rattle.xc_input.specs.declared.problem.Use.{Use}
 use Rattle.xc_input.specs.UsePlaces.{place_in}
 use Rattle.xc_input.specs.Problem.{numbered_get}
 use Rattle.xc_input.specs.Named.{Named}
-use Rattle.xc_input.proofs.FaultLemmas.Checks.{map-snoc}
 use Rattle.xc_input.proofs.OptionLemmas.FlatParts.{length-pieces, option_part, pieces-snoc}
 use Rattle.xc_list.specs.Output.{from_item}
 use Rattle.xc_list.specs.inner.Layout.{AreLaid, ArePadded, first_item, uses_text}
@@ -32,8 +32,7 @@ options_left os o us e = rw add-one (drop_at os o us (sym (numbered_get-at os (o
 -- as many starts as options, and the length
 pub laid-count : (a : Named) (os : List (List Use)) (texts starts : List ℕ) → AreLaid a os texts starts
     → length starts ≡ length os + 1
-laid-count a os texts starts l =
-    omega (arith, length-pieces starts texts l.rising, ap length l.parts, length-map os (uses_text a))
+laid-count a os texts starts l = grind (arith, common_steps, length-pieces, length-map)
 
 numbered-map : {X : Type 0} (f : List Use → X) (os : List (List Use)) (o : ℕ) → (1 ≤ o) × (o ≤ length os)
     → numbered_get (map f os) o ≡ Some (f (unwrap_or (numbered_get os o) []))
@@ -48,17 +47,12 @@ module _ (a : Named) (item : ℕ) (us : List Use) {text : List ℕ} {place : ℕ
       ∙ flat_map-append (use_text a) (take (place_in item us) us) (drop (place_in item us) us)
 
   pub cut_within : place ≤ length text
-  cut_within =
-      let all = length-append (uses_text a (take (place_in item us) us)) (uses_text a (drop (place_in item us) us)) in
-      omega (arith, at, ap length halves)
+  cut_within = grind (arith, common_steps, length-append, a, item, us, at, halves)
 
   -- the text behind the cut and the text before it are those of the uses from the item's on, cyclically
   pub cut_gives : flat_map (use_text a) (from_item item us) ≡ drop place text ++ take place text
   cut_gives =
-      let k = place_in item us in
-      let behind = drop-append_seam (uses_text a (take k us)) (uses_text a (drop k us)) in
-      let before = take-append_seam (uses_text a (take k us)) (uses_text a (drop k us)) in
-      cc (halves, at, flat_map-append (use_text a) (drop k us) (take k us))
+      grind (arith, common_steps, item, us, drop-append_seam, a, take-append_seam, halves, at, flat_map-append)
 
 -- one option more
 pub laid_more : (a : Named) (os : List (List Use)) (us : List Use) (texts more starts : List ℕ) (n : ℕ)
@@ -67,10 +61,7 @@ pub laid_more : (a : Named) (os : List (List Use)) (us : List Use) (texts more s
 laid_more a os us texts more [] n l e f = absurd l.rising
 laid_more a os us texts more (x ∷ starts) n l e f =
     let part = pieces-snoc _ _ _ _ _ l.rising (f ∙ ap length e ∙ length-append texts (uses_text a us)) in
-    rw e (record {
-      rising = part.0;
-      parts = part.1 ∙ ap (λ ts. ts ++ uses_text a us ∷ []) l.parts ∙ sym (map-snoc (uses_text a) os us);
-    })
+    grind (arith, common_steps)
 
 -- the text between two starts that were read, where 16 bytes more stand behind the texts
 pub padded_part : (a : Named) (os : List (List Use)) (texts starts : List ℕ) (o x y : ℕ) → ArePadded a os texts starts
@@ -83,11 +74,8 @@ padded_part a os texts starts o x y p known e f =
     let part = option_part starts p.laid o x y l.rising known.0 (omega (arith, known.1, count)) e f in
     let within : y - x ≤ length (drop x p.laid) = omega (arith, length-drop x p.laid, part.0, part.1) in
     let front = drop-append-le x p.laid p.padding (omega (arith, part.0, part.1)) in
-    let text = ap (λ ts. numbered_get ts o) l.parts ∙ numbered-map (uses_text a) os o known in (
-      part.0,
-      omega (arith, part.1, p.long, ap length p.whole, length-append p.laid p.padding),
-      cc (p.whole, front, take-append-le (y - x) (drop x p.laid) p.padding within, part.2, text),
-    )
+    let text = ap (λ ts. numbered_get ts o) l.parts ∙ numbered-map (uses_text a) os o known in
+    grind (arith, common_steps)
 
 pub span-length : (texts : List ℕ) (from count : ℕ) → from + count + 16 ≤ length texts
     → length (take count (drop from texts)) ≡ count

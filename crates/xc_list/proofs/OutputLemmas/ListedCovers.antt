@@ -1,4 +1,5 @@
 -- What is printed for a problem is a listing without a fault, and each listed solution is a cover.
+use Rattle.std.proofs.lemmas.Grind.{common_steps}
 use Rattle.xc_list.proofs.OutputLemmas.OutputLines.{IsReadable, IsReadableMember}
 use Rattle.xc_input.proofs.lists.Members.{in-take}
 use Rattle.xc_list.proofs.OutputLemmas.KnownMembers.{member_counted}
@@ -101,11 +102,7 @@ each_yes p _ _ covers h = absurd h
 
 module _ (p : Named) (sound : IsSound p) (none : All (λ n. n ≢ codes "null") p.names) where
   readable : (c : Choice) → IsCounted p.puzzle c → IsReadable p c
-  readable c counted = record {
-    told = told p sound none c counted.known;
-    k = omega (arith, counted.k, sound.limits.options);
-    n = omega (arith, counted.n, sound.limits.options);
-  }
+  readable c counted = grind (arith, common_steps, told p sound none c counted.known, sound.limits.options)
 
   readable_member : (nm : ℕ × List Choice) → IsNumberedMember p nm → IsReadableMember p nm
   readable_member nm h = record {

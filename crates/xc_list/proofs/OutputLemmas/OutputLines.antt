@@ -1,4 +1,6 @@
 -- The lines of an output.
+use Rattle.std.proofs.Common.{arith}
+use Rattle.std.proofs.lemmas.Grind.{common_steps}
 use Rattle.xc_list.proofs.OutputLemmas.ChoiceBodies.{body_words, IsTold}
 use Rattle.xc_search.specs.Cover.{IsCover, options_of}
 use Rattle.std.proofs.lemmas.List.Concat.{flat_map-append}
@@ -55,19 +57,14 @@ regroup : (body ks ns : List ℕ) → body ++ (codes " (" ++ ks ++ codes " of " 
 regroup body ks ns = simp (append_assoc {A = ℕ}, append-nil {A = ℕ})
 
 choice-ended : (p : Named) (c : Choice) → choice_text p c ≡ choice_line p c ++ 10 ∷ []
-choice-ended p c =
-    let parts = regroup (spaced (choice_words p c)) (decimal c.k) (decimal c.n) in
-    cc (body-spaced p c.item c.option, flat_map-append (λ w. 32 ∷ w) (choice_words p c) (ending_words c.k c.n))
+choice-ended p c = grind (arith, common_steps, regroup, spaced, body-spaced, flat_map-append)
 
 choices-ended : (p : Named) (m : List Choice) → flat_map (choice_text p) m ≡ ended (map (choice_line p) m)
 choices-ended p [] = refl
-choices-ended p (c ∷ m) =
-    cc (choice-ended p c, append_assoc (choice_line p c) (10 ∷ []) (flat_map (choice_text p) m), choices-ended p m)
+choices-ended p (c ∷ m) = grind (arith, common_steps, choice-ended, append_assoc, choices-ended p m)
 
 member-ended : (p : Named) (nm : ℕ × List Choice) → member_text p nm ≡ ended (member_lines p nm)
-member-ended p nm =
-    let header = append_assoc (decimal nm.0) (codes ":") (10 ∷ flat_map (choice_text p) nm.1) in
-    cc (append_assoc (decimal nm.0) (codes ":\n") (flat_map (choice_text p) nm.1), choices-ended p nm.1)
+member-ended p nm = grind (arith, common_steps, append_assoc, choices-ended)
 
 pub read-choice_line : (p : Named) (c : Choice) → IsReadable p c → (read (choice_line p c) ≡ Body (choice_words p c))
     × (has 10 (choice_line p c) ≡ false)

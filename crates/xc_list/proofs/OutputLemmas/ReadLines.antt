@@ -3,9 +3,9 @@ use Rattle.std.proofs.lemmas.Str.Parse.{IsNumeralModel, numerals_by_fold}
 use Rattle.std.proofs.lemmas.Fmt.{decimal_nonempty, digits_value-decimal, digits_decimal}
 use Rattle.std.proofs.Common.{flat_map}
 use Rattle.std.proofs.Common.{rules}
-use Rattle.std.proofs.Common.{◌≡◌, ℕ, ◌-◌, ◌^◌, ◌<◌, ◌≤◌, Bool, true, false}
-use Rattle.std.proofs.Common.{nat_eq, List, [], ◌∷◌, ◌++◌, None, Some, length, refl, ap, sym, ◌∙◌}
-use Rattle.std.proofs.Common.{arith, length-append}
+use Rattle.std.proofs.Common.{◌≡◌, ℕ, ◌^◌, ◌<◌, ◌≤◌, Bool, true, false}
+use Rattle.std.proofs.Common.{nat_eq, List, [], ◌∷◌, ◌++◌, None, Some, length, refl, ap, ◌∙◌}
+use Rattle.std.proofs.Common.{arith}
 use Rattle.xc_input.proofs.TokenLemmas.DecimalValues.{value_from}
 use Rattle.std.specs.Prelude.{codes, decimal}
 use Rattle.std.specs.List.{list_all, list_any}
@@ -14,7 +14,6 @@ use Rattle.std.proofs.lemmas.Grind.{common_steps}
 use Rattle.std.proofs.lemmas.Fmt.{length-decimal-le}
 use Rattle.xc_input.proofs.lists.EachElement.{each-append}
 use Rattle.std.specs.List.{AllByRecursion}
-use Rattle.std.proofs.Math.Seq.{drop-append_seam, take-append_seam}
 use Rattle.xc_input.specs.Words.{has}
 use Rattle.xc_input.specs.Tokens.{is_space}
 use Rattle.std.specs.Char.{is_ascii_digit}
@@ -89,11 +88,7 @@ no_feed-spaced (w ∷ ws) plain = grind (arith, common_steps, plain.0.no_feed, n
 
 body_of_words-is : (body ending : List (List ℕ)) → 1 ≤ length body → length ending ≡ 3
     → list_all is_word (body ++ ending) ≡ true → is_ending ending ≡ true → body_of_words (body ++ ending) ≡ Some body
-body_of_words-is body ending some three words ends =
-    let k : length (body ++ ending) - 3 ≡ length body = omega (arith, length-append body ending, three) in
-    let behind = drop-append_seam body ending in
-    let before = take-append_seam body ending in
-    grind (arith, nat_tests)
+body_of_words-is body ending some three words ends = grind (arith, common_steps, nat_tests)
 
 -- ---- choice lines
 

@@ -1,3 +1,4 @@
+use Rattle.std.proofs.lemmas.Grind.{common_steps}
 use Rattle.xc_list.proofs.Outputs.{texts_all, texts_next, texts_broke, holds_next}
 use Rattle.xc_list.specs.Below.{most_counted}
 use Rattle.xc_list.specs.Output.{member_text}
@@ -11,9 +12,7 @@ use Rattle.xc_list.proofs.below.write_each.Goals as goal
 use Rattle.xc_list.proofs.below.write_each.Goals.{In-Done, In-Solution}
 
 all : (g : _) (c : In-Done g) → c.loop-found.found ≡ length c.args.search.now.to_come
-all g c =
-    all_done c.args.search.now.to_come c.loop-found.found (sym c.loop-found.invariant.come ∙ (c.next.ensures.done
-    c.in-Done.is).0) c.loop-found.invariant.within
+all g c = grind (arith, common_steps, all_done)
 
 next : (g : _) (c : In-Solution g) → drop c.loop-found.found c.args.search.now.to_come
     ≡ c.next.new.self.shown ∷ c.next.new.self.to_come

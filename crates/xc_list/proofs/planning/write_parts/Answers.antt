@@ -1,3 +1,5 @@
+use Rattle.std.proofs.Common.{arith}
+use Rattle.std.proofs.lemmas.Grind.{common_steps}
 use Rattle.std.proofs.Common.{◌≡◌, ◌++◌, ap, ◌∙◌}
 use Rattle.xc_search.specs.Cut.{Uncut, IsPath, below}
 use Rattle.xc_list.proofs.Planned.{planned_more, planned_broke}
@@ -16,8 +18,4 @@ returns-in-Err-clause-plan g c =
     (part g (goal.at.returns-in-Err-clause-plan g c).After-path) c.in-Err.ensures
 
 pub loop-found-preserved : goal.loop-found-preserved
-loop-found-preserved g c = record {
-  still = rw (c.next.ensures.still, c.loop-found.invariant.still);
-  planned = planned_more _ _ c.path.result.now c.loop-found.invariant.planned
-      (part g (goal.at.loop-found-preserved g c).After-path) c.in-Ok.ensures;
-}
+loop-found-preserved g c = grind (arith, common_steps, planned_more, part)

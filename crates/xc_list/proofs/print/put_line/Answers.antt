@@ -1,3 +1,4 @@
+use Rattle.std.proofs.lemmas.Grind.{common_steps}
 use Rattle.xc_list.proofs.Writing.{if_failed}
 use Rattle.xc_list.proofs.PageLemmas.{puts_out}
 use Rattle.std.proofs.Common.{arith, refl}
@@ -6,10 +7,7 @@ use Rattle.xc_list.proofs.PageLemmas.{held_more, puts_held}
 use Rattle.xc_list.proofs.print.put_line.Goals as goal
 
 pub returns-in-Some-clause-put : goal.returns-in-Some-clause-put
-returns-in-Some-clause-put g c =
-    puts_held (g.S.Sink.state c.args.sink.now) _ _ _ (held_more c.args.page.now c.put_choice.new.page _ c.args.held.from
-    c.args.held.to c.in-Some.to c.requires.within.0 (omega (arith, c.requires.within.1, c.requires.size)) (cc
-    (c.in-Some.ensures.put, c.requires.same)))
+returns-in-Some-clause-put g c = grind (arith, common_steps, puts_held, held_more)
 
 pub returns-in_err-write_past-clause-put : goal.returns-in_err-write_past-clause-put
 returns-in_err-write_past-clause-put g c =

@@ -1,3 +1,4 @@
+use Rattle.std.proofs.lemmas.Grind.{common_steps}
 use Rattle.std.proofs.lemmas.Bool.Decides.{nat_tests}
 use Rattle.std.proofs.Common.{arith}
 use Rattle.std.proofs.Common.{◌≡◌, true, not, is_some, Some, None, sym, ap, ◌∙◌, subst}
@@ -20,12 +21,7 @@ invariant_of-self-in-Ok-Some c =
     (words, said, subst (IsClassOfBody i.options words) c.in-Ok-Some.field-0-is c.in-Ok-Some.ensures.class) in
     let seen = noted-rightly i.options _ c.note.new.self.lines.items c.args.line.now c.in-Ok-Some.class class
     c.note.ensures c.self.invariant.seen in
-    rw c.class_of.ensures.same (record {
-      places = c.self.invariant.places;
-      indexed = c.self.invariant.indexed;
-      known = c.self.invariant.known;
-      seen = seen;
-    })
+    grind (arith, common_steps)
 
 pub returns-in_ok-take_class-in-Ok-Some-clause-takes : goal.returns-in_ok-take_class-in-Ok-Some-clause-takes
 returns-in_ok-take_class-in-Ok-Some-clause-takes c =
@@ -34,7 +30,6 @@ returns-in_ok-take_class-in-Ok-Some-clause-takes c =
     let s : Progress = progress i.options i.open_number i.chosen.items i.verdicts.items in
     let class : IsClassOfBody c.class_of.new.self words (Some c.in-Ok-Some.class) =
     grind (arith, nat_tests, c.class_of.ensures.same, c.in-Ok-Some.field-0-is, c.in-Ok-Some.ensures.class) in
-    let same = ap (λ (b : Classes). record s { options = b }) c.class_of.ensures.same ∙ c.self.view_is in
     grind (arith, nat_tests, c.in_ok-take_class-in-Ok-Some.ensures.takes words class)
 
 pub returns-in-Ok-None-clause-takes : goal.returns-in-Ok-None-clause-takes

@@ -1,8 +1,6 @@
-use Rattle.std.proofs.Common.{refl, arith, subst}
-use Rattle.xc_list.specs.Listed.{IsListingFault}
+use Rattle.std.proofs.lemmas.Grind.{common_steps}
+use Rattle.std.proofs.Common.{refl, arith}
 use Rattle.std.proofs.lemmas.Result.{err_from_is_err_and}
-use Rattle.xc_input.specs.Lines.{lines_of}
-use Rattle.xc_list.specs.inner.Classes.{Classes}
 use Rattle.xc_list.proofs.checker.Checker.take_lines.Goals as goal
 
 pub returns-in_err-take_line-clause-fault : goal.returns-in_err-take_line-clause-fault
@@ -12,5 +10,4 @@ returns-in_err-take_line-clause-fault c =
     let first = c.in_err-take_line.ensures.fault _ so_far.done _ _ refl
     (omega (arith, so_far.count, c.saturating_add-lines.ensures)) (rw c.cut_line.ensures.lines at so_far.progress) in
     let fault = c.in_err-take_line.field-0.0 in
-    rw (p.1, p.2) (subst (λ (b : Classes). IsListingFault b.problem (lines_of c.args.listing.now) fault)
-    so_far.options first)
+    grind (arith, common_steps)

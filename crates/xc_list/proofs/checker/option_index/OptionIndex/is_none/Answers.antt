@@ -1,5 +1,6 @@
-use Rattle.std.proofs.Common.{refl, sym, ap, ◌∙◌, ◌≡◌, ◌<◌, List, ℕ, ◌∷◌, [], length, Option, Some, MatchOption, Bor}
-use Rattle.std.proofs.lemmas.Option.{MatchOption-at_some}
+use Rattle.std.proofs.Common.{arith}
+use Rattle.std.proofs.lemmas.Grind.{common_steps}
+use Rattle.std.proofs.Common.{refl, ◌≡◌, ◌<◌, List, ℕ, ◌∷◌, [], length, Option, Some, MatchOption, Bor}
 use Rattle.xc_list.specs.ListingLines.{words_in}
 use Rattle.xc_list.proofs.CheckLemmas.NumberedTexts.{none-of-three}
 use Rattle.xc_list.proofs.CheckLemmas.CutLines.{some_words}
@@ -11,10 +12,7 @@ cut-some : {text : Bor (List ℕ)} (same word : Bor (List ℕ)) (rest : Option (
     → MatchOption rest (words_in text.now ≡ word.now ∷ [])
     (λ r. (words_in text.now ≡ word.now ∷ words_in r.now) × (length r.now < length text.now))
     → words_in same.now ≡ word.now ∷ words_in left.now
-cut-some {text} same word rest left q e h =
-    ap (λ (r : Bor (List ℕ)). words_in r.now) (sym q)
-    ∙ (MatchOption-at_some (words_in text.now ≡ word.now ∷ [])
-    (λ r. (words_in text.now ≡ word.now ∷ words_in r.now) × (length r.now < length text.now)) left e h).0
+cut-some {text} same word rest left q e h = grind (arith, common_steps)
 
 pub returns-in_default-Some-cut_word : goal.returns-in_default-Some-cut_word
 returns-in_default-Some-cut_word c =

@@ -1,3 +1,4 @@
+use Rattle.std.proofs.lemmas.Grind.{common_steps}
 use Rattle.std.proofs.Common.{◌≡◌, arith}
 use Rattle.xc_input.specs.Problem.{option_count}
 use Rattle.xc_list.proofs.CheckLemmas.ClassUses.{classes-whole}
@@ -8,10 +9,7 @@ invariant_of-result c =
     let p = c.args.problem.now in
     let all : c.loop-o.o ≡ option_count p.puzzle =
     omega (arith, c.loop-o-test.false, c.loop-o.auto.o-end, c.options-o-end.ensures.value) in
-    record {
-      sound = c.options-o-end.ensures.whole;
-      complete = rw all at c.loop-o.invariant;
-    }
+    grind (arith, common_steps)
 
 pub returns-clause-indexed : goal.returns-clause-indexed
 returns-clause-indexed c =
