@@ -117,11 +117,6 @@ pub last-place : {A : Type 0} (p : A → Bool) (xs : List A) → list_any p xs �
 last-place p [] e = refl
 last-place p (x ∷ xs) e = grind (arith, last-place p xs)
 
-pub new-place-is : (keys : List (Vec ℕ Global)) (k : Vec ℕ Global) (name : List ℕ)
-    → position (bytes_eq name) (key_names keys) ≡ None → k.items ≡ name
-    → position_or_len (λ v. bytes_eq k.items v.items) keys ≡ length keys
-new-place-is keys k name e f = grind (arith, no-place, position-map, last-place)
-
 pub items-length : {A : Type 0} (v : Vec A Global) → vec_len v ≡ length v.items
 items-length v = grind (arith, common_steps)
 

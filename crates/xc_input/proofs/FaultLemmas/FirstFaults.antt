@@ -16,7 +16,7 @@ use Rattle.xc_input.specs.Named.{Named}
 use Rattle.xc_input.specs.Text.{StandsFor}
 use Rattle.xc_input.specs.inner.Stages.{Stage, stage_of, line_checks as stage_checks, content_checks as stage_content}
 use Rattle.xc_input.proofs.FaultLemmas.BooleanTests.{by-test}
-use Rattle.xc_input.proofs.FaultLemmas.FirstChecks.{first-front, first-each, checks-append}
+use Rattle.xc_input.proofs.FaultLemmas.FirstChecks.{first-each}
 use Rattle.xc_input.proofs.GrammarLemmas.ClearLines.{AreClear, lines-clear, first-numbered, checks_of}
 use Rattle.xc_input.proofs.GrammarLemmas.StageLemmas.{stage_by, stage-by, content_from, plain, plain-content}
 use Rattle.xc_input.proofs.GrammarLemmas.StageLemmas.{content-checked, start-is}
@@ -25,10 +25,6 @@ use Rattle.xc_input.proofs.GrammarLemmas.Standing.{clear-stands, stands-clear, s
 
 -- LINES
 -- a fault stays the first one, whatever follows
-pub line-stays : (kind : Kind) (lines more : List (List ℕ)) (p : ℕ × FaultKind) → line_fault kind lines ≡ Some p
-    → line_fault kind (lines ++ more) ≡ Some p
-line-stays kind lines more p e = grind (arith, first, checks-append, first-front)
-
 -- with no fault so far, it is that of the next line, by what the lines gave
 pub next-fault : (kind : Kind) (lines : List (List ℕ)) (line : List ℕ) → line_fault kind lines ≡ None
     → line_fault kind (lines ++ line ∷ []) ≡ option_map (λ k. (line_number (length lines + 1), k))

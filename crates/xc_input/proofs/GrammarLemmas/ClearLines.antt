@@ -17,8 +17,7 @@ use Rattle.std.proofs.lemmas.List.Sums.{sum_by-append}
 use Rattle.std.proofs.lemmas.Slice.Eq.{bytes_eq-Decides}
 use Rattle.xc_input.specs.declared.kind.Kind.{Kind}
 use Rattle.xc_input.specs.declared.fault.FaultKind.{FaultKind}
-use Rattle.xc_input.specs.declared.fault.FaultKind.TheVariants.{NulByte, UnknownItem}
-use Rattle.xc_input.specs.declared.fault.FaultKind.TheVariants.{RepeatedInOption}
+use Rattle.xc_input.specs.declared.fault.FaultKind.TheVariants.{NulByte}
 use Rattle.xc_input.specs.declared.fault.FaultKind.TheVariants.{TooManyUses}
 use Rattle.xc_input.specs.Limits.{most_items, most_uses}
 use Rattle.xc_input.specs.Words.{has, before, after, place}
@@ -142,12 +141,7 @@ module _ (kind : Kind) (names : List (List ℕ)) (primaries : ℕ) (seen token :
   use-good : first checks ≡ None
       → IsUse (context kind names primaries) token (written names token)
       × (list_any (λ i. nat_eq i (item_number names (before COLON token))) seen ≡ false)
-  use-good e =
-      let no : (k : FaultKind) → test k checks ≡ false = fails checks e in
-      let i = some-is (place names (before COLON token)) (no UnknownItem) in (
-        (grind (arith, common_steps, before, solid, by-test, has, cut-is, no-cut, none-after)),
-        no RepeatedInOption,
-      )
+  use-good e = grind (arith, test, fails, some-is, place, before, solid, by-test, has, cut-is, no-cut, none-after)
 
   good-use : (u : Written) → IsUse (context kind names primaries) token u
       → list_any (λ j. nat_eq j u.item) seen ≡ false → (u ≡ written names token)

@@ -16,7 +16,7 @@ use Rattle.xc_input.specs.Problem.{use_count}
 use Rattle.xc_input.specs.Limits.{most_uses}
 use Rattle.xc_input.specs.Tokens.{tokens, parts, is_bar, is_skipped}
 use Rattle.xc_input.specs.Sheets.{Entry, Written, with_colour, number_uses}
-use Rattle.xc_input.specs.Faults.{checks_of_each, name_of, item_names, part_checks, Context}
+use Rattle.xc_input.specs.Faults.{checks_of_each, item_names, part_checks, Context}
 use Rattle.xc_input.specs.Faults.{context_of, item_of, token_checks, has_primary}
 use Rattle.xc_input.specs.FirstFault.{line_number, content, kept_uses, option_checks, content_checks}
 use Rattle.xc_input.specs.inner.ColourNumbers.{numbered}
@@ -47,17 +47,7 @@ row-checks {kind} part r = grind (arith)
 pub row-more : {kind : Kind} {row : Row} {others : List (List ℕ)} (part : List ℕ) → IsRowOf kind row others
     → IsRowOf kind (with_part kind row part) (others ++ part ∷ [])
 row-more {kind} {row} {others} part r =
-    let names = names-snoc kind others part in
-    let barred = list_any-append is_bar others (part ∷ []) in by-test (is_bar part)
-    (λ f. rw f (record {
-      names = r.names ∙ sym (append-nil (item_names kind others)) ∙ sym (rw f at names);
-      barred = sym (barred ∙ rw f (or-true (list_any is_bar others)));
-    }))
-    (λ f. rw f (record {
-      names = names_of-snoc row.entries (entry kind (is_some row.bar) part)
-          ∙ ap (λ ns. ns ++ name_of kind part ∷ []) r.names ∙ sym (rw f at names);
-      barred = r.barred ∙ sym (barred ∙ rw f (or-false (list_any is_bar others)));
-    }))
+    grind (arith, names-snoc, list_any-append, by-test, append-nil, or-true, names_of-snoc, is_some, or-false)
 
 pub parts-checked : {kind : Kind} (ps : List (List ℕ)) {row : Row} {before : List (List ℕ)} → IsRowOf kind row before
     → row_checks kind row ps ≡ checks_of_each (part_checks kind) before ps
@@ -91,9 +81,7 @@ row-is : (kind : Kind) (es : List Entry) (ps : List (List ℕ)) → StandFor kin
     × (P (row_of kind (R es None) ps) ≡ length es + length (before_first is_bar ps))
 row-is kind es [] a = (sym (append-nil es), omega arith)
 row-is kind es (p ∷ ps) a = by-test (is_bar p)
-    (λ f. let step : row_of kind (R es None) (p ∷ ps) ≡ row_of kind (R es (Some (length es))) ps = rw f in
-    let r = step ∙ row-behind kind es (length es) ps (rw (after-cons p ps true f) at a) in
-    rw (before-cons p ps true f, after-cons p ps true f) (ap (λ (r : Row). r.entries) r, omega (arith, ap P r)))
+    (λ f. grind (arith, common_steps, row-behind, after-cons, before-cons))
     (λ f. let es' = es ++ entry kind false p ∷ [] in
     let step : row_of kind (R es None) (p ∷ ps) ≡ row_of kind (R es' None) ps = rw f in
     let r = row-is kind es' ps (rw (after-cons p ps false f) at a) in

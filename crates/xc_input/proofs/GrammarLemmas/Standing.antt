@@ -126,8 +126,7 @@ module _ (kind : Kind) (item : ℕ × List ℕ) (rest : List (ℕ × List ℕ)) 
   -- what the stage behind these lines says of them
   pub sheet-is : StandFor kind true (after_first is_bar ps) → let st = stage_by kind (item ∷ rest) in
       ◌≡◌ {A = Named × List ℕ} (named_of st.sheet, st.ignored) (named_in, ignored_in c rest)
-  sheet-is a =
-      grind (arith, start-is, item, start, rest, primary, few, take-append_seam, length-map, length-append)
+  sheet-is a = grind (arith, start-is, start, primary, few, take-append_seam, length-map, length-append)
 
 pub stands-clear : (kind : Kind) (lines : List (List ℕ)) (named : Named) (ignored : List ℕ)
     (h : StandsFor kind lines named ignored) → AreClear kind (plain (h.item_line ∷ h.option_lines))

@@ -1,4 +1,9 @@
 -- The answer at the end of a text.
+use Rattle.std.proofs.lemmas.List.{length-map}
+use Rattle.std.proofs.lemmas.List.{take-map}
+use Rattle.xc_input.proofs.lists.Filters.{map-map}
+use Rattle.std.proofs.lemmas.Bool.Decides.{nat_tests}
+use Rattle.std.proofs.lemmas.Grind.{common_steps}
 use Rattle.std.proofs.Common.{◌≡◌, ◌≢◌, ◌+◌, ◌-◌, ◌^◌, min, ℕ, List, Option, None, Some, Bool, true, false, length}
 use Rattle.std.proofs.Common.{refl, ap, ◌∙◌, sym, subst, arith, MatchOption}
 use Rattle.xc_input.specs.declared.kind.Kind.{Kind}
@@ -14,14 +19,12 @@ use Rattle.std.proofs.Common.{◌≤◌, All, drop}
 use Rattle.xc_input.specs.inner.Vectors.{IsOptional}
 use Rattle.xc_input.specs.Text.{StandsFor}
 use Rattle.xc_input.specs.Named.{Named, IsSound}
-use Rattle.xc_input.specs.inner.Stored.{key_names}
-use Rattle.xc_input.specs.inner.Flat.{pieces}
 use Rattle.xc_input.specs.inner.Builders.{IsBuilder, IsReadable, named_by, stage_of_builder, sheet_of_builder}
 use Rattle.xc_input.specs.inner.EndedLines.{AreWhole}
 use Rattle.xc_input.specs.Readings.{Reading, IsStateOf}
 use Rattle.xc_input.specs.inner.Feeding.{IsEndOf}
 use Rattle.xc_input.proofs.LineLemmas.Reading.{ends-at, end-is}
-use Rattle.xc_input.proofs.ValidLemmas.SoundSheets.{item-names, named-is, behind-bounds}
+use Rattle.xc_input.proofs.ValidLemmas.SoundSheets.{item-names, behind-bounds}
 use Rattle.xc_input.proofs.ValidLemmas.ValidTexts.{sound}
 use Rattle.xc_input.proofs.FaultLemmas.FirstFaults.{end_fault}
 use Rattle.xc_input.proofs.FaultLemmas.FirstFaults.{faultless-stands, faultless-items, stands-only}
@@ -34,7 +37,7 @@ refutes kind lines Device h f p ig s = absurd h
 refutes kind lines Memory h f p ig s = absurd (f refl)
 
 by-builder : (d : ProblemBuilder) → named_of (sheet_of_builder d) ≡ named_by d
-by-builder d = named-is d.items.items d.primary (pieces d.starts.items d.uses.items) (key_names d.colours.keys)
+by-builder d = grind (arith, common_steps, item-names, length-map, take-map, map-map, nat_tests)
 
 module _ {v : Reading} {kind : Kind} {lines : List (List ℕ)} {o : Option InputError}
     (is : v ≡ record { kind = kind; lines = lines; error = o }) (h : IsStateOf kind lines o) where

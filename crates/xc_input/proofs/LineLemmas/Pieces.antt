@@ -69,5 +69,4 @@ part-spoiled kind {bytes = bytes} Memory h g same = (bytes, same, inl g)
 pub part-failed : (kind : Kind) (a b c : SourceState) (reading : Reading) (carry : List ℕ) → reading.kind ≡ kind
     → IsBetween reading carry → Gave a b (fed reading carry) → b.failures ≡ a.failures
     → Rose b.failures c.failures → Keeps b.rest c.rest → c.given ≡ b.given → IsPart kind a c Device
-part-failed kind a b c reading carry is between g same rose kept e =
-    grind (arith, common_steps, lines_of-all, nat_tests)
+part-failed kind a b c reading carry is between g same rose kept e = grind (arith, lines_of-all)

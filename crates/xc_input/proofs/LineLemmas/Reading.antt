@@ -1,4 +1,6 @@
 -- The first fault of lines and one more.
+use Rattle.xc_input.proofs.FaultLemmas.FirstChecks.{checks-append}
+use Rattle.xc_input.proofs.FaultLemmas.FirstChecks.{first-front}
 use Rattle.std.proofs.lemmas.Bool.Decides.{nat_tests}
 use Rattle.std.proofs.Common.{◌≡◌, ℕ, ◌+◌, ◌-◌, ◌^◌, List, [], ◌∷◌, ◌++◌, Option, None, Some, Err, Bool, length, refl}
 use Rattle.std.proofs.Common.{ap, ◌∙◌, sym, subst, arith, min, MatchOption}
@@ -17,7 +19,7 @@ use Rattle.xc_input.specs.inner.Builders.{Judged, IsBuilder, stage_of_builder, e
 use Rattle.xc_input.specs.Readings.{IsStateOf}
 use Rattle.xc_input.specs.inner.Feeding.{IsErrorOf, IsEndOf}
 use Rattle.std.specs.Option.{option_map}
-use Rattle.xc_input.proofs.FaultLemmas.FirstFaults.{line-stays, next-fault, first_fault-is, end_fault}
+use Rattle.xc_input.proofs.FaultLemmas.FirstFaults.{next-fault, first_fault-is, end_fault}
 
 stage-snoc : (kind : Kind) (n : ℕ) (stage : Stage) (lines : List (List ℕ)) (line : List ℕ)
     → stage_from kind n stage (lines ++ line ∷ []) ≡ with_line kind (line_number (n + length (lines ++ line ∷ [])))
@@ -29,7 +31,7 @@ stage-snoc kind n stage (l ∷ lines) line =
 -- an error of some lines is that of all
 pub IsErrorOf-more : (kind : Kind) (ls ms : List (List ℕ)) (e : InputError) → IsErrorOf kind ls e
     → IsErrorOf kind (ls ++ ms) e
-IsErrorOf-more kind ls ms (Fault n k) h = line-stays kind ls ms (n, k) h
+IsErrorOf-more kind ls ms (Fault n k) h = grind (arith, common_steps, first, checks-append, first-front)
 IsErrorOf-more kind ls ms Device h = h
 IsErrorOf-more kind ls ms Memory h = tt
 

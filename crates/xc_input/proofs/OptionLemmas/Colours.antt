@@ -57,8 +57,7 @@ knows-more : (cs : List (List ℕ)) (d c : List ℕ) → Knows cs c → Knows (w
     × (colour_number (with_colour cs d) c ≡ colour_number cs c)
 knows-more cs [] c k = (k, refl)
 knows-more cs (b ∷ bs) [] k = (tt, refl)
-knows-more cs (b ∷ bs) (x ∷ xs) k =
-    grind (arith, common_steps, by-place, place, or-len-stays, length-append, nat_tests)
+knows-more cs (b ∷ bs) (x ∷ xs) k = grind (arith, by-place, place, or-len-stays, length-append)
 
 pub kept : (cs : List (List ℕ)) (us : List Written) (c : List ℕ) → Knows cs c
     → Knows (with_uses cs us) c × (colour_number (with_uses cs us) c ≡ colour_number cs c)

@@ -67,10 +67,7 @@ pub pieces-snoc : {X : Type 0} (a : ℕ) (starts : List ℕ) (us vs : List X) (n
     → AreStarts (a ∷ starts ++ n ∷ []) (length (us ++ vs))
     × (pieces (a ∷ starts ++ n ∷ []) (us ++ vs) ≡ pieces (a ∷ starts) us ++ vs ∷ [])
 pieces-snoc a [] us vs n h e = grind (arith, common_steps, length-append, drop-append_seam, take-length)
-pieces-snoc a (b ∷ starts) us vs n h e =
-    let later = pieces-snoc b starts us vs n h.1 e in
-    let same = slice-front us vs a b h.0 (starts-low b starts (length us) h.1) in
-    ((h.0, later.0), λ i. same i ∷ later.1 i)
+pieces-snoc a (b ∷ starts) us vs n h e = grind (arith, slice-front, starts-low, pieces-snoc b starts us vs n h.1 e)
 
 -- the parts have as many elements as stand behind the first start
 pieces-total : {X : Type 0} (a : ℕ) (starts : List ℕ) (us : List X) → AreStarts (a ∷ starts) (length us)

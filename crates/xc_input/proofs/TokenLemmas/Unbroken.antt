@@ -18,10 +18,6 @@ abbrev AllLack : (ℕ → Bool) → List (List ℕ) → Type 0
 AllLack p ts = AllByRecursion (λ t. list_any p t ≡ false) ts
 
 -- what stands behind a byte
-lacks-behind : (p : ℕ → Bool) (front : List ℕ) (b : ℕ) (back : List ℕ) → list_any p (front ++ b ∷ back) ≡ false
-    → list_any p back ≡ false
-lacks-behind p front b back h = grind (arith, or_parts, list_any-append)
-
 -- TOKENS
 lack-front : (p : ℕ → Bool) (b : ℕ) (ts : List (List ℕ)) → p b ≡ false → AllLack p ts → AllLack p (onto_first b ts)
 lack-front p b [] e h = (or_from (p b) false e refl, tt)
@@ -68,4 +64,4 @@ pub unbroken-parts : (line : List ℕ) → has 0 line ≡ false → has 10 line 
 unbroken-parts line z f = grind (arith, common_steps, all-unbroken, parts, lack-all, lack-spaces, lack-tokens)
 
 pub unbroken-behind : (front : List ℕ) (b : ℕ) (back : List ℕ) → IsUnbroken (front ++ b ∷ back) → IsUnbroken back
-unbroken-behind front b back h = grind (arith, common_steps, lacks-behind)
+unbroken-behind front b back h = grind (arith, common_steps, or_parts, list_any-append)

@@ -1,20 +1,17 @@
 -- The problem of a sheet.
 use Rattle.std.proofs.lemmas.Grind.{common_steps}
-use Rattle.std.proofs.Common.{◌≡◌, ℕ, ◌-◌, ◌≤◌, false, List, [], ◌∷◌, true, length, map, take, drop}
+use Rattle.std.proofs.Common.{◌≡◌, ℕ, ◌≤◌, false, List, [], ◌∷◌, true, length, map, drop}
 use Rattle.std.proofs.Common.{All, ap}
 use Rattle.std.proofs.Common.{arith, inl, inr}
-use Rattle.std.proofs.lemmas.Bool.Decides.{nat_tests}
 use Rattle.std.proofs.lemmas.List.{length-append, length-map, drop-map}
 use Rattle.std.proofs.Math.Seq.{drop-append_seam}
 use Rattle.std.proofs.Common.{sym, ◌∙◌}
 use Rattle.std.proofs.lemmas.List.Elements.{All-from_recursion}
 use Rattle.std.specs.List.{AllByRecursion, before_first, after_first}
-use Rattle.std.proofs.lemmas.List.{take-map}
 use Rattle.xc_input.proofs.lists.Filters.{map-map}
 use Rattle.xc_input.specs.declared.kind.Kind.{Kind}
 use Rattle.xc_input.specs.declared.problem.Item.{Item}
-use Rattle.xc_input.specs.declared.problem.Use.{Use}
-use Rattle.xc_input.specs.ItemBounds.{bounds_of, secondary_bounds}
+use Rattle.xc_input.specs.ItemBounds.{secondary_bounds}
 use Rattle.xc_input.specs.Tokens.{is_bar}
 use Rattle.xc_input.specs.Sheets.{Entry}
 use Rattle.xc_input.specs.Text.{IsEntry}
@@ -22,24 +19,13 @@ use Rattle.xc_input.specs.inner.Sheets.{names_of}
 use Rattle.xc_input.specs.inner.Stages.{entry}
 use Rattle.xc_input.specs.inner.Vectors.{IsOptional}
 use Rattle.xc_input.specs.inner.Builders.{entry_of}
-use Rattle.xc_input.proofs.GrammarLemmas.SheetGrammar.{AreItems, named_of}
+use Rattle.xc_input.proofs.GrammarLemmas.SheetGrammar.{AreItems}
 use Rattle.xc_input.proofs.ValidLemmas.ValidTexts.{entry_bounds}
 use Rattle.xc_input.proofs.lists.EachElement.{each_weaker, each-map}
 
 -- THE PROBLEM THAT VECTORS HOLD
 pub item-names : (items : List Item) → names_of (map entry_of items) ≡ map (λ x. x.name.items) items
 item-names items = map-map entry_of (λ e. e.name) items
-
-pub named-is : (items : List Item) (primary : ℕ) (options : List (List Use)) (colours : List (List ℕ))
-    → named_of (record { entries = map entry_of items; primaries = primary; options = options; colours = colours })
-    ≡ record {
-      names = map (λ x. x.name.items) items;
-      colours = colours;
-      puzzle =
-          record { bounds = map bounds_of (take primary items); secondary = length items - primary; options = options };
-    }
-named-is items primary options colours =
-    grind (arith, common_steps, item-names, length-map, take-map, map-map, nat_tests)
 
 -- THE ITEM LINE
 -- the elements of a list whose images these are

@@ -1,7 +1,7 @@
 -- What stands for a text is sound.
 use Rattle.std.proofs.lemmas.Grind.{common_steps}
 use Rattle.std.proofs.Common.{◌≡◌, ◌≢◌, ℕ, ◌+◌, ◌*◌, ◌-◌, ◌^◌, ◌<◌, ◌≤◌, List, [], ◌∷◌}
-use Rattle.std.proofs.Common.{Bool, true, false, nat_eq, nat_le, map, length, All, AllPairs, refl}
+use Rattle.std.proofs.Common.{Bool, true, false, nat_le, map, length, All, AllPairs, refl}
 use Rattle.std.proofs.Common.{ap, ◌∙◌, sym, subst, arith, inl, inr, length-append}
 use Rattle.std.specs.Prelude.{flat_map}
 use Rattle.std.specs.List.{list_all, list_any, AllZip, AllByRecursion as Each, before_first}
@@ -99,8 +99,7 @@ some-primary : (ts : List (List ℕ)) → Each (λ t. nat_lt 0 (length t) ≡ tr
     → 1 ≤ length (before_first is_bar (flat_map split_bars ts))
 some-primary [] a f = absurd (cc)
 some-primary ([] ∷ ts) a f = absurd (let e : false ≡ true = a.0 in cc)
-some-primary ((b ∷ bs) ∷ ts) a f = by-test (nat_eq b BAR) (λ g. absurd (let e = rw g at f in cc))
-    (λ g. let front = before-cons (b ∷ bs) (flat_map split_bars ts) false g in rw g (rw front (omega arith)))
+some-primary ((b ∷ bs) ∷ ts) a f = grind (arith, common_steps, nat_tests, by-test, before-cons)
 
 -- USES AND COLOURS
 -- a colour that stands in a text
@@ -265,12 +264,7 @@ module _ (kind : Kind) (lines : List (List ℕ)) (named : Named) (ignored : List
           bounds = all-of (λ b g. g.0) named.puzzle.bounds bounds-good;
           options = all-of (λ o g. g.0) named.puzzle.options options-sound;
         };
-        limits = record {
-          items = omega (arith, items, h.items.few);
-          uses = omega (arith, uses, h.options.few);
-          options = omega (arith, uses, h.options.few, few-options);
-          bounds = all-of (λ b g. g.1) named.puzzle.bounds bounds-good;
-        };
+        limits = grind (arith, common_steps, items, uses, few-options, all-of, bounds-good);
         coloured = all-of (λ o g. g.1) named.puzzle.options options-sound;
         few_colours = omega (arith, h.options.few, ap length h.options.colours, few-colours written []);
         named = grind (arith, common_steps, items, all-of, named, names-good, colours-good);

@@ -16,9 +16,7 @@ use Rattle.xc_input.proofs.GrammarLemmas.StageLemmas.{parts-checked, context-is,
 use Rattle.xc_input.proofs.faulty.faulty_use.Goals as goal
 
 pub returns-in-Err-Fault : goal.returns-in-Err-Fault
-returns-in-Err-Fault c = λ t h.
-    let bad = rw c.in-Err-Fault.field-0-is at c.in-Err-Fault.ensures.judged in
-    let none = ap first (parts-checked (parts c.args.items.now) (no-row c.args.kind)) ∙ h.0 in cc
+returns-in-Err-Fault c = grind (arith, first, parts-checked, parts, no-row)
 
 pub faulty_among-requires-clause-marks : goal.faulty_among-requires-clause-marks
 faulty_among-requires-clause-marks c = grind (arith, common_steps, items-length, keys-length)

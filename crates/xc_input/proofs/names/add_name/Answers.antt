@@ -1,9 +1,13 @@
-use Rattle.std.proofs.Common.{◌∙◌}
-use Rattle.xc_input.proofs.FaultLemmas.Checks.{new-key, new-place-is}
+use Rattle.xc_input.proofs.FaultLemmas.Checks.{no-place}
+use Rattle.xc_input.proofs.TokenLemmas.Bytes.{position-map}
+use Rattle.xc_input.proofs.FaultLemmas.Checks.{last-place}
+use Rattle.std.proofs.Common.{arith}
+use Rattle.std.proofs.lemmas.Grind.{common_steps}
+use Rattle.xc_input.proofs.FaultLemmas.Checks.{new-key}
 use Rattle.xc_input.proofs.names.add_name.Goals as goal
 
 pub returns-clause-added : goal.returns-clause-added
 returns-clause-added c = new-key _ _ _ _ c.requires c.in_ok-key.ensures.items c.in_ok-n.ensures.keys
 
 pub returns-clause-place : goal.returns-clause-place
-returns-clause-place c = c.in_ok-n.ensures.index ∙ new-place-is _ c.in_ok-key.key _ c.requires c.in_ok-key.ensures.items
+returns-clause-place c = grind (arith, common_steps, no-place, position-map, last-place)

@@ -1,6 +1,6 @@
 use Rattle.xc_input.proofs.LineLemmas.TextLines.{lacks-append}
 use Rattle.std.proofs.lemmas.Bool.Decides.{nat_tests}
-use Rattle.std.proofs.Common.{◌≡◌, ◌++◌, ◌∷◌, [], sym, ap, ◌∙◌, subst, arith}
+use Rattle.std.proofs.Common.{◌≡◌, ◌++◌, ◌∷◌, [], subst, arith}
 use Rattle.std.proofs.lemmas.Grind.{common_steps}
 use Rattle.std.proofs.lemmas.Result.{err_from_is_err_and}
 use Rattle.xc_input.specs.inner.Feeding.{fed, Spoils}
@@ -13,8 +13,7 @@ returns-in_err-end_line-clause-err c =
     let before = fed c.loop-end.reader c.loop-end.carry.items in
     let split : c.loop-end.rest.now ≡ c.in-Some.end.now ++ 10 ∷ c.in-Some.others.now = c.in-Some.ensures.0 in
     let all : fed c.args.reader.now c.args.carry.now.items ++ c.args.piece.now ≡
-    ((before ++ c.in-Some.end.now) ++ 10 ∷ []) ++ c.in-Some.others.now =
-    sym c.loop-end.invariant.2 ∙ ap (λ xs. before ++ xs) split ∙ grind (arith, common_steps) in
+    ((before ++ c.in-Some.end.now) ++ 10 ∷ []) ++ c.in-Some.others.now = grind (arith, common_steps) in
     rw (error.1, error.2) (subst
     (λ kind. Spoils kind (fed c.args.reader.now c.args.carry.now.items ++ c.args.piece.now)
     c.in_err-end_line.field-0.0) c.loop-end.invariant.1
