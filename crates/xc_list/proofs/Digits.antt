@@ -1,7 +1,6 @@
 -- Numbers in decimal, digit by digit.
-use Rattle.std.proofs.lemmas.Bool.Decides.{nat_tests}
 use Rattle.std.proofs.Common.{◌≡◌, ℕ, ◌+◌, ◌*◌, ◌^◌, ◌<◌, ◌≤◌, ◌-◌, cond, ◌&&◌, nat_lt, Option, List}
-use Rattle.std.proofs.Common.{[], ◌∷◌, None, Some, length, drop, get_or, refl, ap, ◌∙◌, arith, le_trans, le-ltb}
+use Rattle.std.proofs.Common.{[], ◌∷◌, None, Some, length, drop, get_or, refl, arith, le_trans, le-ltb}
 use Rattle.std.specs.Char.{is_ascii_digit}
 use Rattle.xc_input.proofs.TokenLemmas.DecimalValues.{value_from}
 use Rattle.std.specs.List.{list_all}
@@ -19,9 +18,7 @@ value_from-le v (b ∷ bs) = omega (arith, value_from-le (v * 10 + (b - 48)) bs)
 pub too_large : (bs : List ℕ) (i v : ℕ) → digits_in 0 bs ≡ digits_in v (drop i bs) → i < length bs
     → 2 ^ 64 ≤ v * 10 + (get_or bs i 0 - 48) → long_number bs ≡ None
 too_large [] i v e l h = refl
-too_large (b ∷ bs) i v e l h =
-    let large = value_from-le (v * 10 + (get_or (b ∷ bs) i 0 - 48)) (drop (i + 1) (b ∷ bs)) in
-    e ∙ ap (digits_in v) (drop_more (b ∷ bs) i 0 l) ∙ grind (arith, nat_tests, le_trans, large, h, le-ltb)
+too_large (b ∷ bs) i v e l h = grind (arith, value_from-le, drop_more, le_trans, le-ltb)
 
 pub some_digits : (bs : List ℕ) → 0 < length bs → long_number bs ≡ digits_in 0 bs
 some_digits [] h = absurd (omega (arith, h))

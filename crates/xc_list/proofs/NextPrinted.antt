@@ -1,14 +1,17 @@
 -- A search that goes on to the next member that is printed.
+use Rattle.std.proofs.Common.{add-one}
+use Rattle.xc_input.proofs.lists.Places.{slice_get-drop}
+use Rattle.std.specs.Prelude.{slice_get}
 use Rattle.std.proofs.lemmas.Grind.{common_steps}
 use Rattle.xc_list.specs.Runs.{IsRun}
 use Rattle.std.proofs.lemmas.Bool.{cases_Bool}
-use Rattle.std.proofs.Common.{inl, inr, lt-ltb, ◌∙◌}
+use Rattle.std.proofs.Common.{lt-ltb}
 use Rattle.xc_list.specs.declared.runs.End.TheVariants.{Done}
 use Rattle.xc_list.proofs.Outputs.{output_texts, texts_all}
 use Rattle.std.proofs.lemmas.Bool.Decides.{nat_tests}
 use Rattle.std.proofs.Common.{◌≡◌, ℕ, zero, suc, ◌+◌, ◌-◌, ◌<◌, ◌≤◌, false, List, [], ◌∷◌, length}
 use Rattle.std.proofs.Common.{drop, get_or}
-use Rattle.std.proofs.Common.{sym, ap, append-nil, arith, subst, length-drop}
+use Rattle.std.proofs.Common.{ap, append-nil, arith, length-drop}
 use Rattle.std.proofs.lemmas.List.{drop-drop, drop_more}
 use Rattle.xc_search.specs.Outlook.{Outlook, shown_after}
 use Rattle.xc_search.specs.Cover.{members}
@@ -19,7 +22,7 @@ use Rattle.xc_list.specs.Texts.{SinkState, Took, BrokeOff}
 use Rattle.xc_list.specs.Runs.{StoppedAt}
 use Rattle.xc_list.specs.inner.Ends.{printed_text, StandsAt}
 use Rattle.xc_list.proofs.Writing.{then_took}
-use Rattle.xc_list.proofs.Outputs.{at_next, output_next, rest_next, within_next}
+use Rattle.xc_list.proofs.Outputs.{output_next, rest_next, within_next}
 
 next_of : {X : Type 0} (xs : List X) (n : ℕ) → n < length xs → (x : X) × (drop n xs ≡ x ∷ drop (n + 1) xs)
 next_of [] n h = absurd (omega (arith, h))
@@ -54,9 +57,7 @@ reaches a spacing k n o p come went some enough silent =
     record {
       last = k + (n - 1);
       number = omega (arith, some);
-      next =
-          let shown = shown_next (n - 1) o.to_come o.shown next.0 (drop ((n - 1) + 1) o.to_come) next.1 in
-          cc (drop-drop (n - 1) k ms, next.1, same, shown, come, went);
+      next = grind (arith, common_steps, shown_next, drop-drop);
       same =
           output_silent a spacing k (n - 1) (omega (arith, enough, some, ap length come, length-drop k ms))
           (λ j from below. silent j from (omega (arith, below, some)));
@@ -80,7 +81,7 @@ ends a spacing limit k n passed {x = x} {y = y} within all less few silent so_fa
 
 module _ {a : Named} {spacing k t : ℕ} {o : Outlook} (to : Reaches a spacing k t o) where
   pub stands : StandsAt (members a.puzzle) t o
-  stands = grind (arith, common_steps, members, a, o, to, at_next, rest_next)
+  stands = grind (arith, common_steps, members, rest_next, add-one, slice_get-drop, slice_get)
 
   pub within : t ≤ length (members a.puzzle)
   within = omega (arith, within_next (members a.puzzle) to.last to.next, to.number)
@@ -92,18 +93,7 @@ module _ {a : Named} {spacing k t : ℕ} {o : Outlook} (to : Reaches a spacing k
 
   pub stops : (limit : ℕ) {x y z : SinkState} → t ≤ limit → Took x y (output a spacing k)
       → BrokeOff y z (printed_text a spacing (t, o.shown)) → StoppedAt a spacing limit t x z
-  stops limit {x = x} {y = y} below so_far broke = elim (cases_Bool (is_printed spacing t)) [
-    | inl p ↦
-        let last : to.last ≡ t - 1 = omega (arith, to.number) in
-        record {
-          within = (omega (arith, to.number), below);
-          member = o.shown;
-          is_member = stands.0 (omega (arith, to.number));
-          printed = p;
-          stopped = (y, subst (Took x y) (sym to.same ∙ ap (output a spacing) last) so_far, rw p at broke);
-        }
-    | inr p ↦ absurd (let none = rw p at broke in omega (arith, none.part))
-  ]
+  stops limit {x = x} {y = y} below so_far broke = grind (arith, cases_Bool, stands)
 
 -- where there were no more, none is shown and none is to come
 pub none_left : (n : ℕ) (o p : Outlook)

@@ -2,18 +2,17 @@
 use Rattle.xc_list.proofs.Writing.{then_broke, broke_before}
 use Rattle.std.proofs.Common.{take_all}
 use Rattle.std.proofs.lemmas.Bool.Decides.{nat_tests}
-use Rattle.std.proofs.Common.{◌≡◌, ℕ, zero, suc, ◌+◌, ◌<◌, ◌≤◌, ◌-◌, List, [], ◌∷◌, ◌++◌, Some}
-use Rattle.std.proofs.Common.{length, take, drop, filter, refl, sym, ap, ◌∙◌, append-nil, add-one, arith}
+use Rattle.std.proofs.Common.{◌≡◌, ℕ, zero, suc, ◌+◌, ◌<◌, ◌≤◌, ◌-◌, List, [], ◌∷◌, ◌++◌}
+use Rattle.std.proofs.Common.{length, take, drop, filter, refl, sym, ap, ◌∙◌, append-nil, arith}
 use Rattle.std.proofs.Common.{subst}
 use Rattle.std.proofs.Math.Seq.{take-add}
 use Rattle.std.proofs.lemmas.List.{drop-drop, take-take, take-append-drop, length-drop}
-use Rattle.xc_input.proofs.lists.Places.{slice_get-drop, drop_at}
-use Rattle.std.specs.Prelude.{flat_map, slice_get}
+use Rattle.xc_input.proofs.lists.Places.{drop_at}
+use Rattle.std.specs.Prelude.{flat_map}
 use Rattle.std.specs.List.{enumerate_from}
 use Rattle.std.proofs.lemmas.Grind.{common_steps}
 use Rattle.std.proofs.lemmas.List.Concat.{flat_map-append}
 use Rattle.xc_search.specs.declared.choice.Choice.{Choice}
-use Rattle.xc_input.specs.Problem.{numbered_get}
 use Rattle.xc_input.specs.Named.{Named}
 use Rattle.xc_search.specs.Cover.{members}
 use Rattle.xc_list.specs.Output.{output, is_printed, member_text}
@@ -34,9 +33,6 @@ module _ {X : Type 0} (ms : List X) (k : ℕ) {m : X} {rest : List X} (e : drop 
 
   pub within_next : k < length ms
   within_next = grind (arith, common_steps)
-
-  pub at_next : numbered_get ms (k + 1) ≡ Some m
-  at_next = rw add-one (sym (slice_get-drop ms k) ∙ ap (λ l. slice_get l 0) e)
 
   -- what holds of all holds of the next
   pub holds_next : (P : X → Type 0) → All P ms → P m
@@ -110,6 +106,4 @@ stopped_broke a spacing limit (suc k) {x = x} {z = z} s =
     let text : member_text a (suc k, s.member) ≡ printed_text a spacing (k + 1, s.member) =
     rw (again, s.printed) refl in
     subst (BrokeOff x z) (sym (output_texts a spacing limit))
-    (texts_broke (printed_text a spacing) ms k limit (drop_at ms k s.member s.is_member) (omega (arith, s.within.1))
-    (subst (Took x s.stopped.0) (ap (output a spacing) back ∙ output_texts a spacing k) s.stopped.1)
-    (subst (BrokeOff s.stopped.0 z) text s.stopped.2))
+    (grind (arith, common_steps, texts_broke, drop_at, output_texts))

@@ -1,16 +1,15 @@
 -- A text that is put together on a page.
-use Rattle.xc_list.proofs.Writing.{then_writes}
 use Rattle.std.proofs.lemmas.Bool.Decides.{nat_tests}
 use Rattle.std.proofs.Common.{◌≡◌, ℕ, ◌+◌, ◌≤◌, List, [], ◌++◌, length, take, drop, sym, ap, ◌∙◌, arith}
-use Rattle.std.proofs.Common.{subst, append-nil, append_assoc, ◌∷◌}
+use Rattle.std.proofs.Common.{append-nil, append_assoc, ◌∷◌}
 use Rattle.std.proofs.Math.Seq.{drop-cons, take-append-add}
 use Rattle.std.proofs.lemmas.List.{drop-append-le, take-take, length-take, length-take-le, drop-set, drop-set-add}
 use Rattle.std.proofs.lemmas.Simd.{take_more_put_chunk, length-chunk}
 use Rattle.std.proofs.lemmas.Slice.{between_is}
 use Rattle.std.specs.Prelude.{slice_set}
 use lib.Lanes.{put_chunk, chunk}
-use Rattle.std.specs.Prelude.{Result, flat_map}
-use Rattle.xc_list.specs.Texts.{SinkState, Took, BrokeOff, Writes}
+use Rattle.std.specs.Prelude.{flat_map}
+use Rattle.xc_list.specs.Texts.{SinkState, Took, BrokeOff}
 use Rattle.xc_list.specs.inner.Pages.{Puts, held_text}
 use Rattle.xc_list.proofs.Writing.{then_took, then_broke, took_nothing, broke_before}
 use Rattle.std.proofs.lemmas.Grind.{common_steps, flat_map-append}
@@ -47,8 +46,7 @@ then_puts {x = x} {y = y} {z = z} {t = t} {u = u} p q = record {
 -- the sink broke off in what was held with a text behind it
 pub puts_broke : {a b c : SinkState} {x y t : List ℕ} (u : List ℕ) → Puts a b x y t → BrokeOff b c (y ++ u)
     → BrokeOff a c (x ++ (t ++ u))
-puts_broke {a = a} {c = c} {x = x} {y = y} {t = t} u p q =
-    grind (arith, nat_tests, append_assoc p.front y u, p.whole, append_assoc x t u, then_broke p.took q)
+puts_broke {a = a} {c = c} {x = x} {y = y} {t = t} u p q = grind (arith, append_assoc, then_broke)
 
 -- a short part, put by one store of 16 bytes
 pub short_put : (page text : List ℕ) (at from count : ℕ) → count ≤ 16 → at + count + 16 ≤ length page
@@ -95,7 +93,3 @@ module _ {X : Type 0} {a b : SinkState} {before held : List ℕ} {f : X → List
       (broke_before (flat_map f next) (puts_broke (f x) p.puts q))
 
 -- what a page holds at last is written
-pub puts_writes : {E : Type 0} {a b : SinkState} {before held lines : List ℕ} (c : SinkState)
-    (r : Result (Unit {0}) E)
-    → Puts a b before held lines → Writes b c r held → Writes a c r (before ++ lines)
-puts_writes {a = a} c r p w = subst (Writes a c r) (sym p.whole) (then_writes _ _ r p.took w)

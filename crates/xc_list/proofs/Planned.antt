@@ -28,10 +28,7 @@ module _ {a : Named} {n : ℕ} {ms : List (List Choice)} {old mid : SinkState} (
   cut : IsCutUpTo a.puzzle (so.plan ++ path ∷ []) rest
   cut = record {
     paths = All-push (IsPath a.puzzle) so.plan path so.cut.paths at.0;
-    members =
-        let parts = one_more (below a.puzzle) so.plan path in
-        let joined = append_assoc (flat_map (below a.puzzle) so.plan) (below a.puzzle path) rest in
-        cc (so.cut.members, at.1);
+    members = grind (arith, common_steps, one_more, below, append_assoc);
   }
 
   pub planned_more : Took mid new (part_text a path) → IsPlanned a (n + 1) rest old new

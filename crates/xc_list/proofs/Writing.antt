@@ -1,7 +1,7 @@
 -- What a sink has taken, text after text.
 use Rattle.std.specs.Prelude.{MatchResult}
 use Rattle.std.proofs.Common.{◌≡◌, ℕ, ◌+◌, ◌/◌, ◌%◌, ◌<◌, ◌≤◌, List, [], ◌∷◌, ◌++◌, Result, Ok, Err, length, take}
-use Rattle.std.proofs.Common.{drop, get_or, sym, ◌∙◌, append-nil, arith, subst, zero, suc, refl}
+use Rattle.std.proofs.Common.{drop, get_or, ◌∙◌, append-nil, arith, subst, zero, suc, refl}
 use Rattle.std.proofs.KnownBytes.{Appends-nil}
 use Rattle.xc_list.specs.inner.LineParts.{colour_text}
 use Rattle.std.specs.Prelude.{flat_map, IsErr, codes, decimal}
@@ -14,7 +14,6 @@ use Rattle.xc_input.specs.UsePlaces.{place_in}
 use Rattle.std.proofs.lemmas.List.Concat.{flat_map-append}
 use Rattle.std.proofs.Math.Seq.{take-append-add}
 use Rattle.std.proofs.lemmas.List.{take-append-le}
-use Rattle.std.specs.Io.KnownBytes.{Appends}
 use Rattle.xc_list.specs.Texts.{SinkState, Took, BrokeOff, Writes}
 use Rattle.xc_input.specs.Calls.{Rose}
 use Rattle.xc_list.proofs.TextLemmas.{appends_more}
@@ -48,15 +47,7 @@ then_broke {a = a} {b = b} {c = c} {s = s} {t = t} p q = record {
 
 -- it broke off before a text
 pub broke_before : {a b : SinkState} {s : List ℕ} (t : List ℕ) → BrokeOff a b s → BrokeOff a b (s ++ t)
-broke_before {a = a} {b = b} {s = s} t p = record {
-  failure = p.failure;
-  last = p.last;
-  many = p.many;
-  part = grind (arith, common_steps, p.part);
-  begun =
-      subst (Appends a.taken b.taken) (sym (take-append-le p.many s t (grind (arith, common_steps, p.part)))) p.begun;
-  unflushed = p.unflushed;
-}
+broke_before {a = a} {b = b} {s = s} t p = grind (arith, common_steps, nat_tests, take-append-le)
 
 pub then_writes : {E : Type 0} {a b : SinkState} {s : List ℕ} (c : SinkState) (t : List ℕ) (r : Result (Unit {0}) E)
     → Took a b s → Writes b c r t → Writes a c r (s ++ t)

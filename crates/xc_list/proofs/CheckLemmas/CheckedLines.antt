@@ -4,7 +4,7 @@ use Rattle.std.specs.List.{AllByRecursion}
 use Rattle.std.proofs.Common.{◌≡◌, ℕ, ◌+◌, ◌-◌, ◌^◌, ◌<◌, Bool, true, false, not, ◌||◌, nat_eq, min, List}
 use Rattle.std.proofs.Common.{[], ◌∷◌, ◌++◌, length, filter, Option, Some, None, is_some, refl, sym, ap, ◌∙◌}
 use Rattle.std.proofs.Common.{append_assoc, append-nil, arith, if◌then◌else◌}
-use Rattle.xc_list.specs.inner.Listings.{Listing, before_listing, listing_of}
+use Rattle.xc_list.specs.inner.Listings.{Listing, before_listing}
 use Rattle.std.specs.Prelude.{◌==◌, ◌↔◌, IsTrue}
 use Rattle.std.specs.List.{AllZip}
 use Rattle.std.proofs.lemmas.Bool.Decides.{nat_tests}
@@ -49,16 +49,8 @@ pub closed : (s : Progress) (number : ℕ) (chosen : List ℕ) (cover : Bool) (v
     → (IsTrue cover ↔ IsCoverOfClasses s.options.problem.puzzle reps)) → s.open_number ≡ Some number
     → verdicts ≡ s.verdicts ++ record { number = number; cover = cover } ∷ []
     → Closes s (record s { verdicts = verdicts })
-closed s number chosen cover verdicts indexed same decided e f = (
-  record { number = number; cover = cover } ∷ [],
-  f,
-  λ bodies are.
-      let p = s.options.problem in
-      let o = options_of s.options (filter (is_known p) bodies) s.chosen indexed.classes are in
-      let listed = classes_decide p bodies o.0 indexed.sound o.2 o.3 in
-      let counted = (rw same at decided) o.0 o.1 in
-      rw (e, append-nil bodies) ((refl, (λ t. listed.1 (counted.0 t), λ c. counted.1 (listed.0 c))), tt),
-)
+closed s number chosen cover verdicts indexed same decided e f =
+    grind (arith, options_of, classes_decide, append-nil)
 
 abbrev pub progress : Classes → Option ℕ → List ℕ → List Verdict → Progress
 progress b number chosen verdicts = record { options = b; open_number = number; chosen = chosen; verdicts = verdicts }
@@ -101,31 +93,14 @@ no_fault-at p done line rest said e f = cc (lines-cons p done line rest, e, f)
 pub header_taken : (s new : Progress) (number : ℕ) → Closes s new
     → Takes (Header number) s
     (record { options = s.options; open_number = Some number; chosen = []; verdicts = new.verdicts })
-header_taken s new number closes all done line rest e h = record {
-  begun = not-first done;
-  bodies = [];
-  are_chosen = tt;
-  verdicts = λ vs z. (
-      let later = with_later (Some number) [] (listing_of rest) in
-      let whole = rw (e, empty-append s.open_number h.bodies later) at (h.verdicts (closes.0 ++ vs)) in
-      rw (closes.1, append_assoc s.verdicts closes.0 vs)
-      (whole (AllZip-append _ _ _ _ _ (closes.2 h.bodies h.are_chosen) z))
-      );
-  no_fault = h.no_fault ∙ no_fault-at s.options.problem done line rest (Header number) e refl;
-}
+header_taken s new number closes all done line rest e h =
+    grind (arith, not-first, empty-append, append_assoc, AllZip-append, no_fault-at)
 
 body_taken : (s : Progress) (words : List (List ℕ)) (chosen : List ℕ) → is_some s.open_number ≡ true
     → (is_known s.options.problem words || is_none s.options.problem words) ≡ true
     → ((bodies : List (List (List ℕ))) → AreChosen s.options bodies s.chosen
     → AreChosen s.options (bodies ++ words ∷ []) chosen) → Takes (Body words) s (record s { chosen = chosen })
-body_taken s words chosen some good more all done line rest e h =
-    grind (
-      arith,
-      common_steps,
-      not-first done,
-      body-later s.open_number h.bodies words (listing_of rest),
-      no_fault-at s.options.problem done line rest (Body words) e (cc ((sym h.begun ∙ some), good)),
-    )
+body_taken s words chosen some good more all done line rest e h = grind (arith, not-first, body-later, no_fault-at)
 
 -- what stands for a class is known
 known : (b : Classes) (words : List (List ℕ)) (k : ℕ) → AreClasses b.problem.puzzle b.classes

@@ -72,8 +72,7 @@ module _ (p : Puzzle) (n : ℕ) where
   one_member = grind (arith, nat_tests, same_uses-itself added, members-suc p n added)
 
   by_last : {X : ℕ → Type 0} → ((o : ℕ) → 1 ≤ o → o ≤ n → X o) → X (suc n) → (o : ℕ) → 1 ≤ o → o ≤ suc n → X o
-  by_last {X} before last o l m =
-      elim (cases_eq o (suc n)) [ inl e ↦ subst X (sym e) last | inr ne ↦ before o l (omega (arith, ne, m)) ]
+  by_last {X} before last o l m = grind (arith, cases_eq)
 
   -- an option of a class that there is
   pub classes-found : (classes : List (List Use)) (counts : List ℕ) (k c : ℕ) → AreClassesTo p n classes counts
@@ -85,9 +84,7 @@ module _ (p : Puzzle) (n : ℕ) where
         by_last {X = λ o. Contains classes (class_at p o)} a.whole
         (contains-in classes added (in-slice_get classes k added e));
     used = λ j us q. (let u = a.used j us q in let m = u.2 in (u.0, u.1, omega (arith, m), u.3));
-    counted = ap (λ cs. set cs k (c + 1)) a.counted
-        ∙ counts-found (class_size_to p n) (class_size_to p (suc n)) added same_members classes k (c + 1)
-        (each_two_from_AllPairs (λ (a b : List Use). a ≢ b) classes a.distinct) e (omega (arith, h, one_member));
+    counted = grind (arith, common_steps, counts-found, added, same_members, each_two_from_AllPairs, one_member);
   }
 
   no-members : (classes : List (List Use)) (counts : List ℕ) → AreClassesTo p n classes counts

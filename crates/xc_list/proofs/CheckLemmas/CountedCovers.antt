@@ -36,8 +36,7 @@ use Rattle.xc_input.specs.Problem.{Puzzle}
 list_all-parts : {X Y : Type 0} (f : X → Bool) (g : Y → Bool) (parts : X → List Y) (xs : List X)
     → list_all (λ x. f x && list_all g (parts x)) xs ≡ (list_all f xs && list_all g (flat_map parts xs))
 list_all-parts f g parts [] = refl
-list_all-parts f g parts (x ∷ xs) =
-    grind (arith, nat_tests, list_all-append g (parts x) (flat_map parts xs), list_all-parts f g parts xs)
+list_all-parts f g parts (x ∷ xs) = grind (arith, list_all-append, list_all-parts f g parts xs)
 
 -- ---- the counts of a solution
 
@@ -93,10 +92,7 @@ module _ (b : Classes) (cs ks reps : List ℕ) (s : IsSolution b cs ks reps) whe
   met_one : (k : ℕ) (u : Use) → k < item_count p → u.item ≡ suc k
       → meets u ≡ agrees (slice_get p.bounds k) (length (colours_of k)) (last_or (get_or cs k 0) (colours_of k))
       u.colour
-  met_one k u l e =
-      let at : u.item - 1 ≡ k = omega (arith, e) in
-      let colour = coloured-at _ us cs k items (sym s.size) l ∙ ap (last_or (get_or cs k 0)) (gives k) in
-      rw (at, time k l, colour) refl
+  met_one k u l e = grind (arith, coloured-at, us, items, gives, time)
 
   fits_from_met : list_all meets us ≡ true → (k : ℕ) → k < item_count p → Fits (slice_get p.bounds k) (colours_of k)
   fits_from_met met k l =
@@ -117,9 +113,7 @@ module _ (b : Classes) (cs ks reps : List ℕ) (s : IsSolution b cs ks reps) whe
   -- what is asked of an item's bounds
   bounded : (k : ℕ) (d : Bounds) → bounds_at p (suc k) ≡ Some d
       → (k < item_count p) × (get_or (times_after b ks) k 0 ≡ times_held p (suc k) reps)
-  bounded k d e =
-      let l : k < item_count p = omega (arith, slice_get_within p.bounds k d e) in
-      (l, time k l ∙ length-gathered p (suc k) reps)
+  bounded k d e = grind (arith, slice_get_within, time, length-gathered)
 
   parts : is_counted_cover b cs ks ≡ true
       ↔ ((short_of p.bounds (times_after b ks) ≡ 0) × (list_all (has_room b ks) ks ≡ true) × (list_all meets us ≡ true))

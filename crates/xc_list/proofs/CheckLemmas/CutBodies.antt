@@ -1,7 +1,8 @@
 -- The words of a choice line.
-use Rattle.std.proofs.Common.{◌≡◌, ℕ, ◌-◌, ◌<◌, Bool, true, false, not, ◌&&◌, nat_eq}
-use Rattle.std.proofs.Common.{List, [], ◌∷◌, ◌++◌, length, Some, None, refl, ap}
-use Rattle.std.proofs.Common.{◌∙◌, append_assoc, arith, length-append, if◌then◌else◌}
+use Rattle.std.proofs.lemmas.Grind.{common_steps}
+use Rattle.std.proofs.Common.{◌≡◌, ℕ, ◌<◌, Bool, true, false, not, ◌&&◌, nat_eq}
+use Rattle.std.proofs.Common.{List, [], ◌∷◌, ◌++◌, length, Some, None, refl}
+use Rattle.std.proofs.Common.{append_assoc, arith, length-append, if◌then◌else◌}
 use Rattle.std.specs.List.{list_all, list_any, onto_first}
 use Rattle.std.proofs.lemmas.Bool.Decides.{nat_tests}
 use Rattle.std.proofs.Math.Seq.{take-append_seam, drop-append_seam, get_or-append_seam}
@@ -11,11 +12,7 @@ use Rattle.xc_list.specs.ListingLines.{words_in, before_last, is_word, is_ending
 -- LAST BYTES
 pub last_byte : (b x : ℕ) (front : List ℕ) → before_last b (front ++ x ∷ [])
     ≡ (if nat_eq x b then Some front else None)
-last_byte b x front =
-    let size : length (front ++ x ∷ []) - 1 ≡ length front = omega (arith, length-append front (x ∷ [])) in
-    let last = get_or-append_seam front x [] 0 in
-    let before = take-append_seam front (x ∷ []) in
-    grind (arith, nat_tests, length-append front (x ∷ []))
+last_byte b x front = grind (arith, common_steps, nat_tests, length-append, get_or-append_seam, take-append_seam)
 
 -- WORDS OF A TEXT
 -- whether what is left of words is words; fresh: no byte of the first one was seen
@@ -52,8 +49,4 @@ pub before_three : (words bs : List (List ℕ)) (a b c : List ℕ) → 0 < lengt
     → words ≡ ((bs ++ a ∷ []) ++ b ∷ []) ++ c ∷ [] → list_all is_word words ≡ true
     → is_ending (a ∷ b ∷ c ∷ []) ≡ true → Some bs ≡ body_of_words words
 before_three words bs a b c l e all ends =
-    let flat : words ≡ bs ++ (a ∷ b ∷ c ∷ []) = e ∙ simp append_assoc in
-    let size : length words - 3 ≡ length bs = omega (arith, ap length flat, length-append bs (a ∷ b ∷ c ∷ [])) in
-    let behind = drop-append_seam bs (a ∷ b ∷ c ∷ []) in
-    let before = take-append_seam bs (a ∷ b ∷ c ∷ []) in
-    grind (arith, nat_tests)
+    grind (arith, common_steps, nat_tests, append_assoc, length-append, drop-append_seam, take-append_seam)

@@ -17,7 +17,7 @@ use Rattle.xc_input.proofs.lists.Members.{IsIn, each_in, each_from, in-slice_get
 use Rattle.xc_input.proofs.lists.Members.{contains-in}
 use Rattle.xc_input.proofs.lists.EachTwo.{each_two_from_AllPairs, AllPairs-from_each_two}
 use Rattle.xc_list.specs.Listed.{is_known, IsListedCover, stands_for}
-use Rattle.xc_list.specs.inner.Classes.{class_at, alike, numbers, class_of, same_uses, IsCoverOfClasses}
+use Rattle.xc_list.specs.inner.Classes.{class_at, alike, numbers, same_uses, IsCoverOfClasses}
 use Rattle.xc_list.proofs.CheckLemmas.DifferentOptions.{is_counted, IsLikeness, AreAlike, AreApart}
 use Rattle.xc_list.proofs.CheckLemmas.DifferentOptions.{count_alike, count_within, give}
 use Rattle.xc_list.proofs.CheckLemmas.Rotations.{DifferInItems, colour-alike}
@@ -82,15 +82,7 @@ zipped_alike P Q R (x ∷ xs) (y ∷ ys) (z ∷ zs) f h = grind (arith, nat_test
 stands-alike : (p : Named) → IsSound p → (words : List (List ℕ)) (q o : ℕ) → IsOption p.puzzle q → IsOption p.puzzle o
     → IsTrue (stands_for p words q) → IsTrue (stands_for p words o) ↔ alike p.puzzle q o ≡ true
 stands-alike p r words q o x y h =
-    let us = uses_of p.puzzle q in
-    let vs = uses_of p.puzzle o in
-    let d = option-differs p.puzzle r.valid q x in
-    let e = option-differs p.puzzle r.valid o y in (
-      λ k.
-          let same = body-class p words r us vs (option-known p r q x) (option-known p r o y) d e h k in
-          cc (same_uses-itself (class_of us)),
-      λ z. body-alike p words us vs e (same_uses-are (class_of us) (class_of vs) z) h,
-    )
+    grind (arith, option-differs, body-class, option-known, same_uses-itself, body-alike, same_uses-are)
 
 -- options that are alike, each beside the other
 module _ (p : Puzzle) (v : IsValid p) (reps s : List ℕ) (known : AreKnown p s) (z : AreAlike (alike p) reps s) where

@@ -1,5 +1,6 @@
 -- Different options in place of options that are alike: there are such exactly where no class is asked more often than
 -- it has members.
+use Rattle.std.proofs.lemmas.Grind.{common_steps}
 use Rattle.std.proofs.lemmas.Bool.Decides.{nat_tests}
 use Rattle.std.proofs.lemmas.Bool.{cases_Bool}
 use Rattle.std.proofs.Common.{ℕ, ◌≡◌, ◌≢◌, ◌+◌, ◌<◌, ◌≤◌, Bool, true, cond, not, ◌==◌, List, [], ◌∷◌}
@@ -85,8 +86,7 @@ spare q all s d l =
       | inr e ↦ absurd (omega (
         arith,
         l,
-        count_within q all s d (λ x k h.
-            grind (arith, nat_tests, any-in free all x k, in-any (λ y. y == x) s, eqb-true)),
+        count_within q all s d (λ x k h. grind (arith, common_steps, any-in, in-any, eqb-true)),
       ))
     ]
 
@@ -100,8 +100,7 @@ pub give : (same : ℕ → ℕ → Bool) → IsLikeness same → (all : List ℕ
 give same classes all d [] h = ([], record { alike = tt; known = λ o k. absurd k; apart = tt })
 give same classes all d (r ∷ reps) h =
     let later = give same classes all d reps (λ q k. omega (arith, h q (inr k))) in
-    let asked : cond true 1 0 + counted (same r) reps ≤ counted (same r) all =
-    rw (classes.itself r) at (h r (inl refl)) in
+    let asked : cond true 1 0 + counted (same r) reps ≤ counted (same r) all = grind (arith, common_steps) in
     let like = count_alike same classes r reps later.0 later.1.alike in
     let o = spare (same r) all later.0 d (omega (arith, asked, like)) in (
       o.0 ∷ later.0,

@@ -80,8 +80,7 @@ module _ (p : Named) (keys : List (Vec Use Global)) (counts : List ℕ) (b : IsO
   no-class words us have none = not_false (is_known p words) (λ h.
       let o = known-as p b.sound words h in
       let vs = uses_of p.puzzle o.0 in
-      let same : rotated_at o.2 vs ≡ us =
-      same_uses_by_words _ b.sound _ _ o.3.known have.known (o.3.words_so ∙ sym have.words_so) in
+      let same : rotated_at o.2 vs ≡ us = grind (arith, common_steps, same_uses_by_words) in
       let class : class_at p.puzzle o.0 ≡ class_of us =
       sym (class-turned o.2 vs (option-differs p.puzzle b.sound.valid o.0 o.1)) ∙ ap class_of same in
       none (subst (IsIn (key_uses keys)) class (in-contains _ _ (b.complete.whole o.0 o.1.0 o.1.1))))
@@ -103,8 +102,7 @@ module _ (p : Named) (keys : List (Vec Use Global)) (counts : List ℕ) (b : IsO
   pub class-found : (words : List (List ℕ)) (us class : List Use) (r : Option ℕ) → HaveWords p words us → 0 < length us
       → class ≡ class_of us → r ≡ position (λ v. same_uses class v.items) keys
       → IsClassOfBody (record { problem = p; classes = key_uses keys }) words r
-  class-found words us class None have l e f =
-      no-class words us have (λ h. lost-key class keys (sym f) (subst (IsIn (key_uses keys)) (sym e) h))
+  class-found words us class None have l e f = grind (arith, no-class, lost-key)
   class-found words us class (Some k) have l e f =
       let at = found-key class keys k (sym f) in its-class words us k have l (at.0, at.1 ∙ ap (λ x. Some x) e)
 

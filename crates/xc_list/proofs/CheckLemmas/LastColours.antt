@@ -2,7 +2,6 @@
 use Rattle.std.proofs.lemmas.Grind.{common_steps}
 use Rattle.std.proofs.Common.{◌≤◌}
 use Rattle.std.proofs.lemmas.Bool.Decides.{nat_tests}
-use Rattle.std.specs.Prelude.{if◌then◌else◌}
 use Rattle.std.proofs.Common.{ℕ, suc, ◌≡◌, ◌≢◌, ◌-◌, ◌<◌, ◌==◌, List}
 use Rattle.std.proofs.Common.{[], ◌∷◌, ◌++◌, length, map, filter, get_or, set, Some, None, refl, sym}
 use Rattle.std.proofs.Common.{◌∙◌, arith, subst}
@@ -45,18 +44,20 @@ length-given i us = length-map (filter (λ u. u.item == i) us) (λ u. u.colour) 
 given-append : (i : ℕ) (us vs : List Use) → given i (us ++ vs) ≡ given i us ++ given i vs
 given-append i us vs = simp (filter-append, map-append)
 
-last_set : (cs : List ℕ) (u : Use) (k : ℕ) (us : List Use) → 1 ≤ u.item → k < length cs
-    → last_or (get_or (set cs (u.item - 1) u.colour) k 0) (map (λ v. v.colour) us)
-    ≡ last_or (get_or cs k 0) (map (λ v. v.colour) (if u.item == suc k then u ∷ us else us))
-last_set cs u k us h l = grind (arith, nat_tests, get_or-set_same, get_or-set_other)
-
 -- the colour that was given last
 pub coloured-at : (n : ℕ) (us : List Use) (cs : List ℕ) (k : ℕ) → AreItems n us → n ≡ length cs → k < n
     → get_or (coloured us cs) k 0 ≡ last_or (get_or cs k 0) (given (suc k) us)
 coloured-at n [] cs k a e l = refl
 coloured-at n (u ∷ us) cs k a e l =
-    coloured-at n us (set cs (u.item - 1) u.colour) k a.1 (e ∙ sym (length-set cs (u.item - 1) u.colour)) l
-    ∙ last_set cs u k (filter (λ v. v.item == suc k) us) a.0.0 (omega (arith, e, l))
+    grind (
+      arith,
+      common_steps,
+      length-set,
+      get_or-set_same,
+      get_or-set_other,
+      nat_tests,
+      coloured-at n us (set cs (u.item - 1) u.colour) k a.1 (e ∙ sym (length-set cs (u.item - 1) u.colour)) l,
+    )
 
 -- ---- uses and options
 
@@ -123,8 +124,7 @@ last-agree : (d : ℕ) (cs : List ℕ) → AllByRecursion (agrees_with None d cs
 last-agree d [] h = tt
 last-agree d (x ∷ []) h = (tt, tt)
 last-agree d (x ∷ y ∷ cs) h =
-    all_agree (last_or d (x ∷ y ∷ cs)) (x ∷ y ∷ cs) (each_weaker (agrees_with None d (x ∷ y ∷ cs))
-    (Agree (last_or d (x ∷ y ∷ cs))) (x ∷ y ∷ cs) (λ c e. grind (arith, nat_tests, e)) h)
+    all_agree (last_or d (x ∷ y ∷ cs)) (x ∷ y ∷ cs) (grind (arith, common_steps, each_weaker))
 
 -- an item with these bounds, or none where it is secondary, may be given these colours
 abbrev pub Fits : Option Bounds → List ℕ → Type 0

@@ -1,13 +1,11 @@
 -- The solutions that lines list, line by line.
 use Rattle.std.proofs.Common.{◌≡◌, ℕ, suc, ◌+◌, List, [], ◌∷◌, Option, Some, None, is_some, refl}
-use Rattle.std.proofs.Common.{ap, arith, subst}
+use Rattle.std.proofs.Common.{ap, arith}
 use Rattle.std.specs.Prelude.{filter_map}
-use Rattle.std.specs.List.{before_first, position_or_len, AllZip}
-use Rattle.xc_input.specs.Named.{Named}
-use Rattle.xc_list.specs.declared.checker.Verdict.{Verdict}
+use Rattle.std.specs.List.{before_first, position_or_len}
 use Rattle.xc_list.specs.ListingLines.{header_number, body_of}
 use Rattle.xc_list.specs.inner.ReadLines.{read}
-use Rattle.xc_list.specs.Listed.{solutions_of, IsVerdictOn, AreVerdicts}
+use Rattle.xc_list.specs.Listed.{solutions_of}
 use Rattle.xc_list.specs.inner.Listings.{Listing, listing_of}
 
 -- the bodies before the next header, and the solutions
@@ -33,7 +31,3 @@ listed (l ∷ lines) = by_line (header_number l) (body_of l) (listed lines) refl
 
 pub listed_solutions : (lines : List (List ℕ)) → (listing_of lines).solutions ≡ solutions_of lines
 listed_solutions lines = ap (λ (l : Listing). l.solutions) (listed lines)
-
-pub listed_verdicts : (p : Named) (lines : List (List ℕ)) (vs : List Verdict)
-    → AllZip (IsVerdictOn p) (listing_of lines).solutions vs → AreVerdicts p lines vs
-listed_verdicts p lines vs h = subst (λ ss. AllZip (IsVerdictOn p) ss vs) (listed_solutions lines) h

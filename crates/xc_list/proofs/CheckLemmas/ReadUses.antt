@@ -1,10 +1,8 @@
 -- The uses that have a body's words.
 use Rattle.std.proofs.lemmas.Bool.{cases_Bool}
-use Rattle.std.proofs.Common.{inr}
 use Rattle.std.proofs.lemmas.Bool.Decides.{nat_tests}
 use Rattle.std.proofs.Common.{ℕ, zero, suc, ◌≡◌, ◌<◌, ◌≤◌, true, false, List, [], ◌∷◌, ◌++◌, length, map}
-use Rattle.std.proofs.Common.{Option, MatchOption, Bor, Some, None, refl, sym, ap, ap₂, ◌∙◌, arith, append-nil, inl}
-use Rattle.std.proofs.Common.{inr}
+use Rattle.std.proofs.Common.{Option, MatchOption, Bor, Some, None, refl, sym, ap, ◌∙◌, arith, append-nil}
 use Rattle.xc_list.specs.inner.LineParts.{colour_text}
 use Rattle.std.specs.Prelude.{All}
 use Rattle.std.proofs.lemmas.List.Elements.{All-head, All-tail}
@@ -26,9 +24,7 @@ use Rattle.xc_input.proofs.TokenLemmas.Separators.{COLON}
 name_and_colour : (colours : List (List ℕ)) (name : List ℕ) (c : ℕ) → has COLON name ≡ false → c ≤ length colours
     → (w : List ℕ) → name ++ colour_text colours c ≡ w → (before COLON w ≡ name) × (has COLON w ≡ false → c ≡ 0)
     × (has COLON w ≡ true → numbered_get colours c ≡ Some (after COLON w))
-name_and_colour colours name zero h l w e =
-    let is : name ≡ w = sym (append-nil name) ∙ e in
-    rw (← is) (no-cut COLON name h, λ f. refl, λ f. cc)
+name_and_colour colours name zero h l w e = grind (arith, append-nil, no-cut)
 name_and_colour colours name (suc c) h l w e =
     let cut = cut-at COLON name (bytes_at colours (suc c)) h in
     grind (arith, nat_tests, numbered_some colours (suc c), colour_text-some colours (suc c))
@@ -61,14 +57,7 @@ module _ (p : Named) (s : IsSound p) (u : Use) (known : IsKnownUse p u) where
 -- uses with one word are one
 pub one_word : (p : Named) → IsSound p → (u v : Use) → IsKnownUse p u → IsKnownUse p v → use_word p u ≡ use_word p v
     → u ≡ v
-one_word p s u v a b e =
-    let x = parts p s u a (use_word p v) e in
-    let y = parts p s v b (use_word p v) refl in
-    ap₂ (λ i c. let r : Use = record { item = i; colour = c } in r)
-    (one_number p.names u.item v.item _ s.named.distinct x.0 y.0) (elim (cases_Bool (has COLON (use_word p v))) [
-      | inl h ↦ one_number p.colours u.colour v.colour _ s.named.distinct_colours (x.2 h) (y.2 h)
-      | inr h ↦ x.1 h ∙ sym (y.1 h)
-    ])
+one_word p s u v a b e = grind (arith, parts, one_number, cases_Bool, has)
 
 -- ---- the words of a body
 

@@ -1,6 +1,6 @@
 -- Rotations of uses, and that those of one list have one class: for the classes of the checker.
 use Rattle.std.proofs.lemmas.Grind.{common_steps}
-use Rattle.std.proofs.Common.{ℕ, zero, suc, ◌≡◌, ◌≢◌, ◌+◌, ◌<◌, ◌≤◌, ◌==◌, min, List, [], ◌∷◌, ◌++◌, length, map}
+use Rattle.std.proofs.Common.{ℕ, zero, suc, ◌≡◌, ◌≢◌, ◌+◌, ◌<◌, ◌≤◌, ◌==◌, min, List, [], ◌∷◌, ◌++◌, length}
 use Rattle.std.proofs.Common.{drop, take, true, inl, inr, is_some, get_or, refl, sym, ap, ◌∙◌, arith, append_assoc}
 use Rattle.std.proofs.Common.{subst, eq-eqb, ne_eqb}
 use Rattle.std.specs.Prelude.{◌↔◌}
@@ -79,14 +79,11 @@ fold-min a b (x ∷ xs) = grind (arith, common_steps, fold-min a (min b x) xs)
 
 least_same : (u : Use) (us : List Use) → least_of (us ++ u ∷ []) ≡ least_of (u ∷ us)
 least_same u [] = refl
-least_same u (v ∷ us) =
-    rw (map-append (λ (w : Use). w.item) us (u ∷ []), fold-append)
-    (omega (arith, fold-min u.item v.item (map (λ w. w.item) us)))
+least_same u (v ∷ us) = grind (arith, map-append, fold-append, fold-min)
 
 least_held : (u : Use) (us : List Use) → Holds (least_of (u ∷ us)) (u ∷ us)
 least_held u [] = grind (arith, nat_tests, eq-eqb)
-least_held u (v ∷ us) =
-    grind (arith, nat_tests, least_held v us, cases_eq, eq-eqb, fold-min u.item v.item (map (λ w. w.item) us))
+least_held u (v ∷ us) = grind (arith, cases_eq, eq-eqb, fold-min, least_held v us)
 
 -- ---- classes
 
@@ -118,9 +115,7 @@ class_start us = place_in (least_of us) us
 pub class-turned : (k : ℕ) (us : List Use) → DifferInItems us → class_of (rotated_at k us) ≡ class_of us
 class-turned zero [] d = refl
 class-turned (suc k) [] d = refl
-class-turned k (u ∷ us) d =
-    let t = at_turns (u ∷ us) k d in
-    ap (λ i. from_item i (rotated_at k (u ∷ us))) t.least ∙ t.from (least_of (u ∷ us)) (least_held u us)
+class-turned k (u ∷ us) d = grind (arith, at_turns, least_held)
 
 -- uses of one class are rotations of each other
 alike : (us vs : List Use) → DifferInItems vs → class_of us ≡ class_of vs → AreTurned vs us

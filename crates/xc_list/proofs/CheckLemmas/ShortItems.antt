@@ -14,8 +14,7 @@ pub held_once_more : (bs : List Bounds) (ts : List ℕ) (k t : ℕ) (d : Bounds)
 held_once_more [] ts k t d l e = grind (arith, nat_tests)
 held_once_more (b ∷ bs) [] k t d l e = absurd (omega (arith, l))
 held_once_more (b ∷ bs) (x ∷ ts) zero t d l e = grind (arith, nat_tests)
-held_once_more (b ∷ bs) (x ∷ ts) (suc k) t d l e =
-    grind (arith, nat_tests, held_once_more bs ts k t d (omega (arith, l)) e)
+held_once_more (b ∷ bs) (x ∷ ts) (suc k) t d l e = grind (arith, held_once_more bs ts k t d (omega (arith, l)) e)
 
 short_here : (t n : ℕ) (x b : Bounds) → x ≡ b → cond (nat_lt t x.low) 1 0 + n ≡ 0 → b.low ≤ t
 short_here t n x b e h = grind (arith, nat_tests)

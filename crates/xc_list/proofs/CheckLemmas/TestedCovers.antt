@@ -1,10 +1,9 @@
 -- Options are a cover exactly where the tests of its conditions say so.
-use Rattle.std.proofs.lemmas.Grind.{common_steps}
-use Rattle.std.proofs.Common.{ℕ, zero, suc, ◌≡◌, ◌≢◌, ◌+◌, ◌<◌, ◌≤◌, Bool, true, false, ◌==◌, List, [], ◌∷◌}
+use Rattle.std.proofs.Common.{ℕ, zero, suc, ◌≡◌, ◌≢◌, ◌+◌, ◌<◌, ◌≤◌, Bool, true, false, List, [], ◌∷◌}
 use Rattle.std.proofs.Common.{Option, Some, None, refl, ap, add-one, arith, inl, inr, eqb-true, eq-eqb}
 use Rattle.std.proofs.Common.{ne_eqb}
 use Rattle.std.specs.Prelude.{All, AllPairs, nat_le, ◌||◌}
-use Rattle.std.specs.List.{list_all, list_any}
+use Rattle.std.specs.List.{list_all}
 use Rattle.std.proofs.lemmas.Bool.Decides.{nat_tests}
 use Rattle.std.proofs.lemmas.List.Elements.{recursion_from_All}
 use Rattle.xc_input.specs.declared.problem.Use.{Use}
@@ -13,10 +12,8 @@ use Rattle.xc_input.specs.Problem.{Puzzle, IsValid, IsItem, IsOption, IsSecondar
 use Rattle.xc_input.specs.Problem.{primary_count, uses_of}
 use Rattle.xc_search.specs.Cover.{IsCover, times_held}
 use Rattle.xc_input.proofs.FaultLemmas.BooleanTests.{and_left, and_right}
-use Rattle.xc_input.proofs.lists.EachTwo.{EachTwo}
 use Rattle.std.proofs.lemmas.Option.{slice_get_within}
-use Rattle.xc_input.proofs.lists.Members.{IsIn, each_in, each_from, in-contains, contains-in}
-use Rattle.xc_list.proofs.CheckLemmas.ListedNumbers.{any-in, in-any}
+use Rattle.xc_input.proofs.lists.Members.{IsIn, each_in, in-contains, contains-in}
 use Rattle.xc_list.proofs.CheckLemmas.BesideLists.{each-passes, passes-at}
 use Rattle.xc_list.specs.inner.Tested.{is_colour_met, is_use_met, do_agree, is_within, is_held_within}
 use Rattle.xc_list.proofs.CheckLemmas.DecidedByClasses.{option-sound, option-differs}
@@ -86,15 +83,7 @@ agree p v a b known h =
 
 -- ---- different numbers
 -- a number that stands again behind the first
-pub stands_again : (x : ℕ) (others rest : List ℕ) → rest ≡ x ∷ others → list_any (λ y. y == x) others ≡ true
-    → EachTwo (λ a b. a ≢ b) rest → ⊥
-stands_again x others rest e h apart = grind (arith, common_steps, in-any, each_in, eqb-true)
-
 -- one that doesn't
-pub stands_alone : (x : ℕ) (others rest : List ℕ) → rest ≡ x ∷ others → list_any (λ y. y == x) others ≡ false
-    → EachTwo (λ a b. a ≢ b) others → EachTwo (λ a b. a ≢ b) rest
-stands_alone x others rest e h apart = grind (arith, nat_tests, each_from, any-in, eq-eqb)
-
 -- ---- covers
 
 -- the tests of different options of the problem say that they are a cover

@@ -57,8 +57,7 @@ each_numbered P a b [] h all = tt
 each_numbered P a b (x ∷ xs) h all = ((omega (arith, h), all.0), each_numbered P (a + 1) b xs (omega (arith, h)) all.1)
 
 pick_known : (p : Puzzle) (r : Residual) (i : ℕ) (x : Numbered) → IsKnownResidual p r → IsKnownResidual p (pick r i x)
-pick_known p r i x known =
-    grind (arith, common_steps, in-map, in-filter, item-spend_one, length-filter-le, goes_on)
+pick_known p r i x known = grind (arith, in-map, in-filter, item-spend_one, length-filter-le, goes_on)
 
 none_known : (p : Puzzle) (r : Residual) (i : ℕ) → IsKnownResidual p r → IsKnownResidual p (none r i)
 none_known p r i known = grind (arith, common_steps, in-filter, length-filter-le)

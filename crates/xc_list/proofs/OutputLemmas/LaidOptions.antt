@@ -51,8 +51,7 @@ module _ (a : Named) (item : ℕ) (us : List Use) {text : List ℕ} {place : ℕ
 
   -- the text behind the cut and the text before it are those of the uses from the item's on, cyclically
   pub cut_gives : flat_map (use_text a) (from_item item us) ≡ drop place text ++ take place text
-  cut_gives =
-      grind (arith, common_steps, item, us, drop-append_seam, a, take-append_seam, halves, at, flat_map-append)
+  cut_gives = grind (arith, drop-append_seam, take-append_seam, halves, flat_map-append)
 
 -- one option more
 pub laid_more : (a : Named) (os : List (List Use)) (us : List Use) (texts more starts : List ℕ) (n : ℕ)
@@ -82,10 +81,6 @@ pub span-length : (texts : List ℕ) (from count : ℕ) → from + count + 16 �
 span-length texts from count h = omega (arith, length-take count (drop from texts), length-drop from texts, h)
 
 -- nothing is put where nothing stands before the cut
-pub nothing_put : (page texts : List ℕ) (n place : ℕ) → place ≤ 0
-    → take (n + place) page ≡ take n page ++ take place texts
-nothing_put page texts n place h = grind (arith, nat_tests, append-nil (take n page))
-
 -- where an item's use starts in a text
 module _ (a : Named) (item : ℕ) (us : List Use) (texts : List ℕ) (from count place : ℕ)
     (text : take count (drop from texts) ≡ uses_text a us)

@@ -3,12 +3,12 @@ use Rattle.std.proofs.lemmas.Grind.{common_steps}
 use Rattle.xc_list.proofs.OutputLemmas.OutputLines.{IsReadable, IsReadableMember}
 use Rattle.xc_input.proofs.lists.Members.{in-take}
 use Rattle.xc_list.proofs.OutputLemmas.KnownMembers.{member_counted}
-use Rattle.std.proofs.Common.{◌≡◌, ◌≢◌, ℕ, ◌+◌, ◌^◌, ◌<◌, true, not, List, [], ◌∷◌, ◌++◌}
+use Rattle.std.proofs.Common.{◌≡◌, ◌≢◌, ℕ, ◌+◌, ◌^◌, ◌<◌, List, [], ◌∷◌, ◌++◌}
 use Rattle.std.proofs.Common.{None, map, take, filter, refl, sym, ap, ◌∙◌, arith, subst}
 use Rattle.std.proofs.Common.{append-nil}
 use Rattle.xc_list.proofs.CheckLemmas.ListedSolutions.{listed_solutions}
 use Rattle.xc_list.specs.inner.Listings.{Listing, listing_of}
-use Rattle.std.specs.Prelude.{All, IsTrue, codes, ◌==◌}
+use Rattle.std.specs.Prelude.{All, IsTrue, codes}
 use Rattle.std.specs.List.{AllZip, enumerate_from}
 use Rattle.std.proofs.lemmas.Bool.Decides.{nat_tests}
 use Rattle.std.proofs.lemmas.List.{length-take}
@@ -42,10 +42,7 @@ no_fault-choices : (p : Named) (n : ℕ) (m : List Choice) (rest : List (List �
     → fault_in_lines p n (map (choice_line p) m ++ rest) ≡ None
 no_fault-choices p n [] rest h all later = later n h
 no_fault-choices p n (c ∷ m) rest h all later =
-    let begun : not (n == 0) ≡ true = grind (arith, nat_tests) in
-    let first = lines-cons p n (choice_line p c) (map (choice_line p) m ++ rest) in
-    rw (first, (read-choice_line p c all.0).0, begun, all.0.told.accepted)
-    (no_fault-choices p (n + 1) m rest (omega arith) all.1 later)
+    grind (arith, lines-cons, read-choice_line, no_fault-choices p (n + 1) m rest (omega arith) all.1 later)
 
 no_fault-members : (p : Named) (n : ℕ) (nms : List (ℕ × List Choice)) → AllByRecursion (IsReadableMember p) nms
     → fault_in_lines p n (output_lines p nms) ≡ None
@@ -71,19 +68,14 @@ listing_of-members : (p : Named) (nms : List (ℕ × List Choice)) → AllByRecu
     → listing_of (output_lines p nms) ≡ record { loose = []; solutions = map (solution_of p) nms }
 listing_of-members p [] all = refl
 listing_of-members p (nm ∷ nms) all =
-    let choices = listing_of-choices p nm.1 (output_lines p nms) all.0.choices in
-    let others = listing_of-members p nms all.1 in
-    rw (read-header nm.0 all.0.number, choices, others, append-nil (map (choice_words p) nm.1))
+    grind (arith, listing_of-choices, read-header, append-nil, listing_of-members p nms all.1)
 
 -- ---- covers
 
 each_stands : (p : Named) (m : List Choice) → AllByRecursion (IsReadable p) m
     → AllZip (λ words o. IsTrue (stands_for p words o)) (filter (is_known p) (map (choice_words p) m)) (options_of m)
 each_stands p [] all = tt
-each_stands p (c ∷ m) all =
-    let rest = each_stands p m all.1 in
-    by_option c.option (λ e. let none = rw e at all.0.told.stands in rw (e, none) rest) (λ o e.
-    let some = rw e at all.0.told.stands in rw (e, some.0) (some.1, rest))
+each_stands p (c ∷ m) all = grind (arith, by_option, each_stands p m all.1)
 
 listed_cover : (p : Named) (nm : ℕ × List Choice) → IsReadableMember p nm → IsListedCover p (solution_of p nm).bodies
 listed_cover p nm h = (options_of nm.1, each_stands p nm.1 h.choices, h.cover)

@@ -52,12 +52,8 @@ body-spaced : (p : Named) (i : ℕ) (o : Option ℕ) → body_text p i o ≡ spa
 body-spaced p i (Some o) = sym (flat_map-map (λ w. 32 ∷ w) (use_word p) (from_item i (uses_of p.puzzle o)))
 body-spaced p i None = ap (λ t. codes " null " ++ t) (sym (append-nil (bytes_at p.names i)))
 
-regroup : (body ks ns : List ℕ) → body ++ (codes " (" ++ ks ++ codes " of " ++ ns ++ codes ")\n")
-    ≡ (body ++ (32 ∷ 40 ∷ (ks ++ 32 ∷ 111 ∷ 102 ∷ 32 ∷ ((ns ++ 41 ∷ []) ++ [])))) ++ 10 ∷ []
-regroup body ks ns = simp (append_assoc {A = ℕ}, append-nil {A = ℕ})
-
 choice-ended : (p : Named) (c : Choice) → choice_text p c ≡ choice_line p c ++ 10 ∷ []
-choice-ended p c = grind (arith, common_steps, regroup, spaced, body-spaced, flat_map-append)
+choice-ended p c = grind (arith, common_steps, body-spaced, flat_map-append, append_assoc, append-nil)
 
 choices-ended : (p : Named) (m : List Choice) → flat_map (choice_text p) m ≡ ended (map (choice_line p) m)
 choices-ended p [] = refl

@@ -4,7 +4,7 @@ use Rattle.std.proofs.lemmas.Fmt.{decimal_nonempty, digits_value-decimal, digits
 use Rattle.std.proofs.Common.{flat_map}
 use Rattle.std.proofs.Common.{rules}
 use Rattle.std.proofs.Common.{◌≡◌, ℕ, ◌^◌, ◌<◌, ◌≤◌, Bool, true, false}
-use Rattle.std.proofs.Common.{nat_eq, List, [], ◌∷◌, ◌++◌, None, Some, length, refl, ap, ◌∙◌}
+use Rattle.std.proofs.Common.{List, [], ◌∷◌, ◌++◌, None, Some, length, refl, ap, ◌∙◌}
 use Rattle.std.proofs.Common.{arith}
 use Rattle.xc_input.proofs.TokenLemmas.DecimalValues.{value_from}
 use Rattle.std.specs.Prelude.{codes, decimal}
@@ -33,8 +33,7 @@ digits_read = numerals_by_fold _ (search rules) value_from (search rules)
 
 -- a number below 10 ^ k has at most k digits
 are_digits-decimal : (k n : ℕ) → 0 < k → n < 10 ^ k → n < 2 ^ 64 → are_digits k (decimal n) ≡ true
-are_digits-decimal k n h l m =
-    grind (arith, nat_tests, decimal_nonempty n m, length-decimal-le k n h l m, digits_decimal digits_read n m)
+are_digits-decimal k n h l m = grind (arith, decimal_nonempty, length-decimal-le, digits_decimal, digits_read)
 
 lacks : (p q : ℕ → Bool) → ((b : ℕ) → p b ≡ true → q b ≡ false) → (bs : List ℕ) → list_all p bs ≡ true
     → list_any q bs ≡ false
@@ -97,13 +96,7 @@ abbrev pub ending_words : ℕ → ℕ → List (List ℕ)
 ending_words k n = (codes "(" ++ decimal k) ∷ codes "of" ∷ (decimal n ++ codes ")") ∷ []
 
 pub plain-decimal : (n : ℕ) → n < 2 ^ 64 → IsPlain (decimal n)
-plain-decimal n h = record {
-  some = omega (arith, decimal_nonempty n h);
-  no_space = lacks is_ascii_digit is_space (λ b d. grind (arith, nat_tests)) (decimal n)
-      (digits_decimal digits_read n h);
-  no_feed = lacks is_ascii_digit (λ x. nat_eq x 10) (λ b d. grind (arith, nat_tests)) (decimal n)
-      (digits_decimal digits_read n h);
-}
+plain-decimal n h = grind (arith, decimal_nonempty, lacks, digits_decimal, digits_read)
 
 pub plain-append : (v w : List ℕ) → IsPlain v → list_any is_space w ≡ false → has 10 w ≡ false → IsPlain (v ++ w)
 plain-append v w plain space feed = grind (arith, common_steps, plain.some, plain.no_space, plain.no_feed)
@@ -133,8 +126,7 @@ pub read-choice : (body : List (List ℕ)) (k n : ℕ) → 1 ≤ length body →
 read-choice [] k n some plain h l = absurd (omega (arith, some))
 read-choice (w ∷ body) k n some plain h l =
     let all : AllByRecursion IsPlain ((w ∷ body) ++ ending_words k n) =
-    each-append IsPlain (w ∷ body) (ending_words k n) plain
-    (plain-ending k n (omega (arith, h)) (omega (arith, l))) in
+    grind (arith, common_steps, each-append, plain-ending) in
     let is : body_of_words (words_in (w ++ spaced (body ++ ending_words k n))) ≡ Some (w ∷ body) =
     ap body_of_words (words_in-spaced w (body ++ ending_words k n) all)
     ∙ body_of_words-is (w ∷ body) (ending_words k n) (omega arith) refl

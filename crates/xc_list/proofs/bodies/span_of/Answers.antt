@@ -4,12 +4,10 @@ use Rattle.xc_list.proofs.OutputLemmas.LaidOptions.{laid-count, padded_part}
 use Rattle.xc_list.proofs.bodies.span_of.Goals as goal
 
 pub index-requires : goal.index-requires
-index-requires c =
-    omega (arith, items-length c.args.layout.now.starts, laid-count _ _ _ _ c.requires.laid.are_laid)
+index-requires c = grind (arith, items-length, laid-count)
 
 pub index-requires-2 : goal.index-requires-2
-index-requires-2 c =
-    omega (arith, items-length c.args.layout.now.starts, laid-count _ _ _ _ c.requires.laid.are_laid)
+index-requires-2 c = grind (arith, items-length, laid-count)
 
 pub overflow_sub-result : goal.overflow_sub-result
 overflow_sub-result c =

@@ -1,8 +1,9 @@
+use Rattle.std.proofs.Common.{arith}
 use Rattle.std.proofs.Common.{◌∙◌, ap, subst}
 use Rattle.std.proofs.lemmas.Result.{err_from_is_err_and}
 use Rattle.xc_input.specs.Lines.{lines_of}
 use Rattle.xc_input.specs.Named.{Named, IsSound}
-use Rattle.xc_list.specs.Listed.{IsListingFault, AreVerdicts}
+use Rattle.xc_list.specs.Listed.{AreVerdicts}
 use Rattle.xc_list.specs.inner.Classes.{Classes}
 use Rattle.xc_list.proofs.OutputLemmas.ListedCovers.{wants_memory, all_yes}
 use Rattle.xc_list.proofs.checker.check.Goals as goal
@@ -11,13 +12,7 @@ pub take_lines-requires : goal.take_lines-requires
 take_lines-requires c = c.in_ok-checker.ensures.begun (lines_of c.args.listing.now)
 
 pub returns-in_err-take_lines-clause-outputs : goal.returns-in_err-take_lines-clause-outputs
-returns-in_err-take_lines-clause-outputs c = λ spacing limit fits named is.
-    let e = err_from_is_err_and c.from_residual-in_err-take_lines.result c.from_residual-in_err-take_lines.ensures.1 in
-    let first = subst (λ (p : Named). IsListingFault p (lines_of c.args.listing.now) c.in_err-take_lines.field-0.0)
-    c.in_ok-checker.ensures.problem c.in_err-take_lines.ensures.fault in
-    rw (e.1, e.2) (wants_memory c.args.problem.now
-    (subst IsSound c.in_ok-checker.ensures.problem c.in_ok-checker.ensures.sound) named spacing limit fits
-    c.args.listing.now c.in_err-take_lines.field-0.0 is first)
+returns-in_err-take_lines-clause-outputs c = grind (arith, err_from_is_err_and, wants_memory)
 
 pub returns-clause-verdicts : goal.returns-clause-verdicts
 returns-clause-verdicts c =

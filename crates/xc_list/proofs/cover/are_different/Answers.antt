@@ -1,24 +1,22 @@
-use Rattle.std.proofs.Common.{◌≢◌, ◌∙◌, refl, subst, sym}
+use Rattle.xc_input.proofs.lists.Members.{each_from}
+use Rattle.xc_list.proofs.CheckLemmas.ListedNumbers.{any-in}
+use Rattle.std.proofs.Common.{eq-eqb}
+use Rattle.std.proofs.lemmas.Bool.Decides.{nat_tests}
+use Rattle.xc_list.proofs.CheckLemmas.ListedNumbers.{in-any}
+use Rattle.xc_input.proofs.lists.Members.{each_in}
+use Rattle.std.proofs.lemmas.Bool.{eqb-true}
+use Rattle.std.proofs.Common.{arith}
+use Rattle.std.proofs.lemmas.Grind.{common_steps}
+use Rattle.std.proofs.Common.{◌≢◌, refl, subst, sym}
 use Rattle.std.proofs.lemmas.List.{nil_from_length}
 use Rattle.xc_input.proofs.lists.EachTwo.{EachTwo, each_two_from_AllPairs, AllPairs-from_each_two}
-use Rattle.xc_list.proofs.CheckLemmas.TestedCovers.{stands_again, stands_alone}
 use Rattle.xc_list.proofs.cover.are_different.Goals as goal
 
 pub returns-then-contains : goal.returns-then-contains
-returns-then-contains c = (
-  λ h. cc,
-  λ apart. absurd (stands_again c.in-Some.first.now c.in-Some.others.now c.loop-first.rest.now c.in-Some.ensures.cases.0
-      (sym c.contains.ensures.value ∙ c.if-contains.true)
-      (c.loop-first.invariant.left (each_two_from_AllPairs _ c.args.options.now apart))),
-)
+returns-then-contains c = grind (arith, common_steps, each_two_from_AllPairs, in-any, each_in, eqb-true)
 
 pub loop-first-preserved : goal.loop-first-preserved
-loop-first-preserved c = record {
-  all =
-      λ apart. c.loop-first.invariant.all (stands_alone _ _ _ c.in-Some.ensures.cases.0
-      (sym c.contains.ensures.value ∙ c.if-contains.false) apart);
-  left = λ apart. (subst (EachTwo (λ a b. a ≢ b)) c.in-Some.ensures.cases.0 (c.loop-first.invariant.left apart)).1;
-}
+loop-first-preserved c = grind (arith, common_steps, each_from, any-in, eq-eqb, nat_tests)
 
 pub returns : goal.returns
 returns c =

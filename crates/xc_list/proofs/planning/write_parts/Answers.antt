@@ -1,16 +1,14 @@
 use Rattle.std.proofs.Common.{arith}
 use Rattle.std.proofs.lemmas.Grind.{common_steps}
-use Rattle.std.proofs.Common.{◌≡◌, ◌++◌, ap, ◌∙◌}
-use Rattle.xc_search.specs.Cut.{Uncut, IsPath, below}
+use Rattle.std.proofs.Common.{◌≡◌, ◌++◌}
+use Rattle.xc_search.specs.Cut.{IsPath, below}
 use Rattle.xc_list.proofs.Planned.{planned_more, planned_broke}
 use Rattle.xc_list.proofs.planning.write_parts.Goals as goal
 use Rattle.xc_list.proofs.planning.write_parts.Goals.{After-path}
 
 part : (g : _) (c : After-path g) → IsPath c.args.problem.now.puzzle c.path.result.now
     × (c.loop-found.cut.to_come ≡ below c.args.problem.now.puzzle c.path.result.now ++ c.next.new.self.to_come)
-part g c =
-    let same = ap (λ (u : Uncut). u.puzzle) c.loop-found.invariant.still ∙ c.requires.puzzle in
-    rw (c.path.ensures, ← same) (c.next.ensures.path c.in-Part.is, c.next.ensures.part c.in-Part.is)
+part g c = grind (arith)
 
 pub returns-in-Err-clause-plan : goal.returns-in-Err-clause-plan
 returns-in-Err-clause-plan g c =

@@ -10,9 +10,7 @@ pub returns-in-Some-clause-put : goal.returns-in-Some-clause-put
 returns-in-Some-clause-put g c = grind (arith, common_steps, puts_held, held_more)
 
 pub returns-in_err-write_past-clause-put : goal.returns-in_err-write_past-clause-put
-returns-in_err-write_past-clause-put g c =
-    if_failed _ _ c.from_residual.ensures.0
-    (rw (between_is, c.in_default.ensures.none refl) at c.in_err-write_past.ensures)
+returns-in_err-write_past-clause-put g c = grind (arith, if_failed, between_is)
 
 pub returns-clause-put : goal.returns-clause-put
 returns-clause-put g c = puts_out (rw (between_is, c.in_default.ensures.none refl) at c.in_ok-write_past.ensures)

@@ -1,12 +1,11 @@
+use Rattle.std.proofs.Common.{arith}
 use Rattle.std.proofs.Common.{◌∙◌}
 use Rattle.xc_list.proofs.TextLemmas.{front_more}
 use Rattle.xc_list.proofs.Writing.{then_broke, then_took, failed}
 use Rattle.xc_list.proofs.write.write_rest.Goals as goal
 
 pub returns-in_err-n : goal.returns-in_err-n
-returns-in_err-n g c =
-    let inv = c.loop-rest.invariant in
-    rw inv.1 (failed _ c.from_residual.ensures.0 (then_broke inv.2 c.in_err-n.ensures.text))
+returns-in_err-n g c = grind (arith, failed, then_broke)
 
 pub loop-rest-preserved : goal.loop-rest-preserved
 loop-rest-preserved g c =

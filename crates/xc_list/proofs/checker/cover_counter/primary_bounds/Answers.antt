@@ -1,3 +1,4 @@
+use Rattle.std.proofs.lemmas.Grind.{common_steps}
 use Rattle.std.proofs.Common.{arith, ◌≡◌, ◌+◌, ◌∙◌, get_or, sym, refl}
 use Rattle.xc_input.specs.declared.problem.Bounds.{Bounds}
 use Rattle.std.proofs.lemmas.List.{take_more}
@@ -13,8 +14,7 @@ loop-i-preserved c =
     let i = c.loop-i.i in
     let blank : Bounds = record { low = 0; high = 0 } in
     let item = c.item.result.now in
-    let is_primary : IsPrimary c.args.problem.now.puzzle (i + 1) =
-    (omega arith, omega (arith, c.primary-i-end.ensures.value, c.loop-i-test.true)) in
+    let is_primary : IsPrimary c.args.problem.now.puzzle (i + 1) = grind (arith, common_steps) in
     let read : get_or bounds i blank ≡ bounds_of item =
     get_or_from_slice_get bounds i (bounds_of item) blank
     (sym (numbered_get-at bounds (i + 1) i refl) ∙ c.item.ensures.bounds is_primary) in

@@ -1,5 +1,5 @@
 use Rattle.std.proofs.Common.{add-one, ℕ, suc, ◌≡◌, ◌+◌, ◌++◌, ◌∷◌, [], List, ◌∙◌, Some, sym, ap, subst, arith}
-use Rattle.std.specs.Prelude.{Option, slice_get, unwrap_or}
+use Rattle.std.specs.Prelude.{slice_get}
 use Rattle.xc_input.specs.declared.problem.Use.{Use}
 use Rattle.xc_input.specs.Problem.{Puzzle, numbered_get}
 use Rattle.xc_input.proofs.lists.Members.{IsIn}
@@ -12,8 +12,7 @@ use Rattle.xc_list.proofs.checker.option_index.add_option.Goals as goal
 -- the uses that were turned are the option's class
 option_class : (p : Puzzle) (o : ℕ) (us turned slice : List Use) → numbered_get p.options (o + 1) ≡ Some us
     → turned ≡ class_of us → slice ≡ turned → slice ≡ class_at p (suc o)
-option_class p o us turned slice e f g =
-    g ∙ f ∙ ap (λ (z : Option (List Use)). class_of (unwrap_or z [])) (sym e) ∙ ap (class_at p) (add-one o)
+option_class p o us turned slice e f g = grind (arith, add-one)
 
 pub overflow_add-index_mut : goal.overflow_add-index_mut
 overflow_add-index_mut c =

@@ -1,5 +1,6 @@
-use Rattle.std.proofs.Common.{suc, arith, ◌≡◌, ◌-◌, ◌≤◌, [], ◌∷◌, length, get_or, take, sym, ◌∙◌, ap, refl}
-use Rattle.std.proofs.lemmas.List.Elements.{All-take, recursion_from_All}
+use Rattle.std.proofs.lemmas.Grind.{common_steps}
+use Rattle.std.proofs.Common.{suc, arith, ◌≡◌, ◌-◌, [], ◌∷◌, length, get_or, take, ◌∙◌, ap, refl}
+use Rattle.std.proofs.lemmas.List.Elements.{recursion_from_All}
 use Rattle.xc_input.specs.declared.problem.Use.{Use}
 use Rattle.xc_input.proofs.lists.EachTwo.{each_two_from_AllPairs}
 use Rattle.xc_list.specs.inner.CoverCounts.{added, coloured}
@@ -9,15 +10,10 @@ use Rattle.std.proofs.lemmas.List.{take_more, map-append}
 use Rattle.xc_list.proofs.checker.counts.Counts.add.Goals as goal
 
 pub hold-requires-clause-item : goal.hold-requires-clause-item
-hold-requires-clause-item c =
-    let known = c.requires.items c.loop-u.u-index (record { item = 0; colour = 0 }) c.loop-u-test.true in
-    let size = simp length-raised at (ap length c.loop-u.invariant.times) in
-    (omega (arith, known.0), omega (arith, known.1, size))
+hold-requires-clause-item c = grind (arith, length-raised)
 
 pub hold-requires-clause-colours : goal.hold-requires-clause-colours
-hold-requires-clause-colours c =
-    (simp length-coloured at (ap length c.loop-u.invariant.colours)) ∙ c.requires.colours
-    ∙ sym (simp length-raised at (ap length c.loop-u.invariant.times))
+hold-requires-clause-colours c = grind (arith, length-coloured, length-raised)
 
 pub hold-requires-clause-few : goal.hold-requires-clause-few
 hold-requires-clause-few c =
@@ -27,8 +23,7 @@ hold-requires-clause-few c =
     let k = c.loop-u.u-index in
     let u = get_or us k blank in
     let known = c.requires.items k blank c.loop-u-test.true in
-    let items : AreItems (length ts) (take k us) =
-    recursion_from_All _ _ (All-take (λ v. (1 ≤ v.item) × (v.item ≤ length ts)) k us c.requires.items) in
+    let items : AreItems (length ts) (take k us) = grind (arith, common_steps, recursion_from_All) in
     let at = added-at _ _ ts (u.item - 1) items refl (omega (arith, known)) in
     let is : suc (u.item - 1) ≡ u.item = omega (arith, known) in
     let none : held (suc (u.item - 1)) (take k us) ≡ 0 = ap (λ i. held i (take k us)) is

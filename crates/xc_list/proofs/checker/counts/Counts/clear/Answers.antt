@@ -1,14 +1,14 @@
-use Rattle.std.proofs.Common.{[], ◌∷◌, length, get_or, ◌∙◌, ap}
-use Rattle.xc_list.specs.inner.CoverCounts.{cleared, lowered}
+use Rattle.std.proofs.lemmas.Grind.{common_steps}
+use Rattle.std.proofs.Common.{arith}
+use Rattle.std.proofs.Common.{◌∙◌, ap}
+use Rattle.xc_list.specs.inner.CoverCounts.{cleared}
 use Rattle.xc_list.proofs.CheckLemmas.HeldItems.{length-lowered, lowered-append}
 use Rattle.std.proofs.lemmas.List.{take_more, map-append}
 use Rattle.xc_list.proofs.CheckLemmas.CountedClasses.{known_items, uses_in-take}
 use Rattle.xc_list.proofs.checker.counts.Counts.clear.Goals as goal
 
 pub clear_uses-requires : goal.clear_uses-requires
-clear_uses-requires c =
-    let size = (simp length-lowered at (ap length c.loop-class.invariant.times)) ∙ c.requires.times in
-    record { items = known_items c.args.options.now.problem c.uses.result.now _ size c.uses.ensures.known }
+clear_uses-requires c = grind (arith, length-lowered, known_items)
 
 pub loop-class-preserved : goal.loop-class-preserved
 loop-class-preserved c =
@@ -20,7 +20,5 @@ loop-class-preserved c =
       times = c.clear_uses.ensures.times
           ∙ rw (more, map-append, lowered-append) (ap (cleared us) c.loop-class.invariant.times);
       colours = c.clear_uses.ensures.colours ∙ c.loop-class.invariant.colours;
-      asked = ap (λ v. v.items) c.clear_uses.ensures.asked
-          ∙ rw (take_more ks i 0 c.loop-class-test.true, lowered-append)
-          (ap (lowered (get_or ks i 0 ∷ [])) c.loop-class.invariant.asked);
+      asked = grind (arith, common_steps, take_more, lowered-append);
     }

@@ -1,4 +1,4 @@
-use Rattle.std.proofs.Common.{arith, length, [], ◌∷◌, get_or, ap}
+use Rattle.std.proofs.Common.{arith, [], ◌∷◌, get_or, ap}
 use Rattle.std.proofs.lemmas.List.{take_more, map-append}
 use Rattle.xc_input.specs.declared.problem.Use.{Use}
 use Rattle.xc_list.specs.inner.CoverCounts.{cleared}
@@ -6,10 +6,7 @@ use Rattle.xc_list.proofs.CheckLemmas.HeldItems.{lowered-append, length-lowered}
 use Rattle.xc_list.proofs.checker.counts.Counts.clear_uses.Goals as goal
 
 pub index_mut-requires : goal.index_mut-requires
-index_mut-requires c =
-    let known = c.requires.items c.loop-u.u-index (record { item = 0; colour = 0 }) c.loop-u-test.true in
-    let size = simp length-lowered at (ap length c.loop-u.invariant.times) in
-    omega (arith, known, size)
+index_mut-requires c = grind (arith, length-lowered)
 
 pub loop-u-preserved : goal.loop-u-preserved
 loop-u-preserved c =

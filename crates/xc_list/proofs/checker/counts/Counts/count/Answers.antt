@@ -1,11 +1,11 @@
-use Rattle.std.proofs.Common.{arith, ◌≡◌, ◌+◌, ◌<◌, ◌≢◌, [], ◌∷◌, length, get_or, set, take, replicate, sym}
+use Rattle.std.proofs.lemmas.Grind.{common_steps}
+use Rattle.std.proofs.Common.{arith, ◌≡◌, ◌+◌, ◌<◌, ◌≢◌, [], length, get_or, set, take, replicate}
 use Rattle.std.proofs.Common.{◌∙◌, ap, subst}
 use Rattle.std.proofs.lemmas.List.{get_or_default, length-replicate}
 use Rattle.std.proofs.lemmas.Option.{get_or_from_slice_get}
 use Rattle.xc_input.specs.declared.problem.Use.{Use}
-use Rattle.xc_input.specs.Problem.{item_count}
 use Rattle.xc_input.proofs.lists.EachTwo.{AllPairs-from_each_two}
-use Rattle.xc_list.specs.inner.CoverCounts.{added, coloured, raised, uses_in}
+use Rattle.xc_list.specs.inner.CoverCounts.{added, coloured, raised}
 use Rattle.xc_list.proofs.CheckLemmas.HeldItems.{length-raised, length-coloured, coloured-append}
 use Rattle.xc_list.proofs.CheckLemmas.HeldItems.{raised-append}
 use Rattle.xc_list.proofs.CheckLemmas.Rotations.{DifferInItems}
@@ -15,9 +15,7 @@ use Rattle.std.proofs.lemmas.List.{take_more, map-append}
 use Rattle.xc_list.proofs.checker.counts.Counts.count.Goals as goal
 
 pub index_mut-requires : goal.index_mut-requires
-index_mut-requires c =
-    let size = simp (length-raised, c.requires.asked, length-replicate) at (ap length c.loop-class.invariant.asked) in
-    omega (arith, size, c.requires.known c.loop-class.class-index 0 c.loop-class-test.true)
+index_mut-requires c = grind (arith, length-raised, length-replicate)
 
 pub overflow_add-index_mut : goal.overflow_add-index_mut
 overflow_add-index_mut c =
@@ -27,8 +25,7 @@ overflow_add-index_mut c =
     let k = get_or ks i 0 in
     let asked = c.loop-class.self.asked.items in
     let known : k < n = c.requires.known i 0 c.loop-class-test.true in
-    let same : asked ≡ raised (take i ks) (replicate n 0) =
-    c.loop-class.invariant.asked ∙ ap (raised (take i ks)) c.requires.asked in
+    let same : asked ≡ raised (take i ks) (replicate n 0) = grind (arith, common_steps) in
     let size : length asked ≡ n =
     simp (length-raised, c.requires.asked, length-replicate) at (ap length c.loop-class.invariant.asked) in
     let read : c.index_mut.result.now ≡ get_or asked k 0 =
@@ -37,9 +34,7 @@ overflow_add-index_mut c =
     omega (arith, read, ap (λ l. get_or l k 0) same, few, c.loop-class-test.true)
 
 pub add-requires-clause-items : goal.add-requires-clause-items
-add-requires-clause-items c =
-    known_items c.args.options.now.problem _ _ (simp (length-raised, c.requires.times, length-replicate) at
-    (ap length c.loop-class.invariant.times)) c.uses.ensures.known
+add-requires-clause-items c = grind (arith, known_items, length-raised, length-replicate)
 
 pub add-requires-clause-distinct : goal.add-requires-clause-distinct
 add-requires-clause-distinct c =
@@ -51,19 +46,10 @@ add-requires-clause-distinct c =
     AllPairs-from_each_two (λ (u v : Use). u.item ≢ v.item) _ (subst DifferInItems uses usable.1)
 
 pub add-requires-clause-colours : goal.add-requires-clause-colours
-add-requires-clause-colours c =
-    (simp length-coloured at (ap length c.loop-class.invariant.colours)) ∙ c.requires.colours
-    ∙ sym (simp (length-raised, c.requires.times, length-replicate) at (ap length c.loop-class.invariant.times))
+add-requires-clause-colours c = grind (arith, length-coloured, length-raised, length-replicate)
 
 pub add-requires-clause-few : goal.add-requires-clause-few
-add-requires-clause-few c = λ k.
-    let b = c.args.options.now in
-    let few = added_few (item_count b.problem.puzzle) b.classes c.args.chosen.now c.loop-class.class-index k
-    (classes_usable b c.requires.indexed.sound c.requires.indexed.classes)
-    c.requires.known (omega (arith, c.loop-class-test.true)) in
-    let times = c.loop-class.invariant.times
-    ∙ ap (added (uses_in b.classes (take c.loop-class.class-index c.args.chosen.now))) c.requires.times in
-    omega (arith, few, ap (λ ts. get_or ts k 0) times, c.loop-class-test.true)
+add-requires-clause-few c = grind (arith, added_few, classes_usable, added)
 
 pub loop-class-preserved : goal.loop-class-preserved
 loop-class-preserved c =
@@ -83,7 +69,6 @@ loop-class-preserved c =
     record {
       times = c.add.ensures.times ∙ rw (more, map-append, raised-append) (ap (added us) c.loop-class.invariant.times);
       colours = c.add.ensures.colours ∙ rw (more, coloured-append) (ap (coloured us) c.loop-class.invariant.colours);
-      asked = ap (λ v. v.items) c.add.ensures.asked ∙ read ∙ rw (take_more ks i 0 c.loop-class-test.true, raised-append)
-          (ap (raised (k ∷ [])) c.loop-class.invariant.asked);
+      asked = grind (arith, common_steps, take_more, raised-append);
       short = c.add.ensures.short;
     }

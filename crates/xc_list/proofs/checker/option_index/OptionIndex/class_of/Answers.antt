@@ -1,16 +1,12 @@
 use Rattle.std.proofs.lemmas.Bool.Decides.{nat_tests}
 use Rattle.std.proofs.Common.{arith}
-use Rattle.std.proofs.Common.{◌∙◌, ap, ◌≡◌, subst, false}
-use Rattle.xc_list.specs.ListingLines.{words_in}
-use Rattle.xc_list.specs.Listed.{is_known}
-use Rattle.xc_list.specs.inner.Classes.{Classes, class_of}
+use Rattle.std.proofs.Common.{◌∙◌, ap}
+use Rattle.xc_list.specs.inner.Classes.{class_of}
 use Rattle.xc_list.proofs.CheckLemmas.FoundClasses.{no-uses, class-found, some-uses}
 use Rattle.xc_list.proofs.checker.option_index.OptionIndex.class_of.Goals as goal
 
 pub returns-then-not-branch-clause-class : goal.returns-then-not-branch-clause-class
-returns-then-not-branch-clause-class c =
-    subst (λ (b : Classes). is_known b.problem (words_in c.args.body.now) ≡ false) c.self.view_is
-    (no-uses _ _ _ c.self.invariant _ (rw c.if-not-branch.true at c.in_ok-read_uses.ensures))
+returns-then-not-branch-clause-class c = grind (arith, no-uses)
 
 pub returns-clause-class : goal.returns-clause-class
 returns-clause-class c =

@@ -1,6 +1,6 @@
 use Rattle.std.proofs.Common.{arith}
 use Rattle.std.proofs.lemmas.Grind.{common_steps}
-use Rattle.std.proofs.Common.{refl, ◌≡◌, ◌<◌, List, ℕ, ◌∷◌, [], length, Option, Some, MatchOption, Bor}
+use Rattle.std.proofs.Common.{◌≡◌, ◌<◌, List, ℕ, ◌∷◌, [], length, Option, Some, MatchOption, Bor}
 use Rattle.xc_list.specs.ListingLines.{words_in}
 use Rattle.xc_list.proofs.CheckLemmas.NumberedTexts.{none-of-three}
 use Rattle.xc_list.proofs.CheckLemmas.CutLines.{some_words}
@@ -15,10 +15,4 @@ cut-some : {text : Bor (List ℕ)} (same word : Bor (List ℕ)) (rest : Option (
 cut-some {text} same word rest left q e h = grind (arith, common_steps)
 
 pub returns-in_default-Some-cut_word : goal.returns-in_default-Some-cut_word
-returns-in_default-Some-cut_word c =
-    let last = c.in_default-Some-cut_word.field-0-1 in
-    let one = cut-some c.args.body c.cut_word.result.0 _ c.in_default-Some.rest refl c.in_default-Some.is-1
-    c.cut_word.ensures in
-    let two = cut-some _ c.cut_word-2.result.0 _ last c.in_default-Some.rest-is
-    c.in_default-Some-cut_word.is-1 c.cut_word-2.ensures in
-    cc (none-of-three _ _ _ _ (some_words last.now), two, one)
+returns-in_default-Some-cut_word c = grind (arith, cut-some, none-of-three, some_words)
