@@ -181,8 +181,7 @@ opened_at {p} {t} {spans} false {i} {ln = ln} {o} {os} legal fit opened within h
     let back = reverse js in
     let apart : AllApart back = apart_reverse js (others_apart p o i fit.fit) in
     let comes : (j : ℕ) → leaves p col i j o ≡ true → 0 < j → j ≤ item_count p → j ≢ i
-    → Regaining (line_of p t j) (ln j) (o ∷ filter (leaves p col i j) os) =
-    λ j e pos le ne. grind (arith, common_steps) in
+    → Regaining (line_of p t j) (ln j) (o ∷ filter (leaves p col i j) os) = grind (arith, common_steps) in
     let returning : (j : ℕ) → is_in j back ≡ true → Returning p col ln o j = λ j in_back.
     let in_js = sym (in_reverse j js) ∙ in_back in
     let k = other_item o i j fit.fit in_js in

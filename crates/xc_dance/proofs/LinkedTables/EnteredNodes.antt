@@ -17,7 +17,7 @@ use Rattle.xc_input.specs.declared.problem.Use.{Use}
 use Rattle.xc_input.specs.Problem.{Puzzle, Numbered, holding, colour_in, item_count, IsWithinLimits}
 use Rattle.xc_dance.specs.inner.Lists.Rising.{Rises}
 use Rattle.xc_dance.specs.inner.Links.Lines.{Line}
-use Rattle.xc_dance.specs.inner.Links.FirstNodes.{blank, entered, blanks}
+use Rattle.xc_dance.specs.inner.Links.FirstNodes.{blank, entered}
 use Rattle.xc_dance.specs.Moves.{listed_numbers, listed}
 use Rattle.xc_dance.specs.Fields.{Node, own, spacer, used, layout, nodes_of, is_in, link_place}
 use Rattle.xc_dance.specs.inner.Links.Laid.{IsFit, AreDistinct, IsName, Placed, IsLaid}
@@ -287,10 +287,6 @@ alike l m a [] h k x = grind (arith, common_steps, false≢true)
 alike l m a (y ∷ ys) h k x = grind (arith, common_steps, eqb-true, alike l m y ys h.3 k.3 x)
 
 -- before the first use's node, all lists are empty
-pub none_entered : (p : Puzzle)
-    → nodes_from p blanks (color_in p []) ≡ nodes_from p (lines_of (take (item_count p + 1) (layout p))) (color_in p [])
-none_entered p = grind (arith, common_steps, nodes_same, held_none)
-
 abbrev whole : Puzzle → ℕ → Line
 whole p j = grown_all (listed_numbers p [] j)
 

@@ -127,17 +127,7 @@ member p j l (x ∷ xs) o pos le g e =
 -- it is one still when another one has left
 pub cut_member : (p : Puzzle) (j : ℕ) (l : Line) (o x : ℕ) → IsMember p j l o → IsMember p j l x → x ≢ o
     → 0 < (cut l o).len → IsMember p j (cut l o) x
-cut_member p j l o x m n ne some = record {
-  item = n.item;
-  pos = n.pos;
-  name = n.name;
-  above = grind (arith, common_steps, by_first, put_at-same, put_at-other);
-  below = grind (arith, common_steps, by_first, put_at-same, put_at-other);
-  up_back = grind (arith, common_steps, by_first, put_at-same, put_at-other);
-  down_back = grind (arith, common_steps, by_first, put_at-same, put_at-other);
-  some = some;
-  few = omega (arith, n.few);
-}
+cut_member p j l o x m n ne some = grind (arith, by_first, put_at-same, put_at-other)
 
 -- ---- the lines after moves are good: each stands for its list, of options that hold the item
 

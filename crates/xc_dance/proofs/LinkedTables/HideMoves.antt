@@ -1,5 +1,6 @@
 -- Cover and Purify: a walk down an open item's list and back, from the node table after moves to that after one move
 -- more.
+use Rattle.xc_input.proofs.lists.Filters.{filter-map}
 use Rattle.std.proofs.Common.{eq-eqb}
 use Rattle.std.proofs.Common.{◌++◌}
 use Rattle.std.proofs.Common.{◌≡◌, ℕ, ◌<◌, ◌≤◌, ◌^◌, List, [], ◌∷◌, length, map, get_or, reverse, refl}
@@ -11,7 +12,7 @@ use Rattle.std.proofs.lemmas.Grind.{common_steps}
 use Rattle.std.proofs.lemmas.List.{length-map}
 use Rattle.std.proofs.lemmas.Option.{slice_get_within}
 use Rattle.std.proofs.lemmas.Bool.{eqb-false, and_parts}
-use Rattle.xc_input.specs.Problem.{Puzzle, item_count, Numbered}
+use Rattle.xc_input.specs.Problem.{Puzzle, item_count}
 use Rattle.xc_dance.specs.declared.dance.Move.{Move}
 use Rattle.xc_dance.specs.Moves.{listed, listed_numbers, is_open, AreLegal}
 use Rattle.xc_dance.specs.Fields.{layout, link_place, Node, own, last_of}
@@ -34,7 +35,7 @@ use Rattle.xc_dance.proofs.LinkedTables.LinkColumns.{get_up, get_down, get_len, 
 use Rattle.xc_dance.proofs.LinkedTables.LinkColumns.{size_from}
 use Rattle.xc_dance.proofs.LinkedTables.GoodLines.{Named, numbers_few, numbers_named, SameCut, line_after}
 use Rattle.xc_dance.proofs.LinkedTables.GoodLines.{tables_same}
-use Rattle.xc_dance.proofs.LinkedTables.Sweep.{stands, IsLinkedFrom, Rises-filter, in_above, filter_numbers, leave_none}
+use Rattle.xc_dance.proofs.LinkedTables.Sweep.{stands, IsLinkedFrom, Rises-filter, in_above, leave_none}
 use Rattle.xc_dance.proofs.LinkedTables.OneList.{Listed, marked_list, Passed}
 use Rattle.xc_dance.proofs.LinkedTables.OneList.{listed_walk, coloured_is, color_other}
 use Rattle.xc_dance.proofs.LinkedTables.OtherItems.{leaves, list_at}
@@ -245,10 +246,7 @@ pub record PurifyMade (spans : List Span) (i c : ℕ) (t u : Nodes) (n : ℕ) : 
 kept_marked : (p : Puzzle) (t : List Move) (i c : ℕ) → AreLegal p t → is_open i t ≡ true
     → length (filter (is_kept p i (Some c)) (listed_numbers p t i)) ≡ marking p t i c
 kept_marked p t i c legal opened =
-    let os = listed p t i in
-    let kept : List Numbered = filter (λ o. is_kept p i (Some c) o.number) os in
-    ap length (sym (filter_numbers (is_kept p i (Some c)) os)) ∙ length-map kept (λ o. o.number)
-    ∙ ap length (grind (arith, common_steps, filter_same, each_weaker, listed_options))
+    grind (arith, common_steps, listed, length-map, filter_same, each_weaker, listed_options, filter-map)
 
 -- a Cover keeps none
 pub cover_writes : (p : Puzzle) (t : List Move) (i : ℕ) → hide_writes p t (Cover i) i None + 2 ≡ cost_of p t (Cover i)

@@ -24,9 +24,7 @@ placed p j (suc m) pos le (inr held) =
 slot_at : {p : Puzzle} (q : ℕ) (n : Node) {j : ℕ} (x : ℕ) → IsFit p → IsAt p q n → slot_of n ≡ Some (j, x)
     → (link_place p j x ≡ q) × (0 < j) × (j ≤ item_count p)
 slot_at q (own i) x fit s f = grind (arith, common_steps)
-slot_at {p} q (used o u) x fit s f =
-    let r = each_at (λ v. (0 < v.item) × (v.item ≤ item_count p)) _ _ _ (fit.items o) s.3 in
-    grind (arith, common_steps, use_at p o s.0 s.1 u fit s.2 s.3)
+slot_at {p} q (used o u) x fit s f = grind (arith, each_at, use_at)
 slot_at q _ x fit s f = cc
 
 -- the places of a fit problem

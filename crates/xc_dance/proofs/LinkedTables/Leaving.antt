@@ -241,8 +241,7 @@ pub takes_listed : (p : Puzzle) (t : List Move) (m : Move) (i : ℕ) (gone : Lis
     → map (λ o. o.number) gone ≡ gs
     → ((j : ℕ) → j ≢ i → listed p (m ∷ t) j ≡ cond (is_open j t) (without gone (listed p t j)) (listed p t j))
     → TakesOut p t m i gs
-takes_listed p t m i gone is h =
-    record { others = λ j ne. grind (arith, common_steps, less_without gone (listed p t j), h j ne) }
+takes_listed p t m i gone is h = grind (arith, less_without, listed)
 
 pub listed_options : (p : Puzzle) (t : List Move) (i : ℕ) → AreLegal p t → is_open i t ≡ true
     → AllByRecursion (IsOption p) (listed p t i)

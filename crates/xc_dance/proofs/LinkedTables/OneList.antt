@@ -1,6 +1,6 @@
 -- One list and its colours, down and back up.
 use Rattle.std.proofs.Common.{◌≡◌, ℕ, true, false, cond, ◌&&◌, eqb, List, map, get_or, set, Option, Some, None, refl}
-use Rattle.std.proofs.Common.{ap, ap₂, sym, ◌∙◌, eqb-true, eq-eqb, arith, ◌≢◌, ◌+◌, ◌*◌, ◌<◌, ◌≤◌, inr, not, ◌||◌, []}
+use Rattle.std.proofs.Common.{ap, ap₂, sym, ◌∙◌, eqb-true, eq-eqb, arith, ◌≢◌, ◌*◌, ◌<◌, ◌≤◌, inr, not, ◌||◌, []}
 use Rattle.std.proofs.Common.{◌∷◌, length, fold, filter, reverse, subst, ne_eqb}
 use Rattle.std.proofs.lemmas.Grind.{common_steps}
 use Rattle.std.proofs.lemmas.Bool.{false≢true}
@@ -183,9 +183,7 @@ line_on p col i j l o xs true r lv h = record {
       let len : 0 < l.len = omega (arith, some) in
       cut_member p j l o x (h.member o (is_in-first o xs) (lv refl) len) (h.member x (in_more o x xs e) f len)
       (λ s. omega (arith, s, in_above o x xs r e)) some;
-  enough =
-      let e : length (filter (leaves p col i j) xs) + 1 ≤ l.len = grind (arith, common_steps, h.enough) in
-      omega (arith, e);
+  enough = grind (arith, common_steps);
 }
 
 -- where the walk is: the lines and the colours, and the option that was met last

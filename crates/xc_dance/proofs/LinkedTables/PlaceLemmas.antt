@@ -222,11 +222,8 @@ pub record OptionNodes (p : Puzzle) (x m : ℕ) : Type 0 where
   pub behind : slice_get (layout p) (spacer_place p x) ≡ Some (spacer x)
   pub end : spacer_place p x ≡ start_at p m + length (uses_of p x)
 
-option_nodes_at : (p : Puzzle) (x m : ℕ) → IsOption p x → x ≡ m + 1 → OptionNodes p x m
-option_nodes_at p x m known s = grind (arith, common_steps, option_get, use_here, place_is, spacer_here, place_next)
-
 pub option_nodes : (p : Puzzle) (x : ℕ) → IsOption p x → OptionNodes p x (x - 1)
-option_nodes p x known = option_nodes_at p x (x - 1) known (omega (arith, known.0))
+option_nodes p x known = grind (arith, common_steps, option_get, use_here, place_is, spacer_here, place_next)
 
 -- by which use an option holds an item, and where its node stands
 pub record HeldNode (p : Puzzle) (i x : ℕ) : Type 0 where

@@ -45,8 +45,7 @@ swapped l m a y k up b h my_up my_down mk_up mk_down = grind (arith, common_step
 behind_first : (l m : Line) (a y : ℕ) (ks : List ℕ) → 0 < l.len → l.down a ≡ y → l.up y ≡ a → IsBelow l a y
     → AllByRecursion (IsBelow l y) ks → m.up y ≡ l.up y → m.down y ≡ l.down y → Regaining (cut l y) m ks
     → Regaining l (mended m y) ks
-behind_first l m a y [] some down up b below mu md h =
-    grind (arith, common_steps, line_is, cut, put_at-same, put_at-other)
+behind_first l m a y [] some down up b below mu md h = grind (arith, line_is, cut, put_at-same, put_at-other)
 behind_first l m a y (k ∷ ks) some down up b below mu md h = (
   grind (arith, common_steps, put_at-same, put_at-other),
   grind (arith, common_steps, put_at-same, put_at-other),

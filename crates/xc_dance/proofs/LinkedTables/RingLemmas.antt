@@ -33,8 +33,7 @@ pub row_by : (r l : ℕ → ℕ) (a n : ℕ) (xs : List ℕ) (e : ℕ) → Rises
     → ((x : ℕ) → is_in x xs ≡ true → (r x ≡ first_above e x xs) × (l x ≡ last_below a x xs)) → r a ≡ first_of e xs
     → l e ≡ last_of a xs → IsRow r l a xs e
 row_by r l a n [] e rise inner first last = (first, last)
-row_by r l a n (y ∷ ys) e rise inner first last =
-    grind (arith, common_steps, above, below, members, row_by r l y y ys e rise.1)
+row_by r l a n (y ∷ ys) e rise inner first last = grind (arith, above, below, members, row_by r l y y ys e rise.1)
 
 pub row_back : (r l : ℕ → ℕ) (a : ℕ) (xs : List ℕ) (e : ℕ) → IsRow r l a xs e → (x : ℕ)
     → ((eqb x a || is_in x xs) ≡ true → (l (r x) ≡ x) × ((eqb (r x) e || is_in (r x) xs) ≡ true))

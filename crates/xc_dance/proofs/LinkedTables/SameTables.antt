@@ -114,10 +114,6 @@ tables_from p q t s a b h = (
     colors k = let e = alike Color k in grind (arith, common_steps, natural_same, color_same, items)
 
 -- and the other way round
-pub fields_from : (p q : Puzzle) (t s : List Move) → IsSound p → IsSound q → items_after p t ≡ items_after q s
-    → nodes_after p t ≡ nodes_after q s → FieldsSame p t q s
-fields_from p q t s a b i n f k = grind (arith, common_steps, items_many, reading_is)
-
 -- ---- two keepers of tables
 
 abbrev pub AreEqual : Items → Items → Nodes → Nodes → List Move → List Move → List ℕ → List ℕ → Type 0
@@ -137,7 +133,7 @@ pub is_same : (p q : Puzzle) (sp sq : List Span) (i j : Items) (n m : Nodes) (xs
     → (AreEqual i j n m xs ys ms ns → IsSame p (reverse xs) q (reverse ys)) × (IsSame p (reverse xs) q (reverse ys) →
     AreEqual i j n m xs ys ms ns)
 is_same p q sp sq i j n m xs ys ms ns a b is_i is_j is_n is_m is_ms is_ns =
-    grind (arith, common_steps, fields_from, forwards, sound, tables_from)
+    grind (arith, common_steps, forwards, sound, tables_from, items_many, reading_is)
 
 -- ---- tests in a row
 

@@ -13,7 +13,6 @@ use Rattle.xc_dance.specs.inner.Links.Others.{before_use, behind_use}
 use Rattle.xc_dance.specs.declared.dance.Move.{Move}
 use Rattle.xc_dance.specs.declared.dance.Move.TheVariants.{Cover}
 use Rattle.xc_dance.specs.Moves.{listed_numbers}
-use Rattle.xc_input.proofs.lists.Filters.{filter-map}
 use Rattle.xc_dance.proofs.MoveLemmas.Shortened.{rises_listed}
 use Rattle.xc_dance.specs.inner.Links.Lines.{Line}
 pub use Rattle.xc_dance.specs.inner.Lists.Rising.{Rises}
@@ -215,10 +214,6 @@ linked_by l a (y ∷ ys) r up down first last = grind (arith, common_steps, abov
 
 abbrev numbers_of : List Numbered → List ℕ
 numbers_of os = map (λ o. o.number) os
-
-pub filter_numbers : (g : ℕ → Bool) (os : List Numbered)
-    → numbers_of (filter (λ o. g o.number) os) ≡ filter g (numbers_of os)
-filter_numbers g os = sym (filter-map g (λ o. o.number) os)
 
 pub stay_all : (xs : List ℕ) → stay (λ x. false) xs ≡ xs
 stay_all [] = refl

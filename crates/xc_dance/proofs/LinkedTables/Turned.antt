@@ -171,8 +171,7 @@ next_in p t d i legal pos le un q lt stays =
     ap (λ c. link p c t l) (sym (not-not d)) ∙ link_back p (not d) t i legal within (λ _ _. un) in
     let on = beside_on p t (side p q) d in
     let after : link p d (Cover i ∷ t) q ≡ cond (eqb (link p d t q) i) (on i) (link p d t q) =
-    link_is p d (Cover i ∷ t) q lt stays ∙ beside_left p d t i q q pos le (in_ring p (Cover i ∷ t) q lt stays)
-    ∙ ap (λ v. cond (eqb v i) (on i) v) (sym (link_is p d t q lt now)) in
+    grind (arith, common_steps, link_is, beside_left, in_ring) in
     let same : side p q ≡ side p i → on i ≡ link p d t i = λ e.
     ap (λ b. beside_on p t b d i) e ∙ sym (link_is p d t i (omega (arith, le)) (λ _ _. un)) in
     after ∙ by_first (cond (eqb (link p d t q) i) (on i) (link p d t q) ≡ cond (eqb q l) (link p d t i)

@@ -91,8 +91,7 @@ tweaked p t spans covered i (suc k) legal fit opened =
       list = grind (arith, common_steps, append_assoc);
       lines = λ j r. line_after p s (Tweak i) j _ (tweak_cuts p s spans covered i legal.1 fit opened_s f j r)
           ∙ ap₂ cuts (h.lines j r) (ap (λ col. off p col covered i j one) same)
-          ∙ sym (ap (cuts (line_of p t j)) (filter-append _ os one)
-          ∙ fold-append cut (line_of p t j) (off p (color_in p t) covered i j os) _);
+          ∙ sym (grind (arith, common_steps, filter-append, fold-append, cut, off));
       taken = grind (arith, common_steps);
       costs =
           let cost = tweak_cost_is p s spans covered i legal.1 fit opened_s pos legal.0.0.1 f in
@@ -171,9 +170,7 @@ lowered_first : (ln : ℕ → Line) (i : ℕ) (l : Line) (os rest : List ℕ) �
     → IsLinkedFrom l 0 (os ++ rest)
     → with_line ln i (lowered (ln i) (l.down 0)) i ≡ half (cuts l os).len (cuts l os) l
 lowered_first ln i l os rest lost linked =
-    line_here ln i (lowered (ln i) (l.down 0)) ∙ ap (λ (m : Line). lowered m (l.down 0)) lost
-    ∙ line_is (half (cuts l os).len (cuts l os) l) (lowered (cuts l os) (l.down 0)) refl (λ x. refl)
-    (λ x. grind (arith, common_steps, by_first, down_same, put_at-other, put_at-same))
+    grind (arith, line_here, line_is, by_first, down_same, put_at-other, put_at-same)
 
 up_kept : (p : Puzzle) (ln : ℕ → Line) (i : ℕ) (l : Line) → ((x : ℕ) → l.up x ≡ (ln i).up x)
     → map (ulink_in p ln) (layout p) ≡ map (ulink_in p (with_line ln i l)) (layout p)

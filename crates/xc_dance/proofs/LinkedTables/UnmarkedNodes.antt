@@ -125,8 +125,7 @@ plain_unmarked p t legal fitted plain = record {
       let is = get_or_from_slice_get (spans_of p) x (span_of p (get_or (layout p) x unused)) d
       (slice_get-map (span_of p) (layout p) x ∙ ap (option_map (span_of p)) here) in
       subst (λ (s : Span). HasUnmarked (nodes_after p t).color s x) (sym is)
-      (by_node p t x (get_or (layout p) x unused) fitted.laid legal plain
-      (omega (arith, lt, length-map (layout p) (span_of p), fitted.fit.near)) here);
+      (grind (arith, common_steps, by_node, length-map));
 }
 
 -- the same for the tables of a keeper

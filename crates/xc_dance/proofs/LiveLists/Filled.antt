@@ -40,8 +40,7 @@ pub enlisted_more : (us : List Use) (u : Use) (o n k : ℕ) (ls : List (List ℕ
     set (enlisted_from us o n ls) k (list_at (enlisted_from us o n ls) k ++ o ∷ []) ≡ enlisted_from
     (us ++ u ∷ []) o n ls
 enlisted_more us u o n k [] e new lt = refl
-enlisted_more us u o n zero (l ∷ ls) e new lt =
-    grind (arith, common_steps, enlisted_above, has_use_more, eq-eqb, or-true)
+enlisted_more us u o n zero (l ∷ ls) e new lt = grind (arith, enlisted_above, has_use_more, eq-eqb, or-true)
 enlisted_more us u o n (suc k) (l ∷ ls) e new lt =
     grind (arith, common_steps, has_use_other, enlisted_more us u o (n + 1) k ls (omega (arith, e)) new)
 

@@ -12,8 +12,7 @@ use Rattle.xc_dance.specs.Commits.{CanStand, after_use, after_uses}
 pub stood_before : (p : Puzzle) (room : ℕ) (us : List Use) (t : List Move) → CanStand p room (after_uses p us t)
     → CanStand p room t
 stood_before p room [] t c = c
-stood_before p room (u ∷ us) t c =
-    let rest = stood_before p room us (after_use p u t) c in grind (arith, common_steps)
+stood_before p room (u ∷ us) t c = grind (arith, stood_before p room us (after_use p u t) c)
 
 pub after_uses-append : (p : Puzzle) (us vs : List Use) (t : List Move)
     → after_uses p (us ++ vs) t ≡ after_uses p vs (after_uses p us t)

@@ -66,9 +66,7 @@ purified_gone i j c os h r =
 pub listed_open : (p : Puzzle) (t : List Move) → AreLegal p t → (i : ℕ) → IsTrue (is_open i t)
     → listed p t i ≡ holding i (left p t)
 listed_open p [] legal i opened = refl
-listed_open p (Cover j ∷ t) legal i opened =
-    let at = listed_open p t legal.1 in
-    grind (arith, common_steps, at i, at j, left_rises p t, gone (λ o. holds o j) i (left p t))
+listed_open p (Cover j ∷ t) legal i opened = grind (arith, left_rises, gone, left, listed_open p t legal.1)
 listed_open p (Purify j c ∷ t) legal i opened =
     let at = listed_open p t legal.1 in
     grind (arith, common_steps, at i, at j, left_rises p t, purified_gone i j c (left p t))

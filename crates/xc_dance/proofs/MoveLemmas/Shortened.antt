@@ -1,7 +1,7 @@
 -- The lists after moves, as filters of the lists before.
 use Rattle.std.proofs.Common.{ℕ, zero, suc, ◌≡◌, ◌≢◌, ◌+◌, ◌-◌, ◌<◌, ◌≤◌, true, false, not, cond, eqb, ◌&&◌, ◌||◌}
 use Rattle.std.proofs.Common.{List, [], ◌∷◌, length, get_or, set, filter, map, take, drop, Some, None, refl, ap, ap₂}
-use Rattle.std.proofs.Common.{sym, ◌∙◌, arith, eq-eqb}
+use Rattle.std.proofs.Common.{◌∙◌, arith, eq-eqb}
 use Rattle.std.proofs.lemmas.Grind.{common_steps}
 use Rattle.std.specs.Prelude.{is_some}
 use Rattle.std.specs.List.{AllByRecursion, list_any, range_with_len}
@@ -10,12 +10,12 @@ use Rattle.std.proofs.Math.Bool.{not-not}
 use Rattle.std.proofs.lemmas.List.FromFn.{length-map-range_with_len, get_or-map-range_with_len}
 use Rattle.std.proofs.lemmas.List.Elements.{All-from_recursion}
 use Rattle.xc_input.specs.declared.problem.Use.{Use}
-use Rattle.xc_input.specs.Problem.{Puzzle, Numbered, numbered_options, uses_of, item_count, holds, colour_in}
+use Rattle.xc_input.specs.Problem.{Puzzle, Numbered, uses_of, item_count, colour_in}
 use Rattle.xc_input.proofs.lists.EachElement.{each-filter, each_both, each_passes, each-map, each_weaker, each_of_all}
 use Rattle.xc_input.proofs.lists.Filters.{keep_all}
 use Rattle.std.proofs.lemmas.List.{same_lists, length-map, length-set, get_or-set_same, get_or-set_other}
 use Rattle.xc_dance.proofs.MoveLemmas.OptionsRise.{NumbersRise, NumbersRise-weaker, NumbersRise-filter, options_rise}
-use Rattle.xc_dance.proofs.MoveLemmas.OptionsRise.{IsOption, options_numbered}
+use Rattle.xc_dance.proofs.MoveLemmas.OptionsRise.{options_numbered}
 use Rattle.xc_dance.specs.declared.dance.Move.{Move}
 use Rattle.xc_dance.specs.declared.dance.Move.TheVariants.{Cover, Purify, Tweak}
 use Rattle.xc_dance.specs.Moves.{is_open, is_among, without, other_colours, listed, listed_numbers}
@@ -38,8 +38,7 @@ holds_use (u ∷ us) i = grind (arith, common_steps, holds_use us i)
 
 pub holders : (p : Puzzle) (t : List Move) (i : ℕ) → AllByRecursion (IsHolder p i) (listed p t i)
 holders p t i = each_listed (AllByRecursion (IsHolder p i)) p i
-    (each_both (λ o. holds o i ≡ true) (IsOption p) (IsHolder p i) _ (λ o h is. (is.1, sym (holds_use o.uses i) ∙ h))
-    (each_passes (λ o. holds o i) (numbered_options p)) (each-filter (IsOption p) _ _ (options_numbered p)))
+    (grind (arith, common_steps, each_both, holds_use, each_passes, each-filter, options_numbered))
     (λ q xs h. each-filter (IsHolder p i) q xs h) (λ xs h. grind (arith, common_steps)) t
 
 -- ---- the lists rise

@@ -66,8 +66,7 @@ unpurified_state _ h = refl
 pub purified_by_state : (p : Puzzle) (i : ℕ) (t : List Move) → AreLegal p t
     → is_some (purified i t) ≡ is_purified_state (state_of i t)
 purified_by_state p i [] legal = grind (arith, common_steps, eqb-true, open_unpurified)
-purified_by_state p i (m ∷ t) legal =
-    grind (arith, common_steps, eqb-true, open_unpurified, purified_by_state p i t legal.1)
+purified_by_state p i (m ∷ t) legal = grind (arith, eqb-true, open_unpurified, purified_by_state p i t legal.1)
 
 -- ---- the next open item
 

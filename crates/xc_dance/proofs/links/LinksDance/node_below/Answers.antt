@@ -1,5 +1,4 @@
 use Rattle.std.proofs.Common.{arith}
-use Rattle.std.proofs.lemmas.Grind.{common_steps}
 use Rattle.std.proofs.Common.{ℕ, reverse, get_or, ap, sym, subst, ◌∙◌}
 use Rattle.xc_input.specs.Problem.{IsItem}
 use Rattle.xc_dance.specs.declared.links.nodes.Nodes.{Nodes}
@@ -20,10 +19,7 @@ at : (c : After-self) {x : ℕ} → IsListedAt c.args.self.now.puzzle c.args.sel
 at c {x} h = subst (λ (s : Linked). IsListedAt s.puzzle s.trail c.args.i x c.args.place) (sym c.self.view_is) h
 
 pub dlink-requires : goal.dlink-requires
-dlink-requires c =
-    let here = (goal.at.dlink-requires c).After-self in
-    let e = listed_within c.self.invariant.fitted.laid (item here) (at here c.requires.place.1) in
-    grind (arith, common_steps)
+dlink-requires c = grind (arith, listed_within, item, at)
 
 pub returns-clause-place : goal.returns-clause-place
 returns-clause-place c = λ x h.

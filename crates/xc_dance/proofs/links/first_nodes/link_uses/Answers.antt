@@ -1,5 +1,6 @@
+use Rattle.xc_dance.proofs.LinkedTables.EnteredNodes.{nodes_same}
+use Rattle.xc_dance.proofs.LinkedTables.EnteredNodes.{held_none}
 use Rattle.xc_dance.proofs.LinkedTables.EnteredNodes.{spacer_step}
-use Rattle.xc_dance.proofs.LinkedTables.EnteredNodes.{none_entered}
 use Rattle.std.proofs.Common.{arith, ◌≡◌, ◌≤◌, ◌<◌, ◌∙◌, ◌+◌, ap, take, get_or, Some, [], ℕ}
 use Rattle.std.proofs.lemmas.Grind.{common_steps}
 use Rattle.std.specs.Prelude.{slice_get, slice_index}
@@ -35,7 +36,7 @@ step {p} q (spacer n) fit limits from e =
 step {p} q (used o u) fit limits from e = grind (arith, common_steps, use_step p q o u fit limits e)
 
 pub loop-q-init : goal.loop-q-init
-loop-q-init c = cc (none_entered c.args.problem.now.puzzle)
+loop-q-init c = grind (arith, common_steps, nodes_same, held_none)
 
 -- a use may be entered
 use_here : (c : Then-top-lt-SPACER) → (o : ℕ) × (u : Use)
