@@ -1,0 +1,211 @@
+"""Rounds of trials: a copy of the repository, trials beside its proofs, and a check that tells which of them pass."""
+import re
+import shutil
+import subprocess
+import sys
+import tempfile
+from collections import Counter, defaultdict
+from pathlib import Path
+
+from shortening.proofs import IMPORT, Proof, SIGNATURE, imports, named, proofs_of, words
+from shortening.trials import Trial, Trials
+
+# Sets of lemmas and words of the logic, which are no lemmas to be listed.
+NO_LEMMAS = set("refl sym ap subst absurd arith common_steps nat_tests tt rules zero suc nil cons".split())
+SETS = {
+    "arith": "Rattle.std.proofs.Common",
+    "common_steps": "Rattle.std.proofs.lemmas.Grind",
+    "nat_tests": "Rattle.std.proofs.lemmas.Bool.Decides",
+}
+
+
+class Crate:
+    """The proofs of a crate in a copy of the repository."""
+
+    def __init__(self, top: Path, name: str) -> None:
+        self.top, self.name, self.folder = top, name, top / "crates" / name
+        self.read()
+
+    def read(self) -> None:
+        self.lines = {file: file.read_text().split("\n") for file in sorted(self.folder.glob("proofs/**/*.antt"))}
+        self.proofs = {file: list(proofs_of(file, lines)) for file, lines in self.lines.items()}
+
+    def module(self, file: Path) -> str:
+        return ".".join(["Rattle", self.name, *file.relative_to(self.folder).with_suffix("").parts])
+
+    def lemmas(self) -> set[str]:
+        """The lemmas of the repository, and those of std that its proofs import."""
+        found: set[str] = set()
+        for file in self.top.glob("crates/*/proofs/**/*.antt"):
+            for line in file.read_text().split("\n"):
+                match = SIGNATURE.match(line)
+                if match and "abbrev" not in match.group(2) and not line.endswith("Type 0"):
+                    found.add(match.group(3))
+                for name, module in imports([line]).items():
+                    if ".proofs.lemmas." in module or ".proofs.Math." in module:
+                        found.add(name)
+        return {name for name in found - NO_LEMMAS if name[:1].islower() and "◌" not in name}
+
+    def helpers(self) -> dict[str, Proof]:
+        """Lemmas of one clause that one proof cites, and no source file."""
+        uses: Counter[str] = Counter()
+        for pattern in ("crates/*/*s/**/*.antt", "crates/*/src/**/*.rt"):
+            for file in self.top.glob(pattern):
+                uses.update(words(file.read_text().replace("::", " ")))
+        found: dict[str, Proof] = {}
+        for proof in (proof for proofs in self.proofs.values() for proof in proofs):
+            own = words("\n".join(self.lines[proof.file][proof.start : proof.end]))[proof.name]
+            serves_one = uses[proof.name] == own + 1 and own == 2 and len(proof.clauses) == 1
+            if serves_one and not proof.is_definition and not proof.is_answer and len(proof.opening) < 5:
+                found[proof.name] = proof
+        return found
+
+    def trials(self) -> list[Trial]:
+        lemmas, helpers = self.lemmas(), self.helpers()
+        found: list[Trial] = []
+        for file, proofs in self.proofs.items():
+            known = set(imports(self.lines[file])) | {proof.name for proof in proofs}
+            for helper in helpers.values():
+                here = helper.file == file
+                theirs = {proof.name for proof in self.proofs[helper.file] if here or "pub" in proof.marks}
+                known |= (theirs | set(imports(self.lines[helper.file]))) & set(named(helper.clauses[0].body))
+            for proof in proofs:
+                if not proof.is_definition and "where" not in words("\n".join(c.text for c in proof.clauses)):
+                    found += {trial.text: trial for trial in Trials(lemmas, known, helpers).of(proof)}.values()
+        return found
+
+    def with_imports(self, file: Path, text: str, trials: list[Trial]) -> str:
+        """The text with imports of the sets of lemmas, and of what trials cite in place of their helpers."""
+        modules = dict(SETS)
+        cited = {name for trial in trials for name in trial.lemmas}
+        for helper in {helper for trial in trials for helper in trial.helpers}:
+            public = (proof.name for proof in self.proofs[helper.file] if "pub" in proof.marks)
+            theirs = dict.fromkeys(public, self.module(helper.file)) | imports(self.lines[helper.file])
+            modules |= {name: module for name, module in theirs.items() if name in cited}
+        own = set(imports(text.split("\n"))) | {proof.name for proof in self.proofs[file]}
+        missing = [name for name in words(text) if name in modules and name not in own]
+        new = "".join(f"use {modules[name]}.{{{name}}}\n" for name in missing if modules[name] != self.module(file))
+        first = re.search(r"^use ", text, re.MULTILINE)
+        at = first.start() if first else 0
+        return text[:at] + new + text[at:]
+
+    def check(self, jobs: int) -> tuple[bool, str]:
+        run = subprocess.run(
+            ["rt", "check", "--jobs", str(jobs)], cwd=self.folder, capture_output=True, text=True, errors="replace"
+        )
+        return run.returncode == 0, run.stdout + run.stderr
+
+    def passing(self, jobs: int) -> list[Trial]:
+        """The trials that a check passes as lemmas beside the proofs."""
+        numbered = {f"trial{number}": trial for number, trial in enumerate(self.trials())}
+        beside: dict[Path, dict[int, list[str]]] = defaultdict(lambda: defaultdict(list))
+        for name, trial in numbered.items():
+            proof = trial.proof
+            own = re.compile(rf"(?<![^\s(,;]){re.escape(proof.name)}(?![^\s),;.])")
+            first = re.sub(rf"^(\s*)(pub )?{re.escape(proof.name)}(?=\s)", rf"\g<1>{name}", proof.opening[0])
+            copy = "\n".join([first, *proof.opening[1:], own.sub(name, trial.text)])
+            beside[proof.file][proof.end] += ["", *copy.split("\n")]
+        for file, added in beside.items():
+            lines = self.lines[file]
+            text = "\n".join(line for at in range(len(lines) + 1) for line in [*added[at], *lines[at : at + 1]])
+            file.write_text(self.with_imports(file, text, [t for t in numbered.values() if t.proof.file == file]))
+        _, told = self.check(jobs)
+        for file in beside:
+            file.write_text("\n".join(self.lines[file]))
+        failed = set(re.findall(r"error: `(trial\d+)`", told))
+        for rest in re.findall(r"not checked: ([^\n]*)", told):
+            failed |= set(re.findall(r"trial\d+", rest))
+        print(f"{self.name}: {len(numbered)} trials, {len(failed)} failed", file=sys.stderr, flush=True)
+        return [trial for name, trial in numbered.items() if name not in failed]
+
+    def rendered(self, file: Path, chosen: list[Trial]) -> tuple[str, list[tuple[int, int, Trial]]]:
+        """The file with these trials in place of their proofs, and the lines of each there."""
+        changes = {trial.proof.begin: (trial.proof.end, trial) for trial in chosen if trial.proof.file == file}
+        gone = {h.start: h.end for trial in chosen for h in trial.helpers if h.file == file}
+        out: list[str] = []
+        ranges = []
+        at, lines = 0, self.lines[file]
+        while at < len(lines):
+            if at in gone:
+                at = gone[at] + (lines[gone[at] : gone[at] + 1] == [""])
+            elif at in changes:
+                end, trial = changes[at]
+                ranges.append((len(out), len(out) + trial.text.count("\n") + 1, trial))
+                out += trial.text.split("\n")
+                at = end
+            else:
+                out.append(lines[at])
+                at += 1
+        text = self.with_imports(file, without_unused("\n".join(out)), [trial for _, trial in changes.values()])
+        shift = text.count("\n") - len(out) + 1
+        return text, [(begin + shift + 1, end + shift, trial) for begin, end, trial in ranges]
+
+    def put(self, passed: list[Trial], jobs: int) -> int:
+        """Puts the shortest trials in place, takes back what doesn't stand there, and answers the lines saved."""
+        chosen: list[Trial] = []
+        taken: set[tuple[Path, int]] = set()
+        for trial in sorted(passed, key=lambda trial: -trial.saved):
+            touched = {(proof.file, proof.start) for proof in (trial.proof, *trial.helpers)}
+            if not touched & taken:
+                chosen.append(trial)
+                taken |= touched
+        while True:
+            ranges = {}
+            for file in self.lines:
+                text, ranges[file] = self.rendered(file, chosen)
+                file.write_text(text)
+            stands, told = self.check(jobs)
+            if stands or not chosen:
+                break
+            faulty = self.faulty(told, ranges) or chosen
+            chosen = [trial for trial in chosen if trial not in faulty]
+        subprocess.run(["rt", "fmt"], cwd=self.folder, capture_output=True, check=False)
+        self.read()
+        return sum(trial.saved for trial in chosen)
+
+    def faulty(self, told: str, ranges: dict[Path, list[tuple[int, int, Trial]]]) -> list[Trial]:
+        """The trials in whose lines a check found an error; where there is none, those that touch a file with one."""
+        here: list[Trial] = []
+        near: list[Trial] = []
+        for match in re.finditer(r"^\./(proofs/[^:\n]*\.antt):(\d+):\d+: error: ([^\n]*)", told, re.MULTILINE):
+            file, line = self.folder / match.group(1), int(match.group(2))
+            here += [trial for begin, end, trial in ranges[file] if begin <= line <= end]
+            if "not checked:" not in match.group(3):
+                every = [trial for placed in ranges.values() for _, _, trial in placed]
+                near += [trial for trial in every if file in {p.file for p in (trial.proof, *trial.helpers)}]
+        return here or near
+
+
+def without_unused(text: str) -> str:
+    """The text without imports of names that it doesn't name."""
+    used, out = words(text), []
+    for line in text.split("\n"):
+        match = IMPORT.match(line)
+        if match:
+            names = [name.strip() for name in match.group(2).split(",")]
+            kept = [name for name in names if "◌" in name or name.split(" as ")[-1].split(".")[-1] in used]
+            if not kept:
+                continue
+            line = line if kept == names else f"use {match.group(1)}.{{{', '.join(kept)}}}"
+        out.append(line)
+    return "\n".join(out)
+
+
+def shorten(top: Path, name: str, jobs: int, rounds: int) -> int:
+    with tempfile.TemporaryDirectory() as folder:
+        copy = Path(folder) / "copy"
+        shutil.copytree(top, copy, ignore=shutil.ignore_patterns("out", ".git"))
+        crate = Crate(copy, name)
+        for _ in range(rounds):
+            saved = crate.put(crate.passing(jobs), jobs)
+            print(f"{name}: {saved} lines shorter", file=sys.stderr, flush=True)
+            if saved == 0:
+                break
+        stands, _ = crate.check(jobs)
+        if not stands:
+            print(f"{name}: not proved in the end, so nothing is changed", file=sys.stderr)
+            return 1
+        proofs = Path("crates") / name / "proofs"
+        shutil.rmtree(top / proofs)
+        shutil.copytree(copy / proofs, top / proofs)
+    return 0
