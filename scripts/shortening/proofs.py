@@ -42,6 +42,10 @@ class Proof:
         return self.end - self.begin
 
     @property
+    def lines(self) -> int:
+        return self.end - self.start
+
+    @property
     def is_definition(self) -> bool:
         return "abbrev" in self.marks or "unfoldable" in self.marks
 
