@@ -6,7 +6,7 @@ ghost use Rattle.std.specs.Io.KnownBytes.{WriteAppends, Keeps};
 ghost use Rattle.xc_list.specs.Texts.{SinkState};
 ghost use Rattle.xc_input.specs.Calls.{counted, is_failed_write};
 
-use crate::flushes::Flushes;
+use crate::Flushes;
 use std::alloc::Global;
 use std::fmt;
 use thiserror::Error;

@@ -4,7 +4,7 @@ ghost use Rattle.std.specs.Prelude.{OnErr, OnOk, is_err, vec_len, vec_capacity};
 ghost use Rattle.std.specs.Io.KnownBytes.{WriteAppends, Keeps};
 ghost use Rattle.xc_input.specs.Calls.{counted, is_failed_write};
 
-use crate::flushes::Flushes;
+use crate::Flushes;
 use crate::sink::{Sink, WriteFailed};
 use std::alloc::Global;
 use std::fmt;

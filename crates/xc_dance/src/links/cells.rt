@@ -3,7 +3,7 @@ ghost use Rattle.std.specs.Prelude.{◌≡◌, ℕ, ◌+◌, ◌<◌, ◌++◌, 
 ghost use Rattle.std.specs.Prelude.{slice_set, replicate, IfOk, slice_get, ◌↔◌, IsTrue};
 ghost use Rattle.xc_dance.specs.inner.Links.Columns.{values, ups, downs};
 
-use crate::links::writes::Writes;
+use crate::tally::Tally;
 use std::alloc::{AllocError, Global};
 use std::marker::Model;
 
@@ -16,12 +16,12 @@ pub(crate) struct Cell {
 impl Cell {
     /// Writes the cell and counts the write.
     #[inline(always)]
-    fn write(&mut self, value: u32, writes: &mut Writes)
+    fn write(&mut self, value: u32, writes: &mut Tally)
         ensures value { self.new.value ≡ value }
         ensures counted { writes.new.count ≡ writes.old.count + 1 }
     {
         self.value = value;
-        *writes = Writes::one_more(writes);
+        *writes = Tally::one_more(writes);
     }
 }
 
@@ -88,7 +88,7 @@ pub(crate) fn get_at(cells: &[Cell], place: usize) -> u32
 
 /// Writes one cell.
 #[inline(always)]
-pub(crate) fn set(cells: &mut [Cell], place: u32, value: u32, writes: &mut Writes)
+pub(crate) fn set(cells: &mut [Cell], place: u32, value: u32, writes: &mut Tally)
     requires { place < length (values cells.old) }
     ensures value { values cells.new ≡ slice_set (values cells.old) place value }
     ensures counted { writes.new.count ≡ writes.old.count + 1 }
@@ -99,7 +99,7 @@ pub(crate) fn set(cells: &mut [Cell], place: u32, value: u32, writes: &mut Write
 /// The same by an index.
 #[inline(always)]
 #[tactic(auto, using(crate::proofs::LinkedTables::LinkColumns::one_written))]
-pub(crate) fn set_at(cells: &mut [Cell], place: usize, value: u32, writes: &mut Writes)
+pub(crate) fn set_at(cells: &mut [Cell], place: usize, value: u32, writes: &mut Tally)
     requires { place < length (values cells.old) }
     ensures value { values cells.new ≡ slice_set (values cells.old) place value }
     ensures counted { writes.new.count ≡ writes.old.count + 1 }
@@ -145,7 +145,7 @@ pub(crate) fn down_at(links: &[Link], place: usize) -> u32
 
 /// Writes where the link at a place leads upwards.
 #[inline(always)]
-pub(crate) fn set_up(links: &mut [Link], place: u32, value: u32, writes: &mut Writes)
+pub(crate) fn set_up(links: &mut [Link], place: u32, value: u32, writes: &mut Tally)
     requires { place < length (ups links.old) }
     ensures up { ups links.new ≡ slice_set (ups links.old) place value }
     ensures down { downs links.new ≡ downs links.old }
@@ -157,7 +157,7 @@ pub(crate) fn set_up(links: &mut [Link], place: u32, value: u32, writes: &mut Wr
 /// The same by an index.
 #[inline(always)]
 #[tactic(auto, using(crate::proofs::LinkedTables::LinkColumns::one_written))]
-pub(crate) fn set_up_at(links: &mut [Link], place: usize, value: u32, writes: &mut Writes)
+pub(crate) fn set_up_at(links: &mut [Link], place: usize, value: u32, writes: &mut Tally)
     requires { place < length (ups links.old) }
     ensures up { ups links.new ≡ slice_set (ups links.old) place value }
     ensures down { downs links.new ≡ downs links.old }
@@ -168,7 +168,7 @@ pub(crate) fn set_up_at(links: &mut [Link], place: usize, value: u32, writes: &m
 
 /// Writes where the link at a place leads downwards.
 #[inline(always)]
-pub(crate) fn set_down(links: &mut [Link], place: u32, value: u32, writes: &mut Writes)
+pub(crate) fn set_down(links: &mut [Link], place: u32, value: u32, writes: &mut Tally)
     requires { place < length (downs links.old) }
     ensures down { downs links.new ≡ slice_set (downs links.old) place value }
     ensures up { ups links.new ≡ ups links.old }
@@ -180,7 +180,7 @@ pub(crate) fn set_down(links: &mut [Link], place: u32, value: u32, writes: &mut 
 /// The same by an index.
 #[inline(always)]
 #[tactic(auto, using(crate::proofs::LinkedTables::LinkColumns::one_written))]
-pub(crate) fn set_down_at(links: &mut [Link], place: usize, value: u32, writes: &mut Writes)
+pub(crate) fn set_down_at(links: &mut [Link], place: usize, value: u32, writes: &mut Tally)
     requires { place < length (downs links.old) }
     ensures down { downs links.new ≡ slice_set (downs links.old) place value }
     ensures up { ups links.new ≡ ups links.old }
@@ -285,7 +285,7 @@ impl Column {
 
     /// Writes one cell.
     #[inline(always)]
-    pub(crate) fn set(&mut self, place: u32, value: u32, writes: &mut Writes)
+    pub(crate) fn set(&mut self, place: u32, value: u32, writes: &mut Tally)
         requires { place < length self.old }
         ensures value { self.new ≡ slice_set self.old place value }
         ensures counted { writes.new.count ≡ writes.old.count + 1 }

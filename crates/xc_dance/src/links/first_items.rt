@@ -6,7 +6,7 @@ ghost use Rattle.xc_dance.specs.inner.Links.ItemCells.{llink_at, rlink_at, items
 ghost use Rattle.xc_dance.specs.inner.Links.FirstItems.{linked_to, bound_to};
 
 use crate::links::items::Items;
-use crate::links::writes::Writes;
+use crate::tally::Tally;
 use std::alloc::{AllocError, Global};
 use xc_input::Problem;
 
@@ -15,7 +15,7 @@ use xc_input::Problem;
 pub(crate) fn first_items(
     alloc: Global,
     problem: &Problem,
-    writes: &mut Writes,
+    writes: &mut Tally,
 ) -> Result<Items, AllocError>
     requires { IsValid problem.now.puzzle }
     ensures { IfOk result (λ t. t ≡ items_after problem.now.puzzle []) }
@@ -28,7 +28,7 @@ pub(crate) fn first_items(
 
 /// Links the items with their rings' heads.
 #[tactic(auto, using(crate::proofs::LinkedTables::FirstTables::item_columns))]
-fn link_rings(items: &mut Items, problem: &Problem, writes: &mut Writes)
+fn link_rings(items: &mut Items, problem: &Problem, writes: &mut Tally)
     requires { items.old ≡ linked_to problem.now.puzzle 0 }
     ensures { items.new ≡ linked_to problem.now.puzzle (item_count problem.now.puzzle + 2) }
 {
@@ -39,7 +39,7 @@ fn link_rings(items: &mut Items, problem: &Problem, writes: &mut Writes)
 }
 
 /// Fills in the bounds of the primary items.
-fn set_bounds(items: &mut Items, problem: &Problem, writes: &mut Writes)
+fn set_bounds(items: &mut Items, problem: &Problem, writes: &mut Tally)
     requires valid { IsValid problem.now.puzzle }
     requires before { items.old ≡ bound_to problem.now.puzzle 1 }
     ensures { items.new ≡ items_after problem.now.puzzle [] }

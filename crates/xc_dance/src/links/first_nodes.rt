@@ -9,7 +9,7 @@ ghost use Rattle.xc_dance.specs.inner.Links.FirstNodes.{laid_to, blanks};
 
 use crate::links::nodes::{Nodes, Row, Rows, SPACER};
 use crate::links::options::node_count;
-use crate::links::writes::Writes;
+use crate::tally::Tally;
 use std::alloc::{AllocError, Global};
 use xc_input::Problem;
 
@@ -17,7 +17,7 @@ use xc_input::Problem;
 pub(crate) fn first_nodes(
     alloc: Global,
     problem: &Problem,
-    writes: &mut Writes,
+    writes: &mut Tally,
 ) -> Result<Nodes, AllocError>
     requires limits { IsWithinLimits problem.now.puzzle }
     requires fit { IsFit problem.now.puzzle }
@@ -120,7 +120,7 @@ fn lay_uses(rows: &mut Rows, problem: &Problem, o: u32)
 }
 
 /// Enters each use's node into its item's list.
-fn link_uses(nodes: &mut Nodes, problem: &Problem, count: u32, writes: &mut Writes)
+fn link_uses(nodes: &mut Nodes, problem: &Problem, count: u32, writes: &mut Tally)
     requires limits { IsWithinLimits problem.now.puzzle }
     requires fit { IsFit problem.now.puzzle }
     requires count { count ≡ length (layout problem.now.puzzle) }

@@ -3,7 +3,7 @@ ghost use Rattle.std.specs.Prelude.{◌≡◌, ℕ, ◌+◌, ◌-◌, ◌^◌, �
 ghost use Rattle.std.specs.Prelude.{IfOk, IsTrue, ◌↔◌};
 
 use crate::links::cells::Column;
-use crate::links::writes::Writes;
+use crate::tally::Tally;
 use std::alloc::{AllocError, Global};
 
 /// The items, by column. The last two columns are the primary items'.
@@ -49,7 +49,7 @@ impl Items {
 
     /// Takes item i out of its ring.
     #[inline(always)]
-    pub(crate) fn unlink(&mut self, i: u32, writes: &mut Writes)
+    pub(crate) fn unlink(&mut self, i: u32, writes: &mut Tally)
         requires place { (i < length self.old.llink) × (i < length self.old.rlink) }
         requires left { slice_index self.old.llink i < length self.old.rlink }
         requires right { slice_index self.old.rlink i < length self.old.llink }
@@ -64,7 +64,7 @@ impl Items {
 
     /// Puts item i back into its ring.
     #[inline(always)]
-    pub(crate) fn relink(&mut self, i: u32, writes: &mut Writes)
+    pub(crate) fn relink(&mut self, i: u32, writes: &mut Tally)
         requires place { (i < length self.old.llink) × (i < length self.old.rlink) }
         requires left { slice_index self.old.llink i < length self.old.rlink }
         requires right { slice_index self.old.rlink i < length self.old.llink }
@@ -79,7 +79,7 @@ impl Items {
 
     /// Lowers the bound of item i by one.
     #[inline(always)]
-    pub(crate) fn spend(&mut self, i: u32, writes: &mut Writes)
+    pub(crate) fn spend(&mut self, i: u32, writes: &mut Tally)
         requires place { i < length self.old.bound }
         requires some { 0 < slice_index self.old.bound i }
         ensures done { self.new ≡ with_bound self.old i (slice_index self.old.bound i - 1) }
@@ -91,7 +91,7 @@ impl Items {
 
     /// Raises the bound of item i by one.
     #[inline(always)]
-    pub(crate) fn unspend(&mut self, i: u32, writes: &mut Writes)
+    pub(crate) fn unspend(&mut self, i: u32, writes: &mut Tally)
         requires place { i < length self.old.bound }
         requires few { slice_index self.old.bound i < 2 ^ 31 }
         ensures done { self.new ≡ with_bound self.old i (slice_index self.old.bound i + 1) }

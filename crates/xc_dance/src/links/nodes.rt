@@ -11,7 +11,7 @@ use crate::links::spans::Spans;
 use crate::links::steps::{relink, unlink};
 use crate::links::tweaks::{bring_back, hide_unless, unhide_unless};
 use crate::links::walks::{hide_among_marks, hide_list, unhide_among_marks, unhide_list};
-use crate::links::writes::Writes;
+use crate::tally::Tally;
 use std::alloc::{AllocError, Global};
 use std::marker::Model;
 
@@ -199,7 +199,7 @@ impl Nodes {
     }
 
     /// Makes node q, which leads to its item's own node downwards, the last of its item's list.
-    pub(crate) fn enter(&mut self, q: u32, writes: &mut Writes)
+    pub(crate) fn enter(&mut self, q: u32, writes: &mut Tally)
         requires size { HasSize self.old (length self.old.top) }
         requires place { q < length self.old.top }
         requires item { slice_index self.old.top q < length self.old.top }
@@ -227,7 +227,7 @@ impl Nodes {
 
     /// Hides all nodes of item i's list, as cover, (12), does from top to bottom.
     #[inline(always)]
-    pub(crate) fn cover(&mut self, spans: &Spans, i: u32, marks: bool, writes: &mut Writes) -> u64
+    pub(crate) fn cover(&mut self, spans: &Spans, i: u32, marks: bool, writes: &mut Tally) -> u64
         requires can { CanHideList spans.now None self.old i }
         requires unmarked { marks ≡ false → IsUnmarked spans.now self.old.color }
         ensures done { self.new ≡ fold (left_node spans.now None) self.old (list_of self.old i) }
@@ -244,7 +244,7 @@ impl Nodes {
 
     /// Undoes `cover`, as uncover, (14), does from bottom to top, so that each node finds its neighbours of before.
     #[inline(always)]
-    pub(crate) fn uncover(&mut self, spans: &Spans, i: u32, marks: bool, writes: &mut Writes) -> u64
+    pub(crate) fn uncover(&mut self, spans: &Spans, i: u32, marks: bool, writes: &mut Tally) -> u64
         requires can { CanUnhideList spans.now None self.old i }
         requires unmarked { marks ≡ false → IsUnmarked spans.now self.old.color }
         ensures done { self.new ≡ fold (back_node spans.now None) self.old (list_back self.old i) }
@@ -262,7 +262,7 @@ impl Nodes {
     /// Purifies item i with the colour c, as Algorithm C does. The colour stands at the item's own node, so that it can
     /// be read whether an item is purified.
     #[inline(always)]
-    pub(crate) fn purify(&mut self, spans: &Spans, i: u32, c: u32, writes: &mut Writes) -> u64
+    pub(crate) fn purify(&mut self, spans: &Spans, i: u32, c: u32, writes: &mut Tally) -> u64
         requires can { CanPurify spans.now c self.old i }
         ensures done { self.new ≡ purified_list spans.now c self.old i }
         ensures cost { result ≡ walk_costs spans.now (Some c) (with_colour self.old i c) (list_of self.old i) + 1 }
@@ -275,7 +275,7 @@ impl Nodes {
 
     /// Undoes `purify`, as unpurify does from bottom to top.
     #[inline(always)]
-    pub(crate) fn unpurify(&mut self, spans: &Spans, i: u32, c: u32, writes: &mut Writes) -> u64
+    pub(crate) fn unpurify(&mut self, spans: &Spans, i: u32, c: u32, writes: &mut Tally) -> u64
         requires can { CanUnpurify spans.now c self.old i }
         ensures done { self.new ≡ unpurified_list spans.now c self.old i }
         ensures cost { result ≡ back_costs spans.now (Some c) self.old (list_back self.old i) + 1 }
@@ -297,7 +297,7 @@ impl Nodes {
         covered: bool,
         i: u32,
         marks: bool,
-        writes: &mut Writes,
+        writes: &mut Tally,
     ) -> u64
         requires can { CanTweak spans.now covered self.old i }
         requires unmarked { marks ≡ false → IsUnmarked spans.now self.old.color }
@@ -320,7 +320,7 @@ impl Nodes {
         covered: bool,
         x: u32,
         marks: bool,
-        writes: &mut Writes,
+        writes: &mut Tally,
     ) -> u64
         requires can { CanUntweak spans.now covered self.old x }
         requires unmarked { marks ≡ false → IsUnmarked spans.now self.old.color }
@@ -345,7 +345,7 @@ impl Nodes {
         x: u32,
         k: u32,
         marks: bool,
-        writes: &mut Writes,
+        writes: &mut Tally,
     ) -> u64
         requires can { CanUntweakAll spans.now covered self.old i x k }
         requires unmarked { marks ≡ false → IsUnmarked spans.now self.old.color }

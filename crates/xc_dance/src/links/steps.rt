@@ -16,7 +16,7 @@ ghost use Rattle.xc_dance.specs.declared.links.nodes.TheConstants.{MARK};
 use crate::links::cells::{Cell, Link, down_at, get_at, set_at, set_down_at, set_up_at, up_at};
 use crate::links::nodes::{MARK, SPACER};
 use crate::links::spans::Spans;
-use crate::links::writes::Writes;
+use crate::tally::Tally;
 
 /// Takes node q out of its list.
 #[inline(always)]
@@ -25,7 +25,7 @@ pub(crate) fn unlink(
     links: &mut [Link],
     color: &[Cell],
     q: usize,
-    writes: &mut Writes,
+    writes: &mut Tally,
 )
     requires size { HasSize (columns top.old links.old color.now) (length (columns top.old links.old color.now).top) }
     requires places { NamesPlaces (columns top.old links.old color.now) q }
@@ -52,7 +52,7 @@ pub(crate) fn relink(
     links: &mut [Link],
     color: &[Cell],
     q: usize,
-    writes: &mut Writes,
+    writes: &mut Tally,
 )
     requires size { HasSize (columns top.old links.old color.now) (length (columns top.old links.old color.now).top) }
     requires places { NamesPlaces (columns top.old links.old color.now) q }
@@ -80,7 +80,7 @@ fn hide_one(
     color: &[Cell],
     q: usize,
     marks: bool,
-    writes: &mut Writes,
+    writes: &mut Tally,
 ) -> u64
     requires can { CanHide (columns top.old links.old color.now) q }
     requires unmarked { marks ≡ false → slice_index (values color.now) q ≢ MARK }
@@ -105,7 +105,7 @@ fn hide_range(
     a: usize,
     b: usize,
     marks: bool,
-    writes: &mut Writes,
+    writes: &mut Tally,
 ) -> u64
     requires can { CanHideAll (columns top.old links.old color.now) (places a b) }
     requires unmarked { marks ≡ false → AreUnmarked (values color.now) a b }
@@ -133,7 +133,7 @@ pub(crate) fn hide(
     spans: &Spans,
     p: u32,
     marks: bool,
-    writes: &mut Writes,
+    writes: &mut Tally,
 ) -> u64
     requires span { p < length spans.now }
     requires can { CanHideNode spans.now (columns top.old links.old color.now) p }
@@ -162,7 +162,7 @@ fn unhide_one(
     color: &[Cell],
     q: usize,
     marks: bool,
-    writes: &mut Writes,
+    writes: &mut Tally,
 ) -> u64
     requires can { CanUnhide (columns top.old links.old color.now) q }
     requires unmarked { marks ≡ false → slice_index (values color.now) q ≢ MARK }
@@ -188,7 +188,7 @@ fn unhide_range(
     a: usize,
     b: usize,
     marks: bool,
-    writes: &mut Writes,
+    writes: &mut Tally,
 ) -> u64
     requires can { CanUnhideAll (columns top.old links.old color.now) (reverse (places a b)) }
     requires unmarked { marks ≡ false → AreUnmarked (values color.now) a b }
@@ -218,7 +218,7 @@ pub(crate) fn unhide(
     spans: &Spans,
     p: u32,
     marks: bool,
-    writes: &mut Writes,
+    writes: &mut Tally,
 ) -> u64
     requires span { p < length spans.now }
     requires can { CanUnhideNode spans.now (columns top.old links.old color.now) p }

@@ -11,7 +11,7 @@ ghost use Rattle.xc_dance.specs.inner.Links.Unmarked.{IsUnmarked};
 use crate::links::cells::{Cell, Link, down, set_up};
 use crate::links::spans::Spans;
 use crate::links::steps::{hide, unhide};
-use crate::links::writes::Writes;
+use crate::tally::Tally;
 
 /// Hides the other nodes of the option of node x, unless x's item is covered.
 #[cold]
@@ -24,7 +24,7 @@ pub(crate) fn hide_unless(
     covered: bool,
     x: u32,
     marks: bool,
-    writes: &mut Writes,
+    writes: &mut Tally,
 ) -> u64
     requires can { covered ≡ false → (x < length spans.now)
         × CanHideNode spans.now (columns top.old links.old color.now) x }
@@ -57,7 +57,7 @@ pub(crate) fn unhide_unless(
     covered: bool,
     x: u32,
     marks: bool,
-    writes: &mut Writes,
+    writes: &mut Tally,
 ) -> u64
     requires can { covered ≡ false → (x < length spans.now)
         × CanUnhideNode spans.now (columns top.old links.old color.now) x }
@@ -90,7 +90,7 @@ fn bring_back_one(
     covered: bool,
     p: u32,
     marks: bool,
-    writes: &mut Writes,
+    writes: &mut Tally,
 ) -> u64
     requires can { CanBringBack spans.now covered (columns top.old links.old color.now) p }
     requires unmarked { marks ≡ false → IsUnmarked spans.now (values color.now) }
@@ -118,7 +118,7 @@ pub(crate) fn bring_back(
     x: u32,
     k: u32,
     marks: bool,
-    writes: &mut Writes,
+    writes: &mut Tally,
 ) -> u64
     requires many { k < 2 ^ 30 }
     requires can { CanBringBackAll spans.now covered (columns top.old links.old color.now) x

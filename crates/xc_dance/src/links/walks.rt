@@ -12,7 +12,7 @@ use crate::links::cells::{Cell, Link, down, get, set, up};
 use crate::links::nodes::MARK;
 use crate::links::spans::Spans;
 use crate::links::steps::{hide, unhide};
-use crate::links::writes::Writes;
+use crate::tally::Tally;
 
 /// Whether the node has the colour that is kept.
 #[inline(always)]
@@ -36,7 +36,7 @@ fn leave(
     p: u32,
     keep: Option<u32>,
     marks: bool,
-    writes: &mut Writes,
+    writes: &mut Tally,
 ) -> u64
     requires can { CanLeave spans.now keep (columns top.old links.old color.old) p }
     requires unmarked { marks ≡ false → IsUnmarked spans.now (values color.old) }
@@ -63,7 +63,7 @@ fn come_back(
     p: u32,
     keep: Option<u32>,
     marks: bool,
-    writes: &mut Writes,
+    writes: &mut Tally,
 ) -> u64
     requires can { CanReturn spans.now keep (columns top.old links.old color.old) p }
     requires unmarked { marks ≡ false → IsUnmarked spans.now (values color.old) }
@@ -93,7 +93,7 @@ pub(crate) fn hide_list(
     i: u32,
     keep: Option<u32>,
     marks: bool,
-    writes: &mut Writes,
+    writes: &mut Tally,
 ) -> u64
     requires can { CanHideList spans.now keep (columns top.old links.old color.old) i }
     requires unmarked { marks ≡ false → IsUnmarked spans.now (values color.old) }
@@ -124,7 +124,7 @@ pub(crate) fn hide_among_marks(
     spans: &Spans,
     i: u32,
     keep: Option<u32>,
-    writes: &mut Writes,
+    writes: &mut Tally,
 ) -> u64
     requires { CanHideList spans.now keep (columns top.old links.old color.old) i }
     ensures done { columns top.new links.new color.new ≡ fold (left_node spans.now keep)
@@ -147,7 +147,7 @@ pub(crate) fn unhide_list(
     i: u32,
     keep: Option<u32>,
     marks: bool,
-    writes: &mut Writes,
+    writes: &mut Tally,
 ) -> u64
     requires can { CanUnhideList spans.now keep (columns top.old links.old color.old) i }
     requires unmarked { marks ≡ false → IsUnmarked spans.now (values color.old) }
@@ -178,7 +178,7 @@ pub(crate) fn unhide_among_marks(
     spans: &Spans,
     i: u32,
     keep: Option<u32>,
-    writes: &mut Writes,
+    writes: &mut Tally,
 ) -> u64
     requires { CanUnhideList spans.now keep (columns top.old links.old color.old) i }
     ensures done { columns top.new links.new color.new ≡ fold (back_node spans.now keep)

@@ -2,9 +2,9 @@ use Rattle.xc_dance.proofs.Shadows.{[], ◌∷◌, refl, proved, Fml, ftrue, Val
 use Rattle.xc_dance.proofs.Shadows.{drop, join, suffices, use0, done, enter, no_more, returns, alloc_all, pass_all}
 use Rattle.xc_dance.proofs.Shadows.{free_all, look_at, sets, agg, makes_shadow, type_at, nothing, Res, on_entry, Stays}
 use Rattle.xc_dance.proofs.Shadows.{walk_of, says, ends_at}
-use Rattle.xc_dance.specs.contracts.links.writes.Writes.new as f
-use Rattle.xc_dance.proofs.links.writes.Writes.new.Statement.{statement}
-use Rattle.xc_dance.proofs.links.writes.Writes.new.Code as code
+use Rattle.xc_dance.specs.contracts.tally.Tally.new as f
+use Rattle.xc_dance.proofs.tally.Tally.new.Statement.{statement}
+use Rattle.xc_dance.proofs.tally.Tally.new.Code as code
 
 abbrev stayed : Stays f.ended.signature.params f.ended.kept
 stayed = tt

@@ -3,10 +3,10 @@ use Rattle.xc_dance.proofs.Shadows.{◌∵◌, !, qed, keep, move, split, join, 
 use Rattle.xc_dance.proofs.Shadows.{returns, alloc_all, pass_all, free_all, look_at, sets, agg, RefOf, yes, owns}
 use Rattle.xc_dance.proofs.Shadows.{shr_vals, shr_Tells, makes_shadow, plain, type_at, types_at, nothing, Res, alive}
 use Rattle.xc_dance.proofs.Shadows.{Stays, stay_dropped, Goes-dropped, walk_of, says, ends_at}
-use Rattle.xc_list.specs.contracts.flushes.Flushes.one_more as f
-use Rattle.xc_list.specs.contracts.flushes.Flushes.{the_row as R}
-use Rattle.xc_list.proofs.flushes.Flushes.one_more.Statement.{statement}
-use Rattle.xc_list.proofs.flushes.Flushes.one_more.Code as code
+use Rattle.xc_dance.specs.contracts.tally.Tally.one_more as f
+use Rattle.xc_dance.specs.contracts.tally.Tally.{the_row as R}
+use Rattle.xc_dance.proofs.tally.Tally.one_more.Statement.{statement}
+use Rattle.xc_dance.proofs.tally.Tally.one_more.Code as code
 
 abbrev stayed : Stays f.ended.signature.params f.ended.kept
 stayed = (stay_dropped _ yes, tt)
