@@ -11,9 +11,12 @@ use Rattle.xc_input.specs.inner.Sheets.{Sheet, names_of}
 use Rattle.xc_input.proofs.GrammarLemmas.ClearLines.{StandFor}
 use Rattle.xc_input.proofs.GrammarLemmas.StageLemmas.{items_in}
 
--- the bounds of items
+-- the bounds of an item, and of items
+abbrev pub entry_bounds : Entry → Bounds
+entry_bounds e = record { low = e.low; high = e.high }
+
 abbrev pub bounds_in : List Entry → List Bounds
-bounds_in es = map (λ e. record { low = e.low; high = e.high }) es
+bounds_in es = map entry_bounds es
 
 -- the problem of a sheet
 abbrev pub named_of : Sheet → Named

@@ -88,7 +88,7 @@ module _ (kind : Kind) (item : ℕ × List ℕ) (rest : List (ℕ × List ℕ)) 
   few : length primary ≡ c.primaries
   few = length-map (before_first is_bar ps) (entry kind false)
 
-  names-are : StandFor kind true (after_first is_bar ps)
+  pub names-are : StandFor kind true (after_first is_bar ps)
       → c.names ≡ names_of (primary ++ map (entry kind true) (after_first is_bar ps))
   names-are a = let s = start-is kind item.1 a in ap (λ (c : Context). c.names) s.2 ∙ ap names_of s.0
 

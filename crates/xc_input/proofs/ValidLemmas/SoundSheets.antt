@@ -1,13 +1,13 @@
 -- The problem of a sheet.
 use Rattle.std.proofs.lemmas.Grind.{common_steps}
-use Rattle.std.proofs.Common.{◌≡◌, ℕ, ◌≤◌, false, List, [], ◌∷◌, true, length, map, drop}
+use Rattle.std.proofs.Common.{◌≡◌, ℕ, ◌≤◌, false, List, true, length, map, drop}
 use Rattle.std.proofs.Common.{All, ap}
 use Rattle.std.proofs.Common.{arith, inl, inr}
 use Rattle.std.proofs.lemmas.List.{length-append, length-map, drop-map}
 use Rattle.std.proofs.Math.Seq.{drop-append_seam}
 use Rattle.std.proofs.Common.{sym, ◌∙◌}
 use Rattle.std.proofs.lemmas.List.Elements.{All-from_recursion}
-use Rattle.std.specs.List.{AllByRecursion, before_first, after_first}
+use Rattle.std.specs.List.{before_first, after_first}
 use Rattle.xc_input.proofs.lists.Filters.{map-map}
 use Rattle.xc_input.specs.declared.kind.Kind.{Kind}
 use Rattle.xc_input.specs.declared.problem.Item.{Item}
@@ -20,20 +20,14 @@ use Rattle.xc_input.specs.inner.Stages.{entry}
 use Rattle.xc_input.specs.inner.Vectors.{IsOptional}
 use Rattle.xc_input.specs.inner.Builders.{entry_of}
 use Rattle.xc_input.proofs.GrammarLemmas.SheetGrammar.{AreItems}
-use Rattle.xc_input.proofs.ValidLemmas.ValidTexts.{entry_bounds}
-use Rattle.xc_input.proofs.lists.EachElement.{each_weaker, each-map}
+use Rattle.xc_input.proofs.GrammarLemmas.SheetGrammar.{entry_bounds}
+use Rattle.xc_input.proofs.lists.EachElement.{each_weaker, each-map, each-of}
 
 -- THE PROBLEM THAT VECTORS HOLD
 pub item-names : (items : List Item) → names_of (map entry_of items) ≡ map (λ x. x.name.items) items
 item-names items = map-map entry_of (λ e. e.name) items
 
 -- THE ITEM LINE
--- the elements of a list whose images these are
-each-of : {X Y : Type 0} (P : Y → Type 0) (f : X → Y) (xs : List X) → AllByRecursion P (map f xs)
-    → AllByRecursion (λ x. P (f x)) xs
-each-of P f [] a = tt
-each-of P f (x ∷ xs) a = (a.0, each-of P f xs a.1)
-
 optional : (kind : Kind) (token : List ℕ) (e : Entry) → IsEntry kind true token e → entry_bounds e ≡ secondary_bounds
 optional kind token e (n, inl h) = λ i. record { low = h.1 i; high = h.2 i }
 optional kind token e (n, inr h) = let f : true ≡ false = h.2 in absurd (cc)
