@@ -23,19 +23,6 @@ pub gave_more : (a b c : SourceState) (bytes piece : List ℕ) → Gave a b byte
     → Consumes b.rest c.rest piece → c.given ≡ b.given ++ piece ∷ [] → Gave a c (bytes ++ piece)
 gave_more a b c bytes piece g some told e = grind (arith, common_steps, append_assoc, flat_map-append, append-nil)
 
--- a read failed
-at-end : (old now : Option (List ℕ)) (bytes : List ℕ) → Consumes old now bytes → IsAtEnd now
-    → IfSome old (λ rest. rest ≡ bytes)
-at-end None now bytes p e = tt
-at-end (Some all) None bytes p e = absurd p
-at-end (Some all) (Some left) bytes p e = p ∙ ap (λ xs. bytes ++ xs) e ∙ append-nil bytes
-
--- the last read gave nothing
-pub gave_end : (a b c : SourceState) (bytes buf : List ℕ) (n : ℕ) → n ≡ 0 → Gave a b bytes → c.failures ≡ a.failures
-    → Consumes b.rest c.rest (take n buf) → IsAtEnd c.rest
-    → c.given ≡ b.given ++ take n buf ∷ [] → GaveAll a c bytes
-gave_end a b c bytes buf n e g same told end f = grind (arith, nat_tests, append-nil bytes, at-end a.rest c.rest bytes)
-
 -- the answer at the end of the input
 pub whole-last : {kind : Kind} {a c : SourceState} {bytes : List ℕ} (r : Result Read InputError)
     → EndsAs kind (lines_of bytes) r → GaveAll a c bytes → IfOk r (λ x. IsWhole kind a c x.problem x.ignored.items)
