@@ -2,6 +2,8 @@
 use Rattle.std.proofs.Common.{◌≡◌, ℕ, ◌+◌, ◌-◌, ◌≤◌, List, [], ◌∷◌, ◌++◌, None, Bool, true, false, length, map, get_or}
 use Rattle.std.proofs.Common.{set, drop, All, ap, ◌∙◌, sym, subst, arith, length-append, length-set, append-nil}
 use Rattle.std.proofs.Common.{append_assoc}
+use Rattle.std.proofs.lemmas.List.Elements.{All-push}
+use Rattle.std.proofs.lemmas.Grind.{common_steps}
 use Rattle.std.proofs.Math.Seq.{drop-append_seam}
 use Rattle.xc_input.specs.declared.kind.Kind.{Kind}
 use Rattle.xc_input.specs.declared.problem.Use.{Use}
@@ -14,7 +16,7 @@ use Rattle.xc_input.specs.inner.Builders.{AreMarks, AreDistinct, IsMarkable, ite
 use Rattle.xc_input.specs.inner.ColourNumbers.{numbered, use_behind}
 use Rattle.xc_input.proofs.OptionLemmas.Colours.{numbered_in_turn, in_turn, in_turn_more, with_more, in_turn_count}
 use Rattle.xc_input.proofs.OptionLemmas.Colours.{in_turn_items, colours_more}
-use Rattle.xc_input.proofs.OptionLemmas.Marks.{mark-more, markable-more, unmarked_count, unmarked-less}
+use Rattle.xc_input.proofs.OptionLemmas.Marks.{mark, unmarked_count, unmarked-less}
 use Rattle.xc_input.proofs.OptionLemmas.OneToken.{token-step}
 
 -- the tokens that are left decide, and the uses of those before them are numbered, added and marked
@@ -27,7 +29,7 @@ pub record IsBehind (kind : Kind) (names : List (List ℕ)) (primary : ℕ) (lin
   pub split : map (written names) line ≡ us ++ map (written names) rest
   pub count : length marks ≡ length names
   pub marked : AreMarks marks (items_of us)
-  pub markable : All (λ u. IsMarkable (length marks) u.item) (numbered_in_turn met us)
+  pub markable : All (λ u. IsMarkable (length names) u.item) (numbered_in_turn met us)
   pub few : length us + unmarked_count marks ≤ most_items
   pub added : uses ≡ old ++ numbered_in_turn met us
   pub known : colours ≡ with_uses met us
@@ -55,36 +57,29 @@ module _ {kind : Kind} {names : List (List ℕ)} {primary : ℕ} {line : List (L
         → uses' ≡ uses ++ use_behind colours u ∷ [] → colours' ≡ with_colour colours u.colour → AreDistinct colours'
         → IsBehind kind names primary line others met old (set marks (u.item - 1) true) colours' uses'
     behind_more {token} {others} {u} {colours'} {uses'} cut is within free more known distinct =
-        let step = token-step kind names primary b.us token rest others _ _ u b.decided b.split cut is in
+        let step = token-step kind names primary b.us token others is.0 in
         let turn = in_turn_more met b.us u in
-        let here : use_behind colours u ≡ use_behind (with_uses met b.us) u = ap (λ cs. use_behind cs u) b.known in
         let less = unmarked-less marks (u.item - 1) (omega (arith, within.0, within.1)) free in
-        let one = length-append uses (use_behind colours u ∷ []) in
-        let met_more = colours_more colours u.colour in
+        let new = use_behind (with_uses met b.us) u in
         record {
           us = b.us ++ u ∷ [];
-          decided = step.0;
-          split = step.1;
+          decided = b.decided ∙ rw (cut, is.1) step;
+          split = grind (arith, b.split, cut, is, append_assoc);
           count = length-set marks (u.item - 1) true ∙ b.count;
-          marked = mark-more marks b.us u b.marked within;
-          markable =
-              subst (All (λ w. IsMarkable (length (set marks (u.item - 1) true)) w.item)) (sym turn)
-              (markable-more marks (numbered_in_turn met b.us) (use_behind (with_uses met b.us) u) b.markable
-              within);
+          marked = grind (arith, common_steps, mark, items_of, b.marked, within);
+          markable = rw turn (All-push (λ w. IsMarkable (length names) w.item) (numbered_in_turn met b.us) new
+              b.markable (within.0, omega (arith, within.1, b.count)));
           few = omega (arith, b.few, less, length-append b.us (u ∷ []));
-          added = grind (arith, turn, append_assoc old (numbered_in_turn met b.us) (use_behind colours u ∷ []));
+          added = grind (arith, more, b.added, b.known, turn, append_assoc old (numbered_in_turn met b.us) (new ∷ []));
           known = grind (arith, with_more met b.us u);
           distinct = distinct;
-          few_colours = omega (arith, b.few_colours, ap length known, ap length more, one);
+          few_colours = grind (arith, b.few_colours, known, more, length-append, colours_more);
         }
 
     -- behind the last token
     module _ (none : rest ≡ []) where
       pub behind_all : map (written names) line ≡ b.us
       behind_all = b.split ∙ ap (λ ts. b.us ++ map (written names) ts) none ∙ append-nil b.us
-
-      pub none_left : first (option_checks (context kind names primary) [] line) ≡ None
-      none_left = b.decided ∙ ap (λ ts. first (option_checks (context kind names primary) (items_of b.us) ts)) none
 
       pub all_added : uses ≡ old ++ numbered met (map (written names) line)
       all_added = b.added ∙ ap (λ us. old ++ us) (in_turn met b.us) ∙ ap (λ us. old ++ numbered met us) (sym behind_all)

@@ -1,5 +1,6 @@
 -- Marks at the items of a line.
 use Rattle.std.proofs.lemmas.Grind.{common_steps}
+use Rattle.std.proofs.lemmas.List.{map-append}
 use Rattle.std.proofs.Math.Seq.{take-append_seam}
 use Rattle.std.proofs.Common.{◌≡◌, ℕ, zero, suc, ◌+◌, ◌-◌, ◌<◌, ◌≤◌, List, [], ◌∷◌, ◌++◌, Bool, true, false}
 use Rattle.std.proofs.Common.{true≢false, nat_eq, length, map, get_or, set, take, drop, All, refl, ap}
@@ -21,16 +22,6 @@ pub mark : (marks : List Bool) (seen : List ℕ) (i : ℕ) → AreMarks marks se
     → AreMarks (set marks (i - 1) true) (seen ++ i ∷ [])
 mark marks seen i are low high =
     grind (arith, nat_tests, length-set, list_any-append, get_or-set_at, or-true, get_or-set_other)
-
--- the item of one use more
-pub mark-more : (marks : List Bool) (us : List Written) (u : Written) → AreMarks marks (items_of us)
-    → IsMarkable (length marks) u.item → AreMarks (set marks (u.item - 1) true) (items_of (us ++ u ∷ []))
-mark-more marks us u are within = grind (arith, common_steps, mark, items_of)
-
-pub markable-more : (marks : List Bool) (uses : List Use) (u : Use) → All (λ w. IsMarkable (length marks) w.item) uses
-    → IsMarkable (length marks) u.item
-    → All (λ w. IsMarkable (length (set marks (u.item - 1) true)) w.item) (uses ++ u ∷ [])
-markable-more marks uses u all within = grind (arith, common_steps, length-set)
 
 -- only items of these uses are marked
 abbrev pub AreAmong : List Bool → List Use → Type 0

@@ -51,78 +51,47 @@ module _ (kind : Kind) (primary : ℕ) (seen : List ℕ) {names : List (List ℕ
   abbrev judged : Option FaultKind
   judged = fault kind names primary seen text
 
-  stray-is : (b : Bool) → stray ≡ b → (is_plain kind && has COLON text) ≡ b
-  stray-is b e = grind (arith, common_steps, test, cut, nat_tests)
-
   -- a colour stands where none may
   pub not-here : stray ≡ true → judged ≡ Some ColourNotHere
-  not-here e = rw (stray-is true e)
+  not-here e = grind (arith, common_steps, cut, nat_tests)
 
   module _ (allowed : stray ≡ false) where
     -- no item has the name
     pub unknown : {k : FaultKind} → first (name_checks t.name.now ++ (UnknownItem, true) ∷ []) ≡ Some k
         → t.place ≡ None → judged ≡ Some k
-    unknown f e = rw (stray-is false allowed, sym cut.place ∙ e, ← cut.name) f
+    unknown f e = grind (arith, common_steps, cut, nat_tests)
 
     -- the item at place k has it, and is marked or not
     module _ (all : All IsName names) (marks : List Bool) (len : length marks ≡ length names)
         (are : AreMarks marks seen) {k : ℕ} (found : t.place ≡ Some k) where
-      at : place names (before COLON text) ≡ Some k
-      at = sym cut.place ∙ found
-
-      mark : get_or marks k false ≡ list_any (λ i. nat_eq i (k + 1)) seen
-      mark = mark-at marks names (before COLON text) seen k are len at
-
-      past : judged ≡ first (past_name kind names primary seen text)
-      past = past-name kind names primary seen text (stray-is false allowed)
-          (good-name (before COLON text) (stored IsName names (before COLON text) k all at))
+      past : (place names (before COLON text) ≡ Some k)
+          × (get_or marks k false ≡ list_any (λ i. nat_eq i (k + 1)) seen)
+          × (judged ≡ first (past_name kind names primary seen text))
+      past = grind (arith, common_steps, cut, mark-at, past-name, good-name, stored IsName, test, nat_tests)
 
       pub repeated : get_or marks k false ≡ true → judged ≡ Some RepeatedInOption
-      repeated e = past ∙ rw (at, ← mark, e)
+      repeated e = grind (arith, past)
 
-      module _ (new : get_or marks k false ≡ false) where
-        item-is : item_number names (before COLON text) ≡ k + 1
-        item-is = rw at
+      pub bare : get_or marks k false ≡ false → t.colour ≡ None → (judged ≡ None)
+          × (record { item = k + 1; colour = [] } ≡ written names text)
+      bare new e = grind (arith, past, none-after, cut)
 
-        pub bare : t.colour ≡ None → (judged ≡ None) × (record { item = k + 1; colour = [] } ≡ written names text)
-        bare e =
-            let no = MatchOption-at_none (has COLON text ≡ false) _ e cut.colour in (
-              past ∙ rw (at, ← mark, new, no),
-              λ x. record { item = sym item-is x; colour = sym (none-after COLON text no) x },
-            )
+      pub on-primary : get_or marks k false ≡ false → {c : Bor (List ℕ)} → t.colour ≡ Some c → k + 1 ≤ primary
+          → judged ≡ Some ColourOnPrimary
+      on-primary new is h = grind (arith, past, cut, nat_tests)
 
-        module _ {c : Bor (List ℕ)} (is : t.colour ≡ Some c) where
-          back : (has COLON text ≡ true) × (c.now ≡ after COLON text)
-          back = MatchOption-at_some (has COLON text ≡ false) _ c is cut.colour
+      pub misfit : get_or marks k false ≡ false → {c : Bor (List ℕ)} → t.colour ≡ Some c → primary < k + 1
+          → is_bad_colour c.now ≡ true → judged ≡ Some BadColour
+      misfit new is h e = grind (arith, past, cut, nat_tests)
 
-          pub on-primary : k + 1 ≤ primary → judged ≡ Some ColourOnPrimary
-          on-primary h =
-              let low : nat_lt primary (k + 1) ≡ false = grind (arith, nat_tests) in
-              past ∙ rw (at, ← mark, new, back.0, low)
-
-          module _ (h : primary < k + 1) where
-            z : nat_lt primary (k + 1) ≡ true
-            z = grind (arith, nat_tests)
-
-            pub misfit : is_bad_colour c.now ≡ true → judged ≡ Some BadColour
-            misfit e = past ∙ rw (at, ← mark, new, back.0, z, ← back.1, e)
-
-            pub coloured : is_bad_colour c.now ≡ false → (judged ≡ None)
-                × (record { item = k + 1; colour = c.now } ≡ written names text)
-            coloured e = (
-              past ∙ rw (at, ← mark, new, back.0, z, ← back.1, e),
-              λ x. record { item = sym item-is x; colour = back.1 x },
-            )
+      pub coloured : get_or marks k false ≡ false → {c : Bor (List ℕ)} → t.colour ≡ Some c → primary < k + 1
+          → is_bad_colour c.now ≡ false → (judged ≡ None)
+          × (record { item = k + 1; colour = c.now } ≡ written names text)
+      coloured new is h e = grind (arith, past, cut, nat_tests)
 
 -- a step of the loop over the tokens
 pub token-step : (kind : Kind) (names : List (List ℕ)) (primary : ℕ) (us : List Written) (token : List ℕ)
-    (line others : List (List ℕ)) (a : Option FaultKind) (all : List Written) (u : Written)
-    → a ≡ first (option_checks (context kind names primary) (items_of us) line) → all ≡ us ++ map (written names) line
-    → line ≡ token ∷ others → (first (token_checks (context kind names primary) (items_of us) token) ≡ None)
-    × (u ≡ written names token)
-    → (a ≡ first (option_checks (context kind names primary) (items_of (us ++ u ∷ [])) others))
-    × (all ≡ (us ++ u ∷ []) ++ map (written names) others)
-token-step kind names primary us token line others a all u e f l g =
-    let stop = first-back (token_checks (context kind names primary) (items_of us) token) (option_checks (context kind
-    names primary) (items_of us ++ item_number names (before COLON token) ∷ []) others) g.0 in
-    grind (arith, nat_tests, map-snoc, stop, append_assoc us (written names token ∷ []) (map (written names) others))
+    (others : List (List ℕ)) → first (token_checks (context kind names primary) (items_of us) token) ≡ None
+    → first (option_checks (context kind names primary) (items_of us) (token ∷ others))
+    ≡ first (option_checks (context kind names primary) (items_of (us ++ written names token ∷ [])) others)
+token-step kind names primary us token others e = grind (arith, map-snoc, first-back)
