@@ -33,6 +33,7 @@ use Rattle.xc_input.proofs.OptionLemmas.Colours.{numbered-length}
 use Rattle.xc_input.proofs.OptionLemmas.FlatParts.{option-more, all-uses}
 use Rattle.xc_input.proofs.FaultLemmas.FirstChecks.{first-back}
 use Rattle.xc_input.specs.inner.Stages.{whole_checks}
+use Rattle.std.proofs.Common.{◌&&◌, if◌then◌else◌, Option}
 use Rattle.std.proofs.Math.Bool.{and-false}
 
 -- the number of a colour that was added last
@@ -48,9 +49,11 @@ module _ (kind : Kind) {d : ProblemBuilder} (line : List ℕ) (s : IsBuilder d) 
   abbrev checks : List (FaultKind × Bool)
   checks = option_checks (context kind (key_names d.names.keys) d.primary) [] (tokens line)
 
+  abbrev fault : Option FaultKind
+  fault = first (content_checks kind (stage_of_builder d) line)
+
   -- the checks of the tokens, and then that of the whole line
-  pub content-is : first (content_checks kind (stage_of_builder d) line)
-      ≡ first (checks ++ whole_checks (sheet_of_builder d) line)
+  pub content-is : fault ≡ first (checks ++ whole_checks (sheet_of_builder d) line)
   content-is = rw (t, s.names)
 
   by-parts : written_by (sheet_of_builder d) line ≡ us
@@ -61,39 +64,25 @@ module _ (kind : Kind) {d : ProblemBuilder} (line : List ℕ) (s : IsBuilder d) 
       (uses : new ≡ d.uses.items ++ numbered (key_names d.colours.keys) us)
       (p : b ≡ list_any (λ u. nat_le u.item d.primary) (take (length all - start) (drop start all))) (e : all ≡ new)
       (f : start ≡ length d.uses.items) where
-    long : length new ≡ length d.uses.items + length us
-    long = ap length uses ∙ length-append d.uses.items (numbered (key_names d.colours.keys) us)
-        ∙ ap (λ n. length d.uses.items + n) (numbered-length (key_names d.colours.keys) us)
-
-    late : take (length all - start) (drop start all) ≡ numbered (key_names d.colours.keys) us
-    late = take_rest all start ∙ (λ i. drop (f i) ((e ∙ uses) i))
-        ∙ drop-append_seam d.uses.items (numbered (key_names d.colours.keys) us)
-
     kept : has_primary d.primary (written_by (sheet_of_builder d) line) ≡ b
-    kept = ap (has_primary d.primary) by-parts ∙ sym (primary-numbered d.primary _ us)
-        ∙ ap (list_any (λ u. nat_le u.item d.primary)) (sym late) ∙ sym p
+    kept = grind (arith, by-parts, take_rest, drop-append_seam, primary-numbered)
 
-    module _ (ok : first checks ≡ None) where
-      whole-line : first (content_checks kind (stage_of_builder d) line)
-          ≡ first (whole_checks (sheet_of_builder d) line)
-      whole-line = content-is ∙ first-back checks (whole_checks (sheet_of_builder d) line) ok
+    -- where the checks of the tokens let the line pass, that of the whole line decides
+    judged : first checks ≡ None → fault ≡ (if b && nat_lt most_uses (length new) then Some TooManyUses else None)
+    judged ok =
+        let count : use_count (pieces d.starts.items d.uses.items) + length (tokens line) ≡ length new =
+        grind (arith, all-uses, s.starts, length-map, length-append, numbered-length) in
+        content-is ∙ first-back checks (whole_checks (sheet_of_builder d) line) ok ∙ rw (kept, count)
 
-      pub no-primary : b ≡ false → first (content_checks kind (stage_of_builder d) line) ≡ None
-      no-primary e = whole-line ∙ rw (kept, e)
+    pub no-primary : first checks ≡ None → b ≡ false → fault ≡ None
+    no-primary ok e = grind (arith, judged)
 
-      module _ {n : ℕ} (l : n ≡ length new) where
-        count : use_count (pieces d.starts.items d.uses.items) + length (tokens line) ≡ n
-        count = let all = all-uses d.starts.items d.uses.items (s.starts t) in
-            let some = length-map (tokens line) (written (key_names d.names.keys)) in omega (arith, long)
+    pub too-long : first checks ≡ None → {n : ℕ} → n ≡ length new → b ≡ true → most_uses < n
+        → fault ≡ Some TooManyUses
+    too-long ok l e h = grind (arith, judged, nat_tests)
 
-        pub too-long : b ≡ true → most_uses < n
-            → first (content_checks kind (stage_of_builder d) line) ≡ Some TooManyUses
-        too-long e h = let full : nat_lt most_uses n ≡ true = grind (arith, nat_tests) in
-            whole-line ∙ rw (kept, count, e, full)
-
-        pub fits : n ≤ most_uses → first (content_checks kind (stage_of_builder d) line) ≡ None
-        fits h = let room : nat_lt most_uses n ≡ false = grind (arith, nat_tests) in
-            whole-line ∙ rw (kept, count, room, and-false b)
+    pub fits : first checks ≡ None → {n : ℕ} → n ≡ length new → n ≤ most_uses → fault ≡ None
+    fits ok l h = grind (arith, judged, nat_tests, and-false)
 
     -- the line of this number was taken
     abbrev IsTaken : ℕ → ProblemBuilder → Type 0
@@ -101,32 +90,18 @@ module _ (kind : Kind) {d : ProblemBuilder} (line : List ℕ) (s : IsBuilder d) 
         × (stage_of_builder d' ≡ with_option count (stage_of_builder d) (written_by (sheet_of_builder d) line))
 
     -- and the colours with those of the line, and the marks when they are taken away
-    module _ (count : ℕ) (d' : ProblemBuilder) (same : d' ≡ record d {
-      marks = d'.marks;
-      colours = d'.colours;
-      colour_guesses = d'.colour_guesses;
-      uses = d'.uses;
-      starts = d'.starts;
-      ignored = d'.ignored;
-    }) (met : List (Vec ℕ Global)) (colours : key_names met ≡ with_uses (key_names d.colours.keys) us)
+    module _ (count : ℕ) (d' : ProblemBuilder) (begun : d'.started ≡ true)
+        (same : d' ≡ record d' { names = d.names; items = d.items; primary = d.primary; guesses = d.guesses })
+        (met : List (Vec ℕ Global)) (colours : key_names met ≡ with_uses (key_names d.colours.keys) us)
         {marks : List Bool} (back : d'.marks.items ≡ marks) (all_marks : length marks ≡ length d.items.items)
         (unmarked : AreMarks marks []) where
       sound : AreOptionStarts d'.starts.items d'.uses.items → length d'.uses.items ≤ most_uses
           → length (key_names d'.colours.keys) ≤ length d'.uses.items → AreDistinct (key_names d'.colours.keys)
           → IsBuilder d'
-      sound starts few_uses few_colours distinct = subst IsBuilder (sym same) (record {
-        names = s.names;
-        named = s.named;
-        few_items = s.few_items;
-        starts = λ _. starts;
-        unstarted = λ f. absurd (cc);
-        few_uses = few_uses;
-        marks = ap length back ∙ all_marks;
-        unmarked = rw back unmarked;
-        few_colours = few_colours;
-        distinct_colours = distinct;
-        words = s.words;
-      })
+      sound starts few_uses few_colours distinct =
+          let all = ap length back ∙ all_marks in
+          let none : AreMarks d'.marks.items [] = rw back unmarked in
+          subst IsBuilder (sym same) (search arith)
 
       pub taken : b ≡ true → d'.uses.items ≡ new → d'.colours.keys ≡ met → d'.ignored.items ≡ d.ignored.items
           → length (key_names met) ≤ length new → AreDistinct (key_names met) → length new ≤ most_uses → {n : ℕ}
@@ -135,32 +110,19 @@ module _ (kind : Kind) {d : ProblemBuilder} (line : List ℕ) (s : IsBuilder d) 
           let cs = key_names d.colours.keys in
           let cut = option-more d.starts.items d.uses.items (numbered cs us) n (s.starts t)
           (l ∙ ap length uses ∙ length-append d.uses.items (numbered cs us)) in
-          let options : pieces d'.starts.items d'.uses.items ≡ pieces d.starts.items d.uses.items
-          ++ numbered cs (written_by (sheet_of_builder d) line) ∷ [] = rw (starts, all, uses, by-parts) cut.1 in
-          let known = ap key_names keys ∙ colours ∙ ap (with_uses cs) (sym by-parts) in (
+          let parts = by-parts in (
             sound (rw (starts, all, uses) cut.0) (rw all room) (rw (keys, all) few) (rw keys distinct),
-            ap stage_of_builder same ∙ rw (kept, e) (λ i. record {
-              started = t i;
-              sheet = record (sheet_of_builder d) { options = options i; colours = known i };
-              ignored = ignored i;
-            }),
+            ap stage_of_builder same ∙ rw (kept, e) (cc),
           )
 
       pub left-out : b ≡ false → d'.uses.items ≡ take start new → {m : ℕ} → d'.colours.keys ≡ take m met
           → m ≡ length d.colours.keys → d'.starts.items ≡ d.starts.items
           → d'.ignored.items ≡ d.ignored.items ++ count ∷ [] → IsTaken count d'
       left-out e cut {m} keys n starts ignored =
-          let old : d'.uses.items ≡ d.uses.items =
-          cut ∙ (λ i. take (f i) (uses i)) ∙ take-append_seam d.uses.items _ in
-          let before = n ∙ sym (length-map d.colours.keys (λ v. v.items)) in
-          let known : key_names d'.colours.keys ≡ key_names d.colours.keys = ap key_names keys
-          ∙ sym (take-map (λ (v : Vec ℕ Global). v.items) m met) ∙ (λ i. take (before i) (colours i))
-          ∙ first_met (key_names d.colours.keys) us in (
+          let old : d'.uses.items ≡ d.uses.items = grind (arith, take-append_seam) in
+          let first = first_met (key_names d.colours.keys) us in
+          let known : key_names d'.colours.keys ≡ key_names d.colours.keys = grind (arith, length-map, take-map) in (
             sound (rw (starts, old) (s.starts t)) (rw old s.few_uses) (rw (old, known) s.few_colours)
                 (rw known s.distinct_colours),
-            ap stage_of_builder same ∙ rw (kept, e) (λ i. record {
-              started = t i;
-              sheet = record (sheet_of_builder d) { options = pieces (starts i) (old i); colours = known i };
-              ignored = ignored i;
-            }),
+            ap stage_of_builder same ∙ rw (kept, e) (cc),
           )

@@ -24,7 +24,7 @@ pub returns-then-not-has_primary_use-clause-taken : goal.returns-then-not-has_pr
 returns-then-not-has_primary_use-clause-taken c =
     left-out c.args.kind c.args.line.now c.requires.sound c.requires.started c.in_ok-option_line.ensures.uses
     c.has_primary_use.ensures c.deref.ensures.value (c.len-start.ensures ∙ items-length c.args.self.now.uses)
-    c.args.count _ refl _ c.in_ok-option_line.ensures.colours
+    c.args.count _ c.requires.started refl _ c.in_ok-option_line.ensures.colours
     (grind (arith, common_steps, written-back, items-length))
     (c.option_line.auto.marks ∙ ap length c.deref_mut.ensures.value ∙ c.requires.sound.marks)
     c.in_ok-option_line.ensures.unmarked c.if-not-has_primary_use.true c.truncate.ensures.items
@@ -41,7 +41,7 @@ pub returns-clause-taken : goal.returns-clause-taken
 returns-clause-taken c =
     taken c.args.kind c.args.line.now c.requires.sound c.requires.started c.in_ok-option_line.ensures.uses
     c.has_primary_use.ensures c.deref.ensures.value (c.len-start.ensures ∙ items-length c.args.self.now.uses)
-    c.args.count _ refl _ c.in_ok-option_line.ensures.colours
+    c.args.count _ c.requires.started refl _ c.in_ok-option_line.ensures.colours
     (grind (arith, common_steps, written-back, items-length))
     (c.option_line.auto.marks ∙ ap length c.deref_mut.ensures.value ∙ c.requires.sound.marks)
     c.in_ok-option_line.ensures.unmarked c.if-not-has_primary_use.false refl refl refl
