@@ -1,6 +1,6 @@
 -- What the tokens of an option line leave behind, one after another.
 use Rattle.std.proofs.Common.{◌≡◌, ℕ, ◌+◌, ◌-◌, ◌≤◌, List, [], ◌∷◌, ◌++◌, None, Bool, true, false, length, map, get_or}
-use Rattle.std.proofs.Common.{set, drop, All, ap, ◌∙◌, sym, subst, arith, length-append, length-set, append-nil}
+use Rattle.std.proofs.Common.{set, drop, All, ap, ◌∙◌, sym, arith, length-append, length-set, append-nil}
 use Rattle.std.proofs.Common.{append_assoc}
 use Rattle.std.proofs.lemmas.List.Elements.{All-push}
 use Rattle.std.proofs.lemmas.Grind.{common_steps}
@@ -14,8 +14,8 @@ use Rattle.xc_input.specs.inner.Sheets.{with_uses}
 use Rattle.xc_input.specs.inner.Stages.{token_checks, option_checks, written, context}
 use Rattle.xc_input.specs.inner.Builders.{AreMarks, AreDistinct, IsMarkable, items_of}
 use Rattle.xc_input.specs.inner.ColourNumbers.{numbered, use_behind}
-use Rattle.xc_input.proofs.OptionLemmas.Colours.{numbered_in_turn, in_turn, in_turn_more, with_more, in_turn_count}
-use Rattle.xc_input.proofs.OptionLemmas.Colours.{in_turn_items, colours_more}
+use Rattle.xc_input.proofs.OptionLemmas.Colours.{numbered-more, numbered-length, with_uses-append, colours_more}
+use Rattle.xc_input.proofs.lists.Filters.{map-map}
 use Rattle.xc_input.proofs.OptionLemmas.Marks.{mark, unmarked_count, unmarked-less}
 use Rattle.xc_input.proofs.OptionLemmas.OneToken.{token-step}
 
@@ -29,9 +29,9 @@ pub record IsBehind (kind : Kind) (names : List (List ℕ)) (primary : ℕ) (lin
   pub split : map (written names) line ≡ us ++ map (written names) rest
   pub count : length marks ≡ length names
   pub marked : AreMarks marks (items_of us)
-  pub markable : All (λ u. IsMarkable (length names) u.item) (numbered_in_turn met us)
+  pub markable : All (λ u. IsMarkable (length names) u.item) (numbered met us)
   pub few : length us + unmarked_count marks ≤ most_items
-  pub added : uses ≡ old ++ numbered_in_turn met us
+  pub added : uses ≡ old ++ numbered met us
   pub known : colours ≡ with_uses met us
   pub distinct : AreDistinct colours
   pub few_colours : length colours ≤ length uses
@@ -41,13 +41,11 @@ module _ {kind : Kind} {names : List (List ℕ)} {primary : ℕ} {line : List (L
   -- before the first token
   module _ {rest : List (List ℕ)} {marks : List Bool} {colours : List (List ℕ)} {uses : List Use}
       (b : IsBehind kind names primary line rest met old marks colours uses) where
-    uses_count : length uses ≡ length old + length b.us
-    uses_count = ap length b.added ∙ length-append old (numbered_in_turn met b.us)
-        ∙ ap (λ n. length old + n) (in_turn_count met b.us)
-
     -- there is a number for one colour more
     pub behind_few : length old ≤ most_uses → length colours ≤ most_uses + most_items
-    behind_few less = omega (arith, b.few_colours, uses_count, b.few, less)
+    behind_few less =
+        let count = length-append old (numbered met b.us) in
+        omega (arith, b.few_colours, ap length b.added, count, numbered-length met b.us, b.few, less)
 
     -- behind one token more
     pub behind_more : {token : List ℕ} {others : List (List ℕ)} {u : Written} {colours' : List (List ℕ)}
@@ -58,7 +56,7 @@ module _ {kind : Kind} {names : List (List ℕ)} {primary : ℕ} {line : List (L
         → IsBehind kind names primary line others met old (set marks (u.item - 1) true) colours' uses'
     behind_more {token} {others} {u} {colours'} {uses'} cut is within free more known distinct =
         let step = token-step kind names primary b.us token others is.0 in
-        let turn = in_turn_more met b.us u in
+        let turn = numbered-more met b.us u in
         let less = unmarked-less marks (u.item - 1) (omega (arith, within.0, within.1)) free in
         let new = use_behind (with_uses met b.us) u in
         record {
@@ -67,11 +65,11 @@ module _ {kind : Kind} {names : List (List ℕ)} {primary : ℕ} {line : List (L
           split = grind (arith, b.split, cut, is, append_assoc);
           count = length-set marks (u.item - 1) true ∙ b.count;
           marked = grind (arith, common_steps, mark, items_of, b.marked, within);
-          markable = rw turn (All-push (λ w. IsMarkable (length names) w.item) (numbered_in_turn met b.us) new
+          markable = rw turn (All-push (λ w. IsMarkable (length names) w.item) (numbered met b.us) new
               b.markable (within.0, omega (arith, within.1, b.count)));
           few = omega (arith, b.few, less, length-append b.us (u ∷ []));
-          added = grind (arith, more, b.added, b.known, turn, append_assoc old (numbered_in_turn met b.us) (new ∷ []));
-          known = grind (arith, with_more met b.us u);
+          added = grind (arith, more, b.added, b.known, turn, append_assoc old (numbered met b.us) (new ∷ []));
+          known = grind (arith, b.known, known, with_uses-append met b.us (u ∷ []));
           distinct = distinct;
           few_colours = grind (arith, b.few_colours, known, more, length-append, colours_more);
         }
@@ -82,11 +80,8 @@ module _ {kind : Kind} {names : List (List ℕ)} {primary : ℕ} {line : List (L
       behind_all = b.split ∙ ap (λ ts. b.us ++ map (written names) ts) none ∙ append-nil b.us
 
       pub all_added : uses ≡ old ++ numbered met (map (written names) line)
-      all_added = b.added ∙ ap (λ us. old ++ us) (in_turn met b.us) ∙ ap (λ us. old ++ numbered met us) (sym behind_all)
+      all_added = b.added ∙ ap (λ us. old ++ numbered met us) (sym behind_all)
 
     -- the uses of the line alone
-    late : drop (length old) uses ≡ numbered_in_turn met b.us
-    late = ap (drop (length old)) b.added ∙ drop-append_seam old (numbered_in_turn met b.us)
-
     pub late_marked : AreMarks marks (map (λ u. u.item) (drop (length old) uses))
-    late_marked = subst (AreMarks marks) (sym (ap (map (λ (u : Use). u.item)) late ∙ in_turn_items met b.us)) b.marked
+    late_marked = rw (b.added, drop-append_seam old (numbered met b.us), map-map) b.marked

@@ -15,7 +15,7 @@ use Rattle.xc_input.specs.declared.fault.FaultKind.TheVariants.{TooManyUses}
 use Rattle.xc_input.specs.Problem.{use_count}
 use Rattle.xc_input.specs.Limits.{most_uses}
 use Rattle.xc_input.specs.Tokens.{tokens, parts, is_bar, is_skipped}
-use Rattle.xc_input.specs.Sheets.{Entry, Written, with_colour, number_uses}
+use Rattle.xc_input.specs.Sheets.{Entry, Written, number_uses}
 use Rattle.xc_input.specs.Faults.{checks_of_each, item_names, part_checks, Context}
 use Rattle.xc_input.specs.Faults.{context_of, item_of, token_checks, has_primary}
 use Rattle.xc_input.specs.FirstFault.{line_number, content, kept_uses, option_checks, content_checks}
@@ -28,7 +28,7 @@ use Rattle.xc_input.specs.inner.Stages.{content_checks as stage_content}
 use Rattle.xc_input.proofs.FaultLemmas.BooleanTests.{by-test}
 use Rattle.xc_input.proofs.FaultLemmas.Checks.{names_of-snoc}
 use Rattle.xc_input.proofs.GrammarLemmas.ClearLines.{StandFor, AreClear, names-snoc}
-use Rattle.xc_input.proofs.OptionLemmas.Colours.{met, kept}
+use Rattle.xc_input.proofs.OptionLemmas.Colours.{with_uses-append, number-later}
 use Rattle.xc_input.proofs.OptionLemmas.Items.{before-cons, after-cons, no-bar}
 
 -- THE ITEM LINE
@@ -138,20 +138,6 @@ abbrev pub with_kept : Sheet → List (List Written) → Sheet
 with_kept sheet uss =
     let last = with_uses sheet.colours (flat uss) in
     record sheet { options = sheet.options ++ map (number_uses last) uss; colours = last }
-
-with_uses-append : (cs : List (List ℕ)) (us vs : List Written)
-    → with_uses cs (us ++ vs) ≡ with_uses (with_uses cs us) vs
-with_uses-append cs [] vs = refl
-with_uses-append cs (u ∷ us) vs = with_uses-append (with_colour cs u.colour) us vs
-
--- a colour of an option has one number behind it and behind all options
-number-later : (cs : List (List ℕ)) (us more : List Written)
-    → number_uses (with_uses cs (us ++ more)) us ≡ number_uses (with_uses cs us) us
-number-later cs [] more = refl
-number-later cs (u ∷ us) more =
-    let number = (kept (with_colour cs u.colour) (us ++ more) u.colour (met cs u.colour)).1
-    ∙ sym (kept (with_colour cs u.colour) us u.colour (met cs u.colour)).1 in
-    λ i. record { item = u.item; colour = number i } ∷ number-later (with_colour cs u.colour) us more i
 
 -- the sheet with one option more
 abbrev more : Sheet → List Written → Sheet

@@ -1,11 +1,11 @@
 -- What a source gave, piece after piece.
 use Rattle.std.proofs.lemmas.Bool.Decides.{nat_tests}
-use Rattle.std.proofs.Common.{◌≡◌, ℕ, ◌<◌, List, [], ◌∷◌, ◌++◌, Option, None, Some, Result, Ok, Err, IfSome, IfOk}
-use Rattle.std.proofs.Common.{IfErr, length, take, refl, ap, ◌∙◌, append_assoc, append-nil, arith, inl, inr}
+use Rattle.std.proofs.Common.{◌≡◌, ℕ, ◌<◌, List, [], ◌∷◌, ◌++◌, Some, Result, Ok, Err, IfOk}
+use Rattle.std.proofs.Common.{IfErr, length, refl, append_assoc, append-nil, arith, inl, inr}
 use Rattle.xc_input.proofs.LineLemmas.TextLines.{lines_of-all, last-of-part}
 use Rattle.xc_input.specs.inner.EndedLines.{ended}
 use Rattle.std.specs.Result.{result_err}
-use Rattle.std.specs.Io.KnownBytes.{Consumes, Keeps, IsAtEnd}
+use Rattle.std.specs.Io.KnownBytes.{Consumes, Keeps}
 use Rattle.std.proofs.lemmas.Grind.{common_steps, flat_map-append}
 use Rattle.xc_input.specs.Calls.{Rose}
 use Rattle.xc_input.specs.declared.kind.Kind.{Kind}

@@ -1,13 +1,12 @@
 -- A colour keeps the number that it has where it is met first.
 use Rattle.std.proofs.lemmas.Grind.{common_steps}
-use Rattle.std.proofs.Common.{◌≡◌, ℕ, suc, ◌+◌, ◌<◌, ◌≤◌, List, [], ◌∷◌, ◌++◌, Option, None, Some, Bool, true, false}
+use Rattle.std.proofs.Common.{◌≡◌, ℕ, ◌+◌, ◌<◌, ◌≤◌, List, [], ◌∷◌, ◌++◌, Option, None, Some, Bool, true, false}
 use Rattle.std.proofs.Common.{◌||◌, nat_le}
-use Rattle.std.proofs.Common.{length, map, take, append-nil, append_assoc, refl}
+use Rattle.std.proofs.Common.{length, take, append-nil, append_assoc, refl}
 use Rattle.std.proofs.Common.{sym, ap, ◌∙◌, length-append, arith}
-use Rattle.xc_input.specs.declared.problem.Use.{Use}
 use Rattle.std.proofs.lemmas.Bool.Decides.{nat_tests}
 use Rattle.std.proofs.lemmas.Slice.Eq.{bytes_eq-Decides}
-use Rattle.std.proofs.lemmas.List.{length-map}
+use Rattle.std.proofs.lemmas.List.{length-map, map-append}
 use Rattle.std.proofs.Math.Seq.{take-append_seam}
 use Rattle.std.specs.List.{list_any, position, position_or_len}
 use Rattle.std.specs.Str.{bytes_eq}
@@ -15,7 +14,6 @@ use Rattle.xc_input.specs.Words.{place}
 use Rattle.xc_input.specs.Sheets.{Written, with_colour, colour_number, number_uses}
 use Rattle.xc_input.specs.Faults.{has_primary}
 use Rattle.xc_input.specs.inner.Sheets.{with_uses}
-use Rattle.xc_input.specs.inner.Builders.{items_of}
 use Rattle.xc_input.specs.inner.ColourNumbers.{numbered, use_behind}
 use Rattle.xc_input.proofs.FaultLemmas.Checks.{no-place}
 
@@ -76,37 +74,24 @@ primary-numbered primary cs (u ∷ us) = ap (λ t. nat_le u.item primary || t) (
 pub numbered-length : (colours : List (List ℕ)) (us : List Written) → length (numbered colours us) ≡ length us
 numbered-length colours us = grind (arith, common_steps, length-map)
 
--- uses of an option that is kept, each numbered as soon as it is met, behind options that used these colours
-abbrev pub numbered_in_turn : List (List ℕ) → List Written → List Use
-numbered_in_turn colours [] = []
-numbered_in_turn colours (u ∷ us) = use_behind colours u ∷ numbered_in_turn (with_colour colours u.colour) us
+pub with_uses-append : (cs : List (List ℕ)) (us vs : List Written)
+    → with_uses cs (us ++ vs) ≡ with_uses (with_uses cs us) vs
+with_uses-append cs [] vs = refl
+with_uses-append cs (u ∷ us) vs = with_uses-append (with_colour cs u.colour) us vs
 
-pub in_turn : (cs : List (List ℕ)) (us : List Written) → numbered_in_turn cs us ≡ numbered cs us
-in_turn cs [] = refl
-in_turn cs (u ∷ us) =
-    let same = (kept (with_colour cs u.colour) us u.colour (met cs u.colour)).1 in
-    let later = in_turn (with_colour cs u.colour) us in
-    λ i. record { item = u.item; colour = sym same i } ∷ later i
+-- a colour of an option has one number behind it and behind all options
+pub number-later : (cs : List (List ℕ)) (us more : List Written)
+    → number_uses (with_uses cs (us ++ more)) us ≡ numbered cs us
+number-later cs [] more = refl
+number-later cs (u ∷ us) more =
+    let number = (kept (with_colour cs u.colour) (us ++ more) u.colour (met cs u.colour)).1
+    ∙ sym (kept (with_colour cs u.colour) us u.colour (met cs u.colour)).1 in
+    λ i. record { item = u.item; colour = number i } ∷ number-later (with_colour cs u.colour) us more i
 
 -- one use more
-pub in_turn_more : (cs : List (List ℕ)) (us : List Written) (u : Written)
-    → numbered_in_turn cs (us ++ u ∷ []) ≡ numbered_in_turn cs us ++ use_behind (with_uses cs us) u ∷ []
-in_turn_more cs [] u = refl
-in_turn_more cs (v ∷ us) u = ap (λ more. use_behind cs v ∷ more) (in_turn_more (with_colour cs v.colour) us u)
-
-pub with_more : (cs : List (List ℕ)) (us : List Written) (u : Written)
-    → with_uses cs (us ++ u ∷ []) ≡ with_colour (with_uses cs us) u.colour
-with_more cs [] u = refl
-with_more cs (v ∷ us) u = with_more (with_colour cs v.colour) us u
-
--- as many as there were, with the same items
-pub in_turn_count : (cs : List (List ℕ)) (us : List Written) → length (numbered_in_turn cs us) ≡ length us
-in_turn_count cs [] = refl
-in_turn_count cs (u ∷ us) = ap suc (in_turn_count (with_colour cs u.colour) us)
-
-pub in_turn_items : (cs : List (List ℕ)) (us : List Written) → map (λ u. u.item) (numbered_in_turn cs us) ≡ items_of us
-in_turn_items cs [] = refl
-in_turn_items cs (u ∷ us) = ap (λ is. u.item ∷ is) (in_turn_items (with_colour cs u.colour) us)
+pub numbered-more : (cs : List (List ℕ)) (us : List Written) (u : Written)
+    → numbered cs (us ++ u ∷ []) ≡ numbered cs us ++ use_behind (with_uses cs us) u ∷ []
+numbered-more cs us u = grind (arith, number-later cs us (u ∷ []), with_uses-append cs us (u ∷ []), map-append)
 
 -- at most one colour more
 pub colours_more : (cs : List (List ℕ)) (c : List ℕ) → length (with_colour cs c) ≤ length cs + 1

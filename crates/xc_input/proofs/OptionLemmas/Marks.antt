@@ -1,9 +1,8 @@
 -- Marks at the items of a line.
 use Rattle.std.proofs.lemmas.Grind.{common_steps}
-use Rattle.std.proofs.lemmas.List.{map-append}
 use Rattle.std.proofs.Math.Seq.{take-append_seam}
 use Rattle.std.proofs.Common.{◌≡◌, ℕ, zero, suc, ◌+◌, ◌-◌, ◌<◌, ◌≤◌, List, [], ◌∷◌, ◌++◌, Bool, true, false}
-use Rattle.std.proofs.Common.{true≢false, nat_eq, length, map, get_or, set, take, drop, All, refl, ap}
+use Rattle.std.proofs.Common.{true≢false, nat_eq, length, map, get_or, set, take, drop, refl, ap}
 use Rattle.std.proofs.Common.{arith, length-set, Some, position}
 use Rattle.std.proofs.lemmas.Bool.Decides.{nat_tests}
 use Rattle.std.proofs.Math.Bool.{or-true}
@@ -14,8 +13,7 @@ use Rattle.std.specs.List.{list_any}
 use Rattle.std.specs.Str.{bytes_eq}
 use Rattle.xc_input.proofs.OptionLemmas.Colours.{in-range}
 use Rattle.xc_input.specs.declared.problem.Use.{Use}
-use Rattle.xc_input.specs.Sheets.{Written}
-use Rattle.xc_input.specs.inner.Builders.{AreMarks, IsMarkable, items_of}
+use Rattle.xc_input.specs.inner.Builders.{AreMarks}
 
 -- one item more
 pub mark : (marks : List Bool) (seen : List ℕ) (i : ℕ) → AreMarks marks seen → 1 ≤ i → i ≤ length marks

@@ -1,8 +1,8 @@
 -- One token of an option line, for `use_of` and the loop of `option_line`.
 use Rattle.std.proofs.lemmas.Grind.{common_steps}
 use Rattle.std.proofs.Common.{arith, ◌<◌, ◌≤◌, ◌≡◌, ℕ, ◌+◌, List, [], ◌∷◌, ◌++◌, Option, None, Some, Bool, true, false}
-use Rattle.std.proofs.Common.{◌&&◌, nat_lt, nat_eq, map, refl, ◌∙◌, sym}
-use Rattle.std.proofs.Common.{length, drop, append_assoc}
+use Rattle.std.proofs.Common.{◌&&◌, nat_eq, refl}
+use Rattle.std.proofs.Common.{length, drop}
 use Rattle.std.proofs.lemmas.Bool.Decides.{nat_tests}
 use Rattle.std.specs.List.{list_any}
 use Rattle.xc_input.specs.declared.kind.Kind.{Kind}
@@ -12,7 +12,7 @@ use Rattle.xc_input.specs.declared.fault.FaultKind.TheVariants.{BadColour, Colou
 use Rattle.xc_input.specs.Words.{has, before, after, place}
 use Rattle.xc_input.specs.Sheets.{Written}
 use Rattle.xc_input.specs.Faults.{first, is_plain, is_bad_colour, name_checks}
-use Rattle.xc_input.specs.inner.Stages.{token_checks, option_checks, item_number, written, context}
+use Rattle.xc_input.specs.inner.Stages.{token_checks, option_checks, written, context}
 use Rattle.xc_input.specs.inner.Builders.{items_of}
 use Rattle.xc_input.specs.Named.{IsName}
 use Rattle.xc_input.proofs.FaultLemmas.FirstChecks.{first-back}
@@ -25,7 +25,6 @@ use Rattle.xc_input.specs.inner.CutTokens.{IsCutToken}
 use Rattle.xc_input.specs.inner.Builders.{AreMarks}
 use Rattle.xc_input.proofs.TokenLemmas.TableNames.{stored}
 use Rattle.xc_input.proofs.OptionLemmas.Marks.{mark-at}
-use Rattle.std.proofs.lemmas.Option.{MatchOption-at_none, MatchOption-at_some}
 use Rattle.xc_input.proofs.TokenLemmas.Separators.{COLON}
 
 pub none-after : (b : ℕ) (xs : List ℕ) → has b xs ≡ false → after b xs ≡ []

@@ -1,7 +1,7 @@
 -- What stands for a text is sound.
 use Rattle.std.proofs.lemmas.Grind.{common_steps}
 use Rattle.std.proofs.Common.{◌≡◌, ◌≢◌, ℕ, ◌+◌, ◌*◌, ◌-◌, ◌^◌, ◌<◌, ◌≤◌, List, [], ◌∷◌}
-use Rattle.std.proofs.Common.{Bool, true, false, nat_le, map, length, All, AllPairs}
+use Rattle.std.proofs.Common.{Bool, true, false, map, length, All, AllPairs}
 use Rattle.std.proofs.Common.{◌∙◌, sym, subst, arith, inl, inr, length-append}
 use Rattle.std.specs.Prelude.{flat_map}
 use Rattle.std.specs.List.{list_all, list_any, AllByRecursion as Each, before_first}
