@@ -64,11 +64,11 @@ none-of n None b e = grind (arith, nat_tests)
 none-of n (Some q) b e = absurd (cc)
 
 -- a text with no fault stands for what its lines give, and its items are those of an item line
-abbrev Stands : Kind → List (List ℕ) → Stage → Type 0
+abbrev pub Stands : Kind → List (List ℕ) → Stage → Type 0
 Stands kind lines st = AreItems kind st.sheet.entries st.sheet.primaries
     × StandsFor kind lines (named_of st.sheet) st.ignored
 
-stands : (kind : Kind) (lines : List (List ℕ)) → first_fault kind lines ≡ None → Stands kind lines (stage_of kind lines)
+pub stands : (kind : Kind) (lines : List (List ℕ)) → first_fault kind lines ≡ None → Stands kind lines (stage_of kind lines)
 stands kind lines e =
     let same = stage-by kind lines in
     let a = none-of (length lines) (line_fault kind lines) (stage_of kind lines).started
@@ -90,10 +90,6 @@ stands kind lines e =
 pub faultless-stands : (kind : Kind) (lines : List (List ℕ)) → first_fault kind lines ≡ None
     → StandsFor kind lines (named_of (stage_of kind lines).sheet) (stage_of kind lines).ignored
 faultless-stands kind lines e = (stands kind lines e).1
-
-pub faultless-items : (kind : Kind) (lines : List (List ℕ)) → first_fault kind lines ≡ None
-    → AreItems kind (stage_of kind lines).sheet.entries (stage_of kind lines).sheet.primaries
-faultless-items kind lines e = (stands kind lines e).0
 
 -- a text that stands for a problem has no fault, and this is what its lines give
 pub stands-only : (kind : Kind) (lines : List (List ℕ)) (named : Named) (ignored : List ℕ)

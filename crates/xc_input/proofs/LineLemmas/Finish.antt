@@ -11,12 +11,10 @@ use Rattle.xc_input.specs.declared.fault.InputError.{InputError}
 use Rattle.xc_input.specs.declared.fault.InputError.TheVariants.{Fault, Device, Memory}
 use Rattle.xc_input.specs.declared.builder.ProblemBuilder.{ProblemBuilder}
 use Rattle.std.proofs.lemmas.Option.{MatchOption-at_none}
-use Rattle.xc_input.proofs.GrammarLemmas.SheetGrammar.{named_of, AreItems}
+use Rattle.xc_input.proofs.GrammarLemmas.SheetGrammar.{named_of}
 use Rattle.xc_input.specs.FirstFault.{line_number, first_fault}
 use Rattle.xc_input.specs.declared.fault.FaultKind.TheVariants.{NoItems}
 use Rattle.xc_input.specs.inner.Stages.{Stage, stage_of}
-use Rattle.std.proofs.Common.{◌≤◌, All, drop}
-use Rattle.xc_input.specs.inner.Vectors.{IsOptional}
 use Rattle.xc_input.specs.Text.{StandsFor}
 use Rattle.xc_input.specs.Named.{Named, IsSound}
 use Rattle.xc_input.specs.inner.Builders.{IsBuilder, IsReadable, named_by, stage_of_builder, sheet_of_builder}
@@ -27,7 +25,7 @@ use Rattle.xc_input.proofs.LineLemmas.Reading.{ends-at, end-is}
 use Rattle.xc_input.proofs.ValidLemmas.SoundSheets.{item-names, behind-bounds}
 use Rattle.xc_input.proofs.ValidLemmas.ValidTexts.{sound}
 use Rattle.xc_input.proofs.FaultLemmas.FirstFaults.{end_fault}
-use Rattle.xc_input.proofs.FaultLemmas.FirstFaults.{faultless-stands, faultless-items, stands-only}
+use Rattle.xc_input.proofs.FaultLemmas.FirstFaults.{Stands, stands, stands-only}
 
 pub refutes : (kind : Kind) (lines : List (List ℕ)) (e : InputError) → IsEndOf kind lines e → e ≢ Memory
     → (p : Named) (ig : List ℕ) → StandsFor kind lines p ig → ⊥
@@ -59,44 +57,27 @@ module _ {v : Reading} {kind : Kind} {lines : List (List ℕ)} {o : Option Input
 
     pub no-items : d.started ≡ false → (count next : ℕ) → count ≡ line_number (length lines)
         → next ≡ min (count + 1) (2 ^ 64 - 1) → first_fault v.kind v.lines ≡ Some (next, NoItems)
-    no-items g count next c s =
-        let e : line_number (length lines + 1) ≡ next = omega (arith, c, s) in
-        ap (λ (r : Reading). first_fault r.kind r.lines) is ∙ ended g ∙ ap (λ m. Some (m, NoItems)) e
+    no-items g count next c s = grind (arith, common_steps, is, ended g)
 
     pub unstarted : d.started ≡ false → (p : Named) (ig : List ℕ) → StandsFor v.kind v.lines p ig → ⊥
-    unstarted g p ig s =
-        let none = (stands-only kind lines p ig (StandsFor-given s)).0 in
-        let some : first_fault kind lines ≡ end_fault (length lines) false = ended g in absurd (cc)
+    unstarted g p ig s = grind (arith, stands-only kind lines p ig (StandsFor-given s), ended g)
 
     pub alone : (p : Named) (ig : List ℕ) → StandsFor v.kind v.lines p ig → (p ≡ named_by d) × (ig ≡ d.ignored.items)
-    alone p ig s =
-        let q = stands-only kind lines p ig (StandsFor-given s) in (
-          q.1 ∙ ap (λ (st : Stage). named_of st.sheet) (sym whole.1) ∙ by-builder d,
-          q.2 ∙ ap (λ (st : Stage). st.ignored) (sym whole.1),
-        )
+    alone p ig s = grind (arith, stands-only kind lines p ig (StandsFor-given s), by-builder, whole)
 
     module _ (g : d.started ≡ true) where
-      items : (d.primary ≤ length d.items.items) × All IsOptional (drop d.primary d.items.items)
-      items = behind-bounds kind d.items.items
-          (subst (λ (st : Stage). AreItems kind st.sheet.entries st.sheet.primaries)
-          (sym whole.1) (faultless-items kind lines (ended g)))
-
-      stands : StandsFor kind lines (named_by d) d.ignored.items
-      stands = subst (λ p. StandsFor kind lines p d.ignored.items) (by-builder d)
-          (subst (λ (st : Stage). StandsFor kind lines (named_of st.sheet) st.ignored) (sym whole.1)
-          (faultless-stands kind lines (ended g)))
+      stood : Stands kind lines (stage_of_builder d)
+      stood = subst (Stands kind lines) (sym whole.1) (stands kind lines (ended g))
 
       pub accepts : StandsFor v.kind v.lines (named_by d) d.ignored.items
-      accepts = subst (λ (r : Reading). StandsFor r.kind r.lines (named_by d) d.ignored.items) (sym is) stands
+      accepts = rw (is, ← (by-builder d)) stood.1
 
       pub is-sound : AreWhole lines → IsSound (named_by d)
-      is-sound w = sound kind lines (named_by d) d.ignored.items stands w
+      is-sound w = sound kind lines (named_by d) d.ignored.items (StandsFor-given accepts) w
 
       pub readable : AreWhole lines → IsReadable d
-      readable w = record {
-        names = whole.0.names ∙ item-names d.items.items;
-        primary = items.0;
-        secondary = items.1;
-        starts = whole.0.starts g;
-        sound = is-sound w;
-      }
+      readable w =
+          let names = whole.0.names ∙ item-names d.items.items in
+          let items = behind-bounds kind d.items.items stood.0 in
+          let starts = whole.0.starts g in
+          let holds = is-sound w in search
