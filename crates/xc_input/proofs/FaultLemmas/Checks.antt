@@ -1,6 +1,6 @@
 -- Checks in their order, as `add_item`, `item_line` and `option_line` come to them.
 use Rattle.std.proofs.Common.{◌≡◌, ℕ, ◌<◌, ◌≤◌, List, [], ◌∷◌, ◌++◌, Option, None, Some, Bool, true, false}
-use Rattle.std.proofs.Common.{not, nat_lt, is_none, is_some, length, map, position, refl, ap, ◌∙◌, sym, subst}
+use Rattle.std.proofs.Common.{not, nat_lt, is_none, is_some, length, map, position, refl, ◌∙◌, sym, subst}
 use Rattle.std.proofs.Common.{arith, if◌then◌else◌, Result, Ok, Err, Vec, Global, vec_len}
 use Rattle.std.proofs.lemmas.Bool.Decides.{nat_tests}
 use Rattle.std.specs.List.{list_any, position_or_len}
@@ -15,7 +15,7 @@ use Rattle.xc_input.specs.declared.line_error.LineError.TheVariants.{Fault, Memo
 use Rattle.xc_input.specs.Words.{place}
 use Rattle.xc_input.specs.Sheets.{Entry}
 use Rattle.xc_input.specs.inner.Sheets.{names_of}
-use Rattle.xc_input.specs.Faults.{first, name_of, name_checks, bound_checks, item_checks}
+use Rattle.xc_input.specs.Faults.{first, name_checks, bound_checks, item_checks}
 use Rattle.xc_input.specs.inner.Stages.{entry}
 use Rattle.xc_input.specs.Limits.{most_items}
 use Rattle.xc_input.specs.declared.problem.Item.{Item}
@@ -23,7 +23,7 @@ use Rattle.xc_input.specs.inner.Builders.{Judged, entry_of}
 use Rattle.xc_input.specs.inner.Stored.{key_names}
 use Rattle.std.proofs.lemmas.Grind.{common_steps}
 use Rattle.xc_input.proofs.TokenLemmas.Bytes.{not_false, position-map}
-use Rattle.xc_input.proofs.FaultLemmas.FirstChecks.{first-front, first-back, alone, behind_name, past-name}
+use Rattle.xc_input.proofs.FaultLemmas.FirstChecks.{first-front, first-back, alone, past-name}
 -- by the name that other modules have for it
 pub use Rattle.std.proofs.lemmas.List.{map_push as map-snoc}
 
@@ -49,37 +49,31 @@ names_of-snoc es e = map-snoc (λ d. d.name) es e
 pub names_of-length : (es : List Entry) → length (names_of es) ≡ length es
 names_of-length es = length-map es (λ e. e.name)
 
--- a token of the item line, behind these entries
+-- a token of the item line, behind these entries, whose bounds have no fault
 module _ (kind : Kind) (entries : List Entry) (bar : Option ℕ) (token : List ℕ) {sec : Bool} (s : sec ≡ is_some bar)
-  where
-    module _ {name : List ℕ} {low high : ℕ} (t : (first (bound_checks kind sec token) ≡ None)
-        × (record { name = name; low = low; high = high } ≡ entry kind sec token)) where
-      behind : first (item_checks kind (names_of entries) (is_some bar) token) ≡ first (alone (names_of entries) name)
-      behind =
-          first-back (bound_checks kind (is_some bar) token) (alone (names_of entries) (name_of kind token))
-          (ap (λ b. first (bound_checks kind b token)) (sym s) ∙ t.0)
-          ∙ ap (λ (e : Entry). first (alone (names_of entries) e.name)) (sym t.1)
+    {name : List ℕ} {low high : ℕ} (t : (first (bound_checks kind sec token) ≡ None)
+    × (record { name = name; low = low; high = high } ≡ entry kind sec token)) {o : Option FaultKind}
+    (f : o ≡ first (name_checks name)) where
+  abbrev fault : Option FaultKind
+  fault = first (item_checks kind (names_of entries) (is_some bar) token)
 
-      module _ {o : Option FaultKind} (f : o ≡ first (name_checks name)) where
-        pub bad-name : {k : FaultKind} → o ≡ Some k
-            → first (item_checks kind (names_of entries) (is_some bar) token) ≡ Some k
-        bad-name {k} e = behind ∙ first-front (name_checks name) (behind_name (names_of entries) name) k (sym f ∙ e)
+  behind : fault ≡ first (alone (names_of entries) name)
+  behind = grind (arith, first-back)
 
-        module _ (e : o ≡ None) {keys : List (List ℕ)} (link : keys ≡ names_of entries) {at : Option ℕ}
-            (is : at ≡ place keys name) {b : Bool} (g : b ≡ is_some at) (h : b ≡ false) {n : ℕ} (l : n ≡ length entries)
-          where
-            past : first (item_checks kind (names_of entries) (is_some bar) token)
-                ≡ first ((TooManyItems, not (nat_lt n most_items)) ∷ [])
-            past = behind ∙ past-name (names_of entries) name (sym f ∙ e)
-                ∙ (let none = sym (ap (λ ns. place ns name) link) ∙ sym is ∙ none-is at (sym g ∙ h) in
-                rw (none, names_of-length entries ∙ sym l))
+  pub bad-name : {k : FaultKind} → o ≡ Some k → fault ≡ Some k
+  bad-name e = grind (arith, behind, first-front, name_checks)
 
-            pub too-many : 100000 ≤ n
-                → first (item_checks kind (names_of entries) (is_some bar) token) ≡ Some TooManyItems
-            too-many m = let full : nat_lt n most_items ≡ false = grind (arith, nat_tests) in past ∙ rw full
+  module _ (e : o ≡ None) {keys : List (List ℕ)} (link : keys ≡ names_of entries) {at : Option ℕ}
+      (is : at ≡ place keys name) {b : Bool} (g : b ≡ is_some at) (h : b ≡ false) {n : ℕ} (l : n ≡ length entries)
+    where
+      past : fault ≡ first ((TooManyItems, not (nat_lt n most_items)) ∷ [])
+      past = grind (arith, behind, past-name, none-is, names_of-length)
 
-            pub no-fault : n < 100000 → first (item_checks kind (names_of entries) (is_some bar) token) ≡ None
-            no-fault m = let room : nat_lt n most_items ≡ true = grind (arith, nat_tests) in past ∙ rw room
+      pub too-many : 100000 ≤ n → fault ≡ Some TooManyItems
+      too-many m = grind (arith, nat_tests, past)
+
+      pub no-fault : n < 100000 → fault ≡ None
+      no-fault m = grind (arith, nat_tests, past)
 
 found : {A : Type 0} (p : A → Bool) (xs : List A) → list_any p xs ≡ true → position_or_len p xs < length xs
 found p [] f = absurd (cc)
