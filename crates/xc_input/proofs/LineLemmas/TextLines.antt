@@ -74,31 +74,22 @@ Spoils-more kind bytes more all e f h =
     (sym (ap (λ bs. bs ++ others) f ∙ append_assoc bytes more others)) (h (more ++ others))
 
 -- the answer to a line that ends
-bytes-are : (old new : Reading) (carry end whole : List ℕ) → whole ≡ carry ++ end → new.lines ≡ old.lines ++ whole ∷ []
-    → (fed old carry ++ end) ++ 10 ∷ [] ≡ ended new.lines
-bytes-are old new carry end whole f g = grind (arith, nat_tests, append_assoc, ended-append)
-
 pub ends : (old new : Reading) (carry end whole left : List ℕ) (r : Result (Unit {0}) InputError) → IsBetween old carry
     → has 10 end ≡ false → whole ≡ carry ++ end → new.kind ≡ old.kind
     → new.lines ≡ old.lines ++ whole ∷ [] → new.error ≡ result_err r → IsStateOf new.kind new.lines (result_err r)
     → left ≡ [] → Ended old new carry end left r
 ends old new carry end whole left r b l f k g e s n =
-    by-result r e s
-    (whole-more old.lines new.lines whole g b.whole (ap (has 10) f ∙ lacks-append 10 carry end b.partial l))
+    let w = whole-more old.lines new.lines whole g b.whole (ap (has 10) f ∙ lacks-append 10 carry end b.partial l) in
+    by-result r e s w (grind (arith, nat_tests, append_assoc, ended-append))
   where
     by-result : (r : Result (Unit {0}) InputError) → new.error ≡ result_err r
-        → IsStateOf new.kind new.lines (result_err r) → AreWhole new.lines → Ended old new carry end left r
-    by-result (Ok x) e s w = record {
-      bytes = ap (λ xs. ended new.lines ++ xs) n ∙ append-nil (ended new.lines)
-          ∙ sym (bytes-are old new carry end whole f g);
-      state = record { no_error = e; no_fault = s; whole = w; partial = ap (has 10) n };
-      err = tt;
-    }
-    by-result (Err x) e s w = record {
+        → IsStateOf new.kind new.lines (result_err r) → AreWhole new.lines
+        → (fed old carry ++ end) ++ 10 ∷ [] ≡ ended new.lines → Ended old new carry end left r
+    by-result (Ok x) e s w a = grind (arith, append-nil)
+    by-result (Err x) e s w a = record {
       bytes = tt;
       state = tt;
-      err = subst (λ kind. Spoils kind ((fed old carry ++ end) ++ 10 ∷ []) x) k
-          (Spoils-ended new.kind new.lines x _ w (bytes-are old new carry end whole f g) s);
+      err = rw (← k) (Spoils-ended new.kind new.lines x _ w a s);
     }
 
 -- a piece of a line is carried on

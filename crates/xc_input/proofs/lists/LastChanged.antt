@@ -13,14 +13,9 @@ first_changed f (x ∷ xs) = f x ∷ xs
 last_changed : {X : Type 0} (f : X → X) (rs : List X) (r d : X) (n : ℕ) → n ≡ length rs
     → set (reverse (r ∷ rs)) n (f (get_or (reverse (r ∷ rs)) n d)) ≡ reverse (f r ∷ rs)
 last_changed f rs r d n h =
-    grind (
-      arith,
-      length-reverse rs,
-      reverse-append (r ∷ []) rs,
-      reverse-append (f r ∷ []) rs,
-      get_or-append_seam (reverse rs) r [] d,
-      set-append_seam (reverse rs) r [] (f r),
-    )
+    let old = reverse-append (r ∷ []) rs in
+    let new = reverse-append (f r ∷ []) rs in
+    grind (arith, length-reverse, get_or-append_seam (reverse rs) r [] d, set-append_seam (reverse rs) r [] (f r))
 
 turned_changed : {X : Type 0} (f : X → X) (rs : List X) (d : X) → 0 < length rs →
     reverse (set (reverse rs) (length (reverse rs) - 1) (f (get_or (reverse rs) (length (reverse rs) - 1) d))) ≡
