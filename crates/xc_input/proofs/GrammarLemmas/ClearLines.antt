@@ -5,11 +5,10 @@ use Rattle.std.proofs.Common.{not, nat_lt, nat_eq, length, map, refl, ap, ◌∙
 use Rattle.std.proofs.Common.{inl, inr, ◌||◌, append-nil}
 use Rattle.std.proofs.Math.Bool.{and-false, or-false}
 use Rattle.std.specs.Prelude.{◌↔◌}
-use Rattle.std.specs.Str.{bytes_eq}
 use Rattle.std.specs.Option.{option_map}
 use Rattle.std.specs.List.{AllByRecursion as Each, before_first, after_first, list_any}
 use Rattle.std.proofs.lemmas.Bool.Decides.{nat_tests}
-use Rattle.std.proofs.lemmas.Bool.{or_parts, or_from}
+use Rattle.std.proofs.lemmas.Bool.{or_parts}
 use Rattle.std.proofs.lemmas.List.{length-append, map_push as map-snoc, map-append}
 use Rattle.std.proofs.lemmas.List.Elements.{filter-append}
 use Rattle.std.proofs.lemmas.List.Folds.{list_any-append}
@@ -30,44 +29,28 @@ use Rattle.xc_input.specs.FirstFault.{line_checks, line_fault}
 use Rattle.xc_input.specs.Text.{IsEntry, IsUse}
 use Rattle.xc_input.specs.inner.Stages.{entry, token_checks, context, written, item_number}
 use Rattle.xc_input.proofs.FaultLemmas.BooleanTests.{by-test}
-use Rattle.xc_input.proofs.FaultLemmas.Checks.{some-is, no-place}
+use Rattle.xc_input.proofs.FaultLemmas.Checks.{some-is}
 use Rattle.xc_input.proofs.FaultLemmas.FirstChecks.{test, fails, none-append, clear-each}
 use Rattle.xc_input.proofs.GrammarLemmas.NoFault.{solid, cut-is, no-cut, cut-at, item-clear}
 use Rattle.xc_input.proofs.lists.EachElement.{each-append, each_front}
 use Rattle.xc_input.proofs.lists.EachTwo.{EachTwo}
-use Rattle.xc_input.proofs.OptionLemmas.Items.{before-cons, after-cons, no-bar, absent-is}
+use Rattle.xc_input.proofs.OptionLemmas.Items.{before-cons, after-cons, no-bar}
 use Rattle.xc_input.proofs.OptionLemmas.OneToken.{none-after, past-name}
 use Rattle.xc_input.proofs.TokenLemmas.Separators.{COLON}
 
 -- ONE ELEMENT MORE
 each-snoc : {X : Type 0} (P : X → Type 0) (xs : List X) (x : X) → Each P (xs ++ x ∷ []) ↔ (Each P xs × P x)
-each-snoc P xs x = (
-  λ a. (let b = each_front P xs (x ∷ []) a in (b.0, b.1.0)),
-  λ h. each-append P xs (x ∷ []) h.0 (h.1, tt),
-)
+each-snoc P xs x = grind (arith, each_front P xs (x ∷ []), each-append P xs (x ∷ []))
 
 two-snoc : {X : Type 0} (R : X → X → Type 0) (xs : List X) (x : X)
     → EachTwo R (xs ++ x ∷ []) ↔ (EachTwo R xs × Each (λ y. R y x) xs)
 two-snoc R [] x = (λ a. (tt, tt), λ h. (tt, tt))
-two-snoc R (y ∷ ys) x =
-    let r = two-snoc R ys x in
-    let e = each-snoc (R y) ys x in (
-      λ a. (let b = r.0 a.1 in let d = e.0 a.0 in ((d.0, b.0), (d.1, b.1))),
-      λ h. (e.1 (h.0.0, h.1.0), r.1 (h.0.1, h.1.1)),
-    )
+two-snoc R (y ∷ ys) x = grind (arith, each-snoc (R y) ys x, two-snoc R ys x)
 
--- each is unlike one where none passes the test for it
-none-like : {X : Type 0} (p : X → Bool) (x : X) → ((y : X) → (y ≢ x) ↔ (p y ≡ false)) → (ys : List X)
-    → Each (λ y. y ≢ x) ys ↔ (list_any p ys ≡ false)
-none-like p x d [] = (λ a. refl, λ e. tt)
-none-like p x d (y ∷ ys) = grind (arith, or_from, or_parts, none-like p x d ys)
-
+-- a name is unlike each where it has no place among them
 new-name : (ns : List (List ℕ)) (n : List ℕ) → Each (λ m. m ≢ n) ns ↔ (place ns n ≡ None)
-new-name ns n =
-    let like = bytes_eq-Decides n in
-    let r = none-like (bytes_eq n) n
-    (λ m. (λ d. grind (arith, nat_tests, like m), λ e. grind (arith, nat_tests, like m))) ns in
-    (λ a. absent-is (bytes_eq n) ns (r.0 a), λ e. r.1 (no-place (bytes_eq n) ns e))
+new-name [] n = grind (arith, nat_tests)
+new-name (m ∷ ns) n = grind (arith, nat_tests, bytes_eq-Decides n m, new-name ns n)
 
 -- THE ITEM LINE
 before-snoc : (ps : List (List ℕ)) (p : List ℕ) → before_first is_bar (ps ++ p ∷ [])
@@ -113,10 +96,8 @@ module _ (kind : Kind) (earlier : List (List ℕ)) (p : List ℕ) where
       ↔ (AreClearParts kind earlier × (first (part_checks kind earlier p) ≡ None))
   part-clear = rw (names-snoc kind earlier p) (by-test (is_bar p)
       (λ f. rw (before-snoc earlier p, after-snoc earlier p) (by-test barred
-      (λ b. rw (b, f) (
-        λ a. absurd (let e = no-bar kind p _ ((each-snoc _ (after_first is_bar earlier) p).0 a.0.1).1 in cc),
-        λ h. absurd (let e = h.1 in cc),
-      ))
+      (λ b. let s = each-snoc (λ p. IsEntry kind true p (entry kind true p)) (after_first is_bar earlier) p in
+      rw (b, f) (grind (arith, s, no-bar)))
       (λ b. rw (b, f) (simp append-nil (λ a. (a, refl), λ h. h.0)))))
       (λ f. let names = item_names kind earlier in
       let s = side-more f in
@@ -173,18 +154,12 @@ unseen c i (t ∷ ts) = grind (arith, or_parts, item_of, unseen c i ts)
 token-clear : (c : Context) (earlier : List (List ℕ)) (t : List ℕ) → AreClearTokens c (earlier ++ t ∷ [])
     ↔ (AreClearTokens c earlier × (first (checks_behind c earlier t) ≡ None))
 token-clear c earlier t =
-    let w : List Written = map (written c.names) earlier in
     let e = each-snoc (λ t. IsUse c t (written c.names t)) earlier t in
-    let d = two-snoc (λ u v. u.item ≢ v.item) w (written c.names t) in
+    let d = two-snoc (λ u v. u.item ≢ v.item) (map (written c.names) earlier) (written c.names t) in
     let new = unseen c (item_of c t) earlier in
-    rw (map-snoc (written c.names) earlier t) (
-      λ a. (let x = e.0 a.0 in let y = d.0 a.1 in (
-        (x.0, y.0),
-        (good-use c.kind c.names c.primaries (map (item_of c) earlier) t _ x.1 (new.0 y.1)).1,
-      )),
-      λ h. (let g = use-good c.kind c.names c.primaries (map (item_of c) earlier) t h.1 in
-          (e.1 (h.0.0, g.0), d.1 (h.0.1, new.1 g.1))),
-    )
+    let good = use-good c.kind c.names c.primaries (map (item_of c) earlier) t in
+    let clear = good-use c.kind c.names c.primaries (map (item_of c) earlier) t (written c.names t) in
+    rw (map-snoc (written c.names) earlier t) (grind (arith, e, d, new, good, clear))
 
 tokens-clear : (c : Context) (ts : List (List ℕ))
     → AreClearTokens c ts ↔ (first (checks_of_each (checks_behind c) [] ts) ≡ None)
@@ -205,10 +180,7 @@ option-clear c earlier line =
     let t = tokens-clear c (tokens line) in
     let n = none-append (checks_of_each (checks_behind c) [] (tokens line))
     ((TooManyUses, is_kept c line && nat_lt most_uses (kept_uses c earlier + length (tokens line))) ∷ []) in
-    let s = uses-snoc c earlier line in (
-      λ a. (let x = e.0 a.0 in ((x.0, grind (arith, nat_tests)), n.1 (t.0 x.1, grind (arith, nat_tests)))),
-      λ h. (let x = n.0 h.1 in (e.1 (h.0.0, t.1 x.0), grind (arith, nat_tests))),
-    )
+    let s = uses-snoc c earlier line in grind (arith, nat_tests)
 
 -- THE LINES
 -- lines with content, first the item line
@@ -218,12 +190,8 @@ AreClear kind (items ∷ os) = AreClearParts kind (parts items) × AreClearOptio
 
 content-clear : (kind : Kind) (done : List (List ℕ)) (line : List ℕ) → AreClear kind (done ++ line ∷ [])
     ↔ (AreClear kind done × (first (content_checks kind done line) ≡ None))
-content-clear kind [] line =
-    let p = parts-clear kind (parts line) in
-    (λ a. (tt, p.0 a.0), λ h. (p.1 h.1, (tt, omega arith)))
-content-clear kind (items ∷ os) line =
-    let o = option-clear (context_of kind (parts items)) os line in
-    (λ a. (let x = o.0 a.1 in ((a.0, x.0), x.1)), λ h. (h.0.0, o.1 (h.0.1, h.1)))
+content-clear kind [] line = grind (arith, parts-clear kind (parts line))
+content-clear kind (items ∷ os) line = grind (arith, option-clear (context_of kind (parts items)) os line)
 
 -- the checks of a line, behind lines with this content
 abbrev pub checks_of : Kind → List (List ℕ) → List ℕ → List (FaultKind × Bool)
@@ -246,13 +214,11 @@ AreClearLines kind lines = (list_any (has 0) lines ≡ false) × AreClear kind (
 line-clear : (kind : Kind) (earlier : List (List ℕ)) (line : List ℕ) → AreClearLines kind (earlier ++ line ∷ [])
     ↔ (AreClearLines kind earlier × (first (line_checks kind earlier line) ≡ None))
 line-clear kind earlier line =
+    let content_more = filter-append (λ l. not (is_skipped l)) earlier (line ∷ []) in
+    let nul_more = list_any-append (has 0) earlier (line ∷ []) in
     let n : ℕ = line_number (length earlier + 1) in
-    rw (
-      filter-append (λ l. not (is_skipped l)) earlier (line ∷ []),
-      list_any-append (has 0) earlier (line ∷ []),
-      first-numbered n (checks_of kind (content earlier) line),
-    ) (by-test (has 0 line)
-    (λ z. rw z (λ a. absurd (let e = or_parts _ true a.0 in let d = e.1 in cc), λ h. absurd (let e = h.1 in cc)))
+    rw (content_more, nul_more, first-numbered n (checks_of kind (content earlier) line)) (by-test (has 0 line)
+    (λ z. rw z (grind (arith, or_parts)))
     (λ z. by-test (is_skipped line)
     (λ f. rw (z, f) (simp (append-nil, or-false) (λ a. (a, refl), λ h. h.0)))
     (λ f. let c = content-clear kind (content earlier) line in

@@ -82,13 +82,8 @@ row-is : (kind : Kind) (es : List Entry) (ps : List (List ℕ)) → StandFor kin
 row-is kind es [] a = (sym (append-nil es), omega arith)
 row-is kind es (p ∷ ps) a = by-test (is_bar p)
     (λ f. grind (arith, common_steps, row-behind, after-cons, before-cons))
-    (λ f. let es' = es ++ entry kind false p ∷ [] in
-    let step : row_of kind (R es None) (p ∷ ps) ≡ row_of kind (R es' None) ps = rw f in
-    let r = row-is kind es' ps (rw (after-cons p ps false f) at a) in
-    rw (before-cons p ps false f, after-cons p ps false f) (
-      ap (λ (r : Row). r.entries) step ∙ r.0 ∙ append_assoc es (entry kind false p ∷ []) (items_in kind ps),
-      omega (arith, r.1, ap P step, length-append es (entry kind false p ∷ [])),
-    ))
+    (λ f. let r = row-is kind (es ++ entry kind false p ∷ []) ps (rw (after-cons p ps false f) at a) in
+    grind (arith, after-cons, before-cons, append_assoc, length-append))
 
 -- the items of the item line, before any option
 abbrev pub start : Kind → List ℕ → Sheet
@@ -149,12 +144,10 @@ more sheet us = record sheet {
 with_kept-more : (sheet : Sheet) (us : List Written) (uss : List (List Written))
     → with_kept (more sheet us) uss ≡ with_kept sheet (us ∷ uss)
 with_kept-more sheet us uss =
-    let last = sym (with_uses-append sheet.colours us (flat uss)) in
-    let here = sym (number-later sheet.colours us (flat uss)) in
-    let all = append_assoc sheet.options (numbered sheet.colours us ∷ [])
-    (map (number_uses (with_uses (with_uses sheet.colours us) (flat uss))) uss)
-    ∙ (λ i. sheet.options ++ here i ∷ map (number_uses (last i)) uss) in
-    λ i. record sheet { options = all i; colours = last i }
+    let last = with_uses-append sheet.colours us (flat uss) in
+    let here = number-later sheet.colours us (flat uss) in
+    cc (append_assoc sheet.options (numbered sheet.colours us ∷ []) (map (number_uses (with_uses sheet.colours (us
+    ++ flat uss))) uss))
 
 -- THE LINES
 -- behind the item line
@@ -182,13 +175,10 @@ stage-behind : (kind : Kind) (sheet : Sheet) (ignored : List ℕ) (ls : List (�
     → fold (with_content kind) (S sheet ignored) ls ≡ stage_behind kind sheet ignored ls
 stage-behind kind sheet ignored [] = grind (arith, append-nil)
 stage-behind kind sheet ignored (l ∷ ls) =
-    let c = said kind sheet in
     let us = written_by sheet l.1 in
-    let n = line_number l.0 in by-test (has_primary sheet.primaries us)
-    (λ g. rw g (stage-behind kind (more sheet us) ignored ls
-    ∙ ap (λ s. S s (ignored ++ ignored_in c ls)) (with_kept-more sheet us (kept_in c ls))))
-    (λ g. rw g (stage-behind kind sheet (ignored ++ n ∷ []) ls
-    ∙ ap (S (with_kept sheet (kept_in c ls))) (append_assoc ignored (n ∷ []) (ignored_in c ls))))
+    let with_one = with_kept-more sheet us (kept_in (said kind sheet) ls) in by-test (has_primary sheet.primaries us)
+    (λ g. rw g (grind (arith, stage-behind kind (more sheet us) ignored ls)))
+    (λ g. rw g (grind (arith, append_assoc, stage-behind kind sheet (ignored ++ line_number l.0 ∷ []) ls)))
 
 -- what all lines give, by those with content
 abbrev pub stage_by : Kind → List (ℕ × List ℕ) → Stage
@@ -224,19 +214,8 @@ kept-is c (t ∷ ts) = ap (λ b. nat_le (item_of c t) c.primaries || b) (kept-is
 pub kept-count : (c : Context) (ls : List (ℕ × List ℕ)) → kept_uses c (plain ls) ≡ length (flat (kept_in c ls))
 kept-count c [] = refl
 kept-count c (l ∷ ls) =
-    grind (
-      arith,
-      common_steps,
-      nat_tests,
-      written,
-      kept-is,
-      by-test,
-      length-append,
-      length-map,
-      sum_by-cons,
-      plain,
-      kept-count c ls,
-    )
+    let later = kept-count c ls in
+    grind (arith, common_steps, nat_tests, written, kept-is, by-test, length-append, length-map, sum_by-cons, plain)
 
 -- how many uses options have
 pub all-counted : (cs : List (List ℕ)) (uss : List (List Written))

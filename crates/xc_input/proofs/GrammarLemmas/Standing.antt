@@ -16,7 +16,8 @@ use Rattle.xc_input.specs.FirstFault.{kept_uses}
 use Rattle.xc_input.specs.Text.{IsEntry, IsOptionLine, StandsFor, AreOptions as HaveOptions}
 use Rattle.xc_input.specs.inner.Sheets.{names_of, with_uses}
 use Rattle.xc_input.specs.inner.Stages.{context, entry, written}
-use Rattle.xc_input.proofs.lists.EachTwo.{EachTwo, AllPairs-from_each_two, each_two_from_AllPairs}
+use Rattle.xc_input.proofs.lists.EachElement.{each_weaker, each-of}
+use Rattle.xc_input.proofs.lists.EachTwo.{AllPairs-from_each_two, each_two_from_AllPairs}
 use Rattle.xc_input.proofs.GrammarLemmas.NoFault.{known}
 use Rattle.xc_input.proofs.GrammarLemmas.ClearLines.{StandFor, AreClearTokens, AreClear, use-is}
 use Rattle.xc_input.proofs.GrammarLemmas.SheetGrammar.{bounds_in, named_of}
@@ -44,21 +45,15 @@ entries-are kind sec = zip-is (entry kind sec) (λ p e k. (known kind sec p e k)
 -- OPTION LINES
 lines-stand : (c : Context) (ls : List (ℕ × List ℕ)) → Each (λ line. AreClearTokens c (tokens line)) (plain ls)
     → AllZip (IsOptionLine c) ls (written_in c ls)
-lines-stand c [] a = tt
-lines-stand c (l ∷ ls) a = (
-  (refl, zip-each _ (written c.names) (tokens l.1) a.0.0, AllPairs-from_each_two _ _ a.0.1),
-  lines-stand c ls a.1,
-)
+lines-stand c ls a = zip-each (IsOptionLine c) _ ls (each_weaker _ _ ls
+    (λ l k. (refl, zip-each _ (written c.names) (tokens l.1) k.0, AllPairs-from_each_two _ _ k.1)) (each-of _ _ ls a))
 
 lines-are : (c : Context) (ls : List (ℕ × List ℕ)) (ws : List (ℕ × List Written)) → AllZip (IsOptionLine c) ls ws
     → (ws ≡ written_in c ls) × Each (λ line. AreClearTokens c (tokens line)) (plain ls)
 lines-are c [] [] z = (refl, tt)
 lines-are c (l ∷ ls) (w ∷ ws) z =
     let u = zip-is (written c.names) (use-is c) (tokens l.1) w.1 z.0.1 in
-    let r = lines-are c ls ws z.1 in (
-      λ i. (z.0.0 i, u.0 i) ∷ r.0 i,
-      ((u.1, subst (EachTwo _) u.0 (each_two_from_AllPairs _ w.1 z.0.2)), r.1),
-    )
+    grind (arith, u, each_two_from_AllPairs, lines-are c ls ws z.1)
 lines-are c ls ws z = absurd z
 
 -- THE TEXT
