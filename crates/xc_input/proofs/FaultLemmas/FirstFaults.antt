@@ -7,14 +7,14 @@ use Rattle.std.specs.List.{list_any, list_all}
 use Rattle.std.specs.Option.{option_map, option_or}
 use Rattle.xc_input.specs.declared.kind.Kind.{Kind}
 use Rattle.xc_input.specs.declared.fault.FaultKind.{FaultKind}
-use Rattle.xc_input.specs.declared.fault.FaultKind.TheVariants.{NoItems, NulByte}
+use Rattle.xc_input.specs.declared.fault.FaultKind.TheVariants.{NoItems}
 use Rattle.xc_input.specs.Words.{has}
 use Rattle.xc_input.specs.Tokens.{parts, is_skipped}
 use Rattle.xc_input.specs.Faults.{first}
-use Rattle.xc_input.specs.FirstFault.{line_number, content, content_checks, line_checks, line_fault, first_fault}
+use Rattle.xc_input.specs.FirstFault.{line_number, content, line_checks, line_fault, first_fault}
 use Rattle.xc_input.specs.Named.{Named}
 use Rattle.xc_input.specs.Text.{StandsFor}
-use Rattle.xc_input.specs.inner.Stages.{Stage, stage_of, line_checks as stage_checks, content_checks as stage_content}
+use Rattle.xc_input.specs.inner.Stages.{Stage, stage_of, line_checks as stage_checks}
 use Rattle.xc_input.proofs.FaultLemmas.BooleanTests.{by-test}
 use Rattle.xc_input.proofs.FaultLemmas.FirstChecks.{first-each}
 use Rattle.xc_input.proofs.GrammarLemmas.ClearLines.{AreClear, lines-clear, first-numbered, checks_of}
@@ -32,13 +32,10 @@ pub next-fault : (kind : Kind) (lines : List (List ℕ)) (line : List ℕ) → l
 next-fault kind lines line e =
     let same = plain-content 1 lines in
     let clear = subst (AreClear kind) same ((lines-clear kind lines).1 e).1 in
-    let checks = ap (λ ls. content_checks kind ls line) same
-    ∙ sym (content-checked kind (content_from 1 lines) line clear)
-    ∙ ap (λ (s : Stage). stage_content kind s line) (sym (stage-by kind lines)) in
-    first-each (line_checks kind) lines (line ∷ []) e ∙ ap first (append-nil (line_checks kind lines line))
-    ∙ first-numbered (line_number (length lines + 1)) (checks_of kind (content lines) line)
-    ∙ (λ i. option_map (λ k. (line_number (length lines + 1), k))
-    (first ((NulByte, has 0 line) ∷ (if is_skipped line then [] else checks i))))
+    let checks = content-checked kind (content_from 1 lines) line clear in
+    let now = first-each (line_checks kind) lines (line ∷ []) e in
+    let number = first-numbered (line_number (length lines + 1)) (checks_of kind (content lines) line) in
+    grind (arith, append-nil, stage-by)
 
 -- THE TEXT
 -- the fault of a text that ends without an item line
@@ -68,24 +65,22 @@ abbrev pub Stands : Kind → List (List ℕ) → Stage → Type 0
 Stands kind lines st = AreItems kind st.sheet.entries st.sheet.primaries
     × StandsFor kind lines (named_of st.sheet) st.ignored
 
-pub stands : (kind : Kind) (lines : List (List ℕ)) → first_fault kind lines ≡ None → Stands kind lines (stage_of kind lines)
+pub stands : (kind : Kind) (lines : List (List ℕ)) → first_fault kind lines ≡ None
+    → Stands kind lines (stage_of kind lines)
 stands kind lines e =
-    let same = stage-by kind lines in
     let a = none-of (length lines) (line_fault kind lines) (stage_of kind lines).started
     (sym (first_fault-is kind lines) ∙ e) in
     let clear = (lines-clear kind lines).1 a.0 in
-    subst (Stands kind lines) (sym same) (by-content clear.0 (content_from 1 lines) refl
-    (sym (ap (λ (st : Stage). st.started) same) ∙ a.1) (subst (AreClear kind) (plain-content 1 lines) clear.1))
+    rw (stage-by kind lines) (by-content (content_from 1 lines) clear.0 refl (rw stage-by at a.1)
+    (rw (plain-content 1 lines) at clear.1))
   where
-    by-content : list_any (has 0) lines ≡ false → (ls : List (ℕ × List ℕ)) → content_from 1 lines ≡ ls
+    by-content : (ls : List (ℕ × List ℕ)) → list_any (has 0) lines ≡ false → content_from 1 lines ≡ ls
         → (stage_by kind ls).started ≡ true → AreClear kind (plain ls) → Stands kind lines (stage_by kind ls)
-    by-content z [] d s h = absurd (cc)
-    by-content z (item ∷ rest) d s h =
-        let t = start-is kind item.1 h.0.0.1 in (
-          (parts item.1, h.0.0.1, t.0, t.1),
-          subst (λ (x : Named × List ℕ). StandsFor kind lines x.0 x.1) (sym (sheet-is kind item rest h.0.0.1))
-              (clear-stands kind item rest lines d z h),
-        )
+    by-content [] z d s h = absurd (cc)
+    by-content (item ∷ rest) z d s h =
+        let t = start-is kind item.1 h.0.0.1 in
+        let s = clear-stands kind item rest lines d z h in
+        ((parts item.1, h.0.0.1, t.0, t.1), grind (arith, sheet-is kind item rest h.0.0.1))
 
 pub faultless-stands : (kind : Kind) (lines : List (List ℕ)) → first_fault kind lines ≡ None
     → StandsFor kind lines (named_of (stage_of kind lines).sheet) (stage_of kind lines).ignored

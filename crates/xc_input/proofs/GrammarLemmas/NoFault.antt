@@ -6,7 +6,7 @@ use Rattle.std.proofs.Common.{inl, inr, ◌⊎◌}
 use Rattle.xc_input.specs.inner.BoundTexts.{low_text, high_text}
 use Rattle.std.specs.Char.{is_ascii_digit}
 use Rattle.std.proofs.lemmas.Bool.Decides.{nat_tests}
-use Rattle.std.proofs.lemmas.Bool.{or_parts, and_parts, not-false}
+use Rattle.std.proofs.lemmas.Bool.{or_parts, and_parts}
 use Rattle.std.proofs.Math.Bool.{and-false}
 use Rattle.xc_input.specs.declared.kind.Kind.{Kind}
 use Rattle.xc_input.specs.declared.fault.FaultKind.TheVariants.{EmptyName, NameTooLong, BadByteInName, RepeatedName}
@@ -99,11 +99,8 @@ module _ (kind : Kind) (sec : Bool) (token : List ℕ) where
       let both = none-append (bound_checks kind sec token) (alone names name) in (
         λ e. (let a = both.0 e in
             let no = fails (alone names name) a.1 in
-            let lt : nat_lt (length names) most_items ≡ true = not-false _ (no TooManyItems) in (
-              (solid name (no EmptyName) (no NameTooLong) (no BadByteInName), shape (has_prefix kind token) refl a.0),
-              grind (arith, nat_tests, no RepeatedName),
-              grind (arith, nat_tests),
-            )),
-        λ h. (let lt : nat_lt (length names) most_items ≡ true = grind (arith, nat_tests) in
-            both.1 ((known _ h.0).1, past-name names name (good-name name h.0.0) ∙ rw (h.1, lt))),
+            let is = shape (has_prefix kind token) refl a.0 in
+            let good = solid name (no EmptyName) (no NameTooLong) (no BadByteInName) in
+            ((good, is), grind (arith, nat_tests, no RepeatedName), grind (arith, nat_tests, no TooManyItems))),
+        λ h. both.1 ((known _ h.0).1, past-name names name (good-name name h.0.0) ∙ grind (arith, nat_tests)),
       )
