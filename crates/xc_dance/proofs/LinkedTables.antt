@@ -33,4 +33,3 @@ pub mod CommitLemmas
 pub mod Along
 pub mod PassedOptions
 pub mod ListedPlaces
-pub mod Written

@@ -135,12 +135,6 @@ name_used : (p : Puzzle) (i place x : ℕ) → IsName p i x → place ≡ link_p
 name_used p i place x (inl z) at other = absurd (other (at ∙ ap (link_place p i) z))
 name_used p i place x (inr h) at other = h
 
--- and so stands before the spacer behind it
-pub before_spacer : (p : Puzzle) (i place x : ℕ) → IsName p i x → place ≡ link_place p i x → place ≢ i
-    → place + 1 ≤ spacer_place p x
-before_spacer p i place x name at other =
-    let is = name_used p i place x name at other in omega (arith, at, (held_node p i x is.0 is.1).below)
-
 -- what TOP tells at q, which is not past the spacer behind the node at the place
 pub record Seeks (p : Puzzle) (i place : ℕ) (top : List ℕ) (q : ℕ) : Type 0 where
   pub within : q < length (layout p)

@@ -28,8 +28,3 @@ same_members n (x ∷ xs) (y ∷ ys) r s h =
     let same : x ≡ y = omega (arith, le, ge) in
     ap₂ (λ k ks. k ∷ ks) same (same_members x xs ys r.1 (subst (λ k. Rises k ys) (sym same) s.1) (λ z.
     let same = h z in grind (arith, common_steps, eqb-false, eqb-true, is_in-other, not_in)))
-
--- nothing passes
-pub none_in : (f : ℕ → Bool) (n : ℕ) (xs : List ℕ) → Rises n (filter f xs) → ((x : ℕ) → is_in x xs ≡ true → f x ≡ false)
-    → filter f xs ≡ []
-none_in f n xs r h = same_members n (filter f xs) [] r tt (λ x. in_filter f x xs ∙ grind (arith, common_steps))
