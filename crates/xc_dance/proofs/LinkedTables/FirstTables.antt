@@ -18,13 +18,12 @@ use Rattle.xc_input.specs.Problem.{Puzzle, item_count, option_count, primary_cou
 use Rattle.xc_input.specs.Problem.{AreSoundBounds}
 use Rattle.std.proofs.lemmas.List.{length-map, length-take-le, map-append}
 use Rattle.std.proofs.lemmas.Option.{slice_get_within}
-use Rattle.std.proofs.Math.Seq.{take-length}
-use Rattle.xc_dance.specs.inner.Links.FirstNodes.{filled, blanks, rows_of, no_rows, laid_to, with_row}
+use Rattle.xc_dance.specs.inner.Links.FirstNodes.{filled, blanks, rows_of, laid_to, with_row}
 use Rattle.xc_dance.proofs.Copied.{take_more-get}
 use Rattle.xc_dance.specs.declared.links.nodes.Row.{Row}
 use Rattle.xc_dance.specs.Fields.{Node, unused, own, spacer, layout, spacer_place, last_below, first_above, first_of}
 use Rattle.xc_dance.specs.Fields.{last_of, ring_of}
-use Rattle.xc_dance.specs.inner.Links.Cells.{top_in, ulink_in, dlink_in, color_in, fixed_up, fixed_down, nodes_from}
+use Rattle.xc_dance.specs.inner.Links.Cells.{top_in, ulink_in, dlink_in, color_in, fixed_up, fixed_down}
 use Rattle.xc_dance.specs.inner.Links.ItemCells.{llink_at, rlink_at}
 use Rattle.xc_dance.specs.inner.Links.FirstItems.{linked_to, bound_to}
 use Rattle.xc_dance.proofs.LinkedTables.PlaceLemmas.{head_is, place_next, range_get}
@@ -75,12 +74,6 @@ rows_more p ns n = grind (arith, common_steps, map-append)
 pub laid_more : (p : Puzzle) (k : ℕ) {n : Node} (r : Row) → slice_get (layout p) k ≡ Some n → r ≡ row_of p n
     → with_row (laid_to p k) r ≡ laid_to p (k + 1)
 laid_more p k {n} r e is = grind (arith, common_steps, rows_more, take_more-get)
-
-pub laid_none : (p : Puzzle) {c : ℕ} → c ≡ length (layout p) → no_rows c ≡ laid_to p 0
-laid_none p e = ap no_rows e
-
-pub laid_all : (p : Puzzle) → (laid_to p (length (layout p))).nodes ≡ nodes_from p blanks (color_in p [])
-laid_all p = ap (rows_of p) (take-length (layout p))
 
 -- there is room for the next one
 pub laid_room : (p : Puzzle) (k : ℕ) {n : Node} → slice_get (layout p) k ≡ Some n
