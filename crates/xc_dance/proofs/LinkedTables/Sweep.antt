@@ -1,7 +1,7 @@
 -- Lines: one member leaves or comes back, many leave from top to bottom, and what a move makes of the line of a list.
 use Rattle.std.proofs.Common.{◌≡◌, ◌≢◌, ℕ, ◌+◌, ◌<◌, ◌≤◌, Bool, true, false, not, ◌||◌, eqb, ltb, nat_lt, List, [], ◌∷◌}
 use Rattle.std.proofs.Common.{length, filter, fold, Some, None, refl, ap, sym, ◌∙◌, arith, eqb-true, eq-eqb, ne_eqb}
-use Rattle.std.proofs.Common.{lt-ltb, le-ltb, zero, suc, map, drop}
+use Rattle.std.proofs.Common.{lt-ltb, le-ltb, zero, suc, drop}
 use Rattle.std.specs.Prelude.{if◌then◌else◌, ◌-◌, ◌==◌, ◌&&◌, ◌++◌, Option, unwrap_or}
 use Rattle.std.specs.List.{last_or}
 use Rattle.std.proofs.lemmas.Grind.{common_steps}
@@ -17,6 +17,7 @@ use Rattle.xc_dance.proofs.MoveLemmas.Shortened.{rises_listed}
 use Rattle.xc_dance.specs.inner.Links.Lines.{Line}
 pub use Rattle.xc_dance.specs.inner.Lists.Rising.{Rises}
 pub use Rattle.xc_dance.proofs.MoveLemmas.ListLemmas.{Rises-weaker, Rises-filter}
+use Rattle.xc_dance.proofs.MoveLemmas.ListLemmas.{numbers}
 
 -- ---- how lines and colours change: a member leaves its item's list or comes back, one line or one colour is another
 
@@ -212,9 +213,6 @@ linked_by l a (y ∷ ys) r up down first last = grind (arith, common_steps, abov
 
 -- ---- lists shrink
 
-abbrev numbers_of : List Numbered → List ℕ
-numbers_of os = map (λ o. o.number) os
-
 pub stay_all : (xs : List ℕ) → stay (λ x. false) xs ≡ xs
 stay_all [] = refl
 stay_all (x ∷ xs) = ap (λ ys. x ∷ ys) (stay_all xs)
@@ -223,14 +221,14 @@ pub leave_none : (xs : List ℕ) → filter (λ (x : ℕ). false) xs ≡ []
 leave_none [] = refl
 leave_none (x ∷ xs) = leave_none xs
 
-in_filtered : (q : Numbered → Bool) (x : ℕ) (os : List Numbered) → is_in x (numbers_of (filter q os)) ≡ true
-    → is_in x (numbers_of os) ≡ true
+in_filtered : (q : Numbered → Bool) (x : ℕ) (os : List Numbered) → is_in x (numbers (filter q os)) ≡ true
+    → is_in x (numbers os) ≡ true
 in_filtered q x [] e = e
 in_filtered q x (o ∷ os) e = grind (arith, common_steps, in_filtered q x os)
 
-in_dropped : (x : ℕ) (os : List Numbered) → is_in x (numbers_of (drop 1 os)) ≡ true → is_in x (numbers_of os) ≡ true
+in_dropped : (x : ℕ) (os : List Numbered) → is_in x (numbers (drop 1 os)) ≡ true → is_in x (numbers os) ≡ true
 in_dropped x [] e = e
-in_dropped x (o ∷ os) e = in_more o.number x (numbers_of os) e
+in_dropped x (o ∷ os) e = in_more o.number x (numbers os) e
 
 -- an option of a list was in it before the move
 was_in : (p : Puzzle) (t : List Move) (m : Move) (i x : ℕ) → is_in x (listed_numbers p (m ∷ t) i) ≡ true

@@ -15,49 +15,50 @@ use Rattle.xc_dance.specs.declared.dance.Move.{Move}
 use Rattle.xc_dance.specs.declared.dance.Move.TheVariants.{Cover, Purify, Tweak, Spend}
 use Rattle.xc_dance.specs.Moves.{listed, is_open, without, is_among, other_colours, is_other_colour, AreLegal, agrees}
 use Rattle.xc_dance.specs.inner.Left.{left}
-use Rattle.xc_dance.proofs.MoveLemmas.OptionsRise.{NumbersRise, NumbersRise-weaker, NumbersRise-filter, options_rise}
+use Rattle.xc_dance.proofs.MoveLemmas.OptionsRise.{rises_filter, options_rise}
+use Rattle.xc_dance.proofs.MoveLemmas.ListLemmas.{Rises, Rises-weaker, numbers}
 
 -- ---- numbers that rise
 
-pub left_rises : (p : Puzzle) (t : List Move) → NumbersRise 0 (left p t)
-left_rises p [] = grind (arith, common_steps, NumbersRise-filter, options_rise)
-left_rises p (m ∷ t) = grind (arith, common_steps, NumbersRise-filter, left_rises p t)
+pub left_rises : (p : Puzzle) (t : List Move) → Rises 0 (numbers (left p t))
+left_rises p [] = grind (arith, common_steps, rises_filter, options_rise)
+left_rises p (m ∷ t) = grind (arith, common_steps, rises_filter, left_rises p t)
 
-above : (n : ℕ) (os : List Numbered) → NumbersRise n os → AllByRecursion (λ o. n < o.number) os
+above : (n : ℕ) (os : List Numbered) → Rises n (numbers os) → AllByRecursion (λ o. n < o.number) os
 above n [] r = tt
-above n (o ∷ os) r = (r.0, above n os (NumbersRise-weaker n o.number os (omega (arith, r.0)) r.1))
+above n (o ∷ os) r = (r.0, above n os (Rises-weaker n o.number (numbers os) (omega (arith, r.0)) r.1))
 
 -- an option below all of a list isn't in it
-not_among : (x : Numbered) (n : ℕ) (os : List Numbered) → x.number ≤ n → NumbersRise n os → is_among os x ≡ false
+not_among : (x : Numbered) (n : ℕ) (os : List Numbered) → x.number ≤ n → Rises n (numbers os) → is_among os x ≡ false
 not_among x n [] h r = refl
 not_among x n (o ∷ os) h r = grind (arith, common_steps, ne_eqb, not_among x o.number os (omega (arith, r.0)) r.1)
 
 -- an option below all of a list makes no difference there
-passed_over : (x : Numbered) (gone os : List Numbered) → NumbersRise x.number os
+passed_over : (x : Numbered) (gone os : List Numbered) → Rises x.number (numbers os)
     → without (x ∷ gone) os ≡ without gone os
-passed_over x gone os r = grind (arith, common_steps, filter_same, each_weaker, ne_eqb, above)
+passed_over x gone os r = grind (arith, common_steps, filter_same, each_weaker, ne_eqb, above x.number os r)
 
-pub without_filter : (q : Numbered → Bool) (n : ℕ) (os : List Numbered) → NumbersRise n os
+pub without_filter : (q : Numbered → Bool) (n : ℕ) (os : List Numbered) → Rises n (numbers os)
     → without (filter q os) os ≡ filter (λ o. not (q o)) os
 without_filter q n [] r = refl
 without_filter q n (x ∷ os) r =
-    grind (arith, eq-eqb, passed_over, not_among, NumbersRise-filter, without_filter q x.number os r.1)
+    grind (arith, eq-eqb, passed_over, not_among, rises_filter, without_filter q x.number os r.1)
 
-pub without_first : (n : ℕ) (os : List Numbered) → NumbersRise n os → without (take 1 os) os ≡ drop 1 os
+pub without_first : (n : ℕ) (os : List Numbered) → Rises n (numbers os) → without (take 1 os) os ≡ drop 1 os
 without_first n [] r = refl
 without_first n (x ∷ os) r = grind (arith, common_steps, eq-eqb, passed_over, keep_all, each_of_all)
 
 -- ---- the lists
 
 -- two filters of the options left: what passes q goes from those that hold i
-gone : (q : Numbered → Bool) (i : ℕ) (os : List Numbered) → NumbersRise 0 os
+gone : (q : Numbered → Bool) (i : ℕ) (os : List Numbered) → Rises 0 (numbers os)
     → without (filter q os) (holding i os) ≡ holding i (filter (λ o. not (q o)) os)
 gone q i os r = filter_swap _ _ os ∙ ap (holding i) (without_filter q 0 os r)
 
 agree_test : (c : ℕ) (o : Option ℕ) → 0 < c → not (is_some o && is_other_colour c o) ≡ agrees c o
 agree_test c o h = grind (arith, common_steps, lt-ltb)
 
-purified_gone : (i j c : ℕ) (os : List Numbered) → 0 < c → NumbersRise 0 os
+purified_gone : (i j c : ℕ) (os : List Numbered) → 0 < c → Rises 0 (numbers os)
     → without (other_colours j c (holding j os)) (holding i os) ≡ holding i (filter (λ o. agrees c (colour_at o j)) os)
 purified_gone i j c os h r =
     let gone = gone (λ o. holds o j && is_other_colour c (colour_at o j)) i os r in
@@ -74,7 +75,7 @@ listed_open p (Tweak j ∷ t) legal i opened = elim (eqb_tells i j) [
   | inl same ↦
       let j_open : is_open j t ≡ true = ap (λ k. is_open k t) (sym same.1) ∙ opened in
       rw (same.0, j_open, same.1) (ap (drop 1) (listed_open p t legal.1 j j_open)
-      ∙ sym (without_first 0 (holding j (left p t)) (NumbersRise-filter _ 0 _ (left_rises p t)))
+      ∙ sym (without_first 0 (holding j (left p t)) (rises_filter _ 0 _ (left_rises p t)))
       ∙ filter_swap _ _ (left p t))
   | inr other ↦
       let at_i = listed_open p t legal.1 i opened in

@@ -14,7 +14,7 @@ use Rattle.xc_input.specs.Problem.{Puzzle, Numbered, uses_of, item_count, colour
 use Rattle.xc_input.proofs.lists.EachElement.{each-filter, each_both, each_passes, each-map, each_weaker, each_of_all}
 use Rattle.xc_input.proofs.lists.Filters.{keep_all}
 use Rattle.std.proofs.lemmas.List.{same_lists, length-map, length-set, get_or-set_same, get_or-set_other}
-use Rattle.xc_dance.proofs.MoveLemmas.OptionsRise.{NumbersRise, NumbersRise-weaker, NumbersRise-filter, options_rise}
+use Rattle.xc_dance.proofs.MoveLemmas.OptionsRise.{rises_filter, options_rise}
 use Rattle.xc_dance.proofs.MoveLemmas.OptionsRise.{options_numbered}
 use Rattle.xc_dance.specs.declared.dance.Move.{Move}
 use Rattle.xc_dance.specs.declared.dance.Move.TheVariants.{Cover, Purify, Tweak}
@@ -22,7 +22,7 @@ use Rattle.xc_dance.specs.Moves.{is_open, is_among, without, other_colours, list
 use Rattle.xc_dance.specs.inner.Lists.Rising.{Rises}
 use Rattle.xc_dance.specs.inner.Lists.Taking.{less, list_at}
 use Rattle.xc_dance.specs.inner.Lists.Losing.{lose_from, lose, has_use, is_kept, AreListsFrom, AreLists, lists_after}
-use Rattle.xc_dance.proofs.MoveLemmas.ListLemmas.{each_listed, numbers}
+use Rattle.xc_dance.proofs.MoveLemmas.ListLemmas.{each_listed, numbers, Rises-weaker}
 use Rattle.xc_dance.proofs.LiveLists.Removal.{less-remove}
 use Rattle.xc_dance.proofs.LiveLists.OptionsLost.{lose_other, length-lose_from, lists-lose_from}
 
@@ -43,14 +43,9 @@ holders p t i = each_listed (AllByRecursion (IsHolder p i)) p i
 
 -- ---- the lists rise
 
-numbers_rise : (n : ℕ) (os : List Numbered) → NumbersRise n os → Rises n (numbers os)
-numbers_rise n [] r = tt
-numbers_rise n (o ∷ os) r = (r.0, numbers_rise o.number os r.1)
-
 pub rises_listed : (p : Puzzle) (t : List Move) (i : ℕ) → Rises 0 (listed_numbers p t i)
-rises_listed p t i = numbers_rise 0 (listed p t i) (each_listed (NumbersRise 0) p i
-    (NumbersRise-filter _ 0 _ (options_rise p)) (λ q xs r. NumbersRise-filter q 0 xs r)
-    (λ xs r. grind (arith, common_steps, NumbersRise-weaker)) t)
+rises_listed p t i = each_listed (λ os. Rises 0 (numbers os)) p i (rises_filter _ 0 _ (options_rise p))
+    (λ q xs r. rises_filter q 0 xs r) (λ xs r. grind (arith, common_steps, Rises-weaker)) t
 
 -- ---- the lists of all items
 
