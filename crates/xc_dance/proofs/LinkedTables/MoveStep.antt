@@ -145,7 +145,7 @@ move_step {p} t {spans} (Purify i c) legal may f =
     grind (arith, common_steps, purify_made p t spans i c legal f (omega (arith, may.0.0)) may.0.1 may.1)
 move_step {p} t {spans} (Tweak i) legal may f =
     let pos : 0 < i = omega (arith, may.0.0) in
-    let w = tweak_made p t spans (is_covered i t) i legal f pos may.0.1 may.2 (open_or_covered i t may.1) in
+    let w = tweak_made p t spans (is_covered i t) i legal f (open_or_covered i t may.1) pos may.0.1 may.2 in
     let still = still_items p t (Tweak i) (λ q. refl) (λ q. refl) in
     grind (arith, common_steps, off_is p (Tweak i ∷ t) i (may, legal) pos may.0.1, off_is p t i legal pos may.0.1)
 move_step {p} t {spans} (Spend i) legal may f =

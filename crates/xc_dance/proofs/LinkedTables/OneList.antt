@@ -16,7 +16,6 @@ use Rattle.xc_dance.specs.inner.Links.Laid.{Placed, IsLaid}
 use Rattle.xc_dance.specs.declared.links.nodes.Nodes.{Nodes}
 use Rattle.xc_dance.specs.inner.Links.Span.{Span}
 use Rattle.xc_dance.specs.inner.Lists.Losing.{is_kept}
-use Rattle.xc_dance.specs.inner.Links.Others.{HasSpans}
 use Rattle.xc_dance.proofs.LinkedTables.LinkColumns.{get_map, map_put, same_nodes, written_back, get_up}
 use Rattle.xc_dance.proofs.LinkedTables.LinkColumns.{get_down, same_at}
 use Rattle.xc_dance.proofs.LinkedTables.Sweep.{is_slot, with_color, in_more, Rises, in_above, cut, IsLinkedFrom}
@@ -24,7 +23,7 @@ use Rattle.xc_dance.proofs.LinkedTables.Sweep.{other_items, is_in-first}
 use Rattle.xc_dance.proofs.LinkedTables.GoodLines.{Named}
 use Rattle.xc_dance.proofs.LinkedTables.OneOption.{is_mark, left_one, left_all, AreReady, walked}
 use Rattle.xc_dance.proofs.LinkedTables.OneOption.{all_other, gone_count}
-use Rattle.xc_dance.proofs.LinkedTables.Spacers.{Turns, turns}
+use Rattle.xc_dance.proofs.LinkedTables.Spacers.{Turns, turns, gone_from}
 use Rattle.xc_dance.specs.declared.links.nodes.TheConstants.{MARK}
 use Rattle.xc_dance.proofs.LinkedTables.OneOption.{all_at}
 use Rattle.xc_dance.proofs.LinkedTables.OtherItems.{OtherItem, leaves, left_by, left_list, other_item}
@@ -155,20 +154,17 @@ no_mark None v e = refl
 no_mark (Some c) v e = e
 
 -- any other one is hidden, and comes back
-hide_step : (p : Puzzle) (now : Node → ℕ) (spans : List Span) (keep : Option ℕ) (ln : ℕ → Line) (i o : ℕ)
-    → HasSpans p spans → Placed p i o → 0 < o → Named p i o → is_kept_colour keep (own_color p now i o) ≡ false
-    → eqb (own_color p now i o) MARK ≡ false → Turns p ln now spans o i
-    → OneStep spans keep (nodes_from p ln now) (nodes_from p (left_all p now o ln (other_items p o i)) now) (link_place
-    p i o) (3 * gone_count p now i o)
-hide_step p now spans keep ln i o spanned h pos named other unmarked s =
-    let within = slice_get_within (layout p) (link_place p i o) h.node h.at in
-    let span = spanned.within o i pos named in
-    let no = no_mark keep (own_color p now i o) unmarked in
+hide_step : {spans : List Span} (keep : Option ℕ) {t u : Nodes} {x n : ℕ} → x < length spans → x < length t.color
+    → u.color ≡ t.color → is_kept_colour keep (get_or t.color x 0) ≡ false → eqb (get_or t.color x 0) MARK ≡ false
+    → Turns spans t u x n → OneStep spans keep t u x n
+hide_step keep {t} {u} {x} span within same other unmarked s =
+    let no : is_kept_mark keep (get_or u.color x 0) ≡ false = rw same (no_mark keep (get_or t.color x 0) unmarked) in
     grind (arith, common_steps)
 
 -- an option whose other items are ready is hidden and comes back
 pub turns_ready : (p : Puzzle) (ln : ℕ → Line) (col : Node → ℕ) (spans : List Span) (o i : ℕ) → IsFitted p spans → 0 < o
-    → Named p i o → AreReady p col ln o (other_items p o i) → Turns p ln col spans o i
+    → Named p i o → AreReady p col ln o (other_items p o i)
+    → Turns spans (nodes_from p ln col) (gone_from p ln col o i) (link_place p i o) (3 * gone_count p col i o)
 turns_ready p ln col spans o i f pos named ready = search (arith, turns, walked, others_apart)
 
 -- ---- the walk
@@ -254,6 +250,7 @@ module _ (p : Puzzle) (col : Node → ℕ) (spans : List Span) (i : ℕ) (keep :
             let now_same : (j : ℕ) → is_in j js ≡ true → own_color p now j o ≡ own_color p col j o =
             grind (arith, common_steps, ne_eqb) in
             let alike = same_now p col now o ln js now_same in
+            let at = slice_get_within (layout p) (link_place p i o) here.node here.at in
             let ready : AreReady p now ln o js = λ j in_js. let k = other j in_js in record {
               item = k.item;
               named = k.named;
@@ -263,8 +260,8 @@ module _ (p : Puzzle) (col : Node → ℕ) (spans : List Span) (i : ℕ) (keep :
                   h.member o (is_in-first o xs) lv (grind (arith, common_steps, h.enough));
             } in
             let s =
-            hide_step p now spans keep ln i o f.spanned here o_pos own.named (test ∙ e)
-            (ap (λ v. eqb v MARK) same ∙ own.unmarked) (turns_ready p ln now spans o i f o_pos own.named ready) in
+            hide_step keep (f.spanned.within o i o_pos own.named) (omega (arith, at, length-map (layout p) now)) refl
+            (test ∙ e) (ap (λ v. eqb v MARK) same ∙ own.unmarked) (turns_ready p ln now spans o i f o_pos own.named ready) in
             let R : (ℕ → Line) → ℕ → Type 0 = λ m n. OneStep spans keep (nodes_from p ln now) (nodes_from p m now)
             (link_place p i o) (3 * n) in
             subst (λ (m : ℕ → Line). R m (gone_count p col i o)) alike.0

@@ -33,33 +33,30 @@ spacer_in : (p : Puzzle) (ln : ℕ → Line) (col : Node → ℕ) (z n : ℕ) �
     → IsSpacer (nodes_from p ln col) z
 spacer_in p ln col z n e = grind (arith, common_steps, get_map, length-map, size_from, slice_get_within)
 
--- option o is unhidden from the lines ln to the lines end
-pub record Unhides (p : Puzzle) (col : Node → ℕ) (spans : List Span) (o i : ℕ) (ln end : ℕ → Line) : Type 0 where
-  pub can : CanUnhideNode spans (nodes_from p ln col) (link_place p i o)
-  pub done : unhidden_node spans (nodes_from p ln col) (link_place p i o) ≡ nodes_from p end col
-  pub cost : unhide_costs (nodes_from p ln col) (reverse (others_of spans (link_place p i o)))
-      ≡ 3 * gone_count p col i o
+-- the option of node x is unhidden from the table t to u, which writes n cells
+pub record Unhides (spans : List Span) (t u : Nodes) (x n : ℕ) : Type 0 where
+  pub can : CanUnhideNode spans t x
+  pub done : unhidden_node spans t x ≡ u
+  pub cost : unhide_costs t (reverse (others_of spans x)) ≡ n
+
+-- it is hidden, and comes back
+pub record Turns (spans : List Span) (t u : Nodes) (x n : ℕ) : Type 0 where
+  pub can : CanHideNode spans t x
+  pub done : hidden_node spans t x ≡ u
+  pub cost : hide_costs t (others_of spans x) ≡ n
+  pub back : Unhides spans u t x n
 
 -- the table once the option has left the lists of its items but i
 abbrev pub gone_from : Puzzle → (ℕ → Line) → (Node → ℕ) → ℕ → ℕ → Nodes
 gone_from p ln col o i = nodes_from p (left_all p col o ln (other_items p o i)) col
-
--- an option is hidden and comes back
-pub record Turns (p : Puzzle) (ln : ℕ → Line) (col : Node → ℕ) (spans : List Span) (o i : ℕ) : Type 0 where
-  pub hide : CanHideNode spans (nodes_from p ln col) (link_place p i o)
-  pub unhide : CanUnhideNode spans (gone_from p ln col o i) (link_place p i o)
-  pub done : hidden_node spans (nodes_from p ln col) (link_place p i o) ≡ gone_from p ln col o i
-  pub undone : unhidden_node spans (gone_from p ln col o i) (link_place p i o) ≡ nodes_from p ln col
-  pub cost : hide_costs (nodes_from p ln col) (others_of spans (link_place p i o)) ≡ 3 * gone_count p col i o
-  pub cost_back : unhide_costs (gone_from p ln col o i) (reverse (others_of spans (link_place p i o)))
-      ≡ 3 * gone_count p col i o
 
 -- the steps of unhide at the nodes of its other items lead there: the spacer is met once those before item i's are back
 pub unhides : (p : Puzzle) (col : Node → ℕ) (spans : List Span) (o i : ℕ) → HasSpans p spans → 0 < o → Named p i o
     → (R : (ℕ → Line) → (ℕ → Line) → ℕ → Type 0) → ((a b : ℕ → Line) (j : ℕ) → R a b j
     → CanUnhide (nodes_from p a col) (link_place p j o)
     × (unhidden (nodes_from p a col) (link_place p j o) ≡ nodes_from p b col))
-    → (ln end : ℕ → Line) → Way R ln (reverse (other_items p o i)) end → Unhides p col spans o i ln end
+    → (ln end : ℕ → Line) → Way R ln (reverse (other_items p o i)) end
+    → Unhides spans (nodes_from p ln col) (nodes_from p end col) (link_place p i o) (3 * gone_count p col i o)
 unhides p col spans o i spanned pos named R each ln end w =
     let table : (ℕ → Line) → Nodes = λ m. nodes_from p m col in
     let place : ℕ → ℕ = λ j. link_place p j o in
@@ -90,7 +87,7 @@ unhides p col spans o i spanned pos named R each ln end w =
 
 pub turns : (p : Puzzle) (ln : ℕ → Line) (col : Node → ℕ) (spans : List Span) (o i : ℕ) → HasSpans p spans → 0 < o
     → Named p i o → Way (Hides p col o) ln (other_items p o i) (left_all p col o ln (other_items p o i))
-    → Turns p ln col spans o i
+    → Turns spans (nodes_from p ln col) (gone_from p ln col o i) (link_place p i o) (3 * gone_count p col i o)
 turns p ln col spans o i spanned pos named w =
     let R = Hides p col o in
     let table : (ℕ → Line) → Nodes = λ m. nodes_from p m col in
@@ -106,19 +103,16 @@ turns p ln col spans o i spanned pos named w =
     let others = others_are p spans o i spanned pos named in
     let met : fold hidden (table ln) (places (link_place p i o + 1) z) ≡ table parts.0 =
     ap (fold hidden (table ln)) s.behind ∙ first.1 in
-    let back = unhides p col spans o i spanned pos named (λ a b. R b a) (λ a b x s. (s.back, s.undone)) end ln
-    (way_back R ln js end w) in
     record {
-      hide = record {
+      can = record {
         steps = subst (CanHideAll (table ln)) (sym others) whole.0;
         within = s.below;
         near = omega (arith, slice_get_within (layout p) z _ s.last, spanned.near);
         spacer = subst (λ (u : Nodes). IsSpacer u z) (sym met) (spacer_in p parts.0 col z o s.last);
         first = ap (λ (u : Nodes). get_or u.ulink z 0) met ∙ get_map (ulink_in p parts.0) (layout p) z _ s.last ∙ s.up;
       };
-      unhide = back.can;
       done = ap (fold hidden (table ln)) others ∙ whole.1;
-      undone = back.done;
       cost = grind (arith, common_steps, costs-are, hidden_color, others_are, unmarked_items);
-      cost_back = back.cost;
+      back = unhides p col spans o i spanned pos named (λ a b. R b a) (λ a b x s. (s.back, s.undone)) end ln
+          (way_back R ln js end w);
     }

@@ -1,6 +1,6 @@
 -- Tweak: from the node table after moves to that after one move more, and back.
 use Rattle.std.proofs.Common.{◌≡◌, ◌≢◌, ℕ, ◌+◌, ◌*◌, ◌<◌, ◌≤◌, Bool, true, false, not, cond, eqb, List, [], ◌∷◌}
-use Rattle.std.proofs.Common.{length, filter, get_or, reverse, refl, ap, sym, subst, ◌∙◌, arith, eqb-true, eq-eqb}
+use Rattle.std.proofs.Common.{length, filter, get_or, refl, ap, sym, subst, ◌∙◌, arith, eqb-true, eq-eqb}
 use Rattle.std.proofs.Common.{ne_eqb, ◌&&◌, ◌||◌}
 use Rattle.std.proofs.lemmas.Grind.{common_steps}
 use Rattle.std.specs.List.{AllByRecursion}
@@ -14,9 +14,8 @@ use Rattle.xc_input.specs.Problem.{Puzzle, item_count}
 use Rattle.xc_dance.specs.Moves.{listed, is_open, AreLegal, listed_numbers}
 use Rattle.xc_dance.specs.Fields.{Node, unused, own, layout, link_place, first_of, is_in}
 use Rattle.xc_dance.specs.inner.Links.Lines.{Line}
-use Rattle.xc_dance.specs.inner.Links.Steps.{HasSize, NamesPlaces, unlinked, relinked, others_of, CanHideNode}
-use Rattle.xc_dance.specs.inner.Links.Steps.{CanUnhideNode, hide_costs, unhide_costs}
-use Rattle.xc_dance.specs.inner.Links.Tweaking.{hidden_unless, unhidden_unless, tweaked, untweaked, CanTweak}
+use Rattle.xc_dance.specs.inner.Links.Steps.{HasSize, NamesPlaces, unlinked, relinked}
+use Rattle.xc_dance.specs.inner.Links.Tweaking.{tweaked, untweaked, CanTweak}
 use Rattle.xc_dance.specs.inner.Links.Tweaking.{CanUntweak, tweak_cost, untweak_cost}
 use Rattle.xc_dance.specs.inner.Links.Cells.{color_in, dlink_in, nodes_from, nodes_after, line_of}
 use Rattle.xc_dance.specs.inner.Links.Made.{IsFitted}
@@ -39,6 +38,7 @@ use Rattle.xc_dance.proofs.LinkedTables.HideMoves.{own_placed}
 use Rattle.xc_dance.proofs.MoveLemmas.Shortened.{rises_listed}
 use Rattle.xc_dance.specs.inner.Links.Laid.{IsFit}
 use Rattle.xc_dance.proofs.LinkedTables.OneList.{turns_ready}
+use Rattle.xc_dance.proofs.LinkedTables.Spacers.{Turns}
 use Rattle.std.proofs.Common.{None}
 use Rattle.std.proofs.Math.Bool.{and-false}
 
@@ -81,6 +81,68 @@ to_come p t covered i j os = filter (λ o. not covered && leaves p (color_in p t
 abbrev pub off : Puzzle → (Node → ℕ) → Bool → ℕ → ℕ → List ℕ → List ℕ
 off p col covered i j os = filter (λ o. eqb j i || (not covered && leaves p col i j o)) os
 
+-- what the step at option o writes for its other items
+abbrev pub back_writes : Puzzle → (Node → ℕ) → Bool → ℕ → ℕ → ℕ
+back_writes p col covered i o = cond covered 0 (3 * gone_count p col i o)
+
+gone_unless : (p : Puzzle) (col : Node → ℕ) (covered : Bool) (i o : ℕ) → IsFit p
+    → 3 * length (filter (λ j. not covered && leaves p col i j o) (items p)) ≡ back_writes p col covered i o
+gone_unless p col true i o fit = ap (λ (js : List ℕ). 3 * length js) (leave_none (items p))
+gone_unless p col false i o fit = ap (λ n. 3 * n) (gone_is p col i o fit)
+
+-- ---- the option is hidden, if the item is open
+
+-- the lines when the first node is about to leave
+abbrev mid_lines : Puzzle → List Move → Bool → ℕ → ℕ → ℕ → Line
+mid_lines p t covered i o = cond covered (line_of p t) (left_all p (color_in p t) o (line_of p t) (other_items p o i))
+
+-- the table then
+abbrev mid : Puzzle → List Move → Bool → ℕ → ℕ → Nodes
+mid p t covered i o = nodes_from p (mid_lines p t covered i o) (color_in p t)
+
+mid_line : (p : Puzzle) (t : List Move) (covered : Bool) (i o j : ℕ) → IsFit p
+    → mid_lines p t covered i o j ≡ cuts (line_of p t j) (to_come p t covered i j (o ∷ []))
+mid_line p t true i o j fit = refl
+mid_line p t false i o j fit = list_at p (color_in p t) i None (line_of p t) (o ∷ []) j fit
+
+-- its own line is as before
+mid_own : (p : Puzzle) (t : List Move) (covered : Bool) (i o : ℕ) → IsFit p
+    → mid_lines p t covered i o i ≡ line_of p t i
+mid_own p t covered i o fit = mid_line p t covered i o i fit ∙ grind (arith, common_steps, own_apart)
+
+-- where it isn't covered, the option of node x is hidden from the table t on, which leads to u, and comes back
+abbrev Hiding : List Span → Bool → ℕ → ℕ → Nodes → Nodes → Type 0
+Hiding spans true x n t u = (n ≡ 0) × (t ≡ u)
+Hiding spans false x n t u = (x < length spans) × Turns spans t u x n
+
+hiding : (p : Puzzle) (t : List Move) (spans : List Span) (covered : Bool) (i : ℕ) → AreLegal p t → IsFitted p spans
+    → is_open i t ≡ not covered → (f : HasFirst p t i) → Hiding spans covered (link_place p i f.o)
+    (back_writes p (color_in p t) covered i f.o) (nodes_after p t) (mid p t covered i f.o)
+hiding p t spans true i legal fit shut f = (refl, refl)
+hiding p t spans false i legal fit opened f = (
+  fit.spanned.within f.o i f.pos f.named,
+  turns_ready p (line_of p t) (color_in p t) spans f.o i fit f.pos f.named
+      (ready_at p t i legal fit.laid fit.fit opened f.o f.within),
+)
+
+-- ---- the whole move
+
+-- a Tweak of item i leads from table t to u, its undoing at node x back, and each writes n cells
+pub record TweakMade (spans : List Span) (covered : Bool) (i x n : ℕ) (t u : Nodes) : Type 0 where
+  pub can : CanTweak spans covered t i
+  pub done : tweaked spans covered t i ≡ u
+  pub can_back : CanUntweak spans covered u x
+  pub undone : untweaked spans covered u x ≡ t
+  pub cost : tweak_cost spans covered t i ≡ n
+  pub cost_back : untweak_cost spans covered u x ≡ n
+
+-- the option is hidden, and then its node leaves the list
+both : {spans : List Span} {covered : Bool} {i x : ℕ} (n : ℕ) {t m u : Nodes} → get_or t.dlink i 0 ≡ x → i < length t.dlink
+    → Hiding spans covered x n t m → HasSize m (length m.top) → NamesPlaces m x → 0 < get_or m.top (get_or m.top x 0) 0
+    → unlinked m x ≡ u → CanRelink u x → relinked u x ≡ m → TweakMade spans covered i x (3 + n) t u
+both {covered = true} n first within h size names some done back undone = grind (arith, common_steps, false≢true)
+both {covered = false} n first within h size names some done back undone = grind (arith)
+
 module _ (p : Puzzle) (t : List Move) (spans : List Span) (covered : Bool) (i : ℕ) (legal : AreLegal p t)
     (fit : IsFitted p spans) (opened : is_open i t ≡ not covered) where
   off_at : (j x : ℕ) (gs : List ℕ) → InRange p j → AreOf p t i gs → j ≢ i → is_in x gs ≡ true
@@ -111,119 +173,53 @@ module _ (p : Puzzle) (t : List Move) (spans : List Span) (covered : Bool) (i : 
         ∙ stay_if (eqb j i || (not covered && is_open j t)) (f.o ∷ []) (listed_numbers p t j);
   }
 
--- what the step at option o writes for its other items
-abbrev pub back_writes : Puzzle → (Node → ℕ) → Bool → ℕ → ℕ → ℕ
-back_writes p col covered i o = cond covered 0 (3 * gone_count p col i o)
+  -- ---- what it writes, and the whole move
 
-gone_unless : (p : Puzzle) (col : Node → ℕ) (covered : Bool) (i o : ℕ) → IsFit p
-    → 3 * length (filter (λ j. not covered && leaves p col i j o) (items p)) ≡ back_writes p col covered i o
-gone_unless p col true i o fit = ap (λ (js : List ℕ). 3 * length js) (leave_none (items p))
-gone_unless p col false i o fit = ap (λ n. 3 * n) (gone_is p col i o fit)
+  -- one node leaves i's list, and those of the other lines
+  pub tweak_cost_is : 0 < i → i ≤ item_count p → (f : HasFirst p t i)
+      → cost_of p t (Tweak i) ≡ 3 + back_writes p (color_in p t) covered i f.o
+  tweak_cost_is pos le f =
+      let o = f.o in
+      let col = color_in p t in
+      let g : ℕ → Bool = λ j. not covered && leaves p col i j o in
+      let all = leaving_is p t (Tweak i) (λ j. off p col covered i j (o ∷ [])) (tweak_cuts f) in
+      let own : g i ≡ false = grind (arith, common_steps, own_apart) in
+      let gone = rw (in_range i 0 (item_count p) pos (omega (arith, le))) at (passes_one true (λ j. eqb j i || g j) g i
+      (items p) (items_apart p) own (λ j. ap (λ b. b || g j) (eqb_turn j i))) in
+      let more = one_more (λ j. []) (λ j. eqb j i || g j) o (items p) in
+      omega (arith, all, more, sum_none (items p), gone, gone_unless p col covered i o fit.fit)
 
--- one node leaves i's list, and those of the other lines
-pub tweak_cost_is : (p : Puzzle) (t : List Move) (spans : List Span) (covered : Bool) (i : ℕ) → AreLegal p t
-    → IsFitted p spans → is_open i t ≡ not covered → 0 < i → i ≤ item_count p → (f : HasFirst p t i)
-    → cost_of p t (Tweak i) ≡ 3 + back_writes p (color_in p t) covered i f.o
-tweak_cost_is p t spans covered i legal fit opened pos le f =
-    let o = f.o in
-    let col = color_in p t in
-    let g : ℕ → Bool = λ j. not covered && leaves p col i j o in
-    let all = leaving_is p t (Tweak i) (λ j. off p col covered i j (o ∷ []))
-    (tweak_cuts p t spans covered i legal fit opened f) in
-    let own : g i ≡ false = grind (arith, common_steps, own_apart) in
-    let gone = rw (in_range i 0 (item_count p) pos (omega (arith, le))) at (passes_one true (λ j. eqb j i || g j) g i
-    (items p) (items_apart p) own (λ j. ap (λ b. b || g j) (eqb_turn j i))) in
-    let more = one_more (λ j. []) (λ j. eqb j i || g j) o (items p) in
-    omega (arith, all, more, sum_none (items p), gone, gone_unless p col covered i o fit.fit)
-
--- ---- the option is hidden, if the item is open
-
--- the lines when the first node is about to leave
-abbrev mid_lines : Puzzle → List Move → Bool → ℕ → ℕ → ℕ → Line
-mid_lines p t covered i o = cond covered (line_of p t) (left_all p (color_in p t) o (line_of p t) (other_items p o i))
-
--- the table then
-abbrev mid : Puzzle → List Move → Bool → ℕ → ℕ → Nodes
-mid p t covered i o = nodes_from p (mid_lines p t covered i o) (color_in p t)
-
-mid_line : (p : Puzzle) (t : List Move) (covered : Bool) (i o j : ℕ) → IsFit p
-    → mid_lines p t covered i o j ≡ cuts (line_of p t j) (to_come p t covered i j (o ∷ []))
-mid_line p t true i o j fit = refl
-mid_line p t false i o j fit = list_at p (color_in p t) i None (line_of p t) (o ∷ []) j fit
-
--- its own line is as before
-mid_own : (p : Puzzle) (t : List Move) (covered : Bool) (i o : ℕ) → IsFit p
-    → mid_lines p t covered i o i ≡ line_of p t i
-mid_own p t covered i o fit = mid_line p t covered i o i fit ∙ grind (arith, common_steps, own_apart)
-
--- where it isn't covered, the option of node x is hidden from the table t on, which leads to u, and comes back
-record Hiding (spans : List Span) (covered : Bool) (x n : ℕ) (t u : Nodes) : Type 0 where
-  hide : covered ≡ false → (x < length spans) × CanHideNode spans t x
-  done : hidden_unless spans covered t x ≡ u
-  unhide : covered ≡ false → (x < length spans) × CanUnhideNode spans u x
-  undone : unhidden_unless spans covered u x ≡ t
-  cost : cond covered 0 (hide_costs t (others_of spans x)) ≡ n
-  cost_back : cond covered 0 (unhide_costs u (reverse (others_of spans x))) ≡ n
-
-hiding : (p : Puzzle) (t : List Move) (spans : List Span) (covered : Bool) (i : ℕ) → AreLegal p t → IsFitted p spans
-    → is_open i t ≡ not covered → (f : HasFirst p t i) → Hiding spans covered (link_place p i f.o)
-    (back_writes p (color_in p t) covered i f.o) (nodes_after p t) (mid p t covered i f.o)
-hiding p t spans true i legal fit shut f = grind (arith, common_steps, false≢true)
-hiding p t spans false i legal fit opened f =
-    let s = turns_ready p (line_of p t) (color_in p t) spans f.o i fit f.pos f.named
-    (ready_at p t i legal fit.laid fit.fit opened f.o f.within) in
-    let within = fit.spanned.within f.o i f.pos f.named in
-    grind (arith, common_steps)
-
--- ---- the whole move
-
--- a Tweak of item i leads from table t to u, its undoing at node x back, and each writes n cells
-pub record TweakMade (spans : List Span) (covered : Bool) (i x n : ℕ) (t u : Nodes) : Type 0 where
-  pub can : CanTweak spans covered t i
-  pub done : tweaked spans covered t i ≡ u
-  pub can_back : CanUntweak spans covered u x
-  pub undone : untweaked spans covered u x ≡ t
-  pub cost : tweak_cost spans covered t i ≡ n
-  pub cost_back : untweak_cost spans covered u x ≡ n
-
--- the option is hidden, and then its node leaves the list
-both : {spans : List Span} {covered : Bool} {i x n : ℕ} {t m u : Nodes} → get_or t.dlink i 0 ≡ x → i < length t.dlink
-    → Hiding spans covered x n t m → HasSize m (length m.top) → NamesPlaces m x → 0 < get_or m.top (get_or m.top x 0) 0
-    → unlinked m x ≡ u → CanRelink u x → relinked u x ≡ m → TweakMade spans covered i x (3 + n) t u
-both first within h size names some done back undone = grind (arith)
-
-pub tweak_made : (p : Puzzle) (t : List Move) (spans : List Span) (covered : Bool) (i : ℕ) → AreLegal p t
-    → IsFitted p spans → 0 < i → i ≤ item_count p → 0 < length (listed p t i) → is_open i t ≡ not covered
-    → TweakMade spans covered i (link_place p i (first_of 0 (listed_numbers p t i))) (cost_of p t (Tweak i))
-    (nodes_after p t) (nodes_after p (Tweak i ∷ t))
-tweak_made p t spans covered i legal fit pos le some opened =
-    let f = has_first p t i some in
-    let o = f.o in
-    let laid = fit.laid in
-    let col = color_in p t in
-    let ln = mid_lines p t covered i o in
-    let x = link_place p i o in
-    let m : Nodes = mid p t covered i o in
-    let next : Nodes = nodes_after p (Tweak i ∷ t) in
-    let l : Line = cut (ln i) o in
-    let s : IsMember p i (ln i) o = subst (λ (l : Line). IsMember p i l o) (sym (mid_own p t covered i o fit.fit))
-    (listed_member t i o fit.fit (pos, le) f.within) in
-    let linked = linked-is p col ln i o laid s in
-    let cells = member_cells p col ln i o laid s in
-    let size = size_from p ln col in
-    let count : get_or m.top (get_or m.top x 0) 0 ≡ (ln i).len = ap (λ k. get_or m.top k 0) cells.item ∙ cells.len in
-    let same : unlinked m x ≡ next = unlinked-is p col ln i o laid s
-    ∙ sym (tables_same p (with_line ln i l) (line_of p (Tweak i ∷ t)) col (color_in p (Tweak i ∷ t)) laid
-    (λ j r. line_after p t (Tweak i) j _ (tweak_cuts p t spans covered i legal fit opened f j r)
-    ∙ by_first _ j i (λ e. rw (e, eq-eqb i i refl) (ap (λ (k : Line). cut k o) (sym (mid_own p t covered i o fit.fit))))
-    (λ ne. rw (ne_eqb j i ne) (sym (mid_line p t covered i o j fit.fit))))
-    (λ k n at. tweak_colours p t i n)) in
-    let first = ap (λ ks. link_place p i (first_of 0 ks)) f.is in
-    let within = slice_get_within (layout p) i (own i) (laid.head i pos le) in
-    let long = length-map (layout p) (dlink_in p (line_of p t)) in
-    let made = both (get_down p (line_of p t) i 0 (own_placed p i laid pos le) ∙ first) (omega (arith, within, long))
-    (hiding p t spans covered i legal fit opened f) size cells.names linked.some same
-    (subst (λ (v : Nodes). CanRelink v x) same
-    (CanRelink-unlinked m x size cells.names linked (omega (arith, count, s.few))))
-    (ap (λ (v : Nodes). relinked v x) (sym same) ∙ relinked-unlinked m x linked) in
-    rw (first, tweak_cost_is p t spans covered i legal fit opened pos le f) made
+  pub tweak_made : 0 < i → i ≤ item_count p → 0 < length (listed p t i)
+      → TweakMade spans covered i (link_place p i (first_of 0 (listed_numbers p t i))) (cost_of p t (Tweak i))
+      (nodes_after p t) (nodes_after p (Tweak i ∷ t))
+  tweak_made pos le some =
+      let f = has_first p t i some in
+      let o = f.o in
+      let laid = fit.laid in
+      let col = color_in p t in
+      let ln = mid_lines p t covered i o in
+      let x = link_place p i o in
+      let m : Nodes = mid p t covered i o in
+      let next : Nodes = nodes_after p (Tweak i ∷ t) in
+      let l : Line = cut (ln i) o in
+      let s : IsMember p i (ln i) o = subst (λ (l : Line). IsMember p i l o) (sym (mid_own p t covered i o fit.fit))
+      (listed_member t i o fit.fit (pos, le) f.within) in
+      let linked = linked-is p col ln i o laid s in
+      let cells = member_cells p col ln i o laid s in
+      let size = size_from p ln col in
+      let count : get_or m.top (get_or m.top x 0) 0 ≡ (ln i).len = ap (λ k. get_or m.top k 0) cells.item ∙ cells.len in
+      let same : unlinked m x ≡ next = unlinked-is p col ln i o laid s
+      ∙ sym (tables_same p (with_line ln i l) (line_of p (Tweak i ∷ t)) col (color_in p (Tweak i ∷ t)) laid
+      (λ j r. line_after p t (Tweak i) j _ (tweak_cuts f j r)
+      ∙ by_first _ j i (λ e. rw (e, eq-eqb i i refl) (ap (λ (k : Line). cut k o) (sym (mid_own p t covered i o fit.fit))))
+      (λ ne. rw (ne_eqb j i ne) (sym (mid_line p t covered i o j fit.fit))))
+      (λ k n at. tweak_colours p t i n)) in
+      let first = ap (λ ks. link_place p i (first_of 0 ks)) f.is in
+      let within = slice_get_within (layout p) i (own i) (laid.head i pos le) in
+      let long = length-map (layout p) (dlink_in p (line_of p t)) in
+      let made = both _ (get_down p (line_of p t) i 0 (own_placed p i laid pos le) ∙ first) (omega (arith, within, long))
+      (hiding p t spans covered i legal fit opened f) size cells.names linked.some same
+      (subst (λ (v : Nodes). CanRelink v x) same
+      (CanRelink-unlinked m x size cells.names linked (omega (arith, count, s.few))))
+      (ap (λ (v : Nodes). relinked v x) (sym same) ∙ relinked-unlinked m x linked) in
+      rw (first, tweak_cost_is pos le f) made

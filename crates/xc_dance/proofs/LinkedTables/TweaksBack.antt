@@ -117,38 +117,7 @@ Brings p t spans covered i s u o =
     Led (bringing spans covered) (nodes_from p s.0 (color_in p t)) (nodes_from p u.0 (color_in p t)) (place s.1)
     (place u.1) (link_place p i o) (1 + back_writes p (color_in p t) covered i o)
 
-bring_back_walk : (p : Puzzle) (t : List Move) (spans : List Span) (covered : Bool) (i n : ℕ) (ln : ℕ → Line) (a : ℕ)
-    (os rest : List ℕ) → AreLegal p t → IsFitted p spans → 0 < i → i ≤ item_count p → is_open i t ≡ not covered
-    → ((x : ℕ) → is_in x os ≡ true → is_in x (listed_numbers p t i) ≡ true)
-    → IsLinkedFrom (line_of p t i) a (os ++ rest) → BringingBack p t covered i n ln os
-    → (u : (ℕ → Line) × ℕ) × (BringingBack p t covered i n u.0 [] × Way (Brings p t spans covered i) (ln, a) os u)
-bring_back_walk p t spans covered i n ln a [] rest legal fit pos le opened among linked h = ((ln, a), (h, refl))
-bring_back_walk p t spans covered i n ln a (o ∷ os) rest legal fit pos le opened among linked h =
-    let within : is_in o (listed_numbers p t i) ≡ true = among o (is_in-first o os) in
-    let here = fit.laid.there i o pos le (listed_member t i o fit.fit (pos, le) within).name in
-    let s = bring_back_step p t spans covered i n ln o os legal fit pos le opened within h in
-    let r = bring_back_walk p t spans covered i n s.ln' o os rest legal fit pos le opened
-    (λ z e. among z (in_more o z os e)) linked.3 s.bringing in
-    let x_in = slice_get_within (layout p) (link_place p i o) here.node here.at in
-    let led : Brings p t spans covered i (ln, a) (s.ln', o) o = record {
-      leads = record { can = s.can; done = s.done; cost = s.cost };
-      here = ap (link_place p i) linked.1;
-      within = omega (arith, x_in, length-map (layout p) (dlink_in p s.ln'));
-      next = get_down p s.ln' i o here ∙ ap (λ (l : Line). link_place p i (l.down o)) s.bringing.is;
-    } in
-    (r.0, (r.1.0, ((s.ln', o), (led, r.1.1))))
-
 -- ---- some Tweaks of one item undone at once: from the node table after them to that before
-
--- the options that they took off come back to each line
-regained : (p : Puzzle) (t : List Move) (spans : List Span) (covered : Bool) (i j : ℕ) (os : List ℕ) → AreLegal p t
-    → IsFitted p spans → is_open i t ≡ not covered → AreOf p t i os → InRange p j
-    → (let ks = off p (color_in p t) covered i j os in Regaining (line_of p t j) (cuts (line_of p t j) ks) ks)
-regained p t spans covered i j os legal fit opened of r =
-    let long = length-map (listed p t j) (λ o. o.number) in
-    subst (λ ks. Regaining (line_of p t j) (cuts (line_of p t j) ks) ks)
-    (sym (off_are p t spans covered i legal fit opened j os r of))
-    (regaining (line_of p t j) 0 (listed_numbers p t j) _ (stands p t j) (omega (arith, long)))
 
 rises_part : (n : ℕ) (os rest : List ℕ) → Rises n (os ++ rest) → Rises n os
 rises_part n [] rest r = tt
@@ -216,73 +185,102 @@ fewer : (f : ℕ → ℕ) (os : List ℕ) → sum_by (λ o. 1 + f o) os ≡ leng
 fewer f [] = refl
 fewer f (o ∷ os) = grind (arith, common_steps, sum_by-cons, fewer f os)
 
-pub tweaks_back : (p : Puzzle) (t : List Move) (spans : List Span) (covered : Bool) (i k : ℕ) → Tweaked p t covered i k
-    → AreLegal p t → IsFitted p spans → 0 < i → i ≤ item_count p → is_open i t ≡ not covered → 0 < k
-    → Undoes spans covered (nodes_after p (tweaks k i t)) i (first_place p t i) k (nodes_after p t)
-    (undo_tweaks_cost k p (tweaks k i t))
-tweaks_back p t spans covered i k h legal fit pos le opened some =
-    let s = tweaks k i t in
-    let laid = fit.laid in
-    let col = color_in p t in
-    let os = h.os in
-    let rest = listed_numbers p s i in
-    let l : Line = line_of p t i in
-    let linked : IsLinkedFrom l 0 (os ++ rest) = subst (IsLinkedFrom l 0) h.list (stands p t i) in
-    let among : (x : ℕ) → is_in x os ≡ true → is_in x (listed_numbers p t i) ≡ true = grind
-    (arith, common_steps, list_any-append) in
-    let of : AreOf p t i os = record { rise = rises_part 0 os rest (rises l 0 (os ++ rest) linked); among = among } in
-    let lnS : ℕ → Line = line_of p s in
-    let x = first_place p t i in
-    let w : Line = lowered (lnS i) (l.down 0) in
-    let ln0 : ℕ → Line = with_line lnS i w in
-    let T : Nodes = nodes_after p s in
-    let t0 : Nodes = nodes_from p ln0 col in
-    let n = (cuts l os).len in
-    let same_col : T ≡ nodes_from p lnS col = ap (nodes_from p lnS) (colours_kept p i t k) in
-    let start : with_dlink T i x ≡ t0 = grind (arith, common_steps, lowered_is) in
-    let all : off p col covered i i os ≡ os = rw (eq-eqb i i refl) (stay_all os) in
-    let own_lost : lnS i ≡ cuts l os = rw all at (h.lines i (pos, le)) in
-    let own_is : ln0 i ≡ half n (cuts l os) l = lowered_first lnS i l os rest own_lost linked in
-    let regains = λ (j : ℕ) (r : InRange p j). regained p t spans covered i j os legal fit opened of r in
-    let own_back : Regaining l (cuts l os) os = rw all at (regains i (pos, le)) in
-    let back : BringingBack p t covered i n ln0 os = record {
-      others =
-          λ j jpos jle ne. rw (line_there lnS i j w ne, h.lines j (jpos, jle), ne_eqb j i ne)
-          (rw (ne_eqb j i ne) at (regains j (jpos, jle)));
-      line = cuts l os;
-      own = own_back;
-      is = own_is;
-    } in
-    let cw = bring_back_walk p t spans covered i n ln0 0 os rest legal fit pos le opened among linked back in
-    let e : Nodes = nodes_from p cw.0.0 col in
-    let writes = back_writes p col covered i in
-    let follow : followed t0.dlink k x ≡ map (link_place p i) os =
-    ap (λ (k : ℕ). followed t0.dlink k x) (sym h.count) ∙ follow_down p ln0 l i 0 os rest laid pos le
-    (subst (AllByRecursion (Named p i)) h.list (numbers_named p t i)) linked
-    (λ y. ap (λ (m : Line). m.down y) own_is) in
-    let led = subst (λ (v : Nodes). AllLed (bringing spans covered) v e x (followed v.dlink k x)
-    (sum_by (λ o. 1 + writes o) os)) (sym start) (rw follow
-    (way_led (Brings p t spans covered i) (bringing spans covered) (λ s. nodes_from p s.0 col)
-    (λ s. link_place p i (l.down s.1)) (link_place p i) (λ o. 1 + writes o) (λ s u x m. m) (ln0, 0) os cw.0 cw.1.1)) in
-    let within : i < length (layout p) = slice_get_within (layout p) i (own i) (laid.head i pos le) in
-    let len_end : get_or e.top i 0 ≡ n = get_len p cw.0.0 i laid pos le ∙ ap (λ (m : Line). m.len) cw.1.0.is in
-    let lost : n + length os ≡ l.len = regaining_len l (cuts l os) os own_back in
-    let most = numbers_few p t i in
-    let long_l : length (listed_numbers p t i) ≡ l.len = length-map (listed p t i) (λ o. o.number) in
-    let fit_few = fit.fit.few in
-    let end_line = end_is l (cw.0.0 i) cw.1.0.line n (get_or e.top i 0 + k) cw.1.0.is cw.1.0.own
-    (omega (arith, len_end, lost, h.count)) in
-    record {
-      can = record {
-        place = omega (arith, within, length-map (layout p) (dlink_in p lnS));
-        bring_back = led.walk;
-        many = omega (arith, lost, h.count, most, long_l, fit_few);
-        top = subst (λ (v : Nodes). i < length v.top) (sym led.done)
-            (omega (arith, within, length-map (layout p) (top_in cw.0.0)));
-        few = subst (λ (v : Nodes). get_or v.top i 0 < 2 ^ 31) (sym led.done)
-            (omega (arith, len_end, lost, most, long_l, fit_few));
-      };
-      done = ap (λ (v : Nodes). with_top v i (get_or v.top i 0 + k)) led.done
-          ∙ table_regained p t cw.0.0 i (get_or e.top i 0 + k) laid pos le end_line cw.1.0.others;
-      paid = omega (arith, led.costs, h.costs, fewer writes os, h.count, some);
-    }
+module _ (p : Puzzle) (t : List Move) (spans : List Span) (covered : Bool) (i : ℕ) (legal : AreLegal p t)
+    (fit : IsFitted p spans) (opened : is_open i t ≡ not covered) (pos : 0 < i) (le : i ≤ item_count p) where
+  bring_back_walk : (n : ℕ) (ln : ℕ → Line) (a : ℕ) (os rest : List ℕ)
+      → ((x : ℕ) → is_in x os ≡ true → is_in x (listed_numbers p t i) ≡ true)
+      → IsLinkedFrom (line_of p t i) a (os ++ rest) → BringingBack p t covered i n ln os
+      → (u : (ℕ → Line) × ℕ) × (BringingBack p t covered i n u.0 [] × Way (Brings p t spans covered i) (ln, a) os u)
+  bring_back_walk n ln a [] rest among linked h = ((ln, a), (h, refl))
+  bring_back_walk n ln a (o ∷ os) rest among linked h =
+      let within : is_in o (listed_numbers p t i) ≡ true = among o (is_in-first o os) in
+      let here = fit.laid.there i o pos le (listed_member t i o fit.fit (pos, le) within).name in
+      let s = bring_back_step p t spans covered i n ln o os legal fit pos le opened within h in
+      let r = bring_back_walk n s.ln' o os rest (λ z e. among z (in_more o z os e)) linked.3 s.bringing in
+      let x_in = slice_get_within (layout p) (link_place p i o) here.node here.at in
+      let led : Brings p t spans covered i (ln, a) (s.ln', o) o = record {
+        leads = record { can = s.can; done = s.done; cost = s.cost };
+        here = ap (link_place p i) linked.1;
+        within = omega (arith, x_in, length-map (layout p) (dlink_in p s.ln'));
+        next = get_down p s.ln' i o here ∙ ap (λ (l : Line). link_place p i (l.down o)) s.bringing.is;
+      } in
+      (r.0, (r.1.0, ((s.ln', o), (led, r.1.1))))
+
+  -- the options that they took off come back to each line
+  regained : (j : ℕ) (os : List ℕ) → AreOf p t i os → InRange p j
+      → (let ks = off p (color_in p t) covered i j os in Regaining (line_of p t j) (cuts (line_of p t j) ks) ks)
+  regained j os of r =
+      let long = length-map (listed p t j) (λ o. o.number) in
+      subst (λ ks. Regaining (line_of p t j) (cuts (line_of p t j) ks) ks)
+      (sym (off_are p t spans covered i legal fit opened j os r of))
+      (regaining (line_of p t j) 0 (listed_numbers p t j) _ (stands p t j) (omega (arith, long)))
+
+  pub tweaks_back : (k : ℕ) → Tweaked p t covered i k → 0 < k
+      → Undoes spans covered (nodes_after p (tweaks k i t)) i (first_place p t i) k (nodes_after p t)
+      (undo_tweaks_cost k p (tweaks k i t))
+  tweaks_back k h some =
+      let s = tweaks k i t in
+      let laid = fit.laid in
+      let col = color_in p t in
+      let os = h.os in
+      let rest = listed_numbers p s i in
+      let l : Line = line_of p t i in
+      let linked : IsLinkedFrom l 0 (os ++ rest) = subst (IsLinkedFrom l 0) h.list (stands p t i) in
+      let among : (x : ℕ) → is_in x os ≡ true → is_in x (listed_numbers p t i) ≡ true = grind
+      (arith, common_steps, list_any-append) in
+      let of : AreOf p t i os = record { rise = rises_part 0 os rest (rises l 0 (os ++ rest) linked); among = among } in
+      let lnS : ℕ → Line = line_of p s in
+      let x = first_place p t i in
+      let w : Line = lowered (lnS i) (l.down 0) in
+      let ln0 : ℕ → Line = with_line lnS i w in
+      let T : Nodes = nodes_after p s in
+      let t0 : Nodes = nodes_from p ln0 col in
+      let n = (cuts l os).len in
+      let same_col : T ≡ nodes_from p lnS col = ap (nodes_from p lnS) (colours_kept p i t k) in
+      let start : with_dlink T i x ≡ t0 = grind (arith, common_steps, lowered_is) in
+      let all : off p col covered i i os ≡ os = rw (eq-eqb i i refl) (stay_all os) in
+      let own_lost : lnS i ≡ cuts l os = rw all at (h.lines i (pos, le)) in
+      let own_is : ln0 i ≡ half n (cuts l os) l = lowered_first lnS i l os rest own_lost linked in
+      let regains = λ (j : ℕ) (r : InRange p j). regained j os of r in
+      let own_back : Regaining l (cuts l os) os = rw all at (regains i (pos, le)) in
+      let back : BringingBack p t covered i n ln0 os = record {
+        others =
+            λ j jpos jle ne. rw (line_there lnS i j w ne, h.lines j (jpos, jle), ne_eqb j i ne)
+            (rw (ne_eqb j i ne) at (regains j (jpos, jle)));
+        line = cuts l os;
+        own = own_back;
+        is = own_is;
+      } in
+      let cw = bring_back_walk n ln0 0 os rest among linked back in
+      let e : Nodes = nodes_from p cw.0.0 col in
+      let writes = back_writes p col covered i in
+      let follow : followed t0.dlink k x ≡ map (link_place p i) os =
+      ap (λ (k : ℕ). followed t0.dlink k x) (sym h.count) ∙ follow_down p ln0 l i 0 os rest laid pos le
+      (subst (AllByRecursion (Named p i)) h.list (numbers_named p t i)) linked
+      (λ y. ap (λ (m : Line). m.down y) own_is) in
+      let led = subst (λ (v : Nodes). AllLed (bringing spans covered) v e x (followed v.dlink k x)
+      (sum_by (λ o. 1 + writes o) os)) (sym start) (rw follow
+      (way_led (Brings p t spans covered i) (bringing spans covered) (λ s. nodes_from p s.0 col)
+      (λ s. link_place p i (l.down s.1)) (link_place p i) (λ o. 1 + writes o) (λ s u x m. m) (ln0, 0) os cw.0 cw.1.1)) in
+      let within : i < length (layout p) = slice_get_within (layout p) i (own i) (laid.head i pos le) in
+      let len_end : get_or e.top i 0 ≡ n = get_len p cw.0.0 i laid pos le ∙ ap (λ (m : Line). m.len) cw.1.0.is in
+      let lost : n + length os ≡ l.len = regaining_len l (cuts l os) os own_back in
+      let most = numbers_few p t i in
+      let long_l : length (listed_numbers p t i) ≡ l.len = length-map (listed p t i) (λ o. o.number) in
+      let fit_few = fit.fit.few in
+      let end_line = end_is l (cw.0.0 i) cw.1.0.line n (get_or e.top i 0 + k) cw.1.0.is cw.1.0.own
+      (omega (arith, len_end, lost, h.count)) in
+      record {
+        can = record {
+          place = omega (arith, within, length-map (layout p) (dlink_in p lnS));
+          bring_back = led.walk;
+          many = omega (arith, lost, h.count, most, long_l, fit_few);
+          top = subst (λ (v : Nodes). i < length v.top) (sym led.done)
+              (omega (arith, within, length-map (layout p) (top_in cw.0.0)));
+          few = subst (λ (v : Nodes). get_or v.top i 0 < 2 ^ 31) (sym led.done)
+              (omega (arith, len_end, lost, most, long_l, fit_few));
+        };
+        done = ap (λ (v : Nodes). with_top v i (get_or v.top i 0 + k)) led.done
+            ∙ table_regained p t cw.0.0 i (get_or e.top i 0 + k) laid pos le end_line cw.1.0.others;
+        paid = omega (arith, led.costs, h.costs, fewer writes os, h.count, some);
+      }

@@ -106,7 +106,7 @@ found_by p t spans i k xs legal fit e =
       item = rw (← first) (get_item p (line_of p s) i f.o here f.pos);
       tell = (off.place, off.left);
       off = off.is ∙ kept (is_covered i) i t (λ s. refl) (suc k);
-      back = tweaks_back p t spans covered i (suc k) tw before fit pos le opened (omega arith);
+      back = tweaks_back p t spans covered i before fit opened pos le (suc k) tw (omega arith);
       items = kept (items_after p) i t (λ s. still_items p s (Tweak i) (λ q. refl) (λ q. refl)) (suc k);
     }
 
