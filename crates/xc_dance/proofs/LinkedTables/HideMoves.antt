@@ -7,7 +7,7 @@ use Rattle.std.proofs.Common.{◌≡◌, ℕ, ◌<◌, ◌≤◌, ◌^◌, List,
 use Rattle.std.proofs.Common.{ap, ap₂, sym, ◌∙◌, arith, inl, ◌+◌, ◌*◌, true, false, eqb, filter, Option, Some}
 use Rattle.std.proofs.Common.{subst, eqb-true, fold, None, ne_eqb, append-nil}
 use Rattle.std.specs.List.{AllByRecursion}
-use Rattle.std.specs.Prelude.{slice_get, unwrap_or}
+use Rattle.std.specs.Prelude.{slice_get}
 use Rattle.std.proofs.lemmas.Grind.{common_steps}
 use Rattle.std.proofs.lemmas.List.{length-map}
 use Rattle.std.proofs.lemmas.Option.{slice_get_within}
@@ -25,26 +25,24 @@ use Rattle.xc_dance.specs.inner.Links.Span.{Span}
 use Rattle.xc_dance.specs.inner.Lists.Losing.{is_kept}
 use Rattle.xc_dance.specs.Cost.{leaving, cost_of, marking}
 use Rattle.xc_dance.specs.declared.dance.Move.TheVariants.{Cover, Purify}
-use Rattle.xc_dance.specs.inner.Links.ListWalks.{left_node, back_node, with_colour, CanHideList}
+use Rattle.xc_dance.specs.inner.Links.ListWalks.{left_node, back_node, CanHideList}
 use Rattle.xc_dance.specs.inner.Links.ListWalks.{CanUnhideList, walk_costs, back_costs}
-use Rattle.xc_dance.specs.inner.Links.Purifying.{purified_list, unpurified_list, CanPurify, CanUnpurify}
 use Rattle.xc_dance.specs.inner.Links.Made.{IsFitted}
 use Rattle.xc_input.proofs.lists.Filters.{filter_same}
 use Rattle.xc_input.proofs.lists.EachElement.{each_weaker}
-use Rattle.xc_dance.proofs.LinkedTables.LinkColumns.{get_up, get_down, get_len, get_map, same_nodes, written_back}
+use Rattle.xc_dance.proofs.LinkedTables.LinkColumns.{get_up, get_down, get_len}
 use Rattle.xc_dance.proofs.LinkedTables.LinkColumns.{size_from}
 use Rattle.xc_dance.proofs.LinkedTables.GoodLines.{Named, numbers_few, numbers_named, SameCut, line_after}
 use Rattle.xc_dance.proofs.LinkedTables.GoodLines.{tables_same}
 use Rattle.xc_dance.proofs.LinkedTables.Sweep.{stands, IsLinkedFrom, Rises-filter, in_above, leave_none}
 use Rattle.xc_dance.proofs.LinkedTables.OneList.{Listed, marked_list, Passed}
-use Rattle.xc_dance.proofs.LinkedTables.OneList.{listed_walk, coloured_is, color_other}
+use Rattle.xc_dance.proofs.LinkedTables.OneList.{listed_walk, color_other}
 use Rattle.xc_dance.proofs.LinkedTables.OtherItems.{leaves, list_at}
 use Rattle.xc_dance.proofs.LinkedTables.Leaving.{exchanged, costs_split, leaving_is, AreOf, TakesOut}
 use Rattle.xc_dance.proofs.LinkedTables.Leaving.{cut_others, cut_own, listed_options, takes_cover}
 use Rattle.xc_dance.proofs.LinkedTables.Leaving.{takes_purify, own_purify}
 use Rattle.xc_dance.proofs.MoveLemmas.Members.{in_filter}
 use Rattle.xc_dance.proofs.MoveLemmas.Shortened.{rises_listed}
-use Rattle.xc_dance.proofs.MoveLemmas.StateLemmas.{open_unpurified}
 use Rattle.xc_dance.proofs.LinkedTables.MarkedNodes.{marked_none, cover_colours, purify_start, purify_colours}
 use Rattle.std.proofs.Common.{sum_by}
 use Rattle.xc_dance.proofs.LinkedTables.OneList.{step_cost}
@@ -231,19 +229,10 @@ pub purify_hides : (p : Puzzle) (t : List Move) (i c : ℕ) → AreLegal p t →
 purify_hides p t i c legal laid pos le opened =
     search (arith, purify_passed, takes_purify, own_purify, purify_colours)
 
--- ---- Purify's own node
-
--- Purify leads from the table t to u, and its undoing back to t, and each writes n cells
-pub record PurifyMade (spans : List Span) (i c : ℕ) (t u : Nodes) (n : ℕ) : Type 0 where
-  pub can : CanPurify spans c t i
-  pub done : purified_list spans c t i ≡ u
-  pub cost : walk_costs spans (Some c) (with_colour t i c) (list_of t i) + 1 ≡ n
-  pub can_back : CanUnpurify spans c u i
-  pub undone : unpurified_list spans c u i ≡ t
-  pub cost_back : back_costs spans (Some c) u (list_back u i) + 1 ≡ n
+-- ---- what they write
 
 -- the options kept are those that are marked
-kept_marked : (p : Puzzle) (t : List Move) (i c : ℕ) → AreLegal p t → is_open i t ≡ true
+pub kept_marked : (p : Puzzle) (t : List Move) (i c : ℕ) → AreLegal p t → is_open i t ≡ true
     → length (filter (is_kept p i (Some c)) (listed_numbers p t i)) ≡ marking p t i c
 kept_marked p t i c legal opened =
     grind (arith, common_steps, listed, length-map, filter_same, each_weaker, listed_options, filter-map)
@@ -251,20 +240,3 @@ kept_marked p t i c legal opened =
 -- a Cover keeps none
 pub cover_writes : (p : Puzzle) (t : List Move) (i : ℕ) → hide_writes p t (Cover i) i None + 2 ≡ cost_of p t (Cover i)
 cover_writes p t i = let none = ap length (leave_none (listed_numbers p t i)) in omega (arith, none)
-
-pub purify_made : (p : Puzzle) (t : List Move) (spans : List Span) (i c : ℕ) → AreLegal p t → IsFitted p spans → 0 < i
-    → i ≤ item_count p → is_open i t ≡ true
-    → PurifyMade spans i c (nodes_after p t) (nodes_after p (Purify i c ∷ t)) (cost_of p t (Purify i c))
-purify_made p t spans i c legal f pos le opened =
-    let laid = f.laid in
-    let w = walk_made p t spans (Purify i c) i (Some c) (purify_start p t i c) legal f pos le opened
-    (purify_hides p t i c legal laid pos le opened) in
-    let t1 : Nodes = nodes_from p (line_of p t) (purify_start p t i c) in
-    let next : Nodes = nodes_after p (Purify i c ∷ t) in
-    let start = coloured_is p (color_in p t) (line_of p t) i 0 c laid (own_placed p i laid pos le) in
-    let within : i < length (layout p) = slice_get_within (layout p) i (own i) (laid.head i pos le) in
-    let long : length (map (color_in p t) (layout p)) ≡ length (layout p) = length-map (layout p) (color_in p t) in
-    let long' = length-map (layout p) (purify_start p t i c) in
-    let none : get_or (nodes_after p t).color i 0 ≡ 0 = get_map (color_in p t) (layout p) i (own i) (laid.head i pos le)
-    ∙ ap (λ o. unwrap_or o 0) (open_unpurified i t opened) in
-    grind (arith, common_steps, same_nodes, written_back, w.undone, kept_marked p t i c legal opened)

@@ -23,14 +23,26 @@ use Rattle.xc_dance.specs.inner.Links.Taken.{CanNote, taken_nodes, noted, IsReca
 use Rattle.xc_dance.specs.declared.links.nodes.Nodes.{Nodes}
 use Rattle.xc_dance.specs.declared.links.items.Items.{Items}
 use Rattle.xc_dance.proofs.LinkedTables.RingStep.{same_items, row_same, still_llink, still_rlink, row_get, row_len}
-use Rattle.xc_dance.proofs.LinkedTables.RingStep.{spend_step}
 use Rattle.xc_dance.proofs.LinkedTables.Turned.{Stays, link_gone, link_beside, link_other, link_back, link_next}
 use Rattle.xc_dance.proofs.LinkedTables.Turned.{ring_step}
 use Rattle.xc_dance.proofs.MoveLemmas.StateLemmas.{open_uncovered, open_or_covered}
 use Rattle.xc_dance.proofs.LinkedTables.Sweep.{leave_none, stay_all}
 use Rattle.xc_dance.proofs.LinkedTables.GoodLines.{SameCut, line_after, tables_same}
 use Rattle.xc_dance.proofs.LinkedTables.TweakStep.{tweak_made}
-use Rattle.xc_dance.proofs.LinkedTables.HideMoves.{cover_hides, walk_made, purify_made, own_placed}
+use Rattle.xc_dance.proofs.LinkedTables.HideMoves.{cover_hides, walk_made, own_placed}
+use Rattle.xc_dance.proofs.LinkedTables.HideMoves.{purify_hides, kept_marked}
+use Rattle.xc_dance.proofs.LinkedTables.MarkedNodes.{purify_start}
+use Rattle.xc_dance.proofs.LinkedTables.OneList.{coloured_is}
+use Rattle.xc_dance.proofs.LinkedTables.LinkColumns.{same_nodes, written_back, get_map}
+use Rattle.xc_dance.proofs.LinkedTables.RingStep.{bound_own, spends_own, bound_other, row_put}
+use Rattle.xc_dance.proofs.MoveLemmas.StateLemmas.{open_unpurified}
+use Rattle.xc_dance.specs.Fields.{layout, own}
+use Rattle.std.proofs.Common.{Some, map, ◌-◌, set}
+use Rattle.std.specs.Prelude.{unwrap_or}
+use Rattle.std.proofs.lemmas.List.{length-map}
+use Rattle.std.proofs.lemmas.Option.{slice_get_within}
+use Rattle.xc_input.specs.Problem.{high_at}
+use Rattle.xc_dance.specs.inner.Links.ItemCells.{bound_at}
 use Rattle.xc_dance.proofs.LinkedTables.LinkColumns.{get_down}
 
 -- ---- a move that neither covers nor spends leaves the item table as it is
@@ -107,18 +119,25 @@ abbrev pub IsTakenOff : Puzzle → List Move → Move → ℕ → Type 0
 IsTakenOff p t (Tweak i) x = x ≡ link_place p i (first_of 0 (listed_numbers p t i))
 IsTakenOff p t _ x = Unit {0}
 
+-- what a move makes of tables that are those after the moves t
+pub record Makes (p : Puzzle) (t : List Move) (m : Move) (spans : List Span) (old : Nodes) (ring : Items) : Type 0 where
+  pub can : CanMake spans old ring m
+  pub nodes : nodes_made spans old ring m ≡ nodes_after p (m ∷ t)
+  pub items : items_made ring m ≡ items_after p (m ∷ t)
+  pub cost : made_cost spans old ring m ≡ cost_of p t m
+
+-- what its undoing makes of them, k being the node that it took off
+pub record Unmakes (p : Puzzle) (t : List Move) (m : Move) (k : ℕ) (spans : List Span) (old : Nodes) (ring : Items) :
+    Type 0 where
+  pub can : CanUnmake spans old ring m k
+  pub nodes : nodes_unmade spans old ring m k ≡ nodes_after p t
+  pub items : items_unmade ring m ≡ items_after p t
+  pub cost : unmade_cost spans old ring m k ≡ cost_of p t m
+
 pub record MoveStep (p : Puzzle) (t : List Move) (spans : List Span) (m : Move) : Type 0 where
-  pub can : CanMake spans (nodes_after p t) (items_after p t) m
-  pub nodes : nodes_made spans (nodes_after p t) (items_after p t) m ≡ nodes_after p (m ∷ t)
-  pub items : items_made (items_after p t) m ≡ items_after p (m ∷ t)
-  pub can_back : (x : ℕ) → IsTakenOff p t m x → CanUnmake spans (nodes_after p (m ∷ t)) (items_after p (m ∷ t)) m x
-  pub nodes_back : (x : ℕ) → IsTakenOff p t m x
-      → nodes_unmade spans (nodes_after p (m ∷ t)) (items_after p (m ∷ t)) m x ≡ nodes_after p t
-  pub items_back : items_unmade (items_after p (m ∷ t)) m ≡ items_after p t
+  pub there : Makes p t m spans (nodes_after p t) (items_after p t)
+  pub back : (k : ℕ) → IsTakenOff p t m k → Unmakes p t m k spans (nodes_after p (m ∷ t)) (items_after p (m ∷ t))
   pub can_note : CanNote (nodes_after p t) m
-  pub cost : made_cost spans (nodes_after p t) (items_after p t) m ≡ cost_of p t m
-  pub cost_back : (x : ℕ) → IsTakenOff p t m x
-      → unmade_cost spans (nodes_after p (m ∷ t)) (items_after p (m ∷ t)) m x ≡ cost_of p t m
 
 -- a Spend changes no list
 spent_colours : (p : Puzzle) (t : List Move) (i : ℕ) (n : Node) → color_in p (Spend i ∷ t) n ≡ color_in p t n
@@ -134,49 +153,68 @@ spent_nodes : (p : Puzzle) (t : List Move) (i : ℕ) → IsLaid p → nodes_afte
 spent_nodes p t i laid = tables_same _ (line_of p t) (line_of p (Spend i ∷ t)) (color_in p t)
     (color_in p (Spend i ∷ t)) laid (λ j r. line_after _ _ _ _ _ (spent_cut p t i j)) (λ k n at. spent_colours p t i n)
 
+purify_step : {p : Puzzle} (t : List Move) {spans : List Span} (i c : ℕ) → AreLegal p t → IsLegal p t (Purify i c)
+    → IsFitted p spans → MoveStep p t spans (Purify i c)
+purify_step {p} t {spans} i c legal may f =
+    let pos : 0 < i = omega (arith, may.0.0) in
+    let laid = f.laid in
+    let head = laid.head i pos may.0.1 in
+    let w = walk_made p t spans (Purify i c) i (Some c) (purify_start p t i c) legal f pos may.0.1 may.1
+    (purify_hides p t i c legal laid pos may.0.1 may.1) in
+    let start = coloured_is p (color_in p t) (line_of p t) i 0 c laid (own_placed p i laid pos may.0.1) in
+    let within : i < length (layout p) = slice_get_within (layout p) i (own i) head in
+    let long : length (map (color_in p t) (layout p)) ≡ length (layout p) = length-map (layout p) (color_in p t) in
+    let long' = length-map (layout p) (purify_start p t i c) in
+    let none : get_or (nodes_after p t).color i 0 ≡ 0 = get_map (color_in p t) (layout p) i (own i) head
+    ∙ ap (λ o. unwrap_or o 0) (open_unpurified i t may.1) in
+    let still = still_items p t (Purify i c) (λ q. refl) (λ q. refl) in
+    grind (arith, common_steps, same_nodes, written_back, w.undone, kept_marked p t i c legal may.1)
+
 pub move_step : {p : Puzzle} (t : List Move) {spans : List Span} (m : Move) → AreLegal p t → IsLegal p t m
     → IsFitted p spans → MoveStep p t spans m
 move_step {p} t {spans} (Cover i) legal may f =
     let pos : 0 < i = omega (arith, may.0.0) in
     let w = walk_made p t spans (Cover i) i None (color_in p t) legal f pos may.0.1 may.1 (cover_hides p t i) in
     grind (arith, common_steps, cover_writes, ring_step p t i legal may)
-move_step {p} t {spans} (Purify i c) legal may f =
-    let still = still_items p t (Purify i c) (λ q. refl) (λ q. refl) in
-    grind (arith, common_steps, purify_made p t spans i c legal f (omega (arith, may.0.0)) may.0.1 may.1)
+move_step t (Purify i c) legal may f = purify_step t i c legal may f
 move_step {p} t {spans} (Tweak i) legal may f =
     let pos : 0 < i = omega (arith, may.0.0) in
     let w = tweak_made p t spans (is_covered i t) i legal f (open_or_covered i t may.1) pos may.0.1 may.2 in
     let still = still_items p t (Tweak i) (λ q. refl) (λ q. refl) in
-    grind (arith, common_steps, off_is p (Tweak i ∷ t) i (may, legal) pos may.0.1, off_is p t i legal pos may.0.1)
+    grind (arith, off_is p (Tweak i ∷ t) i (may, legal) pos may.0.1, off_is p t i legal pos may.0.1)
 move_step {p} t {spans} (Spend i) legal may f =
-    grind (arith, common_steps, spent_nodes, spend_step p t i may (f.bounds i))
+    let pos : 0 < i = omega (arith, may.0.0) in
+    let few = f.bounds i in
+    let next = Spend i ∷ t in
+    let nodes = spent_nodes p t i f.laid in
+    let before : get_or (items_after p t).bound i 0 ≡ high_at p i - spends i t =
+    grind (arith, common_steps, row_get, bound_own) in
+    let after : get_or (items_after p next).bound i 0 ≡ high_at p i - (1 + spends i t) =
+    grind (arith, common_steps, row_get, bound_own, spends_own) in
+    let llinks : (items_after p next).llink ≡ (items_after p t).llink =
+    row_same (llink_at p t) (llink_at p next) (item_count p + 2) (λ q h. still_llink p t (Spend i) q (λ k. refl)) in
+    let rlinks : (items_after p next).rlink ≡ (items_after p t).rlink =
+    row_same (rlink_at p t) (rlink_at p next) (item_count p + 2) (λ q h. still_rlink p t (Spend i) q (λ k. refl)) in
+    let down : bound_at p next i ≡ get_or (items_after p t).bound i 0 - 1 =
+    grind (arith, common_steps, bound_own, spends_own) in
+    let up : bound_at p t i ≡ get_or (items_after p next).bound i 0 + 1 = grind (arith, common_steps, bound_own) in
+    let bounds : (items_after p next).bound ≡ set (items_after p t).bound i (get_or (items_after p t).bound i 0 - 1) =
+    grind (arith, common_steps, row_put, bound_other) in
+    let back : (items_after p t).bound ≡ set (items_after p next).bound i (get_or (items_after p next).bound i 0 + 1) =
+    grind (arith, common_steps, row_put, bound_other) in
+    grind (arith, common_steps, row_len, same_items, may.1)
 
 -- ---- the tables of a keeper from one move to the next
-
--- what a move makes of tables that are those after the moves t
-pub record Makes (p : Puzzle) (t : List Move) (m : Move) (spans : List Span) (old : Nodes) (ring : Items) : Type 0 where
-  pub can : CanMake spans old ring m
-  pub nodes : nodes_made spans old ring m ≡ nodes_after p (m ∷ t)
-  pub items : items_made ring m ≡ items_after p (m ∷ t)
-  pub cost : made_cost spans old ring m ≡ cost_of p t m
 
 pub makes : {p : Puzzle} {t : List Move} {spans spans' : List Span} {nodes : Nodes} {items : Items} {m : Move}
     → spans' ≡ spans → nodes ≡ nodes_after p t → items ≡ items_after p t → MoveStep p t spans m
     → Makes p t m spans' nodes items
-makes {p} {t} {spans} {spans'} {nodes} {items} {m} a b c s = grind (arith, common_steps)
-
--- what its undoing makes of them, k being the node that it took off
-pub record Unmakes (p : Puzzle) (t : List Move) (m : Move) (k : ℕ) (spans : List Span) (old : Nodes) (ring : Items) :
-    Type 0 where
-  pub can : CanUnmake spans old ring m k
-  pub nodes : nodes_unmade spans old ring m k ≡ nodes_after p t
-  pub items : items_unmade ring m ≡ items_after p t
-  pub cost : unmade_cost spans old ring m k ≡ cost_of p t m
+makes a b c s = rw (a, b, c) s.there
 
 pub unmakes : {p : Puzzle} {t : List Move} {spans spans' : List Span} {nodes : Nodes} {items : Items} {m : Move} (k : ℕ)
     → spans' ≡ spans → nodes ≡ nodes_after p (m ∷ t) → items ≡ items_after p (m ∷ t) → IsTakenOff p t m k
     → MoveStep p t spans m → Unmakes p t m k spans' nodes items
-unmakes {p} {t} {spans} {spans'} {nodes} {items} {m} k a b c off s = grind (arith, common_steps)
+unmakes k a b c off s = rw (a, b, c) (s.back k off)
 
 pub none_newest : (p : Puzzle) (t : List Move) → cost_of_newest 0 p t ≡ 0
 none_newest p [] = refl
