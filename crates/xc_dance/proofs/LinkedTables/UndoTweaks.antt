@@ -47,7 +47,9 @@ turned_drop xs k h =
     grind (arith, common_steps, length-reverse, length-drop)
 
 -- the moves s are t and k Tweaks of item i; the nodes that they took off stand last, and the first is of the item
-pub record Found (p : Puzzle) (s t : List Move) (spans : List Span) (i k : ℕ) (xs : List ℕ) : Type 0 where
+pub record Found (p : Puzzle) (s t : List Move) (spans : List Span) (k : ℕ) (xs : List ℕ) : Type 0 where
+  pub i : ℕ
+  pub some : 1 ≤ k
   pub legal : AreLegal p t
   pub enough : k ≤ length xs
   pub first : get_or xs (length xs - k) 0 ≡ first_place p t i
@@ -67,7 +69,7 @@ first_taken p t i (o ∷ os) rest some e = ap (λ ks. link_place p i (first_of 0
 
 found_by : (p : Puzzle) (t : List Move) (spans : List Span) (i k : ℕ) (xs : List ℕ) → AreLegal p (tweaks (suc k) i t)
     → IsFitted p spans → reverse xs ≡ taken_nodes p (tweaks (suc k) i t)
-    → Found p (tweaks (suc k) i t) t spans i (suc k) xs
+    → Found p (tweaks (suc k) i t) t spans (suc k) xs
 found_by p t spans i k xs legal fit e =
     let s = tweaks (suc k) i t in
     let may = legal.0 in
@@ -96,6 +98,8 @@ found_by p t spans i k xs legal fit e =
     let long = ap length is ∙ length-append old places in
     let many = length-map tw.os (link_place p i) ∙ tw.count in
     record {
+      i = i;
+      some = omega arith;
       legal = before;
       enough = omega (arith, long, many);
       first = ap₂ (λ ys n. get_or ys n 0) is (omega (arith, long, many)) ∙ get_or-append-add old places 0 0
@@ -111,34 +115,29 @@ found_by p t spans i k xs legal fit e =
     }
 
 pub tweaks_found : (p : Puzzle) (s : List Move) (spans : List Span) (k : ℕ) (xs : List ℕ) → AreTweaks k s → AreLegal p s
-    → IsFitted p spans → reverse xs ≡ taken_nodes p s → (1 ≤ k) × ((i : ℕ) × Found p s (drop k s) spans i k xs)
+    → IsFitted p spans → reverse xs ≡ taken_nodes p s → Found p s (drop k s) spans k xs
 tweaks_found p s spans zero xs are legal fit e = absurd (let h = are.0 in omega (arith, h))
 tweaks_found p s spans (suc k) xs are legal fit e =
     let i = are.2.0 in
     let t = drop (suc k) s in
-    let is : s ≡ tweaks (suc k) i t = tweaks_are (suc k) i s are.1 are.2.1 in (
-      are.0,
-      (
-        i,
-        subst (λ r. Found p r t spans i (suc k) xs) (sym is)
-            (found_by p t spans i k xs (subst (AreLegal p) is legal) fit (e ∙ ap (taken_nodes p) is)),
-      ),
-    )
+    let is : s ≡ tweaks (suc k) i t = tweaks_are (suc k) i s are.1 are.2.1 in
+    subst (λ r. Found p r t spans (suc k) xs) (sym is)
+    (found_by p t spans i k xs (subst (AreLegal p) is legal) fit (e ∙ ap (taken_nodes p) is))
 
 -- ---- as the code reads them
 
-pub node_is : {p : Puzzle} {s t : List Move} {spans : List Span} {i k n x : ℕ} {xs : List ℕ} → Found p s t spans i k xs
-    → 1 ≤ k → x ≡ get_or xs (n - k) x → n ≡ length xs → x ≡ first_place p t i
-node_is {k = k} {x = x} {xs = xs} f some read long = grind (arith, common_steps)
+pub node_is : {p : Puzzle} {s t : List Move} {spans : List Span} {k n x : ℕ} {xs : List ℕ}
+    → (f : Found p s t spans k xs) → x ≡ get_or xs (n - k) x → n ≡ length xs → x ≡ first_place p t f.i
+node_is {k = k} {x = x} {xs = xs} f read long = grind (arith, common_steps)
 
 -- where that node and its item were read from the tables, the code may undo the moves at once
-pub record IsRead (p : Puzzle) (s t : List Move) (spans : List Span) (i k : ℕ) (xs : List ℕ) (nodes : Nodes)
+pub record IsRead (p : Puzzle) (s t : List Move) (spans : List Span) (k : ℕ) (xs : List ℕ) (nodes : Nodes)
     (items : Items) (x j : ℕ) : Type 0 where
-  pub found : Found p s t spans i k xs
+  pub found : Found p s t spans k xs
   pub tell : CanTell items j
   pub undoes : Undoes spans (is_off items j) nodes j x k (nodes_after p t) (undo_tweaks_cost k p s)
 
-pub read : {p : Puzzle} {s t : List Move} {spans : List Span} {i k : ℕ} {xs : List ℕ} {nodes : Nodes} {items : Items}
-    {x j : ℕ} → Found p s t spans i k xs → x ≡ first_place p t i → nodes ≡ nodes_after p s → items ≡ items_after p s
-    → j ≡ get_or nodes.top x 0 → IsRead p s t spans i k xs nodes items x j
+pub read : {p : Puzzle} {s t : List Move} {spans : List Span} {k : ℕ} {xs : List ℕ} {nodes : Nodes} {items : Items}
+    {x j : ℕ} (f : Found p s t spans k xs) → x ≡ first_place p t f.i → nodes ≡ nodes_after p s
+    → items ≡ items_after p s → j ≡ get_or nodes.top x 0 → IsRead p s t spans k xs nodes items x j
 read {j = j} f node nodes_are items_are at = grind (arith)
