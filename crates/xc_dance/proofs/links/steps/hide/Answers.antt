@@ -74,10 +74,7 @@ hide_range-below-requires-clause-unmarked c =
     c.up_at-first.result c.up_at-first.ensures in
     λ m q from below. ((c.requires.unmarked m).others c.args.p c.requires.span).1 q (omega (arith, first, from)) below
 
-pub returns-clause-done : goal.returns-clause-done
-returns-clause-done c = ((rest (goal.at.returns-clause-done c).After-get_at c.loop-top-test.false _
-    c.up_at-first.ensures).round _ _ c.hide_range-below.ensures.done c.hide_range-below.ensures.cost).done
-
-pub returns-clause-cost : goal.returns-clause-cost
-returns-clause-cost c = ((rest (goal.at.returns-clause-cost c).After-get_at c.loop-top-test.false _
-    c.up_at-first.ensures).round _ _ c.hide_range-below.ensures.done c.hide_range-below.ensures.cost).cost
+pub returns : goal.returns
+returns c =
+    let rest = rest (goal.at.returns c).After-get_at c.loop-top-test.false _ c.up_at-first.ensures in
+    let all = rest.round _ _ c.hide_range-below.ensures.done c.hide_range-below.ensures.cost in grind (arith, common_steps)

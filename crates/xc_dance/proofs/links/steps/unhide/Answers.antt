@@ -86,10 +86,8 @@ unhide_range-above-requires-clause-unmarked c = λ m q from below.
     let end = leads (goal.at.unhide_range-above-requires-clause-unmarked c).After-down_at in
     ((c.requires.unmarked m).others c.args.p c.requires.span).0 q from (omega (arith, end, below))
 
-pub returns-clause-done : goal.returns-clause-done
-returns-clause-done c = ((rest (goal.at.returns-clause-done c).After-down_at).round _ _
-    c.unhide_range-above.ensures.done c.unhide_range-above.ensures.cost).done
-
-pub returns-clause-cost : goal.returns-clause-cost
-returns-clause-cost c = ((rest (goal.at.returns-clause-cost c).After-down_at).round _ _
-    c.unhide_range-above.ensures.done c.unhide_range-above.ensures.cost).cost
+pub returns : goal.returns
+returns c =
+    let all = (rest (goal.at.returns c).After-down_at).round _ _ c.unhide_range-above.ensures.done
+    c.unhide_range-above.ensures.cost in
+    grind (arith, common_steps)

@@ -1,3 +1,4 @@
+use Rattle.std.proofs.lemmas.Grind.{common_steps}
 use Rattle.std.proofs.Common.{arith}
 use Rattle.xc_dance.proofs.LinkedTables.Walks.{follow_here, follow_on, follow_end}
 use Rattle.xc_dance.proofs.links.tweaks.bring_back.Goals as goal
@@ -11,8 +12,5 @@ down-p-requires c = (follow_here c.loop-test.true c.loop.invariant.walk).within 
 pub loop-preserved : goal.loop-preserved
 loop-preserved c = search (arith, follow_on)
 
-pub returns-clause-done : goal.returns-clause-done
-returns-clause-done c = (follow_end c.loop-test.false c.loop.invariant.walk).done
-
-pub returns-clause-cost : goal.returns-clause-cost
-returns-clause-cost c = (follow_end c.loop-test.false c.loop.invariant.walk).cost
+pub returns : goal.returns
+returns c = let e = follow_end c.loop-test.false c.loop.invariant.walk in grind (arith, common_steps)

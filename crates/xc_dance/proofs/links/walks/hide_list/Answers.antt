@@ -17,8 +17,5 @@ loop-preserved c =
     let walk = follow_on _ _ _ (omega arith) made.done c.down-p-in-loop.ensures made.cost c.loop.invariant.walk in
     grind (arith, common_steps)
 
-pub returns-clause-done : goal.returns-clause-done
-returns-clause-done c = (follow_end (omega arith) c.loop.invariant.walk).done
-
-pub returns-clause-cost : goal.returns-clause-cost
-returns-clause-cost c = (follow_end (omega arith) c.loop.invariant.walk).cost
+pub returns : goal.returns
+returns c = let e = follow_end (omega arith) c.loop.invariant.walk in grind (arith, common_steps)
