@@ -1,5 +1,5 @@
 -- A number that is taken out of a list that rises, and put back.
-use Rattle.std.proofs.Common.{ℕ, zero, suc, ◌≡◌, ◌≢◌, ◌<◌, ◌≤◌, Bool, true, false, ltb, ltb-true, ltb-false}
+use Rattle.std.proofs.Common.{ℕ, zero, suc, ◌≡◌, ◌≢◌, ◌<◌, ◌≤◌}
 use Rattle.std.proofs.Common.{List, [], ◌∷◌, length, get_or, set, refl, ap, arith, eq-eqb, vec_capacity}
 use Rattle.std.proofs.lemmas.Grind.{common_steps}
 use Rattle.std.specs.List.{insert, remove}
@@ -44,28 +44,15 @@ rises_weakly n (y ∷ ys) r (suc i) (suc j) le lt = rises_weakly y ys r.1 i j (o
 -- a search that found another place says that the number is absent
 pub less-not_found : (x i : ℕ) (xs : List ℕ) → ((k : ℕ) → k < i → get_or xs k 0 < x)
     → ((k : ℕ) → i ≤ k → k < length xs → x < get_or xs k 0) → less (x ∷ []) xs ≡ xs
-less-not_found x i xs below above = less-absent x xs (λ k lt. by_side k lt (ltb k i) refl)
-  where
-    by_side : (k : ℕ) → k < length xs → (b : Bool) → ltb k i ≡ b → get_or xs k 0 ≢ x
-    by_side k lt true q = let h = below k (ltb-true k i q) in omega (arith, h)
-    by_side k lt false q = let h = above k (ltb-false k i q) lt in omega (arith, h)
+less-not_found x i xs below above = less-absent x xs (λ k lt e. grind (arith, below k, above k))
 
--- ---- lists in vectors
-
-pub numbers_of-set : (ls : List (Vec ℕ)) (k : ℕ) (v : Vec ℕ) → numbers_of (set ls k v) ≡ set (numbers_of ls) k v.items
-numbers_of-set ls k v = map-set (λ (l : Vec ℕ). l.items) ls k v
+-- ---- a list among lists
 
 pub list_at-numbers_of : (ls : List (Vec ℕ)) (k : ℕ) (d : Vec ℕ) → k < length ls
     → list_at (numbers_of ls) k ≡ (get_or ls k d).items
 list_at-numbers_of ls k d lt = get_or-map (λ (l : Vec ℕ). l.items) ls k d [] lt
 
-pub room_at : (ls : List (Vec ℕ)) (k : ℕ) (d : Vec ℕ) → k < length ls
-    → get_or (rooms_of ls) k 0 ≡ vec_capacity (get_or ls k d)
-room_at ls k d lt = get_or-map (λ (l : Vec ℕ). vec_capacity l) ls k d 0 lt
-
--- ---- a list among lists
-
-ruleset rows = (get_or-set_same, insert-remove, length-remove, list_at-numbers_of, numbers_of-set, room_at, set-set)
+ruleset rows = (get_or-map, get_or-set_same, insert-remove, length-remove, list_at-numbers_of, map-set, set-set)
 
 -- a number that was removed from a vector's row can be put back
 pub row_removed : (ls : List (Vec ℕ)) (new : Vec ℕ) (list place number : ℕ) (row : Vec ℕ) → list < length ls

@@ -1,6 +1,7 @@
+use Rattle.xc_dance.proofs.LiveLists.Removal.{list_at-numbers_of}
 use Rattle.std.proofs.Common.{arith, sym}
 use Rattle.std.proofs.lemmas.Grind.{common_steps}
-use Rattle.xc_dance.proofs.LiveLists.Removal.{numbers_of-set, list_at-numbers_of}
+use Rattle.std.proofs.lemmas.List.{map-set}
 use Rattle.xc_dance.specs.inner.Lists.Taking.{numbers_of}
 use Rattle.xc_dance.proofs.LiveLists.Filled.{enlisted_none, enlisted_more, new_use, length-enlisted_from}
 use Rattle.xc_dance.proofs.lists.build.enlist.Goals as goal
@@ -13,4 +14,4 @@ index_mut-list-requires c = grind (arith, common_steps, length-enlisted_from)
 
 pub loop-u-preserved : goal.loop-u-preserved
 loop-u-preserved c =
-    grind (arith, common_steps, enlisted_more, length-enlisted_from, list_at-numbers_of, new_use, numbers_of-set)
+    grind (arith, common_steps, enlisted_more, length-enlisted_from, list_at-numbers_of, map-set, new_use)

@@ -1,13 +1,14 @@
 use Rattle.std.proofs.Common.{arith}
 use Rattle.std.proofs.lemmas.Grind.{common_steps}
-use Rattle.xc_dance.proofs.LiveLists.Removal.{numbers_of-set, list_at-numbers_of, less-remove}
+use Rattle.xc_dance.proofs.LiveLists.Removal.{less-remove}
+use Rattle.std.proofs.lemmas.List.{map-set, get_or-map}
 use Rattle.xc_dance.proofs.LiveLists.Removal.{row_removed}
 use Rattle.xc_dance.proofs.lists.undo_log.remove.Goals as goal
 use Rattle.std.proofs.Common.{vec_capacity}
 use Rattle.std.proofs.Math.Seq.{map-set_same}
 
 pub returns-clause-lists : goal.returns-clause-lists
-returns-clause-lists c = grind (arith, common_steps, less-remove, list_at-numbers_of, numbers_of-set)
+returns-clause-lists c = grind (arith, common_steps, less-remove, get_or-map, map-set)
 
 pub returns-clause-rooms : goal.returns-clause-rooms
 returns-clause-rooms c = grind (arith, common_steps, map-set_same, vec_capacity)
