@@ -1,6 +1,6 @@
 -- Cover on the item table: an item leaves its ring and comes back.
 use Rattle.std.proofs.Common.{◌≡◌, ◌≢◌, ℕ, ◌+◌, ◌<◌, ◌≤◌, ◌⊎◌, Bool, true, false, not, cond}
-use Rattle.std.proofs.Common.{subst, eqb, leb, List, ◌∷◌, length, map, filter, get_or, set, refl, ap, sym}
+use Rattle.std.proofs.Common.{subst, eqb, leb, List, ◌∷◌, map, filter, set, refl, ap, sym}
 use Rattle.std.proofs.Common.{◌∙◌, arith, eq-eqb, ne_eqb, le-leb, leb-true}
 use Rattle.std.proofs.lemmas.Grind.{common_steps}
 use Rattle.std.specs.List.{range_with_len}
@@ -200,10 +200,6 @@ links p d t = map (link p d t) (range_with_len 0 (item_count p + 2))
 -- a column of links before a Cover and after it
 record WayStep (p : Puzzle) (d : Bool) (t : List Move) (i : ℕ) : Type 0 where
   beside : link p (not d) t i < item_count p + 2
-  long : length (links p d t) ≡ item_count p + 2
-  long' : length (links p d (Cover i ∷ t)) ≡ item_count p + 2
-  get : get_or (links p d t) i 0 ≡ link p d t i
-  get' : get_or (links p d (Cover i ∷ t)) i 0 ≡ link p d t i
   put : links p d (Cover i ∷ t) ≡ set (links p d t) (link p (not d) t i) (link p d t i)
   back : set (links p d (Cover i ∷ t)) (link p (not d) t i) i ≡ links p d t
 
@@ -223,5 +219,6 @@ ring_step p t i legal may =
     let pos : 0 < i = let h = may.0.0 in omega (arith, h) in
     let le : i ≤ item_count p = may.0.1 in
     let un : is_covered i t ≡ false = open_uncovered i t may.1 in
-    let next = items_after p (Cover i ∷ t) in
-    grind (arith, common_steps, same_items, way_step p false t i legal pos le un, way_step p true t i legal pos le un)
+    let left = way_step p false t i legal pos le un in
+    let right = way_step p true t i legal pos le un in
+    grind (arith, common_steps, link_gone, row_get, row_len, same_items)
