@@ -39,10 +39,10 @@ use Rattle.xc_dance.proofs.LinkedTables.OneList.{Listed, marked_list, Passed}
 use Rattle.xc_dance.proofs.LinkedTables.OneList.{listed_walk, color_other}
 use Rattle.xc_dance.proofs.LinkedTables.OtherItems.{leaves, list_at}
 use Rattle.xc_dance.proofs.LinkedTables.Leaving.{exchanged, costs_split, leaving_is, AreOf, TakesOut}
-use Rattle.xc_dance.proofs.LinkedTables.Leaving.{cut_others, cut_own, listed_options, takes_cover}
+use Rattle.xc_dance.proofs.LinkedTables.Leaving.{cut_others, cut_own, takes_cover}
 use Rattle.xc_dance.proofs.LinkedTables.Leaving.{takes_purify, own_purify}
 use Rattle.xc_dance.proofs.MoveLemmas.Members.{in_filter}
-use Rattle.xc_dance.proofs.MoveLemmas.Shortened.{rises_listed}
+use Rattle.xc_dance.proofs.MoveLemmas.Shortened.{rises_listed, holders}
 use Rattle.xc_dance.proofs.LinkedTables.MarkedNodes.{marked_none, cover_colours, purify_start, purify_colours}
 use Rattle.std.proofs.Common.{sum_by}
 use Rattle.xc_dance.proofs.LinkedTables.OneList.{step_cost}
@@ -232,10 +232,9 @@ purify_hides p t i c legal laid pos le opened =
 -- ---- what they write
 
 -- the options kept are those that are marked
-pub kept_marked : (p : Puzzle) (t : List Move) (i c : ℕ) → AreLegal p t → is_open i t ≡ true
+pub kept_marked : (p : Puzzle) (t : List Move) (i c : ℕ)
     → length (filter (is_kept p i (Some c)) (listed_numbers p t i)) ≡ marking p t i c
-kept_marked p t i c legal opened =
-    grind (arith, common_steps, listed, length-map, filter_same, each_weaker, listed_options, filter-map)
+kept_marked p t i c = grind (arith, common_steps, listed, length-map, filter_same, each_weaker, holders, filter-map)
 
 -- a Cover keeps none
 pub cover_writes : (p : Puzzle) (t : List Move) (i : ℕ) → hide_writes p t (Cover i) i None + 2 ≡ cost_of p t (Cover i)

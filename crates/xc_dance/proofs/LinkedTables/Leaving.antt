@@ -243,10 +243,6 @@ pub takes_listed : (p : Puzzle) (t : List Move) (m : Move) (i : ℕ) (gone : Lis
     → TakesOut p t m i gs
 takes_listed p t m i gone is h = grind (arith, less_without, listed)
 
-pub listed_options : (p : Puzzle) (t : List Move) (i : ℕ) → AreLegal p t → is_open i t ≡ true
-    → AllByRecursion (IsOption p) (listed p t i)
-listed_options p t i legal opened = grind (arith, common_steps, each-filter, listed_open, options_left)
-
 -- ---- Cover
 
 pub takes_cover : (p : Puzzle) (t : List Move) (i : ℕ)

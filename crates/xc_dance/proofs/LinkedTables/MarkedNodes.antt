@@ -9,7 +9,7 @@ use Rattle.std.proofs.lemmas.Bool.{false≢true, eqb-false}
 use Rattle.std.proofs.lemmas.Option.{same_Some}
 use Rattle.std.proofs.Math.Bool.{not-not}
 use Rattle.xc_input.specs.declared.problem.Use.{Use}
-use Rattle.xc_input.specs.Problem.{Puzzle, Numbered, numbered_options, colour_in, colour_at, uses_of, holds}
+use Rattle.xc_input.specs.Problem.{Puzzle, Numbered, colour_in, colour_at, uses_of, holds}
 use Rattle.xc_input.specs.Problem.{holding}
 use Rattle.xc_dance.specs.declared.dance.Move.{Move}
 use Rattle.xc_dance.specs.declared.dance.Move.TheVariants.{Cover, Purify}
@@ -37,14 +37,9 @@ use Rattle.xc_dance.specs.declared.links.nodes.TheConstants.{MARK}
 
 -- ---- facts of each option left
 
--- a fact of all options is one of those left
-pub all_left : (P : Numbered → Type 0) (p : Puzzle) (t : List Move) → AllByRecursion P (numbered_options p)
-    → AllByRecursion P (left p t)
-all_left P p [] a = a
-all_left P p (m ∷ t) a = kept P p t m (all_left P p t a)
-
 pub options_left : (p : Puzzle) (t : List Move) → AllByRecursion (IsOption p) (left p t)
-options_left p t = all_left (IsOption p) p t (options_numbered p)
+options_left p [] = options_numbered p
+options_left p (m ∷ t) = kept (IsOption p) p t m (options_left p t)
 
 -- ---- membership
 

@@ -168,7 +168,7 @@ purify_step {p} t {spans} i c legal may f =
     let none : get_or (nodes_after p t).color i 0 ≡ 0 = get_map (color_in p t) (layout p) i (own i) head
     ∙ ap (λ o. unwrap_or o 0) (open_unpurified i t may.1) in
     let still = still_items p t (Purify i c) (λ q. refl) (λ q. refl) in
-    grind (arith, common_steps, same_nodes, written_back, w.undone, kept_marked p t i c legal may.1)
+    grind (arith, common_steps, same_nodes, written_back, w.undone, kept_marked p t i c)
 
 pub move_step : {p : Puzzle} (t : List Move) {spans : List Span} (m : Move) → AreLegal p t → IsLegal p t m
     → IsFitted p spans → MoveStep p t spans m
