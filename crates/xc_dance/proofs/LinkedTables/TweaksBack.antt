@@ -102,7 +102,7 @@ tweaked p t spans covered i (suc k) legal fit opened =
 -- ---- all the way down: the nodes that k Tweaks of one item took off come back, and the lines are then those of before
 -- the Tweaks
 
-abbrev bringing : List Span → Bool → Kind
+abbrev pub bringing : List Span → Bool → Kind
 bringing spans covered = record {
   step = brought_back spans covered;
   Can = CanBringBack spans covered;

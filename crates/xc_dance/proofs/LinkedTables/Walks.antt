@@ -8,7 +8,7 @@ use Rattle.std.proofs.lemmas.Grind.{common_steps}
 use Rattle.std.proofs.lemmas.Bool.{eqb-false}
 use Rattle.std.proofs.lemmas.List.{drop_more, reverse-append}
 use Rattle.xc_dance.specs.declared.links.nodes.Nodes.{Nodes}
-use Rattle.xc_dance.specs.inner.Links.Steps.{followed, IsSpacer, places}
+use Rattle.xc_dance.specs.inner.Links.Steps.{followed, IsSpacer, places, hidden, unhidden, CanHide, CanUnhide, hide_cost}
 use Rattle.xc_dance.specs.inner.Links.Walks.{costs, CanAll, CanFollow}
 use Rattle.xc_dance.specs.declared.links.nodes.TheConstants.{SPACER}
 
@@ -28,22 +28,34 @@ pub costs-append : (step : Nodes → ℕ → Nodes) (writes : Nodes → ℕ → 
 costs-append step writes t [] qs = omega arith
 costs-append step writes t (p ∷ ps) qs = let e = costs-append step writes (step t p) ps qs in omega (arith, e)
 
+-- a kind of walk: its step, when that may be made, what it writes, and by which links it goes on
+pub record Kind : Type 1 where
+  pub step : Nodes → ℕ → Nodes
+  pub Can : Nodes → ℕ → Type 0
+  pub writes : Nodes → ℕ → ℕ
+  pub links : Nodes → List ℕ
+
+-- hide goes up to a spacer, and unhide down to one
+abbrev pub hide_walk : Kind
+hide_walk = record { step = hidden; Can = CanHide; writes = hide_cost; links = λ t. t.ulink }
+
+abbrev pub unhide_walk : Kind
+unhide_walk = record { step = unhidden; Can = CanUnhide; writes = hide_cost; links = λ t. t.dlink }
+
 -- n cells were written on the way from table t0 to t, and the steps that are left lead to the end of all
-pub record Underway (step : Nodes → ℕ → Nodes) (writes : Nodes → ℕ → ℕ) (Can : Nodes → ℕ → Type 0) (t0 : Nodes)
-    (all : List ℕ) (t : Nodes) (left : List ℕ) (n : ℕ) : Type 0 where
-  pub can : CanAll step Can t left
-  pub done : fold step t left ≡ fold step t0 all
-  pub cost : n + costs step writes t left ≡ costs step writes t0 all
+pub record Underway (k : Kind) (t0 : Nodes) (all : List ℕ) (t : Nodes) (left : List ℕ) (n : ℕ) : Type 0 where
+  pub can : CanAll k.step k.Can t left
+  pub done : fold k.step t left ≡ fold k.step t0 all
+  pub cost : n + costs k.step k.writes t left ≡ costs k.step k.writes t0 all
 
 -- the table that was reached, and what was written
-pub record Reached (step : Nodes → ℕ → Nodes) (writes : Nodes → ℕ → ℕ) (t0 : Nodes) (all : List ℕ) (t : Nodes) (n : ℕ) :
-    Type 0 where
-  pub done : t ≡ fold step t0 all
-  pub cost : n ≡ costs step writes t0 all
+pub record Reached (k : Kind) (t0 : Nodes) (all : List ℕ) (t : Nodes) (n : ℕ) : Type 0 where
+  pub done : t ≡ fold k.step t0 all
+  pub cost : n ≡ costs k.step k.writes t0 all
 
-pub underway : {step : Nodes → ℕ → Nodes} {Can : Nodes → ℕ → Type 0} (writes : Nodes → ℕ → ℕ) (t0 : Nodes)
-    (all left : List ℕ) → left ≡ all → CanAll step Can t0 all → Underway step writes Can t0 all t0 left 0
-underway {step} {Can} writes t0 all left e can = grind (arith, common_steps)
+pub underway : {k : Kind} (t0 : Nodes) (all left : List ℕ) → left ≡ all → CanAll k.step k.Can t0 all
+    → Underway k t0 all t0 left 0
+underway {k} t0 all left e can = grind (arith, common_steps)
 
 -- one walk behind another
 -- ---- ways there and back
@@ -82,13 +94,6 @@ way_made R table place step Can each s [] v w = (tt, ap table w)
 way_made R table place step Can each s (x ∷ xs) v w =
     grind (arith, common_steps, way_made R table place step Can each w.0 xs v w.1.1)
 
--- a kind of walk along links: its step, when that may be made, and what it writes
-pub record Kind : Type 1 where
-  pub step : Nodes → ℕ → Nodes
-  pub Can : Nodes → ℕ → Type 0
-  pub writes : Nodes → ℕ → ℕ
-  pub links : Nodes → List ℕ
-
 -- a step at node x leads from t to u, and writes n cells
 pub record Leads (k : Kind) (t u : Nodes) (x n : ℕ) : Type 0 where
   pub can : k.Can t x
@@ -125,23 +130,22 @@ pub record Tells (t u : Nodes) (q z : ℕ) (left : List ℕ) : Type 0 where
   pub none : SPACER ≤ get_or t.top q 0 → left ≡ []
   pub is : SPACER ≤ get_or t.top q 0 → t ≡ u
 
-module _ {step : Nodes → ℕ → Nodes} {writes : Nodes → ℕ → ℕ} {Can : Nodes → ℕ → Type 0} {t0 : Nodes} {all : List ℕ}
-    {t : Nodes} {left : List ℕ} {n : ℕ} where
+module _ {k : Kind} {t0 : Nodes} {all : List ℕ} {t : Nodes} {left : List ℕ} {n : ℕ} where
   -- the first step of those that are left
-  pub step_can : (q : ℕ) (more : List ℕ) → left ≡ q ∷ more → Underway step writes Can t0 all t left n → Can t q
-  step_can q more e h = (subst (CanAll step Can t) e h.can).0
+  pub step_can : (q : ℕ) (more : List ℕ) → left ≡ q ∷ more → Underway k t0 all t left n → k.Can t q
+  step_can q more e h = (subst (CanAll k.step k.Can t) e h.can).0
 
-  pub step_on : (q : ℕ) (more : List ℕ) (u : Nodes) (m : ℕ) → left ≡ q ∷ more → u ≡ step t q → m ≡ writes t q
-      → Underway step writes Can t0 all t left n → Underway step writes Can t0 all u more (n + m)
+  pub step_on : (q : ℕ) (more : List ℕ) (u : Nodes) (m : ℕ) → left ≡ q ∷ more → u ≡ k.step t q → m ≡ k.writes t q
+      → Underway k t0 all t left n → Underway k t0 all u more (n + m)
   step_on q more u m e is paid h = grind (arith, common_steps)
 
-  pub steps_end : left ≡ [] → Underway step writes Can t0 all t left n → Reached step writes t0 all t n
+  pub steps_end : left ≡ [] → Underway k t0 all t left n → Reached k t0 all t n
   steps_end e h = grind (arith, common_steps)
 
-  pub tells : (q z : ℕ) → ((v : Nodes) (x : ℕ) → Can v x → (x < length v.top) × (get_or v.top x 0 < SPACER))
-      → (q ≡ z → left ≡ []) → (q ≢ z → (more : List ℕ) × (left ≡ q ∷ more)) → IsSpacer (fold step t0 all) z
-      → Underway step writes Can t0 all t left n → Tells t (fold step t0 all) q z left
-  tells q z knows met on spacer h = grind (arith, step, all, left, eqb-true, steps_end, eqb-false, step_can)
+  pub tells : (q z : ℕ) → ((v : Nodes) (x : ℕ) → k.Can v x → (x < length v.top) × (get_or v.top x 0 < SPACER))
+      → (q ≡ z → left ≡ []) → (q ≢ z → (more : List ℕ) × (left ≡ q ∷ more)) → IsSpacer (fold k.step t0 all) z
+      → Underway k t0 all t left n → Tells t (fold k.step t0 all) q z left
+  tells q z knows met on spacer h = grind (arith, all, left, eqb-true, steps_end, eqb-false, step_can)
 
 -- ---- along links
 
@@ -150,37 +154,33 @@ length-followed links zero p = refl
 length-followed links (suc n) p = ap suc (length-followed links n (get_or links p 0))
 
 -- the same of a walk along m links from node x, which is at node p, k nodes on
-pub record Following (step : Nodes → ℕ → Nodes) (writes : Nodes → ℕ → ℕ) (Can : Nodes → ℕ → Type 0)
-    (links : Nodes → List ℕ) (t0 : Nodes) (m x : ℕ) (t : Nodes) (p k n : ℕ) : Type 0 where
-  pub walk : CanFollow step Can links t p (drop k (followed (links t0) m x))
-  pub done : fold step t (drop k (followed (links t0) m x)) ≡ fold step t0 (followed (links t0) m x)
-  pub cost : n + costs step writes t (drop k (followed (links t0) m x)) ≡ costs step writes t0 (followed (links t0) m x)
+pub record Following (w : Kind) (t0 : Nodes) (m x : ℕ) (t : Nodes) (p k n : ℕ) : Type 0 where
+  pub walk : CanFollow w.step w.Can w.links t p (drop k (followed (w.links t0) m x))
+  pub done : fold w.step t (drop k (followed (w.links t0) m x)) ≡ fold w.step t0 (followed (w.links t0) m x)
+  pub cost : n + costs w.step w.writes t (drop k (followed (w.links t0) m x))
+      ≡ costs w.step w.writes t0 (followed (w.links t0) m x)
 
 -- the node that it is at comes first of those that are left
-pub record Here (step : Nodes → ℕ → Nodes) (Can : Nodes → ℕ → Type 0) (links : Nodes → List ℕ) (all : List ℕ)
-    (t : Nodes) (p k : ℕ) : Type 0 where
+pub record Here (w : Kind) (all : List ℕ) (t : Nodes) (p k : ℕ) : Type 0 where
   pub first : drop k all ≡ p ∷ drop (k + 1) all
-  pub can : Can t p
-  pub within : (u : Nodes) → u ≡ step t p → p < length (links u)
-  pub next : CanFollow step Can links (step t p) (get_or (links (step t p)) p 0) (drop (k + 1) all)
+  pub can : w.Can t p
+  pub within : (u : Nodes) → u ≡ w.step t p → p < length (w.links u)
+  pub next : CanFollow w.step w.Can w.links (w.step t p) (get_or (w.links (w.step t p)) p 0) (drop (k + 1) all)
 
-module _ {step : Nodes → ℕ → Nodes} {writes : Nodes → ℕ → ℕ} {Can : Nodes → ℕ → Type 0} {links : Nodes → List ℕ}
-    {t0 : Nodes} {m x : ℕ} {t : Nodes} {p k n : ℕ} where
-  pub follow_here : k < m → Following step writes Can links t0 m x t p k n
-      → Here step Can links (followed (links t0) m x) t p k
+module _ {w : Kind} {t0 : Nodes} {m x : ℕ} {t : Nodes} {p k n : ℕ} where
+  pub follow_here : k < m → Following w t0 m x t p k n → Here w (followed (w.links t0) m x) t p k
   follow_here lt h =
-      let all : List ℕ = followed (links t0) m x in
+      let all : List ℕ = followed (w.links t0) m x in
       let at : drop k all ≡ get_or all k 0 ∷ drop (k + 1) all =
       grind (arith, common_steps, drop_more, length-followed) in
       let first : drop k all ≡ p ∷ drop (k + 1) all = grind (arith, common_steps) in
-      grind (arith, common_steps, subst (CanFollow step Can links t p) first h.walk)
+      grind (arith, common_steps, subst (CanFollow w.step w.Can w.links t p) first h.walk)
 
-  pub follow_on : (u : Nodes) (q w : ℕ) → k < m → u ≡ step t p → q ≡ get_or (links u) p 0 → w ≡ writes t p
-      → Following step writes Can links t0 m x t p k n → Following step writes Can links t0 m x u q (k + 1) (n + w)
-  follow_on u q w lt is to paid h = grind (arith, common_steps, follow_here, links, step, costs, writes, k, x)
+  pub follow_on : (u : Nodes) (q c : ℕ) → k < m → u ≡ w.step t p → q ≡ get_or (w.links u) p 0 → c ≡ w.writes t p
+      → Following w t0 m x t p k n → Following w t0 m x u q (k + 1) (n + c)
+  follow_on u q c lt is to paid h = grind (arith, common_steps, follow_here lt h)
 
-  pub follow_end : m ≤ k → Following step writes Can links t0 m x t p k n
-      → Reached step writes t0 (followed (links t0) m x) t n
+  pub follow_end : m ≤ k → Following w t0 m x t p k n → Reached w t0 (followed (w.links t0) m x) t n
   follow_end le h = grind (arith, common_steps, length-followed)
 
 -- ---- places in a row, one by one

@@ -3,10 +3,10 @@ use Rattle.std.proofs.lemmas.Grind.{common_steps}
 use Rattle.xc_dance.specs.declared.links.nodes.Nodes.{Nodes}
 use Rattle.xc_dance.specs.inner.Links.Columns.{columns}
 use Rattle.xc_dance.specs.inner.Links.Span.{Span}
-use Rattle.xc_dance.specs.inner.Links.Steps.{hidden, hide_cost, CanHide, CanHideAll, CanHideNode, places}
+use Rattle.xc_dance.specs.inner.Links.Steps.{hidden, CanHide, CanHideAll, CanHideNode, places}
 use Rattle.xc_dance.specs.inner.Links.Steps.{span_at, others_of}
 use Rattle.xc_dance.proofs.LinkedTables.Walks.{places_none, places_more, CanAll-append, underway, step_can, step_on}
-use Rattle.xc_dance.proofs.LinkedTables.Walks.{Tells, tells}
+use Rattle.xc_dance.proofs.LinkedTables.Walks.{Tells, tells, hide_walk}
 use Rattle.xc_dance.proofs.Rounds.{Met, met}
 use Rattle.xc_dance.proofs.links.steps.hide.Goals as goal
 use Rattle.xc_dance.proofs.links.steps.hide.Goals.{After-get_at}
@@ -58,7 +58,7 @@ leads c met first is = grind (arith, common_steps, told c)
 
 -- and there the rest of the walk begins
 rest : (c : After-get_at) → SPACER ≤ c.get_at.result → (first : ℕ) → first ≡ get_or (now c).ulink c.loop-top.q 0
-    → Met hidden hide_cost CanHide (columns c.args.top.now c.args.links.now c.args.color.now)
+    → Met hide_walk (columns c.args.top.now c.args.links.now c.args.color.now)
     (others_of c.args.spans.now c.args.p) (now c) c.loop-top.above (places first c.args.p)
 rest c spacer first is =
     let e = c.get_at.ensures in

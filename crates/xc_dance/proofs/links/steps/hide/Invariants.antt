@@ -1,7 +1,7 @@
 use Rattle.std.proofs.Common.{◌≡◌, ◌+◌, ◌-◌, ◌*◌, ◌<◌, ◌≤◌}
 use Rattle.xc_dance.specs.inner.Links.Columns.{columns}
-use Rattle.xc_dance.specs.inner.Links.Steps.{hidden, hide_cost, CanHide, places, span_at}
-use Rattle.xc_dance.proofs.LinkedTables.Walks.{Underway}
+use Rattle.xc_dance.specs.inner.Links.Steps.{places, span_at}
+use Rattle.xc_dance.proofs.LinkedTables.Walks.{Underway, hide_walk}
 use Rattle.xc_dance.proofs.links.steps.hide.Given as goal
 
 -- what is left stands in front of the spacer
@@ -9,7 +9,7 @@ abbrev pub invariant-loop-top : goal.invariant-loop-top
 invariant-loop-top l =
     let end = (span_at l.spans l.p).end in
     record {
-      walk : Underway hidden hide_cost CanHide (columns l.initial.top l.initial.links l.color) (places (l.p + 1) end)
+      walk : Underway hide_walk (columns l.initial.top l.initial.links l.color) (places (l.p + 1) end)
           (columns l.top l.links l.color) (places l.q end) l.above;
       behind : l.p < l.q;
       to : l.q ≤ end;

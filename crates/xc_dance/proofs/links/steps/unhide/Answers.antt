@@ -5,10 +5,10 @@ use Rattle.std.proofs.lemmas.List.{reverse-append}
 use Rattle.xc_dance.specs.declared.links.nodes.Nodes.{Nodes}
 use Rattle.xc_dance.specs.inner.Links.Columns.{columns}
 use Rattle.xc_dance.specs.inner.Links.Span.{Span}
-use Rattle.xc_dance.specs.inner.Links.Steps.{unhidden, hide_cost, CanUnhide, CanUnhideAll, CanUnhideNode}
+use Rattle.xc_dance.specs.inner.Links.Steps.{unhidden, CanUnhideAll, CanUnhideNode}
 use Rattle.xc_dance.specs.inner.Links.Steps.{places, others, others_of, span_at}
 use Rattle.xc_dance.proofs.LinkedTables.Walks.{places_none, reverse-places, CanAll-append, underway, step_can, step_on}
-use Rattle.xc_dance.proofs.LinkedTables.Walks.{Tells, tells}
+use Rattle.xc_dance.proofs.LinkedTables.Walks.{Tells, tells, unhide_walk}
 use Rattle.xc_dance.proofs.Rounds.{Met, met}
 use Rattle.xc_dance.proofs.links.steps.unhide.Goals as goal
 use Rattle.xc_dance.proofs.links.steps.unhide.Goals.{After-get_at, After-down_at}
@@ -69,7 +69,7 @@ overflow_add-end c = grind (arith, common_steps, leads)
 
 -- and there the rest of the walk begins
 rest : (c : After-down_at)
-    → Met unhidden hide_cost CanUnhide (columns c.args.top.now c.args.links.now c.args.color.now)
+    → Met unhide_walk (columns c.args.top.now c.args.links.now c.args.color.now)
     (reverse (others_of c.args.spans.now c.args.p)) (columns c.loop-top.top c.loop-top.links c.args.color.now)
     c.loop-top.below (reverse (places (c.args.p + 1) (c.down_at.result + 1)))
 rest c =

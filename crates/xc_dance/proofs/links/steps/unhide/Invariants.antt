@@ -1,7 +1,7 @@
 use Rattle.std.proofs.Common.{◌≡◌, ◌+◌, ◌*◌, ◌<◌, ◌≤◌, reverse}
 use Rattle.xc_dance.specs.inner.Links.Columns.{columns}
-use Rattle.xc_dance.specs.inner.Links.Steps.{unhidden, hide_cost, CanUnhide, places, span_at}
-use Rattle.xc_dance.proofs.LinkedTables.Walks.{Underway}
+use Rattle.xc_dance.specs.inner.Links.Steps.{places, span_at}
+use Rattle.xc_dance.proofs.LinkedTables.Walks.{Underway, unhide_walk}
 use Rattle.xc_dance.proofs.links.steps.unhide.Given as goal
 
 -- what is left stands behind the spacer
@@ -9,7 +9,7 @@ abbrev pub invariant-loop-top : goal.invariant-loop-top
 invariant-loop-top l =
     let first = (span_at l.spans l.p).first in
     record {
-      walk : Underway unhidden hide_cost CanUnhide (columns l.initial.top l.initial.links l.color)
+      walk : Underway unhide_walk (columns l.initial.top l.initial.links l.color)
           (reverse (places first l.p)) (columns l.top l.links l.color) (reverse (places first (l.q + 1))) l.below;
       before : l.q < l.p;
       from : first ≤ l.q + 1;

@@ -1,8 +1,8 @@
+use Rattle.xc_dance.proofs.LinkedTables.OneList.{up_walk}
 use Rattle.std.proofs.Common.{◌≡◌, false, ◌+◌, ◌*◌, ◌^◌, ◌≤◌}
 use Rattle.std.specs.Prelude.{slice_index}
 use Rattle.xc_dance.specs.declared.links.nodes.Nodes.{Nodes}
 use Rattle.xc_dance.specs.inner.Links.Columns.{values, columns}
-use Rattle.xc_dance.specs.inner.Links.ListWalks.{back_node, back_cost, CanReturn}
 use Rattle.xc_dance.specs.inner.Links.Unmarked.{IsUnmarked}
 use Rattle.xc_dance.proofs.LinkedTables.Walks.{Following}
 use Rattle.xc_dance.proofs.links.walks.unhide_list.Given as goal
@@ -11,8 +11,7 @@ abbrev pub invariant-loop : goal.invariant-loop
 invariant-loop l =
     let old : Nodes = columns l.fn.top l.fn.links l.fn.color in
     record {
-      walk : Following (back_node l.spans l.keep) (back_cost l.spans l.keep) (CanReturn l.spans l.keep)
-          (λ (t : Nodes). t.ulink) old (slice_index old.top l.i) (slice_index old.ulink l.i)
+      walk : Following (up_walk l.spans l.keep) old (slice_index old.top l.i) (slice_index old.ulink l.i)
           (columns l.top l.links l.color) l.p l.counter l.count;
       unmarked : l.marks ≡ false → IsUnmarked l.spans (values l.color);
       counted : l.writes.count ≡ l.initial.writes.count + l.count;
