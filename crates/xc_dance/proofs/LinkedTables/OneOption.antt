@@ -52,31 +52,28 @@ left_all = changed_all cut
 abbrev pub gone_count : Puzzle → (Node → ℕ) → ℕ → ℕ → ℕ
 gone_count p col i o = length (filter (λ j. not (is_mark p col o j)) (other_items p o i))
 
-pub one_other : (change : Line → ℕ → Line) (p : Puzzle) (col : Node → ℕ) (o : ℕ) (ln : ℕ → Line) (j k : ℕ) → j ≢ k
-    → changed_one change p col o ln j k ≡ ln k
-one_other change p col o ln j k ne = grind (arith, common_steps, line_there)
-
-pub all_other : (change : Line → ℕ → Line) (p : Puzzle) (col : Node → ℕ) (o : ℕ) (ln : ℕ → Line) (js : List ℕ) (k : ℕ)
-    → is_in k js ≡ false → changed_all change p col o ln js k ≡ ln k
-all_other change p col o ln [] k out = refl
-all_other change p col o ln (j ∷ js) k out =
-    let ne = out_rest j k js out in
-    all_other change p col o (changed_one change p col o ln j) js k (sym (is_in-other j k js ne) ∙ out)
-    ∙ one_other change p col o ln j k ne
-
 -- no two of them are the same
 abbrev pub AllApart : List ℕ → Type 0
 AllApart [] = Unit {0}
 AllApart (j ∷ js) = (is_in j js ≡ false) × AllApart js
 
--- the line of item k after all of them
-pub all_at : (change : Line → ℕ → Line) (p : Puzzle) (col : Node → ℕ) (o : ℕ) (ln : ℕ → Line) (js : List ℕ) (k : ℕ)
-    → AllApart js → changed_all change p col o ln js k ≡ cond (is_in k js && not (is_mark p col o k))
-    (change (ln k) o) (ln k)
-all_at change p col o ln [] k apart = grind (arith, common_steps, all_other, eqb-false, eqb-true, line_here, one_other)
-all_at change p col o ln (j ∷ js) k apart =
-    let rest = all_at change p col o (changed_one change p col o ln j) js k apart.1 in
-    grind (arith, common_steps, all_other, eqb-false, eqb-true, line_here, one_other)
+module _ (change : Line → ℕ → Line) (p : Puzzle) (col : Node → ℕ) (o : ℕ) where
+  pub one_other : (ln : ℕ → Line) (j k : ℕ) → j ≢ k → changed_one change p col o ln j k ≡ ln k
+  one_other ln j k ne = grind (arith, common_steps, line_there)
+
+  pub all_other : (ln : ℕ → Line) (js : List ℕ) (k : ℕ) → is_in k js ≡ false → changed_all change p col o ln js k ≡ ln k
+  all_other ln [] k out = refl
+  all_other ln (j ∷ js) k out =
+      let ne = out_rest j k js out in
+      all_other (changed_one change p col o ln j) js k (sym (is_in-other j k js ne) ∙ out) ∙ one_other ln j k ne
+
+  -- the line of item k after all of them
+  pub all_at : (ln : ℕ → Line) (js : List ℕ) (k : ℕ) → AllApart js
+      → changed_all change p col o ln js k ≡ cond (is_in k js && not (is_mark p col o k)) (change (ln k) o) (ln k)
+  all_at ln [] k apart = grind (arith, common_steps, all_other, eqb-false, eqb-true, line_here, one_other)
+  all_at ln (j ∷ js) k apart =
+      let rest = all_at (changed_one change p col o ln j) js k apart.1 in
+      grind (arith, common_steps, all_other, eqb-false, eqb-true, line_here, one_other)
 
 -- ---- what its leaving asks of one item and of all
 
