@@ -81,13 +81,8 @@ found_by p t spans i k xs legal fit e =
     let tw = tweaked p t spans covered i (suc k) legal fit opened in
     let off = off_is p s i legal pos le in
     let some : 0 < length tw.os = omega (arith, tw.count) in
-    let f = has_first p t i (omega (
-      arith,
-      length-map (listed p t i) (λ o. o.number),
-      some,
-      ap length tw.list
-          ∙ length-append tw.os (listed_numbers p s i),
-    )) in
+    let all = ap length tw.list ∙ length-append tw.os (listed_numbers p s i) in
+    let f = has_first p t i (omega (arith, length-map (listed p t i) (λ o. o.number), some, all)) in
     let first : link_place p i f.o ≡ first_place p t i = sym (ap (λ ks. link_place p i (first_of 0 ks)) f.is) in
     let here = fit.laid.there i f.o pos le (inr (f.pos, f.named)) in
     let at = slice_get_within (layout p) (link_place p i f.o) here.node here.at in
