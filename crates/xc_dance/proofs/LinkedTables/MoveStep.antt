@@ -37,12 +37,9 @@ use Rattle.xc_dance.proofs.LinkedTables.LinkColumns.{same_nodes, written_back, g
 use Rattle.xc_dance.proofs.LinkedTables.RingStep.{bound_own, spends_own, bound_other, row_put}
 use Rattle.xc_dance.proofs.MoveLemmas.StateLemmas.{open_unpurified}
 use Rattle.xc_dance.specs.Fields.{layout, own}
-use Rattle.std.proofs.Common.{Some, map, ◌-◌, set}
+use Rattle.std.proofs.Common.{Some, ◌-◌, set}
 use Rattle.std.specs.Prelude.{unwrap_or}
-use Rattle.std.proofs.lemmas.List.{length-map}
-use Rattle.std.proofs.lemmas.Option.{slice_get_within}
 use Rattle.xc_input.specs.Problem.{high_at}
-use Rattle.xc_dance.specs.inner.Links.ItemCells.{bound_at}
 use Rattle.xc_dance.proofs.LinkedTables.LinkColumns.{get_down}
 
 -- ---- a move that neither covers nor spends leaves the item table as it is
@@ -162,9 +159,6 @@ purify_step {p} t {spans} i c legal may f =
     let w = walk_made p t spans (Purify i c) i (Some c) (purify_start p t i c) legal f pos may.0.1 may.1
     (purify_hides p t i c legal laid pos may.0.1 may.1) in
     let start = coloured_is p (color_in p t) (line_of p t) i 0 c laid (own_placed p i laid pos may.0.1) in
-    let within : i < length (layout p) = slice_get_within (layout p) i (own i) head in
-    let long : length (map (color_in p t) (layout p)) ≡ length (layout p) = length-map (layout p) (color_in p t) in
-    let long' = length-map (layout p) (purify_start p t i c) in
     let none : get_or (nodes_after p t).color i 0 ≡ 0 = get_map (color_in p t) (layout p) i (own i) head
     ∙ ap (λ o. unwrap_or o 0) (open_unpurified i t may.1) in
     let still = still_items p t (Purify i c) (λ q. refl) (λ q. refl) in
@@ -184,7 +178,6 @@ move_step {p} t {spans} (Tweak i) legal may f =
     grind (arith, off_is p (Tweak i ∷ t) i (may, legal) pos may.0.1, off_is p t i legal pos may.0.1)
 move_step {p} t {spans} (Spend i) legal may f =
     let pos : 0 < i = omega (arith, may.0.0) in
-    let few = f.bounds i in
     let next = Spend i ∷ t in
     let nodes = spent_nodes p t i f.laid in
     let before : get_or (items_after p t).bound i 0 ≡ high_at p i - spends i t =
@@ -195,9 +188,6 @@ move_step {p} t {spans} (Spend i) legal may f =
     row_same (llink_at p t) (llink_at p next) (item_count p + 2) (λ q h. still_llink p t (Spend i) q (λ k. refl)) in
     let rlinks : (items_after p next).rlink ≡ (items_after p t).rlink =
     row_same (rlink_at p t) (rlink_at p next) (item_count p + 2) (λ q h. still_rlink p t (Spend i) q (λ k. refl)) in
-    let down : bound_at p next i ≡ get_or (items_after p t).bound i 0 - 1 =
-    grind (arith, common_steps, bound_own, spends_own) in
-    let up : bound_at p t i ≡ get_or (items_after p next).bound i 0 + 1 = grind (arith, common_steps, bound_own) in
     let bounds : (items_after p next).bound ≡ set (items_after p t).bound i (get_or (items_after p t).bound i 0 - 1) =
     grind (arith, common_steps, row_put, bound_other) in
     let back : (items_after p t).bound ≡ set (items_after p next).bound i (get_or (items_after p next).bound i 0 + 1) =

@@ -149,16 +149,11 @@ mark_step p now spans (Some c) ln i o laid h near e =
       };
     }
 
-no_mark : (keep : Option ℕ) (v : ℕ) → eqb v MARK ≡ false → is_kept_mark keep v ≡ false
-no_mark None v e = refl
-no_mark (Some c) v e = e
-
 -- any other one is hidden, and comes back
 hide_step : {spans : List Span} (keep : Option ℕ) {t u : Nodes} {x n : ℕ} → x < length spans → x < length t.color
     → u.color ≡ t.color → is_kept_colour keep (get_or t.color x 0) ≡ false → eqb (get_or t.color x 0) MARK ≡ false
     → Turns spans t u x n → OneStep spans keep t u x n
 hide_step keep {t} {u} {x} span within same other unmarked s =
-    let no : is_kept_mark keep (get_or u.color x 0) ≡ false = rw same (no_mark keep (get_or t.color x 0) unmarked) in
     grind (arith, common_steps)
 
 -- an option whose other items are ready is hidden and comes back

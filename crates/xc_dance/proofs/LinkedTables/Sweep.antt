@@ -131,7 +131,6 @@ IsLinkedFrom-same l m a (x ∷ xs) down up last h =
 pub cut-linked : (l : Line) (a y : ℕ) (ys : List ℕ) → IsLinkedFrom l a (y ∷ ys) → IsLinkedFrom (cut l y) a ys
 cut-linked l a y [] h = grind (arith, common_steps, put_at-same)
 cut-linked l a y (z ∷ zs) h =
-    let lt' : y < z = h.3.0 in
     let rest = IsLinkedFrom-same l (cut l y) z zs (λ k le. put_at-other l.down (l.up y) (l.down y) k (λ e. omega arith))
     (λ k gt. put_at-other l.up (l.down y) (l.up y) k (λ e. omega arith))
     (put_at-other l.up (l.down y) (l.up y) 0 (λ e. omega arith)) h.3.3 in

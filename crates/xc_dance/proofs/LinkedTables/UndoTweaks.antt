@@ -6,7 +6,7 @@ use Rattle.std.proofs.lemmas.Grind.{common_steps}
 use Rattle.std.specs.Prelude.{replicate}
 use Rattle.std.proofs.lemmas.List.{reverse-append, reverse-reverse, length-reverse, length-drop, length-map}
 use Rattle.std.proofs.lemmas.List.{take-append-drop, get_or-append-add}
-use Rattle.std.proofs.Math.Seq.{drop-append_seam, take-append_seam}
+use Rattle.std.proofs.Math.Seq.{take-append_seam}
 use Rattle.xc_dance.specs.declared.dance.Move.{Move}
 use Rattle.xc_dance.specs.declared.dance.Move.TheVariants.{Tweak}
 use Rattle.xc_dance.specs.inner.Links.Span.{Span}
@@ -43,7 +43,6 @@ pub turned_drop : {X : Type 0} (xs : List X) (k : ℕ) → k ≤ length xs
 turned_drop xs k h =
     let m = length xs - k in
     let whole = ap reverse (sym (take-append-drop m xs)) ∙ reverse-append (take m xs) (drop m xs) in
-    let seam = drop-append_seam (reverse (drop m xs)) (reverse (take m xs)) in
     grind (arith, common_steps, length-reverse, length-drop)
 
 -- the moves s are t and k Tweaks of item i; the nodes that they took off stand last, and the first is of the item

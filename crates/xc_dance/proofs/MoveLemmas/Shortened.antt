@@ -1,6 +1,6 @@
 -- The lists after moves, as filters of the lists before.
 use Rattle.std.proofs.Common.{ℕ, zero, suc, ◌≡◌, ◌≢◌, ◌+◌, ◌-◌, ◌<◌, ◌≤◌, true, false, not, cond, eqb, ◌&&◌, ◌||◌}
-use Rattle.std.proofs.Common.{List, [], ◌∷◌, length, get_or, set, filter, map, take, drop, Some, None, refl, ap, ap₂}
+use Rattle.std.proofs.Common.{List, [], ◌∷◌, length, get_or, set, filter, map, take, Some, None, refl, ap, ap₂}
 use Rattle.std.proofs.Common.{◌∙◌, arith, eq-eqb}
 use Rattle.std.proofs.lemmas.Grind.{common_steps}
 use Rattle.std.specs.Prelude.{is_some}
@@ -149,9 +149,7 @@ lists_tweaked p t j x low high some is =
 
     here : less (x ∷ []) (listed_numbers p t j) ≡ listed_numbers p (Tweak j ∷ t) (1 + (j - 1))
     here =
-        let at : j ≡ 1 + (j - 1) = omega (arith, low) in
         let self : eqb j j ≡ true = eq-eqb j j refl in
         let row = listed_numbers p t j in
         let whole : 0 < length row = omega (arith, some, length_numbers (listed p t j)) in
-        let new : numbers (drop 1 (listed p t j)) ≡ listed_numbers p (Tweak j ∷ t) j = rw self refl in
         grind (arith, common_steps, ap (λ n. less (n ∷ []) row) is ∙ less-remove 0 row 0 (rises_listed p t j) whole)

@@ -20,7 +20,6 @@ bounds_here c = grind (arith, common_steps)
 
 pub overflow_sub-item : goal.overflow_sub-item
 overflow_sub-item c =
-    let at = bounds_here (goal.at.overflow_sub-item c).After-item-item in
     let low = low_most (c.loop-i.i + 1) c.requires.valid in grind (arith, common_steps)
 
 pub set-requires-in-loop-i : goal.set-requires-in-loop-i

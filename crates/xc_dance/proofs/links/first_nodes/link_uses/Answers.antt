@@ -1,7 +1,7 @@
 use Rattle.xc_dance.proofs.LinkedTables.EnteredNodes.{nodes_same}
 use Rattle.xc_dance.proofs.LinkedTables.EnteredNodes.{held_none}
 use Rattle.xc_dance.proofs.LinkedTables.EnteredNodes.{spacer_step}
-use Rattle.std.proofs.Common.{arith, ◌≡◌, ◌≤◌, ◌<◌, ◌∙◌, ◌+◌, ap, take, get_or, Some, [], ℕ}
+use Rattle.std.proofs.Common.{arith, ◌≡◌, ◌≤◌, ◌<◌, ◌∙◌, ◌+◌, ap, take, Some, [], ℕ}
 use Rattle.std.proofs.lemmas.Grind.{common_steps}
 use Rattle.std.specs.Prelude.{slice_get, slice_index}
 use Rattle.xc_input.specs.declared.problem.Use.{Use}
@@ -55,7 +55,6 @@ pub loop-q-preserved : goal.loop-q-preserved
 loop-q-preserved c =
     let p = c.args.problem.now.puzzle in
     let q = c.loop-q.q in
-    let n = get_or (layout p) q unused in
     let at = slice_get-get_or (layout p) q unused (omega (arith, c.loop-q-test.true, c.requires.count)) in
     let from : item_count p + 1 ≤ q = omega (arith, c.loop-q.auto.q, c.items-q.ensures.value) in
     let top = ap (λ (t : Nodes). slice_index t.top q) c.loop-q.invariant in
