@@ -19,6 +19,7 @@ use Rattle.xc_input.specs.Problem.{AreSoundBounds}
 use Rattle.std.proofs.lemmas.List.{length-map, length-take-le, map-append}
 use Rattle.std.proofs.lemmas.Option.{slice_get_within}
 use Rattle.xc_dance.specs.inner.Links.FirstNodes.{filled, blanks, rows_of, laid_to, with_row}
+use Rattle.xc_dance.specs.inner.Links.Columns.{Laying}
 use Rattle.xc_dance.proofs.Copied.{take_more-get}
 use Rattle.xc_dance.specs.declared.links.nodes.Row.{Row}
 use Rattle.xc_dance.specs.Fields.{Node, unused, own, spacer, layout, spacer_place, last_below, first_above, first_of}
@@ -71,9 +72,9 @@ rows_more : (p : Puzzle) (ns : List Node) (n : Node)
 rows_more p ns n = grind (arith, common_steps, map-append)
 
 -- one node more
-pub laid_more : (p : Puzzle) (k : ℕ) {n : Node} (r : Row) → slice_get (layout p) k ≡ Some n → r ≡ row_of p n
-    → with_row (laid_to p k) r ≡ laid_to p (k + 1)
-laid_more p k {n} r e is = grind (arith, common_steps, rows_more, take_more-get)
+pub laid_more : (p : Puzzle) (k : ℕ) {n : Node} {r : Row} {old new : Laying} → new ≡ with_row old r → old ≡ laid_to p k
+    → slice_get (layout p) k ≡ Some n → r ≡ row_of p n → new ≡ laid_to p (k + 1)
+laid_more p k laid before e is = grind (arith, common_steps, rows_more, take_more-get)
 
 -- there is room for the next one
 pub laid_room : (p : Puzzle) (k : ℕ) {n : Node} → slice_get (layout p) k ≡ Some n

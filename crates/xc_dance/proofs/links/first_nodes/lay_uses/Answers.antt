@@ -3,9 +3,7 @@ use Rattle.std.proofs.Common.{arith, ◌≡◌, ◌∙◌, ◌+◌, ap, refl, ge
 use Rattle.std.proofs.lemmas.Option.{slice_get-get_or}
 use Rattle.xc_input.specs.declared.problem.Use.{Use}
 use Rattle.xc_dance.specs.Fields.{used}
-use Rattle.xc_dance.specs.declared.links.nodes.Row.{Row}
-use Rattle.xc_dance.specs.inner.Links.Columns.{Laying}
-use Rattle.xc_dance.specs.inner.Links.FirstNodes.{with_row, laid_to}
+use Rattle.xc_dance.specs.inner.Links.FirstNodes.{laid_to}
 use Rattle.xc_dance.specs.Fields.{spacer_place}
 use Rattle.xc_dance.proofs.LinkedTables.PlaceLemmas.{uses_here, use_here, option_fits}
 use Rattle.xc_dance.proofs.LinkedTables.FirstTables.{laid_room, laid_more}
@@ -34,11 +32,8 @@ pub loop-u-preserved : goal.loop-u-preserved
 loop-u-preserved c =
     let here = (goal.at.loop-u-preserved c).In-loop-u in
     let p = c.args.problem.now.puzzle in
-    let u = use_now here in
-    let row : Row = record { top = u.item; ulink = u.item; dlink = u.item; color = u.colour } in
     let next : place_now here + 1 ≡ spacer_place p c.args.o + 1 + (c.loop-u.u-index + 1) = omega arith in
-    c.lay.ensures ∙ ap (λ (t : Laying). with_row t row) c.loop-u.invariant
-    ∙ laid_more _ _ row (node here) refl ∙ ap (laid_to p) next
+    laid_more _ _ c.lay.ensures c.loop-u.invariant (node here) refl ∙ ap (laid_to p) next
 
 pub returns : goal.returns
 returns c = grind (arith, uses_here, option_fits)
