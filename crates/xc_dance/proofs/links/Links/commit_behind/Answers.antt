@@ -1,3 +1,5 @@
+use Rattle.xc_dance.specs.inner.Links.Made.{IsFitted}
+use Rattle.xc_dance.specs.inner.Links.OptionSpans.{spans_of}
 use Rattle.std.proofs.Common.{◌≡◌, ◌<◌, ◌+◌, ℕ, length, get_or, ap, subst, ◌∙◌, arith, refl}
 use Rattle.std.proofs.lemmas.Grind.{common_steps}
 use Rattle.std.proofs.lemmas.List.{length-map}
@@ -5,7 +7,7 @@ use Rattle.xc_dance.specs.declared.links.nodes.Nodes.{Nodes}
 use Rattle.xc_dance.specs.Commits.{IsUseAt}
 use Rattle.xc_dance.specs.Linked.{Linked}
 use Rattle.xc_dance.specs.inner.Links.Cells.{nodes_after}
-use Rattle.xc_dance.specs.inner.Links.Laid.{IsLaid, IsFit}
+use Rattle.xc_dance.specs.inner.Links.Laid.{IsLaid}
 use Rattle.xc_dance.specs.inner.Links.UseNodes.{uses_behind}
 use Rattle.xc_dance.proofs.LinkedTables.Along.{along_first, Behind, behind_at, IsNext, top_at, nodes_told}
 use Rattle.xc_dance.proofs.LinkedTables.Along.{whole}
@@ -14,19 +16,16 @@ use Rattle.xc_dance.proofs.links.Links.commit_behind.Goals as goal
 use Rattle.xc_dance.proofs.links.Links.commit_behind.Goals.{After-self, After-self-in-loop-self}
 use Rattle.xc_dance.specs.declared.links.nodes.TheConstants.{SPACER}
 
-fit : (c : After-self) → IsFit c.args.self.now.puzzle
-fit c = subst (λ (s : Linked). IsFit s.puzzle) c.self.view_is c.self.invariant.fitted.fit
-
-laid : (c : After-self) → IsLaid c.args.self.now.puzzle
-laid c = subst (λ (s : Linked). IsLaid s.puzzle) c.self.view_is c.self.invariant.fitted.laid
+fitted : (c : After-self) → IsFitted c.args.self.now.puzzle (spans_of c.args.self.now.puzzle)
+fitted c = subst (λ (s : Linked). IsFitted s.puzzle (spans_of s.puzzle)) c.self.view_is c.self.invariant.fitted
 
 -- where the walk begins
 begun : (c : After-self) → Behind c.args.self.now.puzzle c.args.i c.requires.0 c.args.place c.args.self.now.trail
     c.args.self.now.trail (c.args.place + 1)
-begun c = behind_at (laid c) c.requires.1 (along_first _ _ _ _ _ refl)
+begun c = behind_at (fitted c).laid c.requires.1 (along_first _ _ _ _ _ refl)
 
 pub overflow_add-q : goal.overflow_add-q
-overflow_add-q c = grind (arith, common_steps, begun, fit)
+overflow_add-q c = grind (arith, common_steps, begun, fitted)
 
 pub loop-self-init : goal.loop-self-init
 loop-self-init c = none_yet _ (λ x held. refl)
@@ -71,7 +70,7 @@ commit_node-requires c =
 pub overflow_add-q-in-loop-self : goal.overflow_add-q-in-loop-self
 overflow_add-q-in-loop-self c =
     let at = goal.at.overflow_add-q-in-loop-self c in
-    grind (arith, common_steps, found at.After-self-in-loop-self, fit at.After-self)
+    grind (arith, common_steps, found at.After-self-in-loop-self, fitted at.After-self)
 
 pub loop-self-smaller : goal.loop-self-smaller
 loop-self-smaller c = grind (arith, common_steps, found (goal.at.loop-self-smaller c).After-self-in-loop-self)
