@@ -177,7 +177,6 @@ move_step {p} t {spans} (Tweak i) legal may f =
     let still = still_items p t (Tweak i) (λ q. refl) (λ q. refl) in
     grind (arith, off_is p (Tweak i ∷ t) i (may, legal) pos may.0.1, off_is p t i legal pos may.0.1)
 move_step {p} t {spans} (Spend i) legal may f =
-    let pos : 0 < i = omega (arith, may.0.0) in
     let next = Spend i ∷ t in
     let nodes = spent_nodes p t i f.laid in
     let before : get_or (items_after p t).bound i 0 ≡ high_at p i - spends i t =
