@@ -1,6 +1,6 @@
 -- Along an option's nodes: which uses were committed where a walk over them stands, and what it finds there.
 use Rattle.std.proofs.Common.{ℕ, ◌≡◌, ◌+◌, ◌-◌, ◌<◌, ◌≤◌, List}
-use Rattle.std.proofs.Common.{length, drop, get_or, Some, refl, sym, ap, ◌∙◌, arith, subst, length-drop}
+use Rattle.std.proofs.Common.{length, drop, get_or, Some, refl, sym, ◌∙◌, arith, subst, length-drop}
 use Rattle.std.specs.Prelude.{slice_get}
 use Rattle.std.proofs.lemmas.Option.{slice_get-get_or}
 use Rattle.xc_input.specs.declared.problem.Use.{Use}
@@ -17,8 +17,6 @@ use Rattle.xc_dance.specs.inner.Links.UseNodes.{uses_behind, uses_before}
 use Rattle.xc_dance.proofs.MoveLemmas.Commits.{stood_before, first_use}
 use Rattle.xc_dance.proofs.LinkedTables.UsePlaces.{Segment, use_cells, spacer_cells, behind_all, before_all}
 use Rattle.xc_dance.proofs.LinkedTables.UsePlaces.{behind_segment, before_segment}
-use Rattle.std.proofs.lemmas.Bool.{cases_lt}
-use Rattle.std.proofs.Common.{inl, inr}
 use Rattle.xc_dance.specs.declared.links.nodes.TheConstants.{SPACER}
 use Rattle.std.proofs.lemmas.List.{nil_from_length}
 use Rattle.std.proofs.lemmas.Grind.{common_steps}
@@ -63,21 +61,13 @@ pub record IsNext (p : Puzzle) (x off : ℕ) (vs : List Use) (s t : List Move) (
 next_at : {p : Puzzle} {x off q : ℕ} {vs : List Use} {s t : List Move} → Segment p x off vs →
     IsAlong p off vs s t q → q < off + length vs → IsNext p x off vs s t q
 next_at {p} {x} {off} {q} {vs} {s} {t} seg a h =
-    let k = q - off in
     let v = use_at_place off vs q in
-    let at : off + k ≡ q = omega (arith, a.from) in
-    let here : k < length vs = omega (arith, h, a.from) in
-    let node = ap (slice_get (layout p)) (sym at) ∙ seg k v (slice_get-get_or vs k no_use here) in
-    let cells = use_cells p t x v q node in
+    let node : slice_get (layout p) q ≡ Some (used x v) =
+    grind (arith, common_steps, seg (q - off) v, slice_get-get_or vs (q - off) no_use) in
     let on = along_next a h in
-    record {
-      u = v;
-      node = node;
-      within = cells.within;
-      item = sym cells.top;
-      on = on;
-      stands = λ room can. stood_before _ _ (drop (q + 1 - off) vs) _ (subst (CanStand p room) (sym on.trail) can);
-    }
+    let can = λ (room : ℕ) (c : CanStand p room (after_uses p vs s)). stood_before _ _ (drop (q + 1 - off) vs) _
+    (subst (CanStand p room) (sym on.trail) c) in
+    grind (arith, common_steps, use_cells p t x v q node)
 
 -- ---- Behind the node by which option x uses item i, from the place behind it up to the spacer
 
@@ -92,17 +82,11 @@ pub record Behind (p : Puzzle) (i x place : ℕ) (s t : List Move) (q : ℕ) : T
 pub behind_at : {p : Puzzle} {i x place q : ℕ} {s t : List Move} → IsLaid p → IsUseAt p i x place →
     IsAlong p (place + 1) (uses_behind p i x) s t q → Behind p i x place s t q
 behind_at {p} {i} {x} {place} {q} {s} {t} laid held a =
-    elim (cases_lt q (place + 1 + length (uses_behind p i x))) [
-      | inl lt ↦
-          let n = next_at (behind_segment held) a lt in
-          let few = (laid.nodes.ranged q (used x n.u) n.u.item x n.node refl).1 in
-          let small = laid.small in grind (arith, common_steps)
-      | inr ge ↦
-          let at : q ≡ place + 1 + length (uses_behind p i x) = omega (arith, ge, a.to) in
-          let is = at ∙ behind_all held in
-          let cells = spacer_cells p t x q held.known is in
-          grind (arith, common_steps, along_end a at)
-    ]
+    let next = next_at (behind_segment held) a in
+    let ranged = λ (u : Use) (e : slice_get (layout p) q ≡ Some (used x u)).
+    laid.nodes.ranged q (used x u) u.item x e refl in
+    let small = laid.small in
+    grind (arith, common_steps, along_end a, behind_all held, spacer_cells p t x q held.known)
 
 -- ---- Before it, from the option's first node up
 
@@ -113,10 +97,7 @@ pub record Before (p : Puzzle) (i x place : ℕ) (s t : List Move) (q : ℕ) : T
 
 pub before_at : {p : Puzzle} {i x place q : ℕ} {s t : List Move} → IsUseAt p i x place →
     IsAlong p (start_at p (x - 1)) (uses_before p i x) s t q → Before p i x place s t q
-before_at held a = record {
-  node = λ lt. next_at (before_segment held) a (omega (arith, lt, before_all held));
-  end = λ ge. along_end a (omega (arith, ge, a.to, before_all held));
-}
+before_at held a = grind (arith, common_steps, next_at (before_segment held) a, along_end a, before_all held)
 
 -- ULINK of the spacer leads to where that walk begins
 pub record Leads (p : Puzzle) (x place end : ℕ) (t : List Move) : Type 0 where
