@@ -1,7 +1,7 @@
 -- Down the nodes that Tweaks of one item took off: each option comes back into the lists of its other items, and into
 -- its own.
 use Rattle.std.proofs.Common.{◌≡◌, ◌≢◌, ℕ, ◌+◌, ◌<◌, ◌≤◌, ◌^◌, true, false, cond, List, [], ◌∷◌, length, map}
-use Rattle.std.proofs.Common.{get_or, set, refl, ap, sym, subst, ◌∙◌, arith, eqb-true, inr, Bool}
+use Rattle.std.proofs.Common.{refl, ap, sym, ◌∙◌, arith, eqb-true, inr, Bool}
 use Rattle.std.proofs.Common.{not, ◌&&◌, filter, reverse, ap₂}
 use Rattle.std.proofs.lemmas.Grind.{common_steps}
 use Rattle.std.proofs.lemmas.Bool.{false≢true}
@@ -11,7 +11,7 @@ use Rattle.xc_input.specs.Problem.{Puzzle, item_count}
 use Rattle.xc_dance.specs.declared.links.nodes.Nodes.{Nodes}
 use Rattle.xc_dance.specs.Fields.{Node, layout, link_place, is_in}
 use Rattle.xc_dance.specs.inner.Links.Lines.{Line}
-use Rattle.xc_dance.specs.inner.Links.Steps.{relinked, unhidden, CanUnhide, CanUnhideNode, others_of}
+use Rattle.xc_dance.specs.inner.Links.Steps.{unhidden, CanUnhide, CanUnhideNode, others_of}
 use Rattle.xc_dance.specs.inner.Links.Steps.{unhide_costs}
 use Rattle.xc_dance.specs.inner.Links.Cells.{fixed_up, fixed_down, top_in, nodes_from, dlink_in, color_in}
 use Rattle.xc_dance.specs.inner.Links.Cells.{line_of}
@@ -57,20 +57,11 @@ pub unhide_open : {p : Puzzle} (col : Node → ℕ) (ln : ℕ → Line) {j o : �
     → IsReturner p j (ln j) o → is_mark p col o j ≡ false →
     Unhidden (nodes_from p ln col) (nodes_from p (with_line ln j (mended (ln j) o)) col) (link_place p j o)
 unhide_open {p} col ln {j} {o} laid pos le o_pos m unmarked =
-    let q = link_place p j o in
-    let t : Nodes = nodes_from p ln col in
     let c = node_cells p ln col j o laid pos le o_pos m.name m.above m.below in
-    let few : (ln j).len < 2 ^ 31 = m.few in
-    record {
-      can = grind (arith, common_steps, size_from);
-      done =
-          unhidden-open t q unmarked ∙ same_nodes (relinked t q) (nodes_from p (with_line ln j (mended (ln j) o)) col)
-          (ap (λ i. set t.top i (get_or t.top i 0 + 1)) c.item ∙ ap (λ n. set t.top j (n + 1)) c.len
-          ∙ sym (set_top p ln j (mended (ln j) o) laid pos le)) (ap (λ k. set t.ulink k q) c.down
-          ∙ sym (set_link p (λ k x. (ln k).up x) (fixed_up p) j ((ln j).down o) o laid c.below))
-          (ap (λ k. set t.dlink k q) c.up
-          ∙ sym (set_link p (λ k x. (ln k).down x) (fixed_down p) j ((ln j).up o) o laid c.above)) refl;
-    }
+    let top = set_top p ln j (mended (ln j) o) laid pos le in
+    let up = set_link p (λ k x. (ln k).up x) (fixed_up p) j ((ln j).down o) o laid c.below in
+    let down = set_link p (λ k x. (ln k).down x) (fixed_down p) j ((ln j).up o) o laid c.above in
+    grind (arith, common_steps, m.few, size_from, same_nodes, unhidden-open)
 
 pub unhide_marked : {p : Puzzle} (col : Node → ℕ) (ln : ℕ → Line) {j o : ℕ} → IsLaid p → 0 < j → j ≤ item_count p
     → 0 < o → IsName p j o → is_mark p col o j ≡ true
@@ -202,14 +193,9 @@ opened_at {p} {t} {spans} false {i} {ln = ln} {o} {os} legal fit opened within h
     grind (arith, common_steps, all_at, in_reverse) in
     let u = unhides p col spans o i fit.spanned o_pos named (Returns p col o) (λ a b j s. (s.can, s.done)) ln ln1
     (unhidden_walk p col ln o back laid o_pos apart returning) in
-    record {
-      ln1 = ln1;
-      can = λ e. (fit.spanned.within o i o_pos named, u.can);
-      done = u.done;
-      own = grind (arith, common_steps, own_apart);
-      cost = u.cost;
-      others = λ j pos le ne. grind (arith, common_steps);
-    }
+    let others : (j : ℕ) → 0 < j → j ≤ item_count p → j ≢ i
+    → Regaining (line_of p t j) (ln1 j) (to_come p t false i j os) = λ j pos le ne. grind (arith, common_steps) in
+    grind (arith, common_steps, own_apart, fit.spanned.within o i o_pos named)
 
 pub record BringBackStep (p : Puzzle) (t : List Move) (spans : List Span) (covered : Bool) (i n : ℕ) (ln : ℕ → Line)
     (o : ℕ) (os : List ℕ) : Type 0 where
@@ -231,22 +217,19 @@ bring_back_step p t spans covered i n ln o os legal fit pos le shut within h =
     let x = link_place p i o in
     let l : Line = line_of p t i in
     let ln1 : ℕ → Line = m1.ln1 in
-    let t1 : Nodes = nodes_from p ln1 (color_in p t) in
     let m = listed_member t i o fit.fit (pos, le) within in
     let own : ln1 i ≡ half n h.line l = m1.own ∙ h.is in
-    let down_is : (ln1 i).down o ≡ l.down o = ap (λ (k : Line). k.down o) own in
     let here = laid.there i o pos le m.name in
-    let below = laid.there i ((ln1 i).down o) pos le (subst (IsName p i) (sym down_is) m.below) in
+    let below = laid.there i ((ln1 i).down o) pos le (rw own m.below) in
     let w : Line = raised (ln1 i) o in
     let x_in = slice_get_within (layout p) x here.node here.at in
     let d_in = slice_get_within (layout p) (link_place p i ((ln1 i).down o)) below.node below.at in
-    let down_long : length t1.dlink ≡ length (layout p) = length-map (layout p) (dlink_in p ln1) in
-    let leads : get_or t1.dlink x 0 ≡ link_place p i ((ln1 i).down o) = get_down _ ln1 _ _ here in
+    let leads = get_down _ ln1 _ _ here in
     record {
       ln' = with_line ln1 i w;
       can = record {
         unhide = m1.can;
-        place = subst (λ (u : Nodes). x < length u.dlink) (sym m1.done) (omega (arith, x_in, down_long));
+        place = rw m1.done (omega (arith, x_in, length-map (layout p) (dlink_in p ln1)));
         below = grind (arith, common_steps, length-map);
       };
       done = grind (arith, common_steps, raised_is);
@@ -254,8 +237,7 @@ bring_back_step p t spans covered i n ln o os legal fit pos le shut within h =
         others = λ j jpos jle ne. grind (arith, common_steps, line_there ln1 i j w ne);
         line = mended h.line o;
         own = h.own.2;
-        is = line_here ln1 i w ∙ ap (λ (k : Line). raised k o) own
-            ∙ ap (λ d. half n (record { len = 0; up = put_at h.line.up d o; down = l.down }) l) (sym h.own.1);
+        is = line_here ln1 i w ∙ (rw (own, h.own.1) refl);
       };
       cost = ap (λ n. 1 + n) m1.cost;
     }

@@ -1,9 +1,9 @@
 -- The nodes of uses enter the lists of their items one by one, until the table is that of no moves.
 use Rattle.xc_input.proofs.lists.EachElement.{each_weaker}
 use Rattle.xc_dance.proofs.LinkedTables.LaidLemmas.{options_numbered}
-use Rattle.std.proofs.Common.{◌≡◌, ℕ, ◌+◌, ◌<◌, ◌≤◌, List, [], ◌∷◌, ◌++◌, length, fold, refl, sym, subst, ◌∙◌, arith}
+use Rattle.std.proofs.Common.{◌≡◌, ℕ, ◌+◌, ◌<◌, ◌≤◌, List, [], ◌∷◌, ◌++◌, length, fold, refl, sym, ◌∙◌, arith}
 use Rattle.std.proofs.Common.{zero, suc, true, false, cond, eqb, map, take, Some, ap, eqb-true, eq-eqb, inl}
-use Rattle.std.proofs.Common.{get_or, set, ne_eqb}
+use Rattle.std.proofs.Common.{get_or, ne_eqb}
 use Rattle.std.specs.List.{AllByRecursion}
 use Rattle.std.specs.Prelude.{slice_get, is_some, flat_map, slice_index}
 use Rattle.std.proofs.lemmas.Grind.{common_steps}
@@ -18,7 +18,7 @@ use Rattle.xc_input.specs.Problem.{Puzzle, Numbered, holding, colour_in, item_co
 use Rattle.xc_dance.specs.inner.Lists.Rising.{Rises}
 use Rattle.xc_dance.specs.inner.Links.Lines.{Line}
 use Rattle.xc_dance.specs.inner.Links.FirstNodes.{blank, entered}
-use Rattle.xc_dance.specs.Moves.{listed_numbers, listed}
+use Rattle.xc_dance.specs.Moves.{listed_numbers}
 use Rattle.xc_dance.specs.Fields.{Node, own, spacer, used, layout, nodes_of, is_in, link_place}
 use Rattle.xc_dance.specs.inner.Links.Laid.{IsFit, AreDistinct, IsName, Placed, IsLaid}
 use Rattle.xc_dance.specs.declared.links.nodes.Nodes.{Nodes}
@@ -59,8 +59,7 @@ grown_len xs = let h = len_from blank xs in omega (arith, h)
 pub last_from : (P : ℕ → Type 0) (l : Line) (xs : List ℕ) → P (l.up 0) → AllByRecursion P xs
     → P ((fold grown l xs).up 0)
 last_from P l [] h a = h
-last_from P l (x ∷ xs) h a =
-    last_from P (grown l x) xs (subst P (sym (put_at-same (put_at l.up x (l.up 0)) 0 x 0 refl)) a.0) a.1
+last_from P l (x ∷ xs) h a = grind (arith, common_steps, put_at-same, last_from P (grown l x) xs)
 
 -- a list that rises to its last
 pub last_high : (l : Line) (a : ℕ) (xs : List ℕ) → IsLinkedFrom l a xs → a ≤ l.up 0
@@ -79,13 +78,11 @@ linked_more l a o (x ∷ xs) h lt none =
 
 pub linked_from : (l : Line) (xs ys : List ℕ) → IsLinkedFrom l 0 xs → Rises 0 (xs ++ ys)
     → ((x : ℕ) → l.up 0 < x → l.down x ≡ 0) → IsLinkedFrom (fold grown l ys) 0 (xs ++ ys)
-linked_from l xs [] h r none = subst (IsLinkedFrom l 0) (sym (append-nil xs)) h
+linked_from l xs [] h r none = rw append-nil h
 linked_from l xs (y ∷ ys) h r none =
-    let lt = last_low l 0 y xs ys h r in
-    let last : (grown l y).up 0 ≡ y = put_at-same (put_at l.up y (l.up 0)) 0 y 0 refl in
-    subst (IsLinkedFrom (fold grown (grown l y) ys) 0) (append_assoc xs (y ∷ []) ys)
-    (linked_from (grown l y) (xs ++ y ∷ []) ys (linked_more l 0 y xs h lt (none y lt))
-    (subst (Rises 0) (sym (append_assoc xs (y ∷ []) ys)) r) (λ x high. grind (arith, common_steps, put_at-other)))
+    let step = linked_more l 0 y xs h in
+    let rest = linked_from (grown l y) (xs ++ y ∷ []) ys in
+    grind (arith, common_steps, append_assoc, last_low l 0 y xs ys h r, put_at-same, put_at-other)
 
 -- ---- the options whose nodes of an item are among the first nodes
 
@@ -102,16 +99,14 @@ lines_of ns j = grown_all (held j ns)
 
 pub length-held : (j : ℕ) (ns : List Node) → length (held j ns) ≤ length ns
 length-held j [] = omega arith
-length-held j (used o u ∷ ns) = grind (arith, common_steps, length-held j ns)
-length-held j (_ ∷ ns) = let h = length-held j ns in omega (arith, h)
+length-held j (n ∷ ns) = grind (arith, common_steps, length-held j ns)
 
 pub lines_few : (j : ℕ) (ns : List Node) → (lines_of ns j).len ≤ length ns
 lines_few j ns = let a = grown_len (held j ns) in let b = length-held j ns in omega (arith, a, b)
 
 pub held-append : (j : ℕ) (ms ns : List Node) → held j (ms ++ ns) ≡ held j ms ++ held j ns
 held-append j [] ns = grind (arith, common_steps)
-held-append j (used o u ∷ ms) ns = grind (arith, common_steps, held-append j ms ns)
-held-append j (_ ∷ ms) ns = grind (arith, common_steps, held-append j ms ns)
+held-append j (m ∷ ms) ns = grind (arith, common_steps, held-append j ms ns)
 
 -- what one node more adds
 pub held_more : (j k : ℕ) (ns : List Node) {n : Node} → slice_get ns k ≡ Some n
@@ -130,8 +125,7 @@ held_each P j (_ ∷ ns) h = held_each P j ns (λ k o u e f. h (suc k) o u e f)
 pub held_in : (ns : List Node) (k o : ℕ) (u : Use) → slice_get ns k ≡ Some (used o u) → is_in o (held u.item ns) ≡ true
 held_in [] k o u e = grind (arith, common_steps, eq-eqb, or-true, same_Some)
 held_in (n ∷ ns) zero o u e = grind (arith, common_steps, eq-eqb, or-true, same_Some)
-held_in (used m v ∷ ns) (suc k) o u e = grind (arith, common_steps, eq-eqb, or-true, same_Some, held_in ns k o u e)
-held_in (_ ∷ ns) (suc k) o u e = grind (arith, common_steps, eq-eqb, or-true, same_Some, held_in ns k o u e)
+held_in (n ∷ ns) (suc k) o u e = grind (arith, common_steps, eq-eqb, or-true, same_Some, held_in ns k o u e)
 
 -- ---- before the first option, and behind the last
 
@@ -157,9 +151,7 @@ pub options_hold : (j : ℕ) (os : List Numbered) → AllByRecursion (λ (x : Nu
     → held j (flat_map nodes_of os) ≡ map (λ (o : Numbered). o.number) (holding j os)
 options_hold j [] d = refl
 options_hold j (x ∷ os) d =
-    let here : held j (nodes_of x) ≡ cond (is_some (colour_in x.uses j)) (x.number ∷ []) [] =
-    held-append j (map (used x.number) x.uses) (spacer x.number ∷ []) ∙ append-nil _ ∙ one_use j x.number _ d.0 in
-    held-append j (nodes_of x) (flat_map nodes_of os) ∙ grind (arith, common_steps, options_hold j os d.1)
+    grind (arith, common_steps, held-append, append-nil, one_use j x.number x.uses d.0, options_hold j os d.1)
 
 pub owns_none : (j : ℕ) (js : List ℕ) (ns : List Node) → held j (map own js ++ ns) ≡ held j ns
 owns_none j [] ns = refl
@@ -191,26 +183,17 @@ entered-is : (p : Puzzle) (ln : ℕ → Line) (col : Node → ℕ) (q o : ℕ) (
 entered-is p ln col q o u laid e here head last item =
     let j = u.item in
     let up : ℕ → ℕ → ℕ = λ k x. (ln k).up x in
-    let down : ℕ → ℕ → ℕ = λ k x. (ln k).down x in
     let v = up j 0 in
-    let tops = map (top_in ln) (layout p) in
-    let ups = column p up (fixed_up p) in
-    let downs = column p down (fixed_down p) in
-    let i = get_or tops q 0 in
-    let is_q : link_place p j o ≡ q = laid.unique q (used o u) j o e refl in
-    let is_i : i ≡ j = get_map (top_in ln) (layout p) q _ e in
-    let is_u = ap (λ k. get_or ups k 0) is_i ∙ get_link _ up (fixed_up p) _ _ head in
-    let count : get_or tops j 0 ≡ (ln j).len = get_len _ ln _ laid item.0 item.1 in
+    let is_i = get_map (top_in ln) (layout p) q _ e in
+    let first = get_link _ up (fixed_up p) _ _ head in
     let once = put_link up j (put_at (up j) o v) in
-    same_nodes _ _ (ap (λ k. set tops k (get_or tops k 0 + 1)) is_i ∙ ap (λ n. set tops j (n + 1)) count
-    ∙ sym (set_top _ ln _ (grown (ln j) o) laid item.0 item.1)) (ap (λ k. set (set ups q (get_or ups i 0)) k q) is_i
-    ∙ ap (λ w. set (set ups q w) j q) is_u ∙ ap (λ k. set (set ups k (link_place p j v)) j k) (sym is_q)
-    ∙ ap (λ l. set l j (link_place p j o)) (sym (set_link _ up (fixed_up p) _ _ v laid here))
-    ∙ sym (set_link _ once (fixed_up p) _ _ o laid head)
-    ∙ column_same p (put_link up j (put_at (put_at (up j) o v) 0 o)) (put_link once j (put_at (once j) 0 o))
-    (fixed_up p) (written_twice up j (put_at (up j) o v) o))
-    (ap (λ w. set downs w q) is_u ∙ ap (set downs (link_place p j v)) (sym is_q)
-    ∙ sym (set_link _ down (fixed_down p) _ _ o laid last)) refl
+    let top = set_top _ ln _ (grown (ln j) o) laid item.0 item.1 in
+    let up1 = set_link _ up (fixed_up p) _ _ v laid here in
+    let up2 = set_link _ once (fixed_up p) _ _ o laid head in
+    let up3 = column_same p (put_link up j (put_at (put_at (up j) o v) 0 o)) (put_link once j (put_at (once j) 0 o))
+    (fixed_up p) (written_twice up j (put_at (up j) o v) o) in
+    let down = set_link _ (λ k x. (ln k).down x) (fixed_down p) _ _ o laid last in
+    grind (arith, same_nodes, laid.unique q (used o u) j o e refl, get_len _ ln _ laid item.0 item.1)
 
 -- ---- the nodes so far
 
@@ -245,7 +228,6 @@ use_step p q o u fit limits e =
     let range = laid.nodes.ranged q (used o u) j o e refl in
     let tops = map (top_in ln) (layout p) in
     let ups = column p (λ k x. (ln k).up x) (fixed_up p) in
-    let long : length tops ≡ length (layout p) = length-map (layout p) (top_in ln) in
     let here = laid.there j o range.0 range.1 (use_name p q o j u fit e refl) in
     let head = laid.there j 0 range.0 range.1 (inl refl) in
     let name : IsName p j ((ln j).up 0) = last_from (IsName p j) blank _ (inl refl) (held_each (IsName p j) j ns
@@ -255,17 +237,13 @@ use_step p q o u fit limits e =
     let is_u = ap (λ k. get_or ups k 0) is_i ∙ get_link p (λ k x. (ln k).up x) (fixed_up p) j 0 head in
     let count = ap (λ k. get_or tops k 0) is_i ∙ get_len p ln j laid range.0 range.1 in
     let within = slice_get_within (layout p) q (used o u) e in
+    let long : length tops ≡ length (layout p) = length-map (layout p) (top_in ln) in
     let size = length-take-le q (layout p) (omega (arith, within)) in
-    let few = lines_few j ns in
-    record {
-      is_item = is_i;
-      item_small = omega (arith, range.1, limits.items);
-      item = omega (arith, is_i, long, slice_get_within (layout p) j (own j) (laid.head j range.0 range.1));
-      last = omega (arith, is_u, long, slice_get_within (layout p) (link_place p j ((ln j).up 0)) last.node last.at);
-      few = omega (arith, count, few, size, layout_small p limits, within);
-      done = entered-is p ln (color_in p []) q o u laid e here head last range ∙ nodes_same p
-          (with_line ln j (grown (ln j) o)) (lines_of (take (q + 1) (layout p))) (color_in p []) (line_then p q e);
-    }
+    let own_in = slice_get_within (layout p) j (own j) (laid.head j range.0 range.1) in
+    let last_in = slice_get_within (layout p) (link_place p j ((ln j).up 0)) last.node last.at in
+    let done = entered-is p ln (color_in p []) q o u laid e here head last range ∙ nodes_same p
+    (with_line ln j (grown (ln j) o)) (lines_of (take (q + 1) (layout p))) (color_in p []) (line_then p q e) in
+    grind (arith, lines_few j ns, layout_small p limits, limits.items)
 
 -- a spacer enters no list
 pub spacer_step : (p : Puzzle) (q n : ℕ) → slice_get (layout p) q ≡ Some (spacer n) →
@@ -300,13 +278,11 @@ slot_in q _ fit e s = cc
 whole_is : (p : Puzzle) (j x : ℕ) → (x ≡ 0) ⊎ (is_in x (listed_numbers p [] j) ≡ true)
     → ((whole p j).up x ≡ up_of p [] j x) × ((whole p j).down x ≡ down_of p [] j x)
 whole_is p j x h =
-    let same = alike (line_of p [] j) (whole p j) 0 (listed_numbers p [] j) (stands p [] j)
-    (linked_from blank [] (listed_numbers p [] j) (refl, refl) (rises_listed p [] j) (λ x h. refl)) x in
-    (same.0 h, same.1 h)
+    let linked = linked_from blank [] (listed_numbers p [] j) (refl, refl) (rises_listed p [] j) (λ x h. refl) in
+    grind (arith, common_steps, alike (line_of p [] j) (whole p j) 0 (listed_numbers p [] j) (stands p [] j) linked x)
 
 top_is : (p : Puzzle) (n : Node) → top_in (whole p) n ≡ top_in (line_of p []) n
-top_is p (own i) = grown_len _ ∙ length-map (listed p [] i) (λ o. o.number)
-top_is p _ = refl
+top_is p n = grind (arith, common_steps, grown_len, length-map)
 
 pub all_entered : (p : Puzzle) (n : ℕ) → IsFit p → length (layout p) ≤ n
     → nodes_from p (lines_of (take n (layout p))) (color_in p []) ≡ nodes_after p []

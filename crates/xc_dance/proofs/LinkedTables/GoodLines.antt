@@ -1,6 +1,6 @@
 -- Lines that stand for lists: a member leaves, a node leaves with it, and the lines after moves are such lines.
-use Rattle.std.proofs.Common.{◌≡◌, ◌≢◌, ℕ, ◌-◌, ◌<◌, ◌≤◌, ◌^◌, true, false, eqb, length, map, get_or, set, Some, refl}
-use Rattle.std.proofs.Common.{ap, ap₂, sym, subst, ◌∙◌, arith, eqb-true, ◌+◌, inl, inr, Bool, List, [], ◌∷◌}
+use Rattle.std.proofs.Common.{◌≡◌, ◌≢◌, ℕ, ◌<◌, ◌≤◌, ◌^◌, true, false, eqb, length, map, get_or, Some, refl}
+use Rattle.std.proofs.Common.{ap, sym, subst, arith, eqb-true, Bool, List, [], ◌∷◌}
 use Rattle.std.proofs.Common.{filter, Option}
 use Rattle.std.specs.Prelude.{slice_get, is_some}
 use Rattle.std.specs.List.{AllByRecursion}
@@ -16,7 +16,7 @@ use Rattle.xc_dance.specs.inner.Links.Cells.{slot_of, fixed_up, fixed_down, top_
 use Rattle.xc_dance.specs.inner.Links.Cells.{ulink_in, dlink_in}
 use Rattle.xc_dance.specs.inner.Links.Laid.{IsName, IsLaid, IsFit}
 use Rattle.xc_dance.specs.declared.dance.Move.{Move}
-use Rattle.xc_dance.specs.Moves.{listed_numbers, listed}
+use Rattle.xc_dance.specs.Moves.{listed_numbers}
 use Rattle.xc_input.proofs.lists.EachElement.{each-map, each_weaker}
 use Rattle.xc_dance.proofs.LinkedTables.LinkColumns.{set_link, set_top, size_from, NodeCells}
 use Rattle.xc_dance.proofs.LinkedTables.LinkColumns.{node_cells, get_up, get_down, CanUnhide-unlinked, same_nodes}
@@ -56,11 +56,10 @@ pub unlinked-is : (p : Puzzle) (col : Node → ℕ) (ln : ℕ → Line) (j o : �
     unlinked (nodes_from p ln col) (link_place p j o) ≡ nodes_from p (with_line ln j (cut (ln j) o)) col
 unlinked-is p col ln j o laid m =
     let c = member_cells _ col ln _ _ laid m in
-    let t : Nodes = nodes_from p ln col in
-    same_nodes _ _ (ap (λ i. set t.top i (get_or t.top i 0 - 1)) c.item ∙ ap (λ n. set t.top j (n - 1)) c.len
-    ∙ sym (set_top _ ln _ (cut (ln j) o) laid m.item.0 m.item.1)) (ap₂ (set t.ulink) c.down c.up
-    ∙ sym (set_link _ (λ k x. (ln k).up x) (fixed_up p) _ _ ((ln j).up o) laid c.below)) (ap₂ (set t.dlink) c.up c.down
-    ∙ sym (set_link _ (λ k x. (ln k).down x) (fixed_down p) _ _ ((ln j).down o) laid c.above)) refl
+    let top = set_top _ ln _ (cut (ln j) o) laid m.item.0 m.item.1 in
+    let up = set_link _ (λ k x. (ln k).up x) (fixed_up p) _ _ ((ln j).up o) laid c.below in
+    let down = set_link _ (λ k x. (ln k).down x) (fixed_down p) _ _ ((ln j).down o) laid c.above in
+    grind (arith, common_steps, same_nodes)
 
 pub linked-is : (p : Puzzle) (col : Node → ℕ) (ln : ℕ → Line) (j o : ℕ) → IsLaid p → IsMember p j (ln j) o
     → IsLinked (nodes_from p ln col) (link_place p j o)
@@ -83,13 +82,10 @@ step_open p col ln j o laid m color =
     let t : Nodes = nodes_from p ln col in
     let c = member_cells p col ln j o laid m in
     let linked = linked-is p col ln j o laid m in
-    subst (λ (u : Nodes). Step t u q) (unlinked-is p col ln j o laid m) (record {
-      can = grind (arith, common_steps);
-      done = rw color refl;
-      back = CanUnhide-unlinked t q (size_from p ln col) c.names linked (omega (arith, c.item, m.item.1, laid.small))
-          (omega (arith, ap (λ k. get_or t.top k 0) c.item ∙ c.len, m.few));
-      undone = unhidden-open (unlinked t q) q color ∙ relinked-unlinked t q linked;
-    })
+    let small = laid.small in
+    let back = relinked-unlinked t q linked in
+    subst (λ (u : Nodes). Step t u q) (unlinked-is p col ln j o laid m)
+    (grind (arith, common_steps, m.few, m.item, CanUnhide-unlinked t q, size_from, unhidden-open))
 
 pub step_marked : (p : Puzzle) (col : Node → ℕ) (ln : ℕ → Line) (q : ℕ) → q < length (layout p)
     → get_or (map (top_in ln) (layout p)) q 0 < SPACER → eqb (get_or (map (col) (layout p)) q 0) MARK ≡ true
@@ -114,15 +110,11 @@ at_member : (p : Puzzle) (j : ℕ) (l : Line) (a : ℕ) (xs : List ℕ) (o : ℕ
 at_member p j l a [] o r some few n h named e = absurd (false≢true e)
 at_member p j l a (y ∷ []) o r some few n h named e = grind (arith, common_steps, eqb-true)
 at_member p j l a (y ∷ z ∷ zs) o r some few n h named e =
-    let rest = at_member p j l y (z ∷ zs) o r some few (inr (omega (arith, h.0), named.0)) h.3 named.1 in
-    grind (arith, common_steps, eqb-true)
+    grind (arith, common_steps, eqb-true, at_member p j l y (z ∷ zs) o r some few)
 
 pub member : (p : Puzzle) (j : ℕ) (l : Line) (xs : List ℕ) (o : ℕ) → 0 < j → j ≤ item_count p → IsGood p j l xs
     → is_in o xs ≡ true → IsMember p j l o
-member p j l [] o pos le g e = absurd (false≢true e)
-member p j l (x ∷ xs) o pos le g e =
-    at_member p j l 0 (x ∷ xs) o (pos, le) (omega (arith, g.len)) (omega (arith, g.len, g.few)) (inl refl) g.linked
-    g.named e
+member p j l xs o pos le g e = grind (arith, common_steps, false≢true, at_member p j l 0 xs o)
 
 -- it is one still when another one has left
 pub cut_member : (p : Puzzle) (j : ℕ) (l : Line) (o x : ℕ) → IsMember p j l o → IsMember p j l x → x ≢ o
@@ -163,11 +155,9 @@ pub line_after : (p : Puzzle) (t : List Move) (m : Move) (j : ℕ) (ks : List �
     → line_of p (m ∷ t) j ≡ cuts (line_of p t j) ks
 line_after p t m j ks c =
     let xs = listed_numbers p t j in
-    let l : Line = cuts (line_of p t j) (filter c.test xs) in
-    let s = subst (Swept (line_of p t j) l 0 xs) (sym c.stay_is) (swept _ _ _ c.test (stands p t j)) in
-    let long : length (listed_numbers p t j) ≡ length (listed p t j) = length-map (listed p t j) (λ o. o.number) in
-    let len : l.len ≡ 0 + length (stay c.test xs) = swept_len (line_of p t j) xs c.test 0 (omega (arith, long)) in
-    grind (arith, common_steps, down_after, line_is, up_after, length-map (listed p (m ∷ t) j) (λ o. o.number))
+    let s = subst (Swept (line_of p t j) (cuts (line_of p t j) (filter c.test xs)) 0 xs) (sym c.stay_is)
+    (swept _ _ _ c.test (stands p t j)) in
+    grind (arith, common_steps, down_after, line_is, up_after, length-map, swept_len (line_of p t j) xs c.test 0)
 
 -- ---- tables of the same lines
 

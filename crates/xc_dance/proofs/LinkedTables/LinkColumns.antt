@@ -114,11 +114,9 @@ other_slot p f j x v fixed (Some s) ne = grind (arith, common_steps, eqb-true, p
 
 pub set_link : (p : Puzzle) (f : ℕ → ℕ → ℕ) (fixed : Node → ℕ) (j x v : ℕ) → IsLaid p → Placed p j x →
     column p (put_link f j (put_at (f j) x v)) fixed ≡ set (column p f fixed) (link_place p j x) (link_place p j v)
-set_link p f fixed j x v laid h = map_put (λ n. link_at p f (fixed n) (slot_of n))
-    (λ n. link_at p (put_link f j (put_at (f j) x v)) (fixed n) (slot_of n)) (layout p) (link_place p j x)
-    (link_place p j v)
-    (λ q n at ne. other_slot p f j x v (fixed n) (slot_of n) (λ e. ne (sym (laid.unique q n j x at e)))) (λ n at.
-    grind (arith, common_steps, at_slot, eq-eqb, eqb-true, ne_eqb, put_at-same, same_at))
+set_link p f fixed j x v laid h = map_put _ _ (layout p) _ _
+    (λ q n at ne. other_slot p f j x v (fixed n) (slot_of n) (λ e. ne (sym (laid.unique q n j x at e))))
+    (λ n at. grind (arith, common_steps, at_slot, eq-eqb, eqb-true, ne_eqb, put_at-same, same_at))
 
 -- ---- counts
 
@@ -128,9 +126,9 @@ top_other ln j l _ ne = refl
 
 pub set_top : (p : Puzzle) (ln : ℕ → Line) (j : ℕ) (l : Line) → IsLaid p → 0 < j → j ≤ item_count p
     → map (top_in (with_line ln j l)) (layout p) ≡ set (map (top_in ln) (layout p)) j l.len
-set_top p ln j l laid pos le = map_put (top_in ln) (top_in (with_line ln j l)) (layout p) j l.len
-    (λ q n at ne. top_other ln j l n (λ e. ne (sym (laid.unique q n j 0 at (ap slot_of e))))) (λ n at.
-    grind (arith, common_steps, eq-eqb, eqb-true, ne_eqb, same_at))
+set_top p ln j l laid pos le = map_put _ _ (layout p) j l.len
+    (λ q n at ne. top_other ln j l n (λ e. ne (sym (laid.unique q n j 0 at (ap slot_of e)))))
+    (λ n at. grind (arith, common_steps, eq-eqb, eqb-true, ne_eqb, same_at))
 
 pub get_len : (p : Puzzle) (ln : ℕ → Line) (j : ℕ) → IsLaid p → 0 < j → j ≤ item_count p
     → get_or (map (top_in ln) (layout p)) j 0 ≡ (ln j).len
