@@ -1,17 +1,19 @@
 -- Cover and Purify: a walk down an open item's list and back, from the node table after moves to that after one move
 -- more.
+use Rattle.xc_dance.proofs.LinkedTables.Sweep.{by_first}
+use Rattle.xc_dance.specs.inner.Links.ListWalks.{IsWalk, IsWalkBack}
 use Rattle.xc_input.proofs.lists.Filters.{filter-map}
 use Rattle.std.proofs.Common.{eq-eqb}
 use Rattle.std.proofs.Common.{◌++◌}
 use Rattle.std.proofs.Common.{◌≡◌, ℕ, ◌<◌, ◌≤◌, ◌^◌, List, [], ◌∷◌, length, map, get_or, reverse, refl}
-use Rattle.std.proofs.Common.{ap, ap₂, sym, ◌∙◌, arith, inl, ◌+◌, ◌*◌, true, false, eqb, filter, Option, Some}
-use Rattle.std.proofs.Common.{subst, eqb-true, fold, None, ne_eqb, append-nil}
+use Rattle.std.proofs.Common.{ap, ap₂, sym, ◌∙◌, arith, inl, ◌+◌, ◌*◌, true, filter, Option, Some}
+use Rattle.std.proofs.Common.{fold, None, ne_eqb, append-nil}
 use Rattle.std.specs.List.{AllByRecursion}
 use Rattle.std.specs.Prelude.{slice_get}
 use Rattle.std.proofs.lemmas.Grind.{common_steps}
 use Rattle.std.proofs.lemmas.List.{length-map}
 use Rattle.std.proofs.lemmas.Option.{slice_get_within}
-use Rattle.std.proofs.lemmas.Bool.{eqb-false, and_parts}
+use Rattle.std.proofs.lemmas.Bool.{and_parts}
 use Rattle.xc_input.specs.Problem.{Puzzle, item_count}
 use Rattle.xc_dance.specs.declared.dance.Move.{Move}
 use Rattle.xc_dance.specs.Moves.{listed, listed_numbers, is_open, AreLegal}
@@ -93,17 +95,15 @@ module _ {p : Puzzle} (t : List Move) {i : ℕ} (laid : IsLaid p) (pos : 0 < i) 
 
   pub list_is : list_of (nodes_after p t) i ≡ map (link_place p i) (listed_numbers p t i)
   list_is = ap₂ (followed (nodes_after p t).dlink) (long_is) (get_down _ (line_of p t) _ _ (own_placed _ _ laid pos le))
-      ∙ follow_down _ (line_of p t) (line_of p t i) _ 0 _ _ laid pos le
-      (subst (AllByRecursion (Named p i)) (sym (append-nil (listed_numbers p t i))) (numbers_named p t i))
-      (subst (IsLinkedFrom (line_of p t i) 0) (sym (append-nil (listed_numbers p t i))) (stands p t i)) (λ x. refl)
+      ∙ follow_down _ (line_of p t) (line_of p t i) _ 0 _ [] laid pos le (rw append-nil (numbers_named p t i))
+      (rw append-nil (stands p t i)) (λ x. refl)
 
   pub back_is : list_back (nodes_after p t) i ≡ map (link_place p i) (reverse (listed_numbers p t i))
   back_is =
       let xs = listed_numbers p t i in
       let up = follow_up p (line_of p t) i _ (reverse xs) 0 (way_back (λ c b x. Beside p i (line_of p t i) b c x) 0 xs _
       (members_up p i (line_of p t i) 0 xs laid pos le (numbers_named p t i) (stands p t i))) in
-      ap₂ (followed (nodes_after p t).ulink) (long_is ∙ sym (length-reverse xs))
-      (get_up _ (line_of p t) _ _ (own_placed _ _ laid pos le)) ∙ up
+      grind (arith, common_steps, long_is, length-reverse, get_up p (line_of p t) i 0 (own_placed p i laid pos le))
 
   pub in_table : i < length (nodes_after p t).top
   in_table = grind (arith, common_steps, slice_get_within)
@@ -148,18 +148,13 @@ module _ (p : Puzzle) (t : List Move) (spans : List Span) (m : Move) (i : ℕ) (
 
   -- what leaves each line is what the move takes from it
   hides_cut : (j : ℕ) → (0 < j) × (j ≤ item_count p) → SameCut p t m j (filter (leaves p (color_in p t) i j) going)
-  hides_cut j r =
-      let of = leavers_of _ _ _ _ in
-      elim (eqb j i) as (λ b. eqb j i ≡ b → SameCut p t m j (filter (leaves p (color_in p t) i j) going)) [
-        | true ↦ λ e. rw (eqb-true j i e) (cut_own t m i going f.fit h.own)
-        | false ↦ λ e. cut_others p t i legal f.laid f.fit opened m j going r of h.takes (eqb-false j i e)
-      ] refl
+  hides_cut j r = by_first _ j i (λ e. rw e (cut_own t m i going f.fit h.own))
+      (cut_others p t i legal f.laid f.fit opened m j going r (leavers_of _ _ _ _) h.takes)
 
   hides_table : nodes_after p (m ∷ t) ≡ nodes_from p
       (left_list p (color_in p t) i keep (line_of p t) (listed_numbers p t i))
       (marked_list p i keep start (listed_numbers p t i))
-  hides_table = tables_same _ (left_list p (color_in p t) i keep (line_of p t) (listed_numbers p t i))
-      (line_of p (m ∷ t)) (marked_list p i keep start (listed_numbers p t i)) (color_in p (m ∷ t)) f.laid
+  hides_table = tables_same _ _ (line_of p (m ∷ t)) _ (color_in p (m ∷ t)) f.laid
       (λ j r. line_after _ _ _ _ _ (hides_cut j r)
       ∙ sym (list_at p (color_in p t) i keep (line_of p t) (listed_numbers p t i) j f.fit)) h.colours
 
@@ -171,17 +166,14 @@ module _ (p : Puzzle) (t : List Move) (spans : List Span) (m : Move) (i : ℕ) (
   -- the walk down i's list and the walk back lead to the tables after the move m, and to those before it
   hide_step : Listed p (color_in p t) spans i keep (line_of p t i) (nodes_from p (line_of p t) start)
       (listed_numbers p t i) (nodes_after p (m ∷ t))
-  hide_step = subst (Listed p (color_in p t) spans i keep (line_of p t i) (nodes_from p (line_of p t) start)
-      (listed_numbers p t i)) (sym hides_table)
-      (listed_walk p (color_in p t) spans i keep (line_of p t i) f pos le (line_of p t) start (listed_numbers p t i)
-      refl (stands p t i) (own_ready p t i legal f.laid f.fit opened keep) (lines_ready p t i legal f.laid f.fit opened)
-      (rises_listed p t i) h.passed)
+  hide_step = rw hides_table (listed_walk p (color_in p t) spans i keep (line_of p t i) f pos le (line_of p t) start
+      _ refl (stands p t i) (own_ready p t i legal f.laid f.fit opened keep)
+      (lines_ready p t i legal f.laid f.fit opened) (rises_listed p t i) h.passed)
 
   pub walk_made : WalkMade spans i keep (nodes_from p (line_of p t) start) (nodes_after p (m ∷ t))
       (hide_writes p t m i keep)
   walk_made =
       let laid = f.laid in
-      let fit = f.fit in
       let s = hide_step in
       let next = m ∷ t in
       let down = list_is t laid pos le in
@@ -190,23 +182,16 @@ module _ (p : Puzzle) (t : List Move) (spans : List Span) (m : Move) (i : ℕ) (
       let last : get_or (nodes_after p next).ulink i 0 ≡ link_place p i ((line_of p t i).up 0) =
       get_up _ (line_of p next) _ _ (own_placed _ _ laid pos le) ∙ ap (λ ks. link_place p i (last_of 0 ks)) h.own in
       let t0 : Nodes = nodes_from p (line_of p t) start in
+      let u : Nodes = nodes_after p next in
+      let walk : IsWalk spans keep t0 (get_or t0.dlink i 0) (list_of t0 i) = rw (down, first) s.down.walk in
+      let walk_back : IsWalkBack spans keep u (get_or u.ulink i 0) (list_back u i) = rw (up, last) s.up.walk in
       record {
-        can = record {
-          place = in_table t laid pos le;
-          size = size_from _ (line_of p t) start;
-          few = few_in t laid fit pos le;
-          walk = rw (down, first) s.down.walk;
-        };
+        can = search (in_table t laid pos le, size_from, few_in t laid f.fit pos le, walk);
         done = ap (fold (left_node spans keep) t0) down ∙ s.down.done;
-        can_back = record {
-          place = in_table next laid pos le;
-          size = size_from _ (line_of p next) (color_in p next);
-          few = few_in next laid fit pos le;
-          walk = rw (up, last) s.up.walk;
-        };
-        undone = ap (fold (back_node spans keep) (nodes_after p next)) up ∙ s.up.done;
+        can_back = search (in_table next laid pos le, size_from, few_in next laid f.fit pos le, walk_back);
+        undone = ap (fold (back_node spans keep) u) up ∙ s.up.done;
         costs = ap (walk_costs spans keep t0) down ∙ s.down.costs ∙ hides_cost;
-        costs_back = ap (back_costs spans keep (nodes_after p next)) up ∙ s.up.costs ∙ hides_cost;
+        costs_back = ap (back_costs spans keep u) up ∙ s.up.costs ∙ hides_cost;
       }
 
 -- ---- cover and Purify: from the node table after moves to that after one move more, and back

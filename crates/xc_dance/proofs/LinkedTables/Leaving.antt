@@ -111,11 +111,7 @@ module _ (p : Puzzle) (t : List Move) (i : ℕ) (legal : AreLegal p t) (laid : I
   ready_at x within j e =
       let k = other_item x i j fit e in
       let met = met_at j x k.item.0 k.item.1 within k.named in
-      record {
-        item = k.item;
-        named = k.named;
-        member = λ un. listed_member t j x fit k.item (grind (arith, common_steps, false≢true));
-      }
+      grind (arith, common_steps, false≢true, listed_member t j x fit k.item)
 
   -- its own node isn't marked, and tells whether it is kept
   pub own_ready : (keep : Option ℕ) (x : ℕ) → is_in x (listed_numbers p t i) ≡ true → OwnReady p (color_in p t) i keep x
@@ -137,7 +133,7 @@ module _ (p : Puzzle) (t : List Move) (i : ℕ) (legal : AreLegal p t) (laid : I
   pub leaves_are : (j : ℕ) (gs : List ℕ) → InRange p j → AreOf p t i gs → j ≢ i →
       filter (leaves p (color_in p t) i j) gs ≡ filter (λ x. is_open j t && is_in x gs) (listed_numbers p t j)
   leaves_are j gs r of ne = same_members _ _ _ (Rises-filter (leaves p (color_in p t) i j) 0 gs of.rise)
-      (Rises-filter (λ x. is_open j t && is_in x gs) 0 (listed_numbers p t j) (rises_listed p t j))
+      (Rises-filter _ 0 _ (rises_listed p t j))
       (λ x. grind (arith, common_steps, in_filter, and-false, leaves_at, is_open))
 
   -- so each other item's line has them
@@ -189,11 +185,10 @@ passing : (f : ℕ → Bool) (xs ys : List ℕ) → AllApart xs → AllApart ys
     → length (filter (λ j. is_in j xs && f j) ys) ≡ length (filter f xs)
 passing f [] ys a b within = ap length (leave_none ys)
 passing f (x ∷ xs) ys a b within =
-    let here : is_in x ys ≡ true = within x (is_in-first x xs) in
     let rest = passing f xs ys a.1 b (λ k e. within k (in_more x k xs e)) in
-    let one = passes_one (f x) (λ j. (eqb x j || is_in j xs) && f j) (λ j. is_in j xs && f j) x ys b
+    let one = passes_one (f x) (λ j. is_in j (x ∷ xs) && f j) (λ j. is_in j xs && f j) x ys b
     (ap (λ b. b && f x) a.0) (λ j. grind (arith, common_steps, eqb-true)) in
-    grind (arith, common_steps, and-true)
+    grind (arith, common_steps, and-true, within x (is_in-first x xs))
 
 apart : (n : ℕ) (xs : List ℕ) → Rises n xs → AllApart xs
 apart n [] r = tt

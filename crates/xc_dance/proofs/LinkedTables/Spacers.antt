@@ -1,5 +1,5 @@
 -- The spacers round an option lead to its ends, whatever lists its nodes stand in.
-use Rattle.std.proofs.Common.{◌≡◌, ℕ, ◌+◌, ◌-◌, ◌<◌, List, map, fold, reverse, get_or, Some, ap, sym}
+use Rattle.std.proofs.Common.{◌≡◌, ℕ, ◌+◌, ◌<◌, List, map, fold, reverse, get_or, Some, ap, sym}
 use Rattle.std.proofs.Common.{subst, ◌∙◌, arith, ◌*◌}
 use Rattle.std.proofs.lemmas.Grind.{common_steps}
 use Rattle.std.specs.Prelude.{slice_get}
@@ -9,9 +9,9 @@ use Rattle.xc_dance.specs.declared.links.nodes.Nodes.{Nodes}
 use Rattle.xc_dance.specs.inner.Links.Span.{Span}
 use Rattle.xc_dance.specs.Fields.{Node, spacer, layout, link_place}
 use Rattle.xc_dance.specs.inner.Links.Lines.{Line}
-use Rattle.xc_dance.specs.inner.Links.Cells.{ulink_in, dlink_in, nodes_from}
+use Rattle.xc_dance.specs.inner.Links.Cells.{ulink_in, nodes_from}
 use Rattle.xc_dance.specs.inner.Links.Others.{behind_use, before_use, HasSpans}
-use Rattle.xc_dance.specs.inner.Links.Steps.{hidden, unhidden, CanHideAll, CanUnhideAll, places, span_at, others_of}
+use Rattle.xc_dance.specs.inner.Links.Steps.{hidden, unhidden, CanHideAll, places, span_at, others_of}
 use Rattle.xc_dance.specs.inner.Links.Steps.{IsSpacer, CanHideNode, CanUnhideNode, hidden_node, unhidden_node}
 use Rattle.xc_dance.specs.inner.Links.Steps.{hide_costs, unhide_costs}
 use Rattle.xc_dance.proofs.LinkedTables.GoodLines.{Named}
@@ -62,8 +62,7 @@ unhides p col spans o i spanned pos named R each ln end w =
     let place : ℕ → ℕ = λ j. link_place p j o in
     let before = before_use i (uses_of p o) in
     let behind = behind_use i (uses_of p o) in
-    let parts = way_split R ln (reverse before) (reverse behind) end
-    (subst (λ js. Way R ln js end) (reverse-append behind before) w) in
+    let parts = way_split R ln (reverse before) (reverse behind) end (rw reverse-append at w) in
     let whole = way_made R table place unhidden CanUnhide each ln (reverse (other_items p o i)) end w in
     let first = way_made R table place unhidden CanUnhide each ln (reverse before) parts.0 parts.1.0 in
     let s = spanned.span o i pos named in
@@ -71,16 +70,10 @@ unhides p col spans o i spanned pos named R each ln end w =
     let others = ap reverse (others_are p spans o i spanned pos named) ∙ map_reverse place (other_items p o i) in
     let met : fold unhidden (table ln) (reverse (places z (link_place p i o))) ≡ table parts.0 =
     ap (λ qs. fold unhidden (table ln) qs) (ap reverse s.before ∙ map_reverse place before) ∙ first.1 in
+    let last_in = slice_get_within (layout p) (span_at spans (link_place p i o)).end _ s.last in
+    let spacer = spacer_in p parts.0 col _ _ s.first in
     record {
-      can = record {
-        steps = subst (CanUnhideAll (table ln)) (sym others) whole.0;
-        from = s.some;
-        within = s.from;
-        near = omega (arith, slice_get_within (layout p) (span_at spans (link_place p i o)).end _ s.last, spanned.near);
-        spacer = subst (λ (u : Nodes). IsSpacer u (z - 1)) (sym met) (spacer_in p parts.0 col _ _ s.first);
-        last = ap (λ (u : Nodes). get_or u.dlink (z - 1) 0 + 1) met
-            ∙ ap (λ n. n + 1) (get_map (dlink_in p parts.0) (layout p) _ _ s.first) ∙ s.down;
-      };
+      can = grind (arith, common_steps, get_map, spanned.near);
       done = ap (fold unhidden (table ln)) others ∙ whole.1;
       cost = grind (arith, common_steps, costs-are, others_are, unhidden_color, unmarked-reverse, unmarked_items);
     }
