@@ -41,19 +41,16 @@ filled_none f (n ∷ ns) = ap (λ l. 0 ∷ l) (filled_none f ns)
 
 pub filled_all : {X : Type 0} (f : X → ℕ) (ns : List X) (k : ℕ) → length ns ≤ k → filled f ns k ≡ map f ns
 filled_all f [] k le = refl
-filled_all f (n ∷ ns) zero le = absurd (omega (arith, le))
-filled_all f (n ∷ ns) (suc k) le = ap (λ l. f n ∷ l) (filled_all f ns k (omega (arith, le)))
+filled_all f (n ∷ ns) k le = grind (arith, common_steps, filled_all f ns (k - 1))
 
 pub length-filled : {X : Type 0} (f : X → ℕ) (ns : List X) (k : ℕ) → length (filled f ns k) ≡ length ns
 length-filled f [] k = refl
-length-filled f (n ∷ ns) zero = ap suc (length-filled f ns zero)
-length-filled f (n ∷ ns) (suc k) = ap suc (length-filled f ns k)
+length-filled f (n ∷ ns) k = grind (arith, common_steps, length-filled f ns)
 
 set_suc : {X : Type 0} (f : X → ℕ) (ns : List X) (k : ℕ) (n : X) → slice_get ns k ≡ Some n
     → set (filled f ns k) k (f n) ≡ filled f ns (suc k)
 set_suc f [] k n e = cc
-set_suc f (m ∷ ns) zero n e = ap (λ v. v ∷ filled f ns 0) (ap f (sym (same_Some m n e)))
-set_suc f (m ∷ ns) (suc k) n e = ap (λ l. f m ∷ l) (set_suc f ns k n e)
+set_suc f (m ∷ ns) k n e = grind (arith, common_steps, same_Some, set_suc f ns (k - 1) n)
 
 -- one cell more
 pub filled_more : {X : Type 0} (f : X → ℕ) (ns : List X) (k : ℕ) {n : X} {v : ℕ} → slice_get ns k ≡ Some n → v ≡ f n
@@ -136,10 +133,15 @@ low_most {p} (suc k) valid = at_place (λ (b : Bounds). b.low ≤ b.high) (recor
 
 below_range : (other i a n : ℕ) → i ≤ a + n → last_below other i (range_with_len a n) ≡ cond (ltb a i) (i - 1) other
 below_range other i a zero le = rw (le-ltb a i (omega (arith, le))) refl
-below_range other i a (suc n) le =
-    let inner = below_range a i (a + 1) n (omega (arith, le)) in
-    let outer = below_range other i (a + 1) n (omega (arith, le)) in
-    grind (arith, common_steps, last_below-more, ltb-true, ltb-false, lt-ltb, le-ltb)
+below_range other i a (suc n) le = grind (
+  arith,
+  common_steps,
+  last_below-more,
+  ltb-true,
+  ltb-false,
+  below_range a i (a + 1) n,
+  below_range other i (a + 1) n,
+)
 
 above_range : (other i a n : ℕ) → a ≤ i + 1
     → first_above other i (range_with_len a n) ≡ cond (ltb (i + 1) (a + n)) (i + 1) other

@@ -1,6 +1,6 @@
 -- A problem that was read is fit for the walks and fits into the tables.
 use Rattle.std.proofs.Common.{◌≡◌, ◌≢◌, ℕ, zero, suc, ◌<◌, ◌≤◌, ◌^◌, List, [], ◌∷◌, length, sym}
-use Rattle.std.proofs.Common.{arith, ne_eqb, subst}
+use Rattle.std.proofs.Common.{arith, ne_eqb}
 use Rattle.std.specs.Prelude.{slice_get, unwrap_or, All, AllPairs}
 use Rattle.std.specs.List.{AllByRecursion}
 use Rattle.std.proofs.lemmas.List.Elements.{recursion_from_All}
@@ -74,9 +74,4 @@ pub known_fit : (colours : List (List ℕ)) (p : Puzzle) → IsValid p → IsWit
 known_fit colours p valid limits known few = grind (arith, common_steps, is_fit, layout_small)
 
 pub fitted : {p : Puzzle} {spans : List Span} → IsWithinLimits p → IsFit p → spans ≡ spans_of p → IsFitted p spans
-fitted {p} limits fit is = subst (IsFitted p) (sym is) (record {
-  laid = is_laid _ fit;
-  spanned = has_spans _ fit;
-  fit = fit;
-  bounds = λ i. omega (arith, high_within _ i limits);
-})
+fitted {p} limits fit is = grind (arith, common_steps, high_within, is_laid p fit, has_spans p fit)

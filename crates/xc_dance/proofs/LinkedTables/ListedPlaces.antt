@@ -1,5 +1,5 @@
 -- Places in an item's list by the problem alone: the item's own node, or that of an option in the list.
-use Rattle.std.proofs.Common.{◌≡◌, ℕ, zero, suc, ◌<◌, ◌≤◌, List, Some, refl, ap, sym, ◌∙◌, subst}
+use Rattle.std.proofs.Common.{◌≡◌, ℕ, zero, suc, ◌<◌, ◌≤◌, List, Some, refl, sym, subst}
 use Rattle.std.proofs.Common.{arith}
 use Rattle.std.specs.Prelude.{Option, Contains}
 use Rattle.std.proofs.lemmas.Grind.{common_steps}
@@ -24,11 +24,10 @@ use Rattle.xc_dance.proofs.LinkedTables.PassedOptions.{sound_fit}
 pub listed_use : {p : Puzzle} (t : List Move) (i x : ℕ) → IsFit p → Contains (listed_numbers p t i) x →
     IsUseAt p i x (link_place p i x)
 listed_use {p} t i x fit h =
-    let is = in_list_name p t _ _ (contained _ _ h) in
-    let us = uses_of p x in
-    let w = held_node p _ _ is.0 is.1 in
-    let items = All-from_recursion (λ u. IsItem p u.item) us (fit.items x) in
-    grind (arith, common_steps, slice_get_within us (place_in i us) w.held.use_of w.held.at)
+    let is = in_list_name p t i x (contained _ _ h) in
+    let w = held_node p i x is.0 is.1 in
+    let items = All-from_recursion (λ u. IsItem p u.item) (uses_of p x) (fit.items x) in
+    grind (arith, common_steps, slice_get_within (uses_of p x) (place_in i (uses_of p x)) w.held.use_of w.held.at)
 
 -- the place of an item's own node is below those of options
 pub own_place : {p : Puzzle} {t : List Move} {i : ℕ} (x : ℕ) {q : ℕ} → IsListedAt p t i x q → q ≤ item_count p → x ≡ 0
@@ -59,10 +58,7 @@ pub option_use : (s : Dancing) (a : Named) (i x q items : ℕ) → s.puzzle ≡ 
     items ≡ item_count a.puzzle → IsItem s.puzzle i → IsListedAt s.puzzle s.trail i x q → items < q →
     Contains (list_of s i) x × IsUseAt a.puzzle i x q
 option_use s a i x q items same sound count item at gt =
-    let above : item_count s.puzzle < q = omega (arith, gt, count ∙ ap item_count (sym same)) in
-    let h = option_place item at above in
-    let u = subst (IsUseAt s.puzzle i x) (sym at.at) (listed_use s.trail _ _ (fit_state s same sound) h) in
-    (h, subst (λ (p : Puzzle). IsUseAt p i x q) same u)
+    grind (arith, common_steps, option_place item at, listed_use s.trail i x (fit_state s same sound))
 
 -- the one below it
 pub next_of_option : (s : Dancing) (a : Named) (i x q items o : ℕ) (n : Option ℕ) → s.puzzle ≡ a.puzzle → IsSound a →

@@ -27,7 +27,6 @@ use Rattle.xc_dance.specs.Fields.{Node, unused, own, spacer, used, nodes_of, lay
 use Rattle.xc_dance.specs.inner.Links.OptionPlaces.{start_at}
 use Rattle.xc_dance.specs.inner.Links.Laid.{IsFit, AreDistinct}
 use Rattle.xc_dance.specs.inner.Links.Steps.{span_at}
-use Rattle.xc_dance.specs.inner.Links.Cells.{fixed_up}
 use Rattle.xc_dance.specs.inner.Links.Others.{before_use, behind_use, IsSpanOf, HasSpans}
 use Rattle.xc_dance.specs.inner.Links.OptionSpans.{span_of, spans_of}
 use Rattle.xc_dance.proofs.Copied.{take_more-get}
@@ -119,9 +118,8 @@ length_front p = let h = length-map-range_with_len own 1 (item_count p) in omega
 uses_from : (p : Puzzle) (o : ℕ) (us : List Use) → slice_get p.options o ≡ Some us
     → drop (spacer_place p o) (layout p) ≡ tail_from o (drop o p.options)
     → drop (start_at p o) (layout p) ≡ map (used (o + 1)) us ++ tail_from (o + 1) (drop (suc o) p.options)
-uses_from p o us e from = sym (drop-drop 1 (spacer_place p o) (layout p))
-    ∙ ap (drop 1) (from ∙ ap (tail_from o) (drop_at p.options o us e))
-    ∙ append_assoc (map (used (o + 1)) us) (spacer (o + 1) ∷ []) _
+uses_from p o us e from =
+    grind (arith, common_steps, drop-drop 1 (spacer_place p o) (layout p), drop_at p.options o us e, append_assoc)
 
 -- the table from the spacer behind option o on
 dropped : (p : Puzzle) (o : ℕ) → o ≤ option_count p
@@ -170,9 +168,8 @@ sizes (us ∷ os) = omega (arith, sizes os, sum_by-cons size us os, sum_by-cons 
 
 pub layout_len : (p : Puzzle) → length (layout p) ≡ spacer_place p (option_count p) + 1
 layout_len p =
-    let n = option_count p in
-    let last = ap length (dropped p n (omega arith) ∙ ap (tail_from n) (drop-length p.options)) in
-    omega (arith, length-drop (spacer_place p n) (layout p), last)
+    let last = dropped p (option_count p) (omega arith) in
+    grind (arith, common_steps, drop-length, length-drop (spacer_place p (option_count p)) (layout p))
 
 pub layout_small : (p : Puzzle) → IsWithinLimits p → length (layout p) ≤ 20100002
 layout_small p limits = grind (arith, common_steps, take-length, layout_len, sizes)
@@ -253,10 +250,7 @@ pub node_between : (p : Puzzle) (x q : ℕ) → IsOption p x → start_at p (x -
 node_between p x q known from below =
     let nodes = option_nodes p x known in
     let k = q - start_at p (x - 1) in
-    let d : Use = record { item = 0; colour = 0 } in
-    let use_is = slice_get-get_or (uses_of p x) k d (omega (arith, from, below, nodes.end)) in
-    let at : start_at p (x - 1) + k ≡ q = omega (arith, from) in
-    grind (arith, common_steps)
+    grind (arith, common_steps, slice_get-get_or (uses_of p x) k (record { item = 0; colour = 0 }), nodes.node k)
 
 -- ---- what a node tells of its place
 
@@ -290,11 +284,8 @@ up_to p (suc n) q m le gt to e = elim (cases_lt (spacer_place p n) q) [
 
 pub is_at : (p : Puzzle) (q : ℕ) (n : Node) → slice_get (layout p) q ≡ Some n → IsAt p q n
 is_at p zero n e = subst (IsAt p 0) (same_Some unused n e) refl
-is_at p (suc q) n e = elim (cases_lt (item_count p) (suc q)) [
-  | inl gt ↦ grind (arith, common_steps, up_to, layout_len, slice_get_within)
-  | inr le ↦ subst (IsAt p (suc q)) (same_Some (own (suc q)) n (sym (head_is p (suc q) (omega arith) le) ∙ e))
-      (omega arith, le, refl)
-]
+is_at p (suc q) n e =
+    grind (arith, common_steps, up_to, layout_len, slice_get_within, head_is p (suc q), same_Some)
 
 -- ---- its span
 
@@ -325,19 +316,12 @@ span_is p x i fit pos e =
     get_or_from_slice_get (spans_of p) q s _
     (slice_get-map (span_of p) (layout p) q ∙ ap (option_map (span_of p)) w.node) in
     let start : start_at p m - 1 ≡ spacer_place p m = omega arith in
-    subst (IsSpanOf p x i) (sym is) (record {
-      from = w.from;
-      below = w.below;
-      before = row p x (start_at p m) (q - start_at p m) (take n us)
-          (omega (arith, place, w.below, nodes.end, length-take n us))
-          (λ k u f. use_at p x m k u fit next (get_taken n k us u f)) ∙ ap (map (λ j. link_place p j x)) (sym h.before);
-      behind = grind (arith, common_steps, row, length-drop, use_at, get_dropped);
-      some = omega arith;
-      first = ap (slice_get (layout p)) start ∙ spacer_here p m (omega (arith, w.known.1));
-      down = grind (arith, common_steps, lt-ltb);
-      last = nodes.behind;
-      up = ap (λ y. fixed_up p (spacer y)) up;
-    })
+    let before = row p x (start_at p m) (q - start_at p m) (take n us)
+    (omega (arith, place, w.below, nodes.end, length-take n us))
+    (λ k u f. use_at p x m k u fit next (get_taken n k us u f)) in
+    let behind = row p x (q + 1) (spacer_place p x - (q + 1)) (drop (n + 1) us) in
+    subst (IsSpanOf p x i) (sym is)
+    (grind (arith, common_steps, length-drop, use_at, get_dropped, spacer_here, lt-ltb))
 
 pub has_spans : (p : Puzzle) → IsFit p → HasSpans p (spans_of p)
 has_spans p fit = grind (arith, common_steps, span_is, held_node, slice_get_within, length-map)

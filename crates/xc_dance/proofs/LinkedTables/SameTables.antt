@@ -1,10 +1,10 @@
 -- Tables have the same columns exactly where they have the same fields; when two keepers are the same.
 use Rattle.std.proofs.Common.{◌≡◌, ℕ, suc, ◌+◌, cond, eqb, leb, List, [], ◌∷◌, length, map, Some, None, refl, ap, ap₂}
-use Rattle.std.proofs.Common.{sym, subst, ◌∙◌, arith, eqb-true, ne_eqb, le-leb, inl, inr, Bool, reverse, IsTrue, ℤ}
+use Rattle.std.proofs.Common.{sym, subst, ◌∙◌, arith, eqb-true, ne_eqb, le-leb, Bool, reverse, IsTrue, ℤ}
 use Rattle.std.proofs.Common.{Option}
 use Rattle.std.specs.Prelude.{slice_get, option_map}
 use Rattle.std.specs.List.{range_with_len}
-use Rattle.std.proofs.lemmas.Bool.{lt-leb, cases_lt}
+use Rattle.std.proofs.lemmas.Bool.{lt-leb}
 use Rattle.std.proofs.lemmas.Option.{same_Some}
 use Rattle.std.proofs.lemmas.List.FromFn.{length-map-range_with_len}
 use Rattle.std.proofs.lemmas.Grind.{common_steps}
@@ -17,7 +17,7 @@ use Rattle.xc_dance.specs.declared.links.nodes.Nodes.{Nodes}
 use Rattle.xc_dance.specs.declared.links.items.Items.{Items}
 use Rattle.xc_dance.specs.Fields.{field_of}
 use Rattle.xc_dance.specs.inner.Links.Cells.{nodes_after}
-use Rattle.xc_dance.specs.inner.Links.ItemCells.{items_after, llink_at}
+use Rattle.xc_dance.specs.inner.Links.ItemCells.{items_after}
 use Rattle.xc_dance.specs.inner.Links.Read.{color_read, top_read}
 use Rattle.xc_dance.specs.inner.Links.Span.{Span}
 use Rattle.xc_dance.specs.inner.Links.Made.{IsFitted}
@@ -55,10 +55,8 @@ reading_is p t Slack k s = by_first _ k 0 (λ e. rw e refl) (λ ne. rw (ne_eqb k
 reading_is p t Top k s = top_cell p t k s.laid s.fit s.laid.small
 reading_is p t Ulink k s = ulink_cell p t k s.laid
 reading_is p t Dlink k s = dlink_cell p t k s.laid
-reading_is p t Color k s = elim (cases_lt (item_count p) k) [
-  | inl gt ↦ rw (lt-leb k (item_count p) gt) (color_use p t k s.laid s.fit gt)
-  | inr le ↦ rw (le-leb k (item_count p) le) (color_own p t k s.laid le)
-]
+reading_is p t Color k s =
+    grind (arith, common_steps, color_use p t k s.laid s.fit, color_own p t k s.laid, lt-leb, le-leb)
 
 -- lists with the same elements at the same places
 same_list : (xs ys : List ℕ) → ((k : ℕ) → slice_get xs k ≡ slice_get ys k) → xs ≡ ys
@@ -79,9 +77,7 @@ row_first f n = let s : n + 1 ≡ suc n = omega arith in ap (λ m. slice_get (ma
 -- tables with equal rows of links have as many items
 items_many : (p q : Puzzle) (t s : List Move) → (items_after p t).llink ≡ (items_after q s).llink
     → item_count p ≡ item_count q
-items_many p q t s e =
-    let a = length-map-range_with_len (llink_at p t) 0 (item_count p + 2) in
-    omega (arith, a, length-map-range_with_len (llink_at q s) 0 (item_count q + 2), ap length e)
+items_many p q t s e = grind (arith, common_steps, length-map-range_with_len, ap length e)
 
 pub tables_from : (p q : Puzzle) (t s : List Move) → IsSound p → IsSound q → FieldsSame p t q s
     → (items_after p t ≡ items_after q s) × (nodes_after p t ≡ nodes_after q s)
