@@ -1,6 +1,6 @@
 -- Along an option's nodes: which uses were committed where a walk over them stands, and what it finds there.
 use Rattle.std.proofs.Common.{ℕ, ◌≡◌, ◌+◌, ◌-◌, ◌<◌, ◌≤◌, List}
-use Rattle.std.proofs.Common.{length, drop, get_or, Some, refl, sym, ◌∙◌, arith, subst, length-drop}
+use Rattle.std.proofs.Common.{length, drop, get_or, Some, refl, sym, arith, subst, length-drop}
 use Rattle.std.specs.Prelude.{slice_get}
 use Rattle.std.proofs.lemmas.Option.{slice_get-get_or}
 use Rattle.xc_input.specs.declared.problem.Use.{Use}
@@ -122,28 +122,11 @@ abbrev pub MayCommit : Puzzle → ℕ → List Move → ℕ → ℕ → Type 0
 MayCommit p room t q j = (o : ℕ) × ((u : Use) × (slice_get (layout p) q ≡ Some (used o u)) × (u.item ≡ j)
     × CanStand p room (after_use p u t))
 
-pub may_commit : {p : Puzzle} {x off : ℕ} {vs : List Use} {s : List Move} (now : Linked) {room q j : ℕ} →
-    IsNext p x off vs s now.trail q → now.puzzle ≡ p → now.room ≡ room →
-    j ≡ top_at p now.trail q → CanStand p room (after_uses p vs s) → MayCommit now.puzzle now.room now.trail q j
-may_commit {p} {x} now {room} {q} {j} n same big is can = subst (λ a. MayCommit a now.room now.trail q j) (sym same)
-    (subst (λ r. MayCommit p r now.trail q j) (sym big) (x, (n.u, n.node, n.item ∙ sym is, n.stands room can)))
-
 -- what a commit there is to make of it
 abbrev pub Commits : Linked → ℕ → ℕ → Linked → Type 0
 Commits now q j new =
     (o : ℕ) (u : Use) → slice_get (layout now.puzzle) q ≡ Some (used o u) → u.item ≡ j →
     dancing_of new ≡ record (dancing_of now) { trail = after_use now.puzzle u now.trail }
-
-pub record Committed (p : Puzzle) (off : ℕ) (vs : List Use) (s : List Move) (k : ℕ) (new : Linked) (q : ℕ)
-    : Type 0 where
-  pub puzzle : new.puzzle ≡ p
-  pub room : new.room ≡ k
-  pub along : IsAlong p off vs s new.trail q
-
-pub one_committed : {p : Puzzle} {x off : ℕ} {vs : List Use} {s : List Move} (now new : Linked) {room q j : ℕ} →
-    IsNext p x off vs s now.trail q → now.puzzle ≡ p → now.room ≡ room →
-    j ≡ top_at p now.trail q → Commits now q j new → Committed p off vs s room new (q + 1)
-one_committed {p} {x} {off} {vs} {s} now new {room} {q} n same big is made = grind (arith, slice_get)
 
 -- at the end
 pub whole : (p : Puzzle) (room : ℕ) (now : Linked) {t : List Move} → now.puzzle ≡ p → now.room ≡ room →

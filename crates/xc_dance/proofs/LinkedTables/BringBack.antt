@@ -30,7 +30,7 @@ use Rattle.xc_dance.proofs.LinkedTables.Sweep.{mended, with_line, in_above, put_
 use Rattle.xc_dance.proofs.LinkedTables.Sweep.{other_items, is_in-first, in_more}
 use Rattle.xc_dance.proofs.LinkedTables.OtherItems.{leaves, others_apart, own_apart}
 use Rattle.xc_dance.proofs.LinkedTables.OtherItems.{other_item, in_reverse, apart_reverse}
-use Rattle.xc_dance.proofs.LinkedTables.GoodLines.{Named, listed_member, numbers_named}
+use Rattle.xc_dance.proofs.LinkedTables.GoodLines.{InRange, Named, listed_member, numbers_named}
 use Rattle.xc_dance.proofs.MoveLemmas.Members.{element_of}
 use Rattle.xc_dance.proofs.MoveLemmas.Shortened.{rises_listed}
 use Rattle.xc_dance.proofs.LinkedTables.Leaving.{met_at}
@@ -44,63 +44,62 @@ use Rattle.xc_dance.proofs.LinkedTables.Walks.{Way}
 
 -- what a step needs of option o, which comes back into item j's line
 pub record IsReturner (p : Puzzle) (j : ℕ) (l : Line) (o : ℕ) : Type 0 where
-  pub name : IsName p j o
   pub above : IsName p j (l.up o)
   pub below : IsName p j (l.down o)
   pub few : l.len < 2 ^ 31
+
+-- it comes back there unless its node is marked
+pub record Returning (p : Puzzle) (col : Node → ℕ) (ln : ℕ → Line) (o j : ℕ) : Type 0 where
+  pub item : InRange p j
+  pub name : IsName p j o
+  pub returner : is_mark p col o j ≡ false → IsReturner p j (ln j) o
 
 pub record Unhidden (t u : Nodes) (q : ℕ) : Type 0 where
   pub can : CanUnhide t q
   pub done : unhidden t q ≡ u
 
-pub unhide_open : {p : Puzzle} (col : Node → ℕ) (ln : ℕ → Line) {j o : ℕ} → IsLaid p → 0 < j → j ≤ item_count p → 0 < o
-    → IsReturner p j (ln j) o → is_mark p col o j ≡ false →
-    Unhidden (nodes_from p ln col) (nodes_from p (with_line ln j (mended (ln j) o)) col) (link_place p j o)
-unhide_open {p} col ln {j} {o} laid pos le o_pos m unmarked =
-    let c = node_cells p ln col j o laid pos le o_pos m.name m.above m.below in
-    let top = set_top p ln j (mended (ln j) o) laid pos le in
-    let up = set_link p (λ k x. (ln k).up x) (fixed_up p) j ((ln j).down o) o laid c.below in
-    let down = set_link p (λ k x. (ln k).down x) (fixed_down p) j ((ln j).up o) o laid c.above in
-    grind (arith, common_steps, m.few, size_from, same_nodes, unhidden-open)
-
-pub unhide_marked : {p : Puzzle} (col : Node → ℕ) (ln : ℕ → Line) {j o : ℕ} → IsLaid p → 0 < j → j ≤ item_count p
-    → 0 < o → IsName p j o → is_mark p col o j ≡ true
-    → Unhidden (nodes_from p ln col) (nodes_from p ln col) (link_place p j o)
-unhide_marked {p} col ln {j} {o} laid pos le o_pos name marked =
-    let here = laid.there j o pos le name in
-    grind (arith, common_steps, eqb-true, size_from, unhidden-marked, get_item _ ln _ _ here o_pos)
-
--- ---- some items in turn
+-- the step leads from one table to another
+abbrev pub Returns : Puzzle → (Node → ℕ) → ℕ → (ℕ → Line) → (ℕ → Line) → ℕ → Type 0
+Returns p col o ln ln' j = Unhidden (nodes_from p ln col) (nodes_from p ln' col) (link_place p j o)
 
 abbrev pub back_one : Puzzle → (Node → ℕ) → ℕ → (ℕ → Line) → ℕ → ℕ → Line
 back_one = changed_one mended
 
+module _ {p : Puzzle} (col : Node → ℕ) (ln : ℕ → Line) {o j : ℕ} (laid : IsLaid p) (pos : 0 < o)
+    (r : Returning p col ln o j) where
+  unhide_open : is_mark p col o j ≡ false → Returns p col o ln (with_line ln j (mended (ln j) o)) j
+  unhide_open unmarked =
+      let m = r.returner unmarked in
+      let c = node_cells p ln col j o laid r.item.0 r.item.1 pos r.name m.above m.below in
+      let top = set_top p ln j (mended (ln j) o) laid r.item.0 r.item.1 in
+      let up = set_link p (λ k x. (ln k).up x) (fixed_up p) j ((ln j).down o) o laid c.below in
+      let down = set_link p (λ k x. (ln k).down x) (fixed_down p) j ((ln j).up o) o laid c.above in
+      grind (arith, common_steps, size_from, same_nodes, unhidden-open)
+
+  unhide_marked : is_mark p col o j ≡ true → Returns p col o ln ln j
+  unhide_marked marked =
+      let here = laid.there j o r.item.0 r.item.1 r.name in
+      grind (arith, common_steps, eqb-true, size_from, unhidden-marked, get_item _ ln _ _ here pos)
+
+  returned : Returns p col o ln (back_one p col o ln j) j
+  returned = elim (is_mark p col o j) as (λ b. is_mark p col o j ≡ b
+      → Returns p col o ln (cond b ln (with_line ln j (mended (ln j) o))) j) [
+        | true ↦ unhide_marked
+        | false ↦ unhide_open
+      ] refl
+
+-- ---- some items in turn
+
 abbrev pub back_all : Puzzle → (Node → ℕ) → ℕ → (ℕ → Line) → List ℕ → ℕ → Line
 back_all = changed_all mended
-
-pub record Returning (p : Puzzle) (col : Node → ℕ) (ln : ℕ → Line) (o j : ℕ) : Type 0 where
-  pub pos : 0 < j
-  pub le : j ≤ item_count p
-  pub name : IsName p j o
-  pub returner : is_mark p col o j ≡ false → IsReturner p j (ln j) o
-
--- the steps lead from one table to another
-abbrev pub Returns : Puzzle → (Node → ℕ) → ℕ → (ℕ → Line) → (ℕ → Line) → ℕ → Type 0
-Returns p col o ln ln' j = Unhidden (nodes_from p ln col) (nodes_from p ln' col) (link_place p j o)
 
 pub unhidden_walk : (p : Puzzle) (col : Node → ℕ) (ln : ℕ → Line) (o : ℕ) (js : List ℕ) → IsLaid p → 0 < o → AllApart js
     → ((j : ℕ) → is_in j js ≡ true → Returning p col ln o j) → Way (Returns p col o) ln js (back_all p col o ln js)
 unhidden_walk p col ln o [] laid pos apart h = refl
 unhidden_walk p col ln o (j ∷ js) laid pos apart h =
-    let here = h j (is_in-first j js) in
-    let first = elim (is_mark p col o j) as
-    (λ b. is_mark p col o j ≡ b → Returns p col o ln (cond b ln (with_line ln j (mended (ln j) o))) j) [
-      | true ↦ λ e. unhide_marked col ln laid here.pos here.le pos here.name e
-      | false ↦ λ e. unhide_open col ln laid here.pos here.le pos (here.returner e) e
-    ] refl in
     let rest = unhidden_walk p col (back_one p col o ln j) o js laid pos apart.1 (λ k e.
     grind (arith, common_steps, apart_in, in_more, one_other)) in
-    (back_one p col o ln j, (first, rest))
+    (back_one p col o ln j, (returned col ln laid pos (h j (is_in-first j js)), rest))
 
 -- ---- down the nodes that Tweaks of one item took off: each option comes back into the lists of its other items, and
 -- under the node above it into its own
@@ -177,8 +176,7 @@ opened_at {p} {t} {spans} false {i} {ln = ln} {o} {os} legal fit opened within h
     let in_js = sym (in_reverse j js) ∙ in_back in
     let k = other_item o i j fit.fit in_js in
     record {
-      pos = k.item.0;
-      le = k.item.1;
+      item = k.item;
       name = inr (o_pos, k.named);
       returner = λ un.
           let nb = comes j (ap₂ (λ a b. a && not b) in_js un) k.item.0 k.item.1 k.ne in
