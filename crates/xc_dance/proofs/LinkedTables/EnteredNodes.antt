@@ -30,7 +30,7 @@ use Rattle.xc_dance.proofs.Copied.{take_more-get}
 use Rattle.xc_dance.proofs.LinkedTables.LaidLemmas.{is_laid}
 use Rattle.xc_dance.proofs.LinkedTables.PlaceLemmas.{length_front, layout_small, get_taken}
 use Rattle.xc_dance.proofs.LinkedTables.LinkColumns.{get_map, same_nodes, column, put_link, column_same, get_link}
-use Rattle.xc_dance.proofs.LinkedTables.LinkColumns.{set_link, set_top, get_len, map_same, member_of}
+use Rattle.xc_dance.proofs.LinkedTables.LinkColumns.{set_link, set_top, get_len, map_same}
 use Rattle.xc_dance.proofs.LinkedTables.GoodLines.{link_same}
 use Rattle.std.proofs.Common.{◌⊎◌}
 use Rattle.xc_dance.specs.inner.Links.Cells.{slot_of}
@@ -271,7 +271,7 @@ whole p j = grown_all (listed_numbers p [] j)
 -- members stand in their lists
 slot_in : {p : Puzzle} (q : ℕ) (n : Node) {j x : ℕ} → IsFit p → slice_get (layout p) q ≡ Some n
     → slot_of n ≡ Some (j, x) → (x ≡ 0) ⊎ (is_in x (listed_numbers p [] j) ≡ true)
-slot_in q (own i) fit e s = inl (sym (ap member_of s))
+slot_in q (own i) fit e s = grind (arith, common_steps)
 slot_in {p} q (used o u) fit e s = grind (arith, common_steps, held_in (layout p) q o u e, held_all u.item fit)
 slot_in q _ fit e s = cc
 

@@ -16,7 +16,7 @@ use Rattle.xc_dance.specs.inner.Links.Cells.{slot_of, fixed_up, fixed_down, top_
 use Rattle.xc_dance.specs.inner.Links.Cells.{ulink_in, dlink_in}
 use Rattle.xc_dance.specs.inner.Links.Laid.{IsName, IsLaid, IsFit}
 use Rattle.xc_dance.specs.declared.dance.Move.{Move}
-use Rattle.xc_dance.specs.Moves.{listed_numbers}
+use Rattle.xc_dance.specs.Moves.{listed_numbers, listed}
 use Rattle.xc_input.proofs.lists.EachElement.{each-map, each_weaker}
 use Rattle.xc_dance.proofs.LinkedTables.LinkColumns.{set_link, set_top, size_from, NodeCells}
 use Rattle.xc_dance.proofs.LinkedTables.LinkColumns.{node_cells, get_up, get_down, CanUnhide-unlinked, same_nodes}
@@ -97,13 +97,6 @@ step_marked p col ln q within use_of color = grind (arith, common_steps, eqb-tru
 abbrev pub Named : Puzzle → ℕ → ℕ → Type 0
 Named p j x = is_some (colour_in (uses_of p x) j) ≡ true
 
--- the line stands for the list, of options that hold the item
-pub record IsGood (p : Puzzle) (j : ℕ) (l : Line) (xs : List ℕ) : Type 0 where
-  pub linked : IsLinkedFrom l 0 xs
-  pub named : AllByRecursion (Named p j) xs
-  pub len : l.len ≡ length xs
-  pub few : length xs < 2 ^ 31
-
 -- a member of a list that is linked from a on
 at_member : (p : Puzzle) (j : ℕ) (l : Line) (a : ℕ) (xs : List ℕ) (o : ℕ) → InRange p j → 0 < l.len → l.len < 2 ^ 31
     → IsName p j a → IsLinkedFrom l a xs → AllByRecursion (Named p j) xs → is_in o xs ≡ true → IsMember p j l o
@@ -112,16 +105,16 @@ at_member p j l a (y ∷ []) o r some few n h named e = grind (arith, common_ste
 at_member p j l a (y ∷ z ∷ zs) o r some few n h named e =
     grind (arith, common_steps, eqb-true, at_member p j l y (z ∷ zs) o r some few)
 
-pub member : (p : Puzzle) (j : ℕ) (l : Line) (xs : List ℕ) (o : ℕ) → 0 < j → j ≤ item_count p → IsGood p j l xs
-    → is_in o xs ≡ true → IsMember p j l o
-member p j l xs o pos le g e = grind (arith, common_steps, false≢true, at_member p j l 0 xs o)
+member : (p : Puzzle) (j : ℕ) (l : Line) (xs : List ℕ) (o : ℕ) → InRange p j → l.len ≡ length xs → length xs < 2 ^ 31
+    → IsLinkedFrom l 0 xs → AllByRecursion (Named p j) xs → is_in o xs ≡ true → IsMember p j l o
+member p j l xs o r len few linked named e = grind (arith, common_steps, false≢true, at_member p j l 0 xs o)
 
 -- it is one still when another one has left
 pub cut_member : (p : Puzzle) (j : ℕ) (l : Line) (o x : ℕ) → IsMember p j l o → IsMember p j l x → x ≢ o
     → 0 < (cut l o).len → IsMember p j (cut l o) x
 cut_member p j l o x m n ne some = grind (arith, by_first, put_at-same, put_at-other)
 
--- ---- the lines after moves are good: each stands for its list, of options that hold the item
+-- ---- the lines after moves: each stands for its list, of options that hold the item
 
 pub numbers_few : (p : Puzzle) (t : List Move) (j : ℕ) → length (listed_numbers p t j) ≤ length p.options
 numbers_few p t j = grind (arith, common_steps, length-listed, length-map)
@@ -129,14 +122,12 @@ numbers_few p t j = grind (arith, common_steps, length-listed, length-map)
 pub numbers_named : (p : Puzzle) (t : List Move) (j : ℕ) → AllByRecursion (Named p j) (listed_numbers p t j)
 numbers_named p t j = grind (arith, common_steps, each-map, each_weaker, holders, holds_use)
 
-pub all_good : (p : Puzzle) (t : List Move) → IsFit p → (j : ℕ) → 0 < j → j ≤ item_count p
-    → IsGood p j (line_of p t j) (listed_numbers p t j)
-all_good p t fit j jpos jle = grind (arith, common_steps, length-map, numbers_few, numbers_named, stands)
-
 -- each option of a list is a member of the line
 pub listed_member : {p : Puzzle} (t : List Move) (j x : ℕ) → IsFit p → InRange p j
     → is_in x (listed_numbers p t j) ≡ true → IsMember p j (line_of p t j) x
-listed_member {p} t j x fit r e = member p j _ _ x r.0 r.1 (all_good p t fit j r.0 r.1) e
+listed_member {p} t j x fit r e =
+    member p j _ (listed_numbers p t j) x r (sym (length-map (listed p t j) (λ o. o.number)))
+    (omega (arith, numbers_few p t j, fit.few)) (stands p t j) (numbers_named p t j) e
 
 -- ---- a line that loses what a move takes is that after the move; tables of the same lines and colours are the same
 

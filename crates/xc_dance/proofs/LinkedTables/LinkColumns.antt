@@ -1,6 +1,6 @@
 -- The columns of the node table, one write to them, and steps of hide that undo one another.
 use Rattle.std.proofs.Common.{◌≡◌, ◌≢◌, ℕ, zero, suc, List, [], ◌∷◌, map, get_or, set, Some, refl, ap, ap₂, arith, ◌<◌}
-use Rattle.std.proofs.Common.{true, false, cond, eqb, ◌∙◌, length, ◌≤◌, Option, None, sym}
+use Rattle.std.proofs.Common.{true, false, cond, eqb, ◌∙◌, length, ◌≤◌, Option, sym}
 use Rattle.std.proofs.Common.{eqb-true, eq-eqb, ne_eqb, ◌^◌}
 use Rattle.std.specs.Prelude.{slice_get}
 use Rattle.std.proofs.lemmas.Option.{same_Some, slice_get_within}
@@ -13,7 +13,7 @@ use Rattle.xc_input.specs.Problem.{Puzzle, item_count}
 use Rattle.xc_dance.specs.declared.links.nodes.Nodes.{Nodes}
 use Rattle.xc_dance.specs.inner.Links.Steps.{unlinked, relinked, unhidden, HasSize, NamesPlaces}
 use Rattle.xc_dance.specs.inner.Links.Steps.{CanUnhide}
-use Rattle.xc_dance.specs.Fields.{Node, own, used, layout, link_place}
+use Rattle.xc_dance.specs.Fields.{Node, own, layout, link_place}
 use Rattle.xc_dance.specs.inner.Links.Lines.{Line}
 use Rattle.xc_dance.specs.inner.Links.Cells.{slot_of, link_at, fixed_up, fixed_down, top_in, ulink_in, dlink_in}
 use Rattle.xc_dance.specs.inner.Links.Cells.{nodes_from}
@@ -109,8 +109,7 @@ get_down p ln j x h = get_link _ (λ k y. (ln k).down y) (fixed_down p) _ _ h
 
 other_slot : (p : Puzzle) (f : ℕ → ℕ → ℕ) (j x v : ℕ) (fixed : ℕ) (s : Option (ℕ × ℕ)) → (s ≡ Some (j, x) → ⊥) →
     link_at p (put_link f j (put_at (f j) x v)) fixed s ≡ link_at p f fixed s
-other_slot p f j x v fixed None ne = grind (arith, common_steps, eqb-true, put_at-other)
-other_slot p f j x v fixed (Some s) ne = grind (arith, common_steps, eqb-true, put_at-other)
+other_slot p f j x v fixed s ne = grind (arith, common_steps, eqb-true, put_at-other)
 
 pub set_link : (p : Puzzle) (f : ℕ → ℕ → ℕ) (fixed : Node → ℕ) (j x v : ℕ) → IsLaid p → Placed p j x →
     column p (put_link f j (put_at (f j) x v)) fixed ≡ set (column p f fixed) (link_place p j x) (link_place p j v)
@@ -134,19 +133,9 @@ pub get_len : (p : Puzzle) (ln : ℕ → Line) (j : ℕ) → IsLaid p → 0 < j 
     → get_or (map (top_in ln) (layout p)) j 0 ≡ (ln j).len
 get_len p ln j laid pos le = get_map (top_in ln) (layout p) j _ (laid.head j pos le)
 
-abbrev pub item_of : Option (ℕ × ℕ) → ℕ
-item_of None = 0
-item_of (Some s) = s.0
-
-abbrev pub member_of : Option (ℕ × ℕ) → ℕ
-member_of None = 0
-member_of (Some s) = s.1
-
 -- the item of a node
 item_at : (ln : ℕ → Line) (n : Node) {j o : ℕ} → slot_of n ≡ Some (j, o) → 0 < o → top_in ln n ≡ j
-item_at ln (own i) {o} e pos = let z : 0 ≡ o = ap member_of e in absurd (omega arith)
-item_at ln (used k u) e pos = ap item_of e
-item_at ln _ e pos = cc
+item_at ln n e pos = grind (arith, common_steps)
 
 pub get_item : (p : Puzzle) (ln : ℕ → Line) (j o : ℕ) → Placed p j o → 0 < o
     → get_or (map (top_in ln) (layout p)) (link_place p j o) 0 ≡ j
