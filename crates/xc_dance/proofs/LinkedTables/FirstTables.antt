@@ -132,16 +132,10 @@ low_most {p} (suc k) valid = at_place (λ (b : Bounds). b.low ≤ b.high) (recor
 -- ---- neighbours in a row of numbers
 
 below_range : (other i a n : ℕ) → i ≤ a + n → last_below other i (range_with_len a n) ≡ cond (ltb a i) (i - 1) other
-below_range other i a zero le = rw (le-ltb a i (omega (arith, le))) refl
-below_range other i a (suc n) le = grind (
-  arith,
-  common_steps,
-  last_below-more,
-  ltb-true,
-  ltb-false,
-  below_range a i (a + 1) n,
-  below_range other i (a + 1) n,
-)
+below_range other i a zero le = grind (arith, common_steps, le-ltb)
+below_range other i a (suc n) le =
+    let inner = below_range a i (a + 1) n in
+    grind (arith, common_steps, last_below-more, ltb-true, ltb-false, below_range other i (a + 1) n)
 
 above_range : (other i a n : ℕ) → a ≤ i + 1
     → first_above other i (range_with_len a n) ≡ cond (ltb (i + 1) (a + n)) (i + 1) other

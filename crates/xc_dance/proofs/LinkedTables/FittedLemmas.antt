@@ -40,10 +40,10 @@ at_place P d [] k nil a = nil
 at_place P d (x ∷ xs) zero nil a = a.0
 at_place P d (x ∷ xs) (suc k) nil a = at_place P d xs k nil a.1
 
-at_option : (Q P : List Use → Type 0) (p : Puzzle) (o : ℕ) → P [] → ((us : List Use) → Q us → P us) → All Q p.options
+at_option : (Q P : List Use → Type 0) (p : Puzzle) → P [] → ((us : List Use) → Q us → P us) → All Q p.options → (o : ℕ)
     → P (uses_of p o)
-at_option Q P p zero nil f a = nil
-at_option Q P p (suc k) nil f a =
+at_option Q P p nil f a zero = nil
+at_option Q P p nil f a (suc k) =
     at_place P [] p.options k nil (each_weaker Q P p.options f (recursion_from_All Q p.options a))
 
 abbrev InRange : Puzzle → Use → Type 0
@@ -58,14 +58,11 @@ sound_items p us s = grind (arith, common_steps, each_weaker, recursion_from_All
 -- the rules of a problem say nothing of the colours: they are to be below the mark
 pub is_fit : (p : Puzzle) → IsValid p → All (λ us. All (λ u. u.colour < MARK) us) p.options → length p.options < 2 ^ 30
     → item_count p < 2 ^ 31 → length (layout p) < 2 ^ 31 → IsFit p
-is_fit p valid colours few small near = record {
-  distinct = λ o. at_option (IsSoundOption p) AreDistinct p o tt (λ us s. distinct_from us s.distinct) valid.options;
-  items = λ o. at_option (IsSoundOption p) (AllByRecursion (InRange p)) p o tt (sound_items p) valid.options;
-  colours = λ o. at_option (All IsBelow) (AllByRecursion IsBelow) p o tt (recursion_from_All IsBelow) colours;
-  few = few;
-  small = small;
-  near = near;
-}
+is_fit p valid colours few small near =
+    let distinct = at_option (IsSoundOption p) AreDistinct p tt (λ us s. distinct_from us s.distinct) valid.options in
+    let items = at_option (IsSoundOption p) (AllByRecursion (InRange p)) p tt (sound_items p) valid.options in
+    let below = at_option (All IsBelow) (AllByRecursion IsBelow) p tt (recursion_from_All IsBelow) colours in
+    assumption
 
 -- ---- a problem that was read fits into the tables
 

@@ -32,9 +32,6 @@ use Rattle.xc_dance.proofs.LinkedTables.Sweep.{by_first}
 
 -- ---- tables have the same columns exactly where they have the same fields
 
-abbrev FieldsSame : Puzzle → List Move → Puzzle → List Move → Type 0
-FieldsSame p t q s = (f : Field) (k : ℕ) → field_of p t f k ≡ field_of q s f k
-
 -- a cell of the tables as it is read, with so many items
 abbrev reading : ℕ → Items → Nodes → Field → ℕ → Option ℤ
 reading many i n Llink k = read i.llink k
@@ -79,7 +76,8 @@ items_many : (p q : Puzzle) (t s : List Move) → (items_after p t).llink ≡ (i
     → item_count p ≡ item_count q
 items_many p q t s e = grind (arith, common_steps, length-map-range_with_len, ap length e)
 
-pub tables_from : (p q : Puzzle) (t s : List Move) → IsSound p → IsSound q → FieldsSame p t q s
+pub tables_from : (p q : Puzzle) (t s : List Move) → IsSound p → IsSound q
+    → ((f : Field) (k : ℕ) → field_of p t f k ≡ field_of q s f k)
     → (items_after p t ≡ items_after q s) × (nodes_after p t ≡ nodes_after q s)
 tables_from p q t s a b h = (
   same_items _ _ llinks (row (alike Rlink)) (same_list _ _ bounds) (same_list _ _ slacks),
