@@ -40,8 +40,7 @@ listed_within {p} {t} {i} {x} laid item at =
 down_at : {p : Puzzle} (t : List Move) (i : ℕ) {x : ℕ} → IsLaid p → IsItem p i
     → (x ≡ 0) ⊎ Contains (listed_numbers p t i) x
     → get_or (nodes_after p t).dlink (link_place p i x) 0 ≡ link_place p i (first_above 0 x (listed_numbers p t i))
-down_at {p} t i laid item (inl z) = grind (arith, common_steps, own_down, first_above)
-down_at {p} t i laid item (inr h) = grind (arith, common_steps, contained, in_list_name, use_down)
+down_at {p} t i laid item h = grind (arith, common_steps, own_down, first_above, contained, in_list_name, use_down)
 
 -- DLINK of a node in an item's list leads to the next one there
 pub listed_down : {p : Puzzle} {t : List Move} {i x q : ℕ} → IsLaid p → IsItem p i → IsListedAt p t i x q →

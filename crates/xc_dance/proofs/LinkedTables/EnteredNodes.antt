@@ -3,7 +3,7 @@ use Rattle.xc_input.proofs.lists.EachElement.{each_weaker}
 use Rattle.xc_dance.proofs.LinkedTables.LaidLemmas.{options_numbered}
 use Rattle.std.proofs.Common.{◌≡◌, ℕ, ◌+◌, ◌<◌, ◌≤◌, List, [], ◌∷◌, ◌++◌, length, fold, refl, sym, ◌∙◌, arith}
 use Rattle.std.proofs.Common.{zero, suc, true, false, cond, eqb, map, take, Some, ap, eqb-true, eq-eqb, inl}
-use Rattle.std.proofs.Common.{get_or, ne_eqb}
+use Rattle.std.proofs.Common.{ne_eqb}
 use Rattle.std.specs.List.{AllByRecursion}
 use Rattle.std.specs.Prelude.{slice_get, is_some, flat_map, slice_index}
 use Rattle.std.proofs.lemmas.Grind.{common_steps}
@@ -29,7 +29,7 @@ use Rattle.xc_dance.proofs.LinkedTables.Sweep.{stands}
 use Rattle.xc_dance.proofs.Copied.{take_more-get}
 use Rattle.xc_dance.proofs.LinkedTables.LaidLemmas.{is_laid}
 use Rattle.xc_dance.proofs.LinkedTables.PlaceLemmas.{length_front, layout_small, get_taken}
-use Rattle.xc_dance.proofs.LinkedTables.LinkColumns.{get_map, same_nodes, column, put_link, column_same, get_link}
+use Rattle.xc_dance.proofs.LinkedTables.LinkColumns.{get_map, same_nodes, put_link, column_same, get_link}
 use Rattle.xc_dance.proofs.LinkedTables.LinkColumns.{set_link, set_top, get_len, map_same}
 use Rattle.xc_dance.proofs.LinkedTables.GoodLines.{link_same}
 use Rattle.std.proofs.Common.{◌⊎◌}
@@ -226,18 +226,16 @@ use_step p q o u fit limits e =
     let ln = lines_of ns in
     let laid = is_laid p fit in
     let range = laid.nodes.ranged q (used o u) j o e refl in
-    let tops = map (top_in ln) (layout p) in
-    let ups = column p (λ k x. (ln k).up x) (fixed_up p) in
     let here = laid.there j o range.0 range.1 (use_name p q o j u fit e refl) in
     let head = laid.there j 0 range.0 range.1 (inl refl) in
     let name : IsName p j ((ln j).up 0) = last_from (IsName p j) blank _ (inl refl) (held_each (IsName p j) j ns
     (λ k x v f same. use_name p k x j v fit (get_taken q k (layout p) (used x v) f) same)) in
     let last = laid.there j ((ln j).up 0) range.0 range.1 name in
-    let is_i : get_or tops q 0 ≡ j = get_map (top_in ln) (layout p) q (used o u) e in
-    let is_u = ap (λ k. get_or ups k 0) is_i ∙ get_link p (λ k x. (ln k).up x) (fixed_up p) j 0 head in
-    let count = ap (λ k. get_or tops k 0) is_i ∙ get_len p ln j laid range.0 range.1 in
+    let is_i = get_map (top_in ln) (layout p) q (used o u) e in
+    let first = get_link p (λ k x. (ln k).up x) (fixed_up p) j 0 head in
+    let count = get_len p ln j laid range.0 range.1 in
     let within = slice_get_within (layout p) q (used o u) e in
-    let long : length tops ≡ length (layout p) = length-map (layout p) (top_in ln) in
+    let long = length-map (layout p) (top_in ln) in
     let size = length-take-le q (layout p) (omega (arith, within)) in
     let own_in = slice_get_within (layout p) j (own j) (laid.head j range.0 range.1) in
     let last_in = slice_get_within (layout p) (link_place p j ((ln j).up 0)) last.node last.at in

@@ -203,11 +203,8 @@ cover_hides p t i = grind (arith, common_steps, cover_colours, marked_none, take
 
 purify_passed : {p : Puzzle} (t : List Move) {i : ℕ} (c : ℕ)
     → Passed p i (color_in p t) (purify_start p t i c) (listed_numbers p t i)
-purify_passed {p} t {i} c = record {
-  same = λ j o placed e.
-      let rise = rises_listed p t i in
-      color_other p (color_in p t) i 0 c j o placed (grind (arith, common_steps, in_above, ne_eqb));
-}
+purify_passed {p} t {i} c =
+    grind (arith, common_steps, in_above, ne_eqb, color_other p (color_in p t) i 0 c, rises_listed p t i)
 
 pub purify_hides : (p : Puzzle) (t : List Move) (i c : ℕ) → AreLegal p t → IsLaid p → 0 < i → i ≤ item_count p
     → is_open i t ≡ true → Hides p t (Purify i c) i (Some c) (purify_start p t i c)

@@ -1,5 +1,5 @@
 -- The options with their numbers, and the places of the node table: what the walks need of them.
-use Rattle.std.proofs.Common.{◌≡◌, ℕ, zero, suc, ◌<◌, ◌≤◌, inl, inr, Some, refl, ap}
+use Rattle.std.proofs.Common.{◌≡◌, ℕ, zero, suc, ◌<◌, ◌≤◌, Some, refl}
 use Rattle.std.proofs.Common.{arith}
 use Rattle.std.proofs.lemmas.Grind.{common_steps}
 use Rattle.xc_input.specs.Problem.{Puzzle, item_count}
@@ -15,10 +15,7 @@ use Rattle.xc_dance.proofs.LinkedTables.PlaceLemmas.{IsAt, is_at, head_is, found
 -- a member of an item's list has its node there
 pub placed : (p : Puzzle) (j x : ℕ) → 0 < j → j ≤ item_count p → IsName p j x → Placed p j x
 placed p j zero pos le name = record { node = own j; at = head_is _ _ pos le; slot = refl }
-placed p j (suc m) pos le (inl z) = absurd (omega (arith, z))
-placed p j (suc m) pos le (inr held) =
-    let w = held_node _ _ _ held.0 held.1 in
-    record { node = _; at = w.node; slot = ap (λ i. let s : ℕ × ℕ = (i, suc m) in Some s) w.held.item }
+placed p j (suc m) pos le name = grind (arith, common_steps, held_node p j (suc m))
 
 -- and stands at no other place
 slot_at : {p : Puzzle} (q : ℕ) (n : Node) {j : ℕ} (x : ℕ) → IsFit p → IsAt p q n → slot_of n ≡ Some (j, x)

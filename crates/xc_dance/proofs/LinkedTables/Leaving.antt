@@ -2,7 +2,7 @@
 -- leave.
 use Rattle.std.proofs.Common.{◌≡◌, ℕ, ◌<◌, ◌≤◌, true, false, not, cond, ◌||◌, eqb, List, [], ◌∷◌, map, Option, Some}
 use Rattle.std.proofs.Common.{None, refl, ap, sym, ◌∙◌, arith, eqb-true, eq-eqb, ne_eqb, ◌≢◌, ◌&&◌, filter, zero, suc}
-use Rattle.std.proofs.Common.{◌+◌, Bool, length, ◌*◌, drop, take, subst}
+use Rattle.std.proofs.Common.{◌+◌, Bool, length, ◌*◌, drop}
 use Rattle.std.specs.Prelude.{is_some, sum_by}
 use Rattle.std.specs.List.{AllByRecursion, range_with_len}
 use Rattle.std.proofs.lemmas.Grind.{common_steps}
@@ -79,12 +79,10 @@ stay_if false gs xs = sym (stay_all xs)
 -- where the move takes none from the walked list, its own line loses none
 pub cut_own : {p : Puzzle} (t : List Move) (m : Move) (i : ℕ) (gs : List ℕ) → IsFit p
     → listed_numbers p (m ∷ t) i ≡ listed_numbers p t i → SameCut p t m i (filter (leaves p (color_in p t) i i) gs)
-cut_own {p} t m i gs fit same = record {
-  test = λ x. false;
-  cut_is = filter_agree _ (λ x. false) (λ x. ap (λ b. b && not (is_mark p (color_in p t) x i)) (own_apart p i x fit)) gs
-      ∙ leave_none gs ∙ sym (leave_none (listed_numbers p t i));
-  stay_is = same ∙ sym (stay_all (listed_numbers p t i));
-}
+cut_own {p} t m i gs fit same =
+    let agree = filter_agree (leaves p (color_in p t) i i) (λ x. false)
+    (λ x. ap (λ b. b && not (is_mark p (color_in p t) x i)) (own_apart p i x fit)) gs in
+    record { test = λ x. false; cut_is = grind (arith, leave_none); stay_is = grind (arith, stay_all) }
 
 -- ---- the options of an open item's list are met: their other uses stand in their lists or are marked, so they are
 -- ready to leave
@@ -139,9 +137,8 @@ module _ (p : Puzzle) (t : List Move) (i : ℕ) (legal : AreLegal p t) (laid : I
   -- so each other item's line has them
   pub lines_ready : LinesReady p (color_in p t) i (line_of p t) (listed_numbers p t i)
   lines_ready j r ne =
-      let of : AreOf p t i (listed_numbers p t i) = record { rise = rises_listed p t i; among = λ x e. e } in
-      record {
-        member = λ x e lv some. listed_member t j x fit r (and_right _ _ (sym (leaves_at j x r ne e) ∙ lv));
+      let of : AreOf p t i (listed_numbers p t i) = record { rise = rises_listed p t i; among = λ x e. e } in record {
+        member = λ x e lv some. listed_member t j x fit r (grind (arith, and_right, leaves_at));
         enough = grind (arith, common_steps, leaves_are, length-filter-le, length-map);
       }
 
@@ -268,8 +265,6 @@ module _ (p : Puzzle) (t : List Move) (i : ℕ) where
       → listed_numbers p (Tweak i ∷ t) j ≡
       cond (eqb j i || (b && is_open j t)) (stay (λ x. is_in x (o ∷ [])) (listed_numbers p t j)) (listed_numbers p t j)
   tweak_stay j o os b opened is =
-      let rise : Rises 0 (o ∷ os) = subst (Rises 0) is (rises_listed p t i) in
-      let alone : map (λ o. o.number) (take 1 (listed p t i)) ≡ o ∷ [] =
-      sym (take-map (λ o. o.number) 1 (listed p t i)) ∙ ap (take 1) is in
-      let rest : stay (λ x. is_in x (o ∷ [])) (o ∷ os) ≡ os = less-remove 0 (o ∷ os) 0 rise (omega arith) in
-      grind (arith, common_steps, eqb-true, tweak_own, less_without)
+      let rise : Rises 0 (o ∷ os) = rw is at (rises_listed p t i) in
+      let alone = take-map (λ o. o.number) 1 (listed p t i) in
+      grind (arith, common_steps, eqb-true, tweak_own, less_without, less-remove 0 (o ∷ os) 0 rise)

@@ -120,8 +120,7 @@ set_link p f fixed j x v laid h = map_put _ _ (layout p) _ _
 -- ---- counts
 
 top_other : (ln : ℕ → Line) (j : ℕ) (l : Line) (n : Node) → (n ≡ own j → ⊥) → top_in (with_line ln j l) n ≡ top_in ln n
-top_other ln j l (own i) ne = let no : eqb i j ≡ false = ne_eqb i j (λ e. ne (ap own e)) in rw no refl
-top_other ln j l _ ne = refl
+top_other ln j l n ne = grind (arith, common_steps, eqb-true)
 
 pub set_top : (p : Puzzle) (ln : ℕ → Line) (j : ℕ) (l : Line) → IsLaid p → 0 < j → j ≤ item_count p
     → map (top_in (with_line ln j l)) (layout p) ≡ set (map (top_in ln) (layout p)) j l.len

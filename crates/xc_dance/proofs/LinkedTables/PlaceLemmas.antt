@@ -272,10 +272,8 @@ up_to p zero q m le gt to e = spacer_at p 0 q m le (omega (arith, gt, to, place_
 up_to p (suc n) q m le gt to e = elim (cases_lt (spacer_place p n) q) [
   | inl low ↦ elim (cases_lt q (spacer_place p (suc n))) [
     | inl lt ↦
-        let j = suc n - 1 in
-        let same : j ≡ n = omega arith in
-        let from : start_at p j ≤ q = omega (arith, low, ap (spacer_place p) same) in
-        let b = node_between p (suc n) q (omega arith, le) from lt in
+        let same : suc n - 1 ≡ n = omega arith in
+        let b = node_between p (suc n) q (omega arith, le) (omega (arith, low, ap (spacer_place p) same)) lt in
         grind (arith, common_steps, same_Some)
     | inr high ↦ spacer_at p (suc n) q m le (omega (arith, high, to)) e
   ]
