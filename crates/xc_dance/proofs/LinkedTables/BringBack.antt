@@ -2,7 +2,7 @@
 -- its own.
 use Rattle.std.proofs.Common.{◌≡◌, ◌≢◌, ℕ, ◌+◌, ◌<◌, ◌≤◌, ◌^◌, true, false, cond, List, [], ◌∷◌, length, map}
 use Rattle.std.proofs.Common.{refl, ap, sym, ◌∙◌, arith, eqb-true, inr, Bool}
-use Rattle.std.proofs.Common.{not, ◌&&◌, filter, reverse, ap₂}
+use Rattle.std.proofs.Common.{not, filter, reverse}
 use Rattle.std.proofs.lemmas.Grind.{common_steps}
 use Rattle.std.proofs.lemmas.Bool.{false≢true}
 use Rattle.std.proofs.lemmas.List.{length-map}
@@ -22,7 +22,7 @@ use Rattle.xc_dance.specs.Moves.{is_open, AreLegal, listed_numbers}
 use Rattle.xc_dance.specs.inner.Links.Tweaking.{unhidden_unless}
 use Rattle.xc_dance.specs.inner.Links.TweaksBack.{with_ulink, brought_back, bring_back_cost, CanBringBack}
 use Rattle.xc_dance.specs.inner.Links.Made.{IsFitted}
-use Rattle.xc_dance.proofs.LinkedTables.LinkColumns.{same_nodes, unhidden-open, unhidden-marked, set_link, set_top}
+use Rattle.xc_dance.proofs.LinkedTables.LinkColumns.{same_nodes, set_link, set_top}
 use Rattle.xc_dance.proofs.LinkedTables.LinkColumns.{get_item, size_from, node_cells, map_same, get_down}
 use Rattle.xc_dance.proofs.LinkedTables.OneOption.{is_mark, apart_in, AllApart, changed_one, changed_all, one_other}
 use Rattle.xc_dance.proofs.LinkedTables.OneOption.{all_at, line_here, line_there}
@@ -74,12 +74,12 @@ module _ {p : Puzzle} (col : Node → ℕ) (ln : ℕ → Line) {o j : ℕ} (laid
       let top = set_top p ln j (mended (ln j) o) laid r.item.0 r.item.1 in
       let up = set_link p (λ k x. (ln k).up x) (fixed_up p) j ((ln j).down o) o laid c.below in
       let down = set_link p (λ k x. (ln k).down x) (fixed_down p) j ((ln j).up o) o laid c.above in
-      grind (arith, common_steps, size_from, same_nodes, unhidden-open)
+      grind (arith, common_steps, size_from, same_nodes)
 
   unhide_marked : is_mark p col o j ≡ true → Returns p col o ln ln j
   unhide_marked marked =
       let here = laid.there j o r.item.0 r.item.1 r.name in
-      grind (arith, common_steps, eqb-true, size_from, unhidden-marked, get_item _ ln _ _ here pos)
+      grind (arith, common_steps, eqb-true, size_from, get_item _ ln _ _ here pos)
 
   returned : Returns p col o ln (back_one p col o ln j) j
   returned = elim (is_mark p col o j) as (λ b. is_mark p col o j ≡ b
@@ -166,31 +166,28 @@ opened_at {p} {t} {spans} false {i} {ln = ln} {o} {os} legal fit opened within h
     let o_pos = in_above _ _ _ (rises_listed p t i) within in
     let named = element_of (Named p i) _ _ (numbers_named p t i) within in
     let col = color_in p t in
-    let laid = fit.laid in
     let js = other_items p o i in
-    let back = reverse js in
-    let apart : AllApart back = apart_reverse js (others_apart p o i fit.fit) in
-    let comes : (j : ℕ) → leaves p col i j o ≡ true → 0 < j → j ≤ item_count p → j ≢ i
-    → Regaining (line_of p t j) (ln j) (o ∷ filter (leaves p col i j) os) = grind (arith, common_steps) in
-    let returning : (j : ℕ) → is_in j back ≡ true → Returning p col ln o j = λ j in_back.
+    let apart = apart_reverse js (others_apart p o i fit.fit) in
+    let returning : (j : ℕ) → is_in j (reverse js) ≡ true → Returning p col ln o j = λ j in_back.
     let in_js = sym (in_reverse j js) ∙ in_back in
     let k = other_item o i j fit.fit in_js in
     record {
       item = k.item;
       name = inr (o_pos, k.named);
       returner = λ un.
-          let nb = comes j (ap₂ (λ a b. a && not b) in_js un) k.item.0 k.item.1 k.ne in
-          let met = met_at p t i legal laid fit.fit opened j o k.item.0 k.item.1 within k.named in
+          let nb : Regaining (line_of p t j) (ln j) (o ∷ filter (leaves p col i j) os) =
+          rw (in_js, un) at (h.others j k.item.0 k.item.1 k.ne) in
+          let met = met_at p t i legal fit.laid fit.fit opened j o k.item.0 k.item.1 within k.named in
           let j_open : is_open j t ≡ true = grind (arith, common_steps, false≢true) in
           let m = listed_member t j o fit.fit k.item (met.opened j_open).1 in
           let few = regaining_len _ _ _ (h.others j k.item.0 k.item.1 k.ne) in
           grind (arith, common_steps);
     } in
-    let ln1 : ℕ → Line = back_all p col o ln back in
+    let ln1 : ℕ → Line = back_all p col o ln (reverse js) in
     let at : (j : ℕ) → ln1 j ≡ cond (leaves p col i j o) (mended (ln j) o) (ln j) =
     grind (arith, common_steps, all_at, in_reverse) in
     let u = unhides p col spans o i fit.spanned o_pos named (Returns p col o) (λ a b j s. (s.can, s.done)) ln ln1
-    (unhidden_walk p col ln o back laid o_pos apart returning) in
+    (unhidden_walk p col ln o (reverse js) fit.laid o_pos apart returning) in
     let others : (j : ℕ) → 0 < j → j ≤ item_count p → j ≢ i
     → Regaining (line_of p t j) (ln1 j) (to_come p t false i j os) = λ j pos le ne. grind (arith, common_steps) in
     grind (arith, common_steps, own_apart, fit.spanned.within o i o_pos named)
@@ -211,14 +208,12 @@ pub bring_back_step : (p : Puzzle) (t : List Move) (spans : List Span) (covered 
     → BringingBack p t covered i n ln (o ∷ os) → BringBackStep p t spans covered i n ln o os
 bring_back_step p t spans covered i n ln o os legal fit pos le shut within h =
     let m1 = opened_at covered legal fit shut within h in
-    let laid = fit.laid in
     let x = link_place p i o in
-    let l : Line = line_of p t i in
     let ln1 : ℕ → Line = m1.ln1 in
     let m = listed_member t i o fit.fit (pos, le) within in
-    let own : ln1 i ≡ half n h.line l = m1.own ∙ h.is in
-    let here = laid.there i o pos le m.name in
-    let below = laid.there i ((ln1 i).down o) pos le (rw own m.below) in
+    let own : ln1 i ≡ half n h.line (line_of p t i) = m1.own ∙ h.is in
+    let here = fit.laid.there i o pos le m.name in
+    let below = fit.laid.there i ((ln1 i).down o) pos le (rw own m.below) in
     let w : Line = raised (ln1 i) o in
     let x_in = slice_get_within (layout p) x here.node here.at in
     let d_in = slice_get_within (layout p) (link_place p i ((ln1 i).down o)) below.node below.at in
@@ -230,7 +225,7 @@ bring_back_step p t spans covered i n ln o os legal fit pos le shut within h =
         place = rw m1.done (omega (arith, x_in, length-map (layout p) (dlink_in p ln1)));
         below = grind (arith, common_steps, length-map);
       };
-      done = grind (arith, common_steps, raised_is);
+      done = grind (arith, common_steps, raised_is, fit.laid);
       bringing = record {
         others = λ j jpos jle ne. grind (arith, common_steps, line_there ln1 i j w ne);
         line = mended h.line o;

@@ -26,7 +26,7 @@ use Rattle.xc_dance.proofs.LinkedTables.Sweep.{swept, swept_len, stay, cuts, up_
 use Rattle.xc_dance.proofs.MoveLemmas.ListLemmas.{length-listed}
 use Rattle.xc_dance.proofs.MoveLemmas.Shortened.{holds_use, holders}
 use Rattle.xc_dance.specs.declared.links.nodes.TheConstants.{MARK, SPACER}
-use Rattle.xc_dance.proofs.LinkedTables.LinkColumns.{relinked-unlinked, unhidden-open}
+use Rattle.xc_dance.proofs.LinkedTables.LinkColumns.{relinked-unlinked}
 use Rattle.xc_dance.specs.Fields.{is_in}
 use Rattle.std.proofs.lemmas.Bool.{false≢true}
 use Rattle.xc_dance.proofs.LinkedTables.Sweep.{by_first, put_at-same}
@@ -56,10 +56,9 @@ pub unlinked-is : (p : Puzzle) (col : Node → ℕ) (ln : ℕ → Line) (j o : �
     unlinked (nodes_from p ln col) (link_place p j o) ≡ nodes_from p (with_line ln j (cut (ln j) o)) col
 unlinked-is p col ln j o laid m =
     let c = member_cells _ col ln _ _ laid m in
-    let top = set_top _ ln _ (cut (ln j) o) laid m.item.0 m.item.1 in
     let up = set_link _ (λ k x. (ln k).up x) (fixed_up p) _ _ ((ln j).up o) laid c.below in
     let down = set_link _ (λ k x. (ln k).down x) (fixed_down p) _ _ ((ln j).down o) laid c.above in
-    grind (arith, common_steps, same_nodes)
+    grind (arith, common_steps, same_nodes, set_top _ ln _ (cut (ln j) o) laid m.item.0 m.item.1)
 
 pub linked-is : (p : Puzzle) (col : Node → ℕ) (ln : ℕ → Line) (j o : ℕ) → IsLaid p → IsMember p j (ln j) o
     → IsLinked (nodes_from p ln col) (link_place p j o)
@@ -81,11 +80,10 @@ step_open p col ln j o laid m color =
     let q = link_place p j o in
     let t : Nodes = nodes_from p ln col in
     let c = member_cells p col ln j o laid m in
-    let linked = linked-is p col ln j o laid m in
+    let back = relinked-unlinked t q (linked-is p col ln j o laid m) in
     let small = laid.small in
-    let back = relinked-unlinked t q linked in
     subst (λ (u : Nodes). Step t u q) (unlinked-is p col ln j o laid m)
-    (grind (arith, common_steps, m.few, m.item, CanUnhide-unlinked t q, size_from, unhidden-open))
+    (grind (arith, common_steps, m.few, m.item, CanUnhide-unlinked t q, size_from, linked-is p col ln j o laid m))
 
 pub step_marked : (p : Puzzle) (col : Node → ℕ) (ln : ℕ → Line) (q : ℕ) → q < length (layout p)
     → get_or (map (top_in ln) (layout p)) q 0 < SPACER → eqb (get_or (map (col) (layout p)) q 0) MARK ≡ true

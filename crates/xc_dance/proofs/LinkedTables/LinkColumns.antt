@@ -1,6 +1,6 @@
 -- The columns of the node table, one write to them, and steps of hide that undo one another.
 use Rattle.std.proofs.Common.{◌≡◌, ◌≢◌, ℕ, zero, suc, List, [], ◌∷◌, map, get_or, set, Some, refl, ap, ap₂, arith, ◌<◌}
-use Rattle.std.proofs.Common.{true, false, cond, eqb, ◌∙◌, length, ◌≤◌, Option, sym}
+use Rattle.std.proofs.Common.{cond, eqb, ◌∙◌, length, ◌≤◌, Option, sym}
 use Rattle.std.proofs.Common.{eqb-true, eq-eqb, ne_eqb, ◌^◌}
 use Rattle.std.specs.Prelude.{slice_get}
 use Rattle.std.proofs.lemmas.Option.{same_Some, slice_get_within}
@@ -11,7 +11,7 @@ use Rattle.std.proofs.Math.Path.{fun_ext}
 use Rattle.std.proofs.Math.Seq.{map-set_same}
 use Rattle.xc_input.specs.Problem.{Puzzle, item_count}
 use Rattle.xc_dance.specs.declared.links.nodes.Nodes.{Nodes}
-use Rattle.xc_dance.specs.inner.Links.Steps.{unlinked, relinked, unhidden, HasSize, NamesPlaces}
+use Rattle.xc_dance.specs.inner.Links.Steps.{unlinked, relinked, HasSize, NamesPlaces}
 use Rattle.xc_dance.specs.inner.Links.Steps.{CanUnhide}
 use Rattle.xc_dance.specs.Fields.{Node, own, layout, link_place}
 use Rattle.xc_dance.specs.inner.Links.Lines.{Line}
@@ -19,7 +19,7 @@ use Rattle.xc_dance.specs.inner.Links.Cells.{slot_of, link_at, fixed_up, fixed_d
 use Rattle.xc_dance.specs.inner.Links.Cells.{nodes_from}
 use Rattle.xc_dance.specs.inner.Links.Laid.{Placed, IsLaid, IsName}
 use Rattle.xc_dance.proofs.LinkedTables.Sweep.{put_at-same, put_at-other, put_at, with_line}
-use Rattle.xc_dance.specs.declared.links.nodes.TheConstants.{MARK, SPACER}
+use Rattle.xc_dance.specs.declared.links.nodes.TheConstants.{SPACER}
 
 -- ---- columns that are maps of a layout, and one write to them
 
@@ -70,13 +70,6 @@ pub record IsLinked (t : Nodes) (q : ℕ) : Type 0 where
 -- a node that left its list goes back to where it was
 pub relinked-unlinked : (t : Nodes) (q : ℕ) → IsLinked t q → relinked (unlinked t q) q ≡ t
 relinked-unlinked t q h = grind (arith, common_steps, get_or-set_kept, get_or-set_same, same_nodes, written_back)
-
--- a marked node is passed over
-pub unhidden-marked : (t : Nodes) (q : ℕ) → eqb (get_or t.color q 0) MARK ≡ true → unhidden t q ≡ t
-unhidden-marked t q e = ap (λ b. cond b t (relinked t q)) e
-
-pub unhidden-open : (t : Nodes) (q : ℕ) → eqb (get_or t.color q 0) MARK ≡ false → unhidden t q ≡ relinked t q
-unhidden-open t q e = ap (λ b. cond b t (relinked t q)) e
 
 -- ---- the columns of links and counts of a table of lines, and one write to them
 
@@ -160,14 +153,12 @@ node_cells p ln col j o laid pos le o_pos name name_up name_down =
     let here = laid.there j o pos le name in
     let above = laid.there j ((ln j).up o) pos le name_up in
     let below = laid.there j ((ln j).down o) pos le name_down in
-    let long : length (map (top_in ln) (layout p)) ≡ length (layout p) = length-map (layout p) (top_in ln) in
     let up = get_up _ ln _ _ here in
     let down = get_down _ ln _ _ here in
     let item = get_item _ ln _ _ here o_pos in
-    let q_in = slice_get_within (layout p) (link_place p j o) here.node here.at in
-    let u_in = slice_get_within (layout p) (link_place p j ((ln j).up o)) above.node above.at in
-    let d_in = slice_get_within (layout p) (link_place p j ((ln j).down o)) below.node below.at in
-    grind (arith, common_steps, get_len _ ln _ laid pos le, slice_get_within (layout p) j (own j) (laid.head j pos le))
+    let within = λ (k : ℕ) (n : Node). slice_get_within (layout p) k n in
+    let head = laid.head j pos le in
+    grind (arith, common_steps, length-map, get_len p ln j laid pos le)
 
 -- columns of links that lead the same way
 pub column_same : (p : Puzzle) (f g : ℕ → ℕ → ℕ) (fixed : Node → ℕ) → ((j x : ℕ) → g j x ≡ f j x)
