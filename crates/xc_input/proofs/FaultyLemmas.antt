@@ -4,7 +4,7 @@ use Rattle.std.proofs.Common.{arith}
 use Rattle.std.proofs.lemmas.Bool.Decides.{nat_tests}
 use Rattle.std.proofs.lemmas.List.{length-map}
 use Rattle.std.proofs.Common.{◌≡◌, ℕ, List, [], ◌∷◌, ◌++◌, Option, None, Some, Bool, length}
-use Rattle.std.proofs.Common.{Result, Ok, Err, IfOk, sym, ap, ◌∙◌, append_assoc, append-nil}
+use Rattle.std.proofs.Common.{Result, Ok, Err, IfOk, ◌∙◌, append_assoc, append-nil}
 use Rattle.xc_input.specs.declared.fault.FaultKind.{FaultKind}
 use Rattle.xc_input.specs.declared.faulty.FaultyToken.{FaultyToken}
 use Rattle.xc_input.specs.declared.item_line.ItemLine.{ItemLine}
@@ -34,12 +34,8 @@ module _ {cut : List ℕ → List (List ℕ)} {checks : List (List ℕ) → List
   pub read-on : (behind : List ℕ) {piece : List ℕ} → cut rest ≡ piece ∷ cut behind → StandsBefore rest piece behind
       → first (checks others piece) ≡ None → IsReadTo cut checks line behind (others ++ piece ∷ [])
   read-on behind {piece} e s f =
-      let w = read-stands piece behind s in record {
-        front = w.0 ++ piece;
-        place = w.1;
-        order = r.order ∙ ap (λ ps. others ++ ps) e ∙ sym (append_assoc others (piece ∷ []) (cut behind));
-        faultless = first-each checks others (piece ∷ []) r.faultless ∙ first-back (checks others piece) [] f;
-      }
+      let w = read-stands piece behind s in
+      grind (arith, common_steps, append_assoc, first-each, first-back)
 
   pub read-stop : (behind : List ℕ) {piece : List ℕ} {k : FaultKind} (t : FaultyToken) → cut rest ≡ piece ∷ cut behind
       → first (checks others piece) ≡ Some k → line ≡ t.before.now ++ piece ++ behind → t.token.now ≡ piece

@@ -43,9 +43,6 @@ stopped p q (Ok x) e h f j = absurd h
 stopped p q (Err (Fault k)) e h f j = grind (arith, first-front, first)
 stopped p q (Err Memory) e h f j = tt
 
-pub names_of-snoc : (es : List Entry) (e : Entry) → names_of (es ++ e ∷ []) ≡ names_of es ++ e.name ∷ []
-names_of-snoc es e = map-snoc (λ d. d.name) es e
-
 pub names_of-length : (es : List Entry) → length (names_of es) ≡ length es
 names_of-length es = length-map es (λ e. e.name)
 
@@ -104,7 +101,7 @@ pub grown : (kind : Kind) (bar : Option ℕ) (token : List ℕ) {sec : Bool} →
     → P keys' → keys' ≡ keys ++ e.name ∷ [] → length items < 100000 → map entry_of items' ≡ map entry_of items ++ e ∷ []
     → ((keys' ≡ names_of (map entry_of items')) × (length items' ≤ most_items) × P keys')
     × (map entry_of items' ≡ map entry_of items ++ entry kind (is_some bar) token ∷ [])
-grown kind bar token s P items items' {e} is n p k m all = grind (arith, common_steps, length-map, names_of-snoc)
+grown kind bar token s P items items' {e} is n p k m all = grind (arith, common_steps, length-map)
 
 -- a step of the loop over the parts
 pub last-place : {A : Type 0} (p : A → Bool) (xs : List A) → list_any p xs ≡ false → position_or_len p xs ≡ length xs
@@ -113,6 +110,3 @@ last-place p (x ∷ xs) e = grind (arith, last-place p xs)
 
 pub items-length : {A : Type 0} (v : Vec A Global) → vec_len v ≡ length v.items
 items-length v = grind (arith, common_steps)
-
-pub length-items : (v : Vec Item Global) → vec_len v ≡ length (map entry_of v.items)
-length-items v = items-length v ∙ sym (length-map v.items entry_of)

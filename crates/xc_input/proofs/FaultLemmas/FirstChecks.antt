@@ -3,7 +3,6 @@
 -- front and rest by `take` and `drop`. So where a check is added to a list, only what speaks of that check changes.
 use Rattle.std.proofs.lemmas.Grind.{common_steps}
 use Rattle.std.proofs.Common.{◌≡◌, ℕ, List, [], ◌∷◌, ◌++◌, drop, None, Some, Bool, false}
-use Rattle.std.proofs.lemmas.Bool.Decides.{nat_tests}
 use Rattle.std.proofs.Common.{length, refl, ap, sym, if◌then◌else◌, arith, append_assoc, append-nil}
 use Rattle.std.specs.Prelude.{◌↔◌}
 use denote.Enum.Bare.{sameb}
@@ -44,8 +43,7 @@ pub checks-append : {A B : Type 0} (checks : List A → A → List B) (before xs
     → checks_of_each checks before (xs ++ ys)
     ≡ checks_of_each checks before xs ++ checks_of_each checks (before ++ xs) ys
 checks-append checks before [] ys = ap (λ b. checks_of_each checks b ys) (sym (append-nil before))
-checks-append checks before (x ∷ xs) ys =
-    grind (arith, nat_tests, checks-append checks (before ++ x ∷ []) xs ys, append_assoc)
+checks-append checks before (x ∷ xs) ys = grind (arith, append_assoc, checks-append checks (before ++ x ∷ []) xs ys)
 
 pub first-each : {A B : Type 0} (checks : List A → A → List (B × Bool)) (xs ys : List A)
     → first (checks_of_each checks [] xs) ≡ None

@@ -1,5 +1,6 @@
 -- The first fault of a text, by its lines one after another, and that a text has none exactly where it stands for the
 -- problem that its lines give.
+use Rattle.std.proofs.lemmas.Grind.{common_steps}
 use Rattle.std.proofs.Common.{◌≡◌, ℕ, ◌+◌, List, [], ◌∷◌, ◌++◌, Option, None, Some, Bool, true, false, not}
 use Rattle.std.proofs.Common.{length, refl, ap, ◌∙◌, sym, subst, arith, if◌then◌else◌, append-nil}
 use Rattle.std.proofs.lemmas.Bool.Decides.{nat_tests}
@@ -96,8 +97,5 @@ stands-only kind lines named ignored h =
     let same = stage-by kind lines ∙ ap (stage_by kind) h.content in
     let given = sheet-is kind h.item_line h.option_lines r.0.0.0.1 in
     let none = (lines-clear kind lines).0
-    (h.no_nul, subst (AreClear kind) (sym (plain-content 1 lines ∙ ap plain h.content)) r.0) in (
-      first_fault-is kind lines ∙ (λ i. option_or (none i) (end_fault (length lines) (same i).started)),
-      r.1 ∙ sym (ap (λ (x : Named × List ℕ). x.0) given) ∙ ap (λ (st : Stage). named_of st.sheet) (sym same),
-      r.2 ∙ sym (ap (λ (x : Named × List ℕ). x.1) given) ∙ ap (λ (st : Stage). st.ignored) (sym same),
-    )
+    (h.no_nul, subst (AreClear kind) (sym (plain-content 1 lines ∙ ap plain h.content)) r.0) in
+    grind (arith, common_steps, first_fault-is)

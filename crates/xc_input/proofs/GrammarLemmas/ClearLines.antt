@@ -19,7 +19,7 @@ use Rattle.xc_input.specs.declared.fault.FaultKind.{FaultKind}
 use Rattle.xc_input.specs.declared.fault.FaultKind.TheVariants.{NulByte}
 use Rattle.xc_input.specs.declared.fault.FaultKind.TheVariants.{TooManyUses}
 use Rattle.xc_input.specs.Limits.{most_items, most_uses}
-use Rattle.xc_input.specs.Words.{has, before, after, place}
+use Rattle.xc_input.specs.Words.{has, before, place}
 use Rattle.xc_input.specs.Tokens.{tokens, parts, is_bar, is_skipped}
 use Rattle.xc_input.specs.Sheets.{Written}
 use Rattle.xc_input.specs.Faults.{first, is_plain, checks_of_each, name_of, item_names, part_checks}
@@ -134,8 +134,7 @@ module _ (kind : Kind) (names : List (List ℕ)) (primaries : ℕ) (seen token :
   good-use u (name, i, n, p, q, inr h) once =
       let cut = cut-at COLON name u.colour n.no_colon in
       let own : before COLON token ≡ name = ap (before COLON) h.0 ∙ cut.0 in
-      let colour : after COLON token ≡ u.colour = ap (after COLON) h.0 ∙ cut.1 in
-      let is : has COLON token ≡ true = ap (has COLON) h.0 ∙ cut.2 in grind (arith, nat_tests, past-name)
+      grind (arith, common_steps)
 
 -- a token stands for no other use
 pub use-is : (c : Context) (token : List ℕ) (u : Written) → IsUse c token u → u ≡ written c.names token

@@ -26,7 +26,6 @@ use Rattle.xc_input.specs.inner.Stages.{Stage, no_stage, with_option, with_row, 
 use Rattle.xc_input.specs.inner.Stages.{part_checks as row_part_checks, option_checks as tokens_checks}
 use Rattle.xc_input.specs.inner.Stages.{content_checks as stage_content}
 use Rattle.xc_input.proofs.FaultLemmas.BooleanTests.{by-test}
-use Rattle.xc_input.proofs.FaultLemmas.Checks.{names_of-snoc}
 use Rattle.xc_input.proofs.GrammarLemmas.ClearLines.{StandFor, AreClear, names-snoc}
 use Rattle.xc_input.proofs.OptionLemmas.Colours.{with_uses-append, number-later}
 use Rattle.xc_input.proofs.OptionLemmas.Items.{before-cons, after-cons, no-bar}
@@ -47,7 +46,7 @@ row-checks {kind} part r = grind (arith)
 pub row-more : {kind : Kind} {row : Row} {others : List (List ℕ)} (part : List ℕ) → IsRowOf kind row others
     → IsRowOf kind (with_part kind row part) (others ++ part ∷ [])
 row-more {kind} {row} {others} part r =
-    grind (arith, names-snoc, list_any-append, by-test, append-nil, or-true, names_of-snoc, is_some, or-false)
+    grind (arith, names-snoc, list_any-append, by-test, append-nil, or-true, map-snoc, is_some, or-false)
 
 pub parts-checked : {kind : Kind} (ps : List (List ℕ)) {row : Row} {before : List (List ℕ)} → IsRowOf kind row before
     → row_checks kind row ps ≡ checks_of_each (part_checks kind) before ps

@@ -1,4 +1,5 @@
 -- The answer at the end of a text.
+use Rattle.xc_input.proofs.LineLemmas.Reading.{error-ends}
 use Rattle.std.proofs.lemmas.List.{length-map}
 use Rattle.std.proofs.lemmas.List.{take-map}
 use Rattle.xc_input.proofs.lists.Filters.{map-map}
@@ -21,7 +22,7 @@ use Rattle.xc_input.specs.inner.Builders.{IsBuilder, IsReadable, named_by, stage
 use Rattle.xc_input.specs.inner.EndedLines.{AreWhole}
 use Rattle.xc_input.specs.Readings.{Reading, IsStateOf}
 use Rattle.xc_input.specs.inner.Feeding.{IsEndOf}
-use Rattle.xc_input.proofs.LineLemmas.Reading.{ends-at, end-is}
+use Rattle.xc_input.proofs.LineLemmas.Reading.{end-is}
 use Rattle.xc_input.proofs.ValidLemmas.SoundSheets.{item-names, behind-bounds}
 use Rattle.xc_input.proofs.ValidLemmas.ValidTexts.{sound}
 use Rattle.xc_input.proofs.FaultLemmas.FirstFaults.{end_fault}
@@ -29,8 +30,7 @@ use Rattle.xc_input.proofs.FaultLemmas.FirstFaults.{Stands, stands, stands-only}
 
 pub refutes : (kind : Kind) (lines : List (List ℕ)) (e : InputError) → IsEndOf kind lines e → e ≢ Memory
     → (p : Named) (ig : List ℕ) → StandsFor kind lines p ig → ⊥
-refutes kind lines (Fault n k) h f p ig s = let g : first_fault kind lines ≡ None =
-    (stands-only kind lines p ig s).0 in absurd (cc)
+refutes kind lines (Fault n k) h f p ig s = grind (arith, common_steps, stands-only kind lines p ig s)
 refutes kind lines Device h f p ig s = absurd h
 refutes kind lines Memory h f p ig s = absurd (f refl)
 
@@ -45,7 +45,7 @@ module _ {v : Reading} {kind : Kind} {lines : List (List ℕ)} {o : Option Input
 
   pub refuses : (e : InputError) → o ≡ Some e → e ≢ Memory → (p : Named) (ig : List ℕ)
       → StandsFor v.kind v.lines p ig → ⊥
-  refuses e f w p ig s = refutes kind lines e (ends-at kind lines o e f h) w p ig (StandsFor-given s)
+  refuses e f w p ig s = refutes kind lines e (grind (arith, common_steps, error-ends)) w p ig (StandsFor-given s)
 
   module _ (f : o ≡ None) (d : ProblemBuilder)
       (m : MatchOption o (IsBuilder d × (stage_of_builder d ≡ stage_of kind lines)) (λ _. Unit {0})) where

@@ -2,12 +2,11 @@
 use Rattle.std.proofs.lemmas.Bool.Decides.{nat_tests}
 use Rattle.std.proofs.Common.{◌≡◌, ℕ, ◌<◌, List, [], ◌∷◌, ◌++◌, Some, Result, Ok, Err, IfOk}
 use Rattle.std.proofs.Common.{IfErr, length, refl, append_assoc, append-nil, arith, inl, inr}
-use Rattle.xc_input.proofs.LineLemmas.TextLines.{lines_of-all, last-of-part}
+use Rattle.xc_input.proofs.LineLemmas.TextLines.{last-of-part}
 use Rattle.xc_input.specs.inner.EndedLines.{ended}
 use Rattle.std.specs.Result.{result_err}
-use Rattle.std.specs.Io.KnownBytes.{Consumes, Keeps}
+use Rattle.std.specs.Io.KnownBytes.{Consumes}
 use Rattle.std.proofs.lemmas.Grind.{common_steps, flat_map-append}
-use Rattle.xc_input.specs.Calls.{Rose}
 use Rattle.xc_input.specs.declared.kind.Kind.{Kind}
 use Rattle.xc_input.specs.declared.fault.InputError.{InputError}
 use Rattle.xc_input.specs.declared.fault.InputError.TheVariants.{Fault, Device, Memory}
@@ -53,7 +52,3 @@ part-spoiled kind Device h g same = absurd (h [])
 part-spoiled kind {bytes = bytes} Memory h g same = (bytes, same, inl g)
 
 -- a read that failed
-pub part-failed : (kind : Kind) (a b c : SourceState) (reading : Reading) (carry : List ℕ) → reading.kind ≡ kind
-    → IsBetween reading carry → Gave a b (fed reading carry) → b.failures ≡ a.failures
-    → Rose b.failures c.failures → Keeps b.rest c.rest → c.given ≡ b.given → IsPart kind a c Device
-part-failed kind a b c reading carry is between g same rose kept e = grind (arith, lines_of-all)

@@ -76,10 +76,6 @@ error-ends kind lines (Fault n k) h = grind (arith, common_steps)
 error-ends kind lines Device h = h
 error-ends kind lines Memory h = tt
 
-pub ends-at : (kind : Kind) (lines : List (List ℕ)) (o : Option InputError) (e : InputError) → o ≡ Some e
-    → IsStateOf kind lines o → IsEndOf kind lines e
-ends-at kind lines o e f h = error-ends kind lines e (subst (IsStateOf kind lines) f h)
-
 pub end-is : (kind : Kind) (lines : List (List ℕ)) (b : Bool) (o : Option InputError) → o ≡ None
     → IsStateOf kind lines o → b ≡ (stage_of kind lines).started → first_fault kind lines ≡ end_fault (length lines) b
 end-is kind lines b o f h s = grind (arith, first_fault-is)

@@ -2,7 +2,7 @@
 use Rattle.std.proofs.lemmas.Grind.{common_steps}
 use Rattle.std.proofs.Common.{arith}
 use Rattle.std.proofs.lemmas.Bool.Decides.{nat_tests}
-use Rattle.std.proofs.Common.{◌≡◌, ℕ, ◌<◌, List, [], ◌∷◌, ◌++◌, Result, Err, length, subst, append-nil}
+use Rattle.std.proofs.Common.{◌≡◌, ℕ, ◌<◌, List, [], ◌∷◌, ◌++◌, Result, Err, length, subst}
 use Rattle.xc_input.proofs.LineLemmas.Reading.{error-ends}
 use Rattle.xc_input.specs.declared.kind.Kind.{Kind}
 use Rattle.xc_input.specs.declared.fault.InputError.{InputError}
@@ -12,7 +12,6 @@ use Rattle.xc_input.specs.inner.Feeding.{IsErrorOf, fed, IsBetween, EndsAs}
 use Rattle.xc_input.specs.Lines.{lines_of}
 use Rattle.xc_input.proofs.LineLemmas.Finish.{refutes}
 use Rattle.xc_input.proofs.LineLemmas.TextLines.{lines_of-ended, lines_of-part}
-use Rattle.std.proofs.lemmas.List.{nil_from_length}
 
 pub ends-as : (kind now : Kind) (lines told : List (List ℕ)) (r : Result Read InputError) → now ≡ kind → told ≡ lines
     → EndsAs now told r → EndsAs kind lines r
@@ -24,10 +23,6 @@ line-ends kind lines e h =
     grind (arith, nat_tests, error-ends kind lines e h, refutes kind lines e (error-ends kind lines e h))
 
 -- the lines of what was fed
-pub no-part : (reading : Reading) (carry : List ℕ) → IsBetween reading carry → length carry ≡ 0
-    → reading.lines ≡ lines_of (fed reading carry)
-no-part reading carry between none = grind (arith, common_steps, lines_of-ended, nil_from_length, append-nil)
-
 pub last-part : (reading : Reading) (carry : List ℕ) (after : List (List ℕ)) → IsBetween reading carry
     → 0 < length carry → after ≡ reading.lines ++ carry ∷ [] → after ≡ lines_of (fed reading carry)
 last-part reading carry after between some e = grind (arith, common_steps, lines_of-ended, lines_of-part)

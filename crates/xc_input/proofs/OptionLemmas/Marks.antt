@@ -18,8 +18,7 @@ use Rattle.xc_input.specs.inner.Builders.{AreMarks}
 -- one item more
 pub mark : (marks : List Bool) (seen : List ℕ) (i : ℕ) → AreMarks marks seen → 1 ≤ i → i ≤ length marks
     → AreMarks (set marks (i - 1) true) (seen ++ i ∷ [])
-mark marks seen i are low high =
-    grind (arith, nat_tests, length-set, list_any-append, get_or-set_at, or-true, get_or-set_other)
+mark marks seen i are low high = grind (arith, length-set, list_any-append, get_or-set_at, or-true, get_or-set_other)
 
 -- only items of these uses are marked
 abbrev pub AreAmong : List Bool → List Use → Type 0

@@ -4,7 +4,6 @@ use Rattle.std.proofs.lemmas.List.{length-append}
 use Rattle.std.proofs.Common.{filter, zero, ◌^◌, ◌≡◌, ℕ, suc, ◌+◌, ◌<◌, ◌≤◌, List, [], ◌∷◌, ◌++◌, None, Some}
 use Rattle.std.proofs.Common.{Bool, length, get_or, take, drop, refl, sym, ap, ◌∙◌, arith, map}
 use Rattle.std.proofs.Common.{nat_eq, position, not, nat_lt, append_assoc, if◌then◌else◌, true, false}
-use Rattle.std.proofs.Math.Nat.{pow-le-pow_right}
 use Rattle.std.specs.List.{position_or_len, list_all, onto_first, slice_split}
 use Rattle.std.proofs.lemmas.Bool.Decides.{nat_tests}
 use Rattle.std.proofs.lemmas.Grind.{common_steps}
@@ -56,14 +55,11 @@ onto b (c ∷ cs) tokens = (if is_space c then (b ∷ []) ∷ tokens else onto_f
 abbrev is_some_token : List ℕ → Bool
 is_some_token token = nat_lt 0 (length token)
 
-some-token : (b : ℕ) (bs : List ℕ) → is_some_token (b ∷ bs) ≡ true
-some-token b bs = grind (arith, nat_tests)
-
 some-first : (b c : ℕ) (parts : List (List ℕ))
     → filter is_some_token (onto_first b (onto_first c parts))
     ≡ onto_first b (filter is_some_token (onto_first c parts))
 some-first b c [] = refl
-some-first b c (p ∷ ps) = grind (arith, nat_tests, some-token b (c ∷ p), some-token c p)
+some-first b c (p ∷ ps) = grind (arith, common_steps)
 
 tokens-onto : (b : ℕ) (bs : List ℕ) → filter is_some_token (onto_first b (slice_split is_space bs))
     ≡ onto b bs (tokens bs)
@@ -122,8 +118,7 @@ drop_white-front (b ∷ bs) = let r = drop_white-front bs in
 cut-stands : (line rest front back : List ℕ) (n : ℕ) → rest ≡ drop_white line → front ≡ take n rest
     → back ≡ drop n rest → StandsBefore line front back
 cut-stands line rest front back n e f g =
-    let w = drop_white-front line in
-    let all = take-append-drop n rest in (w.0, grind (arith, append_assoc w.0 front back))
+    grind (arith, common_steps, drop_white-front line, take-append-drop n rest, append_assoc)
 
 -- what is left of such a line is shorter
 stands-shorter : (line front back : List ℕ) → 0 < length front → StandsBefore line front back
@@ -172,9 +167,4 @@ pub cuts_part : (line rest front back : List ℕ) (n : ℕ) → rest ≡ drop_wh
 cuts_part line [] front back n e h bar w f g = absurd (omega arith)
 cuts_part line (b ∷ bs) front back n e h bar w f g =
     let cut = cuts_first line (b ∷ bs) front back n e h w f g in
-    let first : parts line ≡ front ∷ parts back =
-    grind (arith, nat_tests, drop_white-first line b bs (sym e), cut.0) in
-    (first, cut.1, cut.2)
-
-pub below_pow : (n i : ℕ) → n < 10 ^ i → i ≤ 8 → n < 100000000
-below_pow n i h l = let p : 10 ^ i ≤ 10 ^ 8 = pow-le-pow_right {n = 10} (omega arith) l in omega arith
+    grind (arith, common_steps, parts, drop_white-first)

@@ -5,7 +5,6 @@ use Rattle.std.proofs.Common.{◌+◌, ◌≤◌, drop, MatchOption}
 use Rattle.std.proofs.Common.{◌≡◌, ◌≢◌, ℕ, zero, suc, ◌<◌, List, [], ◌∷◌, ◌++◌, Option, None, Some, Bool, true, false}
 use Rattle.std.proofs.Common.{All, length, take, refl, ap, ◌∙◌, sym, subst, arith}
 use Rattle.std.proofs.Common.{Vec, Global, get_or}
-use Rattle.std.proofs.lemmas.List.Elements.{All-get_or}
 use Rattle.std.proofs.lemmas.List.Quantifiers.{position-Some, all_pairs_push}
 use Rattle.std.proofs.lemmas.List.Folds.{list_any_at}
 use Rattle.std.proofs.lemmas.List.Sums.{position_or_len_is}
@@ -36,8 +35,7 @@ use Rattle.xc_input.proofs.TokenLemmas.Separators.{BAR}
 pub stored : (P : List ℕ → Type 0) (names : List (List ℕ)) (name : List ℕ) (k : ℕ) → All P names
     → place names name ≡ Some k → P name
 stored P names name k all e =
-    let found = position-Some (bytes_eq name) names k [] e in
-    subst P (sym ((bytes_eq-Decides name (get_or names k [])).0 found.1)) (All-get_or P names k [] found.0 all)
+    grind (arith, common_steps, position-Some (bytes_eq name) names k [] e, bytes_eq-Decides name (get_or names k []))
 
 pub apart : (earlier : List (List ℕ)) (x : List ℕ) → place earlier x ≡ None → (k : ℕ) (d : List ℕ) → k < length earlier
     → get_or earlier k d ≢ x

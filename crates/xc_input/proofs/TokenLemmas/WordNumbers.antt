@@ -1,10 +1,9 @@
 -- The number of a word: how large it is, what it is of, and what of it the first bytes give.
-use Rattle.std.proofs.lemmas.Bool.Decides.{nat_tests}
 use Rattle.std.proofs.Common.{◌≡◌, ℕ, zero, suc, ◌+◌, ◌*◌, ◌<◌, ◌≤◌, ◌%◌, ◌/◌, ◌^◌, List, [], ◌∷◌, length, get_or}
 use Rattle.std.proofs.Common.{take, drop}
 use Rattle.std.proofs.Common.{refl, ap₂, arith}
 use Rattle.std.proofs.lemmas.Nat.{mod-pow-add, pow-add}
-use Rattle.std.proofs.lemmas.List.{length-drop, length-take, take-take}
+use Rattle.std.proofs.lemmas.List.{length-take, take-take}
 use Rattle.std.specs.Simd.Lanes.{number_l}
 use Rattle.std.specs.Int.{w64, from_le_bytes}
 use Rattle.xc_input.specs.inner.GuessedWords.{word_number, AreBytes}
@@ -50,7 +49,6 @@ front zero xs p h = omega arith
 front (suc n) [] p h = absurd (omega (arith, h))
 front (suc n) (x ∷ xs) p h =
     let more = number_l 256 xs in
-    let count : 8 * suc n ≡ 8 * n + 8 = omega arith in
     let high : (x + 256 * more) / 256 ≡ more = omega (arith, p 0) in
     let low : (x + 256 * more) % 256 ≡ x = omega (arith, p 0) in
     let back = front n xs (λ i. p (suc i)) (omega (arith, h)) in
@@ -62,10 +60,6 @@ bytes-dropped (suc n) [] p i = omega arith
 bytes-dropped (suc n) (x ∷ xs) p i = bytes-dropped n xs (λ j. p (suc j)) i
 
 -- a number of at most six bytes, of seven
-pub short-number : (n number : ℕ) (xs : List ℕ) → AreBytes xs → length xs ≤ 7 → 0 < n → n ≤ length xs
-    → number ≡ word_number (drop n xs) → number < 2 * 256 ^ 6
-short-number n number xs p most one within e = grind (arith, nat_tests, below-cap, bytes-dropped, length-drop)
-
 -- the number that eight bytes are read as
 abbrev eight : List ℕ → ℕ
 eight xs =

@@ -1,9 +1,10 @@
+use Rattle.std.proofs.lemmas.Grind.{common_steps}
+use Rattle.std.proofs.Math.Nat.{pow-le-pow_right}
 use Rattle.std.proofs.Common.{arith}
-use Rattle.xc_input.proofs.TokenLemmas.Bytes.{below_pow}
 use Rattle.xc_input.proofs.digits.number_of.Goals as goal
 
 pub overflow_mul-n : goal.overflow_mul-n
-overflow_mul-n c = omega (arith, below_pow c.loop-b.n c.loop-b.b-index c.loop-b.invariant.2 (omega arith))
+overflow_mul-n c = grind (arith, common_steps, pow-le-pow_right)
 
 pub overflow_add-n : goal.overflow_add-n
-overflow_add-n c = omega (arith, below_pow c.loop-b.n c.loop-b.b-index c.loop-b.invariant.2 (omega arith))
+overflow_add-n c = grind (arith, common_steps, pow-le-pow_right)

@@ -1,12 +1,11 @@
 use Rattle.std.proofs.Common.{arith}
 use Rattle.std.proofs.lemmas.Grind.{common_steps}
-use Rattle.std.proofs.Common.{◌-◌, ◌++◌, ◌∷◌, [], map, set, sym, ap, ◌∙◌, subst, true, length-set}
+use Rattle.std.proofs.Common.{◌-◌, ◌++◌, ◌∷◌, [], map, set, sym, ap, ◌∙◌, true, length-set}
 use Rattle.std.proofs.lemmas.List.{length-map}
 use Rattle.xc_input.specs.Faults.{item_of}
 use Rattle.xc_input.specs.Sheets.{Written}
 use Rattle.xc_input.specs.inner.Stages.{context}
 use Rattle.xc_input.specs.inner.Stored.{key_names}
-use Rattle.xc_input.specs.inner.Builders.{AreMarks}
 use Rattle.xc_input.proofs.FaultLemmas.Checks.{map-snoc}
 use Rattle.xc_input.proofs.FaultyLemmas.{read-stands, read-on, read-stop, read-end}
 use Rattle.xc_input.proofs.OptionLemmas.Marks.{mark}
@@ -35,8 +34,7 @@ loop-token-preserved c =
     ∙ sym (map-snoc (item_of known) others c.in-Some.token.now) in (
       length-set c.loop-token.marks (c.in-Ok.written.item - 1) true ∙ c.loop-token.invariant.0,
       others ++ c.in-Some.token.now ∷ [],
-      subst (AreMarks (set c.loop-token.marks (c.in-Ok.written.item - 1) true)) same
-          (grind (arith, common_steps, mark, seen)),
+      grind (arith, common_steps, set, mark),
       read-on c.loop-token.invariant.3 _ c.in-Some.ensures.0 c.in-Some.ensures.2 judged.0,
     )
 

@@ -1,10 +1,9 @@
 use Rattle.std.proofs.Common.{arith}
 use Rattle.std.proofs.lemmas.Grind.{common_steps}
-use Rattle.std.proofs.Common.{◌++◌, ◌∷◌, [], sym, ap, ◌∙◌, subst}
+use Rattle.std.proofs.Common.{◌++◌, ◌∷◌, [], sym, ap, ◌∙◌}
 use Rattle.xc_input.specs.Faults.{first}
-use Rattle.xc_input.specs.inner.Stages.{Row}
 use Rattle.xc_input.proofs.FaultyLemmas.{read-stands, read-on, read-stop, read-end}
-use Rattle.xc_input.proofs.GrammarLemmas.StageLemmas.{IsRowOf, row-checks, no-row}
+use Rattle.xc_input.proofs.GrammarLemmas.StageLemmas.{row-checks, no-row}
 use Rattle.xc_input.proofs.GrammarLemmas.StageLemmas.{row-more}
 use Rattle.xc_input.proofs.TokenLemmas.Unbroken.{part-solid}
 use Rattle.xc_input.proofs.faulty.faulty_behind.Goals as goal
@@ -31,8 +30,7 @@ loop-part-preserved c =
     let others = c.loop-part.invariant.1 ++ c.in-Some.part.now ∷ [] in (
       c.in-Ok.ensures.added.0,
       others,
-      subst (λ (row : Row). IsRowOf c.args.kind row others) (sym c.in-Ok.ensures.added.1)
-          (row-more c.in-Some.part.now c.loop-part.invariant.2),
+      grind (arith, common_steps, row-more),
       read-on c.loop-part.invariant.3 _ c.in-Some.ensures.0 c.in-Some.ensures.2
           (ap first (sym (row-checks c.in-Some.part.now c.loop-part.invariant.2)) ∙ c.in-Ok.ensures.judged),
     )

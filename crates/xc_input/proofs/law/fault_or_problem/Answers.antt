@@ -1,4 +1,6 @@
-use Rattle.std.proofs.Common.{sym, ◌∙◌}
+use Rattle.std.proofs.Common.{arith}
+use Rattle.std.proofs.lemmas.Grind.{common_steps}
+use Rattle.std.proofs.Common.{◌∙◌}
 use Rattle.xc_input.proofs.GrammarLemmas.SheetGrammar.{named_of}
 use Rattle.xc_input.specs.inner.Stages.{stage_of}
 use Rattle.xc_input.proofs.FaultLemmas.FirstFaults.{faultless-stands, stands-only}
@@ -17,5 +19,4 @@ returns-clause-stands c = λ kind lines. (
 pub returns-clause-one : goal.returns-clause-one
 returns-clause-one c = λ kind lines a b is js s t.
     let p = stands-only kind lines a is s in
-    let q = stands-only kind lines b js t in
-    (p.1 ∙ sym q.1, p.2 ∙ sym q.2)
+    grind (arith, common_steps, stands-only kind lines b js t)

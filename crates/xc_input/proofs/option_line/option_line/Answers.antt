@@ -1,15 +1,14 @@
 use Rattle.xc_input.proofs.OptionLemmas.Marks.{unmarked-few}
 use Rattle.std.proofs.Common.{append-nil}
 use Rattle.std.proofs.lemmas.Grind.{common_steps}
-use Rattle.std.proofs.Common.{◌∙◌, ap, sym, subst, List, map, drop, arith}
+use Rattle.std.proofs.Common.{◌∙◌, ap, arith}
 use Rattle.std.proofs.lemmas.List.{length-map, take_rest}
-use Rattle.xc_input.specs.declared.problem.Use.{Use}
 use Rattle.std.proofs.Common.{◌++◌, ◌∷◌, []}
 use Rattle.xc_input.specs.Faults.{first}
 use Rattle.xc_input.specs.Tokens.{tokens}
 use Rattle.xc_input.specs.declared.line_error.LineError.TheVariants.{Fault}
 use Rattle.xc_input.specs.inner.Stages.{context, token_checks, option_checks, written}
-use Rattle.xc_input.specs.inner.Builders.{AreMarks, items_of}
+use Rattle.xc_input.specs.inner.Builders.{items_of}
 use Rattle.xc_input.specs.inner.Stored.{key_names}
 use Rattle.xc_input.proofs.FaultLemmas.Checks.{stopped, items-length}
 use Rattle.xc_input.proofs.OptionSteps.{behind_few, behind_more, all_added, late_marked}
@@ -44,10 +43,7 @@ loop-token-preserved c =
 pub clear-requires-clause-marked : goal.clear-requires-clause-marked
 clear-requires-clause-marked c =
     let start = c.len-start.ensures ∙ items-length c.args.uses.now in
-    let rest = take_rest c.deref.result.now c.len-start.result in
-    let late = ap (drop c.len-start.result) c.deref.ensures.value ∙ ap (λ n. drop n c.loop-token.uses.items) start in
-    subst (λ (us : List Use). AreMarks c.loop-token.marks (map (λ u. u.item) us)) (sym (rest ∙ late))
-    (late_marked c.loop-token.invariant)
+    grind (arith, common_steps, take_rest c.deref.result.now c.len-start.result, late_marked c.loop-token.invariant)
 
 pub returns-clause-uses : goal.returns-clause-uses
 returns-clause-uses c = all_added c.loop-token.invariant c.in_default.ensures

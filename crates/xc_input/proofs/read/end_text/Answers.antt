@@ -1,7 +1,11 @@
+use Rattle.std.proofs.lemmas.Grind.{common_steps}
+use Rattle.xc_input.proofs.LineLemmas.TextLines.{lines_of-ended}
+use Rattle.std.proofs.lemmas.List.{nil_from_length}
+use Rattle.std.proofs.Common.{append-nil}
 use Rattle.std.proofs.Common.{◌≡◌, ◌<◌, length, arith, refl}
 use Rattle.std.proofs.lemmas.Bool.Decides.{nat_tests}
 use Rattle.std.proofs.lemmas.Result.{err_from_is_err_and}
-use Rattle.xc_input.proofs.LineLemmas.Sources.{ends-as, line-ends, no-part, last-part}
+use Rattle.xc_input.proofs.LineLemmas.Sources.{ends-as, line-ends, last-part}
 use Rattle.xc_input.proofs.read.end_text.Goals as goal
 
 -- behind a line feed
@@ -9,7 +13,7 @@ pub returns-then-is_empty-clause-answer : goal.returns-then-is_empty-clause-answ
 returns-then-is_empty-clause-answer c =
     let f = c.finish.ensures in
     let none : length c.args.carry.now ≡ 0 = grind (arith, nat_tests) in
-    ends-as _ _ _ _ _ refl (no-part c.args.reader c.args.carry.now c.requires none)
+    ends-as _ _ _ _ _ refl (grind (arith, common_steps, lines_of-ended, nil_from_length, append-nil))
     (record { accepted = f.accepted; only = f.only; first = f.first; refused = f.refused })
 
 pub returns-in_err-line-clause-answer : goal.returns-in_err-line-clause-answer

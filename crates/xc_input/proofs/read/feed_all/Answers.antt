@@ -1,16 +1,15 @@
+use Rattle.xc_input.proofs.LineLemmas.TextLines.{lines_of-all}
 use Rattle.std.proofs.Common.{◌++◌, ◌∙◌, ◌<◌, take, length, subst, arith}
 use Rattle.std.proofs.lemmas.Grind.{common_steps}
 use Rattle.std.proofs.lemmas.Result.{err_from_is_err_and}
 use Rattle.xc_input.specs.inner.Feeding.{fed, Spoils}
-use Rattle.xc_input.proofs.LineLemmas.Pieces.{gave_more, part-spoiled, part-failed}
+use Rattle.xc_input.proofs.LineLemmas.Pieces.{gave_more, part-spoiled}
 use Rattle.xc_input.proofs.read.feed_all.Goals as goal
 
 pub returns-in_err-n-clause-part : goal.returns-in_err-n-clause-part
 returns-in_err-n-clause-part g c =
     let error = err_from_is_err_and c.from_residual.result c.from_residual.ensures.1 in
-    rw (error.1, error.2) (part-failed c.args.reader.now.kind _ _ _ c.reading.reader c.reading.carry.items
-    c.reading.invariant.1 c.reading.invariant.0 c.reading.invariant.3 c.reading.invariant.2 c.in_err-n.ensures.failures
-    c.in_err-n.ensures.bytes c.in_err-n.ensures.given_kept)
+    rw (error.1, error.2) (grind (arith, lines_of-all))
 
 pub returns-in_err-feed-clause-part : goal.returns-in_err-feed-clause-part
 returns-in_err-feed-clause-part g c =

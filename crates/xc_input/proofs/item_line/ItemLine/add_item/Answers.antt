@@ -1,24 +1,18 @@
+use Rattle.std.proofs.lemmas.List.{length-map}
 use Rattle.std.proofs.Common.{arith}
 use Rattle.std.proofs.lemmas.Grind.{common_steps}
 use Rattle.std.proofs.Common.{sym, refl, ◌∙◌, map}
 use Rattle.xc_input.specs.inner.Builders.{entry_of, AreNames}
-use Rattle.std.proofs.Common.{ap}
 use Rattle.std.proofs.lemmas.Result.{on_ok_weaker}
-use Rattle.xc_input.specs.Faults.{first, bound_checks, item_checks, name_of}
-use Rattle.xc_input.specs.inner.Sheets.{names_of}
-use Rattle.xc_input.specs.declared.line_error.LineError.TheVariants.{Fault}
+use Rattle.xc_input.specs.Faults.{first}
 use Rattle.xc_input.proofs.FaultLemmas.FirstChecks.{alone}
 use Rattle.xc_input.proofs.TokenLemmas.TableNames.{names-more, name-solid}
 use Rattle.xc_input.proofs.FaultLemmas.Checks.{stopped, bad-name, too-many, no-fault, judged-on, grown}
-use Rattle.xc_input.proofs.FaultLemmas.Checks.{none-is, length-items, items-length}
+use Rattle.xc_input.proofs.FaultLemmas.Checks.{none-is, items-length}
 use Rattle.xc_input.proofs.item_line.ItemLine.add_item.Goals as goal
 
 pub returns-in_err-token-clause-judged : goal.returns-in_err-token-clause-judged
-returns-in_err-token-clause-judged c =
-    let names = names_of (map entry_of c.args.self.now.items.items) in
-    stopped (bound_checks c.args.kind c.is_some.result c.args.token.now) (alone names (name_of c.args.kind
-    c.args.token.now)) c.from_residual.result (Fault c.in_err-token.field-0.0) c.from_residual.ensures.1
-    (ap (λ b. first (item_checks c.args.kind names b c.args.token.now)) (sym c.is_some.ensures)) c.in_err-token.ensures
+returns-in_err-token-clause-judged c = grind (arith, common_steps, stopped, alone, first)
 
 pub returns-in-Some-clause-judged : goal.returns-in-Some-clause-judged
 returns-in-Some-clause-judged c =
@@ -26,12 +20,12 @@ returns-in-Some-clause-judged c =
     c.in_ok-token.ensures c.name_fault.ensures c.in-Some.is
 
 pub returns-then-len-ge-MOST_ITEMS-clause-judged : goal.returns-then-len-ge-MOST_ITEMS-clause-judged
-returns-then-len-ge-MOST_ITEMS-clause-judged c = grind (arith, common_steps, too-many, length-items)
+returns-then-len-ge-MOST_ITEMS-clause-judged c = grind (arith, common_steps, too-many, items-length, length-map)
 
 pub returns-clause-judged : goal.returns-clause-judged
 returns-clause-judged c =
     judged-on _ _ c.push_item.result
-    (grind (arith, common_steps, no-fault, length-items))
+    (grind (arith, common_steps, no-fault, items-length, length-map))
     c.push_item.ensures.judged
 
 pub returns-clause-added : goal.returns-clause-added

@@ -20,12 +20,7 @@ returns-in-Err-clause-state c =
     (counts _ _ _ _ _ c.after.ensures c.self.invariant.0 c.saturating_add-self-inside.ensures) c.in-Err.ensures.judged)
 
 pub invariant_of-self-in-Err : goal.invariant_of-self-in-Err
-invariant_of-self-in-Err c = (
-  counts _ _ _ _ _ c.after.ensures c.self.invariant.0 c.saturating_add-self-inside.ensures,
-  returns-in-Err-clause-state c,
-  tt,
-  whole-more _ _ _ c.after.ensures c.self.invariant.3 c.requires,
-)
+invariant_of-self-in-Err c = grind (arith, common_steps, counts, returns-in-Err-clause-state c, whole-more)
 
 pub returns-clause-state : goal.returns-clause-state
 returns-clause-state c = grind (arith, common_steps, goes)
