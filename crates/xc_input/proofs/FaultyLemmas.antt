@@ -34,8 +34,7 @@ module _ {cut : List ℕ → List (List ℕ)} {checks : List (List ℕ) → List
   pub read-on : (behind : List ℕ) {piece : List ℕ} → cut rest ≡ piece ∷ cut behind → StandsBefore rest piece behind
       → first (checks others piece) ≡ None → IsReadTo cut checks line behind (others ++ piece ∷ [])
   read-on behind {piece} e s f =
-      let w = read-stands piece behind s in
-      grind (arith, common_steps, append_assoc, first-each, first-back)
+      let w = read-stands piece behind s in grind (arith, common_steps, append_assoc, first-each, first-back)
 
   pub read-stop : (behind : List ℕ) {piece : List ℕ} {k : FaultKind} (t : FaultyToken) → cut rest ≡ piece ∷ cut behind
       → first (checks others piece) ≡ Some k → line ≡ t.before.now ++ piece ++ behind → t.token.now ≡ piece

@@ -20,8 +20,7 @@ test k (c ∷ cs) = (if sameb the_type k c.0 then c.1 else test k cs)
 pub fails : (cs : List (FaultKind × Bool)) → first cs ≡ None → (k : FaultKind) → test k cs ≡ false
 fails [] e k = refl
 fails (c ∷ cs) e k =
-    let rest : first cs ≡ None → test k cs ≡ false = λ f. fails cs f k in
-    grind (arith, common_steps)
+    let rest : first cs ≡ None → test k cs ≡ false = λ f. fails cs f k in grind (arith, common_steps)
 
 -- a check that holds among the first ones
 pub first-front : {A : Type 0} (a b : List (A × Bool)) (k : A) → first a ≡ Some k → first (a ++ b) ≡ Some k

@@ -49,8 +49,7 @@ started-is kind lines = ap (λ (st : Stage). st.started) (stage-by kind lines) �
     of-content : (k : ℕ) (lines : List (List ℕ)) → (stage_by kind (content_from k lines)).started
         ≡ not (list_all is_skipped lines)
     of-content k [] = refl
-    of-content k (line ∷ lines) =
-        by-test (is_skipped line) (λ f. rw f (of-content (k + 1) lines)) (λ f. rw f)
+    of-content k (line ∷ lines) = by-test (is_skipped line) (λ f. rw f (of-content (k + 1) lines)) (λ f. rw f)
 
 -- the fault of a whole text is that of its lines, or that the item line isn't there
 pub first_fault-is : (kind : Kind) (lines : List (List ℕ)) → first_fault kind lines

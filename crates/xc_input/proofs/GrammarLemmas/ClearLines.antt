@@ -81,8 +81,7 @@ module _ (kind : Kind) (earlier : List (List ℕ)) (p : List ℕ) where
   abbrev barred : Bool
   barred = list_any is_bar earlier
 
-  side-more : is_bar p ≡ false
-      → (StandFor kind false (before_first is_bar (earlier ++ p ∷ []))
+  side-more : is_bar p ≡ false → (StandFor kind false (before_first is_bar (earlier ++ p ∷ []))
       × StandFor kind true (after_first is_bar (earlier ++ p ∷ [])))
       ↔ ((StandFor kind false (before_first is_bar earlier) × StandFor kind true (after_first is_bar earlier))
       × IsEntry kind barred p (entry kind barred p))
@@ -97,8 +96,7 @@ module _ (kind : Kind) (earlier : List (List ℕ)) (p : List ℕ) where
   part-clear = rw (names-snoc kind earlier p) (by-test (is_bar p)
       (λ f. rw (before-snoc earlier p, after-snoc earlier p) (by-test barred
       (λ b. let s = each-snoc (λ p. IsEntry kind true p (entry kind true p)) (after_first is_bar earlier) p in
-      rw (b, f) (grind (arith, s, no-bar)))
-      (λ b. rw (b, f) (simp append-nil (λ a. (a, refl), λ h. h.0)))))
+      rw (b, f) (grind (arith, s, no-bar))) (λ b. rw (b, f) (simp append-nil (λ a. (a, refl), λ h. h.0)))))
       (λ f. let names = item_names kind earlier in
       let s = side-more f in
       let t = two-snoc (λ m n. m ≢ n) names (name_of kind p) in
@@ -119,22 +117,19 @@ module _ (kind : Kind) (names : List (List ℕ)) (primaries : ℕ) (seen token :
   abbrev checks : List (FaultKind × Bool)
   checks = token_checks (context kind names primaries) seen token
 
-  use-good : first checks ≡ None
-      → IsUse (context kind names primaries) token (written names token)
+  use-good : first checks ≡ None → IsUse (context kind names primaries) token (written names token)
       × (list_any (λ i. nat_eq i (item_number names (before COLON token))) seen ≡ false)
   use-good e = grind (arith, test, fails, some-is, place, before, solid, by-test, has, cut-is, no-cut, none-after)
 
   good-use : (u : Written) → IsUse (context kind names primaries) token u
-      → list_any (λ j. nat_eq j u.item) seen ≡ false → (u ≡ written names token)
-      × (first checks ≡ None)
+      → list_any (λ j. nat_eq j u.item) seen ≡ false → (u ≡ written names token) × (first checks ≡ None)
   good-use u (name, i, n, p, q, inl h) once =
       let no : has COLON token ≡ false = ap (has COLON) h.0 ∙ n.no_colon in
       let own : before COLON token ≡ name = no-cut COLON token no ∙ h.0 in
       grind (arith, nat_tests, past-name, none-after COLON token no, and-false (is_plain kind))
   good-use u (name, i, n, p, q, inr h) once =
       let cut = cut-at COLON name u.colour n.no_colon in
-      let own : before COLON token ≡ name = ap (before COLON) h.0 ∙ cut.0 in
-      grind (arith, common_steps)
+      let own : before COLON token ≡ name = ap (before COLON) h.0 ∙ cut.0 in grind (arith, common_steps)
 
 -- a token stands for no other use
 pub use-is : (c : Context) (token : List ℕ) (u : Written) → IsUse c token u → u ≡ written c.names token
@@ -217,8 +212,7 @@ line-clear kind earlier line =
     let nul_more = list_any-append (has 0) earlier (line ∷ []) in
     let n : ℕ = line_number (length earlier + 1) in
     rw (content_more, nul_more, first-numbered n (checks_of kind (content earlier) line)) (by-test (has 0 line)
-    (λ z. rw z (grind (arith, or_parts)))
-    (λ z. by-test (is_skipped line)
+    (λ z. rw z (grind (arith, or_parts))) (λ z. by-test (is_skipped line)
     (λ f. rw (z, f) (simp (append-nil, or-false) (λ a. (a, refl), λ h. h.0)))
     (λ f. let c = content-clear kind (content earlier) line in
     let m = none-numbered n (first (content_checks kind (content earlier) line)) in

@@ -79,8 +79,7 @@ row-is : (kind : Kind) (es : List Entry) (ps : List (List ℕ)) → StandFor kin
     → ((row_of kind (R es None) ps).entries ≡ es ++ items_in kind ps)
     × (P (row_of kind (R es None) ps) ≡ length es + length (before_first is_bar ps))
 row-is kind es [] a = (sym (append-nil es), omega arith)
-row-is kind es (p ∷ ps) a = by-test (is_bar p)
-    (λ f. grind (arith, common_steps, row-behind, after-cons, before-cons))
+row-is kind es (p ∷ ps) a = by-test (is_bar p) (λ f. grind (arith, common_steps, row-behind, after-cons, before-cons))
     (λ f. let r = row-is kind (es ++ entry kind false p ∷ []) ps (rw (after-cons p ps false f) at a) in
     grind (arith, after-cons, before-cons, append_assoc, length-append))
 

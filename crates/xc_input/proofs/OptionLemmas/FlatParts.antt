@@ -63,8 +63,7 @@ slice-front us vs a b h l = grind (arith, common_steps, drop-append-le, take-app
 
 -- one part more
 pub pieces-snoc : {X : Type 0} (a : ℕ) (starts : List ℕ) (us vs : List X) (n : ℕ) → AreStarts (a ∷ starts) (length us)
-    → n ≡ length us + length vs
-    → AreStarts (a ∷ starts ++ n ∷ []) (length (us ++ vs))
+    → n ≡ length us + length vs → AreStarts (a ∷ starts ++ n ∷ []) (length (us ++ vs))
     × (pieces (a ∷ starts ++ n ∷ []) (us ++ vs) ≡ pieces (a ∷ starts) us ++ vs ∷ [])
 pieces-snoc a [] us vs n h e = grind (arith, common_steps, length-append, drop-append_seam, take-length)
 pieces-snoc a (b ∷ starts) us vs n h e = grind (arith, slice-front, starts-low, pieces-snoc b starts us vs n h.1 e)

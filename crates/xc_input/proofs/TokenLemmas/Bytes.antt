@@ -24,8 +24,7 @@ has-all b (x ∷ xs) h = grind (arith, nat_tests, has-all b xs (λ k p. h (suc k
 
 -- a byte that is found first at i
 pub has-at : (b : ℕ) (xs : List ℕ) (i : ℕ) → i < length xs → ((k : ℕ) → k < i → nat_eq (get_or xs k 0) b ≡ false)
-    → nat_eq (get_or xs i 0) b ≡ true
-    → (has b xs ≡ true) × (take i xs ≡ before b xs) × (drop (suc i) xs ≡ after b xs)
+    → nat_eq (get_or xs i 0) b ≡ true → (has b xs ≡ true) × (take i xs ≡ before b xs) × (drop (suc i) xs ≡ after b xs)
 has-at b [] i p h e = absurd (omega arith)
 has-at b (x ∷ xs) zero p h e = rw e (refl, refl, refl)
 has-at b (x ∷ xs) (suc i) p h e =
@@ -55,8 +54,7 @@ onto b (c ∷ cs) tokens = (if is_space c then (b ∷ []) ∷ tokens else onto_f
 abbrev is_some_token : List ℕ → Bool
 is_some_token token = nat_lt 0 (length token)
 
-some-first : (b c : ℕ) (parts : List (List ℕ))
-    → filter is_some_token (onto_first b (onto_first c parts))
+some-first : (b c : ℕ) (parts : List (List ℕ)) → filter is_some_token (onto_first b (onto_first c parts))
     ≡ onto_first b (filter is_some_token (onto_first c parts))
 some-first b c [] = refl
 some-first b c (p ∷ ps) = grind (arith, common_steps)
@@ -166,5 +164,4 @@ pub cuts_part : (line rest front back : List ℕ) (n : ℕ) → rest ≡ drop_wh
     → (parts line ≡ front ∷ parts back) × (length back < length line) × StandsBefore line front back
 cuts_part line [] front back n e h bar w f g = absurd (omega arith)
 cuts_part line (b ∷ bs) front back n e h bar w f g =
-    let cut = cuts_first line (b ∷ bs) front back n e h w f g in
-    grind (arith, common_steps, parts, drop_white-first)
+    let cut = cuts_first line (b ∷ bs) front back n e h w f g in grind (arith, common_steps, parts, drop_white-first)

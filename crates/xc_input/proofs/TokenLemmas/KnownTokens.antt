@@ -28,8 +28,7 @@ pub known-first : (names : List (List ℕ)) (words text back : List ℕ) (n at n
     → AreWords names words → AreBytes text → back ≡ drop n text → n ≤ length text → number ≡ word_number (take n text)
     → slice_get words at ≡ Some number → (r : Option (Token × Bor (List ℕ)))
     → IfSome r (λ p. (p.0.name.now ≡ take n text) × (p.0.place ≡ Some at))
-    → IfSome r (λ p. IsCutBehind back p.0 p.1.now)
-    → IfSome r (λ p. StandsFirst names text p.0 p.1.now)
+    → IfSome r (λ p. IsCutBehind back p.0 p.1.now) → IfSome r (λ p. StandsFirst names text p.0 p.1.now)
 known-first names words text back n at number all own bytes behind within is known None named cut = tt
 known-first names words text back n at number all own bytes behind within is known (Some p) named cut =
     let low : at < length words = slice_get_within words at number known in

@@ -71,8 +71,7 @@ distinct-more old name distinct none e = grind (arith, common_steps, all_pairs_p
 
 -- a known key is found at its place
 pub known-distinct : (keys : List (Vec ℕ Global)) (name : List ℕ) (v : Vec ℕ Global) (k : ℕ)
-    → AreDistinct (key_names keys) → slice_get keys k ≡ Some v → v.items ≡ name
-    → place (key_names keys) name ≡ Some k
+    → AreDistinct (key_names keys) → slice_get keys k ≡ Some v → v.items ≡ name → place (key_names keys) name ≡ Some k
 known-distinct keys name v k distinct e same =
     distinct-place (key_names keys) name k distinct
     (slice_get-map-some (λ (x : Vec ℕ Global). x.items) keys k v (sym e) ∙ ap Some same)
@@ -80,8 +79,7 @@ known-distinct keys name v k distinct e same =
 -- a text that a known name was stripped off
 pub behind-known : (r : Option (Bor (List ℕ))) (N : Type 0) (keys : List (Vec ℕ Global)) (text : List ℕ)
     {name : List ℕ} {v : Vec ℕ Global} (k n : ℕ) → AreNames (key_names keys) → slice_get keys k ≡ Some v
-    → n ≡ length name → name ≡ v.items
-    → MatchOption r N (λ x. (bytes_eq (take (length name) text) name ≡ true)
+    → n ≡ length name → name ≡ v.items → MatchOption r N (λ x. (bytes_eq (take (length name) text) name ≡ true)
     × (x.now ≡ drop (length name) text) × (length x.now + length name ≡ length text))
     → IfSome r (λ x. (n ≤ length text) × (x.now ≡ drop n text) × (place (key_names keys) (take n text) ≡ Some k))
 behind-known None N keys text k n all e m same h = tt

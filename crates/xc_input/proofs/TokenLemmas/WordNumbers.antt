@@ -20,8 +20,7 @@ some (suc k) = omega (arith, some k)
 pub below-cap : (k : ℕ) (xs : List ℕ) → AreBytes xs → length xs ≤ k → word_number xs < cap k
 below-cap k [] bytes h = omega (arith, some k)
 below-cap zero (x ∷ xs) bytes h = absurd (omega (arith, h))
-below-cap (suc k) (x ∷ xs) bytes h =
-    omega (arith, bytes 0, below-cap k xs (λ i. bytes (suc i)) (omega (arith, h)))
+below-cap (suc k) (x ∷ xs) bytes h = omega (arith, bytes 0, below-cap k xs (λ i. bytes (suc i)) (omega (arith, h)))
 
 pub positive : (xs : List ℕ) → 1 ≤ word_number xs
 positive [] = omega arith

@@ -58,8 +58,7 @@ flat-each P [] a = tt
 flat-each P (us ∷ uss) a = let both = each_front P us (flat uss) a in (both.0, flat-each P uss both.1)
 
 all-both : {A : Type 0} (P Q : A → Type 0) (xs : List A) → Each (λ x. P x × Q x) xs → All P xs × All Q xs
-all-both P Q xs a =
-    (λ k d l. (All-from_recursion _ xs a k d l).0, λ k d l. (All-from_recursion _ xs a k d l).1)
+all-both P Q xs a = (λ k d l. (All-from_recursion _ xs a k d l).0, λ k d l. (All-from_recursion _ xs a k d l).1)
 
 -- NUMBERS
 value-below : (n i : ℕ) (xs : List ℕ) → n < 10 ^ i → list_all is_ascii_digit xs ≡ true

@@ -64,8 +64,7 @@ pub each_two_from_AllPairs : {X : Type 0} (R : X → X → Type 0) (xs : List X)
 each_two_from_AllPairs R [] a = tt
 each_two_from_AllPairs R (x ∷ xs) a = (
   recursion_from_All (R x) xs (λ k d l. a 0 (suc k) d (omega arith) (omega (arith, l))),
-  each_two_from_AllPairs R xs
-      (λ i j d l m. a (suc i) (suc j) d (omega (arith, l)) (omega (arith, m))),
+  each_two_from_AllPairs R xs (λ i j d l m. a (suc i) (suc j) d (omega (arith, l)) (omega (arith, m))),
 )
 
 pub EachTwo-weaker : {X : Type 0} (R Q : X → X → Type 0) (xs : List X)

@@ -28,5 +28,4 @@ pub newest_changed : {X : Type 0} (f : X → X) (xs : List X) (d : X) → 0 < le
     reverse (set xs (length xs - 1) (f (get_or xs (length xs - 1) d))) ≡ first_changed f (reverse xs)
 newest_changed f xs d h =
     subst (λ ys. reverse (set ys (length ys - 1) (f (get_or ys (length ys - 1) d))) ≡ first_changed f (reverse xs))
-    (reverse-reverse xs)
-    (turned_changed f (reverse xs) d (omega (arith, h, length-reverse xs)))
+    (reverse-reverse xs) (turned_changed f (reverse xs) d (omega (arith, h, length-reverse xs)))

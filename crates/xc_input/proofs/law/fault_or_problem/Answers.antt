@@ -8,15 +8,10 @@ use Rattle.xc_input.proofs.law.fault_or_problem.Goals as goal
 
 pub returns-clause-stands : goal.returns-clause-stands
 returns-clause-stands c = λ kind lines. (
-  λ none. (
-    named_of (stage_of kind lines).sheet,
-    (stage_of kind lines).ignored,
-    faultless-stands kind lines none,
-  ),
+  λ none. (named_of (stage_of kind lines).sheet, (stage_of kind lines).ignored, faultless-stands kind lines none),
   λ s. (stands-only kind lines s.0 s.1 s.2).0,
 )
 
 pub returns-clause-one : goal.returns-clause-one
 returns-clause-one c = λ kind lines a b is js s t.
-    let p = stands-only kind lines a is s in
-    grind (arith, common_steps, stands-only kind lines b js t)
+    let p = stands-only kind lines a is s in grind (arith, common_steps, stands-only kind lines b js t)

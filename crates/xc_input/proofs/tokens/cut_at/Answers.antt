@@ -20,6 +20,5 @@ returns-in-Some-clause-back c =
     let f = has-at c.args.byte c.args.bytes.now c.in-Some.i h.0.high (λ k p. not_false _ (h.0.before k (omega arith) p))
     h.1 in (
       f.0,
-      take_rest c.args.bytes.now (c.in-Some.i + 1)
-          ∙ ap (λ n. drop n c.args.bytes.now) (add-one c.in-Some.i) ∙ f.2,
+      take_rest c.args.bytes.now (c.in-Some.i + 1) ∙ ap (λ n. drop n c.args.bytes.now) (add-one c.in-Some.i) ∙ f.2,
     )

@@ -22,8 +22,7 @@ returns-in-Some-cut_behind c =
 pub returns-in-Some : goal.returns-in-Some
 returns-in-Some c =
     behind-all-white (key_names c.args.names.now.keys) c.args.line.now c.in-Some.cut.1.now c.in-Some.cut.0
-    c.skip_white-rest.ensures
-    (c.in-Some.ensures (key_names c.args.names.now.keys) c.requires.names c.requires.words)
+    c.skip_white-rest.ensures (c.in-Some.ensures (key_names c.args.names.now.keys) c.requires.names c.requires.words)
 
 pub returns : goal.returns
 returns c =

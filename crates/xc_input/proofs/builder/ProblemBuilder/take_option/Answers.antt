@@ -14,8 +14,7 @@ returns-in_err-option_line-clause-judged c =
     stopped (option_checks (context c.args.kind (key_names c.args.self.now.names.keys) c.args.self.now.primary) []
     (tokens c.args.line.now)) (whole_checks (sheet_of_builder c.args.self.now) c.args.line.now) c.from_residual.result
     c.in_err-option_line.field-0.0 c.from_residual.ensures.1
-    (content-is c.args.kind c.args.line.now c.requires.sound c.requires.started)
-    c.in_err-option_line.ensures.judged
+    (content-is c.args.kind c.args.line.now c.requires.sound c.requires.started) c.in_err-option_line.ensures.judged
 
 pub returns-then-not-has_primary_use-clause-judged : goal.returns-then-not-has_primary_use-clause-judged
 returns-then-not-has_primary_use-clause-judged c = grind (arith, common_steps, no-primary, items-length)

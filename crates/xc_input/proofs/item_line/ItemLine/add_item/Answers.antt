@@ -24,8 +24,7 @@ returns-then-len-ge-MOST_ITEMS-clause-judged c = grind (arith, common_steps, too
 
 pub returns-clause-judged : goal.returns-clause-judged
 returns-clause-judged c =
-    judged-on _ _ c.push_item.result
-    (grind (arith, common_steps, no-fault, items-length, length-map))
+    judged-on _ _ c.push_item.result (grind (arith, common_steps, no-fault, items-length, length-map))
     c.push_item.ensures.judged
 
 pub returns-clause-added : goal.returns-clause-added

@@ -47,6 +47,5 @@ returns-clause-value c = grind (arith, common_steps, part)
 pub returns-clause-known : goal.returns-clause-known
 returns-clause-known c =
     subst (λ (v : Named). All (IsKnownUse v) (slice_range c.deref.result.now c.index.result.now c.index-2.result.now))
-    c.self.view_is
-    (known_option _ (key_names c.self.inside.colours.keys) c.args.o _ c.self.invariant.sound.valid
+    c.self.view_is (known_option _ (key_names c.self.inside.colours.keys) c.args.o _ c.self.invariant.sound.valid
     c.self.invariant.sound.coloured (part (goal.at.returns-clause-known c).After-deref).2)
