@@ -1,6 +1,6 @@
 -- A text that is put together on a page.
 use Rattle.std.proofs.lemmas.Bool.Decides.{nat_tests}
-use Rattle.std.proofs.Common.{◌≡◌, ℕ, ◌+◌, ◌≤◌, List, [], ◌++◌, length, take, drop, sym, ap, ◌∙◌, arith}
+use Rattle.std.proofs.Common.{[], ◌≡◌, ℕ, ◌+◌, ◌≤◌, List, ◌++◌, length, take, drop, sym, arith}
 use Rattle.std.proofs.Common.{append-nil, append_assoc, ◌∷◌}
 use Rattle.std.proofs.Math.Seq.{drop-cons, take-append-add}
 use Rattle.std.proofs.lemmas.List.{drop-append-le, take-take, length-take, length-take-le, drop-set, drop-set-add}
@@ -11,8 +11,9 @@ use lib.Lanes.{put_chunk, chunk}
 use Rattle.std.specs.Prelude.{flat_map}
 use Rattle.xc_list.specs.Texts.{SinkState, Took, BrokeOff}
 use Rattle.xc_list.specs.inner.Pages.{Puts, held_text}
+use Rattle.xc_list.proofs.Planned.{one_more}
 use Rattle.xc_list.proofs.Writing.{then_took, then_broke, took_nothing, broke_before}
-use Rattle.std.proofs.lemmas.Grind.{common_steps, flat_map-append}
+use Rattle.std.proofs.lemmas.Grind.{common_steps}
 use Rattle.xc_input.proofs.TokenLemmas.Separators.{COLON}
 
 -- a text put on the page is held behind what was held
@@ -79,16 +80,13 @@ module _ {X : Type 0} {a b : SinkState} {before held : List ℕ} {f : X → List
   done : (p.done ++ x ∷ []) ++ next ≡ all
   done = grind (arith, common_steps, cut, p.whole)
 
-  texts : flat_map f (p.done ++ x ∷ []) ≡ flat_map f p.done ++ f x
-  texts = grind (arith, common_steps, flat_map-append f p.done (x ∷ []))
-
   pub line_put : {c : SinkState} {text : List ℕ} → Puts b c held text (f x) → PutsFront a c before text f next all
-  line_put {c = c} {text = text} q = search (arith, x, done, a, before, texts, then_puts)
+  line_put {c = c} {text = text} q = search (arith, x, done, a, before, one_more f p.done x, then_puts)
 
   pub lines_broke : {c : SinkState} → BrokeOff b c (held ++ f x) → BrokeOff a c (before ++ flat_map f all)
   lines_broke q =
       let all_texts : flat_map f all ≡ (flat_map f p.done ++ f x) ++ flat_map f next =
-      ap (flat_map f) (sym done) ∙ flat_map-append f (p.done ++ x ∷ []) next ∙ ap (λ t. t ++ flat_map f next) texts in
+      grind (arith, common_steps, cut, p.whole) in
       rw (all_texts, ← append_assoc before (flat_map f p.done ++ f x) (flat_map f next))
       (broke_before (flat_map f next) (puts_broke (f x) p.puts q))
 

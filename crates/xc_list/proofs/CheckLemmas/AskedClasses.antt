@@ -1,11 +1,11 @@
 -- How often classes are asked, by numbers of classes and by options.
 use Rattle.std.proofs.lemmas.Grind.{common_steps}
-use Rattle.std.proofs.Common.{◌≢◌, inl, inr}
+use Rattle.std.proofs.Common.{[], ◌≢◌, inl, inr}
 use Rattle.xc_input.specs.declared.problem.Use.{Use}
 use Rattle.std.specs.Prelude.{AllPairs}
 use Rattle.std.proofs.lemmas.Bool.Decides.{nat_tests}
 use Rattle.std.proofs.lemmas.Option.{slice_get_within, get_or_from_slice_get}
-use Rattle.std.proofs.Common.{ℕ, ◌≡◌, ◌+◌, ◌<◌, ◌≤◌, Bool, true, cond, ◌==◌, List, [], length}
+use Rattle.std.proofs.Common.{ℕ, ◌≡◌, ◌+◌, ◌<◌, ◌≤◌, Bool, true, cond, ◌==◌, List, length}
 use Rattle.std.proofs.Common.{get_or, replicate, Some, refl, sym, ap, ap₂, ◌∙◌, arith}
 use Rattle.std.specs.Prelude.{slice_get, nat_le, count_by}
 use Rattle.std.specs.List.{AllZip, list_all}
@@ -57,13 +57,9 @@ module _ (b : Classes) (are : AreClasses b.problem.puzzle b.classes) (ks reps : 
 
   room_asked : (k o : ℕ) → IsOfClass b k o → has_room b ks k ≡ true ↔ IsAsked b.problem.puzzle reps o
   room_asked k o g =
-      grind (
-        arith,
-        common_steps,
-        asked-at k o g,
-        is_counted (alike b.problem.puzzle o) reps,
-        get_or_from_slice_get b.classes k (class_at b.problem.puzzle o) [] g.1,
-      )
+      let at = asked-at k o g in
+      let class = get_or_from_slice_get b.classes k (class_at b.problem.puzzle o) [] g.1 in
+      grind (arith, common_steps, is_counted)
 
   pub asked_by_rooms : list_all (has_room b ks) ks ≡ true → (r : ℕ) → IsAsked b.problem.puzzle reps r
   asked_by_rooms rooms r =

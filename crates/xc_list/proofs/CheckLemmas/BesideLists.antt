@@ -1,7 +1,7 @@
 -- Two lists place by place, and tests of each element: for options that stand beside classes and bodies.
-use Rattle.std.proofs.Common.{arith}
+use Rattle.std.proofs.Common.{[], arith}
 use Rattle.std.proofs.lemmas.Grind.{common_steps}
-use Rattle.std.proofs.Common.{◌≡◌, Bool, true, List, [], ◌∷◌, ◌++◌}
+use Rattle.std.proofs.Common.{◌≡◌, Bool, true, List, ◌∷◌, ◌++◌}
 use Rattle.std.specs.List.{AllZip, list_all}
 use Rattle.std.proofs.lemmas.List.Sums.{AllPass-from_list_all, list_all-from_AllPass}
 use Rattle.std.proofs.lemmas.List.Elements.{All-from_recursion, All-contains}
@@ -14,9 +14,8 @@ pub by_pairs : {A B : Type 0} (R : A → B → Type 0) (P : List A → List B �
     → ((x : A) (y : B) (xs : List A) (ys : List B) → R x y → P xs ys → P (x ∷ xs) (y ∷ ys)) → (xs : List A)
     (ys : List B) → AllZip R xs ys → P xs ys
 by_pairs R P none more [] [] z = none
-by_pairs R P none more [] (y ∷ ys) z = absurd z
-by_pairs R P none more (x ∷ xs) [] z = absurd z
 by_pairs R P none more (x ∷ xs) (y ∷ ys) z = more x y xs ys z.0 (by_pairs R P none more xs ys z.1)
+by_pairs R P none more _ _ z = absurd z
 
 -- an element stands beside one of the other list
 pub beside : {A B : Type 0} (R : A → B → Type 0) (xs : List A) (ys : List B) (y : B) → AllZip R xs ys → IsIn ys y

@@ -1,6 +1,6 @@
 -- Which bodies stand for which uses, by classes.
 use Rattle.std.proofs.lemmas.Bool.Decides.{nat_tests}
-use Rattle.std.proofs.Common.{ℕ, ◌≡◌, ◌<◌, true, ◌==◌, ◌&&◌, List, [], ◌∷◌, length, map, take, drop, sym, ap, ap₂, ◌∙◌}
+use Rattle.std.proofs.Common.{[], ℕ, ◌≡◌, ◌<◌, true, ◌==◌, ◌&&◌, List, ◌∷◌, length, map, take, drop, sym, ap, ◌∙◌}
 use Rattle.std.proofs.Common.{arith, refl}
 use Rattle.std.specs.Prelude.{All}
 use Rattle.std.specs.Bool.{Decides}
@@ -46,13 +46,10 @@ body-alike p words us vs d q h =
 pub same_uses_by_words : (p : Named) → IsSound p → (us vs : List Use) → All (IsKnownUse p) us → All (IsKnownUse p) vs
     → map (use_word p) us ≡ map (use_word p) vs → us ≡ vs
 same_uses_by_words p s [] [] a b e = refl
-same_uses_by_words p s [] (v ∷ vs) a b e = cc
-same_uses_by_words p s (u ∷ us) [] a b e = cc
 same_uses_by_words p s (u ∷ us) (v ∷ vs) a b e =
-    let here : use_word p u ≡ use_word p v = cc in
-    let rest : map (use_word p) us ≡ map (use_word p) vs = cc in
-    ap₂ (λ x xs. x ∷ xs) (one_word p s u v (All-head (IsKnownUse p) u us a) (All-head (IsKnownUse p) v vs b) here)
-    (same_uses_by_words p s us vs (All-tail (IsKnownUse p) u us a) (All-tail (IsKnownUse p) v vs b) rest)
+    let later = same_uses_by_words p s us vs (All-tail (IsKnownUse p) u us a) (All-tail (IsKnownUse p) v vs b) cc in
+    cc (one_word p s u v (All-head (IsKnownUse p) u us a) (All-head (IsKnownUse p) v vs b) cc)
+same_uses_by_words p s _ _ a b e = cc
 
 pub All-turned : {X : Type 0} (P : X → Type 0) (k : ℕ) (xs : List X) → All P xs → All P (rotated_at k xs)
 All-turned P k xs all = All-append P (drop k xs) (take k xs) (All-drop P k xs all) (All-take P k xs all)

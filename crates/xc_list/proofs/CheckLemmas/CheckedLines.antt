@@ -1,8 +1,8 @@
 -- Verdicts by classes, and what a line changes.
 use Rattle.std.proofs.lemmas.Grind.{common_steps}
 use Rattle.std.specs.List.{AllByRecursion}
-use Rattle.std.proofs.Common.{◌≡◌, ℕ, ◌+◌, ◌-◌, ◌^◌, ◌<◌, Bool, true, false, not, ◌||◌, nat_eq, min, List}
-use Rattle.std.proofs.Common.{[], ◌∷◌, ◌++◌, length, filter, Option, Some, None, is_some, refl, sym, ap, ◌∙◌}
+use Rattle.std.proofs.Common.{[], ◌≡◌, ℕ, ◌+◌, ◌-◌, ◌^◌, ◌<◌, Bool, true, false, not, ◌||◌, nat_eq, min, List}
+use Rattle.std.proofs.Common.{◌∷◌, ◌++◌, length, filter, Option, Some, None, is_some, refl, sym, ap, ◌∙◌}
 use Rattle.std.proofs.Common.{append_assoc, append-nil, arith, if◌then◌else◌}
 use Rattle.xc_list.specs.inner.Listings.{Listing, before_listing}
 use Rattle.std.specs.Prelude.{◌==◌, ◌↔◌, IsTrue}
@@ -17,7 +17,7 @@ use Rattle.xc_list.specs.declared.checker.ListingFault.{ListingFault}
 use Rattle.xc_list.specs.declared.checker.ListingFault.TheVariants.{BadLine, UnknownOption}
 use Rattle.xc_list.specs.inner.ReadLines.{Line, Header, Body, Other, read}
 use Rattle.std.specs.Option.{option_or}
-use Rattle.xc_list.specs.Listed.{Solution, is_body, is_known, is_none, fault_in_lines}
+use Rattle.xc_list.specs.Listed.{Solution, is_known, is_none, fault_in_lines}
 use Rattle.xc_list.specs.inner.Classes.{Classes, AreClasses, IsIndexed, IsOfClass, IsClassOfBody, IsCoverOfClasses}
 use Rattle.xc_list.specs.inner.Checking.{Progress, AreChosen, with_later, Closes, Takes}
 use Rattle.xc_list.proofs.CheckLemmas.DecidedByClasses.{StandFor, classes_decide, uses-in}
@@ -102,20 +102,14 @@ body_taken : (s : Progress) (words : List (List ℕ)) (chosen : List ℕ) → is
     → AreChosen s.options (bodies ++ words ∷ []) chosen) → Takes (Body words) s (record s { chosen = chosen })
 body_taken s words chosen some good more all done line rest e h = grind (arith, not-first, body-later, no_fault-at)
 
--- what stands for a class is known
-known : (b : Classes) (words : List (List ℕ)) (k : ℕ) → AreClasses b.problem.puzzle b.classes
-    → IsClassOfBody b words (Some k) → is_known b.problem words ≡ true
-known b words k classes h =
-    let o = option_of b k classes h.0 in
-    any-in (is_body b.problem words) b.problem.puzzle.options _ (uses-in b.problem.puzzle o.0 o.1.0) (h.1 o.0 o.1)
-
 pub class_taken : (s : Progress) (words : List (List ℕ)) (k : ℕ) (chosen : List ℕ)
     → AreClasses s.options.problem.puzzle s.options.classes → IsClassOfBody s.options words (Some k)
     → is_some s.open_number ≡ true → chosen ≡ s.chosen ++ k ∷ []
     → Takes (Body words) s (record s { chosen = chosen })
 class_taken s words k chosen classes h some e =
     let p = s.options.problem in
-    let is : is_known p words ≡ true = known s.options words k classes h in
+    let o = option_of s.options k classes h.0 in
+    let is : is_known p words ≡ true = any-in _ _ _ (uses-in p.puzzle o.0 o.1.0) (h.1 o.0 o.1) in
     body_taken s words chosen some (ap (λ t. t || is_none p words) is) (λ bodies are.
     rw (filter-append (is_known p) bodies (words ∷ []), is, e)
     (AllZip-append (λ ws j. IsClassOfBody s.options ws (Some j)) _ (words ∷ []) _ (k ∷ []) are (h, tt)))

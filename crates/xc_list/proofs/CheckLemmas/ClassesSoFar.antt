@@ -2,7 +2,7 @@
 use Rattle.std.proofs.lemmas.Grind.{common_steps}
 use Rattle.std.proofs.lemmas.Bool.{cases_eq, cases_lt}
 use Rattle.std.proofs.lemmas.Bool.Decides.{nat_tests}
-use Rattle.std.proofs.Common.{ℕ, zero, suc, ◌≡◌, ◌≢◌, ◌+◌, ◌≤◌, Bool, cond, List, [], ◌∷◌, ◌++◌, map}
+use Rattle.std.proofs.Common.{[], ℕ, zero, suc, ◌≡◌, ◌≢◌, ◌+◌, ◌≤◌, Bool, cond, List, ◌∷◌, ◌++◌, map}
 use Rattle.std.proofs.Common.{get_or, Some, refl, sym, ap, ap₂, ◌∙◌, arith, subst, inl, inr}
 use Rattle.std.proofs.Common.{add-one}
 use Rattle.std.specs.Prelude.{slice_get, Contains}
@@ -76,7 +76,7 @@ module _ (p : Puzzle) (n : ℕ) where
 
   -- an option of a class that there is
   pub classes-found : (classes : List (List Use)) (counts : List ℕ) (k c : ℕ) → AreClassesTo p n classes counts
-      → slice_get classes k ≡ Some added → c ≡ class_size_to p n added
+      → slice_get classes k ≡ Some added → c ≡ get_or counts k c
       → AreClassesTo p (suc n) classes (set counts k (c + 1))
   classes-found classes counts k c a e h = record {
     distinct = a.distinct;
@@ -84,7 +84,11 @@ module _ (p : Puzzle) (n : ℕ) where
         by_last {X = λ o. Contains classes (class_at p o)} a.whole
         (contains-in classes added (in-slice_get classes k added e));
     used = λ j us q. (let u = a.used j us q in let m = u.2 in (u.0, u.1, omega (arith, m), u.3));
-    counted = grind (arith, common_steps, counts-found, added, same_members, each_two_from_AllPairs, one_member);
+    counted =
+        ap (λ cs. set cs k (c + 1)) a.counted
+        ∙ counts-found (class_size_to p n) (class_size_to p (suc n)) added same_members classes k (c + 1)
+        (each_two_from_AllPairs _ classes a.distinct) e
+        (omega (arith, h, members_at p n classes counts k c added a e, one_member));
   }
 
   no-members : (classes : List (List Use)) (counts : List ℕ) → AreClassesTo p n classes counts

@@ -1,12 +1,16 @@
 -- What the counts of a solution say: they agree exactly where options of its classes are a cover of their classes.
+use Rattle.xc_input.proofs.lists.Members.{map-in, filter-in}
+use Rattle.xc_input.proofs.lists.EachElement.{each-append}
+use Rattle.std.proofs.lemmas.Option.{get_or_from_slice_get}
+use Rattle.std.proofs.Common.{[], eq-eqb}
 use Rattle.xc_input.specs.declared.problem.Bounds.{Bounds}
 use Rattle.std.proofs.lemmas.Option.{slice_get_within, slice_get_past}
 use Rattle.xc_input.proofs.lists.Places.{not_some}
 use Rattle.xc_list.proofs.CheckLemmas.ListedNumbers.{last_or}
 use Rattle.std.proofs.Common.{ℕ, zero, suc, ◌≡◌, ◌-◌, ◌<◌, ◌≤◌, Bool, true, ◌&&◌}
-use Rattle.std.proofs.Common.{◌==◌, List, [], ◌∷◌, length, get_or, replicate, Some, None, refl, sym, ap, ◌∙◌, arith}
+use Rattle.std.proofs.Common.{◌==◌, List, ◌∷◌, length, get_or, replicate, Some, None, refl, sym, ap, ◌∙◌, arith}
 use Rattle.std.specs.Prelude.{Option, slice_get, ◌↔◌}
-use Rattle.std.specs.List.{AllByRecursion, AllZip, list_all}
+use Rattle.std.specs.List.{AllZip, list_all}
 use Rattle.std.proofs.lemmas.Bool.Decides.{nat_tests}
 use Rattle.std.proofs.lemmas.List.{length-replicate, get_or-replicate}
 use Rattle.xc_input.specs.declared.problem.Use.{Use}
@@ -14,17 +18,17 @@ use Rattle.xc_input.specs.Problem.{IsSecondary, bounds_at, item_count}
 use Rattle.xc_input.specs.Named.{IsSound}
 use Rattle.xc_search.specs.Cover.{times_held}
 use Rattle.xc_input.proofs.lists.Members.{each_in, each_from}
-use Rattle.xc_list.specs.inner.Classes.{Classes, AreClasses, IsOfClass, IsCoverOfClasses, class_at}
+use Rattle.xc_list.specs.inner.Classes.{Classes, AreClasses, IsOfClass, IsCoverOfClasses}
 use Rattle.xc_list.specs.inner.CoverCounts.{added, coloured, uses_at, uses_in, short_of, agrees, is_met}
 use Rattle.xc_list.specs.inner.CoverCounts.{is_class_met}
 use Rattle.xc_list.proofs.CheckLemmas.ShortItems.{short_none, none_short}
 use Rattle.xc_list.proofs.CheckLemmas.HeldItems.{AreItems, added-at}
-use Rattle.xc_list.proofs.CheckLemmas.CountedClasses.{classes_usable, items_in}
+use Rattle.xc_list.proofs.CheckLemmas.CountedClasses.{classes_usable}
 use Rattle.xc_list.proofs.CheckLemmas.AskedClasses.{asked_after, has_room, asked_by_rooms, rooms_by_asked}
 use Rattle.xc_list.proofs.CheckLemmas.GatheredColours.{gathered, length-gathered, AgreeAt, gathered-agree}
 use Rattle.xc_list.proofs.CheckLemmas.GatheredColours.{agree-gathered}
 use Rattle.xc_list.proofs.CheckLemmas.LastColours.{given, length-given, coloured-at, given-gathered}
-use Rattle.xc_list.proofs.CheckLemmas.LastColours.{given-each, each-given, agrees_with, Fits, agrees-fits}
+use Rattle.xc_list.proofs.CheckLemmas.LastColours.{given-each, agrees_with, Fits, agrees-fits}
 use Rattle.xc_list.proofs.CheckLemmas.BesideLists.{by_pairs, each-passes, passes-at}
 use Rattle.std.proofs.lemmas.List.Folds.{list_all-append}
 use Rattle.std.specs.List.{flat_map}
@@ -43,14 +47,12 @@ list_all-parts f g parts (x ∷ xs) = grind (arith, list_all-append, list_all-pa
 abbrev pub times_after : Classes → List ℕ → List ℕ
 times_after b ks = added (uses_in b.classes ks) (replicate (item_count b.problem.puzzle) 0)
 
-abbrev pub colours_after : Classes → List ℕ → List ℕ → List ℕ
-colours_after b ks cs = coloured (uses_in b.classes ks) cs
-
 -- whether the counts agree
 abbrev pub is_counted_cover : Classes → List ℕ → List ℕ → Bool
 is_counted_cover b cs ks =
     short_of b.problem.puzzle.bounds (times_after b ks) == 0 && list_all
-    (is_class_met b b.problem.puzzle.bounds (times_after b ks) (colours_after b ks cs) (asked_after b ks)) ks
+    (is_class_met b b.problem.puzzle.bounds (times_after b ks) (coloured (uses_in b.classes ks) cs) (asked_after b ks))
+    ks
 
 -- options of these classes, with the tables that count them
 pub record IsSolution (b : Classes) (cs ks reps : List ℕ) : Type 0 where
@@ -71,13 +73,14 @@ module _ (b : Classes) (cs ks reps : List ℕ) (s : IsSolution b cs ks reps) whe
   colours_of k = gathered p (suc k) reps
 
   abbrev meets : Use → Bool
-  meets u = is_met p.bounds (times_after b ks) (colours_after b ks cs) u
+  meets u = is_met p.bounds (times_after b ks) (coloured us cs) u
 
   items : AreItems (item_count p) us
   items =
-      items_in _ _ _ (classes_usable b s.sound s.classes) (by_pairs (IsOfClass b)
-      (λ js os. AllByRecursion (λ k. k < length b.classes) js) tt
-      (λ k o js os h later. (slice_get_within b.classes k (class_at p o) h.1, later)) ks reps s.taken)
+      by_pairs (IsOfClass b) (λ js os. AreItems (item_count p) (uses_in b.classes js)) tt (λ k o js os h later.
+      let own = classes_usable b s.sound s.classes k _ h.1 in
+      let is = get_or_from_slice_get b.classes k _ [] h.1 in
+      each-append _ (uses_at b.classes k) _ (rw is own.0) later) ks reps s.taken
 
   gives : (k : ℕ) → given (suc k) us ≡ colours_of k
   gives k = given-gathered (suc k) b ks reps s.sound s.taken
@@ -107,8 +110,9 @@ module _ (b : Classes) (cs ks reps : List ℕ) (s : IsSolution b cs ks reps) whe
       let l : k < item_count p = omega (arith, known) in
       let e : u.item ≡ suc k = omega (arith, known) in
       let agree = (agrees-fits _ (get_or cs k 0) (colours_of k)).1 (fits k l) in
-      met_one k u l e ∙ each_in _ _ _ (each-given
-      (agrees_with (slice_get p.bounds k) (get_or cs k 0) (colours_of k)) (suc k) us (rw (gives k) agree)) m e)
+      let is = filter-in (λ (v : Use). v.item == suc k) us u m (eq-eqb u.item (suc k) e) in
+      let stands = map-in (λ (v : Use). v.colour) _ _ is in
+      met_one k u l e ∙ each_in _ _ _ agree (rw (gives k) at stands))
 
   -- what is asked of an item's bounds
   bounded : (k : ℕ) (d : Bounds) → bounds_at p (suc k) ≡ Some d

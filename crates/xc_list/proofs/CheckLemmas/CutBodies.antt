@@ -1,11 +1,11 @@
 -- The words of a choice line.
 use Rattle.std.proofs.lemmas.Grind.{common_steps}
-use Rattle.std.proofs.Common.{◌≡◌, ℕ, ◌<◌, Bool, true, false, not, ◌&&◌, nat_eq}
-use Rattle.std.proofs.Common.{List, [], ◌∷◌, ◌++◌, length, Some, None, refl}
-use Rattle.std.proofs.Common.{append_assoc, arith, length-append, if◌then◌else◌}
+use Rattle.std.proofs.Common.{[], ◌≡◌, ℕ, ◌<◌, Bool, true, false, not, ◌&&◌, nat_eq}
+use Rattle.std.proofs.Common.{List, ◌∷◌, ◌++◌, length, Some, None, refl}
+use Rattle.std.proofs.Common.{arith, length-append, if◌then◌else◌}
 use Rattle.std.specs.List.{list_all, list_any, onto_first}
 use Rattle.std.proofs.lemmas.Bool.Decides.{nat_tests}
-use Rattle.std.proofs.Math.Seq.{take-append_seam, drop-append_seam, get_or-append_seam}
+use Rattle.std.proofs.Math.Seq.{take-append_seam, get_or-append_seam}
 use Rattle.xc_input.specs.Tokens.{is_space}
 use Rattle.xc_list.specs.ListingLines.{words_in, before_last, is_word, is_ending, body_of_words}
 
@@ -45,8 +45,6 @@ all_words text = words_left true text
 
 -- BODIES
 -- what stands before three words
-pub before_three : (words bs : List (List ℕ)) (a b c : List ℕ) → 0 < length bs
-    → words ≡ ((bs ++ a ∷ []) ++ b ∷ []) ++ c ∷ [] → list_all is_word words ≡ true
-    → is_ending (a ∷ b ∷ c ∷ []) ≡ true → Some bs ≡ body_of_words words
-before_three words bs a b c l e all ends =
-    grind (arith, common_steps, nat_tests, append_assoc, length-append, drop-append_seam, take-append_seam)
+pub before_three : (words bs ending : List (List ℕ)) → 0 < length bs → words ≡ bs ++ ending → length ending ≡ 3
+    → list_all is_word words ≡ true → is_ending ending ≡ true → Some bs ≡ body_of_words words
+before_three words bs ending l e three all ends = grind (arith, common_steps, nat_tests)

@@ -1,7 +1,7 @@
 -- Texts cut at a byte, and what is left of their lines and words.
 use Rattle.std.proofs.lemmas.Bool.Decides.{nat_tests}
 use Rattle.std.proofs.lemmas.List.{take_rest}
-use Rattle.std.proofs.Common.{◌≡◌, ℕ, zero, suc, ◌+◌, ◌-◌, ◌<◌, true, false, nat_eq, List, [], ◌∷◌, ◌++◌, length}
+use Rattle.std.proofs.Common.{[], ◌≡◌, ℕ, zero, suc, ◌+◌, ◌-◌, ◌<◌, true, false, nat_eq, List, ◌∷◌, ◌++◌, length}
 use Rattle.std.proofs.Common.{take, drop, get_or, refl, ap, ◌∙◌, append_assoc, add-one, arith}
 use Rattle.std.specs.List.{onto_first}
 use Rattle.std.proofs.lemmas.Bool.{eqb-true}
@@ -59,10 +59,6 @@ onto_first-some x (w ∷ ws) = omega arith
 pub some_words : (text : List ℕ) → 0 < length (words_in text)
 some_words [] = omega arith
 some_words (x ∷ text) = grind (arith, nat_tests, onto_first-some x (words_in text))
-
-onto_first-append : (x : ℕ) (vs ws : List (List ℕ)) → 0 < length vs → onto_first x (vs ++ ws) ≡ onto_first x vs ++ ws
-onto_first-append x [] ws l = absurd (omega (arith, l))
-onto_first-append x (v ∷ vs) ws l = refl
 
 last : (front word : List ℕ) → has 32 word ≡ false → words_in (front ++ 32 ∷ word) ≡ words_in front ++ word ∷ []
 last [] word h = ap (λ ws. [] ∷ ws) (one_word word h)

@@ -1,9 +1,9 @@
 -- A listed solution is a cover exactly where its classes are, by counting.
+use Rattle.xc_input.proofs.lists.EachElement.{each_weaker}
 use Rattle.std.proofs.lemmas.Grind.{common_steps}
 use Rattle.std.specs.List.{AllByRecursion}
-use Rattle.std.proofs.lemmas.Bool.Decides.{nat_tests}
 use Rattle.std.specs.List.{AllZip}
-use Rattle.std.proofs.Common.{ℕ, zero, suc, ◌≡◌, ◌≢◌, true, List, [], ◌∷◌, filter}
+use Rattle.std.proofs.Common.{[], ℕ, zero, suc, ◌≡◌, ◌≢◌, true, List, ◌∷◌, filter}
 use Rattle.std.proofs.Common.{refl, sym, ap₂, ◌∙◌, arith, inl, inr}
 use Rattle.std.specs.Prelude.{All, IsTrue, ◌↔◌}
 use Rattle.std.proofs.lemmas.List.Elements.{recursion_from_All, All-from_recursion}
@@ -13,7 +13,7 @@ use Rattle.xc_input.specs.Problem.{IsOption}
 use Rattle.xc_search.specs.Cover.{IsCover, times_held}
 use Rattle.xc_input.specs.Named.{Named, IsKnownUse, IsSound}
 use Rattle.xc_input.proofs.ValidLemmas.Known.{known_option}
-use Rattle.xc_input.proofs.lists.Members.{IsIn, each_in, each_from, in-slice_get, in-contains}
+use Rattle.xc_input.proofs.lists.Members.{IsIn, each_in, in-slice_get, in-contains}
 use Rattle.xc_input.proofs.lists.Members.{contains-in}
 use Rattle.xc_input.proofs.lists.EachTwo.{each_two_from_AllPairs, AllPairs-from_each_two}
 use Rattle.xc_list.specs.Listed.{is_known, IsListedCover, stands_for}
@@ -30,8 +30,8 @@ use Rattle.xc_input.proofs.lists.EachTwo.{EachTwo, EachTwo-of, EachTwo-weaker}
 use Rattle.std.specs.List.{cons_option}
 use Rattle.std.proofs.Common.{length, ap}
 
-pub in-numbers : (p : Puzzle) (o : ℕ) → IsIn (numbers p) o → IsOption p o
-in-numbers p o h = let l = in-range 1 (option_count p) o h in (l.0, omega (arith, l.1))
+numbered : (p : Puzzle) (o : ℕ) → IsIn (numbers p) o → IsOption p o
+numbered p o h = grind (arith, in-range 1 (option_count p) o h)
 
 pub numbers-in : (p : Puzzle) (o : ℕ) → IsOption p o → IsIn (numbers p) o
 numbers-in p o h = range-in 1 (option_count p) o h.0 (omega (arith, h.1))
@@ -60,29 +60,21 @@ alike-classes p = record {
 }
 
 abbrev AreKnown : Puzzle → List ℕ → Type 0
-AreKnown p s = (o : ℕ) → IsIn s o → IsOption p o
+AreKnown p s = AllByRecursion (IsOption p) s
 
 -- options of the problem for bodies, for each one that it stands for
 abbrev pub StandFor : Named → List (List (List ℕ)) → List ℕ → Type 0
 StandFor p bodies s = AllZip (λ words o. IsTrue (stands_for p words o)) bodies s
 
--- beside xs, the lists ys and zs are zipped alike
-zipped_alike : {A B C : Type 0} (P : A → B → Type 0) (Q : A → C → Type 0) (R : B → C → Type 0) (xs : List A)
-    (ys : List B) (zs : List C) →
-    ((x : A) (y : B) (z : C) → IsIn ys y → IsIn zs z → P x y → Q x z ↔ R y z) → AllZip P xs ys
-    → AllZip Q xs zs ↔ AllZip R ys zs
-zipped_alike P Q R [] [] [] f h = (λ k. k, λ k. k)
-zipped_alike P Q R [] [] (z ∷ zs) f h = (λ k. k, λ k. k)
-zipped_alike P Q R [] (y ∷ ys) zs f h = absurd h
-zipped_alike P Q R (x ∷ xs) [] zs f h = absurd h
-zipped_alike P Q R (x ∷ xs) (y ∷ ys) [] f h = (λ k. k, λ k. k)
-zipped_alike P Q R (x ∷ xs) (y ∷ ys) (z ∷ zs) f h = grind (arith, nat_tests, zipped_alike P Q R xs ys zs)
-
--- a body that stands for an option stands for those that are alike, and for no others
-stands-alike : (p : Named) → IsSound p → (words : List (List ℕ)) (q o : ℕ) → IsOption p.puzzle q → IsOption p.puzzle o
-    → IsTrue (stands_for p words q) → IsTrue (stands_for p words o) ↔ alike p.puzzle q o ≡ true
-stands-alike p r words q o x y h =
+-- bodies that stand for options stand for those that are alike, and for no others
+stand-alike : (p : Named) → IsSound p → (bodies : List (List (List ℕ))) (reps s : List ℕ) → AreKnown p.puzzle reps
+    → AreKnown p.puzzle s → StandFor p bodies reps → StandFor p bodies s ↔ AreAlike (alike p.puzzle) reps s
+stand-alike p r (words ∷ bodies) (q ∷ reps) (o ∷ s) a b h =
+    let later = stand-alike p r bodies reps s a.1 b.1 h.1 in
     grind (arith, option-differs, body-class, option-known, same_uses-itself, body-alike, same_uses-are)
+stand-alike p r [] (q ∷ reps) _ a b h = absurd h
+stand-alike p r (words ∷ bodies) [] _ a b h = absurd h
+stand-alike p r _ _ _ a b h = (λ k. k, λ k. k)
 
 -- options that are alike, each beside the other
 module _ (p : Puzzle) (v : IsValid p) (reps s : List ℕ) (known : AreKnown p s) (z : AreAlike (alike p) reps s) where
@@ -91,9 +83,8 @@ module _ (p : Puzzle) (v : IsValid p) (reps s : List ℕ) (known : AreKnown p s)
   gathered-alike i =
       by_pairs (λ q o. alike p q o ≡ true) (λ qs os. AreKnown p os → gathered p i qs ≡ gathered p i os) (λ k. refl)
       (λ q o qs os h later k.
-      let differ = option-differs p v o (k o (inl refl)) in
-      let same = colour-alike (uses_of p q) (uses_of p o) i differ (same_uses-are _ _ h) in
-      ap₂ cons_option same (later (λ x m. k x (inr m)))) reps s z known
+      let same = colour-alike (uses_of p q) (uses_of p o) i (option-differs p v o k.0) (same_uses-are _ _ h) in
+      ap₂ cons_option same (later k.1)) reps s z known
 
   held-alike : (i : ℕ) → times_held p i reps ≡ times_held p i s
   held-alike i = sym (length-gathered p i reps) ∙ ap length (gathered-alike i) ∙ length-gathered p i s
@@ -102,8 +93,8 @@ module _ (p : Puzzle) (v : IsValid p) (reps s : List ℕ) (known : AreKnown p s)
   classes_of_cover c = record {
     asked =
         λ r.
-        let within = count_within (alike p r) s (numbers p) apart (λ o k e. numbers-in p o (known o k)) in
-        omega (arith, within, count_alike (alike p) (alike-classes p) r reps s z, is_counted);
+        let within = count_within (alike p r) s (numbers p) apart (λ o k e. numbers-in p o (each_in _ _ _ known k)) in
+        omega (arith, within, count_alike (alike p) (alike-classes p) r reps s z, is_counted {X = ℕ});
     within = λ i b e. rw (held-alike i) (c.within i b e);
     agree = λ j k q r i x y l e f second.
         agree-gathered p i reps (rw (gathered-alike i) (agree i second)) j k q r x y l e f;
@@ -119,7 +110,7 @@ module _ (p : Puzzle) (v : IsValid p) (reps s : List ℕ) (known : AreKnown p s)
 
   pub cover_of_classes : AreApart s → IsCoverOfClasses p reps → IsCover p s
   cover_of_classes apart c = record {
-    known = All-from_recursion (IsOption p) s (each_from (IsOption p) s known);
+    known = All-from_recursion (IsOption p) s known;
     distinct = AllPairs-from_each_two (λ (a b : ℕ). a ≢ b) s apart;
     within = λ i b e. rw (held-alike i) at (c.within i b e);
     agree = λ o u i x y in_o in_u ne second e f.
@@ -139,22 +130,14 @@ pub classes_decide : (p : Named) (bodies : List (List (List ℕ))) (reps : List 
     IsListedCover p bodies ↔ IsCoverOfClasses p.puzzle reps
 classes_decide p bodies reps r all h = (
   λ (g : IsListedCover p bodies).
-      let s : AreKnown p.puzzle g.0 = λ o k. each_in _ _ _ (recursion_from_All (IsOption p.puzzle) g.0 g.2.known) k in
-      classes_of_cover p.puzzle r.valid reps g.0 s ((stand-alike g.0 s).0 g.1) g.2,
+      let s = recursion_from_All (IsOption p.puzzle) g.0 g.2.known in
+      classes_of_cover p.puzzle r.valid reps g.0 s ((stand-alike p r _ reps g.0 all s h).0 g.1) g.2,
   λ c.
       let g = give (alike p.puzzle) (alike-classes p.puzzle) (numbers p.puzzle) (range-apart 1 (option_count p.puzzle))
-      reps (λ q k. omega (arith, c.asked q, is_counted)) in
-      let s : AreKnown p.puzzle g.0 = λ o k. in-numbers p.puzzle o (g.1.known o k) in (
+      reps (λ q k. omega (arith, c.asked q, is_counted {X = ℕ})) in
+      let s = each_weaker (IsIn (numbers p.puzzle)) (IsOption p.puzzle) g.0 (numbered p.puzzle) g.1.known in (
         g.0,
-        (stand-alike g.0 s).1 g.1.alike,
+        (stand-alike p r _ reps g.0 all s h).1 g.1.alike,
         cover_of_classes p.puzzle r.valid reps g.0 s g.1.alike g.1.apart c,
       ),
 )
-  where
-    a : AreKnown p.puzzle reps
-    a o k = each_in (IsOption p.puzzle) reps o all k
-
-    stand-alike : (s : List ℕ) → AreKnown p.puzzle s
-        → StandFor p (filter (is_known p) bodies) s ↔ AreAlike (alike p.puzzle) reps s
-    stand-alike s b = zipped_alike _ _ _ (filter (is_known p) bodies) reps s
-        (λ words q o in_q in_o. stands-alike p r words q o (a q in_q) (b o in_o)) h

@@ -3,12 +3,12 @@
 use Rattle.std.proofs.lemmas.Grind.{common_steps}
 use Rattle.std.proofs.lemmas.Bool.Decides.{nat_tests}
 use Rattle.std.proofs.lemmas.Bool.{cases_Bool}
-use Rattle.std.proofs.Common.{ℕ, ◌≡◌, ◌≢◌, ◌+◌, ◌<◌, ◌≤◌, Bool, true, cond, not, ◌==◌, List, [], ◌∷◌}
-use Rattle.std.proofs.Common.{length, filter, refl, sym, ◌∙◌, arith, subst, inl}
+use Rattle.std.proofs.Common.{[], ℕ, ◌≡◌, ◌≢◌, ◌+◌, ◌<◌, ◌≤◌, Bool, true, cond, not, ◌==◌, List, ◌∷◌}
+use Rattle.std.proofs.Common.{filter, refl, sym, arith, subst, inl}
 use Rattle.std.proofs.Common.{inr, eq-eqb, ◌&&◌, eqb-true}
 use Rattle.std.specs.Prelude.{count_by}
-use Rattle.std.specs.List.{AllZip, list_any}
-use Rattle.std.proofs.lemmas.List.Sums.{length-filter}
+use Rattle.std.specs.List.{AllZip, AllByRecursion, list_any}
+use Rattle.std.proofs.lemmas.List.Recursion.{is_count_by}
 use Rattle.xc_input.proofs.lists.Members.{IsIn, each_from, each_in, filter-in}
 use Rattle.xc_input.proofs.lists.EachTwo.{EachTwo}
 use Rattle.xc_list.proofs.CheckLemmas.BesideLists.{by_pairs}
@@ -19,19 +19,12 @@ abbrev pub counted : {X : Type 0} → (X → Bool) → List X → ℕ
 counted p [] = 0
 counted p (x ∷ xs) = cond (p x) 1 0 + counted p xs
 
-pub counted-length : {X : Type 0} (p : X → Bool) (xs : List X) → length (filter p xs) ≡ counted p xs
-counted-length p [] = refl
-counted-length p (x ∷ xs) = grind (arith, nat_tests, counted-length p xs)
-
-pub is_counted : (p : ℕ → Bool) (xs : List ℕ) → count_by p xs ≡ counted p xs
-is_counted p xs = sym (length-filter p xs) ∙ counted-length p xs
+pub is_counted : {X : Type 0} (p : X → Bool) (xs : List X) → count_by p xs ≡ counted p xs
+is_counted p xs = sym (is_count_by (counted p) p refl (λ x xs. grind (arith, nat_tests)) xs)
 
 pub counted_some : {X : Type 0} (p : X → Bool) (xs : List X) → 0 < counted p xs → (x : X) × IsIn xs x × (p x ≡ true)
 counted_some p [] l = absurd (omega (arith, l))
-counted_some p (x ∷ xs) l = elim (cases_Bool (p x)) [
-  | inl e ↦ (x, inl refl, e)
-  | inr e ↦ let later = counted_some p xs (omega (arith, rw e at l)) in (later.0, inr later.1, later.2)
-]
+counted_some p (x ∷ xs) l = grind (arith, nat_tests, counted_some p xs)
 
 pub count_filter_le : (q t : ℕ → Bool) (xs : List ℕ) → counted q (filter t xs) ≤ counted q xs
 count_filter_le q t [] = omega arith
@@ -83,21 +76,19 @@ spare q all s d l =
       | inl e ↦
           let o = in-any free all e in
           (o.0, o.1, grind (arith, nat_tests, o.2), grind (arith, nat_tests, o.2, any-in))
-      | inr e ↦ absurd (omega (
-        arith,
-        l,
-        count_within q all s d (λ x k h. grind (arith, common_steps, any-in, in-any, eqb-true)),
-      ))
+      | inr e ↦
+          let within = count_within q all s d (λ x k h. grind (arith, common_steps, any-in, in-any, eqb-true)) in
+          absurd (omega (arith, l, within))
     ]
 
 pub record IsGiving (same : ℕ → ℕ → Bool) (all reps s : List ℕ) : Type 0 where
   pub alike : AreAlike same reps s
-  pub known : (o : ℕ) → IsIn s o → IsIn all o
+  pub known : AllByRecursion (IsIn all) s
   pub apart : AreApart s
 
 pub give : (same : ℕ → ℕ → Bool) → IsLikeness same → (all : List ℕ) → AreApart all → (reps : List ℕ) →
     ((r : ℕ) → IsIn reps r → counted (same r) reps ≤ counted (same r) all) → (s : List ℕ) × IsGiving same all reps s
-give same classes all d [] h = ([], record { alike = tt; known = λ o k. absurd k; apart = tt })
+give same classes all d [] h = ([], record { alike = tt; known = tt; apart = tt })
 give same classes all d (r ∷ reps) h =
     let later = give same classes all d reps (λ q k. omega (arith, h q (inr k))) in
     let asked : cond true 1 0 + counted (same r) reps ≤ counted (same r) all = grind (arith, common_steps) in
@@ -106,7 +97,7 @@ give same classes all d (r ∷ reps) h =
       o.0 ∷ later.0,
       record {
         alike = (o.2, later.1.alike);
-        known = λ x k. elim k [ inl q ↦ subst (λ v. IsIn all v) q o.1 | inr q ↦ later.1.known x q ];
+        known = (o.1, later.1.known);
         apart = (each_from _ later.0 (λ x k q. o.3 (subst (λ v. IsIn later.0 v) (sym q) k)), later.1.apart);
       },
     )

@@ -1,12 +1,12 @@
 -- Classes found by their uses.
 use Rattle.std.proofs.lemmas.Grind.{common_steps}
 use Rattle.xc_list.specs.inner.Classes.{same_uses}
-use Rattle.std.proofs.Common.{ℕ, suc, ◌≡◌, ◌<◌, if◌then◌else◌, Option, true, false, List, [], ◌∷◌, ◌++◌, length}
+use Rattle.std.proofs.Common.{[], ℕ, suc, ◌≡◌, ◌<◌, if◌then◌else◌, Option, true, false, List, ◌∷◌, ◌++◌, length}
 use Rattle.std.proofs.Common.{map, get_or, position, Some, None, refl, sym, ap, ◌∙◌, arith, subst}
 use Rattle.std.specs.Prelude.{Vec, slice_get, unwrap_or}
 use Rattle.std.specs.List.{list_any}
 use Rattle.std.specs.declared.alloc.Global.{Global}
-use Rattle.std.proofs.lemmas.List.{append-nil}
+use Rattle.std.proofs.lemmas.List.{append-nil, length-map}
 use Rattle.std.proofs.lemmas.List.Quantifiers.{position-Some}
 use Rattle.std.proofs.lemmas.Option.{slice_get-get_or, slice_get_within}
 use Rattle.xc_input.specs.declared.problem.Use.{Use}
@@ -29,14 +29,11 @@ use Rattle.std.proofs.lemmas.Option.{same_Some}
 
 -- uses that are found among the keys
 pub found-key : (us : List Use) (keys : List (Vec Use Global)) (k : ℕ)
-    → position (λ v. same_uses us v.items) keys ≡ Some k → (k < length (key_uses keys))
-    × (slice_get (key_uses keys) k ≡ Some us)
+    → position (λ v. same_uses us v.items) keys ≡ Some k → slice_get (key_uses keys) k ≡ Some us
 found-key us keys k e =
     let at =
-    position-Some (same_uses us) (key_uses keys) k [] (position-map (same_uses us) (λ v. v.items) keys ∙ e) in (
-      at.0,
-      cc (slice_get-get_or (key_uses keys) k [] at.0, (uses-same us (get_or (key_uses keys) k [])).0 at.1),
-    )
+    position-Some (same_uses us) (key_uses keys) k [] (position-map (same_uses us) (λ v. v.items) keys ∙ e) in
+    cc (slice_get-get_or (key_uses keys) k [] at.0, (uses-same us (get_or (key_uses keys) k [])).0 at.1)
 
 -- uses that aren't
 pub lost-key : (us : List Use) (keys : List (Vec Use Global)) → position (λ v. same_uses us v.items) keys ≡ None
@@ -57,8 +54,8 @@ new-uses keys k all us e f g =
     cc (g, here, map-snoc (λ (v : Vec Use Global). v.items) keys k, f)
 
 -- an option that a body stands for
-known-as : (p : Named) → IsSound p → (words : List (List ℕ)) → is_known p words ≡ true → (o : ℕ) × IsOption p.puzzle o
-    × (k : ℕ) × HaveWords p words (rotated_at k (uses_of p.puzzle o))
+pub known-as : (p : Named) → IsSound p → (words : List (List ℕ)) → is_known p words ≡ true → (o : ℕ)
+    × IsOption p.puzzle o × (k : ℕ) × HaveWords p words (rotated_at k (uses_of p.puzzle o))
 known-as p s words h =
     let x = in-any (is_body p words) p.puzzle.options h in
     let at = slice_get-in p.puzzle.options x.0 x.1 in
@@ -87,13 +84,13 @@ module _ (p : Named) (keys : List (Vec Use Global)) (counts : List ℕ) (b : IsO
 
   -- a body of uses of this class
   pub its-class : (words : List (List ℕ)) (us : List Use) (k : ℕ) → HaveWords p words us → 0 < length us
-      → (k < length (key_uses keys)) × (slice_get (key_uses keys) k ≡ Some (class_of us))
+      → slice_get (key_uses keys) k ≡ Some (class_of us)
       → IsClassOfBody (record { problem = p; classes = key_uses keys }) words (Some k)
   its-class words us k have l at = (
-    at.0,
+    slice_get_within (key_uses keys) k (class_of us) at,
     λ o h. (
         let vs = uses_of p.puzzle o in
-        let class = same_Some _ _ (sym at.1 ∙ h.1) in
+        let class = same_Some _ _ (sym at ∙ h.1) in
         let j = turned-alike us vs 0 (option-differs p.puzzle b.sound.valid o h.0) class l in
         is-body p words vs j.0 j.1 (ap (map (use_word p)) (sym j.2 ∙ append-nil us) ∙ have.words_so)),
   )
@@ -104,9 +101,8 @@ module _ (p : Named) (keys : List (Vec Use Global)) (counts : List ℕ) (b : IsO
       → IsClassOfBody (record { problem = p; classes = key_uses keys }) words r
   class-found words us class None have l e f = grind (arith, no-class, lost-key)
   class-found words us class (Some k) have l e f =
-      let at = found-key class keys k (sym f) in its-class words us k have l (at.0, at.1 ∙ ap (λ x. Some x) e)
+      its-class words us k have l (found-key class keys k (sym f) ∙ ap (λ x. Some x) e)
 
 -- a text's words are some
 pub some-uses : (p : Named) (text : List ℕ) (us : List Use) → HaveWords p (words_in text) us → 0 < length us
-some-uses p text [] h = absurd (omega (arith, some_words text, ap length h.words_so))
-some-uses p text (u ∷ us) h = omega arith
+some-uses p text us h = omega (arith, length-map us (use_word p), ap length h.words_so, some_words text)

@@ -1,5 +1,6 @@
 -- The colours that options give an item, in turn: they agree where those of each two options do.
-use Rattle.std.proofs.Common.{ℕ, ◌≡◌, ◌<◌, List, [], ◌∷◌, length, Option, Some, None, is_some, refl, sym, ◌∙◌, arith}
+use Rattle.std.proofs.lemmas.List.Recursion.{is_count_by}
+use Rattle.std.proofs.Common.{[], ℕ, ◌≡◌, ◌<◌, List, ◌∷◌, length, Option, Some, None, is_some, refl, arith}
 use Rattle.std.proofs.Common.{subst}
 use Rattle.std.specs.Prelude.{◌↔◌, slice_get}
 use Rattle.std.specs.List.{AllByRecursion, filter_map, cons_option}
@@ -9,30 +10,21 @@ use Rattle.xc_input.specs.Problem.{Puzzle, colour_in, uses_of}
 use Rattle.xc_search.specs.Cover.{times_held}
 use Rattle.xc_input.proofs.lists.EachElement.{each_weaker, each_of_all}
 use Rattle.xc_input.proofs.lists.EachTwo.{EachTwo, EachTwo-at, each_two_from_AllPairs}
-use Rattle.xc_list.proofs.CheckLemmas.DifferentOptions.{counted, is_counted}
 
 -- the colours that these options give item i
 abbrev pub gathered : Puzzle → ℕ → List ℕ → List ℕ
 gathered p i reps = filter_map (λ o. colour_in (uses_of p o) i) reps
 
-length-kept : {X Y : Type 0} (f : X → Option Y) (xs : List X)
-    → length (filter_map f xs) ≡ counted (λ x. is_some (f x)) xs
-length-kept f [] = refl
-length-kept f (x ∷ xs) = grind (arith, nat_tests, length-kept f xs)
-
 pub length-gathered : (p : Puzzle) (i : ℕ) (reps : List ℕ) → length (gathered p i reps) ≡ times_held p i reps
-length-gathered p i reps = length-kept (λ o. colour_in (uses_of p o) i) reps ∙ sym (is_counted _ reps)
+length-gathered p i reps =
+    is_count_by (λ os. length (gathered p i os)) (λ o. is_some (colour_in (uses_of p o) i)) refl
+    (λ o os. grind (arith, nat_tests)) reps
 
 -- what holds of each value, and of each two
 each-kept : {X Y : Type 0} (P : Y → Type 0) (f : X → Option Y) (xs : List X)
     → AllByRecursion (λ x. (y : Y) → f x ≡ Some y → P y) xs ↔ AllByRecursion P (filter_map f xs)
 each-kept P f [] = (λ a. a, λ a. a)
-each-kept {X} {Y} P f (x ∷ xs) = at (f x) (each-kept P f xs)
-  where
-    at : {A : Type 0} (o : Option Y) → (A ↔ AllByRecursion P (filter_map f xs))
-        → (((y : Y) → o ≡ Some y → P y) × A) ↔ AllByRecursion P (cons_option o (filter_map f xs))
-    at None later = (λ a. later.0 a.1, λ a. (λ y q. (cc), later.1 a))
-    at (Some y) later = (λ a. (a.0 y refl, later.0 a.1), λ a. (λ z q. subst P (same_Some y z q) a.0, later.1 a.1))
+each-kept P f (x ∷ xs) = grind (arith, nat_tests, each-kept P f xs)
 
 pub EachTwo-kept : {X Y : Type 0} (R : Y → Y → Type 0) (f : X → Option Y) (xs : List X)
     → EachTwo (λ a b. (c d : Y) → f a ≡ Some c → f b ≡ Some d → R c d) xs ↔ EachTwo R (filter_map f xs)

@@ -1,16 +1,14 @@
 -- What uses add to the counts of their items.
 use Rattle.std.proofs.lemmas.Grind.{common_steps}
-use Rattle.std.proofs.Common.{ℕ, zero, suc, ◌≡◌, ◌≢◌, ◌+◌, ◌-◌, ◌<◌, ◌≤◌, cond, ◌==◌, List, [], ◌∷◌}
-use Rattle.std.proofs.Common.{◌++◌, length, get_or, set, take, refl, ◌∙◌, arith, ne_eqb}
+use Rattle.std.proofs.Common.{[], ℕ, suc, ◌≡◌, ◌+◌, ◌-◌, ◌<◌, ◌≤◌, ◌==◌, List, ◌∷◌}
+use Rattle.std.proofs.Common.{◌++◌, length, get_or, set, refl, ◌∙◌, arith}
 use Rattle.std.specs.List.{AllByRecursion}
-use Rattle.xc_input.proofs.lists.Members.{each_in, in-contains}
-use Rattle.std.proofs.lemmas.List.{get_or-set_same, get_or-set_other, length-set, get_or_past, get_or_default}
+use Rattle.std.proofs.lemmas.List.{get_or-set_same, get_or-set_other, length-set, get_or_past}
 use Rattle.xc_input.specs.declared.problem.Use.{Use}
 use Rattle.xc_list.specs.inner.CoverCounts.{raised, lowered, item_places, added, coloured}
 use Rattle.std.proofs.lemmas.Bool.{cases_lt}
 use Rattle.std.proofs.lemmas.Bool.Decides.{nat_tests}
 use Rattle.xc_list.proofs.CheckLemmas.DifferentOptions.{counted}
-use Rattle.xc_list.proofs.CheckLemmas.Rotations.{DifferInItems}
 
 -- how many of these uses are of item i
 abbrev pub held : ℕ → List Use → ℕ
@@ -37,16 +35,13 @@ pub length-lowered : (ks ns : List ℕ) → length (lowered ks ns) ≡ length ns
 length-lowered [] ns = refl
 length-lowered (k ∷ ks) ns = length-lowered ks (set ns k 0) ∙ length-set ns k 0
 
-once_more : (ns : List ℕ) (j k : ℕ) → k < length ns
-    → get_or (set ns j (get_or ns j 0 + 1)) k 0 ≡ get_or ns k 0 + cond (j == k) 1 0
-once_more ns j k l = grind (arith, nat_tests, get_or-set_same, get_or-set_other)
-
 pub raised-at : (ks ns : List ℕ) (k : ℕ) → k < length ns
     → get_or (raised ks ns) k 0 ≡ get_or ns k 0 + counted (λ j. j == k) ks
 raised-at [] ns k l = omega arith
 raised-at (j ∷ ks) ns k l =
     let n = get_or ns j 0 + 1 in
-    omega (arith, raised-at ks (set ns j n) k (omega (arith, l, length-set ns j n)), once_more ns j k l)
+    let later = raised-at ks (set ns j n) k (omega (arith, l, length-set ns j n)) in
+    grind (arith, nat_tests, get_or-set_same, get_or-set_other)
 
 -- at a place behind all of them too
 pub raised-most : (ks ns : List ℕ) (k : ℕ) → get_or (raised ks ns) k 0 ≤ get_or ns k 0 + counted (λ j. j == k) ks
@@ -71,24 +66,3 @@ held-places n (u ∷ us) k a = grind (arith, nat_tests, held-places n us k a.1)
 pub added-at : (n : ℕ) (us : List Use) (ts : List ℕ) (k : ℕ) → AreItems n us → n ≡ length ts → k < n
     → get_or (added us ts) k 0 ≡ get_or ts k 0 + held (suc k) us
 added-at n us ts k a e l = grind (arith, common_steps, raised-at, held-places)
-
--- ---- different items
-
-pub held_none : (i : ℕ) (us : List Use) → AllByRecursion (λ u. i ≢ u.item) us → held i us ≡ 0
-held_none i [] a = refl
-held_none i (u ∷ us) a = grind (arith, nat_tests, held_none i us a.1)
-
-pub held_once : (i : ℕ) (us : List Use) → DifferInItems us → held i us ≤ 1
-held_once i [] d = omega arith
-held_once i (u ∷ us) d = grind (arith, nat_tests, held_once i us d.1, held_none u.item us d.0)
-
--- the item of a use isn't held by those before it
-pub not_before : (us : List Use) (k : ℕ) (d : Use) → DifferInItems us → k < length us
-    → held (get_or us k d).item (take k us) ≡ 0
-not_before [] k d a l = absurd (omega (arith, l))
-not_before (u ∷ us) zero d a l = refl
-not_before (u ∷ us) (suc k) d a l =
-    let x = get_or us k d in
-    let m : k < length us = omega (arith, l) in
-    let apart = each_in (λ v. u.item ≢ v.item) us x a.0 (in-contains us x (k, m, get_or_default us k x d m)) in
-    rw (ne_eqb _ _ apart) (omega (arith, not_before us k d a.1 m))

@@ -1,30 +1,30 @@
 -- The colours that options give an item, in turn.
 use Rattle.std.proofs.lemmas.Grind.{common_steps}
-use Rattle.std.proofs.Common.{◌≤◌}
+use Rattle.std.proofs.Common.{[], ◌≤◌}
 use Rattle.std.proofs.lemmas.Bool.Decides.{nat_tests}
 use Rattle.std.proofs.Common.{ℕ, suc, ◌≡◌, ◌≢◌, ◌-◌, ◌<◌, ◌==◌, List}
-use Rattle.std.proofs.Common.{[], ◌∷◌, ◌++◌, length, map, filter, get_or, set, Some, None, refl, sym}
+use Rattle.std.proofs.Common.{◌∷◌, ◌++◌, length, map, filter, get_or, set, Some, None, refl, sym}
 use Rattle.std.proofs.Common.{◌∙◌, arith, subst}
-use Rattle.std.proofs.Common.{eq-eqb}
 use Rattle.std.specs.Prelude.{Option}
+use Rattle.std.proofs.lemmas.List.Sums.{length-filter}
 use Rattle.std.specs.List.{AllByRecursion, AllZip}
-use Rattle.std.proofs.lemmas.List.{get_or-set_same, get_or-set_other, length-set, length-map, map-append}
+use Rattle.std.proofs.lemmas.List.{get_or-set_same, length-set, length-map, map-append}
 use Rattle.xc_input.specs.declared.problem.Use.{Use}
 use Rattle.xc_input.specs.Problem.{colour_in, uses_of}
 use Rattle.xc_input.specs.Named.{IsSound}
 use Rattle.xc_input.proofs.lists.EachTwo.{EachTwo}
 use Rattle.xc_input.proofs.lists.EachElement.{each_weaker}
-use Rattle.xc_input.proofs.lists.Members.{each_in, each_from, map-in, filter-in}
 use Rattle.std.proofs.lemmas.List.Elements.{filter-append}
 use Rattle.xc_list.specs.inner.Classes.{Classes, IsOfClass, class_at}
 use Rattle.xc_list.specs.inner.CoverCounts.{coloured, uses_in}
-use Rattle.xc_list.proofs.CheckLemmas.DifferentOptions.{counted-length}
+use Rattle.xc_list.proofs.CheckLemmas.DifferentOptions.{is_counted}
 use Rattle.xc_list.proofs.CheckLemmas.Rotations.{DifferInItems, differ-turned, colour-class}
 use Rattle.xc_list.proofs.CheckLemmas.DecidedByClasses.{option-differs}
 use Rattle.xc_list.proofs.CheckLemmas.ListedNumbers.{last_or}
 use Rattle.xc_list.proofs.CheckLemmas.HeldItems.{AreItems, held}
 use Rattle.std.proofs.lemmas.Option.{get_or_from_slice_get}
 use Rattle.xc_list.proofs.CheckLemmas.BesideLists.{by_pairs}
+use Rattle.xc_search.proofs.Cases.{by_option}
 use Rattle.std.specs.List.{cons_option}
 use Rattle.std.specs.Prelude.{◌↔◌}
 use Rattle.std.proofs.lemmas.Bool.{leb-true, le-leb}
@@ -39,7 +39,8 @@ abbrev pub given : ℕ → List Use → List ℕ
 given i us = map (λ u. u.colour) (filter (λ u. u.item == i) us)
 
 pub length-given : (i : ℕ) (us : List Use) → length (given i us) ≡ held i us
-length-given i us = length-map (filter (λ u. u.item == i) us) (λ u. u.colour) ∙ counted-length (λ u. u.item == i) us
+length-given i us =
+    length-map _ (λ u. u.colour) ∙ length-filter (λ u. u.item == i) us ∙ is_counted (λ u. u.item == i) us
 
 given-append : (i : ℕ) (us vs : List Use) → given i (us ++ vs) ≡ given i us ++ given i vs
 given-append i us vs = simp (filter-append, map-append)
@@ -49,15 +50,9 @@ pub coloured-at : (n : ℕ) (us : List Use) (cs : List ℕ) (k : ℕ) → AreIte
     → get_or (coloured us cs) k 0 ≡ last_or (get_or cs k 0) (given (suc k) us)
 coloured-at n [] cs k a e l = refl
 coloured-at n (u ∷ us) cs k a e l =
-    grind (
-      arith,
-      common_steps,
-      length-set,
-      get_or-set_same,
-      get_or-set_other,
-      nat_tests,
-      coloured-at n us (set cs (u.item - 1) u.colour) k a.1 (e ∙ sym (length-set cs (u.item - 1) u.colour)) l,
-    )
+    let size = e ∙ sym (length-set cs (u.item - 1) u.colour) in
+    let later = coloured-at n us (set cs (u.item - 1) u.colour) k a.1 size l in
+    grind (arith, common_steps, get_or-set_same)
 
 -- ---- uses and options
 
@@ -66,13 +61,13 @@ given_none i [] a = refl
 given_none i (u ∷ us) a = grind (arith, nat_tests, given_none i us a.1)
 
 -- uses of different items
-given_once : (i : ℕ) (us : List Use) → DifferInItems us → given i us ≡ cons_option (colour_in us i) []
-given_once i [] d = refl
-given_once i (u ∷ us) d = grind (arith, nat_tests, given_once i us d.1, given_none u.item us d.0)
+given_once : (i : ℕ) (us : List Use) (cs : List ℕ) → DifferInItems us
+    → given i us ++ cs ≡ cons_option (colour_in us i) cs
+given_once i [] cs d = refl
+given_once i (u ∷ us) cs d = grind (arith, nat_tests, given_once i us cs d.1, given_none u.item us d.0)
 
-cons_option-append : (c : Option ℕ) (cs : List ℕ) → cons_option c [] ++ cs ≡ cons_option c cs
-cons_option-append None cs = refl
-cons_option-append (Some c) cs = refl
+pub held_once : (i : ℕ) (us : List Use) → DifferInItems us → held i us ≤ 1
+held_once i us d = let once = given_once i us [] d in grind (arith, common_steps, length-given, by_option)
 
 pub given-gathered : (i : ℕ) (b : Classes) (ks reps : List ℕ) → IsSound b.problem → AllZip (IsOfClass b) ks reps
     → given i (uses_in b.classes ks) ≡ gathered b.problem.puzzle i reps
@@ -80,14 +75,10 @@ given-gathered i b ks reps s =
     let p = b.problem.puzzle in
     by_pairs (IsOfClass b) (λ js os. given i (uses_in b.classes js) ≡ gathered p i os) refl (λ j o js os h later.
     let differ = option-differs p s.valid o h.0 in
-    let own = given_once i (class_at p o) (differ-turned _ _ differ) in
+    let own = given_once i (class_at p o) (gathered p i os) (differ-turned _ _ differ) in
     let same = colour-class i (uses_of p o) differ in
     let at = get_or_from_slice_get b.classes j (class_at p o) [] h.1 in
-    cc (
-      given-append i (uses_at b.classes j) (uses_in b.classes js),
-      cons_option-append (colour_in (uses_of p o) i)
-          (gathered p i os),
-    )) ks reps
+    cc (given-append i (uses_at b.classes j) (uses_in b.classes js))) ks reps
 
 -- ---- each colour
 
@@ -96,10 +87,6 @@ pub given-each : (P : ℕ → Type 0) (i : ℕ) (us : List Use) → AllByRecursi
     → AllByRecursion P (given i us)
 given-each P i [] a = tt
 given-each P i (u ∷ us) a = grind (arith, nat_tests, given-each P i us a.1)
-
-pub each-given : (P : ℕ → Type 0) (i : ℕ) (us : List Use) → AllByRecursion P (given i us)
-    → AllByRecursion (λ u. u.item ≡ i → P u.colour) us
-each-given P i us a = each_from _ _ (λ u k e. each_in _ _ _ a (map-in _ _ _ (filter-in _ _ _ k (eq-eqb u.item i e))))
 
 -- ---- colours that agree
 

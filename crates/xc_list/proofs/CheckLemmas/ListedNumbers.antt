@@ -1,8 +1,8 @@
 -- Numbers in a row, and what stands at a number.
 use Rattle.std.proofs.lemmas.Grind.{common_steps}
 use Rattle.std.proofs.lemmas.Bool.Decides.{nat_tests}
-use Rattle.std.proofs.Common.{ℕ, zero, suc, ◌≡◌, ◌≢◌, ◌⊎◌, ◌+◌, ◌<◌, ◌≤◌, Bool, true, ◌||◌, List, [], ◌∷◌}
-use Rattle.std.proofs.Common.{length, get_or, Some, sym, ap, ◌∙◌, arith, inl, inr}
+use Rattle.std.proofs.Common.{[], ℕ, zero, suc, ◌≡◌, ◌≢◌, ◌+◌, ◌<◌, ◌≤◌, Bool, true, ◌||◌, List, ◌∷◌}
+use Rattle.std.proofs.Common.{length, Some, sym, ap, ◌∙◌, arith, inl, inr}
 use Rattle.std.specs.Prelude.{slice_get, unwrap_or, All, AllPairs}
 use Rattle.std.specs.List.{list_any, range_with_len}
 use Rattle.std.proofs.lemmas.Bool.{cases_lt, cases_eq}
@@ -59,15 +59,11 @@ at_bytes P texts i h l all = at_number P texts i (bytes_at texts i) all (numbere
 -- an element stands at one place where none stands twice
 pub one_place : {X : Type 0} (xs : List X) (j k : ℕ) (x : X) → AllPairs (λ a b. a ≢ b) xs → slice_get xs j ≡ Some x
     → slice_get xs k ≡ Some x → j ≡ k
-one_place xs j k x apart e f = by_order (cases_lt j k) (cases_lt k j)
-  where
-    at : (i : ℕ) → slice_get xs i ≡ Some x → get_or xs i x ≡ x
-    at i g = get_or_from_slice_get xs i x x g
-
-    by_order : (j < k) ⊎ (k ≤ j) → (k < j) ⊎ (j ≤ k) → j ≡ k
-    by_order (inl l) m = absurd (apart j k x l (slice_get_within xs k x f) (at j e ∙ sym (at k f)))
-    by_order (inr l) (inl m) = absurd (apart k j x m (slice_get_within xs j x e) (at k f ∙ sym (at j e)))
-    by_order (inr l) (inr m) = omega (arith, l, m)
+one_place xs j k x apart e f =
+    let same = get_or_from_slice_get xs j x x e ∙ sym (get_or_from_slice_get xs k x x f) in
+    let before = apart j k x in
+    let behind = apart k j x in
+    grind (arith, cases_lt j k, cases_lt k j, slice_get_within)
 
 pub one_number : {X : Type 0} (xs : List X) (i j : ℕ) (x : X) → AllPairs (λ a b. a ≢ b) xs → numbered_get xs i ≡ Some x
     → numbered_get xs j ≡ Some x → i ≡ j

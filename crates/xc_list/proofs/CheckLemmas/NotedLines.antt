@@ -1,8 +1,9 @@
 -- Lines that were met, and their classes.
+use Rattle.std.proofs.lemmas.Option.{IfSome_then}
 use Rattle.std.proofs.Common.{ℕ, ◌≡◌, ◌<◌, ◌∙◌, length, List, Option, Some, None, get_or, eqb-true, eq-eqb, ◌==◌, true}
 use Rattle.std.proofs.Common.{refl, sym, inl, inr}
 use Rattle.std.specs.Prelude.{All, IfSome}
-use Rattle.std.proofs.lemmas.List.Elements.{All-set, All-contains}
+use Rattle.std.proofs.lemmas.List.Elements.{All-set}
 use Rattle.std.proofs.lemmas.Slice.Eq.{slice_eq-Decides}
 use Rattle.std.specs.Cmp.Lexicographic.{pointwise}
 use Rattle.xc_list.specs.declared.checker.seen_lines.SeenLine.{SeenLine}
@@ -21,20 +22,9 @@ found-at lines place l line text within at equal is =
     some None f = tt
     some (Some k) f = f k refl
 
--- what is found is right
-pub found-rightly : (b : Classes) (lines : List SeenLine) (line : List ℕ) (r : Option ℕ) → All (IsRightly b) lines
-    → IfSome r (IsFoundIn lines line) → IfSome r (IsClassOfLine b line)
-found-rightly b lines line None all h = tt
-found-rightly b lines line (Some k) all h = rw (h.3, h.2) at (All-contains (IsRightly b) lines h.0 all h.1)
-
-rightly : (b : Classes) (l : SeenLine) (line : List ℕ) (class : ℕ) (o : Option ℕ) → IsClassOfLine b line class
-    → IfSome o (λ k. (k ≡ class) × (l.line.items ≡ line)) → IfSome o (IsClassOfLine b l.line.items)
-rightly b l line class None is h = tt
-rightly b l line class (Some k) is h = rw (h.1, h.0) is
-
 -- what is noted rightly stays right
 pub noted-rightly : (b : Classes) (old new : List SeenLine) (line : List ℕ) (class : ℕ) → IsClassOfLine b line class
     → IsNotedIn old line class new → All (IsRightly b) old → All (IsRightly b) new
 noted-rightly b old new line class is (inl same) all = rw same all
 noted-rightly b old new line class is (inr h) all =
-    rw h.3 (All-set (IsRightly b) old h.0 h.1 (rightly b h.1 line class h.1.class is h.2) all)
+    rw h.3 (All-set (IsRightly b) old h.0 h.1 (IfSome_then h.1.class h.2 (λ k s. rw (s.1, s.0) is)) all)

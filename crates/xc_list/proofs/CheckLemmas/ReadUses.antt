@@ -1,11 +1,13 @@
 -- The uses that have a body's words.
 use Rattle.std.proofs.lemmas.Bool.{cases_Bool}
 use Rattle.std.proofs.lemmas.Bool.Decides.{nat_tests}
-use Rattle.std.proofs.Common.{ℕ, zero, suc, ◌≡◌, ◌<◌, ◌≤◌, true, false, List, [], ◌∷◌, ◌++◌, length, map}
+use Rattle.std.proofs.Common.{[], ℕ, zero, suc, ◌≡◌, ◌<◌, ◌≤◌, true, false, List, ◌∷◌, ◌++◌, length, map}
 use Rattle.std.proofs.Common.{Option, MatchOption, Bor, Some, None, refl, sym, ap, ◌∙◌, arith, append-nil}
 use Rattle.xc_list.specs.inner.LineParts.{colour_text}
 use Rattle.std.specs.Prelude.{All}
-use Rattle.std.proofs.lemmas.List.Elements.{All-head, All-tail}
+use Rattle.std.proofs.lemmas.List.Elements.{All-contains}
+use Rattle.std.proofs.Common.{inl}
+use Rattle.xc_input.proofs.lists.Members.{IsIn, in-map, append-in_right, contains-in}
 use Rattle.xc_input.specs.declared.problem.Use.{Use}
 use Rattle.xc_input.specs.Problem.{numbered_get}
 use Rattle.xc_input.specs.Named.{Named, IsName, IsKnownUse, IsSound}
@@ -65,17 +67,14 @@ one_word p s u v a b e = grind (arith, parts, one_number, cases_Bool, has)
 abbrev pub AreRead : Named → List ℕ → List ℕ → List Use → Type 0
 AreRead p body text us = All (IsKnownUse p) us × (map (use_word p) us ++ words_in text ≡ words_in body)
 
-word-at : (p : Named) (vs : List Use) (a : List (List ℕ)) (w : List ℕ) (b : List (List ℕ)) → All (IsKnownUse p) vs
-    → map (use_word p) vs ≡ a ++ w ∷ b → (u : Use) × IsKnownUse p u × (use_word p u ≡ w)
-word-at p [] [] w b all e = cc
-word-at p [] (v ∷ a) w b all e = cc
-word-at p (u ∷ vs) [] w b all e = (u, All-head (IsKnownUse p) u vs all, cc)
-word-at p (u ∷ vs) (v ∷ a) w b all e = word-at p vs a w b (All-tail (IsKnownUse p) u vs all) cc
-
 -- no uses have the words of the body where none has a word of it
 pub read-none : (p : Named) (body text word : List ℕ) (words : List (List ℕ)) (us : List Use) → AreRead p body text us
     → words_in text ≡ word ∷ words → IsUseOfWord p word None → (vs : List Use) → HaveWords p (words_in body) vs → ⊥
-read-none p body text word words us r e h vs have = grind (arith, nat_tests, word-at)
+read-none p body text word words us r e h vs have =
+    let here : IsIn (map (use_word p) us ++ word ∷ words) word =
+    append-in_right (map (use_word p) us) (word ∷ words) word (inl refl) in
+    let at = in-map (use_word p) vs word (rw (have.words_so, ← r.1, e) here) in
+    h at.0 (All-contains (IsKnownUse p) vs at.0 have.known (contains-in vs at.0 at.1)) at.2
 
 -- a cut gives a first word
 pub first_word : (text word : List ℕ) (rest : Option (Bor (List ℕ)))

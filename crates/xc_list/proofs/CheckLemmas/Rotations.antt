@@ -1,6 +1,6 @@
 -- Rotations of uses, and that those of one list have one class: for the classes of the checker.
 use Rattle.std.proofs.lemmas.Grind.{common_steps}
-use Rattle.std.proofs.Common.{ℕ, zero, suc, ◌≡◌, ◌≢◌, ◌+◌, ◌<◌, ◌≤◌, ◌==◌, min, List, [], ◌∷◌, ◌++◌, length}
+use Rattle.std.proofs.Common.{[], ℕ, zero, suc, ◌≡◌, ◌≢◌, ◌+◌, ◌<◌, ◌≤◌, ◌==◌, min, List, ◌∷◌, ◌++◌, length}
 use Rattle.std.proofs.Common.{drop, take, true, inl, inr, is_some, get_or, refl, sym, ap, ◌∙◌, arith, append_assoc}
 use Rattle.std.proofs.Common.{subst, eq-eqb, ne_eqb}
 use Rattle.std.specs.Prelude.{◌↔◌}
@@ -40,10 +40,10 @@ abbrev pub DifferInItems : List Use → Type 0
 DifferInItems us = EachTwo (λ u v. u.item ≢ v.item) us
 
 -- a use of item i is among these
-abbrev Holds : ℕ → List Use → Type 0
+abbrev pub Holds : ℕ → List Use → Type 0
 Holds i us = is_some (colour_in us i) ≡ true
 
-place_held : (i : ℕ) (us : List Use) → Holds i us → place_in i us < length us
+pub place_held : (i : ℕ) (us : List Use) → Holds i us → place_in i us < length us
 place_held i [] h = cc
 place_held i (u ∷ us) h = grind (arith, nat_tests, place_held i us)
 

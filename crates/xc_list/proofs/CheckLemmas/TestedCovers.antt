@@ -1,5 +1,5 @@
 -- Options are a cover exactly where the tests of its conditions say so.
-use Rattle.std.proofs.Common.{ℕ, zero, suc, ◌≡◌, ◌≢◌, ◌+◌, ◌<◌, ◌≤◌, Bool, true, false, List, [], ◌∷◌}
+use Rattle.std.proofs.Common.{[], ℕ, zero, suc, ◌≡◌, ◌≢◌, ◌+◌, ◌<◌, ◌≤◌, Bool, true, false, List, ◌∷◌}
 use Rattle.std.proofs.Common.{Option, Some, None, refl, ap, add-one, arith, inl, inr, eqb-true, eq-eqb}
 use Rattle.std.proofs.Common.{ne_eqb}
 use Rattle.std.specs.Prelude.{All, AllPairs, nat_le, ◌||◌}
@@ -11,11 +11,11 @@ use Rattle.xc_input.specs.declared.problem.Bounds.{Bounds}
 use Rattle.xc_input.specs.Problem.{Puzzle, IsValid, IsItem, IsOption, IsSecondary, IsSoundUse, bounds_at, colour_in}
 use Rattle.xc_input.specs.Problem.{primary_count, uses_of}
 use Rattle.xc_search.specs.Cover.{IsCover, times_held}
-use Rattle.xc_input.proofs.FaultLemmas.BooleanTests.{and_left, and_right}
+use Rattle.xc_input.proofs.FaultLemmas.BooleanTests.{and_left}
 use Rattle.std.proofs.lemmas.Option.{slice_get_within}
 use Rattle.xc_input.proofs.lists.Members.{IsIn, each_in, in-contains, contains-in}
 use Rattle.xc_list.proofs.CheckLemmas.BesideLists.{each-passes, passes-at}
-use Rattle.xc_list.specs.inner.Tested.{is_colour_met, is_use_met, do_agree, is_within, is_held_within}
+use Rattle.xc_list.specs.inner.Tested.{is_colour_met, is_use_met, do_agree, is_held_within}
 use Rattle.xc_list.proofs.CheckLemmas.DecidedByClasses.{option-sound, option-differs}
 use Rattle.xc_list.proofs.CheckLemmas.Rotations.{DifferInItems}
 
@@ -41,13 +41,6 @@ met_colour None c d h q = cc
 colour_met : (o : Option ℕ) (c : ℕ) → ((d : ℕ) → o ≡ Some d → (c ≡ d) × (0 < c)) → is_colour_met o c ≡ true
 colour_met (Some d) c h = grind (arith, nat_tests, h d refl)
 colour_met None c h = refl
-
--- ---- bounds
-
-within_bounds : (o : Option Bounds) (b : Bounds) (t : ℕ) → o ≡ Some b → is_within o t ≡ true → (b.low ≤ t)
-    × (t ≤ b.high)
-within_bounds (Some x) b t e h = grind (arith, nat_tests, and_left, and_right)
-within_bounds None b t e h = cc
 
 -- ---- two options
 
@@ -81,9 +74,6 @@ agree p v a b known h =
         or_else _ _ (λ e. colour_met _ _
         (λ d q. h u.item u.colour d apart (above u sound.0 e) (colour_of_use _ _ differ k) q))
 
--- ---- different numbers
--- a number that stands again behind the first
--- one that doesn't
 -- ---- covers
 
 -- the tests of different options of the problem say that they are a cover
@@ -103,8 +93,7 @@ cover_from_tests p s known apart held all = record {
     within : (i : ℕ) (b : Bounds) → bounds_at p i ≡ Some b → (b.low ≤ times_held p i s) × (times_held p i s ≤ b.high)
     within zero b e = cc
     within (suc k) b e =
-        within_bounds (bounds_at p (suc k)) b (times_held p (suc k) s) e
-        (rw add-one at (held k (slice_get_within p.bounds k b e)))
+        let held_so = rw add-one at (held k (slice_get_within p.bounds k b e)) in grind (arith, nat_tests)
 
 -- and of a cover they say so
 pub tests_of_cover : (p : Puzzle) → IsValid p → (s : List ℕ) → IsCover p s

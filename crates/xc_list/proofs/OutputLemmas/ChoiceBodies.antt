@@ -1,9 +1,7 @@
 -- What the words of a choice stand for.
+use Rattle.xc_list.proofs.CheckLemmas.Rotations.{place_held}
 use Rattle.xc_list.specs.Output.{from_item}
-use Rattle.xc_list.proofs.CheckLemmas.ListedNumbers.{in-any}
-use Rattle.xc_input.proofs.lists.Members.{slice_get-in}
-use Rattle.xc_list.proofs.CheckLemmas.BodiesOfClasses.{body-is}
-use Rattle.std.proofs.lemmas.Bool.Decides.{nat_tests}
+use Rattle.xc_list.proofs.CheckLemmas.FoundClasses.{known-as}
 use Rattle.std.proofs.lemmas.Grind.{common_steps}
 use Rattle.xc_input.proofs.TokenLemmas.Bytes.{not_false}
 use Rattle.xc_list.specs.inner.LineParts.{colour_text}
@@ -12,12 +10,11 @@ use Rattle.xc_list.proofs.CheckLemmas.ListedNumbers.{any-in, at_bytes, numbered_
 use Rattle.xc_list.proofs.CheckLemmas.ReadUses.{plain-word}
 use Rattle.xc_list.proofs.CheckLemmas.DecidedByClasses.{uses-in}
 use Rattle.xc_input.proofs.lists.Members.{in-slice_get}
-use Rattle.std.proofs.Common.{◌≡◌, ◌≢◌, ℕ, zero, suc, ◌<◌, ◌≤◌, true, false, ◌||◌, List}
-use Rattle.std.proofs.Common.{[], ◌∷◌, Option, None, Some, length, map, take, refl, ap, ◌∙◌, arith}
+use Rattle.std.proofs.Common.{[], ◌≡◌, ◌≢◌, ℕ, zero, suc, ◌≤◌, true, false, ◌||◌, List}
+use Rattle.std.proofs.Common.{◌∷◌, Option, None, Some, length, map, take, refl, ap, ◌∙◌, arith}
 use Rattle.std.specs.Prelude.{All, codes, is_some, MatchOption}
 use Rattle.std.specs.List.{list_any}
 use Rattle.std.specs.Str.{bytes_eq}
-use Rattle.std.proofs.lemmas.List.{length-map}
 use Rattle.std.proofs.lemmas.List.Elements.{All-head, recursion_from_All}
 use Rattle.std.specs.List.{AllByRecursion}
 use Rattle.xc_input.proofs.lists.EachElement.{each-map, each_weaker}
@@ -32,9 +29,7 @@ use Rattle.xc_input.specs.Tokens.{is_space}
 use Rattle.xc_input.proofs.GrammarLemmas.NoFault.{and-both}
 use Rattle.xc_input.proofs.ValidLemmas.Known.{at_number, known_option}
 use Rattle.xc_input.proofs.lists.Places.{get_take}
-use Rattle.xc_search.specs.declared.choice.Choice.{Choice}
-use Rattle.xc_list.specs.Known.{IsKnownChoice}
-use Rattle.xc_list.specs.Output.{rotated_at, bytes_at, use_word}
+use Rattle.xc_list.specs.Output.{bytes_at, use_word}
 use Rattle.xc_list.specs.Listed.{stands_for, is_known, is_none}
 use Rattle.xc_list.proofs.Writing.{colour_text-some}
 use Rattle.xc_list.proofs.OutputLemmas.ReadLines.{IsPlain, plain-append}
@@ -52,13 +47,6 @@ pub record IsTold (p : Named) (i : ℕ) (o : Option ℕ) : Type 0 where
   pub accepted : (is_known p (body_words p i o) || is_none p (body_words p i o)) ≡ true
   pub stands : MatchOption o (is_known p (body_words p i o) ≡ false)
       (λ j. (is_known p (body_words p i o) ≡ true) × (stands_for p (body_words p i o) j ≡ true))
-
-length-turned : {X : Type 0} (k : ℕ) (xs : List X) → length (rotated_at k xs) ≡ length xs
-length-turned k xs = grind (arith, common_steps)
-
-place-within : (i : ℕ) (us : List Use) → is_some (colour_in us i) ≡ true → place_in i us < length us
-place-within i [] h = absurd (cc h)
-place-within i (u ∷ us) h = grind (arith, nat_tests, place-within i us)
 
 module _ (p : Named) (sound : IsSound p) where
   plain-name : (i : ℕ) → IsItem p.puzzle i → IsPlain (bytes_at p.names i)
@@ -92,30 +80,26 @@ module _ (p : Named) (sound : IsSound p) where
 
     not_known : (ws : List (List ℕ)) → is_known p (codes "null" ∷ ws) ≡ false
     not_known ws = not_false (is_known p (codes "null" ∷ ws)) (λ e.
-        let us = in-any _ _ e in
-        let at = slice_get-in _ _ us.1 in
-        let known = known_option p.puzzle p.colours (suc at.0) us.0 sound.valid sound.coloured at.1 in
-        let turned = body-is p _ us.0 us.2 in
-        not_null (rotated_at turned.0 us.0) ws (All-turned (IsKnownUse p) turned.0 us.0 known) turned.2)
+        let o = known-as p sound _ e in not_null _ ws o.3.known o.3.words_so)
 
-    told-at : (i : ℕ) (o : Option ℕ) → IsPrimary p.puzzle i → MatchOption o (Unit {0}) (λ o. IsOption p.puzzle o
+    pub told : (i : ℕ) (o : Option ℕ) → IsPrimary p.puzzle i → MatchOption o (Unit {0}) (λ o. IsOption p.puzzle o
         × (is_some (colour_in (uses_of p.puzzle o) i) ≡ true)) → IsTold p i o
-    told-at i (Some o) primary h =
+    told i (Some o) primary h =
         let us = uses_of p.puzzle o in
         let k = place_in i us in
-        let within = place-within i us h.1 in
+        let within = place_held i us h.1 in
         let known = known_option p.puzzle p.colours o us sound.valid sound.coloured (numbered_some _ _ _ h.0.0 h.0.1) in
         let all = recursion_from_All _ _ (All-turned (IsKnownUse p) k us known) in
         let stands = is-body p (body_words p i (Some o)) us k within refl in
         let known : is_known p (body_words p i (Some o)) ≡ true = any-in _ _ _ (uses-in p.puzzle o h.0) stands in
         record {
-          some = omega (arith, length-map (rotated_at k us) (use_word p), length-turned k us, within);
+          some = grind (arith, common_steps);
           plain = each-map _ _ _ (each_weaker _ _ _ plain-use all);
           accepted = rw known refl;
           stands = (known, stands);
         }
-    told-at zero None primary h = absurd (omega (arith, primary.0))
-    told-at (suc j) None primary h =
+    told zero None primary h = absurd (omega (arith, primary.0))
+    told (suc j) None primary h =
         let name = bytes_at p.names (suc j) in
         let at = numbered_some p.names (suc j) [] primary.0 (omega (arith, primary.1, sound.named.count)) in
         let first = get_take (primary_count p.puzzle) p.names j (omega (arith, primary.1)) ∙ at in
@@ -123,15 +107,10 @@ module _ (p : Named) (sound : IsSound p) where
         ((bytes_eq-Decides name name).1 refl) in
         let is : is_none p (codes "null" ∷ name ∷ []) ≡ true =
         and-both _ _ ((bytes_eq-Decides (codes "null") (codes "null")).1 refl) listed in
+        let null : IsPlain (codes "null") = record { some = omega arith; no_space = refl; no_feed = refl } in
         record {
           some = omega arith;
-          plain = (
-            record { some = omega arith; no_space = refl; no_feed = refl },
-            (plain-name (suc j) (primary.0, omega (arith, primary.1)), tt),
-          );
+          plain = (null, (plain-name (suc j) (primary.0, omega (arith, primary.1)), tt));
           accepted = rw (not_known (name ∷ []), is) refl;
           stands = not_known (name ∷ []);
         }
-
-    pub told : (c : Choice) → IsKnownChoice p.puzzle c → IsTold p c.item c.option
-    told c known = told-at c.item c.option known.0 known.1

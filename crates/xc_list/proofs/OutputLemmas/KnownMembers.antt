@@ -1,11 +1,14 @@
 -- The choices of a member can be told, and the counts in them are small.
+use Rattle.xc_search.proofs.listing.EachBranch.{in-nones}
+use Rattle.xc_search.proofs.listing.BranchesLess.{by_branches}
+use Rattle.xc_search.proofs.listing.Unrolled.{listing_at}
+use Rattle.std.proofs.Common.{[], None, Some}
 use Rattle.std.proofs.lemmas.Grind.{common_steps}
 use Rattle.xc_search.specs.Listing.{take_branch}
 use Rattle.std.proofs.Common.{map}
 use Rattle.xc_input.proofs.lists.Members.{IsIn, in-map, in-filter, in-append, each_in, each_from, in-take}
 use Rattle.xc_search.proofs.listing.Numbering.{with_bounds, numbered_at, uses_known}
 use Rattle.xc_search.proofs.listing.EachBranch.{in-level, branch_item-in, nones}
-use Rattle.xc_search.proofs.Cases.{by_option, by_bool}
 use Rattle.xc_search.proofs.completeness.Proper.{item-spend_one, goes_on}
 use Rattle.xc_input.specs.Problem.{numbered_options, IsOption}
 use Rattle.xc_input.proofs.lists.Filters.{length-filter-le}
@@ -13,10 +16,9 @@ use Rattle.xc_dance.proofs.MoveLemmas.ListLemmas.{length-numbered_from}
 use Rattle.std.proofs.Common.{inl, inr}
 use Rattle.std.proofs.Common.{◌<◌}
 use Rattle.std.proofs.lemmas.List.{length-take}
-use Rattle.std.proofs.Common.{ℕ, zero, suc, ◌+◌, ◌≤◌, List, [], ◌∷◌}
+use Rattle.std.proofs.Common.{ℕ, ◌+◌, ◌≤◌, List, ◌∷◌}
 use Rattle.std.proofs.Common.{length, take, arith, subst}
-use Rattle.xc_search.specs.inner.Sizes.{size_of}
-use Rattle.std.specs.Prelude.{All, ◌==◌}
+use Rattle.std.specs.Prelude.{All}
 use Rattle.std.specs.List.{enumerate_from}
 use Rattle.std.proofs.lemmas.List.Elements.{All-from_recursion}
 use Rattle.std.specs.List.{AllByRecursion}
@@ -24,9 +26,9 @@ use Rattle.xc_input.proofs.lists.EachElement.{each_weaker}
 use Rattle.xc_search.specs.declared.choice.Choice.{Choice}
 use Rattle.xc_input.specs.Problem.{Puzzle, Numbered, option_count, holds}
 use Rattle.xc_input.specs.Problem.{IsPrimary}
-use Rattle.xc_search.specs.Listing.{Wanted, Residual, whole, branch_count, branch_item}
+use Rattle.xc_search.specs.Listing.{Wanted, Residual, whole, branch_count}
 use Rattle.xc_search.specs.Listing.{pick, none, Branch, branches_of}
-use Rattle.xc_search.specs.Listing.{listing_to, listing}
+use Rattle.xc_search.specs.Listing.{listing}
 use Rattle.xc_input.specs.Problem.{holding}
 use Rattle.xc_search.specs.Cover.{members}
 use Rattle.xc_list.specs.Known.{IsKnownChoice}
@@ -46,9 +48,8 @@ pub record IsCounted (p : Puzzle) (c : Choice) : Type 0 where
 abbrev pub AreCounted : Puzzle → List Choice → Type 0
 AreCounted p m = AllByRecursion (IsCounted p) m
 
-record IsKnownBranch (p : Puzzle) (b : Branch) : Type 0 where
-  pub choice : IsCounted p b.choice
-  pub next : IsKnownResidual p b.next
+abbrev IsKnownBranch : Puzzle → Branch → Type 0
+IsKnownBranch p b = IsCounted p b.choice × IsKnownResidual p b.next
 
 -- numbered elements, with numbers below b
 pub each_numbered : {X : Type 0} (P : X → Type 0) (a b : ℕ) (xs : List X) → a + length xs ≤ b → AllByRecursion P xs
@@ -64,8 +65,11 @@ none_known p r i known = grind (arith, common_steps, in-filter, length-filter-le
 
 branch_known : (p : Puzzle) (r : Residual) (w : Wanted) (b : Branch) → IsKnownResidual p r → IsPrimary p w.item
     → IsIn (branches_of r w) b → IsKnownBranch p b
-branch_known p r w b known item h = elim
-    (in-append (map (take_branch r w.item n) (enumerate_from 1 (take n held))) (nones r w) b h) [
+branch_known p r w b known item h =
+    let n = branch_count r w in
+    let held = holding w.item r.options in
+    let few : n ≤ option_count p + 1 = omega (arith, length-filter-le (λ o. holds o w.item) r.options, known.few) in
+    elim (in-append (map (take_branch r w.item n) (enumerate_from 1 (take n held))) (nones r w) b h) [
       | inl h ↦
           let from = in-map _ _ _ h in
           let at = each_in _ _ _ (each_numbered (IsIn held) 1 (n + 1) (take n held)
@@ -74,46 +78,25 @@ branch_known p r w b known item h = elim
           let option = known.options _ x.0 in
           let number = numbered_at 0 p.options from.0.1 option in
           let is : IsOption p from.0.1.number = omega (arith, number.1, number.2) in
-          subst (IsKnownBranch p) from.2 (record {
-            choice = record {
-              known = (item, (is, rw (uses_known p _ option) x.1));
-              k = omega (arith, at.0, few);
-              n = few;
-            };
-            next = pick_known p r w.item from.0.1 known;
-          })
-      | inr h ↦ by_bool (w.low == 0)
-          (λ e. elim (rw e at h) [
-            | inl q ↦ subst (IsKnownBranch p) q (record {
-              choice = record { known = (item, tt); k = few; n = few };
-              next = none_known p r w.item known;
-            })
-            | inr q ↦ absurd q
-          ])
-          (λ e. absurd (rw e at h))
+          subst (IsKnownBranch p) from.2 (
+            record { known = (item, (is, rw (uses_known p _ option) x.1)); k = omega (arith, at.0, few); n = few },
+            pick_known p r w.item from.0.1 known,
+          )
+      | inr h ↦ subst (IsKnownBranch p) (in-nones r w b h).1
+          (record { known = (item, tt); k = few; n = few }, none_known p r w.item known)
     ]
-  where
-    n : ℕ
-    n = branch_count r w
 
-    held : List Numbered
-    held = holding w.item r.options
-
-    few : n ≤ option_count p + 1
-    few = omega (arith, length-filter-le (λ o. holds o w.item) r.options, known.few)
-
-no_choice : (p : Puzzle) (m : List Choice) → IsIn ([] ∷ []) m → AreCounted p m
-no_choice p m (inl q) = subst (AreCounted p) q tt
-no_choice p m (inr q) = absurd q
-
-counted_to : (p : Puzzle) (depth : ℕ) (r : Residual) (m : List Choice) → IsKnownResidual p r
-    → IsIn (listing_to depth r) m → AreCounted p m
-unfolding listing_to
-counted_to p zero r m known h = no_choice p m h
-counted_to p (suc depth) r m known h = by_option (branch_item r) (λ e. no_choice p m (rw e at h)) (λ w e.
-    let at = in-level (listing_to depth) w r m (rw e at h) in
+counted_to : (p : Puzzle) (r : Residual) → IsKnownResidual p r → (m : List Choice) → IsIn (listing r) m
+    → AreCounted p m
+counted_to p = by_branches (λ r. IsKnownResidual p r → (m : List Choice) → IsIn (listing r) m → AreCounted p m)
+    (λ r e known m h. elim (subst (λ ms. IsIn ms m) (listing_at r None e) h) [
+      | inl q ↦ subst (AreCounted p) q tt
+      | inr q ↦ absurd q
+    ])
+    (λ r w e later known m h.
+    let at = in-level listing w r m (subst (λ ms. IsIn ms m) (listing_at r (Some w) e) h) in
     let b = branch_known p r w at.0 known (known.items w (branch_item-in r w e)) at.2 in
-    subst (AreCounted p) at.4 (b.choice, counted_to p depth at.0.next at.1 b.next at.3))
+    subst (AreCounted p) at.4 (b.0, later at.0 at.2 b.1 at.1 at.3))
 
 whole_known : (p : Puzzle) → IsKnownResidual p (whole p)
 whole_known p = record {
@@ -123,8 +106,7 @@ whole_known p = record {
 }
 
 pub member_counted : (p : Puzzle) (m : List Choice) → IsIn (members p) m → AreCounted p m
-unfolding listing
-member_counted p m h = counted_to p (size_of (whole p)) (whole p) m (whole_known p) h
+member_counted p m h = counted_to p (whole p) (whole_known p) m h
 
 pub members_known : (p : Puzzle) → All (All (IsKnownChoice p)) (members p)
 members_known p =

@@ -1,7 +1,7 @@
 -- Texts of options laid out one behind another.
 use Rattle.std.proofs.lemmas.Grind.{common_steps}
 use Rattle.xc_input.proofs.lists.Places.{drop_at}
-use Rattle.std.proofs.Common.{add-one}
+use Rattle.std.proofs.Common.{[], add-one}
 use Rattle.std.proofs.lemmas.Option.{slice_get-map, get_or_from_slice_get}
 use Rattle.xc_input.proofs.OptionLemmas.FlatParts.{numbered_get-at}
 use Rattle.xc_list.proofs.CheckLemmas.ListedNumbers.{numbered_some}
@@ -11,7 +11,7 @@ use Rattle.std.proofs.Math.Seq.{take-append_seam, drop-append_seam}
 use Rattle.std.proofs.lemmas.List.{drop-append-le, drop-take, drop-drop}
 use Rattle.std.proofs.lemmas.List.{take-take, length-take, length-map, take-append-drop}
 use Rattle.xc_list.specs.inner.LineParts.{use_text}
-use Rattle.std.proofs.Common.{ℕ, zero, suc, ◌≡◌, ◌+◌, ◌-◌, ◌≤◌, List, [], ◌∷◌, ◌++◌, length, map, take, drop}
+use Rattle.std.proofs.Common.{ℕ, zero, suc, ◌≡◌, ◌+◌, ◌-◌, ◌≤◌, List, ◌∷◌, ◌++◌, length, map, take, drop}
 use Rattle.std.proofs.Common.{get_or, Some, refl, sym, ap, ◌∙◌, arith, length-append, length-drop}
 use Rattle.std.proofs.Common.{eq-eqb, append_assoc, append-nil}
 use Rattle.std.specs.Prelude.{flat_map, unwrap_or}
@@ -24,10 +24,10 @@ use Rattle.xc_input.proofs.OptionLemmas.FlatParts.{length-pieces, option_part, p
 use Rattle.xc_list.specs.Output.{from_item}
 use Rattle.xc_list.specs.inner.Layout.{AreLaid, ArePadded, first_item, uses_text}
 
--- the options behind the first ones
-pub options_left : (os : List (List Use)) (o : ℕ) (us : List Use) → numbered_get os (o + 1) ≡ Some us
-    → drop o os ≡ us ∷ drop (o + 1) os
-options_left os o us e = rw add-one (drop_at os o us (sym (numbered_get-at os (o + 1) o (omega arith)) ∙ e))
+-- the elements behind the first ones
+pub options_left : {X : Type 0} (os : List X) (o : ℕ) (x : X) → numbered_get os (o + 1) ≡ Some x
+    → drop o os ≡ x ∷ drop (o + 1) os
+options_left os o x e = rw add-one (drop_at os o x (sym (numbered_get-at os (o + 1) o (omega arith)) ∙ e))
 
 -- as many starts as options, and the length
 pub laid-count : (a : Named) (os : List (List Use)) (texts starts : List ℕ) → AreLaid a os texts starts

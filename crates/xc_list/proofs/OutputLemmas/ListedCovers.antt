@@ -1,9 +1,8 @@
 -- What is printed for a problem is a listing without a fault, and each listed solution is a cover.
-use Rattle.std.proofs.lemmas.Grind.{common_steps}
-use Rattle.xc_list.proofs.OutputLemmas.OutputLines.{IsReadable, IsReadableMember}
+use Rattle.xc_list.proofs.OutputLemmas.OutputLines.{IsNumberedMember}
 use Rattle.xc_input.proofs.lists.Members.{in-take}
 use Rattle.xc_list.proofs.OutputLemmas.KnownMembers.{member_counted}
-use Rattle.std.proofs.Common.{◌≡◌, ◌≢◌, ℕ, ◌+◌, ◌^◌, ◌<◌, List, [], ◌∷◌, ◌++◌}
+use Rattle.std.proofs.Common.{[], ◌≡◌, ◌≢◌, ℕ, ◌+◌, ◌^◌, ◌<◌, List, ◌∷◌, ◌++◌}
 use Rattle.std.proofs.Common.{None, map, take, filter, refl, sym, ap, ◌∙◌, arith, subst}
 use Rattle.std.proofs.Common.{append-nil}
 use Rattle.xc_list.proofs.CheckLemmas.ListedSolutions.{listed_solutions}
@@ -29,62 +28,14 @@ use Rattle.xc_list.specs.declared.checker.ListingFault.{ListingFault}
 use Rattle.xc_list.specs.declared.checker.ListingFault.TheVariants.{Memory}
 use Rattle.xc_list.specs.Listed.{Solution, IsVerdictOn, AreVerdicts, IsListingFault, stands_for, is_known}
 use Rattle.xc_list.specs.Listed.{fault_in_lines, solutions_of, IsListedCover}
-use Rattle.xc_list.proofs.OutputLemmas.KnownMembers.{IsCounted, each_numbered}
+use Rattle.xc_list.proofs.OutputLemmas.KnownMembers.{AreCounted, each_numbered}
 use Rattle.xc_list.proofs.OutputLemmas.OutputLines.{choice_words, choice_line, header_line, output_lines}
 use Rattle.xc_list.proofs.OutputLemmas.OutputLines.{lines_of-members, read-choice_line}
 use Rattle.xc_list.proofs.OutputLemmas.ReadLines.{read-header}
 use Rattle.xc_list.proofs.OutputLemmas.ChoiceBodies.{told}
 
--- ---- faults
-
-no_fault-choices : (p : Named) (n : ℕ) (m : List Choice) (rest : List (List ℕ)) → 0 < n
-    → AllByRecursion (IsReadable p) m → ((k : ℕ) → 0 < k → fault_in_lines p k rest ≡ None)
-    → fault_in_lines p n (map (choice_line p) m ++ rest) ≡ None
-no_fault-choices p n [] rest h all later = later n h
-no_fault-choices p n (c ∷ m) rest h all later =
-    grind (arith, lines-cons, read-choice_line, no_fault-choices p (n + 1) m rest (omega arith) all.1 later)
-
-no_fault-members : (p : Named) (n : ℕ) (nms : List (ℕ × List Choice)) → AllByRecursion (IsReadableMember p) nms
-    → fault_in_lines p n (output_lines p nms) ≡ None
-no_fault-members p n [] all = refl
-no_fault-members p n (nm ∷ nms) all =
-    let first = lines-cons p n (header_line nm.0) (map (choice_line p) nm.1 ++ output_lines p nms) in
-    rw (first, read-header nm.0 all.0.number)
-    (no_fault-choices p (n + 1) nm.1 (output_lines p nms) (omega arith) all.0.choices
-    (λ k h. no_fault-members p k nms all.1))
-
--- ---- what is listed
-
 abbrev solution_of : Named → ℕ × List Choice → Solution
 solution_of p nm = record { number = nm.0; bodies = map (choice_words p) nm.1 }
-
-listing_of-choices : (p : Named) (m : List Choice) (rest : List (List ℕ)) → AllByRecursion (IsReadable p) m
-    → listing_of (map (choice_line p) m ++ rest)
-    ≡ record { loose = map (choice_words p) m ++ (listing_of rest).loose; solutions = (listing_of rest).solutions }
-listing_of-choices p [] rest all = refl
-listing_of-choices p (c ∷ m) rest all = cc ((read-choice_line p c all.0).0, listing_of-choices p m rest all.1)
-
-listing_of-members : (p : Named) (nms : List (ℕ × List Choice)) → AllByRecursion (IsReadableMember p) nms
-    → listing_of (output_lines p nms) ≡ record { loose = []; solutions = map (solution_of p) nms }
-listing_of-members p [] all = refl
-listing_of-members p (nm ∷ nms) all =
-    grind (arith, listing_of-choices, read-header, append-nil, listing_of-members p nms all.1)
-
--- ---- covers
-
-each_stands : (p : Named) (m : List Choice) → AllByRecursion (IsReadable p) m
-    → AllZip (λ words o. IsTrue (stands_for p words o)) (filter (is_known p) (map (choice_words p) m)) (options_of m)
-each_stands p [] all = tt
-each_stands p (c ∷ m) all = grind (arith, by_option, each_stands p m all.1)
-
-listed_cover : (p : Named) (nm : ℕ × List Choice) → IsReadableMember p nm → IsListedCover p (solution_of p nm).bodies
-listed_cover p nm h = (options_of nm.1, each_stands p nm.1 h.choices, h.cover)
-
--- ---- members
-
--- a member with its number
-abbrev IsNumberedMember : Named → ℕ × List Choice → Type 0
-IsNumberedMember p nm = (nm.0 < 2 ^ 64) × IsIn (members p.puzzle) nm.1
 
 each_yes : (p : Named) (ss : List Solution) (vs : List Verdict) → AllByRecursion (λ s. IsListedCover p s.bodies) ss
     → AllZip (IsVerdictOn p) ss vs → AllByRecursion (λ v. IsTrue v.cover) vs
@@ -93,16 +44,56 @@ each_yes p (s ∷ ss) (v ∷ vs) covers h = (h.0.1.1 covers.0, each_yes p ss vs 
 each_yes p _ _ covers h = absurd h
 
 module _ (p : Named) (sound : IsSound p) (none : All (λ n. n ≢ codes "null") p.names) where
-  readable : (c : Choice) → IsCounted p.puzzle c → IsReadable p c
-  readable c counted = grind (arith, common_steps, told p sound none c counted.known, sound.limits.options)
+  -- ---- faults
 
-  readable_member : (nm : ℕ × List Choice) → IsNumberedMember p nm → IsReadableMember p nm
-  readable_member nm h = record {
-    number = h.0;
-    choices = each_weaker (IsCounted p.puzzle) (IsReadable p) nm.1 readable (member_counted p.puzzle nm.1 h.1);
-    cover = All-contains (λ m. IsCover p.puzzle (options_of m)) (members p.puzzle) nm.1
-        (each_member_covers p.puzzle sound.valid) (contains-in (members p.puzzle) nm.1 h.1);
-  }
+  no_fault-choices : (n : ℕ) (m : List Choice) (rest : List (List ℕ)) → 0 < n → AreCounted p.puzzle m
+      → ((k : ℕ) → 0 < k → fault_in_lines p k rest ≡ None) → fault_in_lines p n (map (choice_line p) m ++ rest) ≡ None
+  no_fault-choices n [] rest h all later = later n h
+  no_fault-choices n (c ∷ m) rest h all later =
+      let is = told p sound none c.item c.option all.0.known.0 all.0.known.1 in
+      let reads = read-choice_line p sound none c all.0 in
+      grind (arith, lines-cons, no_fault-choices (n + 1) m rest (omega arith) all.1 later)
+
+  no_fault-members : (n : ℕ) (nms : List (ℕ × List Choice)) → AllByRecursion (IsNumberedMember p) nms
+      → fault_in_lines p n (output_lines p nms) ≡ None
+  no_fault-members n [] all = refl
+  no_fault-members n (nm ∷ nms) all =
+      let first = lines-cons p n (header_line nm.0) (map (choice_line p) nm.1 ++ output_lines p nms) in
+      rw (first, read-header nm.0 all.0.0)
+      (no_fault-choices (n + 1) nm.1 (output_lines p nms) (omega arith) (member_counted p.puzzle nm.1 all.0.1)
+      (λ k h. no_fault-members k nms all.1))
+
+  -- ---- what is listed
+
+  listing_of-choices : (m : List Choice) (rest : List (List ℕ)) → AreCounted p.puzzle m
+      → listing_of (map (choice_line p) m ++ rest)
+      ≡ record { loose = map (choice_words p) m ++ (listing_of rest).loose; solutions = (listing_of rest).solutions }
+  listing_of-choices [] rest all = refl
+  listing_of-choices (c ∷ m) rest all =
+      cc ((read-choice_line p sound none c all.0).0, listing_of-choices m rest all.1)
+
+  listing_of-members : (nms : List (ℕ × List Choice)) → AllByRecursion (IsNumberedMember p) nms
+      → listing_of (output_lines p nms) ≡ record { loose = []; solutions = map (solution_of p) nms }
+  listing_of-members [] all = refl
+  listing_of-members (nm ∷ nms) all =
+      grind (arith, listing_of-choices, member_counted, read-header, append-nil, listing_of-members nms all.1)
+
+  -- ---- covers
+
+  each_stands : (m : List Choice) → AreCounted p.puzzle m
+      → AllZip (λ words o. IsTrue (stands_for p words o)) (filter (is_known p) (map (choice_words p) m)) (options_of m)
+  each_stands [] all = tt
+  each_stands (c ∷ m) all =
+      let is = told p sound none c.item c.option all.0.known.0 all.0.known.1 in
+      grind (arith, by_option, each_stands m all.1)
+
+  listed_cover : (nm : ℕ × List Choice) → IsNumberedMember p nm → IsListedCover p (solution_of p nm).bodies
+  listed_cover nm h = (
+    options_of nm.1,
+    each_stands nm.1 (member_counted p.puzzle nm.1 h.1),
+    All-contains (λ m. IsCover p.puzzle (options_of m)) (members p.puzzle) nm.1
+        (each_member_covers p.puzzle sound.valid) (contains-in (members p.puzzle) nm.1 h.1),
+  )
 
   module _ (spacing limit : ℕ) (fits : limit < 2 ^ 64) where
     outputs_are_covers : (fault_in_lines p 0 (lines_of (output p spacing limit)) ≡ None)
@@ -112,14 +103,13 @@ module _ (p : Named) (sound : IsSound p) (none : All (λ n. n ≢ codes "null") 
         let nms = filter (λ nm. is_printed spacing nm.0) (enumerate_from 1 first) in
         let numbered = each_numbered (IsIn (members p.puzzle)) 1 (2 ^ 64) first
         (omega (arith, fits, length-take limit (members p.puzzle))) (each_from _ first (in-take limit _)) in
-        let all = each_weaker (IsNumberedMember p) (IsReadableMember p) nms readable_member
-        (each-filter (IsNumberedMember p) _ (enumerate_from 1 first) numbered) in
-        let lines = lines_of-members p nms all in
+        let all = each-filter (IsNumberedMember p) _ (enumerate_from 1 first) numbered in
+        let lines = lines_of-members p sound none nms all in
         let solutions = ap solutions_of lines ∙ sym (listed_solutions (output_lines p nms))
-        ∙ ap (λ (l : Listing). l.solutions) (listing_of-members p nms all) in (
-          ap (fault_in_lines p 0) lines ∙ no_fault-members p 0 nms all,
+        ∙ ap (λ (l : Listing). l.solutions) (listing_of-members nms all) in (
+          ap (fault_in_lines p 0) lines ∙ no_fault-members 0 nms all,
           subst (AllByRecursion (λ (s : Solution). IsListedCover p s.bodies)) (sym solutions)
-              (each-map _ _ _ (each_weaker _ _ _ (listed_cover p) all)),
+              (each-map _ _ _ (each_weaker _ _ _ listed_cover all)),
         )
 
     pub wants_memory : (listing : List ℕ) (e : ListingFault) → listing ≡ output p spacing limit

@@ -1,16 +1,18 @@
 -- The lines of an output.
-use Rattle.std.proofs.Common.{arith}
+use Rattle.std.proofs.Common.{[], arith}
 use Rattle.std.proofs.lemmas.Grind.{common_steps}
-use Rattle.xc_list.proofs.OutputLemmas.ChoiceBodies.{body_words, IsTold}
-use Rattle.xc_search.specs.Cover.{IsCover, options_of}
+use Rattle.xc_list.proofs.OutputLemmas.ChoiceBodies.{body_words, told}
+use Rattle.xc_list.proofs.OutputLemmas.KnownMembers.{IsCounted, AreCounted, member_counted}
+use Rattle.xc_input.proofs.lists.Members.{IsIn}
+use Rattle.xc_search.specs.Cover.{members}
 use Rattle.std.proofs.lemmas.List.Concat.{flat_map-append}
 use Rattle.std.proofs.lemmas.List.Folds.{flat_map-map}
 use Rattle.std.specs.List.{AllByRecursion}
-use Rattle.std.proofs.Common.{◌≡◌, ℕ, false, ◌^◌, ◌<◌, List, [], ◌∷◌, ◌++◌, Option, None, Some, map, refl}
+use Rattle.std.proofs.Common.{◌≡◌, ℕ, false, ◌^◌, ◌<◌, List, ◌∷◌, ◌++◌, Option, None, Some, map, refl}
 use Rattle.std.proofs.Common.{sym, ap, ◌∙◌, append_assoc, append-nil}
-use Rattle.std.specs.Prelude.{codes, decimal, flat_map}
+use Rattle.std.specs.Prelude.{All, ◌≢◌, codes, decimal, flat_map}
 use Rattle.xc_input.specs.Problem.{uses_of}
-use Rattle.xc_input.specs.Named.{Named}
+use Rattle.xc_input.specs.Named.{Named, IsSound}
 use Rattle.xc_input.specs.Words.{has}
 use Rattle.xc_input.specs.Lines.{lines_of}
 use Rattle.xc_input.specs.inner.EndedLines.{ended, AreWhole}
@@ -36,17 +38,9 @@ member_lines p nm = header_line nm.0 ∷ map (choice_line p) nm.1
 abbrev pub output_lines : Named → List (ℕ × List Choice) → List (List ℕ)
 output_lines p nms = flat_map (member_lines p) nms
 
--- a choice whose line is read as its words
-pub record IsReadable (p : Named) (c : Choice) : Type 0 where
-  pub told : IsTold p c.item c.option
-  pub k : c.k < 10 ^ 10
-  pub n : c.n < 10 ^ 10
-
--- a member with its number, of which this is so
-pub record IsReadableMember (p : Named) (nm : ℕ × List Choice) : Type 0 where
-  pub number : nm.0 < 2 ^ 64
-  pub choices : AllByRecursion (IsReadable p) nm.1
-  pub cover : IsCover p.puzzle (options_of nm.1)
+-- a member with its number
+abbrev pub IsNumberedMember : Named → ℕ × List Choice → Type 0
+IsNumberedMember p nm = (nm.0 < 2 ^ 64) × IsIn (members p.puzzle) nm.1
 
 body-spaced : (p : Named) (i : ℕ) (o : Option ℕ) → body_text p i o ≡ spaced (body_words p i o)
 body-spaced p i (Some o) = sym (flat_map-map (λ w. 32 ∷ w) (use_word p) (from_item i (uses_of p.puzzle o)))
@@ -62,19 +56,23 @@ choices-ended p (c ∷ m) = grind (arith, common_steps, choice-ended, append_ass
 member-ended : (p : Named) (nm : ℕ × List Choice) → member_text p nm ≡ ended (member_lines p nm)
 member-ended p nm = grind (arith, common_steps, append_assoc, choices-ended)
 
-pub read-choice_line : (p : Named) (c : Choice) → IsReadable p c → (read (choice_line p c) ≡ Body (choice_words p c))
-    × (has 10 (choice_line p c) ≡ false)
-read-choice_line p c h = read-choice (choice_words p c) c.k c.n h.told.some h.told.plain h.k h.n
+module _ (p : Named) (sound : IsSound p) (none : All (λ n. n ≢ codes "null") p.names) where
+  pub read-choice_line : (c : Choice) → IsCounted p.puzzle c → (read (choice_line p c) ≡ Body (choice_words p c))
+      × (has 10 (choice_line p c) ≡ false)
+  read-choice_line c h =
+      let is = told p sound none c.item c.option h.known.0 h.known.1 in
+      let few = sound.limits.options in
+      read-choice (choice_words p c) c.k c.n is.some is.plain (omega (arith, h.k, few)) (omega (arith, h.n, few))
 
-choices-whole : (p : Named) (m : List Choice) → AllByRecursion (IsReadable p) m → AreWhole (map (choice_line p) m)
-choices-whole p [] all = tt
-choices-whole p (c ∷ m) all = ((read-choice_line p c all.0).1, choices-whole p m all.1)
+  choices-whole : (m : List Choice) → AreCounted p.puzzle m → AreWhole (map (choice_line p) m)
+  choices-whole [] all = tt
+  choices-whole (c ∷ m) all = ((read-choice_line c all.0).1, choices-whole m all.1)
 
-pub lines_of-members : (p : Named) (nms : List (ℕ × List Choice)) → AllByRecursion (IsReadableMember p) nms
-    → lines_of (flat_map (member_text p) nms) ≡ output_lines p nms
-lines_of-members p [] all = refl
-lines_of-members p (nm ∷ nms) all =
-    ap (λ t. lines_of (t ++ flat_map (member_text p) nms)) (member-ended p nm)
-    ∙ lines_of-ended (member_lines p nm) (flat_map (member_text p) nms)
-    (no_feed-header nm.0 all.0.number, choices-whole p nm.1 all.0.choices)
-    ∙ ap (λ ls. member_lines p nm ++ ls) (lines_of-members p nms all.1)
+  pub lines_of-members : (nms : List (ℕ × List Choice)) → AllByRecursion (IsNumberedMember p) nms
+      → lines_of (flat_map (member_text p) nms) ≡ output_lines p nms
+  lines_of-members [] all = refl
+  lines_of-members (nm ∷ nms) all =
+      ap (λ t. lines_of (t ++ flat_map (member_text p) nms)) (member-ended p nm)
+      ∙ lines_of-ended (member_lines p nm) (flat_map (member_text p) nms)
+      (no_feed-header nm.0 all.0.0, choices-whole nm.1 (member_counted p.puzzle nm.1 all.0.1))
+      ∙ ap (λ ls. member_lines p nm ++ ls) (lines_of-members nms all.1)

@@ -1,10 +1,11 @@
 -- What the lines of an output are read as.
+use Rattle.std.proofs.Common.{[], sym}
 use Rattle.std.proofs.lemmas.Str.Parse.{IsNumeralModel, numerals_by_fold}
 use Rattle.std.proofs.lemmas.Fmt.{decimal_nonempty, digits_value-decimal, digits_decimal}
 use Rattle.std.proofs.Common.{flat_map}
 use Rattle.std.proofs.Common.{rules}
 use Rattle.std.proofs.Common.{◌≡◌, ℕ, ◌^◌, ◌<◌, ◌≤◌, Bool, true, false}
-use Rattle.std.proofs.Common.{List, [], ◌∷◌, ◌++◌, None, Some, length, refl, ap, ◌∙◌}
+use Rattle.std.proofs.Common.{List, ◌∷◌, ◌++◌, None, Some, length, refl, ap, ◌∙◌}
 use Rattle.std.proofs.Common.{arith}
 use Rattle.xc_input.proofs.TokenLemmas.DecimalValues.{value_from}
 use Rattle.std.specs.Prelude.{codes, decimal}
@@ -17,7 +18,7 @@ use Rattle.std.specs.List.{AllByRecursion}
 use Rattle.xc_input.specs.Words.{has}
 use Rattle.xc_input.specs.Tokens.{is_space}
 use Rattle.std.specs.Char.{is_ascii_digit}
-use Rattle.xc_list.proofs.CheckLemmas.CutBodies.{last_byte}
+use Rattle.xc_list.proofs.CheckLemmas.CutBodies.{last_byte, before_three}
 use Rattle.xc_list.proofs.Digits.{some_digits}
 use Rattle.xc_list.specs.ListingLines.{words_in, before_last, header_number, is_word}
 use Rattle.xc_list.specs.ListingLines.{is_ending, body_of_words}
@@ -85,10 +86,6 @@ no_feed-spaced : (ws : List (List ℕ)) → AllByRecursion IsPlain ws → has 10
 no_feed-spaced [] plain = refl
 no_feed-spaced (w ∷ ws) plain = grind (arith, common_steps, plain.0.no_feed, no_feed-spaced ws plain.1)
 
-body_of_words-is : (body ending : List (List ℕ)) → 1 ≤ length body → length ending ≡ 3
-    → list_all is_word (body ++ ending) ≡ true → is_ending ending ≡ true → body_of_words (body ++ ending) ≡ Some body
-body_of_words-is body ending some three words ends = grind (arith, common_steps, nat_tests)
-
 -- ---- choice lines
 
 -- the last three words of a choice line
@@ -104,13 +101,10 @@ plain-append v w plain space feed = grind (arith, common_steps, plain.some, plai
 plain-ending : (k n : ℕ) → k < 2 ^ 64 → n < 2 ^ 64 → AllByRecursion IsPlain (ending_words k n)
 plain-ending k n h l =
     let digits = plain-decimal k h in
-    let opening : IsPlain (codes "(") = record { some = omega arith; no_space = refl; no_feed = refl } in (
-      plain-append (codes "(") (decimal k) opening digits.no_space digits.no_feed,
-      (
-        record { some = omega arith; no_space = refl; no_feed = refl },
-        (plain-append (decimal n) (codes ")") (plain-decimal n l) refl refl, tt),
-      ),
-    )
+    let opening : IsPlain (codes "(") = record { some = omega arith; no_space = refl; no_feed = refl } in
+    let middle : IsPlain (codes "of") = record { some = omega arith; no_space = refl; no_feed = refl } in
+    let closing = plain-append (decimal n) (codes ")") (plain-decimal n l) refl refl in
+    (plain-append (codes "(") (decimal k) opening digits.no_space digits.no_feed, (middle, (closing, tt)))
 
 is_ending-words : (k n : ℕ) → k < 10 ^ 10 → n < 10 ^ 10 → is_ending (ending_words k n) ≡ true
 is_ending-words k n h l = grind (arith, nat_tests, are_digits-decimal, before_last-last)
@@ -129,8 +123,8 @@ read-choice (w ∷ body) k n some plain h l =
     grind (arith, common_steps, each-append, plain-ending) in
     let is : body_of_words (words_in (w ++ spaced (body ++ ending_words k n))) ≡ Some (w ∷ body) =
     ap body_of_words (words_in-spaced w (body ++ ending_words k n) all)
-    ∙ body_of_words-is (w ∷ body) (ending_words k n) (omega arith) refl
-    (are_words ((w ∷ body) ++ ending_words k n) all) (is_ending-words k n h l) in (
+    ∙ sym (before_three ((w ∷ body) ++ ending_words k n) (w ∷ body) (ending_words k n) (omega arith) refl refl
+    (are_words ((w ∷ body) ++ ending_words k n) all) (is_ending-words k n h l)) in (
       grind (arith, nat_tests, no_header (w ++ spaced (body ++ ending_words k n)), is),
       no_feed-spaced ((w ∷ body) ++ ending_words k n) all,
     )

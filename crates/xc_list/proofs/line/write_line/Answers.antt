@@ -7,7 +7,5 @@ returns-in_err-write_all-in-None-2 g c = grind (arith, failed, broke_before, the
 
 pub returns-in_ok-write_all-in-None-2 : goal.returns-in_ok-write_all-in-None-2
 returns-in_ok-write_all-in-None-2 g c =
-    then_writes _ _ c.write_parts.result (then_took c.in_ok-write_all-in-None.ensures (rw (
-      c.as_bytes-number.ensures.value,
-      c.format.ensures.text,
-    ) at c.in_ok-write_all-in-None-2.ensures)) c.write_parts.ensures
+    let end = rw (c.as_bytes-number.ensures.value, c.format.ensures.text) at c.in_ok-write_all-in-None-2.ensures in
+    then_writes _ _ c.write_parts.result (then_took c.in_ok-write_all-in-None.ensures end) c.write_parts.ensures

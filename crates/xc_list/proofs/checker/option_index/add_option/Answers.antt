@@ -1,4 +1,4 @@
-use Rattle.std.proofs.Common.{add-one, ℕ, suc, ◌≡◌, ◌+◌, ◌++◌, ◌∷◌, [], List, ◌∙◌, Some, sym, ap, subst, arith}
+use Rattle.std.proofs.Common.{[], add-one, ℕ, suc, ◌≡◌, ◌+◌, ◌++◌, ◌∷◌, List, ◌∙◌, Some, sym, ap, subst, arith}
 use Rattle.std.specs.Prelude.{slice_get}
 use Rattle.xc_input.specs.declared.problem.Use.{Use}
 use Rattle.xc_input.specs.Problem.{Puzzle, numbered_get}
@@ -20,7 +20,7 @@ overflow_add-index_mut c =
     let classes = key_uses c.args.classes.now.keys in
     let us = c.as_slice.result.now in
     let at = found-key us c.args.classes.now.keys c.in-Some.class (sym c.in-Some.ensures.index) in
-    let count = members_at p c.args.o classes _ c.in-Some.class c.index_mut.result.now us c.requires.before at.1 in
+    let count = members_at p c.args.o classes _ c.in-Some.class c.index_mut.result.now us c.requires.before at in
     let few = members-few p c.args.o us in
     omega (arith, c.index_mut.ensures.value, count, few, c.requires.option, c.requires.limits.options)
 
@@ -28,31 +28,22 @@ pub returns-in-Some : goal.returns-in-Some
 returns-in-Some c =
     let p = c.args.problem.now.puzzle in
     let o = c.args.o in
-    let classes = key_uses c.args.classes.now.keys in
-    let counts = c.args.sizes.now.items in
-    let k = c.in-Some.class in
-    let n = c.index_mut.result.now in
-    let us = c.as_slice.result.now in
-    let is = option_class p o c.option.result.now _ _ c.option.ensures.value c.in_ok-rotate.ensures
-    c.as_slice.ensures.value in
+    let is = option_class p o _ _ _ c.option.ensures.value c.in_ok-rotate.ensures c.as_slice.ensures.value in
     let at = found-key _ _ _ (sym c.in-Some.ensures.index) in
-    let here : slice_get classes k ≡ Some (class_at p (suc o)) = at.1 ∙ ap (λ x. Some x) is in
-    rw (add-one o)
-    (classes-found p o classes counts k n c.requires.before here
-    (c.index_mut.ensures.value ∙ members_at _ _ _ _ _ _ _ c.requires.before here))
+    let here : slice_get (key_uses c.args.classes.now.keys) c.in-Some.class ≡ Some (class_at p (suc o)) =
+    at ∙ ap (λ x. Some x) is in
+    rw (add-one o) (classes-found p o _ _ _ _ c.requires.before here c.index_mut.ensures.value)
 
 pub returns-in_ok-push-in-None : goal.returns-in_ok-push-in-None
 returns-in_ok-push-in-None c =
     let p = c.args.problem.now.puzzle in
     let o = c.args.o in
     let keys = c.args.classes.now.keys in
-    let us = c.as_slice.result.now in
-    let is = option_class p o c.option.result.now _ _ c.option.ensures.value c.in_ok-rotate.ensures
-    c.as_slice.ensures.value in
+    let is = option_class p o _ _ _ c.option.ensures.value c.in_ok-rotate.ensures c.as_slice.ensures.value in
     let all = new-uses _ _ _ _ (sym c.in-None.ensures.index)
     (c.in_ok-from_slice-in-None.ensures.items ∙ c.as_slice-in-None.ensures.value ∙ sym c.as_slice.ensures.value)
     c.in_ok-insert-in-None.ensures.keys in
     rw (add-one o)
-    (classes-new p o (key_uses keys) (key_uses c.insert.new.self.keys) c.args.sizes.now.items c.push.new.self.items
-    c.requires.before (λ h. lost-key us keys (sym c.in-None.ensures.index) (subst (IsIn (key_uses keys)) (sym is) h))
+    (classes-new p o _ _ _ _ c.requires.before
+    (λ h. lost-key _ keys (sym c.in-None.ensures.index) (subst (IsIn (key_uses keys)) (sym is) h))
     (all ∙ ap (λ x. key_uses keys ++ x ∷ []) is) c.in_ok-push-in-None.ensures.items)

@@ -1,11 +1,16 @@
-use Rattle.std.proofs.Common.{◌≡◌, take}
+use Rattle.std.proofs.Common.{ℕ, suc, ◌≡◌, ◌+◌, ◌^◌, ◌<◌, drop, length, get_or}
 use Rattle.xc_list.specs.inner.CoverCounts.{added, coloured, short_of}
+use Rattle.xc_list.proofs.CheckLemmas.HeldItems.{held}
 use Rattle.xc_list.proofs.checker.counts.Counts.add.Given as goal
 
+-- what is left makes of the counts what all uses make of those before, and no count grows too large by it
 abbrev pub invariant-loop-u : goal.invariant-loop-u
 invariant-loop-u l = record {
-  times : l.self.times.items ≡ added (take l.u-index l.uses) l.initial.self.times.items;
-  colours : l.self.colours.items ≡ coloured (take l.u-index l.uses) l.initial.self.colours.items;
+  times : added (drop l.u-index l.uses) l.self.times.items ≡ added l.uses l.initial.self.times.items;
+  colours : coloured (drop l.u-index l.uses) l.self.colours.items ≡ coloured l.uses l.initial.self.colours.items;
   asked : l.self.asked ≡ l.initial.self.asked;
   short : l.self.short ≡ short_of l.bounds l.self.times.items;
+  items : length l.self.times.items ≡ length l.initial.self.times.items;
+  size : length l.self.colours.items ≡ length l.self.times.items;
+  few : (k : ℕ) → get_or l.self.times.items k 0 + held (suc k) (drop l.u-index l.uses) < 2 ^ 64;
 }

@@ -11,20 +11,11 @@ forgotten : (ks ns : List ℕ) {now after : List ℕ} → ns ≡ replicate (leng
     → after ≡ lowered ks now → after ≡ ns
 forgotten ks ns z e h = h ∙ ap (lowered ks) e ∙ lowered_back ks ns z
 
-pub is_cover-cover-requires-clause-times : goal.is_cover-cover-requires-clause-times
-is_cover-cover-requires-clause-times c = grind (arith, length-raised)
+pub is_cover-cover-requires : goal.is_cover-cover-requires
+is_cover-cover-requires c = grind (arith, length-raised, length-coloured)
 
-pub is_cover-cover-requires-clause-colours : goal.is_cover-cover-requires-clause-colours
-is_cover-cover-requires-clause-colours c = grind (arith, length-coloured)
-
-pub is_cover-cover-requires-clause-asked : goal.is_cover-cover-requires-clause-asked
-is_cover-cover-requires-clause-asked c = grind (arith, length-raised)
-
-pub clear-requires-clause-times : goal.clear-requires-clause-times
-clear-requires-clause-times c = grind (arith, length-raised)
-
-pub clear-requires-clause-asked : goal.clear-requires-clause-asked
-clear-requires-clause-asked c = grind (arith, length-raised)
+pub clear-requires : goal.clear-requires
+clear-requires c = grind (arith, length-raised)
 
 pub invariant_of-self : goal.invariant_of-self
 invariant_of-self c =
