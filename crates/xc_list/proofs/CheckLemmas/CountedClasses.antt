@@ -35,8 +35,9 @@ pub known_items : (p : Named) (us : List Use) (n : ℕ) → n ≡ item_count p.p
 known_items p us n e = grind (arith, common_steps)
 
 -- the uses of each class are of different items
-pub classes_usable : (b : Classes) → IsSound b.problem → AreClasses b.problem.puzzle b.classes → (k : ℕ) (us : List Use)
-    → slice_get b.classes k ≡ Some us → AreItems (item_count b.problem.puzzle) us × DifferInItems us
+pub classes_usable : (b : Classes) → IsSound b.problem → AreClasses b.problem.puzzle b.classes
+    → (k : ℕ) (us : List Use) → slice_get b.classes k ≡ Some us
+    → AreItems (item_count b.problem.puzzle) us × DifferInItems us
 classes_usable b s are k us e =
     let p = b.problem.puzzle in
     let one = are.used k us e in

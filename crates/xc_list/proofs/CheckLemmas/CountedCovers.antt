@@ -51,8 +51,8 @@ times_after b ks = added (uses_in b.classes ks) (replicate (item_count b.problem
 abbrev pub is_counted_cover : Classes → List ℕ → List ℕ → Bool
 is_counted_cover b cs ks =
     short_of b.problem.puzzle.bounds (times_after b ks) == 0 && list_all
-    (is_class_met b b.problem.puzzle.bounds (times_after b ks) (coloured (uses_in b.classes ks) cs) (asked_after b ks))
-    ks
+    (is_class_met b b.problem.puzzle.bounds (times_after b ks) (coloured (uses_in b.classes ks) cs)
+    (asked_after b ks)) ks
 
 -- options of these classes, with the tables that count them
 pub record IsSolution (b : Classes) (cs ks reps : List ℕ) : Type 0 where

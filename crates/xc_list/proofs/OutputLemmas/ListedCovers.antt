@@ -81,7 +81,8 @@ module _ (p : Named) (sound : IsSound p) (none : All (λ n. n ≢ codes "null") 
   -- ---- covers
 
   each_stands : (m : List Choice) → AreCounted p.puzzle m
-      → AllZip (λ words o. IsTrue (stands_for p words o)) (filter (is_known p) (map (choice_words p) m)) (options_of m)
+      → AllZip (λ words o. IsTrue (stands_for p words o)) (filter (is_known p) (map (choice_words p) m))
+      (options_of m)
   each_stands [] all = tt
   each_stands (c ∷ m) all =
       let is = told p sound none c.item c.option all.0.known.0 all.0.known.1 in
