@@ -1,5 +1,4 @@
 use Rattle.std.proofs.Common.{arith}
-use Rattle.std.proofs.lemmas.Grind.{common_steps}
 -- Commits of the uses on one side of an option's node: where a walk over their nodes stands, and its next step.
 use Rattle.std.proofs.Common.{◌≡◌, ◌∙◌, ℕ, ◌+◌, List, subst, sym}
 use Rattle.std.specs.Prelude.{slice_get}
@@ -7,7 +6,7 @@ use Rattle.xc_input.specs.declared.problem.Use.{Use}
 use Rattle.xc_dance.specs.Commits.{CanStand, after_uses}
 use Rattle.xc_dance.specs.Cost.{HasWritten}
 use Rattle.xc_dance.specs.Linked.{Linked}
-use Rattle.xc_dance.proofs.LinkedTables.Along.{along_first, IsAlong, IsNext, top_at, MayCommit, Commits}
+use Rattle.xc_dance.proofs.LinkedTables.Along.{IsAlong, IsNext, top_at, MayCommit, Commits}
 
 -- Of an option x that Held tells of, the uses vs x stand from place off x on: those before place q were committed, so
 -- state s became now.
@@ -16,10 +15,6 @@ pub record IsCommitting (Held : ℕ → Type 0) (off : ℕ → ℕ) (vs : ℕ �
   pub room : now.room ≡ s.room
   pub written : HasWritten s now
   pub along : (x : ℕ) → Held x → IsAlong s.puzzle (off x) (vs x) s.trail now.trail q
-
-pub none_yet : {Held : ℕ → Type 0} {off : ℕ → ℕ} {vs : ℕ → List Use} (s : Linked) {q : ℕ}
-    → ((x : ℕ) → Held x → q ≡ off x) → IsCommitting Held off vs s s q
-none_yet s {q} e = grind (arith, common_steps, along_first)
 
 -- the node at place q is of the next use, of item j
 module _ {Held : ℕ → Type 0} {off : ℕ → ℕ} {vs : ℕ → List Use} {s now : Linked} {q j : ℕ} where

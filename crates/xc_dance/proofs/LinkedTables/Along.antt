@@ -1,4 +1,5 @@
 -- Along an option's nodes: which uses were committed where a walk over them stands, and what it finds there.
+use Rattle.std.proofs.Common.{drop-cons}
 use Rattle.std.proofs.Common.{ℕ, ◌≡◌, ◌+◌, ◌-◌, ◌<◌, ◌≤◌, List}
 use Rattle.std.proofs.Common.{length, drop, get_or, Some, refl, sym, arith, subst, length-drop}
 use Rattle.std.specs.Prelude.{slice_get}
@@ -14,7 +15,7 @@ use Rattle.xc_dance.specs.inner.Links.Cells.{nodes_after}
 use Rattle.xc_dance.specs.inner.Links.Laid.{IsLaid}
 use Rattle.xc_dance.specs.inner.Links.OptionPlaces.{start_at}
 use Rattle.xc_dance.specs.inner.Links.UseNodes.{uses_behind, uses_before}
-use Rattle.xc_dance.proofs.MoveLemmas.Commits.{stood_before, first_use}
+use Rattle.xc_dance.proofs.MoveLemmas.Commits.{stood_before}
 use Rattle.xc_dance.proofs.LinkedTables.UsePlaces.{Segment, use_cells, spacer_cells, behind_all, before_all}
 use Rattle.xc_dance.proofs.LinkedTables.UsePlaces.{behind_segment, before_segment}
 use Rattle.xc_dance.specs.declared.links.nodes.TheConstants.{SPACER}
@@ -42,7 +43,7 @@ along_first p off q vs t e = grind (arith, common_steps)
 
 along_next : {p : Puzzle} {off q : ℕ} {vs : List Use} {s t : List Move} → IsAlong p off vs s t q → q < off + length vs →
     IsAlong p off vs s (after_use p (use_at_place off vs q) t) (q + 1)
-along_next {p} {off} {q} {vs} {t} a h = grind (arith, common_steps, first_use)
+along_next {p} {off} {q} {vs} {t} a h = grind (arith, common_steps, drop-cons)
 
 -- behind the last one all were
 along_end : {p : Puzzle} {off q : ℕ} {vs : List Use} {s t : List Move} → IsAlong p off vs s t q →
@@ -107,8 +108,7 @@ pub record Leads (p : Puzzle) (x place end : ℕ) (t : List Move) : Type 0 where
 
 pub leads : {p : Puzzle} {i x place end : ℕ} (t : List Move) → IsUseAt p i x place →
     end ≡ spacer_place p x → Leads p x place end t
-leads {p} {x} {end} t held e =
-    grind (arith, common_steps, spacer_cells p t x end held.known e, behind_all held)
+leads {p} {x} {end} t held e = grind (arith, common_steps, spacer_cells p t x end held.known e, behind_all held)
 
 -- ---- A step of the walk: the next use is committed
 

@@ -15,7 +15,6 @@ use Rattle.xc_dance.specs.Commits.{IsListedAt, IsUseAt, after_use}
 use Rattle.xc_dance.specs.Fields.{layout, used, link_place, first_above, is_in}
 use Rattle.xc_dance.specs.inner.Links.Cells.{nodes_after}
 use Rattle.xc_dance.specs.inner.Links.Laid.{IsLaid, IsName}
-use Rattle.xc_dance.specs.inner.Links.Answered.{IsNodeOf}
 use Rattle.xc_dance.proofs.LinkedTables.NodeOptions.{own_down, use_down, node_within, contained}
 use Rattle.xc_dance.proofs.LinkedTables.GoodLines.{Named, numbers_named}
 use Rattle.xc_dance.proofs.LinkedTables.Sweep.{in_above}
@@ -49,9 +48,6 @@ listed_down {p} {t} laid item at = ap (λ k. get_or (nodes_after p t).dlink k 0)
 
 pub use_name : {p : Puzzle} {i x q : ℕ} → IsUseAt p i x q → IsName p i x
 use_name u = inr (u.known.0, held_of _ _ u.holds)
-
-pub use_node : {p : Puzzle} {i x q : ℕ} → IsUseAt p i x q → IsNodeOf p i q
-use_node {x} u = record { number = x; name = use_name u; at = u.at }
 
 -- ---- the use of a secondary item
 

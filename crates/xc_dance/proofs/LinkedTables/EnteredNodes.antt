@@ -1,4 +1,5 @@
 -- The nodes of uses enter the lists of their items one by one, until the table is that of no moves.
+use Rattle.std.proofs.lemmas.List.FromFn.{length-map-range_with_len}
 use Rattle.xc_input.proofs.lists.EachElement.{each_weaker}
 use Rattle.xc_dance.proofs.LinkedTables.LaidLemmas.{options_numbered}
 use Rattle.std.proofs.Common.{◌≡◌, ℕ, ◌+◌, ◌<◌, ◌≤◌, List, [], ◌∷◌, ◌++◌, length, fold, refl, sym, ◌∙◌, arith}
@@ -28,7 +29,7 @@ use Rattle.xc_dance.proofs.LinkedTables.Sweep.{put_at-same, put_at-other, put_at
 use Rattle.xc_dance.proofs.LinkedTables.Sweep.{stands}
 use Rattle.xc_dance.proofs.Copied.{take_more-get}
 use Rattle.xc_dance.proofs.LinkedTables.LaidLemmas.{is_laid}
-use Rattle.xc_dance.proofs.LinkedTables.PlaceLemmas.{length_front, layout_small, get_taken}
+use Rattle.xc_dance.proofs.LinkedTables.PlaceLemmas.{layout_small, get_taken}
 use Rattle.xc_dance.proofs.LinkedTables.LinkColumns.{get_map, same_nodes, put_link, column_same, get_link}
 use Rattle.xc_dance.proofs.LinkedTables.LinkColumns.{set_link, set_top, get_len, map_same}
 use Rattle.xc_dance.proofs.LinkedTables.GoodLines.{link_same}
@@ -135,7 +136,7 @@ owns_hold_none j (suc n) [] ns le = absurd (omega (arith, le))
 owns_hold_none j (suc n) (i ∷ js) ns le = owns_hold_none j n js ns (omega (arith, le))
 
 pub held_none : (p : Puzzle) (j : ℕ) → held j (take (item_count p + 1) (layout p)) ≡ []
-held_none p j = grind (arith, common_steps, length_front, owns_hold_none)
+held_none p j = grind (arith, common_steps, owns_hold_none, length-map-range_with_len, own)
 
 pub absent_none : (j o : ℕ) (us : List Use) → is_some (colour_in us j) ≡ false → held j (map (used o) us) ≡ []
 absent_none j o [] e = refl

@@ -116,11 +116,8 @@ pub column_more : (f : ℕ → ℕ) (n k v : ℕ) → k < n → v ≡ f k
 column_more f n k v lt is =
     let z : 0 + k ≡ k = omega arith in filled_more f _ _ (range_get 0 _ _ lt ∙ ap Some z) is
 
-pub column_all : (f : ℕ → ℕ) (n k : ℕ) → n ≤ k → filled f (range_with_len 0 n) k ≡ map f (range_with_len 0 n)
-column_all f n k le = filled_all f (range_with_len 0 n) k (omega (arith, length-range_with_len 0 n, le))
-
 pub rings_linked : (p : Puzzle) (k : ℕ) → item_count p + 2 ≤ k → linked_to p k ≡ bound_to p 1
-rings_linked p k le = grind (arith, common_steps, column_all, same_items)
+rings_linked p k le = grind (arith, common_steps, same_items, filled_all, length-range_with_len)
 
 pub low_most : {p : Puzzle} (i : ℕ) → IsValid p → low_at p i ≤ high_at p i
 low_most zero valid = omega arith

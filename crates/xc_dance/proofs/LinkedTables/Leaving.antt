@@ -1,5 +1,7 @@
 -- Options that leave an open item's list: what they meet, what they take out of the other lists, and how many nodes
 -- leave.
+use Rattle.std.proofs.lemmas.List.Folds.{list_any-append}
+use Rattle.xc_dance.proofs.LinkedTables.OtherItems.{others_by}
 use Rattle.std.proofs.Common.{◌≡◌, ℕ, ◌<◌, ◌≤◌, true, false, not, cond, ◌||◌, eqb, List, [], ◌∷◌, map, Option, Some}
 use Rattle.std.proofs.Common.{None, refl, ap, sym, ◌∙◌, arith, eqb-true, eq-eqb, ne_eqb, ◌≢◌, ◌&&◌, filter, zero, suc}
 use Rattle.std.proofs.Common.{◌+◌, Bool, length, ◌*◌, drop}
@@ -33,7 +35,7 @@ use Rattle.xc_dance.proofs.LinkedTables.GoodLines.{Named, numbers_named, SameCut
 use Rattle.xc_dance.proofs.LinkedTables.OneOption.{is_mark, AreReady, AllApart, gone_count}
 use Rattle.xc_dance.proofs.LiveLists.Removal.{less-remove}
 use Rattle.xc_dance.proofs.LinkedTables.OneList.{OwnReady}
-use Rattle.xc_dance.proofs.LinkedTables.OtherItems.{own_apart, in_others, others_apart, leaves}
+use Rattle.xc_dance.proofs.LinkedTables.OtherItems.{own_apart, others_apart, leaves}
 use Rattle.xc_dance.proofs.MoveLemmas.Shortened.{rises_listed, holders, less_without, other_numbers}
 use Rattle.xc_dance.proofs.MoveLemmas.Members.{element_of, in_filter, same_members}
 use Rattle.xc_dance.proofs.LinkedTables.MarkedNodes.{options_left, Met, each_met, open_unmarked, color_is}
@@ -69,7 +71,7 @@ pub record TakesOut (p : Puzzle) (t : List Move) (m : Move) (i : ℕ) (gs : List
 
 leaves_by : {p : Puzzle} (t : List Move) (i j x : ℕ) → IsFit p → leaves p (color_in p t) i j x ≡
     ((not (eqb j i) && is_some (colour_in (uses_of p x) j)) && not (is_mark p (color_in p t) x j))
-leaves_by {p} t i j x fit = ap (λ b. b && not (is_mark p (color_in p t) x j)) (in_others p x i j (fit.distinct x))
+leaves_by {p} t i j x fit = grind (arith, common_steps, list_any-append, others_by)
 
 pub stay_if : (b : Bool) (gs xs : List ℕ)
     → cond b (stay (λ x. is_in x gs) xs) xs ≡ stay (λ x. b && is_in x gs) xs
@@ -125,8 +127,7 @@ module _ (p : Puzzle) (t : List Move) (i : ℕ) (legal : AreLegal p t) (laid : I
       → leaves p (color_in p t) i j x ≡ (is_open j t && is_in x (listed_numbers p t j))
   leaves_at j x r ne within =
       let there = element_of (Named p j) x _ (numbers_named p t j) in
-      let met : Named p j x → Met p t x j = met_at j x r.0 r.1 within in
-      leaves_by t i j x fit ∙ rw (ne_eqb j i ne) (grind (arith, common_steps))
+      grind (arith, common_steps, met_at j x r.0 r.1 within, leaves_by t i j x fit, ne_eqb j i ne)
 
   pub leaves_are : (j : ℕ) (gs : List ℕ) → InRange p j → AreOf p t i gs → j ≢ i →
       filter (leaves p (color_in p t) i j) gs ≡ filter (λ x. is_open j t && is_in x gs) (listed_numbers p t j)
@@ -248,8 +249,7 @@ takes_cover p t i =
 pub takes_purify : (p : Puzzle) (t : List Move) (i c : ℕ) → AreLegal p t → is_open i t ≡ true
     → TakesOut p t (Purify i c) i (leavers p i (Some c) (listed_numbers p t i))
 takes_purify p t i c legal opened =
-    let gone = sym (other_numbers p i c (listed p t i) (holders p t i)) in
-    grind (arith, common_steps, ne_eqb, takes_listed)
+    grind (arith, common_steps, other_numbers p i c (listed p t i) (holders p t i), ne_eqb, takes_listed)
 
 pub own_purify : (p : Puzzle) (t : List Move) (i c : ℕ) → listed_numbers p (Purify i c ∷ t) i ≡ listed_numbers p t i
 own_purify p t i c = grind (arith, common_steps, eq-eqb)

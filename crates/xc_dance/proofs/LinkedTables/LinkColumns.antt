@@ -48,9 +48,6 @@ module _ {X : Type 0} (f : X → ℕ) where
 -- ---- hide and unhide undo one another
 
 -- where a list has v at k, it has v there after v is written anywhere
-pub get_or-set_kept : (xs : List ℕ) (i k v : ℕ) → get_or xs k 0 ≡ v → get_or (set xs i v) k 0 ≡ v
-get_or-set_kept xs i k v h = grind (arith, common_steps, get_or-set_same, get_or-set_other)
-
 -- a cell that is written and then written back is as it was
 pub written_back : (xs : List ℕ) (i j v w : ℕ) → j ≡ i → get_or xs i 0 ≡ w → set (set xs i v) j w ≡ xs
 written_back xs i j v w e h = grind (arith, common_steps, set-set)
@@ -69,7 +66,7 @@ pub record IsLinked (t : Nodes) (q : ℕ) : Type 0 where
 
 -- a node that left its list goes back to where it was
 pub relinked-unlinked : (t : Nodes) (q : ℕ) → IsLinked t q → relinked (unlinked t q) q ≡ t
-relinked-unlinked t q h = grind (arith, common_steps, get_or-set_kept, get_or-set_same, same_nodes, written_back)
+relinked-unlinked t q h = grind (arith, common_steps, get_or-set_same, same_nodes, written_back, get_or-set_other)
 
 -- ---- the columns of links and counts of a table of lines, and one write to them
 
@@ -175,7 +172,7 @@ pub record CanRelink (t : Nodes) (q : ℕ) : Type 0 where
 
 pub CanRelink-unlinked : (t : Nodes) (q : ℕ) → HasSize t (length t.top) → NamesPlaces t q → IsLinked t q
     → get_or t.top (get_or t.top q 0) 0 < 2 ^ 31 → CanRelink (unlinked t q) q
-CanRelink-unlinked t q size names linked few = grind (arith, common_steps, get_or-set_kept, get_or-set_same)
+CanRelink-unlinked t q size names linked few = grind (arith, common_steps, get_or-set_same, get_or-set_other)
 
 -- so a step of unhide may be made there
 pub CanUnhide-unlinked : (t : Nodes) (q : ℕ) → HasSize t (length t.top) → NamesPlaces t q → IsLinked t q

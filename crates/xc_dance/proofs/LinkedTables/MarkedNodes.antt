@@ -107,9 +107,7 @@ mark_is p t o j c pos has = ap (λ v. eqb v MARK) (color_is _ t _ _ _ pos has)
 
 pub closed : (j : ℕ) (t : List Move) → is_open j t ≡ false → (is_covered j t ≡ true)
     ⊎ ((c : ℕ) × (purified j t ≡ Some c))
-closed j t e =
-    elim (purified j t) as (λ o. purified j t ≡ o → (is_covered j t ≡ true) ⊎ ((c : ℕ) × (purified j t ≡ Some c)))
-    [ None ↦ λ f. inl (grind (arith, common_steps, open_is t j)) | Some c ↦ λ f. inr (c, f) ] refl
+closed j t e = grind (arith, common_steps, open_is t j)
 
 pub colour_some : (us : List Use) (j : ℕ) → is_some (colour_in us j) ≡ true → (c : ℕ) × (colour_in us j ≡ Some c)
 colour_some us j e = grind (arith, common_steps, is_some, false≢true)
@@ -162,9 +160,6 @@ abbrev slot_kept : Puzzle → ℕ → Option ℕ → List ℕ → Option (ℕ ×
 slot_kept p i keep xs None = false
 slot_kept p i keep xs (Some s) = eqb s.0 i && (is_in s.1 xs && is_kept p i keep s.1)
 
-cond_at : (b : Bool) (f g : Node → ℕ) (n : Node) → cond b f g n ≡ cond b (f n) (g n)
-cond_at b f g n = grind (arith, common_steps)
-
 none_kept : (p : Puzzle) (i : ℕ) (keep : Option ℕ) (s : Option (ℕ × ℕ)) (v : ℕ)
     → v ≡ cond (slot_kept p i keep [] s) MARK v
 none_kept p i keep None v = refl
@@ -172,10 +167,10 @@ none_kept p i keep (Some s) v = grind (arith, common_steps)
 
 pub marked_at : (p : Puzzle) (i : ℕ) (keep : Option ℕ) (now : Node → ℕ) (xs : List ℕ) (n : Node)
     → marked_list p i keep now xs n ≡ cond (slot_kept p i keep xs (slot_of n)) MARK (now n)
-marked_at p i keep now [] n = grind (arith, common_steps, cond_at, none_kept)
+marked_at p i keep now [] n = grind (arith, common_steps, none_kept)
 marked_at p i keep now (o ∷ xs) n =
     let rest = marked_at p i keep (cond (is_kept p i keep o) (with_color now i o MARK) now) xs n in
-    grind (arith, common_steps, cond_at, none_kept)
+    grind (arith, common_steps, none_kept)
 
 pub cover_colours : (p : Puzzle) (t : List Move) (i : ℕ) (n : Node) → color_in p (Cover i ∷ t) n ≡ color_in p t n
 cover_colours p t i unused = refl

@@ -1,6 +1,6 @@
 -- One list and its colours, down and back up.
 use Rattle.std.proofs.Common.{◌≡◌, ℕ, true, false, cond, ◌&&◌, eqb, List, map, get_or, set, Option, Some, None, refl}
-use Rattle.std.proofs.Common.{ap, ap₂, sym, ◌∙◌, eqb-true, eq-eqb, arith, ◌≢◌, ◌*◌, ◌<◌, ◌≤◌, inr, not, ◌||◌, []}
+use Rattle.std.proofs.Common.{ap, sym, ◌∙◌, eqb-true, eq-eqb, arith, ◌≢◌, ◌*◌, ◌<◌, ◌≤◌, inr, not, ◌||◌, []}
 use Rattle.std.proofs.Common.{◌∷◌, length, fold, filter, reverse, subst, ne_eqb}
 use Rattle.std.proofs.lemmas.Grind.{common_steps}
 use Rattle.std.proofs.lemmas.Bool.{false≢true}
@@ -36,9 +36,6 @@ use Rattle.xc_dance.proofs.LinkedTables.Walks.{AllLed, Led, Leads, Kind, Way, wa
 
 -- ---- the colour of one node of the table
 
-slot_here : (j x : ℕ) (s : Option (ℕ × ℕ)) → s ≡ Some (j, x) → is_slot j x s ≡ true
-slot_here j x s e = ap (is_slot j x) e ∙ ap₂ (λ a b. a && b) (eq-eqb j j refl) (eq-eqb x x refl)
-
 slot_is : (j x : ℕ) (s : Option (ℕ × ℕ)) → is_slot j x s ≡ true → s ≡ Some (j, x)
 slot_is j x None e = grind (arith, common_steps, eqb-true, false≢true)
 slot_is j x (Some s) e = grind (arith, common_steps, eqb-true, false≢true)
@@ -47,7 +44,7 @@ pub color_put : (p : Puzzle) (col : Node → ℕ) (j x v : ℕ) → IsLaid p →
     → map (with_color col j x v) (layout p) ≡ set (map col (layout p)) (link_place p j x) v
 color_put p col j x v laid h =
     map_put col (with_color col j x v) (layout p) (link_place p j x) v
-    (λ q n at ne. grind (arith, common_steps, slot_is)) (λ n at. grind (arith, common_steps, same_at, slot_here))
+    (λ q n at ne. grind (arith, common_steps, slot_is)) (λ n at. grind (arith, common_steps, same_at))
 
 -- a node is coloured in the table
 pub coloured_is : (p : Puzzle) (col : Node → ℕ) (ln : ℕ → Line) (j x v : ℕ) → IsLaid p → Placed p j x
@@ -137,7 +134,7 @@ mark_step p now spans (Some c) ln i o laid h near e =
     let long : length t.color ≡ length (layout p) = length-map (layout p) now in
     let is : with_colour t x MARK ≡ u = coloured_is p now ln i o MARK laid h in
     let marked : is_kept_mark (Some c) (get_or u.color x 0) ≡ true = grind
-    (arith, common_steps, eq-eqb, get_map, with_color, slot_here) in
+    (arith, common_steps, eq-eqb, get_map, with_color) in
     record {
       down = grind (arith, common_steps, false≢true);
       up = record {

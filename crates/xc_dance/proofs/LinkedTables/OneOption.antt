@@ -2,8 +2,8 @@
 use Rattle.std.proofs.Common.{ap}
 use Rattle.xc_dance.proofs.LinkedTables.Sweep.{out_rest, is_in-other}
 use Rattle.std.proofs.Common.{◌≡◌, ◌≢◌, ℕ, ◌<◌, inr, Bool, true, false, cond, eqb, List, [], ◌∷◌}
-use Rattle.std.proofs.Common.{length, map, fold, get_or, refl, sym, subst, ◌∙◌, arith, eqb-true, ne_eqb, not, ◌&&◌}
-use Rattle.std.proofs.Common.{eq-eqb, filter}
+use Rattle.std.proofs.Common.{length, map, fold, get_or, refl, sym, subst, ◌∙◌, arith, eqb-true, not, ◌&&◌}
+use Rattle.std.proofs.Common.{filter}
 use Rattle.std.proofs.lemmas.Grind.{common_steps}
 use Rattle.xc_input.specs.Problem.{Puzzle}
 use Rattle.xc_dance.specs.Fields.{Node, layout, link_place, is_in}
@@ -21,18 +21,15 @@ use Rattle.std.proofs.lemmas.Bool.{false≢true}
 use Rattle.xc_dance.proofs.LinkedTables.Walks.{Way}
 use Rattle.xc_dance.proofs.LinkedTables.GoodLines.{InRange, IsMember}
 
-line_by : (ln : ℕ → Line) (i j : ℕ) (l : Line) (b : Bool) → eqb j i ≡ b → with_line ln i l j ≡ cond b l (ln j)
-line_by ln i j l b e = grind (arith, common_steps)
-
 -- the node of option o in item j's list is marked
 abbrev pub is_mark : Puzzle → (Node → ℕ) → ℕ → ℕ → Bool
 is_mark p col o j = eqb (get_or (map (col) (layout p)) (link_place p j o) 0) MARK
 
 pub line_here : (ln : ℕ → Line) (i : ℕ) (l : Line) → with_line ln i l i ≡ l
-line_here ln i l = line_by ln i i l true (eq-eqb i i refl)
+line_here ln i l = grind (arith, common_steps)
 
 pub line_there : (ln : ℕ → Line) (i j : ℕ) (l : Line) → j ≢ i → with_line ln i l j ≡ ln j
-line_there ln i j l ne = line_by ln i j l false (ne_eqb j i ne)
+line_there ln i j l ne = grind (arith, common_steps)
 
 -- option o leaves item j's list or comes back, by what this makes of its line, unless it is marked there
 abbrev pub changed_one : (Line → ℕ → Line) → Puzzle → (Node → ℕ) → ℕ → (ℕ → Line) → ℕ → ℕ → Line

@@ -36,10 +36,6 @@ pub others_by : (us : List Use) (i k : ℕ) → AreDistinct us
 others_by [] i k d = elim (eqb k i) as (λ b. false ≡ (not b && false)) [ true ↦ refl | false ↦ refl ]
 others_by (u ∷ us) i k d = grind (arith, eq-eqb, eqb-false, eqb-true, items_of, ne_eqb, others_by us i k d.1)
 
-pub in_others : (p : Puzzle) (o i k : ℕ) → AreDistinct (uses_of p o)
-    → is_in k (other_items p o i) ≡ (not (eqb k i) && is_some (colour_in (uses_of p o) k))
-in_others p o i k d = grind (arith, common_steps, list_any-append, others_by)
-
 -- whether option o leaves item k's list by a walk down i's
 abbrev pub leaves : Puzzle → (Node → ℕ) → ℕ → ℕ → ℕ → Bool
 leaves p col i k o = is_in k (other_items p o i) && not (is_mark p col o k)
@@ -61,8 +57,7 @@ items_apart (u ∷ us) d = (items_of us u.item ∙ d.0, items_apart us d.1)
 
 others_apart_of : (us : List Use) (i : ℕ) → AreDistinct us → AllApart (behind_use i us ++ before_use i us)
 others_apart_of [] i d = grind (arith, common_steps, all_insert, append-nil, items_apart, others_by)
-others_apart_of (u ∷ us) i d =
-    grind (arith, common_steps, all_insert, append-nil, items_apart, others_by, others_apart_of us i d.1)
+others_apart_of (u ∷ us) i d = grind (arith, all_insert, append-nil, items_apart, others_by, others_apart_of us i d.1)
 
 pub in_reverse : (k : ℕ) (xs : List ℕ) → is_in k (reverse xs) ≡ is_in k xs
 in_reverse k xs = sym (list_any-IsPermutation (λ j. eqb j k) xs (reverse xs) (IsPermutation-reverse xs))
@@ -82,7 +77,7 @@ item_range p (u ∷ us) j a e = grind (arith, common_steps, eqb-true, item_range
 
 -- the item itself isn't among them
 pub own_apart : (p : Puzzle) (i o : ℕ) → IsFit p → is_in i (other_items p o i) ≡ false
-own_apart p i o fit = grind (arith, common_steps, in_others, is_some, eq-eqb)
+own_apart p i o fit = grind (arith, common_steps, list_any-append, others_by)
 
 -- one of them
 pub record OtherItem (p : Puzzle) (o i j : ℕ) : Type 0 where
@@ -91,7 +86,8 @@ pub record OtherItem (p : Puzzle) (o i j : ℕ) : Type 0 where
   pub item : InRange p j
 
 pub other_item : {p : Puzzle} (o i j : ℕ) → IsFit p → is_in j (other_items p o i) ≡ true → OtherItem p o i j
-other_item {p} o i j fit e = grind (arith, common_steps, and_parts, in_others, false≢true, eq-eqb, item_range)
+other_item {p} o i j fit e =
+    grind (arith, common_steps, and_parts, false≢true, item_range, list_any-append, others_by)
 
 -- ---- a walk down item i's list, which keeps the options of a colour: what it does to the lines
 

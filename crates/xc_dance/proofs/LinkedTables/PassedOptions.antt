@@ -1,6 +1,6 @@
 -- Which option's node stands at a place, by the spacers that a walk over the options passes.
 use Rattle.xc_dance.proofs.LinkedTables.FittedLemmas.{known_fit}
-use Rattle.std.proofs.Common.{◌≡◌, ℕ, ◌+◌, ◌-◌, ◌<◌, ◌≤◌, ◌^◌, Some, List, length, ap, ◌∙◌}
+use Rattle.std.proofs.Common.{◌≡◌, ℕ, ◌+◌, ◌-◌, ◌<◌, ◌≤◌, ◌^◌, Some, List, length, ◌∙◌}
 use Rattle.std.proofs.Common.{arith}
 use Rattle.std.proofs.lemmas.Grind.{common_steps}
 use Rattle.xc_input.specs.declared.problem.Use.{Use}
@@ -35,8 +35,7 @@ before_last p i x q u = omega (arith, (use_between p i x q u).1, place_grows p x
 pub option_between : (p : Puzzle) (i x q n : ℕ) → IsUseAt p i x q → spacer_place p n ≤ q → q < spacer_place p (n + 1)
     → n + 1 ≡ x
 option_between p i x q n u from below =
-    let b = use_between p i x q u in
-    grind (arith, common_steps, place_grows p (n + 1) (x - 1), place_grows p x n)
+    grind (arith, common_steps, use_between p i x q u, place_grows p (n + 1) (x - 1), place_grows p x n)
 
 -- ---- the place of a use, behind its option's first node
 
@@ -50,8 +49,4 @@ pub use_stands : (a : Named) (i o first k : ℕ) (us : List Use) → IsSound a �
 use_stands a i o first k us sound known holds found start index =
     let p = a.puzzle in
     let nodes = option_nodes p o known in
-    let same : k ≡ (place_in i (uses_of p o)) = index ∙ ap (place_in i) (uses_here p o us found) in
-    record {
-      is = omega (arith, nodes.place i, same, start);
-      small = omega (arith, nodes.end, place_within p o known.1, holds, (sound_fit a sound).near, same, start);
-    }
+    grind (arith, common_steps, uses_here p o us found, place_within p o known.1, sound_fit a sound)

@@ -111,9 +111,6 @@ tail_from n os = spacer n ∷ flat_map nodes_of (numbered_from (n + 1) os)
 abbrev pub front : Puzzle → List Node
 front p = unused ∷ map own (range_with_len 1 (item_count p))
 
-pub length_front : (p : Puzzle) → length (front p) ≡ item_count p + 1
-length_front p = let h = length-map-range_with_len own 1 (item_count p) in omega (arith, h)
-
 -- behind the spacer before an option its nodes stand, and then the same begins anew
 uses_from : (p : Puzzle) (o : ℕ) (us : List Use) → slice_get p.options o ≡ Some us
     → drop (spacer_place p o) (layout p) ≡ tail_from o (drop o p.options)
@@ -124,7 +121,7 @@ uses_from p o us e from =
 -- the table from the spacer behind option o on
 dropped : (p : Puzzle) (o : ℕ) → o ≤ option_count p
     → drop (spacer_place p o) (layout p) ≡ tail_from o (drop o p.options)
-dropped p zero le = grind (arith, common_steps, place_first, length_front, drop-append_seam)
+dropped p zero le = grind (arith, common_steps, place_first, drop-append_seam, length-map-range_with_len, own)
 dropped p (suc o) le =
     let us = get_or p.options o [] in
     let e = slice_get-get_or p.options o [] (omega (arith, le)) in

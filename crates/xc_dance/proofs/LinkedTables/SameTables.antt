@@ -134,9 +134,6 @@ is_same p q sp sq i j n m xs ys ms ns a b is_i is_j is_n is_m is_ms is_ns =
 abbrev pub Tells : Bool → Type 0 → Type 0
 Tells b P = (IsTrue b → P) × (P → IsTrue b)
 
-pub tells_both : (v a b : Bool) (P Q : Type 0) → IsTrue a → Tells a P → v ≡ b → Tells b Q → Tells v (P × Q)
-tells_both v a b P Q holds x is y = grind (arith, common_steps)
-
 pub tells_none : (v a : Bool) (P Q : Type 0) → (IsTrue a → ⊥) → Tells a P → v ≡ a → Tells v (P × Q)
 tells_none v a P Q fails x is = ((λ e. absurd (fails (subst IsTrue is e))), (λ h. absurd (fails (x.1 h.0))))
 

@@ -252,5 +252,4 @@ down_after p t m j l s (suc x) = grind (arith, common_steps)
 -- each item's line stands for its list
 pub stands : (p : Puzzle) (t : List Move) (j : ℕ) → IsLinkedFrom (line_of p t j) 0 (listed_numbers p t j)
 stands p [] j = grind (arith, common_steps, in_above, linked_by, rises_listed p [] j, listed_numbers p [] j)
-stands p (m ∷ t) j =
-    grind (arith, common_steps, in_above, was_in, linked_by, rises_listed p (m ∷ t) j, listed_numbers p (m ∷ t) j)
+stands p (m ∷ t) j = grind (arith, common_steps, in_above, was_in, linked_by, rises_listed p (m ∷ t) j)

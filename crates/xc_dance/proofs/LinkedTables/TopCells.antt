@@ -1,22 +1,21 @@
 -- What a cell that is read is, and that different cells read differently.
 use Rattle.std.proofs.Common.{◌≡◌, ℕ, suc, List, Option, Some, None, refl, ap, eqb-true, ◌-◌, ◌<◌, ◌≤◌}
 use Rattle.std.proofs.Common.{le-leb, arith, zero, ◌+◌, ◌^◌, map, sym, ◌∙◌, ltb-true, ltb-false, ◌≢◌}
-use Rattle.std.proofs.Common.{cond, eqb, leb, ltb, ne_eqb, leb-true, lt-ltb, le-ltb}
+use Rattle.std.proofs.Common.{cond, ltb, ne_eqb, leb-true, lt-ltb, le-ltb}
 use Rattle.std.specs.Prelude.{ℤ, pos, slice_get, option_map, neg_ℤ}
 use Rattle.std.specs.List.{range_with_len}
 use Rattle.std.proofs.lemmas.Grind.{common_steps}
 use Rattle.std.proofs.lemmas.Option.{same_Some, slice_get-map}
 use Rattle.std.proofs.lemmas.Bool.{lt-leb, eqb-false, leb-false}
 use Rattle.std.proofs.lemmas.List.{length-map}
-use Rattle.xc_input.specs.Problem.{Puzzle, item_count, primary_count, high_at, low_at, uses_of}
+use Rattle.xc_input.specs.Problem.{Puzzle, item_count, uses_of}
 use Rattle.xc_dance.specs.inner.Links.Read.{color_read, top_read}
 use Rattle.xc_dance.specs.declared.dance.Move.{Move}
-use Rattle.xc_dance.specs.Fields.{Node, unused, own, spacer, used, layout, field_of, top_of, color_of, item_cell}
-use Rattle.xc_dance.specs.Fields.{primary_cell, ring_of, left_of, right_of, first_of, last_of}
+use Rattle.xc_dance.specs.Fields.{Node, unused, own, spacer, used, layout, field_of, top_of, color_of}
 use Rattle.xc_dance.specs.inner.Links.Cells.{top_in, line_of, nodes_after, color_in}
 use Rattle.xc_dance.specs.inner.Links.Laid.{IsLaid, IsFit}
 use Rattle.xc_dance.specs.declared.links.field.Field.TheVariants.{Llink, Rlink, Bound, Slack, Top, Ulink, Dlink, Color}
-use Rattle.xc_dance.specs.Moves.{listed, spends}
+use Rattle.xc_dance.specs.Moves.{listed}
 use Rattle.xc_dance.specs.inner.Links.ItemCells.{items_after}
 use Rattle.xc_dance.proofs.MoveLemmas.ListLemmas.{length-listed}
 use Rattle.xc_dance.proofs.LinkedTables.PlaceLemmas.{is_at, spacer_here, place_first}
@@ -73,17 +72,13 @@ node_at : (p : Puzzle) (f : Node → ℕ) (q v : ℕ) → slice_get (map f (layo
     × (slice_get (layout p) q ≡ Some n) × (f n ≡ v)
 node_at p f q v e = grind (arith, common_steps, same_Some, slice_get-map)
 
-top_elsewhere : (p : Puzzle) (t : List Move) (k v : ℕ) → IsSound p → k ≢ item_count p + 1
-    → slice_get (nodes_after p t).top k ≡ Some v → v ≢ SPACER
-top_elsewhere p t k v s other e is = grind (arith, common_steps, node_at, first_spacer)
-
 pub top_cells : (p q : Puzzle) (t s : List Move) (k : ℕ) → IsSound p → IsSound q → item_count p ≡ item_count q →
     option_map top_read (slice_get (nodes_after p t).top k) ≡ option_map top_read (slice_get (nodes_after q s).top k)
     → slice_get (nodes_after p t).top k ≡ slice_get (nodes_after q s).top k
 top_cells p q t s k a b items e = by_first _ k (item_count p + 1)
     (λ is. top_at_first p t k is ∙ sym (top_at_first q s k (is ∙ ap (λ n. n + 1) items)))
-    (λ other. read_same top_read _ _ (λ v w f g h. top_same v w (top_elsewhere p t k v a other f)
-    (top_elsewhere q s k w b (λ e. other (e ∙ ap (λ n. n + 1) (sym items))) g) h) e)
+    (λ other. read_same top_read _ _ (λ v w f g h. top_same v w (grind (arith, common_steps, node_at, first_spacer))
+    (grind (arith, common_steps, node_at, first_spacer)) h) e)
 
 -- ---- a cell that is read is the field
 
@@ -93,15 +88,6 @@ row_read f a (suc n) zero = grind (arith, common_steps, lt-ltb)
 row_read f a (suc n) (suc q) = grind (arith, common_steps, le-ltb, lt-ltb, ltb-false, ltb-true, row_read f (a + 1) n q)
 
 -- the columns from 0 to the items and one more
-item_row : (p : Puzzle) (inner : ℕ → ℕ) (first last q : ℕ)
-    → read (map (λ k. cond (eqb k 0) first (cond (leb k (item_count p)) (inner k) last))
-    (range_with_len 0 (item_count p + 2))) q ≡ item_cell p q inner first last
-item_row p inner first last q = grind (arith, eqb-false, eqb-true, le-ltb, leb-false, leb-true, lt-ltb, row_read)
-
-bound_row : (p : Puzzle) (f : ℕ → ℕ) (q : ℕ) → q ≢ 0
-    → read (map (λ k. cond (eqb k 0) 0 (f k)) (range_with_len 0 (primary_count p + 1))) q ≡ primary_cell p q (f q)
-bound_row p f q ne = grind (arith, common_steps, le-ltb, leb-false, leb-true, lt-ltb, ne_eqb, row_read)
-
 -- a column of the layout, by its nodes
 column_read : {X : Type 0} (f : X → ℕ) (g : ℕ → ℤ) (h : X → ℤ) (xs : List X) (q : ℕ)
     → ((n : X) → slice_get xs q ≡ Some n → g (f n) ≡ h n)
@@ -113,18 +99,16 @@ spacer_top n = let rest : SPACER + n - SPACER ≡ n = omega arith in grind (arit
 
 module _ (p : Puzzle) (t : List Move) (q : ℕ) where
   pub llink_read : read (items_after p t).llink q ≡ field_of p t Llink q
-  llink_read = item_row p (left_of p t) (last_of 0 (ring_of p t 0))
-      (last_of (item_count p + 1) (ring_of p t (primary_count p + 1))) q
+  llink_read = grind (arith, eqb-false, eqb-true, le-ltb, leb-false, leb-true, lt-ltb, row_read)
 
   pub rlink_read : read (items_after p t).rlink q ≡ field_of p t Rlink q
-  rlink_read = item_row p (right_of p t) (first_of 0 (ring_of p t 0))
-      (first_of (item_count p + 1) (ring_of p t (primary_count p + 1))) q
+  rlink_read = grind (arith, eqb-false, eqb-true, le-ltb, leb-false, leb-true, lt-ltb, row_read)
 
   pub bound_read : q ≢ 0 → read (items_after p t).bound q ≡ field_of p t Bound q
-  bound_read ne = bound_row p (λ k. high_at p k - spends k t) q ne
+  bound_read ne = grind (arith, common_steps, le-ltb, leb-false, leb-true, lt-ltb, ne_eqb, row_read)
 
   pub slack_read : q ≢ 0 → read (items_after p t).slack q ≡ field_of p t Slack q
-  slack_read ne = bound_row p (λ k. high_at p k - low_at p k) q ne
+  slack_read ne = grind (arith, common_steps, le-ltb, leb-false, leb-true, lt-ltb, ne_eqb, row_read)
 
   pub top_cell : IsLaid p → IsFit p → item_count p < 2 ^ 31
       → option_map top_read (slice_get (nodes_after p t).top q) ≡ field_of p t Top q

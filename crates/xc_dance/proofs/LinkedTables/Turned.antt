@@ -70,17 +70,11 @@ pub link_gone : (p : Puzzle) (d : Bool) (t : List Move) (m : Move) (q : ℕ) →
 link_gone p true t m q pos le e = grind (arith, common_steps, item_cell)
 link_gone p false t m q pos le e = grind (arith, common_steps, item_cell)
 
-place_case : (p : Puzzle) (q : ℕ) → q < item_count p + 2
-    → (q ≡ 0) ⊎ (((0 < q) × (q ≤ item_count p)) ⊎ (q ≡ item_count p + 1))
-place_case p q lt = grind (arith, common_steps)
-
 -- the cells of places that are in their rings
 link_is : (p : Puzzle) (d : Bool) (t : List Move) (q : ℕ) → q < item_count p + 2 → Stays p t q
     → link p d t q ≡ beside d (ring_head p q) q (ring_of p t q)
-link_is p true t q lt stays =
-    grind (arith, common_steps, item_cell, right_now, head_other, le-leb, lt-leb, eq-eqb, ne_eqb, place_case p q lt)
-link_is p false t q lt stays =
-    grind (arith, common_steps, item_cell, left_now, head_other, le-leb, lt-leb, eq-eqb, ne_eqb, place_case p q lt)
+link_is p true t q lt stays = grind (arith, common_steps, item_cell, right_now, head_other, le-leb, lt-leb, ne_eqb)
+link_is p false t q lt stays = grind (arith, common_steps, item_cell, left_now, head_other, le-leb, lt-leb, ne_eqb)
 
 -- an item's links lead to others
 pub link_other : (p : Puzzle) (d : Bool) (t : List Move) (q : ℕ) → 0 < q → q ≤ item_count p → is_covered q t ≡ false
@@ -103,8 +97,7 @@ side_in p false r pos le e = grind (arith, in_range, leb-false)
 
 in_side : (p : Puzzle) (b : Bool) (r : ℕ) → is_in r (whole p b) ≡ true
     → (0 < r) × (r ≤ item_count p) × (side p r ≡ b)
-in_side p true r e = let h = range_in r 0 (primary_count p) e in
-    (h.0, omega (arith, h.1), le-leb r (primary_count p) (omega (arith, h.1)))
+in_side p true r e = grind (arith, common_steps, range_in r 0 (primary_count p) e, le-leb)
 in_side p false r e = grind (arith, range_in, lt-leb)
 
 -- the head of a ring or one of its items
@@ -112,7 +105,7 @@ abbrev InRing : Puzzle → List Move → ℕ → ℕ → Type 0
 InRing p t q r = (eqb r (ring_head p q) || is_in r (ring_of p t q)) ≡ true
 
 in_ring : (p : Puzzle) (t : List Move) (q : ℕ) → q < item_count p + 2 → Stays p t q → InRing p t q q
-in_ring p t q lt stays = grind (arith, in_filter, whole, side, eq-eqb, le-leb, lt-leb, side_in, place_case)
+in_ring p t q lt stays = grind (arith, in_filter, whole, side, eq-eqb, le-leb, lt-leb, side_in)
 
 ring_in : (p : Puzzle) (t : List Move) (q r : ℕ) → InRing p t q r → IsBeside p t (side p q) r
 ring_in p t q r within = grind (arith, in_filter, whole, side, eqb-true, le-leb, lt-leb, in_side)
@@ -144,9 +137,7 @@ beside_left p d t i q r pos le within =
     let row = subst (λ ks. IsRow (past i (on true)) (past i (on false)) h ks h) (sym (ring_less p t i q))
     (row_less (on true) (on false) h i 0 (ring_of p t q) h (ring_rises p t q) (head_other p q i pos le)
     (head_other p q i pos le) (ring_row p t q)) in
-    let same = row_same _ _ _ _ h (ring_of p (Cover i ∷ t) q) h (ring_row p (Cover i ∷ t) q) row r in
-    elim d as (λ d. beside_on p (Cover i ∷ t) (side p q) d r ≡ past i (on d) r)
-    [ true ↦ same.0 within | false ↦ same.1 within ]
+    grind (arith, common_steps, row_same, ring_row p (Cover i ∷ t) q, side p q, past)
 
 pub link_beside : (p : Puzzle) (d : Bool) (t : List Move) (q : ℕ) → AreLegal p t → q < item_count p + 2 → Stays p t q
     → IsBeside p t (side p q) (link p d t q)
@@ -169,15 +160,7 @@ next_in p t d i legal pos le un q lt stays =
     let l = link p (not d) t i in
     let back : link p d t l ≡ i =
     ap (λ c. link p c t l) (sym (not-not d)) ∙ link_back p (not d) t i legal within (λ _ _. un) in
-    let on = beside_on p t (side p q) d in
-    let after : link p d (Cover i ∷ t) q ≡ cond (eqb (link p d t q) i) (on i) (link p d t q) =
-    grind (arith, common_steps, link_is, beside_left, in_ring) in
-    let same : side p q ≡ side p i → on i ≡ link p d t i = λ e.
-    ap (λ b. beside_on p t b d i) e ∙ sym (link_is p d t i (omega (arith, le)) (λ _ _. un)) in
-    after ∙ by_first (cond (eqb (link p d t q) i) (on i) (link p d t q) ≡ cond (eqb q l) (link p d t i)
-    (link p d t q)) q l
-    (λ e. rw (eq-eqb (link p d t q) i (ap (link p d t) e ∙ back), eq-eqb q l e) (same (ap (side p) e ∙ own.side)))
-    (λ ne. rw (ne_eqb (link p d t q) i (λ e. ne (sym here ∙ ap (link p (not d) t) e)), ne_eqb q l ne) refl)
+    grind (arith, common_steps, side p q, link_is, beside_left, in_ring, side p i, by_first, side p, ne_eqb)
 
 pub link_next : (p : Puzzle) (d : Bool) (t : List Move) (i : ℕ) → AreLegal p t → 0 < i → i ≤ item_count p
     → is_covered i t ≡ false → (q : ℕ) → q < item_count p + 2
@@ -210,9 +193,7 @@ way_step p d t i legal pos le un =
     let beside : link p (not d) t i < item_count p + 2 = (link_beside p (not d) t i legal within (λ _ _. un)).place in
     let put : links p d (Cover i ∷ t) ≡ set (links p d t) (link p (not d) t i) (link p d t i) =
     grind (arith, common_steps, eq-eqb, ne_eqb, row_put, link_next) in
-    let there : link p d t (link p (not d) t i) ≡ i =
-    ap (λ c. link p c t (link p (not d) t i)) (sym (not-not d)) ∙ link_back p (not d) t i legal within (λ _ _. un) in
-    grind (arith, common_steps, row_get, row_len, written_back)
+    grind (arith, common_steps, not-not d, link_back, row_get, row_len, written_back)
 
 pub ring_step : (p : Puzzle) (t : List Move) (i : ℕ) → AreLegal p t → IsLegal p t (Cover i) → RingStep p t i
 ring_step p t i legal may =

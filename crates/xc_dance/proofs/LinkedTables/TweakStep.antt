@@ -3,7 +3,6 @@ use Rattle.std.proofs.Common.{◌≡◌, ◌≢◌, ℕ, ◌+◌, ◌*◌, ◌<�
 use Rattle.std.proofs.Common.{length, filter, get_or, refl, ap, sym, subst, ◌∙◌, arith, eqb-true, eq-eqb}
 use Rattle.std.proofs.Common.{ne_eqb, ◌&&◌, ◌||◌}
 use Rattle.std.proofs.lemmas.Grind.{common_steps}
-use Rattle.std.specs.List.{AllByRecursion}
 use Rattle.std.proofs.lemmas.Bool.{false≢true}
 use Rattle.std.proofs.lemmas.List.{length-map}
 use Rattle.xc_dance.specs.declared.dance.Move.{Move}
@@ -25,7 +24,7 @@ use Rattle.xc_dance.proofs.LinkedTables.LinkColumns.{size_from}
 use Rattle.xc_dance.proofs.LinkedTables.GoodLines.{IsMember, unlinked-is, linked-is, member_cells, Named}
 use Rattle.xc_dance.proofs.LinkedTables.GoodLines.{InRange, numbers_named}
 use Rattle.xc_dance.proofs.LinkedTables.GoodLines.{SameCut, line_after, tables_same}
-use Rattle.xc_dance.proofs.LinkedTables.Sweep.{Rises, Rises-filter, cuts, is_in-first, leave_none, cut}
+use Rattle.xc_dance.proofs.LinkedTables.Sweep.{Rises-filter, cuts, is_in-first, leave_none, cut}
 use Rattle.xc_dance.proofs.LinkedTables.Sweep.{with_line, other_items, by_first}
 use Rattle.xc_dance.proofs.LinkedTables.OneOption.{left_all, gone_count}
 use Rattle.xc_dance.proofs.LinkedTables.OtherItems.{leaves, list_at, own_apart}
@@ -58,14 +57,7 @@ first_there (x ∷ xs) h = (x, (xs, refl))
 pub has_first : (p : Puzzle) (t : List Move) (i : ℕ) → 0 < length (listed p t i) → HasFirst p t i
 has_first p t i h =
     let f = first_there (listed_numbers p t i) (omega (arith, h, length-map (listed p t i) (λ o. o.number))) in
-    record {
-      o = f.0;
-      os = f.1.0;
-      is = f.1.1;
-      pos = (subst (Rises 0) f.1.1 (rises_listed p t i)).0;
-      named = (subst (AllByRecursion (Named p i)) f.1.1 (numbers_named p t i)).0;
-      within = ap (is_in f.0) f.1.1 ∙ is_in-first f.0 f.1.0;
-    }
+    grind (arith, common_steps, rises_listed p t i, numbers_named p t i, is_in-first f.0 f.1.0)
 
 -- ---- what leaves each line
 

@@ -129,25 +129,16 @@ plain_unmarked p t legal fitted plain = record {
 }
 
 -- the same for the tables of a keeper
-pub kept_unmarked : (p : Puzzle) (t : List Move) (coloured : Bool) (spans : List Span) (nodes : Nodes) → AreLegal p t
-    → IsFitted p (spans_of p) → spans ≡ spans_of p → nodes ≡ nodes_after p t → (coloured ≡ false → IsPlain p) →
-    coloured ≡ false → IsUnmarked spans nodes.color
-kept_unmarked p t coloured spans nodes legal fitted a b plain none = grind (arith, common_steps, plain_unmarked)
-
 -- ---- the walks
-
-kept_color : (step : Nodes → ℕ → Nodes) → ((t : Nodes) (q : ℕ) → (step t q).color ≡ t.color) → (spans : List Span)
-    (t u : Nodes) (qs : List ℕ) → u ≡ fold step t qs → IsUnmarked spans t.color → IsUnmarked spans u.color
-kept_color step same spans t u qs done = grind (arith, common_steps, colors-are)
 
 -- a step down that keeps no colour marks none
 pub left_unmarked : (spans : List Span) (marks : Bool) (keep : Option ℕ) (t u : Nodes) (x : ℕ)
     → u ≡ left_node spans keep t x → (marks ≡ false → keep ≡ None) → (marks ≡ false → IsUnmarked spans t.color) →
     marks ≡ false → IsUnmarked spans u.color
-left_unmarked spans marks keep t u x done none h m = grind (arith, kept_color, hidden, hidden_color)
+left_unmarked spans marks keep t u x done none h m = grind (arith, colors-are, hidden, hidden_color)
 
 -- nor does a step up
 pub back_unmarked : (spans : List Span) (marks : Bool) (keep : Option ℕ) (t u : Nodes) (x : ℕ)
     → u ≡ back_node spans keep t x → (marks ≡ false → keep ≡ None) → (marks ≡ false → IsUnmarked spans t.color) →
     marks ≡ false → IsUnmarked spans u.color
-back_unmarked spans marks keep t u x done none h m = grind (arith, kept_color, unhidden, unhidden_color)
+back_unmarked spans marks keep t u x done none h m = grind (arith, colors-are, unhidden, unhidden_color)

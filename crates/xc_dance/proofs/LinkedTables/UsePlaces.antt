@@ -1,6 +1,6 @@
 -- The nodes of an option's uses, and what the tables tell there: for calls that go over an option by its nodes.
 use Rattle.std.proofs.Common.{◌≡◌, ℕ, suc, ◌+◌, ◌<◌, ◌≤◌, true, List, [], ◌∷◌, length}
-use Rattle.std.proofs.Common.{get_or, Some, ap, sym, ◌∙◌, arith, eq-eqb}
+use Rattle.std.proofs.Common.{get_or, Some, ap, ◌∙◌, arith, eq-eqb}
 use Rattle.std.proofs.Common.{inl, inr, ◌-◌, length-drop, length-take}
 use Rattle.std.specs.Prelude.{is_some, slice_get}
 use Rattle.std.proofs.lemmas.Option.{slice_get_within}
@@ -69,9 +69,7 @@ place_at_use {p} {i} {x} u = u.at ∙ (option_nodes p x u.known).place i
 pub behind_segment : {p : Puzzle} {i x q : ℕ} → IsUseAt p i x q → Segment p x (q + 1) (uses_behind p i x)
 behind_segment {p} {i} {x} {q} held k u e =
     let n = place_in i (uses_of p x) + 1 in
-    let at : q + 1 + k ≡ start_at p (x - 1) + (n + k) = omega (arith, place_at_use held) in
-    ap (slice_get (layout p)) at
-    ∙ (option_nodes p x held.known).node (n + k) u (sym (get_dropped n k (uses_of p x)) ∙ e)
+    grind (arith, common_steps, place_at_use held, option_nodes p x held.known, get_dropped n k (uses_of p x))
 
 pub before_segment : {p : Puzzle} {i x q : ℕ} → IsUseAt p i x q → Segment p x (start_at p (x - 1)) (uses_before p i x)
 before_segment {p} {i} {x} held k u e =
@@ -79,9 +77,7 @@ before_segment {p} {i} {x} held k u e =
 
 -- the uses behind it end at the spacer
 pub behind_all : {p : Puzzle} {i x q : ℕ} → IsUseAt p i x q → q + 1 + length (uses_behind p i x) ≡ spacer_place p x
-behind_all {p} {i} {x} held =
-    let us = uses_of p x in
-    omega (arith, length-drop (place_in i us + 1) us, held.holds, place_at_use held, (option_nodes p x held.known).end)
+behind_all {p} {i} {x} held = grind (arith, common_steps, length-drop, place_at_use held, option_nodes p x held.known)
 
 -- and those before at it
 pub before_all : {p : Puzzle} {i x q : ℕ} → IsUseAt p i x q → start_at p (x - 1) + length (uses_before p i x) ≡ q

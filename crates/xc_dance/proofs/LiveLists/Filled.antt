@@ -1,5 +1,7 @@
 -- The lists before any move, filled option by option.
-use Rattle.std.proofs.Common.{ℕ, zero, suc, ◌≡◌, ◌≢◌, ◌+◌, ◌<◌, Bool, false, cond, eqb, List, [], ◌∷◌, ◌++◌}
+use Rattle.std.proofs.lemmas.List.Folds.{list_any-append}
+use Rattle.std.proofs.Math.Bool.{or-false}
+use Rattle.std.proofs.Common.{ℕ, zero, suc, ◌≡◌, ◌≢◌, ◌+◌, ◌<◌, false, cond, eqb, List, [], ◌∷◌, ◌++◌}
 use Rattle.std.proofs.Common.{length, get_or, set, map, take, replicate, refl, ap, ap₂, arith}
 use Rattle.xc_input.proofs.OptionLemmas.NumberedOptions.{numbered_from}
 use Rattle.std.proofs.lemmas.Grind.{common_steps}
@@ -9,16 +11,14 @@ use Rattle.std.proofs.lemmas.Bool.{ne_eqb}
 use Rattle.std.proofs.lemmas.List.{length-take-le, get_or-take, get_or_default, append-nil}
 use Rattle.std.proofs.lemmas.List.Folds.{list_any_none}
 use Rattle.xc_input.specs.declared.problem.Use.{Use}
-use Rattle.xc_input.specs.Problem.{Puzzle, Numbered, item_count, holding}
+use Rattle.xc_input.specs.Problem.{Puzzle, item_count, holding}
 use Rattle.xc_dance.specs.inner.Lists.Taking.{list_at}
 use Rattle.xc_dance.specs.inner.Lists.Losing.{enlisted_from, enlisted, has_use, lists_before}
 use Rattle.xc_dance.specs.declared.dance.Move.{Move}
 use Rattle.xc_dance.proofs.LiveLists.OptionsLost.{has_use_other}
 use Rattle.xc_dance.proofs.MoveLemmas.Shortened.{holds_use}
 use Rattle.xc_dance.proofs.MoveLemmas.ListLemmas.{numbers}
-use Rattle.std.proofs.Common.{eq-eqb}
 use Rattle.std.proofs.Math.Bool.{or-true}
-use Rattle.xc_dance.proofs.LiveLists.OptionsLost.{has_use_more}
 
 pub length-enlisted_from : (us : List Use) (o n : ℕ) (ls : List (List ℕ)) → length (enlisted_from us o n ls) ≡ length ls
 length-enlisted_from us o n [] = refl
@@ -40,7 +40,8 @@ pub enlisted_more : (us : List Use) (u : Use) (o n k : ℕ) (ls : List (List ℕ
     set (enlisted_from us o n ls) k (list_at (enlisted_from us o n ls) k ++ o ∷ []) ≡ enlisted_from
     (us ++ u ∷ []) o n ls
 enlisted_more us u o n k [] e new lt = refl
-enlisted_more us u o n zero (l ∷ ls) e new lt = grind (arith, enlisted_above, has_use_more, eq-eqb, or-true)
+enlisted_more us u o n zero (l ∷ ls) e new lt =
+    grind (arith, common_steps, enlisted_above, or-true, list_any-append, or-false)
 enlisted_more us u o n (suc k) (l ∷ ls) e new lt =
     grind (arith, common_steps, has_use_other, enlisted_more us u o (n + 1) k ls (omega (arith, e)) new)
 
@@ -69,14 +70,10 @@ numbered_more : (os : List (List Use)) (us : List Use) (n : ℕ)
 numbered_more [] us n = grind (arith, common_steps)
 numbered_more (vs ∷ os) us n = grind (arith, common_steps, numbered_more os us (n + 1))
 
-at_end : (front : List ℕ) (x : Numbered) (n : ℕ) → n ≡ x.number → (b : Bool)
-    → cond b (front ++ n ∷ []) front ≡ front ++ numbers (cond b (x ∷ []) [])
-at_end front x n e b = grind (arith, common_steps, append-nil)
-
 filled_more : (os : List (List Use)) (us : List Use) (i : ℕ)
     → (let old = numbers (holding i (numbered_from 1 os)) in cond (has_use us i) (old ++ (length os + 1) ∷ []) old)
     ≡ numbers (holding i (numbered_from 1 (os ++ us ∷ [])))
-filled_more os us i = grind (arith, common_steps, at_end, holds_use, numbered_more)
+filled_more os us i = grind (arith, common_steps, holds_use, numbered_more, append-nil)
 
 pub lists_more : (p : Puzzle) (os : List (List Use)) (us : List Use) (o : ℕ) → o ≡ length os + 1
     → enlisted us o (lists_of p os) ≡ lists_of p (os ++ us ∷ [])

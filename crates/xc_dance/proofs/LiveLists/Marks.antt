@@ -4,7 +4,6 @@ use Rattle.std.proofs.Common.{arith, le-leb}
 use Rattle.std.proofs.lemmas.Grind.{common_steps}
 use Rattle.std.proofs.lemmas.Bool.{lt-leb, leb-true, leb-false}
 use Rattle.xc_dance.specs.declared.lists.undo_log.Removed.{Removed}
-use Rattle.xc_dance.specs.inner.Lists.Versions.{Versions}
 use Rattle.xc_dance.specs.inner.Lists.Taking.{restored, still_taken, lists_at_marks, AreMarks, IsPutBack}
 
 -- nothing above the mark
@@ -14,11 +13,6 @@ restored_at k [] ls le = grind (arith, common_steps, lt-leb)
 restored_at k (e ∷ es) ls le = grind (arith, common_steps, lt-leb)
 
 -- what is taken after the mark doesn't count
-pub restored_more : (rooms : List ℕ) (k : ℕ) (e : Removed) (es : List Removed) (new old : List (List ℕ)) → k ≤ length es
-    → IsPutBack rooms e new old → (restored k (e ∷ es) new ≡ restored k es old)
-    × (still_taken k (e ∷ es) ≡ still_taken k es)
-restored_more rooms k e es new old le back = grind (arith, common_steps, le-leb)
-
 -- how much is still taken
 pub length-still_taken : (k : ℕ) (es : List Removed) → k ≤ length es → length (still_taken k es) ≡ k
 length-still_taken k [] le = omega (arith, le)
@@ -27,8 +21,8 @@ length-still_taken k (e ∷ es) le = grind (arith, common_steps, leb-true, leb-f
 -- the lists at the marks stay where a number is taken
 pub marks_more : (rooms : List ℕ) (ks : List ℕ) (e : Removed) (es : List Removed) (new old : List (List ℕ))
     → AreMarks ks (length es) → IsPutBack rooms e new old → lists_at_marks ks (e ∷ es) new ≡ lists_at_marks ks es old
-marks_more rooms [] e es new old marks back = grind (arith, common_steps, restored_more)
-marks_more rooms (k ∷ ks) e es new old marks back = grind (arith, common_steps, restored_more)
+marks_more rooms [] e es new old marks back = grind (arith, common_steps, le-leb)
+marks_more rooms (k ∷ ks) e es new old marks back = grind (arith, common_steps, le-leb)
 
 pub marks_weaker : (ks : List ℕ) (m n : ℕ) → m ≤ n → AreMarks ks m → AreMarks ks n
 marks_weaker [] m n le marks = tt
@@ -38,8 +32,3 @@ pub length-lists_at_marks : (ks : List ℕ) (es : List Removed) (ls : List (List
     → length (lists_at_marks ks es ls) ≡ length ks
 length-lists_at_marks [] es ls = refl
 length-lists_at_marks (k ∷ ks) es ls = ap suc (length-lists_at_marks ks (still_taken k es) (restored k es ls))
-
-pub same_versions : {ls ls' : List (List ℕ)} {ms ms' : List (List (List ℕ))} {r r' : ℕ} → ls ≡ ls' → ms ≡ ms' → r ≡ r' →
-    let a : Versions = record { lists = ls; marked = ms; room = r } in let b : Versions =
-    record { lists = ls'; marked = ms'; room = r' } in a ≡ b
-same_versions p q e = grind (arith, p, q, e)

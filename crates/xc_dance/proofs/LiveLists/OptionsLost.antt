@@ -87,8 +87,7 @@ pub lose_other : (t : List Move) (j : ℕ) (gone : List ℕ) (n k : ℕ) (ls : L
     → list_at (lose_from t j gone n ls) k ≡ list_at ls k
 lose_other t j gone n k [] e = grind (arith, common_steps, eq-eqb)
 lose_other t j gone n zero (l ∷ ls) e = grind (arith, common_steps, eq-eqb)
-lose_other t j gone n (suc k) (l ∷ ls) e =
-    grind (arith, common_steps, eq-eqb, lose_other t j gone (n + 1) k ls (omega (arith, e)))
+lose_other t j gone n (suc k) (l ∷ ls) e = grind (arith, lose_other t j gone (n + 1) k ls (omega (arith, e)))
 
 -- an option of j's list, read while other lists lose options
 pub read_option : (p : Puzzle) (t : List Move) (j : ℕ) (gone : List ℕ) (at : ℕ) (row : List ℕ) (now ls : List (List ℕ))
@@ -104,11 +103,8 @@ pub hidden_none : (t : List Move) (j o n : ℕ) (ls : List (List ℕ)) → hidde
 hidden_none t j o n [] = grind (arith, common_steps, and-false)
 hidden_none t j o n (l ∷ ls) = grind (arith, common_steps, and-false, hidden_none t j o (n + 1) ls)
 
-pub has_use_more : (us : List Use) (u : Use) (i : ℕ) → has_use (us ++ u ∷ []) i ≡ (has_use us i || eqb u.item i)
-has_use_more us u i = grind (arith, common_steps, list_any-append, or-false)
-
 pub has_use_other : (us : List Use) (u : Use) (i : ℕ) → u.item ≢ i → has_use (us ++ u ∷ []) i ≡ has_use us i
-has_use_other us u i other = grind (arith, common_steps, has_use_more, ne_eqb, or-false)
+has_use_other us u i other = grind (arith, common_steps, ne_eqb, or-false, list_any-append)
 
 hidden_above : (t : List Move) (j : ℕ) (us : List Use) (u : Use) (o n : ℕ) (ls : List (List ℕ)) → u.item < n
     → hidden_from t j us o n ls ≡ hidden_from t j (us ++ u ∷ []) o n ls
@@ -122,8 +118,8 @@ pub hidden_more : (t : List Move) (j : ℕ) (us : List Use) (u : Use) (o n k : �
     set (hidden_from t j us o n ls) k (less (o ∷ []) (list_at (hidden_from t j us o n ls) k)) ≡ hidden_from t j
     (us ++ u ∷ []) o n ls
 hidden_more t j us u o n k [] e c = refl
-hidden_more t j us u o n zero (l ∷ ls) e c = grind
-    (arith, common_steps, has_use_more, eq-eqb, or-true, hidden_above, filter_both, filter_agree, and_self)
+hidden_more t j us u o n zero (l ∷ ls) e c =
+    grind (arith, common_steps, or-true, hidden_above, filter_both, filter_agree, and_self, list_any-append, or-false)
 hidden_more t j us u o n (suc k) (l ∷ ls) e c =
     grind (arith, common_steps, has_use_other, hidden_more t j us u o (n + 1) k ls (omega (arith, e)) c)
 
@@ -132,8 +128,7 @@ pub hidden_same : (t : List Move) (j : ℕ) (us : List Use) (u : Use) (o n : ℕ
     → (not (eqb u.item j) && is_open u.item t) ≡ false →
     hidden_from t j us o n ls ≡ hidden_from t j (us ++ u ∷ []) o n ls
 hidden_same t j us u o n [] c = grind (arith, common_steps, eq-eqb, eqb-true, has_use_other)
-hidden_same t j us u o n (l ∷ ls) c =
-    grind (arith, common_steps, eq-eqb, eqb-true, has_use_other, hidden_same t j us u o (n + 1) ls c)
+hidden_same t j us u o n (l ∷ ls) c = grind (arith, eqb-true, has_use_other, hidden_same t j us u o (n + 1) ls c)
 
 -- once all uses are gone through
 pub hidden_all : (p : Puzzle) (t : List Move) (j o n : ℕ) (ls : List (List ℕ)) → AreListsFrom p n ls

@@ -1,7 +1,7 @@
 -- Commits of uses, one after another: what is legal and fits behind them did before.
 use Rattle.std.proofs.lemmas.Grind.{common_steps}
 use Rattle.std.proofs.Common.{ℕ, ◌≡◌, ◌+◌, ◌<◌, List, [], ◌∷◌, ◌++◌, length}
-use Rattle.std.proofs.Common.{drop, refl, ap, arith, get_or, drop-cons}
+use Rattle.std.proofs.Common.{drop, refl, arith, get_or, drop-cons}
 use Rattle.xc_input.specs.declared.problem.Use.{Use}
 use Rattle.xc_dance.specs.declared.dance.Move.{Move}
 use Rattle.xc_input.specs.Problem.{Puzzle}
@@ -19,10 +19,6 @@ pub after_uses-append : (p : Puzzle) (us vs : List Use) (t : List Move)
 after_uses-append p [] vs t = refl
 after_uses-append p (u ∷ us) vs t = after_uses-append p us vs (after_use p u t)
 
-pub first_use : (p : Puzzle) (us : List Use) (k : ℕ) (d : Use) (t : List Move) → k < length us
-    → after_uses p (drop k us) t ≡ after_uses p (drop (k + 1) us) (after_use p (get_or us k d) t)
-first_use p us k d t h = grind (arith, common_steps, drop-cons)
-
 -- the state once these uses were committed
 abbrev pub committed : List Use → Dancing → Dancing
 committed us s = record s { trail = after_uses s.puzzle us s.trail }
@@ -31,4 +27,4 @@ committed us s = record s { trail = after_uses s.puzzle us s.trail }
 pub at_use : (s : Dancing) (us : List Use) (k : ℕ) (d : Use) → k < length us →
     committed (drop k us) s ≡ committed (drop (k + 1) us)
     (record s { trail = after_use s.puzzle (get_or us k d) s.trail })
-at_use s us k d h = ap (λ t. record s { trail = t }) (first_use s.puzzle us k d s.trail h)
+at_use s us k d h = grind (arith, common_steps, drop-cons)

@@ -31,9 +31,6 @@ open_by_state i (Cover j ∷ t) s e = grind (arith, common_steps, open_by_state 
 open_by_state i (Purify j c ∷ t) s e = grind (arith, common_steps, open_by_state i t)
 open_by_state i (_ ∷ t) s e = open_by_state i t s e
 
-pub open_state : (i : ℕ) (t : List Move) → is_open i t ≡ true → state_of i t ≡ Open
-open_state i t e = grind (arith, common_steps, open_by_state)
-
 -- an item is open where it is neither covered nor purified
 pub open_is : (t : List Move) (i : ℕ) → (not (is_covered i t) && not (is_some (purified i t))) ≡ is_open i t
 open_is [] i = grind (arith, common_steps, and-false)
@@ -79,8 +76,7 @@ next_open_step t n a (suc len) e = grind (arith, common_steps, ltb-false, ltb-tr
 pub next_open_here : (t : List Move) (n a len : ℕ) → is_open (n + 1) t ≡ true → a ≤ n + 1 → n + 1 < a + len
     → next_above n (filter (λ i. is_open i t) (range_with_len a len)) ≡ Some (n + 1)
 next_open_here t n a zero e low high = absurd (omega (arith, low, high))
-next_open_here t n a (suc len) e low high =
-    let rest = next_open_here t n (a + 1) len e in grind (arith, common_steps, eq-eqb, eqb-true, le-ltb, lt-ltb)
+next_open_here t n a (suc len) e low high = grind (arith, eqb-true, le-ltb, lt-ltb, next_open_here t n (a + 1) len e)
 
 pub next_open_none : (t : List Move) (n a len : ℕ) → a + len ≤ n + 1
     → next_above n (filter (λ i. is_open i t) (range_with_len a len)) ≡ None

@@ -24,8 +24,7 @@ number_at-requires g c = (c.args.i, c.requires.place.0, (use_there g c).1)
 
 pub below-next-requires-clause-listed : goal.below-next-requires-clause-listed
 below-next-requires-clause-listed g c =
-    let u = use_there g (goal.at.below-next-requires-clause-listed g c).Else-place-items in
-    grind (arith, common_steps)
+    grind (arith, common_steps, use_there g (goal.at.below-next-requires-clause-listed g c).Else-place-items)
 
 -- ---- what is next
 

@@ -1,3 +1,4 @@
+use Rattle.xc_dance.proofs.LinkedTables.Along.{along_first}
 use Rattle.std.proofs.Common.{◌≡◌, ◌-◌, ℕ, get_or, ap, ◌∙◌, arith, refl}
 use Rattle.std.proofs.lemmas.Grind.{common_steps}
 use Rattle.std.proofs.lemmas.List.{length-map}
@@ -8,7 +9,7 @@ use Rattle.xc_dance.specs.inner.Links.OptionPlaces.{start_at}
 use Rattle.xc_dance.specs.inner.Links.UseNodes.{uses_before}
 use Rattle.xc_dance.proofs.LinkedTables.Along.{before_at, Leads, leads, IsNext, nodes_told}
 use Rattle.xc_dance.proofs.LinkedTables.Along.{whole}
-use Rattle.xc_dance.proofs.Committing.{none_yet, may, one_more}
+use Rattle.xc_dance.proofs.Committing.{may, one_more}
 use Rattle.xc_dance.proofs.links.Links.commit_before.Goals as goal
 use Rattle.xc_dance.proofs.links.Links.commit_before.Goals.{After-self, After-self-in-loop-q}
 
@@ -27,7 +28,7 @@ ulink-first-requires c =
 
 -- the walk begins at the option's first node
 pub loop-q-init : goal.loop-q-init
-loop-q-init c = grind (arith, common_steps, none_yet, first_nodes, led)
+loop-q-init c = grind (arith, common_steps, first_nodes, led, along_first)
 
 nodes_is : (c : After-self-in-loop-q) → c.self-in-loop-q.inside.nodes
     ≡ nodes_after c.args.self.now.puzzle c.loop-q.self.trail

@@ -11,7 +11,7 @@ use Rattle.xc_dance.specs.inner.Links.Laid.{IsLaid}
 use Rattle.xc_dance.specs.inner.Links.UseNodes.{uses_behind}
 use Rattle.xc_dance.proofs.LinkedTables.Along.{along_first, Behind, behind_at, IsNext, top_at, nodes_told}
 use Rattle.xc_dance.proofs.LinkedTables.Along.{whole}
-use Rattle.xc_dance.proofs.Committing.{none_yet, may, one_more}
+use Rattle.xc_dance.proofs.Committing.{may, one_more}
 use Rattle.xc_dance.proofs.links.Links.commit_behind.Goals as goal
 use Rattle.xc_dance.proofs.links.Links.commit_behind.Goals.{After-self, After-self-in-loop-self}
 use Rattle.xc_dance.specs.declared.links.nodes.TheConstants.{SPACER}
@@ -28,7 +28,7 @@ pub overflow_add-q : goal.overflow_add-q
 overflow_add-q c = grind (arith, common_steps, begun, fitted)
 
 pub loop-self-init : goal.loop-self-init
-loop-self-init c = none_yet _ (λ x held. refl)
+loop-self-init c = grind (arith, common_steps, along_first)
 
 -- what stands at q
 found : (c : After-self-in-loop-self) (x : ℕ) → IsUseAt c.args.self.now.puzzle c.args.i x c.args.place →

@@ -1,10 +1,10 @@
 use Rattle.std.proofs.Common.{arith}
 use Rattle.std.proofs.lemmas.Grind.{common_steps}
-use Rattle.xc_dance.proofs.LinkedTables.CommitLemmas.{use_name, use_node}
+use Rattle.xc_dance.proofs.LinkedTables.CommitLemmas.{use_name}
 use Rattle.xc_dance.proofs.links.LinksDance.option_of.Goals as goal
 
 pub option_at-requires-clause-node : goal.option_at-requires-clause-node
-option_at-requires-clause-node c = use_node c.requires.place.1
+option_at-requires-clause-node c = grind (arith, common_steps, use_name)
 
 pub returns : goal.returns
 returns c = grind (arith, common_steps, use_name)

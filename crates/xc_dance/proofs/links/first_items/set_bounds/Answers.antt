@@ -1,4 +1,5 @@
-use Rattle.xc_dance.proofs.LinkedTables.FirstTables.{column_all}
+use Rattle.xc_dance.proofs.LinkedTables.FirstTables.{filled_all}
+use Rattle.std.proofs.lemmas.List.FromFn.{length-range_with_len}
 use Rattle.std.proofs.Common.{ne_eqb}
 use Rattle.std.proofs.Common.{arith, ◌+◌, ◌≡◌}
 use Rattle.std.proofs.lemmas.Grind.{common_steps}
@@ -29,4 +30,4 @@ pub loop-i-preserved : goal.loop-i-preserved
 loop-i-preserved c = grind (arith, common_steps, bounds_here, column_more, same_items, ne_eqb)
 
 pub returns : goal.returns
-returns c = grind (arith, common_steps, column_all, same_items)
+returns c = grind (arith, common_steps, same_items, filled_all, length-range_with_len)

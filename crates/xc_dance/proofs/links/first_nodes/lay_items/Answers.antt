@@ -4,8 +4,7 @@ use Rattle.xc_dance.proofs.LinkedTables.FirstTables.{laid_room, laid_more, own_r
 use Rattle.xc_dance.proofs.links.first_nodes.lay_items.Goals as goal
 
 pub lay-requires : goal.lay-requires
-lay-requires c =
-    let e = own_row c.args.problem.now.puzzle c.loop-i.i in grind (arith, common_steps, laid_room)
+lay-requires c = grind (arith, common_steps, own_row c.args.problem.now.puzzle c.loop-i.i, laid_room)
 
 pub loop-i-preserved : goal.loop-i-preserved
 loop-i-preserved c =

@@ -8,8 +8,7 @@ use Rattle.xc_dance.proofs.LinkedTables.FirstTables.{laid_room, laid_more, space
 use Rattle.xc_dance.proofs.links.first_nodes.lay_spacer.Goals as goal
 
 pub lay-requires : goal.lay-requires
-lay-requires c =
-    let at = spacer_here c.args.problem.now.puzzle c.args.o in grind (arith, common_steps, laid_room)
+lay-requires c = grind (arith, common_steps, spacer_here c.args.problem.now.puzzle c.args.o, laid_room)
 
 pub returns : goal.returns
 returns c =

@@ -1,7 +1,6 @@
 use Rattle.std.proofs.Common.{arith}
 use Rattle.std.proofs.lemmas.Grind.{common_steps}
 use Rattle.std.proofs.lemmas.List.{take_more}
-use Rattle.xc_dance.proofs.LiveLists.Marks.{same_versions}
 use Rattle.xc_dance.proofs.LiveLists.OptionsLost.{hidden_none, hidden_more, hidden_same, hidden_all}
 use Rattle.xc_dance.proofs.LiveLists.OptionsLost.{length-hidden_from, lists-hidden_from, list_of}
 use Rattle.xc_dance.proofs.lists.hide.hide.Goals as goal
@@ -20,4 +19,4 @@ pub loop-u-preserved : goal.loop-u-preserved
 loop-u-preserved c = grind (arith, common_steps, hidden_more, hidden_same, take_more)
 
 pub returns : goal.returns
-returns c = grind (arith, common_steps, hidden_all, same_versions)
+returns c = grind (arith, common_steps, hidden_all)

@@ -1,7 +1,6 @@
 use Rattle.std.proofs.Common.{arith, get_or, ◌-◌}
 use Rattle.std.proofs.lemmas.Grind.{common_steps}
 use Rattle.xc_dance.specs.inner.Lists.Losing.{lists_after}
-use Rattle.xc_dance.proofs.LiveLists.Marks.{same_versions}
 use Rattle.xc_dance.proofs.LiveLists.OptionsLost.{list_of, known_option}
 use Rattle.xc_dance.proofs.MoveLemmas.Shortened.{lists_hold, list_after, length_numbers}
 use Rattle.xc_dance.proofs.MoveLemmas.Shortened.{first_hidden_lists, lists_tweaked}
@@ -30,4 +29,4 @@ take_out-requires-clause-rises c =
     grind (arith, common_steps, lists_hold, list_of)
 
 pub returns : goal.returns
-returns c = grind (arith, common_steps, length_numbers, list_after, lists_tweaked, same_versions)
+returns c = grind (arith, common_steps, length_numbers, list_after, lists_tweaked)

@@ -1,6 +1,6 @@
 use Rattle.std.proofs.Common.{arith}
 use Rattle.std.proofs.lemmas.Grind.{common_steps}
-use Rattle.xc_dance.proofs.LiveLists.Marks.{length-lists_at_marks, marks_weaker, same_versions}
+use Rattle.xc_dance.proofs.LiveLists.Marks.{length-lists_at_marks, marks_weaker}
 use Rattle.xc_dance.proofs.lists.undo_log.OptionLists.mark.Goals as goal
 use Rattle.xc_dance.proofs.LiveLists.Marks.{restored_at}
 
@@ -11,4 +11,4 @@ pub invariant_of-self : goal.invariant_of-self
 invariant_of-self c = grind (arith, common_steps, length-lists_at_marks, marks_weaker)
 
 pub returns : goal.returns
-returns c = grind (arith, common_steps, restored_at, same_versions)
+returns c = grind (arith, common_steps, restored_at)
