@@ -128,7 +128,7 @@ module _ (n : ℕ) (r : Residual) (p : IsProper n r) (chosen : ℕ → Bool) whe
           → IsIn r.items w → IsMet chosen (pick r i x).options (spend_one x w)
       met_next met w h = by_bool (nat_lt 0 (spend_one x w).high)
           (λ e. met (spend_one x w) (filter-in _ _ _ (map-in _ _ _ h) e))
-          (λ e. let left = find-in 0 r.items w p.items_rise h in
+          (λ e. let left = find-in r.items w p.items_apart h in
           grind (arith, common_steps, ltb-false, le-ltb, p.sound w h, none_pass, in-filter, used_up, left))
 
   module _ (w : Wanted) (known : IsIn r.items w) (free : w.low ≡ 0) (m : ℕ) (f : Fits r chosen (none_branch r w.item m))
@@ -197,7 +197,7 @@ module _ (n : ℕ) (r : Residual) (p : IsProper n r) (chosen : ℕ → Bool) (c 
   may_stay_beside x y u None h k e f apart i left = by_bool (nat_le u.item n)
       (λ q.
       let w = p.items_left x u.item h (leb-true u.item n q) (holds_use x.uses u i) in
-      let found = rw w.2 at (find-in 0 r.items w.0 p.items_rise w.1) in
+      let found = rw w.2 at (find-in r.items w.0 p.items_apart w.1) in
       cc)
       (λ q. grind (arith, common_steps, by_option, each_in, leb-false, lt-ltb, eq-eqb))
 

@@ -1,16 +1,16 @@
 -- Options with their numbers, and items with their bounds.
 use Rattle.std.proofs.lemmas.Grind.{common_steps}
 use Rattle.std.proofs.Common.{ℕ, zero, suc, ◌≡◌, ◌+◌, ◌<◌, ◌≤◌, List, [], ◌∷◌, length, Some, refl, ap, arith}
-use Rattle.std.proofs.Common.{subst, sym, inl, inr}
+use Rattle.std.proofs.Common.{sym, inl, inr}
 use Rattle.xc_input.proofs.OptionLemmas.NumberedOptions.{numbered_from}
 use Rattle.xc_input.specs.declared.problem.Bounds.{Bounds}
 use Rattle.std.proofs.lemmas.List.Elements.{recursion_from_All}
 use Rattle.std.specs.Prelude.{slice_get}
-use Rattle.std.specs.List.{AllByRecursion}
 use Rattle.xc_input.specs.declared.problem.Use.{Use}
 use Rattle.xc_input.specs.Problem.{Puzzle, Numbered, numbered_options, option_count, uses_of, IsSoundOption, IsValid}
 use Rattle.xc_search.specs.Listing.{Wanted, wanted_from}
-use Rattle.xc_input.proofs.lists.Members.{IsIn, each_from}
+use Rattle.xc_input.proofs.lists.Members.{IsIn}
+use Rattle.xc_input.proofs.lists.EachElement.{each_at}
 
 -- an option with its number
 pub numbered_at : (k : ℕ) (os : List (List Use)) (o : Numbered) → IsIn (numbered_from (k + 1) os) o → (j : ℕ)
@@ -27,12 +27,6 @@ at_number k [] j h = absurd (omega (arith, h))
 at_number k (us ∷ os) zero h = (record { number = k + 1; uses = us }, inl refl, omega arith)
 at_number k (us ∷ os) (suc j) h = grind (arith, common_steps, at_number (k + 1) os j)
 
-pub option_sound : (p : Puzzle) (k : ℕ) (os : List (List Use)) (o : Numbered) → AllByRecursion (IsSoundOption p) os
-    → IsIn (numbered_from (k + 1) os) o → IsSoundOption p o.uses
-option_sound p k [] o a h = absurd h
-option_sound p k (us ∷ os) o a (inl q) = subst (λ (z : Numbered). IsSoundOption p z.uses) q a.0
-option_sound p k (us ∷ os) o a (inr q) = option_sound p (k + 1) os o a.1 q
-
 pub uses_known : (p : Puzzle) (o : Numbered) → IsIn (numbered_options p) o → uses_of p o.number ≡ o.uses
 uses_known p o h = grind (arith, common_steps, numbered_at 0 p.options o h)
 
@@ -41,14 +35,14 @@ pub record IsOption (p : Puzzle) (o : Numbered) : Type 0 where
   pub uses : uses_of p o.number ≡ o.uses
   pub sound : IsSoundOption p o.uses
 
-pub all_options : (p : Puzzle) → IsValid p → AllByRecursion (IsOption p) (numbered_options p)
-all_options p v = each_from (IsOption p) (numbered_options p) (λ o h.
+pub is_option : (p : Puzzle) → IsValid p → (o : Numbered) → IsIn (numbered_options p) o → IsOption p o
+is_option p v o h =
     let at = numbered_at 0 p.options o h in
     record {
       known = (omega (arith, at.1), omega (arith, at.1, at.2));
       uses = uses_known p o h;
-      sound = option_sound p 0 p.options o (recursion_from_All _ _ v.options) h;
-    })
+      sound = each_at (IsSoundOption p) p.options at.0 o.uses (recursion_from_All _ _ v.options) at.3;
+    }
 
 -- an item with its bounds
 pub with_bounds : (k : ℕ) (bs : List Bounds) (w : Wanted) → IsIn (wanted_from (k + 1) bs) w → (j : ℕ) × (b : Bounds)

@@ -16,8 +16,8 @@ use Rattle.xc_search.specs.Parts.{part, part_options, part_in_front, number_in_p
 use Rattle.xc_search.specs.Parts.{renumber_item, renumber, AreKeptApart, AreKeptInOrder, front_number, front_item}
 use Rattle.xc_search.specs.Parts.{front_part, ListsPart}
 use Rattle.xc_input.proofs.lists.EachElement.{each_weaker}
-use Rattle.xc_input.proofs.lists.Members.{each_in, each_from, in-contains}
-use Rattle.xc_search.proofs.listing.Numbering.{numbered_at, all_options, with_bounds}
+use Rattle.xc_input.proofs.lists.Members.{each_from, in-contains}
+use Rattle.xc_search.proofs.listing.Numbering.{numbered_at, is_option, with_bounds}
 use Rattle.xc_search.proofs.parts.InOrder.{is_other}
 use Rattle.xc_search.proofs.parts.Numbers.{IsNumber, in_whole, numbers_rise}
 use Rattle.xc_search.proofs.parts.Renumbered.{listing_renumbered}
@@ -87,7 +87,7 @@ parts_are_listed p v w h x =
 
     uses_known : AllByRecursion (λ o. AllByRecursion (λ u. 1 ≤ u.item) o.uses) (part_options p w.item x)
     uses_known = each_from _ (part_options p w.item x) (λ o k.
-        let option = each_in _ _ _ (all_options p v) (in_whole p w.item x o k) in
+        let option = is_option p v o (in_whole p w.item x o k) in
         each_weaker (IsSoundUse p) (λ u. 1 ≤ u.item) o.uses (λ u s. s.0.0) (recursion_from_All _ _ option.sound.sound))
 
     same : renumber (front_item w.item) (number_in_problem p w.item x) (whole (front_part p w x)) ≡ part_in_front p w x

@@ -66,7 +66,7 @@ module _ (p : Puzzle) (v : IsValid p) (w : Wanted) (wanted : IsIn (whole p).item
     proper = proper_whole p v
 
     found : item_left (whole p) w.item ≡ Some w
-    found = find-in _ _ _ proper.items_rise wanted
+    found = find-in _ _ proper.items_apart wanted
 
     holding_once : holding w.item (part_options p w.item x) ≡ x ∷ []
     holding_once =

@@ -19,7 +19,7 @@ use Rattle.xc_input.proofs.lists.EachTwo.{each_two_from_AllPairs}
 use Rattle.xc_input.proofs.lists.Members.{IsIn, in-filter, in-map, map-in, in-slice_get, slice_get-in, each_in}
 use Rattle.xc_input.proofs.lists.Members.{each_from, in-contains, contains-in}
 use Rattle.xc_input.proofs.lists.Places.{not_some}
-use Rattle.xc_search.proofs.listing.Numbering.{numbered_at, uses_known, all_options}
+use Rattle.xc_search.proofs.listing.Numbering.{numbered_at, uses_known, is_option}
 use Rattle.xc_search.proofs.Cases.{by_option}
 use Rattle.xc_search.proofs.residual.NumberedOnce.{two_rise}
 
@@ -128,4 +128,4 @@ parts_are_valid p v i x =
     }
   where
     each : AllByRecursion (λ o. IsSoundOption (part p i x) o.uses) (part_options p i x)
-    each = grind (arith, common_steps, each_from, each_in, all_options, in_whole)
+    each = each_from _ _ (λ o k. let s = (is_option p v o (in_whole p i x o k)).sound in grind (arith, s))

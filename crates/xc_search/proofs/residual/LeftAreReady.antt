@@ -20,12 +20,13 @@ use Rattle.xc_dance.proofs.MoveLemmas.LeftOptions.{left_agrees, left_free, kept}
 use Rattle.xc_search.proofs.residual.ReadyUses.{Ready, secondary, same_colour, found_wanted, AreReady}
 use Rattle.xc_input.proofs.lists.EachElement.{each_at, each_both}
 use Rattle.xc_search.proofs.residual.OptionUses.{apart_from_pairs, own_colours}
-use Rattle.xc_search.proofs.listing.Numbering.{IsOption, all_options}
+use Rattle.xc_search.proofs.listing.Numbering.{IsOption, is_option}
 use Rattle.xc_search.proofs.Cases.{by_bool, by_option}
 use Rattle.xc_input.proofs.lists.EachElement.{each-filter}
+use Rattle.xc_input.proofs.lists.Members.{each_from}
 
 pub left_options : (p : Puzzle) → IsValid p → (t : List Move) → AllByRecursion (IsOption p) (left p t)
-left_options p v [] = all_options p v
+left_options p v [] = each_from _ _ (is_option p v)
 left_options p v (m ∷ t) = kept (IsOption p) p t m (left_options p v t)
 
 -- ---- open or not
