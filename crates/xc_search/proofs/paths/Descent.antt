@@ -40,7 +40,7 @@ pub down_first : (p : Puzzle) (t : List Move) → IsValid p → t ≡ [] → IsD
 down_first p t v e = record {
   left = ap Some (sym (no_moves_leave_all p)) ∙ ap (λ t. Some (residual_of p t)) (sym e);
   told = refl;
-  searchable = (starts_standing p t [] v e refl).searchable refl;
+  searchable = (starts_standing p v p t [] refl e refl).searchable refl;
 }
 
 -- there is no path with these numbers where there is no branch with the next of them

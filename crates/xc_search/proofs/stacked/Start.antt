@@ -20,9 +20,9 @@ wanted_at_first : (i : ℕ) (bs : List Bounds) → AllByRecursion AreSoundBounds
 wanted_at_first i [] a = tt
 wanted_at_first i (b ∷ bs) a = (lt-ltb 0 b.high (omega (arith, a.0)), wanted_at_first (i + 1) bs a.1)
 
-pub starts_standing : (p : Puzzle) (t : List Move) (ls : List Level) → IsValid p → t ≡ [] → ls ≡ []
-    → IsStanding p t ls true
-starts_standing p t ls v et el =
+pub starts_standing : (p : Puzzle) → IsValid p → (q : Puzzle) (t : List Move) (ls : List Level) → q ≡ p → t ≡ []
+    → ls ≡ [] → IsStanding q t ls true
+starts_standing p v q t ls e et el =
     grind (arith, common_steps, no_moves_leave_all, wanted_at_first, recursion_from_All, sparing_first, shallow_first)
 
 pub starts_coming : (p : Puzzle) (t : List Move) (ls : List Level) → t ≡ [] → ls ≡ [] → coming p t ls true ≡ members p

@@ -1,8 +1,5 @@
 use Rattle.std.proofs.lemmas.Grind.{common_steps}
-use Rattle.std.proofs.Common.{arith, true, ap, sym, subst}
-use Rattle.xc_dance.specs.Dancing.{Dancing}
-use Rattle.xc_input.specs.Problem.{IsValid}
-use Rattle.xc_search.specs.inner.Levels.{Levels, IsStanding}
+use Rattle.std.proofs.Common.{arith}
 use Rattle.xc_search.proofs.stacked.Start.{starts_standing, starts_coming}
 use Rattle.xc_search.proofs.completeness.Covering.{each_member_covers}
 use Rattle.xc_search.proofs.completeness.Exactly.{each_cover_is_listed_once}
@@ -10,10 +7,7 @@ use Rattle.xc_search.proofs.walk.Walk.new.Goals as goal
 
 pub from-requires-clause-standing : goal.from-requires-clause-standing
 from-requires-clause-standing g c =
-    subst (λ (s : Dancing). IsStanding s.puzzle s.trail c.in-Ok.stack.levels true) (sym c.new-2.ensures)
-    (starts_standing (g.D.Dance.state c.args.dance).puzzle (g.D.Dance.state c.args.dance).trail c.in-Ok.stack.levels
-    (subst IsValid (sym c.requires.same) c.most_levels.ensures.valid) c.requires.none
-    (ap (λ (s : Levels). s.levels) c.in-Ok.ensures))
+    starts_standing _ c.most_levels.ensures.valid _ _ _ (cc) (cc) (cc (c.in-Ok.ensures))
 
 pub returns-clause-begun : goal.returns-clause-begun
 returns-clause-begun g c = grind (arith, common_steps, starts_coming)
