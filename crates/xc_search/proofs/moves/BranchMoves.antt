@@ -1,17 +1,17 @@
 -- A branch of a level, by its moves and by what is left.
 use Rattle.std.proofs.lemmas.Grind.{common_steps}
-use Rattle.std.proofs.Common.{ℕ, zero, suc, ◌≡◌, ◌≢◌, ◌+◌, ◌-◌, ◌<◌, ◌≤◌, true, false, not, eqb, List}
+use Rattle.std.proofs.Common.{ℕ, suc, ◌≡◌, ◌≢◌, ◌+◌, ◌-◌, ◌<◌, ◌≤◌, true, false, not, eqb, List}
 use Rattle.std.proofs.Common.{[], ◌∷◌, ◌++◌, length, map, filter, take, drop, Some, refl, sym, ap, ◌∙◌, arith, subst}
-use Rattle.std.proofs.Common.{eq-eqb, le-leb, get_or}
-use Rattle.std.proofs.lemmas.List.Elements.{filter_agree, recursion_from_All}
-use Rattle.std.proofs.lemmas.Option.{slice_get-get_or, slice_get_within}
-use Rattle.std.specs.Prelude.{nat_le, slice_get}
+use Rattle.std.proofs.Common.{eq-eqb, le-leb}
+use Rattle.std.proofs.lemmas.List.Elements.{recursion_from_All}
+use Rattle.std.proofs.lemmas.Option.{slice_get_within}
+use Rattle.std.specs.Prelude.{slice_get}
 use Rattle.xc_input.specs.declared.problem.Use.{Use}
 use Rattle.xc_dance.specs.declared.dance.Move.{Move}
 use Rattle.xc_dance.specs.declared.dance.Move.TheVariants.{Cover, Spend}
 use Rattle.xc_input.specs.Problem.{Puzzle, Numbered, primary_count, holds, high_at, IsItem, holding}
 use Rattle.xc_search.specs.Listing.{Wanted, Residual, pick, none}
-use Rattle.xc_dance.specs.Moves.{listed, is_open, purified, spends, AreLegal}
+use Rattle.xc_dance.specs.Moves.{is_open, purified, spends, AreLegal}
 use Rattle.xc_search.specs.Residuals.{wanted_after}
 use Rattle.xc_search.specs.inner.Residual.{residual_of}
 use Rattle.xc_dance.specs.inner.Left.{left}
@@ -19,7 +19,6 @@ use Rattle.xc_dance.specs.Commits.{after_spend, after_use, after_uses, others}
 use Rattle.xc_input.specs.UsePlaces.{place_in}
 use Rattle.xc_search.specs.inner.Commits.{tweaked, after_none}
 use Rattle.xc_search.specs.inner.Levels.{IsNode, IsOptionAt}
-use Rattle.xc_dance.proofs.MoveLemmas.OpenLists.{listed_open}
 use Rattle.xc_search.proofs.residual.PickedByUses.{dec, commit_uses, uses_committed, AreWanted, as_residual}
 use Rattle.xc_search.proofs.residual.PickedByUses.{still_wanted, is_wanted}
 use Rattle.xc_search.proofs.residual.EachMove.{residual_spend, residual_cover}
@@ -27,10 +26,8 @@ use Rattle.xc_search.proofs.residual.ReadyUses.{Ready, AreReady, ready_after, re
 use Rattle.xc_search.proofs.residual.LeftAreReady.{left_options, of_left, ready_left}
 use Rattle.xc_search.proofs.residual.CyclicUses.{placed, apart_turned, committed_picks, cut}
 use Rattle.xc_search.proofs.moves.LegalTweaks.{branch_cut, legal_branch, kept_tweaked}
-use Rattle.xc_search.proofs.moves.LegalTweaks.{left_closed, left_open}
+use Rattle.xc_search.proofs.moves.LegalTweaks.{left_closed, left_off, off_others}
 use Rattle.xc_input.proofs.lists.EachElement.{each_weaker, each-filter, each_passes, each_at, each_turned, each_both}
-use Rattle.xc_input.proofs.lists.Filters.{filter_both}
-use Rattle.xc_input.proofs.FaultLemmas.BooleanTests.{only_rest}
 use Rattle.xc_search.proofs.residual.OptionUses.{Apart, AreApart, apart_sym, apart_from_pairs}
 use Rattle.xc_search.proofs.listing.Numbering.{IsOption}
 use Rattle.xc_search.proofs.Cases.{by_bool}
@@ -69,7 +66,7 @@ taken_at p t k m x u us vs option n e h le w =
     let apart = apart_turned us (u ∷ vs) (subst AreApart w (apart_from_pairs x.uses option.sound.distinct)) in
     let ready = each_turned (λ u. Ready p t u) us (u ∷ vs)
     (subst (AreReady p t) w (ready_left p t u.item k x n.searchable.legal n.searchable.wanted option e)) in
-    let before = branch_cut p u t k m x n e h (legal_branch p k u.item t n (omega (arith, within))) in
+    let before = branch_cut p u t k m x n e h in
     let rest = commit_all p (vs ++ us) s apart.1
     (each_both (Apart u) (Ready p t) (Ready p s) (vs ++ us) (λ v a r. ready_behind p u v t m n.item.1 a r) apart.0
     ready.1)
@@ -113,25 +110,12 @@ none_dec : (i : ℕ) (ws : List Wanted)
 none_dec i [] = refl
 none_dec i (w ∷ ws) = grind (arith, common_steps, by_bool, none_dec i ws)
 
--- tweaks of an open item take only options that hold it
-rest_tweaked : (p : Puzzle) (m i : ℕ) (s : List Move) → AreLegal p (tweaked m i s) → is_open i s ≡ true
-    → listed p s i ≡ holding i (left p s) → m ≤ length (holding i (left p s)) →
-    filter (λ o. not (holds o i)) (left p (tweaked m i s)) ≡ filter (λ o. not (holds o i)) (left p s)
-rest_tweaked p zero i s l o h k = refl
-rest_tweaked p (suc m) i s l o h k =
-    let d : Numbered = record { number = 0; uses = [] } in
-    let hs = holding i (left p s) in
-    let x = get_or hs m d in
-    ap (filter (λ o. not (holds o i))) (left_open p m i s x l.1 o h (slice_get-get_or hs m d (omega (arith, k))))
-    ∙ filter_both _ _ (left p s)
-    ∙ filter_agree _ _ (λ o. only_rest (holds o i) (nat_le o.number x.number)) (left p s)
-
 spent_none : (p : Puzzle) (t : List Move) (i : ℕ) → none (residual_of p (Spend i ∷ t)) i ≡ none (residual_of p t) i
 spent_none p t i = ap (λ r. none r i) (residual_spend p t i) ∙ as_residual _ _ _ _ (none_dec i (wanted_after p t)) refl
 
-pub none_taken : (p : Puzzle) (t : List Move) (i m : ℕ) → IsNode p t i → m ≤ length (holding i (left p t)) →
+pub none_taken : (p : Puzzle) (t : List Move) (i m : ℕ) → IsNode p t i →
     residual_of p (after_none i (tweaked m i (after_spend p i t))) ≡ none (residual_of p t) i
-none_taken p t i m n h = by_bool (eqb (high_at p i - spends i (Spend i ∷ t)) 0)
+none_taken p t i m n = by_bool (eqb (high_at p i - spends i (Spend i ∷ t)) 0)
     (λ c.
     let s : List Move = Cover i ∷ Spend i ∷ t in
     let shut : is_open i s ≡ false = rw (eq-eqb i i refl) refl in
@@ -143,8 +127,7 @@ none_taken p t i m n h = by_bool (eqb (high_at p i - spends i (Spend i ∷ t)) 0
     rw (c, kept_tweaked (is_open i) m i s (λ _. refl) ∙ n.is_open)
     (residual_cover p (tweaked m i s) i
     ∙ as_residual _ _ _ _ (ap (filter (λ w. not (eqb w.item i))) (kept_tweaked (wanted_after p) m i s (λ _. refl)))
-    (rest_tweaked p m i s (rw c at (legal_branch p m i t n h)) n.is_open
-    (listed_open p t n.searchable.legal i n.is_open) h)
+    (ap (filter (λ o. not (holds o i))) (left_off p m i s n.is_open) ∙ off_others i m (left p s))
     ∙ spent_none p t i))
 
 pub legal_after_none : (p : Puzzle) (i : ℕ) (t : List Move) → IsItem p i → AreLegal p t → AreLegal p (after_none i t)

@@ -91,7 +91,7 @@ module _ {p : Puzzle} {t : List Move} {l : Level} (may : MayBegin p t l) where
       let level = may.level in
       let last = branch_none r (wanted_at p u l.item) l.begun (omega (arith, may.more, level.count)) e in
       let few : l.tweaks ≤ length (options_at p u l.item) = grind (arith, common_steps, level.tweaks) in
-      let gone = none_taken p u l.item l.tweaks level.node few in
+      let gone = none_taken p u l.item l.tweaks level.node in
       record {
         branch = none_branch r l.item (branch_count r (wanted_at p u l.item));
         at = ap (λ bs. slice_get bs l.begun) (branches_here p u _ level.branch) ∙ last.0;
