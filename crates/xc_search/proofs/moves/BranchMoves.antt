@@ -10,7 +10,7 @@ use Rattle.xc_input.specs.declared.problem.Use.{Use}
 use Rattle.xc_dance.specs.declared.dance.Move.{Move}
 use Rattle.xc_dance.specs.declared.dance.Move.TheVariants.{Cover, Spend}
 use Rattle.xc_input.specs.Problem.{Puzzle, Numbered, primary_count, holds, high_at, IsItem, holding}
-use Rattle.xc_search.specs.Listing.{Wanted, Residual, pick, none}
+use Rattle.xc_search.specs.Listing.{Wanted, pick, none}
 use Rattle.xc_dance.specs.Moves.{is_open, purified, spends, AreLegal}
 use Rattle.xc_search.specs.Residuals.{wanted_after}
 use Rattle.xc_search.specs.inner.Residual.{residual_of}
@@ -19,15 +19,15 @@ use Rattle.xc_dance.specs.Commits.{after_spend, after_use, after_uses, others}
 use Rattle.xc_input.specs.UsePlaces.{place_in}
 use Rattle.xc_search.specs.inner.Commits.{tweaked, after_none}
 use Rattle.xc_search.specs.inner.Levels.{IsNode, IsOptionAt}
-use Rattle.xc_search.proofs.residual.PickedByUses.{dec, commit_uses, uses_committed, AreWanted, as_residual}
-use Rattle.xc_search.proofs.residual.PickedByUses.{still_wanted, is_wanted}
+use Rattle.xc_search.proofs.residual.PickedByUses.{dec, commit_use, uses_committed, as_residual}
+use Rattle.xc_search.proofs.residual.PickedByUses.{still_wanted}
 use Rattle.xc_search.proofs.residual.EachMove.{residual_spend, residual_cover}
-use Rattle.xc_search.proofs.residual.ReadyUses.{Ready, AreReady, ready_after, ready_later, commit_all}
+use Rattle.xc_search.proofs.residual.ReadyUses.{Ready, AreReady, ready_after, ready_later, Leaves, commit_all}
 use Rattle.xc_search.proofs.residual.LeftAreReady.{left_options, of_left, ready_left}
 use Rattle.xc_search.proofs.residual.CyclicUses.{placed, apart_turned, committed_picks, cut}
 use Rattle.xc_search.proofs.moves.LegalTweaks.{branch_cut, legal_branch, kept_tweaked}
 use Rattle.xc_search.proofs.moves.LegalTweaks.{left_closed, left_off, off_others}
-use Rattle.xc_input.proofs.lists.EachElement.{each_weaker, each-filter, each_passes, each_at, each_turned, each_both}
+use Rattle.xc_input.proofs.lists.EachElement.{each_weaker, each_passes, each_at, each_turned, each_both}
 use Rattle.xc_search.proofs.residual.OptionUses.{Apart, AreApart, apart_sym, apart_from_pairs}
 use Rattle.xc_search.proofs.listing.Numbering.{IsOption}
 use Rattle.xc_search.proofs.Cases.{by_bool}
@@ -45,10 +45,8 @@ ready_behind p u v t m h e r =
     (subst (λ s. Ready p s v) it_is (ready_after p u t v (apart_sym u v e) r))
 
 -- the moves of a branch of item i, with these other uses of option x
-pub record IsPicked (p : Puzzle) (t : List Move) (m i : ℕ) (x : Numbered) (us : List Use) : Type 0 where
-  pub residual : residual_of p (after_uses p us (tweaked m i (after_spend p i t))) ≡ pick (residual_of p t) i x
-  pub legal : AreLegal p (after_uses p us (tweaked m i (after_spend p i t)))
-  pub wanted : AreWanted (wanted_after p (after_uses p us (tweaked m i (after_spend p i t))))
+abbrev pub IsPicked : Puzzle → List Move → ℕ → ℕ → Numbered → List Use → Type 0
+IsPicked p t m i x us = Leaves p (after_uses p us (tweaked m i (after_spend p i t))) (pick (residual_of p t) i x)
 
 pub record Taken (p : Puzzle) (t : List Move) (m i : ℕ) (x : Numbered) : Type 0 where
   pub picked : IsPicked p t m i x (others i (uses_of p x.number))
@@ -67,18 +65,14 @@ taken_at p t k m x u us vs option n e h le w =
     let ready = each_turned (λ u. Ready p t u) us (u ∷ vs)
     (subst (AreReady p t) w (ready_left p t u.item k x n.searchable.legal n.searchable.wanted option e)) in
     let before = branch_cut p u t k m x n e h in
-    let rest = commit_all p (vs ++ us) s apart.1
-    (each_both (Apart u) (Ready p t) (Ready p s) (vs ++ us) (λ v a r. ready_behind p u v t m n.item.1 a r) apart.0
-    ready.1)
-    (legal_branch p m u.item t n (omega (arith, within, le)))
-    (subst (λ r. AreWanted r.items) (sym before) (still_wanted u.item (wanted_after p t))) in
-    record {
-      residual = rest.residual ∙ ap (commit_uses (vs ++ us)) before
-          ∙ uses_committed (u ∷ vs ++ us) (cut (residual_of p t) u.item x.number) apart n.searchable.wanted
-          ∙ committed_picks (residual_of p t) u.item x us (u ∷ vs) w;
-      legal = rest.legal;
-      wanted = rest.wanted;
-    }
+    let ready_then =
+    each_both (Apart u) (Ready p t) (Ready p s) (vs ++ us) (λ v a r. ready_behind p u v t m n.item.1 a r) apart.0 ready.1
+    in
+    subst (Leaves p (after_uses p (vs ++ us) s))
+    (uses_committed (u ∷ vs ++ us) (cut (residual_of p t) u.item x.number) apart n.searchable.wanted
+    ∙ committed_picks (residual_of p t) u.item x us (u ∷ vs) w)
+    (commit_all p (vs ++ us) s (commit_use u (cut (residual_of p t) u.item x.number)) apart.1 ready_then
+    (grind (arith, common_steps, before, legal_branch, within, le, still_wanted u.item (wanted_after p t))))
 
 option_at_item : (p : Puzzle) (i : ℕ) (x : Numbered) → IsOption p x → place_in i x.uses < length x.uses
     → IsOptionAt p i x.number
@@ -95,9 +89,7 @@ taken p t i k m x n e h le =
     let vs = drop (place_in i x.uses + 1) x.uses in
     record {
       picked = subst (λ ws. IsPicked p t m i x (others i ws)) (sym option.uses)
-          (subst (λ j. IsNode p t j → slice_get (holding j (left p t)) k ≡ Some x
-          → (high_at p j - spends j (Spend j ∷ t) ≢ 0 → m ≡ suc k) → IsPicked p t m j x (vs ++ us)) pl.at
-          (λ n e h. taken_at p t k m x pl.use_of us vs option n e h le pl.whole) n e h);
+          (taken_at p t k m x (record { item = i; colour = pl.colour }) us vs option n e h le pl.whole);
       at = option_at_item p i x option pl.within;
       held = held;
       uses = option.uses;
@@ -132,6 +124,3 @@ none_taken p t i m n = by_bool (eqb (high_at p i - spends i (Spend i ∷ t)) 0)
 
 pub legal_after_none : (p : Puzzle) (i : ℕ) (t : List Move) → IsItem p i → AreLegal p t → AreLegal p (after_none i t)
 legal_after_none p i t h l = grind (arith, common_steps)
-
-pub none_wanted : (r : Residual) (i : ℕ) → AreWanted r.items → AreWanted (none r i).items
-none_wanted r i a = each-filter (λ w. is_wanted w ≡ true) (λ w. not (eqb w.item i)) r.items a

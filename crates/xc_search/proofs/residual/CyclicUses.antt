@@ -1,7 +1,7 @@
 -- Taking an option: its branch item's use first, the others cyclically after it.
 use Rattle.std.proofs.lemmas.Grind.{common_steps}
 use Rattle.std.proofs.Common.{ℕ, suc, ◌≡◌, ◌+◌, ◌<◌, true, not, ◌&&◌, ◌||◌, List, [], ◌∷◌, ◌++◌}
-use Rattle.std.proofs.Common.{length, filter, take, drop, refl, arith}
+use Rattle.std.proofs.Common.{length, filter, take, drop, refl, arith, ap, ◌∙◌}
 use Rattle.std.proofs.lemmas.List.Elements.{filter_agree}
 use Rattle.std.specs.Prelude.{nat_le, is_some}
 use Rattle.xc_input.specs.declared.problem.Use.{Use}
@@ -22,9 +22,8 @@ use Rattle.xc_input.proofs.lists.EachTwo.{EachTwo-swapped}
 -- ---- where the item stands
 
 pub record Placed (i : ℕ) (us : List Use) : Type 0 where
-  pub use_of : Use
-  pub at : use_of.item ≡ i
-  pub whole : us ≡ take (place_in i us) us ++ use_of ∷ drop (place_in i us + 1) us
+  pub colour : ℕ
+  pub whole : us ≡ take (place_in i us) us ++ record { item = i; colour = colour } ∷ drop (place_in i us + 1) us
   pub within : place_in i us < length us
 
 pub placed : (i : ℕ) (us : List Use) → is_some (colour_in us i) ≡ true → Placed i us
@@ -32,10 +31,11 @@ placed i us h =
     let w = held_use us i h in
     let n = place_in i us in
     let s : suc n ≡ n + 1 = omega arith in
+    let whole : us ≡ take n us ++ w.use_of ∷ drop (n + 1) us = grind (arith, common_steps, take-append-drop, n, drop_at) in
     record {
-      use_of = w.use_of;
-      at = w.item;
-      whole = grind (arith, common_steps, take-append-drop, n, drop_at);
+      colour = w.use_of.colour;
+      whole = whole ∙ ap (λ j. take n us ++ (let u : Use = record { item = j; colour = w.use_of.colour } in u)
+          ∷ drop (n + 1) us) w.item;
       within = slice_get_within us n w.use_of w.at;
     }
 

@@ -1,12 +1,12 @@
 -- What each move does to what is left.
 use Rattle.std.proofs.lemmas.Grind.{common_steps}
-use Rattle.std.proofs.Common.{ℕ, zero, suc, ◌≡◌, ◌+◌, ◌<◌, not, ◌&&◌, eqb, List, ◌∷◌, map}
+use Rattle.std.proofs.Common.{ℕ, zero, suc, ◌≡◌, ◌+◌, ◌<◌, ◌≤◌, not, ◌&&◌, eqb, List, ◌∷◌, map}
 use Rattle.std.proofs.Common.{filter, refl, ap, arith, ne_eqb}
 use Rattle.std.specs.List.{AllByRecursion, range_with_len}
 use Rattle.xc_dance.specs.declared.dance.Move.{Move}
 use Rattle.xc_dance.specs.declared.dance.Move.TheVariants.{Cover, Purify, Spend}
 use Rattle.xc_input.specs.Problem.{Puzzle, primary_count, holds, colour_at}
-use Rattle.xc_search.specs.Listing.{Wanted, Residual, none}
+use Rattle.xc_search.specs.Listing.{Residual, none}
 use Rattle.xc_dance.specs.inner.Left.{left}
 use Rattle.xc_dance.specs.Moves.{is_open, open_items, agrees}
 use Rattle.xc_search.specs.Residuals.{wanted_at, wanted_after}
@@ -17,11 +17,7 @@ use Rattle.xc_input.proofs.lists.Filters.{filter_same, filter_both, filter-map, 
 use Rattle.std.proofs.Math.Bool.{and_comm}
 use Rattle.std.proofs.lemmas.List.Elements.{filter_agree}
 
-make : ℕ → ℕ → ℕ → Wanted
-make i l h = record { item = i; low = l; high = h }
-
 spent_once : (p : Puzzle) (t : List Move) (j i : ℕ) → wanted_at p (Spend j ∷ t) i ≡ dec j (wanted_at p t i)
-unfolding make
 spent_once p t j i = grind (arith, common_steps)
 
 -- one Spend lowers the bounds of its item
@@ -38,7 +34,7 @@ covered_items p t j = grind (arith, common_steps, filter_agree, and_comm, filter
 pub residual_cover : (p : Puzzle) (t : List Move) (j : ℕ) → residual_of p (Cover j ∷ t) ≡ none (residual_of p t) j
 residual_cover p t j = grind (arith, common_steps, as_residual, covered_items, filter-map)
 
-pub in_range : (a n : ℕ) → AllByRecursion (λ i. i < a + n) (range_with_len a n)
+pub in_range : (a n : ℕ) → AllByRecursion (λ i. (a ≤ i) × (i < a + n)) (range_with_len a n)
 in_range a zero = tt
 in_range a (suc n) = grind (arith, common_steps, in_range (a + 1) n, each_weaker)
 

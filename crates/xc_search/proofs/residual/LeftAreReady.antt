@@ -1,4 +1,5 @@
 -- The uses of an option that is left are ready to be committed.
+use Rattle.xc_search.specs.inner.Levels.{AreAllWanted}
 use Rattle.std.proofs.lemmas.Grind.{common_steps}
 use Rattle.std.proofs.Common.{ℕ, ◌≡◌, ◌<◌, ◌≤◌, Bool, true, false, leb, List, []}
 use Rattle.std.proofs.Common.{◌∷◌, filter, find, Some, None, refl, ap, ◌∙◌, arith, subst, eqb-true, ltb-true}
@@ -15,7 +16,7 @@ use Rattle.xc_search.specs.Listing.{Wanted}
 use Rattle.xc_dance.specs.inner.Left.{left}
 use Rattle.xc_dance.specs.Moves.{is_open, is_covered, purified, spends, AreLegal, agrees}
 use Rattle.xc_search.specs.Residuals.{wanted_at, wanted_after}
-use Rattle.xc_search.proofs.residual.PickedByUses.{is_wanted, AreWanted}
+use Rattle.xc_search.proofs.residual.PickedByUses.{is_wanted}
 use Rattle.xc_dance.proofs.MoveLemmas.LeftOptions.{left_agrees, left_free, kept}
 use Rattle.xc_search.proofs.residual.ReadyUses.{Ready, secondary, same_colour, found_wanted, AreReady}
 use Rattle.xc_input.proofs.lists.EachElement.{each_at, each_both}
@@ -54,7 +55,7 @@ found_holds P q [] w a e = cc
 found_holds P q (v ∷ vs) w a e = grind (arith, common_steps, found_holds P q vs w a.1, find)
 
 -- an open primary item has something left to spend
-pub has_left : (p : Puzzle) (t : List Move) (j : ℕ) → AreWanted (wanted_after p t) → IsPrimary p j → is_open j t ≡ true
+pub has_left : (p : Puzzle) (t : List Move) (j : ℕ) → AreAllWanted (wanted_after p t) → IsPrimary p j → is_open j t ≡ true
     → spends j t < high_at p j
 has_left p t j a h o =
     let some_left : is_wanted (wanted_at p t j) ≡ true = found_holds _ _ _ _ a (found_wanted p t j h o) in
@@ -73,7 +74,7 @@ not_covered : (t : List Move) (x : Numbered) (u : Use) → IsFree t x → colour
     → is_covered u.item t ≡ false
 not_covered t x u f e = grind (arith, common_steps, f.uncovered u.item)
 
-ready_use : (p : Puzzle) (t : List Move) (x : Numbered) (u : Use) → AreLegal p t → AreWanted (wanted_after p t)
+ready_use : (p : Puzzle) (t : List Move) (x : Numbered) (u : Use) → AreLegal p t → AreAllWanted (wanted_after p t)
     → IsFree t x → IsSoundUse p u → colour_at x u.item ≡ Some u.colour → Ready p t u
 ready_use p t x u l a f s e = by_bool (leb u.item (primary_count p))
     (λ h. grind (arith, common_steps, leb-true, open_if, not_covered, primary_pure, has_left))
@@ -87,7 +88,7 @@ pub of_left : (P : Numbered → Type 0) (i k : ℕ) (os : List Numbered) (x : Nu
     → slice_get (filter (λ o. holds o i) os) k ≡ Some x → P x
 of_left P i k os x a e = each_at P _ k x (each-filter P _ os a) e
 
-pub ready_left : (p : Puzzle) (t : List Move) (i k : ℕ) (x : Numbered) → AreLegal p t → AreWanted (wanted_after p t)
+pub ready_left : (p : Puzzle) (t : List Move) (i k : ℕ) (x : Numbered) → AreLegal p t → AreAllWanted (wanted_after p t)
     → IsOption p x → slice_get (filter (λ o. holds o i) (left p t)) k ≡ Some x → AreReady p t x.uses
 ready_left p t i k x l a option e =
     let free : IsFree t x = grind (arith, common_steps, of_left, left, left_free, left_agrees) in

@@ -1,4 +1,5 @@
 -- Taking an option use by use comes to `pick`.
+use Rattle.xc_search.specs.inner.Levels.{AreAllWanted}
 use Rattle.std.proofs.Common.{arith}
 use Rattle.std.proofs.lemmas.Grind.{common_steps}
 use Rattle.std.proofs.Common.{ℕ, ◌≡◌, Bool, true, false, cond, eqb, List, [], ◌∷◌, map, filter, find}
@@ -45,15 +46,12 @@ committed us r = record {
   options = filter (all_stay r us) r.options;
 }
 
-abbrev pub AreWanted : List Wanted → Type 0
-AreWanted ws = AllByRecursion (λ w. is_wanted w ≡ true) ws
-
 -- items apart from j aren't in uses apart from it
 not_held : (j : ℕ) (us : List Use) → AllByRecursion (λ v. eqb j v.item ≡ false) us → is_some (colour_in us j) ≡ false
 not_held j [] a = refl
 not_held j (u ∷ us) a = grind (arith, common_steps, not_held j us a.1, ne_eqb u.item j, eq-eqb j u.item)
 
-pub still_wanted : (j : ℕ) (ws : List Wanted) → AreWanted (filter is_wanted (map (dec j) ws))
+pub still_wanted : (j : ℕ) (ws : List Wanted) → AreAllWanted (filter is_wanted (map (dec j) ws))
 still_wanted j [] = tt
 still_wanted j (w ∷ ws) = grind (arith, common_steps, still_wanted j ws)
 
@@ -63,7 +61,7 @@ spends_more u us w = grind (arith, common_steps, eq-eqb, eqb-true, ne_eqb)
 
 -- the items
 items_more : (u : Use) (us : List Use) (ws : List Wanted) → AllByRecursion (λ v. eqb u.item v.item ≡ false) us
-    → AreWanted ws →
+    → AreAllWanted ws →
     filter is_wanted (map (spend_uses us) (filter is_wanted (map (dec u.item) ws))) ≡ filter is_wanted
     (map (spend_uses (u ∷ us)) ws)
 items_more u us [] a h = refl
@@ -71,13 +69,13 @@ items_more u us (w ∷ ws) a h =
     grind (arith, common_steps, items_more u us ws a h.1, spends_more u us w, eqb-true, not_held u.item us a)
 
 -- what is left of other items
-left_same : (j k : ℕ) (ws : List Wanted) → eqb j k ≡ false → AreWanted ws →
+left_same : (j k : ℕ) (ws : List Wanted) → eqb j k ≡ false → AreAllWanted ws →
     find (λ w. eqb w.item k) (filter is_wanted (map (dec j) ws)) ≡ find (λ w. eqb w.item k) ws
 left_same j k [] e h = refl
 left_same j k (w ∷ ws) e h = grind (arith, common_steps, left_same j k ws e h.1, eqb-true, find)
 
 stay_same : (u : Use) (us : List Use) (r : Residual) (o : Numbered) → AllByRecursion (λ v. eqb u.item v.item ≡ false) us
-    → AreWanted r.items → all_stay (commit_use u r) us o ≡ all_stay r us o
+    → AreAllWanted r.items → all_stay (commit_use u r) us o ≡ all_stay r us o
 stay_same u [] r o a h = refl
 stay_same u (v ∷ us) r o a h =
     rw (left_same u.item v.item r.items a.0 h, stay_same u us r o a.1 h) refl
@@ -86,7 +84,7 @@ pub as_residual : (a b : List Wanted) (c d : List Numbered) → a ≡ b → c �
     → ◌≡◌ {A = Residual} (record { items = a; options = c }) (record { items = b; options = d })
 as_residual a b c d e f = ap₂ (λ x y. let r : Residual = record { items = x; options = y } in r) e f
 
-pub uses_committed : (us : List Use) (r : Residual) → AreApart us → AreWanted r.items
+pub uses_committed : (us : List Use) (r : Residual) → AreApart us → AreAllWanted r.items
     → commit_uses us r ≡ committed us r
 uses_committed [] r a h =
     as_residual r.items _ r.options _ (sym (ap (filter is_wanted) (map-id r.items) ∙ keep_all is_wanted r.items h))

@@ -1,7 +1,8 @@
 -- The uses of an option left can be committed, and committing one is what `commit_use` says.
+use Rattle.xc_search.specs.inner.Levels.{AreAllWanted}
 use Rattle.std.proofs.lemmas.Grind.{common_steps}
 use Rattle.std.proofs.Common.{ℕ, zero, suc, ◌≡◌, ◌+◌, ◌-◌, ◌<◌, ◌≤◌, true, false, not, eqb, List, []}
-use Rattle.std.proofs.Common.{◌∷◌, map, filter, find, Some, None, refl, sym, ap, ◌∙◌, arith, subst, eqb-true}
+use Rattle.std.proofs.Common.{◌∷◌, map, filter, find, Some, None, refl, sym, ap, ◌∙◌, arith, eqb-true}
 use Rattle.std.proofs.Common.{eq-eqb, ne_eqb, le-leb, lt-ltb, le-ltb}
 use Rattle.std.proofs.lemmas.Bool.{lt-leb, eqb-false}
 use Rattle.std.proofs.lemmas.List.Elements.{filter_agree}
@@ -17,7 +18,7 @@ use Rattle.xc_dance.specs.Moves.{is_open, purified, spends, AreLegal, agrees}
 use Rattle.xc_search.specs.Residuals.{wanted_at, wanted_after}
 use Rattle.xc_search.specs.inner.Residual.{residual_of}
 use Rattle.xc_dance.specs.Commits.{after_spend, after_use, after_uses}
-use Rattle.xc_search.proofs.residual.PickedByUses.{dec, is_wanted, commit_use, commit_uses, AreWanted, as_residual}
+use Rattle.xc_search.proofs.residual.PickedByUses.{dec, is_wanted, commit_use, commit_uses, as_residual}
 use Rattle.xc_search.proofs.residual.PickedByUses.{still_wanted}
 use Rattle.xc_search.proofs.residual.EachMove.{residual_spend, residual_cover, residual_purify}
 use Rattle.xc_search.proofs.residual.EachMove.{residual_cover_secondary, in_range}
@@ -94,7 +95,7 @@ kept_item : (p : Puzzle) (t : List Move) (j : ℕ) (w : Wanted) → w ≡ wanted
     → 1 < high_at p j - spends j t → is_wanted (dec j w) ≡ true
 kept_item p t j w e a h = grind (arith, common_steps, lt-ltb, eqb-true, ap (λ (w : Wanted). w.high) e)
 
-pub opening_commits : (p : Puzzle) (u : Use) (t : List Move) → AreWanted (wanted_after p t) → IsPrimary p u.item
+pub opening_commits : (p : Puzzle) (u : Use) (t : List Move) → AreAllWanted (wanted_after p t) → IsPrimary p u.item
     → is_open u.item t ≡ true → spends u.item t < high_at p u.item →
     residual_of p (after_spend p u.item t) ≡ commit_use u (residual_of p t)
 opening_commits p u t a h o k =
@@ -121,7 +122,7 @@ opening_commits p u t a h o k =
     (sym (keep_all stay (left p t) (each_of_all _ (left p t) (λ x. rw (found, is_more) refl))))))
 
 -- a use of a secondary item keeps the options that agree
-secondary_commits : (p : Puzzle) (u : Use) (t : List Move) → AreWanted (wanted_after p t) → primary_count p < u.item
+secondary_commits : (p : Puzzle) (u : Use) (t : List Move) → AreAllWanted (wanted_after p t) → primary_count p < u.item
     → (let r : Residual = record {
       items = wanted_after p t;
       options = filter (λ o. agrees u.colour (colour_at o u.item)) (left p t);
@@ -131,7 +132,7 @@ secondary_commits p u t a h =
     as_residual _ _ _ _ (sym (ap (filter is_wanted) out.1 ∙ keep_all is_wanted (wanted_after p t) a))
     (filter_agree _ _ (λ x. rw out.0 refl) (left p t))
 
-pub commit_one : (p : Puzzle) (u : Use) (t : List Move) → AreWanted (wanted_after p t) → Ready p t u
+pub commit_one : (p : Puzzle) (u : Use) (t : List Move) → AreAllWanted (wanted_after p t) → Ready p t u
     → residual_of p (after_use p u t) ≡ commit_use u (residual_of p t)
 commit_one p u t a (primary h o k) = rw (le-leb u.item (primary_count p) h.1) (opening_commits p u t a h o k)
 commit_one p u t a (secondary h o) = rw (lt-leb u.item (primary_count p) h.0) (by_bool (eqb u.colour 0)
@@ -150,18 +151,17 @@ commit_one p u t a (same_colour h c o q) =
 abbrev pub AreReady : Puzzle → List Move → List Use → Type 0
 AreReady p t us = AllByRecursion (λ u. Ready p t u) us
 
-pub record Committed (p : Puzzle) (us : List Use) (t : List Move) : Type 0 where
-  pub residual : residual_of p (after_uses p us t) ≡ commit_uses us (residual_of p t)
-  pub legal : AreLegal p (after_uses p us t)
-  pub wanted : AreWanted (wanted_after p (after_uses p us t))
+-- legal moves leave this, and something of each bound
+pub record Leaves (p : Puzzle) (t : List Move) (r : Residual) : Type 0 where
+  pub residual : residual_of p t ≡ r
+  pub legal : AreLegal p t
+  pub wanted : AreAllWanted (wanted_after p t)
 
-pub commit_all : (p : Puzzle) (us : List Use) (t : List Move) → AreApart us → AreReady p t us → AreLegal p t
-    → AreWanted (wanted_after p t) → Committed p us t
-commit_all p [] t d r l a = record { residual = refl; legal = l; wanted = a }
-commit_all p (u ∷ us) t d r l a =
-    let one = commit_one p u t a r.0 in
-    let rest = commit_all p us (after_use p u t) d.1
+pub commit_all : (p : Puzzle) (us : List Use) (t : List Move) (r : Residual) → AreApart us → AreReady p t us
+    → Leaves p t r → Leaves p (after_uses p us t) (commit_uses us r)
+commit_all p [] t r d ready l = l
+commit_all p (u ∷ us) t r d ready l =
+    let one = commit_one p u t l.wanted ready.0 in
+    commit_all p us (after_use p u t) (commit_use u r) d.1
     (grind (arith, common_steps, each_both, ready_after, apart_sym))
-    (legal_commit p u t l r.0)
-    (subst (λ r. AreWanted r.items) (sym one) (still_wanted u.item (wanted_after p t))) in
-    record { residual = rest.residual ∙ ap (commit_uses us) one; legal = rest.legal; wanted = rest.wanted }
+    (grind (arith, common_steps, one, legal_commit, still_wanted u.item (wanted_after p t)))

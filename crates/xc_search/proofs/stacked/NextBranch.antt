@@ -1,8 +1,8 @@
 -- The next branch of a level.
 use Rattle.std.proofs.Common.{ℕ, suc, ◌≡◌, ◌+◌, ◌-◌, ◌<◌, ◌≤◌, true, false, cond, List, ◌∷◌, length}
-use Rattle.std.proofs.Common.{min, Some, None, refl, sym, ap, ◌∙◌, arith, subst, eqb-true}
+use Rattle.std.proofs.Common.{min, Some, None, refl, sym, ap, ◌∙◌, arith, eqb-true}
 use Rattle.std.proofs.lemmas.Option.{slice_get_within}
-use Rattle.std.specs.Prelude.{slice_get, option_map}
+use Rattle.std.specs.Prelude.{slice_get}
 use Rattle.xc_dance.specs.declared.dance.Move.{Move}
 use Rattle.xc_dance.specs.declared.dance.Move.TheVariants.{Spend}
 use Rattle.xc_search.specs.declared.level.Level.{Level}
@@ -11,14 +11,15 @@ use Rattle.xc_search.specs.Listing.{branch_count, take_branch, none_branch}
 use Rattle.xc_dance.specs.Moves.{spends}
 use Rattle.xc_search.specs.Residuals.{wanted_at}
 use Rattle.xc_search.specs.inner.Residual.{residual_of}
-use Rattle.xc_search.specs.inner.Levels.{AreAllWanted, options_at, IsBegun, IsPlace}
+use Rattle.xc_search.specs.inner.Levels.{options_at, IsBegun, IsPlace}
 use Rattle.xc_dance.specs.Commits.{option_at, after_spend}
 use Rattle.xc_search.specs.inner.Commits.{oldest, tweaked, walks}
 use Rattle.xc_search.specs.Room.{room_for}
 use Rattle.xc_search.proofs.room.SparingMoves.{sparing_taken, sparing_none, sparing_after_spend, spent_tweaked}
 use Rattle.xc_input.proofs.OptionLemmas.FlatParts.{numbered_get-at}
 use Rattle.xc_search.proofs.listing.BranchLists.{branch_takes, branch_none}
-use Rattle.xc_search.proofs.moves.BranchMoves.{taken, none_taken, legal_after_none, none_wanted}
+use Rattle.xc_search.proofs.moves.BranchMoves.{taken, none_taken, legal_after_none}
+use Rattle.xc_input.proofs.lists.EachElement.{each-filter}
 use Rattle.xc_search.proofs.moves.LegalTweaks.{legal_branch}
 use Rattle.xc_search.proofs.stacked.NextLevel.{Extends, ext_none, ext_more, ext_trans}
 use Rattle.xc_search.proofs.stacked.NextLevel.{ext_after_spend}
@@ -92,19 +93,14 @@ module _ {p : Puzzle} {t : List Move} {l : Level} (may : MayBegin p t l) where
       let last = branch_none r (wanted_at p u l.item) l.begun (omega (arith, may.more, level.count)) e in
       let few : l.tweaks ≤ length (options_at p u l.item) = grind (arith, common_steps, level.tweaks) in
       let gone = none_taken p u l.item l.tweaks level.node in
+      let sparing = sparing_none p u l.item l.tweaks level.node.searchable.sparing level.branch gone in
       record {
         branch = none_branch r l.item (branch_count r (wanted_at p u l.item));
         at = ap (λ bs. slice_get bs l.begun) (branches_here p u _ level.branch) ∙ last.0;
         choice = grind (arith, common_steps, last.2, level.count);
         tweaks = grind (arith, common_steps, level.tweaks, not_some (options_at p u l.item) l.begun e);
         next = gone;
-        searchable = record {
-          valid = level.node.searchable.valid;
-          legal = grind (arith, common_steps, legal_after_none, level, legal_branch, u, few);
-          wanted = subst (λ r. AreAllWanted r.items) (sym gone)
-              (none_wanted r l.item level.node.searchable.wanted);
-          sparing = sparing_none p u l.item l.tweaks level.node.searchable.sparing level.branch gone;
-        };
+        searchable = grind (arith, common_steps, legal_after_none, legal_branch, u, few, each-filter, gone, sparing);
         option = tt;
       }
 
@@ -132,18 +128,7 @@ module _ {p : Puzzle} {t : List Move} {l : Level} (may : MayBegin p t l) where
         begun = omega (arith, begun);
         mark = refl;
         below = under;
-        level = rw under (record {
-          within = (omega (arith, ext_longer ext_ground, mark_is, own), omega (arith, ext_longer ext_v, own));
-          node = may.level.node;
-          branch = may.level.branch;
-          count = may.level.count;
-          begun = omega (arith, may.more, begun);
-          walking = may.level.walking;
-          tweaks = rw begun made.tweaks;
-          option = at ∙ sym (ap (option_map (λ o. o.number)) (numbered_get-at _ b.begun l.begun begun));
-          place = place;
-          base = rw own (ext_whole ext_v);
-        });
+        level = rw under (grind (arith, common_steps, may.level, ext_longer, ext_ground, ext_v, ext_whole, numbered_get-at));
         searchable = made.searchable;
       } in
       grind (arith, common_steps, has_room)

@@ -20,9 +20,11 @@ use Rattle.xc_dance.specs.Fields.{link_place, layout}
 use Rattle.xc_dance.specs.Commits.{option_at, number_of, after_spend, after_use, after_uses}
 use Rattle.xc_search.specs.inner.Commits.{oldest}
 use Rattle.xc_search.specs.inner.Ahead.{cost, work, work_level, visits, ahead}
-use Rattle.xc_input.proofs.lists.Members.{IsIn, in-map, in-filter}
+use Rattle.xc_input.proofs.lists.Members.{in-map, in-filter}
 use Rattle.xc_search.proofs.listing.Unrolled.{listing_unrolled}
 use Rattle.xc_search.proofs.listing.BranchesLess.{least_is_one}
+use Rattle.xc_search.proofs.residual.EachMove.{in_range}
+use Rattle.xc_input.proofs.lists.Members.{each_in}
 use Rattle.xc_search.proofs.residual.BranchItemLeft.{choice_is_branch_item}
 use Rattle.xc_search.proofs.moves.OldestMoves.{oldest_all, oldest-drop}
 use Rattle.xc_search.proofs.stacked.WorkUnrolled.{work_unrolled}
@@ -92,10 +94,6 @@ ground_is {t = t} is_level whole = sym (ap (λ n. oldest n t) whole ∙ oldest_a
 
 -- ---- the item of a level
 
-in-range : (a n i : ℕ) → IsIn (range_with_len a n) i → (a ≤ i) × (i < a + n)
-in-range a zero i h = absurd h
-in-range a (suc n) i h = grind (arith, common_steps, in-range (a + 1) n i)
-
 pub record Chosen (p : Puzzle) (t : List Move) (i n : ℕ) : Type 0 where
   pub branch : branch_item (residual_of p t) ≡ Some (wanted_at p t i)
   pub count : n ≡ branch_count (residual_of p t) (wanted_at p t i)
@@ -110,7 +108,7 @@ chosen_item p t i n l e =
     (sym (choice_is_branch_item p t l) ∙ e) in
     let at = in-map (wanted_at p t) (open_items p t) found.0 (least_is_one _ _ _ found.1) in
     let one = in-filter (λ i. is_open i t) (range_with_len 1 (primary_count p)) at.0 at.1 in
-    let within = in-range 1 (primary_count p) at.0 one.0 in
+    let within = each_in _ _ at.0 (in_range 1 (primary_count p)) one.0 in
     grind (arith, common_steps)
 
 -- ---- what is left is searched
