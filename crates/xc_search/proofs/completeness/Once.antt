@@ -1,11 +1,11 @@
 -- Members at two places have different sets of options.
-use Rattle.std.proofs.Common.{ℕ, ◌≡◌, ◌<◌, Bool, true, false, cond, eqb, List, [], ◌∷◌, take, Some, None, sym}
+use Rattle.std.proofs.Common.{ℕ, ◌≡◌, ◌<◌, Bool, List, ◌∷◌, take, Some, None, sym}
 use Rattle.std.proofs.Common.{arith, subst, le-leb}
 use Rattle.std.specs.Prelude.{slice_get}
 use Rattle.std.specs.List.{enumerate_from}
 use Rattle.xc_search.specs.declared.choice.Choice.{Choice}
 use Rattle.xc_input.specs.Problem.{Puzzle, Numbered, holds, holding, IsValid}
-use Rattle.xc_search.specs.Listing.{Wanted, Residual, Branch, whole, branch_count, take_branch, none_branch}
+use Rattle.xc_search.specs.Listing.{Wanted, Residual, Branch, whole, branch_count, take_branch}
 use Rattle.xc_search.specs.Listing.{branches_of}
 use Rattle.xc_search.specs.Listing.{listing}
 use Rattle.xc_search.specs.Cover.{NoSetTwice}
@@ -21,6 +21,7 @@ use Rattle.xc_search.proofs.listing.BranchesLess.{by_branches}
 use Rattle.xc_search.proofs.listing.BranchLists.{takes}
 use Rattle.xc_search.proofs.listing.EachBranch.{nones, behind, in-branches, in-nones, rise_behind}
 use Rattle.xc_search.proofs.listing.Unrolled.{listing_at}
+use Rattle.std.proofs.lemmas.Grind.{common_steps}
 use Rattle.xc_search.proofs.residual.NumberedOnce.{two_rise}
 
 -- no choice fits two branches
@@ -32,9 +33,8 @@ takes_apart : (r : Residual) (w : Wanted) (n : ℕ) (a b : ℕ × Numbered) → 
     → a.1.number < b.1.number → AreApart r (take_branch r w.item n a) (take_branch r w.item n b)
 takes_apart r w n a b h less chosen f g = grind (arith, in-filter, le-leb, and_left)
 
-none_apart : (r : Residual) (w : Wanted) (m n : ℕ) (a : ℕ × Numbered) → IsIn (holding w.item r.options) a.1
-    → AreApart r (take_branch r w.item n a) (none_branch r w.item m)
-none_apart r w m n a h chosen f g = grind (arith, in-filter)
+none_apart : (r : Residual) (w : Wanted) (a b : Branch) → IsIn (takes r w) a → IsIn (nones r w) b → AreApart r a b
+none_apart r w a b h k chosen f g = grind (arith, in-map, in-enumerated, in-take, in-filter, in-nones)
 
 branches_apart : (r : Residual) (w : Wanted) → NumbersRise 0 r.options → EachTwo (AreApart r) (branches_of r w)
 branches_apart r w rise =
@@ -45,20 +45,11 @@ branches_apart r w rise =
     (EachTwo-map (AreApart r) (take_branch r w.item n) numbered
     (EachTwo-weaker (λ (a b : ℕ × Numbered). a.1.number < b.1.number)
     (λ a b. AreApart r (take_branch r w.item n a) (take_branch r w.item n b)) numbered
-    (λ a b h k less. takes_apart r w n a b (held a h) less)
+    (λ a b h k less. takes_apart r w n a b (in-take n hs a.1 (in-enumerated _ _ _ h)) less)
     (EachTwo-enumerated (λ (x y : Numbered). x.number < y.number) 1 (take n hs)
     (EachTwo-take (λ (x y : Numbered). x.number < y.number) n hs
     (two_rise 0 hs (NumbersRise-filter (λ o. holds o w.item) 0 r.options rise))))))
-    (elim (eqb w.low 0) as (λ c. EachTwo (AreApart r) (cond c (none_branch r w.item n ∷ []) []))
-    [ true ↦ (tt, tt) | false ↦ tt ])
-    (λ a b h k.
-    let from = in-map _ _ _ h in
-    subst (λ z. AreApart r z b) from.2 (subst (AreApart r (take_branch r w.item n from.0)) (in-nones r w b k).1
-    (none_apart r w n n from.0 (held from.0 from.1))))
-  where
-    held : (a : ℕ × Numbered) → IsIn (enumerate_from 1 (take (branch_count r w) (holding w.item r.options))) a
-        → IsIn (holding w.item r.options) a.1
-    held a h = in-take (branch_count r w) (holding w.item r.options) a.1 (in-enumerated _ _ _ h)
+    (grind (arith, common_steps)) (none_apart r w)
 
 -- two members are of no one choice
 abbrev pub Differ : Residual → List Choice → List Choice → Type 0
