@@ -59,7 +59,7 @@ listed_for n chosen = by_branches
     (λ r e p c. (
       [],
       subst (λ ms. IsIn ms []) (sym (listing_at r None e)) (inl refl),
-      record { taken = λ k h. absurd h; all = λ o h. absurd (none_left p e o h) },
+      grind (arith, none_left p e),
     ))
     (λ r w e later p c.
     let known = branch_item-in r w e in

@@ -46,9 +46,6 @@ member_of_set r s m same = record {
 
 -- ---- how often an item is held
 
-abbrev IsKnown : Puzzle → List ℕ → Type 0
-IsKnown p s = AllByRecursion (IsOption p) s
-
 -- the option of a number
 pub option_of : (p : Puzzle) (a : ℕ) → IsOption p a → (x : Numbered) × IsIn (numbered_options p) x
     × (x.number ≡ a) × (uses_of p a ≡ x.uses)
@@ -67,7 +64,7 @@ one_more p i a s x h e out =
     (rw (e, out) (and-false (holds x i))) (λ y j apart. rw (ne_eqb a y.number (λ q. apart (e ∙ q))) refl)
     ∙ ap (λ b. cond b 1 0 + passing (is_held (is_listed s) i) (numbered_options p)) is
 
-held_times : (p : Puzzle) (i : ℕ) (s : List ℕ) → EachTwo (λ a b. a ≢ b) s → IsKnown p s
+held_times : (p : Puzzle) (i : ℕ) (s : List ℕ) → EachTwo (λ a b. a ≢ b) s → AllByRecursion (IsOption p) s
     → passing (is_held (is_listed s) i) (numbered_options p) ≡ times_held p i s
 held_times p i [] two known = none_pass (is_held (is_listed []) i) (numbered_options p) (λ y k. and-false (holds y i))
 held_times p i (a ∷ s) two known =

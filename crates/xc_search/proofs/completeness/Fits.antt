@@ -106,22 +106,21 @@ module _ (n : ℕ) (r : Residual) (p : IsProper n r) (chosen : ℕ → Bool) whe
           → goes_on r i x y ≡ true
       others_stay y h e apart = grind (arith, common_steps, f.others y h e, in-filter)
 
+      -- the option that is taken is one of those that were counted
+      one_more : (j : ℕ) → passing (is_held chosen j) r.options
+          ≡ cond (holds x j) 1 0 + passing (is_held chosen j) (pick r i x).options
+      one_more j =
+          let is : is_held chosen j x ≡ holds x j = grind (arith, common_steps, f.option x.number refl) in
+          let q = goes_on r i x in
+          let out : q x ≡ false = grind (arith, common_steps, le-leb) in
+          one_less (is_held chosen j) (λ y. q y && is_held chosen j y) 0 r.options x p.options_rise known (rw out refl)
+          (λ y h apart. held_too q j y (λ e. others_stay y h e apart))
+          ∙ ap₂ (λ b n. cond b 1 0 + n) is (ap length (sym (filter_both _ _ r.options)))
+
       -- an item is held once more where the option holds it
       same_met : (w : Wanted) → 0 < w.high
           → IsMet chosen r.options w ↔ IsMet chosen (pick r i x).options (spend_one x w)
-      same_met w some = by_bool (holds x w.item)
-          (λ e. let more = rw e at one_more in rw e (grind (arith, common_steps, more)))
-          (λ e. let more = rw e at one_more in rw e (grind (arith, common_steps, more)))
-        where
-          one_more : passing (is_held chosen w.item) r.options
-              ≡ cond (holds x w.item) 1 0 + passing (is_held chosen w.item) (pick r i x).options
-          one_more =
-              let is : is_held chosen w.item x ≡ holds x w.item = grind (arith, common_steps, f.option x.number refl) in
-              let q = goes_on r i x in
-              let out : q x ≡ false = grind (arith, common_steps, le-leb) in
-              one_less (is_held chosen w.item) (λ y. q y && is_held chosen w.item y) 0 r.options x p.options_rise known
-              (rw out refl) (λ y h apart. held_too q w.item y (λ e. others_stay y h e apart))
-              ∙ ap₂ (λ b n. cond b 1 0 + n) is (ap length (sym (filter_both _ _ r.options)))
+      same_met w some = grind (arith, common_steps, one_more w.item)
 
       -- an item that is used up is held by no other
       met_next : ((v : Wanted) → IsIn (pick r i x).items v → IsMet chosen (pick r i x).options v) → (w : Wanted)
@@ -222,10 +221,8 @@ module _ (n : ℕ) (r : Residual) (p : IsProper n r) (chosen : ℕ → Bool) (c 
   pub branch_for : (w : Wanted) → IsIn r.items w → (b : Branch) × IsIn (branches_of r w) b × Fits r chosen b
   branch_for w h = by_number (passing (is_held chosen w.item) r.options)
       (λ e.
-      let fits : Fits r chosen (none_branch r w.item (branch_count r w)) = record {
-        option = λ k q. cc;
-        others = λ y j q. grind (arith, common_steps, filter-in, one_passes (is_held chosen w.item) r.options y j);
-      } in
+      let fits : Fits r chosen (none_branch r w.item (branch_count r w)) =
+      grind (arith, common_steps, filter-in, one_passes (is_held chosen w.item) r.options) in
       (none_branch r w.item (branch_count r w), nones-in r w (omega (arith, c.met w h, e)), fits))
       (λ k e.
       let hs = holding w.item r.options in
