@@ -1,14 +1,13 @@
 -- The way down a path.
-use Rattle.std.proofs.Common.{ℕ, ◌≡◌, ◌+◌, ◌<◌, true, List, [], ◌∷◌, ◌++◌, length, take, drop, get_or, map}
-use Rattle.std.proofs.Common.{Some, None, refl, sym, ap, ◌∙◌, arith, append-nil}
+use Rattle.std.proofs.Common.{ℕ, ◌≡◌, ◌+◌, ◌<◌, true, List, [], ◌∷◌, ◌++◌, length, take, drop, get_or}
+use Rattle.std.proofs.Common.{None, refl, sym, ap, ◌∙◌, arith}
 use Rattle.std.proofs.lemmas.Grind.{common_steps}
-use Rattle.std.proofs.lemmas.List.{map-id}
 use Rattle.xc_dance.specs.declared.dance.Move.{Move}
 use Rattle.xc_search.specs.declared.choice.Choice.{Choice}
 use Rattle.xc_search.specs.declared.level.Level.{Level}
 use Rattle.xc_search.specs.declared.level.Begun.{Begun}
 use Rattle.xc_input.specs.Problem.{Puzzle, IsValid}
-use Rattle.xc_search.specs.Listing.{whole, listing}
+use Rattle.xc_search.specs.Listing.{whole}
 use Rattle.xc_search.specs.Cut.{left_by_one, below, IsPathBy}
 use Rattle.xc_search.specs.inner.Commits.{oldest}
 use Rattle.xc_search.specs.inner.Residual.{residual_of}
@@ -20,7 +19,7 @@ use Rattle.xc_search.specs.inner.Descent.{Leads, IsDown}
 use Rattle.xc_search.proofs.residual.BranchItemLeft.{no_moves_leave_all}
 use Rattle.xc_search.proofs.stacked.NextLevel.{Extends, ext_after_branch, ext_whole}
 use Rattle.xc_search.proofs.stacked.NextLevel.{oldest-oldest}
-use Rattle.xc_search.proofs.stacked.Start.{starts_standing}
+use Rattle.xc_search.proofs.stacked.Start.{starts_standing, comes_alone}
 use Rattle.xc_search.proofs.stacked.Depth.{shallow_first}
 use Rattle.xc_search.proofs.paths.Numbers.{no_further, left_less, below_left}
 
@@ -37,11 +36,7 @@ leads_on p u s t l k b a ek own entered = grind (arith, taken, before_branch, ex
 -- a level on whose moves none was begun
 -- a path of one choice more
 pub down_first : (p : Puzzle) (t : List Move) → IsValid p → t ≡ [] → IsDown p [] [] t
-down_first p t v e = record {
-  left = ap Some (sym (no_moves_leave_all p)) ∙ ap (λ t. Some (residual_of p t)) (sym e);
-  told = refl;
-  searchable = (starts_standing p v p t [] refl e refl).searchable refl;
-}
+down_first p t v e = grind (arith, common_steps, no_moves_leave_all, starts_standing p v p t [] refl e refl)
 
 -- there is no path with these numbers where there is no branch with the next of them
 pub down_none : (p : Puzzle) (numbers all : List ℕ) (path other : List Choice) (t : List Move) (k : ℕ) (ks : List ℕ)
@@ -61,10 +56,7 @@ down_standing {p} {path = path} {t} d ls e =
 pub down_coming : {p : Puzzle} {numbers : List ℕ} {path : List Choice} {t : List Move} → IsDown p numbers path t
     → (ls : List Level) → ls ≡ [] → behind path (coming p t ls true) ≡ below p path
 down_coming {p} {path = path} {t} d ls e =
-    let ms = listing (residual_of p t) in
-    ap (λ ls. behind path (coming p t ls true)) e
-    ∙ ap (behind path) (append-nil (map (λ (m : List Choice). m) ms) ∙ map-id ms)
-    ∙ sym (below_left p path (residual_of p t) d.left)
+    ap (behind path) (comes_alone p t ls e) ∙ sym (below_left p path (residual_of p t) d.left)
 
 -- the number at a place, behind those before it
 pub parts_at : (ns : List ℕ) (i d : ℕ) → i < length ns → ns ≡ take i ns ++ get_or ns i d ∷ drop (i + 1) ns

@@ -1,15 +1,11 @@
 -- What is known of a node that was tried.
 use Rattle.std.proofs.lemmas.Grind.{common_steps}
-use Rattle.std.proofs.Common.{◌≡◌, ◌<◌, true, false, List, [], ◌++◌, map, refl, sym, ap, ◌∙◌}
-use Rattle.std.proofs.Common.{arith, subst, append-nil}
-use Rattle.std.proofs.lemmas.List.{map-id}
-use Rattle.xc_dance.specs.declared.dance.Move.{Move}
-use Rattle.xc_search.specs.declared.level.Level.{Level}
-use Rattle.xc_input.specs.Problem.{Puzzle}
+use Rattle.std.proofs.Common.{◌≡◌, ◌<◌, true, false, [], refl, sym, ap, ◌∙◌}
+use Rattle.std.proofs.Common.{arith, subst}
 use Rattle.xc_search.specs.Listing.{Residual, listing}
 use Rattle.xc_dance.specs.Dancing.{Dancing}
 use Rattle.xc_search.specs.inner.Residual.{residual_of}
-use Rattle.xc_search.specs.inner.Levels.{Levels, IsStanding, choices_of, coming}
+use Rattle.xc_search.specs.inner.Levels.{Levels, IsStanding}
 use Rattle.xc_search.specs.inner.Ahead.{work, visits, ahead, GoesOn}
 use Rattle.xc_search.specs.inner.Paths.{AreLed, KeepsPath, ground}
 use Rattle.xc_search.proofs.paths.Led.{led_ground}
@@ -26,14 +22,7 @@ pub goes_behind : (d e : Dancing) (ls : Levels) → e ≡ d → IsStanding d.puz
     GoesOn d ls true e ls false × (visits e.puzzle e.trail ls.levels < ahead d.puzzle d.trail ls.levels true)
 goes_behind d e ls same s none = grind (arith, common_steps, stands_behind, some_work)
 
--- it finds nothing where nothing is left
-pub nothing_listed : (p : Puzzle) (t : List Move) (ls : List Level) → ls ≡ [] → coming p t ls true ≡ []
-    → listing (residual_of p t) ≡ []
-nothing_listed p t ls e none =
-    let ms = listing (residual_of p t) in
-    sym (append-nil (map (λ m. choices_of p [] ++ m) ms) ∙ map-id ms) ∙ ap (λ ls. coming p t ls true) (sym e) ∙ none
-
--- and comes back to the node
+-- it comes back to the node
 pub comes_back : (d e f : Dancing) (ls ks : Levels) → ls.levels ≡ [] → e ≡ record d { trail = e.trail }
     → KeepsPath d ls e ks → f ≡ record e { trail = ground e.trail ks.levels } → f ≡ d
 comes_back d e f ls ks none ed keeps ef =

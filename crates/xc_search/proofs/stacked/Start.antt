@@ -25,5 +25,9 @@ pub starts_standing : (p : Puzzle) → IsValid p → (q : Puzzle) (t : List Move
 starts_standing p v q t ls e et el =
     grind (arith, common_steps, no_moves_leave_all, wanted_at_first, recursion_from_All, sparing_first, shallow_first)
 
+-- where no level stands, what comes is what is left
+pub comes_alone : (p : Puzzle) (t : List Move) (ls : List Level) → ls ≡ [] → coming p t ls true ≡ listing (residual_of p t)
+comes_alone p t ls e = grind (arith, common_steps, map-id (listing (residual_of p t)))
+
 pub starts_coming : (p : Puzzle) (t : List Move) (ls : List Level) → t ≡ [] → ls ≡ [] → coming p t ls true ≡ members p
-starts_coming p t ls et el = grind (arith, common_steps, map-id (listing (residual_of p [])), no_moves_leave_all p)
+starts_coming p t ls et el = grind (arith, common_steps, comes_alone, no_moves_leave_all p)
