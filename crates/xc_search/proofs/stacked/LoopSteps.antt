@@ -11,7 +11,7 @@ use Rattle.xc_dance.specs.Moves.{AreTweaks}
 use Rattle.xc_search.specs.Residuals.{choice_after}
 use Rattle.xc_dance.specs.Commits.{option_at, after_spend}
 use Rattle.xc_search.specs.inner.Commits.{oldest}
-use Rattle.xc_search.specs.inner.Levels.{Levels, IsNode, IsLevel, AreStacked, to_give, IsStanding, MayBegin}
+use Rattle.xc_search.specs.inner.Levels.{Levels, IsNode, IsLevel, AreStacked, IsStanding, MayBegin}
 use Rattle.xc_search.specs.inner.Levels.{IsEntered, first_level}
 use Rattle.xc_search.specs.inner.Levels.{begun_level, newest_begun}
 use Rattle.xc_search.specs.inner.Ahead.{visits, ahead, GoesOn, EntersBranch, branched}
@@ -102,20 +102,7 @@ enters_next d f l b vs ks stacked top ef entered ek =
     rw levels (subst (λ (f : Dancing). EntersBranch d vs false f (record vs { levels = k ∷ js }) l.item b.place
     × ((u : List Move) → AreLed p u (oldest l.mark d.trail) js
     → AreLed f.puzzle u (branched f l.item b.place).trail (k ∷ js))) (sym ef) (
-      record {
-        can = entered.can;
-        place = entered.begun.level.place;
-        goes_on = record {
-          still = (refl, refl);
-          standing = record {
-            stacked = all.1;
-            searchable = λ e. entered.begun.searchable;
-            shallow = λ e. shallower p s v l k js back.0 entered.begun;
-          };
-          members = ap (to_give p d.trail) top ∙ sym back.1 ∙ sym all.0;
-        };
-        less = omega (arith, all.2, back.2, ap (visits p d.trail) top);
-      },
+      grind (arith, entered, all, back, shallower p s v l k js back.0 entered.begun, top),
       λ u a. led_begun p u s v l k js entered.begun (rw under a),
     ))
 

@@ -1,5 +1,5 @@
 use Rattle.std.proofs.lemmas.Grind.{common_steps}
-use Rattle.std.proofs.Common.{◌≡◌, ◌+◌, arith, refl}
+use Rattle.std.proofs.Common.{arith, refl}
 use Rattle.xc_search.proofs.stacked.PassedOver.{HasToPass, went_over, went_past}
 use Rattle.xc_search.proofs.walk.Standing.passed.Goals as goal
 use Rattle.xc_search.proofs.walk.Standing.passed.Goals.{in-None, in-Some, Joined-down}
@@ -16,20 +16,10 @@ pub returns : goal.returns
 returns g c =
     let has = has g (goal.at.returns g c).Joined-down in
     elim c.match-advance.branch [
-      | in-None w ↦ record {
-        within = omega (arith, w.passed-is);
-        over = λ _. went_over c.args.self.down c.requires.some has (w.in-None.ensures.stands refl);
-        past = λ less. absurd (omega (arith, less, w.passed-is));
-        searched = refl;
-      }
+      | in-None w ↦
+          let over = went_over c.args.self.down c.requires.some has (w.in-None.ensures.stands refl) in
+          grind (arith, over, w.passed-is)
       | in-Some w ↦
           let past = went_past c.args.self.down c.match-advance.passed has w.in-Some.ensures.ended in
-          let count : c.match-advance.passed + 1 + w.in-Some.more ≡ c.args.many =
-          omega (arith, w.passed-is, w.fewer-passed.ensures) in
-          record {
-            within = omega (arith, count);
-            over = λ all. absurd (omega (arith, all, count));
-            past = λ _. past.1 count;
-            searched = refl;
-          }
+          grind (arith, past, w.passed-is, w.fewer-passed.ensures)
     ]
