@@ -38,11 +38,8 @@ pub record IsOption (p : Puzzle) (o : Numbered) : Type 0 where
 pub is_option : (p : Puzzle) → IsValid p → (o : Numbered) → IsIn (numbered_options p) o → IsOption p o
 is_option p v o h =
     let at = numbered_at 0 p.options o h in
-    record {
-      known = (omega (arith, at.1), omega (arith, at.1, at.2));
-      uses = uses_known p o h;
-      sound = each_at (IsSoundOption p) p.options at.0 o.uses (recursion_from_All _ _ v.options) at.3;
-    }
+    let sound = each_at (IsSoundOption p) p.options at.0 o.uses (recursion_from_All _ _ v.options) at.3 in
+    grind (arith, at, uses_known p o h, sound)
 
 -- an item with its bounds
 pub with_bounds : (k : ℕ) (bs : List Bounds) (w : Wanted) → IsIn (wanted_from (k + 1) bs) w → (j : ℕ) × (b : Bounds)

@@ -13,7 +13,7 @@ use Rattle.xc_input.specs.declared.problem.Use.{Use}
 use Rattle.xc_input.specs.Problem.{Puzzle, Numbered, IsSoundUse, IsValid}
 use Rattle.xc_search.specs.Listing.{Wanted, wanted_from, whole, listing}
 use Rattle.xc_search.specs.Parts.{part, part_options, part_in_front, number_in_problem, renumber_use, renumber_option}
-use Rattle.xc_search.specs.Parts.{renumber_item, renumber, AreKeptApart, AreKeptInOrder, front_number, front_item}
+use Rattle.xc_search.specs.Parts.{renumber_item, renumber, AreKeptApart, front_number, front_item}
 use Rattle.xc_search.specs.Parts.{front_part, ListsPart}
 use Rattle.xc_input.proofs.lists.EachElement.{each_weaker}
 use Rattle.xc_input.proofs.lists.Members.{each_from, in-contains}
@@ -69,21 +69,15 @@ pub parts_are_listed : (p : Puzzle) → IsValid p → (w : Wanted) → Contains 
     → ListsPart p w x
 parts_are_listed p v w h x =
     ap listing (sym same) ∙ listing_renumbered (front_item w.item) (number_in_problem p w.item x)
-    (items_apart w.item one) (whole (front_part p w x)) order
+    (items_apart w.item one) (whole (front_part p w x))
+    (λ y z j k less. numbers_rise p w.item x y.number z.number (known y j) (known z k) less)
   where
     one : 1 ≤ w.item
     one = let at = with_bounds 0 p.bounds w (in-contains _ _ h) in omega (arith, at.2)
 
     known : (y : Numbered) → Contains (whole (front_part p w x)).options y → IsNumber (part p w.item x) y.number
     known y k =
-        let at = numbered_at 0 (front_part p w x).options y (in-contains _ _ k) in
-        let one_length =
-        length-map (part_options p w.item x) (λ (o : Numbered). map (renumber_use (front_number w.item)) o.uses) in
-        let other_length = length-map (part_options p w.item x) (λ (o : Numbered). o.uses) in
-        (omega (arith, at.1), omega (arith, at.1, at.2, one_length, other_length))
-
-    order : AreKeptInOrder (number_in_problem p w.item x) (whole (front_part p w x)).options
-    order y z j k less = numbers_rise p w.item x y.number z.number (known y j) (known z k) less
+        grind (arith, common_steps, numbered_at 0 (front_part p w x).options y (in-contains _ _ k), length-map)
 
     uses_known : AllByRecursion (λ o. AllByRecursion (λ u. 1 ≤ u.item) o.uses) (part_options p w.item x)
     uses_known = each_from _ (part_options p w.item x) (λ o k.

@@ -15,7 +15,7 @@ use Rattle.xc_search.specs.Listing.{Wanted, whole, spend_one, item_left, pick, b
 use Rattle.xc_search.specs.Listing.{take_branch, branches_of, level, listing}
 use Rattle.xc_search.specs.Parts.{IsHeldOnce, is_in_part, part_options, part_in_front, first_as, PartsInOrder}
 use Rattle.xc_dance.proofs.MoveLemmas.OptionsRise.{NumbersRise, NumbersRise-filter, options_rise}
-use Rattle.xc_input.proofs.FaultLemmas.BooleanTests.{and_right, or_other}
+use Rattle.xc_input.proofs.FaultLemmas.BooleanTests.{and_right}
 use Rattle.xc_input.proofs.lists.Filters.{filter_both, filter_same, filter-map, map-map, flat_map-same}
 use Rattle.xc_input.proofs.lists.Members.{IsIn, in-filter, filter-in, in-enumerated, each_from}
 use Rattle.xc_search.proofs.completeness.Proper.{IsProper, find-in, goes_on, proper_whole}
@@ -71,19 +71,14 @@ module _ (p : Puzzle) (v : IsValid p) (w : Wanted) (wanted : IsIn (whole p).item
     holding_once : holding w.item (part_options p w.item x) ≡ x ∷ []
     holding_once =
         let at = of_item p w.item x h in
-        let kept : is_in_part w.item x x ≡ true = rw (at.1, eq-eqb x.number x.number refl) refl in
-        single 0 (holding w.item (part_options p w.item x)) x
-        (NumbersRise-filter (λ o. holds o w.item) 0 (part_options p w.item x)
-        (NumbersRise-filter (is_in_part w.item x) 0 (numbered_options p) (options_rise p)))
-        (filter-in (λ o. holds o w.item) _ x (filter-in (is_in_part w.item x) _ x at.0 kept) at.1)
-        (λ y k.
-        let at = in-filter (λ o. holds o w.item) (part_options p w.item x) y k in
-        eqb-true y.number x.number (or_other _ _ (ap not at.1) (in-filter (is_in_part w.item x) _ y at.0).1))
+        let rise = NumbersRise-filter (is_in_part w.item x) 0 (numbered_options p) (options_rise p) in
+        single 0 _ x (NumbersRise-filter (λ o. holds o w.item) 0 (part_options p w.item x) rise)
+        (grind (arith, common_steps, filter-in, eq-eqb, at))
+        (λ y k. grind (arith, common_steps, in-filter, eqb-true, k))
 
     same_left : (j : ℕ) → item_left (part_in_front p w x) j ≡ item_left (whole p) j
-    same_left j = by_bool (eqb w.item j)
-        (λ e. rw e (sym (ap (item_left (whole p)) (sym (eqb-true w.item j e)) ∙ found)))
-        (λ e. rw e (find_other w.item j (whole p).items e))
+    same_left j = by_bool (eqb w.item j) (λ e. grind (arith, e, eqb-true, found))
+        (λ e. grind (arith, e, find_other w.item j (whole p).items))
 
     same_items : (pick (part_in_front p w x) w.item x).items ≡ (pick (whole p) w.item x).items
     same_items =

@@ -120,12 +120,9 @@ module _ (p : Puzzle) (i : ℕ) (x : Numbered) where
   }
 
 pub parts_are_valid : (p : Puzzle) → IsValid p → (i : ℕ) (x : Numbered) → IsValid (part p i x)
-parts_are_valid p v i x =
-    record {
-      one_primary = v.one_primary;
-      bounds = v.bounds;
-      options = All-from_recursion _ _ (each-map (IsSoundOption (part p i x)) (λ o. o.uses) (part_options p i x) each);
-    }
-  where
-    each : AllByRecursion (λ o. IsSoundOption (part p i x) o.uses) (part_options p i x)
-    each = each_from _ _ (λ o k. let s = (is_option p v o (in_whole p i x o k)).sound in grind (arith, s))
+parts_are_valid p v i x = record {
+  one_primary = v.one_primary;
+  bounds = v.bounds;
+  options = All-from_recursion _ _ (each-map (IsSoundOption (part p i x)) (λ o. o.uses) (part_options p i x)
+      (each_from _ _ (λ o k. let s = (is_option p v o (in_whole p i x o k)).sound in grind (arith, s))));
+}

@@ -53,12 +53,12 @@ still_short : (r : Residual) (i : ℕ) (x : Numbered) (v : Wanted) → IsIn (hol
     → v.low ≤ v.high → branch_count r v ≡ 0 →
     IsIn (pick r i x).items (spend_one x v) × (branch_count (pick r i x) (spend_one x v) ≡ 0)
 still_short r i x v h k sound e =
-    let kept = by_holding in
+    let few = length-filter-le (goes_on r i x) (holding v.item r.options) in
+    let swap = ap length (filter_swap (λ o. holds o v.item) (goes_on r i x) r.options) in
+    let kept : (nat_lt 0 (spend_one x v).high ≡ true) × (branch_count (pick r i x) (spend_one x v) ≡ 0) =
+    grind (arith, common_steps, lt-ltb, few, fewer, swap) in
     (filter-in (λ w. nat_lt 0 w.high) (map (spend_one x) r.items) _ (map-in (spend_one x) r.items v k) kept.0, kept.1)
   where
-    swap : length (holding v.item (pick r i x).options) ≡ length (filter (goes_on r i x) (holding v.item r.options))
-    swap = ap length (filter_swap (λ o. holds o v.item) (goes_on r i x) r.options)
-
     fewer : holds x v.item ≡ true
         → length (filter (goes_on r i x) (holding v.item r.options)) < length (holding v.item r.options)
     fewer at =
@@ -67,11 +67,6 @@ still_short r i x v h k sound e =
         each_in (λ (y : Numbered). length (filter (goes_on r i y) hs) < length hs) (holding i hs) x
         (less_options i (goes_on r i) (λ y q. rw (q, le-leb y.number y.number (omega arith))) hs)
         (filter-in (λ o. holds o i) hs x (filter-in (λ o. holds o v.item) r.options x found.0 at) found.1)
-
-    by_holding : (nat_lt 0 (spend_one x v).high ≡ true) × (branch_count (pick r i x) (spend_one x v) ≡ 0)
-    by_holding =
-        let few = length-filter-le (goes_on r i x) (holding v.item r.options) in
-        grind (arith, common_steps, lt-ltb, few, fewer, swap)
 
 -- ---- one branch
 
