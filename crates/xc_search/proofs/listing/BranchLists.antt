@@ -38,12 +38,9 @@ branch_none r w k h e =
     let not_wanted : w.low ≡ 0 = omega (arith, past, h) in
     let test : eqb w.low 0 ≡ true = eq-eqb w.low 0 not_wanted in
     let last : k ≡ length (takes r w) =
-    omega (arith, length-takes r w, length-take (branch_count r w) (holding w.item r.options), past, h) in (
-      rw (test, last) (get_seam (takes r w) (none_branch r w.item (branch_count r w))),
-      omega (arith, past, h),
-      omega
-          (arith, past, h),
-    )
+    omega (arith, length-takes r w, length-take (branch_count r w) (holding w.item r.options), past, h) in
+    let seam = get_seam (takes r w) (none_branch r w.item (branch_count r w)) in
+    (rw (test, last) seam, omega (arith, past, h), omega (arith, past, h))
 
 pub branches_end : (r : Residual) (w : Wanted) → drop (branch_count r w) (branches_of r w) ≡ []
 branches_end r w = grind (arith, common_steps, length-takes, eqb-true)

@@ -26,6 +26,8 @@ use Rattle.xc_search.proofs.residual.PickedByUses.{as_residual}
 use Rattle.xc_search.proofs.Cases.{by_bool}
 use Rattle.xc_search.proofs.listing.BranchLists.{takes}
 
+ruleset parts_of_lists = (in-filter, in-take, take-map, map-append)
+
 module _ (f g : ℕ → ℕ) (apart : AreKeptApart f) where
   same_item : (i j : ℕ) → eqb (f i) (f j) ≡ eqb i j
   same_item i j = grind (arith, common_steps, nat_tests, apart)
@@ -115,19 +117,7 @@ module _ (f g : ℕ → ℕ) (apart : AreKeptApart f) where
   same_branches : (r : Residual) (w : Wanted) → InOrder r.options
       → branches_of (renumber f g r) (renumber_item f w) ≡ map renumber_branch (branches_of r w)
   same_branches r w order =
-      grind (
-        arith,
-        in-filter,
-        in-take,
-        same_count,
-        same_holding,
-        take-map,
-        same_takes,
-        map-append,
-        takes,
-        by_bool,
-        same_none,
-      )
+      grind (arith, parts_of_lists, same_count, same_holding, same_takes, takes, by_bool, same_none)
 
   -- ---- levels
 

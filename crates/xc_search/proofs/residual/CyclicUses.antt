@@ -55,19 +55,10 @@ apart_turned us vs a = EachTwo-swapped Apart apart_sym us vs a
 abbrev pub cut : Residual → ℕ → ℕ → Residual
 cut r i n = record { items = r.items; options = filter (λ o. not (holds o i && nat_le o.number n)) r.options }
 
+-- two lists of uses in either order
+ruleset either_order = (held_append, list_all-append, or_comm, and_comm)
+
 pub committed_picks : (r : Residual) (i : ℕ) (x : Numbered) (us vs : List Use) → x.uses ≡ us ++ vs
     → committed (vs ++ us) (cut r i x.number) ≡ pick r i x
 committed_picks r i x us vs e =
-    grind (
-      arith,
-      common_steps,
-      as_residual,
-      map-same,
-      is_some,
-      filter_both,
-      filter_agree,
-      held_append,
-      or_comm,
-      list_all-append,
-      and_comm,
-    )
+    grind (arith, common_steps, as_residual, map-same, is_some, filter_both, filter_agree, either_order)

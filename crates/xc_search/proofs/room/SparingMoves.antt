@@ -60,26 +60,15 @@ open_is p t = sym (length-map (open_items p t) (wanted_at p t))
 pub sparing_first : (p : Puzzle) → IsSparing p []
 sparing_first p = grind (arith, common_steps, uses_whole, length-filter-le, length-range_with_len)
 
+-- the Spends of the moves that take an option, and the uses that they leave
+ruleset spends_made = (tweaked, others, spent_uses, spent_tweaked, spent_after_spend)
+
+ruleset uses_kept = (stays, left, without_uses, length-filter-le, length-map, open_is)
+
 pub sparing_taken : (p : Puzzle) (t : List Move) (i k m : ℕ) (x : Numbered) → IsSparing p t
     → slice_get (holding i (left p t)) k ≡ Some x → Taken p t m i x
     → IsSparing p (after_uses p (others i (uses_of p x.number)) (tweaked m i (after_spend p i t)))
-sparing_taken p t i k m x s e took =
-    grind (
-      arith,
-      common_steps,
-      tweaked,
-      others,
-      le-leb,
-      stays,
-      spent_uses,
-      without_uses,
-      left,
-      length-filter-le,
-      length-map,
-      spent_tweaked,
-      spent_after_spend,
-      open_is,
-    )
+sparing_taken p t i k m x s e took = grind (arith, common_steps, spends_made, uses_kept, le-leb)
 
 pub sparing_none : (p : Puzzle) (t : List Move) (i m : ℕ) → IsSparing p t
     → branch_item (residual_of p t) ≡ Some (wanted_at p t i) →

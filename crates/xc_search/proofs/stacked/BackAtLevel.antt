@@ -29,12 +29,9 @@ returned p t l ls stacked = grind (arith, common_steps, oldest-oldest, length-ol
 pub finished : (p : Puzzle) (t : List Move) (l : Level) (ls : List Level) → AreStacked p t (l ∷ ls) → l.count ≤ l.begun
     → (to_give p t (l ∷ ls) ≡ to_give p (oldest l.mark t) ls) × (visits p (oldest l.mark t) ls < visits p t (l ∷ ls))
 finished p t l ls stacked h =
-    grind (
-      arith,
-      common_steps,
-      branches_here p (oldest l.mark t) (wanted_at p (oldest l.mark t) l.item) stacked.0.branch,
-      branches_end (residual_of p (oldest l.mark t)) (wanted_at p (oldest l.mark t) l.item),
-    )
+    let u = oldest l.mark t in
+    let w = wanted_at p u l.item in
+    grind (arith, common_steps, branches_here p u w stacked.0.branch, branches_end (residual_of p u) w)
 
 -- its tweaks are the newest moves
 pub closing : (p : Puzzle) (t : List Move) (l : Level) → IsLevel p t l → l.base ≡ length t

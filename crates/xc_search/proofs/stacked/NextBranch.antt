@@ -143,9 +143,6 @@ module _ {p : Puzzle} {t : List Move} {l : Level} (may : MayBegin p t l) where
       let within = slice_get_within (options_at p u l.item) l.begun found.0 found.1 in
       let stood : l.tweaks ≡ min l.begun (length (options_at p u l.item)) = may.level.tweaks ∙ rw c refl in
       let legal = legal_branch p (suc l.tweaks) l.item u node (omega (arith, stood, within)) in
-      let room = has_room p (tweaked_at p t l (suc l.tweaks)) legal (omega (
-        arith,
-        spent_tweaked (suc l.tweaks) l.item (after_spend p l.item u),
-        sparing_after_spend p u l.item node.searchable.sparing may.level.branch,
-      )) in
+      let few = sparing_after_spend p u l.item node.searchable.sparing may.level.branch in
+      let room = has_room p (tweaked_at p t l (suc l.tweaks)) legal (omega (arith, spent_tweaked, few)) in
       rw (ground_is may.level may.whole) (legal.0, omega (arith, room))

@@ -7,14 +7,10 @@ use Rattle.xc_search.proofs.counts.count_spends.Goals as goal
 
 pub overflow_add-spends : goal.overflow_add-spends
 overflow_add-spends c =
-    let bounds = c.args.problem.now.puzzle.bounds in
-    omega (
-      arith,
-      c.loop-i.invariant,
-      few_spends bounds c.loop-i.i (recursion_from_All _ _ c.primary-i-end.ensures.whole.limits.bounds),
-      c.primary-i-end.ensures.whole.limits.items,
-      c.primary-i-end.ensures.value,
-    )
+    let primary = c.primary-i-end.ensures in
+    let few = few_spends c.args.problem.now.puzzle.bounds c.loop-i.i
+    (recursion_from_All _ _ primary.whole.limits.bounds) in
+    omega (arith, c.loop-i.invariant, few, primary.whole.limits.items, primary.value)
 
 pub loop-i-preserved : goal.loop-i-preserved
 loop-i-preserved c = grind (arith, common_steps, counted_more, numbered_get-at)
