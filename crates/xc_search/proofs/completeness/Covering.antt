@@ -8,7 +8,7 @@ use Rattle.std.proofs.lemmas.List.Elements.{All-from_recursion, recursion_from_A
 use Rattle.std.proofs.lemmas.List.Sums.{sum_by-cons}
 use Rattle.xc_input.specs.declared.problem.Bounds.{Bounds}
 use Rattle.xc_search.specs.declared.choice.Choice.{Choice}
-use Rattle.xc_input.specs.Problem.{Puzzle, Numbered, numbered_options, primary_count, colour_in}
+use Rattle.xc_input.specs.Problem.{Puzzle, Numbered, numbered_options, primary_count}
 use Rattle.xc_input.specs.Problem.{IsOption, holds, bounds_at, uses_of, IsValid}
 use Rattle.xc_search.specs.Listing.{Wanted, Residual, whole}
 use Rattle.xc_search.specs.Cover.{IsCover, SameSet, times_held, options_of, members, EachMemberCovers}
@@ -85,15 +85,10 @@ module _ (p : Puzzle) (v : IsValid p) where
   covers_whole s c = record {
     met = λ w k.
         let at = with_bounds 0 p.bounds w k in
-        let item : w.item ≡ suc at.0 = omega (arith, at.2) in
-        let bounds : bounds_at p w.item ≡ Some at.1 = ap (bounds_at p) item ∙ at.4 in
-        let within = c.within w.item at.1 bounds in
         let same = held_times p w.item s (each_two_from_AllPairs _ _ c.distinct) (recursion_from_All _ _ c.known) in
-        (omega (arith, same, within.0, at.5), omega (arith, same, within.1, at.6));
+        grind (arith, common_steps, at, same, c.within w.item at.1);
     agreed = λ x y h k e f apart j b d l g i.
-        c.agree x.number y.number j b d (contains-in s x.number (listed_in s x.number e))
-        (contains-in s y.number (listed_in s y.number f)) apart (l, (sound_item p v x j h (rw g refl)).1)
-        (ap (λ us. colour_in us j) (uses_known p x h) ∙ g) (ap (λ us. colour_in us j) (uses_known p y k) ∙ i);
+        grind (arith, c.agree x.number y.number j b d, contains-in, listed_in, sound_item p v x j h, uses_known);
   }
 
   pub solution_covers : (m : List Choice) → Solves (whole p) m → IsCover p (options_of m)
@@ -112,9 +107,7 @@ module _ (p : Puzzle) (v : IsValid p) where
         agree = λ a b i d e h k apart secondary f g.
             let x = t.left a (in-contains s a h) in
             let y = t.left b (in-contains s b k) in
-            c.agreed x.0 y.0 x.1 y.1 (rw x.2 (in_listed s a (in-contains s a h)))
-            (rw y.2 (in_listed s b (in-contains s b k))) (λ q. apart (sym x.2 ∙ q ∙ y.2)) i d e secondary.0
-            (rw (← uses_known p x.0 x.1, x.2) f) (rw (← uses_known p y.0 y.1, y.2) g);
+            grind (arith, c.agreed x.0 y.0 x.1 y.1, x.2, y.2, in_listed, in-contains, uses_known);
       }
 
   pub each_member_covers : EachMemberCovers p

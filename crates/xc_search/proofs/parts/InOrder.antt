@@ -1,15 +1,14 @@
 -- The members of a problem are those of its parts in turn.
 use Rattle.std.proofs.lemmas.Grind.{common_steps}
-use Rattle.std.proofs.Common.{ℕ, suc, ◌≡◌, ◌-◌, Bool, true, false, not, ◌&&◌, eqb, List, [], ◌∷◌, length}
-use Rattle.std.proofs.Common.{map, filter, find, Some, refl, sym, ap, ◌∙◌, arith, subst, inl, inr, eqb-true}
+use Rattle.std.proofs.Common.{ℕ, ◌≡◌, ◌-◌, Bool, true, false, not, ◌&&◌, eqb, List, [], ◌∷◌, length}
+use Rattle.std.proofs.Common.{map, filter, find, Some, refl, sym, ap, ◌∙◌, arith, inl, inr, eqb-true}
 use Rattle.std.proofs.Common.{eq-eqb, ne_eqb, le-ltb}
-use Rattle.xc_input.specs.declared.problem.Bounds.{Bounds}
 use Rattle.std.specs.Prelude.{flat_map}
 use Rattle.std.specs.List.{enumerate_from}
 use Rattle.std.proofs.Math.Bool.{and-false}
 use Rattle.std.proofs.Math.Seq.{take-length}
 use Rattle.std.proofs.lemmas.List.Folds.{flat_map-map}
-use Rattle.xc_input.specs.Problem.{Puzzle, Numbered, numbered_options, primary_count, bounds_at, holds, holding}
+use Rattle.xc_input.specs.Problem.{Puzzle, Numbered, numbered_options, primary_count, holds, holding}
 use Rattle.xc_input.specs.Problem.{IsValid}
 use Rattle.xc_search.specs.Listing.{Wanted, whole, spend_one, item_left, pick, branch_item}
 use Rattle.xc_search.specs.Listing.{take_branch, branches_of, level, listing}
@@ -18,7 +17,7 @@ use Rattle.xc_dance.proofs.MoveLemmas.OptionsRise.{NumbersRise, NumbersRise-filt
 use Rattle.xc_input.proofs.FaultLemmas.BooleanTests.{and_right}
 use Rattle.xc_input.proofs.lists.Filters.{filter_both, filter_same, filter-map, map-map, flat_map-same}
 use Rattle.xc_input.proofs.lists.Members.{IsIn, in-filter, filter-in, in-enumerated, each_from}
-use Rattle.xc_search.proofs.completeness.Proper.{IsProper, find-in, goes_on, proper_whole}
+use Rattle.xc_search.proofs.completeness.Proper.{IsProper, find-in, proper_whole}
 use Rattle.xc_search.proofs.listing.EachBranch.{behind, branch_item-in}
 use Rattle.xc_search.proofs.listing.Numbering.{with_bounds}
 use Rattle.xc_search.proofs.listing.Unrolled.{listing_unrolled}
@@ -51,12 +50,7 @@ of_item p i x h = in-filter (λ o. holds o i) (numbered_options p) x h
 
 -- the bounds of an item that is to be held once
 pub held_once : (p : Puzzle) (w : Wanted) → IsIn (whole p).items w → IsHeldOnce p w.item → (w.low ≡ 1) × (w.high ≡ 1)
-held_once p w h once =
-    let at = with_bounds 0 p.bounds w h in
-    let item : w.item ≡ suc at.0 = omega (arith, at.2) in
-    let bounds = sym at.4 ∙ sym (ap (bounds_at p) item) ∙ once in
-    let is : at.1 ≡ record { low = 1; high = 1 } = cc in
-    (at.5 ∙ ap (λ (b : Bounds). b.low) is, at.6 ∙ ap (λ (b : Bounds). b.high) is)
+held_once p w h once = let at = with_bounds 0 p.bounds w h in grind (arith, common_steps, at, once)
 
 -- w is an item of the problem, to be held once, and x an option that holds it
 module _ (p : Puzzle) (v : IsValid p) (w : Wanted) (wanted : IsIn (whole p).items w) (once : IsHeldOnce p w.item)
@@ -82,41 +76,29 @@ module _ (p : Puzzle) (v : IsValid p) (w : Wanted) (wanted : IsIn (whole p).item
 
     same_items : (pick (part_in_front p w x) w.item x).items ≡ (pick (whole p) w.item x).items
     same_items =
+        let gone : is_wanted (spend_one x w) ≡ false =
+        rw (of_item p w.item x h).1 (le-ltb 0 (w.high - 1) (omega (arith, (held_once p w wanted once).1))) in
         rw gone (filter-map is_wanted (spend_one x) (filter (is_other w.item) (whole p).items)
         ∙ ap (map (spend_one x)) (filter_both _ _ (whole p).items
         ∙ filter_same (λ v. is_other w.item v && is_wanted (spend_one x v)) (λ v. is_wanted (spend_one x v)) _
-        (each_from _ (whole p).items kept))
+        (each_from _ (whole p).items (λ u k.
+        grind (arith, common_steps, gone, same_wanted _ (whole p) u w proper k wanted))))
         ∙ sym (filter-map is_wanted (spend_one x) (whole p).items))
-      where
-        gone : is_wanted (spend_one x w) ≡ false
-        gone = rw (of_item p w.item x h).1 (le-ltb 0 (w.high - 1) (omega (arith, (held_once p w wanted once).1)))
-
-        kept : (v : Wanted) → IsIn (whole p).items v
-            → (is_other w.item v && is_wanted (spend_one x v)) ≡ is_wanted (spend_one x v)
-        kept u k = grind (arith, common_steps, gone, same_wanted _ (whole p) u w proper k wanted)
 
     same_options : (pick (part_in_front p w x) w.item x).options ≡ (pick (whole p) w.item x).options
     same_options =
-        simp (same_left, filter_both) (filter_same _ _ _ (each_from _ (numbered_options p) kept))
-      where
-        kept : (o : Numbered) → IsIn (numbered_options p) o
-            → (is_in_part w.item x o && goes_on (whole p) w.item x o) ≡ goes_on (whole p) w.item x o
-        kept o k =
-            let used = used_up (whole p) x o w in
-            let last = le-ltb 1 w.high (omega (arith, (held_once p w wanted once).1)) in
-            grind (arith, common_steps, used, last, found, and_right, of_item p w.item x h, and-false)
+        let last = le-ltb 1 w.high (omega (arith, (held_once p w wanted once).1)) in
+        simp (same_left, filter_both) (filter_same _ _ _ (each_from _ (numbered_options p) (λ o k.
+        let used = used_up (whole p) x o w in
+        grind (arith, common_steps, used, last, found, and_right, of_item p w.item x h, and-false))))
 
     -- a part has one branch
     pub part_branch :
         listing (part_in_front p w x) ≡ map (λ m. only_choice w.item x ∷ m) (listing (pick (whole p) w.item x))
     part_branch =
         one_branch (part_in_front p w x) w _ x refl (held_once p w wanted once).0 holding_once
-        (λ v j. (proper.sound v (in_front v j)).1)
+        (λ v j. grind (arith, in-filter, proper.sound, wanted))
         ∙ ap (λ r. map (λ m. only_choice w.item x ∷ m) (listing r)) (as_residual _ _ _ _ same_items same_options)
-      where
-        in_front : (v : Wanted) → IsIn (part_in_front p w x).items v → IsIn (whole p).items v
-        in_front v (inl q) = subst (IsIn (whole p).items) q wanted
-        in_front v (inr q) = (in-filter (is_other w.item) (whole p).items v q).0
 
     part_listed : (k n : ℕ)
         → behind listing (take_branch (whole p) w.item n (k, x)) ≡ map (first_as k n) (listing (part_in_front p w x))

@@ -1,7 +1,7 @@
 -- The options of a part by their numbers in it: a set of them is a cover of the part where it is one of the problem.
 use Rattle.std.proofs.lemmas.Grind.{common_steps}
 use Rattle.std.proofs.Common.{ℕ, zero, suc, ◌≡◌, ◌≢◌, ◌<◌, ◌≤◌, List, [], ◌∷◌, map, Some, refl, sym}
-use Rattle.std.proofs.Common.{ap, ◌∙◌, arith, subst}
+use Rattle.std.proofs.Common.{ap, arith, subst}
 use Rattle.std.specs.Prelude.{slice_get, option_map, unwrap_or}
 use Rattle.std.specs.List.{AllByRecursion}
 use Rattle.std.proofs.lemmas.List.{length-map}
@@ -96,9 +96,7 @@ module _ (p : Puzzle) (i : ℕ) (x : Numbered) where
     agree = λ a b j d e h k apart secondary f g.
         let at = in-map _ _ _ (in-contains _ _ h) in
         let to = in-map _ _ _ (in-contains _ _ k) in
-        c.agree at.0 to.0 j d e (contains-in t at.0 at.1) (contains-in t to.0 to.1)
-        (λ q. apart (sym at.2 ∙ ap (number_in_problem p i x) q ∙ to.2)) secondary
-        (rw (same_uses at.0, at.2) f) (rw (same_uses to.0, to.2) g);
+        grind (arith, common_steps, c.agree at.0 to.0 j d e, contains-in t, at, to, same_uses);
   }
     where
       known : AllByRecursion (IsNumber (part p i x)) t

@@ -41,11 +41,8 @@ pub walk_first : (p : Puzzle) (t : List Move) (k count : ℕ) → next_above 0 (
     → count ≡ branches_after p t (wanted_at p t k) → WalksTo p t k count k
 walk_first p t k count e counted =
     let all = sym (above_all 0 (open_items p t) (open_rises p t)) ∙ next_above-split 0 0 k _ (open_rises p t) e in
-    record {
-      at_open = next_open p t 0 k e;
-      counted = counted;
-      best = ap (λ is. first_least (branches_after p t) (map (wanted_at p t) is)) all;
-    }
+    let best = ap (λ is. first_least (branches_after p t) (map (wanted_at p t) is)) all in
+    grind (arith, next_open p t 0 k e, best)
 
 -- one item more
 pub walk_on : (p : Puzzle) (t : List Move) (i best n k count : ℕ) → WalksTo p t i best n

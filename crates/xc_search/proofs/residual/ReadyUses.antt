@@ -129,8 +129,7 @@ secondary_commits : (p : Puzzle) (u : Use) (t : List Move) → AreAllWanted (wan
     } in r) ≡ commit_use u (residual_of p t)
 secondary_commits p u t a h =
     let out = untouched u.item (wanted_after p t) (not_found p t u.item h) in
-    as_residual _ _ _ _ (sym (ap (filter is_wanted) out.1 ∙ keep_all is_wanted (wanted_after p t) a))
-    (filter_agree _ _ (λ x. rw out.0 refl) (left p t))
+    grind (arith, common_steps, as_residual, out, keep_all, filter_agree)
 
 pub commit_one : (p : Puzzle) (u : Use) (t : List Move) → AreAllWanted (wanted_after p t) → Ready p t u
     → residual_of p (after_use p u t) ≡ commit_use u (residual_of p t)

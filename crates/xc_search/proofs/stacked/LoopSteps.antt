@@ -67,11 +67,7 @@ deepens {d} {e} {ls} {i} {n} {l} o =
 -- a level's first branch may be entered
 pub may_enter : {d e : Dancing} {ls : Levels} {i n : ℕ} {l : Level} → Opens d e ls i n l → 0 < n
     → MayBegin e.puzzle e.trail l
-may_enter o some = record {
-  level = (deepens o).0.standing.stacked.0;
-  whole = (deepens o).3;
-  more = omega (arith, ap (λ (l : Level). l.begun) o.level, ap (λ (l : Level). l.count) o.level, some);
-}
+may_enter o some = let down = deepens o in grind (arith, down, o.level)
 
 -- the newest of the levels ended
 -- what goes on and then enters a branch enters it

@@ -1,6 +1,5 @@
 use Rattle.std.proofs.lemmas.Grind.{common_steps}
-use Rattle.std.proofs.Common.{arith, ◌≡◌, ◌+◌, Some, sym, ap}
-use Rattle.xc_search.specs.declared.level.Level.{Level}
+use Rattle.std.proofs.Common.{arith, ◌≡◌, Some}
 use Rattle.xc_search.specs.Residuals.{choice_after}
 use Rattle.xc_search.proofs.stacked.Depth.{depth_at}
 use Rattle.xc_search.proofs.stacked.NextLevel.{chosen_item}
@@ -46,11 +45,10 @@ pub returns-then-count-eq0-clause-path : goal.returns-then-count-eq0-clause-path
 returns-then-count-eq0-clause-path g c _ = grind (arith, passes_over, opened)
 
 pub enter-branch-requires : goal.enter-branch-requires
-enter-branch-requires g c = record {
-  number = ap (λ (l : Level). l.begun + 1) (sym c.descend-level.ensures.level);
-  ready = may_enter (opened g (goal.at.enter-branch-requires g c).After-descend-level)
-      (omega (arith, c.if-count-eq0.false));
-}
+enter-branch-requires g c =
+    let ready = may_enter (opened g (goal.at.enter-branch-requires g c).After-descend-level)
+    (omega (arith, c.if-count-eq0.false)) in
+    grind (arith, common_steps, ready)
 
 pub returns-clause-deeper : goal.returns-clause-deeper
 returns-clause-deeper g c b is =

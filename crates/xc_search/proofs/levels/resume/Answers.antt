@@ -49,8 +49,4 @@ pub loop-level-smaller : goal.loop-level-smaller
 loop-level-smaller g c = (back g c).1
 
 pub loop-level-preserved : goal.loop-level-preserved
-loop-level-preserved g c = record {
-  goes_on = GoesOn-trans _ _ _ _ _ _ false false false c.loop-level.invariant.goes_on (back g c).0;
-  path = λ u a. grind (arith, common_steps, keeps_back);
-  less = omega (arith, (back g c).1, c.loop-level.invariant.less);
-}
+loop-level-preserved g c = grind (arith, common_steps, GoesOn-trans, back g c, keeps_back)
