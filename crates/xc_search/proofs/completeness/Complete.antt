@@ -56,18 +56,12 @@ pub listed_for : (n : ℕ) (chosen : ℕ → Bool) (r : Residual) → IsProper n
     → (m : List Choice) × IsIn (listing r) m × IsMemberOf r chosen m
 listed_for n chosen = by_branches
     (λ r. IsProper n r → Covers n r chosen → (m : List Choice) × IsIn (listing r) m × IsMemberOf r chosen m)
-    (λ r e p c. (
-      [],
-      subst (λ ms. IsIn ms []) (sym (listing_at r None e)) (inl refl),
-      grind (arith, none_left p e),
-    ))
+    (λ r e p c. ([], subst (λ ms. IsIn ms []) (sym (listing_at r None e)) (inl refl), grind (arith, none_left p e)))
     (λ r w e later p c.
     let known = branch_item-in r w e in
     let b = branch_for n r p chosen c w known in
     let of = in-branches r w b.0 b.1 in
-    let m = later b.0 b.1 (proper_behind p of) (covers_on p known of b.2 c) in (
-      b.0.choice ∷ m.0,
-      subst (λ ms. IsIn ms (b.0.choice ∷ m.0)) (sym (listing_at r (Some w) e))
-          (level-in listing w r b.0 m.0 b.1 m.1),
-      member_back r chosen b.0 m.0 b.2 m.2,
-    ))
+    let m = later b.0 b.1 (proper_behind p of) (covers_on p known of b.2 c) in
+    let listed = subst (λ ms. IsIn ms (b.0.choice ∷ m.0)) (sym (listing_at r (Some w) e))
+    (level-in listing w r b.0 m.0 b.1 m.1) in
+    (b.0.choice ∷ m.0, listed, member_back r chosen b.0 m.0 b.2 m.2))

@@ -45,10 +45,8 @@ pub takes-in : (r : Residual) (w : Wanted) (x : Numbered) → IsIn (take (branch
     → (k : ℕ) × IsIn (branches_of r w) (take_branch r w.item (branch_count r w) (k, x))
 takes-in r w x h =
     let n = branch_count r w in
-    let at = enumerated-in 1 (take n (holding w.item r.options)) x h in (
-      at.0,
-      append-in_left (takes r w) (nones r w) _ (map-in _ _ _ at.1),
-    )
+    let at = enumerated-in 1 (take n (holding w.item r.options)) x h in
+    (at.0, append-in_left (takes r w) (nones r w) _ (map-in _ _ _ at.1))
 
 pub nones-in : (r : Residual) (w : Wanted) → w.low ≡ 0
     → IsIn (branches_of r w) (none_branch r w.item (branch_count r w))

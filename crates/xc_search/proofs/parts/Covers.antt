@@ -61,19 +61,18 @@ module _ (p : Puzzle) (v : IsValid p) (i : ℕ) (once : IsHeldOnce p i) where
       let met = (covers_whole p v s c).met w.0 w.1 in
       let times = ap (λ j. passing (is_held (is_listed s) j) (numbered_options p)) w.2 in
       let x = one_of (filter (is_held (is_listed s) i) (numbered_options p)) (omega (arith, met.0, times, w.3)) in
-      let found = in-filter _ _ _ x.1 in (
-        x.0,
-        record {
-          known = found.0;
-          at = and_left _ _ found.1;
-          taken = listed_in s x.0.number (and_right _ _ found.1);
-          only = λ y h at taken.
-              let held : is_held (is_listed s) i y ≡ true = rw (at, in_listed s y.number taken) refl in
-              let twice : y.number ≢ x.0.number → 2 ≤ passing (is_held (is_listed s) i) (numbered_options p) =
-              λ apart. two_pass _ 0 _ _ _ (options_rise p) h found.0 held found.1 apart in
-              grind (arith, twice, met.1, times, w.4);
-        },
-      )
+      let found = in-filter _ _ _ x.1 in
+      let one : IsOne p i s x.0 = record {
+        known = found.0;
+        at = and_left _ _ found.1;
+        taken = listed_in s x.0.number (and_right _ _ found.1);
+        only = λ y h at taken.
+            let held : is_held (is_listed s) i y ≡ true = rw (at, in_listed s y.number taken) refl in
+            let twice : y.number ≢ x.0.number → 2 ≤ passing (is_held (is_listed s) i) (numbered_options p) =
+            λ apart. two_pass _ 0 _ _ _ (options_rise p) h found.0 held found.1 apart in
+            grind (arith, twice, met.1, times, w.4);
+      } in
+      (x.0, one)
 
   -- two options of one cover that hold the item are one
   pub same_one : (x y : Numbered) (s : List ℕ) → IsCover p s → Contains (holding i (numbered_options p)) x

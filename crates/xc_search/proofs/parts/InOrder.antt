@@ -11,7 +11,7 @@ use Rattle.std.proofs.lemmas.List.Folds.{flat_map-map}
 use Rattle.xc_input.specs.Problem.{Puzzle, Numbered, numbered_options, primary_count, holds, holding}
 use Rattle.xc_input.specs.Problem.{IsValid}
 use Rattle.xc_search.specs.Listing.{Wanted, whole, spend_one, item_left, pick, branch_item}
-use Rattle.xc_search.specs.Listing.{take_branch, branches_of, level, listing}
+use Rattle.xc_search.specs.Listing.{take_branch, branches_of, listing}
 use Rattle.xc_search.specs.Parts.{IsHeldOnce, is_in_part, part_options, part_in_front, first_as, PartsInOrder}
 use Rattle.xc_dance.proofs.MoveLemmas.OptionsRise.{NumbersRise, NumbersRise-filter, options_rise}
 use Rattle.xc_input.proofs.FaultLemmas.BooleanTests.{and_right}
@@ -20,7 +20,7 @@ use Rattle.xc_input.proofs.lists.Members.{IsIn, in-filter, filter-in, in-enumera
 use Rattle.xc_search.proofs.completeness.Proper.{IsProper, find-in, proper_whole}
 use Rattle.xc_search.proofs.listing.EachBranch.{behind, branch_item-in}
 use Rattle.xc_search.proofs.listing.Numbering.{with_bounds}
-use Rattle.xc_search.proofs.listing.Unrolled.{listing_unrolled}
+use Rattle.xc_search.proofs.listing.Unrolled.{listing_at}
 use Rattle.xc_search.proofs.parts.OneBranch.{only_choice, one_branch}
 use Rattle.xc_search.proofs.residual.PickedByUses.{as_residual, is_wanted}
 use Rattle.xc_search.proofs.completeness.Proper.{same_wanted}
@@ -114,8 +114,7 @@ pub parts_in_order : (p : Puzzle) → IsValid p → (w : Wanted) → branch_item
 parts_in_order p v w e once =
     let hs = holding w.item (numbered_options p) in
     let wanted = branch_item-in (whole p) w e in
-    listing_unrolled (whole p)
-    ∙ ap (λ o. level listing o (whole p)) e
+    listing_at (whole p) (Some w) e
     ∙ ap (flat_map (behind listing)) (all_branches p w (held_once p w wanted once).0)
     ∙ flat_map-map (behind listing) (take_branch (whole p) w.item (length hs)) (enumerate_from 1 hs)
     ∙ flat_map-same _ _ (enumerate_from 1 hs) (each_from _ (enumerate_from 1 hs) (λ kx h.

@@ -70,13 +70,11 @@ module _ (p : Puzzle) (v : IsValid p) (w : Wanted) (h : Contains (whole p).items
   parts_list_once x y j k l m t u same =
       let there = (same x.number).0 (contains-in _ _ (own j t)) in
       let xy = same_one p v w.item once x y _ (parts_cover y k m u) t.0 u.0 (in-contains _ _ there) (own k u) in
-      let q = part_in_front p w y in (
-        xy,
-        one_place q (is_listed (options_of l))
-            (NumbersRise-filter (is_in_part w.item y) 0 (numbered_options p) (options_rise p)) j k l m
-            (subst (λ z. slice_get (listing (part_in_front p w z)) j ≡ Some l) xy t.1) u.1
-            (member_of_set q (options_of l) l (λ o. (λ k. k, λ k. k))) (member_of_set q (options_of l) m same),
-      )
+      let q = part_in_front p w y in
+      let rise = NumbersRise-filter (is_in_part w.item y) 0 (numbered_options p) (options_rise p) in
+      let at = subst (λ z. slice_get (listing (part_in_front p w z)) j ≡ Some l) xy t.1 in
+      let own_set = member_of_set q (options_of l) l (λ o. (λ k. k, λ k. k)) in
+      (xy, one_place q _ rise j k l m at u.1 own_set (member_of_set q (options_of l) m same))
     where
       own : {z : Numbered} (i : ℕ) {n : List Choice} → IsPartMember p w z i n → IsIn (options_of n) z.number
       own {z} i t = subst (λ m. IsIn (options_of m) z.number) (behind_choice i t).2 (inl refl)

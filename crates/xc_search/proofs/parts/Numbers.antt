@@ -54,23 +54,20 @@ module _ (p : Puzzle) (i : ℕ) (x : Numbered) where
       → (k : ℕ) × IsNumber (part p i x) k × (number_in_problem p i x k ≡ o.number)
   number_of_option o h =
       let os = part_options p i x in
-      let at = slice_get-in os o h in (
-        suc at.0,
-        (omega arith, omega (arith, slice_get_within os at.0 o at.1, length-map os (λ (o : Numbered). o.uses))),
-        ap (λ g. unwrap_or (option_map (λ (o : Numbered). o.number) g) 0) at.1,
-      )
+      let at = slice_get-in os o h in
+      let within = slice_get_within os at.0 o at.1 in
+      let number = ap (λ g. unwrap_or (option_map (λ (o : Numbered). o.number) g) 0) at.1 in
+      (suc at.0, (omega arith, omega (arith, within, length-map os (λ (o : Numbered). o.uses))), number)
 
   -- the numbers rise as in the problem
   pub numbers_rise : (j k : ℕ) → IsNumber (part p i x) j → IsNumber (part p i x) k → j < k
       → number_in_problem p i x j < number_in_problem p i x k
   numbers_rise j k a b less =
-      let os = part_options p i x in
       let at = at_place j a in
       let to = at_place k b in
-      let rise = two_rise 0 os (NumbersRise-filter (is_in_part i x) 0 (numbered_options p) (options_rise p)) in
-      let above = EachTwo-at (λ (y z : Numbered). y.number < z.number) _ _ _ _ _ rise
-      (omega (arith, less, at.2, to.2)) at.3 to.3 in
-      omega (arith, above, at.4, to.4)
+      let rise = two_rise 0 _ (NumbersRise-filter (is_in_part i x) 0 (numbered_options p) (options_rise p)) in
+      let above = EachTwo-at (λ (y z : Numbered). y.number < z.number) _ at.0 to.0 at.1 to.1 rise in
+      grind (arith, at, to, above)
 
   -- two options of one number are one
   same_place : (j k : ℕ) → IsNumber (part p i x) j → IsNumber (part p i x) k

@@ -73,12 +73,11 @@ number_at : (r : Residual) (w : Wanted) (j : ℕ) (b : Branch) → slice_get (br
 number_at r w j b e =
     let n = branch_count r w in
     let bs = branches_of r w in
-    let h : j < n = omega (arith, slice_get_within bs j b e, ap length (branches_end r w), length-drop n bs) in (
-      h,
-      by_option (slice_get (holding w.item r.options) j)
-          (λ f. grind (arith, common_steps, branch_none r w j h f))
-          (λ x f. grind (arith, common_steps, branch_takes r w j x h f)),
-    )
+    let h : j < n = omega (arith, slice_get_within bs j b e, ap length (branches_end r w), length-drop n bs) in
+    let told : b.choice.k ≡ suc j = by_option (slice_get (holding w.item r.options) j)
+    (λ f. grind (arith, common_steps, branch_none r w j h f))
+    (λ x f. grind (arith, common_steps, branch_takes r w j x h f)) in
+    (h, told)
 
 -- and none whose number is 0 or greater than theirs
 pub no_branch : (c : Choice) (r : Residual) (w : Wanted) (n : ℕ) → branch_item r ≡ Some w → n ≡ branch_count r w →

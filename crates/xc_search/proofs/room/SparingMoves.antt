@@ -1,12 +1,12 @@
 -- The Spends of a search are no more than the uses of the options that were taken and the items that were left out.
 use Rattle.std.proofs.lemmas.Grind.{common_steps}
 use Rattle.std.proofs.Common.{ℕ, suc, ◌≡◌, ◌+◌, ◌≤◌, Bool, false, not, List}
-use Rattle.std.proofs.Common.{[], ◌∷◌, length, filter, Some, refl, sym, ap, arith, le-leb}
+use Rattle.std.proofs.Common.{[], ◌∷◌, length, filter, Some, refl, sym, arith, le-leb}
 use Rattle.std.specs.Prelude.{slice_get}
 use Rattle.xc_input.specs.declared.problem.Use.{Use}
 use Rattle.xc_dance.specs.declared.dance.Move.{Move}
 use Rattle.xc_input.specs.Problem.{Puzzle, Numbered, holds, primary_count, holding, use_count, uses_of}
-use Rattle.xc_search.specs.Listing.{Residual, none, stays, branch_item}
+use Rattle.xc_search.specs.Listing.{none, stays, branch_item}
 use Rattle.xc_dance.specs.Moves.{open_items}
 use Rattle.xc_search.specs.Residuals.{wanted_at, wanted_after}
 use Rattle.xc_search.specs.inner.Residual.{residual_of}
@@ -75,14 +75,9 @@ pub sparing_none : (p : Puzzle) (t : List Move) (i m : ℕ) → IsSparing p t
     residual_of p (after_none i (tweaked m i (after_spend p i t))) ≡ none (residual_of p t) i
     → IsSparing p (after_none i (tweaked m i (after_spend p i t)))
 sparing_none p t i m s b r =
-    let ground = tweaked m i (after_spend p i t) in
-    let u = after_none i ground in
-    let items = ap (λ (r : Residual). length r.items) r in
-    let options = ap (λ (r : Residual). uses_in r.options) r in
     let less = less_items (wanted_at p t i) (wanted_after p t) (least_is_one _ _ _ b) in
     let fewer = fewer_uses (λ o. not (holds o i)) (left p t) in
-    let spent = spent_after_none i ground in
-    omega (arith, spent_tweaked, spent_after_spend, open_is)
+    grind (arith, common_steps, spent_after_none, spent_tweaked, spent_after_spend, open_is, less, fewer, r)
 
 -- also while a level is open and no branch was begun
 pub sparing_after_spend : (p : Puzzle) (t : List Move) (i : ℕ) → IsSparing p t

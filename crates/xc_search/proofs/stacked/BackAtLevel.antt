@@ -1,11 +1,9 @@
 -- Back at a level, and its end.
 use Rattle.std.proofs.lemmas.Grind.{common_steps}
-use Rattle.std.proofs.Common.{◌≡◌, ◌+◌, ◌<◌, ◌≤◌, List, ◌∷◌, length, ap, ◌∙◌}
+use Rattle.std.proofs.Common.{◌≡◌, ◌+◌, ◌<◌, ◌≤◌, List, ◌∷◌, length}
 use Rattle.std.proofs.Common.{arith, length-append}
 use Rattle.std.proofs.lemmas.List.{length-replicate}
-use Rattle.std.specs.Prelude.{replicate}
 use Rattle.xc_dance.specs.declared.dance.Move.{Move}
-use Rattle.xc_dance.specs.declared.dance.Move.TheVariants.{Tweak}
 use Rattle.xc_search.specs.declared.level.Level.{Level}
 use Rattle.xc_input.specs.Problem.{Puzzle}
 use Rattle.xc_dance.specs.Moves.{AreTweaks}
@@ -13,7 +11,6 @@ use Rattle.xc_search.specs.Residuals.{wanted_at}
 use Rattle.xc_search.specs.inner.Residual.{residual_of}
 use Rattle.xc_search.specs.inner.Levels.{IsLevel, AreStacked}
 use Rattle.xc_search.specs.inner.Levels.{to_give}
-use Rattle.xc_dance.specs.Commits.{after_spend}
 use Rattle.xc_search.specs.inner.Commits.{oldest}
 use Rattle.xc_search.specs.inner.Ahead.{visits}
 use Rattle.xc_search.proofs.listing.BranchLists.{branches_end}
@@ -37,11 +34,7 @@ finished p t l ls stacked h =
 pub closing : (p : Puzzle) (t : List Move) (l : Level) → IsLevel p t l → l.base ≡ length t
     → (0 < l.tweaks → AreTweaks l.tweaks t) × (l.mark + l.tweaks ≤ length t)
 closing p t l is_level whole =
-    let u = oldest l.mark t in
-    let s = after_spend p l.item u in
     let t_is = ground_is is_level whole in
-    let long : length t ≡ l.tweaks + length s = ap length t_is ∙ length-append (replicate l.tweaks (Tweak l.item)) s
-    ∙ ap (λ n. n + length s) (length-replicate l.tweaks (Tweak l.item)) in
-    let mark_is : length u ≡ l.mark = length-oldest l.mark t (omega (arith, is_level.within)) in
-    let longer = ext_longer (ext_after_spend p l.item u) in
-    grind (arith, common_steps)
+    let mark_is = length-oldest l.mark t (omega (arith, is_level.within)) in
+    let longer = ext_longer (ext_after_spend p l.item (oldest l.mark t)) in
+    grind (arith, common_steps, length-append, length-replicate)

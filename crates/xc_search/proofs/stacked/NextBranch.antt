@@ -69,8 +69,6 @@ module _ {p : Puzzle} {t : List Move} {l : Level} (may : MayBegin p t l) where
       let r = residual_of p u in
       let level = may.level in
       let within = slice_get_within (options_at p u l.item) l.begun x e in
-      let tweaks : m ≡ cond l.walks 0 (min (l.begun + 1) (length (options_at p u l.item))) =
-      grind (arith, common_steps, level.tweaks) in
       let took = taken p u l.item l.begun m x level.node e
       (λ h. let used_up = covered_walks p u l.item in grind (arith, common_steps, level.walking))
       (grind (arith, common_steps)) in
@@ -79,7 +77,7 @@ module _ {p : Puzzle} {t : List Move} {l : Level} (may : MayBegin p t l) where
         at = ap (λ bs. slice_get bs l.begun) (branches_here p u _ level.branch)
             ∙ branch_takes r (wanted_at p u l.item) l.begun x (omega (arith, may.more, level.count)) e;
         choice = grind (arith, common_steps, level.count);
-        tweaks = tweaks;
+        tweaks = grind (arith, common_steps, level.tweaks);
         next = took.picked.residual;
         searchable = grind (arith, common_steps, sparing_taken);
         option = took.at;

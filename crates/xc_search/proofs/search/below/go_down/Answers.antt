@@ -1,23 +1,18 @@
 use Rattle.xc_search.proofs.paths.Below.{left_by_more}
 use Rattle.std.proofs.Common.{arith}
 use Rattle.std.proofs.lemmas.Grind.{common_steps}
-use Rattle.std.proofs.Common.{◌≡◌, None, [], take, refl, sym, ap, subst}
+use Rattle.std.proofs.Common.{◌≡◌, None, take, refl, ap, subst}
 use Rattle.xc_dance.specs.Dancing.{Dancing}
 use Rattle.xc_search.specs.Cut.{left_by_one}
 use Rattle.xc_search.specs.inner.Residual.{residual_of}
-use Rattle.xc_search.specs.inner.Descent.{IsDown}
 use Rattle.xc_search.proofs.paths.Descent.{down_first, down_none, parts_at}
 use Rattle.xc_search.proofs.search.below.go_down.Goals as goal
 
 pub loop-number-init : goal.loop-number-init
 loop-number-init g c =
     let d = c.args.position.now in
-    record {
-      still = refl;
-      down = subst (λ path. IsDown d.puzzle [] path d.trail) (sym c.requires.empty)
-          (down_first d.puzzle d.trail c.requires.valid c.requires.none);
-      capacity = refl;
-    }
+    let down = down_first d.puzzle d.trail c.requires.valid c.requires.none in
+    grind (arith, common_steps, down)
 
 pub returns-in_default-clause-no_path : goal.returns-in_default-clause-no_path
 returns-in_default-clause-no_path g c _ other is =

@@ -6,7 +6,6 @@ use Rattle.xc_search.proofs.stack.Stack.show.Goals as goal
 
 pub replace_with-requires : goal.replace_with-requires
 replace_with-requires g c =
-    let p = c.args.position.now.puzzle in (
-      omega (arith, c.requires.room, c.levels.ensures.few),
-      shown_back p c.levels.result.now (subst (All (IsShown p)) (sym c.levels.ensures.levels) c.requires.shown),
-    )
+    let p = c.args.position.now.puzzle in
+    let shown = subst (All (IsShown p)) (sym c.levels.ensures.levels) c.requires.shown in
+    (omega (arith, c.requires.room, c.levels.ensures.few), shown_back p c.levels.result.now shown)
