@@ -1,6 +1,6 @@
 -- No more Spends than the bounds allow.
 use Rattle.std.proofs.lemmas.Grind.{common_steps}
-use Rattle.std.proofs.Common.{ℕ, ◌≡◌, ◌+◌, ◌-◌, ◌≤◌, true, eqb, List, [], ◌∷◌, length, refl, arith, eq-eqb}
+use Rattle.std.proofs.Common.{ℕ, ◌≡◌, ◌+◌, ◌-◌, ◌≤◌, List, [], ◌∷◌, length, refl, arith}
 use Rattle.xc_input.specs.declared.problem.Bounds.{Bounds}
 use Rattle.std.proofs.lemmas.List.Sums.{sum_by-cons}
 use Rattle.std.specs.Prelude.{sum_by, slice_get, unwrap_or}
@@ -11,6 +11,7 @@ use Rattle.xc_input.specs.Problem.{Puzzle, primary_count, high_at}
 use Rattle.xc_dance.specs.Moves.{AreLegal, spends}
 use Rattle.xc_search.specs.inner.MostLevels.{high_total}
 use Rattle.xc_search.specs.inner.Sparing.{spendings}
+use Rattle.xc_search.proofs.residual.ReadyUses.{spent_self}
 use Rattle.xc_input.proofs.lists.Totals.{total, total_le, total_less, total_same, total_shifted}
 
 abbrev high_in : List Bounds → ℕ → ℕ
@@ -26,21 +27,14 @@ total_high_at : (p : Puzzle) → total (high_at p) (range_with_len 1 (primary_co
 total_high_at p =
     grind (arith, common_steps, total_shifted (high_at p) 0 (primary_count p), total_same, total_highs p.bounds)
 
--- what the Spends that stand leave of the bounds
-abbrev all_bounds : Puzzle → List Move → ℕ
-all_bounds p t = total (λ i. high_at p i - spends i t) (range_with_len 1 (primary_count p))
-
-spends_within : (p : Puzzle) (t : List Move) → AreLegal p t → spendings t + all_bounds p t ≤ high_total p
-spends_within p [] l = grind (arith, common_steps, total_le, total_high_at p)
-spends_within p (Cover j ∷ t) l = spends_within p t l.1
-spends_within p (Purify j c ∷ t) l = spends_within p t l.1
-spends_within p (Tweak j ∷ t) l = spends_within p t l.1
-spends_within p (Spend j ∷ t) l =
-    let same : eqb j j ≡ true = eq-eqb j j refl in
-    let itself : spends j (Spend j ∷ t) ≡ 1 + spends j t = rw same refl in
+-- with what they leave of the bounds the Spends that stand are no more
+pub few_spendings : (p : Puzzle) (t : List Move) → AreLegal p t
+    → spendings t + total (λ i. high_at p i - spends i t) (range_with_len 1 (primary_count p)) ≤ high_total p
+few_spendings p [] l = grind (arith, common_steps, total_le, total_high_at p)
+few_spendings p (Cover j ∷ t) l = few_spendings p t l.1
+few_spendings p (Purify j c ∷ t) l = few_spendings p t l.1
+few_spendings p (Tweak j ∷ t) l = few_spendings p t l.1
+few_spendings p (Spend j ∷ t) l =
     let less = total_less (λ i. high_at p i - spends i (Spend j ∷ t)) (λ i. high_at p i - spends i t) j 1
-    (primary_count p) l.0.0.0 (omega (arith, l.0.0.1)) (λ i. omega arith) (omega (arith, itself, l.0.1)) in
-    omega (arith, spends_within p t l.1, less)
-
-pub few_spendings : (p : Puzzle) (t : List Move) → AreLegal p t → spendings t ≤ high_total p
-few_spendings p t l = omega (arith, spends_within p t l)
+    (primary_count p) l.0.0.0 (omega (arith, l.0.0.1)) (λ i. omega arith) (omega (arith, spent_self j t, l.0.1)) in
+    omega (arith, few_spendings p t l.1, less)

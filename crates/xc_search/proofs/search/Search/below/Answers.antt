@@ -1,5 +1,5 @@
 use Rattle.std.proofs.lemmas.Grind.{common_steps}
-use Rattle.std.proofs.Common.{arith, ◌≡◌, ap}
+use Rattle.std.proofs.Common.{arith, ap}
 use Rattle.xc_search.specs.inner.Levels.{Levels}
 use Rattle.xc_search.specs.inner.Descent.{IsDown}
 use Rattle.xc_search.proofs.paths.Descent.{down_standing, down_coming}
@@ -13,11 +13,8 @@ from-requires-clause-standing g c =
 
 pub returns-clause-begun : goal.returns-clause-begun
 returns-clause-begun g c =
-    let e = c.go_down.new.position in
-    let path = c.go_down.new.path.items in
     let p = c.args.problem.now.puzzle in
-    let here : IsDown e.puzzle c.args.numbers.now path e.trail = grind (arith, common_steps) in
-    let puzzle : e.puzzle ≡ p = grind (arith, common_steps) in
-    let down : IsDown p c.args.numbers.now path e.trail = grind (arith, common_steps, path, puzzle, here) in
-    let come = down_coming here c.in-Ok-new.stack.levels (ap (λ (s : Levels). s.levels) c.in-Ok-new.ensures) in
+    let path = c.go_down.new.path.items in
+    let down : IsDown p c.args.numbers.now path c.go_down.new.position.trail = grind (arith, common_steps) in
+    let come = down_coming down c.in-Ok-new.stack.levels (ap (λ (s : Levels). s.levels) c.in-Ok-new.ensures) in
     grind (arith, common_steps)

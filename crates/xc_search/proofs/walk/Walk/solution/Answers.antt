@@ -6,7 +6,4 @@ use Rattle.xc_search.proofs.walk.Walk.solution.Goals as goal
 pub invariant_of-result : goal.invariant_of-result
 invariant_of-result g c =
     let at = c.self.inside.standing in
-    let p = at.position.puzzle in
-    record {
-      shown = shown_back p c.levels.result.now (grind (arith, common_steps, all_shown, at));
-    }
+    record { shown = shown_back at.position.puzzle c.levels.result.now (grind (arith, common_steps, all_shown, at)) }
