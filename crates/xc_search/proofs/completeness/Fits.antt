@@ -113,8 +113,8 @@ module _ (n : ℕ) (r : Residual) (p : IsProper n r) (chosen : ℕ → Bool) whe
           let is : is_held chosen j x ≡ holds x j = grind (arith, common_steps, f.option x.number refl) in
           let q = goes_on r i x in
           let out : q x ≡ false = grind (arith, common_steps, le-leb) in
-          one_less (is_held chosen j) (λ y. q y && is_held chosen j y) 0 r.options x p.options_rise known (rw out refl)
-          (λ y h apart. held_too q j y (λ e. others_stay y h e apart))
+          one_less (is_held chosen j) (λ y. q y && is_held chosen j y) 0 r.options x p.options_rise known
+          (rw out refl) (λ y h apart. held_too q j y (λ e. others_stay y h e apart))
           ∙ ap₂ (λ b n. cond b 1 0 + n) is (ap length (sym (filter_both _ _ r.options)))
 
       -- an item is held once more where the option holds it

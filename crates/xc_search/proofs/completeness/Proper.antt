@@ -129,7 +129,8 @@ none_left {n} {r} p e o h = grind (arith, no_items_left)
 -- ---- the whole problem
 
 has_item : (p : Puzzle) (j : ℕ) → 0 < j → j ≤ primary_count p → (w : Wanted) × IsIn (whole p).items w × (w.item ≡ j)
-has_item p j h l = by_option (slice_get p.bounds (j - 1)) (λ e. absurd (omega (arith, h, l, not_some p.bounds (j - 1) e)))
+has_item p j h l = by_option (slice_get p.bounds (j - 1))
+    (λ e. absurd (omega (arith, h, l, not_some p.bounds (j - 1) e)))
     (λ b e. let at = at_item 0 p.bounds (j - 1) b e in (at.0, at.1, omega (arith, at.2, h)))
 
 apart_from : (k : ℕ) (bs : List Bounds) → AreApart (wanted_from (k + 1) bs)

@@ -65,9 +65,8 @@ taken_at p t k m x u us vs option n e h le w =
     let ready = each_turned (λ u. Ready p t u) us (u ∷ vs)
     (subst (AreReady p t) w (ready_left p t u.item k x n.searchable.legal n.searchable.wanted option e)) in
     let before = branch_cut p u t k m x n e h in
-    let ready_then =
-    each_both (Apart u) (Ready p t) (Ready p s) (vs ++ us) (λ v a r. ready_behind p u v t m n.item.1 a r) apart.0 ready.1
-    in
+    let ready_then = each_both (Apart u) (Ready p t) (Ready p s) (vs ++ us)
+    (λ v a r. ready_behind p u v t m n.item.1 a r) apart.0 ready.1 in
     subst (Leaves p (after_uses p (vs ++ us) s))
     (uses_committed (u ∷ vs ++ us) (cut (residual_of p t) u.item x.number) apart n.searchable.wanted
     ∙ committed_picks (residual_of p t) u.item x us (u ∷ vs) w)

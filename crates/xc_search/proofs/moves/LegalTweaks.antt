@@ -78,7 +78,7 @@ off_more i zero os = refl
 off_more i (suc m) [] = refl
 off_more i (suc m) (o ∷ os) = grind (arith, common_steps, off_more i m os, off_more i (suc m) os)
 
--- those without the first ones go up to an option of the item
+-- the first m + 1 that hold the item are those up to the option at place m
 off_up_to : (i m n : ℕ) (os : List Numbered) (x : Numbered) → NumbersRise n os → slice_get (holding i os) m ≡ Some x
     → off i (suc m) os ≡ filter (λ o. not (holds o i && nat_le o.number x.number)) os
 off_up_to i m n [] x r e = cc

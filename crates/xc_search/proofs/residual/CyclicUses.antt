@@ -31,7 +31,8 @@ placed i us h =
     let w = held_use us i h in
     let n = place_in i us in
     let s : suc n ≡ n + 1 = omega arith in
-    let whole : us ≡ take n us ++ w.use_of ∷ drop (n + 1) us = grind (arith, common_steps, take-append-drop, n, drop_at) in
+    let whole : us ≡ take n us ++ w.use_of ∷ drop (n + 1) us =
+    grind (arith, common_steps, take-append-drop, n, drop_at) in
     record {
       colour = w.use_of.colour;
       whole = whole ∙ ap (λ j. take n us ++ (let u : Use = record { item = j; colour = w.use_of.colour } in u)

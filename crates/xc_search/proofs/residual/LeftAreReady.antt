@@ -55,8 +55,8 @@ found_holds P q [] w a e = cc
 found_holds P q (v ∷ vs) w a e = grind (arith, common_steps, found_holds P q vs w a.1, find)
 
 -- an open primary item has something left to spend
-pub has_left : (p : Puzzle) (t : List Move) (j : ℕ) → AreAllWanted (wanted_after p t) → IsPrimary p j → is_open j t ≡ true
-    → spends j t < high_at p j
+pub has_left : (p : Puzzle) (t : List Move) (j : ℕ) → AreAllWanted (wanted_after p t) → IsPrimary p j
+    → is_open j t ≡ true → spends j t < high_at p j
 has_left p t j a h o =
     let some_left : is_wanted (wanted_at p t j) ≡ true = found_holds _ _ _ _ a (found_wanted p t j h o) in
     omega (arith, ltb-true _ _ some_left)
@@ -88,8 +88,9 @@ pub of_left : (P : Numbered → Type 0) (i k : ℕ) (os : List Numbered) (x : Nu
     → slice_get (filter (λ o. holds o i) os) k ≡ Some x → P x
 of_left P i k os x a e = each_at P _ k x (each-filter P _ os a) e
 
-pub ready_left : (p : Puzzle) (t : List Move) (i k : ℕ) (x : Numbered) → AreLegal p t → AreAllWanted (wanted_after p t)
-    → IsOption p x → slice_get (filter (λ o. holds o i) (left p t)) k ≡ Some x → AreReady p t x.uses
+pub ready_left : (p : Puzzle) (t : List Move) (i k : ℕ) (x : Numbered) → AreLegal p t
+    → AreAllWanted (wanted_after p t) → IsOption p x
+    → slice_get (filter (λ o. holds o i) (left p t)) k ≡ Some x → AreReady p t x.uses
 ready_left p t i k x l a option e =
     let free : IsFree t x = grind (arith, common_steps, of_left, left, left_free, left_agrees) in
     each_both (IsSoundUse p) (λ u. colour_in x.uses u.item ≡ Some u.colour) (λ u. Ready p t u) x.uses

@@ -122,8 +122,8 @@ opening_commits p u t a h o k =
     (sym (keep_all stay (left p t) (each_of_all _ (left p t) (λ x. rw (found, is_more) refl))))))
 
 -- a use of a secondary item keeps the options that agree
-secondary_commits : (p : Puzzle) (u : Use) (t : List Move) → AreAllWanted (wanted_after p t) → primary_count p < u.item
-    → (let r : Residual = record {
+secondary_commits : (p : Puzzle) (u : Use) (t : List Move) → AreAllWanted (wanted_after p t)
+    → primary_count p < u.item → (let r : Residual = record {
       items = wanted_after p t;
       options = filter (λ o. agrees u.colour (colour_at o u.item)) (left p t);
     } in r) ≡ commit_use u (residual_of p t)

@@ -114,7 +114,8 @@ enters_first {d} {e} {ls} {i} {n} {l} o f ks b ef entered ek =
     let base : oldest l.base e.trail ≡ e.trail = rw (down.3, oldest_all e.trail) refl in
     let next = enters_next e f l b (with_level l ls) ks down.0.standing.stacked refl ef (rw base entered) ek in
     let work = ap (λ p. visits p e.trail (l ∷ ls.levels)) same in
-    let enters = goes_on_to d e f ls (with_level l ls) ks _ _ l.item b.place down.0 (omega (arith, down.1, work)) next.0 in
+    let enters = goes_on_to d e f ls (with_level l ls) ks _ _ l.item b.place down.0 (omega (arith, down.1, work))
+    next.0 in
     rw (← item) (enters, λ u a. next.1 u (rw (down.2, same) a))
 
 -- a level without branches ends at once, in the state before

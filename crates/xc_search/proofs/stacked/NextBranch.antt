@@ -126,7 +126,8 @@ module _ {p : Puzzle} {t : List Move} {l : Level} (may : MayBegin p t l) where
         begun = omega (arith, begun);
         mark = refl;
         below = under;
-        level = rw under (grind (arith, common_steps, may.level, ext_longer, ext_ground, ext_v, ext_whole, numbered_get-at));
+        level = rw under
+            (grind (arith, common_steps, may.level, ext_longer, ext_ground, ext_v, ext_whole, numbered_get-at));
         searchable = made.searchable;
       } in
       grind (arith, common_steps, has_room)

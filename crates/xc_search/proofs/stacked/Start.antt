@@ -26,7 +26,8 @@ starts_standing p v q t ls e et el =
     grind (arith, common_steps, no_moves_leave_all, wanted_at_first, recursion_from_All, sparing_first, shallow_first)
 
 -- where no level stands, what comes is what is left
-pub comes_alone : (p : Puzzle) (t : List Move) (ls : List Level) → ls ≡ [] → coming p t ls true ≡ listing (residual_of p t)
+pub comes_alone : (p : Puzzle) (t : List Move) (ls : List Level) → ls ≡ []
+    → coming p t ls true ≡ listing (residual_of p t)
 comes_alone p t ls e = grind (arith, common_steps, map-id (listing (residual_of p t)))
 
 pub starts_coming : (p : Puzzle) (t : List Move) (ls : List Level) → t ≡ [] → ls ≡ [] → coming p t ls true ≡ members p

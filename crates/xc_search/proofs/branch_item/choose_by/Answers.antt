@@ -31,7 +31,8 @@ loop-fewest-smaller-then-n-fewest g c = grind (arith, common_steps, nearer)
 
 pub loop-fewest-preserved-then-n-fewest : goal.loop-fewest-preserved-then-n-fewest
 loop-fewest-preserved-then-n-fewest g c =
-    (walk_on _ _ _ _ _ _ _ c.loop-fewest.invariant (cc (c.in-Some.ensures)) c.branches_of-n.ensures).0 c.if-n-fewest.true
+    (walk_on _ _ _ _ _ _ _ c.loop-fewest.invariant (cc (c.in-Some.ensures)) c.branches_of-n.ensures).0
+    c.if-n-fewest.true
 
 pub loop-fewest-smaller : goal.loop-fewest-smaller
 loop-fewest-smaller g c = grind (arith, common_steps, nearer)
