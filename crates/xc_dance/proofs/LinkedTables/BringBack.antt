@@ -180,8 +180,7 @@ opened_at {p} {t} {spans} false {i} {ln = ln} {o} {os} legal fit opened within h
           let met = met_at p t i legal fit.laid fit.fit opened j o k.item.0 k.item.1 within k.named in
           let j_open : is_open j t ≡ true = grind (arith, common_steps, false≢true) in
           let m = listed_member t j o fit.fit k.item (met.opened j_open).1 in
-          let few = regaining_len _ _ _ (h.others j k.item.0 k.item.1 k.ne) in
-          grind (arith, common_steps);
+          let few = regaining_len _ _ _ (h.others j k.item.0 k.item.1 k.ne) in grind (arith, common_steps);
     } in
     let ln1 : ℕ → Line = back_all p col o ln (reverse js) in
     let at : (j : ℕ) → ln1 j ≡ cond (leaves p col i j o) (mended (ln j) o) (ln j) =

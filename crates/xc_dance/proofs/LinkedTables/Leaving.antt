@@ -73,8 +73,7 @@ leaves_by : {p : Puzzle} (t : List Move) (i j x : ℕ) → IsFit p → leaves p 
     ((not (eqb j i) && is_some (colour_in (uses_of p x) j)) && not (is_mark p (color_in p t) x j))
 leaves_by {p} t i j x fit = grind (arith, common_steps, list_any-append, others_by)
 
-pub stay_if : (b : Bool) (gs xs : List ℕ)
-    → cond b (stay (λ x. is_in x gs) xs) xs ≡ stay (λ x. b && is_in x gs) xs
+pub stay_if : (b : Bool) (gs xs : List ℕ) → cond b (stay (λ x. is_in x gs) xs) xs ≡ stay (λ x. b && is_in x gs) xs
 stay_if true gs xs = refl
 stay_if false gs xs = sym (stay_all xs)
 

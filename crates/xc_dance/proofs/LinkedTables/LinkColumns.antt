@@ -154,8 +154,7 @@ node_cells p ln col j o laid pos le o_pos name name_up name_down =
     let down = get_down _ ln _ _ here in
     let item = get_item _ ln _ _ here o_pos in
     let within = λ (k : ℕ) (n : Node). slice_get_within (layout p) k n in
-    let head = laid.head j pos le in
-    grind (arith, common_steps, length-map, get_len p ln j laid pos le)
+    let head = laid.head j pos le in grind (arith, common_steps, length-map, get_len p ln j laid pos le)
 
 -- columns of links that lead the same way
 pub column_same : (p : Puzzle) (f g : ℕ → ℕ → ℕ) (fixed : Node → ℕ) → ((j x : ℕ) → g j x ≡ f j x)

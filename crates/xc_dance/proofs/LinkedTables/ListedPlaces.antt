@@ -63,8 +63,7 @@ option_use s a i x q items same sound count item at gt =
 -- the one below it
 pub next_of_option : (s : Dancing) (a : Named) (i x q items o : ℕ) (n : Option ℕ) → s.puzzle ≡ a.puzzle → IsSound a →
     items ≡ item_count a.puzzle → IsItem s.puzzle i → IsListedAt s.puzzle s.trail i x q → items < q →
-    ((j y : ℕ) → IsUseAt a.puzzle j y q → o ≡ y) → n ≡ next_above o (list_of s i) →
-    next_above x (list_of s i) ≡ n
+    ((j y : ℕ) → IsUseAt a.puzzle j y q → o ≡ y) → n ≡ next_above o (list_of s i) → next_above x (list_of s i) ≡ n
 next_of_option s a i x q items o n same sound count item at gt number is = grind (arith, option_use, list_of)
 
 -- the option that is next uses the item

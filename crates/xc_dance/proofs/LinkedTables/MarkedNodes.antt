@@ -136,16 +136,15 @@ each_met {p} t j legal fit =
           let small = colour_small (uses_of p o.number) j c.0 (fit.colours o.number) c.1 in
           let m = mark_is p t o.number j c.0 is.0 c.1 in
           grind (arith, common_steps, false≢true, ne_eqb, open_unmarked)) (options_left p t) (in_open p t j legal e)
-      | false ↦ λ e.
-          elim (closed j t e) [
-            | inl covered ↦ grind (arith, common_steps, each_weaker, false≢true, left_free)
-            | inr has ↦ each_both (IsOption p) (λ o. IsOption p o → R o) R _ (λ o is h. h is) (options_left p t)
-                (each_both (HasMark p t j has.0) (λ o. agrees has.0 (colour_at o j) ≡ true) (λ o. IsOption p o → R o)
-                (left p t) (λ o marked agree is held.
-                let c = colour_some (uses_of p o.number) j (ap (λ us. is_some (colour_in us j)) is.1 ∙ held) in
-                grind (arith, common_steps, false≢true, agrees_same has.0 c.0, mark_is p t o.number j c.0 is.0 c.1))
-                (purified_marked p t j has.0 legal has.1) (left_agrees p t j has.0 has.1))
-          ]
+      | false ↦ λ e. elim (closed j t e) [
+        | inl covered ↦ grind (arith, common_steps, each_weaker, false≢true, left_free)
+        | inr has ↦ each_both (IsOption p) (λ o. IsOption p o → R o) R _ (λ o is h. h is) (options_left p t)
+            (each_both (HasMark p t j has.0) (λ o. agrees has.0 (colour_at o j) ≡ true) (λ o. IsOption p o → R o)
+            (left p t) (λ o marked agree is held.
+            let c = colour_some (uses_of p o.number) j (ap (λ us. is_some (colour_in us j)) is.1 ∙ held) in
+            grind (arith, common_steps, false≢true, agrees_same has.0 c.0, mark_is p t o.number j c.0 is.0 c.1))
+            (purified_marked p t j has.0 legal has.1) (left_agrees p t j has.0 has.1))
+      ]
     ] refl
 
 -- ---- the colours after Cover and Purify are those that their walks leave

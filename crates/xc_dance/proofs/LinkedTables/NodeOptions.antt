@@ -197,8 +197,7 @@ own_node {p} {t} {i} is laid seen item =
     let at = laid.head i here.0 here.1 in
     let within = slice_get_within (layout p) i (own i) at in
     let top = get_map (top_in (line_of p t)) (layout p) i (own i) at in
-    let color = get_map (color_in p t) (layout p) i (own i) at in
-    grind (arith, common_steps, length-map, own_down)
+    let color = get_map (color_in p t) (layout p) i (own i) at in grind (arith, common_steps, length-map, own_down)
 
 below_now : (p : Puzzle) (t : List Move) (i o : ℕ) → is_in o (listed_numbers p t i) ≡ true
     → below_of p t i o ≡ first_above 0 o (listed_numbers p t i)

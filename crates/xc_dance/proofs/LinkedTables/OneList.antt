@@ -150,8 +150,7 @@ mark_step p now spans (Some c) ln i o laid h near e =
 hide_step : {spans : List Span} (keep : Option ℕ) {t u : Nodes} {x n : ℕ} → x < length spans → x < length t.color
     → u.color ≡ t.color → is_kept_colour keep (get_or t.color x 0) ≡ false → eqb (get_or t.color x 0) MARK ≡ false
     → Turns spans t u x n → OneStep spans keep t u x n
-hide_step keep {t} {u} {x} span within same other unmarked s =
-    grind (arith, common_steps)
+hide_step keep {t} {u} {x} span within same other unmarked s = grind (arith, common_steps)
 
 -- an option whose other items are ready is hidden and comes back
 pub turns_ready : (p : Puzzle) (ln : ℕ → Line) (col : Node → ℕ) (spans : List Span) (o i : ℕ) → IsFitted p spans → 0 < o
@@ -235,8 +234,7 @@ module _ (p : Puzzle) (col : Node → ℕ) (spans : List Span) (i : ℕ) (keep :
       elim (is_kept p i keep o) as (λ b. is_kept p i keep o ≡ b → OneStep spans keep (nodes_from p ln now)
       (nodes_from p (cond b ln (left_all p col o ln js)) (cond b (with_color now i o MARK) now)) (link_place p i o)
       (cond b 1 (3 * gone_count p col i o))) [
-        | true ↦ λ e.
-            mark_step p now spans keep ln i o f.laid here (f.spanned.within o i o_pos own.named) (test ∙ e)
+        | true ↦ λ e. mark_step p now spans keep ln i o f.laid here (f.spanned.within o i o_pos own.named) (test ∙ e)
         | false ↦ λ e.
             let other : (j : ℕ) → is_in j js ≡ true → OtherItem p o i j = λ j in_js. other_item o i j f.fit in_js in
             let now_same : (j : ℕ) → is_in j js ≡ true → own_color p now j o ≡ own_color p col j o =
@@ -253,7 +251,8 @@ module _ (p : Puzzle) (col : Node → ℕ) (spans : List Span) (i : ℕ) (keep :
             } in
             let s =
             hide_step keep (f.spanned.within o i o_pos own.named) (omega (arith, at, length-map (layout p) now)) refl
-            (test ∙ e) (ap (λ v. eqb v MARK) same ∙ own.unmarked) (turns_ready p ln now spans o i f o_pos own.named ready) in
+            (test ∙ e) (ap (λ v. eqb v MARK) same ∙ own.unmarked) (turns_ready p ln now spans o i f o_pos own.named
+            ready) in
             let R : (ℕ → Line) → ℕ → Type 0 = λ m n. OneStep spans keep (nodes_from p ln now) (nodes_from p m now)
             (link_place p i o) (3 * n) in
             subst (λ (m : ℕ → Line). R m (gone_count p col i o)) alike.0

@@ -279,8 +279,7 @@ up_to p (suc n) q m le gt to e = elim (cases_lt (spacer_place p n) q) [
 
 pub is_at : (p : Puzzle) (q : ℕ) (n : Node) → slice_get (layout p) q ≡ Some n → IsAt p q n
 is_at p zero n e = subst (IsAt p 0) (same_Some unused n e) refl
-is_at p (suc q) n e =
-    grind (arith, common_steps, up_to, layout_len, slice_get_within, head_is p (suc q), same_Some)
+is_at p (suc q) n e = grind (arith, common_steps, up_to, layout_len, slice_get_within, head_is p (suc q), same_Some)
 
 -- ---- its span
 

@@ -70,5 +70,4 @@ regaining l a (y ∷ ys) g linked long =
     let back = behind_first l m a y (filter g ys) (omega (arith, long)) linked.1 linked.2 below.0
     (each-filter (IsBelow l y) g ys (linked_below l y ys linked.3)) up_kept down_kept
     (regaining (cut l y) a ys g after (omega (arith, long))) in
-    let stays = regaining l y ys g linked.3 (omega (arith, long)) in
-    grind (arith, common_steps)
+    let stays = regaining l y ys g linked.3 (omega (arith, long)) in grind (arith, common_steps)

@@ -65,5 +65,4 @@ row_less r l a i n (y ∷ z ∷ zs) e rise na ne row =
     let same : less i zs ≡ zs = stay_same i zs (λ e. false≢true (sym out ∙ e)) in
     rw (eq-eqb y i s, ne_eqb z i zi, same)
     (grind (arith, common_steps, eq-eqb, subst (λ ks. IsRow (past i r) (past i l) z ks e) same rest)))
-    (λ no. rw (ne_eqb y i no)
-    (grind (arith, common_steps, ne_eqb, row_less r l y i y (z ∷ zs) e rise.1 no ne row.2)))
+    (λ no. rw (ne_eqb y i no) (grind (arith, common_steps, ne_eqb, row_less r l y i y (z ∷ zs) e rise.1 no ne row.2)))

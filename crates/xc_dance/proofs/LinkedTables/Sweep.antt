@@ -184,8 +184,7 @@ pub swept : (l : Line) (a : ℕ) (xs : List ℕ) (g : ℕ → Bool) → IsLinked
 swept l a [] g h = grind (arith, common_steps, cut-linked, false≢true, first_leaves, first_stays, rises)
 swept l a (y ∷ ys) g h =
     let gone = swept (cut l y) a ys g (cut-linked l a y ys h) in
-    let staying = swept l y ys g h.3 in
-    grind (arith, common_steps, false≢true, first_leaves, first_stays, rises)
+    let staying = swept l y ys g h.3 in grind (arith, common_steps, false≢true, first_leaves, first_stays, rises)
 
 -- how many are left
 pub swept_len : (l : Line) (xs : List ℕ) (g : ℕ → Bool) (n : ℕ) → l.len ≡ n + length xs

@@ -95,8 +95,7 @@ side_in : (p : Puzzle) (b : Bool) (r : ℕ) → 0 < r → r ≤ item_count p →
 side_in p true r pos le e = in_range r 0 (primary_count p) pos (omega (arith, leb-true r (primary_count p) e))
 side_in p false r pos le e = grind (arith, in_range, leb-false)
 
-in_side : (p : Puzzle) (b : Bool) (r : ℕ) → is_in r (whole p b) ≡ true
-    → (0 < r) × (r ≤ item_count p) × (side p r ≡ b)
+in_side : (p : Puzzle) (b : Bool) (r : ℕ) → is_in r (whole p b) ≡ true → (0 < r) × (r ≤ item_count p) × (side p r ≡ b)
 in_side p true r e = grind (arith, common_steps, range_in r 0 (primary_count p) e, le-leb)
 in_side p false r e = grind (arith, range_in, lt-leb)
 
@@ -129,8 +128,7 @@ beside_back p false t q r within = (row_back _ _ _ _ _ (ring_row p t q) r).1 wit
 
 -- once an item is covered, they lead past it
 beside_left : (p : Puzzle) (d : Bool) (t : List Move) (i q r : ℕ) → 0 < i → i ≤ item_count p
-    → InRing p (Cover i ∷ t) q r
-    → beside_on p (Cover i ∷ t) (side p q) d r ≡ past i (beside_on p t (side p q) d) r
+    → InRing p (Cover i ∷ t) q r → beside_on p (Cover i ∷ t) (side p q) d r ≡ past i (beside_on p t (side p q) d) r
 beside_left p d t i q r pos le within =
     let on = beside_on p t (side p q) in
     let h = ring_head p q in

@@ -129,9 +129,10 @@ pub record TweakMade (spans : List Span) (covered : Bool) (i x n : ℕ) (t u : N
   pub cost_back : untweak_cost spans covered u x ≡ n
 
 -- the option is hidden, and then its node leaves the list
-both : {spans : List Span} {covered : Bool} {i x : ℕ} (n : ℕ) {t m u : Nodes} → get_or t.dlink i 0 ≡ x → i < length t.dlink
-    → Hiding spans covered x n t m → HasSize m (length m.top) → NamesPlaces m x → 0 < get_or m.top (get_or m.top x 0) 0
-    → unlinked m x ≡ u → CanRelink u x → relinked u x ≡ m → TweakMade spans covered i x (3 + n) t u
+both : {spans : List Span} {covered : Bool} {i x : ℕ} (n : ℕ) {t m u : Nodes} → get_or t.dlink i 0 ≡ x
+    → i < length t.dlink → Hiding spans covered x n t m → HasSize m (length m.top) → NamesPlaces m x
+    → 0 < get_or m.top (get_or m.top x 0) 0 → unlinked m x ≡ u → CanRelink u x → relinked u x ≡ m
+    → TweakMade spans covered i x (3 + n) t u
 both {covered = true} n first within h size names some done back undone = grind (arith, common_steps, false≢true)
 both {covered = false} n first within h size names some done back undone = grind (arith)
 
@@ -203,14 +204,14 @@ module _ (p : Puzzle) (t : List Move) (spans : List Span) (covered : Bool) (i : 
       let same : unlinked m x ≡ next = unlinked-is p col ln i o laid s
       ∙ sym (tables_same p (with_line ln i l) (line_of p (Tweak i ∷ t)) col (color_in p (Tweak i ∷ t)) laid
       (λ j r. line_after p t (Tweak i) j _ (tweak_cuts f j r)
-      ∙ by_first _ j i (λ e. rw (e, eq-eqb i i refl) (ap (λ (k : Line). cut k o) (sym (mid_own p t covered i o fit.fit))))
-      (λ ne. rw (ne_eqb j i ne) (sym (mid_line p t covered i o j fit.fit))))
+      ∙ by_first _ j i (λ e. rw (e, eq-eqb i i refl) (ap (λ (k : Line). cut k o)
+      (sym (mid_own p t covered i o fit.fit)))) (λ ne. rw (ne_eqb j i ne) (sym (mid_line p t covered i o j fit.fit))))
       (λ k n at. tweak_colours p t i n)) in
       let first = ap (λ ks. link_place p i (first_of 0 ks)) f.is in
       let within = slice_get_within (layout p) i (own i) (laid.head i pos le) in
       let long = length-map (layout p) (dlink_in p (line_of p t)) in
-      let made = both _ (get_down p (line_of p t) i 0 (own_placed p i laid pos le) ∙ first) (omega (arith, within, long))
-      (hiding p t spans covered i legal fit opened f) size cells.names linked.some same
+      let made = both _ (get_down p (line_of p t) i 0 (own_placed p i laid pos le) ∙ first)
+      (omega (arith, within, long)) (hiding p t spans covered i legal fit opened f) size cells.names linked.some same
       (subst (λ (v : Nodes). CanRelink v x) same
       (CanRelink-unlinked m x size cells.names linked (omega (arith, count, s.few))))
       (ap (λ (v : Nodes). relinked v x) (sym same) ∙ relinked-unlinked m x linked) in

@@ -261,7 +261,8 @@ module _ (p : Puzzle) (t : List Move) (spans : List Span) (covered : Bool) (i : 
       let led = subst (λ (v : Nodes). AllLed (bringing spans covered) v e x (followed v.dlink k x)
       (sum_by (λ o. 1 + writes o) os)) (sym start) (rw follow
       (way_led (Brings p t spans covered i) (bringing spans covered) (λ s. nodes_from p s.0 col)
-      (λ s. link_place p i (l.down s.1)) (link_place p i) (λ o. 1 + writes o) (λ s u x m. m) (ln0, 0) os cw.0 cw.1.1)) in
+      (λ s. link_place p i (l.down s.1)) (link_place p i) (λ o. 1 + writes o) (λ s u x m. m) (ln0, 0) os cw.0
+      cw.1.1)) in
       let within : i < length (layout p) = slice_get_within (layout p) i (own i) (laid.head i pos le) in
       let len_end : get_or e.top i 0 ≡ n = get_len p cw.0.0 i laid pos le ∙ ap (λ (m : Line). m.len) cw.1.0.is in
       let lost : n + length os ≡ l.len = regaining_len l (cuts l os) os own_back in

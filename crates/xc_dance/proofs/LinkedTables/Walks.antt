@@ -8,7 +8,8 @@ use Rattle.std.proofs.lemmas.Grind.{common_steps}
 use Rattle.std.proofs.lemmas.Bool.{eqb-false}
 use Rattle.std.proofs.lemmas.List.{drop_more, reverse-append}
 use Rattle.xc_dance.specs.declared.links.nodes.Nodes.{Nodes}
-use Rattle.xc_dance.specs.inner.Links.Steps.{followed, IsSpacer, places, hidden, unhidden, CanHide, CanUnhide, hide_cost}
+use Rattle.xc_dance.specs.inner.Links.Steps.{followed, IsSpacer, places, hidden, unhidden, CanHide, CanUnhide}
+use Rattle.xc_dance.specs.inner.Links.Steps.{hide_cost}
 use Rattle.xc_dance.specs.inner.Links.Walks.{costs, CanAll, CanFollow}
 use Rattle.xc_dance.specs.declared.links.nodes.TheConstants.{SPACER}
 

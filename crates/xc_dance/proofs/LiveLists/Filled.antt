@@ -49,8 +49,7 @@ enlisted_more us u o n (suc k) (l ∷ ls) e new lt =
 pub new_use : (us : List Use) (k : ℕ) (u0 : Use) → AllPairs (λ u v. u.item ≢ v.item) us → k < length us
     → has_use (take k us) (get_or us k u0).item ≡ false
 new_use us k u0 distinct lt =
-    list_any_none (λ v. eqb v.item (get_or us k u0).item) (take k us)
-    (λ m d within. let other = distinct m k d in
+    list_any_none (λ v. eqb v.item (get_or us k u0).item) (take k us) (λ m d within. let other = distinct m k d in
     grind (arith, common_steps, length-take-le, get_or-take, get_or_default, ne_eqb))
 
 -- ---- all options

@@ -79,7 +79,6 @@ listed_open p (Tweak j ∷ t) legal i opened = elim (eqb_tells i j) [
       ∙ filter_swap _ _ (left p t))
   | inr other ↦
       let at_i = listed_open p t legal.1 i opened in
-      let at_j = listed_open p t legal.1 j in
-      grind (arith, common_steps, filter_swap)
+      let at_j = listed_open p t legal.1 j in grind (arith, common_steps, filter_swap)
 ]
 listed_open p (Spend j ∷ t) legal i opened = listed_open p t legal.1 i opened

@@ -57,6 +57,5 @@ loop-q-preserved c =
     c.commit_node.ensures.written
 
 pub returns-clause-committed : goal.returns-clause-committed
-returns-clause-committed c = λ x held.
-    whole _ _ c.loop-q.self c.loop-q.invariant.puzzle c.loop-q.invariant.room
+returns-clause-committed c = λ x held. whole _ _ c.loop-q.self c.loop-q.invariant.puzzle c.loop-q.invariant.room
     ((before_at held (c.loop-q.invariant.along x held)).end c.loop-q-test.false)

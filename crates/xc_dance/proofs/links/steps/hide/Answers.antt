@@ -77,4 +77,5 @@ hide_range-below-requires-clause-unmarked c =
 pub returns : goal.returns
 returns c =
     let rest = rest (goal.at.returns c).After-get_at c.loop-top-test.false _ c.up_at-first.ensures in
-    let all = rest.round _ _ c.hide_range-below.ensures.done c.hide_range-below.ensures.cost in grind (arith, common_steps)
+    let all = rest.round _ _ c.hide_range-below.ensures.done c.hide_range-below.ensures.cost in
+    grind (arith, common_steps)

@@ -68,8 +68,7 @@ pub overflow_add-end : goal.overflow_add-end
 overflow_add-end c = grind (arith, common_steps, leads)
 
 -- and there the rest of the walk begins
-rest : (c : After-down_at)
-    → Met unhide_walk (columns c.args.top.now c.args.links.now c.args.color.now)
+rest : (c : After-down_at) → Met unhide_walk (columns c.args.top.now c.args.links.now c.args.color.now)
     (reverse (others_of c.args.spans.now c.args.p)) (columns c.loop-top.top c.loop-top.links c.args.color.now)
     c.loop-top.below (reverse (places (c.args.p + 1) (c.down_at.result + 1)))
 rest c =

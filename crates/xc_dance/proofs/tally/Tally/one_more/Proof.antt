@@ -22,10 +22,8 @@ one_more_spec 𝓤 𝓛 𝓜 𝓡 wired =
     let v : Val = vstruct vnil in let r : Res f.signature κs = record { count = a.0.now.count + 1 } in
     let O : Fml = (type_at f.signature.result κs).own_val r (v ∷ []) in
     qed 𝓛 ((raw (alive 𝓛 f.ended.signature κs qs) ⊛ ‵ (owns (types_at f.ended.signature.params κs) a y.0.4)) ∷ ‵ ftrue ∷
-    []) ∵ split ! $ keep ! (0 ∷ []) $
-    enter ! _ _ _ _ _ $ alloc_all !
+    []) ∵ split ! $ keep ! (0 ∷ []) $ enter ! _ _ _ _ _ $ alloc_all !
     (λ l. pass_all ! refl ((tt, tt), tt) $ sets ! (agg ! (no_more !)) refl (tt, tt) $ returns ! (look_at ! 0 refl) $
-    free_all ! refl $
-    use0 𝓛 (‵ O) (makes_shadow 𝓛 O ((λ vss. (tt, tt)), tt) ((tt, (refl, tt)), tt)) $
+    free_all ! refl $ use0 𝓛 (‵ O) (makes_shadow 𝓛 O ((λ vss. (tt, tt)), tt) ((tt, (refl, tt)), tt)) $
     suffices ! _ (ends_at 𝓛 f.ended stayed c y v r (tt, tt) (tt, tt)) $ says ! refl $ nothing ! $ nothing ! $ fjoin ! $
     join ! $ move ! (1 ∷ 0 ∷ []) $ join ! $ done !))
