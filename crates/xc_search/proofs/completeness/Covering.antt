@@ -1,7 +1,7 @@
 -- The members of a valid problem are its covers.
 use Rattle.std.proofs.lemmas.Grind.{common_steps}
 use Rattle.std.proofs.Common.{ℕ, zero, suc, ◌≡◌, ◌≢◌, ◌+◌, ◌-◌, Bool, true, false, cond, eqb, List, []}
-use Rattle.std.proofs.Common.{◌∷◌, Some, refl, sym, ap, ◌∙◌, arith, inl, inr, eqb-true, eq-eqb, ne_eqb}
+use Rattle.std.proofs.Common.{◌∷◌, Some, refl, ap, ◌∙◌, arith, inl, inr, eqb-true, eq-eqb, ne_eqb}
 use Rattle.std.specs.List.{AllByRecursion, list_any}
 use Rattle.std.proofs.Math.Bool.{or-true, and-false}
 use Rattle.std.proofs.lemmas.List.Elements.{All-from_recursion, recursion_from_All}
@@ -49,10 +49,7 @@ member_of_set r s m same = record {
 -- the option of a number
 pub option_of : (p : Puzzle) (a : ℕ) → IsOption p a → (x : Numbered) × IsIn (numbered_options p) x
     × (x.number ≡ a) × (uses_of p a ≡ x.uses)
-option_of p a h =
-    let at = at_number 0 p.options (a - 1) (omega (arith, h)) in
-    let is : at.0.number ≡ a = omega (arith, at.2, h) in
-    (at.0, at.1, is, ap (uses_of p) (sym is) ∙ uses_known p at.0 at.1)
+option_of p a h = grind (arith, common_steps, at_number 0 p.options (a - 1) (omega (arith, h)), uses_known)
 
 -- the option of one number more
 one_more : (p : Puzzle) (i a : ℕ) (s : List ℕ) (x : Numbered) → IsIn (numbered_options p) x → x.number ≡ a
@@ -127,5 +124,4 @@ module _ (p : Puzzle) (v : IsValid p) where
   pub each_cover_is_listed : EachCoverIsListed p
   each_cover_is_listed s c =
       let m = listed_for (primary_count p) (is_listed s) (whole p) (proper_whole p v) (covers_whole s c) in
-      let at = slice_get-in (members p) m.0 m.1 in
-      (at.0, (m.0, at.1, same_set s m.0 c m.2))
+      grind (arith, common_steps, slice_get-in (members p) m.0 m.1, same_set s m.0 c m.2)

@@ -21,7 +21,7 @@ use Rattle.xc_search.specs.inner.Levels.{IsNode}
 use Rattle.xc_dance.proofs.MoveLemmas.OpenLists.{listed_open, left_rises, without_first}
 use Rattle.xc_dance.proofs.MoveLemmas.OptionsRise.{NumbersRise-filter, NumbersRise}
 use Rattle.xc_search.proofs.residual.PickedByUses.{commit_use, as_residual}
-use Rattle.xc_search.proofs.residual.ReadyUses.{found_wanted, opening_commits, legal_opening, spent_self}
+use Rattle.xc_search.proofs.residual.ReadyUses.{found_wanted, opening_commits, spent_self}
 use Rattle.xc_search.proofs.residual.LeftAreReady.{has_left, primary_pure}
 use Rattle.xc_search.proofs.residual.CyclicUses.{cut}
 use Rattle.xc_input.proofs.lists.EachElement.{each_of_all}
@@ -109,20 +109,16 @@ left_off p (suc m) i s o = rw (kept_tweaked (is_open i) m i s (λ _. refl) ∙ o
 
 -- ---- a level is begun at an open primary item
 
-pub listed_after_spend : (p : Puzzle) (i : ℕ) (t : List Move) → IsNode p t i
-    → listed p (after_spend p i t) i ≡ holding i (left p t)
-listed_after_spend p i t n = grind (arith, common_steps, eq-eqb, listed_open)
-
 pub legal_node : (p : Puzzle) (i : ℕ) (t : List Move) → IsNode p t i → AreLegal p (after_spend p i t)
-legal_node p i t n = grind (arith, common_steps, legal_opening, has_left)
+legal_node p i t n = grind (arith, common_steps, has_left)
 
 pub legal_branch : (p : Puzzle) (m i : ℕ) (t : List Move) → IsNode p t i → m ≤ length (holding i (left p t))
     → AreLegal p (tweaked m i (after_spend p i t))
-legal_branch p m i t n h = grind (arith, common_steps, legal_tweaked, legal_node, primary_pure, listed_after_spend)
+legal_branch p m i t n h = grind (arith, common_steps, legal_tweaked, legal_node, primary_pure, listed_open)
 
 pub listed_branch : (p : Puzzle) (m i : ℕ) (t : List Move) → IsNode p t i
     → listed p (tweaked m i (after_spend p i t)) i ≡ drop m (holding i (left p t))
-listed_branch p m i t n = listed_tweaked p m i (after_spend p i t) ∙ ap (drop m) (listed_after_spend p i t n)
+listed_branch p m i t n = grind (arith, common_steps, listed_tweaked, listed_open)
 
 -- before option x at place k of the item's list is committed for the other items
 pub branch_cut : (p : Puzzle) (u : Use) (t : List Move) (k m : ℕ) (x : Numbered) → IsNode p t u.item

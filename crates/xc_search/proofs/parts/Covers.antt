@@ -81,8 +81,7 @@ module _ (p : Puzzle) (v : IsValid p) (i : ℕ) (once : IsHeldOnce p i) where
       let one = the_one s c in
       let of_x = of_item p i x (in-contains _ _ h) in
       let of_y = of_item p i y (in-contains _ _ k) in
-      same_number _ _ _ _ (options_rise p) of_x.0 of_y.0
-      (one.1.only x of_x.0 of_x.1 a ∙ sym (one.1.only y of_y.0 of_y.1 b))
+      grind (arith, common_steps, same_number, options_rise p)
 
   as_cover : {x : Numbered} {s : List ℕ} → IsPartCover p i x s → IsCover p s
   as_cover {x} h = subst (IsCover p) (sym h.3) (cover_of_problem p i x h.1 h.2)

@@ -32,8 +32,7 @@ best_least count w (u ∷ us) v h = grind (arith, ltb-true, ltb-false, best_leas
 best_first : (count : Wanted → ℕ) (w : Wanted) (ws : List Wanted) → (best count w ws ≡ w)
     ⊎ (count (best count w ws) < count w)
 best_first count w [] = inl refl
-best_first count w (u ∷ us) =
-    grind (arith, common_steps, best_first count w us, ltb-true (count u) (count w), best_least count u us u)
+best_first count w (u ∷ us) = grind (arith, common_steps, best_least count u us u, best_first count w us)
 
 -- ---- an item without branches
 

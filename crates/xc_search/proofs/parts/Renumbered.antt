@@ -1,16 +1,15 @@
 -- The listing is the same under other numbers, level by level.
 use Rattle.std.proofs.lemmas.Grind.{common_steps}
 use Rattle.xc_dance.specs.Moves.{agrees}
-use Rattle.std.proofs.Common.{ℕ, ◌≡◌, ◌+◌, cond, not, ◌||◌, eqb, List, [], ◌∷◌}
-use Rattle.std.proofs.Common.{map, find, Option, Some, None, refl, sym, ap, ap₂, ◌∙◌, arith}
+use Rattle.std.proofs.Common.{ℕ, ◌≡◌, ◌+◌, ◌||◌, eqb, List, [], ◌∷◌}
+use Rattle.std.proofs.Common.{map, find, Option, Some, None, refl, sym, ap, ◌∙◌, arith}
 use Rattle.std.proofs.Common.{inl, inr}
-use Rattle.std.specs.Prelude.{nat_lt, nat_le, is_some, flat_map, option_map}
+use Rattle.std.specs.Prelude.{nat_lt, nat_le, flat_map, option_map}
 use Rattle.std.specs.List.{best_of, enumerate_from, list_all}
-use Rattle.std.proofs.lemmas.Bool.Decides.{nat_tests}
 use Rattle.std.proofs.lemmas.List.{length-map, take-map, map-append}
 use Rattle.xc_input.specs.declared.problem.Use.{Use}
 use Rattle.xc_search.specs.declared.choice.Choice.{Choice}
-use Rattle.xc_input.specs.Problem.{Numbered, colour_in, holds, holding}
+use Rattle.xc_input.specs.Problem.{Numbered, colour_in, holding}
 use Rattle.xc_search.specs.Listing.{Wanted, Residual, Branch, branch_count, branch_item, first_least, spend_one}
 use Rattle.xc_search.specs.Listing.{may_stay, item_left, pick, none, take_branch, branches_of}
 use Rattle.xc_search.specs.Listing.{listing}
@@ -29,17 +28,11 @@ use Rattle.xc_search.proofs.listing.BranchLists.{takes}
 ruleset parts_of_lists = (in-filter, in-take, take-map, map-append)
 
 module _ (f g : ℕ → ℕ) (apart : AreKeptApart f) where
-  same_item : (i j : ℕ) → eqb (f i) (f j) ≡ eqb i j
-  same_item i j = grind (arith, common_steps, nat_tests, apart)
-
   -- ---- options and items
 
   same_colour : (us : List Use) (i : ℕ) → colour_in (map (renumber_use f) us) (f i) ≡ colour_in us i
   same_colour [] i = refl
-  same_colour (u ∷ us) i = ap₂ (λ b o. cond b (Some u.colour) o) (same_item u.item i) (same_colour us i)
-
-  same_holds : (o : Numbered) (i : ℕ) → holds (renumber_option f g o) (f i) ≡ holds o i
-  same_holds o i = ap is_some (same_colour o.uses i)
+  same_colour (u ∷ us) i = grind (arith, common_steps, same_colour us i)
 
   same_holding : (os : List Numbered) (i : ℕ)
       → holding (f i) (map (renumber_option f g) os) ≡ map (renumber_option f g) (holding i os)
@@ -70,23 +63,22 @@ module _ (f g : ℕ → ℕ) (apart : AreKeptApart f) where
       → find (λ w. eqb w.item (f j)) (map (renumber_item f) ws) ≡ option_map (renumber_item f)
       (find (λ w. eqb w.item j) ws)
   same_left [] j = refl
-  same_left (w ∷ ws) j = grind (arith, common_steps, same_left ws j, same_item w.item j, find)
+  same_left (w ∷ ws) j = grind (arith, common_steps, same_left ws j)
 
   same_stay : (left : Option Wanted) (u : Use) (o : Numbered)
       → may_stay (option_map (renumber_item f) left) (renumber_use f u) (renumber_option f g o) ≡ may_stay left u o
-  same_stay (Some w) u o = ap (λ b. nat_lt 1 w.high || not b) (same_holds o u.item)
+  same_stay (Some w) u o = grind (arith, common_steps, same_colour)
   same_stay None u o = ap (agrees u.colour) (same_colour o.uses u.item)
 
   same_stays : (r : Residual) (us : List Use) (o : Numbered) →
       list_all (λ u. may_stay (item_left (renumber f g r) u.item) u (renumber_option f g o)) (map (renumber_use f) us) ≡
       list_all (λ u. may_stay (item_left r u.item) u o) us
   same_stays r [] o = refl
-  same_stays r (u ∷ us) o =
-      rw (same_left r.items u.item, same_stay (item_left r u.item) u o, same_stays r us o) refl
+  same_stays r (u ∷ us) o = cc (same_left r.items u.item, same_stay (item_left r u.item) u o, same_stays r us o)
 
   same_spend : (x : Numbered) (w : Wanted)
       → spend_one (renumber_option f g x) (renumber_item f w) ≡ renumber_item f (spend_one x w)
-  same_spend x w = grind (arith, common_steps, same_holds x w.item)
+  same_spend x w = grind (arith, common_steps, same_colour)
 
   -- options in order, of which some are left
   abbrev InOrder : List Numbered → Type 0
@@ -96,10 +88,10 @@ module _ (f g : ℕ → ℕ) (apart : AreKeptApart f) where
       → pick (renumber f g r) (f i) (renumber_option f g x) ≡ renumber f g (pick r i x)
   same_pick r i x order h = as_residual _ _ _ _
       (simp (map-map, filter-map, same_spend x))
-      (grind (arith, common_steps, filter-map, goes_on, filter_same, each_from, same_holds, same_stays))
+      (grind (arith, common_steps, filter-map, goes_on, filter_same, each_from, same_colour, same_stays))
 
   same_none : (r : Residual) (i : ℕ) → none (renumber f g r) (f i) ≡ renumber f g (none r i)
-  same_none r i = as_residual _ _ _ _ (simp (filter-map, same_item)) (simp (filter-map, same_colour))
+  same_none r i = grind (arith, common_steps, as_residual, filter-map, same_colour)
 
   -- ---- branches
 

@@ -2,7 +2,7 @@
 use Rattle.std.proofs.Common.{arith}
 use Rattle.std.proofs.lemmas.Grind.{common_steps}
 use Rattle.std.proofs.Common.{◌≡◌, true, List, [], ◌∷◌, ◌++◌, Some}
-use Rattle.std.proofs.Common.{refl, sym, ap, ◌∙◌, eq-eqb}
+use Rattle.std.proofs.Common.{refl, sym, ap, ◌∙◌}
 use Rattle.std.specs.Prelude.{All, option_and_then}
 use Rattle.xc_search.specs.declared.choice.Choice.{Choice}
 use Rattle.xc_dance.specs.declared.dance.Move.{Move}
@@ -13,8 +13,8 @@ use Rattle.xc_search.specs.Cut.{left_by_one, left_by, below, IsPath}
 use Rattle.xc_search.specs.inner.Residual.{residual_of}
 use Rattle.xc_search.specs.inner.Commits.{oldest}
 use Rattle.std.proofs.lemmas.List.Elements.{All-nil}
-use Rattle.xc_search.specs.inner.Levels.{AreStacked, chosen, choices_of, to_give, coming}
-use Rattle.xc_search.specs.inner.Paths.{IsLed, AreLed}
+use Rattle.xc_search.specs.inner.Levels.{AreStacked, choices_of, to_give, coming}
+use Rattle.xc_search.specs.inner.Paths.{AreLed}
 use Rattle.xc_search.proofs.residual.BranchItemLeft.{no_moves_leave_all}
 use Rattle.xc_search.proofs.stacked.BegunComesFirst.{choices_more}
 use Rattle.xc_search.proofs.Cases.{by_option}
@@ -25,15 +25,10 @@ pub left_by_more : (path : List Choice) (c : Choice) (r : Residual) → left_by
 left_by_more [] c r = by_option (left_by_one c r) (λ e. rw e refl) (λ s e. rw e refl)
 left_by_more (x ∷ path) c r = by_option (left_by_one x r) (λ e. rw e refl) (λ s e. rw e (left_by_more path c s))
 
-led_by_one : (p : Puzzle) (t : List Move) (l : Level) → IsLed p t l
-    → left_by_one (chosen p l) (residual_of p (oldest l.mark t)) ≡ Some (residual_of p t)
-led_by_one p t l a = grind (arith, common_steps, by_option, eq-eqb)
-
 pub led_left : (p : Puzzle) (t : List Move) (ls : List Level) → AreLed p [] t ls
     → left_by (choices_of p ls) (whole p) ≡ Some (residual_of p t)
 led_left p t [] a = ap Some (sym (no_moves_leave_all p)) ∙ ap (λ t. Some (residual_of p t)) (sym a)
-led_left p t (l ∷ ls) a =
-    grind (arith, common_steps, led_left p (oldest l.mark t) ls a.1, choices_more, left_by_more, led_by_one)
+led_left p t (l ∷ ls) a = grind (arith, choices_more, left_by_more, by_option, led_left p (oldest l.mark t) ls a.1)
 
 pub led_path : (p : Puzzle) (t : List Move) (ls : List Level) → AreLed p [] t ls → IsPath p (choices_of p ls)
 led_path p t ls a = (residual_of p t, led_left p t ls a)

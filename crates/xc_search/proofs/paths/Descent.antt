@@ -9,29 +9,23 @@ use Rattle.xc_search.specs.declared.level.Begun.{Begun}
 use Rattle.xc_input.specs.Problem.{Puzzle, IsValid}
 use Rattle.xc_search.specs.Listing.{whole}
 use Rattle.xc_search.specs.Cut.{left_by_one, below, IsPathBy}
-use Rattle.xc_search.specs.inner.Commits.{oldest}
 use Rattle.xc_search.specs.inner.Residual.{residual_of}
-use Rattle.xc_search.specs.inner.Sizes.{size_of}
-use Rattle.xc_search.specs.inner.Levels.{IsLevel, IsShallow, IsStanding, IsEntered}
+use Rattle.xc_search.specs.inner.Levels.{IsStanding, IsEntered}
 use Rattle.xc_search.specs.inner.Levels.{begun_level, taken}
 use Rattle.xc_search.specs.inner.Levels.{coming, behind}
 use Rattle.xc_search.specs.inner.Descent.{Leads, IsDown}
 use Rattle.xc_search.proofs.residual.BranchItemLeft.{no_moves_leave_all}
-use Rattle.xc_search.proofs.stacked.NextLevel.{Extends, ext_after_branch, ext_whole}
+use Rattle.xc_search.proofs.stacked.NextLevel.{ext_after_branch, ext_whole}
 use Rattle.xc_search.proofs.stacked.NextLevel.{oldest-oldest}
 use Rattle.xc_search.proofs.stacked.Start.{starts_standing, comes_alone}
 use Rattle.xc_search.proofs.stacked.Depth.{shallow_first}
 use Rattle.xc_search.proofs.paths.Numbers.{no_further, left_less, below_left}
 
 -- a level stands with its own moves where it stands below more
-before_branch : (p : Puzzle) (t s : List Move) (l : Level) → IsLevel p t l → Extends t s → l.base ≡ length s →
-    IsLevel p s l × (oldest l.mark s ≡ oldest l.mark t)
-before_branch p t s l is_level ext own = grind (arith, common_steps, ext_whole, oldest-oldest)
-
 -- before the next branch
 pub leads_on : (p : Puzzle) (u s t : List Move) (l k : Level) (b : Begun) → Leads p u s l → k ≡ begun_level b l →
     b.base ≡ length t → IsEntered p s l t (begun_level b l) → Leads p u t k
-leads_on p u s t l k b a ek own entered = grind (arith, taken, before_branch, ext_after_branch)
+leads_on p u s t l k b a ek own entered = grind (arith, taken, ext_whole, oldest-oldest, ext_after_branch)
 
 -- a level on whose moves none was begun
 -- a path of one choice more
@@ -49,8 +43,7 @@ pub down_standing : {p : Puzzle} {numbers : List ℕ} {path : List Choice} {t : 
     → (ls : List Level) → ls ≡ [] → IsStanding p t ls true
 down_standing {p} {path = path} {t} d ls e =
     let less = left_less path (whole p) (residual_of p t) d.left in
-    let shallow : IsShallow p t [] = omega (arith, less, ap size_of (no_moves_leave_all p), shallow_first p) in
-    grind (arith, common_steps)
+    grind (arith, common_steps, no_moves_leave_all p, shallow_first p)
 
 -- with the members below the path to come
 pub down_coming : {p : Puzzle} {numbers : List ℕ} {path : List Choice} {t : List Move} → IsDown p numbers path t

@@ -1,7 +1,7 @@
 -- A path is told by the numbers of its branches, and its members are a run of the listing.
 use Rattle.std.proofs.lemmas.Grind.{common_steps}
 use Rattle.std.proofs.Common.{ℕ, zero, suc, ◌≡◌, ◌-◌, ◌<◌, ◌≤◌, List, [], ◌∷◌, ◌++◌}
-use Rattle.std.proofs.Common.{length, map, take, drop, Option, Some, None, refl, sym, ap, ap₂, ◌∙◌, arith, length-drop}
+use Rattle.std.proofs.Common.{length, map, take, drop, Option, Some, None, refl, ap, ap₂, ◌∙◌, arith, length-drop}
 use Rattle.std.proofs.Common.{eqb-true, append-nil, ◌⊎◌}
 use Rattle.std.specs.Prelude.{All, slice_get, flat_map, unwrap_or, option_map, option_and_then}
 use Rattle.std.proofs.lemmas.List.{map-id}
@@ -43,17 +43,13 @@ then_left f None s e = absurd (cc e)
 then_left f (Some x) s e = (x, refl, e)
 
 -- branches of the same number are the same
-same_step : (c d : Choice) (r x y : Residual) → c.k ≡ d.k → left_by_one c r ≡ Some x → left_by_one d r ≡ Some y →
-    (c ≡ d) × (x ≡ y)
-same_step c d r x y k e f = grind (arith, common_steps, stepped)
-
 -- two paths with the same numbers are the same
 paths_same : (a b : List Choice) (r x y : Residual) → left_by a r ≡ Some x → left_by b r ≡ Some y →
     numbers_on a ≡ numbers_on b → a ≡ b
 paths_same [] [] r x y e f n = refl
 paths_same [] (d ∷ b) r x y e f n = absurd (cc n)
 paths_same (c ∷ a) [] r x y e f n = absurd (cc n)
-paths_same (c ∷ a) (d ∷ b) r x y e f n = grind (arith, common_steps, paths_same a b, then_left, same_step)
+paths_same (c ∷ a) (d ∷ b) r x y e f n = grind (arith, common_steps, then_left, stepped, paths_same a b)
 
 pub numbers_tell : (p : Puzzle) (a b : List Choice) → IsPath p a → IsPath p b → numbers_on a ≡ numbers_on b → a ≡ b
 numbers_tell p a b is has n = paths_same a b (whole p) is.0 has.0 is.1 has.1 n
@@ -65,7 +61,7 @@ pub no_further : (done path : List Choice) (r s x : Residual) (k : ℕ) (ks : Li
 no_further [] [] r s x k ks e none n f = absurd (cc n)
 no_further [] (c ∷ path) r s x k ks e none n f = grind (arith, common_steps)
 no_further (d ∷ done) [] r s x k ks e none n f = absurd (cc n)
-no_further (d ∷ done) (c ∷ path) r s x k ks e none n f = grind (arith, then_left, same_step, no_further done path)
+no_further (d ∷ done) (c ∷ path) r s x k ks e none n f = grind (arith, then_left, stepped, no_further done path)
 
 -- the number of a branch is its place
 number_at : (r : Residual) (w : Wanted) (j : ℕ) (b : Branch) → slice_get (branches_of r w) j ≡ Some b
@@ -109,19 +105,13 @@ pub record IsRun (before : List Choice) (r s : Residual) : Type 0 where
   pub back : List (List Choice)
   pub all : listing r ≡ front ++ (map (λ m. before ++ m) (listing s) ++ back)
 
-run_on : (c : Choice) (path : List Choice) (ms f g x y : List (List Choice)) →
-    x ++ (map (λ m. c ∷ m) (f ++ (map (λ m. path ++ m) ms ++ g)) ++ y) ≡ (x ++ map (λ m. c ∷ m) f) ++
-    (map (λ m. (c ∷ path) ++ m) ms ++ (map (λ m. c ∷ m) g ++ y))
-run_on c path ms f g x y = grind (arith, common_steps, map-map)
-
 pub runs : (path : List Choice) (r s : Residual) → left_by path r ≡ Some s → IsRun path r s
 runs [] r s e =
     let same : r ≡ s = cc e in
     record {
       front = [];
       back = [];
-      all = ap listing same ∙ sym
-          (append-nil (map (λ (m : List Choice). m) (listing s)) ∙ map-id (listing s));
+      all = grind (arith, common_steps, append-nil, map-id (listing s));
     }
 runs (c ∷ path) r s e =
     let t = then_left (left_by path) (left_by_one c r) s e in
@@ -135,7 +125,7 @@ runs (c ∷ path) r s e =
       front = x ++ map (λ m. c ∷ m) rest.front;
       back = map (λ m. c ∷ m) rest.back ++ y;
       all = listing_unrolled r ∙ ap (λ o. level listing o r) a.chosen ∙ split_at bs (c.k - 1) a.branch a.at
-          ∙ ap (λ l. x ++ (l ++ y)) here ∙ run_on c path (listing s) rest.front rest.back x y;
+          ∙ ap (λ l. x ++ (l ++ y)) here ∙ (grind (arith, common_steps, map-map));
     }
 
 -- what is below a path, by what it leaves

@@ -51,12 +51,8 @@ ready_after p u t v e r = grind (arith, common_steps, ready_later)
 pub spent_self : (i : ℕ) (t : List Move) → spends i (Spend i ∷ t) ≡ suc (spends i t)
 spent_self i t = let same : eqb i i ≡ true = eq-eqb i i refl in rw same (omega arith)
 
-pub legal_opening : (p : Puzzle) (i : ℕ) (t : List Move) → AreLegal p t → IsPrimary p i → is_open i t ≡ true
-    → spends i t < high_at p i → AreLegal p (after_spend p i t)
-legal_opening p i t l h o k = grind (arith, common_steps)
-
 pub legal_commit : (p : Puzzle) (u : Use) (t : List Move) → AreLegal p t → Ready p t u → AreLegal p (after_use p u t)
-legal_commit p u t l (primary h o k) = rw (le-leb u.item (primary_count p) h.1) (legal_opening p u.item t l h o k)
+legal_commit p u t l (primary h o k) = grind (arith, common_steps, le-leb)
 legal_commit p u t l (secondary h o) = grind (arith, common_steps, lt-leb, eqb-false)
 legal_commit p u t l (same_colour h c o q) = grind (arith, common_steps, lt-leb, ne_eqb)
 

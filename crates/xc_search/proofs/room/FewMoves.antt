@@ -38,10 +38,8 @@ one_less p t m j at less =
 
 moves_counted : (p : Puzzle) (t : List Move) → AreLegal p t → length t + still_all p t ≤ spendings t + still_all p []
 moves_counted p [] l = omega arith
-moves_counted p (Cover j ∷ t) l =
-    grind (arith, common_steps, moves_counted p t l.1, one_less p t (Cover j) j, eq-eqb j j refl)
-moves_counted p (Purify j c ∷ t) l =
-    grind (arith, common_steps, moves_counted p t l.1, one_less p t (Purify j c) j, eq-eqb j j refl)
+moves_counted p (Cover j ∷ t) l = grind (arith, common_steps, one_less p t (Cover j) j, moves_counted p t l.1)
+moves_counted p (Purify j c ∷ t) l = grind (arith, common_steps, one_less p t (Purify j c) j, moves_counted p t l.1)
 moves_counted p (Tweak j ∷ t) l =
     grind (arith, common_steps, moves_counted p t l.1, one_less p t (Tweak j) j, eq-eqb j j refl, length-drop)
 moves_counted p (Spend j ∷ t) l = omega (arith, moves_counted p t l.1)

@@ -1,13 +1,11 @@
 -- Once a branch was begun, what it leaves comes first.
 use Rattle.std.proofs.lemmas.Grind.{common_steps}
-use Rattle.std.proofs.Common.{suc, ◌≡◌, ◌<◌, true, List, [], ◌∷◌, ◌++◌, map, drop, reverse, ap, ap₂, ◌∙◌, arith}
+use Rattle.std.proofs.Common.{◌≡◌, ◌<◌, true, List, [], ◌∷◌, ◌++◌, map, reverse, ap, ◌∙◌, arith}
 use Rattle.std.proofs.Common.{append_assoc}
 use Rattle.std.proofs.lemmas.List.{reverse-append, map-append}
 use Rattle.xc_dance.specs.declared.dance.Move.{Move}
 use Rattle.xc_search.specs.declared.level.Level.{Level}
 use Rattle.xc_input.specs.Problem.{Puzzle}
-use Rattle.xc_search.specs.Listing.{listing}
-use Rattle.xc_search.specs.inner.Residual.{residual_of}
 use Rattle.xc_search.specs.inner.Levels.{branches_at, AreStacked, chosen, choices_of, to_give}
 use Rattle.xc_search.specs.inner.Levels.{coming, IsBegun}
 use Rattle.xc_search.specs.inner.Commits.{oldest}
@@ -24,12 +22,4 @@ pub begun_coming : (p : Puzzle) (t s : List Move) (l k : Level) (ls : List Level
     × (ahead p s (k ∷ ls) true < visits p t (l ∷ ls))
 begun_coming p t s l k ls stacked b =
     let u = oldest l.mark t in
-    let before = choices_of p ls in
-    let rest = drop (suc l.begun) (branches_at p u) in
-    let next : drop l.begun (branches_at p u) ≡ b.branch ∷ rest = drop_at (branches_at p u) l.begun b.branch b.at in
-    let under : oldest k.mark s ≡ u = ap (λ n. oldest n s) b.mark ∙ b.below in
-    let still = ap₂ (λ n v. drop n (branches_at p v)) b.begun under in
-    let one : map (λ m. choices_of p (k ∷ ls) ++ m) (listing (residual_of p s)) ≡ map
-    (λ m. before ++ b.branch.choice ∷ m) (listing b.branch.next) =
-    grind (arith, common_steps, map-same, choices_more, append_assoc) in
-    grind (arith, common_steps)
+    grind (arith, common_steps, drop_at (branches_at p u) l.begun b.branch b.at, map-same, choices_more, append_assoc)

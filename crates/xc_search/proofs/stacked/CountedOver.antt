@@ -5,7 +5,6 @@ use Rattle.xc_dance.specs.Dancing.{Dancing}
 use Rattle.xc_search.specs.inner.Levels.{Levels, IsStanding, coming}
 use Rattle.xc_search.specs.inner.Ahead.{EntersBranch, IsDone, work_left}
 use Rattle.xc_search.specs.inner.Ahead.{EntersOver, EndsOver}
-use Rattle.xc_search.proofs.stacked.PassedOver.{then_still}
 
 -- Nothing is left below, and members are still to be passed over.
 pub record FallsBack (d : Dancing) (ls : Levels) (m : ℕ) (e : Dancing) (ks : Levels) (n : ℕ) : Type 0 where
@@ -25,9 +24,9 @@ enters_below m b = grind (arith, common_steps)
 -- a branch of a level is entered
 pub enters_back : {d e f : Dancing} {ls ks js : Levels} {m n i q : ℕ} → FallsBack d ls m e ks n
     → EntersBranch e ks false f js i q → EntersOver d ls m f js n i q
-enters_back back b = grind (arith, common_steps, then_still)
+enters_back back b = grind (arith, common_steps)
 
 -- all levels end
 pub ends_back : {d e f : Dancing} {ls ks js : Levels} {m n : ℕ} → FallsBack d ls m e ks n → IsDone e ks false f js
     → EndsOver d ls m f js n
-ends_back back done = grind (arith, common_steps, then_still)
+ends_back back done = grind (arith, common_steps)

@@ -1,6 +1,6 @@
 -- Each level has its own Spend, and takes an option or a primary item away.
 use Rattle.std.proofs.lemmas.Grind.{common_steps}
-use Rattle.std.proofs.Common.{ℕ, ◌≡◌, ◌-◌, ◌<◌, ◌≤◌, List, [], ◌∷◌, ◌++◌, length, take, Some, sym, ap, ◌∙◌, arith}
+use Rattle.std.proofs.Common.{ℕ, ◌≡◌, ◌-◌, ◌<◌, ◌≤◌, List, [], ◌∷◌, ◌++◌, length, take, Some, ap, ◌∙◌, arith}
 use Rattle.xc_search.specs.inner.Sizes.{size_of}
 use Rattle.xc_dance.specs.declared.dance.Move.{Move}
 use Rattle.xc_search.specs.declared.level.Level.{Level}
@@ -21,7 +21,6 @@ use Rattle.xc_dance.proofs.MoveLemmas.ListLemmas.{length-numbered_from}
 use Rattle.xc_input.proofs.lists.Filters.{length-filter-le}
 use Rattle.std.proofs.lemmas.List.{take-append-drop}
 use Rattle.std.proofs.lemmas.List.FromFn.{length-range_with_len}
-use Rattle.std.specs.Prelude.{slice_get}
 use Rattle.xc_search.proofs.room.FewSpends.{few_spendings}
 use Rattle.xc_search.proofs.moves.LegalTweaks.{legal_node}
 
@@ -49,9 +48,7 @@ shallower p t s l k ls stacked b =
     let u = oldest l.mark t in
     let r = residual_of p u in
     let w = wanted_at p u l.item in
-    let there = sym (ap (λ bs. slice_get bs l.begun) (branches_here p u w stacked.0.branch)) ∙ b.at in
-    let less = each_at _ _ _ _ (branches_less r w stacked.0.branch) there in
-    omega (arith, stacked.1, less, ap size_of b.next)
+    grind (arith, common_steps, branches_here p u w stacked.0.branch, each_at, branches_less r w stacked.0.branch)
 
 -- what has a branch item isn't empty
 some_left : (p : Puzzle) (t : List Move) (i : ℕ) → branch_item (residual_of p t) ≡ Some (wanted_at p t i)

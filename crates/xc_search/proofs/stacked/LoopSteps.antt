@@ -133,17 +133,11 @@ passes_over {d} {ls = ls} {i = i} {n = n} o f none ef =
 pub back_at : (p : Puzzle) (t r : List Move) (l : Level) (ls : List Level) → AreStacked p t (l ∷ ls)
     → r ≡ oldest l.base t →
     IsLevel p r l × (l.base ≡ length r) × (0 < l.tweaks → AreTweaks l.tweaks r) × (l.mark + l.tweaks ≤ length r)
-back_at p t r l ls stacked er =
-    let back = returned p t l ls stacked in
-    let close = closing p (oldest l.base t) l back.0.0 back.3 in
-    grind (arith, common_steps)
+back_at p t r l ls stacked er = grind (arith, common_steps, returned p t l ls stacked, closing)
 
 -- below a level's tweaks stand the moves below the level
 pub under_tweaks : (p : Puzzle) (t : List Move) (l : Level) (ls : List Level) → AreStacked p t (l ∷ ls)
     → oldest l.mark (drop l.tweaks (oldest l.base t)) ≡ oldest l.mark t
 under_tweaks p t l ls stacked =
     let u = oldest l.base t in
-    let back = back_at p t u l ls stacked refl in
-    let fewer : l.tweaks + (length (drop l.tweaks u) - l.mark) ≡ length u - l.mark =
-    omega (arith, length-drop l.tweaks u, back.3) in
-    grind (arith, common_steps)
+    grind (arith, common_steps, back_at p t u l ls stacked refl, length-drop l.tweaks u)

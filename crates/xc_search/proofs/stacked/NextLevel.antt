@@ -2,8 +2,8 @@
 use Rattle.std.proofs.lemmas.Grind.{common_steps}
 use Rattle.std.proofs.Common.{ℕ, zero, suc, ◌≡◌, ◌+◌, ◌-◌, ◌<◌, ◌≤◌, true, List, [], ◌∷◌, ◌++◌}
 use Rattle.std.proofs.Common.{length, map, drop, Some, None, refl, sym, ap, ◌∙◌, arith}
-use Rattle.std.proofs.Common.{eq-eqb, ne_eqb, ◌≢◌, length-drop}
-use Rattle.std.specs.Prelude.{option_map, flat_map, unwrap_or, slice_get}
+use Rattle.std.proofs.Common.{eq-eqb, ◌≢◌, length-drop}
+use Rattle.std.specs.Prelude.{flat_map, unwrap_or}
 use Rattle.std.specs.List.{range_with_len}
 use Rattle.xc_input.specs.declared.problem.Use.{Use}
 use Rattle.xc_search.specs.declared.choice.Choice.{Choice}
@@ -16,10 +16,10 @@ use Rattle.xc_search.specs.Residuals.{wanted_at, choice_after}
 use Rattle.xc_search.specs.inner.Residual.{residual_of}
 use Rattle.xc_search.specs.inner.Levels.{branches_at, members_of, IsSearchable, IsLevelAt, IsShallow}
 use Rattle.xc_search.specs.inner.Levels.{AreStacked, IsPlace, choices_of, to_give, coming, first_level}
-use Rattle.xc_dance.specs.Fields.{link_place, layout}
-use Rattle.xc_dance.specs.Commits.{option_at, number_of, after_spend, after_use, after_uses}
+use Rattle.xc_dance.specs.Fields.{link_place}
+use Rattle.xc_dance.specs.Commits.{option_at, after_spend, after_use, after_uses}
 use Rattle.xc_search.specs.inner.Commits.{oldest}
-use Rattle.xc_search.specs.inner.Ahead.{cost, work, work_level, visits, ahead}
+use Rattle.xc_search.specs.inner.Ahead.{cost, visits, ahead}
 use Rattle.xc_input.proofs.lists.Members.{in-map, in-filter}
 use Rattle.xc_search.proofs.listing.Unrolled.{listing_unrolled}
 use Rattle.xc_search.proofs.listing.BranchesLess.{least_is_one}
@@ -69,8 +69,7 @@ ext_longer (ext_more e) = omega (arith, ext_longer e)
 
 pub ext_oldest : (n : ℕ) {s t : List Move} → Extends s t → n ≤ length t → oldest n s ≡ oldest n t
 ext_oldest n ext_none h = refl
-ext_oldest n (ext_more {m} {s} e) h =
-    sym (oldest-drop n (m ∷ s) (omega (arith, h, ext_longer e))) ∙ ext_oldest n e h
+ext_oldest n (ext_more {m} {s} e) h = cc (oldest-drop n (m ∷ s) (omega (arith, h, ext_longer e)), ext_oldest n e h)
 
 pub ext_whole : {s t : List Move} → Extends s t → oldest (length t) s ≡ t
 ext_whole {t = t} e = ext_oldest (length t) e (omega arith) ∙ oldest_all t
@@ -132,9 +131,6 @@ pub at_own : (p : Puzzle) (i : ℕ) → option_at p i i ≡ None
 at_own p i = rw (eq-eqb i i refl) refl
 
 -- at another place stands one
-pub at_other : (p : Puzzle) (i q : ℕ) → q ≢ i → (o : ℕ) × (option_at p i q ≡ Some o)
-at_other p i q h = (unwrap_or (option_map number_of (slice_get (layout p) q)) 0, rw (ne_eqb q i h) refl)
-
 pub own_place : (p : Puzzle) (i : ℕ) → IsPlace p i i
 own_place p i = ap (λ o. link_place p i (unwrap_or o 0)) (sym (at_own p i))
 
@@ -155,5 +151,4 @@ descended p t ls i n here sh c stacked =
     let branches = branches_here p t (wanted_at p t i) c.branch in
     let unrolled = listing_unrolled r ∙ ap (λ o. level listing o r) c.branch
     ∙ ap (flat_map (λ b. map (λ m. b.choice ∷ m) (listing b.next))) (sym branches) in
-    let worked = work_unrolled r ∙ ap (λ o. work_level work o r) c.branch
-    ∙ ap (λ bs. suc (suc (cost work bs))) (sym branches) in grind (arith, common_steps, first_stands, members_all)
+    grind (arith, common_steps, work_unrolled r, cost, first_stands, members_all)

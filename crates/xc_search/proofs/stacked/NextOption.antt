@@ -76,10 +76,7 @@ seeking {p} {t} {l} may q is =
     (λ c. let all : listed p t l.item ≡ os = grind (arith, common_steps, list, level.tweaks) in
     record {
       x = last_number 0 os l.begun;
-      listed = record {
-        listed = rw all (last_in os l.begun);
-        at = grind (arith, common_steps, level);
-      };
+      listed = grind (arith, common_steps, last_in os l.begun);
       next = rw all (above_last 0 os l.begun rises few).1;
     })
     (λ c. let rest : listed p t l.item ≡ drop l.begun os = grind (arith, common_steps, list, level.tweaks) in

@@ -44,12 +44,6 @@ pub stands_behind : (p : Puzzle) (t : List Move) (ls : List Level) → AreStacke
 stands_behind p t ls a = record { stacked = a; searchable = λ e. cc; shallow = λ e. cc }
 
 -- what stays over two steps
-pub then_still : (d e f : Dancing) (ls ks js : Levels) → (e ≡ record d { trail = e.trail })
-    × (ks ≡ record ls { levels = ks.levels }) →
-    (f ≡ record e { trail = f.trail }) × (js ≡ record ks { levels = js.levels }) → (f ≡ record d { trail = f.trail })
-    × (js ≡ record ls { levels = js.levels })
-then_still d e f ls ks js a b = grind (arith, common_steps)
-
 -- it stands at the member behind the first n
 pub went_to : (d e : Dancing) (ls ks : Levels) (down : Bool) (n : ℕ) → (e ≡ record d { trail = e.trail })
     × (ks ≡ record ls { levels = ks.levels }) → IsSolved e.puzzle e.trail ks.levels →

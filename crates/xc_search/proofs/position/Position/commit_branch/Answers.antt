@@ -1,9 +1,10 @@
+use Rattle.std.proofs.Common.{ne_eqb}
 use Rattle.std.proofs.Common.{arith}
 use Rattle.std.proofs.lemmas.Grind.{common_steps}
 use Rattle.std.proofs.Common.{◌≡◌, None, Some, subst}
 use Rattle.xc_dance.specs.Commits.{option_at, IsUseAt}
 use Rattle.xc_search.specs.inner.Levels.{CanBranch}
-use Rattle.xc_search.proofs.stacked.NextLevel.{at_own, at_other}
+use Rattle.xc_search.proofs.stacked.NextLevel.{at_own}
 use Rattle.xc_search.proofs.position.Position.commit_branch.Goals as goal
 use Rattle.xc_search.proofs.position.Position.commit_branch.Goals.{Then-place-item, Else-place-item}
 
@@ -12,7 +13,7 @@ none : (g : _) (c : Then-place-item g) → option_at c.args.self.now.puzzle c.ar
 none g c = grind (arith, common_steps, at_own)
 
 some : (g : _) (c : Else-place-item g) → (o : _) × (option_at c.args.self.now.puzzle c.args.item c.args.place ≡ Some o)
-some g c = at_other c.args.self.now.puzzle c.args.item c.args.place c.if-place-item.false
+some g c = grind (arith, common_steps, ne_eqb)
 
 can : (g : _) (c : Else-place-item g)
     → CanBranch c.args.self.now.puzzle c.args.item (Some (some g c).0) c.args.self.now.trail

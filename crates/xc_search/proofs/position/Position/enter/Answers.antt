@@ -1,7 +1,8 @@
+use Rattle.std.proofs.Common.{ne_eqb}
 use Rattle.std.proofs.Common.{arith, ◌≡◌, None, refl}
 use Rattle.std.proofs.lemmas.Grind.{common_steps}
 use Rattle.xc_search.specs.inner.Levels.{next_number}
-use Rattle.xc_search.proofs.stacked.NextLevel.{at_own, at_other, ground_is}
+use Rattle.xc_search.proofs.stacked.NextLevel.{at_own, ground_is}
 use Rattle.xc_search.proofs.stacked.NextBranch.{entered}
 use Rattle.xc_search.proofs.position.Position.enter.Goals as goal
 
@@ -13,4 +14,4 @@ returns-then-place-level-clause-entered g c =
     (rw none refl) c.requires.number c.requires.ready.whole (ground_is c.requires.ready.level c.requires.ready.whole)
 
 pub enter_option-requires-clause-some : goal.enter_option-requires-clause-some
-enter_option-requires-clause-some g c = grind (arith, common_steps, at_other)
+enter_option-requires-clause-some g c = grind (arith, common_steps, ne_eqb)

@@ -21,8 +21,7 @@ returns-then-number-eq0-clause-none g c _ x e =
 
 pub reach_branch-level-requires-clause-node : goal.reach_branch-level-requires-clause-node
 reach_branch-level-requires-clause-node g c =
-    let here = at g (goal.at.reach_branch-level-requires-clause-node g c).In_ok-item in
-    record { searchable = c.requires.searchable; item = here.item; is_open = here.is_open }
+    grind (arith, common_steps, at g (goal.at.reach_branch-level-requires-clause-node g c).In_ok-item)
 
 pub reach_branch-level-requires-clause-branch : goal.reach_branch-level-requires-clause-branch
 reach_branch-level-requires-clause-branch g c = (at g
