@@ -46,8 +46,7 @@ solves_back {b = b} l h of s = record {
 }
 
 pub members_solve : (r : Residual) (m : List Choice) → IsIn (listing r) m → Solves r m
-members_solve = by_members Solves
-    (λ r e. grind (arith, common_steps, no_items_left, none_left))
+members_solve = by_members Solves (λ r e. grind (arith, common_steps, no_items_left, none_left))
     (λ r w b l e of h s. solves_back l (branch_item-in r w e) of s)
 
 -- ---- what covers is taken by a member

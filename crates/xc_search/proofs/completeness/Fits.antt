@@ -33,13 +33,11 @@ is_held chosen j o = holds o j && chosen o.number
 
 -- the chosen ones meet an item's bounds
 abbrev pub IsMet : (ℕ → Bool) → List Numbered → Wanted → Type 0
-IsMet chosen os w =
-    (w.low ≤ passing (is_held chosen w.item) os) × (passing (is_held chosen w.item) os ≤ w.high)
+IsMet chosen os w = (w.low ≤ passing (is_held chosen w.item) os) × (passing (is_held chosen w.item) os ≤ w.high)
 
 -- two options agree on the items above n
 abbrev pub Agree : ℕ → Numbered → Numbered → Type 0
-Agree n x y =
-    (j c d : ℕ) → n < j → colour_at x j ≡ Some c → colour_at y j ≡ Some d → (c ≡ d) × (0 < c)
+Agree n x y = (j c d : ℕ) → n < j → colour_at x j ≡ Some c → colour_at y j ≡ Some d → (c ≡ d) × (0 < c)
 
 -- the chosen ones meet each item's bounds and agree
 pub record Covers (n : ℕ) (r : Residual) (chosen : ℕ → Bool) : Type 0 where
@@ -195,11 +193,9 @@ module _ (n : ℕ) (r : Residual) (p : IsProper n r) (chosen : ℕ → Bool) (c 
   may_stay_beside x y u (Some w) h k e f apart i left =
       let twice = two_pass (is_held chosen w.item) 0 r.options x y p.options_rise h k in
       grind (arith, common_steps, in-find r.items u.item w, c.met w, twice, ltb-false, holds_use x.uses u i)
-  may_stay_beside x y u None h k e f apart i left = by_bool (nat_le u.item n)
-      (λ q.
+  may_stay_beside x y u None h k e f apart i left = by_bool (nat_le u.item n) (λ q.
       let w = p.items_left x u.item h (leb-true u.item n q) (holds_use x.uses u i) in
-      let found = rw w.2 at (find-in r.items w.0 p.items_apart w.1) in
-      cc)
+      let found = rw w.2 at (find-in r.items w.0 p.items_apart w.1) in cc)
       (λ q. grind (arith, common_steps, by_option, each_in, leb-false, lt-ltb, eq-eqb))
 
   -- a branch that takes the first of its item that is chosen
@@ -210,12 +206,10 @@ module _ (n : ℕ) (r : Residual) (p : IsProper n r) (chosen : ℕ → Bool) (c 
       grind (arith, by_bool, number_tests, stays, list_all-each, may_stay_beside, filter-in, goes_on)
 
   pub branch_for : (w : Wanted) → IsIn r.items w → (b : Branch) × IsIn (branches_of r w) b × Fits r chosen b
-  branch_for w h = by_number (passing (is_held chosen w.item) r.options)
-      (λ e.
+  branch_for w h = by_number (passing (is_held chosen w.item) r.options) (λ e.
       let fits : Fits r chosen (none_branch r w.item (branch_count r w)) =
       grind (arith, common_steps, filter-in, one_passes (is_held chosen w.item) r.options) in
-      (none_branch r w.item (branch_count r w), nones-in r w (omega (arith, c.met w h, e)), fits))
-      (λ k e.
+      (none_branch r w.item (branch_count r w), nones-in r w (omega (arith, c.met w h, e)), fits)) (λ k e.
       let hs = holding w.item r.options in
       let taken : Numbered → Bool = λ o. chosen o.number in
       let same : passing taken hs ≡ passing (is_held chosen w.item) r.options = ap length (filter_both _ _ r.options) in

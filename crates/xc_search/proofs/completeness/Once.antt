@@ -41,8 +41,7 @@ branches_apart r w rise =
     let n = branch_count r w in
     let hs = holding w.item r.options in
     let numbered = enumerate_from 1 (take n hs) in
-    EachTwo-append (AreApart r) (takes r w) (nones r w)
-    (EachTwo-map (AreApart r) (take_branch r w.item n) numbered
+    EachTwo-append (AreApart r) (takes r w) (nones r w) (EachTwo-map (AreApart r) (take_branch r w.item n) numbered
     (EachTwo-weaker (λ (a b : ℕ × Numbered). a.1.number < b.1.number)
     (λ a b. AreApart r (take_branch r w.item n a) (take_branch r w.item n b)) numbered
     (λ a b h k less. takes_apart r w n a b (in-take n hs a.1 (in-enumerated _ _ _ h)) less)

@@ -42,8 +42,7 @@ two_pass t n os x y r h k e f apart =
     let u : Numbered → Bool = λ z. t z && not (eqb x.number z.number) in
     let less : passing t os ≡ 1 + passing u os =
     rw e at (one_less t u n os x r h (grind (arith, nat_tests)) (λ z j q. grind (arith, nat_tests, q))) in
-    let kept : u y ≡ true = grind (arith, nat_tests, apart) in
-    omega (arith, less, one_passes u os y k kept)
+    let kept : u y ≡ true = grind (arith, nat_tests, apart) in omega (arith, less, one_passes u os y k kept)
 
 -- The first that passes stands among the first n, where no more than n pass or come after it.
 pub first_passing : (t : Numbered → Bool) (a : ℕ) (os : List Numbered) (n : ℕ) → NumbersRise a os → 1 ≤ passing t os

@@ -85,8 +85,7 @@ same_wanted n r v w p h k e =
 pub use_passes : (f : Use → Bool) (us : List Use) (j c : ℕ) → list_all f us ≡ true → colour_in us j ≡ Some c
     → f (record { item = j; colour = c }) ≡ true
 use_passes f [] j c all held = cc
-use_passes f (u ∷ us) j c all held = by_bool (eqb u.item j)
-    (λ e. grind (arith, common_steps, eqb-true, and_left))
+use_passes f (u ∷ us) j c all held = by_bool (eqb u.item j) (λ e. grind (arith, common_steps, eqb-true, and_left))
     (λ e. use_passes f us j c (and_right _ _ all) (rw e at held))
 
 -- an item that x uses up is held by no option that stays

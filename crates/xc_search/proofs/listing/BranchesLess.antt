@@ -48,8 +48,7 @@ branches_less r w e =
     let n = branch_count r w in
     let fewer = less_items w r.items (least_is_one _ _ _ e) in
     let none_less = length-filter-le (λ o. not (holds o w.item)) r.options in
-    each-append _ _ _
-    (each-map _ (take_branch r w.item n) _
+    each-append _ _ _ (each-map _ (take_branch r w.item n) _
     (each-numbered (λ x. size_of (pick r w.item x) < size_of r) n 1 (holding w.item r.options) (picks_less r w.item)))
     (by_bool (eqb w.low 0) (λ h. rw h (omega (arith, fewer, none_less), tt)) (λ h. rw h tt))
 

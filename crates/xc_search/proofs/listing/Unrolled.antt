@@ -28,7 +28,6 @@ by_members P last next = by_branches (λ r. (m : List Choice) → IsIn (listing 
     (λ r e m h. elim (subst (λ ms. IsIn ms m) (listing_at r None e) h) [
       | inl q ↦ subst (P r) q (last r e)
       | inr q ↦ absurd q
-    ])
-    (λ r w e later m h.
+    ]) (λ r w e later m h.
     let at = in-level listing w r m (subst (λ ms. IsIn ms m) (listing_at r (Some w) e) h) in
     subst (P r) at.4 (next r w at.0 at.1 e (in-branches r w at.0 at.2) at.3 (later at.0 at.2 at.1 at.3)))

@@ -106,20 +106,16 @@ spent_none p t i = ap (λ r. none r i) (residual_spend p t i) ∙ as_residual _ 
 
 pub none_taken : (p : Puzzle) (t : List Move) (i m : ℕ) → IsNode p t i →
     residual_of p (after_none i (tweaked m i (after_spend p i t))) ≡ none (residual_of p t) i
-none_taken p t i m n = by_bool (eqb (high_at p i - spends i (Spend i ∷ t)) 0)
-    (λ c.
+none_taken p t i m n = by_bool (eqb (high_at p i - spends i (Spend i ∷ t)) 0) (λ c.
     let s : List Move = Cover i ∷ Spend i ∷ t in
     let shut : is_open i s ≡ false = rw (eq-eqb i i refl) refl in
     rw (c, kept_tweaked (is_open i) m i s (λ _. refl) ∙ shut)
     (as_residual _ _ _ _ (kept_tweaked (wanted_after p) m i s (λ _. refl)) (left_closed p m i s shut)
-    ∙ residual_cover p (Spend i ∷ t) i ∙ spent_none p t i))
-    (λ c.
-    let s : List Move = Spend i ∷ t in
-    rw (c, kept_tweaked (is_open i) m i s (λ _. refl) ∙ n.is_open)
+    ∙ residual_cover p (Spend i ∷ t) i ∙ spent_none p t i)) (λ c.
+    let s : List Move = Spend i ∷ t in rw (c, kept_tweaked (is_open i) m i s (λ _. refl) ∙ n.is_open)
     (residual_cover p (tweaked m i s) i
     ∙ as_residual _ _ _ _ (ap (filter (λ w. not (eqb w.item i))) (kept_tweaked (wanted_after p) m i s (λ _. refl)))
-    (ap (filter (λ o. not (holds o i))) (left_off p m i s n.is_open) ∙ off_others i m (left p s))
-    ∙ spent_none p t i))
+    (ap (filter (λ o. not (holds o i))) (left_off p m i s n.is_open) ∙ off_others i m (left p s)) ∙ spent_none p t i))
 
 pub legal_after_none : (p : Puzzle) (i : ℕ) (t : List Move) → IsItem p i → AreLegal p t → AreLegal p (after_none i t)
 legal_after_none p i t h l = grind (arith, common_steps)

@@ -82,8 +82,7 @@ off_more i (suc m) (o ∷ os) = grind (arith, common_steps, off_more i m os, off
 off_up_to : (i m n : ℕ) (os : List Numbered) (x : Numbered) → NumbersRise n os → slice_get (holding i os) m ≡ Some x
     → off i (suc m) os ≡ filter (λ o. not (holds o i && nat_le o.number x.number)) os
 off_up_to i m n [] x r e = cc
-off_up_to i m n (o ∷ os) x r e = by_bool (holds o i)
-    (λ h. by_number m
+off_up_to i m n (o ∷ os) x r e = by_bool (holds o i) (λ h. by_number m
     (λ z. let same : o ≡ x = grind (arith, h, e, z) in
     let later = keep_all (λ y. not (holds y i && nat_le y.number x.number)) os (each_from _ os (λ y k.
     grind (arith, common_steps, above_in o.number os y r.1 k, lt-leb))) in
@@ -133,20 +132,16 @@ branch_cut p u t k m x n e h =
     let found = found_wanted p t i n.item n.is_open in
     let commits =
     opening_commits p u t n.searchable.wanted n.item n.is_open (has_left p t i n.searchable.wanted n.item n.is_open) in
-    by_bool (eqb (high_at p i - spends i (Spend i ∷ t)) 0)
-    (λ c.
+    by_bool (eqb (high_at p i - spends i (Spend i ∷ t)) 0) (λ c.
     let not_more = le-ltb 1 left_over (omega (arith, eqb-true _ _ c, spent_self i t)) in
     let s : List Move = Cover i ∷ Spend i ∷ t in
     rw c (as_residual _ _ _ _ (kept_tweaked (wanted_after p) m i s (λ _. refl))
-    (left_closed p m i s (rw (eq-eqb i i refl) refl)) ∙ (rw c at commits)
-    ∙ as_residual _ _ _ _ refl
+    (left_closed p m i s (rw (eq-eqb i i refl) refl)) ∙ (rw c at commits) ∙ as_residual _ _ _ _ refl
     (filter_agree stay (λ o. above o && stay o) (λ o. rw (found, not_more)
-    (sym (only_rest (holds o i) (nat_le o.number x.number)))) (left p t)
-    ∙ sym (filter_both stay above (left p t)))))
+    (sym (only_rest (holds o i) (nat_le o.number x.number)))) (left p t) ∙ sym (filter_both stay above (left p t)))))
     (λ c.
     let is_more = lt-ltb 1 left_over (omega (arith, eqb-false _ _ c, spent_self i t)) in
-    let s : List Move = Spend i ∷ t in
-    rw (c, h (eqb-false _ _ c)) (as_residual _ _ _ _
+    let s : List Move = Spend i ∷ t in rw (c, h (eqb-false _ _ c)) (as_residual _ _ _ _
     (kept_tweaked (wanted_after p) (suc k) i s (λ _. refl) ∙ ap (λ (r : Residual). r.items) (rw c at commits))
     (left_off p (suc k) i s n.is_open ∙ off_up_to i k 0 (left p s) x (left_rises p s) e
     ∙ sym (keep_all stay (filter above (left p t))

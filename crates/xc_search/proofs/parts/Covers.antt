@@ -80,8 +80,7 @@ module _ (p : Puzzle) (v : IsValid p) (i : ℕ) (once : IsHeldOnce p i) where
   same_one x y s c h k a b =
       let one = the_one s c in
       let of_x = of_item p i x (in-contains _ _ h) in
-      let of_y = of_item p i y (in-contains _ _ k) in
-      grind (arith, common_steps, same_number, options_rise p)
+      let of_y = of_item p i y (in-contains _ _ k) in grind (arith, common_steps, same_number, options_rise p)
 
   as_cover : {x : Numbered} {s : List ℕ} → IsPartCover p i x s → IsCover p s
   as_cover {x} h = subst (IsCover p) (sym h.3) (cover_of_problem p i x h.1 h.2)

@@ -54,8 +54,7 @@ uses_back i (u ∷ us) h a = grind (arith, common_steps, nat_tests, uses_back i 
 
 options_back : (i k : ℕ) (g : ℕ → ℕ) (os : List Numbered) → 1 ≤ i
     → ((j : ℕ) (o : Numbered) → slice_get os j ≡ Some o → g (k + suc j) ≡ o.number)
-    → AllByRecursion (λ o. AllByRecursion (λ u. 1 ≤ u.item) o.uses) os →
-    map (renumber_option (front_item i) g)
+    → AllByRecursion (λ o. AllByRecursion (λ u. 1 ≤ u.item) o.uses) os → map (renumber_option (front_item i) g)
     (numbered_from (k + 1) (map (λ o. map (renumber_use (front_number i)) o.uses) os)) ≡ os
 options_back i k g [] h numbers a = refl
 options_back i k g (o ∷ os) h numbers a =

@@ -114,8 +114,7 @@ pub parts_in_order : (p : Puzzle) → IsValid p → (w : Wanted) → branch_item
 parts_in_order p v w e once =
     let hs = holding w.item (numbered_options p) in
     let wanted = branch_item-in (whole p) w e in
-    listing_at (whole p) (Some w) e
-    ∙ ap (flat_map (behind listing)) (all_branches p w (held_once p w wanted once).0)
+    listing_at (whole p) (Some w) e ∙ ap (flat_map (behind listing)) (all_branches p w (held_once p w wanted once).0)
     ∙ flat_map-map (behind listing) (take_branch (whole p) w.item (length hs)) (enumerate_from 1 hs)
     ∙ flat_map-same _ _ (enumerate_from 1 hs) (each_from _ (enumerate_from 1 hs) (λ kx h.
     part_listed p v w wanted once kx.1 (in-enumerated 1 hs kx h) kx.0 (length hs)))

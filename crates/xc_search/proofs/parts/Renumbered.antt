@@ -1,7 +1,7 @@
 -- The listing is the same under other numbers, level by level.
 use Rattle.std.proofs.lemmas.Grind.{common_steps}
 use Rattle.xc_dance.specs.Moves.{agrees}
-use Rattle.std.proofs.Common.{ℕ, ◌≡◌, ◌+◌, ◌||◌, eqb, List, [], ◌∷◌}
+use Rattle.std.proofs.Common.{ℕ, ◌≡◌, ◌+◌, eqb, List, [], ◌∷◌}
 use Rattle.std.proofs.Common.{map, find, Option, Some, None, refl, sym, ap, ◌∙◌, arith}
 use Rattle.std.proofs.Common.{inl, inr}
 use Rattle.std.specs.Prelude.{nat_lt, nat_le, flat_map, option_map}
@@ -86,8 +86,7 @@ module _ (f g : ℕ → ℕ) (apart : AreKeptApart f) where
 
   same_pick : (r : Residual) (i : ℕ) (x : Numbered) → InOrder r.options → IsIn r.options x
       → pick (renumber f g r) (f i) (renumber_option f g x) ≡ renumber f g (pick r i x)
-  same_pick r i x order h = as_residual _ _ _ _
-      (simp (map-map, filter-map, same_spend x))
+  same_pick r i x order h = as_residual _ _ _ _ (simp (map-map, filter-map, same_spend x))
       (grind (arith, common_steps, filter-map, goes_on, filter_same, each_from, same_colour, same_stays))
 
   same_none : (r : Residual) (i : ℕ) → none (renumber f g r) (f i) ≡ renumber f g (none r i)
@@ -126,11 +125,9 @@ module _ (f g : ℕ → ℕ) (apart : AreKeptApart f) where
   same_listing = by_branches
       (λ r. InOrder r.options → listing (renumber f g r) ≡ map (map (renumber_choice f g)) (listing r))
       (λ r e order. listing_at (renumber f g r) None (same_branch_item r ∙ ap (option_map (renumber_item f)) e)
-      ∙ sym (ap (map (map (renumber_choice f g))) (listing_at r None e)))
-      (λ r w e later order.
+      ∙ sym (ap (map (map (renumber_choice f g))) (listing_at r None e))) (λ r w e later order.
       listing_at (renumber f g r) (Some (renumber_item f w)) (same_branch_item r ∙ ap (option_map (renumber_item f)) e)
-      ∙ ap (flat_map (behind listing)) (same_branches r w order)
-      ∙ same_behind listing (branches_of r w) (λ b h.
+      ∙ ap (flat_map (behind listing)) (same_branches r w order) ∙ same_behind listing (branches_of r w) (λ b h.
       let of = in-branches r w b h in
       later b h (λ x y j k. order x y (left_before of x j) (left_before of y k)))
       ∙ sym (ap (map (map (renumber_choice f g))) (listing_at r (Some w) e)))

@@ -21,8 +21,7 @@ spent_once : (p : Puzzle) (t : List Move) (j i : ℕ) → wanted_at p (Spend j �
 spent_once p t j i = grind (arith, common_steps)
 
 -- one Spend lowers the bounds of its item
-pub residual_spend : (p : Puzzle) (t : List Move) (j : ℕ)
-    → residual_of p (Spend j ∷ t) ≡
+pub residual_spend : (p : Puzzle) (t : List Move) (j : ℕ) → residual_of p (Spend j ∷ t) ≡
     (let r : Residual = record { items = map (dec j) (wanted_after p t); options = left p t } in r)
 residual_spend p t j = grind (arith, common_steps, as_residual, map-same, spent_once, map-map)
 
@@ -43,15 +42,13 @@ secondary_items : (p : Puzzle) (t : List Move) (j : ℕ) → primary_count p < j
 secondary_items p t j h = grind (arith, common_steps, filter_same, each_weaker, ne_eqb, in_range)
 
 -- a Purify takes the options that give its item another colour or none
-pub residual_purify : (p : Puzzle) (t : List Move) (j c : ℕ) → primary_count p < j →
-    residual_of p (Purify j c ∷ t) ≡
+pub residual_purify : (p : Puzzle) (t : List Move) (j c : ℕ) → primary_count p < j → residual_of p (Purify j c ∷ t) ≡
     (let r : Residual =
     record { items = wanted_after p t; options = filter (λ o. agrees c (colour_at o j)) (left p t) } in r)
 residual_purify p t j c h = as_residual _ _ _ _ (ap (map (wanted_at p t)) (secondary_items p t j h)) refl
 
 -- a Cover of a secondary item takes the options that hold it
 pub residual_cover_secondary : (p : Puzzle) (t : List Move) (j : ℕ) → primary_count p < j →
-    residual_of p (Cover j ∷ t) ≡
-    (let r : Residual =
+    residual_of p (Cover j ∷ t) ≡ (let r : Residual =
     record { items = wanted_after p t; options = filter (λ o. not (holds o j)) (left p t) } in r)
 residual_cover_secondary p t j h = as_residual _ _ _ _ (ap (map (wanted_at p t)) (secondary_items p t j h)) refl

@@ -79,8 +79,7 @@ ready_use : (p : Puzzle) (t : List Move) (x : Numbered) (u : Use) → AreLegal p
 ready_use p t x u l a f s e = by_bool (leb u.item (primary_count p))
     (λ h. grind (arith, common_steps, leb-true, open_if, not_covered, primary_pure, has_left))
     (λ h. let second : IsSecondary p u.item = (leb-false _ _ h, s.0.1) in
-    by_option (purified u.item t)
-    (λ i. secondary second (open_if u.item t (not_covered t x u f e) i))
+    by_option (purified u.item t) (λ i. secondary second (open_if u.item t (not_covered t x u f e) i))
     (λ d i. let same = agree_colour d u.colour (subst (λ o. agrees d o ≡ true) e (f.agreeing u.item d i)) in
     same_colour second same.1 (closed_if u.item d t i) (i ∙ ap Some same.0)))
 

@@ -77,8 +77,7 @@ left_same j k (w ∷ ws) e h = grind (arith, common_steps, left_same j k ws e h.
 stay_same : (u : Use) (us : List Use) (r : Residual) (o : Numbered) → AllByRecursion (λ v. eqb u.item v.item ≡ false) us
     → AreAllWanted r.items → all_stay (commit_use u r) us o ≡ all_stay r us o
 stay_same u [] r o a h = refl
-stay_same u (v ∷ us) r o a h =
-    rw (left_same u.item v.item r.items a.0 h, stay_same u us r o a.1 h) refl
+stay_same u (v ∷ us) r o a h = rw (left_same u.item v.item r.items a.0 h, stay_same u us r o a.1 h) refl
 
 pub as_residual : (a b : List Wanted) (c d : List Numbered) → a ≡ b → c ≡ d
     → ◌≡◌ {A = Residual} (record { items = a; options = c }) (record { items = b; options = d })

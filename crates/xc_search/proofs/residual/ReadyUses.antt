@@ -98,21 +98,16 @@ opening_commits p u t a h o k =
     let found = found_wanted p t u.item h o in
     let stay = may_stay (item_left (residual_of p t) u.item) u in
     let left_over = high_at p u.item - spends u.item t in
-    by_bool (eqb (high_at p u.item - spends u.item (Spend u.item ∷ t)) 0)
-    (λ e.
+    by_bool (eqb (high_at p u.item - spends u.item (Spend u.item ∷ t)) 0) (λ e.
     let last : left_over ≡ 1 = omega (arith, eqb-true _ _ e, spent_self u.item t, k) in
-    let not_more : nat_lt 1 left_over ≡ false = le-ltb 1 left_over (omega (arith, last)) in
-    rw e
+    let not_more : nat_lt 1 left_over ≡ false = le-ltb 1 left_over (omega (arith, last)) in rw e
     (residual_cover p (Spend u.item ∷ t) u.item ∙ ap (λ r. none r u.item) (residual_spend p t u.item)
     ∙ as_residual _ _ _ _
     (filter_same _ _ _ (each-map _ (dec u.item) (wanted_after p t) (each_both _ _ _ (wanted_after p t)
     (λ w z i. covered_item p t u.item w z i last) (as_spent p t) a)))
-    (filter_agree _ stay (λ x. rw (found, not_more) refl) (left p t))))
-    (λ e.
+    (filter_agree _ stay (λ x. rw (found, not_more) refl) (left p t)))) (λ e.
     let more : 1 < left_over = omega (arith, eqb-false _ _ e, spent_self u.item t, k) in
-    let is_more : nat_lt 1 left_over ≡ true = lt-ltb 1 left_over more in
-    rw e
-    (residual_spend p t u.item
+    let is_more : nat_lt 1 left_over ≡ true = lt-ltb 1 left_over more in rw e (residual_spend p t u.item
     ∙ as_residual _ _ _ _
     (sym (keep_all is_wanted _ (grind (arith, common_steps, each-map, each_both, kept_item, as_spent))))
     (sym (keep_all stay (left p t) (each_of_all _ (left p t) (λ x. rw (found, is_more) refl))))))
@@ -133,8 +128,7 @@ commit_one p u t a (primary h o k) = rw (le-leb u.item (primary_count p) h.1) (o
 commit_one p u t a (secondary h o) = rw (lt-leb u.item (primary_count p) h.0) (by_bool (eqb u.colour 0)
     (λ c. rw c (residual_cover_secondary p t u.item h.0
     ∙ as_residual _ _ _ _ refl (grind (arith, common_steps, filter_agree, by_option, eqb-true, left))))
-    (λ c. rw (c, o) (residual_purify p t u.item u.colour h.0))
-    ∙ secondary_commits p u t a h.0)
+    (λ c. rw (c, o) (residual_purify p t u.item u.colour h.0)) ∙ secondary_commits p u t a h.0)
 commit_one p u t a (same_colour h c o q) =
     let colour : eqb u.colour 0 ≡ false = ne_eqb u.colour 0 (λ e. omega (arith, c, e)) in
     rw (lt-leb u.item (primary_count p) h.0, colour, o)

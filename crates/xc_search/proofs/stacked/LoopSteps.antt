@@ -1,6 +1,6 @@
 -- The steps of the search's loop.
 use Rattle.std.proofs.lemmas.Grind.{common_steps}
-use Rattle.std.proofs.Common.{ℕ, ◌≡◌, ◌+◌, ◌-◌, ◌<◌, ◌≤◌, Bool, true, false, List, ◌∷◌, length, drop, length-drop, refl}
+use Rattle.std.proofs.Common.{ℕ, ◌≡◌, ◌+◌, ◌<◌, ◌≤◌, Bool, true, false, List, ◌∷◌, length, drop, length-drop, refl}
 use Rattle.std.proofs.Common.{Some, sym, ap, ◌∙◌, arith, subst, ap₂}
 use Rattle.xc_dance.specs.declared.dance.Move.{Move}
 use Rattle.xc_search.specs.declared.level.Level.{Level}
@@ -139,5 +139,4 @@ back_at p t r l ls stacked er = grind (arith, common_steps, returned p t l ls st
 pub under_tweaks : (p : Puzzle) (t : List Move) (l : Level) (ls : List Level) → AreStacked p t (l ∷ ls)
     → oldest l.mark (drop l.tweaks (oldest l.base t)) ≡ oldest l.mark t
 under_tweaks p t l ls stacked =
-    let u = oldest l.base t in
-    grind (arith, common_steps, back_at p t u l ls stacked refl, length-drop l.tweaks u)
+    let u = oldest l.base t in grind (arith, common_steps, back_at p t u l ls stacked refl, length-drop l.tweaks u)

@@ -1,8 +1,8 @@
 -- What one step of the search does to the levels.
 use Rattle.std.proofs.lemmas.Grind.{common_steps}
-use Rattle.std.proofs.Common.{ℕ, zero, suc, ◌≡◌, ◌+◌, ◌-◌, ◌<◌, ◌≤◌, true, List, [], ◌∷◌, ◌++◌}
+use Rattle.std.proofs.Common.{ℕ, zero, suc, ◌≡◌, ◌-◌, ◌<◌, ◌≤◌, true, List, [], ◌∷◌, ◌++◌}
 use Rattle.std.proofs.Common.{length, map, drop, Some, None, refl, sym, ap, ◌∙◌, arith}
-use Rattle.std.proofs.Common.{eq-eqb, ◌≢◌, length-drop}
+use Rattle.std.proofs.Common.{eq-eqb, length-drop}
 use Rattle.std.specs.Prelude.{flat_map, unwrap_or}
 use Rattle.std.specs.List.{range_with_len}
 use Rattle.xc_input.specs.declared.problem.Use.{Use}
@@ -107,8 +107,7 @@ chosen_item p t i n l e =
     (sym (choice_is_branch_item p t l) ∙ e) in
     let at = in-map (wanted_at p t) (open_items p t) found.0 (least_is_one _ _ _ found.1) in
     let one = in-filter (λ i. is_open i t) (range_with_len 1 (primary_count p)) at.0 at.1 in
-    let within = each_in _ _ at.0 (in_range 1 (primary_count p)) one.0 in
-    grind (arith, common_steps)
+    let within = each_in _ _ at.0 (in_range 1 (primary_count p)) one.0 in grind (arith, common_steps)
 
 -- ---- what is left is searched
 

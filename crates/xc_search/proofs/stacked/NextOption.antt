@@ -44,8 +44,7 @@ above_last n (o ∷ os) zero r h = grind (arith, common_steps, lt-ltb)
 above_last n (o ∷ os) (suc zero) r h = grind (arith, common_steps, above_last o.number os 0 r.1, le-ltb)
 above_last n (o ∷ os) (suc (suc k)) r h = grind (arith, le-ltb, not_some, above_last o.number os (suc k) r.1)
 
-last_in : (os : List Numbered) (k : ℕ)
-    → (last_number 0 os k ≡ 0) ⊎ Contains (map number_of os) (last_number 0 os k)
+last_in : (os : List Numbered) (k : ℕ) → (last_number 0 os k ≡ 0) ⊎ Contains (map number_of os) (last_number 0 os k)
 last_in os zero = inl refl
 last_in os (suc k) = by_option (slice_get os k) (λ e. rw e (inl refl))
     (λ x e. rw e (inr (contains-in _ _ (map-in number_of os x (in-slice_get os k x e)))))
@@ -72,14 +71,12 @@ seeking {p} {t} {l} may q is =
     let rises = NumbersRise-filter (λ o. holds o l.item) 0 (left p u) (left_rises p u) in
     let few : l.begun ≤ length os = omega (arith, level.count, may.more) in
     let list : listed p t l.item ≡ drop l.tweaks os = grind (arith, common_steps, oldest_all, listed_branch) in
-    by_bool l.walks
-    (λ c. let all : listed p t l.item ≡ os = grind (arith, common_steps, list, level.tweaks) in
+    by_bool l.walks (λ c. let all : listed p t l.item ≡ os = grind (arith, common_steps, list, level.tweaks) in
     record {
       x = last_number 0 os l.begun;
       listed = grind (arith, common_steps, last_in os l.begun);
       next = rw all (above_last 0 os l.begun rises few).1;
-    })
-    (λ c. let rest : listed p t l.item ≡ drop l.begun os = grind (arith, common_steps, list, level.tweaks) in
+    }) (λ c. let rest : listed p t l.item ≡ drop l.begun os = grind (arith, common_steps, list, level.tweaks) in
     record {
       x = 0;
       listed = record { listed = inl refl; at = is ∙ ap (λ b. cond b l.place l.item) c };

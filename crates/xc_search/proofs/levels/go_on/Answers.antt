@@ -18,8 +18,7 @@ falls g c = grind (arith, common_steps, solution)
 
 pub returns-in-Some-clause-entered : goal.returns-in-Some-clause-entered
 returns-in-Some-clause-entered g c b is =
-    let same : c.in-Some.entered ≡ b = cc is in
-    rw (← same)
+    let same : c.in-Some.entered ≡ b = cc is in rw (← same)
     (enters_back (falls g (goal.at.returns-in-Some-clause-entered g c).Joined-deepen) c.in-Some.ensures.resumed)
 
 pub returns-in-None-clause-done : goal.returns-in-None-clause-done

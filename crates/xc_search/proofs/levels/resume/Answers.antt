@@ -14,8 +14,7 @@ use Rattle.xc_search.proofs.stacked.LoopSteps.{enters_next}
 pub loop-level-init : goal.loop-level-init
 loop-level-init g c = grind (arith, common_steps)
 
-stacked : (g : _) (c : In-Some g)
-    → AreStacked c.loop-level.position.puzzle c.loop-level.position.trail
+stacked : (g : _) (c : In-Some g) → AreStacked c.loop-level.position.puzzle c.loop-level.position.trail
     (c.in-Some.level.now ∷ drop 1 c.loop-level.stack.levels)
 stacked g c = grind (arith, common_steps)
 
