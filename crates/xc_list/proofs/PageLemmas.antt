@@ -40,8 +40,7 @@ pub then_puts : {a b c : SinkState} {x y z t u : List ℕ} → Puts a b x y t �
 then_puts {x = x} {y = y} {z = z} {t = t} {u = u} p q = record {
   front = p.front ++ q.front;
   took = then_took p.took q.took;
-  whole =
-      cc (append_assoc x t u, p.whole, append_assoc p.front y u, q.whole, append_assoc p.front q.front z);
+  whole = cc (append_assoc x t u, p.whole, append_assoc p.front y u, q.whole, append_assoc p.front q.front z);
 }
 
 -- the sink broke off in what was held with a text behind it

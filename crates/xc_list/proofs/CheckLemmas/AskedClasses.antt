@@ -44,8 +44,7 @@ IsAsked p reps r = count_by (alike p r) reps ≤ count_by (alike p r) (numbers p
 module _ (b : Classes) (are : AreClasses b.problem.puzzle b.classes) (ks reps : List ℕ)
     (z : AllZip (IsOfClass b) ks reps) where
   -- a class is asked as often as its options stand among those taken
-  asked-at : (k o : ℕ) → IsOfClass b k o
-      → get_or (asked_after b ks) k 0 ≡ counted (alike b.problem.puzzle o) reps
+  asked-at : (k o : ℕ) → IsOfClass b k o → get_or (asked_after b ks) k 0 ≡ counted (alike b.problem.puzzle o) reps
   asked-at k o g =
       let zeros : List ℕ = replicate (length b.classes) 0 in
       let l : k < length b.classes = slice_get_within b.classes k (class_at b.problem.puzzle o) g.1 in

@@ -44,13 +44,11 @@ options_of b bodies chosen classes =
 
 -- the verdict by classes
 pub closed : (s : Progress) (number : ℕ) (chosen : List ℕ) (cover : Bool) (verdicts : List Verdict)
-    → IsIndexed s.options → chosen ≡ s.chosen
-    → ((reps : List ℕ) → AllZip (IsOfClass s.options) chosen reps
+    → IsIndexed s.options → chosen ≡ s.chosen → ((reps : List ℕ) → AllZip (IsOfClass s.options) chosen reps
     → (IsTrue cover ↔ IsCoverOfClasses s.options.problem.puzzle reps)) → s.open_number ≡ Some number
     → verdicts ≡ s.verdicts ++ record { number = number; cover = cover } ∷ []
     → Closes s (record s { verdicts = verdicts })
-closed s number chosen cover verdicts indexed same decided e f =
-    grind (arith, options_of, classes_decide, append-nil)
+closed s number chosen cover verdicts indexed same decided e f = grind (arith, options_of, classes_decide, append-nil)
 
 abbrev pub progress : Classes → Option ℕ → List ℕ → List Verdict → Progress
 progress b number chosen verdicts = record { options = b; open_number = number; chosen = chosen; verdicts = verdicts }
@@ -90,8 +88,7 @@ no_fault-at : (p : Named) (done : ℕ) (line : List ℕ) (rest : List (List ℕ)
     → fault_in_lines p done (line ∷ rest) ≡ fault_in_lines p (done + 1) rest
 no_fault-at p done line rest said e f = cc (lines-cons p done line rest, e, f)
 
-pub header_taken : (s new : Progress) (number : ℕ) → Closes s new
-    → Takes (Header number) s
+pub header_taken : (s new : Progress) (number : ℕ) → Closes s new → Takes (Header number) s
     (record { options = s.options; open_number = Some number; chosen = []; verdicts = new.verdicts })
 header_taken s new number closes all done line rest e h =
     grind (arith, not-first, empty-append, append_assoc, AllZip-append, no_fault-at)
@@ -104,8 +101,7 @@ body_taken s words chosen some good more all done line rest e h = grind (arith, 
 
 pub class_taken : (s : Progress) (words : List (List ℕ)) (k : ℕ) (chosen : List ℕ)
     → AreClasses s.options.problem.puzzle s.options.classes → IsClassOfBody s.options words (Some k)
-    → is_some s.open_number ≡ true → chosen ≡ s.chosen ++ k ∷ []
-    → Takes (Body words) s (record s { chosen = chosen })
+    → is_some s.open_number ≡ true → chosen ≡ s.chosen ++ k ∷ [] → Takes (Body words) s (record s { chosen = chosen })
 class_taken s words k chosen classes h some e =
     let p = s.options.problem in
     let o = option_of s.options k classes h.0 in

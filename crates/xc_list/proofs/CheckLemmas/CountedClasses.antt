@@ -72,8 +72,7 @@ lowered_last (j ∷ ks) ns k = grind (arith, cases_eq, set_comm, set-set, lowere
 
 lowered_raised : (ks ns : List ℕ) → lowered ks (raised ks ns) ≡ lowered ks ns
 lowered_raised [] ns = refl
-lowered_raised (k ∷ ks) ns =
-    grind (arith, set-set, lowered_last, lowered_raised ks (set ns k (get_or ns k 0 + 1)))
+lowered_raised (k ∷ ks) ns = grind (arith, set-set, lowered_last, lowered_raised ks (set ns k (get_or ns k 0 + 1)))
 
 lowered_zeros : (ks ns : List ℕ) → ((k : ℕ) → get_or ns k 0 ≡ 0) → lowered ks ns ≡ ns
 lowered_zeros [] ns zeros = refl

@@ -62,8 +62,7 @@ pub one_place : {X : Type 0} (xs : List X) (j k : ℕ) (x : X) → AllPairs (λ 
 one_place xs j k x apart e f =
     let same = get_or_from_slice_get xs j x x e ∙ sym (get_or_from_slice_get xs k x x f) in
     let before = apart j k x in
-    let behind = apart k j x in
-    grind (arith, cases_lt j k, cases_lt k j, slice_get_within)
+    let behind = apart k j x in grind (arith, cases_lt j k, cases_lt k j, slice_get_within)
 
 pub one_number : {X : Type 0} (xs : List X) (i j : ℕ) (x : X) → AllPairs (λ a b. a ≢ b) xs → numbered_get xs i ≡ Some x
     → numbered_get xs j ≡ Some x → i ≡ j

@@ -77,8 +77,7 @@ read-none p body text word words us r e h vs have =
     h at.0 (All-contains (IsKnownUse p) vs at.0 have.known (contains-in vs at.0 at.1)) at.2
 
 -- a cut gives a first word
-pub first_word : (text word : List ℕ) (rest : Option (Bor (List ℕ)))
-    → MatchOption rest (words_in text ≡ word ∷ [])
+pub first_word : (text word : List ℕ) (rest : Option (Bor (List ℕ))) → MatchOption rest (words_in text ≡ word ∷ [])
     (λ r. (words_in text ≡ word ∷ words_in r.now) × (length r.now < length text)) → (words : List (List ℕ))
     × (words_in text ≡ word ∷ words)
 first_word text word None h = ([], h)

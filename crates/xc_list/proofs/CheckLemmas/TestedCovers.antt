@@ -84,8 +84,7 @@ cover_from_tests p s known apart held all = record {
   known = known;
   distinct = apart;
   within = λ i b e. within i b e;
-  agree = λ a b i c d in_a in_b second other e f.
-      agreed p a b i c d (passes-at (do_agree p a) s b
+  agree = λ a b i c d in_a in_b second other e f. agreed p a b i c d (passes-at (do_agree p a) s b
       (passes-at (λ a. list_all (do_agree p a) s) s a all (in-contains s a in_a)) (in-contains s b in_b)) second
       other e f;
 }

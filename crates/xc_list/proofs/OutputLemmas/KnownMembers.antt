@@ -92,8 +92,7 @@ counted_to p = by_branches (λ r. IsKnownResidual p r → (m : List Choice) → 
     (λ r e known m h. elim (subst (λ ms. IsIn ms m) (listing_at r None e) h) [
       | inl q ↦ subst (AreCounted p) q tt
       | inr q ↦ absurd q
-    ])
-    (λ r w e later known m h.
+    ]) (λ r w e later known m h.
     let at = in-level listing w r m (subst (λ ms. IsIn ms m) (listing_at r (Some w) e) h) in
     let b = branch_known p r w at.0 known (known.items w (branch_item-in r w e)) at.2 in
     subst (AreCounted p) at.4 (b.0, later at.0 at.2 b.1 at.1 at.3))

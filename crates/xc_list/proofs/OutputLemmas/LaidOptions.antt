@@ -105,8 +105,7 @@ module _ (a : Named) (item : ℕ) (us : List Use) (texts : List ℕ) (from count
 
 -- the item of an option's first use, as it was read
 pub first_read : (os : List (List Use)) (firsts : List ℕ) (o x : ℕ) → firsts ≡ map first_item os
-    → (1 ≤ o) × (o ≤ length os) → x ≡ get_or firsts (o - 1) x
-    → first_item (unwrap_or (numbered_get os o) []) ≡ x
+    → (1 ≤ o) × (o ≤ length os) → x ≡ get_or firsts (o - 1) x → first_item (unwrap_or (numbered_get os o) []) ≡ x
 first_read os firsts o x e known at =
     let there = numbered_get-at (map first_item os) o (o - 1) (omega (arith, known.0)) in
     let stands = sym there ∙ numbered-map first_item os o known in

@@ -43,7 +43,6 @@ returns-in_ok-push-in-None c =
     let all = new-uses _ _ _ _ (sym c.in-None.ensures.index)
     (c.in_ok-from_slice-in-None.ensures.items ∙ c.as_slice-in-None.ensures.value ∙ sym c.as_slice.ensures.value)
     c.in_ok-insert-in-None.ensures.keys in
-    rw (add-one o)
-    (classes-new p o _ _ _ _ c.requires.before
+    rw (add-one o) (classes-new p o _ _ _ _ c.requires.before
     (λ h. lost-key _ keys (sym c.in-None.ensures.index) (subst (IsIn (key_uses keys)) (sym is) h))
     (all ∙ ap (λ x. key_uses keys ++ x ∷ []) is) c.in_ok-push-in-None.ensures.items)

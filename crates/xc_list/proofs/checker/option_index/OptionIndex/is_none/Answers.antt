@@ -8,8 +8,7 @@ use Rattle.xc_list.proofs.checker.option_index.OptionIndex.is_none.Goals as goal
 
 -- what a cut says where something is left
 cut-some : {text : Bor (List ℕ)} (same word : Bor (List ℕ)) (rest : Option (Bor (List ℕ))) (left : Bor (List ℕ))
-    → text ≡ same → rest ≡ Some left
-    → MatchOption rest (words_in text.now ≡ word.now ∷ [])
+    → text ≡ same → rest ≡ Some left → MatchOption rest (words_in text.now ≡ word.now ∷ [])
     (λ r. (words_in text.now ≡ word.now ∷ words_in r.now) × (length r.now < length text.now))
     → words_in same.now ≡ word.now ∷ words_in left.now
 cut-some {text} same word rest left q e h = grind (arith, common_steps)
