@@ -17,7 +17,7 @@ use Rattle.std.proofs.lemmas.Bool.{and_parts}
 use Rattle.xc_input.specs.Problem.{Puzzle, item_count}
 use Rattle.xc_dance.specs.declared.dance.Move.{Move}
 use Rattle.xc_dance.specs.Moves.{listed, listed_numbers, is_open, AreLegal}
-use Rattle.xc_dance.specs.Fields.{layout, link_place, Node, own, last_of}
+use Rattle.xc_dance.specs.Fields.{layout, link_place, Node, last_of}
 use Rattle.xc_dance.specs.inner.Links.Lines.{Line}
 use Rattle.xc_dance.specs.inner.Links.Steps.{followed, list_of, list_back}
 use Rattle.xc_dance.specs.inner.Links.Cells.{ulink_in, dlink_in, nodes_after, line_of, color_in, nodes_from}

@@ -1,5 +1,5 @@
 -- Cover on the item table: an item leaves its ring and comes back.
-use Rattle.std.proofs.Common.{◌≡◌, ◌≢◌, ℕ, ◌+◌, ◌<◌, ◌≤◌, ◌⊎◌, Bool, true, false, not, cond}
+use Rattle.std.proofs.Common.{◌≡◌, ◌≢◌, ℕ, ◌+◌, ◌<◌, ◌≤◌, Bool, true, false, not, cond}
 use Rattle.std.proofs.Common.{subst, eqb, leb, List, ◌∷◌, map, filter, set, refl, ap, sym}
 use Rattle.std.proofs.Common.{◌∙◌, arith, eq-eqb, ne_eqb, le-leb, leb-true}
 use Rattle.std.proofs.lemmas.Grind.{common_steps}

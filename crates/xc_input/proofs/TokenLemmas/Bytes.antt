@@ -1,7 +1,7 @@
 -- Where a byte stands in a list.
 use Rattle.xc_input.proofs.FaultLemmas.BooleanTests.{by-test}
 use Rattle.std.proofs.lemmas.List.{length-append}
-use Rattle.std.proofs.Common.{filter, zero, ◌^◌, ◌≡◌, ℕ, suc, ◌+◌, ◌<◌, ◌≤◌, List, [], ◌∷◌, ◌++◌, None, Some}
+use Rattle.std.proofs.Common.{filter, zero, ◌≡◌, ℕ, suc, ◌+◌, ◌<◌, ◌≤◌, List, [], ◌∷◌, ◌++◌, None, Some}
 use Rattle.std.proofs.Common.{Bool, length, get_or, take, drop, refl, sym, ap, ◌∙◌, arith, map}
 use Rattle.std.proofs.Common.{nat_eq, position, not, nat_lt, append_assoc, if◌then◌else◌, true, false}
 use Rattle.std.specs.List.{position_or_len, list_all, onto_first, slice_split}

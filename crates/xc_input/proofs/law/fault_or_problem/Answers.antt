@@ -1,6 +1,5 @@
 use Rattle.std.proofs.Common.{arith}
 use Rattle.std.proofs.lemmas.Grind.{common_steps}
-use Rattle.std.proofs.Common.{◌∙◌}
 use Rattle.xc_input.proofs.GrammarLemmas.SheetGrammar.{named_of}
 use Rattle.xc_input.specs.inner.Stages.{stage_of}
 use Rattle.xc_input.proofs.FaultLemmas.FirstFaults.{faultless-stands, stands-only}
