@@ -1,5 +1,7 @@
 -- Words that ask for no parts, and how a run over parts ends.
-use Rattle.std.proofs.Common.{ℕ, ◌≡◌, ◌⊎◌, ◌+◌, ◌-◌, Bool, List, length, take, drop, map, sym, ap}
+use Rattle.std.proofs.lemmas.Grind.{common_steps}
+use Rattle.xc_list.proofs.TextLemmas.{appends_kept}
+use Rattle.std.proofs.Common.{ℕ, ◌≡◌, ◌⊎◌, ◌+◌, ◌-◌, Bool, List, length, take, drop, map, sym}
 use Rattle.std.proofs.Common.{◌∙◌, arith, subst, length-drop, inl, inr}
 use Rattle.std.specs.Prelude.{IsTrue, codes}
 use Rattle.std.specs.Io.KnownBytes.{Keeps}
@@ -11,7 +13,7 @@ use Rattle.xc_list.specs.PartWords.{AskForParts}
 use Rattle.xc_list.specs.Texts.{SinkState, Took, WasTold}
 use Rattle.xc_tools.specs.Parts.{AskForNone, DidListParts}
 use Rattle.xc_tools.specs.Solves.{TookAll}
-use Rattle.xc_tools.proofs.RunLemmas.{took_all, failed_behind}
+use Rattle.xc_tools.proofs.RunLemmas.{failed_behind}
 
 -- the words behind the first
 pub behind_first : {X : Type 0} (words : List X) → take (length words - 1) (drop 1 words) ≡ drop 1 words
@@ -20,10 +22,7 @@ behind_first words = take_all (length words - 1) (drop 1 words) (omega (arith, l
 -- where those behind the first ask for none
 pub none_behind : {X : Type 0} (f : X → List ℕ) (words rest : List X) → rest ≡ drop 1 words →
     ((listed : Bool) (parts : List (List ℕ)) → AskForParts (map f rest) listed parts → ⊥) → AskForNone (map f words)
-none_behind f words rest e none = λ kind listed parts asks.
-    none listed parts
-    (subst (λ ws. AskForParts ws listed parts)
-    (sym (ap (drop 1) asks.all) ∙ drop-map f 1 words ∙ ap (map f) (sym e)) asks.asks)
+none_behind f words rest e none = λ kind listed parts asks. none listed parts (grind (arith, common_steps, drop-map))
 
 -- ---- how a run over parts ends, by the flush behind those that were written
 
@@ -34,11 +33,6 @@ FlushFailed status mid new told told_new = (status ≡ 3) × Rose mid.failures n
 
 module _ {a : Named} {listed : Bool} {old mid : SinkState} (new : SinkState) (kept : Keeps mid.taken new.taken)
     (flushed : new.flushes ≡ mid.flushes + 1) where
-  flushed_parts : {parts : List (List ℕ)} → OfParts a listed parts Took old mid → new.failures ≡ mid.failures
-      → IsTrue new.settled → OfParts a listed parts TookAll old new
-  flushed_parts of same settled =
-      record { plan = of.plan; paths = of.paths; said = took_all new of.said kept flushed same settled }
-
   -- behind so many parts
   unflushed : {parts : List (List ℕ)} {told told_new : SinkState} {status : ℕ} (written : ℕ)
       → OfParts a listed (take written parts) Took old mid → FlushFailed status mid new told told_new
@@ -55,14 +49,13 @@ module _ {a : Named} {listed : Bool} {old mid : SinkState} (new : SinkState) (ke
       → DidListParts listed parts status old new told told_new a)
       → ((status ≡ why) × (new.failures ≡ mid.failures) × IsTrue new.settled × WasTold told told_new text)
       ⊎ FlushFailed status mid new told told_new → DidListParts listed parts status old new told told_new a
-  parts_before written of so (inl h) = so h.0 (flushed_parts of h.1 h.2) h.3
+  parts_before written of so (inl h) = grind (arith, common_steps, appends_kept)
   parts_before written of so (inr h) = unflushed written of h
 
   pub all_parts : {parts : List (List ℕ)} {told told_new : SinkState} {status : ℕ}
-      → OfParts a listed parts Took old mid
-      → ((status ≡ 0) × (new.failures ≡ mid.failures) × IsTrue new.settled)
+      → OfParts a listed parts Took old mid → ((status ≡ 0) × (new.failures ≡ mid.failures) × IsTrue new.settled)
       ⊎ FlushFailed status mid new told told_new → DidListParts listed parts status old new told told_new a
-  all_parts of (inl h) = inl (h.0, flushed_parts of h.1 h.2)
+  all_parts of (inl h) = grind (arith, common_steps, appends_kept)
   all_parts {parts} of (inr h) =
       let whole = take_all (length parts) parts (omega arith) in
       unflushed (length parts) (subst (λ ps. OfParts a listed ps Took old mid) (sym whole) of) h

@@ -1,10 +1,10 @@
 -- What a whole run did, step by step.
+use Rattle.std.proofs.lemmas.Grind.{common_steps}
 use Rattle.xc_list.proofs.Outputs.{stopped_broke}
 use Rattle.std.proofs.Math.Seq.{take-length}
 use Rattle.std.proofs.Common.{◌≡◌, ◌⊎◌, ℕ, ◌+◌, List, [], length, sym, subst, inl, inr, append-nil}
 use Rattle.std.proofs.Common.{arith}
 use Rattle.std.proofs.lemmas.Bool.Decides.{nat_tests}
-use Rattle.std.proofs.KnownBytes.{Keeps-refl}
 use Rattle.std.specs.Prelude.{codes, flat_map, IsTrue}
 use Rattle.std.specs.Io.KnownBytes.{Appends, Keeps}
 use Rattle.xc_input.specs.Calls.{Rose}
@@ -21,7 +21,7 @@ use Rattle.xc_list.specs.Texts.{SinkState, Took, BrokeOff, WasTold, Behind, Begi
 use Rattle.xc_list.proofs.TextLemmas.{appends_kept}
 use Rattle.xc_list.proofs.Writing.{then_took, took_nothing}
 use Rattle.xc_tools.specs.Given.{GaveProblem}
-use Rattle.xc_tools.specs.Solves.{Seen, TookAll, FailedBehind, FailedAt, warning, solution, flush, last_line, IsFailed}
+use Rattle.xc_tools.specs.Solves.{Seen, FailedBehind, FailedAt, warning, solution, flush, last_line, IsFailed}
 use Rattle.xc_tools.specs.Solves.{DidSearch, DidAsAsked}
 
 -- a text was taken, and a flush behind it called
@@ -30,10 +30,6 @@ module _ {old mid : SinkState} {text : List ℕ} (new : SinkState) (took : Took 
   -- it failed
   pub failed_behind : Rose mid.failures new.failures → IsTrue new.failed → FailedBehind old new text
   failed_behind rose last = grind (arith, nat_tests, appends_kept)
-
-  -- it succeeded
-  pub took_all : new.failures ≡ mid.failures → IsTrue new.settled → TookAll old new text
-  took_all same settled = grind (arith, nat_tests, appends_kept)
 
 pub behind_nothing : {old new : SinkState} {text : List ℕ} (says : SinkState → SinkState → List ℕ → Type 0)
     → says old new text → Behind [] says old new text
@@ -48,18 +44,14 @@ pub finished : {a : Named} {w : Words} {old mid told told_new : SinkState} {stat
     × WasTold told told_new (codes "Write failed.\n"))
     ⊎ ((status ≡ 3) × (new.failures ≡ mid.failures) × IsTrue new.settled × BrokeOff told told_new (summary_text end))
     → DidSearch w status old new told told_new a []
-finished new is took kept flushed (inl h) =
-    inl (h.0, record { output = took_all new took kept flushed h.1 h.2; told = rw is at h.3 })
-finished new is took kept flushed (inr (inl h)) =
-    inr (inl (h.0, flush, (failed_behind new took kept flushed h.1 h.2, behind_nothing WasTold h.3)))
-finished new is took kept flushed (inr (inr h)) =
-    inr (inl (h.0, last_line, (took_all new took kept flushed h.1 h.2, behind_nothing BrokeOff (rw is at h.3))))
+finished new is took kept flushed (inl h) = grind (arith, common_steps, appends_kept)
+finished new is took kept flushed (inr (inl h)) = grind (arith, common_steps, failed_behind, behind_nothing)
+finished new is took kept flushed (inr (inr h)) = grind (arith, common_steps, behind_nothing, appends_kept)
 
 -- a text behind the warnings
 behind_more : (says : SinkState → SinkState → List ℕ → Type 0) {old mid : SinkState} (new : SinkState)
     {first : List ℕ} (text : List ℕ) → Took old mid first → Behind [] says mid new text → Behind first says old new text
-behind_more says {old = old} new {first = first} text took h =
-    (h.0, subst (Took old h.0) (append-nil first) (then_took took h.1), h.2)
+behind_more says {old = old} new {first = first} text took h = grind (arith, append-nil, then_took)
 
 module _ (a : Named) (ignored : List ℕ) (w : Words) (x y : SinkState) {old mid : SinkState} (new : SinkState)
     (took : Took old mid (flat_map warning_text ignored)) where
@@ -72,9 +64,7 @@ module _ (a : Named) (ignored : List ℕ) (w : Words) (x y : SinkState) {old mid
   pub behind_warnings : (status : ℕ) → DidSearch w status x y mid new a [] → DidSearch w status x y old new a ignored
   behind_warnings status (inl h) = inl (h.0, record { output = h.1.output; told = then_took took h.1.told })
   behind_warnings status (inr (inl h)) = inr (inl (h.0, h.1, failed_more h.1 h.2))
-  behind_warnings status (inr (inr h)) =
-      let told = behind_more WasTold new (codes "Out of memory.\n") took h.1.told in
-      inr (inr (h.0, record { unwritten = h.1.unwritten; told = told }))
+  behind_warnings status (inr (inr h)) = grind (arith, common_steps, behind_more)
 
 -- ---- what the output took, whatever the status
 
@@ -91,17 +81,10 @@ search_begins a ignored w status x y old new (inr (inl (is, flush, h))) = whole_
 search_begins a ignored w status x y old new (inr (inl (is, last_line, h))) = whole_begins x y _ h.0.whole
 search_begins a ignored w status x y old new (inr (inr h)) = (0, h.1.unwritten.whole)
 
-pub same_keeps : {O : Type 0} (old new : Seen O SinkState) → new ≡ old → Keeps old.state.taken new.state.taken
-same_keeps old new same = subst (λ out. Keeps old.state.taken out.state.taken) (sym same) (Keeps-refl old.state.taken)
-
 pub run_begins : {O : Type 0} (kind : Kind) (w : Words) (status : ℕ) (old new : SourceState) (x y : Seen O SinkState)
     (told told_new : SinkState) → DidAsAsked kind w status old new x y told told_new
     → Keeps x.state.taken y.state.taken
     ⊎ GaveProblem kind (λ a _. Begins x.state y.state (output a w.spacing w.limit)) old new
-run_begins kind w status old new x y told told_new (inl h) = inl (same_keeps x y h.1)
-run_begins kind w status old new x y told told_new (inr g) = inr (record {
-  named = g.named;
-  ignored = g.ignored;
-  gave = g.gave;
-  said = search_begins g.named g.ignored w status x.state y.state told told_new g.said;
-})
+run_begins kind w status old new x y told told_new (inl h) = grind (arith, common_steps)
+run_begins kind w status old new x y told told_new (inr g) =
+    grind (arith, common_steps, search_begins g.named g.ignored w status x.state y.state told told_new g.said)

@@ -1,38 +1,27 @@
 -- What a writer holds, and what is held back from it.
+use Rattle.std.proofs.lemmas.Grind.{common_steps}
 use Rattle.std.proofs.lemmas.Simd.{take_more_put_chunk}
 use Rattle.std.proofs.Math.Seq.{take-append-add}
 use Rattle.std.proofs.lemmas.List.{take-take, take-append-drop}
-use Rattle.std.proofs.Common.{◌≡◌, ℕ, ◌+◌, ◌-◌, ◌≤◌, List, ◌++◌, Option, length, take, drop}
-use Rattle.std.proofs.Common.{refl, append_assoc, arith}
+use Rattle.std.proofs.Common.{◌≡◌, ℕ, ◌+◌, ◌-◌, ◌≤◌, List, ◌++◌, length, take, drop}
+use Rattle.std.proofs.Common.{append_assoc, arith}
 use lib.Seq.{paste}
 use Rattle.std.proofs.lemmas.List.Edits.{take-paste}
-use Rattle.std.proofs.Math.Seq.{take-add}
 use Rattle.std.proofs.lemmas.List.{drop-take, length-drop, length-take-le, take_all}
 use Rattle.std.proofs.lemmas.Slice.{drop-put_mid}
-use Rattle.std.specs.Io.KnownBytes.{Appends}
-use Rattle.xc_list.proofs.TextLemmas.{appends_more}
 use Rattle.std.specs.Simd.Lanes.{chunk, put_chunk}
 use Rattle.std.proofs.lemmas.Simd.{put_chunk_is, length-put_chunk, length-chunk}
-
--- one piece more was passed on
-pub pass_more : (old mid new : Option (List ℕ)) (bytes rest : List ℕ) (place n : ℕ) → rest ≡ drop place bytes
-    → Appends old mid (take place bytes) → Appends mid new (take n rest) → Appends old new (take (place + n) bytes)
-pass_more old mid new bytes rest place n e p q =
-    rw (take-add place n bytes) (appends_more old mid new (take place bytes) (take n (drop place bytes)) p (rw e at q))
 
 -- the rest of a front was moved to the front
 pub moved_to_front : (bytes : List ℕ) (n end : ℕ) → n ≤ end → end ≤ length bytes
     → take (end - n) (paste bytes 0 (drop n bytes) (end - n)) ≡ drop n (take end bytes)
 moved_to_front bytes n end a b =
-    let count : end - n ≡ 0 + (end - n) = omega arith in
     let whole : n + (end - n) ≡ end = omega (arith, a) in
-    let front = take-paste bytes 0 (drop n bytes) (end - n) (omega arith) (omega (arith, b, length-drop n bytes)) in
-    cc (count, front, drop-take n (end - n) bytes, whole)
+    grind (arith, common_steps, take-paste, length-drop, drop-take)
 
 -- bytes that were put in the place of others by loads and stores of their first and their last piece
 pub two_pieces : (held bytes : List ℕ) (at size : ℕ) → at + length bytes ≤ length held → size ≤ length bytes
-    → length bytes ≤ size + size
-    → put_chunk (at + (length bytes - size)) (put_chunk at held (chunk 0 size bytes))
+    → length bytes ≤ size + size → put_chunk (at + (length bytes - size)) (put_chunk at held (chunk 0 size bytes))
     (chunk (length bytes - size) size bytes) ≡ take at held ++ bytes ++ drop (at + length bytes) held
 two_pieces held bytes at size room few enough =
     let end : ℕ = at + length bytes in
@@ -40,7 +29,6 @@ two_pieces held bytes at size room few enough =
     let first : List ℕ = chunk 0 size bytes in
     let last : List ℕ = chunk back size bytes in
     let once : List ℕ = put_chunk at held first in
-    let all : List ℕ = put_chunk (at + back) once last in
     let m : length first ≡ size = length-chunk 0 size bytes (omega (arith, few)) in
     let n : length last ≡ size = length-chunk back size bytes (omega (arith, few)) in
     let long = length-put_chunk at held first in
@@ -51,14 +39,4 @@ two_pieces held bytes at size room few enough =
     let cut_first = take-take back size bytes (omega (arith, enough)) in
     let front : take (at + back) once ≡ take at held ++ take back bytes =
     cc (take-append-add (take at held) first back) in
-    let rest = take_all size (drop back bytes) (omega (arith, length-drop back bytes, few)) in
-    let both = append_assoc (take at held) (take back bytes) (drop back bytes) in
-    let before : take end all ≡ take at held ++ bytes = cc (take-append-drop back bytes) in
-    let behind_all = drop-put_mid (at + back) (length last) once last end (omega (arith, n, few))
-    (omega (arith, room, few, long)) refl in
-    let behind_once =
-    drop-put_mid at (length first) held first end (omega (arith, m, few)) (omega (arith, room)) refl in
-    let is_all = put_chunk_is (at + back) once last (omega (arith, room, few, n, long)) in
-    let is_once = put_chunk_is at held first (omega (arith, room, few, m)) in
-    let behind : drop end all ≡ drop end held = cc in
-    cc (take-append-drop end all)
+    grind (arith, common_steps, take_all, length-drop, append_assoc, take-append-drop, drop-put_mid, put_chunk_is)

@@ -8,6 +8,5 @@ returns-in-Some-clause-begins g c =
 
 pub returns-in-None-clause-did : goal.returns-in-None-clause-did
 returns-in-None-clause-did g c =
-    let refuse = c.refuse.ensures in
-    rw (← c.in-None.ensures)
+    let refuse = c.refuse.ensures in rw (← c.in-None.ensures)
     (refuse.status, refl, record { told = refuse.told; unread = refl; unwritten = refl })
