@@ -7,7 +7,7 @@ use Rattle.xc_search.specs.Listing.{Wanted, Residual, Branch, listing}
 use Rattle.xc_search.specs.Cover.{options_of}
 use Rattle.xc_input.proofs.lists.EachTwo.{EachTwo}
 use Rattle.xc_input.proofs.lists.Members.{IsIn, each_from}
-use Rattle.xc_dance.proofs.MoveLemmas.OptionsRise.{NumbersRise}
+use Rattle.xc_dance.proofs.MoveLemmas.ListLemmas.{Rises, numbers}
 use Rattle.xc_search.proofs.completeness.Fits.{Covers, IsMemberOf, HasNumber, in-cons_option, gone, member_back}
 use Rattle.xc_search.proofs.completeness.Fits.{member_on}
 use Rattle.xc_search.proofs.completeness.Fits.{covers_on, covers_back, branch_for}
@@ -22,7 +22,7 @@ use Rattle.xc_search.proofs.listing.Unrolled.{listing_at, by_members}
 -- what is so of a member, whichever choice of numbers it is of
 pub record Solves (r : Residual) (m : List Choice) : Type 0 where
   pub left : (k : ℕ) → IsIn (options_of m) k → HasNumber r k
-  pub distinct : NumbersRise 0 r.options → EachTwo (λ a b. a ≢ b) (options_of m)
+  pub distinct : Rises 0 (numbers r.options) → EachTwo (λ a b. a ≢ b) (options_of m)
   pub covers : (n : ℕ) (chosen : ℕ → Bool) → IsProper n r → IsMemberOf r chosen m → Covers n r chosen
 
 option_left : {r : Residual} {w : Wanted} {b : Branch} → IsBranchOf r w b → (k : ℕ) → b.choice.option ≡ Some k

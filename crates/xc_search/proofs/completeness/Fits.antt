@@ -18,7 +18,8 @@ use Rattle.xc_search.specs.Cover.{options_of}
 use Rattle.xc_input.proofs.FaultLemmas.BooleanTests.{and_left, and_right}
 use Rattle.xc_input.proofs.lists.Filters.{filter_both, filter_same}
 use Rattle.xc_input.proofs.lists.Members.{IsIn, in-filter, filter-in, in-map, map-in, in-take, each_in, each_from}
-use Rattle.xc_dance.proofs.MoveLemmas.OptionsRise.{NumbersRise, NumbersRise-filter}
+use Rattle.xc_dance.proofs.MoveLemmas.OptionsRise.{rises_filter}
+use Rattle.xc_dance.proofs.MoveLemmas.ListLemmas.{Rises, numbers}
 use Rattle.xc_search.proofs.Cases.{by_bool, by_number, by_option}
 use Rattle.xc_search.proofs.completeness.Passing.{passing, none_pass, one_passes, one_less, two_pass, first_passing}
 use Rattle.xc_search.proofs.completeness.Passing.{list_all-each}
@@ -67,7 +68,7 @@ in-cons_option None ks k = (λ h. inr h, λ h. grind (arith, common_steps))
 in-cons_option (Some x) ks k = grind (arith, common_steps)
 
 -- an option that is taken goes
-pub gone : {r : Residual} {w : Wanted} {b : Branch} → NumbersRise 0 r.options → IsBranchOf r w b → (k : ℕ)
+pub gone : {r : Residual} {w : Wanted} {b : Branch} → Rises 0 (numbers r.options) → IsBranchOf r w b → (k : ℕ)
     → b.choice.option ≡ Some k → HasNumber b.next k → ⊥
 gone rise (takes_one j n x known at) k e h = grind (arith, common_steps, in-filter, same_number, le-leb, and_left)
 gone rise (takes_none n free) k e h = cc
@@ -76,9 +77,9 @@ pub member_back : (r : Residual) (chosen : ℕ → Bool) (b : Branch) (l : List 
     → IsMemberOf b.next chosen l → IsMemberOf r chosen (b.choice ∷ l)
 member_back r chosen b l f m = grind (arith, in-cons_option)
 
-pub member_on : {r : Residual} {w : Wanted} {b : Branch} {chosen : ℕ → Bool} {l : List Choice} → NumbersRise 0 r.options
-    → IsBranchOf r w b → ((k : ℕ) → IsIn (options_of l) k → HasNumber b.next k) → IsMemberOf r chosen (b.choice ∷ l)
-    → Fits r chosen b × IsMemberOf b.next chosen l
+pub member_on : {r : Residual} {w : Wanted} {b : Branch} {chosen : ℕ → Bool} {l : List Choice}
+    → Rises 0 (numbers r.options) → IsBranchOf r w b → ((k : ℕ) → IsIn (options_of l) k → HasNumber b.next k)
+    → IsMemberOf r chosen (b.choice ∷ l) → Fits r chosen b × IsMemberOf b.next chosen l
 member_on {r} {w} {b} {chosen} {l} rise of left m =
     grind (arith, in-cons_option, options_of, left_before, same_number, gone)
 
@@ -213,7 +214,7 @@ module _ (n : ℕ) (r : Residual) (p : IsProper n r) (chosen : ℕ → Bool) (c 
       let hs = holding w.item r.options in
       let taken : Numbered → Bool = λ o. chosen o.number in
       let same : passing taken hs ≡ passing (is_held chosen w.item) r.options = ap length (filter_both _ _ r.options) in
-      let x = first_passing taken 0 hs (branch_count r w) (NumbersRise-filter (λ o. holds o w.item) 0 r.options
+      let x = first_passing taken 0 hs (branch_count r w) (rises_filter (λ o. holds o w.item) 0 r.options
       p.options_rise) (omega (arith, same, e)) (omega (arith, same, (c.met w h).0)) in
       let at = takes-in r w x.0 x.1 in
       let fits = fits_first w.item at.0 (branch_count r w) x.0 (in-filter _ _ _ (in-take _ _ _ x.1)).0 x.2

@@ -13,7 +13,8 @@ use Rattle.xc_input.proofs.FaultLemmas.BooleanTests.{and_left}
 use Rattle.xc_input.proofs.lists.EachTwo.{EachTwo, EachTwo-append, EachTwo-map, EachTwo-flat_map, EachTwo-at}
 use Rattle.xc_input.proofs.lists.EachTwo.{EachTwo-weaker, EachTwo-take, EachTwo-enumerated}
 use Rattle.xc_input.proofs.lists.Members.{IsIn, in-filter, in-map, in-take, in-enumerated}
-use Rattle.xc_dance.proofs.MoveLemmas.OptionsRise.{NumbersRise, NumbersRise-filter, options_rise}
+use Rattle.xc_dance.proofs.MoveLemmas.OptionsRise.{rises_filter, options_rise}
+use Rattle.xc_dance.proofs.MoveLemmas.ListLemmas.{Rises, numbers}
 use Rattle.xc_search.proofs.completeness.Complete.{members_solve}
 use Rattle.xc_search.proofs.completeness.Covering.{is_listed, member_of_set}
 use Rattle.xc_search.proofs.completeness.Fits.{Fits, IsMemberOf, member_on}
@@ -36,7 +37,7 @@ takes_apart r w n a b h less chosen f g = grind (arith, in-filter, le-leb, and_l
 none_apart : (r : Residual) (w : Wanted) (a b : Branch) → IsIn (takes r w) a → IsIn (nones r w) b → AreApart r a b
 none_apart r w a b h k chosen f g = grind (arith, in-map, in-enumerated, in-take, in-filter, in-nones)
 
-branches_apart : (r : Residual) (w : Wanted) → NumbersRise 0 r.options → EachTwo (AreApart r) (branches_of r w)
+branches_apart : (r : Residual) (w : Wanted) → Rises 0 (numbers r.options) → EachTwo (AreApart r) (branches_of r w)
 branches_apart r w rise =
     let n = branch_count r w in
     let hs = holding w.item r.options in
@@ -47,15 +48,15 @@ branches_apart r w rise =
     (λ a b h k less. takes_apart r w n a b (in-take n hs a.1 (in-enumerated _ _ _ h)) less)
     (EachTwo-enumerated (λ (x y : Numbered). x.number < y.number) 1 (take n hs)
     (EachTwo-take (λ (x y : Numbered). x.number < y.number) n hs
-    (two_rise 0 hs (NumbersRise-filter (λ o. holds o w.item) 0 r.options rise))))))
+    (two_rise 0 hs (rises_filter (λ o. holds o w.item) 0 r.options rise))))))
     (grind (arith, common_steps)) (none_apart r w)
 
 -- two members are of no one choice
 abbrev pub Differ : Residual → List Choice → List Choice → Type 0
 Differ r l m = (chosen : ℕ → Bool) → IsMemberOf r chosen l → IsMemberOf r chosen m → ⊥
 
-pub all_differ : (r : Residual) → NumbersRise 0 r.options → EachTwo (Differ r) (listing r)
-all_differ = by_branches (λ r. NumbersRise 0 r.options → EachTwo (Differ r) (listing r))
+pub all_differ : (r : Residual) → Rises 0 (numbers r.options) → EachTwo (Differ r) (listing r)
+all_differ = by_branches (λ r. Rises 0 (numbers r.options) → EachTwo (Differ r) (listing r))
     (λ r e rise. subst (EachTwo (Differ r)) (sym (listing_at r None e)) (tt, tt))
     (λ r w e later rise. subst (EachTwo (Differ r)) (sym (listing_at r (Some w) e))
     (EachTwo-flat_map (Differ r) (behind listing) (branches_of r w)
@@ -71,7 +72,7 @@ all_differ = by_branches (λ r. NumbersRise 0 r.options → EachTwo (Differ r) (
     (λ a b h k apart l m i j chosen s t. apart chosen (fits r w a l rise h i chosen s) (fits r w b m rise k j chosen t))
     (branches_apart r w rise))))
   where
-    fits : (r : Residual) (w : Wanted) (b : Branch) (m : List Choice) → NumbersRise 0 r.options
+    fits : (r : Residual) (w : Wanted) (b : Branch) (m : List Choice) → Rises 0 (numbers r.options)
         → IsIn (branches_of r w) b → IsIn (behind listing b) m → (chosen : ℕ → Bool) → IsMemberOf r chosen m
         → Fits r chosen b
     fits r w b m rise h k chosen s =
@@ -80,7 +81,7 @@ all_differ = by_branches (λ r. NumbersRise 0 r.options → EachTwo (Differ r) (
         (subst (IsMemberOf r chosen) (sym from.2) s)).0
 
 -- members of one choice stand at one place
-pub one_place : (r : Residual) (chosen : ℕ → Bool) → NumbersRise 0 r.options → (j k : ℕ) (l m : List Choice)
+pub one_place : (r : Residual) (chosen : ℕ → Bool) → Rises 0 (numbers r.options) → (j k : ℕ) (l m : List Choice)
     → slice_get (listing r) j ≡ Some l → slice_get (listing r) k ≡ Some m → IsMemberOf r chosen l
     → IsMemberOf r chosen m → j ≡ k
 one_place r chosen rise j k l m e f s t = grind (arith, EachTwo-at, all_differ)

@@ -9,7 +9,7 @@ use Rattle.xc_input.specs.Problem.{Numbered}
 use Rattle.xc_input.proofs.lists.Members.{IsIn, each_from}
 use Rattle.xc_input.proofs.lists.Filters.{length-filter-le, filter_same}
 use Rattle.xc_search.proofs.residual.NumberedOnce.{above_in}
-use Rattle.xc_dance.proofs.MoveLemmas.OptionsRise.{NumbersRise}
+use Rattle.xc_dance.proofs.MoveLemmas.ListLemmas.{Rises, numbers}
 use Rattle.xc_search.proofs.Cases.{by_bool}
 
 abbrev pub passing : (Numbered → Bool) → List Numbered → ℕ
@@ -28,7 +28,7 @@ one_passes t (o ∷ os) x (inl q) e = let here : t o ≡ true = ap t q ∙ e in 
 one_passes t (o ∷ os) x (inr q) e = grind (arith, common_steps, one_passes t os x q e)
 
 -- those who pass the one test pass the other too, but for x
-pub one_less : (t u : Numbered → Bool) (n : ℕ) (os : List Numbered) (x : Numbered) → NumbersRise n os → IsIn os x
+pub one_less : (t u : Numbered → Bool) (n : ℕ) (os : List Numbered) (x : Numbered) → Rises n (numbers os) → IsIn os x
     → u x ≡ false → ((y : Numbered) → IsIn os y → x.number ≢ y.number → t y ≡ u y)
     → passing t os ≡ cond (t x) 1 0 + passing u os
 one_less t u n [] x r k e h = absurd k
@@ -36,7 +36,7 @@ one_less t u n (o ∷ os) x r (inl k) e h = grind (arith, each_from, above_in, f
 one_less t u n (o ∷ os) x r (inr k) e h = grind (arith, above_in, one_less t u o.number os x r.1 k e)
 
 -- two pass
-pub two_pass : (t : Numbered → Bool) (n : ℕ) (os : List Numbered) (x y : Numbered) → NumbersRise n os → IsIn os x
+pub two_pass : (t : Numbered → Bool) (n : ℕ) (os : List Numbered) (x y : Numbered) → Rises n (numbers os) → IsIn os x
     → IsIn os y → t x ≡ true → t y ≡ true → x.number ≢ y.number → 2 ≤ passing t os
 two_pass t n os x y r h k e f apart =
     let u : Numbered → Bool = λ z. t z && not (eqb x.number z.number) in
@@ -45,7 +45,7 @@ two_pass t n os x y r h k e f apart =
     let kept : u y ≡ true = grind (arith, nat_tests, apart) in omega (arith, less, one_passes u os y k kept)
 
 -- The first that passes stands among the first n, where no more than n pass or come after it.
-pub first_passing : (t : Numbered → Bool) (a : ℕ) (os : List Numbered) (n : ℕ) → NumbersRise a os → 1 ≤ passing t os
+pub first_passing : (t : Numbered → Bool) (a : ℕ) (os : List Numbered) (n : ℕ) → Rises a (numbers os) → 1 ≤ passing t os
     → length os + 1 ≤ n + passing t os →
     (x : Numbered) × IsIn (take n os) x × (t x ≡ true) × ((y : Numbered) → IsIn os y → t y ≡ true → x.number ≤ y.number)
 first_passing t a [] n r h l = absurd (omega (arith, h))

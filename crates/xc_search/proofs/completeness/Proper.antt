@@ -13,7 +13,8 @@ use Rattle.xc_input.specs.Problem.{IsValid}
 use Rattle.xc_search.specs.Listing.{Wanted, Residual, wanted_from, whole, spend_one, item_left, stays}
 use Rattle.xc_search.specs.Listing.{Branch, branch_item}
 use Rattle.xc_input.proofs.lists.Members.{IsIn, in-filter, filter-in, in-map, map-in, each_in, in-contains}
-use Rattle.xc_dance.proofs.MoveLemmas.OptionsRise.{NumbersRise, options_rise}
+use Rattle.xc_dance.proofs.MoveLemmas.OptionsRise.{options_rise}
+use Rattle.xc_dance.proofs.MoveLemmas.ListLemmas.{Rises, numbers}
 use Rattle.xc_input.proofs.FaultLemmas.BooleanTests.{and_right}
 use Rattle.xc_search.proofs.residual.OptionUses.{held_by, holds_use, own_colours, apart_from_pairs}
 use Rattle.xc_search.proofs.listing.Numbering.{is_option, with_bounds, at_item}
@@ -38,7 +39,7 @@ AreApart ws = EachTwo (λ (v w : Wanted). v.item ≢ w.item) ws
 
 -- n is the number of primary items
 pub record IsProper (n : ℕ) (r : Residual) : Type 0 where
-  pub options_rise : NumbersRise 0 r.options
+  pub options_rise : Rises 0 (numbers r.options)
   pub items_apart : AreApart r.items
   -- an item that is left is primary and can be met
   pub sound : (w : Wanted) → IsIn r.items w → (w.item ≤ n) × (w.low ≤ w.high) × (0 < w.high)

@@ -10,7 +10,8 @@ use Rattle.xc_search.specs.Listing.{take_branch, none_branch, branches_of, level
 use Rattle.xc_input.proofs.lists.Members.{IsIn, in-filter, in-append, append-in_left, append-in_right, in-map, map-in}
 use Rattle.xc_input.proofs.lists.Members.{in-flat_map, flat_map-in, in-take, in-enumerated, enumerated-in}
 use Rattle.xc_search.proofs.listing.BranchesLess.{least_is_one}
-use Rattle.xc_dance.proofs.MoveLemmas.OptionsRise.{NumbersRise, NumbersRise-filter}
+use Rattle.xc_dance.proofs.MoveLemmas.OptionsRise.{rises_filter}
+use Rattle.xc_dance.proofs.MoveLemmas.ListLemmas.{Rises, numbers}
 use Rattle.xc_search.proofs.listing.BranchLists.{takes}
 
 -- a branch takes an option of the item, or none where it need not be held
@@ -36,10 +37,10 @@ pub left_before : {r : Residual} {w : Wanted} {b : Branch} → IsBranchOf r w b 
 left_before (takes_one k n x known at) o h = (in-filter _ _ _ h).0
 left_before (takes_none n free) o h = (in-filter _ _ _ h).0
 
-pub rise_behind : {r : Residual} {w : Wanted} {b : Branch} → IsBranchOf r w b → NumbersRise 0 r.options
-    → NumbersRise 0 b.next.options
-rise_behind (takes_one k n x known at) rise = NumbersRise-filter _ 0 _ rise
-rise_behind (takes_none n free) rise = NumbersRise-filter _ 0 _ rise
+pub rise_behind : {r : Residual} {w : Wanted} {b : Branch} → IsBranchOf r w b → Rises 0 (numbers r.options)
+    → Rises 0 (numbers b.next.options)
+rise_behind (takes_one k n x known at) rise = rises_filter _ 0 _ rise
+rise_behind (takes_none n free) rise = rises_filter _ 0 _ rise
 
 pub takes-in : (r : Residual) (w : Wanted) (x : Numbered) → IsIn (take (branch_count r w) (holding w.item r.options)) x
     → (k : ℕ) × IsIn (branches_of r w) (take_branch r w.item (branch_count r w) (k, x))

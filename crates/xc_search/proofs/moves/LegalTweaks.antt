@@ -19,7 +19,8 @@ use Rattle.xc_dance.specs.Commits.{after_spend}
 use Rattle.xc_search.specs.inner.Commits.{tweaked}
 use Rattle.xc_search.specs.inner.Levels.{IsNode}
 use Rattle.xc_dance.proofs.MoveLemmas.OpenLists.{listed_open, left_rises, without_first}
-use Rattle.xc_dance.proofs.MoveLemmas.OptionsRise.{NumbersRise-filter, NumbersRise}
+use Rattle.xc_dance.proofs.MoveLemmas.OptionsRise.{rises_filter}
+use Rattle.xc_dance.proofs.MoveLemmas.ListLemmas.{Rises, numbers}
 use Rattle.xc_search.proofs.residual.PickedByUses.{commit_use, as_residual}
 use Rattle.xc_search.proofs.residual.ReadyUses.{found_wanted, opening_commits, spent_self}
 use Rattle.xc_search.proofs.residual.LeftAreReady.{has_left, primary_pure}
@@ -62,14 +63,14 @@ off i zero os = os
 off i (suc m) [] = []
 off i (suc m) (o ∷ os) = cond (holds o i) (off i m os) (o ∷ off i (suc m) os)
 
-not_first : (o : Numbered) (os : List Numbered) → NumbersRise o.number os → is_among (take 1 os) o ≡ false
+not_first : (o : Numbered) (os : List Numbered) → Rises o.number (numbers os) → is_among (take 1 os) o ≡ false
 not_first o [] r = refl
 not_first o (x ∷ os) r = grind (arith, common_steps, ne_eqb)
 
-off_one : (i n : ℕ) (os : List Numbered) → NumbersRise n os → without (take 1 (holding i os)) os ≡ off i 1 os
+off_one : (i n : ℕ) (os : List Numbered) → Rises n (numbers os) → without (take 1 (holding i os)) os ≡ off i 1 os
 off_one i n [] r = refl
 off_one i n (o ∷ os) r =
-    let stays = not_first o (holding i os) (NumbersRise-filter (λ o. holds o i) o.number os r.1) in
+    let stays = not_first o (holding i os) (rises_filter (λ o. holds o i) o.number os r.1) in
     by_bool (holds o i) (λ h. grind (arith, h, without_first n (o ∷ os) r))
     (λ h. grind (arith, h, stays, off_one i o.number os r.1))
 
@@ -79,7 +80,7 @@ off_more i (suc m) [] = refl
 off_more i (suc m) (o ∷ os) = grind (arith, common_steps, off_more i m os, off_more i (suc m) os)
 
 -- the first m + 1 that hold the item are those up to the option at place m
-off_up_to : (i m n : ℕ) (os : List Numbered) (x : Numbered) → NumbersRise n os → slice_get (holding i os) m ≡ Some x
+off_up_to : (i m n : ℕ) (os : List Numbered) (x : Numbered) → Rises n (numbers os) → slice_get (holding i os) m ≡ Some x
     → off i (suc m) os ≡ filter (λ o. not (holds o i && nat_le o.number x.number)) os
 off_up_to i m n [] x r e = cc
 off_up_to i m n (o ∷ os) x r e = by_bool (holds o i) (λ h. by_number m

@@ -13,7 +13,8 @@ use Rattle.xc_input.specs.Problem.{IsValid}
 use Rattle.xc_search.specs.Listing.{Wanted, whole, spend_one, item_left, pick, branch_item}
 use Rattle.xc_search.specs.Listing.{take_branch, branches_of, listing}
 use Rattle.xc_search.specs.Parts.{IsHeldOnce, is_in_part, part_options, part_in_front, first_as, PartsInOrder}
-use Rattle.xc_dance.proofs.MoveLemmas.OptionsRise.{NumbersRise, NumbersRise-filter, options_rise}
+use Rattle.xc_dance.proofs.MoveLemmas.OptionsRise.{rises_filter, options_rise}
+use Rattle.xc_dance.proofs.MoveLemmas.ListLemmas.{Rises, numbers}
 use Rattle.xc_input.proofs.FaultLemmas.BooleanTests.{and_right}
 use Rattle.xc_input.proofs.lists.Filters.{filter_both, filter_same, filter-map, map-map, flat_map-same}
 use Rattle.xc_input.proofs.lists.Members.{IsIn, in-filter, filter-in, in-enumerated, each_from}
@@ -29,7 +30,7 @@ use Rattle.xc_search.proofs.completeness.Proper.{used_up}
 
 -- ---- the option of a part is the one that holds the item
 
-single : (n : ℕ) (xs : List Numbered) (x : Numbered) → NumbersRise n xs → IsIn xs x
+single : (n : ℕ) (xs : List Numbered) (x : Numbered) → Rises n (numbers xs) → IsIn xs x
     → ((y : Numbered) → IsIn xs y → y.number ≡ x.number) → xs ≡ x ∷ []
 single n [] x rise h same = absurd h
 single n (y ∷ []) x rise h same = grind (arith, common_steps)
@@ -65,8 +66,8 @@ module _ (p : Puzzle) (v : IsValid p) (w : Wanted) (wanted : IsIn (whole p).item
     holding_once : holding w.item (part_options p w.item x) ≡ x ∷ []
     holding_once =
         let at = of_item p w.item x h in
-        let rise = NumbersRise-filter (is_in_part w.item x) 0 (numbered_options p) (options_rise p) in
-        single 0 _ x (NumbersRise-filter (λ o. holds o w.item) 0 (part_options p w.item x) rise)
+        let rise = rises_filter (is_in_part w.item x) 0 (numbered_options p) (options_rise p) in
+        single 0 _ x (rises_filter (λ o. holds o w.item) 0 (part_options p w.item x) rise)
         (grind (arith, common_steps, filter-in, eq-eqb, at))
         (λ y k. grind (arith, common_steps, in-filter, eqb-true, k))
 

@@ -7,7 +7,7 @@ use Rattle.xc_search.specs.Listing.{Wanted, whole, pick, take_branch, listing}
 use Rattle.xc_search.specs.Cover.{IsCover, options_of}
 use Rattle.xc_search.specs.Parts.{IsHeldOnce, is_in_part, part_in_front, IsPartMember, PartsCover, PartsListCovers}
 use Rattle.xc_search.specs.Parts.{PartsListOnce}
-use Rattle.xc_dance.proofs.MoveLemmas.OptionsRise.{NumbersRise-filter, options_rise}
+use Rattle.xc_dance.proofs.MoveLemmas.OptionsRise.{rises_filter, options_rise}
 use Rattle.xc_input.proofs.lists.Members.{IsIn, filter-in, in-map, map-in, in-slice_get, slice_get-in}
 use Rattle.xc_input.proofs.lists.Members.{in-contains, contains-in}
 use Rattle.xc_search.proofs.completeness.Complete.{members_solve, solves_back, listed_for}
@@ -71,7 +71,7 @@ module _ (p : Puzzle) (v : IsValid p) (w : Wanted) (h : Contains (whole p).items
       let there = (same x.number).0 (contains-in _ _ (own j t)) in
       let xy = same_one p v w.item once x y _ (parts_cover y k m u) t.0 u.0 (in-contains _ _ there) (own k u) in
       let q = part_in_front p w y in
-      let rise = NumbersRise-filter (is_in_part w.item y) 0 (numbered_options p) (options_rise p) in
+      let rise = rises_filter (is_in_part w.item y) 0 (numbered_options p) (options_rise p) in
       let at = subst (λ z. slice_get (listing (part_in_front p w z)) j ≡ Some l) xy t.1 in
       let own_set = member_of_set q (options_of l) l (λ o. (λ k. k, λ k. k)) in
       (xy, one_place q _ rise j k l m at u.1 own_set (member_of_set q (options_of l) m same))

@@ -12,7 +12,7 @@ use Rattle.xc_input.specs.Problem.{Puzzle, Numbered, numbered_options, option_co
 use Rattle.xc_input.specs.Problem.{IsValid}
 use Rattle.xc_search.specs.Cover.{IsCover, times_held}
 use Rattle.xc_search.specs.Parts.{is_in_part, part_options, part, number_in_problem, in_problem}
-use Rattle.xc_dance.proofs.MoveLemmas.OptionsRise.{NumbersRise-filter, options_rise}
+use Rattle.xc_dance.proofs.MoveLemmas.OptionsRise.{rises_filter, options_rise}
 use Rattle.xc_input.proofs.lists.EachElement.{each_weaker, each-map}
 use Rattle.xc_input.proofs.lists.EachTwo.{EachTwo, EachTwo-map, EachTwo-at, EachTwo-weaker, AllPairs-from_each_two}
 use Rattle.xc_input.proofs.lists.EachTwo.{each_two_from_AllPairs}
@@ -65,7 +65,7 @@ module _ (p : Puzzle) (i : ℕ) (x : Numbered) where
   numbers_rise j k a b less =
       let at = at_place j a in
       let to = at_place k b in
-      let rise = two_rise 0 _ (NumbersRise-filter (is_in_part i x) 0 (numbered_options p) (options_rise p)) in
+      let rise = two_rise 0 _ (rises_filter (is_in_part i x) 0 (numbered_options p) (options_rise p)) in
       let above = EachTwo-at (λ (y z : Numbered). y.number < z.number) _ at.0 to.0 at.1 to.1 rise in
       grind (arith, at, to, above)
 

@@ -15,7 +15,8 @@ use Rattle.xc_search.specs.inner.Commits.{oldest}
 use Rattle.xc_search.specs.inner.Levels.{next_number, options_at}
 use Rattle.xc_search.proofs.moves.OldestMoves.{oldest_all}
 use Rattle.xc_dance.proofs.MoveLemmas.OpenLists.{left_rises}
-use Rattle.xc_dance.proofs.MoveLemmas.OptionsRise.{NumbersRise-filter, NumbersRise-weaker, NumbersRise}
+use Rattle.xc_dance.proofs.MoveLemmas.OptionsRise.{rises_filter}
+use Rattle.xc_dance.proofs.MoveLemmas.ListLemmas.{Rises, Rises-weaker, numbers}
 use Rattle.xc_search.proofs.moves.LegalTweaks.{listed_branch}
 use Rattle.xc_input.proofs.lists.Places.{not_some}
 use Rattle.xc_search.proofs.Cases.{by_bool, by_option, mapped_some}
@@ -25,18 +26,18 @@ abbrev number_of : Numbered → ℕ
 number_of o = o.number
 
 -- behind the first k options, which rise from n, the first above n is at place k
-first_behind : (n : ℕ) (os : List Numbered) (k : ℕ) → NumbersRise n os
+first_behind : (n : ℕ) (os : List Numbered) (k : ℕ) → Rises n (numbers os)
     → next_above n (map number_of (drop k os)) ≡ option_map number_of (slice_get os k)
 first_behind n [] zero r = refl
 first_behind n [] (suc k) r = refl
 first_behind n (o ∷ os) zero r = rw (lt-ltb n o.number r.0) refl
-first_behind n (o ∷ os) (suc k) r = first_behind n os k (NumbersRise-weaker n o.number os (omega (arith, r.0)) r.1)
+first_behind n (o ∷ os) (suc k) r = first_behind n os k (Rises-weaker n o.number (numbers os) (omega (arith, r.0)) r.1)
 
 -- the number of the last of the first k options, n where there is none
 abbrev last_number : ℕ → List Numbered → ℕ → ℕ
 last_number n os k = unwrap_or (option_map number_of (numbered_get os k)) n
 
-above_last : (n : ℕ) (os : List Numbered) (k : ℕ) → NumbersRise n os → k ≤ length os → (n ≤ last_number n os k)
+above_last : (n : ℕ) (os : List Numbered) (k : ℕ) → Rises n (numbers os) → k ≤ length os → (n ≤ last_number n os k)
     × (next_above (last_number n os k) (map number_of os) ≡ option_map number_of (slice_get os k))
 above_last n [] zero r h = (omega arith, refl)
 above_last n [] (suc k) r h = absurd (omega (arith, h))
@@ -68,7 +69,7 @@ seeking {p} {t} {l} may q is =
     let level = may.level in
     let u = oldest l.mark t in
     let os = options_at p u l.item in
-    let rises = NumbersRise-filter (λ o. holds o l.item) 0 (left p u) (left_rises p u) in
+    let rises = rises_filter (λ o. holds o l.item) 0 (left p u) (left_rises p u) in
     let few : l.begun ≤ length os = omega (arith, level.count, may.more) in
     let list : listed p t l.item ≡ drop l.tweaks os = grind (arith, common_steps, oldest_all, listed_branch) in
     by_bool l.walks (λ c. let all : listed p t l.item ≡ os = grind (arith, common_steps, list, level.tweaks) in
