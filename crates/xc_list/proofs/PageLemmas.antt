@@ -88,5 +88,3 @@ module _ {X : Type 0} {a b : SinkState} {before held : List ℕ} {f : X → List
       grind (arith, common_steps, cut, p.whole) in
       rw (all_texts, ← append_assoc before (flat_map f p.done ++ f x) (flat_map f next))
       (broke_before (flat_map f next) (puts_broke (f x) p.puts q))
-
--- what a page holds at last is written

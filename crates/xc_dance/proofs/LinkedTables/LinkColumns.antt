@@ -47,7 +47,6 @@ module _ {X : Type 0} (f : X → ℕ) where
 
 -- ---- hide and unhide undo one another
 
--- where a list has v at k, it has v there after v is written anywhere
 -- a cell that is written and then written back is as it was
 pub written_back : (xs : List ℕ) (i j v w : ℕ) → j ≡ i → get_or xs i 0 ≡ w → set (set xs i v) j w ≡ xs
 written_back xs i j v w e h = grind (arith, common_steps, set-set)

@@ -107,7 +107,6 @@ tables_from p q t s a b h = (
     colors : (k : ℕ) → slice_get (nodes_after p t).color k ≡ slice_get (nodes_after q s).color k
     colors k = let e = alike Color k in grind (arith, common_steps, natural_same, color_same, items)
 
--- and the other way round
 -- ---- two keepers of tables
 
 abbrev pub AreEqual : Items → Items → Nodes → Nodes → List Move → List Move → List ℕ → List ℕ → Type 0

@@ -87,7 +87,6 @@ row_read f a zero q = grind (arith, common_steps, le-ltb)
 row_read f a (suc n) zero = grind (arith, common_steps, lt-ltb)
 row_read f a (suc n) (suc q) = grind (arith, common_steps, le-ltb, lt-ltb, ltb-false, ltb-true, row_read f (a + 1) n q)
 
--- the columns from 0 to the items and one more
 -- a column of the layout, by its nodes
 column_read : {X : Type 0} (f : X → ℕ) (g : ℕ → ℤ) (h : X → ℤ) (xs : List X) (q : ℕ)
     → ((n : X) → slice_get xs q ≡ Some n → g (f n) ≡ h n)

@@ -128,7 +128,6 @@ plain_unmarked p t legal fitted plain = record {
       (grind (arith, common_steps, by_node, length-map));
 }
 
--- the same for the tables of a keeper
 -- ---- the walks
 
 -- a step down that keeps no colour marks none

@@ -58,7 +58,6 @@ pub underway : {k : Kind} (t0 : Nodes) (all left : List ℕ) → left ≡ all �
     → Underway k t0 all t0 left 0
 underway {k} t0 all left e can = grind (arith, common_steps)
 
--- one walk behind another
 -- ---- ways there and back
 
 pub map_reverse : (f : ℕ → ℕ) (xs : List ℕ) → reverse (map f xs) ≡ map f (reverse xs)

@@ -12,7 +12,6 @@ pub restored_at : (k : ℕ) (es : List Removed) (ls : List (List ℕ)) → lengt
 restored_at k [] ls le = grind (arith, common_steps, lt-leb)
 restored_at k (e ∷ es) ls le = grind (arith, common_steps, lt-leb)
 
--- what is taken after the mark doesn't count
 -- how much is still taken
 pub length-still_taken : (k : ℕ) (es : List Removed) → k ≤ length es → length (still_taken k es) ≡ k
 length-still_taken k [] le = omega (arith, le)

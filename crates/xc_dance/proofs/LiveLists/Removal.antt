@@ -61,5 +61,3 @@ pub row_removed : (ls : List (Vec ℕ)) (new : Vec ℕ) (list place number : ℕ
     → IsPutBack (rooms_of ls) (record { place = place; list = list; number = number }) (numbers_of (set ls list new))
     (numbers_of ls)
 row_removed ls new list place number row lt is_row within is gone fits = grind (arith, common_steps, rows)
-
--- there is one number more after one was put back

@@ -50,5 +50,3 @@ part-spoiled kind {bytes = bytes} (Fault n k) h g same =
     (bytes, inr (g, same, λ more. error-ends kind (lines_of (bytes ++ more)) (Fault n k) (h more)))
 part-spoiled kind Device h g same = absurd (h [])
 part-spoiled kind {bytes = bytes} Memory h g same = (bytes, same, inl g)
-
--- a read that failed

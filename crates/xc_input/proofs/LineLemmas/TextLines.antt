@@ -91,5 +91,3 @@ ends old new carry end whole left r b l f k g e s n =
       state = tt;
       err = rw (← k) (Spoils-ended new.kind new.lines x _ w a s);
     }
-
--- a piece of a line is carried on

@@ -58,7 +58,6 @@ bytes-dropped zero xs p i = p i
 bytes-dropped (suc n) [] p i = omega arith
 bytes-dropped (suc n) (x ∷ xs) p i = bytes-dropped n xs (λ j. p (suc j)) i
 
--- a number of at most six bytes, of seven
 -- the number that eight bytes are read as
 abbrev eight : List ℕ → ℕ
 eight xs =
@@ -75,6 +74,3 @@ pub first-word : (n first number : ℕ) (xs : List ℕ) → AreBytes xs → 8 �
 first-word n first number xs p long few read is =
     let all = front n (take 8 xs) (bytes-taken 8 xs p) (omega (arith, length-take 8 xs, long, few)) in
     grind (arith, eight-is xs long, take-take n 8 xs (omega (arith, few)))
-
--- a number that no text of bytes has
--- the number of a text

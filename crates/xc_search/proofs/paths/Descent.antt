@@ -21,7 +21,6 @@ use Rattle.xc_search.proofs.stacked.Start.{starts_standing, comes_alone}
 use Rattle.xc_search.proofs.stacked.Depth.{shallow_first}
 use Rattle.xc_search.proofs.paths.Numbers.{no_further, left_less, below_left}
 
--- a level stands with its own moves where it stands below more
 -- before the next branch
 pub leads_on : (p : Puzzle) (u s t : List Move) (l k : Level) (b : Begun) → Leads p u s l → k ≡ begun_level b l →
     b.base ≡ length t → IsEntered p s l t (begun_level b l) → Leads p u t k

@@ -42,7 +42,6 @@ then_left : {X : Type 0} (f : X → Option Residual) (o : Option X) (s : Residua
 then_left f None s e = absurd (cc e)
 then_left f (Some x) s e = (x, refl, e)
 
--- branches of the same number are the same
 -- two paths with the same numbers are the same
 paths_same : (a b : List Choice) (r x y : Residual) → left_by a r ≡ Some x → left_by b r ≡ Some y →
     numbers_on a ≡ numbers_on b → a ≡ b

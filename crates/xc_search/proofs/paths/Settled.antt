@@ -26,5 +26,3 @@ comes_back d e f ls ks none ed keeps ef =
     let here : AreLed d.puzzle d.trail d.trail ls.levels = subst (AreLed d.puzzle d.trail d.trail) (sym none) refl in
     ef ∙ ap (λ (s : Dancing). record s { trail = ground e.trail ks.levels }) ed
     ∙ ap (λ t. record d { trail = t }) (led_ground e.puzzle d.trail e.trail ks.levels (keeps d.trail here))
-
--- what was to come begins with what is below the part's path

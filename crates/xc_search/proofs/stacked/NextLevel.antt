@@ -129,7 +129,6 @@ members_all before (b ∷ bs) = grind (arith, common_steps, members_all before b
 pub at_own : (p : Puzzle) (i : ℕ) → option_at p i i ≡ None
 at_own p i = rw (eq-eqb i i refl) refl
 
--- at another place stands one
 pub own_place : (p : Puzzle) (i : ℕ) → IsPlace p i i
 own_place p i = ap (λ o. link_place p i (unwrap_or o 0)) (sym (at_own p i))
 

@@ -43,7 +43,6 @@ shown_past (suc n) (x ∷ ms) s h = shown_past n ms x (omega (arith, h))
 pub stands_behind : (p : Puzzle) (t : List Move) (ls : List Level) → AreStacked p t ls → IsStanding p t ls false
 stands_behind p t ls a = record { stacked = a; searchable = λ e. cc; shallow = λ e. cc }
 
--- what stays over two steps
 -- it stands at the member behind the first n
 pub went_to : (d e : Dancing) (ls ks : Levels) (down : Bool) (n : ℕ) → (e ≡ record d { trail = e.trail })
     × (ks ≡ record ls { levels = ks.levels }) → IsSolved e.puzzle e.trail ks.levels →
