@@ -173,10 +173,12 @@ class Crate:
     def rendered(self, file: Path, chosen: list[Trial]) -> tuple[str, list[tuple[int, int, Trial]]]:
         """The file with these trials in place of their proofs, and the lines of each there."""
         changes = {trial.proof.begin: (trial.proof.end, trial) for trial in chosen if trial.proof.file == file}
-        gone = {h.proof.start: h.proof.end for trial in chosen for h in trial.helpers if h.proof.file == file}
+        lines = self.lines[file]
+        helpers = {helper.proof for trial in chosen for helper in trial.helpers if helper.proof.file == file}
+        gone = {with_comment(lines, proof): proof.end for proof in helpers}
         out: list[str] = []
         ranges = []
-        at, lines = 0, self.lines[file]
+        at = 0
         while at < len(lines):
             if at in gone:
                 at = gone[at] + (lines[gone[at] : gone[at] + 1] == [""])
@@ -221,6 +223,15 @@ class Crate:
                 every = [trial for placed in ranges.values() for _, _, trial in placed]
                 near += [trial for trial in every if file in {trial.proof.file, *(h.proof.file for h in trial.helpers)}]
         return here or near
+
+
+def with_comment(lines: list[str], proof: Proof) -> int:
+    """The line at which the proof begins with the comment above it, if that is no heading."""
+    start = proof.start
+    while start > 0 and re.match(r"\s*--(?! ----)", lines[start - 1]):
+        start -= 1
+    opens_file = all(not line.strip() or line.startswith(("use ", "pub use ")) for line in lines[:start])
+    return proof.start if opens_file else start
 
 
 def changes(passed: list[Trial]) -> list[Change]:
