@@ -2,6 +2,7 @@
 use Rattle.std.proofs.lemmas.Grind.{common_steps}
 use Rattle.xc_list.proofs.Outputs.{stopped_broke}
 use Rattle.std.proofs.Math.Seq.{take-length}
+use Rattle.std.proofs.KnownBytes.{Keeps-refl}
 use Rattle.std.proofs.Common.{◌≡◌, ◌⊎◌, ℕ, ◌+◌, List, [], length, sym, subst, inl, inr, append-nil}
 use Rattle.std.proofs.Common.{arith}
 use Rattle.std.proofs.lemmas.Bool.Decides.{nat_tests}
@@ -45,7 +46,8 @@ pub finished : {a : Named} {w : Words} {old mid told told_new : SinkState} {stat
     ⊎ ((status ≡ 3) × (new.failures ≡ mid.failures) × IsTrue new.settled × BrokeOff told told_new (summary_text end))
     → DidSearch w status old new told told_new a []
 finished new is took kept flushed (inl h) = grind (arith, common_steps, appends_kept)
-finished new is took kept flushed (inr (inl h)) = grind (arith, common_steps, failed_behind, behind_nothing)
+finished new is took kept flushed (inr (inl h)) =
+    inr (inl (h.0, flush, (failed_behind new took kept flushed h.1 h.2, behind_nothing WasTold h.3)))
 finished new is took kept flushed (inr (inr h)) = grind (arith, common_steps, behind_nothing, appends_kept)
 
 -- a text behind the warnings
@@ -68,6 +70,9 @@ module _ (a : Named) (ignored : List ℕ) (w : Words) (x y : SinkState) {old mid
 
 -- ---- what the output took, whatever the status
 
+pub same_keeps : {O : Type 0} (x y : Seen O SinkState) → y ≡ x → Keeps x.state.taken y.state.taken
+same_keeps x y e = subst (λ z. Keeps x.state.taken z.state.taken) (sym e) (Keeps-refl x.state.taken)
+
 pub whole_begins : (x y : SinkState) (text : List ℕ) → Appends x.taken y.taken text → Begins x y text
 whole_begins x y text h = (length text, subst (Appends x.taken y.taken) (sym (take-length text)) h)
 
@@ -85,6 +90,7 @@ pub run_begins : {O : Type 0} (kind : Kind) (w : Words) (status : ℕ) (old new 
     (told told_new : SinkState) → DidAsAsked kind w status old new x y told told_new
     → Keeps x.state.taken y.state.taken
     ⊎ GaveProblem kind (λ a _. Begins x.state y.state (output a w.spacing w.limit)) old new
-run_begins kind w status old new x y told told_new (inl h) = grind (arith, common_steps)
+run_begins kind w status old new x y told told_new (inl h) = inl (same_keeps x y h.1)
 run_begins kind w status old new x y told told_new (inr g) =
-    grind (arith, common_steps, search_begins g.named g.ignored w status x.state y.state told told_new g.said)
+    let begins = search_begins g.named g.ignored w status x.state y.state told told_new g.said in
+    inr (record { named = g.named; ignored = g.ignored; gave = g.gave; said = begins })
