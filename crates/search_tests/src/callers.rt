@@ -1,7 +1,6 @@
 //! What is there for callers: the room of a search, and searches with no counting.
-use fixtures::{SEVEN, THREE_ALIKE, on_problem, problem};
+use fixtures::{SEVEN, THREE_ALIKE, on_one, on_problem};
 use std::alloc::Global;
-use std::test::Fail;
 use xc_dance::{Dance, Links, Lists, Memory};
 use xc_input::{Kind, Problem};
 use xc_search::{Search, most_moves};
@@ -28,9 +27,9 @@ fn room_for_each_search(rt: HostRuntime) {
 }
 
 /// A search over linked tables.
-fn begun<'a>(alloc: Global, problem: &'a Problem) -> Result<Search<'a, Links>, Fail> {
-    let links = Links::for_search(alloc, problem)?;
-    Ok(Search::begin(alloc, links, problem)?)
+fn begun<'a>(alloc: Global, problem: &'a Problem) -> Option<Search<'a, Links>> {
+    let links = Links::for_search(alloc, problem).ok()?;
+    Search::begin(alloc, links, problem).ok()
 }
 
 /// How many options the solutions that a search has to come have in all.
@@ -45,23 +44,19 @@ fn options_in_all(search: &mut Search<Links>) -> usize {
     options
 }
 
-/// How many options the solutions of a problem have in all. The search is let go.
-fn options_of(alloc: Global, problem: &Problem) -> Result<usize, Fail> {
-    let mut search = begun(alloc, problem)?;
-    Ok(options_in_all(&mut search))
-}
-
-/// How many options the solutions of a text have in all.
-fn options_of_text(alloc: Global, text: &[u8]) -> Result<usize, Fail> {
-    let problem = problem(alloc, Kind::Plain, text)?;
-    options_of(alloc, &problem)
+/// Whether the solutions of a text have so many options in all.
+fn has_options(alloc: Global, text: &[u8], options: usize) -> bool {
+    on_problem(alloc, Kind::Plain, text, |problem| {
+        on_one(begun(alloc, problem), |search| {
+            options_in_all(search) == options
+        })
+    })
 }
 
 #[test]
-fn solutions_one_by_one(rt: HostRuntime) -> Result<(), Fail> {
-    assert!(rt; options_of_text(rt.alloc(), SEVEN)? == 3);
-    assert!(rt; options_of_text(rt.alloc(), THREE_ALIKE)? == 3);
-    Ok(())
+fn solutions_one_by_one(rt: HostRuntime) {
+    assert!(rt; has_options(rt.alloc(), SEVEN, 3));
+    assert!(rt; has_options(rt.alloc(), THREE_ALIKE, 3));
 }
 
 /// How many solutions a search visits, of at most so many, and whether all were.
@@ -74,21 +69,17 @@ fn visit(search: &mut Search<Links>, most: usize) -> (usize, bool) {
     (most - left.min(most), all && search.choices().is_empty())
 }
 
-/// What a new search over a problem visits.
-fn visited(alloc: Global, problem: &Problem, most: usize) -> Result<(usize, bool), Fail> {
-    let mut search = begun(alloc, problem)?;
-    Ok(visit(&mut search, most))
-}
-
-/// What a search over three equal options visits.
-fn visited_of_three(alloc: Global, most: usize) -> Result<(usize, bool), Fail> {
-    let problem = problem(alloc, Kind::Plain, THREE_ALIKE)?;
-    visited(alloc, &problem, most)
+/// Whether a search over three equal options visits so many of at most so many, and whether those are all.
+fn visits(alloc: Global, most: usize, visited: (usize, bool)) -> bool {
+    on_problem(alloc, Kind::Plain, THREE_ALIKE, |problem| {
+        on_one(begun(alloc, problem), |search| {
+            visit(search, most) == visited
+        })
+    })
 }
 
 #[test]
-fn solutions_until_enough(rt: HostRuntime) -> Result<(), Fail> {
-    assert!(rt; visited_of_three(rt.alloc(), 2)? == (2, false));
-    assert!(rt; visited_of_three(rt.alloc(), 9)? == (3, true));
-    Ok(())
+fn solutions_until_enough(rt: HostRuntime) {
+    assert!(rt; visits(rt.alloc(), 2, (2, false)));
+    assert!(rt; visits(rt.alloc(), 9, (3, true)));
 }

@@ -74,23 +74,27 @@ fn is_same(problem: &Problem, seed: Seed) -> bool {
         && has_option(problem, 2, &[(2, 0), (4, 2), (3, 1)])
 }
 
+/// Whether a text is read to its end by this seed, through a source that forgets its own, and is the same problem.
+fn is_read_by(alloc: Global, text: &[u8], seed: Seed) -> bool {
+    let source = SliceSource::with_seed(text, Seed::new(9));
+    let around = Around { source };
+    let forgets = around.seed() == Seed::FIXED;
+    let mut source = Seeded::new(around, seed);
+    let is_read = source.seed() == seed
+        && on_source(alloc, Kind::Colours, &mut source, |read| {
+            is_same(&read.problem, seed)
+        });
+    let mut left = source.into_source();
+    forgets && is_read && left.read(&mut [0; 10]) == Ok(0)
+}
+
 #[test]
 fn each_seed_reads_the_same(rt: HostRuntime) {
     let text = b"a b | x y\na x:red\nb y:green x:red\n";
     let other = Seed::new(0x0123_4567_89ab_cdef_fedc_ba98_7654_3210);
     assert!(rt; other != Seed::FIXED);
     for &seed in &[Seed::FIXED, other, Seed::new(0)] {
-        let source = SliceSource::with_seed(text, Seed::new(9));
-        let around = Around { source };
-        assert!(rt; around.seed() == Seed::FIXED);
-        let mut source = Seeded::new(around, seed);
-        assert!(rt; source.seed() == seed);
-        assert!(rt;
-            on_source(rt.alloc(), Kind::Colours, &mut source, |read| {
-                is_same(&read.problem, seed)
-            })
-        );
-        assert!(rt; source.into_source().read(&mut [0; 10]) == Ok(0));
+        assert!(rt; is_read_by(rt.alloc(), text, seed));
     }
 }
 
