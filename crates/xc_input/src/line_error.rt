@@ -7,7 +7,7 @@ use crate::FaultKind;
 use std::alloc::{AllocError, AllocFailed};
 
 /// Why a line wasn't taken.
-#[derive(Clone, Copy, Debug, PartialEq, Eq)]
+#[derive(Clone, Copy)]
 pub enum LineError {
     Fault(FaultKind),
     Memory,
