@@ -36,6 +36,6 @@ pub judged_begins : {L O E : Type 0} (kind : Kind) (status : ℕ) (p_old p_new :
 judged_begins kind status p_old p_new old new (inl h) = inl (same_keeps old.out new.out h.2)
 judged_begins kind status p_old p_new old new (inr g) =
     elim (listing_begins g.named status old new g.said) [
-      inl kept ↦ inl kept
-    | inr told ↦ inr (record { named = g.named; ignored = g.ignored; gave = g.gave; said = told })
+      | inl kept ↦ inl kept
+      | inr told ↦ inr (record { named = g.named; ignored = g.ignored; gave = g.gave; said = told })
     ]

@@ -1,5 +1,4 @@
 -- Words that ask for no parts, and how a run over parts ends.
-use Rattle.std.proofs.lemmas.Grind.{common_steps}
 use Rattle.xc_list.proofs.TextLemmas.{appends_kept}
 use Rattle.std.proofs.Common.{ℕ, ◌≡◌, ◌⊎◌, ◌+◌, ◌-◌, Bool, List, length, take, drop, map, sym}
 use Rattle.std.proofs.Common.{◌∙◌, arith, subst, length-drop, inl, inr}
@@ -22,7 +21,7 @@ behind_first words = take_all (length words - 1) (drop 1 words) (omega (arith, l
 -- where those behind the first ask for none
 pub none_behind : {X : Type 0} (f : X → List ℕ) (words rest : List X) → rest ≡ drop 1 words →
     ((listed : Bool) (parts : List (List ℕ)) → AskForParts (map f rest) listed parts → ⊥) → AskForNone (map f words)
-none_behind f words rest e none = λ kind listed parts asks. none listed parts (grind (arith, common_steps, drop-map))
+none_behind f words rest e none = λ kind listed parts asks. none listed parts (grind (arith, drop-map))
 
 -- ---- how a run over parts ends, by the flush behind those that were written
 
@@ -49,13 +48,13 @@ module _ {a : Named} {listed : Bool} {old mid : SinkState} (new : SinkState) (ke
       → DidListParts listed parts status old new told told_new a)
       → ((status ≡ why) × (new.failures ≡ mid.failures) × IsTrue new.settled × WasTold told told_new text)
       ⊎ FlushFailed status mid new told told_new → DidListParts listed parts status old new told told_new a
-  parts_before written of so (inl h) = grind (arith, common_steps, appends_kept)
+  parts_before written of so (inl h) = grind (arith, appends_kept)
   parts_before written of so (inr h) = unflushed written of h
 
   pub all_parts : {parts : List (List ℕ)} {told told_new : SinkState} {status : ℕ}
       → OfParts a listed parts Took old mid → ((status ≡ 0) × (new.failures ≡ mid.failures) × IsTrue new.settled)
       ⊎ FlushFailed status mid new told told_new → DidListParts listed parts status old new told told_new a
-  all_parts of (inl h) = grind (arith, common_steps, appends_kept)
+  all_parts of (inl h) = grind (arith, appends_kept)
   all_parts {parts} of (inr h) =
       let whole = take_all (length parts) parts (omega arith) in
       unflushed (length parts) (subst (λ ps. OfParts a listed ps Took old mid) (sym whole) of) h
