@@ -64,11 +64,11 @@ next_at : {p : Puzzle} {x off q : ℕ} {vs : List Use} {s t : List Move} → Seg
 next_at {p} {x} {off} {q} {vs} {s} {t} seg a h =
     let v = use_at_place off vs q in
     let node : slice_get (layout p) q ≡ Some (used x v) =
-    grind (arith, common_steps, seg (q - off) v, slice_get-get_or vs (q - off) no_use) in
+    grind (arith, seg (q - off) v, slice_get-get_or vs (q - off) no_use) in
     let on = along_next a h in
     let can = λ (room : ℕ) (c : CanStand p room (after_uses p vs s)). stood_before _ _ (drop (q + 1 - off) vs) _
     (subst (CanStand p room) (sym on.trail) c) in
-    grind (arith, common_steps, use_cells p t x v q node)
+    grind (arith, use_cells p t x v q node)
 
 -- ---- Behind the node by which option x uses item i, from the place behind it up to the spacer
 
@@ -87,7 +87,7 @@ behind_at {p} {i} {x} {place} {q} {s} {t} laid held a =
     let ranged = λ (u : Use) (e : slice_get (layout p) q ≡ Some (used x u)).
     laid.nodes.ranged q (used x u) u.item x e refl in
     let small = laid.small in
-    grind (arith, common_steps, along_end a, behind_all held, spacer_cells p t x q held.known)
+    grind (arith, along_end a, behind_all held, spacer_cells p t x q held.known)
 
 -- ---- Before it, from the option's first node up
 
@@ -98,7 +98,7 @@ pub record Before (p : Puzzle) (i x place : ℕ) (s t : List Move) (q : ℕ) : T
 
 pub before_at : {p : Puzzle} {i x place q : ℕ} {s t : List Move} → IsUseAt p i x place →
     IsAlong p (start_at p (x - 1)) (uses_before p i x) s t q → Before p i x place s t q
-before_at held a = grind (arith, common_steps, next_at (before_segment held) a, along_end a, before_all held)
+before_at held a = grind (arith, next_at (before_segment held) a, along_end a, before_all held)
 
 -- ULINK of the spacer leads to where that walk begins
 pub record Leads (p : Puzzle) (x place end : ℕ) (t : List Move) : Type 0 where
@@ -115,7 +115,7 @@ leads {p} {x} {end} t held e = grind (arith, common_steps, spacer_cells p t x en
 -- the tables of linked tables in state s, of problem p
 pub nodes_told : {n : Nodes} {a s : Linked} {p : Puzzle} → n ≡ nodes_after a.puzzle a.trail → a ≡ s → s.puzzle ≡ p →
     n ≡ nodes_after p s.trail
-nodes_told {s} e is same = grind (arith, common_steps)
+nodes_told {s} e is same = grind arith
 
 -- what is asked for a commit of the use of item j at place q
 abbrev pub MayCommit : Puzzle → ℕ → List Move → ℕ → ℕ → Type 0

@@ -128,7 +128,7 @@ raised l o = record { len = l.len; up = put_at l.up (l.down o) o; down = l.down 
 -- the columns that one line's change leaves
 pub top_kept : (p : Puzzle) (ln : ℕ → Line) (i : ℕ) (l : Line) → l.len ≡ (ln i).len
     → map (top_in ln) (layout p) ≡ map (top_in (with_line ln i l)) (layout p)
-top_kept p ln i l e = grind (arith, common_steps, eqb-true, map_same)
+top_kept p ln i l e = grind (arith, eqb-true, map_same)
 
 pub down_kept : (p : Puzzle) (ln : ℕ → Line) (i : ℕ) (l : Line) → ((x : ℕ) → l.down x ≡ (ln i).down x)
     → map (dlink_in p ln) (layout p) ≡ map (dlink_in p (with_line ln i l)) (layout p)
@@ -161,7 +161,7 @@ pub record Opened (p : Puzzle) (t : List Move) (spans : List Span) (covered : Bo
 opened_at : {p : Puzzle} {t : List Move} {spans : List Span} (covered : Bool) {i n : ℕ} {ln : ℕ → Line} {o : ℕ}
     {os : List ℕ} → AreLegal p t → IsFitted p spans → is_open i t ≡ not covered → is_in o (listed_numbers p t i) ≡ true
     → BringingBack p t covered i n ln (o ∷ os) → Opened p t spans covered i ln o os
-opened_at true legal fit shut within h = grind (arith, common_steps, false≢true)
+opened_at true legal fit shut within h = grind (arith, false≢true)
 opened_at {p} {t} {spans} false {i} {ln = ln} {o} {os} legal fit opened within h =
     let o_pos = in_above _ _ _ (rises_listed p t i) within in
     let named = element_of (Named p i) _ _ (numbers_named p t i) within in
@@ -178,18 +178,18 @@ opened_at {p} {t} {spans} false {i} {ln = ln} {o} {os} legal fit opened within h
           let nb : Regaining (line_of p t j) (ln j) (o ∷ filter (leaves p col i j) os) =
           rw (in_js, un) at (h.others j k.item.0 k.item.1 k.ne) in
           let met = met_at p t i legal fit.laid fit.fit opened j o k.item.0 k.item.1 within k.named in
-          let j_open : is_open j t ≡ true = grind (arith, common_steps, false≢true) in
+          let j_open : is_open j t ≡ true = grind (arith, false≢true) in
           let m = listed_member t j o fit.fit k.item (met.opened j_open).1 in
-          let few = regaining_len _ _ _ (h.others j k.item.0 k.item.1 k.ne) in grind (arith, common_steps);
+          let few = regaining_len _ _ _ (h.others j k.item.0 k.item.1 k.ne) in grind arith;
     } in
     let ln1 : ℕ → Line = back_all p col o ln (reverse js) in
     let at : (j : ℕ) → ln1 j ≡ cond (leaves p col i j o) (mended (ln j) o) (ln j) =
-    grind (arith, common_steps, all_at, in_reverse) in
+    grind (arith, all_at, in_reverse) in
     let u = unhides p col spans o i fit.spanned o_pos named (Returns p col o) (λ a b j s. (s.can, s.done)) ln ln1
     (unhidden_walk p col ln o (reverse js) fit.laid o_pos apart returning) in
     let others : (j : ℕ) → 0 < j → j ≤ item_count p → j ≢ i
-    → Regaining (line_of p t j) (ln1 j) (to_come p t false i j os) = λ j pos le ne. grind (arith, common_steps) in
-    grind (arith, common_steps, own_apart, fit.spanned.within o i o_pos named)
+    → Regaining (line_of p t j) (ln1 j) (to_come p t false i j os) = λ j pos le ne. grind arith in
+    grind (arith, own_apart, fit.spanned.within o i o_pos named)
 
 pub record BringBackStep (p : Puzzle) (t : List Move) (spans : List Span) (covered : Bool) (i n : ℕ) (ln : ℕ → Line)
     (o : ℕ) (os : List ℕ) : Type 0 where
@@ -222,11 +222,11 @@ bring_back_step p t spans covered i n ln o os legal fit pos le shut within h =
       can = record {
         unhide = m1.can;
         place = rw m1.done (omega (arith, x_in, length-map (layout p) (dlink_in p ln1)));
-        below = grind (arith, common_steps, length-map);
+        below = grind (arith, length-map);
       };
-      done = grind (arith, common_steps, raised_is, fit.laid);
+      done = grind (arith, raised_is, fit.laid);
       bringing = record {
-        others = λ j jpos jle ne. grind (arith, common_steps, line_there ln1 i j w ne);
+        others = λ j jpos jle ne. grind (arith, line_there ln1 i j w ne);
         line = mended h.line o;
         own = h.own.2;
         is = line_here ln1 i w ∙ (rw (own, h.own.1) refl);

@@ -39,7 +39,7 @@ listed_within {p} {t} {i} {x} laid item at =
 down_at : {p : Puzzle} (t : List Move) (i : ℕ) {x : ℕ} → IsLaid p → IsItem p i
     → (x ≡ 0) ⊎ Contains (listed_numbers p t i) x
     → get_or (nodes_after p t).dlink (link_place p i x) 0 ≡ link_place p i (first_above 0 x (listed_numbers p t i))
-down_at {p} t i laid item h = grind (arith, common_steps, own_down, first_above, contained, in_list_name, use_down)
+down_at {p} t i laid item h = grind (arith, own_down, first_above, contained, in_list_name, use_down)
 
 -- DLINK of a node in an item's list leads to the next one there
 pub listed_down : {p : Puzzle} {t : List Move} {i x q : ℕ} → IsLaid p → IsItem p i → IsListedAt p t i x q →
@@ -67,7 +67,7 @@ colour_within p t q at = grind (arith, common_steps, length-map, slice_get_withi
 pub committed_open : (p : Puzzle) (t : List Move) (q : ℕ) {o j k : ℕ} {u : Use} →
     slice_get (layout p) q ≡ Some (used o u) → u.item ≡ j → primary_count p < j → is_open j t ≡ true →
     k ≡ get_or (nodes_after p t).color q 0 → cond (eqb k 0) (Cover j) (Purify j k) ∷ t ≡ after_use p u t
-committed_open p t q {u} at item high still read = grind (arith, common_steps, open_colour, le-leb)
+committed_open p t q {u} at item high still read = grind (arith, open_colour, le-leb)
 
 -- the moves of such a use, of which a Cover may be still to be made
 pub still_covers : (j k : ℕ) (t : List Move) {new : List Move} {r : Bool} → r ≡ eqb k 0

@@ -73,9 +73,9 @@ last_low l a o (x ∷ xs) ys h r = last_low l x o xs ys h.3 r.1
 
 pub linked_more : (l : Line) (a o : ℕ) (xs : List ℕ) → IsLinkedFrom l a xs → l.up 0 < o → l.down o ≡ 0
     → IsLinkedFrom (grown l o) a (xs ++ o ∷ [])
-linked_more l a o [] h lt none = grind (arith, common_steps, last_high, put_at-other, put_at-same)
+linked_more l a o [] h lt none = grind (arith, last_high, put_at-other, put_at-same)
 linked_more l a o (x ∷ xs) h lt none =
-    grind (arith, common_steps, last_high, put_at-other, put_at-same, linked_more l x o xs h.3 lt none)
+    grind (arith, last_high, put_at-other, put_at-same, linked_more l x o xs h.3 lt none)
 
 pub linked_from : (l : Line) (xs ys : List ℕ) → IsLinkedFrom l 0 xs → Rises 0 (xs ++ ys)
     → ((x : ℕ) → l.up 0 < x → l.down x ≡ 0) → IsLinkedFrom (fold grown l ys) 0 (xs ++ ys)
@@ -83,7 +83,7 @@ linked_from l xs [] h r none = rw append-nil h
 linked_from l xs (y ∷ ys) h r none =
     let step = linked_more l 0 y xs h in
     let rest = linked_from (grown l y) (xs ++ y ∷ []) ys in
-    grind (arith, common_steps, append_assoc, last_low l 0 y xs ys h r, put_at-same, put_at-other)
+    grind (arith, append_assoc, last_low l 0 y xs ys h r, put_at-same, put_at-other)
 
 -- ---- the options whose nodes of an item are among the first nodes
 
@@ -106,8 +106,8 @@ pub lines_few : (j : ℕ) (ns : List Node) → (lines_of ns j).len ≤ length ns
 lines_few j ns = let a = grown_len (held j ns) in let b = length-held j ns in omega (arith, a, b)
 
 pub held-append : (j : ℕ) (ms ns : List Node) → held j (ms ++ ns) ≡ held j ms ++ held j ns
-held-append j [] ns = grind (arith, common_steps)
-held-append j (m ∷ ms) ns = grind (arith, common_steps, held-append j ms ns)
+held-append j [] ns = grind arith
+held-append j (m ∷ ms) ns = grind (arith, held-append j ms ns)
 
 -- what one node more adds
 pub held_more : (j k : ℕ) (ns : List Node) {n : Node} → slice_get ns k ≡ Some n
@@ -119,14 +119,14 @@ pub held_each : (P : ℕ → Type 0) (j : ℕ) (ns : List Node)
     → ((k o : ℕ) (u : Use) → slice_get ns k ≡ Some (used o u) → u.item ≡ j → P o) → AllByRecursion P (held j ns)
 held_each P j [] h = tt
 held_each P j (used o u ∷ ns) h =
-    let rest = held_each P j ns (λ k o u e f. h (suc k) o u e f) in grind (arith, common_steps, eqb-true, h 0 o u refl)
+    let rest = held_each P j ns (λ k o u e f. h (suc k) o u e f) in grind (arith, eqb-true, h 0 o u refl)
 held_each P j (_ ∷ ns) h = held_each P j ns (λ k o u e f. h (suc k) o u e f)
 
 -- each use's option is in its item's list
 pub held_in : (ns : List Node) (k o : ℕ) (u : Use) → slice_get ns k ≡ Some (used o u) → is_in o (held u.item ns) ≡ true
-held_in [] k o u e = grind (arith, common_steps, eq-eqb, or-true, same_Some)
-held_in (n ∷ ns) zero o u e = grind (arith, common_steps, eq-eqb, or-true, same_Some)
-held_in (n ∷ ns) (suc k) o u e = grind (arith, common_steps, eq-eqb, or-true, same_Some, held_in ns k o u e)
+held_in [] k o u e = grind (arith, eq-eqb, or-true, same_Some)
+held_in (n ∷ ns) zero o u e = grind (arith, eq-eqb, or-true, same_Some)
+held_in (n ∷ ns) (suc k) o u e = grind (arith, eq-eqb, or-true, same_Some, held_in ns k o u e)
 
 -- ---- before the first option, and behind the last
 
@@ -145,14 +145,14 @@ absent_none j o (u ∷ us) e = grind (arith, common_steps, false≢true, absent_
 -- an option that holds an item has one node of it
 pub one_use : (j o : ℕ) (us : List Use) → AreDistinct us
     → held j (map (used o) us) ≡ cond (is_some (colour_in us j)) (o ∷ []) []
-one_use j o [] d = grind (arith, common_steps, absent_none, eqb-true)
-one_use j o (u ∷ us) d = grind (arith, common_steps, absent_none, eqb-true, one_use j o us d.1)
+one_use j o [] d = grind (arith, absent_none, eqb-true)
+one_use j o (u ∷ us) d = grind (arith, absent_none, eqb-true, one_use j o us d.1)
 
 pub options_hold : (j : ℕ) (os : List Numbered) → AllByRecursion (λ (x : Numbered). AreDistinct x.uses) os
     → held j (flat_map nodes_of os) ≡ map (λ (o : Numbered). o.number) (holding j os)
 options_hold j [] d = refl
 options_hold j (x ∷ os) d =
-    grind (arith, common_steps, held-append, append-nil, one_use j x.number x.uses d.0, options_hold j os d.1)
+    grind (arith, held-append, append-nil, one_use j x.number x.uses d.0, options_hold j os d.1)
 
 pub owns_none : (j : ℕ) (js : List ℕ) (ns : List Node) → held j (map own js ++ ns) ≡ held j ns
 owns_none j [] ns = refl
@@ -175,7 +175,7 @@ nodes_same p ln lm col h = ap (λ (lines : ℕ → Line). nodes_from p lines col
 -- two writes to the links of one item
 written_twice : (f : ℕ → ℕ → ℕ) (j : ℕ) (g : ℕ → ℕ) (o : ℕ) (k x : ℕ) →
     put_link (put_link f j g) j (put_at (put_link f j g j) 0 o) k x ≡ put_link f j (put_at g 0 o) k x
-written_twice f j g o k x = grind (arith, common_steps, eq-eqb)
+written_twice f j g o k x = grind (arith, eq-eqb)
 
 entered-is : (p : Puzzle) (ln : ℕ → Line) (col : Node → ℕ) (q o : ℕ) (u : Use) → IsLaid p
     → slice_get (layout p) q ≡ Some (used o u) → Placed p u.item o → Placed p u.item 0
@@ -207,7 +207,7 @@ line_then : (p : Puzzle) (q : ℕ) {o : ℕ} {u : Use} → slice_get (layout p) 
     with_line (lines_of (take q (layout p))) u.item (grown (lines_of (take q (layout p)) u.item) o) k ≡ lines_of
     (take (q + 1) (layout p)) k
 line_then p q {o} {u} e k =
-    grind (arith, common_steps, append-nil, eq-eqb, eqb-false, eqb-true, grown_more, ne_eqb, held_more k q (layout p) e)
+    grind (arith, append-nil, eq-eqb, eqb-false, eqb-true, grown_more, ne_eqb, held_more k q (layout p) e)
 
 -- what entering the node at q asks, and what it gives
 pub record UseStep (p : Puzzle) (t : Nodes) (q o : ℕ) (u : Use) : Type 0 where
@@ -260,8 +260,8 @@ spacer_top p ln col q n e = get_map (top_in ln) (layout p) q _ e
 -- lines along the same list lead the same way
 alike : (l m : Line) (a : ℕ) (xs : List ℕ) → IsLinkedFrom l a xs → IsLinkedFrom m a xs → (x : ℕ)
     → ((x ≡ 0) ⊎ (is_in x xs ≡ true) → m.up x ≡ l.up x) × ((x ≡ a) ⊎ (is_in x xs ≡ true) → m.down x ≡ l.down x)
-alike l m a [] h k x = grind (arith, common_steps, false≢true)
-alike l m a (y ∷ ys) h k x = grind (arith, common_steps, eqb-true, alike l m y ys h.3 k.3 x)
+alike l m a [] h k x = grind (arith, false≢true)
+alike l m a (y ∷ ys) h k x = grind (arith, eqb-true, alike l m y ys h.3 k.3 x)
 
 -- before the first use's node, all lists are empty
 abbrev whole : Puzzle → ℕ → Line

@@ -41,7 +41,7 @@ filled_none f (n ∷ ns) = ap (λ l. 0 ∷ l) (filled_none f ns)
 
 pub filled_all : {X : Type 0} (f : X → ℕ) (ns : List X) (k : ℕ) → length ns ≤ k → filled f ns k ≡ map f ns
 filled_all f [] k le = refl
-filled_all f (n ∷ ns) k le = grind (arith, common_steps, filled_all f ns (k - 1))
+filled_all f (n ∷ ns) k le = grind (arith, filled_all f ns (k - 1))
 
 pub length-filled : {X : Type 0} (f : X → ℕ) (ns : List X) (k : ℕ) → length (filled f ns k) ≡ length ns
 length-filled f [] k = refl
@@ -50,7 +50,7 @@ length-filled f (n ∷ ns) k = grind (arith, common_steps, length-filled f ns)
 set_suc : {X : Type 0} (f : X → ℕ) (ns : List X) (k : ℕ) (n : X) → slice_get ns k ≡ Some n
     → set (filled f ns k) k (f n) ≡ filled f ns (suc k)
 set_suc f [] k n e = cc
-set_suc f (m ∷ ns) k n e = grind (arith, common_steps, same_Some, set_suc f ns (k - 1) n)
+set_suc f (m ∷ ns) k n e = grind (arith, same_Some, set_suc f ns (k - 1) n)
 
 -- one cell more
 pub filled_more : {X : Type 0} (f : X → ℕ) (ns : List X) (k : ℕ) {n : X} {v : ℕ} → slice_get ns k ≡ Some n → v ≡ f n
@@ -66,7 +66,7 @@ row_of p n =
 
 rows_more : (p : Puzzle) (ns : List Node) (n : Node)
     → (with_row (record { count = 0; nodes = rows_of p ns }) (row_of p n)).nodes ≡ rows_of p (ns ++ n ∷ [])
-rows_more p ns n = grind (arith, common_steps, map-append)
+rows_more p ns n = grind (arith, map-append)
 
 -- one node more
 pub laid_more : (p : Puzzle) (k : ℕ) {n : Node} {r : Row} {old new : Laying} → new ≡ with_row old r → old ≡ laid_to p k
@@ -76,7 +76,7 @@ laid_more p k laid before e is = grind (arith, common_steps, rows_more, take_mor
 -- there is room for the next one
 pub laid_room : (p : Puzzle) (k : ℕ) {n : Node} → slice_get (layout p) k ≡ Some n
     → length (laid_to p k).nodes.top < (laid_to p k).count
-laid_room p k {n} e = grind (arith, common_steps, length-map, length-take-le, slice_get_within)
+laid_room p k {n} e = grind (arith, length-map, length-take-le, slice_get_within)
 
 -- ---- what a spacer leads to
 
@@ -117,7 +117,7 @@ column_more f n k v lt is =
     let z : 0 + k ≡ k = omega arith in filled_more f _ _ (range_get 0 _ _ lt ∙ ap Some z) is
 
 pub rings_linked : (p : Puzzle) (k : ℕ) → item_count p + 2 ≤ k → linked_to p k ≡ bound_to p 1
-rings_linked p k le = grind (arith, common_steps, same_items, filled_all, length-range_with_len)
+rings_linked p k le = grind (arith, same_items, filled_all, length-range_with_len)
 
 pub low_most : {p : Puzzle} (i : ℕ) → IsValid p → low_at p i ≤ high_at p i
 low_most zero valid = omega arith
@@ -129,19 +129,19 @@ low_most {p} (suc k) valid = at_place (λ (b : Bounds). b.low ≤ b.high) (recor
 -- ---- neighbours in a row of numbers
 
 below_range : (other i a n : ℕ) → i ≤ a + n → last_below other i (range_with_len a n) ≡ cond (ltb a i) (i - 1) other
-below_range other i a zero le = grind (arith, common_steps, le-ltb)
+below_range other i a zero le = grind (arith, le-ltb)
 below_range other i a (suc n) le =
     let inner = below_range a i (a + 1) n in
-    grind (arith, common_steps, last_below-more, ltb-true, ltb-false, below_range other i (a + 1) n)
+    grind (arith, last_below-more, ltb-true, ltb-false, below_range other i (a + 1) n)
 
 above_range : (other i a n : ℕ) → a ≤ i + 1
     → first_above other i (range_with_len a n) ≡ cond (ltb (i + 1) (a + n)) (i + 1) other
 above_range other i a zero le = rw (le-ltb (i + 1) (a + 0) (omega (arith, le))) refl
-above_range other i a (suc n) le = grind (arith, common_steps, ltb-true, ltb-false, above_range other i (a + 1) n)
+above_range other i a (suc n) le = grind (arith, ltb-true, ltb-false, above_range other i (a + 1) n)
 
 last_range : (other a n : ℕ) → last_of other (range_with_len a n) ≡ cond (eqb n 0) other (a + n - 1)
 last_range other a zero = refl
-last_range other a (suc n) = grind (arith, common_steps, last_of-more, ne_eqb, last_range a (a + 1) n)
+last_range other a (suc n) = grind (arith, last_of-more, ne_eqb, last_range a (a + 1) n)
 
 first_range : (other a n : ℕ) → first_of other (range_with_len a n) ≡ cond (eqb n 0) other a
 first_range other a zero = refl

@@ -53,7 +53,7 @@ abbrev IsBelow : Use → Type 0
 IsBelow u = u.colour < MARK
 
 sound_items : (p : Puzzle) (us : List Use) → IsSoundOption p us → AllByRecursion (InRange p) us
-sound_items p us s = grind (arith, common_steps, each_weaker, recursion_from_All)
+sound_items p us s = grind (arith, each_weaker, recursion_from_All)
 
 -- the rules of a problem say nothing of the colours: they are to be below the mark
 pub is_fit : (p : Puzzle) → IsValid p → All (λ us. All (λ u. u.colour < MARK) us) p.options → length p.options < 2 ^ 30
@@ -68,7 +68,7 @@ is_fit p valid colours few small near =
 
 pub known_fit : (colours : List (List ℕ)) (p : Puzzle) → IsValid p → IsWithinLimits p
     → AreColoursKnown colours p.options → length colours ≤ 10000000 → IsFit p
-known_fit colours p valid limits known few = grind (arith, common_steps, is_fit, layout_small)
+known_fit colours p valid limits known few = grind (arith, is_fit, layout_small)
 
 pub fitted : {p : Puzzle} {spans : List Span} → IsWithinLimits p → IsFit p → spans ≡ spans_of p → IsFitted p spans
 fitted {p} limits fit is = grind (arith, common_steps, high_within, is_laid p fit, has_spans p fit)

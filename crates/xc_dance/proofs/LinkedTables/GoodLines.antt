@@ -62,7 +62,7 @@ unlinked-is p col ln j o laid m =
 
 pub linked-is : (p : Puzzle) (col : Node → ℕ) (ln : ℕ → Line) (j o : ℕ) → IsLaid p → IsMember p j (ln j) o
     → IsLinked (nodes_from p ln col) (link_place p j o)
-linked-is p col ln j o laid m = grind (arith, common_steps, get_down, get_up, member_cells p col ln j o laid m)
+linked-is p col ln j o laid m = grind (arith, get_down, get_up, member_cells p col ln j o laid m)
 
 -- ---- a step of hide
 
@@ -83,12 +83,12 @@ step_open p col ln j o laid m color =
     let back = relinked-unlinked t q (linked-is p col ln j o laid m) in
     let small = laid.small in
     subst (λ (u : Nodes). Step t u q) (unlinked-is p col ln j o laid m)
-    (grind (arith, common_steps, m.few, m.item, CanUnhide-unlinked t q, size_from, linked-is p col ln j o laid m))
+    (grind (arith, m.few, m.item, CanUnhide-unlinked t q, size_from, linked-is p col ln j o laid m))
 
 pub step_marked : (p : Puzzle) (col : Node → ℕ) (ln : ℕ → Line) (q : ℕ) → q < length (layout p)
     → get_or (map (top_in ln) (layout p)) q 0 < SPACER → eqb (get_or (map (col) (layout p)) q 0) MARK ≡ true
     → Step (nodes_from p ln col) (nodes_from p ln col) q
-step_marked p col ln q within use_of color = grind (arith, common_steps, eqb-true, length-map, size_from)
+step_marked p col ln q within use_of color = grind (arith, eqb-true, length-map, size_from)
 
 -- ---- lines that stand for lists, and one member leaving
 
@@ -99,9 +99,9 @@ Named p j x = is_some (colour_in (uses_of p x) j) ≡ true
 at_member : (p : Puzzle) (j : ℕ) (l : Line) (a : ℕ) (xs : List ℕ) (o : ℕ) → InRange p j → 0 < l.len → l.len < 2 ^ 31
     → IsName p j a → IsLinkedFrom l a xs → AllByRecursion (Named p j) xs → is_in o xs ≡ true → IsMember p j l o
 at_member p j l a [] o r some few n h named e = absurd (false≢true e)
-at_member p j l a (y ∷ []) o r some few n h named e = grind (arith, common_steps, eqb-true)
+at_member p j l a (y ∷ []) o r some few n h named e = grind (arith, eqb-true)
 at_member p j l a (y ∷ z ∷ zs) o r some few n h named e =
-    grind (arith, common_steps, eqb-true, at_member p j l y (z ∷ zs) o r some few)
+    grind (arith, eqb-true, at_member p j l y (z ∷ zs) o r some few)
 
 member : (p : Puzzle) (j : ℕ) (l : Line) (xs : List ℕ) (o : ℕ) → InRange p j → l.len ≡ length xs → length xs < 2 ^ 31
     → IsLinkedFrom l 0 xs → AllByRecursion (Named p j) xs → is_in o xs ≡ true → IsMember p j l o
@@ -118,7 +118,7 @@ pub numbers_few : (p : Puzzle) (t : List Move) (j : ℕ) → length (listed_numb
 numbers_few p t j = grind (arith, common_steps, length-listed, length-map)
 
 pub numbers_named : (p : Puzzle) (t : List Move) (j : ℕ) → AllByRecursion (Named p j) (listed_numbers p t j)
-numbers_named p t j = grind (arith, common_steps, each-map, each_weaker, holders, holds_use)
+numbers_named p t j = grind (arith, each-map, each_weaker, holders, holds_use)
 
 -- each option of a list is a member of the line
 pub listed_member : {p : Puzzle} (t : List Move) (j x : ℕ) → IsFit p → InRange p j
@@ -167,5 +167,7 @@ tables_same p ln rn col now laid h colours =
     λ k n e j x f. h j (laid.nodes.ranged k n j x e f) in
     same_nodes _ _ (map_same (top_in ln) (top_in rn) (layout p) (λ k n e. top_same p ln rn k _ (at k n e)))
     (map_same (ulink_in p ln) (ulink_in p rn) (layout p)
-    (λ k n e. grind (arith, common_steps, link_same))) (map_same (dlink_in p ln) (dlink_in p rn) (layout p)
-    (λ k n e. grind (arith, common_steps, link_same))) (map_same col now (layout p) colours)
+    (λ k n e. link_same p _ _ _ (slot_of n) (λ j x f. ap (λ (l : Line). l.up x) (at k n e j x f))))
+    (map_same (dlink_in p ln) (dlink_in p rn) (layout p)
+    (λ k n e. link_same p _ _ _ (slot_of n) (λ j x f. ap (λ (l : Line). l.down x) (at k n e j x f))))
+    (map_same col now (layout p) colours)

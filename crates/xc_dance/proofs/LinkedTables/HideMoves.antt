@@ -62,7 +62,7 @@ pub follow_down : (p : Puzzle) (ln : ℕ → Line) (l : Line) (i a : ℕ) (xs re
     followed (map (dlink_in p ln) (layout p)) (length xs) (link_place p i (l.down a)) ≡ map (link_place p i) xs
 follow_down p ln l i a [] rest laid pos le named h down = refl
 follow_down p ln l i a (o ∷ xs) rest laid pos le named h down =
-    grind (arith, common_steps, get_down, follow_down p ln l i o xs rest laid pos le named.1 h.3 down)
+    grind (arith, get_down, follow_down p ln l i o xs rest laid pos le named.1 h.3 down)
 
 -- member x, whose node has a place, stands below a
 record Beside (p : Puzzle) (i : ℕ) (l : Line) (b a x : ℕ) : Type 0 where
@@ -74,7 +74,7 @@ members_up : (p : Puzzle) (i : ℕ) (l : Line) (a : ℕ) (xs : List ℕ) → IsL
     → AllByRecursion (Named p i) xs → IsLinkedFrom l a xs → Way (λ c b x. Beside p i l b c x) a xs (l.up 0)
 members_up p i l a [] laid pos le named h = sym h.1
 members_up p i l a (x ∷ xs) laid pos le named h =
-    grind (arith, common_steps, members_up p i l x xs laid pos le named.1 h.3)
+    grind (arith, members_up p i l x xs laid pos le named.1 h.3)
 
 -- and up the members
 follow_up : (p : Puzzle) (ln : ℕ → Line) (i b : ℕ) (xs : List ℕ) (c : ℕ) → Way (Beside p i (ln i)) b xs c

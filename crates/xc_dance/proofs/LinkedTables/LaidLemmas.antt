@@ -15,7 +15,7 @@ use Rattle.xc_dance.proofs.LinkedTables.PlaceLemmas.{IsAt, is_at, head_is, found
 -- a member of an item's list has its node there
 pub placed : (p : Puzzle) (j x : ℕ) → 0 < j → j ≤ item_count p → IsName p j x → Placed p j x
 placed p j zero pos le name = record { node = own j; at = head_is _ _ pos le; slot = refl }
-placed p j (suc m) pos le name = grind (arith, common_steps, held_node p j (suc m))
+placed p j (suc m) pos le name = grind (arith, held_node p j (suc m))
 
 -- and stands at no other place
 slot_at : {p : Puzzle} (q : ℕ) (n : Node) {j : ℕ} (x : ℕ) → IsFit p → IsAt p q n → slot_of n ≡ Some (j, x)

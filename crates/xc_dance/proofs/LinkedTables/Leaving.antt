@@ -101,8 +101,8 @@ module _ (p : Puzzle) (t : List Move) (i : ℕ) (legal : AreLegal p t) (laid : I
       (λ o is h n. h (ap (λ us. is_some (colour_in us j)) (sym is.1) ∙ n)) (options_left p t)
       (each_met _ j legal fit) in
       let listed_each : AllByRecursion (λ x. Named p j x → Met p t x j) (map (λ o. o.number) (holding i (left p t))) =
-      grind (arith, common_steps, each-filter, each-map) in
-      grind (arith, common_steps, element_of)
+      grind (arith, each-filter, each-map) in
+      grind (arith, element_of)
 
   -- its other uses are ready to leave
   pub ready_at : (x : ℕ) → is_in x (listed_numbers p t i) ≡ true
@@ -110,7 +110,7 @@ module _ (p : Puzzle) (t : List Move) (i : ℕ) (legal : AreLegal p t) (laid : I
   ready_at x within j e =
       let k = other_item x i j fit e in
       let met = met_at j x k.item.0 k.item.1 within k.named in
-      grind (arith, common_steps, false≢true, listed_member t j x fit k.item)
+      grind (arith, false≢true, listed_member t j x fit k.item)
 
   -- its own node isn't marked, and tells whether it is kept
   pub own_ready : (keep : Option ℕ) (x : ℕ) → is_in x (listed_numbers p t i) ≡ true → OwnReady p (color_in p t) i keep x
@@ -119,27 +119,27 @@ module _ (p : Puzzle) (t : List Move) (i : ℕ) (legal : AreLegal p t) (laid : I
       let named : Named p i x = element_of (Named p i) x (listed_numbers p t i) (numbers_named p t i) within in
       let c = colour_some (uses_of p x) i named in
       let is = color_is p t x i c.0 x_pos c.1 ∙ ap (λ b. cond b MARK c.0) (open_unmarked p t i x c.0 opened) in
-      grind (arith, common_steps, ne_eqb, test_is, colour_small (uses_of p x) i c.0 (fit.colours x) c.1)
+      grind (arith, ne_eqb, test_is, colour_small (uses_of p x) i c.0 (fit.colours x) c.1)
 
   -- each leaves the lists of the other open items that it is in
   pub leaves_at : (j x : ℕ) → InRange p j → j ≢ i → is_in x (listed_numbers p t i) ≡ true
       → leaves p (color_in p t) i j x ≡ (is_open j t && is_in x (listed_numbers p t j))
   leaves_at j x r ne within =
       let there = element_of (Named p j) x _ (numbers_named p t j) in
-      grind (arith, common_steps, met_at j x r.0 r.1 within, leaves_by t i j x fit, ne_eqb j i ne)
+      grind (arith, met_at j x r.0 r.1 within, leaves_by t i j x fit, ne_eqb j i ne)
 
   pub leaves_are : (j : ℕ) (gs : List ℕ) → InRange p j → AreOf p t i gs → j ≢ i →
       filter (leaves p (color_in p t) i j) gs ≡ filter (λ x. is_open j t && is_in x gs) (listed_numbers p t j)
   leaves_are j gs r of ne = same_members _ _ _ (Rises-filter (leaves p (color_in p t) i j) 0 gs of.rise)
       (Rises-filter _ 0 _ (rises_listed p t j))
-      (λ x. grind (arith, common_steps, in_filter, and-false, leaves_at, is_open))
+      (λ x. grind (arith, in_filter, and-false, leaves_at, is_open))
 
   -- so each other item's line has them
   pub lines_ready : LinesReady p (color_in p t) i (line_of p t) (listed_numbers p t i)
   lines_ready j r ne =
       let of : AreOf p t i (listed_numbers p t i) = record { rise = rises_listed p t i; among = λ x e. e } in record {
         member = λ x e lv some. listed_member t j x fit r (grind (arith, and_right, leaves_at));
-        enough = grind (arith, common_steps, leaves_are, length-filter-le, length-map);
+        enough = grind (arith, leaves_are, length-filter-le, length-map);
       }
 
   -- so each other item's line loses what the move takes
@@ -161,7 +161,7 @@ sum_same : (f g : ℕ → ℕ) (a n : ℕ) → ((j : ℕ) → a ≤ j → j < a 
 sum_same f g a zero h = refl
 sum_same f g a (suc n) h =
     let rest = sum_same f g (a + 1) n (λ j u v. h j (omega (arith, u)) (omega (arith, v))) in
-    grind (arith, common_steps, sum_by-cons)
+    grind (arith, sum_by-cons)
 
 -- a member more where a test holds
 pub one_more : (f : ℕ → List ℕ) (g : ℕ → Bool) (x : ℕ) (js : List ℕ)
@@ -172,9 +172,9 @@ one_more f g x (j ∷ js) = grind (arith, common_steps, sum_by-cons, one_more f 
 -- a number more that passes
 pub passes_one : (b : Bool) (f g : ℕ → Bool) (x : ℕ) (ys : List ℕ) → AllApart ys → g x ≡ false
     → ((j : ℕ) → f j ≡ (b && eqb x j || g j)) → length (filter f ys) ≡ cond (b && is_in x ys) 1 0 + length (filter g ys)
-passes_one b f g x [] apart out is = grind (arith, common_steps, and-false)
+passes_one b f g x [] apart out is = grind (arith, and-false)
 passes_one b f g x (y ∷ ys) apart out is =
-    grind (arith, common_steps, eqb_turn, eqb-true, eqb-false, passes_one b f g x ys apart.1 out is, is y)
+    grind (arith, eqb_turn, eqb-true, eqb-false, passes_one b f g x ys apart.1 out is, is y)
 
 -- numbers of the list ys counted there
 passing : (f : ℕ → Bool) (xs ys : List ℕ) → AllApart xs → AllApart ys

@@ -86,7 +86,7 @@ at_slot p f fixed x e = ap (link_at p f fixed) e
 
 pub get_link : (p : Puzzle) (f : ℕ → ℕ → ℕ) (fixed : Node → ℕ) (j x : ℕ) → Placed p j x
     → get_or (column p f fixed) (link_place p j x) 0 ≡ link_place p j (f j x)
-get_link p f fixed j x h = grind (arith, common_steps, get_map, at_slot)
+get_link p f fixed j x h = grind (arith, get_map, at_slot)
 
 pub get_up : (p : Puzzle) (ln : ℕ → Line) (j x : ℕ) → Placed p j x
     → get_or (map (ulink_in p ln) (layout p)) (link_place p j x) 0 ≡ link_place p j ((ln j).up x)
@@ -153,7 +153,7 @@ node_cells p ln col j o laid pos le o_pos name name_up name_down =
     let down = get_down _ ln _ _ here in
     let item = get_item _ ln _ _ here o_pos in
     let within = λ (k : ℕ) (n : Node). slice_get_within (layout p) k n in
-    let head = laid.head j pos le in grind (arith, common_steps, length-map, get_len p ln j laid pos le)
+    let head = laid.head j pos le in grind (arith, length-map, get_len p ln j laid pos le)
 
 -- columns of links that lead the same way
 pub column_same : (p : Puzzle) (f g : ℕ → ℕ → ℕ) (fixed : Node → ℕ) → ((j x : ℕ) → g j x ≡ f j x)

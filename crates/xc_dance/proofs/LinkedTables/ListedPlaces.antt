@@ -27,7 +27,7 @@ listed_use {p} t i x fit h =
     let is = in_list_name p t i x (contained _ _ h) in
     let w = held_node p i x is.0 is.1 in
     let items = All-from_recursion (λ u. IsItem p u.item) (uses_of p x) (fit.items x) in
-    grind (arith, common_steps, slice_get_within (uses_of p x) (place_in i (uses_of p x)) w.held.use_of w.held.at)
+    grind (arith, slice_get_within (uses_of p x) (place_in i (uses_of p x)) w.held.use_of w.held.at)
 
 -- the place of an item's own node is below those of options
 pub own_place : {p : Puzzle} {t : List Move} {i : ℕ} (x : ℕ) {q : ℕ} → IsListedAt p t i x q → q ≤ item_count p → x ≡ 0
@@ -37,7 +37,7 @@ own_place (suc m) at le = absurd (omega (arith, at.at, le))
 -- and an option's is behind them
 pub option_place : {p : Puzzle} {t : List Move} {i x q : ℕ} → IsItem p i → IsListedAt p t i x q → item_count p < q →
     Contains (listed_numbers p t i) x
-option_place {p} {i = i} item at gt = grind (arith)
+option_place {p} {i = i} item at gt = grind arith
 
 -- ---- what a dance finds next, by a problem that was read: at an item's own node, or at an option's
 
@@ -58,7 +58,7 @@ pub option_use : (s : Dancing) (a : Named) (i x q items : ℕ) → s.puzzle ≡ 
     items ≡ item_count a.puzzle → IsItem s.puzzle i → IsListedAt s.puzzle s.trail i x q → items < q →
     Contains (list_of s i) x × IsUseAt a.puzzle i x q
 option_use s a i x q items same sound count item at gt =
-    grind (arith, common_steps, option_place item at, listed_use s.trail i x (fit_state s same sound))
+    grind (arith, option_place item at, listed_use s.trail i x (fit_state s same sound))
 
 -- the one below it
 pub next_of_option : (s : Dancing) (a : Named) (i x q items o : ℕ) (n : Option ℕ) → s.puzzle ≡ a.puzzle → IsSound a →
@@ -75,4 +75,4 @@ next_use s a i x o same sound is = subst (λ (p : Puzzle). IsUseAt p i o (link_p
 -- its place, or the item's own node, tells what is next
 pub place_tells : (s : Dancing) (i x r : ℕ) → IsItem s.puzzle i →
     r ≡ link_place s.puzzle i (first_above 0 x (list_of s i)) → option_at s.puzzle i r ≡ next_above x (list_of s i)
-place_tells s i x r item is = grind (arith, common_steps, option_there, above_name, above_named, list_of)
+place_tells s i x r item is = grind (arith, option_there, above_name, above_named, list_of)

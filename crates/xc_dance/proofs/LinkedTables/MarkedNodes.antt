@@ -68,8 +68,8 @@ in_open p t j legal opened = subst (λ (os : List Numbered). AllByRecursion
 -- no node of an open item is marked
 pub open_unmarked : (p : Puzzle) (t : List Move) (i o c : ℕ) → is_open i t ≡ true → is_marked p t i o c ≡ false
 open_unmarked p [] i o c e = refl
-open_unmarked p (Purify j d ∷ t) i o c e = grind (arith, common_steps, eqb-true, eq-eqb, open_unmarked p t i o c)
-open_unmarked p (Cover j ∷ t) i o c e = grind (arith, common_steps, open_unmarked p t i o c)
+open_unmarked p (Purify j d ∷ t) i o c e = grind (arith, eqb-true, eq-eqb, open_unmarked p t i o c)
+open_unmarked p (Cover j ∷ t) i o c e = grind (arith, open_unmarked p t i o c)
 open_unmarked p (_ ∷ t) i o c e = open_unmarked p t i o c e
 
 -- the nodes of a purified item that are left are marked
@@ -81,9 +81,9 @@ purified_marked p (Purify k d ∷ t) j c legal e =
     kept P p t (Purify k d) (elim (eqb j k) as (λ b. eqb j k ≡ b → cond b (Some d) (purified j t) ≡ Some c
     → AllByRecursion P (left p t)) [
       | true ↦ λ f g. each_weaker (InList p t j) P (left p t)
-          (λ o h held. grind (arith, common_steps, eq-eqb, same_Some))
+          (λ o h held. grind (arith, eq-eqb, same_Some))
           (in_open p t j legal.1 (ap (λ i. is_open i t) (eqb-true j k f) ∙ legal.0.1))
-      | false ↦ λ f g. each_weaker (HasMark p t j c) P (left p t) (λ o h held. grind (arith, common_steps))
+      | false ↦ λ f g. each_weaker (HasMark p t j c) P (left p t) (λ o h held. grind arith)
           (purified_marked p t j c legal.1 g)
     ] refl e)
 purified_marked p (m ∷ t) j c legal e = kept (HasMark p t j c) p t m (purified_marked p t j c legal.1 e)
@@ -135,14 +135,14 @@ each_met {p} t j legal fit =
           let c = colour_some (uses_of p o.number) j (ap (λ us. is_some (colour_in us j)) is.1 ∙ held) in
           let small = colour_small (uses_of p o.number) j c.0 (fit.colours o.number) c.1 in
           let m = mark_is p t o.number j c.0 is.0 c.1 in
-          grind (arith, common_steps, false≢true, ne_eqb, open_unmarked)) (options_left p t) (in_open p t j legal e)
+          grind (arith, false≢true, ne_eqb, open_unmarked)) (options_left p t) (in_open p t j legal e)
       | false ↦ λ e. elim (closed j t e) [
-        | inl covered ↦ grind (arith, common_steps, each_weaker, false≢true, left_free)
+        | inl covered ↦ grind (arith, each_weaker, false≢true, left_free)
         | inr has ↦ each_both (IsOption p) (λ o. IsOption p o → R o) R _ (λ o is h. h is) (options_left p t)
             (each_both (HasMark p t j has.0) (λ o. agrees has.0 (colour_at o j) ≡ true) (λ o. IsOption p o → R o)
             (left p t) (λ o marked agree is held.
             let c = colour_some (uses_of p o.number) j (ap (λ us. is_some (colour_in us j)) is.1 ∙ held) in
-            grind (arith, common_steps, false≢true, agrees_same has.0 c.0, mark_is p t o.number j c.0 is.0 c.1))
+            grind (arith, false≢true, agrees_same has.0 c.0, mark_is p t o.number j c.0 is.0 c.1))
             (purified_marked p t j has.0 legal has.1) (left_agrees p t j has.0 has.1))
       ]
     ] refl

@@ -107,7 +107,7 @@ off_is p t i legal pos le =
           (side.place, eq-eqb (rlink_at p t l) i (link_back p false t _ legal within (λ _ _. e)))
     ] refl in
     let get_r = ap (λ k. get_or (items_after p t).rlink k 0) get_l ∙ row_get (rlink_at p t) _ _ both.0 in
-    grind (arith, common_steps, row_len)
+    grind (arith, row_len)
 
 -- ---- the tables after moves let the next legal move be made, and are then those after it; and back
 
@@ -169,7 +169,7 @@ pub move_step : {p : Puzzle} (t : List Move) {spans : List Span} (m : Move) → 
 move_step {p} t {spans} (Cover i) legal may f =
     let pos : 0 < i = omega (arith, may.0.0) in
     let w = walk_made p t spans (Cover i) i None (color_in p t) legal f pos may.0.1 may.1 (cover_hides p t i) in
-    grind (arith, common_steps, cover_writes, ring_step p t i legal may)
+    grind (arith, cover_writes, ring_step p t i legal may)
 move_step t (Purify i c) legal may f = purify_step t i c legal may f
 move_step {p} t {spans} (Tweak i) legal may f =
     let pos : 0 < i = omega (arith, may.0.0) in
@@ -180,18 +180,18 @@ move_step {p} t {spans} (Spend i) legal may f =
     let next = Spend i ∷ t in
     let nodes = spent_nodes p t i f.laid in
     let before : get_or (items_after p t).bound i 0 ≡ high_at p i - spends i t =
-    grind (arith, common_steps, row_get, bound_own) in
+    grind (arith, row_get, bound_own) in
     let after : get_or (items_after p next).bound i 0 ≡ high_at p i - (1 + spends i t) =
-    grind (arith, common_steps, row_get, bound_own, spends_own) in
+    grind (arith, row_get, bound_own, spends_own) in
     let llinks : (items_after p next).llink ≡ (items_after p t).llink =
     row_same (llink_at p t) (llink_at p next) (item_count p + 2) (λ q h. still_llink p t (Spend i) q (λ k. refl)) in
     let rlinks : (items_after p next).rlink ≡ (items_after p t).rlink =
     row_same (rlink_at p t) (rlink_at p next) (item_count p + 2) (λ q h. still_rlink p t (Spend i) q (λ k. refl)) in
     let bounds : (items_after p next).bound ≡ set (items_after p t).bound i (get_or (items_after p t).bound i 0 - 1) =
-    grind (arith, common_steps, row_put, bound_other) in
+    grind (arith, row_put, bound_other) in
     let back : (items_after p t).bound ≡ set (items_after p next).bound i (get_or (items_after p next).bound i 0 + 1) =
-    grind (arith, common_steps, row_put, bound_other) in
-    grind (arith, common_steps, row_len, same_items, may.1)
+    grind (arith, row_put, bound_other) in
+    grind (arith, row_len, same_items, may.1)
 
 -- ---- the tables of a keeper from one move to the next
 

@@ -40,9 +40,9 @@ use Rattle.xc_dance.specs.declared.links.nodes.TheConstants.{SPACER}
 -- ---- bounds
 
 pub spent_within : (p : Puzzle) (t : List Move) (i : ℕ) → AreLegal p t → spends i t ≤ high_at p i
-spent_within p [] i legal = grind (arith, common_steps, eqb-true)
-spent_within p (Spend j ∷ t) i legal = grind (arith, common_steps, eqb-true, spent_within p t i legal.1)
-spent_within p (_ ∷ t) i legal = grind (arith, common_steps, eqb-true, spent_within p t i legal.1)
+spent_within p [] i legal = grind (arith, eqb-true)
+spent_within p (Spend j ∷ t) i legal = grind (arith, eqb-true, spent_within p t i legal.1)
+spent_within p (_ ∷ t) i legal = grind (arith, eqb-true, spent_within p t i legal.1)
 
 -- ---- states
 
@@ -103,8 +103,8 @@ on_the_way p t i o q laid pos held from to =
     let cells = use_cells p t o b.0 q b.2 in
     record {
       within = cells.within;
-      found = λ e. sym (grind (arith, common_steps));
-      next = grind (arith, common_steps, cells.top);
+      found = λ e. sym (grind arith);
+      next = grind (arith, cells.top);
     }
 
 -- ---- which option a node is of
@@ -149,7 +149,7 @@ seeks p t i place q laid node other from to =
     let tells : (x : ℕ) → IsName p i x → place ≡ link_place p i x → ToSpacer p t x q = λ x name at.
     let is = name_used p i place x name at other in
     to_spacer p t i x q laid is.0 is.1 (omega (arith, from, at)) (to x name at) in
-    grind (arith, common_steps, name_used, ne_eqb)
+    grind (arith, name_used, ne_eqb)
 
 -- ---- links downwards, by option numbers
 
@@ -197,7 +197,7 @@ own_node {p} {t} {i} is laid seen item =
     let at = laid.head i here.0 here.1 in
     let within = slice_get_within (layout p) i (own i) at in
     let top = get_map (top_in (line_of p t)) (layout p) i (own i) at in
-    let color = get_map (color_in p t) (layout p) i (own i) at in grind (arith, common_steps, length-map, own_down)
+    let color = get_map (color_in p t) (layout p) i (own i) at in grind (arith, length-map, own_down)
 
 below_now : (p : Puzzle) (t : List Move) (i o : ℕ) → is_in o (listed_numbers p t i) ≡ true
     → below_of p t i o ≡ first_above 0 o (listed_numbers p t i)
@@ -214,7 +214,7 @@ use_down p t i (suc m) laid pos le some held e =
 
 pub node_within : (p : Puzzle) (i o : ℕ) → IsLaid p → 0 < i → i ≤ item_count p → IsName p i o
     → link_place p i o < length (layout p)
-node_within p i o laid pos le name = grind (arith, common_steps, slice_get_within)
+node_within p i o laid pos le name = grind (arith, slice_get_within)
 
 -- ---- the ring of primary items
 

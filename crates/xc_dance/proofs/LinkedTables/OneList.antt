@@ -44,17 +44,18 @@ pub color_put : (p : Puzzle) (col : Node → ℕ) (j x v : ℕ) → IsLaid p →
     → map (with_color col j x v) (layout p) ≡ set (map col (layout p)) (link_place p j x) v
 color_put p col j x v laid h =
     map_put col (with_color col j x v) (layout p) (link_place p j x) v
-    (λ q n at ne. grind (arith, common_steps, slot_is)) (λ n at. grind (arith, common_steps, same_at))
+    (λ q n at ne. grind (arith, slot_is)) (λ n at. grind (arith, same_at))
 
 -- a node is coloured in the table
 pub coloured_is : (p : Puzzle) (col : Node → ℕ) (ln : ℕ → Line) (j x v : ℕ) → IsLaid p → Placed p j x
     → with_colour (nodes_from p ln col) (link_place p j x) v ≡ nodes_from p ln (with_color col j x v)
-coloured_is p col ln j x v laid h = grind (arith, common_steps, color_put, same_nodes)
+coloured_is p col ln j x v laid h = grind (arith, color_put, same_nodes)
 
 pub color_other : (p : Puzzle) (col : Node → ℕ) (j x v k y : ℕ) → Placed p k y → (eqb k j && eqb y x) ≡ false →
     get_or (map (with_color col j x v) (layout p)) (link_place p k y) 0 ≡ get_or (map col (layout p))
     (link_place p k y) 0
-color_other p col j x v k y h ne = grind (arith, common_steps, get_map)
+color_other p col j x v k y h ne =
+    rw (get_map (with_color col j x v) (layout p) _ _ h.at, get_map col (layout p) _ _ h.at, h.slot, ne) refl
 
 -- ---- down one list and back up: the options of its nodes leave the lists of their other items, but for those of a
 -- colour that is kept, whose nodes are marked
@@ -103,7 +104,7 @@ same_now : (p : Puzzle) (col now : Node → ℕ) (o : ℕ) (ln : ℕ → Line) (
 same_now p col now o ln [] same = (refl, refl)
 same_now p col now o ln (j ∷ js) same =
     let rest = same_now p col now o (left_one p col o ln j) js (λ k e. same k (in_more j k js e)) in
-    grind (arith, common_steps)
+    grind arith
 
 -- ---- one step of the walk
 
@@ -132,13 +133,15 @@ mark_step p now spans (Some c) ln i o laid h near e =
     let u : Nodes = nodes_from p ln (with_color now i o MARK) in
     let within = slice_get_within (layout p) x h.node h.at in
     let long : length t.color ≡ length (layout p) = length-map (layout p) now in
+    let long' = length-map (layout p) (with_color now i o MARK) in
     let is : with_colour t x MARK ≡ u = coloured_is p now ln i o MARK laid h in
-    let marked : is_kept_mark (Some c) (get_or u.color x 0) ≡ true = grind
-    (arith, common_steps, eq-eqb, get_map, with_color) in
+    let at = get_map (with_color now i o MARK) (layout p) x h.node h.at in
+    let marked : is_kept_mark (Some c) (get_or u.color x 0) ≡ true =
+    eq-eqb _ MARK (rw (h.slot, eq-eqb i i refl, eq-eqb o o refl) at at) in
     record {
-      down = grind (arith, common_steps, false≢true);
+      down = grind (arith, false≢true);
       up = record {
-        can = grind (arith, common_steps, length-map, false≢true);
+        can = grind (arith, false≢true);
         done = rw marked (ap (λ (w : Nodes). with_colour w x c) (sym is)
             ∙ same_nodes (with_colour (with_colour t x MARK) x c) t refl refl refl
             (written_back t.color x x MARK c refl (eqb-true (own_color p now i o) c e)));
@@ -150,7 +153,7 @@ mark_step p now spans (Some c) ln i o laid h near e =
 hide_step : {spans : List Span} (keep : Option ℕ) {t u : Nodes} {x n : ℕ} → x < length spans → x < length t.color
     → u.color ≡ t.color → is_kept_colour keep (get_or t.color x 0) ≡ false → eqb (get_or t.color x 0) MARK ≡ false
     → Turns spans t u x n → OneStep spans keep t u x n
-hide_step keep {t} {u} {x} span within same other unmarked s = grind (arith, common_steps)
+hide_step keep {t} {u} {x} span within same other unmarked s = grind arith
 
 -- an option whose other items are ready is hidden and comes back
 pub turns_ready : (p : Puzzle) (ln : ℕ → Line) (col : Node → ℕ) (spans : List Span) (o i : ℕ) → IsFitted p spans → 0 < o
@@ -229,8 +232,8 @@ module _ (p : Puzzle) (col : Node → ℕ) (spans : List Span) (i : ℕ) (keep :
   meets ln now o xs o_pos own lines passed =
       let js = other_items p o i in
       let here = f.laid.there i o pos le (inr (o_pos, own.named)) in
-      let same = passed.same i o here (grind (arith, common_steps, is_in-first)) in
-      let test : is_kept_colour keep (own_color p now i o) ≡ is_kept p i keep o = grind (arith, common_steps) in
+      let same = passed.same i o here (grind (arith, is_in-first)) in
+      let test : is_kept_colour keep (own_color p now i o) ≡ is_kept p i keep o = grind arith in
       elim (is_kept p i keep o) as (λ b. is_kept p i keep o ≡ b → OneStep spans keep (nodes_from p ln now)
       (nodes_from p (cond b ln (left_all p col o ln js)) (cond b (with_color now i o MARK) now)) (link_place p i o)
       (cond b 1 (3 * gone_count p col i o))) [
@@ -238,7 +241,7 @@ module _ (p : Puzzle) (col : Node → ℕ) (spans : List Span) (i : ℕ) (keep :
         | false ↦ λ e.
             let other : (j : ℕ) → is_in j js ≡ true → OtherItem p o i j = λ j in_js. other_item o i j f.fit in_js in
             let now_same : (j : ℕ) → is_in j js ≡ true → own_color p now j o ≡ own_color p col j o =
-            grind (arith, common_steps, ne_eqb) in
+            grind (arith, ne_eqb) in
             let alike = same_now p col now o ln js now_same in
             let at = slice_get_within (layout p) (link_place p i o) here.node here.at in
             let ready : AreReady p now ln o js = λ j in_js. let k = other j in_js in record {
@@ -246,8 +249,8 @@ module _ (p : Puzzle) (col : Node → ℕ) (spans : List Span) (i : ℕ) (keep :
               named = k.named;
               member = λ un.
                   let h = lines j k.item k.ne in
-                  let lv : leaves p col i j o ≡ true = grind (arith, common_steps) in
-                  h.member o (is_in-first o xs) lv (grind (arith, common_steps, h.enough));
+                  let lv : leaves p col i j o ≡ true = grind arith in
+                  h.member o (is_in-first o xs) lv (grind (arith, h.enough));
             } in
             let s =
             hide_step keep (f.spanned.within o i o_pos own.named) (omega (arith, at, length-map (layout p) now)) refl
@@ -281,7 +284,7 @@ module _ (p : Puzzle) (col : Node → ℕ) (spans : List Span) (i : ℕ) (keep :
               within = omega (arith, within, length-map (layout p) (dlink_in p ln'));
               next = get_down p ln' i o placed ∙ ap (λ (k : Line). link_place p i (k.down o)) own';
             };
-            up = grind (arith, common_steps, length-map, get_up);
+            up = grind (arith, length-map, get_up);
           },
           way ln' (marked_by p i keep now o) o xs own' linked.3 (λ x e. each x (in_more o x xs e))
               (lines_on ln o xs r.1 lines) r.1 (passed_on now o xs r.1 passed),

@@ -56,7 +56,7 @@ AllApart (j ∷ js) = (is_in j js ≡ false) × AllApart js
 
 module _ (change : Line → ℕ → Line) (p : Puzzle) (col : Node → ℕ) (o : ℕ) where
   pub one_other : (ln : ℕ → Line) (j k : ℕ) → j ≢ k → changed_one change p col o ln j k ≡ ln k
-  one_other ln j k ne = grind (arith, common_steps, line_there)
+  one_other ln j k ne = grind (arith, line_there)
 
   pub all_other : (ln : ℕ → Line) (js : List ℕ) (k : ℕ) → is_in k js ≡ false → changed_all change p col o ln js k ≡ ln k
   all_other ln [] k out = refl
@@ -67,10 +67,10 @@ module _ (change : Line → ℕ → Line) (p : Puzzle) (col : Node → ℕ) (o :
   -- the line of item k after all of them
   pub all_at : (ln : ℕ → Line) (js : List ℕ) (k : ℕ) → AllApart js
       → changed_all change p col o ln js k ≡ cond (is_in k js && not (is_mark p col o k)) (change (ln k) o) (ln k)
-  all_at ln [] k apart = grind (arith, common_steps, all_other, eqb-false, eqb-true, line_here, one_other)
+  all_at ln [] k apart = grind (arith, all_other, eqb-false, eqb-true, line_here, one_other)
   all_at ln (j ∷ js) k apart =
       let rest = all_at (changed_one change p col o ln j) js k apart.1 in
-      grind (arith, common_steps, all_other, eqb-false, eqb-true, line_here, one_other)
+      grind (arith, all_other, eqb-false, eqb-true, line_here, one_other)
 
 -- ---- what its leaving asks of one item and of all
 

@@ -44,7 +44,7 @@ leaves p col i k o = is_in k (other_items p o i) && not (is_mark p col o k)
 
 in_insert : (x k : ℕ) (xs ys : List ℕ) → is_in x (xs ++ k ∷ ys) ≡ (eqb k x || is_in x (xs ++ ys))
 in_insert x k [] ys = refl
-in_insert x k (y ∷ xs) ys = grind (arith, common_steps, in_insert x k xs ys)
+in_insert x k (y ∷ xs) ys = grind (arith, in_insert x k xs ys)
 
 all_insert : (k : ℕ) (xs ys : List ℕ) → (is_in k xs || is_in k ys) ≡ false → AllApart (xs ++ ys)
     → AllApart (xs ++ k ∷ ys)
@@ -73,7 +73,7 @@ others_apart p o i fit = others_apart_of (uses_of p o) i (fit.distinct o)
 pub item_range : (p : Puzzle) (us : List Use) (j : ℕ) → AllByRecursion (λ u. (0 < u.item) × (u.item ≤ item_count p)) us
     → is_some (colour_in us j) ≡ true → (0 < j) × (j ≤ item_count p)
 item_range p [] j a e = absurd (false≢true e)
-item_range p (u ∷ us) j a e = grind (arith, common_steps, eqb-true, item_range p us j a.1)
+item_range p (u ∷ us) j a e = grind (arith, eqb-true, item_range p us j a.1)
 
 -- the item itself isn't among them
 pub own_apart : (p : Puzzle) (i o : ℕ) → IsFit p → is_in i (other_items p o i) ≡ false
@@ -108,4 +108,4 @@ pub list_at : (p : Puzzle) (col : Node → ℕ) (i : ℕ) (keep : Option ℕ) (l
 list_at p col i keep ln [] k fit = refl
 list_at p col i keep ln (o ∷ xs) k fit =
     let here = all_at cut p col o ln (other_items p o i) k (others_apart p o i fit) in
-    list_at p col i keep (left_by p col i keep ln o) xs k fit ∙ grind (arith, common_steps)
+    list_at p col i keep (left_by p col i keep ln o) xs k fit ∙ grind arith

@@ -64,7 +64,7 @@ held_use [] i e = absurd (false≢true e)
 held_use (u ∷ us) i e =
     elim (eqb u.item i) as (λ b. eqb u.item i ≡ b → is_some (cond b (Some u.colour) (colour_in us i)) ≡ true
     → Held (u ∷ us) i) [
-      | true ↦ grind (arith, common_steps, eqb-true)
+      | true ↦ grind (arith, eqb-true)
       | false ↦ λ other f.
           let r = held_use us i f in
           let n : place_in i (u ∷ us) ≡ suc (place_in i us) = rw other (omega arith) in
@@ -73,7 +73,7 @@ held_use (u ∷ us) i e =
             at = ap (slice_get (u ∷ us)) n ∙ r.at;
             item = r.item;
             colour = rw other r.colour;
-            before = grind (arith, common_steps);
+            before = grind arith;
             behind = (rw other refl) ∙ r.behind ∙ ap (λ k. map (λ v. v.item) (drop k (u ∷ us))) next;
           }
     ] refl e
@@ -217,7 +217,7 @@ pub record OptionNodes (p : Puzzle) (x m : ℕ) : Type 0 where
   pub end : spacer_place p x ≡ start_at p m + length (uses_of p x)
 
 pub option_nodes : (p : Puzzle) (x : ℕ) → IsOption p x → OptionNodes p x (x - 1)
-option_nodes p x known = grind (arith, common_steps, option_get, use_here, place_is, spacer_here, place_next)
+option_nodes p x known = grind (arith, option_get, use_here, place_is, spacer_here, place_next)
 
 -- by which use an option holds an item, and where its node stands
 pub record HeldNode (p : Puzzle) (i x : ℕ) : Type 0 where
@@ -247,7 +247,7 @@ pub node_between : (p : Puzzle) (x q : ℕ) → IsOption p x → start_at p (x -
 node_between p x q known from below =
     let nodes = option_nodes p x known in
     let k = q - start_at p (x - 1) in
-    grind (arith, common_steps, slice_get-get_or (uses_of p x) k (record { item = 0; colour = 0 }), nodes.node k)
+    grind (arith, slice_get-get_or (uses_of p x) k (record { item = 0; colour = 0 }), nodes.node k)
 
 -- ---- what a node tells of its place
 
@@ -271,7 +271,7 @@ up_to p (suc n) q m le gt to e = elim (cases_lt (spacer_place p n) q) [
     | inl lt ↦
         let same : suc n - 1 ≡ n = omega arith in
         let b = node_between p (suc n) q (omega arith, le) (omega (arith, low, ap (spacer_place p) same)) lt in
-        grind (arith, common_steps, same_Some)
+        grind (arith, same_Some)
     | inr high ↦ spacer_at p (suc n) q m le (omega (arith, high, to)) e
   ]
   | inr low ↦ up_to p n q m (omega (arith, le)) gt low e
@@ -279,7 +279,7 @@ up_to p (suc n) q m le gt to e = elim (cases_lt (spacer_place p n) q) [
 
 pub is_at : (p : Puzzle) (q : ℕ) (n : Node) → slice_get (layout p) q ≡ Some n → IsAt p q n
 is_at p zero n e = subst (IsAt p 0) (same_Some unused n e) refl
-is_at p (suc q) n e = grind (arith, common_steps, up_to, layout_len, slice_get_within, head_is p (suc q), same_Some)
+is_at p (suc q) n e = grind (arith, up_to, layout_len, slice_get_within, head_is p (suc q), same_Some)
 
 -- ---- its span
 

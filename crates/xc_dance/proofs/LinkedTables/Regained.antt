@@ -32,8 +32,8 @@ below_more l a b (x ∷ xs) le h = grind (arith, common_steps, below_more l a b 
 
 linked_below : (l : Line) (a : ℕ) (xs : List ℕ) → IsLinkedFrom l a xs → AllByRecursion (IsBelow l a) xs
 linked_below l a [] h = tt
-linked_below l a (x ∷ []) h = (grind (arith, common_steps), tt)
-linked_below l a (x ∷ y ∷ xs) h = grind (arith, common_steps, below_more, linked_below l x (y ∷ xs) h.3)
+linked_below l a (x ∷ []) h = (grind arith, tt)
+linked_below l a (x ∷ y ∷ xs) h = grind (arith, below_more, linked_below l x (y ∷ xs) h.3)
 
 -- the first member that leaves comes back to its line
 -- two members come back in either order
@@ -47,12 +47,12 @@ behind_first : (l m : Line) (a y : ℕ) (ks : List ℕ) → 0 < l.len → l.down
     → Regaining l (mended m y) ks
 behind_first l m a y [] some down up b below mu md h = grind (arith, line_is, cut, put_at-same, put_at-other)
 behind_first l m a y (k ∷ ks) some down up b below mu md h = (
-  grind (arith, common_steps, put_at-same, put_at-other),
-  grind (arith, common_steps, put_at-same, put_at-other),
+  grind (arith, put_at-same, put_at-other),
+  grind (arith, put_at-same, put_at-other),
   subst (λ (n : Line). Regaining l n ks) (swapped l m a y k up b below.0 mu md h.0 h.1)
       (behind_first l (mended m k) a y ks some down up b below.1
-      (grind (arith, common_steps, put_at-same, put_at-other))
-      (grind (arith, common_steps, put_at-same, put_at-other)) h.2),
+      (grind (arith, put_at-same, put_at-other))
+      (grind (arith, put_at-same, put_at-other)) h.2),
 )
 
 -- before the first comes back
@@ -65,9 +65,9 @@ regaining l a (y ∷ ys) g linked long =
     let after = cut-linked l a y ys linked in
     let s = swept (cut l y) a ys g after in
     let m : Line = cuts (cut l y) (filter g ys) in
-    let up_kept : m.up y ≡ l.up y = grind (arith, common_steps, not_in, put_at-other) in
-    let down_kept : m.down y ≡ l.down y = grind (arith, common_steps, not_in, put_at-other, Rises-filter) in
+    let up_kept : m.up y ≡ l.up y = grind (arith, not_in, put_at-other) in
+    let down_kept : m.down y ≡ l.down y = grind (arith, not_in, put_at-other, Rises-filter) in
     let back = behind_first l m a y (filter g ys) (omega (arith, long)) linked.1 linked.2 below.0
     (each-filter (IsBelow l y) g ys (linked_below l y ys linked.3)) up_kept down_kept
     (regaining (cut l y) a ys g after (omega (arith, long))) in
-    let stays = regaining l y ys g linked.3 (omega (arith, long)) in grind (arith, common_steps)
+    let stays = regaining l y ys g linked.3 (omega (arith, long)) in grind arith

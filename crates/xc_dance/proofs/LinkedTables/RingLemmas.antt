@@ -38,15 +38,15 @@ row_by r l a n (y ∷ ys) e rise inner first last = grind (arith, above, below, 
 pub row_back : (r l : ℕ → ℕ) (a : ℕ) (xs : List ℕ) (e : ℕ) → IsRow r l a xs e → (x : ℕ)
     → ((eqb x a || is_in x xs) ≡ true → (l (r x) ≡ x) × ((eqb (r x) e || is_in (r x) xs) ≡ true))
     × ((eqb x e || is_in x xs) ≡ true → (r (l x) ≡ x) × ((eqb (l x) a || is_in (l x) xs) ≡ true))
-row_back r l a [] e row x = grind (arith, common_steps, eqb-true, eq-eqb)
-row_back r l a (y ∷ ys) e row x = grind (arith, common_steps, eqb-true, eq-eqb, eqb_turn, row_back r l y ys e row.2 x)
+row_back r l a [] e row x = grind (arith, eqb-true, eq-eqb)
+row_back r l a (y ∷ ys) e row x = grind (arith, eqb-true, eq-eqb, eqb_turn, row_back r l y ys e row.2 x)
 
 -- rows through the same numbers lead the same way
 pub row_same : (r l r' l' : ℕ → ℕ) (a : ℕ) (xs : List ℕ) (e : ℕ) → IsRow r l a xs e → IsRow r' l' a xs e → (x : ℕ)
     → ((eqb x a || is_in x xs) ≡ true → r x ≡ r' x) × ((eqb x e || is_in x xs) ≡ true → l x ≡ l' x)
-row_same r l r' l' a [] e row other x = grind (arith, common_steps, eqb-true)
+row_same r l r' l' a [] e row other x = grind (arith, eqb-true)
 row_same r l r' l' a (y ∷ ys) e row other x =
-    grind (arith, common_steps, eqb-true, eqb_turn, row_same r l r' l' y ys e row.2 other.2 x)
+    grind (arith, eqb-true, eqb_turn, row_same r l r' l' y ys e row.2 other.2 x)
 
 -- a link that leads past i
 abbrev pub past : ℕ → (ℕ → ℕ) → ℕ → ℕ
@@ -55,8 +55,8 @@ past i f q = cond (eqb (f q) i) (f i) (f q)
 -- one that isn't an end leaves the row
 pub row_less : (r l : ℕ → ℕ) (a i n : ℕ) (xs : List ℕ) (e : ℕ) → Rises n xs → a ≢ i → e ≢ i → IsRow r l a xs e
     → IsRow (past i r) (past i l) a (less i xs) e
-row_less r l a i n [] e rise na ne row = grind (arith, common_steps, ne_eqb)
-row_less r l a i n (y ∷ []) e rise na ne row = grind (arith, common_steps, eqb-true, ne_eqb)
+row_less r l a i n [] e rise na ne row = grind (arith, ne_eqb)
+row_less r l a i n (y ∷ []) e rise na ne row = grind (arith, eqb-true, ne_eqb)
 row_less r l a i n (y ∷ z ∷ zs) e rise na ne row =
     by_first (IsRow (past i r) (past i l) a (less i (y ∷ z ∷ zs)) e) y i (λ s.
     let zi : z ≢ i = (λ w. omega (arith, s, w, rise.1.0)) in
@@ -64,5 +64,5 @@ row_less r l a i n (y ∷ z ∷ zs) e rise na ne row =
     let rest = row_less r l z i z zs e rise.1.1 zi ne row.2.2 in
     let same : less i zs ≡ zs = stay_same i zs (λ e. false≢true (sym out ∙ e)) in
     rw (eq-eqb y i s, ne_eqb z i zi, same)
-    (grind (arith, common_steps, eq-eqb, subst (λ ks. IsRow (past i r) (past i l) z ks e) same rest)))
-    (λ no. rw (ne_eqb y i no) (grind (arith, common_steps, ne_eqb, row_less r l y i y (z ∷ zs) e rise.1 no ne row.2)))
+    (grind (arith, eq-eqb, subst (λ ks. IsRow (past i r) (past i l) z ks e) same rest)))
+    (λ no. rw (ne_eqb y i no) (grind (arith, ne_eqb, row_less r l y i y (z ∷ zs) e rise.1 no ne row.2)))

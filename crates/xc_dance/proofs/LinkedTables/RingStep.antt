@@ -27,15 +27,15 @@ pub row_get : (f : ℕ → ℕ) (n q : ℕ) → q < n → get_or (map f (range_w
 row_get f n q h = get_or-map-range_with_len f 0 n q q 0 h (omega arith)
 
 row_at : (n q m : ℕ) → slice_get (range_with_len 0 n) q ≡ Some m → m ≡ q
-row_at n q m e = grind (arith, common_steps, length-range_with_len, range_get, same_Some, slice_get_within)
+row_at n q m e = grind (arith, length-range_with_len, range_get, same_Some, slice_get_within)
 
 pub row_put : (f g : ℕ → ℕ) (n k v : ℕ) → ((q : ℕ) → q < n → q ≢ k → g q ≡ f q) → g k ≡ v
     → map g (range_with_len 0 n) ≡ set (map f (range_with_len 0 n)) k v
-row_put f g n k v rest here = grind (arith, common_steps, length-range_with_len, map_put, row_at, slice_get_within)
+row_put f g n k v rest here = grind (arith, length-range_with_len, map_put, row_at, slice_get_within)
 
 pub row_same : (f g : ℕ → ℕ) (n : ℕ) → ((q : ℕ) → q < n → g q ≡ f q)
     → map g (range_with_len 0 n) ≡ map f (range_with_len 0 n)
-row_same f g n h = grind (arith, common_steps, length-range_with_len, map_same, row_at, slice_get_within)
+row_same f g n h = grind (arith, length-range_with_len, map_same, row_at, slice_get_within)
 
 -- ---- rings
 
@@ -51,11 +51,11 @@ right_now p (m ∷ t) q e = ap (λ b. cond b (right_of p t q) (first_above (ring
 
 pub still_llink : (p : Puzzle) (t : List Move) (m : Move) (q : ℕ) → ((q : ℕ) → is_covered q (m ∷ t) ≡ is_covered q t)
     → llink_at p (m ∷ t) q ≡ llink_at p t q
-still_llink p t m q s = grind (arith, common_steps, left_now, filter_agree)
+still_llink p t m q s = grind (arith, left_now, filter_agree)
 
 pub still_rlink : (p : Puzzle) (t : List Move) (m : Move) (q : ℕ) → ((q : ℕ) → is_covered q (m ∷ t) ≡ is_covered q t)
     → rlink_at p (m ∷ t) q ≡ rlink_at p t q
-still_rlink p t m q s = grind (arith, common_steps, right_now, filter_agree)
+still_rlink p t m q s = grind (arith, right_now, filter_agree)
 
 pub same_items : (s t : Items) → s.llink ≡ t.llink → s.rlink ≡ t.rlink → s.bound ≡ t.bound → s.slack ≡ t.slack → s ≡ t
 same_items s t a b c d = grind (arith, common_steps)

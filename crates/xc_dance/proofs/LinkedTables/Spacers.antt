@@ -9,7 +9,7 @@ use Rattle.xc_dance.specs.declared.links.nodes.Nodes.{Nodes}
 use Rattle.xc_dance.specs.inner.Links.Span.{Span}
 use Rattle.xc_dance.specs.Fields.{Node, spacer, layout, link_place}
 use Rattle.xc_dance.specs.inner.Links.Lines.{Line}
-use Rattle.xc_dance.specs.inner.Links.Cells.{ulink_in, nodes_from}
+use Rattle.xc_dance.specs.inner.Links.Cells.{ulink_in, dlink_in, nodes_from}
 use Rattle.xc_dance.specs.inner.Links.Others.{behind_use, before_use, HasSpans}
 use Rattle.xc_dance.specs.inner.Links.Steps.{hidden, unhidden, CanHideAll, places, span_at, others_of}
 use Rattle.xc_dance.specs.inner.Links.Steps.{IsSpacer, CanHideNode, CanUnhideNode, hidden_node, unhidden_node}
@@ -31,7 +31,7 @@ others_are p spans o i spanned pos named = grind (arith, common_steps, map-appen
 
 spacer_in : (p : Puzzle) (ln : ℕ → Line) (col : Node → ℕ) (z n : ℕ) → slice_get (layout p) z ≡ Some (spacer n)
     → IsSpacer (nodes_from p ln col) z
-spacer_in p ln col z n e = grind (arith, common_steps, get_map, length-map, size_from, slice_get_within)
+spacer_in p ln col z n e = grind (arith, get_map, length-map, size_from, slice_get_within)
 
 -- the option of node x is unhidden from the table t to u, which writes n cells
 pub record Unhides (spans : List Span) (t u : Nodes) (x n : ℕ) : Type 0 where
@@ -72,10 +72,11 @@ unhides p col spans o i spanned pos named R each ln end w =
     ap (λ qs. fold unhidden (table ln) qs) (ap reverse s.before ∙ map_reverse place before) ∙ first.1 in
     let last_in = slice_get_within (layout p) (span_at spans (link_place p i o)).end _ s.last in
     let spacer = spacer_in p parts.0 col _ _ s.first in
+    let at = get_map (dlink_in p parts.0) (layout p) _ _ s.first in
     record {
-      can = grind (arith, common_steps, get_map, spanned.near);
+      can = grind (arith, spanned.near);
       done = ap (fold unhidden (table ln)) others ∙ whole.1;
-      cost = grind (arith, common_steps, costs-are, others_are, unhidden_color, unmarked-reverse, unmarked_items);
+      cost = grind (arith, costs-are, others_are, unhidden_color, unmarked-reverse, unmarked_items);
     }
 
 pub turns : (p : Puzzle) (ln : ℕ → Line) (col : Node → ℕ) (spans : List Span) (o i : ℕ) → HasSpans p spans → 0 < o

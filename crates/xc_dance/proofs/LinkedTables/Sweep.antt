@@ -74,7 +74,7 @@ rises l a (x ∷ xs) h = (h.0, rises l x xs h.3)
 -- one that is no higher than the start isn't in
 pub not_in : (n x : ℕ) (xs : List ℕ) → x ≤ n → Rises n xs → is_in x xs ≡ false
 not_in n x [] h r = refl
-not_in n x (y ∷ ys) h r = grind (arith, common_steps, ne_eqb, not_in y x ys (omega (arith, r.0)) r.1)
+not_in n x (y ∷ ys) h r = grind (arith, ne_eqb, not_in y x ys (omega (arith, r.0)) r.1)
 
 -- a member is higher than the start
 pub in_above : (n x : ℕ) (xs : List ℕ) → Rises n xs → is_in x xs ≡ true → n < x
@@ -129,12 +129,12 @@ IsLinkedFrom-same l m a (x ∷ xs) down up last h =
     grind (arith, common_steps)
 
 pub cut-linked : (l : Line) (a y : ℕ) (ys : List ℕ) → IsLinkedFrom l a (y ∷ ys) → IsLinkedFrom (cut l y) a ys
-cut-linked l a y [] h = grind (arith, common_steps, put_at-same)
+cut-linked l a y [] h = grind (arith, put_at-same)
 cut-linked l a y (z ∷ zs) h =
     let rest = IsLinkedFrom-same l (cut l y) z zs (λ k le. put_at-other l.down (l.up y) (l.down y) k (λ e. omega arith))
     (λ k gt. put_at-other l.up (l.down y) (l.up y) k (λ e. omega arith))
     (put_at-other l.up (l.down y) (l.up y) 0 (λ e. omega arith)) h.3.3 in
-    grind (arith, common_steps, put_at-same)
+    grind (arith, put_at-same)
 
 -- what stands below a member is the item's own node or a later member
 below_first : (l : Line) (y : ℕ) (ys : List ℕ) (x : ℕ) → IsLinkedFrom l y ys → x ≢ 0 → is_in x ys ≡ false → x ≢ l.down y
@@ -181,10 +181,10 @@ first_stays l m a y ys ks h ry s = grind (arith, common_steps, above, below, mem
 
 pub swept : (l : Line) (a : ℕ) (xs : List ℕ) (g : ℕ → Bool) → IsLinkedFrom l a xs
     → Swept l (cuts l (filter g xs)) a xs (stay g xs)
-swept l a [] g h = grind (arith, common_steps, cut-linked, false≢true, first_leaves, first_stays, rises)
+swept l a [] g h = grind (arith, cut-linked, false≢true, first_leaves, first_stays, rises)
 swept l a (y ∷ ys) g h =
     let gone = swept (cut l y) a ys g (cut-linked l a y ys h) in
-    let staying = swept l y ys g h.3 in grind (arith, common_steps, false≢true, first_leaves, first_stays, rises)
+    let staying = swept l y ys g h.3 in grind (arith, false≢true, first_leaves, first_stays, rises)
 
 -- how many are left
 pub swept_len : (l : Line) (xs : List ℕ) (g : ℕ → Bool) (n : ℕ) → l.len ≡ n + length xs
@@ -231,24 +231,24 @@ in_dropped x (o ∷ os) e = in_more o.number x (numbers os) e
 -- an option of a list was in it before the move
 was_in : (p : Puzzle) (t : List Move) (m : Move) (i x : ℕ) → is_in x (listed_numbers p (m ∷ t) i) ≡ true
     → is_in x (listed_numbers p t i) ≡ true
-was_in p t (Cover j) i x e = grind (arith, common_steps, in_filtered)
-was_in p t _ i x e = grind (arith, common_steps, in_filtered, in_dropped, eqb-true)
+was_in p t (Cover j) i x e = grind (arith, in_filtered)
+was_in p t _ i x e = grind (arith, in_filtered, in_dropped, eqb-true)
 
 -- ---- the line after a move
 
 pub up_after : (p : Puzzle) (t : List Move) (m : Move) (j : ℕ) (l : Line)
     → Swept (line_of p t j) l 0 (listed_numbers p t j) (listed_numbers p (m ∷ t) j) → (x : ℕ)
     → up_of p (m ∷ t) j x ≡ l.up x
-up_after p t m j l s zero = grind (arith, common_steps)
-up_after p t m j l s (suc x) = grind (arith, common_steps)
+up_after p t m j l s zero = grind arith
+up_after p t m j l s (suc x) = grind arith
 
 pub down_after : (p : Puzzle) (t : List Move) (m : Move) (j : ℕ) (l : Line)
     → Swept (line_of p t j) l 0 (listed_numbers p t j) (listed_numbers p (m ∷ t) j) → (x : ℕ)
     → down_of p (m ∷ t) j x ≡ l.down x
-down_after p t m j l s zero = grind (arith, common_steps)
-down_after p t m j l s (suc x) = grind (arith, common_steps)
+down_after p t m j l s zero = grind arith
+down_after p t m j l s (suc x) = grind arith
 
 -- each item's line stands for its list
 pub stands : (p : Puzzle) (t : List Move) (j : ℕ) → IsLinkedFrom (line_of p t j) 0 (listed_numbers p t j)
-stands p [] j = grind (arith, common_steps, in_above, linked_by, rises_listed p [] j, listed_numbers p [] j)
-stands p (m ∷ t) j = grind (arith, common_steps, in_above, was_in, linked_by, rises_listed p (m ∷ t) j)
+stands p [] j = grind (arith, in_above, linked_by, rises_listed p [] j, listed_numbers p [] j)
+stands p (m ∷ t) j = grind (arith, in_above, was_in, linked_by, rises_listed p (m ∷ t) j)

@@ -58,8 +58,8 @@ pub record IsSound (p : Puzzle) : Type 0 where
 first_spacer : (p : Puzzle) (t : List Move) (q : ℕ) (n : Node) → IsSound p → slice_get (layout p) q ≡ Some n
     → top_in (line_of p t) n ≡ SPACER → q ≡ item_count p + 1
 first_spacer p t q unused s e f = absurd (omega (arith, f))
-first_spacer p t q (own i) s e f = grind (arith, common_steps, length-listed)
-first_spacer p t q (spacer n) s e f = grind (arith, common_steps, is_at p q (spacer n) e, place_first p)
+first_spacer p t q (own i) s e f = grind (arith, length-listed)
+first_spacer p t q (spacer n) s e f = grind (arith, is_at p q (spacer n) e, place_first p)
 first_spacer p t q (used o u) s e f =
     absurd (omega (arith, f, (s.laid.nodes.ranged q (used o u) u.item o e refl).1, s.laid.small))
 
@@ -70,22 +70,22 @@ top_at_first p t k e = slice_get-map (top_in (line_of p t)) (layout p) k ∙ ap 
 
 node_at : (p : Puzzle) (f : Node → ℕ) (q v : ℕ) → slice_get (map f (layout p)) q ≡ Some v → (n : Node)
     × (slice_get (layout p) q ≡ Some n) × (f n ≡ v)
-node_at p f q v e = grind (arith, common_steps, same_Some, slice_get-map)
+node_at p f q v e = grind (arith, same_Some, slice_get-map)
 
 pub top_cells : (p q : Puzzle) (t s : List Move) (k : ℕ) → IsSound p → IsSound q → item_count p ≡ item_count q →
     option_map top_read (slice_get (nodes_after p t).top k) ≡ option_map top_read (slice_get (nodes_after q s).top k)
     → slice_get (nodes_after p t).top k ≡ slice_get (nodes_after q s).top k
 top_cells p q t s k a b items e = by_first _ k (item_count p + 1)
     (λ is. top_at_first p t k is ∙ sym (top_at_first q s k (is ∙ ap (λ n. n + 1) items)))
-    (λ other. read_same top_read _ _ (λ v w f g h. top_same v w (grind (arith, common_steps, node_at, first_spacer))
-    (grind (arith, common_steps, node_at, first_spacer)) h) e)
+    (λ other. read_same top_read _ _ (λ v w f g h. top_same v w (grind (arith, node_at, first_spacer))
+    (grind (arith, node_at, first_spacer)) h) e)
 
 -- ---- a cell that is read is the field
 
 row_read : (f : ℕ → ℕ) (a n q : ℕ) → slice_get (map f (range_with_len a n)) q ≡ cond (ltb q n) (Some (f (a + q))) None
-row_read f a zero q = grind (arith, common_steps, le-ltb)
-row_read f a (suc n) zero = grind (arith, common_steps, lt-ltb)
-row_read f a (suc n) (suc q) = grind (arith, common_steps, le-ltb, lt-ltb, ltb-false, ltb-true, row_read f (a + 1) n q)
+row_read f a zero q = grind (arith, le-ltb)
+row_read f a (suc n) zero = grind (arith, lt-ltb)
+row_read f a (suc n) (suc q) = grind (arith, le-ltb, lt-ltb, ltb-false, ltb-true, row_read f (a + 1) n q)
 
 -- a column of the layout, by its nodes
 column_read : {X : Type 0} (f : X → ℕ) (g : ℕ → ℤ) (h : X → ℤ) (xs : List X) (q : ℕ)
@@ -104,10 +104,10 @@ module _ (p : Puzzle) (t : List Move) (q : ℕ) where
   rlink_read = grind (arith, eqb-false, eqb-true, le-ltb, leb-false, leb-true, lt-ltb, row_read)
 
   pub bound_read : q ≢ 0 → read (items_after p t).bound q ≡ field_of p t Bound q
-  bound_read ne = grind (arith, common_steps, le-ltb, leb-false, leb-true, lt-ltb, ne_eqb, row_read)
+  bound_read ne = grind (arith, le-ltb, leb-false, leb-true, lt-ltb, ne_eqb, row_read)
 
   pub slack_read : q ≢ 0 → read (items_after p t).slack q ≡ field_of p t Slack q
-  slack_read ne = grind (arith, common_steps, le-ltb, leb-false, leb-true, lt-ltb, ne_eqb, row_read)
+  slack_read ne = grind (arith, le-ltb, leb-false, leb-true, lt-ltb, ne_eqb, row_read)
 
   pub top_cell : IsLaid p → IsFit p → item_count p < 2 ^ 31
       → option_map top_read (slice_get (nodes_after p t).top q) ≡ field_of p t Top q
@@ -116,19 +116,19 @@ module _ (p : Puzzle) (t : List Move) (q : ℕ) where
       by_node : (n : Node) → slice_get (layout p) q ≡ Some n → top_read (top_in (line_of p t) n) ≡ top_of p t n
       by_node unused e = refl
       by_node (own i) e =
-          grind (arith, common_steps, read_small, numbers_few, length-map (listed p t i) (λ o. o.number))
+          grind (arith, read_small, numbers_few, length-map (listed p t i) (λ o. o.number))
       by_node (spacer n) e = spacer_top n
       by_node (used o u) e = read_small u.item (omega (arith, (laid.nodes.ranged q (used o u) u.item o e refl).1, few))
 
   pub ulink_cell : IsLaid p → read (nodes_after p t).ulink q ≡ field_of p t Ulink q
-  ulink_cell laid = grind (arith, common_steps, column_read)
+  ulink_cell laid = grind (arith, column_read)
 
   pub dlink_cell : IsLaid p → read (nodes_after p t).dlink q ≡ field_of p t Dlink q
-  dlink_cell laid = grind (arith, common_steps, column_read)
+  dlink_cell laid = grind (arith, column_read)
 
   -- the items' own nodes are never read as marked
   pub color_own : IsLaid p → q ≤ item_count p → read (nodes_after p t).color q ≡ field_of p t Color q
-  color_own laid le = grind (arith, common_steps, eqb-false, eqb-true, column_read)
+  color_own laid le = grind (arith, eqb-false, eqb-true, column_read)
 
   pub color_use : IsLaid p → IsFit p → item_count p < q
       → option_map color_read (slice_get (nodes_after p t).color q) ≡ field_of p t Color q
@@ -138,5 +138,5 @@ module _ (p : Puzzle) (t : List Move) (q : ℕ) where
       by_node (own i) e = let s = is_at p q (own i) e in absurd (omega (arith, s.1, s.2, gt))
       by_node (used o u) e =
           let small = colour_small (uses_of p o) u.item u.colour (fit.colours o) (laid.nodes.coloured q o u e) in
-          grind (arith, common_steps, ne_eqb)
+          grind (arith, ne_eqb)
       by_node _ e = refl

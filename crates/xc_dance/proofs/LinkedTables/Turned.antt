@@ -48,7 +48,7 @@ ring_rises : (p : Puzzle) (t : List Move) (q : ℕ) → Rises 0 (ring_of p t q)
 ring_rises p t q = grind (arith, common_steps, Rises-filter, side, Rises-range, Rises-weaker)
 
 ring_less : (p : Puzzle) (t : List Move) (i q : ℕ) → ring_of p (Cover i ∷ t) q ≡ less i (ring_of p t q)
-ring_less p t i q = grind (arith, common_steps, filter_agree, filter_both)
+ring_less p t i q = grind (arith, filter_agree, filter_both)
 
 head_other : (p : Puzzle) (q i : ℕ) → 0 < i → i ≤ item_count p → ring_head p q ≢ i
 head_other p q i pos le = grind (arith, common_steps, side)
@@ -67,8 +67,8 @@ item_cell p q first inner last pos le = grind (arith, common_steps, ne_eqb, le-l
 -- a covered item's cells stay
 pub link_gone : (p : Puzzle) (d : Bool) (t : List Move) (m : Move) (q : ℕ) → 0 < q → q ≤ item_count p
     → is_covered q (m ∷ t) ≡ true → link p d (m ∷ t) q ≡ link p d t q
-link_gone p true t m q pos le e = grind (arith, common_steps, item_cell)
-link_gone p false t m q pos le e = grind (arith, common_steps, item_cell)
+link_gone p true t m q pos le e = grind (arith, item_cell)
+link_gone p false t m q pos le e = grind (arith, item_cell)
 
 -- the cells of places that are in their rings
 link_is : (p : Puzzle) (d : Bool) (t : List Move) (q : ℕ) → q < item_count p + 2 → Stays p t q
@@ -119,7 +119,7 @@ ring_row p t q =
     let same : eqb (ring_head p q) (ring_head p q) ≡ true = eq-eqb (ring_head p q) (ring_head p q) refl in
     row_by _ _ (ring_head p q) 0 (ring_of p t q) (ring_head p q) (ring_rises p t q) (λ x e.
     let here = in_filter (λ j. not (is_covered j t)) x (whole p (side p q)) in
-    grind (arith, common_steps, ne_eqb, head_other p q x, in_side p (side p q) x)) (rw same refl) (rw same refl)
+    grind (arith, ne_eqb, head_other p q x, in_side p (side p q) x)) (rw same refl) (rw same refl)
 
 beside_back : (p : Puzzle) (d : Bool) (t : List Move) (q r : ℕ) → InRing p t q r → (let on = beside_on p t (side p q) in
     (on (not d) (on d r) ≡ r) × InRing p t q (on d r))
@@ -135,7 +135,7 @@ beside_left p d t i q r pos le within =
     let row = subst (λ ks. IsRow (past i (on true)) (past i (on false)) h ks h) (sym (ring_less p t i q))
     (row_less (on true) (on false) h i 0 (ring_of p t q) h (ring_rises p t q) (head_other p q i pos le)
     (head_other p q i pos le) (ring_row p t q)) in
-    grind (arith, common_steps, row_same, ring_row p (Cover i ∷ t) q, side p q, past)
+    grind (arith, row_same, ring_row p (Cover i ∷ t) q, side p q, past)
 
 pub link_beside : (p : Puzzle) (d : Bool) (t : List Move) (q : ℕ) → AreLegal p t → q < item_count p + 2 → Stays p t q
     → IsBeside p t (side p q) (link p d t q)

@@ -133,8 +133,8 @@ both : {spans : List Span} {covered : Bool} {i x : ℕ} (n : ℕ) {t m u : Nodes
     → i < length t.dlink → Hiding spans covered x n t m → HasSize m (length m.top) → NamesPlaces m x
     → 0 < get_or m.top (get_or m.top x 0) 0 → unlinked m x ≡ u → CanRelink u x → relinked u x ≡ m
     → TweakMade spans covered i x (3 + n) t u
-both {covered = true} n first within h size names some done back undone = grind (arith, common_steps, false≢true)
-both {covered = false} n first within h size names some done back undone = grind (arith)
+both {covered = true} n first within h size names some done back undone = grind (arith, false≢true)
+both {covered = false} n first within h size names some done back undone = grind arith
 
 module _ (p : Puzzle) (t : List Move) (spans : List Span) (covered : Bool) (i : ℕ) (legal : AreLegal p t)
     (fit : IsFitted p spans) (opened : is_open i t ≡ not covered) where
@@ -150,7 +150,7 @@ module _ (p : Puzzle) (t : List Move) (spans : List Span) (covered : Bool) (i : 
       let gone : ℕ → Bool = λ o. eqb j i || (not covered && leaves p (color_in p t) i j o) in
       let test : ℕ → Bool = λ x. (eqb j i || (not covered && is_open j t)) && is_in x gs in
       let at : (x : ℕ) → (gone x && is_in x gs) ≡ (test x && is_in x (listed_numbers p t j)) =
-      grind (arith, common_steps, by_first, eq-eqb, ne_eqb, and-false, off_at) in
+      grind (arith, by_first, eq-eqb, ne_eqb, and-false, off_at) in
       let rise = rises_listed p t j in
       same_members 0 _ _ (Rises-filter gone 0 gs of.rise) (Rises-filter test 0 (listed_numbers p t j) rise)
       (λ x. in_filter gone x gs ∙ at x ∙ sym (in_filter test x (listed_numbers p t j)))
@@ -161,7 +161,7 @@ module _ (p : Puzzle) (t : List Move) (spans : List Span) (covered : Bool) (i : 
   tweak_cuts f j r = record {
     test = λ x. (eqb j i || (not covered && is_open j t)) && is_in x (f.o ∷ []);
     cut_is = off_are j (f.o ∷ []) r
-        (record { rise = (f.pos, tt); among = λ x e. grind (arith, common_steps, eqb-true, f.within) });
+        (record { rise = (f.pos, tt); among = λ x e. grind (arith, eqb-true, f.within) });
     stay_is = tweak_stay p t i j f.o f.os (not covered) opened f.is
         ∙ stay_if (eqb j i || (not covered && is_open j t)) (f.o ∷ []) (listed_numbers p t j);
   }
@@ -176,7 +176,7 @@ module _ (p : Puzzle) (t : List Move) (spans : List Span) (covered : Bool) (i : 
       let col = color_in p t in
       let g : ℕ → Bool = λ j. not covered && leaves p col i j o in
       let all = leaving_is p t (Tweak i) (λ j. off p col covered i j (o ∷ [])) (tweak_cuts f) in
-      let own : g i ≡ false = grind (arith, common_steps, own_apart) in
+      let own : g i ≡ false = grind (arith, own_apart) in
       let gone = rw (in_range i 0 (item_count p) pos (omega (arith, le))) at (passes_one true (λ j. eqb j i || g j) g i
       (items p) (items_apart p) own (λ j. ap (λ b. b || g j) (eqb_turn j i))) in
       let more = one_more (λ j. []) (λ j. eqb j i || g j) o (items p) in

@@ -143,7 +143,7 @@ lowered_first ln i l os rest lost linked =
 
 up_kept : (p : Puzzle) (ln : ℕ → Line) (i : ℕ) (l : Line) → ((x : ℕ) → l.up x ≡ (ln i).up x)
     → map (ulink_in p ln) (layout p) ≡ map (ulink_in p (with_line ln i l)) (layout p)
-up_kept p ln i l h = grind (arith, common_steps, map_same, eqb-true)
+up_kept p ln i l h = grind (arith, map_same, eqb-true)
 
 lowered_is : (p : Puzzle) (col : Node → ℕ) (ln : ℕ → Line) (i o : ℕ) → IsLaid p → 0 < i → i ≤ item_count p
     → with_dlink (nodes_from p ln col) i (link_place p i o) ≡ nodes_from p (with_line ln i (lowered (ln i) o)) col

@@ -134,4 +134,4 @@ pub record IsRead (p : Puzzle) (s t : List Move) (spans : List Span) (k : ℕ) (
 pub read : {p : Puzzle} {s t : List Move} {spans : List Span} {k : ℕ} {xs : List ℕ} {nodes : Nodes} {items : Items}
     {x j : ℕ} (f : Found p s t spans k xs) → x ≡ first_place p t f.i → nodes ≡ nodes_after p s
     → items ≡ items_after p s → j ≡ get_or nodes.top x 0 → IsRead p s t spans k xs nodes items x j
-read {j = j} f node nodes_are items_are at = grind (arith)
+read {j = j} f node nodes_are items_are at = grind arith

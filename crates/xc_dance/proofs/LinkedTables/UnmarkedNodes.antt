@@ -64,8 +64,8 @@ unmarked-reverse color (q ∷ qs) = grind (arith, common_steps, unmarked-append,
 -- for option o's nodes in the lists of the items js
 pub unmarked_items : (p : Puzzle) (col : Node → ℕ) (o : ℕ) (js : List ℕ) → unmarked_costs (map col (layout p))
     (map (λ j. link_place p j o) js) ≡ 3 * length (filter (λ j. not (is_mark p col o j)) js)
-unmarked_items p col o [] = grind (arith, common_steps)
-unmarked_items p col o (j ∷ js) = grind (arith, common_steps, unmarked_items p col o js)
+unmarked_items p col o [] = grind arith
+unmarked_items p col o (j ∷ js) = grind (arith, unmarked_items p col o js)
 
 -- ---- where no use has a colour no node of an option is marked, and no walk marks one
 
@@ -77,9 +77,9 @@ no_colour (u ∷ us) j c a e = grind (arith, common_steps, same_Some, no_colour 
 
 -- a Purify marks with a colour
 never_marked : (p : Puzzle) (t : List Move) (i o : ℕ) → AreLegal p t → is_marked p t i o 0 ≡ false
-never_marked p [] i o legal = grind (arith, common_steps, ne_eqb)
-never_marked p (Purify j d ∷ t) i o legal = grind (arith, common_steps, ne_eqb, never_marked p t i o legal.1)
-never_marked p (_ ∷ t) i o legal = grind (arith, common_steps, ne_eqb, never_marked p t i o legal.1)
+never_marked p [] i o legal = grind (arith, ne_eqb)
+never_marked p (Purify j d ∷ t) i o legal = grind (arith, ne_eqb, never_marked p t i o legal.1)
+never_marked p (_ ∷ t) i o legal = grind (arith, ne_eqb, never_marked p t i o legal.1)
 
 no_color : (p : Puzzle) (t : List Move) (q : ℕ) (n : Node) → IsLaid p → AreLegal p t → IsPlain p → item_count p < q
     → slice_get (layout p) q ≡ Some n → color_in p t n ≡ 0
@@ -97,10 +97,10 @@ unmarked_behind p t q laid legal plain gt =
     elim (ltb q (length (layout p))) as (λ b. ltb q (length (layout p)) ≡ b → get_or (nodes_after p t).color q 0 ≡ 0) [
       | true ↦ λ e.
           let here = slice_get-get_or (layout p) q unused (ltb-true q (length (layout p)) e) in
-          grind (arith, common_steps, get_map, no_color, get_or (layout p) q unused)
-      | false ↦ λ e. grind (arith, common_steps, get_or_past, length-map, ltb-false)
+          grind (arith, get_map, no_color, get_or (layout p) q unused)
+      | false ↦ λ e. grind (arith, get_or_past, length-map, ltb-false)
     ] refl in
-    grind (arith, common_steps)
+    grind arith
 
 -- ---- the spans
 
@@ -113,7 +113,7 @@ by_node p t x (used o u) laid legal plain small e = (
   λ q from below. unmarked_behind p t q laid legal plain (omega (arith, used_behind p x o u e, from)),
   λ q from below. unmarked_behind p t q laid legal plain (omega (arith, from)),
 )
-by_node p t x _ laid legal plain small e = grind (arith)
+by_node p t x _ laid legal plain small e = grind arith
 
 -- no node of an option is marked
 pub plain_unmarked : (p : Puzzle) (t : List Move) → AreLegal p t → IsFitted p (spans_of p) → IsPlain p
@@ -125,7 +125,7 @@ plain_unmarked p t legal fitted plain = record {
       let is = get_or_from_slice_get (spans_of p) x (span_of p (get_or (layout p) x unused)) d
       (slice_get-map (span_of p) (layout p) x ∙ ap (option_map (span_of p)) here) in
       subst (λ (s : Span). HasUnmarked (nodes_after p t).color s x) (sym is)
-      (grind (arith, common_steps, by_node, length-map));
+      (grind (arith, by_node, length-map));
 }
 
 -- ---- the walks

@@ -34,7 +34,7 @@ pub record UseCells (p : Puzzle) (t : List Move) (u : Use) (q : ℕ) : Type 0 wh
 
 pub use_cells : (p : Puzzle) (t : List Move) (o : ℕ) (u : Use) (q : ℕ) → slice_get (layout p) q ≡ Some (used o u)
     → UseCells p t u q
-use_cells p t o u q node = grind (arith, common_steps, get_map, slice_get_within)
+use_cells p t o u q node = grind (arith, get_map, slice_get_within)
 
 -- what they tell at the spacer behind option x
 pub record SpacerCells (p : Puzzle) (t : List Move) (x q : ℕ) : Type 0 where
@@ -47,7 +47,7 @@ spacer_cells p t x q known at =
     let node = ap (slice_get (layout p)) at ∙ (option_nodes p x known).behind in
     let up = get_map (ulink_in p (line_of p t)) (layout p) q (spacer x) node in
     let s : x ≡ suc (x - 1) = omega (arith, known.0) in
-    grind (arith, common_steps, get_map, slice_get_within, rw s at up)
+    grind (arith, get_map, slice_get_within, rw s at up)
 
 -- ---- the option of a place
 
@@ -69,7 +69,7 @@ place_at_use {p} {i} {x} u = u.at ∙ (option_nodes p x u.known).place i
 pub behind_segment : {p : Puzzle} {i x q : ℕ} → IsUseAt p i x q → Segment p x (q + 1) (uses_behind p i x)
 behind_segment {p} {i} {x} {q} held k u e =
     let n = place_in i (uses_of p x) + 1 in
-    grind (arith, common_steps, place_at_use held, option_nodes p x held.known, get_dropped n k (uses_of p x))
+    grind (arith, place_at_use held, option_nodes p x held.known, get_dropped n k (uses_of p x))
 
 pub before_segment : {p : Puzzle} {i x q : ℕ} → IsUseAt p i x q → Segment p x (start_at p (x - 1)) (uses_before p i x)
 before_segment {p} {i} {x} held k u e =

@@ -92,7 +92,7 @@ pub way_made : {S : Type 0} (R : S → S → ℕ → Type 0) (table : S → Node
     → CanAll step Can (table s) (map place xs) × (fold step (table s) (map place xs) ≡ table v)
 way_made R table place step Can each s [] v w = (tt, ap table w)
 way_made R table place step Can each s (x ∷ xs) v w =
-    grind (arith, common_steps, way_made R table place step Can each w.0 xs v w.1.1)
+    grind (arith, way_made R table place step Can each w.0 xs v w.1.1)
 
 -- a step at node x leads from t to u, and writes n cells
 pub record Leads (k : Kind) (t u : Nodes) (x n : ℕ) : Type 0 where
@@ -118,7 +118,7 @@ pub way_led : {S : Type 0} (R : S → S → ℕ → Type 0) (k : Kind) (table : 
     (v : S) → Way R s xs v → AllLed k (table s) (table v) (at s) (map place xs) (sum_by w xs)
 way_led R k table at place w each s [] v way = record { walk = tt; done = ap table way; costs = refl }
 way_led R k table at place w each s (x ∷ xs) v way =
-    grind (arith, common_steps, sum_by-cons, way_led R k table at place w each way.0 xs v way.1.1)
+    grind (arith, sum_by-cons, way_led R k table at place w each way.0 xs v way.1.1)
 
 -- ---- up to a spacer
 
