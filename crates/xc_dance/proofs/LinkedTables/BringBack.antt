@@ -98,7 +98,7 @@ pub unhidden_walk : (p : Puzzle) (col : Node → ℕ) (ln : ℕ → Line) (o : �
 unhidden_walk p col ln o [] laid pos apart h = refl
 unhidden_walk p col ln o (j ∷ js) laid pos apart h =
     let rest = unhidden_walk p col (back_one p col o ln j) o js laid pos apart.1 (λ k e.
-    grind (arith, common_steps, apart_in, in_more, one_other)) in
+    grind (arith, h k (in_more j k js e), one_other mended p col o ln j k (apart_in j k js apart.0 e))) in
     (back_one p col o ln j, (returned col ln laid pos (h j (is_in-first j js)), rest))
 
 -- ---- down the nodes that Tweaks of one item took off: each option comes back into the lists of its other items, and
@@ -180,16 +180,22 @@ opened_at {p} {t} {spans} false {i} {ln = ln} {o} {os} legal fit opened within h
           let met = met_at p t i legal fit.laid fit.fit opened j o k.item.0 k.item.1 within k.named in
           let j_open : is_open j t ≡ true = grind (arith, false≢true) in
           let m = listed_member t j o fit.fit k.item (met.opened j_open).1 in
-          let few = regaining_len _ _ _ (h.others j k.item.0 k.item.1 k.ne) in grind arith;
+          let few = regaining_len _ _ _ (h.others j k.item.0 k.item.1 k.ne) in
+          record { above = rw nb.0 m.above; below = rw nb.1 m.below; few = omega (arith, few, m.few) };
     } in
     let ln1 : ℕ → Line = back_all p col o ln (reverse js) in
     let at : (j : ℕ) → ln1 j ≡ cond (leaves p col i j o) (mended (ln j) o) (ln j) =
-    grind (arith, all_at, in_reverse) in
+    λ j. rw (← in_reverse j js) (all_at mended p col o ln (reverse js) j apart) in
     let u = unhides p col spans o i fit.spanned o_pos named (Returns p col o) (λ a b j s. (s.can, s.done)) ln ln1
     (unhidden_walk p col ln o (reverse js) fit.laid o_pos apart returning) in
-    let others : (j : ℕ) → 0 < j → j ≤ item_count p → j ≢ i
-    → Regaining (line_of p t j) (ln1 j) (to_come p t false i j os) = λ j pos le ne. grind arith in
-    grind (arith, own_apart, fit.spanned.within o i o_pos named)
+    record {
+      ln1 = ln1;
+      can = λ e. (fit.spanned.within o i o_pos named, u.can);
+      done = u.done;
+      own = rw (own_apart p i o fit.fit) at (at i);
+      cost = u.cost;
+      others = λ j pos le ne. grind (arith, at j, h.others j pos le ne);
+    }
 
 pub record BringBackStep (p : Puzzle) (t : List Move) (spans : List Span) (covered : Bool) (i n : ℕ) (ln : ℕ → Line)
     (o : ℕ) (os : List ℕ) : Type 0 where

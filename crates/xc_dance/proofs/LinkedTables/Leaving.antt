@@ -101,8 +101,8 @@ module _ (p : Puzzle) (t : List Move) (i : ℕ) (legal : AreLegal p t) (laid : I
       (λ o is h n. h (ap (λ us. is_some (colour_in us j)) (sym is.1) ∙ n)) (options_left p t)
       (each_met _ j legal fit) in
       let listed_each : AllByRecursion (λ x. Named p j x → Met p t x j) (map (λ o. o.number) (holding i (left p t))) =
-      grind (arith, each-filter, each-map) in
-      grind (arith, element_of)
+      each-map _ (λ o. o.number) _ (each-filter _ (λ o. holds o i) _ each) in
+      element_of (λ x. Named p j x → Met p t x j) x (listed_numbers p t i) (rw list listed_each) within named
 
   -- its other uses are ready to leave
   pub ready_at : (x : ℕ) → is_in x (listed_numbers p t i) ≡ true

@@ -11,7 +11,7 @@ use Rattle.xc_dance.specs.Fields.{Node, layout, link_place, is_in}
 use Rattle.xc_dance.specs.inner.Links.Lines.{Line}
 use Rattle.xc_dance.specs.inner.Links.ListWalks.{with_colour, is_kept_colour, is_kept_mark, left_node, back_node}
 use Rattle.xc_dance.specs.inner.Links.ListWalks.{leave_cost, back_cost, CanLeave, CanReturn}
-use Rattle.xc_dance.specs.inner.Links.Cells.{nodes_from, dlink_in}
+use Rattle.xc_dance.specs.inner.Links.Cells.{nodes_from, ulink_in, dlink_in}
 use Rattle.xc_dance.specs.inner.Links.Laid.{Placed, IsLaid}
 use Rattle.xc_dance.specs.declared.links.nodes.Nodes.{Nodes}
 use Rattle.xc_dance.specs.inner.Links.Span.{Span}
@@ -167,13 +167,14 @@ turns_ready p ln col spans o i f pos named ready = search (arith, turns, walked,
 line_on : (p : Puzzle) (col : Node → ℕ) (i j : ℕ) (l : Line) (o : ℕ) (xs : List ℕ) (b : Bool) → Rises o xs
     → (b ≡ true → leaves p col i j o ≡ true) → LineReady p col i j l (o ∷ xs)
     → LineReady p col i j (cond b (cut l o) l) xs
-line_on p col i j l o xs false r lv h = grind (arith, in_more)
+line_on p col i j l o xs false r lv h =
+    record { member = λ x e. h.member x (in_more o x xs e); enough = grind (arith, h.enough) }
 line_on p col i j l o xs true r lv h = record {
   member = λ x e f some.
       let len : 0 < l.len = omega (arith, some) in
       cut_member p j l o x (h.member o (is_in-first o xs) (lv refl) len) (h.member x (in_more o x xs e) f len)
       (λ s. omega (arith, s, in_above o x xs r e)) some;
-  enough = grind (arith, common_steps);
+  enough = omega (arith, rw (lv refl) at h.enough);
 }
 
 -- where the walk is: the lines and the colours, and the option that was met last
@@ -223,7 +224,14 @@ module _ (p : Puzzle) (col : Node → ℕ) (spans : List Span) (i : ℕ) (keep :
 
   passed_on : (now : Node → ℕ) (o : ℕ) (xs : List ℕ) → Rises o xs → Passed p i col now (o ∷ xs)
       → Passed p i col (marked_by p i keep now o) xs
-  passed_on now o xs r h = grind (arith, in_above, ne_eqb, keep, color_other)
+  passed_on now o xs r h = record {
+    same = λ j q placed e.
+        let before = h.same j q placed (grind arith) in
+        let apart : (eqb j i && eqb q o) ≡ false = grind (arith, ne_eqb, in_above o q xs r) in
+        let other = color_other p now i o MARK j q placed apart in
+        elim (is_kept p i keep o) as (λ b. own_color p (cond b (with_color now i o MARK) now) j q ≡ own_color p col j q)
+        [ true ↦ other ∙ before | false ↦ before ];
+  }
 
   meets : (ln : ℕ → Line) (now : Node → ℕ) (o : ℕ) (xs : List ℕ) → 0 < o → OwnReady p col i keep o
       → LinesReady p col i ln (o ∷ xs) → Passed p i col now (o ∷ xs)
@@ -284,7 +292,12 @@ module _ (p : Puzzle) (col : Node → ℕ) (spans : List Span) (i : ℕ) (keep :
               within = omega (arith, within, length-map (layout p) (dlink_in p ln'));
               next = get_down p ln' i o placed ∙ ap (λ (k : Line). link_place p i (k.down o)) own';
             };
-            up = grind (arith, length-map, get_up);
+            up = record {
+              leads = m.up;
+              here = refl;
+              within = omega (arith, within, length-map (layout p) (ulink_in p ln));
+              next = get_up p ln i o placed ∙ ap (link_place p i) (ap (λ (k : Line). k.up o) own ∙ linked.2);
+            };
           },
           way ln' (marked_by p i keep now o) o xs own' linked.3 (λ x e. each x (in_more o x xs e))
               (lines_on ln o xs r.1 lines) r.1 (passed_on now o xs r.1 passed),

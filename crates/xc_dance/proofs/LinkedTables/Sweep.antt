@@ -181,10 +181,17 @@ first_stays l m a y ys ks h ry s = grind (arith, common_steps, above, below, mem
 
 pub swept : (l : Line) (a : ℕ) (xs : List ℕ) (g : ℕ → Bool) → IsLinkedFrom l a xs
     → Swept l (cuts l (filter g xs)) a xs (stay g xs)
-swept l a [] g h = grind (arith, cut-linked, false≢true, first_leaves, first_stays, rises)
+swept l a [] g h = grind (arith, false≢true)
 swept l a (y ∷ ys) g h =
     let gone = swept (cut l y) a ys g (cut-linked l a y ys h) in
-    let staying = swept l y ys g h.3 in grind (arith, false≢true, first_leaves, first_stays, rises)
+    let staying = swept l y ys g h.3 in
+    let ra = rises (cuts (cut l y) (filter g ys)) a (stay g ys) gone.linked in
+    let ry = rises (cuts l (filter g ys)) y (stay g ys) staying.linked in
+    elim (g y) as (λ b. Swept l (cuts l (if b then y ∷ filter g ys else filter g ys)) a (y ∷ ys)
+    (if not b then y ∷ stay g ys else stay g ys)) [
+      | true ↦ first_leaves l _ a y ys _ h ra ry gone
+      | false ↦ first_stays l _ a y ys _ h ry staying
+    ]
 
 -- how many are left
 pub swept_len : (l : Line) (xs : List ℕ) (g : ℕ → Bool) (n : ℕ) → l.len ≡ n + length xs
@@ -207,7 +214,7 @@ pub linked_by : (l : Line) (a : ℕ) (xs : List ℕ) → Rises a xs
     → ((x : ℕ) → is_in x xs ≡ true → l.down x ≡ first_above 0 x xs)
     → l.down a ≡ first_of 0 xs → l.up 0 ≡ last_of a xs → IsLinkedFrom l a xs
 linked_by l a [] r up down first last = (first, last)
-linked_by l a (y ∷ ys) r up down first last = grind (arith, common_steps, above, below, members, linked_by l y ys r.1)
+linked_by l a (y ∷ ys) r up down first last = grind (arith, above, below, members, linked_by l y ys r.1)
 
 -- ---- lists shrink
 

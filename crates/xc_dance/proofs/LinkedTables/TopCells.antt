@@ -12,7 +12,7 @@ use Rattle.xc_input.specs.Problem.{Puzzle, item_count, uses_of}
 use Rattle.xc_dance.specs.inner.Links.Read.{color_read, top_read}
 use Rattle.xc_dance.specs.declared.dance.Move.{Move}
 use Rattle.xc_dance.specs.Fields.{Node, unused, own, spacer, used, layout, field_of, top_of, color_of}
-use Rattle.xc_dance.specs.inner.Links.Cells.{top_in, line_of, nodes_after, color_in}
+use Rattle.xc_dance.specs.inner.Links.Cells.{top_in, line_of, nodes_after, color_in, ulink_in, dlink_in}
 use Rattle.xc_dance.specs.inner.Links.Laid.{IsLaid, IsFit}
 use Rattle.xc_dance.specs.declared.links.field.Field.TheVariants.{Llink, Rlink, Bound, Slack, Top, Ulink, Dlink, Color}
 use Rattle.xc_dance.specs.Moves.{listed}
@@ -121,10 +121,10 @@ module _ (p : Puzzle) (t : List Move) (q : ℕ) where
       by_node (used o u) e = read_small u.item (omega (arith, (laid.nodes.ranged q (used o u) u.item o e refl).1, few))
 
   pub ulink_cell : IsLaid p → read (nodes_after p t).ulink q ≡ field_of p t Ulink q
-  ulink_cell laid = grind (arith, column_read)
+  ulink_cell laid = column_read (ulink_in p (line_of p t)) _ _ (layout p) q (λ n e. grind arith)
 
   pub dlink_cell : IsLaid p → read (nodes_after p t).dlink q ≡ field_of p t Dlink q
-  dlink_cell laid = grind (arith, column_read)
+  dlink_cell laid = column_read (dlink_in p (line_of p t)) _ _ (layout p) q (λ n e. grind arith)
 
   -- the items' own nodes are never read as marked
   pub color_own : IsLaid p → q ≤ item_count p → read (nodes_after p t).color q ≡ field_of p t Color q

@@ -6,7 +6,6 @@ use Rattle.std.proofs.lemmas.Grind.{common_steps}
 use Rattle.std.specs.List.{range_with_len}
 use Rattle.std.proofs.lemmas.Bool.{false≢true, lt-leb, leb-false, or_parts}
 use Rattle.std.proofs.Math.Bool.{not-not}
-use Rattle.std.proofs.lemmas.List.Elements.{filter_agree}
 use Rattle.xc_dance.specs.declared.dance.Move.{Move}
 use Rattle.xc_dance.specs.declared.dance.Move.TheVariants.{Cover}
 use Rattle.xc_input.specs.Problem.{Puzzle, primary_count, item_count}
@@ -48,7 +47,7 @@ ring_rises : (p : Puzzle) (t : List Move) (q : ℕ) → Rises 0 (ring_of p t q)
 ring_rises p t q = grind (arith, common_steps, Rises-filter, side, Rises-range, Rises-weaker)
 
 ring_less : (p : Puzzle) (t : List Move) (i q : ℕ) → ring_of p (Cover i ∷ t) q ≡ less i (ring_of p t q)
-ring_less p t i q = grind (arith, filter_agree, filter_both)
+ring_less p t i q = grind (arith, filter_both)
 
 head_other : (p : Puzzle) (q i : ℕ) → 0 < i → i ≤ item_count p → ring_head p q ≢ i
 head_other p q i pos le = grind (arith, common_steps, side)

@@ -88,10 +88,10 @@ tweaked p t spans covered i (suc k) legal fit opened =
     record {
       os = os ++ one;
       count = let a = length-append os one in let b = h.count in omega (arith, a, b);
-      list = grind (arith, common_steps, append_assoc);
+      list = rw (append_assoc, rest, ← f.is) h.list;
       lines = λ j r. line_after p s (Tweak i) j _ (tweak_cuts p s spans covered i legal.1 fit opened_s f j r)
           ∙ ap₂ cuts (h.lines j r) (ap (λ col. off p col covered i j one) same)
-          ∙ sym (grind (arith, common_steps, filter-append, fold-append, cut, off));
+          ∙ sym (rw (filter-append, fold-append) refl);
       taken = grind (arith, common_steps);
       costs =
           let cost = tweak_cost_is p s spans covered i legal.1 fit opened_s pos legal.0.0.1 f in
@@ -226,8 +226,8 @@ module _ (p : Puzzle) (t : List Move) (spans : List Span) (covered : Bool) (i : 
       let rest = listed_numbers p s i in
       let l : Line = line_of p t i in
       let linked : IsLinkedFrom l 0 (os ++ rest) = subst (IsLinkedFrom l 0) h.list (stands p t i) in
-      let among : (x : ℕ) → is_in x os ≡ true → is_in x (listed_numbers p t i) ≡ true = grind
-      (arith, common_steps, list_any-append) in
+      let among : (x : ℕ) → is_in x os ≡ true → is_in x (listed_numbers p t i) ≡ true =
+      λ x e. rw (h.list, list_any-append, e) refl in
       let of : AreOf p t i os = record { rise = rises_part 0 os rest (rises l 0 (os ++ rest) linked); among = among } in
       let lnS : ℕ → Line = line_of p s in
       let x = first_place p t i in
@@ -237,7 +237,8 @@ module _ (p : Puzzle) (t : List Move) (spans : List Span) (covered : Bool) (i : 
       let t0 : Nodes = nodes_from p ln0 col in
       let n = (cuts l os).len in
       let same_col : T ≡ nodes_from p lnS col = ap (nodes_from p lnS) (colours_kept p i t k) in
-      let start : with_dlink T i x ≡ t0 = grind (arith, common_steps, lowered_is) in
+      let start : with_dlink T i x ≡ t0 =
+      ap (λ (v : Nodes). with_dlink v i x) same_col ∙ lowered_is p col lnS i (l.down 0) laid pos le in
       let all : off p col covered i i os ≡ os = rw (eq-eqb i i refl) (stay_all os) in
       let own_lost : lnS i ≡ cuts l os = rw all at (h.lines i (pos, le)) in
       let own_is : ln0 i ≡ half n (cuts l os) l = lowered_first lnS i l os rest own_lost linked in
