@@ -194,7 +194,10 @@ opened_at {p} {t} {spans} false {i} {ln = ln} {o} {os} legal fit opened within h
       done = u.done;
       own = rw (own_apart p i o fit.fit) at (at i);
       cost = u.cost;
-      others = λ j pos le ne. grind (arith, at j, h.others j pos le ne);
+      others = λ j pos le ne. rw (at j) (elim (leaves p col i j o) as (λ b. Regaining (line_of p t j) (ln j)
+          (cond b (o ∷ filter (leaves p col i j) os) (filter (leaves p col i j) os))
+          → Regaining (line_of p t j) (cond b (mended (ln j) o) (ln j)) (filter (leaves p col i j) os))
+          [ true ↦ λ r. r.2 | false ↦ λ r. r ] (h.others j pos le ne));
     }
 
 pub record BringBackStep (p : Puzzle) (t : List Move) (spans : List Span) (covered : Bool) (i n : ℕ) (ln : ℕ → Line)

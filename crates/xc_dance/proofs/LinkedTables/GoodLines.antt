@@ -1,7 +1,7 @@
 -- Lines that stand for lists: a member leaves, a node leaves with it, and the lines after moves are such lines.
 use Rattle.std.proofs.Common.{◌≡◌, ◌≢◌, ℕ, ◌<◌, ◌≤◌, ◌^◌, true, false, eqb, length, map, get_or, Some, refl}
 use Rattle.std.proofs.Common.{ap, sym, subst, arith, eqb-true, Bool, List, [], ◌∷◌}
-use Rattle.std.proofs.Common.{filter, Option}
+use Rattle.std.proofs.Common.{filter, Option, inr}
 use Rattle.std.specs.Prelude.{slice_get, is_some}
 use Rattle.std.specs.List.{AllByRecursion}
 use Rattle.std.proofs.lemmas.Grind.{common_steps}
@@ -29,7 +29,7 @@ use Rattle.xc_dance.specs.declared.links.nodes.TheConstants.{MARK, SPACER}
 use Rattle.xc_dance.proofs.LinkedTables.LinkColumns.{relinked-unlinked}
 use Rattle.xc_dance.specs.Fields.{is_in}
 use Rattle.std.proofs.lemmas.Bool.{false≢true}
-use Rattle.xc_dance.proofs.LinkedTables.Sweep.{by_first, put_at-same}
+use Rattle.xc_dance.proofs.LinkedTables.Sweep.{by_first, in_rest, put_at-same}
 
 -- ---- one node of the table leaves its list or comes back: so does one member of its item's line
 
@@ -95,13 +95,20 @@ step_marked p col ln q within use_of color = grind (arith, eqb-true, length-map,
 abbrev pub Named : Puzzle → ℕ → ℕ → Type 0
 Named p j x = is_some (colour_in (uses_of p x) j) ≡ true
 
--- a member of a list that is linked from a on
+-- a member of a list that is linked from a on: the first, or any
+at_first : (p : Puzzle) (j : ℕ) (l : Line) (a y : ℕ) (ys : List ℕ) → InRange p j → 0 < l.len → l.len < 2 ^ 31 → 0 < y
+    → IsName p j a → IsLinkedFrom l a (y ∷ ys) → AllByRecursion (Named p j) (y ∷ ys) → IsMember p j l y
+at_first p j l a y [] r some few pos n h named = grind arith
+at_first p j l a y (z ∷ zs) r some few pos n h named = grind arith
+
 at_member : (p : Puzzle) (j : ℕ) (l : Line) (a : ℕ) (xs : List ℕ) (o : ℕ) → InRange p j → 0 < l.len → l.len < 2 ^ 31
     → IsName p j a → IsLinkedFrom l a xs → AllByRecursion (Named p j) xs → is_in o xs ≡ true → IsMember p j l o
 at_member p j l a [] o r some few n h named e = absurd (false≢true e)
-at_member p j l a (y ∷ []) o r some few n h named e = grind (arith, eqb-true)
-at_member p j l a (y ∷ z ∷ zs) o r some few n h named e =
-    grind (arith, eqb-true, at_member p j l y (z ∷ zs) o r some few)
+at_member p j l a (y ∷ ys) o r some few n h named e =
+    let pos : 0 < y = omega (arith, h.0) in
+    by_first (IsMember p j l o) y o
+    (λ s. subst (IsMember p j l) s (at_first p j l a y ys r some few pos n h named))
+    (λ ne. at_member p j l y ys o r some few (inr (pos, named.0)) h.3 named.1 (in_rest y o ys ne e))
 
 member : (p : Puzzle) (j : ℕ) (l : Line) (xs : List ℕ) (o : ℕ) → InRange p j → l.len ≡ length xs → length xs < 2 ^ 31
     → IsLinkedFrom l 0 xs → AllByRecursion (Named p j) xs → is_in o xs ≡ true → IsMember p j l o

@@ -225,7 +225,9 @@ costs_split p col i keep (o ∷ xs) = grind (arith, common_steps, costs_split p 
 pub leaving_is : (p : Puzzle) (t : List Move) (m : Move) (k : ℕ → List ℕ)
     → ((j : ℕ) → (0 < j) × (j ≤ item_count p) → SameCut p t m j (k j))
     → leaving p t m ≡ sum_by (λ j. length (k j)) (items p)
-leaving_is p t m k cuts = grind (arith, sum_same, length-filter_both, length-map)
+leaving_is p t m k cuts = sum_same _ (λ j. length (k j)) 1 (item_count p) (λ j pos lt.
+    let c = cuts j (pos, omega (arith, lt)) in
+    grind (arith, length-filter_both c.test (λ x. not (c.test x)) (λ x. refl) (listed_numbers p t j), length-map))
 
 -- ---- what each move takes out of the lists of the other items, in option numbers
 
