@@ -1,4 +1,3 @@
-use Rattle.std.proofs.Common.{arith}
 use Rattle.std.proofs.Common.{ℕ, reverse, get_or, ap, sym, subst, ◌∙◌}
 use Rattle.xc_input.specs.Problem.{IsItem}
 use Rattle.xc_dance.specs.declared.links.nodes.Nodes.{Nodes}
@@ -19,7 +18,9 @@ at : (c : After-self) {x : ℕ} → IsListedAt c.args.self.now.puzzle c.args.sel
 at c {x} h = subst (λ (s : Linked). IsListedAt s.puzzle s.trail c.args.i x c.args.place) (sym c.self.view_is) h
 
 pub dlink-requires : goal.dlink-requires
-dlink-requires c = grind (arith, listed_within, item, at)
+dlink-requires c =
+    let here = (goal.at.dlink-requires c).After-self in
+    rw c.self.invariant.nodes (listed_within c.self.invariant.fitted.laid (item here) (at here c.requires.place.1))
 
 pub returns-clause-place : goal.returns-clause-place
 returns-clause-place c = λ x h.
