@@ -1,12 +1,12 @@
 use Rattle.std.proofs.lemmas.Grind.{common_steps}
-use Rattle.std.proofs.Common.{arith}
-use Rattle.std.proofs.Common.{◌≡◌, ℕ, ◌∙◌}
+use Rattle.std.proofs.Common.{arith, ◌≡◌, ℕ, ◌∙◌}
 use Rattle.std.specs.Prelude.{Contains}
 use Rattle.xc_dance.specs.Moves.{next_above}
 use Rattle.xc_dance.specs.Commits.{IsListedAt, IsUseAt}
 use Rattle.xc_dance.proofs.LinkedTables.ListedPlaces.{list_of, next_of_own, option_use, next_of_option, next_use}
 use Rattle.xc_dance.proofs.LinkedTables.ListedPlaces.{place_tells}
 use Rattle.xc_dance.proofs.dance.Dance.node_below.Goals.{Else-place-items, Joined-place-items}
+use Rattle.xc_dance.proofs.dance.Dance.node_below.Goals.{then-place-items, else-place-items}
 use Rattle.xc_dance.proofs.dance.Dance.node_below.Goals as goal
 
 -- ---- at an option's place
@@ -31,7 +31,15 @@ below-next-requires-clause-listed g c =
 next_is : (g : _) (c : Joined-place-items g) (x : ℕ) →
     (let s = g.Self.Dance.state c.args.self.now in IsListedAt s.puzzle s.trail c.args.i x c.args.place) →
     next_above x (list_of (g.Self.Dance.state c.args.self.now) c.args.i) ≡ c.if-place-items.next
-next_is g c x at = grind (arith, next_of_own, next_of_option)
+next_is g c x at =
+    let s = g.Self.Dance.state c.args.self.now in
+    let items = c.items.ensures in
+    elim c.if-place-items.branch [
+      | then-place-items w ↦ next_of_own s c.args.problem.now _ _ _ _ _ c.requires.same items.value at
+          w.if-place-items.true (w.next-is ∙ w.first-next.ensures)
+      | else-place-items w ↦ next_of_option s _ _ _ _ _ _ _ c.requires.same items.whole items.value
+          c.requires.item at w.if-place-items.false w.number_at.ensures (w.next-is ∙ w.below-next.ensures)
+    ]
 
 pub node_place-requires : goal.node_place-requires
 node_place-requires g c =
@@ -41,13 +49,18 @@ node_place-requires g c =
     grind (arith, common_steps)
 
 pub returns-in-Some-clause-place : goal.returns-in-Some-clause-place
-returns-in-Some-clause-place g c = λ x at. grind (arith, common_steps, next_is)
+returns-in-Some-clause-place g c = λ x at.
+    rw (next_is g (goal.at.returns-in-Some-clause-place g c).Joined-place-items x at ∙ c.in-Some.is, c.requires.same)
+    c.node_place.ensures
 
 pub returns-in-Some-clause-option : goal.returns-in-Some-clause-option
-returns-in-Some-clause-option g c = grind (arith, common_steps, place_tells, returns-in-Some-clause-place)
+returns-in-Some-clause-option g c = λ x at.
+    place_tells (g.Self.Dance.state c.args.self.now) _ x _ c.requires.item (returns-in-Some-clause-place g c x at)
 
 pub returns-in-None-clause-place : goal.returns-in-None-clause-place
-returns-in-None-clause-place g c = λ x at. grind (arith, common_steps, next_is)
+returns-in-None-clause-place g c = λ x at.
+    rw (next_is g (goal.at.returns-in-None-clause-place g c).Joined-place-items x at ∙ c.in-None.is)
 
 pub returns-in-None-clause-option : goal.returns-in-None-clause-option
-returns-in-None-clause-option g c = λ x at. grind (arith, common_steps, place_tells, returns-in-None-clause-place)
+returns-in-None-clause-option g c = λ x at.
+    place_tells (g.Self.Dance.state c.args.self.now) _ x _ c.requires.item (returns-in-None-clause-place g c x at)

@@ -1,14 +1,11 @@
-use Rattle.xc_dance.proofs.LinkedTables.Along.{along_first}
+use Rattle.xc_dance.proofs.LinkedTables.Along.{along_first, before_at, Leads, leads, IsNext, nodes_told, whole}
 use Rattle.std.proofs.Common.{◌≡◌, ◌-◌, ℕ, get_or, ap, ◌∙◌, arith, refl}
-use Rattle.std.proofs.lemmas.Grind.{common_steps}
 use Rattle.std.proofs.lemmas.List.{length-map}
 use Rattle.xc_dance.specs.declared.links.nodes.Nodes.{Nodes}
 use Rattle.xc_dance.specs.Commits.{IsUseAt}
 use Rattle.xc_dance.specs.inner.Links.Cells.{nodes_after}
 use Rattle.xc_dance.specs.inner.Links.OptionPlaces.{start_at}
 use Rattle.xc_dance.specs.inner.Links.UseNodes.{uses_before}
-use Rattle.xc_dance.proofs.LinkedTables.Along.{before_at, Leads, leads, IsNext, nodes_told}
-use Rattle.xc_dance.proofs.LinkedTables.Along.{whole}
 use Rattle.xc_dance.proofs.Committing.{may, one_more}
 use Rattle.xc_dance.proofs.links.Links.commit_before.Goals as goal
 use Rattle.xc_dance.proofs.links.Links.commit_before.Goals.{After-self, After-self-in-loop-q}
@@ -24,18 +21,24 @@ led c x held = leads _ held (c.requires.end x held)
 pub ulink-first-requires : goal.ulink-first-requires
 ulink-first-requires c =
     let here = (goal.at.ulink-first-requires c).After-self in
-    grind (arith, common_steps, length-map, first_nodes here, led here)
+    let within = (led here _ c.requires.can.1).within in rw (first_nodes here) (simp length-map within)
 
 -- the walk begins at the option's first node
 pub loop-q-init : goal.loop-q-init
-loop-q-init c = grind (arith, common_steps, first_nodes, led, along_first)
+loop-q-init c =
+    let here = (goal.at.loop-q-init c).After-self in
+    let to = c.ulink-first.ensures ∙ ap (λ (n : Nodes). get_or n.ulink c.args.end 0) (first_nodes here) in
+    grind (arith, led here, along_first)
 
 nodes_is : (c : After-self-in-loop-q) → c.self-in-loop-q.inside.nodes
     ≡ nodes_after c.args.self.now.puzzle c.loop-q.self.trail
 nodes_is c = nodes_told c.self-in-loop-q.invariant.nodes c.self-in-loop-q.view_is c.loop-q.invariant.puzzle
 
 pub top-j-requires : goal.top-j-requires
-top-j-requires c = grind (arith, common_steps, led, length-map, nodes_is)
+top-j-requires c =
+    let at = goal.at.top-j-requires c in
+    let led = led at.After-self _ c.requires.can.1 in
+    rw (nodes_is at.After-self-in-loop-q) (simp length-map (omega (arith, led.within, led.behind, c.loop-q-test.true)))
 
 -- the next use
 next : (c : After-self-in-loop-q) (x : ℕ) → IsUseAt c.args.self.now.puzzle c.args.i x c.args.place →

@@ -9,8 +9,7 @@ use Rattle.xc_dance.specs.Linked.{Linked}
 use Rattle.xc_dance.specs.inner.Links.Cells.{nodes_after}
 use Rattle.xc_dance.specs.inner.Links.Laid.{IsLaid}
 use Rattle.xc_dance.specs.inner.Links.UseNodes.{uses_behind}
-use Rattle.xc_dance.proofs.LinkedTables.Along.{along_first, Behind, behind_at, IsNext, top_at, nodes_told}
-use Rattle.xc_dance.proofs.LinkedTables.Along.{whole}
+use Rattle.xc_dance.proofs.LinkedTables.Along.{along_first, Behind, behind_at, IsNext, top_at, nodes_told, whole}
 use Rattle.xc_dance.proofs.Committing.{may, one_more}
 use Rattle.xc_dance.proofs.links.Links.commit_behind.Goals as goal
 use Rattle.xc_dance.proofs.links.Links.commit_behind.Goals.{After-self, After-self-in-loop-self}
@@ -70,10 +69,12 @@ commit_node-requires c =
 pub overflow_add-q-in-loop-self : goal.overflow_add-q-in-loop-self
 overflow_add-q-in-loop-self c =
     let at = goal.at.overflow_add-q-in-loop-self c in
-    grind (arith, common_steps, found at.After-self-in-loop-self, fitted at.After-self)
+    let within = (found at.After-self-in-loop-self _ c.requires.1).within in
+    let near = (fitted at.After-self).fit.near in omega (arith, within, near)
 
 pub loop-self-smaller : goal.loop-self-smaller
-loop-self-smaller c = grind (arith, common_steps, found (goal.at.loop-self-smaller c).After-self-in-loop-self)
+loop-self-smaller c =
+    omega (arith, (found (goal.at.loop-self-smaller c).After-self-in-loop-self _ c.requires.1).within)
 
 pub loop-self-preserved : goal.loop-self-preserved
 loop-self-preserved c =
@@ -83,5 +84,7 @@ loop-self-preserved c =
 
 pub returns-clause-committed : goal.returns-clause-committed
 returns-clause-committed c = λ x held.
-    let end = found (goal.at.returns-clause-committed c).After-self-in-loop-self x held in
-    grind (arith, common_steps, top_is, whole)
+    let here = (goal.at.returns-clause-committed c).After-self-in-loop-self in
+    let is = top_is here in
+    let end = (found here x held).end (omega (arith, is, c.top.ensures, c.loop-self-test.false)) in
+    (whole _ _ c.loop-self.self c.loop-self.invariant.puzzle c.loop-self.invariant.room end.0, end.1)

@@ -1,5 +1,3 @@
-use Rattle.std.proofs.Common.{arith}
-use Rattle.std.proofs.lemmas.Grind.{common_steps}
 use Rattle.std.proofs.Common.{◌∙◌, ap}
 use Rattle.std.specs.Prelude.{slice_get}
 use Rattle.xc_dance.specs.Fields.{layout}
@@ -8,7 +6,9 @@ use Rattle.xc_dance.proofs.LinkedTables.FirstTables.{laid_room, laid_more, space
 use Rattle.xc_dance.proofs.links.first_nodes.lay_spacer.Goals as goal
 
 pub lay-requires : goal.lay-requires
-lay-requires c = grind (arith, common_steps, spacer_here c.args.problem.now.puzzle c.args.o, laid_room)
+lay-requires c =
+    let at = ap (slice_get (layout c.args.problem.now.puzzle)) c.requires.place ∙ spacer_here _ _ c.requires.option in
+    rw c.requires.before (laid_room _ _ at)
 
 pub returns : goal.returns
 returns c =

@@ -1,17 +1,13 @@
-use Rattle.std.proofs.lemmas.Grind.{common_steps}
-use Rattle.std.proofs.Common.{arith, ◌≡◌, ◌∙◌, ◌+◌, ap, refl, get_or}
+use Rattle.std.proofs.Common.{arith, ◌≡◌, ◌∙◌, ◌+◌, ap, refl, get_or, ℕ, Some}
 use Rattle.std.proofs.lemmas.Option.{slice_get-get_or}
 use Rattle.xc_input.specs.declared.problem.Use.{Use}
-use Rattle.xc_dance.specs.Fields.{used}
+use Rattle.xc_dance.specs.Fields.{used, spacer_place, layout}
 use Rattle.xc_dance.specs.inner.Links.FirstNodes.{laid_to}
-use Rattle.xc_dance.specs.Fields.{spacer_place}
 use Rattle.xc_dance.proofs.LinkedTables.PlaceLemmas.{uses_here, use_here, option_fits}
 use Rattle.xc_dance.proofs.LinkedTables.FirstTables.{laid_room, laid_more}
 use Rattle.xc_dance.proofs.links.first_nodes.lay_uses.Goals as goal
 use Rattle.xc_dance.proofs.links.first_nodes.lay_uses.Goals.{In-loop-u}
-use Rattle.std.proofs.Common.{ℕ, Some}
 use Rattle.std.specs.Prelude.{slice_get}
-use Rattle.xc_dance.specs.Fields.{layout, spacer_place}
 
 -- the next use, and its place
 abbrev use_now : (c : In-loop-u) → Use
@@ -26,7 +22,7 @@ node : (c : In-loop-u) → slice_get (layout c.args.problem.now.puzzle) (place_n
 node c = grind (arith, option_fits, uses_here, use_here, slice_get-get_or)
 
 pub lay-requires : goal.lay-requires
-lay-requires c = grind (arith, common_steps, laid_room, node (goal.at.lay-requires c).In-loop-u)
+lay-requires c = rw c.loop-u.invariant (laid_room _ _ (node (goal.at.lay-requires c).In-loop-u))
 
 pub loop-u-preserved : goal.loop-u-preserved
 loop-u-preserved c =

@@ -58,11 +58,13 @@ loop-q-preserved c =
     let at = slice_get-get_or (layout p) q unused (omega (arith, c.loop-q-test.true, c.requires.count)) in
     let from : item_count p + 1 ≤ q = omega (arith, c.loop-q.auto.q, c.items-q.ensures.value) in
     let top = ap (λ (t : Nodes). slice_index t.top q) c.loop-q.invariant in
+    let s = step _ _ c.requires.fit c.requires.limits from at in
     elim c.if-top-lt-SPACER.branch [
-      | then-top-lt-SPACER w ↦ (let s = (step _ _ c.requires.fit c.requires.limits from at).0
-          (omega (arith, top, c.top.ensures, w.if-top-lt-SPACER)) in
-          w.nodes-is ∙ w.enter.ensures ∙ ap (λ (t : Nodes). entered t q) c.loop-q.invariant ∙ s.2.done)
-      | else-top-lt-SPACER w ↦ grind (arith, common_steps, step)
+      | then-top-lt-SPACER w ↦
+          w.nodes-is ∙ w.enter.ensures ∙ ap (λ (t : Nodes). entered t q) c.loop-q.invariant
+          ∙ (s.0 (omega (arith, top, c.top.ensures, w.if-top-lt-SPACER))).2.done
+      | else-top-lt-SPACER w ↦
+          w.nodes-is ∙ c.loop-q.invariant ∙ s.1 (omega (arith, top, c.top.ensures, w.if-top-lt-SPACER))
     ]
 
 pub returns : goal.returns

@@ -3,8 +3,7 @@ use Rattle.std.proofs.lemmas.Grind.{common_steps}
 use Rattle.xc_dance.specs.declared.links.nodes.Nodes.{Nodes}
 use Rattle.xc_dance.specs.inner.Links.Columns.{columns}
 use Rattle.xc_dance.specs.inner.Links.Span.{Span}
-use Rattle.xc_dance.specs.inner.Links.Steps.{hidden, CanHide, CanHideAll, CanHideNode, places}
-use Rattle.xc_dance.specs.inner.Links.Steps.{span_at, others_of}
+use Rattle.xc_dance.specs.inner.Links.Steps.{hidden, CanHide, CanHideAll, CanHideNode, places, span_at, others_of}
 use Rattle.xc_dance.proofs.LinkedTables.Walks.{places_none, places_more, CanAll-append, underway, step_can, step_on}
 use Rattle.xc_dance.proofs.LinkedTables.Walks.{Tells, tells, hide_walk}
 use Rattle.xc_dance.proofs.Rounds.{Met, met}
@@ -25,7 +24,7 @@ now c = columns c.loop-top.top c.loop-top.links c.args.color.now
 told : (c : After-get_at) → (let end = (span_at c.args.spans.now c.args.p).end in
     Tells (now c) (fold hidden (columns c.args.top.now c.args.links.now c.args.color.now) (places (c.args.p + 1) end))
     c.loop-top.q end (places c.loop-top.q end))
-told c = grind (arith, common_steps, places_more, places_none, tells)
+told c = grind (arith, places_more, places_none, tells)
 
 -- there is a step to make
 goes : (c : After-get_at) → c.get_at.result < SPACER → c.loop-top.q < (span_at c.args.spans.now c.args.p).end
@@ -35,7 +34,7 @@ pub loop-top-init : goal.loop-top-init
 loop-top-init c = grind (arith, common_steps, underway, up)
 
 pub get_at-requires : goal.get_at-requires
-get_at-requires c = grind (arith, common_steps, places_more, places_none, tells)
+get_at-requires c = grind (arith, places_more, places_none, tells)
 
 pub hide_one-above-requires-clause-can : goal.hide_one-above-requires-clause-can
 hide_one-above-requires-clause-can c = grind (arith, common_steps, places_more, step_can, goes)
@@ -46,7 +45,11 @@ hide_one-above-requires-clause-unmarked c =
     λ m. ((c.requires.unmarked m).others c.args.p c.requires.span).0 c.loop-top.q (omega arith) below
 
 pub loop-top-preserved : goal.loop-top-preserved
-loop-top-preserved c = grind (arith, common_steps, places_more, step_on, goes)
+loop-top-preserved c =
+    let low = goes (goal.at.loop-top-preserved c).After-get_at c.loop-top-test.true in
+    let done = c.hide_one-above.ensures in
+    let on = step_on _ _ _ _ (places_more _ _ low) done.done done.cost c.loop-top.invariant.walk in
+    grind (arith, low)
 
 pub up_at-first-requires : goal.up_at-first-requires
 up_at-first-requires c = grind (arith, common_steps, told (goal.at.up_at-first-requires c).After-get_at)

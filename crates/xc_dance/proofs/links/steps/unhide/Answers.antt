@@ -1,12 +1,10 @@
-use Rattle.std.proofs.Common.{◌≡◌, ℕ, ◌+◌, ◌-◌, ◌<◌, ◌≤◌, ◌++◌, List, ◌∷◌, fold, reverse, ap}
-use Rattle.std.proofs.Common.{arith}
+use Rattle.std.proofs.Common.{◌≡◌, ℕ, ◌+◌, ◌-◌, ◌<◌, ◌≤◌, ◌++◌, List, ◌∷◌, fold, reverse, ap, arith}
 use Rattle.std.proofs.lemmas.Grind.{common_steps}
 use Rattle.std.proofs.lemmas.List.{reverse-append}
 use Rattle.xc_dance.specs.declared.links.nodes.Nodes.{Nodes}
 use Rattle.xc_dance.specs.inner.Links.Columns.{columns}
 use Rattle.xc_dance.specs.inner.Links.Span.{Span}
-use Rattle.xc_dance.specs.inner.Links.Steps.{unhidden, CanUnhideAll, CanUnhideNode}
-use Rattle.xc_dance.specs.inner.Links.Steps.{places, others, others_of, span_at}
+use Rattle.xc_dance.specs.inner.Links.Steps.{unhidden, CanUnhideAll, CanUnhideNode, places, others, others_of, span_at}
 use Rattle.xc_dance.proofs.LinkedTables.Walks.{places_none, reverse-places, CanAll-append, underway, step_can, step_on}
 use Rattle.xc_dance.proofs.LinkedTables.Walks.{Tells, tells, unhide_walk}
 use Rattle.xc_dance.proofs.Rounds.{Met, met}
@@ -34,7 +32,7 @@ now c = columns c.loop-top.top c.loop-top.links c.args.color.now
 told : (c : After-get_at) → (let s = span_at c.args.spans.now c.args.p in Tells (now c)
     (fold unhidden (columns c.args.top.now c.args.links.now c.args.color.now) (reverse (places s.first c.args.p)))
     c.loop-top.q (s.first - 1) (reverse (places s.first (c.loop-top.q + 1))))
-told c = grind (arith, common_steps, places_none, tells, next)
+told c = grind (arith, places_none, tells, next)
 
 -- there is a step to make
 goes : (c : After-get_at) → c.get_at.result < SPACER → (span_at c.args.spans.now c.args.p).first ≤ c.loop-top.q
@@ -44,7 +42,7 @@ pub loop-top-init : goal.loop-top-init
 loop-top-init c = grind (arith, common_steps, underway, down)
 
 pub get_at-requires : goal.get_at-requires
-get_at-requires c = grind (arith, common_steps, places_none, tells, next)
+get_at-requires c = grind (arith, places_none, tells, next)
 
 pub unhide_one-below-requires-clause-can : goal.unhide_one-below-requires-clause-can
 unhide_one-below-requires-clause-can c = grind (arith, common_steps, step_can, next, goes)
@@ -55,7 +53,11 @@ unhide_one-below-requires-clause-unmarked c =
     λ m. ((c.requires.unmarked m).others c.args.p c.requires.span).1 c.loop-top.q low c.loop-top.invariant.before
 
 pub loop-top-preserved : goal.loop-top-preserved
-loop-top-preserved c = grind (arith, common_steps, step_on, next, goes (goal.at.loop-top-preserved c).After-get_at)
+loop-top-preserved c =
+    let low = goes (goal.at.loop-top-preserved c).After-get_at c.loop-top-test.true in
+    let done = c.unhide_one-below.ensures in
+    let on = step_on _ _ _ _ (next _ _ c.requires.can.from low) done.done done.cost c.loop-top.invariant.walk in
+    grind (arith, low)
 
 pub down_at-requires : goal.down_at-requires
 down_at-requires c = grind (arith, common_steps, told (goal.at.down_at-requires c).After-get_at)
