@@ -4,10 +4,14 @@ use Rattle.xc_dance.proofs.LinkedTables.NodeOptions.{next_contained}
 use Rattle.xc_dance.specs.Moves.{listed_numbers}
 use Rattle.xc_dance.proofs.MoveLemmas.ListLemmas.{next_above-split, next_above-none}
 use Rattle.xc_dance.proofs.MoveLemmas.Shortened.{rises_listed}
+use mathlib.Core.Logic.{inr}
 use Rattle.xc_dance.proofs.listed.ListedIterator.next.Goals as goal
 
 pub invariant_of-self : goal.invariant_of-self
-invariant_of-self g c = grind (arith, common_steps, next_contained)
+invariant_of-self g c = record {
+  item = c.self.invariant.item;
+  last = inr (next_contained _ _ _ (sym c.after-next.ensures ∙ c.in-Some.is));
+}
 
 pub returns-in-Some-clause-steps : goal.returns-in-Some-clause-steps
 returns-in-Some-clause-steps g c =
