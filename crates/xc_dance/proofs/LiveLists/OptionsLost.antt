@@ -70,17 +70,21 @@ pub list_of : (p : Puzzle) (n k : ℕ) (ls : List (List ℕ)) → AreListsFrom p
     → IsListOf p (n + k) (list_at ls k)
 list_of p n k [] h lt = absurd (omega (arith, lt))
 list_of p n zero (l ∷ ls) h lt = let same : n + 0 ≡ n = omega arith in rw same h.0
-list_of p n (suc k) (l ∷ ls) h lt = grind (arith, common_steps, list_of p (n + 1) k ls h.1 (omega (arith, lt)))
+list_of p n (suc k) (l ∷ ls) h lt =
+    let same : n + suc k ≡ n + 1 + k = omega arith in rw same (list_of p (n + 1) k ls h.1 (omega (arith, lt)))
 
 pub lose_none : (t : List Move) (j n : ℕ) (ls : List (List ℕ)) → lose_from t j [] n ls ≡ ls
 lose_none t j n [] = grind (arith, common_steps, less_none)
 lose_none t j n (l ∷ ls) = grind (arith, common_steps, less_none, lose_none t j (n + 1) ls)
 
+less_more : (gone : List ℕ) (o : ℕ) (l : List ℕ) → less (o ∷ []) (less gone l) ≡ less (gone ++ o ∷ []) l
+less_more gone o [] = refl
+less_more gone o (x ∷ l) = grind (arith, not_or, list_any-append (λ g. eqb g x) gone (o ∷ []), less_more gone o l)
+
 pub lose_more : (t : List Move) (j : ℕ) (gone : List ℕ) (o n : ℕ) (ls : List (List ℕ))
     → lose_from t j (o ∷ []) n (lose_from t j gone n ls) ≡ lose_from t j (gone ++ o ∷ []) n ls
-lose_more t j gone o n [] = grind (arith, common_steps, filter_both, filter_agree, list_any-append, not_or)
-lose_more t j gone o n (l ∷ ls) = grind
-    (arith, common_steps, filter_both, filter_agree, list_any-append, not_or, lose_more t j gone o (n + 1) ls)
+lose_more t j gone o n [] = refl
+lose_more t j gone o n (l ∷ ls) = grind (arith, less_more gone o l, lose_more t j gone o (n + 1) ls)
 
 -- the list of j itself stays
 pub lose_other : (t : List Move) (j : ℕ) (gone : List ℕ) (n k : ℕ) (ls : List (List ℕ)) → n + k ≡ j
@@ -119,9 +123,9 @@ pub hidden_more : (t : List Move) (j : ℕ) (us : List Use) (u : Use) (o n k : �
     (us ++ u ∷ []) o n ls
 hidden_more t j us u o n k [] e c = refl
 hidden_more t j us u o n zero (l ∷ ls) e c =
-    grind (arith, common_steps, or-true, hidden_above, filter_both, filter_agree, and_self, list_any-append, or-false)
+    grind (arith, or-true, hidden_above, filter_both, filter_agree, and_self, list_any-append, or-false)
 hidden_more t j us u o n (suc k) (l ∷ ls) e c =
-    grind (arith, common_steps, has_use_other, hidden_more t j us u o (n + 1) k ls (omega (arith, e)) c)
+    grind (arith, has_use_other, hidden_more t j us u o (n + 1) k ls (omega (arith, e)) c)
 
 -- a use of an item that stays as it is
 pub hidden_same : (t : List Move) (j : ℕ) (us : List Use) (u : Use) (o n : ℕ) (ls : List (List ℕ))
@@ -133,5 +137,5 @@ hidden_same t j us u o n (l ∷ ls) c = grind (arith, eqb-true, has_use_other, h
 -- once all uses are gone through
 pub hidden_all : (p : Puzzle) (t : List Move) (j o n : ℕ) (ls : List (List ℕ)) → AreListsFrom p n ls
     → hidden_from t j (uses_of p o) o n ls ≡ lose_from t j (o ∷ []) n ls
-hidden_all p t j o n [] h = grind (arith, common_steps, less-absent)
-hidden_all p t j o n (l ∷ ls) h = grind (arith, common_steps, less-absent, hidden_all p t j o (n + 1) ls h.1)
+hidden_all p t j o n [] h = refl
+hidden_all p t j o n (l ∷ ls) h = grind (arith, less-absent o l, hidden_all p t j o (n + 1) ls h.1)

@@ -36,7 +36,7 @@ not_among x n (o ∷ os) h r = grind (arith, common_steps, ne_eqb, not_among x o
 -- an option below all of a list makes no difference there
 passed_over : (x : Numbered) (gone os : List Numbered) → Rises x.number (numbers os)
     → without (x ∷ gone) os ≡ without gone os
-passed_over x gone os r = grind (arith, common_steps, filter_same, each_weaker, ne_eqb, above x.number os r)
+passed_over x gone os r = grind (arith, filter_same, each_weaker, ne_eqb, above x.number os r)
 
 pub without_filter : (q : Numbered → Bool) (n : ℕ) (os : List Numbered) → Rises n (numbers os)
     → without (filter q os) os ≡ filter (λ o. not (q o)) os
@@ -70,7 +70,7 @@ listed_open p [] legal i opened = refl
 listed_open p (Cover j ∷ t) legal i opened = grind (arith, left_rises, gone, left, listed_open p t legal.1)
 listed_open p (Purify j c ∷ t) legal i opened =
     let at = listed_open p t legal.1 in
-    grind (arith, common_steps, at i, at j, left_rises p t, purified_gone i j c (left p t))
+    grind (arith, at i, at j, left_rises p t, purified_gone i j c (left p t))
 listed_open p (Tweak j ∷ t) legal i opened = elim (eqb_tells i j) [
   | inl same ↦
       let j_open : is_open j t ≡ true = ap (λ k. is_open k t) (sym same.1) ∙ opened in
@@ -79,6 +79,6 @@ listed_open p (Tweak j ∷ t) legal i opened = elim (eqb_tells i j) [
       ∙ filter_swap _ _ (left p t))
   | inr other ↦
       let at_i = listed_open p t legal.1 i opened in
-      let at_j = listed_open p t legal.1 j in grind (arith, common_steps, filter_swap)
+      let at_j = listed_open p t legal.1 j in grind (arith, filter_swap)
 ]
 listed_open p (Spend j ∷ t) legal i opened = listed_open p t legal.1 i opened
