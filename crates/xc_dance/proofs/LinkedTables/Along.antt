@@ -39,7 +39,7 @@ pub record IsAlong (p : Puzzle) (off : ℕ) (vs : List Use) (s t : List Move) (q
   pub trail : after_uses p (drop (q - off) vs) t ≡ after_uses p vs s
 
 pub along_first : (p : Puzzle) (off q : ℕ) (vs : List Use) (t : List Move) → q ≡ off → IsAlong p off vs t t q
-along_first p off q vs t e = grind (arith, common_steps)
+along_first p off q vs t e = grind arith
 
 along_next : {p : Puzzle} {off q : ℕ} {vs : List Use} {s t : List Move} → IsAlong p off vs s t q → q < off + length vs →
     IsAlong p off vs s (after_use p (use_at_place off vs q) t) (q + 1)
@@ -48,7 +48,7 @@ along_next {p} {off} {q} {vs} {t} a h = grind (arith, common_steps, drop-cons)
 -- behind the last one all were
 along_end : {p : Puzzle} {off q : ℕ} {vs : List Use} {s t : List Move} → IsAlong p off vs s t q →
     q ≡ off + length vs → t ≡ after_uses p vs s
-along_end {off} {q} {vs} a e = grind (arith, common_steps, length-drop, nil_from_length (drop (q - off) vs))
+along_end {off} {q} {vs} a e = grind (arith, length-drop, nil_from_length (drop (q - off) vs))
 
 -- the node at place q is of the next use, u
 pub record IsNext (p : Puzzle) (x off : ℕ) (vs : List Use) (s t : List Move) (q : ℕ) : Type 0 where
@@ -108,7 +108,7 @@ pub record Leads (p : Puzzle) (x place end : ℕ) (t : List Move) : Type 0 where
 
 pub leads : {p : Puzzle} {i x place end : ℕ} (t : List Move) → IsUseAt p i x place →
     end ≡ spacer_place p x → Leads p x place end t
-leads {p} {x} {end} t held e = grind (arith, common_steps, spacer_cells p t x end held.known e, behind_all held)
+leads {p} {x} {end} t held e = grind (arith, spacer_cells p t x end held.known e, behind_all held)
 
 -- ---- A step of the walk: the next use is committed
 
@@ -131,4 +131,4 @@ Commits now q j new =
 -- at the end
 pub whole : (p : Puzzle) (room : ℕ) (now : Linked) {t : List Move} → now.puzzle ≡ p → now.room ≡ room →
     now.trail ≡ t → dancing_of now ≡ record { puzzle = p; trail = t; room = room }
-whole p room now e r h = grind (arith, common_steps)
+whole p room now e r h = grind arith

@@ -132,7 +132,7 @@ top_kept p ln i l e = grind (arith, eqb-true, map_same)
 
 pub down_kept : (p : Puzzle) (ln : ℕ → Line) (i : ℕ) (l : Line) → ((x : ℕ) → l.down x ≡ (ln i).down x)
     → map (dlink_in p ln) (layout p) ≡ map (dlink_in p (with_line ln i l)) (layout p)
-down_kept p ln i l h = grind (arith, common_steps, map_same, eqb-true)
+down_kept p ln i l h = grind (arith, map_same, eqb-true)
 
 raised_is : {p : Puzzle} (col : Node → ℕ) (ln : ℕ → Line) {i : ℕ} (o : ℕ) → IsLaid p → Placed p i ((ln i).down o) →
     with_ulink (nodes_from p ln col) (link_place p i ((ln i).down o)) (link_place p i o) ≡ nodes_from p

@@ -2,7 +2,6 @@
 use Rattle.std.proofs.Common.{Bool, Some, subst, le-leb, ◌≡◌, ℕ, ◌<◌, ◌⊎◌, inl, inr, true}
 use Rattle.std.proofs.Common.{cond, eqb, List, ◌∷◌, length, get_or, refl, ap, ◌∙◌, arith}
 use Rattle.std.specs.Prelude.{is_some, slice_get, Contains}
-use Rattle.std.proofs.lemmas.Grind.{common_steps}
 use Rattle.std.proofs.lemmas.List.{length-map}
 use Rattle.std.proofs.lemmas.Option.{slice_get_within}
 use Rattle.xc_input.specs.declared.problem.Use.{Use}
@@ -34,7 +33,7 @@ listed_name p t i (inr h) = inr (in_list_name p t _ _ (contained _ _ h))
 pub listed_within : {p : Puzzle} {t : List Move} {i x q : ℕ} → IsLaid p → IsItem p i → IsListedAt p t i x q →
     q < length (nodes_after p t).dlink
 listed_within {p} {t} {i} {x} laid item at =
-    grind (arith, common_steps, length-map, node_within p i x laid item.0 item.1 (listed_name p t i at.listed))
+    grind (arith, length-map, node_within p i x laid item.0 item.1 (listed_name p t i at.listed))
 
 down_at : {p : Puzzle} (t : List Move) (i : ℕ) {x : ℕ} → IsLaid p → IsItem p i
     → (x ≡ 0) ⊎ Contains (listed_numbers p t i) x
@@ -62,7 +61,7 @@ use_item {p} q {o} {u} laid at item = subst (λ i. IsItem p i) item (laid.nodes.
 
 pub colour_within : (p : Puzzle) (t : List Move) (q : ℕ) {o : ℕ} {u : Use} → slice_get (layout p) q ≡ Some (used o u) →
     q < length (nodes_after p t).color
-colour_within p t q at = grind (arith, common_steps, length-map, slice_get_within)
+colour_within p t q at = grind (arith, length-map, slice_get_within)
 
 pub committed_open : (p : Puzzle) (t : List Move) (q : ℕ) {o j k : ℕ} {u : Use} →
     slice_get (layout p) q ≡ Some (used o u) → u.item ≡ j → primary_count p < j → is_open j t ≡ true →
@@ -72,4 +71,4 @@ committed_open p t q {u} at item high still read = grind (arith, open_colour, le
 -- the moves of such a use, of which a Cover may be still to be made
 pub still_covers : (j k : ℕ) (t : List Move) {new : List Move} {r : Bool} → r ≡ eqb k 0
     → new ≡ cond (eqb k 0) t (Purify j k ∷ t) → cond (eqb k 0) (Cover j) (Purify j k) ∷ t ≡ cond r (Cover j ∷ new) new
-still_covers j k t {new} {r} e f = grind (arith, common_steps)
+still_covers j k t {new} {r} e f = grind arith

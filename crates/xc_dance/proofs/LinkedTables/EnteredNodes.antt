@@ -60,7 +60,7 @@ grown_len xs = let h = len_from blank xs in omega (arith, h)
 pub last_from : (P : ℕ → Type 0) (l : Line) (xs : List ℕ) → P (l.up 0) → AllByRecursion P xs
     → P ((fold grown l xs).up 0)
 last_from P l [] h a = h
-last_from P l (x ∷ xs) h a = grind (arith, common_steps, put_at-same, last_from P (grown l x) xs)
+last_from P l (x ∷ xs) h a = grind (arith, put_at-same, last_from P (grown l x) xs)
 
 -- a list that rises to its last
 pub last_high : (l : Line) (a : ℕ) (xs : List ℕ) → IsLinkedFrom l a xs → a ≤ l.up 0
@@ -100,7 +100,7 @@ lines_of ns j = grown_all (held j ns)
 
 pub length-held : (j : ℕ) (ns : List Node) → length (held j ns) ≤ length ns
 length-held j [] = omega arith
-length-held j (n ∷ ns) = grind (arith, common_steps, length-held j ns)
+length-held j (n ∷ ns) = grind (arith, length-held j ns)
 
 pub lines_few : (j : ℕ) (ns : List Node) → (lines_of ns j).len ≤ length ns
 lines_few j ns = let a = grown_len (held j ns) in let b = length-held j ns in omega (arith, a, b)
@@ -140,7 +140,7 @@ held_none p j = grind (arith, common_steps, owns_hold_none, length-map-range_wit
 
 pub absent_none : (j o : ℕ) (us : List Use) → is_some (colour_in us j) ≡ false → held j (map (used o) us) ≡ []
 absent_none j o [] e = refl
-absent_none j o (u ∷ us) e = grind (arith, common_steps, false≢true, absent_none j o us)
+absent_none j o (u ∷ us) e = grind (arith, false≢true, absent_none j o us)
 
 -- an option that holds an item has one node of it
 pub one_use : (j o : ℕ) (us : List Use) → AreDistinct us
@@ -160,7 +160,7 @@ owns_none j (i ∷ js) ns = owns_none j js ns
 
 -- in the end each item's list is that of all options
 pub held_all : {p : Puzzle} (j : ℕ) → IsFit p → held j (layout p) ≡ listed_numbers p [] j
-held_all {p} j fit = grind (arith, common_steps, owns_none, options_hold, each_weaker, options_numbered)
+held_all {p} j fit = grind (arith, owns_none, options_hold, each_weaker, options_numbered)
 
 -- ---- a use's node enters its item's list: so does its option the item's line
 
@@ -200,7 +200,7 @@ entered-is p ln col q o u laid e here head last item =
 
 use_name : (p : Puzzle) (k o j : ℕ) (u : Use) → IsFit p → slice_get (layout p) k ≡ Some (used o u) → u.item ≡ j
     → IsName p j o
-use_name p k o j u fit e same = grind (arith, common_steps, (is_laid _ fit).nodes)
+use_name p k o j u fit e same = grind (arith, (is_laid _ fit).nodes)
 
 -- an item's line once one node more is entered
 line_then : (p : Puzzle) (q : ℕ) {o : ℕ} {u : Use} → slice_get (layout p) q ≡ Some (used o u) → (k : ℕ) →
@@ -270,18 +270,18 @@ whole p j = grown_all (listed_numbers p [] j)
 -- members stand in their lists
 slot_in : {p : Puzzle} (q : ℕ) (n : Node) {j x : ℕ} → IsFit p → slice_get (layout p) q ≡ Some n
     → slot_of n ≡ Some (j, x) → (x ≡ 0) ⊎ (is_in x (listed_numbers p [] j) ≡ true)
-slot_in q (own i) fit e s = grind (arith, common_steps)
-slot_in {p} q (used o u) fit e s = grind (arith, common_steps, held_in (layout p) q o u e, held_all u.item fit)
+slot_in q (own i) fit e s = grind arith
+slot_in {p} q (used o u) fit e s = grind (arith, held_in (layout p) q o u e, held_all u.item fit)
 slot_in q _ fit e s = cc
 
 whole_is : (p : Puzzle) (j x : ℕ) → (x ≡ 0) ⊎ (is_in x (listed_numbers p [] j) ≡ true)
     → ((whole p j).up x ≡ up_of p [] j x) × ((whole p j).down x ≡ down_of p [] j x)
 whole_is p j x h =
     let linked = linked_from blank [] (listed_numbers p [] j) (refl, refl) (rises_listed p [] j) (λ x h. refl) in
-    grind (arith, common_steps, alike (line_of p [] j) (whole p j) 0 (listed_numbers p [] j) (stands p [] j) linked x)
+    grind (arith, alike (line_of p [] j) (whole p j) 0 (listed_numbers p [] j) (stands p [] j) linked x)
 
 top_is : (p : Puzzle) (n : Node) → top_in (whole p) n ≡ top_in (line_of p []) n
-top_is p n = grind (arith, common_steps, grown_len, length-map)
+top_is p n = grind (arith, grown_len, length-map)
 
 pub all_entered : (p : Puzzle) (n : ℕ) → IsFit p → length (layout p) ≤ n
     → nodes_from p (lines_of (take n (layout p))) (color_in p []) ≡ nodes_after p []

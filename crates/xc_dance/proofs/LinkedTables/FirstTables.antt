@@ -45,7 +45,7 @@ filled_all f (n ∷ ns) k le = grind (arith, filled_all f ns (k - 1))
 
 pub length-filled : {X : Type 0} (f : X → ℕ) (ns : List X) (k : ℕ) → length (filled f ns k) ≡ length ns
 length-filled f [] k = refl
-length-filled f (n ∷ ns) k = grind (arith, common_steps, length-filled f ns)
+length-filled f (n ∷ ns) k = grind (arith, length-filled f ns)
 
 set_suc : {X : Type 0} (f : X → ℕ) (ns : List X) (k : ℕ) (n : X) → slice_get ns k ≡ Some n
     → set (filled f ns k) k (f n) ≡ filled f ns (suc k)
@@ -55,7 +55,7 @@ set_suc f (m ∷ ns) k n e = grind (arith, same_Some, set_suc f ns (k - 1) n)
 -- one cell more
 pub filled_more : {X : Type 0} (f : X → ℕ) (ns : List X) (k : ℕ) {n : X} {v : ℕ} → slice_get ns k ≡ Some n → v ≡ f n
     → set (filled f ns k) k v ≡ filled f ns (k + 1)
-filled_more f ns k e is = grind (arith, common_steps, set_suc)
+filled_more f ns k e is = grind (arith, set_suc)
 
 -- ---- the node table as it is laid node by node
 
@@ -71,7 +71,7 @@ rows_more p ns n = grind (arith, map-append)
 -- one node more
 pub laid_more : (p : Puzzle) (k : ℕ) {n : Node} {r : Row} {old new : Laying} → new ≡ with_row old r → old ≡ laid_to p k
     → slice_get (layout p) k ≡ Some n → r ≡ row_of p n → new ≡ laid_to p (k + 1)
-laid_more p k laid before e is = grind (arith, common_steps, rows_more, take_more-get)
+laid_more p k laid before e is = grind (arith, rows_more, take_more-get)
 
 -- there is room for the next one
 pub laid_room : (p : Puzzle) (k : ℕ) {n : Node} → slice_get (layout p) k ≡ Some n
@@ -85,7 +85,7 @@ up_next p o = let s : suc o ≡ o + 1 = omega arith in ap (λ n. fixed_up p (spa
 
 pub down_next : (p : Puzzle) (o : ℕ) (us : List Use) → o < option_count p → slice_get p.options o ≡ Some us
     → spacer_place p o + length us ≡ fixed_down p (spacer o)
-down_next p o us lt e = grind (arith, common_steps, lt-ltb, place_next)
+down_next p o us lt e = grind (arith, lt-ltb, place_next)
 
 -- ---- the rows
 
@@ -98,7 +98,7 @@ own_row p (suc i) le = (own (suc i), head_is _ (suc i) (omega arith) le, refl)
 pub spacer_row : (p : Puzzle) (o : ℕ) {above below : ℕ} → above ≡ fixed_up p (spacer o)
     → below ≡ fixed_down p (spacer o)
     → (let r : Row = record { top = SPACER + o; ulink = above; dlink = below; color = 0 } in r ≡ row_of p (spacer o))
-spacer_row p o e f = grind (arith, common_steps)
+spacer_row p o e f = grind arith
 
 -- ---- the item table as it is filled place by place
 

@@ -4,7 +4,6 @@ use Rattle.std.proofs.Common.{arith, ne_eqb}
 use Rattle.std.specs.Prelude.{slice_get, unwrap_or, All, AllPairs}
 use Rattle.std.specs.List.{AllByRecursion}
 use Rattle.std.proofs.lemmas.List.Elements.{recursion_from_All}
-use Rattle.std.proofs.lemmas.Grind.{common_steps}
 use Rattle.xc_input.specs.declared.problem.Use.{Use}
 use Rattle.xc_input.specs.Problem.{Puzzle, uses_of, item_count, IsValid, IsSoundOption}
 use Rattle.xc_input.specs.Problem.{IsWithinLimits}
@@ -71,4 +70,4 @@ pub known_fit : (colours : List (List ℕ)) (p : Puzzle) → IsValid p → IsWit
 known_fit colours p valid limits known few = grind (arith, is_fit, layout_small)
 
 pub fitted : {p : Puzzle} {spans : List Span} → IsWithinLimits p → IsFit p → spans ≡ spans_of p → IsFitted p spans
-fitted {p} limits fit is = grind (arith, common_steps, high_within, is_laid p fit, has_spans p fit)
+fitted {p} limits fit is = grind (arith, high_within, is_laid p fit, has_spans p fit)

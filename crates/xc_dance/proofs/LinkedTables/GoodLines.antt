@@ -58,7 +58,7 @@ unlinked-is p col ln j o laid m =
     let c = member_cells _ col ln _ _ laid m in
     let up = set_link _ (λ k x. (ln k).up x) (fixed_up p) _ _ ((ln j).up o) laid c.below in
     let down = set_link _ (λ k x. (ln k).down x) (fixed_down p) _ _ ((ln j).down o) laid c.above in
-    grind (arith, common_steps, same_nodes, set_top _ ln _ (cut (ln j) o) laid m.item.0 m.item.1)
+    grind (arith, same_nodes, set_top _ ln _ (cut (ln j) o) laid m.item.0 m.item.1)
 
 pub linked-is : (p : Puzzle) (col : Node → ℕ) (ln : ℕ → Line) (j o : ℕ) → IsLaid p → IsMember p j (ln j) o
     → IsLinked (nodes_from p ln col) (link_place p j o)
@@ -122,7 +122,7 @@ cut_member p j l o x m n ne some = grind (arith, by_first, put_at-same, put_at-o
 -- ---- the lines after moves: each stands for its list, of options that hold the item
 
 pub numbers_few : (p : Puzzle) (t : List Move) (j : ℕ) → length (listed_numbers p t j) ≤ length p.options
-numbers_few p t j = grind (arith, common_steps, length-listed, length-map)
+numbers_few p t j = grind (arith, length-listed, length-map)
 
 pub numbers_named : (p : Puzzle) (t : List Move) (j : ℕ) → AllByRecursion (Named p j) (listed_numbers p t j)
 numbers_named p t j = grind (arith, each-map, each_weaker, holders, holds_use)
@@ -144,7 +144,7 @@ pub record SameCut (p : Puzzle) (t : List Move) (m : Move) (j : ℕ) (ks : List 
 
 -- lines with the same length and links are the same
 pub line_is : (l m : Line) → m.len ≡ l.len → ((x : ℕ) → m.up x ≡ l.up x) → ((x : ℕ) → m.down x ≡ l.down x) → m ≡ l
-line_is l m len up down = grind (arith, common_steps, fun_ext)
+line_is l m len up down = grind (arith, fun_ext)
 
 -- the line that loses what a move takes is that after the move
 pub line_after : (p : Puzzle) (t : List Move) (m : Move) (j : ℕ) (ks : List ℕ) → SameCut p t m j ks
@@ -153,13 +153,13 @@ line_after p t m j ks c =
     let xs = listed_numbers p t j in
     let s = subst (Swept (line_of p t j) (cuts (line_of p t j) (filter c.test xs)) 0 xs) (sym c.stay_is)
     (swept _ _ _ c.test (stands p t j)) in
-    grind (arith, common_steps, down_after, line_is, up_after, length-map, swept_len (line_of p t j) xs c.test 0)
+    grind (arith, down_after, line_is, up_after, length-map, swept_len (line_of p t j) xs c.test 0)
 
 -- ---- tables of the same lines
 
 pub link_same : (p : Puzzle) (f g : ℕ → ℕ → ℕ) (fixed : ℕ) (s : Option (ℕ × ℕ))
     → ((j x : ℕ) → s ≡ Some (j, x) → g j x ≡ f j x) → link_at p g fixed s ≡ link_at p f fixed s
-link_same p f g fixed s h = grind (arith, common_steps)
+link_same p f g fixed s h = grind arith
 
 top_same : (p : Puzzle) (ln rn : ℕ → Line) (k : ℕ) (n : Node) → ((j x : ℕ) → slot_of n ≡ Some (j, x) → rn j ≡ ln j)
     → top_in rn n ≡ top_in ln n

@@ -80,7 +80,7 @@ members_up p i l a (x ∷ xs) laid pos le named h =
 follow_up : (p : Puzzle) (ln : ℕ → Line) (i b : ℕ) (xs : List ℕ) (c : ℕ) → Way (Beside p i (ln i)) b xs c
     → followed (map (ulink_in p ln) (layout p)) (length xs) (link_place p i b) ≡ map (link_place p i) xs
 follow_up p ln i b [] c w = refl
-follow_up p ln i b (x ∷ xs) c w = grind (arith, common_steps, get_up, follow_up p ln i w.0 xs c w.1.1)
+follow_up p ln i b (x ∷ xs) c w = grind (arith, get_up, follow_up p ln i w.0 xs c w.1.1)
 
 -- item i's own node
 pub own_placed : (p : Puzzle) (i : ℕ) → IsLaid p → 0 < i → i ≤ item_count p → Placed p i 0
@@ -100,7 +100,7 @@ module _ {p : Puzzle} (t : List Move) {i : ℕ} (laid : IsLaid p) (pos : 0 < i) 
       let xs = listed_numbers p t i in
       let up = follow_up p (line_of p t) i _ (reverse xs) 0 (way_back (λ c b x. Beside p i (line_of p t i) b c x) 0 xs _
       (members_up p i (line_of p t i) 0 xs laid pos le (numbers_named p t i) (stands p t i))) in
-      grind (arith, common_steps, long_is, length-reverse, get_up p (line_of p t) i 0 (own_placed p i laid pos le))
+      grind (arith, long_is, length-reverse, get_up p (line_of p t) i 0 (own_placed p i laid pos le))
 
   pub in_table : i < length (nodes_after p t).top
   in_table = grind (arith, common_steps, slice_get_within)
@@ -122,7 +122,7 @@ pub record Hides (p : Puzzle) (t : List Move) (m : Move) (i : ℕ) (keep : Optio
 
 pub leavers_of : (p : Puzzle) (t : List Move) (i : ℕ) (keep : Option ℕ)
     → AreOf p t i (leavers p i keep (listed_numbers p t i))
-leavers_of p t i keep = grind (arith, common_steps, Rises-filter, and_parts, in_filter, rises_listed)
+leavers_of p t i keep = grind (arith, Rises-filter, and_parts, in_filter, rises_listed)
 
 -- what the walk writes: a cell for each option that is kept, three for each node that leaves
 abbrev pub hide_writes : Puzzle → List Move → Move → ℕ → Option ℕ → ℕ
@@ -196,12 +196,12 @@ module _ (p : Puzzle) (t : List Move) (spans : List Span) (m : Move) (i : ℕ) (
 -- ---- what the two moves hide
 
 pub cover_hides : (p : Puzzle) (t : List Move) (i : ℕ) → Hides p t (Cover i) i None (color_in p t)
-cover_hides p t i = grind (arith, common_steps, cover_colours, marked_none, takes_cover, is_open, listed, eq-eqb)
+cover_hides p t i = grind (arith, cover_colours, marked_none, takes_cover, is_open, listed, eq-eqb)
 
 purify_passed : {p : Puzzle} (t : List Move) {i : ℕ} (c : ℕ)
     → Passed p i (color_in p t) (purify_start p t i c) (listed_numbers p t i)
 purify_passed {p} t {i} c =
-    grind (arith, common_steps, in_above, ne_eqb, color_other p (color_in p t) i 0 c, rises_listed p t i)
+    grind (arith, in_above, ne_eqb, color_other p (color_in p t) i 0 c, rises_listed p t i)
 
 pub purify_hides : (p : Puzzle) (t : List Move) (i c : ℕ) → AreLegal p t → IsLaid p → 0 < i → i ≤ item_count p
     → is_open i t ≡ true → Hides p t (Purify i c) i (Some c) (purify_start p t i c)
@@ -213,7 +213,7 @@ purify_hides p t i c legal laid pos le opened =
 -- the options kept are those that are marked
 pub kept_marked : (p : Puzzle) (t : List Move) (i c : ℕ)
     → length (filter (is_kept p i (Some c)) (listed_numbers p t i)) ≡ marking p t i c
-kept_marked p t i c = grind (arith, common_steps, listed, length-map, filter_same, each_weaker, holders, filter-map)
+kept_marked p t i c = grind (arith, listed, length-map, filter_same, each_weaker, holders, filter-map)
 
 -- a Cover keeps none
 pub cover_writes : (p : Puzzle) (t : List Move) (i : ℕ) → hide_writes p t (Cover i) i None + 2 ≡ cost_of p t (Cover i)

@@ -1,7 +1,6 @@
 -- The options with their numbers, and the places of the node table: what the walks need of them.
 use Rattle.std.proofs.Common.{◌≡◌, ℕ, zero, suc, ◌<◌, ◌≤◌, Some, refl}
 use Rattle.std.proofs.Common.{arith}
-use Rattle.std.proofs.lemmas.Grind.{common_steps}
 use Rattle.xc_input.specs.Problem.{Puzzle, item_count}
 use Rattle.xc_input.proofs.lists.EachElement.{each_at}
 use Rattle.xc_dance.specs.Fields.{Node, own, used, link_place}
@@ -20,7 +19,7 @@ placed p j (suc m) pos le name = grind (arith, held_node p j (suc m))
 -- and stands at no other place
 slot_at : {p : Puzzle} (q : ℕ) (n : Node) {j : ℕ} (x : ℕ) → IsFit p → IsAt p q n → slot_of n ≡ Some (j, x)
     → (link_place p j x ≡ q) × (0 < j) × (j ≤ item_count p)
-slot_at q (own i) x fit s f = grind (arith, common_steps)
+slot_at q (own i) x fit s f = grind arith
 slot_at {p} q (used o u) x fit s f = grind (arith, each_at, use_at)
 slot_at q _ x fit s f = cc
 

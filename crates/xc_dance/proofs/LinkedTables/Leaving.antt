@@ -51,7 +51,7 @@ use Rattle.xc_dance.proofs.LinkedTables.OneList.{LinesReady, step_cost}
 use Rattle.xc_dance.proofs.LinkedTables.GoodLines.{InRange, listed_member}
 
 pub eqb_turn : (a b : ℕ) → eqb a b ≡ eqb b a
-eqb_turn a b = grind (arith, common_steps, eq-eqb, eqb-false, eqb-true, ne_eqb)
+eqb_turn a b = grind (arith, eq-eqb, eqb-false, eqb-true, ne_eqb)
 
 test_is : (p : Puzzle) (i : ℕ) (keep : Option ℕ) (x c : ℕ) → colour_in (uses_of p x) i ≡ Some c
     → is_kept_colour keep c ≡ is_kept p i keep x
@@ -71,7 +71,7 @@ pub record TakesOut (p : Puzzle) (t : List Move) (m : Move) (i : ℕ) (gs : List
 
 leaves_by : {p : Puzzle} (t : List Move) (i j x : ℕ) → IsFit p → leaves p (color_in p t) i j x ≡
     ((not (eqb j i) && is_some (colour_in (uses_of p x) j)) && not (is_mark p (color_in p t) x j))
-leaves_by {p} t i j x fit = grind (arith, common_steps, list_any-append, others_by)
+leaves_by {p} t i j x fit = grind (arith, list_any-append, others_by)
 
 pub stay_if : (b : Bool) (gs xs : List ℕ) → cond b (stay (λ x. is_in x gs) xs) xs ≡ stay (λ x. b && is_in x gs) xs
 stay_if true gs xs = refl
@@ -184,8 +184,8 @@ passing f [] ys a b within = ap length (leave_none ys)
 passing f (x ∷ xs) ys a b within =
     let rest = passing f xs ys a.1 b (λ k e. within k (in_more x k xs e)) in
     let one = passes_one (f x) (λ j. is_in j (x ∷ xs) && f j) (λ j. is_in j xs && f j) x ys b
-    (ap (λ b. b && f x) a.0) (λ j. grind (arith, common_steps, eqb-true)) in
-    grind (arith, common_steps, and-true, within x (is_in-first x xs))
+    (ap (λ b. b && f x) a.0) (λ j. grind (arith, eqb-true)) in
+    grind (arith, and-true, within x (is_in-first x xs))
 
 apart : (n : ℕ) (xs : List ℕ) → Rises n xs → AllApart xs
 apart n [] r = tt
@@ -193,7 +193,7 @@ apart n (x ∷ xs) r = (not_in x x xs (omega arith) r.1, apart x xs r.1)
 
 pub in_range : (k a n : ℕ) → a < k → k ≤ a + n → is_in k (range_with_len (a + 1) n) ≡ true
 in_range k a zero u w = absurd (omega (arith, u, w))
-in_range k a (suc n) u w = grind (arith, common_steps, eq-eqb, eqb-false, in_range k (a + 1) n)
+in_range k a (suc n) u w = grind (arith, eq-eqb, eqb-false, in_range k (a + 1) n)
 
 pub items_apart : (p : Puzzle) → AllApart (items p)
 items_apart p = apart 0 (items p) (Rises-range 0 (item_count p))
@@ -243,23 +243,23 @@ pub takes_cover : (p : Puzzle) (t : List Move) (i : ℕ)
     → TakesOut p t (Cover i) i (leavers p i None (listed_numbers p t i))
 takes_cover p t i =
     let all : leavers p i None (listed_numbers p t i) ≡ listed_numbers p t i = stay_all _ in
-    grind (arith, common_steps, ne_eqb, takes_listed)
+    grind (arith, ne_eqb, takes_listed)
 
 -- ---- Purify
 
 pub takes_purify : (p : Puzzle) (t : List Move) (i c : ℕ) → AreLegal p t → is_open i t ≡ true
     → TakesOut p t (Purify i c) i (leavers p i (Some c) (listed_numbers p t i))
 takes_purify p t i c legal opened =
-    grind (arith, common_steps, other_numbers p i c (listed p t i) (holders p t i), ne_eqb, takes_listed)
+    grind (arith, other_numbers p i c (listed p t i) (holders p t i), ne_eqb, takes_listed)
 
 pub own_purify : (p : Puzzle) (t : List Move) (i c : ℕ) → listed_numbers p (Purify i c ∷ t) i ≡ listed_numbers p t i
-own_purify p t i c = grind (arith, common_steps, eq-eqb)
+own_purify p t i c = grind (arith, eq-eqb)
 
 -- ---- Tweak
 
 module _ (p : Puzzle) (t : List Move) (i : ℕ) where
   pub tweak_own : listed_numbers p (Tweak i ∷ t) i ≡ drop 1 (listed_numbers p t i)
-  tweak_own = grind (arith, common_steps, drop-map, eq-eqb)
+  tweak_own = grind (arith, drop-map, eq-eqb)
 
   -- the first option leaves item i's list, and if i is open those of the other open items
   pub tweak_stay : (j o : ℕ) (os : List ℕ) (b : Bool) → is_open i t ≡ b → listed_numbers p t i ≡ o ∷ os

@@ -53,7 +53,7 @@ written_back xs i j v w e h = grind (arith, common_steps, set-set)
 
 -- tables with the same columns are the same
 pub same_nodes : (s t : Nodes) → s.top ≡ t.top → s.ulink ≡ t.ulink → s.dlink ≡ t.dlink → s.color ≡ t.color → s ≡ t
-same_nodes s t a b c d = grind (arith, common_steps)
+same_nodes s t a b c d = grind arith
 
 -- node q stands in its list: its neighbours name it, and its list counts it
 pub record IsLinked (t : Nodes) (q : ℕ) : Type 0 where
@@ -98,24 +98,24 @@ get_down p ln j x h = get_link _ (λ k y. (ln k).down y) (fixed_down p) _ _ h
 
 other_slot : (p : Puzzle) (f : ℕ → ℕ → ℕ) (j x v : ℕ) (fixed : ℕ) (s : Option (ℕ × ℕ)) → (s ≡ Some (j, x) → ⊥) →
     link_at p (put_link f j (put_at (f j) x v)) fixed s ≡ link_at p f fixed s
-other_slot p f j x v fixed s ne = grind (arith, common_steps, eqb-true, put_at-other)
+other_slot p f j x v fixed s ne = grind (arith, eqb-true, put_at-other)
 
 pub set_link : (p : Puzzle) (f : ℕ → ℕ → ℕ) (fixed : Node → ℕ) (j x v : ℕ) → IsLaid p → Placed p j x →
     column p (put_link f j (put_at (f j) x v)) fixed ≡ set (column p f fixed) (link_place p j x) (link_place p j v)
 set_link p f fixed j x v laid h = map_put _ _ (layout p) _ _
     (λ q n at ne. other_slot p f j x v (fixed n) (slot_of n) (λ e. ne (sym (laid.unique q n j x at e))))
-    (λ n at. grind (arith, common_steps, at_slot, eq-eqb, eqb-true, ne_eqb, put_at-same, same_at))
+    (λ n at. grind (arith, at_slot, eq-eqb, eqb-true, ne_eqb, put_at-same, same_at))
 
 -- ---- counts
 
 top_other : (ln : ℕ → Line) (j : ℕ) (l : Line) (n : Node) → (n ≡ own j → ⊥) → top_in (with_line ln j l) n ≡ top_in ln n
-top_other ln j l n ne = grind (arith, common_steps, eqb-true)
+top_other ln j l n ne = grind (arith, eqb-true)
 
 pub set_top : (p : Puzzle) (ln : ℕ → Line) (j : ℕ) (l : Line) → IsLaid p → 0 < j → j ≤ item_count p
     → map (top_in (with_line ln j l)) (layout p) ≡ set (map (top_in ln) (layout p)) j l.len
 set_top p ln j l laid pos le = map_put _ _ (layout p) j l.len
     (λ q n at ne. top_other ln j l n (λ e. ne (sym (laid.unique q n j 0 at (ap slot_of e)))))
-    (λ n at. grind (arith, common_steps, eq-eqb, eqb-true, ne_eqb, same_at))
+    (λ n at. grind (arith, eq-eqb, eqb-true, ne_eqb, same_at))
 
 pub get_len : (p : Puzzle) (ln : ℕ → Line) (j : ℕ) → IsLaid p → 0 < j → j ≤ item_count p
     → get_or (map (top_in ln) (layout p)) j 0 ≡ (ln j).len
@@ -123,7 +123,7 @@ get_len p ln j laid pos le = get_map (top_in ln) (layout p) j _ (laid.head j pos
 
 -- the item of a node
 item_at : (ln : ℕ → Line) (n : Node) {j o : ℕ} → slot_of n ≡ Some (j, o) → 0 < o → top_in ln n ≡ j
-item_at ln n e pos = grind (arith, common_steps)
+item_at ln n e pos = grind arith
 
 pub get_item : (p : Puzzle) (ln : ℕ → Line) (j o : ℕ) → Placed p j o → 0 < o
     → get_or (map (top_in ln) (layout p)) (link_place p j o) 0 ≡ j

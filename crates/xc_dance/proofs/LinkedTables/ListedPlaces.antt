@@ -2,7 +2,6 @@
 use Rattle.std.proofs.Common.{◌≡◌, ℕ, zero, suc, ◌<◌, ◌≤◌, List, Some, refl, sym, subst}
 use Rattle.std.proofs.Common.{arith}
 use Rattle.std.specs.Prelude.{Option, Contains}
-use Rattle.std.proofs.lemmas.Grind.{common_steps}
 use Rattle.std.proofs.lemmas.List.Elements.{All-from_recursion}
 use Rattle.std.proofs.lemmas.Option.{slice_get_within}
 use Rattle.xc_input.specs.Problem.{Puzzle, IsItem, uses_of, item_count}
@@ -51,7 +50,7 @@ list_of s i = listed_numbers s.puzzle s.trail i
 pub next_of_own : (s : Dancing) (a : Named) (i x q items : ℕ) (n : Option ℕ) → s.puzzle ≡ a.puzzle →
     items ≡ item_count a.puzzle → IsListedAt s.puzzle s.trail i x q → q ≤ items → n ≡ next_above 0 (list_of s i) →
     next_above x (list_of s i) ≡ n
-next_of_own s a i x q items n same count at le is = grind (arith, common_steps, list_of, own_place)
+next_of_own s a i x q items n same count at le is = grind (arith, list_of, own_place)
 
 -- an option's use stands there
 pub option_use : (s : Dancing) (a : Named) (i x q items : ℕ) → s.puzzle ≡ a.puzzle → IsSound a →

@@ -4,7 +4,6 @@ use Rattle.std.proofs.Common.{◌∷◌, map, get_or, Some, None, refl, ap, ap�
 use Rattle.std.proofs.Common.{ne_eqb, Option}
 use Rattle.std.specs.Prelude.{is_some, slice_get}
 use Rattle.std.specs.List.{AllByRecursion}
-use Rattle.std.proofs.lemmas.Grind.{common_steps}
 use Rattle.std.proofs.lemmas.Bool.{false≢true, eqb-false}
 use Rattle.std.proofs.lemmas.Option.{same_Some}
 use Rattle.std.proofs.Math.Bool.{not-not}
@@ -53,8 +52,8 @@ HasMark p t j c o = holds o j ≡ true → is_marked p t j o.number c ≡ true
 
 holding_in : (j : ℕ) (os : List Numbered)
     → AllByRecursion (λ o. holds o j ≡ true → is_in o.number (map (λ x. x.number) (holding j os)) ≡ true) os
-holding_in j [] = grind (arith, common_steps, each_weaker, false≢true, is_in-first)
-holding_in j (x ∷ os) = grind (arith, common_steps, each_weaker, false≢true, is_in-first, holding_in j os)
+holding_in j [] = grind (arith, each_weaker, false≢true, is_in-first)
+holding_in j (x ∷ os) = grind (arith, each_weaker, false≢true, is_in-first, holding_in j os)
 
 -- an option left that holds an open item is in its list
 pub in_open : (p : Puzzle) (t : List Move) (j : ℕ) → AreLegal p t → is_open j t ≡ true
@@ -107,10 +106,10 @@ mark_is p t o j c pos has = ap (λ v. eqb v MARK) (color_is _ t _ _ _ pos has)
 
 pub closed : (j : ℕ) (t : List Move) → is_open j t ≡ false → (is_covered j t ≡ true)
     ⊎ ((c : ℕ) × (purified j t ≡ Some c))
-closed j t e = grind (arith, common_steps, open_is t j)
+closed j t e = grind (arith, open_is t j)
 
 pub colour_some : (us : List Use) (j : ℕ) → is_some (colour_in us j) ≡ true → (c : ℕ) × (colour_in us j ≡ Some c)
-colour_some us j e = grind (arith, common_steps, is_some, false≢true)
+colour_some us j e = grind (arith, is_some, false≢true)
 
 agrees_same : (c d : ℕ) → agrees c (Some d) ≡ true → d ≡ c
 agrees_same c d e = sym (eqb-true c d (and_right _ _ e))
@@ -124,7 +123,7 @@ pub record Met (p : Puzzle) (t : List Move) (o j : ℕ) : Type 0 where
 pub colour_small : (us : List Use) (j c : ℕ) → AllByRecursion (λ u. u.colour < MARK) us → colour_in us j ≡ Some c
     → c < MARK
 colour_small [] j c a e = cc
-colour_small (u ∷ us) j c a e = grind (arith, common_steps, same_Some, colour_small us j c a.1)
+colour_small (u ∷ us) j c a e = grind (arith, same_Some, colour_small us j c a.1)
 
 pub each_met : {p : Puzzle} (t : List Move) (j : ℕ) → AreLegal p t → IsFit p
     → AllByRecursion (λ o. holds o j ≡ true → Met p t o.number j) (left p t)
@@ -162,14 +161,14 @@ slot_kept p i keep xs (Some s) = eqb s.0 i && (is_in s.1 xs && is_kept p i keep 
 none_kept : (p : Puzzle) (i : ℕ) (keep : Option ℕ) (s : Option (ℕ × ℕ)) (v : ℕ)
     → v ≡ cond (slot_kept p i keep [] s) MARK v
 none_kept p i keep None v = refl
-none_kept p i keep (Some s) v = grind (arith, common_steps)
+none_kept p i keep (Some s) v = grind arith
 
 pub marked_at : (p : Puzzle) (i : ℕ) (keep : Option ℕ) (now : Node → ℕ) (xs : List ℕ) (n : Node)
     → marked_list p i keep now xs n ≡ cond (slot_kept p i keep xs (slot_of n)) MARK (now n)
-marked_at p i keep now [] n = grind (arith, common_steps, none_kept)
+marked_at p i keep now [] n = grind (arith, none_kept)
 marked_at p i keep now (o ∷ xs) n =
     let rest = marked_at p i keep (cond (is_kept p i keep o) (with_color now i o MARK) now) xs n in
-    grind (arith, common_steps, none_kept)
+    grind (arith, none_kept)
 
 pub cover_colours : (p : Puzzle) (t : List Move) (i : ℕ) (n : Node) → color_in p (Cover i ∷ t) n ≡ color_in p t n
 cover_colours p t i unused = refl
@@ -180,14 +179,14 @@ abbrev pub purify_start : Puzzle → List Move → ℕ → ℕ → Node → ℕ
 purify_start p t i c = with_color (color_in p t) i 0 c
 
 marks : (a b k : Bool) (v : ℕ) → cond (cond (a && b) true k) MARK v ≡ cond (b && a) MARK (cond k MARK v)
-marks a b k v = grind (arith, common_steps)
+marks a b k v = grind arith
 
 pub purify_colours : {p : Puzzle} (t : List Move) (i c : ℕ) → IsLaid p → (k : ℕ) (n : Node)
     → slice_get (layout p) k ≡ Some n
     → color_in p (Purify i c ∷ t) n ≡ marked_list p i (Some c) (purify_start p t i c) (listed_numbers p t i) n
-purify_colours t i c laid k unused at = grind (arith, common_steps, marked_at, marks)
-purify_colours t i c laid k (spacer m) at = grind (arith, common_steps, marked_at, marks)
+purify_colours t i c laid k unused at = grind (arith, marked_at, marks)
+purify_colours t i c laid k (spacer m) at = grind (arith, marked_at, marks)
 purify_colours t i c laid k (own j) at =
-    grind (arith, common_steps, eq-eqb, eqb-false, eqb-true, marked_at, marks, ne_eqb, not-not, not_in, rises_listed)
+    grind (arith, eq-eqb, eqb-false, eqb-true, marked_at, marks, ne_eqb, not-not, not_in, rises_listed)
 purify_colours t i c laid k (used o u) at =
-    grind (arith, common_steps, eq-eqb, eqb-false, eqb-true, marked_at, marks, ne_eqb, not-not, not_in, rises_listed)
+    grind (arith, eq-eqb, eqb-false, eqb-true, marked_at, marks, ne_eqb, not-not, not_in, rises_listed)

@@ -49,7 +49,7 @@ pub still_items : (p : Puzzle) (t : List Move) (m : Move) → ((q : ℕ) → is_
 still_items p t m covered spent = same_items _ _
     (row_same (llink_at p t) (llink_at p (m ∷ t)) (item_count p + 2) (λ q h. still_llink p t m q covered))
     (row_same (rlink_at p t) (rlink_at p (m ∷ t)) (item_count p + 2) (λ q h. still_rlink p t m q covered))
-    (grind (arith, common_steps, row_same)) refl
+    (grind (arith, row_same)) refl
 
 -- ---- whether an item is covered, read from its ring
 
@@ -60,7 +60,7 @@ pub record IsPast (p : Puzzle) (t : List Move) (i : ℕ) : Type 0 where
 
 still_past : (p : Puzzle) (t : List Move) (m : Move) (i : ℕ) → ((q : ℕ) → is_covered q (m ∷ t) ≡ is_covered q t)
     → IsPast p t i → IsPast p (m ∷ t) i
-still_past p t m i still h = grind (arith, common_steps, still_llink, still_rlink)
+still_past p t m i still h = grind (arith, still_llink, still_rlink)
 
 pub past_covered : (p : Puzzle) (t : List Move) (i : ℕ) → AreLegal p t → 0 < i → i ≤ item_count p
     → is_covered i t ≡ true → IsPast p t i
@@ -77,11 +77,11 @@ past_covered p (Cover k ∷ t) i legal pos le e =
       | true ↦ λ f g.
           let same : i ≡ k = eqb-true i k f in
           let side = link_beside p false t i legal.1 (omega (arith, le)) (λ _ _. ap (λ j. is_covered j t) same ∙ un) in
-          let ne = link_other p true t k k_pos k_le un in grind (arith, common_steps, eq-eqb)
+          let ne = link_other p true t k k_pos k_le un in grind (arith, eq-eqb)
       | false ↦ λ f g.
           let r = link_beside p true t k legal.1 (omega (arith, k_le)) (λ _ _. un) in
           let r_ne : rlink_at p t k ≢ i = λ s. false≢true (sym (subst (Stays p t) s r.stays pos le) ∙ g) in
-          grind (arith, common_steps, past_covered p t i legal.1 pos le g)
+          grind (arith, past_covered p t i legal.1 pos le g)
     ] refl e in
     let leads = ap (rlink_at p (Cover k ∷ t)) gone ∙ link_next p true t k legal.1 k_pos k_le un l beyond.0 in
     record { place = omega (arith, gone, beyond.0); past = λ h. beyond.1 (sym leads ∙ h) }

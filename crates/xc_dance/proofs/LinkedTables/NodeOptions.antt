@@ -48,24 +48,24 @@ spent_within p (_ ∷ t) i legal = grind (arith, eqb-true, spent_within p t i le
 
 purified_above : (p : Puzzle) (t : List Move) (i c : ℕ) → AreLegal p t → purified i t ≡ Some c → 0 < c
 purified_above p [] i c legal e = cc
-purified_above p (Purify j d ∷ t) i c legal e = grind (arith, common_steps, purified_above p t i c legal.1)
+purified_above p (Purify j d ∷ t) i c legal e = grind (arith, purified_above p t i c legal.1)
 purified_above p (_ ∷ t) i c legal e = purified_above p t i c legal.1 e
 
 pub purified_read : (p : Puzzle) (t : List Move) (i : ℕ) → AreLegal p t
     → not (eqb (unwrap_or (purified i t) 0) 0) ≡ is_some (purified i t)
-purified_read p t i legal = grind (arith, common_steps, ne_eqb, purified_above)
+purified_read p t i legal = grind (arith, ne_eqb, purified_above)
 
 -- ---- the number above, with 0 for none
 
 pub above_named : (n : ℕ) (xs : List ℕ) → named (first_above 0 n xs) ≡ next_above n xs
-above_named n xs = grind (arith, common_steps, ne_eqb, next_above-gt)
+above_named n xs = grind (arith, ne_eqb, next_above-gt)
 
 -- ---- open primary items
 
 primary_unpurified : (p : Puzzle) (t : List Move) (i : ℕ) → AreLegal p t → i ≤ primary_count p → purified i t ≡ None
-primary_unpurified p [] i legal le = grind (arith, common_steps, ne_eqb)
+primary_unpurified p [] i legal le = grind (arith, ne_eqb)
 primary_unpurified p (Purify j c ∷ t) i legal le = grind (arith, ne_eqb, primary_unpurified p t i legal.1 le)
-primary_unpurified p (_ ∷ t) i legal le = grind (arith, common_steps, ne_eqb, primary_unpurified p t i legal.1 le)
+primary_unpurified p (_ ∷ t) i legal le = grind (arith, ne_eqb, primary_unpurified p t i legal.1 le)
 
 same_filter : (f g : ℕ → Bool) (a n : ℕ) → ((k : ℕ) → k < a + n → f k ≡ g k)
     → filter f (range_with_len a n) ≡ filter g (range_with_len a n)
@@ -76,7 +76,7 @@ same_filter f g a (suc n) h =
 -- the first ring's items are the open primary ones
 pub ring_open : (p : Puzzle) (t : List Move) (i : ℕ) → AreLegal p t → i ≤ primary_count p
     → ring_of p t i ≡ open_items p t
-ring_open p t i legal le = grind (arith, common_steps, le-leb, open_or_covered, primary_unpurified, same_filter)
+ring_open p t i legal le = grind (arith, le-leb, open_or_covered, primary_unpurified, same_filter)
 
 -- ---- the node by which an option uses an item, the option of a node, and the links downwards by option numbers
 
@@ -227,4 +227,4 @@ open_right p t i legal (inr h) = grind (arith, common_steps, ne_eqb, open_uncove
 pub open_place : (p : Puzzle) (t : List Move) (i : ℕ) → (i ≡ 0) ⊎ IsOpenPrimary p t i
     → i < length (items_after p t).rlink
 open_place p t i (inl z) = let long = row_len (rlink_at p t) (item_count p + 2) in omega (arith, long, z)
-open_place p t i (inr h) = grind (arith, common_steps, row_len)
+open_place p t i (inr h) = grind (arith, row_len)

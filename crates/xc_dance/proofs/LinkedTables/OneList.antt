@@ -2,7 +2,6 @@
 use Rattle.std.proofs.Common.{◌≡◌, ℕ, true, false, cond, ◌&&◌, eqb, List, map, get_or, set, Option, Some, None, refl}
 use Rattle.std.proofs.Common.{ap, sym, ◌∙◌, eqb-true, eq-eqb, arith, ◌≢◌, ◌*◌, ◌<◌, ◌≤◌, inr, not, ◌||◌, []}
 use Rattle.std.proofs.Common.{◌∷◌, length, fold, filter, reverse, subst, ne_eqb}
-use Rattle.std.proofs.lemmas.Grind.{common_steps}
 use Rattle.std.proofs.lemmas.Bool.{false≢true}
 use Rattle.std.proofs.lemmas.List.{length-map}
 use Rattle.std.proofs.lemmas.Option.{slice_get_within}
@@ -37,8 +36,8 @@ use Rattle.xc_dance.proofs.LinkedTables.Walks.{AllLed, Led, Leads, Kind, Way, wa
 -- ---- the colour of one node of the table
 
 slot_is : (j x : ℕ) (s : Option (ℕ × ℕ)) → is_slot j x s ≡ true → s ≡ Some (j, x)
-slot_is j x None e = grind (arith, common_steps, eqb-true, false≢true)
-slot_is j x (Some s) e = grind (arith, common_steps, eqb-true, false≢true)
+slot_is j x None e = grind (arith, eqb-true, false≢true)
+slot_is j x (Some s) e = grind (arith, eqb-true, false≢true)
 
 pub color_put : (p : Puzzle) (col : Node → ℕ) (j x v : ℕ) → IsLaid p → Placed p j x
     → map (with_color col j x v) (layout p) ≡ set (map col (layout p)) (link_place p j x) v

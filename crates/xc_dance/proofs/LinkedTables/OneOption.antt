@@ -4,7 +4,6 @@ use Rattle.xc_dance.proofs.LinkedTables.Sweep.{out_rest, is_in-other}
 use Rattle.std.proofs.Common.{◌≡◌, ◌≢◌, ℕ, ◌<◌, inr, Bool, true, false, cond, eqb, List, [], ◌∷◌}
 use Rattle.std.proofs.Common.{length, map, fold, get_or, refl, sym, subst, ◌∙◌, arith, eqb-true, not, ◌&&◌}
 use Rattle.std.proofs.Common.{filter}
-use Rattle.std.proofs.lemmas.Grind.{common_steps}
 use Rattle.xc_input.specs.Problem.{Puzzle}
 use Rattle.xc_dance.specs.Fields.{Node, layout, link_place, is_in}
 use Rattle.xc_dance.specs.inner.Links.Lines.{Line}
@@ -26,10 +25,10 @@ abbrev pub is_mark : Puzzle → (Node → ℕ) → ℕ → ℕ → Bool
 is_mark p col o j = eqb (get_or (map (col) (layout p)) (link_place p j o) 0) MARK
 
 pub line_here : (ln : ℕ → Line) (i : ℕ) (l : Line) → with_line ln i l i ≡ l
-line_here ln i l = grind (arith, common_steps)
+line_here ln i l = grind arith
 
 pub line_there : (ln : ℕ → Line) (i j : ℕ) (l : Line) → j ≢ i → with_line ln i l j ≡ ln j
-line_there ln i j l ne = grind (arith, common_steps)
+line_there ln i j l ne = grind arith
 
 -- option o leaves item j's list or comes back, by what this makes of its line, unless it is marked there
 abbrev pub changed_one : (Line → ℕ → Line) → Puzzle → (Node → ℕ) → ℕ → (ℕ → Line) → ℕ → ℕ → Line

@@ -27,8 +27,8 @@ use Rattle.xc_dance.proofs.LinkedTables.GoodLines.{InRange, Named}
 -- ---- the other items of an option, and what its leaving does to the line of one item
 
 pub items_of : (us : List Use) (k : ℕ) → is_in k (map (λ u. u.item) us) ≡ is_some (colour_in us k)
-items_of [] k = grind (arith, common_steps)
-items_of (u ∷ us) k = grind (arith, common_steps, items_of us k)
+items_of [] k = grind arith
+items_of (u ∷ us) k = grind (arith, items_of us k)
 
 -- the other items are those that the option holds, but i
 pub others_by : (us : List Use) (i k : ℕ) → AreDistinct us
@@ -56,7 +56,7 @@ items_apart [] d = tt
 items_apart (u ∷ us) d = (items_of us u.item ∙ d.0, items_apart us d.1)
 
 others_apart_of : (us : List Use) (i : ℕ) → AreDistinct us → AllApart (behind_use i us ++ before_use i us)
-others_apart_of [] i d = grind (arith, common_steps, all_insert, append-nil, items_apart, others_by)
+others_apart_of [] i d = grind (arith, all_insert, append-nil, items_apart, others_by)
 others_apart_of (u ∷ us) i d = grind (arith, all_insert, append-nil, items_apart, others_by, others_apart_of us i d.1)
 
 pub in_reverse : (k : ℕ) (xs : List ℕ) → is_in k (reverse xs) ≡ is_in k xs
@@ -77,7 +77,7 @@ item_range p (u ∷ us) j a e = grind (arith, eqb-true, item_range p us j a.1)
 
 -- the item itself isn't among them
 pub own_apart : (p : Puzzle) (i o : ℕ) → IsFit p → is_in i (other_items p o i) ≡ false
-own_apart p i o fit = grind (arith, common_steps, list_any-append, others_by)
+own_apart p i o fit = grind (arith, list_any-append, others_by)
 
 -- one of them
 pub record OtherItem (p : Puzzle) (o i j : ℕ) : Type 0 where
@@ -87,7 +87,7 @@ pub record OtherItem (p : Puzzle) (o i j : ℕ) : Type 0 where
 
 pub other_item : {p : Puzzle} (o i j : ℕ) → IsFit p → is_in j (other_items p o i) ≡ true → OtherItem p o i j
 other_item {p} o i j fit e =
-    grind (arith, common_steps, and_parts, false≢true, item_range, list_any-append, others_by)
+    grind (arith, and_parts, false≢true, item_range, list_any-append, others_by)
 
 -- ---- a walk down item i's list, which keeps the options of a colour: what it does to the lines
 

@@ -2,7 +2,6 @@
 use Rattle.xc_dance.proofs.LinkedTables.FittedLemmas.{known_fit}
 use Rattle.std.proofs.Common.{◌≡◌, ℕ, ◌+◌, ◌-◌, ◌<◌, ◌≤◌, ◌^◌, Some, List, length}
 use Rattle.std.proofs.Common.{arith}
-use Rattle.std.proofs.lemmas.Grind.{common_steps}
 use Rattle.xc_input.specs.declared.problem.Use.{Use}
 use Rattle.xc_input.specs.Problem.{Puzzle, IsOption, numbered_get, uses_of, option_count}
 use Rattle.xc_input.specs.Named.{Named, IsSound}
@@ -21,7 +20,7 @@ sound_fit a s = known_fit a.colours a.puzzle s.valid s.limits s.coloured s.few_c
 
 -- an option's node stands between the spacers round it
 use_between : (p : Puzzle) (i x q : ℕ) → IsUseAt p i x q → (spacer_place p (x - 1) < q) × (q < spacer_place p x)
-use_between p i x q u = grind (arith, common_steps, place_at_use u, option_nodes p x u.known)
+use_between p i x q u = grind (arith, place_at_use u, option_nodes p x u.known)
 
 -- behind the first spacer
 pub behind_first : (p : Puzzle) (i x q : ℕ) → IsUseAt p i x q → spacer_place p 0 ≤ q
@@ -35,7 +34,7 @@ before_last p i x q u = omega (arith, (use_between p i x q u).1, place_grows p x
 pub option_between : (p : Puzzle) (i x q n : ℕ) → IsUseAt p i x q → spacer_place p n ≤ q → q < spacer_place p (n + 1)
     → n + 1 ≡ x
 option_between p i x q n u from below =
-    grind (arith, common_steps, use_between p i x q u, place_grows p (n + 1) (x - 1), place_grows p x n)
+    grind (arith, use_between p i x q u, place_grows p (n + 1) (x - 1), place_grows p x n)
 
 -- ---- the place of a use, behind its option's first node
 
@@ -49,4 +48,4 @@ pub use_stands : (a : Named) (i o first k : ℕ) (us : List Use) → IsSound a �
 use_stands a i o first k us sound known holds found start index =
     let p = a.puzzle in
     let nodes = option_nodes p o known in
-    grind (arith, common_steps, uses_here p o us found, place_within p o known.1, sound_fit a sound)
+    grind (arith, uses_here p o us found, place_within p o known.1, sound_fit a sound)

@@ -48,7 +48,7 @@ uses_here p o us e = ap (λ found. unwrap_or found []) (sym e)
 
 pub option_get : (p : Puzzle) (o : ℕ) (us : List Use) → o < option_count p → us ≡ uses_of p (o + 1)
     → slice_get p.options o ≡ Some us
-option_get p o us lt is = grind (arith, common_steps, slice_get-get_or p.options o [] lt)
+option_get p o us lt is = grind (arith, slice_get-get_or p.options o [] lt)
 
 -- by which use an item is held, and the items of the others
 pub record Held (us : List Use) (i : ℕ) : Type 0 where
@@ -82,8 +82,8 @@ held_use (u ∷ us) i e =
 pub found_use : (us : List Use) (k : ℕ) (u : Use) → AreDistinct us → slice_get us k ≡ Some u
     → (place_in u.item us ≡ k) × (colour_in us u.item ≡ Some u.colour)
 found_use [] k u d e = cc
-found_use (v ∷ us) zero u d e = grind (arith, common_steps, same_Some, eq-eqb v.item v.item refl)
-found_use (v ∷ us) (suc k) u d e = grind (arith, common_steps, found_use us k u d.1 e, ne_eqb, false≢true)
+found_use (v ∷ us) zero u d e = grind (arith, same_Some, eq-eqb v.item v.item refl)
+found_use (v ∷ us) (suc k) u d e = grind (arith, found_use us k u d.1 e, ne_eqb, false≢true)
 
 -- ---- the places of spacers
 
@@ -96,7 +96,7 @@ place_first p = omega arith
 pub place_next : (p : Puzzle) (o : ℕ) (us : List Use) → slice_get p.options o ≡ Some us
     → spacer_place p (o + 1) ≡ spacer_place p o + 1 + length us
 place_next p o us e =
-    grind (arith, common_steps, take_more-get p.options o us e, sum_by_push size (take o p.options) us)
+    grind (arith, take_more-get p.options o us e, sum_by_push size (take o p.options) us)
 
 -- they rise
 pub place_grows : (p : Puzzle) (m n : ℕ) → m ≤ n → spacer_place p m ≤ spacer_place p n
@@ -116,7 +116,7 @@ uses_from : (p : Puzzle) (o : ℕ) (us : List Use) → slice_get p.options o ≡
     → drop (spacer_place p o) (layout p) ≡ tail_from o (drop o p.options)
     → drop (start_at p o) (layout p) ≡ map (used (o + 1)) us ++ tail_from (o + 1) (drop (suc o) p.options)
 uses_from p o us e from =
-    grind (arith, common_steps, drop-drop 1 (spacer_place p o) (layout p), drop_at p.options o us e, append_assoc)
+    grind (arith, drop-drop 1 (spacer_place p o) (layout p), drop_at p.options o us e, append_assoc)
 
 -- the table from the spacer behind option o on
 dropped : (p : Puzzle) (o : ℕ) → o ≤ option_count p
@@ -166,10 +166,10 @@ sizes (us ∷ os) = omega (arith, sizes os, sum_by-cons size us os, sum_by-cons 
 pub layout_len : (p : Puzzle) → length (layout p) ≡ spacer_place p (option_count p) + 1
 layout_len p =
     let last = dropped p (option_count p) (omega arith) in
-    grind (arith, common_steps, drop-length, length-drop (spacer_place p (option_count p)) (layout p))
+    grind (arith, drop-length, length-drop (spacer_place p (option_count p)) (layout p))
 
 pub layout_small : (p : Puzzle) → IsWithinLimits p → length (layout p) ≤ 20100002
-layout_small p limits = grind (arith, common_steps, take-length, layout_len, sizes)
+layout_small p limits = grind (arith, take-length, layout_len, sizes)
 
 -- a spacer's place is among them
 pub place_within : (p : Puzzle) (o : ℕ) → o ≤ option_count p → spacer_place p o < length (layout p)
@@ -184,7 +184,7 @@ pub record OptionFits (p : Puzzle) (o : ℕ) (us : List Use) : Type 0 where
 
 pub option_fits : (p : Puzzle) (o : ℕ) (us : List Use) → IsWithinLimits p → o < option_count p → us ≡ uses_of p (o + 1)
     → OptionFits p o us
-option_fits p o us limits lt is = grind (arith, common_steps, layout_small, option_get, place_next, place_within)
+option_fits p o us limits lt is = grind (arith, layout_small, option_get, place_next, place_within)
 
 -- where the nodes of the first k options start
 abbrev pub starts_to : Puzzle → ℕ → List ℕ
@@ -198,7 +198,7 @@ option_of p x i e = known_option p x i (sym (holds_use (uses_of p x) i) ∙ e)
 
 -- the place of an item's use in option x, which is behind option m
 pub place_is : (p : Puzzle) (i x m : ℕ) → x ≡ m + 1 → link_place p i x ≡ start_at p m + place_in i (uses_of p x)
-place_is p i x m s = grind (arith, common_steps)
+place_is p i x m s = grind arith
 
 -- it is behind the items' own nodes
 pub behind_items : (p : Puzzle) (i x : ℕ) → 0 < x → item_count p < link_place p i x
@@ -260,7 +260,7 @@ IsAt p q (used o u) = (m : ℕ) × (k : ℕ) × (o ≡ m + 1) × (slice_get (use
 
 spacer_at : (p : Puzzle) (n q : ℕ) (m : Node) → n ≤ option_count p → spacer_place p n ≡ q
     → slice_get (layout p) q ≡ Some m → IsAt p q m
-spacer_at p n q m le at e = grind (arith, common_steps, same_Some, spacer_here)
+spacer_at p n q m le at e = grind (arith, same_Some, spacer_here)
 
 -- of a node up to the spacer behind option n
 up_to : (p : Puzzle) (n q : ℕ) (m : Node) → n ≤ option_count p → item_count p < q → q ≤ spacer_place p n
@@ -315,10 +315,10 @@ span_is p x i fit pos e =
     (λ k u f. use_at p x m k u fit next (get_taken n k us u f)) in
     let behind = row p x (q + 1) (spacer_place p x - (q + 1)) (drop (n + 1) us) in
     subst (IsSpanOf p x i) (sym is)
-    (grind (arith, common_steps, length-drop, use_at, get_dropped, spacer_here, lt-ltb))
+    (grind (arith, length-drop, use_at, get_dropped, spacer_here, lt-ltb))
 
 pub has_spans : (p : Puzzle) → IsFit p → HasSpans p (spans_of p)
-has_spans p fit = grind (arith, common_steps, span_is, held_node, slice_get_within, length-map)
+has_spans p fit = grind (arith, span_is, held_node, slice_get_within, length-map)
 
 -- where an option's nodes stand, and how many there are
 pub ruleset option_place = (option_fits, uses_here, layout_len, layout_small, place_within)

@@ -2,7 +2,6 @@
 -- at the end the line is as it was. For the undoing of many Tweaks at once.
 use Rattle.std.proofs.Common.{◌≡◌, ℕ, ◌<◌, ◌≤◌, Bool, List, [], ◌∷◌, filter, length, ◌+◌}
 use Rattle.std.proofs.Common.{refl, ap, subst, arith}
-use Rattle.std.proofs.lemmas.Grind.{common_steps}
 use Rattle.std.specs.List.{AllByRecursion}
 use Rattle.xc_input.proofs.lists.EachElement.{each-filter}
 use Rattle.xc_dance.specs.inner.Links.Lines.{Line}
@@ -28,7 +27,7 @@ record IsBelow (l : Line) (a x : ℕ) : Type 0 where
 below_more : (l : Line) (a b : ℕ) (xs : List ℕ) → a ≤ b → AllByRecursion (IsBelow l b) xs
     → AllByRecursion (IsBelow l a) xs
 below_more l a b [] le h = tt
-below_more l a b (x ∷ xs) le h = grind (arith, common_steps, below_more l a b xs le h.1)
+below_more l a b (x ∷ xs) le h = grind (arith, below_more l a b xs le h.1)
 
 linked_below : (l : Line) (a : ℕ) (xs : List ℕ) → IsLinkedFrom l a xs → AllByRecursion (IsBelow l a) xs
 linked_below l a [] h = tt
@@ -39,7 +38,7 @@ linked_below l a (x ∷ y ∷ xs) h = grind (arith, below_more, linked_below l x
 -- two members come back in either order
 swapped : (l m : Line) (a y k : ℕ) → l.up y ≡ a → IsBelow l a y → IsBelow l y k → m.up y ≡ l.up y → m.down y ≡ l.down y
     → m.up k ≡ (cut l y).up k → m.down k ≡ (cut l y).down k → mended (mended m k) y ≡ mended (mended m y) k
-swapped l m a y k up b h my_up my_down mk_up mk_down = grind (arith, common_steps, put_at-same, put_at-other)
+swapped l m a y k up b h my_up my_down mk_up mk_down = grind (arith, put_at-same, put_at-other)
 
 -- what comes back to the line without its member y does so once y is back
 behind_first : (l m : Line) (a y : ℕ) (ks : List ℕ) → 0 < l.len → l.down a ≡ y → l.up y ≡ a → IsBelow l a y

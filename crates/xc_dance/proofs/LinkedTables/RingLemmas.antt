@@ -5,7 +5,6 @@ use Rattle.std.proofs.Common.{arith, eqb-true, ne_eqb, eq-eqb, ◌||◌, subst, 
 use Rattle.std.proofs.lemmas.Bool.{false≢true}
 use Rattle.xc_dance.proofs.LinkedTables.Leaving.{eqb_turn}
 use Rattle.xc_dance.proofs.LinkedTables.Sweep.{by_first, not_in}
-use Rattle.std.proofs.lemmas.Grind.{common_steps}
 use Rattle.xc_dance.specs.Fields.{last_below, first_above, first_of, last_of, is_in}
 use Rattle.xc_dance.proofs.LinkedTables.Sweep.{Rises, stay, stay_same, above, below, members}
 use Rattle.xc_dance.proofs.LinkedTables.Sweep.{last_below-more}
@@ -19,9 +18,9 @@ beside true h q xs = cond (eqb q h) (first_of h xs) (first_above h q xs)
 beside false h q xs = cond (eqb q h) (last_of h xs) (last_below h q xs)
 
 pub beside_other : (d : Bool) (h q : ℕ) (xs : List ℕ) → h ≢ q → beside d h q xs ≢ q
-beside_other true h q [] ne = grind (arith, common_steps, ne_eqb)
-beside_other true h q (y ∷ ys) ne = grind (arith, common_steps, ne_eqb, beside_other true h q ys ne)
-beside_other false h q [] ne = grind (arith, common_steps, ne_eqb)
+beside_other true h q [] ne = grind (arith, ne_eqb)
+beside_other true h q (y ∷ ys) ne = grind (arith, ne_eqb, beside_other true h q ys ne)
+beside_other false h q [] ne = grind (arith, ne_eqb)
 beside_other false h q (y ∷ ys) ne = grind (arith, ne_eqb, below, last_below-more, beside_other false h q ys ne)
 
 -- from a through xs to e: r leads to the next of them, and l to the one before

@@ -1,7 +1,6 @@
 -- Cover and Spend on the item table.
 use Rattle.std.proofs.Common.{◌≡◌, ◌≢◌, ℕ, ◌+◌, ◌-◌, ◌<◌, List, [], ◌∷◌, length, map, get_or, set, refl}
 use Rattle.std.proofs.Common.{ap, ◌∙◌, arith, cond, false, eq-eqb, ne_eqb, Some}
-use Rattle.std.proofs.lemmas.Grind.{common_steps}
 use Rattle.std.specs.List.{range_with_len}
 use Rattle.std.specs.Prelude.{slice_get}
 use Rattle.std.proofs.lemmas.List.{length-map}
@@ -58,7 +57,7 @@ pub still_rlink : (p : Puzzle) (t : List Move) (m : Move) (q : ℕ) → ((q : �
 still_rlink p t m q s = grind (arith, right_now, filter_agree)
 
 pub same_items : (s t : Items) → s.llink ≡ t.llink → s.rlink ≡ t.rlink → s.bound ≡ t.bound → s.slack ≡ t.slack → s ≡ t
-same_items s t a b c d = grind (arith, common_steps)
+same_items s t a b c d = grind arith
 
 -- ---- Spend
 
@@ -69,4 +68,4 @@ pub spends_own : (t : List Move) (i : ℕ) → spends i (Spend i ∷ t) ≡ 1 + 
 spends_own t i = rw (eq-eqb i i refl) refl
 
 pub bound_other : (p : Puzzle) (t : List Move) (i q : ℕ) → q ≢ i → bound_at p (Spend i ∷ t) q ≡ bound_at p t q
-bound_other p t i q ne = grind (arith, common_steps, ne_eqb)
+bound_other p t i q ne = grind (arith, ne_eqb)

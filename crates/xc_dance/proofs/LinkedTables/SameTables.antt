@@ -7,7 +7,6 @@ use Rattle.std.specs.List.{range_with_len}
 use Rattle.std.proofs.lemmas.Bool.{lt-leb}
 use Rattle.std.proofs.lemmas.Option.{same_Some}
 use Rattle.std.proofs.lemmas.List.FromFn.{length-map-range_with_len}
-use Rattle.std.proofs.lemmas.Grind.{common_steps}
 use Rattle.std.proofs.lemmas.List.{reverse-reverse}
 use Rattle.xc_input.specs.Problem.{Puzzle, item_count}
 use Rattle.xc_dance.specs.declared.dance.Move.{Move}
@@ -53,7 +52,7 @@ reading_is p t Top k s = top_cell p t k s.laid s.fit s.laid.small
 reading_is p t Ulink k s = ulink_cell p t k s.laid
 reading_is p t Dlink k s = dlink_cell p t k s.laid
 reading_is p t Color k s =
-    grind (arith, common_steps, color_use p t k s.laid s.fit, color_own p t k s.laid, lt-leb, le-leb)
+    grind (arith, color_use p t k s.laid s.fit, color_own p t k s.laid, lt-leb, le-leb)
 
 -- lists with the same elements at the same places
 same_list : (xs ys : List ℕ) → ((k : ℕ) → slice_get xs k ≡ slice_get ys k) → xs ≡ ys
@@ -66,7 +65,7 @@ natural_same : (x y : Option ℕ) → option_map natural x ≡ option_map natura
 natural_same x y e = read_same natural x y (λ v w f g h. cc) e
 
 color_same : (x y : Option ℕ) → option_map color_read x ≡ option_map color_read y → x ≡ y
-color_same x y e = read_same color_read x y (λ v w f g h. grind (arith, common_steps, eqb-true)) e
+color_same x y e = read_same color_read x y (λ v w f g h. grind (arith, eqb-true)) e
 
 row_first : (f : ℕ → ℕ) (n : ℕ) → slice_get (map f (range_with_len 0 (n + 1))) 0 ≡ Some (f 0)
 row_first f n = let s : n + 1 ≡ suc n = omega arith in ap (λ m. slice_get (map f (range_with_len 0 m)) 0) s
@@ -74,7 +73,7 @@ row_first f n = let s : n + 1 ≡ suc n = omega arith in ap (λ m. slice_get (ma
 -- tables with equal rows of links have as many items
 items_many : (p q : Puzzle) (t s : List Move) → (items_after p t).llink ≡ (items_after q s).llink
     → item_count p ≡ item_count q
-items_many p q t s e = grind (arith, common_steps, length-map-range_with_len, ap length e)
+items_many p q t s e = grind (arith, length-map-range_with_len, ap length e)
 
 pub tables_from : (p q : Puzzle) (t s : List Move) → IsSound p → IsSound q
     → ((f : Field) (k : ℕ) → field_of p t f k ≡ field_of q s f k)
@@ -99,13 +98,13 @@ tables_from p q t s a b h = (
     items = items_many p q t s llinks
 
     bounds : (k : ℕ) → slice_get (items_after p t).bound k ≡ slice_get (items_after q s).bound k
-    bounds k = let e = alike Bound k in grind (arith, common_steps, natural_same, row_first, eqb-true)
+    bounds k = let e = alike Bound k in grind (arith, natural_same, row_first, eqb-true)
 
     slacks : (k : ℕ) → slice_get (items_after p t).slack k ≡ slice_get (items_after q s).slack k
-    slacks k = let e = alike Slack k in grind (arith, common_steps, natural_same, row_first, eqb-true)
+    slacks k = let e = alike Slack k in grind (arith, natural_same, row_first, eqb-true)
 
     colors : (k : ℕ) → slice_get (nodes_after p t).color k ≡ slice_get (nodes_after q s).color k
-    colors k = let e = alike Color k in grind (arith, common_steps, natural_same, color_same, items)
+    colors k = let e = alike Color k in grind (arith, natural_same, color_same, items)
 
 -- ---- two keepers of tables
 
@@ -126,7 +125,7 @@ pub is_same : (p q : Puzzle) (sp sq : List Span) (i j : Items) (n m : Nodes) (xs
     → (AreEqual i j n m xs ys ms ns → IsSame p (reverse xs) q (reverse ys)) × (IsSame p (reverse xs) q (reverse ys) →
     AreEqual i j n m xs ys ms ns)
 is_same p q sp sq i j n m xs ys ms ns a b is_i is_j is_n is_m is_ms is_ns =
-    grind (arith, common_steps, forwards, sound, tables_from, items_many, reading_is)
+    grind (arith, forwards, sound, tables_from, items_many, reading_is)
 
 -- ---- tests in a row
 

@@ -1,7 +1,6 @@
 -- The spacers round an option lead to its ends, whatever lists its nodes stand in.
 use Rattle.std.proofs.Common.{◌≡◌, ℕ, ◌+◌, ◌<◌, List, map, fold, reverse, get_or, Some, ap, sym}
 use Rattle.std.proofs.Common.{subst, ◌∙◌, arith, ◌*◌}
-use Rattle.std.proofs.lemmas.Grind.{common_steps}
 use Rattle.std.specs.Prelude.{slice_get}
 use Rattle.std.proofs.lemmas.List.{length-map, map-append, reverse-append}
 use Rattle.xc_input.specs.Problem.{Puzzle, uses_of}
@@ -27,7 +26,7 @@ use Rattle.xc_dance.specs.inner.Links.Steps.{CanHide, CanUnhide}
 -- the nodes round that of item i are those of the option's other items
 pub others_are : (p : Puzzle) (spans : List Span) (o i : ℕ) → HasSpans p spans → 0 < o → Named p i o
     → others_of spans (link_place p i o) ≡ map (λ j. link_place p j o) (other_items p o i)
-others_are p spans o i spanned pos named = grind (arith, common_steps, map-append)
+others_are p spans o i spanned pos named = grind (arith, map-append)
 
 spacer_in : (p : Puzzle) (ln : ℕ → Line) (col : Node → ℕ) (z n : ℕ) → slice_get (layout p) z ≡ Some (spacer n)
     → IsSpacer (nodes_from p ln col) z
@@ -106,7 +105,7 @@ turns p ln col spans o i spanned pos named w =
         first = ap (λ (u : Nodes). get_or u.ulink z 0) met ∙ get_map (ulink_in p parts.0) (layout p) z _ s.last ∙ s.up;
       };
       done = ap (fold hidden (table ln)) others ∙ whole.1;
-      cost = grind (arith, common_steps, costs-are, hidden_color, others_are, unmarked_items);
+      cost = grind (arith, costs-are, hidden_color, others_are, unmarked_items);
       back = unhides p col spans o i spanned pos named (λ a b. R b a) (λ a b x s. (s.back, s.undone)) end ln
           (way_back R ln js end w);
     }

@@ -4,7 +4,6 @@ use Rattle.std.proofs.Common.{length, filter, fold, Some, None, refl, ap, sym, �
 use Rattle.std.proofs.Common.{lt-ltb, le-ltb, zero, suc, drop}
 use Rattle.std.specs.Prelude.{if◌then◌else◌, ◌-◌, ◌==◌, ◌&&◌, ◌++◌, Option, unwrap_or}
 use Rattle.std.specs.List.{last_or}
-use Rattle.std.proofs.lemmas.Grind.{common_steps}
 use Rattle.std.proofs.lemmas.Bool.{eqb-false, false≢true}
 use Rattle.xc_input.specs.Problem.{Puzzle, uses_of, Numbered}
 use Rattle.xc_dance.specs.Fields.{Node, last_below, first_above, first_of, last_of, is_in}
@@ -79,7 +78,7 @@ not_in n x (y ∷ ys) h r = grind (arith, ne_eqb, not_in y x ys (omega (arith, r
 -- a member is higher than the start
 pub in_above : (n x : ℕ) (xs : List ℕ) → Rises n xs → is_in x xs ≡ true → n < x
 in_above n x [] r e = absurd (false≢true e)
-in_above n x (y ∷ ys) r e = grind (arith, common_steps, eqb-true, in_above y x ys r.1)
+in_above n x (y ∷ ys) r e = grind (arith, eqb-true, in_above y x ys r.1)
 
 pub is_in-other : (y x : ℕ) (ys : List ℕ) → y ≢ x → is_in x (y ∷ ys) ≡ is_in x ys
 is_in-other y x ys ne = rw (ne_eqb y x ne) refl
@@ -126,7 +125,7 @@ IsLinkedFrom-same : (l m : Line) (a : ℕ) (xs : List ℕ) → ((k : ℕ) → a 
 IsLinkedFrom-same l m a [] down up last h = (down a (omega arith) ∙ h.0, last ∙ h.1)
 IsLinkedFrom-same l m a (x ∷ xs) down up last h =
     let rest = IsLinkedFrom-same l m x xs (λ k le. down k (omega arith)) (λ k le. up k (omega arith)) last h.3 in
-    grind (arith, common_steps)
+    grind arith
 
 pub cut-linked : (l : Line) (a y : ℕ) (ys : List ℕ) → IsLinkedFrom l a (y ∷ ys) → IsLinkedFrom (cut l y) a ys
 cut-linked l a y [] h = grind (arith, put_at-same)
@@ -138,8 +137,8 @@ cut-linked l a y (z ∷ zs) h =
 
 -- what stands below a member is the item's own node or a later member
 below_first : (l : Line) (y : ℕ) (ys : List ℕ) (x : ℕ) → IsLinkedFrom l y ys → x ≢ 0 → is_in x ys ≡ false → x ≢ l.down y
-below_first l y [] x h nz out e = grind (arith, common_steps, false≢true, is_in-first)
-below_first l y (z ∷ zs) x h nz out e = grind (arith, common_steps, false≢true, is_in-first)
+below_first l y [] x h nz out e = grind (arith, false≢true, is_in-first)
+below_first l y (z ∷ zs) x h nz out e = grind (arith, false≢true, is_in-first)
 
 -- ---- all that pass the test leave
 
@@ -160,7 +159,7 @@ pub record Swept (l m : Line) (a : ℕ) (xs ks : List ℕ) : Type 0 where
 
 -- a fact by whether a number is the first of a list
 pub by_first : (P : Type 0) (y x : ℕ) → (y ≡ x → P) → (y ≢ x → P) → P
-by_first P y x same other = grind (arith, common_steps, eqb-true, eqb-false)
+by_first P y x same other = grind (arith, eqb-true, eqb-false)
 
 pub in_rest : (y x : ℕ) (ys : List ℕ) → y ≢ x → is_in x (y ∷ ys) ≡ true → is_in x ys ≡ true
 in_rest y x ys ne e = sym (is_in-other y x ys ne) ∙ e
@@ -177,7 +176,7 @@ first_leaves l m a y ys ks h ra ry s = grind (arith, above, below, members, belo
 
 first_stays : (l m : Line) (a y : ℕ) (ys ks : List ℕ) → IsLinkedFrom l a (y ∷ ys) → Rises y ks → Swept l m y ys ks
     → Swept l m a (y ∷ ys) (y ∷ ks)
-first_stays l m a y ys ks h ry s = grind (arith, common_steps, above, below, members, rises l y ys h.3)
+first_stays l m a y ys ks h ry s = grind (arith, above, below, members, rises l y ys h.3)
 
 pub swept : (l : Line) (a : ℕ) (xs : List ℕ) (g : ℕ → Bool) → IsLinkedFrom l a xs
     → Swept l (cuts l (filter g xs)) a xs (stay g xs)
@@ -196,14 +195,14 @@ swept l a (y ∷ ys) g h =
 -- how many are left
 pub swept_len : (l : Line) (xs : List ℕ) (g : ℕ → Bool) (n : ℕ) → l.len ≡ n + length xs
     → (cuts l (filter g xs)).len ≡ n + length (stay g xs)
-swept_len l [] g n e = grind (arith, common_steps)
+swept_len l [] g n e = grind arith
 swept_len l (y ∷ ys) g n e =
     grind (arith, cut, swept_len (cut l y) ys g n (omega (arith, e)), swept_len l ys g (n + 1) (omega (arith, e)))
 
 -- a number that isn't in is not taken out
 pub stay_same : (i : ℕ) (xs : List ℕ) → (is_in i xs ≡ true → ⊥) → stay (λ x. eqb x i) xs ≡ xs
 stay_same i [] out = refl
-stay_same i (y ∷ ys) out = grind (arith, common_steps, is_in-first, is_in-other, stay_same i ys)
+stay_same i (y ∷ ys) out = grind (arith, is_in-first, is_in-other, stay_same i ys)
 
 -- ---- the line that stands for an item's list, move by move
 
@@ -229,7 +228,7 @@ leave_none (x ∷ xs) = leave_none xs
 in_filtered : (q : Numbered → Bool) (x : ℕ) (os : List Numbered) → is_in x (numbers (filter q os)) ≡ true
     → is_in x (numbers os) ≡ true
 in_filtered q x [] e = e
-in_filtered q x (o ∷ os) e = grind (arith, common_steps, in_filtered q x os)
+in_filtered q x (o ∷ os) e = grind (arith, in_filtered q x os)
 
 in_dropped : (x : ℕ) (os : List Numbered) → is_in x (numbers (drop 1 os)) ≡ true → is_in x (numbers os) ≡ true
 in_dropped x [] e = e

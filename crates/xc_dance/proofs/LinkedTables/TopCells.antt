@@ -4,7 +4,6 @@ use Rattle.std.proofs.Common.{le-leb, arith, zero, ◌+◌, ◌^◌, map, sym, �
 use Rattle.std.proofs.Common.{cond, ltb, ne_eqb, leb-true, lt-ltb, le-ltb}
 use Rattle.std.specs.Prelude.{ℤ, pos, slice_get, option_map, neg_ℤ}
 use Rattle.std.specs.List.{range_with_len}
-use Rattle.std.proofs.lemmas.Grind.{common_steps}
 use Rattle.std.proofs.lemmas.Option.{same_Some, slice_get-map}
 use Rattle.std.proofs.lemmas.Bool.{lt-leb, eqb-false, leb-false}
 use Rattle.std.proofs.lemmas.List.{length-map}
@@ -47,7 +46,7 @@ read_same g (Some v) (Some w) h e = ap Some (h v w refl refl (same_Some (g v) (g
 
 -- other numbers than the first spacer's are read differently
 top_same : (v w : ℕ) → v ≢ SPACER → w ≢ SPACER → top_read v ≡ top_read w → v ≡ w
-top_same v w other_v other_w e = grind (arith, common_steps, ltb-false, ltb-true, le-leb, read_small)
+top_same v w other_v other_w e = grind (arith, ltb-false, ltb-true, le-leb, read_small)
 
 -- what the lemmas ask of each table
 pub record IsSound (p : Puzzle) : Type 0 where
@@ -91,10 +90,10 @@ row_read f a (suc n) (suc q) = grind (arith, le-ltb, lt-ltb, ltb-false, ltb-true
 column_read : {X : Type 0} (f : X → ℕ) (g : ℕ → ℤ) (h : X → ℤ) (xs : List X) (q : ℕ)
     → ((n : X) → slice_get xs q ≡ Some n → g (f n) ≡ h n)
     → option_map g (slice_get (map f xs) q) ≡ option_map h (slice_get xs q)
-column_read f g h xs q same = grind (arith, common_steps, slice_get-map)
+column_read f g h xs q same = grind (arith, slice_get-map)
 
 spacer_top : (n : ℕ) → top_read (SPACER + n) ≡ neg_ℤ (pos n)
-spacer_top n = let rest : SPACER + n - SPACER ≡ n = omega arith in grind (arith, common_steps, le-leb)
+spacer_top n = let rest : SPACER + n - SPACER ≡ n = omega arith in grind (arith, le-leb)
 
 module _ (p : Puzzle) (t : List Move) (q : ℕ) where
   pub llink_read : read (items_after p t).llink q ≡ field_of p t Llink q

@@ -44,13 +44,13 @@ pub record IsBeside (p : Puzzle) (t : List Move) (b : Bool) (q : ℕ) : Type 0 w
   pub stays : Stays p t q
 
 ring_rises : (p : Puzzle) (t : List Move) (q : ℕ) → Rises 0 (ring_of p t q)
-ring_rises p t q = grind (arith, common_steps, Rises-filter, side, Rises-range, Rises-weaker)
+ring_rises p t q = grind (arith, Rises-filter, side, Rises-range, Rises-weaker)
 
 ring_less : (p : Puzzle) (t : List Move) (i q : ℕ) → ring_of p (Cover i ∷ t) q ≡ less i (ring_of p t q)
 ring_less p t i q = grind (arith, filter_both)
 
 head_other : (p : Puzzle) (q i : ℕ) → 0 < i → i ≤ item_count p → ring_head p q ≢ i
-head_other p q i pos le = grind (arith, common_steps, side)
+head_other p q i pos le = grind (arith, side)
 
 -- ---- cells of the table
 
@@ -61,7 +61,7 @@ link p false t q = llink_at p t q
 
 item_cell : (p : Puzzle) (q first inner last : ℕ) → 0 < q → q ≤ item_count p
     → cond (eqb q 0) first (cond (leb q (item_count p)) inner last) ≡ inner
-item_cell p q first inner last pos le = grind (arith, common_steps, ne_eqb, le-leb)
+item_cell p q first inner last pos le = grind (arith, ne_eqb, le-leb)
 
 -- a covered item's cells stay
 pub link_gone : (p : Puzzle) (d : Bool) (t : List Move) (m : Move) (q : ℕ) → 0 < q → q ≤ item_count p
@@ -72,19 +72,19 @@ link_gone p false t m q pos le e = grind (arith, item_cell)
 -- the cells of places that are in their rings
 link_is : (p : Puzzle) (d : Bool) (t : List Move) (q : ℕ) → q < item_count p + 2 → Stays p t q
     → link p d t q ≡ beside d (ring_head p q) q (ring_of p t q)
-link_is p true t q lt stays = grind (arith, common_steps, item_cell, right_now, head_other, le-leb, lt-leb, ne_eqb)
-link_is p false t q lt stays = grind (arith, common_steps, item_cell, left_now, head_other, le-leb, lt-leb, ne_eqb)
+link_is p true t q lt stays = grind (arith, item_cell, right_now, head_other, le-leb, lt-leb, ne_eqb)
+link_is p false t q lt stays = grind (arith, item_cell, left_now, head_other, le-leb, lt-leb, ne_eqb)
 
 -- an item's links lead to others
 pub link_other : (p : Puzzle) (d : Bool) (t : List Move) (q : ℕ) → 0 < q → q ≤ item_count p → is_covered q t ≡ false
     → link p d t q ≢ q
-link_other p d t q pos le un e = grind (arith, common_steps, beside_other, head_other, link_is)
+link_other p d t q pos le un e = grind (arith, beside_other, head_other, link_is)
 
 -- ---- there and back
 
 range_in : (k a n : ℕ) → is_in k (range_with_len (a + 1) n) ≡ true → (a < k) × (k ≤ a + n)
-range_in k a zero e = grind (arith, common_steps, false≢true)
-range_in k a (suc n) e = grind (arith, common_steps, eqb-true, range_in k (a + 1) n)
+range_in k a zero e = grind (arith, false≢true)
+range_in k a (suc n) e = grind (arith, eqb-true, range_in k (a + 1) n)
 
 -- the items of one side
 abbrev whole : Puzzle → Bool → List ℕ
@@ -95,7 +95,7 @@ side_in p true r pos le e = in_range r 0 (primary_count p) pos (omega (arith, le
 side_in p false r pos le e = grind (arith, in_range, leb-false)
 
 in_side : (p : Puzzle) (b : Bool) (r : ℕ) → is_in r (whole p b) ≡ true → (0 < r) × (r ≤ item_count p) × (side p r ≡ b)
-in_side p true r e = grind (arith, common_steps, range_in r 0 (primary_count p) e, le-leb)
+in_side p true r e = grind (arith, range_in r 0 (primary_count p) e, le-leb)
 in_side p false r e = grind (arith, range_in, lt-leb)
 
 -- the head of a ring or one of its items
@@ -189,8 +189,8 @@ way_step p d t i legal pos le un =
     let within : i < item_count p + 2 = omega (arith, le) in
     let beside : link p (not d) t i < item_count p + 2 = (link_beside p (not d) t i legal within (λ _ _. un)).place in
     let put : links p d (Cover i ∷ t) ≡ set (links p d t) (link p (not d) t i) (link p d t i) =
-    grind (arith, common_steps, eq-eqb, ne_eqb, row_put, link_next) in
-    grind (arith, common_steps, not-not d, link_back, row_get, row_len, written_back)
+    grind (arith, eq-eqb, ne_eqb, row_put, link_next) in
+    grind (arith, not-not d, link_back, row_get, row_len, written_back)
 
 pub ring_step : (p : Puzzle) (t : List Move) (i : ℕ) → AreLegal p t → IsLegal p t (Cover i) → RingStep p t i
 ring_step p t i legal may =

@@ -2,7 +2,6 @@
 use Rattle.std.proofs.Common.{◌≡◌, ◌≢◌, ℕ, ◌+◌, ◌*◌, ◌<◌, ◌≤◌, Bool, true, false, not, cond, eqb, List, [], ◌∷◌}
 use Rattle.std.proofs.Common.{length, filter, get_or, refl, ap, sym, subst, ◌∙◌, arith, eqb-true, eq-eqb}
 use Rattle.std.proofs.Common.{ne_eqb, ◌&&◌, ◌||◌}
-use Rattle.std.proofs.lemmas.Grind.{common_steps}
 use Rattle.std.proofs.lemmas.Bool.{false≢true}
 use Rattle.std.proofs.lemmas.List.{length-map}
 use Rattle.xc_dance.specs.declared.dance.Move.{Move}
@@ -57,7 +56,7 @@ first_there (x ∷ xs) h = (x, (xs, refl))
 pub has_first : (p : Puzzle) (t : List Move) (i : ℕ) → 0 < length (listed p t i) → HasFirst p t i
 has_first p t i h =
     let f = first_there (listed_numbers p t i) (omega (arith, h, length-map (listed p t i) (λ o. o.number))) in
-    grind (arith, common_steps, rises_listed p t i, numbers_named p t i, is_in-first f.0 f.1.0)
+    grind (arith, rises_listed p t i, numbers_named p t i, is_in-first f.0 f.1.0)
 
 -- ---- what leaves each line
 
@@ -100,7 +99,7 @@ mid_line p t false i o j fit = list_at p (color_in p t) i None (line_of p t) (o 
 -- its own line is as before
 mid_own : (p : Puzzle) (t : List Move) (covered : Bool) (i o : ℕ) → IsFit p
     → mid_lines p t covered i o i ≡ line_of p t i
-mid_own p t covered i o fit = mid_line p t covered i o i fit ∙ grind (arith, common_steps, own_apart)
+mid_own p t covered i o fit = mid_line p t covered i o i fit ∙ grind (arith, own_apart)
 
 -- where it isn't covered, the option of node x is hidden from the table t on, which leads to u, and comes back
 abbrev Hiding : List Span → Bool → ℕ → ℕ → Nodes → Nodes → Type 0

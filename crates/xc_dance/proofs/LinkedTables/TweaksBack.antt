@@ -162,7 +162,7 @@ table_regained p t ln i n laid pos le here others =
     same_nodes (with_top (nodes_from p ln (color_in p t)) i n) (nodes_from p (with_line ln i l) (color_in p t))
     (sym (set_top p ln i l laid pos le)) (up_kept p ln i l (λ x. refl)) (down_kept p ln i l (λ x. refl)) refl
     ∙ tables_same p (line_of p t) (with_line ln i l) (color_in p t) (color_in p t) laid
-    (λ j r. grind (arith, common_steps, by_first, line_here, line_there)) (λ m k e. refl)
+    (λ j r. grind (arith, by_first, line_here, line_there)) (λ m k e. refl)
 
 end_is : (l c m : Line) (n all : ℕ) → c ≡ half n m l → m ≡ l → all ≡ l.len → half all c c ≡ l
 end_is l c m n all is back long = ap (λ (k : Line). half all k k) is ∙ ap₂ (λ (k : Line) n. half n k l) back long

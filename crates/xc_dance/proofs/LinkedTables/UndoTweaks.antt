@@ -31,7 +31,7 @@ use Rattle.xc_dance.proofs.LinkedTables.TweaksBack.{tweaks, kept, tweaked, Undoe
 pub tweaks_are : (k i : ℕ) (s : List Move) → k ≤ length s → take k s ≡ replicate k (Tweak i) → s ≡ tweaks k i (drop k s)
 tweaks_are zero i s h e = refl
 tweaks_are (suc k) i [] h e = absurd (omega (arith, h))
-tweaks_are (suc k) i (m ∷ s) h e = grind (arith, common_steps, tweaks_are k i s (omega (arith, h)) cc)
+tweaks_are (suc k) i (m ∷ s) h e = grind (arith, tweaks_are k i s (omega (arith, h)) cc)
 
 legal_rest : (p : Puzzle) (k i : ℕ) (t : List Move) → AreLegal p (tweaks k i t) → AreLegal p t
 legal_rest p zero i t h = h

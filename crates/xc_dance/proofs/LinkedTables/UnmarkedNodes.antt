@@ -35,16 +35,16 @@ unmarked_costs color [] = 0
 unmarked_costs color (q ∷ qs) = cond (eqb (get_or color q 0) MARK) 0 3 + unmarked_costs color qs
 
 pub hidden_color : (t : Nodes) (q : ℕ) → (hidden t q).color ≡ t.color
-hidden_color t q = grind (arith, common_steps)
+hidden_color t q = grind arith
 
 pub unhidden_color : (t : Nodes) (q : ℕ) → (unhidden t q).color ≡ t.color
-unhidden_color t q = grind (arith, common_steps)
+unhidden_color t q = grind arith
 
 -- steps that leave the colours as they are
 pub costs-are : (step : Nodes → ℕ → Nodes) → ((t : Nodes) (q : ℕ) → (step t q).color ≡ t.color)
     → (t : Nodes) (qs : List ℕ) → costs step hide_cost t qs ≡ unmarked_costs t.color qs
 costs-are step same t [] = refl
-costs-are step same t (q ∷ qs) = grind (arith, common_steps, costs-are step same (step t q) qs)
+costs-are step same t (q ∷ qs) = grind (arith, costs-are step same (step t q) qs)
 
 pub colors-are : (step : Nodes → ℕ → Nodes) → ((t : Nodes) (q : ℕ) → (step t q).color ≡ t.color)
     → (t : Nodes) (qs : List ℕ) → (fold step t qs).color ≡ t.color
@@ -71,7 +71,7 @@ unmarked_items p col o (j ∷ js) = grind (arith, unmarked_items p col o js)
 
 no_colour : (us : List Use) (j c : ℕ) → AllByRecursion (λ u. u.colour ≡ 0) us → colour_in us j ≡ Some c → c ≡ 0
 no_colour [] j c a e = cc
-no_colour (u ∷ us) j c a e = grind (arith, common_steps, same_Some, no_colour us j c a.1)
+no_colour (u ∷ us) j c a e = grind (arith, same_Some, no_colour us j c a.1)
 
 -- ---- the colours of its nodes
 
@@ -83,10 +83,10 @@ never_marked p (_ ∷ t) i o legal = grind (arith, ne_eqb, never_marked p t i o 
 
 no_color : (p : Puzzle) (t : List Move) (q : ℕ) (n : Node) → IsLaid p → AreLegal p t → IsPlain p → item_count p < q
     → slice_get (layout p) q ≡ Some n → color_in p t n ≡ 0
-no_color p t q (own i) laid legal plain gt e = grind (arith, common_steps, is_at p q (own i) e)
+no_color p t q (own i) laid legal plain gt e = grind (arith, is_at p q (own i) e)
 no_color p t q (used o u) laid legal plain gt e =
     let none : u.colour ≡ 0 = no_colour (uses_of p o) u.item u.colour (plain o) (laid.nodes.coloured q o u e) in
-    grind (arith, common_steps, never_marked)
+    grind (arith, never_marked)
 no_color p t q _ laid legal plain gt e = refl
 
 -- behind the items none is marked

@@ -4,7 +4,6 @@ use Rattle.std.proofs.Common.{get_or, Some, ap, ◌∙◌, arith, eq-eqb}
 use Rattle.std.proofs.Common.{inl, inr, ◌-◌, length-drop, length-take}
 use Rattle.std.specs.Prelude.{is_some, slice_get}
 use Rattle.std.proofs.lemmas.Option.{slice_get_within}
-use Rattle.std.proofs.lemmas.Grind.{common_steps}
 use Rattle.xc_input.specs.declared.problem.Use.{Use}
 use Rattle.xc_input.specs.Problem.{Puzzle, IsOption, item_count, uses_of, colour_in}
 use Rattle.xc_dance.specs.declared.dance.Move.{Move}
@@ -23,7 +22,7 @@ use Rattle.xc_dance.specs.declared.links.nodes.TheConstants.{SPACER}
 -- an item that stands among uses is held
 pub held_of : (i : ℕ) (us : List Use) → place_in i us < length us → is_some (colour_in us i) ≡ true
 held_of i [] h = absurd (omega (arith, h))
-held_of i (u ∷ us) h = grind (arith, common_steps, held_of i us)
+held_of i (u ∷ us) h = grind (arith, held_of i us)
 
 -- ---- what the tables tell of it
 
@@ -54,7 +53,7 @@ spacer_cells p t x q known at =
 -- the option at the place where one uses an item, and none at the item's own node
 pub option_there : (p : Puzzle) (i y : ℕ) → i ≤ item_count p → IsName p i y → option_at p i (link_place p i y) ≡ named y
 option_there p i y le (inl z) = grind (arith, named, eq-eqb)
-option_there p i y le (inr h) = grind (arith, common_steps, behind_items p i y h.0, held_node p i y h.0 h.1)
+option_there p i y le (inr h) = grind (arith, behind_items p i y h.0, held_node p i y h.0 h.1)
 
 -- ---- uses that stand side by side
 
@@ -77,8 +76,8 @@ before_segment {p} {i} {x} held k u e =
 
 -- the uses behind it end at the spacer
 pub behind_all : {p : Puzzle} {i x q : ℕ} → IsUseAt p i x q → q + 1 + length (uses_behind p i x) ≡ spacer_place p x
-behind_all {p} {i} {x} held = grind (arith, common_steps, length-drop, place_at_use held, option_nodes p x held.known)
+behind_all {p} {i} {x} held = grind (arith, length-drop, place_at_use held, option_nodes p x held.known)
 
 -- and those before at it
 pub before_all : {p : Puzzle} {i x q : ℕ} → IsUseAt p i x q → start_at p (x - 1) + length (uses_before p i x) ≡ q
-before_all {p} {i} {x} held = grind (arith, common_steps, length-take, place_at_use)
+before_all {p} {i} {x} held = grind (arith, length-take, place_at_use)

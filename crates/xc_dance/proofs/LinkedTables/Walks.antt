@@ -56,7 +56,7 @@ pub record Reached (k : Kind) (t0 : Nodes) (all : List ℕ) (t : Nodes) (n : ℕ
 
 pub underway : {k : Kind} (t0 : Nodes) (all left : List ℕ) → left ≡ all → CanAll k.step k.Can t0 all
     → Underway k t0 all t0 left 0
-underway {k} t0 all left e can = grind (arith, common_steps)
+underway {k} t0 all left e can = grind arith
 
 -- ---- ways there and back
 
@@ -137,10 +137,10 @@ module _ {k : Kind} {t0 : Nodes} {all : List ℕ} {t : Nodes} {left : List ℕ} 
 
   pub step_on : (q : ℕ) (more : List ℕ) (u : Nodes) (m : ℕ) → left ≡ q ∷ more → u ≡ k.step t q → m ≡ k.writes t q
       → Underway k t0 all t left n → Underway k t0 all u more (n + m)
-  step_on q more u m e is paid h = grind (arith, common_steps)
+  step_on q more u m e is paid h = grind arith
 
   pub steps_end : left ≡ [] → Underway k t0 all t left n → Reached k t0 all t n
-  steps_end e h = grind (arith, common_steps)
+  steps_end e h = grind arith
 
   pub tells : (q z : ℕ) → ((v : Nodes) (x : ℕ) → k.Can v x → (x < length v.top) × (get_or v.top x 0 < SPACER))
       → (q ≡ z → left ≡ []) → (q ≢ z → (more : List ℕ) × (left ≡ q ∷ more)) → IsSpacer (fold k.step t0 all) z
@@ -172,13 +172,13 @@ module _ {w : Kind} {t0 : Nodes} {m x : ℕ} {t : Nodes} {p k n : ℕ} where
   follow_here lt h =
       let all : List ℕ = followed (w.links t0) m x in
       let at : drop k all ≡ get_or all k 0 ∷ drop (k + 1) all =
-      grind (arith, common_steps, drop_more, length-followed) in
-      let first : drop k all ≡ p ∷ drop (k + 1) all = grind (arith, common_steps) in
-      grind (arith, common_steps, subst (CanFollow w.step w.Can w.links t p) first h.walk)
+      grind (arith, drop_more, length-followed) in
+      let first : drop k all ≡ p ∷ drop (k + 1) all = grind arith in
+      grind (arith, subst (CanFollow w.step w.Can w.links t p) first h.walk)
 
   pub follow_on : (u : Nodes) (q c : ℕ) → k < m → u ≡ w.step t p → q ≡ get_or (w.links u) p 0 → c ≡ w.writes t p
       → Following w t0 m x t p k n → Following w t0 m x u q (k + 1) (n + c)
-  follow_on u q c lt is to paid h = grind (arith, common_steps, follow_here lt h)
+  follow_on u q c lt is to paid h = grind (arith, follow_here lt h)
 
   pub follow_end : m ≤ k → Following w t0 m x t p k n → Reached w t0 (followed (w.links t0) m x) t n
   follow_end le h = grind (arith, common_steps, length-followed)
@@ -193,14 +193,14 @@ pub places_more : (a b : ℕ) → a < b → places a b ≡ a ∷ places (a + 1) 
 places_more a b h = let e : b - a ≡ suc (b - (a + 1)) = omega arith in ap (range_with_len a) e
 
 range_with_len_push : (a n : ℕ) → range_with_len a (suc n) ≡ range_with_len a n ++ (a + n) ∷ []
-range_with_len_push a zero = grind (arith, common_steps)
-range_with_len_push a (suc n) = grind (arith, common_steps, range_with_len_push (a + 1) n)
+range_with_len_push a zero = grind arith
+range_with_len_push a (suc n) = grind (arith, range_with_len_push (a + 1) n)
 
 -- the last of the places comes behind the others
 -- from the last back
 pub reverse-places : (a b : ℕ) → a ≤ b → reverse (places a (b + 1)) ≡ b ∷ reverse (places a b)
-reverse-places a b h = grind (arith, common_steps, reverse-append, range_with_len_push)
+reverse-places a b h = grind (arith, reverse-append, range_with_len_push)
 
 -- the places up to q, from the last back
 pub last_first : (a q : ℕ) → a < q → reverse (places a q) ≡ (q - 1) ∷ reverse (places a (q - 1))
-last_first a q h = grind (arith, common_steps, reverse-places)
+last_first a q h = grind (arith, reverse-places)
