@@ -1,9 +1,7 @@
 """Rounds of trials: a copy of the repository, trials beside its proofs, and a check that tells which of them pass."""
 import re
-import shutil
 import subprocess
 import sys
-import tempfile
 from collections import Counter, defaultdict
 from pathlib import Path
 
@@ -280,23 +278,3 @@ def without_unused(text: str) -> str:
             line = line if kept == names else f"use {match.group(1)}.{{{', '.join(kept)}}}"
         out.append(line)
     return "\n".join(out)
-
-
-def shorten(top: Path, name: str, jobs: int, rounds: int) -> int:
-    with tempfile.TemporaryDirectory() as folder:
-        copy = Path(folder) / "copy"
-        shutil.copytree(top, copy, ignore=shutil.ignore_patterns("out", ".git"))
-        crate = Crate(copy, name)
-        for _ in range(rounds):
-            saved = sum(change.saved for change in crate.put(changes(crate.passing(jobs)), jobs))
-            print(f"{name}: {saved} lines shorter", file=sys.stderr, flush=True)
-            if saved == 0:
-                break
-        stands, _ = crate.check(jobs)
-        if not stands:
-            print(f"{name}: not proved in the end, so nothing is changed", file=sys.stderr)
-            return 1
-        proofs = Path("crates") / name / "proofs"
-        shutil.rmtree(top / proofs)
-        shutil.copytree(copy / proofs, top / proofs)
-    return 0
