@@ -1,5 +1,4 @@
-use Rattle.std.proofs.lemmas.Grind.{common_steps}
-use Rattle.std.proofs.Common.{arith, ◌≡◌, Some}
+use Rattle.std.proofs.Common.{arith, ◌≡◌, ◌∙◌, Some, refl, sym}
 use Rattle.xc_search.specs.Residuals.{choice_after}
 use Rattle.xc_search.proofs.stacked.Depth.{depth_at}
 use Rattle.xc_search.proofs.stacked.NextLevel.{chosen_item}
@@ -7,34 +6,51 @@ use Rattle.xc_search.proofs.stacked.LoopSteps.{Opens, node_at, deepens, may_ente
 use Rattle.xc_search.proofs.stacked.LoopSteps.{passes_over}
 use Rattle.xc_search.proofs.levels.deepen.Goals as goal
 use Rattle.xc_search.proofs.levels.deepen.Goals.{In-Some, After-descend-level}
+use Rattle.xc_search.specs.declared.levels.Entered.{Entered}
+use Rattle.xc_search.specs.declared.levels.Below.TheVariants.{Branch}
+
+same_branch : (a b : Entered) → Branch a ≡ Branch b → a ≡ b
+same_branch a b is = cc
 
 chose : (g : _) (c : In-Some g)
     → choice_after c.args.position.now.puzzle c.args.position.now.trail ≡ Some (c.in-Some.item, c.in-Some.count)
-chose g c = cc (c.choose.ensures.choice, c.in-Some.is)
+chose g c = sym c.choose.ensures.choice ∙ c.in-Some.is
 
 opened : (g : _) (c : After-descend-level g) → Opens c.args.position.now c.descend-level.new.self c.args.stack.now
     c.in-Some.item c.in-Some.count c.descend-level.result
 opened g c = grind (arith)
 
 pub returns-in_default-clause-solved : goal.returns-in_default-clause-solved
-returns-in_default-clause-solved g c _ = cc (c.choose.ensures.choice, c.in_default.is)
+returns-in_default-clause-solved g c _ = sym c.choose.ensures.choice ∙ c.in_default.is
 
 pub descend-level-requires-clause-node : goal.descend-level-requires-clause-node
-descend-level-requires-clause-node g c = grind (arith, common_steps, node_at, chose)
+descend-level-requires-clause-node g c =
+    node_at _ _ _ _ _ c.requires.standing (chose g (goal.at.descend-level-requires-clause-node g c).In-Some)
 
 pub descend-level-requires-clause-branch : goal.descend-level-requires-clause-branch
-descend-level-requires-clause-branch g c = grind (arith, common_steps, chosen_item, chose)
+descend-level-requires-clause-branch g c =
+    (chosen_item _ _ _ _ (c.requires.standing.searchable refl).legal
+    (chose g (goal.at.descend-level-requires-clause-branch g c).In-Some)).branch
 
 pub push-requires : goal.push-requires
 push-requires g c =
     let o = opened g (goal.at.push-requires g c).After-descend-level in
-    grind (arith, common_steps, depth_at, node_at, chosen_item)
+    let s = c.args.position.now in
+    let branch = (chosen_item _ _ _ _ (o.standing.searchable refl).legal o.chosen).branch in
+    omega (
+      arith,
+      c.requires.levels_fit,
+      depth_at s.puzzle s.trail c.args.stack.now.levels _ o.standing.stacked
+          (o.standing.shallow refl) (node_at _ _ _ _ _ o.standing o.chosen) branch,
+    )
 
 pub undo_to-requires : goal.undo_to-requires
 undo_to-requires g c = grind (arith, deepens, opened)
 
 pub returns-then-count-eq0-clause-nothing : goal.returns-then-count-eq0-clause-nothing
-returns-then-count-eq0-clause-nothing g c _ = grind (arith, passes_over, opened)
+returns-then-count-eq0-clause-nothing g c _ =
+    (passes_over (opened g (goal.at.returns-then-count-eq0-clause-nothing g c).After-descend-level)
+    c.undo_to.new.self c.if-count-eq0.true c.undo_to.ensures).0
 
 pub returns-then-count-eq0-clause-fewer : goal.returns-then-count-eq0-clause-fewer
 returns-then-count-eq0-clause-fewer g c _ =
@@ -42,24 +58,24 @@ returns-then-count-eq0-clause-fewer g c _ =
     c.undo_to.new.self c.if-count-eq0.true c.undo_to.ensures).1
 
 pub returns-then-count-eq0-clause-path : goal.returns-then-count-eq0-clause-path
-returns-then-count-eq0-clause-path g c _ = grind (arith, passes_over, opened)
+returns-then-count-eq0-clause-path g c _ =
+    (passes_over (opened g (goal.at.returns-then-count-eq0-clause-path g c).After-descend-level)
+    c.undo_to.new.self c.if-count-eq0.true c.undo_to.ensures).2
 
 pub enter-branch-requires : goal.enter-branch-requires
 enter-branch-requires g c =
     let ready = may_enter (opened g (goal.at.enter-branch-requires g c).After-descend-level)
     (omega (arith, c.if-count-eq0.false)) in
-    grind (arith, common_steps, ready)
+    grind (arith, ready)
 
 pub returns-clause-deeper : goal.returns-clause-deeper
 returns-clause-deeper g c b is =
-    let same : b ≡ record { item = c.in-Some.item; place = c.enter-branch.result.place } = cc is in
-    rw same (enters_first (opened g (goal.at.returns-clause-deeper g c).After-descend-level)
+    rw (← same_branch _ b is) (enters_first (opened g (goal.at.returns-clause-deeper g c).After-descend-level)
     c.enter-branch.new.self c.push.new.self c.enter-branch.result c.enter-branch.ensures.still
     c.enter-branch.ensures.entered (rw c.begin_level.ensures at c.push.ensures)).0
 
 pub returns-clause-deeper_path : goal.returns-clause-deeper_path
 returns-clause-deeper_path g c b is =
-    let same : b ≡ record { item = c.in-Some.item; place = c.enter-branch.result.place } = cc is in
-    rw same (enters_first (opened g (goal.at.returns-clause-deeper_path g c).After-descend-level)
+    rw (← same_branch _ b is) (enters_first (opened g (goal.at.returns-clause-deeper_path g c).After-descend-level)
     c.enter-branch.new.self c.push.new.self c.enter-branch.result c.enter-branch.ensures.still
     c.enter-branch.ensures.entered (rw c.begin_level.ensures at c.push.ensures)).1
