@@ -1,5 +1,5 @@
 use Rattle.std.proofs.lemmas.Grind.{common_steps}
-use Rattle.std.proofs.Common.{arith}
+use Rattle.std.proofs.Common.{arith, sym, inl, inr}
 use Rattle.xc_search.proofs.residual.FirstFewest.{next_open, once_more, choice_none, nearer}
 use Rattle.xc_search.proofs.residual.FirstFewest.{walk_first, walk_on, walk_ends}
 use Rattle.xc_search.proofs.branch_item.choose_by.Goals as goal
@@ -10,18 +10,18 @@ returns-in_err-item-clause-choice g c = grind (arith, common_steps, choice_none)
 pub branches_of-fewest-requires-clause-open : goal.branches_of-fewest-requires-clause-open
 branches_of-fewest-requires-clause-open g c =
     next_open c.args.problem.now.puzzle (g.D.Dance.state c.args.dance.now).trail 0 c.in_ok-item.item
-    (cc (c.in_ok-item.ensures))
+    (sym (rw c.requires.same at c.in_ok-item.ensures))
 
 pub branches_of-fewest-requires-clause-once : goal.branches_of-fewest-requires-clause-once
 branches_of-fewest-requires-clause-once g c h = grind (arith, common_steps, once_more, next_open)
 
 pub loop-fewest-init : goal.loop-fewest-init
-loop-fewest-init g c = walk_first _ _ _ _ (cc (c.in_ok-item.ensures)) c.branches_of-fewest.ensures
+loop-fewest-init g c = walk_first _ _ _ _ (sym (rw c.requires.same at c.in_ok-item.ensures)) c.branches_of-fewest.ensures
 
 pub branches_of-n-requires-clause-open : goal.branches_of-n-requires-clause-open
 branches_of-n-requires-clause-open g c =
     next_open c.args.problem.now.puzzle (g.D.Dance.state c.args.dance.now).trail c.loop-fewest.at c.in-Some.next
-    (cc (c.in-Some.ensures))
+    (sym (rw c.requires.same at c.in-Some.ensures))
 
 pub branches_of-n-requires-clause-once : goal.branches_of-n-requires-clause-once
 branches_of-n-requires-clause-once g c h = grind (arith, common_steps, once_more, next_open)
@@ -31,7 +31,7 @@ loop-fewest-smaller-then-n-fewest g c = grind (arith, common_steps, nearer)
 
 pub loop-fewest-preserved-then-n-fewest : goal.loop-fewest-preserved-then-n-fewest
 loop-fewest-preserved-then-n-fewest g c =
-    (walk_on _ _ _ _ _ _ _ c.loop-fewest.invariant (cc (c.in-Some.ensures)) c.branches_of-n.ensures).0
+    (walk_on _ _ _ _ _ _ _ c.loop-fewest.invariant (sym (rw c.requires.same at c.in-Some.ensures)) c.branches_of-n.ensures).0
     c.if-n-fewest.true
 
 pub loop-fewest-smaller : goal.loop-fewest-smaller
@@ -39,11 +39,12 @@ loop-fewest-smaller g c = grind (arith, common_steps, nearer)
 
 pub loop-fewest-preserved : goal.loop-fewest-preserved
 loop-fewest-preserved g c =
-    (walk_on _ _ _ _ _ _ _ c.loop-fewest.invariant (cc (c.in-Some.ensures)) c.branches_of-n.ensures).1
+    (walk_on _ _ _ _ _ _ _ c.loop-fewest.invariant (sym (rw c.requires.same at c.in-Some.ensures)) c.branches_of-n.ensures).1
     c.if-n-fewest.false
 
 pub returns-in_default-clause-choice : goal.returns-in_default-clause-choice
-returns-in_default-clause-choice g c = grind (arith, common_steps, walk_ends)
+returns-in_default-clause-choice g c =
+    walk_ends _ _ _ _ _ c.loop-fewest.invariant (inl (sym (rw c.requires.same at c.in_default.ensures)))
 
 pub returns-clause-choice : goal.returns-clause-choice
-returns-clause-choice g c = grind (arith, common_steps, walk_ends)
+returns-clause-choice g c = walk_ends _ _ _ _ _ c.loop-fewest.invariant (inr (omega (arith, c.loop-fewest-test.false)))
