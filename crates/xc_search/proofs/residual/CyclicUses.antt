@@ -6,9 +6,9 @@ use Rattle.std.proofs.lemmas.List.Elements.{filter_agree}
 use Rattle.std.specs.Prelude.{nat_le, is_some}
 use Rattle.xc_input.specs.declared.problem.Use.{Use}
 use Rattle.xc_input.specs.Problem.{Numbered, colour_in, holds}
-use Rattle.xc_search.specs.Listing.{Residual, pick}
+use Rattle.xc_search.specs.Listing.{Residual, pick, spend_one}
 use Rattle.xc_input.specs.UsePlaces.{place_in}
-use Rattle.xc_search.proofs.residual.PickedByUses.{committed, as_residual}
+use Rattle.xc_search.proofs.residual.PickedByUses.{is_wanted, spend_uses, all_stay, committed, as_residual}
 use Rattle.std.proofs.lemmas.List.{take-append-drop}
 use Rattle.std.proofs.lemmas.Option.{slice_get_within}
 use Rattle.xc_input.proofs.lists.Places.{drop_at}
@@ -32,7 +32,7 @@ placed i us h =
     let n = place_in i us in
     let s : suc n ≡ n + 1 = omega arith in
     let whole : us ≡ take n us ++ w.use_of ∷ drop (n + 1) us =
-    grind (arith, common_steps, take-append-drop, n, drop_at) in
+    cc (take-append-drop n us, drop_at us n w.use_of w.at, s) in
     record {
       colour = w.use_of.colour;
       whole = whole ∙ ap (λ j. take n us ++ (let u : Use = record { item = j; colour = w.use_of.colour } in u)
@@ -56,10 +56,10 @@ apart_turned us vs a = EachTwo-swapped Apart apart_sym us vs a
 abbrev pub cut : Residual → ℕ → ℕ → Residual
 cut r i n = record { items = r.items; options = filter (λ o. not (holds o i && nat_le o.number n)) r.options }
 
--- two lists of uses in either order
-ruleset either_order = (held_append, list_all-append, or_comm, and_comm)
-
 pub committed_picks : (r : Residual) (i : ℕ) (x : Numbered) (us vs : List Use) → x.uses ≡ us ++ vs
     → committed (vs ++ us) (cut r i x.number) ≡ pick r i x
 committed_picks r i x us vs e =
-    grind (arith, common_steps, as_residual, map-same, is_some, filter_both, filter_agree, either_order)
+    as_residual _ _ _ _ (ap (filter is_wanted) (map-same (spend_uses (vs ++ us)) (spend_one x) r.items
+    (λ w. grind (arith, held_append, or_comm))))
+    (filter_both (all_stay (cut r i x.number) (vs ++ us)) (λ o. not (holds o i && nat_le o.number x.number)) r.options
+    ∙ filter_agree _ _ (λ o. grind (arith, list_all-append, and_comm)) r.options)

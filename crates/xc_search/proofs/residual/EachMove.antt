@@ -1,7 +1,7 @@
 -- What each move does to what is left.
 use Rattle.std.proofs.lemmas.Grind.{common_steps}
 use Rattle.std.proofs.Common.{ℕ, zero, suc, ◌≡◌, ◌+◌, ◌<◌, ◌≤◌, not, ◌&&◌, eqb, List, ◌∷◌, map}
-use Rattle.std.proofs.Common.{filter, refl, ap, arith, ne_eqb}
+use Rattle.std.proofs.Common.{filter, refl, sym, ap, ◌∙◌, arith, ne_eqb}
 use Rattle.std.specs.List.{AllByRecursion, range_with_len}
 use Rattle.xc_dance.specs.declared.dance.Move.{Move}
 use Rattle.xc_dance.specs.declared.dance.Move.TheVariants.{Cover, Purify, Spend}
@@ -23,11 +23,12 @@ spent_once p t j i = grind (arith, common_steps)
 -- one Spend lowers the bounds of its item
 pub residual_spend : (p : Puzzle) (t : List Move) (j : ℕ) → residual_of p (Spend j ∷ t) ≡
     (let r : Residual = record { items = map (dec j) (wanted_after p t); options = left p t } in r)
-residual_spend p t j = grind (arith, common_steps, as_residual, map-same, spent_once, map-map)
+residual_spend p t j =
+    as_residual _ _ _ _ (map-same _ _ _ (spent_once p t j) ∙ sym (map-map (wanted_at p t) (dec j) (open_items p t))) refl
 
 covered_items : (p : Puzzle) (t : List Move) (j : ℕ)
     → open_items p (Cover j ∷ t) ≡ filter (λ i. not (eqb i j)) (open_items p t)
-covered_items p t j = grind (arith, common_steps, filter_agree, and_comm, filter_both)
+covered_items p t j = filter_agree _ _ (λ i. and_comm _ (is_open i t)) _ ∙ sym (filter_both _ (λ i. is_open i t) _)
 
 -- a Cover takes its item and the options that hold it
 pub residual_cover : (p : Puzzle) (t : List Move) (j : ℕ) → residual_of p (Cover j ∷ t) ≡ none (residual_of p t) j

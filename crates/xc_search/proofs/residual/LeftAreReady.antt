@@ -91,7 +91,10 @@ pub ready_left : (p : Puzzle) (t : List Move) (i k : ℕ) (x : Numbered) → Are
     → AreAllWanted (wanted_after p t) → IsOption p x
     → slice_get (filter (λ o. holds o i) (left p t)) k ≡ Some x → AreReady p t x.uses
 ready_left p t i k x l a option e =
-    let free : IsFree t x = grind (arith, common_steps, of_left, left, left_free, left_agrees) in
+    let free : IsFree t x = record {
+      uncovered = λ j c. of_left _ i k _ x (left_free p t j c) e;
+      agreeing = λ j d c. of_left _ i k _ x (left_agrees p t j d c) e;
+    } in
     each_both (IsSoundUse p) (λ u. colour_in x.uses u.item ≡ Some u.colour) (λ u. Ready p t u) x.uses
     (λ u s c. ready_use p t x u l a free s c) (recursion_from_All _ _ option.sound.sound)
     (own_colours x.uses (apart_from_pairs x.uses option.sound.distinct))

@@ -66,13 +66,13 @@ items_more : (u : Use) (us : List Use) (ws : List Wanted) → AllByRecursion (λ
     (map (spend_uses (u ∷ us)) ws)
 items_more u us [] a h = refl
 items_more u us (w ∷ ws) a h =
-    grind (arith, common_steps, items_more u us ws a h.1, spends_more u us w, eqb-true, not_held u.item us a)
+    grind (arith, items_more u us ws a h.1, spends_more u us w, eqb-true w.item u.item, not_held u.item us a)
 
 -- what is left of other items
 left_same : (j k : ℕ) (ws : List Wanted) → eqb j k ≡ false → AreAllWanted ws →
     find (λ w. eqb w.item k) (filter is_wanted (map (dec j) ws)) ≡ find (λ w. eqb w.item k) ws
 left_same j k [] e h = refl
-left_same j k (w ∷ ws) e h = grind (arith, common_steps, left_same j k ws e h.1, eqb-true, find)
+left_same j k (w ∷ ws) e h = grind (arith, left_same j k ws e h.1, eqb-true w.item j, find)
 
 stay_same : (u : Use) (us : List Use) (r : Residual) (o : Numbered) → AllByRecursion (λ v. eqb u.item v.item ≡ false) us
     → AreAllWanted r.items → all_stay (commit_use u r) us o ≡ all_stay r us o
@@ -91,4 +91,5 @@ uses_committed [] r a h =
 uses_committed (u ∷ us) r a h =
     uses_committed us (commit_use u r) a.1 (still_wanted u.item r.items)
     ∙ as_residual _ _ _ _ (items_more u us r.items a.0 h)
-    (grind (arith, common_steps, filter_agree, stay_same, filter_both))
+    (filter_agree _ _ (λ o. stay_same u us r o a.0 h) _
+    ∙ filter_both _ (may_stay (item_left r u.item) u) r.options)

@@ -152,5 +152,5 @@ commit_all p [] t r d ready l = l
 commit_all p (u ∷ us) t r d ready l =
     let one = commit_one p u t l.wanted ready.0 in
     commit_all p us (after_use p u t) (commit_use u r) d.1
-    (grind (arith, common_steps, each_both, ready_after, apart_sym))
-    (grind (arith, common_steps, one, legal_commit, still_wanted u.item (wanted_after p t)))
+    (each_both _ _ _ us (λ v e. ready_after p u t v (apart_sym u v e)) d.0 ready.1)
+    (grind (arith, one, legal_commit p u t l.legal ready.0, still_wanted u.item (wanted_after p t)))
