@@ -16,7 +16,7 @@ led_ground p u t (l ∷ ls) a = led_ground p u (oldest l.mark t) ls a.1
 -- a branch was begun
 pub led_begun : (p : Puzzle) (u t s : List Move) (l k : Level) (ls : List Level) → IsBegun p t l s k
     → AreLed p u (oldest l.mark t) ls → AreLed p u s (k ∷ ls)
-led_begun p u t s l k ls b a = grind (arith, common_steps)
+led_begun p u t s l k ls b a = grind (arith)
 
 -- the newest level ended
 pub keeps_back : (d e : Dancing) (l : Level) (vs ks : Levels) → vs.levels ≡ l ∷ drop 1 vs.levels →

@@ -48,7 +48,7 @@ shallower p t s l k ls stacked b =
     let u = oldest l.mark t in
     let r = residual_of p u in
     let w = wanted_at p u l.item in
-    grind (arith, common_steps, branches_here p u w stacked.0.branch, each_at, branches_less r w stacked.0.branch)
+    grind (arith, branches_here p u w stacked.0.branch, each_at, branches_less r w stacked.0.branch)
 
 -- what has a branch item isn't empty
 some_left : (p : Puzzle) (t : List Move) (i : ℕ) → branch_item (residual_of p t) ≡ Some (wanted_at p t i)

@@ -149,4 +149,4 @@ descended p t ls i n here sh c stacked =
     let branches = branches_here p t (wanted_at p t i) c.branch in
     let unrolled = listing_unrolled r ∙ ap (λ o. level listing o r) c.branch
     ∙ ap (flat_map (λ b. map (λ m. b.choice ∷ m) (listing b.next))) (sym branches) in
-    grind (arith, common_steps, work_unrolled r, cost, first_stands, members_all)
+    grind (arith, work_unrolled r, cost, first_stands p t i n here c, members_all (choices_of p ls) (branches_at p t))

@@ -1,4 +1,3 @@
-use Rattle.std.proofs.lemmas.Grind.{common_steps}
 use Rattle.std.proofs.Common.{arith}
 use Rattle.std.proofs.lemmas.List.Elements.{recursion_from_All}
 use Rattle.xc_input.proofs.OptionLemmas.FlatParts.{numbered_get-at}
@@ -13,4 +12,4 @@ overflow_add-spends c =
     omega (arith, c.loop-i.invariant, few, primary.whole.limits.items, primary.value)
 
 pub loop-i-preserved : goal.loop-i-preserved
-loop-i-preserved c = grind (arith, common_steps, counted_more, numbered_get-at)
+loop-i-preserved c = grind (arith, counted_more, numbered_get-at)
