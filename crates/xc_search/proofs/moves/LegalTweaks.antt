@@ -86,12 +86,12 @@ off_up_to i m n [] x r e = cc
 off_up_to i m n (o ∷ os) x r e = by_bool (holds o i) (λ h. by_number m
     (λ z. let same : o ≡ x = grind (arith, h, e, z) in
     let later = keep_all (λ y. not (holds y i && nat_le y.number x.number)) os (each_from _ os (λ y k.
-    grind (arith, common_steps, above_in o.number os y r.1 k, lt-leb))) in
-    grind (arith, common_steps, later, le-leb))
+    grind (arith, above_in o.number os y r.1 k, lt-leb))) in
+    grind (arith, later, le-leb))
     (λ k z. let found : slice_get (holding i os) k ≡ Some x = grind (arith, h, e, z) in
     let above = above_in o.number os x r.1 (in-filter _ _ _ (in-slice_get _ _ _ found)).0 in
-    grind (arith, common_steps, off_up_to i k o.number os x r.1 found, le-leb)))
-    (λ h. grind (arith, common_steps, off_up_to i m o.number os x r.1))
+    grind (arith, off_up_to i k o.number os x r.1 found, le-leb)))
+    (λ h. grind (arith, off_up_to i m o.number os x r.1))
 
 -- the others stay
 pub off_others : (i m : ℕ) (os : List Numbered)

@@ -12,8 +12,8 @@ use Rattle.xc_search.specs.Listing.{Residual, whole}
 use Rattle.xc_search.specs.Cut.{left_by_one, left_by, below, IsPath}
 use Rattle.xc_search.specs.inner.Residual.{residual_of}
 use Rattle.xc_search.specs.inner.Commits.{oldest}
-use Rattle.std.proofs.lemmas.List.Elements.{All-nil}
-use Rattle.xc_search.specs.inner.Levels.{AreStacked, choices_of, to_give, coming}
+use Rattle.std.proofs.lemmas.List.Elements.{All-nil, All-cons, All-append}
+use Rattle.xc_search.specs.inner.Levels.{AreStacked, chosen, choices_of, to_give, coming}
 use Rattle.xc_search.specs.inner.Paths.{AreLed}
 use Rattle.xc_search.proofs.residual.BranchItemLeft.{no_moves_leave_all}
 use Rattle.xc_search.proofs.stacked.BegunComesFirst.{choices_more}
@@ -28,7 +28,8 @@ left_by_more (x ∷ path) c r = by_option (left_by_one x r) (λ e. rw e refl) (�
 pub led_left : (p : Puzzle) (t : List Move) (ls : List Level) → AreLed p [] t ls
     → left_by (choices_of p ls) (whole p) ≡ Some (residual_of p t)
 led_left p t [] a = ap Some (sym (no_moves_leave_all p)) ∙ ap (λ t. Some (residual_of p t)) (sym a)
-led_left p t (l ∷ ls) a = grind (arith, choices_more, left_by_more, by_option, led_left p (oldest l.mark t) ls a.1)
+led_left p t (l ∷ ls) a =
+    rw (choices_more p l ls, left_by_more, led_left p (oldest l.mark t) ls a.1) (grind (arith))
 
 pub led_path : (p : Puzzle) (t : List Move) (ls : List Level) → AreLed p [] t ls → IsPath p (choices_of p ls)
 led_path p t ls a = (residual_of p t, led_left p t ls a)
@@ -42,4 +43,7 @@ comes_below p t ls a = grind (arith, common_steps, led_left)
 pub primary_choices : (p : Puzzle) (t : List Move) (ls : List Level) → AreStacked p t ls
     → All (λ (c : Choice). IsPrimary p c.item) (choices_of p ls)
 primary_choices p t [] a = All-nil (λ (c : Choice). IsPrimary p c.item)
-primary_choices p t (l ∷ ls) a = grind (arith, common_steps, primary_choices p (oldest l.mark t) ls a.2, choices_more)
+primary_choices p t (l ∷ ls) a =
+    let is : Choice → Type 0 = λ c. IsPrimary p c.item in
+    rw (choices_more p l ls) (All-append is _ (chosen p l ∷ []) (primary_choices p (oldest l.mark t) ls a.2)
+    (All-cons is _ [] a.0.node.item (All-nil is)))

@@ -35,7 +35,7 @@ record Stepped (c : Choice) (r s : Residual) : Type 0 where
   pub next : branch.next ≡ s
 
 stepped : (c : Choice) (r s : Residual) → left_by_one c r ≡ Some s → Stepped c r s
-stepped c r s e = grind (arith, common_steps, by_option, and_left, and_right, eqb-true)
+stepped c r s e = grind (arith, by_option, and_left, and_right, eqb-true)
 
 then_left : {X : Type 0} (f : X → Option Residual) (o : Option X) (s : Residual) → option_and_then f o ≡ Some s →
     (x : X) × (o ≡ Some x) × (f x ≡ Some s)
@@ -48,7 +48,10 @@ paths_same : (a b : List Choice) (r x y : Residual) → left_by a r ≡ Some x �
 paths_same [] [] r x y e f n = refl
 paths_same [] (d ∷ b) r x y e f n = absurd (cc n)
 paths_same (c ∷ a) [] r x y e f n = absurd (cc n)
-paths_same (c ∷ a) (d ∷ b) r x y e f n = grind (arith, common_steps, then_left, stepped, paths_same a b)
+paths_same (c ∷ a) (d ∷ b) r x y e f n =
+    let s = then_left (left_by a) _ x e in
+    let t = then_left (left_by b) _ y f in
+    grind (arith, stepped c r s.0 s.1, stepped d r t.0 t.1, paths_same a b s.0 x y s.2)
 
 pub numbers_tell : (p : Puzzle) (a b : List Choice) → IsPath p a → IsPath p b → numbers_on a ≡ numbers_on b → a ≡ b
 numbers_tell p a b is has n = paths_same a b (whole p) is.0 has.0 is.1 has.1 n
@@ -58,7 +61,7 @@ pub no_further : (done path : List Choice) (r s x : Residual) (k : ℕ) (ks : Li
     ((c : Choice) → c.k ≡ k → left_by_one c s ≡ None) →
     numbers_on path ≡ numbers_on done ++ k ∷ ks → left_by path r ≡ Some x → ⊥
 no_further [] [] r s x k ks e none n f = absurd (cc n)
-no_further [] (c ∷ path) r s x k ks e none n f = grind (arith, common_steps)
+no_further [] (c ∷ path) r s x k ks e none n f = grind (arith)
 no_further (d ∷ done) [] r s x k ks e none n f = absurd (cc n)
 no_further (d ∷ done) (c ∷ path) r s x k ks e none n f = grind (arith, then_left, stepped, no_further done path)
 
@@ -77,7 +80,7 @@ number_at r w j b e =
 -- and none whose number is 0 or greater than theirs
 pub no_branch : (c : Choice) (r : Residual) (w : Wanted) (n : ℕ) → branch_item r ≡ Some w → n ≡ branch_count r w →
     (c.k ≡ 0) ⊎ (n < c.k) → left_by_one c r ≡ None
-no_branch c r w n e count out = grind (arith, by_option, stepped, number_at)
+no_branch c r w n e count out = by_option (left_by_one c r) (λ q. q) (λ s q. grind (arith, stepped c r s q, number_at))
 
 -- a path leaves no more than there was
 pub left_less : (path : List Choice) (r s : Residual) → left_by path r ≡ Some s → size_of s ≤ size_of r

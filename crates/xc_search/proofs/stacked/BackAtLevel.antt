@@ -20,7 +20,7 @@ use Rattle.xc_search.proofs.stacked.NextLevel.{ground_is}
 pub returned : (p : Puzzle) (t : List Move) (l : Level) (ls : List Level) → AreStacked p t (l ∷ ls) →
     AreStacked p (oldest l.base t) (l ∷ ls) × (to_give p (oldest l.base t) (l ∷ ls) ≡ to_give p t (l ∷ ls))
     × (visits p (oldest l.base t) (l ∷ ls) ≡ visits p t (l ∷ ls)) × (l.base ≡ length (oldest l.base t))
-returned p t l ls stacked = grind (arith, common_steps, oldest-oldest, length-oldest)
+returned p t l ls stacked = grind (arith, oldest-oldest, length-oldest)
 
 -- a level whose branches were all begun gives nothing more
 pub finished : (p : Puzzle) (t : List Move) (l : Level) (ls : List Level) → AreStacked p t (l ∷ ls) → l.count ≤ l.begun
@@ -28,7 +28,7 @@ pub finished : (p : Puzzle) (t : List Move) (l : Level) (ls : List Level) → Ar
 finished p t l ls stacked h =
     let u = oldest l.mark t in
     let w = wanted_at p u l.item in
-    grind (arith, common_steps, branches_here p u w stacked.0.branch, branches_end (residual_of p u) w)
+    grind (arith, branches_here p u w stacked.0.branch, branches_end (residual_of p u) w)
 
 -- its tweaks are the newest moves
 pub closing : (p : Puzzle) (t : List Move) (l : Level) → IsLevel p t l → l.base ≡ length t

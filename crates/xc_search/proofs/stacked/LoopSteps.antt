@@ -1,7 +1,6 @@
 -- The steps of the search's loop.
-use Rattle.std.proofs.lemmas.Grind.{common_steps}
-use Rattle.std.proofs.Common.{ℕ, ◌≡◌, ◌+◌, ◌<◌, ◌≤◌, Bool, true, false, List, ◌∷◌, length, drop, length-drop, refl}
-use Rattle.std.proofs.Common.{Some, sym, ap, ◌∙◌, arith, subst, ap₂}
+use Rattle.std.proofs.Common.{ℕ, ◌≡◌, ◌+◌, ◌-◌, ◌<◌, ◌≤◌, Bool, true, false, List, ◌∷◌, length, drop, refl}
+use Rattle.std.proofs.Common.{Some, sym, ap, ◌∙◌, arith, subst, ap₂, length-drop, drop-drop}
 use Rattle.xc_dance.specs.declared.dance.Move.{Move}
 use Rattle.xc_search.specs.declared.level.Level.{Level}
 use Rattle.xc_search.specs.declared.level.Begun.{Begun}
@@ -33,11 +32,11 @@ use Rattle.xc_search.proofs.stacked.PassedOver.{stands_behind}
 
 pub GoesOn-trans : (d e f : Dancing) (ls ks js : Levels) (x y z : Bool) → GoesOn d ls x e ks y → GoesOn e ks y f js z
     → GoesOn d ls x f js z
-GoesOn-trans d e f ls ks js x y z a b = grind (arith, common_steps)
+GoesOn-trans d e f ls ks js x y z a b = grind (arith)
 
 pub node_at : (p : Puzzle) (t : List Move) (ls : List Level) (i n : ℕ) → IsStanding p t ls true
     → choice_after p t ≡ Some (i, n) → IsNode p t i
-node_at p t ls i n s e = grind (arith, common_steps, chosen_item)
+node_at p t ls i n s e = grind (arith, chosen_item)
 
 -- the levels with one more
 abbrev pub with_level : Level → Levels → Levels
@@ -67,14 +66,18 @@ deepens {d} {e} {ls} {i} {n} {l} o =
 -- a level's first branch may be entered
 pub may_enter : {d e : Dancing} {ls : Levels} {i n : ℕ} {l : Level} → Opens d e ls i n l → 0 < n
     → MayBegin e.puzzle e.trail l
-may_enter o some = let down = deepens o in grind (arith, down, o.level)
+may_enter o some = record {
+  level = (deepens o).0.standing.stacked.0;
+  whole = (deepens o).3;
+  more = rw o.level some;
+}
 
 -- the newest of the levels ended
 -- what goes on and then enters a branch enters it
 pub goes_on_to : (d e f : Dancing) (ls ks js : Levels) (x y : Bool) (i q : ℕ) → GoesOn d ls x e ks y →
     ahead e.puzzle e.trail ks.levels y ≤ ahead d.puzzle d.trail ls.levels x → EntersBranch e ks y f js i q
     → EntersBranch d ls x f js i q
-goes_on_to d e f ls ks js x y i q on less enters = grind (arith, common_steps)
+goes_on_to d e f ls ks js x y i q on less enters = grind (arith)
 
 -- the next branch of the newest level is entered, and goes on with the path below the level
 pub enters_next : (d f : Dancing) (l : Level) (b : Begun) (vs ks : Levels) → AreStacked d.puzzle d.trail vs.levels
@@ -126,17 +129,23 @@ passes_over {d} {ls = ls} {i = i} {n = n} o f none ef =
     let r = residual_of d.puzzle d.trail in
     let c = chosen_item d.puzzle d.trail i n (o.standing.searchable refl).legal o.chosen in
     let same : f ≡ d = ef ∙ ap₂ (λ (e : Dancing) t. record e { trail = t }) o.spent (deepens o).2 in
-    let listed = none_listed r _ (least_is_one _ _ _ c.branch) (omega (arith, c.count, none)) in
-    let went = goes_behind d f ls same o.standing listed in (went.0, went.1, rw same (λ u a. a))
+    let listed = none_listed r _ (least_is_one _ _ _ c.branch) (sym c.count ∙ none) in
+    let went = goes_behind d f ls same o.standing listed in (went.0, went.1, λ u a. rw same a)
 
 -- what is asked back at a level
 pub back_at : (p : Puzzle) (t r : List Move) (l : Level) (ls : List Level) → AreStacked p t (l ∷ ls)
     → r ≡ oldest l.base t →
     IsLevel p r l × (l.base ≡ length r) × (0 < l.tweaks → AreTweaks l.tweaks r) × (l.mark + l.tweaks ≤ length r)
-back_at p t r l ls stacked er = grind (arith, common_steps, returned p t l ls stacked, closing)
+back_at p t r l ls stacked er =
+    let back = returned p t l ls stacked in
+    let tweaks = closing p _ l back.0.0 back.3 in rw er (back.0.0, back.3, tweaks.0, tweaks.1)
 
 -- below a level's tweaks stand the moves below the level
 pub under_tweaks : (p : Puzzle) (t : List Move) (l : Level) (ls : List Level) → AreStacked p t (l ∷ ls)
     → oldest l.mark (drop l.tweaks (oldest l.base t)) ≡ oldest l.mark t
 under_tweaks p t l ls stacked =
-    let u = oldest l.base t in grind (arith, common_steps, back_at p t u l ls stacked refl, length-drop l.tweaks u)
+    let u = oldest l.base t in
+    let back = back_at p t u l ls stacked refl in
+    let fewer : l.tweaks + (length (drop l.tweaks u) - l.mark) ≡ length u - l.mark =
+    omega (arith, length-drop l.tweaks u, back.3) in
+    rw (drop-drop _ _ u, fewer) (oldest-oldest l.mark l.base t stacked.0.within.0 stacked.0.within.1)

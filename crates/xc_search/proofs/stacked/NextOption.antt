@@ -71,13 +71,13 @@ seeking {p} {t} {l} may q is =
     let os = options_at p u l.item in
     let rises = rises_filter (λ o. holds o l.item) 0 (left p u) (left_rises p u) in
     let few : l.begun ≤ length os = omega (arith, level.count, may.more) in
-    let list : listed p t l.item ≡ drop l.tweaks os = grind (arith, common_steps, oldest_all, listed_branch) in
-    by_bool l.walks (λ c. let all : listed p t l.item ≡ os = grind (arith, common_steps, list, level.tweaks) in
+    let list : listed p t l.item ≡ drop l.tweaks os = grind (arith, oldest_all, listed_branch) in
+    by_bool l.walks (λ c. let all : listed p t l.item ≡ os = grind (arith, list, level.tweaks) in
     record {
       x = last_number 0 os l.begun;
-      listed = grind (arith, common_steps, last_in os l.begun);
+      listed = grind (arith, last_in os l.begun);
       next = rw all (above_last 0 os l.begun rises few).1;
-    }) (λ c. let rest : listed p t l.item ≡ drop l.begun os = grind (arith, common_steps, list, level.tweaks) in
+    }) (λ c. let rest : listed p t l.item ≡ drop l.begun os = grind (arith, list, level.tweaks) in
     record {
       x = 0;
       listed = record { listed = inl refl; at = is ∙ ap (λ b. cond b l.place l.item) c };

@@ -1,11 +1,10 @@
-use Rattle.std.proofs.lemmas.Grind.{common_steps}
 use Rattle.std.proofs.Common.{arith, sym, inl, inr}
 use Rattle.xc_search.proofs.residual.FirstFewest.{next_open, once_more, choice_none, nearer}
 use Rattle.xc_search.proofs.residual.FirstFewest.{walk_first, walk_on, walk_ends}
 use Rattle.xc_search.proofs.branch_item.choose_by.Goals as goal
 
 pub returns-in_err-item-clause-choice : goal.returns-in_err-item-clause-choice
-returns-in_err-item-clause-choice g c = grind (arith, common_steps, choice_none)
+returns-in_err-item-clause-choice g c = grind (arith, choice_none)
 
 pub branches_of-fewest-requires-clause-open : goal.branches_of-fewest-requires-clause-open
 branches_of-fewest-requires-clause-open g c =
@@ -13,7 +12,7 @@ branches_of-fewest-requires-clause-open g c =
     (sym (rw c.requires.same at c.in_ok-item.ensures))
 
 pub branches_of-fewest-requires-clause-once : goal.branches_of-fewest-requires-clause-once
-branches_of-fewest-requires-clause-once g c h = grind (arith, common_steps, once_more, next_open)
+branches_of-fewest-requires-clause-once g c h = grind (arith, once_more, next_open)
 
 pub loop-fewest-init : goal.loop-fewest-init
 loop-fewest-init g c = walk_first _ _ _ _ (sym (rw c.requires.same at c.in_ok-item.ensures)) c.branches_of-fewest.ensures
@@ -24,10 +23,10 @@ branches_of-n-requires-clause-open g c =
     (sym (rw c.requires.same at c.in-Some.ensures))
 
 pub branches_of-n-requires-clause-once : goal.branches_of-n-requires-clause-once
-branches_of-n-requires-clause-once g c h = grind (arith, common_steps, once_more, next_open)
+branches_of-n-requires-clause-once g c h = grind (arith, once_more, next_open)
 
 pub loop-fewest-smaller-then-n-fewest : goal.loop-fewest-smaller-then-n-fewest
-loop-fewest-smaller-then-n-fewest g c = grind (arith, common_steps, nearer)
+loop-fewest-smaller-then-n-fewest g c = grind (arith, nearer)
 
 pub loop-fewest-preserved-then-n-fewest : goal.loop-fewest-preserved-then-n-fewest
 loop-fewest-preserved-then-n-fewest g c =
@@ -35,7 +34,7 @@ loop-fewest-preserved-then-n-fewest g c =
     c.if-n-fewest.true
 
 pub loop-fewest-smaller : goal.loop-fewest-smaller
-loop-fewest-smaller g c = grind (arith, common_steps, nearer)
+loop-fewest-smaller g c = grind (arith, nearer)
 
 pub loop-fewest-preserved : goal.loop-fewest-preserved
 loop-fewest-preserved g c =

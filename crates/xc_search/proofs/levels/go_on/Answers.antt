@@ -1,5 +1,4 @@
 use Rattle.xc_search.proofs.stacked.NextLevel.{solution}
-use Rattle.std.proofs.lemmas.Grind.{common_steps}
 use Rattle.std.proofs.Common.{arith, ◌≡◌, ◌∙◌, ap, refl}
 use Rattle.xc_search.specs.declared.levels.Below.TheVariants.{Branch}
 use Rattle.xc_search.proofs.stacked.CountedOver.{FallsBack, enters_below, enters_back}
@@ -14,7 +13,7 @@ returns-in-Branch-clause-entered g c b is =
 
 falls : (g : _) (c : Joined-deepen g) → FallsBack c.args.position.now c.args.stack.now c.args.more.now
     c.deepen.new.position c.deepen.new.stack c.match-deepen.more
-falls g c = grind (arith, common_steps, solution)
+falls g c = grind (arith, solution)
 
 pub returns-in-Some-clause-entered : goal.returns-in-Some-clause-entered
 returns-in-Some-clause-entered g c b is =

@@ -1,7 +1,4 @@
-use Rattle.xc_search.proofs.stacked.BackAtLevel.{returned}
 use Rattle.xc_search.proofs.stacked.BackAtLevel.{finished}
-use Rattle.xc_search.proofs.stacked.NextLevel.{oldest-oldest}
-use Rattle.std.proofs.lemmas.Grind.{common_steps}
 use Rattle.std.proofs.Common.{◌<◌, ◌∷◌, drop, false, arith}
 use Rattle.xc_search.specs.inner.Levels.{AreStacked}
 use Rattle.xc_search.specs.inner.Ahead.{GoesOn, visits}
@@ -12,14 +9,15 @@ use Rattle.xc_search.proofs.levels.resume.Goals.{In-Some, After-pop}
 use Rattle.xc_search.proofs.stacked.LoopSteps.{enters_next}
 
 pub loop-level-init : goal.loop-level-init
-loop-level-init g c = grind (arith, common_steps)
+loop-level-init g c = grind (arith)
 
 stacked : (g : _) (c : In-Some g) → AreStacked c.loop-level.position.puzzle c.loop-level.position.trail
     (c.in-Some.level.now ∷ drop 1 c.loop-level.stack.levels)
-stacked g c = grind (arith, common_steps)
+stacked g c = rw c.in-Some.ensures.some at c.loop-level.invariant.goes_on.standing.stacked
 
 pub enter_next-branch-requires-clause-stacked : goal.enter_next-branch-requires-clause-stacked
-enter_next-branch-requires-clause-stacked g c = grind (arith, common_steps, stacked)
+enter_next-branch-requires-clause-stacked g c =
+    (_, stacked g (goal.at.enter_next-branch-requires-clause-stacked g c).In-Some)
 
 pub enter_next-branch-requires-clause-more : goal.enter_next-branch-requires-clause-more
 enter_next-branch-requires-clause-more g c = c.if-level.true
@@ -28,7 +26,7 @@ back : (g : _) (c : After-pop g)
     → GoesOn c.loop-level.position c.loop-level.stack false c.end_level.new.position c.pop.new.self false
     × (visits c.end_level.new.position.puzzle c.end_level.new.position.trail c.pop.new.self.levels < visits
     c.loop-level.position.puzzle c.loop-level.position.trail c.loop-level.stack.levels)
-back g c = grind (arith, common_steps, returned, finished, oldest-oldest)
+back g c = grind (arith, finished)
 
 pub returns-then-level-clause-resumed : goal.returns-then-level-clause-resumed
 returns-then-level-clause-resumed g c =
@@ -48,4 +46,4 @@ pub loop-level-smaller : goal.loop-level-smaller
 loop-level-smaller g c = (back g c).1
 
 pub loop-level-preserved : goal.loop-level-preserved
-loop-level-preserved g c = grind (arith, common_steps, GoesOn-trans, back g c, keeps_back)
+loop-level-preserved g c = grind (arith, GoesOn-trans, back g c, keeps_back)

@@ -25,4 +25,5 @@ returns-in_default-clause-no_path g c _ other is =
     (parts_at c.args.numbers.now c.loop-number.number-index 0 c.loop-number-test.true) is
 
 pub loop-number-preserved : goal.loop-number-preserved
-loop-number-preserved g c = grind (arith, common_steps, left_by_more)
+loop-number-preserved g c =
+    grind (arith, common_steps, left_by_more c.loop-number.path.items c.in-Some.choice)

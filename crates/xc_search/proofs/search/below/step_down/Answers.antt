@@ -1,5 +1,4 @@
-use Rattle.std.proofs.lemmas.Grind.{common_steps}
-use Rattle.std.proofs.Common.{arith, ◌≡◌, ◌<◌, ◌⊎◌}
+use Rattle.std.proofs.Common.{arith, ◌≡◌, ◌<◌, ◌∙◌, ◌⊎◌, sym}
 use Rattle.xc_search.specs.Residuals.{wanted_at}
 use Rattle.xc_search.specs.inner.Residual.{residual_of}
 use Rattle.xc_search.proofs.stacked.NextLevel.{Chosen, chosen_item}
@@ -9,19 +8,20 @@ use Rattle.xc_search.proofs.search.below.step_down.Goals.{In_ok-item}
 
 at : (g : _) (c : In_ok-item g) →
     Chosen c.args.position.now.puzzle c.args.position.now.trail c.in_ok-item.item c.in_ok-item.count
-at g c = grind (arith, common_steps, chosen_item)
+at g c = chosen_item _ _ _ _ c.requires.searchable.legal (sym c.choose.ensures.choice ∙ c.in_ok-item.was)
 
 pub returns-then-number-eq0-clause-none : goal.returns-then-number-eq0-clause-none
 returns-then-number-eq0-clause-none g c _ x e =
     let d = c.args.position.now in
     let here = at g (goal.at.returns-then-number-eq0-clause-none g c).In_ok-item in
-    let out : (x.k ≡ 0) ⊎ (c.in_ok-item.count < x.k) = grind (arith, common_steps) in
+    let out : (x.k ≡ 0) ⊎ (c.in_ok-item.count < x.k) = grind (arith) in
     no_branch x (residual_of d.puzzle d.trail)
     (wanted_at d.puzzle d.trail c.in_ok-item.item) c.in_ok-item.count here.branch here.count out
 
 pub reach_branch-level-requires-clause-node : goal.reach_branch-level-requires-clause-node
 reach_branch-level-requires-clause-node g c =
-    grind (arith, common_steps, at g (goal.at.reach_branch-level-requires-clause-node g c).In_ok-item)
+    let here = at g (goal.at.reach_branch-level-requires-clause-node g c).In_ok-item in
+    record { searchable = c.requires.searchable; item = here.item; is_open = here.is_open }
 
 pub reach_branch-level-requires-clause-branch : goal.reach_branch-level-requires-clause-branch
 reach_branch-level-requires-clause-branch g c = (at g

@@ -1,5 +1,6 @@
-use Rattle.std.proofs.lemmas.Grind.{common_steps}
-use Rattle.std.proofs.Common.{arith}
+use Rattle.std.proofs.Common.{arith, ap, ◌∙◌}
+use Rattle.xc_dance.specs.Dancing.{Dancing}
+use Rattle.xc_search.specs.inner.Levels.{Levels}
 use Rattle.xc_search.proofs.stacked.Start.{starts_standing, starts_coming}
 use Rattle.xc_search.proofs.completeness.Covering.{each_member_covers}
 use Rattle.xc_search.proofs.completeness.Exactly.{each_cover_is_listed_once}
@@ -7,10 +8,12 @@ use Rattle.xc_search.proofs.walk.Walk.new.Goals as goal
 
 pub from-requires-clause-standing : goal.from-requires-clause-standing
 from-requires-clause-standing g c =
-    starts_standing _ c.most_levels.ensures.valid _ _ _ (cc) (cc) (cc (c.in-Ok.ensures))
+    starts_standing _ c.most_levels.ensures.valid _ _ _
+    (ap (λ (s : Dancing). s.puzzle) c.new-2.ensures ∙ c.requires.same)
+    (ap (λ (s : Dancing). s.trail) c.new-2.ensures ∙ c.requires.none) (ap (λ (s : Levels). s.levels) c.in-Ok.ensures)
 
 pub returns-clause-begun : goal.returns-clause-begun
-returns-clause-begun g c = grind (arith, common_steps, starts_coming)
+returns-clause-begun g c = grind (arith, starts_coming)
 
 pub returns-clause-right : goal.returns-clause-right
 returns-clause-right g c = each_member_covers c.args.problem.now.puzzle c.most_levels.ensures.valid
