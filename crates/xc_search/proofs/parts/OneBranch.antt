@@ -45,7 +45,7 @@ none_listed r v h e = listing_unrolled r ∙ by_items r.items refl h
   where
     by_items : (ws : List Wanted) → r.items ≡ ws → IsIn ws v → level listing (branch_item r) r ≡ []
     by_items [] q k = absurd k
-    by_items (w ∷ ws) q k = grind (arith, common_steps, best_least, no_branches)
+    by_items (w ∷ ws) q k = grind (arith, best_least, no_branches)
 
 -- It stays without where an option is taken.
 still_short : (r : Residual) (i : ℕ) (x : Numbered) (v : Wanted) → IsIn (holding i r.options) x → IsIn r.items v
@@ -55,7 +55,7 @@ still_short r i x v h k sound e =
     let few = length-filter-le (goes_on r i x) (holding v.item r.options) in
     let swap = ap length (filter_swap (λ o. holds o v.item) (goes_on r i x) r.options) in
     let kept : (nat_lt 0 (spend_one x v).high ≡ true) × (branch_count (pick r i x) (spend_one x v) ≡ 0) =
-    grind (arith, common_steps, lt-ltb, few, fewer, swap) in
+    grind (arith, lt-ltb, few, fewer, swap) in
     (filter-in (λ w. nat_lt 0 w.high) (map (spend_one x) r.items) _ (map-in (spend_one x) r.items v k) kept.0, kept.1)
   where
     fewer : holds x v.item ≡ true
@@ -76,7 +76,7 @@ only_choice i x = record { item = i; option = Some x.number; k = 1; n = 1 }
 pub one_branch : (r : Residual) (w : Wanted) (ws : List Wanted) (x : Numbered) → r.items ≡ w ∷ ws → w.low ≡ 1
     → holding w.item r.options ≡ x ∷ [] → ((v : Wanted) → IsIn r.items v → v.low ≤ v.high) →
     listing r ≡ map (λ m. only_choice w.item x ∷ m) (listing (pick r w.item x))
-one_branch r w ws x first low held sound = grind (arith, common_steps, listing_unrolled, by_best, best_first)
+one_branch r w ws x first low held sound = grind (arith, listing_unrolled, by_best, best_first)
   where
     one : branch_count r w ≡ 1
     one = omega (arith, low, ap length held)

@@ -32,14 +32,14 @@ module _ (f g : ℕ → ℕ) (apart : AreKeptApart f) where
 
   same_colour : (us : List Use) (i : ℕ) → colour_in (map (renumber_use f) us) (f i) ≡ colour_in us i
   same_colour [] i = refl
-  same_colour (u ∷ us) i = grind (arith, common_steps, same_colour us i)
+  same_colour (u ∷ us) i = grind (arith, same_colour us i)
 
   same_holding : (os : List Numbered) (i : ℕ)
       → holding (f i) (map (renumber_option f g) os) ≡ map (renumber_option f g) (holding i os)
   same_holding os i = simp (filter-map, same_colour)
 
   same_count : (r : Residual) (w : Wanted) → branch_count (renumber f g r) (renumber_item f w) ≡ branch_count r w
-  same_count r w = grind (arith, common_steps, same_holding, length-map)
+  same_count r w = grind (arith, same_holding, length-map)
 
   same_best : (c d : Wanted → ℕ) (w : Wanted) (ws : List Wanted) → ((v : Wanted) → c (renumber_item f v) ≡ d v) →
       best_of (λ x b. nat_lt (c x) (c b)) (renumber_item f w) (map (renumber_item f) ws) ≡ renumber_item f
@@ -63,11 +63,11 @@ module _ (f g : ℕ → ℕ) (apart : AreKeptApart f) where
       → find (λ w. eqb w.item (f j)) (map (renumber_item f) ws) ≡ option_map (renumber_item f)
       (find (λ w. eqb w.item j) ws)
   same_left [] j = refl
-  same_left (w ∷ ws) j = grind (arith, common_steps, same_left ws j)
+  same_left (w ∷ ws) j = grind (arith, same_left ws j)
 
   same_stay : (left : Option Wanted) (u : Use) (o : Numbered)
       → may_stay (option_map (renumber_item f) left) (renumber_use f u) (renumber_option f g o) ≡ may_stay left u o
-  same_stay (Some w) u o = grind (arith, common_steps, same_colour)
+  same_stay (Some w) u o = grind (arith, same_colour)
   same_stay None u o = ap (agrees u.colour) (same_colour o.uses u.item)
 
   same_stays : (r : Residual) (us : List Use) (o : Numbered) →
@@ -78,7 +78,7 @@ module _ (f g : ℕ → ℕ) (apart : AreKeptApart f) where
 
   same_spend : (x : Numbered) (w : Wanted)
       → spend_one (renumber_option f g x) (renumber_item f w) ≡ renumber_item f (spend_one x w)
-  same_spend x w = grind (arith, common_steps, same_colour)
+  same_spend x w = grind (arith, same_colour)
 
   -- options in order, of which some are left
   abbrev InOrder : List Numbered → Type 0
@@ -87,10 +87,10 @@ module _ (f g : ℕ → ℕ) (apart : AreKeptApart f) where
   same_pick : (r : Residual) (i : ℕ) (x : Numbered) → InOrder r.options → IsIn r.options x
       → pick (renumber f g r) (f i) (renumber_option f g x) ≡ renumber f g (pick r i x)
   same_pick r i x order h = as_residual _ _ _ _ (simp (map-map, filter-map, same_spend x))
-      (grind (arith, common_steps, filter-map, goes_on, filter_same, each_from, same_colour, same_stays))
+      (grind (arith, filter-map, goes_on, filter_same, each_from, same_colour, same_stays))
 
   same_none : (r : Residual) (i : ℕ) → none (renumber f g r) (f i) ≡ renumber f g (none r i)
-  same_none r i = grind (arith, common_steps, as_residual, filter-map, same_colour)
+  same_none r i = grind (arith, as_residual, filter-map, same_colour)
 
   -- ---- branches
 
@@ -133,8 +133,8 @@ module _ (f g : ℕ → ℕ) (apart : AreKeptApart f) where
       ∙ sym (ap (map (map (renumber_choice f g))) (listing_at r (Some w) e)))
 
 pub listing_renumbered : (f g : ℕ → ℕ) → AreKeptApart f → (r : Residual) → AreKeptInOrder g r.options → ListsAlike f g r
-listing_renumbered f g apart r order = grind (arith, common_steps, same_listing, in_order)
+listing_renumbered f g apart r order = grind (arith, same_listing, in_order)
   where
     in_order : (x y : Numbered) → IsIn r.options x → IsIn r.options y
         → nat_le (g x.number) (g y.number) ≡ nat_le x.number y.number
-    in_order x y h k = grind (arith, common_steps, contains-in)
+    in_order x y h k = grind (arith, contains-in)

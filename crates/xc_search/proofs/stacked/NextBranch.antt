@@ -36,7 +36,6 @@ use Rattle.xc_search.proofs.Cases.{mapped_some}
 use Rattle.xc_dance.specs.Moves.{IsLegal}
 use Rattle.xc_dance.specs.declared.dance.Move.TheVariants.{Tweak}
 use Rattle.std.proofs.Common.{Option}
-use Rattle.std.proofs.lemmas.Grind.{common_steps}
 use Rattle.std.specs.Prelude.{IfSome, is_some}
 use Rattle.xc_input.proofs.lists.Places.{not_some}
 use Rattle.xc_search.specs.Listing.{Branch}
@@ -70,16 +69,16 @@ module _ {p : Puzzle} {t : List Move} {l : Level} (may : MayBegin p t l) where
       let level = may.level in
       let within = slice_get_within (options_at p u l.item) l.begun x e in
       let took = taken p u l.item l.begun m x level.node e
-      (λ h. let used_up = covered_walks p u l.item in grind (arith, common_steps, level.walking))
-      (grind (arith, common_steps)) in
+      (λ h. let used_up = covered_walks p u l.item in grind (arith, level.walking))
+      (grind (arith)) in
       record {
         branch = take_branch r l.item (branch_count r (wanted_at p u l.item)) (1 + l.begun, x);
         at = ap (λ bs. slice_get bs l.begun) (branches_here p u _ level.branch)
             ∙ branch_takes r (wanted_at p u l.item) l.begun x (omega (arith, may.more, level.count)) e;
-        choice = grind (arith, common_steps, level.count);
-        tweaks = grind (arith, common_steps, level.tweaks);
+        choice = grind (arith, level.count);
+        tweaks = grind (arith, level.tweaks);
         next = took.picked.residual;
-        searchable = grind (arith, common_steps, sparing_taken);
+        searchable = grind (arith, sparing_taken);
         option = took.at;
       }
 
@@ -89,16 +88,16 @@ module _ {p : Puzzle} {t : List Move} {l : Level} (may : MayBegin p t l) where
       let r = residual_of p u in
       let level = may.level in
       let last = branch_none r (wanted_at p u l.item) l.begun (omega (arith, may.more, level.count)) e in
-      let few : l.tweaks ≤ length (options_at p u l.item) = grind (arith, common_steps, level.tweaks) in
+      let few : l.tweaks ≤ length (options_at p u l.item) = grind (arith, level.tweaks) in
       let gone = none_taken p u l.item l.tweaks level.node in
       let sparing = sparing_none p u l.item l.tweaks level.node.searchable.sparing level.branch gone in
       record {
         branch = none_branch r l.item (branch_count r (wanted_at p u l.item));
         at = ap (λ bs. slice_get bs l.begun) (branches_here p u _ level.branch) ∙ last.0;
-        choice = grind (arith, common_steps, last.2, level.count);
-        tweaks = grind (arith, common_steps, level.tweaks, not_some (options_at p u l.item) l.begun e);
+        choice = grind (arith, last.2, level.count);
+        tweaks = grind (arith, level.tweaks, not_some (options_at p u l.item) l.begun e);
         next = gone;
-        searchable = grind (arith, common_steps, legal_after_none, legal_branch, u, few, each-filter, gone, sparing);
+        searchable = grind (arith, legal_after_none, legal_branch, u, few, each-filter, gone, sparing);
         option = tt;
       }
 
@@ -127,10 +126,10 @@ module _ {p : Puzzle} {t : List Move} {l : Level} (may : MayBegin p t l) where
         mark = refl;
         below = under;
         level = rw under
-            (grind (arith, common_steps, may.level, ext_longer, ext_ground, ext_v, ext_whole, numbered_get-at));
+            (grind (arith, may.level, ext_longer, ext_ground, ext_v, ext_whole, numbered_get-at));
         searchable = made.searchable;
       } in
-      grind (arith, common_steps, has_room)
+      grind (arith, has_room)
 
   -- another tweak may be made where an option is left
   pub may_tweak : (o : ℕ) → l.walks ≡ false → next_number p t l ≡ Some o

@@ -1,6 +1,6 @@
-use Rattle.std.proofs.Common.{arith}
+use Rattle.std.proofs.Common.{arith, ◌∙◌}
 use Rattle.xc_input.proofs.FaultLemmas.Checks.{items-length}
-use Rattle.xc_search.specs.inner.Levels.{chosen}
+use Rattle.xc_search.specs.inner.Levels.{chosen, IsShown}
 use Rattle.xc_search.proofs.stacked.LevelsLeft.{one_put, room_left, all_behind}
 use Rattle.xc_search.proofs.stack.put_choices.Goals as goal
 
@@ -12,4 +12,11 @@ push_reserved-requires-in-len1-up g c =
     omega (arith, room, c.loop-rest.invariant.capacity, items-length c.loop-rest.choices)
 
 pub loop-rest-preserved : goal.loop-rest-preserved
-loop-rest-preserved g c = search (arith, one_put, chosen, all_behind)
+loop-rest-preserved g c =
+    let put = c.push_reserved-in-len1-up.ensures in
+    record {
+      items = one_put (chosen c.args.shown.2.now.puzzle) c.loop-rest.choices.items c.loop-rest.rest.now
+          c.in-len1-up.len_at_least _ _ _ _ put.items c.choice_of.ensures c.loop-rest.invariant.items;
+      capacity = put.capacity ∙ c.loop-rest.invariant.capacity;
+      shown = all_behind (IsShown c.args.shown.2.now.puzzle) c.loop-rest.rest.now c.loop-rest.invariant.shown;
+    }
