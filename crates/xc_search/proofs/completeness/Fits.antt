@@ -184,8 +184,6 @@ module _ {n : ℕ} {r : Residual} {w : Wanted} (p : IsProper n r) (known : IsIn 
 
 -- ---- the branch of what covers
 
-ruleset number_tests = (eqb-true, eqb-false, lt-leb)
-
 module _ (n : ℕ) (r : Residual) (p : IsProper n r) (chosen : ℕ → Bool) (c : Covers n r chosen) where
   -- another that is chosen may stay
   may_stay_beside : (x y : Numbered) (u : Use) (o : Option Wanted) → IsIn r.options x → IsIn r.options y
@@ -204,7 +202,14 @@ module _ (n : ℕ) (r : Residual) (p : IsProper n r) (chosen : ℕ → Bool) (c 
       → ((y : Numbered) → IsIn r.options y → holds y i ≡ true → chosen y.number ≡ true → x.number ≤ y.number)
       → Fits r chosen (take_branch r i m (k, x))
   fits_first i k m x known taken first =
-      grind (arith, by_bool, number_tests, stays, list_all-each, may_stay_beside, filter-in, goes_on)
+      record {
+        option = λ k e. grind (arith, e);
+        others = λ y h e. by_bool (eqb x.number y.number) (λ s. inl (ap Some (eqb-true _ _ s))) (λ a.
+            let apart = eqb-false _ _ a in
+            let stay : stays r x y ≡ true = list_all-each _ x.uses (λ u j.
+            may_stay_beside x y u _ known h taken e apart j refl) in
+            inr (filter-in (goes_on r i x) r.options y h (grind (arith, first y h, stay, lt-leb))));
+      }
 
   pub branch_for : (w : Wanted) → IsIn r.items w → (b : Branch) × IsIn (branches_of r w) b × Fits r chosen b
   branch_for w h = by_number (passing (is_held chosen w.item) r.options) (λ e.

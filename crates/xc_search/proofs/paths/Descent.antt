@@ -1,6 +1,6 @@
 -- The way down a path.
 use Rattle.std.proofs.Common.{ℕ, ◌≡◌, ◌+◌, ◌<◌, true, List, [], ◌∷◌, ◌++◌, length, take, drop, get_or}
-use Rattle.std.proofs.Common.{None, refl, sym, ap, ◌∙◌, arith}
+use Rattle.std.proofs.Common.{Some, None, refl, sym, ap, ◌∙◌, arith}
 use Rattle.std.proofs.lemmas.Grind.{common_steps}
 use Rattle.xc_dance.specs.declared.dance.Move.{Move}
 use Rattle.xc_search.specs.declared.choice.Choice.{Choice}
@@ -10,7 +10,7 @@ use Rattle.xc_input.specs.Problem.{Puzzle, IsValid}
 use Rattle.xc_search.specs.Listing.{whole}
 use Rattle.xc_search.specs.Cut.{left_by_one, below, IsPathBy}
 use Rattle.xc_search.specs.inner.Residual.{residual_of}
-use Rattle.xc_search.specs.inner.Levels.{IsStanding, IsEntered}
+use Rattle.xc_search.specs.inner.Levels.{IsSearchable, IsStanding, IsEntered}
 use Rattle.xc_search.specs.inner.Levels.{begun_level, taken}
 use Rattle.xc_search.specs.inner.Levels.{coming, behind}
 use Rattle.xc_search.specs.inner.Descent.{Leads, IsDown}
@@ -19,6 +19,7 @@ use Rattle.xc_search.proofs.stacked.NextLevel.{ext_after_branch, ext_whole}
 use Rattle.xc_search.proofs.stacked.NextLevel.{oldest-oldest}
 use Rattle.xc_search.proofs.stacked.Start.{starts_standing, comes_alone}
 use Rattle.xc_search.proofs.stacked.Depth.{shallow_first}
+use Rattle.xc_search.proofs.paths.Below.{left_by_more}
 use Rattle.xc_search.proofs.paths.Numbers.{no_further, left_less, below_left}
 
 -- before the next branch
@@ -28,6 +29,11 @@ leads_on p u s t l k b a ek own entered = grind (arith, taken, ext_whole, oldest
 
 -- a level on whose moves none was begun
 -- a path of one choice more
+pub down_more : {p : Puzzle} {numbers : List ℕ} {path : List Choice} {t : List Move} → IsDown p numbers path t
+    → (s : List Move) (c : Choice) → IsSearchable p s → left_by_one c (residual_of p t) ≡ Some (residual_of p s)
+    → IsDown p (numbers ++ c.k ∷ []) (path ++ c ∷ []) s
+down_more {path = path} d s c searchable left = grind (arith, common_steps, left_by_more path c)
+
 pub down_first : (p : Puzzle) (t : List Move) → IsValid p → t ≡ [] → IsDown p [] [] t
 down_first p t v e = grind (arith, common_steps, no_moves_leave_all, starts_standing p v p t [] refl e refl)
 

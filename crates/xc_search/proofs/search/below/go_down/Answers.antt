@@ -1,11 +1,10 @@
-use Rattle.xc_search.proofs.paths.Below.{left_by_more}
 use Rattle.std.proofs.Common.{arith}
 use Rattle.std.proofs.lemmas.Grind.{common_steps}
-use Rattle.std.proofs.Common.{◌≡◌, None, take, refl, ap, subst}
+use Rattle.std.proofs.Common.{◌≡◌, None, take, refl, ap, subst, ◌∙◌}
 use Rattle.xc_dance.specs.Dancing.{Dancing}
 use Rattle.xc_search.specs.Cut.{left_by_one}
 use Rattle.xc_search.specs.inner.Residual.{residual_of}
-use Rattle.xc_search.proofs.paths.Descent.{down_first, down_none, parts_at}
+use Rattle.xc_search.proofs.paths.Descent.{down_first, down_more, down_none, parts_at}
 use Rattle.xc_search.proofs.search.below.go_down.Goals as goal
 
 pub loop-number-init : goal.loop-number-init
@@ -26,4 +25,9 @@ returns-in_default-clause-no_path g c _ other is =
 
 pub loop-number-preserved : goal.loop-number-preserved
 loop-number-preserved g c =
-    grind (arith, common_steps, left_by_more c.loop-number.path.items c.in-Some.choice)
+    let inv = c.loop-number.invariant in
+    let same = ap (λ (d : Dancing). d.puzzle) inv.still in
+    let there = ap (λ (d : Dancing). d.puzzle) c.in-Some.ensures.still ∙ same in
+    let more = down_more inv.down _ c.in-Some.choice (rw there at c.in-Some.ensures.searchable)
+    (rw same at c.in-Some.ensures.left) in
+    grind (arith, common_steps, more)
