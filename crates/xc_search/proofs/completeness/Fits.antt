@@ -195,7 +195,8 @@ module _ (n : ℕ) (r : Residual) (p : IsProper n r) (chosen : ℕ → Bool) (c 
   may_stay_beside x y u None h k e f apart i left = by_bool (nat_le u.item n) (λ q.
       let w = p.items_left x u.item h (leb-true u.item n q) (holds_use x.uses u i) in
       let found = rw w.2 at (find-in r.items w.0 p.items_apart w.1) in cc)
-      (λ q. grind (arith, common_steps, by_option, each_in, leb-false, lt-ltb, eq-eqb))
+      (λ q. by_option (colour_at y u.item) (λ s. rw s refl)
+      (λ d s. grind (arith, each_in, leb-false _ _ q, lt-ltb, eq-eqb, s)))
 
   -- a branch that takes the first of its item that is chosen
   pub fits_first : (i k m : ℕ) (x : Numbered) → IsIn r.options x → chosen x.number ≡ true

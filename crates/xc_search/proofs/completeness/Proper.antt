@@ -66,12 +66,12 @@ apart-spend x ws a = grind (arith, common_steps, EachTwo-map, EachTwo-weaker, it
 -- `item_left` finds the items that are left, and no others
 pub find-in : (ws : List Wanted) (w : Wanted) → AreApart ws → IsIn ws w → find (λ v. eqb v.item w.item) ws ≡ Some w
 find-in [] w a h = absurd h
-find-in (v ∷ ws) w a (inl q) = grind (arith, common_steps, eq-eqb)
-find-in (v ∷ ws) w a (inr q) = grind (arith, common_steps, find-in ws w a.1 q, each_in _ ws w a.0 q, ne_eqb)
+find-in (v ∷ ws) w a (inl q) = grind (arith, eq-eqb)
+find-in (v ∷ ws) w a (inr q) = grind (arith, find-in ws w a.1 q, each_in _ ws w a.0 q, ne_eqb)
 
 pub in-find : (ws : List Wanted) (j : ℕ) (w : Wanted) → find (λ v. eqb v.item j) ws ≡ Some w → IsIn ws w × (w.item ≡ j)
 in-find [] j w e = cc
-in-find (v ∷ ws) j w e = grind (arith, common_steps, in-find ws j w, find, eqb-true)
+in-find (v ∷ ws) j w e = grind (arith, in-find ws j w, find, eqb-true)
 
 -- two that are left are one where their items are
 pub same_wanted : (n : ℕ) (r : Residual) (v w : Wanted) → IsProper n r → IsIn r.items v → IsIn r.items w
@@ -86,7 +86,7 @@ same_wanted n r v w p h k e =
 pub use_passes : (f : Use → Bool) (us : List Use) (j c : ℕ) → list_all f us ≡ true → colour_in us j ≡ Some c
     → f (record { item = j; colour = c }) ≡ true
 use_passes f [] j c all held = cc
-use_passes f (u ∷ us) j c all held = by_bool (eqb u.item j) (λ e. grind (arith, common_steps, eqb-true, and_left))
+use_passes f (u ∷ us) j c all held = by_bool (eqb u.item j) (λ e. grind (arith, eqb-true, and_left))
     (λ e. use_passes f us j c (and_right _ _ all) (rw e at held))
 
 -- an item that x uses up is held by no option that stays

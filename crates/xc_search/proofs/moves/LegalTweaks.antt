@@ -77,7 +77,7 @@ off_one i n (o ∷ os) r =
 off_more : (i m : ℕ) (os : List Numbered) → off i 1 (off i m os) ≡ off i (suc m) os
 off_more i zero os = refl
 off_more i (suc m) [] = refl
-off_more i (suc m) (o ∷ os) = grind (arith, common_steps, off_more i m os, off_more i (suc m) os)
+off_more i (suc m) (o ∷ os) = grind (arith, off_more i m os, off_more i (suc m) os)
 
 -- the first m + 1 that hold the item are those up to the option at place m
 off_up_to : (i m n : ℕ) (os : List Numbered) (x : Numbered) → Rises n (numbers os) → slice_get (holding i os) m ≡ Some x
@@ -98,7 +98,7 @@ pub off_others : (i m : ℕ) (os : List Numbered)
     → filter (λ o. not (holds o i)) (off i m os) ≡ filter (λ o. not (holds o i)) os
 off_others i zero os = refl
 off_others i (suc m) [] = refl
-off_others i (suc m) (o ∷ os) = grind (arith, common_steps, off_others i m os, off_others i (suc m) os)
+off_others i (suc m) (o ∷ os) = grind (arith, off_others i m os, off_others i (suc m) os)
 
 pub left_off : (p : Puzzle) (m i : ℕ) (s : List Move) → is_open i s ≡ true
     → left p (tweaked m i s) ≡ off i m (left p s)

@@ -93,7 +93,8 @@ module _ (p : Puzzle) (i : ℕ) (x : Numbered) where
     agree = λ a b j d e h k apart secondary f g.
         let at = in-map _ _ _ (in-contains _ _ h) in
         let to = in-map _ _ _ (in-contains _ _ k) in
-        grind (arith, common_steps, c.agree at.0 to.0 j d e, contains-in t, at, to, same_uses);
+        let agree = c.agree at.0 to.0 j d e (contains-in t _ at.1) (contains-in t _ to.1) in
+        grind (arith, agree, at.2, to.2, same_uses at.0, same_uses to.0);
   }
     where
       known : AllByRecursion (IsNumber (part p i x)) t

@@ -34,17 +34,17 @@ left_options p v (m ∷ t) = kept (IsOption p) p t m (left_options p v t)
 
 open_if : (j : ℕ) (t : List Move) → is_covered j t ≡ false → purified j t ≡ None → is_open j t ≡ true
 open_if j [] c q = refl
-open_if j (m ∷ t) c q = grind (arith, common_steps, open_if j t)
+open_if j (m ∷ t) c q = grind (arith, open_if j t)
 
 closed_if : (j d : ℕ) (t : List Move) → purified j t ≡ Some d → is_open j t ≡ false
 closed_if j d [] q = cc
-closed_if j d (m ∷ t) q = grind (arith, common_steps, closed_if j d t)
+closed_if j d (m ∷ t) q = grind (arith, closed_if j d t)
 
 -- only a secondary item is purified
 pub purified_second : (p : Puzzle) (j d : ℕ) (t : List Move) → AreLegal p t → purified j t ≡ Some d
     → primary_count p < j
 purified_second p j d [] l q = cc
-purified_second p j d (m ∷ t) l q = grind (arith, common_steps, purified_second p j d t, eqb-true)
+purified_second p j d (m ∷ t) l q = grind (arith, purified_second p j d t, eqb-true)
 
 pub primary_pure : (p : Puzzle) (j : ℕ) (t : List Move) → AreLegal p t → j ≤ primary_count p → purified j t ≡ None
 primary_pure p j t l h = grind (arith, common_steps, by_option, purified_second)
@@ -52,7 +52,7 @@ primary_pure p j t l h = grind (arith, common_steps, by_option, purified_second)
 found_holds : (P : Wanted → Type 0) (q : Wanted → Bool) (ws : List Wanted) (w : Wanted) → AllByRecursion P ws
     → find q ws ≡ Some w → P w
 found_holds P q [] w a e = cc
-found_holds P q (v ∷ vs) w a e = grind (arith, common_steps, found_holds P q vs w a.1, find)
+found_holds P q (v ∷ vs) w a e = grind (arith, found_holds P q vs w a.1, find)
 
 -- an open primary item has something left to spend
 pub has_left : (p : Puzzle) (t : List Move) (j : ℕ) → AreAllWanted (wanted_after p t) → IsPrimary p j

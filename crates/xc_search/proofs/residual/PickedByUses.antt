@@ -14,6 +14,7 @@ use Rattle.xc_input.proofs.lists.Filters.{filter_both, keep_all}
 use Rattle.xc_input.proofs.lists.EachElement.{each_of_all}
 use Rattle.std.proofs.lemmas.List.{map-id}
 use Rattle.std.proofs.lemmas.List.Elements.{filter_agree}
+use Rattle.xc_search.proofs.Cases.{by_bool}
 use Rattle.xc_search.proofs.residual.OptionUses.{AreApart}
 
 -- one use of a taken option
@@ -66,7 +67,10 @@ items_more : (u : Use) (us : List Use) (ws : List Wanted) → AllByRecursion (λ
     (map (spend_uses (u ∷ us)) ws)
 items_more u us [] a h = refl
 items_more u us (w ∷ ws) a h =
-    grind (arith, items_more u us ws a h.1, spends_more u us w, eqb-true w.item u.item, not_held u.item us a)
+    let more = items_more u us ws a h.1 in
+    by_bool (eqb w.item u.item)
+    (λ e. rw (spends_more u us w, e) (grind (arith, more, eqb-true _ _ e, not_held u.item us a)))
+    (λ e. rw (spends_more u us w, e, h.0, more) refl)
 
 -- what is left of other items
 left_same : (j k : ℕ) (ws : List Wanted) → eqb j k ≡ false → AreAllWanted ws →

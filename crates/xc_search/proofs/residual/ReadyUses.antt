@@ -109,7 +109,8 @@ opening_commits p u t a h o k =
     let more : 1 < left_over = omega (arith, eqb-false _ _ e, spent_self u.item t, k) in
     let is_more : nat_lt 1 left_over ≡ true = lt-ltb 1 left_over more in rw e (residual_spend p t u.item
     ∙ as_residual _ _ _ _
-    (sym (keep_all is_wanted _ (grind (arith, common_steps, each-map, each_both, kept_item, as_spent))))
+    (sym (keep_all is_wanted _ (each-map _ _ _ (each_both _ _ _ _ (λ w z i. kept_item p t u.item w z i more)
+    (as_spent p t) a))))
     (sym (keep_all stay (left p t) (each_of_all _ (left p t) (λ x. rw (found, is_more) refl))))))
 
 -- a use of a secondary item keeps the options that agree

@@ -1,15 +1,19 @@
 use Rattle.xc_search.proofs.stacked.NextLevel.{solution}
 use Rattle.std.proofs.Common.{arith, ◌≡◌, ◌∙◌, ap, refl}
+use Rattle.xc_search.specs.declared.levels.Entered.{Entered}
 use Rattle.xc_search.specs.declared.levels.Below.TheVariants.{Branch}
+use Rattle.xc_search.specs.declared.levels.Next.TheVariants as next
 use Rattle.xc_search.proofs.stacked.CountedOver.{FallsBack, enters_below, enters_back}
 use Rattle.xc_search.proofs.stacked.CountedOver.{ends_back}
 use Rattle.xc_search.proofs.levels.go_on.Goals as goal
 use Rattle.xc_search.proofs.levels.go_on.Goals.{Joined-deepen}
 
+same_entered : (a b : Entered) → next.Branch a ≡ next.Branch b → a ≡ b
+same_entered a b is = cc is
+
 pub returns-in-Branch-clause-entered : goal.returns-in-Branch-clause-entered
 returns-in-Branch-clause-entered g c b is =
-    let same : c.in-Branch.entered ≡ b = cc is in
-    enters_below c.args.more.now (c.deepen.ensures.deeper b (c.in-Branch.is ∙ ap Branch same))
+    enters_below c.args.more.now (c.deepen.ensures.deeper b (c.in-Branch.is ∙ ap Branch (same_entered _ b is)))
 
 falls : (g : _) (c : Joined-deepen g) → FallsBack c.args.position.now c.args.stack.now c.args.more.now
     c.deepen.new.position c.deepen.new.stack c.match-deepen.more
@@ -17,7 +21,7 @@ falls g c = grind (arith, solution)
 
 pub returns-in-Some-clause-entered : goal.returns-in-Some-clause-entered
 returns-in-Some-clause-entered g c b is =
-    let same : c.in-Some.entered ≡ b = cc is in rw (← same)
+    rw (← same_entered _ b is)
     (enters_back (falls g (goal.at.returns-in-Some-clause-entered g c).Joined-deepen) c.in-Some.ensures.resumed)
 
 pub returns-in-None-clause-done : goal.returns-in-None-clause-done
