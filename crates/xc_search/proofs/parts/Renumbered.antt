@@ -1,5 +1,4 @@
 -- The listing is the same under other numbers, level by level.
-use Rattle.std.proofs.lemmas.Grind.{common_steps}
 use Rattle.xc_dance.specs.Moves.{agrees}
 use Rattle.std.proofs.Common.{ℕ, ◌≡◌, ◌+◌, eqb, List, [], ◌∷◌}
 use Rattle.std.proofs.Common.{map, find, Option, Some, None, refl, sym, ap, ◌∙◌, arith}

@@ -24,7 +24,8 @@ spent_once p t j i = grind (arith, common_steps)
 pub residual_spend : (p : Puzzle) (t : List Move) (j : ℕ) → residual_of p (Spend j ∷ t) ≡
     (let r : Residual = record { items = map (dec j) (wanted_after p t); options = left p t } in r)
 residual_spend p t j =
-    as_residual _ _ _ _ (map-same _ _ _ (spent_once p t j) ∙ sym (map-map (wanted_at p t) (dec j) (open_items p t))) refl
+    let each = map-same _ _ _ (spent_once p t j) in
+    as_residual _ _ _ _ (each ∙ sym (map-map (wanted_at p t) (dec j) (open_items p t))) refl
 
 covered_items : (p : Puzzle) (t : List Move) (j : ℕ)
     → open_items p (Cover j ∷ t) ≡ filter (λ i. not (eqb i j)) (open_items p t)

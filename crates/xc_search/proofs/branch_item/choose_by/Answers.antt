@@ -15,7 +15,8 @@ pub branches_of-fewest-requires-clause-once : goal.branches_of-fewest-requires-c
 branches_of-fewest-requires-clause-once g c h = grind (arith, once_more, next_open)
 
 pub loop-fewest-init : goal.loop-fewest-init
-loop-fewest-init g c = walk_first _ _ _ _ (sym (rw c.requires.same at c.in_ok-item.ensures)) c.branches_of-fewest.ensures
+loop-fewest-init g c =
+    walk_first _ _ _ _ (sym (rw c.requires.same at c.in_ok-item.ensures)) c.branches_of-fewest.ensures
 
 pub branches_of-n-requires-clause-open : goal.branches_of-n-requires-clause-open
 branches_of-n-requires-clause-open g c =
@@ -30,16 +31,16 @@ loop-fewest-smaller-then-n-fewest g c = grind (arith, nearer)
 
 pub loop-fewest-preserved-then-n-fewest : goal.loop-fewest-preserved-then-n-fewest
 loop-fewest-preserved-then-n-fewest g c =
-    (walk_on _ _ _ _ _ _ _ c.loop-fewest.invariant (sym (rw c.requires.same at c.in-Some.ensures)) c.branches_of-n.ensures).0
-    c.if-n-fewest.true
+    (walk_on _ _ _ _ _ _ _ c.loop-fewest.invariant (sym (rw c.requires.same at c.in-Some.ensures))
+    c.branches_of-n.ensures).0 c.if-n-fewest.true
 
 pub loop-fewest-smaller : goal.loop-fewest-smaller
 loop-fewest-smaller g c = grind (arith, nearer)
 
 pub loop-fewest-preserved : goal.loop-fewest-preserved
 loop-fewest-preserved g c =
-    (walk_on _ _ _ _ _ _ _ c.loop-fewest.invariant (sym (rw c.requires.same at c.in-Some.ensures)) c.branches_of-n.ensures).1
-    c.if-n-fewest.false
+    (walk_on _ _ _ _ _ _ _ c.loop-fewest.invariant (sym (rw c.requires.same at c.in-Some.ensures))
+    c.branches_of-n.ensures).1 c.if-n-fewest.false
 
 pub returns-in_default-clause-choice : goal.returns-in_default-clause-choice
 returns-in_default-clause-choice g c =

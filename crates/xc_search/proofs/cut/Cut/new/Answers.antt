@@ -1,4 +1,3 @@
-use Rattle.std.proofs.lemmas.Grind.{common_steps}
 use Rattle.std.proofs.Common.{arith, ap, ◌∙◌}
 use Rattle.xc_dance.specs.Dancing.{Dancing}
 use Rattle.xc_search.specs.inner.Levels.{Levels}
@@ -23,4 +22,4 @@ invariant_of-result g c =
     }
 
 pub returns-clause-begun : goal.returns-clause-begun
-returns-clause-begun g c = grind (arith, common_steps, starts_coming)
+returns-clause-begun g c = grind (arith, starts_coming)
