@@ -2,7 +2,7 @@
 use Rattle.std.proofs.lemmas.Grind.{common_steps}
 use Rattle.std.proofs.Common.{ℕ, ◌≡◌, ◌<◌, ◌≤◌, true, List, [], ◌∷◌, length, map, filter, Some}
 use Rattle.std.proofs.Common.{refl, sym, ap, ◌∙◌, arith, subst, ◌⊎◌, inl, inr, ltb-true, ltb-false, lt-ltb, le-leb}
-use Rattle.std.proofs.Common.{ne_eqb}
+use Rattle.std.proofs.Common.{ne_eqb, append-nil}
 use Rattle.std.specs.Prelude.{nat_lt, flat_map}
 use Rattle.std.specs.List.{best_of}
 use Rattle.xc_search.specs.declared.choice.Choice.{Choice}
@@ -37,7 +37,7 @@ best_first count w (u ∷ us) = grind (arith, common_steps, best_least count u u
 -- ---- an item without branches
 
 no_branches : (r : Residual) (v : Wanted) → branch_count r v ≡ 0 → branches_of r v ≡ []
-no_branches r v e = grind (arith, common_steps, ne_eqb)
+no_branches r v e = grind (arith, ne_eqb)
 
 -- ends the listing
 pub none_listed : (r : Residual) (v : Wanted) → IsIn r.items v → branch_count r v ≡ 0 → listing r ≡ []
@@ -84,7 +84,7 @@ one_branch r w ws x first low held sound = grind (arith, listing_unrolled, by_be
     by_best : (best (branch_count r) w ws ≡ w) ⊎ (branch_count r (best (branch_count r) w ws) < branch_count r w)
         → level listing (Some (best (branch_count r) w ws)) r ≡ map (λ m. only_choice w.item x ∷ m)
         (listing (pick r w.item x))
-    by_best (inl q) = grind (arith, common_steps)
+    by_best (inl q) = rw (q, low, held) (append-nil _)
     by_best (inr less) =
         let z = best (branch_count r) w ws in
         let none_left : branch_count r z ≡ 0 = omega (arith, one, less) in
