@@ -30,9 +30,9 @@ enlisted_none o n (l ∷ ls) = ap (λ ks. l ∷ ks) (enlisted_none o (n + 1) ls)
 
 enlisted_above : (us : List Use) (u : Use) (o n : ℕ) (ls : List (List ℕ)) → u.item < n
     → enlisted_from us o n ls ≡ enlisted_from (us ++ u ∷ []) o n ls
-enlisted_above us u o n [] lt = grind (arith, common_steps, has_use_other)
+enlisted_above us u o n [] lt = grind (arith, has_use_other)
 enlisted_above us u o n (l ∷ ls) lt =
-    grind (arith, common_steps, has_use_other, enlisted_above us u o (n + 1) ls (omega (arith, lt)))
+    grind (arith, has_use_other, enlisted_above us u o (n + 1) ls (omega (arith, lt)))
 
 -- the item of one more use has the option
 pub enlisted_more : (us : List Use) (u : Use) (o n k : ℕ) (ls : List (List ℕ)) → n + k ≡ u.item
@@ -41,16 +41,16 @@ pub enlisted_more : (us : List Use) (u : Use) (o n k : ℕ) (ls : List (List ℕ
     (us ++ u ∷ []) o n ls
 enlisted_more us u o n k [] e new lt = refl
 enlisted_more us u o n zero (l ∷ ls) e new lt =
-    grind (arith, common_steps, enlisted_above, or-true, list_any-append, or-false)
+    grind (arith, enlisted_above, or-true, list_any-append, or-false)
 enlisted_more us u o n (suc k) (l ∷ ls) e new lt =
-    grind (arith, common_steps, has_use_other, enlisted_more us u o (n + 1) k ls (omega (arith, e)) new)
+    grind (arith, has_use_other, enlisted_more us u o (n + 1) k ls (omega (arith, e)) new)
 
 -- the uses before one are of other items
 pub new_use : (us : List Use) (k : ℕ) (u0 : Use) → AllPairs (λ u v. u.item ≢ v.item) us → k < length us
     → has_use (take k us) (get_or us k u0).item ≡ false
 new_use us k u0 distinct lt =
     list_any_none (λ v. eqb v.item (get_or us k u0).item) (take k us) (λ m d within. let other = distinct m k d in
-    grind (arith, common_steps, length-take-le, get_or-take, get_or_default, ne_eqb))
+    grind (arith, length-take-le, get_or-take, get_or_default, ne_eqb))
 
 -- ---- all options
 
@@ -66,8 +66,8 @@ enlisted_range us o f g h a (suc n) = ap₂ (λ l ls. l ∷ ls) (h a) (enlisted_
 
 numbered_more : (os : List (List Use)) (us : List Use) (n : ℕ)
     → numbered_from n (os ++ us ∷ []) ≡ numbered_from n os ++ (record { number = n + length os; uses = us }) ∷ []
-numbered_more [] us n = grind (arith, common_steps)
-numbered_more (vs ∷ os) us n = grind (arith, common_steps, numbered_more os us (n + 1))
+numbered_more [] us n = grind arith
+numbered_more (vs ∷ os) us n = grind (arith, numbered_more os us (n + 1))
 
 filled_more : (os : List (List Use)) (us : List Use) (i : ℕ)
     → (let old = numbers (holding i (numbered_from 1 os)) in cond (has_use us i) (old ++ (length os + 1) ∷ []) old)
@@ -76,7 +76,7 @@ filled_more os us i = grind (arith, common_steps, holds_use, numbered_more, appe
 
 pub lists_more : (p : Puzzle) (os : List (List Use)) (us : List Use) (o : ℕ) → o ≡ length os + 1
     → enlisted us o (lists_of p os) ≡ lists_of p (os ++ us ∷ [])
-lists_more p os us o e = grind (arith, common_steps, enlisted_range, filled_more)
+lists_more p os us o e = grind (arith, enlisted_range, filled_more)
 
 pub lists_none : (p : Puzzle) → replicate (item_count p) [] ≡ lists_of p []
 lists_none p = empty 1 (item_count p)

@@ -2,7 +2,6 @@
 use Rattle.std.proofs.Common.{ℕ, zero, suc, ◌≡◌, ◌≢◌, ◌+◌, ◌-◌, ◌<◌, ◌≤◌, Bool, true, false, not, cond, eqb, ◌&&◌, ◌||◌}
 use Rattle.std.proofs.Common.{List, [], ◌∷◌, ◌++◌, length, get_or, set, refl, ap, arith, eq-eqb}
 use Rattle.std.proofs.Common.{eqb-true}
-use Rattle.std.proofs.lemmas.Grind.{common_steps}
 use Rattle.std.specs.Prelude.{IsTrue}
 use Rattle.std.proofs.lemmas.Bool.{ne_eqb}
 use Rattle.std.proofs.lemmas.List.Folds.{list_any-append}
@@ -34,7 +33,7 @@ is_list_of-less p i gone l h = (Rises-filter _ 0 l h.0, All-filter _ (λ o. IsTr
 
 -- an option that has a use is one of the problem
 pub known_option : (p : Puzzle) (o i : ℕ) → has_use (uses_of p o) i ≡ true → (1 ≤ o) × (o ≤ option_count p)
-known_option p o i used = grind (arith, common_steps, slice_get_within)
+known_option p o i used = grind (arith, slice_get_within)
 
 -- ---- all lists
 
@@ -74,8 +73,8 @@ list_of p n (suc k) (l ∷ ls) h lt =
     let same : n + suc k ≡ n + 1 + k = omega arith in rw same (list_of p (n + 1) k ls h.1 (omega (arith, lt)))
 
 pub lose_none : (t : List Move) (j n : ℕ) (ls : List (List ℕ)) → lose_from t j [] n ls ≡ ls
-lose_none t j n [] = grind (arith, common_steps, less_none)
-lose_none t j n (l ∷ ls) = grind (arith, common_steps, less_none, lose_none t j (n + 1) ls)
+lose_none t j n [] = grind (arith, less_none)
+lose_none t j n (l ∷ ls) = grind (arith, less_none, lose_none t j (n + 1) ls)
 
 less_more : (gone : List ℕ) (o : ℕ) (l : List ℕ) → less (o ∷ []) (less gone l) ≡ less (gone ++ o ∷ []) l
 less_more gone o [] = refl
@@ -89,8 +88,8 @@ lose_more t j gone o n (l ∷ ls) = grind (arith, less_more gone o l, lose_more 
 -- the list of j itself stays
 pub lose_other : (t : List Move) (j : ℕ) (gone : List ℕ) (n k : ℕ) (ls : List (List ℕ)) → n + k ≡ j
     → list_at (lose_from t j gone n ls) k ≡ list_at ls k
-lose_other t j gone n k [] e = grind (arith, common_steps, eq-eqb)
-lose_other t j gone n zero (l ∷ ls) e = grind (arith, common_steps, eq-eqb)
+lose_other t j gone n k [] e = grind (arith, eq-eqb)
+lose_other t j gone n zero (l ∷ ls) e = grind (arith, eq-eqb)
 lose_other t j gone n (suc k) (l ∷ ls) e = grind (arith, lose_other t j gone (n + 1) k ls (omega (arith, e)))
 
 -- an option of j's list, read while other lists lose options
@@ -99,22 +98,22 @@ pub read_option : (p : Puzzle) (t : List Move) (j : ℕ) (gone : List ℕ) (at :
     now ≡ lose_from t j gone 1 ls → row ≡ list_at now (j - 1) → at < length (list_at ls (j - 1)) →
     (row ≡ list_at ls (j - 1)) × ((1 ≤ get_or row at 0) × (get_or row at 0 ≤ option_count p))
 read_option p t j gone at row now ls low high are is read lt =
-    let list = list_of p 1 (j - 1) ls are in grind (arith, common_steps, lose_other, known_option)
+    let list = list_of p 1 (j - 1) ls are in grind (arith, lose_other, known_option)
 
 -- ---- use by use
 
 pub hidden_none : (t : List Move) (j o n : ℕ) (ls : List (List ℕ)) → hidden_from t j [] o n ls ≡ ls
-hidden_none t j o n [] = grind (arith, common_steps, and-false)
-hidden_none t j o n (l ∷ ls) = grind (arith, common_steps, and-false, hidden_none t j o (n + 1) ls)
+hidden_none t j o n [] = grind (arith, and-false)
+hidden_none t j o n (l ∷ ls) = grind (arith, and-false, hidden_none t j o (n + 1) ls)
 
 pub has_use_other : (us : List Use) (u : Use) (i : ℕ) → u.item ≢ i → has_use (us ++ u ∷ []) i ≡ has_use us i
-has_use_other us u i other = grind (arith, common_steps, ne_eqb, or-false, list_any-append)
+has_use_other us u i other = grind (arith, ne_eqb, or-false, list_any-append)
 
 hidden_above : (t : List Move) (j : ℕ) (us : List Use) (u : Use) (o n : ℕ) (ls : List (List ℕ)) → u.item < n
     → hidden_from t j us o n ls ≡ hidden_from t j (us ++ u ∷ []) o n ls
-hidden_above t j us u o n [] lt = grind (arith, common_steps, has_use_other)
+hidden_above t j us u o n [] lt = grind (arith, has_use_other)
 hidden_above t j us u o n (l ∷ ls) lt =
-    grind (arith, common_steps, has_use_other, hidden_above t j us u o (n + 1) ls (omega (arith, lt)))
+    grind (arith, has_use_other, hidden_above t j us u o (n + 1) ls (omega (arith, lt)))
 
 -- the item of one more use loses the option
 pub hidden_more : (t : List Move) (j : ℕ) (us : List Use) (u : Use) (o n k : ℕ) (ls : List (List ℕ)) → n + k ≡ u.item
@@ -131,7 +130,7 @@ hidden_more t j us u o n (suc k) (l ∷ ls) e c =
 pub hidden_same : (t : List Move) (j : ℕ) (us : List Use) (u : Use) (o n : ℕ) (ls : List (List ℕ))
     → (not (eqb u.item j) && is_open u.item t) ≡ false →
     hidden_from t j us o n ls ≡ hidden_from t j (us ++ u ∷ []) o n ls
-hidden_same t j us u o n [] c = grind (arith, common_steps, eq-eqb, eqb-true, has_use_other)
+hidden_same t j us u o n [] c = grind (arith, eq-eqb, eqb-true, has_use_other)
 hidden_same t j us u o n (l ∷ ls) c = grind (arith, eqb-true, has_use_other, hidden_same t j us u o (n + 1) ls c)
 
 -- once all uses are gone through

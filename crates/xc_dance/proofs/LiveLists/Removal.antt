@@ -14,7 +14,7 @@ use Rattle.xc_dance.specs.inner.Lists.Taking.{numbers_of, rooms_of, list_at, les
 pub less-absent : (x : ℕ) (xs : List ℕ) → ((k : ℕ) → k < length xs → get_or xs k 0 ≢ x) → less (x ∷ []) xs ≡ xs
 less-absent x [] h = refl
 less-absent x (y ∷ ys) h =
-    let rest = less-absent x ys (λ k lt. h (suc k) (omega (arith, lt))) in grind (arith, common_steps, h 0)
+    let rest = less-absent x ys (λ k lt. h (suc k) (omega (arith, lt))) in grind (arith, h 0)
 
 pub above : (n : ℕ) (xs : List ℕ) (k : ℕ) → Rises n xs → k < length xs → n < get_or xs k 0
 above n [] k r lt = absurd (omega (arith, lt))
@@ -37,7 +37,7 @@ insert-remove (y ∷ ys) (suc k) d lt = ap (λ l. y ∷ l) (insert-remove ys k d
 pub rises_weakly : (n : ℕ) (xs : List ℕ) → Rises n xs → (i j : ℕ) → i ≤ j → j < length xs
     → get_or xs i 0 ≤ get_or xs j 0
 rises_weakly n [] r i j le lt = absurd (omega (arith, lt))
-rises_weakly n (y ∷ ys) r zero j le lt = grind (arith, common_steps, above y ys)
+rises_weakly n (y ∷ ys) r zero j le lt = grind (arith, above y ys)
 rises_weakly n (y ∷ ys) r (suc i) zero le lt = absurd (omega (arith, le))
 rises_weakly n (y ∷ ys) r (suc i) (suc j) le lt = rises_weakly y ys r.1 i j (omega (arith, le)) (omega (arith, lt))
 

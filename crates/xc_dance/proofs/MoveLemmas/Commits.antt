@@ -1,5 +1,4 @@
 -- Commits of uses, one after another: what is legal and fits behind them did before.
-use Rattle.std.proofs.lemmas.Grind.{common_steps}
 use Rattle.std.proofs.Common.{ℕ, ◌≡◌, ◌+◌, ◌<◌, List, [], ◌∷◌, ◌++◌, length}
 use Rattle.std.proofs.Common.{drop, refl, arith, get_or, drop-cons}
 use Rattle.xc_input.specs.declared.problem.Use.{Use}
@@ -27,4 +26,4 @@ committed us s = record s { trail = after_uses s.puzzle us s.trail }
 pub at_use : (s : Dancing) (us : List Use) (k : ℕ) (d : Use) → k < length us →
     committed (drop k us) s ≡ committed (drop (k + 1) us)
     (record s { trail = after_use s.puzzle (get_or us k d) s.trail })
-at_use s us k d h = grind (arith, common_steps, drop-cons)
+at_use s us k d h = grind (arith, drop-cons)

@@ -1,4 +1,3 @@
-use Rattle.std.proofs.lemmas.Grind.{common_steps}
 -- The next number in a list that rises, by its place.
 use Rattle.std.proofs.Common.{ℕ, zero, suc, ◌≡◌, ◌<◌, ◌≤◌, List, [], ◌∷◌, length, get_or, refl, arith}
 use Rattle.std.specs.Prelude.{slice_get}
@@ -15,8 +14,8 @@ next_first n (x ∷ xs) r = rw (lt-ltb n x r.0) refl
 pub next_found : (n : ℕ) (xs : List ℕ) (k : ℕ) → Rises n xs → k < length xs
     → next_above (get_or xs k 0) xs ≡ slice_get xs (suc k)
 next_found n [] k r lt = refl
-next_found n (x ∷ xs) zero r lt = grind (arith, common_steps, le-ltb, next_first x xs r.1)
-next_found n (x ∷ xs) (suc k) r lt = grind (arith, common_steps, above x xs k r.1, le-ltb, next_found x xs k r.1)
+next_found n (x ∷ xs) zero r lt = grind (arith, le-ltb, next_first x xs r.1)
+next_found n (x ∷ xs) (suc k) r lt = grind (arith, above x xs k r.1, le-ltb, next_found x xs k r.1)
 
 -- at the place where a number would stand
 pub next_at : (o : ℕ) (xs : List ℕ) (k : ℕ) → ((m : ℕ) → m < k → get_or xs m 0 < o)

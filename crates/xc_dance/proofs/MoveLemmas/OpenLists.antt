@@ -2,7 +2,6 @@
 use Rattle.std.proofs.Common.{ℕ, ◌≡◌, ◌<◌, ◌≤◌, Bool, true, false, not, ◌&&◌, List, [], ◌∷◌, filter, take}
 use Rattle.std.proofs.Common.{drop, Option, refl, sym, ap, ◌∙◌, arith, eq-eqb, lt-ltb}
 use Rattle.std.proofs.Common.{ne_eqb, IsTrue}
-use Rattle.std.proofs.lemmas.Grind.{common_steps}
 use Rattle.std.proofs.lemmas.Bool.Decides.{eqb_tells}
 use Rattle.std.proofs.Common.{inl, inr}
 use Rattle.std.proofs.lemmas.List.Elements.{filter_agree}
@@ -21,8 +20,8 @@ use Rattle.xc_dance.proofs.MoveLemmas.ListLemmas.{Rises, Rises-weaker, numbers}
 -- ---- numbers that rise
 
 pub left_rises : (p : Puzzle) (t : List Move) → Rises 0 (numbers (left p t))
-left_rises p [] = grind (arith, common_steps, rises_filter, options_rise)
-left_rises p (m ∷ t) = grind (arith, common_steps, rises_filter, left_rises p t)
+left_rises p [] = grind (arith, rises_filter, options_rise)
+left_rises p (m ∷ t) = grind (arith, rises_filter, left_rises p t)
 
 above : (n : ℕ) (os : List Numbered) → Rises n (numbers os) → AllByRecursion (λ o. n < o.number) os
 above n [] r = tt
@@ -31,7 +30,7 @@ above n (o ∷ os) r = (r.0, above n os (Rises-weaker n o.number (numbers os) (o
 -- an option below all of a list isn't in it
 not_among : (x : Numbered) (n : ℕ) (os : List Numbered) → x.number ≤ n → Rises n (numbers os) → is_among os x ≡ false
 not_among x n [] h r = refl
-not_among x n (o ∷ os) h r = grind (arith, common_steps, ne_eqb, not_among x o.number os (omega (arith, r.0)) r.1)
+not_among x n (o ∷ os) h r = grind (arith, ne_eqb, not_among x o.number os (omega (arith, r.0)) r.1)
 
 -- an option below all of a list makes no difference there
 passed_over : (x : Numbered) (gone os : List Numbered) → Rises x.number (numbers os)
@@ -46,7 +45,7 @@ without_filter q n (x ∷ os) r =
 
 pub without_first : (n : ℕ) (os : List Numbered) → Rises n (numbers os) → without (take 1 os) os ≡ drop 1 os
 without_first n [] r = refl
-without_first n (x ∷ os) r = grind (arith, common_steps, eq-eqb, passed_over, keep_all, each_of_all)
+without_first n (x ∷ os) r = grind (arith, eq-eqb, passed_over, keep_all, each_of_all)
 
 -- ---- the lists
 
@@ -56,13 +55,13 @@ gone : (q : Numbered → Bool) (i : ℕ) (os : List Numbered) → Rises 0 (numbe
 gone q i os r = filter_swap _ _ os ∙ ap (holding i) (without_filter q 0 os r)
 
 agree_test : (c : ℕ) (o : Option ℕ) → 0 < c → not (is_some o && is_other_colour c o) ≡ agrees c o
-agree_test c o h = grind (arith, common_steps, lt-ltb)
+agree_test c o h = grind (arith, lt-ltb)
 
 purified_gone : (i j c : ℕ) (os : List Numbered) → 0 < c → Rises 0 (numbers os)
     → without (other_colours j c (holding j os)) (holding i os) ≡ holding i (filter (λ o. agrees c (colour_at o j)) os)
 purified_gone i j c os h r =
     let gone = gone (λ o. holds o j && is_other_colour c (colour_at o j)) i os r in
-    let agree = filter_agree _ _ (λ o. agree_test c (colour_at o j) h) os in grind (arith, common_steps, filter_both)
+    let agree = filter_agree _ _ (λ o. agree_test c (colour_at o j) h) os in grind (arith, filter_both)
 
 pub listed_open : (p : Puzzle) (t : List Move) → AreLegal p t → (i : ℕ) → IsTrue (is_open i t)
     → listed p t i ≡ holding i (left p t)

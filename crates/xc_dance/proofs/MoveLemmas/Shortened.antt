@@ -2,7 +2,6 @@
 use Rattle.std.proofs.Common.{ℕ, zero, suc, ◌≡◌, ◌≢◌, ◌+◌, ◌-◌, ◌<◌, ◌≤◌, true, false, not, cond, eqb, ◌&&◌, ◌||◌}
 use Rattle.std.proofs.Common.{List, [], ◌∷◌, length, get_or, set, filter, map, take, Some, None, refl, ap, ap₂}
 use Rattle.std.proofs.Common.{◌∙◌, arith, eq-eqb}
-use Rattle.std.proofs.lemmas.Grind.{common_steps}
 use Rattle.std.specs.Prelude.{is_some}
 use Rattle.std.specs.List.{AllByRecursion, list_any, range_with_len}
 use Rattle.std.proofs.lemmas.Bool.{ne_eqb}
@@ -33,19 +32,19 @@ abbrev pub IsHolder : Puzzle → ℕ → Numbered → Type 0
 IsHolder p i x = (uses_of p x.number ≡ x.uses) × (has_use x.uses i ≡ true)
 
 pub holds_use : (us : List Use) (i : ℕ) → is_some (colour_in us i) ≡ has_use us i
-holds_use [] i = grind (arith, common_steps)
-holds_use (u ∷ us) i = grind (arith, common_steps, holds_use us i)
+holds_use [] i = grind arith
+holds_use (u ∷ us) i = grind (arith, holds_use us i)
 
 pub holders : (p : Puzzle) (t : List Move) (i : ℕ) → AllByRecursion (IsHolder p i) (listed p t i)
 holders p t i = each_listed (AllByRecursion (IsHolder p i)) p i
-    (grind (arith, common_steps, each_both, holds_use, each_passes, each-filter, options_numbered))
-    (λ q xs h. each-filter (IsHolder p i) q xs h) (λ xs h. grind (arith, common_steps)) t
+    (grind (arith, each_both, holds_use, each_passes, each-filter, options_numbered))
+    (λ q xs h. each-filter (IsHolder p i) q xs h) (λ xs h. grind arith) t
 
 -- ---- the lists rise
 
 pub rises_listed : (p : Puzzle) (t : List Move) (i : ℕ) → Rises 0 (listed_numbers p t i)
 rises_listed p t i = each_listed (λ os. Rises 0 (numbers os)) p i (rises_filter _ 0 _ (options_rise p))
-    (λ q xs r. rises_filter q 0 xs r) (λ xs r. grind (arith, common_steps, Rises-weaker)) t
+    (λ q xs r. rises_filter q 0 xs r) (λ xs r. grind (arith, Rises-weaker)) t
 
 -- ---- the lists of all items
 
@@ -61,7 +60,7 @@ lists_hold p t = (length-map-range_with_len (listed_numbers p t) 1 (item_count p
 
 pub list_after : (p : Puzzle) (t : List Move) (i : ℕ) → 1 ≤ i → i ≤ item_count p
     → list_at (lists_after p t) (i - 1) ≡ listed_numbers p t i
-list_after p t i low high = grind (arith, common_steps, get_or-map-range_with_len)
+list_after p t i low high = grind (arith, get_or-map-range_with_len)
 
 -- ---- what goes, by its numbers
 
@@ -70,8 +69,8 @@ among_numbers [] o = refl
 among_numbers (x ∷ gone) o = ap (λ b. eqb x.number o.number || b) (among_numbers gone o)
 
 pub less_without : (gone xs : List Numbered) → numbers (without gone xs) ≡ less (numbers gone) (numbers xs)
-less_without gone [] = grind (arith, common_steps, among_numbers)
-less_without gone (x ∷ xs) = grind (arith, common_steps, among_numbers, less_without gone xs)
+less_without gone [] = grind (arith, among_numbers)
+less_without gone (x ∷ xs) = grind (arith, among_numbers, less_without gone xs)
 
 lose_range : (t : List Move) (j : ℕ) (gone : List ℕ) (f g : ℕ → List ℕ)
     → ((i : ℕ) → cond (not (eqb i j) && is_open i t) (less gone (f i)) (f i) ≡ g i) → (a n : ℕ) →
@@ -87,17 +86,17 @@ spared p t j gone i = numbers (cond (not (eqb i j) && is_open i t) (without gone
 
 lost : (p : Puzzle) (t : List Move) (j : ℕ) (gone : List Numbered) {ns : List ℕ} → ns ≡ numbers gone
     → lose t j ns (lists_after p t) ≡ map (spared p t j gone) (range_with_len 1 (item_count p))
-lost p t j gone e = grind (arith, common_steps, lose_range, less_without)
+lost p t j gone e = grind (arith, lose_range, less_without)
 
 pub lists_covered : (p : Puzzle) (t : List Move) (j : ℕ) → 1 ≤ j → j ≤ item_count p →
     lose t j (filter (λ o. not (is_kept p j None o)) (list_at (lists_after p t) (j - 1))) (lists_after p t) ≡
     lists_after p (Cover j ∷ t)
-lists_covered p t j low high = grind (arith, common_steps, lost p t j (listed p t j), list_after, keep_all, each_of_all)
+lists_covered p t j low high = grind (arith, lost p t j (listed p t j), list_after, keep_all, each_of_all)
 
 pub other_numbers : (p : Puzzle) (j c : ℕ) (xs : List Numbered) → AllByRecursion (IsHolder p j) xs
     → filter (λ o. not (is_kept p j (Some c) o)) (numbers xs) ≡ numbers (other_colours j c xs)
-other_numbers p j c [] h = grind (arith, common_steps, not-not)
-other_numbers p j c (x ∷ xs) h = grind (arith, common_steps, not-not, other_numbers p j c xs h.1)
+other_numbers p j c [] h = grind (arith, not-not)
+other_numbers p j c (x ∷ xs) h = grind (arith, not-not, other_numbers p j c xs h.1)
 
 pub lists_purified : (p : Puzzle) (t : List Move) (j c : ℕ) → 1 ≤ j → j ≤ item_count p →
     lose t j (filter (λ o. not (is_kept p j (Some c) o)) (list_at (lists_after p t) (j - 1))) (lists_after p t) ≡
@@ -111,7 +110,7 @@ ruleset cells = (get_or-set_same, get_or-set_other, get_or-map-range_with_len, l
 
 set_range : (f g : ℕ → List ℕ) (a n k : ℕ) (v : List ℕ) → ((i : ℕ) → i ≢ a + k → f i ≡ g i) → v ≡ g (a + k)
     → set (map f (range_with_len a n)) k v ≡ map g (range_with_len a n)
-set_range f g a n k v h e = grind (arith, common_steps, same_lists, cells)
+set_range f g a n k v h e = grind (arith, same_lists, cells)
 
 pub length_numbers : (xs : List Numbered) → length (numbers xs) ≡ length xs
 length_numbers xs = length-map xs (λ o. o.number)
@@ -122,7 +121,7 @@ first_hidden t j x ls = cond (is_open j t) (lose t j (x ∷ []) ls) ls
 
 pub first_hidden_lists : (p : Puzzle) (t : List Move) (j x : ℕ) (ls : List (List ℕ)) → AreLists p ls
     → AreLists p (first_hidden t j x ls)
-first_hidden_lists p t j x ls h = grind (arith, common_steps, length-lose_from, lists-lose_from)
+first_hidden_lists p t j x ls h = grind (arith, length-lose_from, lists-lose_from)
 
 pub lists_tweaked : (p : Puzzle) (t : List Move) (j x : ℕ) → 1 ≤ j → j ≤ item_count p → 0 < length (listed p t j)
     → x ≡ get_or (listed_numbers p t j) 0 0 →
@@ -130,7 +129,7 @@ pub lists_tweaked : (p : Puzzle) (t : List Move) (j x : ℕ) → 1 ≤ j → j �
     (less (x ∷ []) (list_at (first_hidden t j x (lists_after p t)) (j - 1))) ≡ lists_after p (Tweak j ∷ t)
 lists_tweaked p t j x low high some is =
     ap₂ (λ ls l. set ls (j - 1) (less (x ∷ []) l)) hidden
-    ((grind (arith, common_steps, lose_other)) ∙ list_after p t j low high)
+    ((grind (arith, lose_other)) ∙ list_after p t j low high)
     ∙ set_range unhidden (listed_numbers p (Tweak j ∷ t)) 1 (item_count p) (j - 1) _ others here
   where
     gone : List Numbered
@@ -142,14 +141,14 @@ lists_tweaked p t j x low high some is =
     hidden : first_hidden t j x (lists_after p t) ≡ map unhidden (range_with_len 1 (item_count p))
     hidden = elim (is_open j t) as (λ b. cond b (lose t j (x ∷ []) (lists_after p t)) (lists_after p t)
         ≡ map (λ i. cond b (spared p t j gone i) (listed_numbers p t i)) (range_with_len 1 (item_count p)))
-        [ true ↦ lost p t j gone {ns = x ∷ []} (grind (arith, common_steps)) | false ↦ refl ]
+        [ true ↦ lost p t j gone {ns = x ∷ []} (grind arith) | false ↦ refl ]
 
     others : (i : ℕ) → i ≢ 1 + (j - 1) → unhidden i ≡ listed_numbers p (Tweak j ∷ t) i
-    others i ne = grind (arith, common_steps, ne_eqb i j (omega (arith, ne, low)))
+    others i ne = grind (arith, ne_eqb i j (omega (arith, ne, low)))
 
     here : less (x ∷ []) (listed_numbers p t j) ≡ listed_numbers p (Tweak j ∷ t) (1 + (j - 1))
     here =
         let self : eqb j j ≡ true = eq-eqb j j refl in
         let row = listed_numbers p t j in
         let whole : 0 < length row = omega (arith, some, length_numbers (listed p t j)) in
-        grind (arith, common_steps, ap (λ n. less (n ∷ []) row) is ∙ less-remove 0 row 0 (rises_listed p t j) whole)
+        grind (arith, ap (λ n. less (n ∷ []) row) is ∙ less-remove 0 row 0 (rises_listed p t j) whole)

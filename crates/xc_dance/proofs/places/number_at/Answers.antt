@@ -1,4 +1,3 @@
-use Rattle.std.proofs.lemmas.Grind.{common_steps}
 use Rattle.std.proofs.Common.{arith, ◌+◌, ◌<◌}
 use Rattle.xc_input.specs.Problem.{option_count}
 use Rattle.xc_dance.proofs.LinkedTables.PlaceLemmas.{option_fits, uses_here}
@@ -12,4 +11,4 @@ returns-then-place-spacer c = λ i x u.
     let within : o < option_count p = omega (arith, c.options-before-end.ensures.value, c.loop-before-test.true) in
     let found = uses_here p (o + 1) _ c.option.ensures.value in
     let fits = option_fits p o _ c.option.ensures.whole.limits within found in
-    grind (arith, common_steps, option_between p i x c.args.place o u)
+    grind (arith, option_between p i x c.args.place o u)

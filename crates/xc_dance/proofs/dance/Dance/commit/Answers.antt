@@ -39,7 +39,7 @@ commit_uses-requires-clause-stands g c =
 
 -- once the uses behind were committed, those before it lead to the end
 pub commit_uses-requires-2-clause-stands : goal.commit_uses-requires-2-clause-stands
-commit_uses-requires-2-clause-stands g c = grind (arith, common_steps, can)
+commit_uses-requires-2-clause-stands g c = grind (arith, can)
 
 pub returns : goal.returns
-returns g c = λ x u. grind (arith, common_steps, whole)
+returns g c = λ x u. grind (arith, whole)

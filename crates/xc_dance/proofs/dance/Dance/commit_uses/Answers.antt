@@ -1,4 +1,3 @@
-use Rattle.std.proofs.lemmas.Grind.{common_steps}
 use Rattle.std.proofs.Common.{arith}
 use Rattle.std.proofs.Common.{◌+◌, sym, ◌∙◌, subst, drop}
 use Rattle.xc_dance.specs.Dancing.{Dancing}
@@ -14,4 +13,4 @@ commit_use-requires-clause-stands g c =
     (subst (λ (s : Dancing). CanStand s.puzzle s.room s.trail) (sym c.loop-u.invariant ∙ next) c.requires.stands)
 
 pub loop-u-preserved : goal.loop-u-preserved
-loop-u-preserved g c = grind (arith, common_steps, at_use)
+loop-u-preserved g c = grind (arith, at_use)

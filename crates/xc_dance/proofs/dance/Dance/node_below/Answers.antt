@@ -1,4 +1,3 @@
-use Rattle.std.proofs.lemmas.Grind.{common_steps}
 use Rattle.std.proofs.Common.{arith, ◌≡◌, ℕ, ◌∙◌}
 use Rattle.std.specs.Prelude.{Contains}
 use Rattle.xc_dance.specs.Moves.{next_above}
@@ -24,7 +23,7 @@ number_at-requires g c = (c.args.i, c.requires.place.0, (use_there g c).1)
 
 pub below-next-requires-clause-listed : goal.below-next-requires-clause-listed
 below-next-requires-clause-listed g c =
-    grind (arith, common_steps, use_there g (goal.at.below-next-requires-clause-listed g c).Else-place-items)
+    grind (arith, use_there g (goal.at.below-next-requires-clause-listed g c).Else-place-items)
 
 -- ---- what is next
 
@@ -46,7 +45,7 @@ node_place-requires g c =
     let l = c.requires.place in
     let u = next_use (g.Self.Dance.state c.args.self.now) c.args.problem.now c.args.i l.0 c.in-Some.o c.requires.same
     c.items.ensures.whole (next_is g (goal.at.node_place-requires g c).Joined-place-items l.0 l.1 ∙ c.in-Some.is) in
-    grind (arith, common_steps)
+    grind arith
 
 pub returns-in-Some-clause-place : goal.returns-in-Some-clause-place
 returns-in-Some-clause-place g c = λ x at.

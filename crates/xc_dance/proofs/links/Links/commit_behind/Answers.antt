@@ -1,7 +1,6 @@
 use Rattle.xc_dance.specs.inner.Links.Made.{IsFitted}
 use Rattle.xc_dance.specs.inner.Links.OptionSpans.{spans_of}
 use Rattle.std.proofs.Common.{◌≡◌, ◌<◌, ◌+◌, ℕ, length, get_or, ap, subst, ◌∙◌, arith, refl}
-use Rattle.std.proofs.lemmas.Grind.{common_steps}
 use Rattle.std.proofs.lemmas.List.{length-map}
 use Rattle.xc_dance.specs.declared.links.nodes.Nodes.{Nodes}
 use Rattle.xc_dance.specs.Commits.{IsUseAt}
@@ -24,10 +23,10 @@ begun : (c : After-self) → Behind c.args.self.now.puzzle c.args.i c.requires.0
 begun c = behind_at (fitted c).laid c.requires.1 (along_first _ _ _ _ _ refl)
 
 pub overflow_add-q : goal.overflow_add-q
-overflow_add-q c = grind (arith, common_steps, begun, fitted)
+overflow_add-q c = grind (arith, begun, fitted)
 
 pub loop-self-init : goal.loop-self-init
-loop-self-init c = grind (arith, common_steps, along_first)
+loop-self-init c = grind (arith, along_first)
 
 -- what stands at q
 found : (c : After-self-in-loop-self) (x : ℕ) → IsUseAt c.args.self.now.puzzle c.args.i x c.args.place →
@@ -41,7 +40,7 @@ nodes_is : (c : After-self-in-loop-self) → c.self-in-loop-self.inside.nodes
 nodes_is c = nodes_told c.self-in-loop-self.invariant.nodes c.self-in-loop-self.view_is c.loop-self.invariant.puzzle
 
 at_top : (c : After-self-in-loop-self) → c.loop-self.q < length c.self-in-loop-self.inside.nodes.top
-at_top c = grind (arith, common_steps, found c c.requires.0 c.requires.1, length-map, nodes_is c)
+at_top c = grind (arith, found c c.requires.0 c.requires.1, length-map, nodes_is c)
 
 top_is : (c : After-self-in-loop-self) → get_or c.self-in-loop-self.inside.nodes.top c.loop-self.q 0
     ≡ top_at c.args.self.now.puzzle c.loop-self.self.trail c.loop-self.q

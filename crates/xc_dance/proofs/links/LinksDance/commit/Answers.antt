@@ -1,4 +1,3 @@
-use Rattle.std.proofs.lemmas.Grind.{common_steps}
 use Rattle.std.proofs.Common.{arith}
 use Rattle.std.proofs.Common.{subst}
 use Rattle.xc_dance.specs.Commits.{CanStand}
@@ -15,7 +14,7 @@ commit_behind-end-requires c =
     (x, c.requires.can.1, stood_before _ _ before _ (subst (CanStand s.puzzle s.room) both c.requires.can.2))
 
 pub commit_before-requires-clause-can : goal.commit_before-requires-clause-can
-commit_before-requires-clause-can c = grind (arith, common_steps, after_uses-append)
+commit_before-requires-clause-can c = grind (arith, after_uses-append)
 
 pub returns-clause-committed : goal.returns-clause-committed
-returns-clause-committed c = λ x held. grind (arith, common_steps, after_uses-append)
+returns-clause-committed c = λ x held. grind (arith, after_uses-append)

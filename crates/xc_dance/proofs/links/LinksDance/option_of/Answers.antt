@@ -1,10 +1,9 @@
 use Rattle.std.proofs.Common.{arith}
-use Rattle.std.proofs.lemmas.Grind.{common_steps}
 use Rattle.xc_dance.proofs.LinkedTables.CommitLemmas.{use_name}
 use Rattle.xc_dance.proofs.links.LinksDance.option_of.Goals as goal
 
 pub option_at-requires-clause-node : goal.option_at-requires-clause-node
-option_at-requires-clause-node c = grind (arith, common_steps, use_name)
+option_at-requires-clause-node c = grind (arith, use_name)
 
 pub returns : goal.returns
-returns c = grind (arith, common_steps, use_name)
+returns c = grind (arith, use_name)

@@ -2,7 +2,6 @@
 use Rattle.std.proofs.Common.{◌≡◌, ◌&&◌, List, [], ◌∷◌, refl, arith}
 use Rattle.std.specs.Str.{bytes_eq}
 use Rattle.std.specs.Cmp.Lexicographic.{pointwise}
-use Rattle.std.proofs.lemmas.Grind.{common_steps}
 use Rattle.std.proofs.lemmas.Slice.Eq.{bytes_eq-Decides}
 use Rattle.xc_dance.specs.declared.links.cells.Link.{Link}
 use Rattle.xc_dance.specs.contracts.links.cells.LinkPartialEq.TheImpl.{ghosts}
@@ -14,7 +13,7 @@ by_columns : (xs ys : List Link)
 by_columns [] [] = refl
 by_columns [] (y ∷ ys) = refl
 by_columns (x ∷ xs) [] = refl
-by_columns (x ∷ xs) (y ∷ ys) = grind (arith, common_steps, by_columns xs ys)
+by_columns (x ∷ xs) (y ∷ ys) = grind (arith, by_columns xs ys)
 
 pub returns : goal.returns
-returns c = grind (arith, common_steps, bytes_eq-Decides, by_columns)
+returns c = grind (arith, bytes_eq-Decides, by_columns)

@@ -2,7 +2,6 @@ use Rattle.xc_dance.proofs.LinkedTables.FirstTables.{filled_all}
 use Rattle.std.proofs.lemmas.List.FromFn.{length-range_with_len}
 use Rattle.std.proofs.Common.{ne_eqb}
 use Rattle.std.proofs.Common.{arith, ◌+◌, ◌≡◌}
-use Rattle.std.proofs.lemmas.Grind.{common_steps}
 use Rattle.xc_input.specs.Problem.{bounds_at}
 use Rattle.xc_input.specs.ItemBounds.{bounds_of}
 use Rattle.std.specs.Prelude.{Some}
@@ -12,22 +11,22 @@ use Rattle.xc_dance.proofs.links.first_items.set_bounds.Goals.{After-item-item}
 use Rattle.xc_dance.proofs.LinkedTables.RingStep.{same_items}
 
 pub set-requires : goal.set-requires
-set-requires c = grind (arith, common_steps, column_len)
+set-requires c = grind (arith, column_len)
 
 -- the item has the bounds of its number
 bounds_here : (c : After-item-item)
     → bounds_at c.args.problem.now.puzzle (c.loop-i.i + 1) ≡ Some (bounds_of c.item-item.result.now)
-bounds_here c = grind (arith, common_steps)
+bounds_here c = grind arith
 
 pub overflow_sub-item : goal.overflow_sub-item
 overflow_sub-item c =
-    let low = low_most (c.loop-i.i + 1) c.requires.valid in grind (arith, common_steps)
+    let low = low_most (c.loop-i.i + 1) c.requires.valid in grind arith
 
 pub set-requires-in-loop-i : goal.set-requires-in-loop-i
-set-requires-in-loop-i c = grind (arith, common_steps, column_len)
+set-requires-in-loop-i c = grind (arith, column_len)
 
 pub loop-i-preserved : goal.loop-i-preserved
-loop-i-preserved c = grind (arith, common_steps, bounds_here, column_more, same_items, ne_eqb)
+loop-i-preserved c = grind (arith, bounds_here, column_more, same_items, ne_eqb)
 
 pub returns : goal.returns
-returns c = grind (arith, common_steps, same_items, filled_all, length-range_with_len)
+returns c = grind (arith, same_items, filled_all, length-range_with_len)

@@ -1,10 +1,9 @@
-use Rattle.std.proofs.lemmas.Grind.{common_steps}
 use Rattle.std.proofs.Common.{arith}
 use Rattle.xc_dance.proofs.LinkedTables.FirstTables.{laid_room, laid_more, own_row}
 use Rattle.xc_dance.proofs.links.first_nodes.lay_items.Goals as goal
 
 pub lay-requires : goal.lay-requires
-lay-requires c = grind (arith, common_steps, own_row c.args.problem.now.puzzle c.loop-i.i, laid_room)
+lay-requires c = grind (arith, own_row c.args.problem.now.puzzle c.loop-i.i, laid_room)
 
 pub loop-i-preserved : goal.loop-i-preserved
 loop-i-preserved c =

@@ -33,10 +33,10 @@ step {p} q (own i) fit limits from e = let s = is_at p q (own i) e in absurd (om
 step {p} q (spacer n) fit limits from e =
     let top = spacer_top p (lines_of (take q (layout p))) (color_in p []) q n e in
     (λ small. absurd (omega (arith, top, small)), λ large. spacer_step p q n e)
-step {p} q (used o u) fit limits from e = grind (arith, common_steps, use_step p q o u fit limits e)
+step {p} q (used o u) fit limits from e = grind (arith, use_step p q o u fit limits e)
 
 pub loop-q-init : goal.loop-q-init
-loop-q-init c = grind (arith, common_steps, nodes_same, held_none)
+loop-q-init c = grind (arith, nodes_same, held_none)
 
 -- a use may be entered
 use_here : (c : Then-top-lt-SPACER) → (o : ℕ) × (u : Use)
@@ -46,7 +46,7 @@ use_here c =
     let q = c.loop-q.q in
     let at = slice_get-get_or (layout p) q unused (omega (arith, c.loop-q-test.true, c.requires.count)) in
     let s = step q _ c.requires.fit c.requires.limits (omega (arith, c.loop-q.auto.q, c.items-q.ensures.value)) at in
-    grind (arith, common_steps)
+    grind arith
 
 pub enter-requires : goal.enter-requires
 enter-requires c = let u = (use_here (goal.at.enter-requires c).Then-top-lt-SPACER).2 in grind (arith, common_steps)
@@ -68,4 +68,4 @@ loop-q-preserved c =
     ]
 
 pub returns : goal.returns
-returns c = grind (arith, common_steps, all_entered)
+returns c = grind (arith, all_entered)

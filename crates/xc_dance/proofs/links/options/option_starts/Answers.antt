@@ -1,5 +1,4 @@
 use Rattle.std.proofs.Common.{arith}
-use Rattle.std.proofs.lemmas.Grind.{common_steps}
 use Rattle.std.proofs.lemmas.List.FromFn.{map-range_with_len_more}
 use Rattle.xc_dance.specs.inner.Links.OptionPlaces.{start_at}
 use Rattle.xc_dance.proofs.LinkedTables.PlaceLemmas.{OptionFits, option_fits, uses_here}
@@ -14,14 +13,14 @@ fits c =
     (omega (arith, c.loop-o-test.true, c.options-o-end.ensures.value)) (uses_here p _ _ c.option.ensures.value)
 
 pub overflow_cast-start : goal.overflow_cast-start
-overflow_cast-start c = grind (arith, common_steps, fits (goal.at.overflow_cast-start c).After-option)
+overflow_cast-start c = grind (arith, fits (goal.at.overflow_cast-start c).After-option)
 
 pub overflow_add-start-in-loop-o : goal.overflow_add-start-in-loop-o
-overflow_add-start-in-loop-o c = grind (arith, common_steps, fits (goal.at.overflow_add-start-in-loop-o c).After-option)
+overflow_add-start-in-loop-o c = grind (arith, fits (goal.at.overflow_add-start-in-loop-o c).After-option)
 
 pub overflow_add-start-in-loop-o-2 : goal.overflow_add-start-in-loop-o-2
 overflow_add-start-in-loop-o-2 c =
-    grind (arith, common_steps, fits (goal.at.overflow_add-start-in-loop-o-2 c).After-option)
+    grind (arith, fits (goal.at.overflow_add-start-in-loop-o-2 c).After-option)
 
 pub loop-o-preserved : goal.loop-o-preserved
 loop-o-preserved c =

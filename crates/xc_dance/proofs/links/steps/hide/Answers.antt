@@ -1,5 +1,4 @@
 use Rattle.std.proofs.Common.{◌≡◌, ℕ, ◌+◌, ◌<◌, ◌≤◌, List, fold, get_or, ap, refl, arith}
-use Rattle.std.proofs.lemmas.Grind.{common_steps}
 use Rattle.xc_dance.specs.declared.links.nodes.Nodes.{Nodes}
 use Rattle.xc_dance.specs.inner.Links.Columns.{columns}
 use Rattle.xc_dance.specs.inner.Links.Span.{Span}
@@ -28,16 +27,16 @@ told c = grind (arith, places_more, places_none, tells)
 
 -- there is a step to make
 goes : (c : After-get_at) → c.get_at.result < SPACER → c.loop-top.q < (span_at c.args.spans.now c.args.p).end
-goes c low = grind (arith, common_steps, told c)
+goes c low = grind (arith, told c)
 
 pub loop-top-init : goal.loop-top-init
-loop-top-init c = grind (arith, common_steps, underway, up)
+loop-top-init c = grind (arith, underway, up)
 
 pub get_at-requires : goal.get_at-requires
 get_at-requires c = grind (arith, places_more, places_none, tells)
 
 pub hide_one-above-requires-clause-can : goal.hide_one-above-requires-clause-can
-hide_one-above-requires-clause-can c = grind (arith, common_steps, places_more, step_can, goes)
+hide_one-above-requires-clause-can c = grind (arith, places_more, step_can, goes)
 
 pub hide_one-above-requires-clause-unmarked : goal.hide_one-above-requires-clause-unmarked
 hide_one-above-requires-clause-unmarked c =
@@ -52,12 +51,12 @@ loop-top-preserved c =
     grind (arith, low)
 
 pub up_at-first-requires : goal.up_at-first-requires
-up_at-first-requires c = grind (arith, common_steps, told (goal.at.up_at-first-requires c).After-get_at)
+up_at-first-requires c = grind (arith, told (goal.at.up_at-first-requires c).After-get_at)
 
 -- the spacer leads to the first node
 leads : (c : After-get_at) → SPACER ≤ c.get_at.result → (first : ℕ) → first ≡ get_or (now c).ulink c.loop-top.q 0
     → first ≡ (span_at c.args.spans.now c.args.p).first
-leads c met first is = grind (arith, common_steps, told c)
+leads c met first is = grind (arith, told c)
 
 -- and there the rest of the walk begins
 rest : (c : After-get_at) → SPACER ≤ c.get_at.result → (first : ℕ) → first ≡ get_or (now c).ulink c.loop-top.q 0
@@ -81,4 +80,4 @@ pub returns : goal.returns
 returns c =
     let rest = rest (goal.at.returns c).After-get_at c.loop-top-test.false _ c.up_at-first.ensures in
     let all = rest.round _ _ c.hide_range-below.ensures.done c.hide_range-below.ensures.cost in
-    grind (arith, common_steps)
+    grind arith

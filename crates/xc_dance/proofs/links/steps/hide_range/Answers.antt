@@ -1,5 +1,4 @@
 use Rattle.std.proofs.Common.{arith}
-use Rattle.std.proofs.lemmas.Grind.{common_steps}
 use Rattle.xc_dance.proofs.LinkedTables.Walks.{places_more, step_can, step_on}
 use Rattle.xc_dance.proofs.links.steps.hide_range.Goals as goal
 
@@ -7,4 +6,4 @@ pub hide_one-count-requires-clause-can : goal.hide_one-count-requires-clause-can
 hide_one-count-requires-clause-can c = step_can _ _ (places_more _ _ c.loop-q-test.true) c.loop-q.invariant.walk
 
 pub loop-q-preserved : goal.loop-q-preserved
-loop-q-preserved c = grind (arith, common_steps, places_more, step_on)
+loop-q-preserved c = grind (arith, places_more, step_on)

@@ -1,5 +1,4 @@
 use Rattle.std.proofs.Common.{◌≡◌, ℕ, ◌+◌, ◌-◌, ◌<◌, ◌≤◌, ◌++◌, List, ◌∷◌, fold, reverse, ap, arith}
-use Rattle.std.proofs.lemmas.Grind.{common_steps}
 use Rattle.std.proofs.lemmas.List.{reverse-append}
 use Rattle.xc_dance.specs.declared.links.nodes.Nodes.{Nodes}
 use Rattle.xc_dance.specs.inner.Links.Columns.{columns}
@@ -22,7 +21,7 @@ down {spans} {t} {p} can = search (arith, span_at, CanAll-append, unhidden, both
 
 -- the next place down
 next : (first q : ℕ) → 0 < first → first ≤ q → reverse (places first (q + 1)) ≡ q ∷ reverse (places first (q - 1 + 1))
-next first q pos le = let same : q - 1 + 1 ≡ q = omega (arith, pos, le) in grind (arith, common_steps, reverse-places)
+next first q pos le = let same : q - 1 + 1 ≡ q = omega (arith, pos, le) in grind (arith, reverse-places)
 
 -- the tables where the walk is
 abbrev now : After-get_at → Nodes
@@ -36,16 +35,16 @@ told c = grind (arith, places_none, tells, next)
 
 -- there is a step to make
 goes : (c : After-get_at) → c.get_at.result < SPACER → (span_at c.args.spans.now c.args.p).first ≤ c.loop-top.q
-goes c low = grind (arith, common_steps, told c)
+goes c low = grind (arith, told c)
 
 pub loop-top-init : goal.loop-top-init
-loop-top-init c = grind (arith, common_steps, underway, down)
+loop-top-init c = grind (arith, underway, down)
 
 pub get_at-requires : goal.get_at-requires
 get_at-requires c = grind (arith, places_none, tells, next)
 
 pub unhide_one-below-requires-clause-can : goal.unhide_one-below-requires-clause-can
-unhide_one-below-requires-clause-can c = grind (arith, common_steps, step_can, next, goes)
+unhide_one-below-requires-clause-can c = grind (arith, step_can, next, goes)
 
 pub unhide_one-below-requires-clause-unmarked : goal.unhide_one-below-requires-clause-unmarked
 unhide_one-below-requires-clause-unmarked c =
@@ -60,14 +59,14 @@ loop-top-preserved c =
     grind (arith, low)
 
 pub down_at-requires : goal.down_at-requires
-down_at-requires c = grind (arith, common_steps, told (goal.at.down_at-requires c).After-get_at)
+down_at-requires c = grind (arith, told (goal.at.down_at-requires c).After-get_at)
 
 -- the spacer leads to the last node
 leads : (c : After-down_at) → c.down_at.result + 1 ≡ (span_at c.args.spans.now c.args.p).end
-leads c = grind (arith, common_steps, told (goal.at.overflow_add-end c).After-get_at)
+leads c = grind (arith, told (goal.at.overflow_add-end c).After-get_at)
 
 pub overflow_add-end : goal.overflow_add-end
-overflow_add-end c = grind (arith, common_steps, leads)
+overflow_add-end c = grind (arith, leads)
 
 -- and there the rest of the walk begins
 rest : (c : After-down_at) → Met unhide_walk (columns c.args.top.now c.args.links.now c.args.color.now)
@@ -80,7 +79,7 @@ rest c =
     (omega (arith, c.get_at.ensures, c.loop-top-test.false)) (ap (λ b. reverse (places (c.args.p + 1) b)) (leads c))
 
 pub unhide_range-above-requires-clause-can : goal.unhide_range-above-requires-clause-can
-unhide_range-above-requires-clause-can c = grind (arith, common_steps, rest)
+unhide_range-above-requires-clause-can c = grind (arith, rest)
 
 pub unhide_range-above-requires-clause-unmarked : goal.unhide_range-above-requires-clause-unmarked
 unhide_range-above-requires-clause-unmarked c = λ m q from below.
@@ -91,4 +90,4 @@ pub returns : goal.returns
 returns c =
     let all = (rest (goal.at.returns c).After-down_at).round _ _ c.unhide_range-above.ensures.done
     c.unhide_range-above.ensures.cost in
-    grind (arith, common_steps)
+    grind arith

@@ -1,5 +1,4 @@
 use Rattle.std.proofs.Common.{arith}
-use Rattle.std.proofs.lemmas.Grind.{common_steps}
 use Rattle.xc_dance.proofs.LinkedTables.Walks.{last_first, step_can, step_on}
 use Rattle.xc_dance.proofs.links.steps.unhide_range.Goals as goal
 
@@ -7,4 +6,4 @@ pub unhide_one-count-requires-clause-can : goal.unhide_one-count-requires-clause
 unhide_one-count-requires-clause-can c = step_can _ _ (last_first _ _ c.loop-q-test.true) c.loop-q.invariant.walk
 
 pub loop-q-preserved : goal.loop-q-preserved
-loop-q-preserved c = grind (arith, common_steps, last_first, step_on)
+loop-q-preserved c = grind (arith, last_first, step_on)

@@ -1,4 +1,3 @@
-use Rattle.std.proofs.lemmas.Grind.{common_steps}
 use Rattle.std.proofs.Common.{arith}
 use Rattle.xc_dance.proofs.LinkedTables.Walks.{follow_here, follow_on, follow_end}
 use Rattle.xc_dance.proofs.links.tweaks.bring_back.Goals as goal
@@ -13,4 +12,4 @@ pub loop-preserved : goal.loop-preserved
 loop-preserved c = search (arith, follow_on)
 
 pub returns : goal.returns
-returns c = let e = follow_end c.loop-test.false c.loop.invariant.walk in grind (arith, common_steps)
+returns c = let e = follow_end c.loop-test.false c.loop.invariant.walk in grind arith

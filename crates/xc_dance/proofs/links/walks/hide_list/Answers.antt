@@ -1,4 +1,3 @@
-use Rattle.std.proofs.lemmas.Grind.{common_steps}
 use Rattle.std.proofs.Common.{arith}
 use Rattle.xc_dance.proofs.LinkedTables.Walks.{follow_here, follow_on, follow_end}
 use Rattle.xc_dance.proofs.LinkedTables.UnmarkedNodes.{left_unmarked}
@@ -15,7 +14,7 @@ loop-preserved c =
     let made = c.leave-count.ensures in
     let unmarked = left_unmarked _ _ _ _ _ _ made.done c.requires.none c.loop.invariant.unmarked in
     let walk = follow_on _ _ _ (omega arith) made.done c.down-p-in-loop.ensures made.cost c.loop.invariant.walk in
-    grind (arith, common_steps)
+    grind arith
 
 pub returns : goal.returns
-returns c = let e = follow_end (omega arith) c.loop.invariant.walk in grind (arith, common_steps)
+returns c = let e = follow_end (omega arith) c.loop.invariant.walk in grind arith

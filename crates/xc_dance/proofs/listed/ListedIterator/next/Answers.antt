@@ -1,4 +1,3 @@
-use Rattle.std.proofs.lemmas.Grind.{common_steps}
 use Rattle.std.proofs.Common.{sym, ◌∙◌, arith}
 use Rattle.xc_dance.proofs.LinkedTables.NodeOptions.{next_contained}
 use Rattle.xc_dance.specs.Moves.{listed_numbers}
@@ -21,10 +20,10 @@ returns-in-Some-clause-steps g c =
     (rises_listed d.puzzle d.trail c.self.inside.item) (sym c.after-next.ensures ∙ c.in-Some.is)
 
 pub returns-in-Some-clause-goes : goal.returns-in-Some-clause-goes
-returns-in-Some-clause-goes g c = grind (arith, common_steps, returns-in-Some-clause-steps)
+returns-in-Some-clause-goes g c = grind (arith, returns-in-Some-clause-steps)
 
 pub returns-in-None-clause-steps : goal.returns-in-None-clause-steps
 returns-in-None-clause-steps g c =
     let d = g.D.Dance.state c.self.inside.dance.now in
     let e = next_above-none c.self.inside.last (listed_numbers d.puzzle d.trail c.self.inside.item) in
-    grind (arith, common_steps)
+    grind arith

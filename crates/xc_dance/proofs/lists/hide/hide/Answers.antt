@@ -6,14 +6,14 @@ use Rattle.xc_dance.proofs.LiveLists.OptionsLost.{length-hidden_from, lists-hidd
 use Rattle.xc_dance.proofs.lists.hide.hide.Goals as goal
 
 pub loop-u-init : goal.loop-u-init
-loop-u-init c = grind (arith, common_steps, hidden_none)
+loop-u-init c = grind (arith, hidden_none)
 
 pub take_out-requires-clause-list : goal.take_out-requires-clause-list
-take_out-requires-clause-list c = grind (arith, common_steps, length-hidden_from)
+take_out-requires-clause-list c = grind (arith, length-hidden_from)
 
 pub take_out-requires-clause-rises : goal.take_out-requires-clause-rises
 take_out-requires-clause-rises c =
-    grind (arith, common_steps, length-hidden_from, lists-hidden_from, list_of c.args.standing.now.puzzle 1)
+    grind (arith, length-hidden_from, lists-hidden_from, list_of c.args.standing.now.puzzle 1)
 
 pub loop-u-preserved : goal.loop-u-preserved
 loop-u-preserved c = grind (arith, common_steps, hidden_more, hidden_same, take_more)

@@ -1,5 +1,4 @@
 use Rattle.std.proofs.Common.{◌≡◌, arith, sym, subst, not, filter, List, ℕ, Some, ◌∷◌, ◌-◌}
-use Rattle.std.proofs.lemmas.Grind.{common_steps}
 use Rattle.xc_dance.specs.declared.dance.Move.{Move}
 use Rattle.std.specs.Prelude.{Option}
 use Rattle.xc_input.specs.Problem.{Puzzle}
@@ -24,19 +23,19 @@ hide_options-requires-in-Purify-clause-lists c =
     held c.args.standing.now.puzzle c.args.standing.now.trail _ c.requires.lists
 
 pub tweak-requires-clause-option : goal.tweak-requires-clause-option
-tweak-requires-clause-option c = grind (arith, common_steps, length_numbers, list_after)
+tweak-requires-clause-option c = grind (arith, length_numbers, list_after)
 
 -- the lists after the move are those that lost its options
 lost : (p : Puzzle) (t : List Move) (i : ℕ) (kept : Option ℕ) {m n : Move} {old new : Versions} → m ≡ n
     → new ≡ record old { lists = taken p t i kept old.lists } → old.lists ≡ lists_after p t
     → taken p t i kept (lists_after p t) ≡ lists_after p (n ∷ t) → new ≡ record old { lists = lists_after p (m ∷ t) }
-lost p t i kept {m} {n} {old} is made lists e = grind (arith, common_steps, taken)
+lost p t i kept {m} {n} {old} is made lists e = grind (arith, taken)
 
 pub returns-in-Cover : goal.returns-in-Cover
 returns-in-Cover c =
     let legal = rw c.in-Cover.is at c.requires.legal in
     let e = lists_covered c.args.standing.now.puzzle c.args.standing.now.trail _ legal.0.0 legal.0.1 in
-    grind (arith, common_steps, lost)
+    grind (arith, lost)
 
 pub returns-in-Purify : goal.returns-in-Purify
 returns-in-Purify c =

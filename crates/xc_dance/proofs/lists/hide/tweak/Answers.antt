@@ -11,7 +11,7 @@ hide_if_open-requires-clause-option c =
     let p = c.args.standing.now.puzzle in
     let are = lists_hold p c.args.standing.now.trail in
     let list = list_of p 1 (c.args.item - 1) (lists_after p c.args.standing.now.trail) are.1 in
-    grind (arith, common_steps, known_option)
+    grind (arith, known_option)
 
 pub hide_if_open-requires-clause-lists : goal.hide_if_open-requires-clause-lists
 hide_if_open-requires-clause-lists c = grind (arith, common_steps, lists_hold)
@@ -20,13 +20,13 @@ pub take_out-requires-clause-list : goal.take_out-requires-clause-list
 take_out-requires-clause-list c =
     let p = c.args.standing.now.puzzle in
     let are = first_hidden_lists p c.args.standing.now.trail c.args.item (get_or c.list.result.now 0 0) in
-    grind (arith, common_steps, lists_hold)
+    grind (arith, lists_hold)
 
 pub take_out-requires-clause-rises : goal.take_out-requires-clause-rises
 take_out-requires-clause-rises c =
     let p = c.args.standing.now.puzzle in
     let are = first_hidden_lists p c.args.standing.now.trail c.args.item (get_or c.list.result.now 0 0) in
-    grind (arith, common_steps, lists_hold, list_of)
+    grind (arith, lists_hold, list_of)
 
 pub returns : goal.returns
-returns c = grind (arith, common_steps, length_numbers, list_after, lists_tweaked)
+returns c = grind (arith, length_numbers, list_after, lists_tweaked)

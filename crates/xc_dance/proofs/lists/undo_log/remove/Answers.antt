@@ -1,5 +1,4 @@
 use Rattle.std.proofs.Common.{arith}
-use Rattle.std.proofs.lemmas.Grind.{common_steps}
 use Rattle.xc_dance.proofs.LiveLists.Removal.{less-remove}
 use Rattle.std.proofs.lemmas.List.{map-set, get_or-map}
 use Rattle.xc_dance.proofs.LiveLists.Removal.{row_removed}
@@ -8,13 +7,13 @@ use Rattle.std.proofs.Common.{vec_capacity}
 use Rattle.std.proofs.Math.Seq.{map-set_same}
 
 pub returns-clause-lists : goal.returns-clause-lists
-returns-clause-lists c = grind (arith, common_steps, less-remove, get_or-map, map-set)
+returns-clause-lists c = grind (arith, less-remove, get_or-map, map-set)
 
 pub returns-clause-rooms : goal.returns-clause-rooms
-returns-clause-rooms c = grind (arith, common_steps, map-set_same, vec_capacity)
+returns-clause-rooms c = grind (arith, map-set_same, vec_capacity)
 
 pub returns-clause-back : goal.returns-clause-back
 returns-clause-back c =
     let e = row_removed c.args.lists.now.items c.remove.new.self c.args.list c.in_ok-place.place c.args.number
     c.index_mut-row.result.now in
-    grind (arith, common_steps)
+    grind arith

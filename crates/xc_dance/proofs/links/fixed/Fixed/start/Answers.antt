@@ -1,10 +1,9 @@
 use Rattle.std.proofs.Common.{arith}
-use Rattle.std.proofs.lemmas.Grind.{common_steps}
 use Rattle.std.proofs.lemmas.List.FromFn.{get_or-map-range_with_len, length-map-range_with_len}
 use Rattle.xc_dance.proofs.links.fixed.Fixed.start.Goals as goal
 
 pub index-requires : goal.index-requires
-index-requires c = grind (arith, common_steps, length-map-range_with_len)
+index-requires c = grind (arith, length-map-range_with_len)
 
 pub returns : goal.returns
-returns c = grind (arith, common_steps, get_or-map-range_with_len)
+returns c = grind (arith, get_or-map-range_with_len)

@@ -4,7 +4,7 @@ use Rattle.xc_dance.proofs.MoveLemmas.StateLemmas.{open_by_state, closed_state}
 use Rattle.xc_dance.proofs.lists.trail.Trail.is_open.Goals as goal
 
 pub returns-in-Open : goal.returns-in-Open
-returns-in-Open c = grind (arith, common_steps, open_by_state)
+returns-in-Open c = grind (arith, open_by_state)
 
 pub returns-in_default : goal.returns-in_default
 returns-in_default c = grind (arith, common_steps, open_by_state, closed_state)
