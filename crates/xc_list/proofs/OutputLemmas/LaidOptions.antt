@@ -9,7 +9,7 @@ use Rattle.std.specs.Prelude.{option_map}
 use Rattle.std.proofs.lemmas.Bool.Decides.{nat_tests}
 use Rattle.std.proofs.Math.Seq.{take-append_seam, drop-append_seam}
 use Rattle.std.proofs.lemmas.List.{drop-append-le, drop-take, drop-drop}
-use Rattle.std.proofs.lemmas.List.{take-take, length-take, length-map, take-append-drop}
+use Rattle.std.proofs.lemmas.List.{take-take, length-take, length-map, map-append, take-append-drop}
 use Rattle.xc_list.specs.inner.LineParts.{use_text}
 use Rattle.std.proofs.Common.{ℕ, zero, suc, ◌≡◌, ◌+◌, ◌-◌, ◌≤◌, List, ◌∷◌, ◌++◌, length, map, take, drop}
 use Rattle.std.proofs.Common.{get_or, Some, refl, sym, ap, ◌∙◌, arith, length-append, length-drop}
@@ -60,7 +60,7 @@ pub laid_more : (a : Named) (os : List (List Use)) (us : List Use) (texts more s
 laid_more a os us texts more [] n l e f = absurd l.rising
 laid_more a os us texts more (x ∷ starts) n l e f =
     let part = pieces-snoc _ _ _ _ _ l.rising (f ∙ ap length e ∙ length-append texts (uses_text a us)) in
-    grind (arith, common_steps)
+    rw e (record { rising = part.0; parts = rw (part.1, l.parts, map-append) refl })
 
 -- the text between two starts that were read, where 16 bytes more stand behind the texts
 pub padded_part : (a : Named) (os : List (List Use)) (texts starts : List ℕ) (o x y : ℕ) → ArePadded a os texts starts

@@ -1,9 +1,8 @@
-use Rattle.std.proofs.Common.{arith}
-use Rattle.std.proofs.lemmas.Grind.{common_steps}
+use Rattle.std.proofs.Common.{append_assoc}
 use Rattle.xc_list.proofs.OutputLemmas.LaidOptions.{options_left}
 use Rattle.xc_list.proofs.bodies.items_of_first_uses.Goals as goal
 
 pub loop-o-preserved : goal.loop-o-preserved
 loop-o-preserved c =
-    let left = options_left _ c.loop-o.o _ c.option.ensures.value in
-    grind (arith, common_steps, c.in_ok-add_first.ensures)
+    let so = rw (options_left _ c.loop-o.o _ c.option.ensures.value) at c.loop-o.invariant in
+    rw (c.in_ok-add_first.ensures, append_assoc) so

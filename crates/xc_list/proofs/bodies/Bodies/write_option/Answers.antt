@@ -1,10 +1,10 @@
-use Rattle.std.proofs.Common.{arith}
-use Rattle.std.proofs.lemmas.Grind.{common_steps}
 use Rattle.xc_list.proofs.Writing.{broke_before, then_writes, failed}
 use Rattle.xc_list.proofs.bodies.Bodies.write_option.Goals as goal
 
 pub returns-in_err-write_all : goal.returns-in_err-write_all
-returns-in_err-write_all g c = grind (arith, common_steps, failed, broke_before)
+returns-in_err-write_all g c =
+    rw (← c.self.view_is) (rw c.cut_text.ensures (failed _ c.from_residual.ensures.0 (broke_before _
+    c.in_err-write_all.ensures)))
 
 pub returns : goal.returns
 returns g c =
