@@ -1,5 +1,4 @@
 -- How often classes are asked, by numbers of classes and by options.
-use Rattle.std.proofs.lemmas.Grind.{common_steps}
 use Rattle.std.proofs.Common.{[], ◌≢◌, inl, inr}
 use Rattle.xc_input.specs.declared.problem.Use.{Use}
 use Rattle.std.specs.Prelude.{AllPairs}
@@ -58,7 +57,7 @@ module _ (b : Classes) (are : AreClasses b.problem.puzzle b.classes) (ks reps : 
   room_asked k o g =
       let at = asked-at k o g in
       let class = get_or_from_slice_get b.classes k (class_at b.problem.puzzle o) [] g.1 in
-      grind (arith, common_steps, is_counted)
+      grind (arith, nat_tests, is_counted)
 
   pub asked_by_rooms : list_all (has_room b ks) ks ≡ true → (r : ℕ) → IsAsked b.problem.puzzle reps r
   asked_by_rooms rooms r =

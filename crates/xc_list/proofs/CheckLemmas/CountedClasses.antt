@@ -53,7 +53,7 @@ pub uses_in-take : (classes : List (List Use)) (ks : List ℕ) (i : ℕ) (us : L
     → slice_get classes (get_or ks i 0) ≡ Some us
     → uses_in classes (take (i + 1) ks) ≡ uses_in classes (take i ks) ++ us
 uses_in-take classes ks i us l e =
-    grind (arith, common_steps, get_or_from_slice_get, take_more, flat_map-append, append-nil)
+    rw (take_more ks i 0 l, flat_map-append, get_or_from_slice_get classes _ us [] e, append-nil) refl
 
 pub zeros-at : (n k : ℕ) → get_or {A = ℕ} (replicate n 0) k 0 ≡ 0
 zeros-at n k = grind (arith, common_steps, cases_lt, get_or-replicate, get_or_past, length-replicate)

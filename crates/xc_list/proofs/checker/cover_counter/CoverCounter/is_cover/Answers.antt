@@ -22,15 +22,19 @@ invariant_of-self c =
     let us = uses_in c.args.options.now.classes c.args.chosen.now in
     let times = forgotten (item_places us) _ c.self.invariant.times c.count.ensures.times c.clear.ensures.times in
     let asked = forgotten c.args.chosen.now _ c.self.invariant.asked c.count.ensures.asked c.clear.ensures.asked in
-    let size = length-coloured us c.self.inside.counts.colours.items in
-    record { times = cc (c.self.invariant.times); colours = cc; asked = cc; needed = cc }
+    record {
+      times = rw times c.self.invariant.times;
+      colours = rw (c.clear.ensures.colours, c.count.ensures.colours, length-coloured, times) c.self.invariant.colours;
+      asked = rw asked c.self.invariant.asked;
+      needed = rw times c.self.invariant.needed;
+    }
 
 pub returns-clause-same : goal.returns-clause-same
 returns-clause-same c =
     let us = uses_in c.args.options.now.classes c.args.chosen.now in
     let times = forgotten (item_places us) _ c.self.invariant.times c.count.ensures.times c.clear.ensures.times in
     let asked = forgotten c.args.chosen.now _ c.self.invariant.asked c.count.ensures.asked c.clear.ensures.asked in
-    cc (c.self.view_is)
+    rw (times, asked) c.self.view_is
 
 pub returns-clause-decided : goal.returns-clause-decided
 returns-clause-decided c = grind (arith, added, counted-cover, cover-counted)

@@ -1,4 +1,3 @@
-use Rattle.std.proofs.lemmas.Grind.{common_steps}
 use Rattle.std.proofs.Common.{◌≡◌, arith}
 use Rattle.xc_input.specs.Problem.{option_count}
 use Rattle.xc_list.proofs.CheckLemmas.ClassUses.{classes-whole}
@@ -9,7 +8,7 @@ invariant_of-result c =
     let p = c.args.problem.now in
     let all : c.loop-o.o ≡ option_count p.puzzle =
     omega (arith, c.loop-o-test.false, c.loop-o.auto.o-end, c.options-o-end.ensures.value) in
-    grind (arith, common_steps)
+    grind arith
 
 pub returns-clause-indexed : goal.returns-clause-indexed
 returns-clause-indexed c =
