@@ -106,4 +106,4 @@ stopped_broke a spacing limit (suc k) {x = x} {z = z} s =
     let text : member_text a (suc k, s.member) ≡ printed_text a spacing (k + 1, s.member) =
     rw (again, s.printed) refl in
     subst (BrokeOff x z) (sym (output_texts a spacing limit))
-    (grind (arith, common_steps, texts_broke, drop_at, output_texts))
+    (grind (arith, texts_broke, drop_at, output_texts))

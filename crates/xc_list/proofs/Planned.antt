@@ -1,6 +1,4 @@
 -- A plan that is written part by part.
-use Rattle.std.proofs.Common.{arith}
-use Rattle.std.proofs.lemmas.Grind.{common_steps}
 use Rattle.std.proofs.Common.{length}
 use Rattle.std.proofs.lemmas.List.Elements.{All-push}
 use Rattle.std.proofs.Common.{ℕ, ◌≡◌, ◌+◌, List, [], ◌∷◌, ◌++◌, ap, ◌∙◌, append_assoc, append-nil}
@@ -28,11 +26,12 @@ module _ {a : Named} {n : ℕ} {ms : List (List Choice)} {old mid : SinkState} (
   cut : IsCutUpTo a.puzzle (so.plan ++ path ∷ []) rest
   cut = record {
     paths = All-push (IsPath a.puzzle) so.plan path so.cut.paths at.0;
-    members = grind (arith, common_steps, one_more, below, append_assoc);
+    members = rw (one_more, append_assoc, ← at.1) so.cut.members;
   }
 
   pub planned_more : Took mid new (part_text a path) → IsPlanned a (n + 1) rest old new
-  planned_more took = grind (arith, common_steps, path, many, cut, new, one_more, a, then_took)
+  planned_more took = record { plan = _; many = many; cut = cut; taken = rw one_more (then_took so.taken took) }
 
   pub planned_broke : BrokeOff mid new (part_text a path) → PlanBrokeOff a (n + 1) old new
-  planned_broke broke = grind (arith, common_steps, rest, path, many, cut, new, one_more, a, then_broke)
+  planned_broke broke =
+      record { rest = rest; plan = _; many = many; cut = cut; taken = rw one_more (then_broke so.taken broke) }

@@ -1,10 +1,9 @@
-use Rattle.std.proofs.Common.{arith}
-use Rattle.std.proofs.lemmas.Grind.{common_steps}
 use Rattle.xc_list.proofs.Writing.{then_took, then_broke, broke_before, then_writes, failed}
 use Rattle.xc_list.proofs.planning.write_place.Goals as goal
 
 pub returns-in_err-write_numbered : goal.returns-in_err-write_numbered
-returns-in_err-write_numbered g c = failed _ c.from_residual.ensures.0 (grind (arith, common_steps, broke_before))
+returns-in_err-write_numbered g c =
+    failed _ c.from_residual.ensures.0 (broke_before _ (broke_before _ (broke_before _ c.in_err-write_numbered.ensures)))
 
 pub returns-in_err-write_number : goal.returns-in_err-write_number
 returns-in_err-write_number g c =
