@@ -1,10 +1,10 @@
-use Rattle.std.proofs.Common.{arith}
-use Rattle.std.proofs.lemmas.Grind.{common_steps}
 use Rattle.xc_list.proofs.Writing.{then_took, then_broke, broke_before, then_writes, failed}
 use Rattle.xc_list.proofs.print.write_in_pieces.Goals as goal
 
 pub returns-in_err-write_all : goal.returns-in_err-write_all
-returns-in_err-write_all g c = grind (arith, common_steps, failed, broke_before, then_broke)
+returns-in_err-write_all g c =
+    failed _ c.from_residual-in_err-write_all.ensures.0
+    (broke_before _ (then_broke c.in_ok-write_number.ensures c.in_err-write_all.ensures))
 
 pub returns : goal.returns
 returns g c =

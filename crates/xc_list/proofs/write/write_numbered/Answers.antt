@@ -1,10 +1,12 @@
-use Rattle.std.proofs.Common.{arith}
-use Rattle.std.proofs.lemmas.Grind.{common_steps}
 use Rattle.xc_list.proofs.Writing.{then_took, then_broke, broke_before, then_writes, failed}
 use Rattle.xc_list.proofs.write.write_numbered.Goals as goal
 
 pub returns-in_err-write_number : goal.returns-in_err-write_number
-returns-in_err-write_number g c = grind (arith, common_steps, failed, broke_before, then_broke)
+returns-in_err-write_number g c =
+    failed _ c.from_residual-in_err-write_number.ensures.0
+    (broke_before _ (then_broke c.in_ok-write_all.ensures c.in_err-write_number.ensures))
 
 pub returns : goal.returns
-returns g c = grind (arith, common_steps, then_writes, then_took)
+returns g c =
+    then_writes _ _ c.write_all-2.result (then_took c.in_ok-write_all.ensures c.in_ok-write_number.ensures)
+    c.write_all-2.ensures
