@@ -28,7 +28,7 @@ use Rattle.xc_list.proofs.CheckLemmas.BesideLists.{AllZip-append, by_pairs}
 -- a class is that of an option
 option_of : (b : Classes) (k : ℕ) → AreClasses b.problem.puzzle b.classes → k < length b.classes → (o : ℕ)
     × IsOfClass b k o
-option_of b k classes l = grind (arith, common_steps, slice_get-get_or b.classes k [] l)
+option_of b k classes l = grind (arith, slice_get-get_or b.classes k [] l)
 
 -- bodies that stand for classes stand for options of these
 options_of : (b : Classes) (bodies : List (List (List ℕ))) (chosen : List ℕ) → AreClasses b.problem.puzzle b.classes

@@ -3,9 +3,13 @@ use Rattle.std.proofs.Common.{◌<◌}
 use Rattle.std.proofs.Common.{arith, ◌≤◌, ◌∙◌, length}
 use Rattle.std.specs.Prelude.{vec_len}
 use Rattle.std.proofs.lemmas.List.{take_all}
+use Rattle.std.proofs.lemmas.Result.{IfOk-from_err}
 use Rattle.xc_input.proofs.FaultLemmas.Checks.{items-length}
 use Rattle.xc_list.proofs.BelowLemmas.{no_row}
 use Rattle.xc_list.proofs.below.read_paths.Goals as goal
+
+pub returns-in_err-take_number : goal.returns-in_err-take_number
+returns-in_err-take_number c = IfOk-from_err _ _ c.from_residual.ensures.0
 
 pub returns-else-is_empty : goal.returns-else-is_empty
 returns-else-is_empty c paths e =

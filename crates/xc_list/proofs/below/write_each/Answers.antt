@@ -41,7 +41,17 @@ returns-in_err-write_member-clause-wrote g c =
     c.loop-found-test.true c.loop-found.invariant.taken (rw c.choices.ensures at c.in_err-write_member.ensures))
 
 pub loop-found-preserved : goal.loop-found-preserved
-loop-found-preserved g c = grind (arith, next, rest_next, within_next, texts_next, then_took)
+loop-found-preserved g c =
+    let at = next g (goal.at.loop-found-preserved g c).In-Solution in
+    let ms = c.args.search.now.to_come in
+    let text = rw c.choices.ensures at c.in_ok-write_member.ensures in
+    record {
+      still = rw (c.next.ensures.still, c.loop-found.invariant.still);
+      come = rest_next ms c.loop-found.found at;
+      within = omega (arith, within_next ms c.loop-found.found at);
+      taken = rw (texts_next (member_text c.args.bodies.now) ms c.loop-found.found at) (then_took
+          c.loop-found.invariant.taken text);
+    }
 
 pub returns-clause-wrote : goal.returns-clause-wrote
 returns-clause-wrote g c =

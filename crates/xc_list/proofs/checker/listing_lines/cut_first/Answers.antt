@@ -5,7 +5,7 @@ use Rattle.xc_list.proofs.CheckLemmas.CutLines.{first_cut}
 use Rattle.xc_list.proofs.checker.listing_lines.cut_first.Goals as goal
 
 pub returns-in_err-k : goal.returns-in_err-k
-returns-in_err-k c = grind (arith, common_steps, has-all)
+returns-in_err-k c = grind (arith, has-all)
 
 pub returns : goal.returns
 returns c = grind (arith, common_steps, first_cut)
