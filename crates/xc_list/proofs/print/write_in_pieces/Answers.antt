@@ -1,6 +1,10 @@
 use Rattle.xc_list.proofs.Writing.{then_took, then_broke, broke_before, then_writes, failed}
 use Rattle.xc_list.proofs.print.write_in_pieces.Goals as goal
 
+pub returns-in_err-write_number : goal.returns-in_err-write_number
+returns-in_err-write_number g c =
+    failed _ c.from_residual.ensures.0 (broke_before _ (broke_before _ c.in_err-write_number.ensures))
+
 pub returns-in_err-write_all : goal.returns-in_err-write_all
 returns-in_err-write_all g c =
     failed _ c.from_residual-in_err-write_all.ensures.0
