@@ -1,5 +1,4 @@
-use Rattle.std.proofs.lemmas.Grind.{common_steps}
-use Rattle.std.proofs.Common.{arith}
+use Rattle.std.proofs.Common.{arith, refl}
 use Rattle.xc_input.proofs.TokenLemmas.Bytes.{has-all}
 use Rattle.xc_list.proofs.CheckLemmas.CutLines.{first_cut}
 use Rattle.xc_list.proofs.checker.listing_lines.cut_first.Goals as goal
@@ -8,4 +7,7 @@ pub returns-in_err-k : goal.returns-in_err-k
 returns-in_err-k c = grind (arith, has-all)
 
 pub returns : goal.returns
-returns c = grind (arith, common_steps, first_cut)
+returns c =
+    let h = c.in_ok-k.ensures in
+    first_cut c.args.byte c.args.text.now _ c.in_ok-k.k refl h.0.high (λ k p.
+    (grind (arith, h.0.before k (omega arith) p))) h.1
