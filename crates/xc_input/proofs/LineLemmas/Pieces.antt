@@ -1,7 +1,7 @@
 -- What a source gave, piece after piece.
 use Rattle.std.proofs.lemmas.Bool.Decides.{nat_tests}
 use Rattle.std.proofs.Common.{◌≡◌, ℕ, ◌<◌, List, [], ◌∷◌, ◌++◌, Some, Result, Ok, Err, IfOk}
-use Rattle.std.proofs.Common.{IfErr, length, refl, append_assoc, append-nil, arith, inl, inr}
+use Rattle.std.proofs.Common.{ap, ◌∙◌, IfErr, length, refl, append_assoc, append-nil, arith, inl, inr}
 use Rattle.xc_input.proofs.LineLemmas.TextLines.{last-of-part}
 use Rattle.xc_input.specs.inner.EndedLines.{ended}
 use Rattle.std.specs.Result.{result_err}
@@ -20,7 +20,13 @@ use Rattle.xc_input.proofs.LineLemmas.Reading.{error-ends}
 -- one read more gave some bytes
 pub gave_more : (a b c : SourceState) (bytes piece : List ℕ) → Gave a b bytes → 0 < length piece
     → Consumes b.rest c.rest piece → c.given ≡ b.given ++ piece ∷ [] → Gave a c (bytes ++ piece)
-gave_more a b c bytes piece g some told e = grind (arith, common_steps, append_assoc, flat_map-append, append-nil)
+gave_more a b c bytes piece g some told e = record {
+  told = grind (arith, common_steps, append_assoc);
+  pieces = g.pieces ++ piece ∷ [];
+  some = grind (arith, common_steps);
+  added = e ∙ ap (λ l. l ++ piece ∷ []) g.added ∙ append_assoc a.given g.pieces (piece ∷ []);
+  whole = grind (arith, flat_map-append, append-nil);
+}
 
 -- the answer at the end of the input
 pub whole-last : {kind : Kind} {a c : SourceState} {bytes : List ℕ} (r : Result Read InputError)

@@ -2,6 +2,7 @@ use Rattle.xc_input.proofs.LineLemmas.TextLines.{lines_of-all}
 use Rattle.std.proofs.Common.{◌++◌, ◌∙◌, ◌<◌, take, length, subst, arith}
 use Rattle.std.proofs.lemmas.Grind.{common_steps}
 use Rattle.std.proofs.lemmas.Result.{err_from_is_err_and}
+use Rattle.xc_input.specs.inner.EndedLines.{ended}
 use Rattle.xc_input.specs.inner.Feeding.{fed, Spoils}
 use Rattle.xc_input.proofs.LineLemmas.Pieces.{gave_more, part-spoiled}
 use Rattle.xc_input.proofs.read.feed_all.Goals as goal
@@ -9,7 +10,10 @@ use Rattle.xc_input.proofs.read.feed_all.Goals as goal
 pub returns-in_err-n-clause-part : goal.returns-in_err-n-clause-part
 returns-in_err-n-clause-part g c =
     let error = err_from_is_err_and c.from_residual.result c.from_residual.ensures.1 in
-    rw (error.1, error.2) (grind (arith, lines_of-all))
+    let r = c.reading.reader in
+    let is = c.reading.invariant.0 in
+    let e = lines_of-all r.lines is.whole in rw (error.1, error.2)
+    (ended r.lines, c.reading.carry.items, grind (arith), grind (arith), grind (arith, e), is.partial)
 
 pub returns-in_err-feed-clause-part : goal.returns-in_err-feed-clause-part
 returns-in_err-feed-clause-part g c =

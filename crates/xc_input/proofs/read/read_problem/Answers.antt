@@ -16,7 +16,7 @@ pub returns-in_err-store-clause-part : goal.returns-in_err-store-clause-part
 returns-in_err-store-clause-part g c = grind (arith, common_steps, err_from_is_err_and, append-nil, nat_tests)
 
 pub returns-clause-part : goal.returns-clause-part
-returns-clause-part g c = grind (arith)
+returns-clause-part g c = rw c.with_seed-reader.ensures.kind at c.read_through.ensures.part
 
 pub returns-clause-whole : goal.returns-clause-whole
-returns-clause-whole g c = grind (arith, common_steps)
+returns-clause-whole g c = rw c.with_seed-reader.ensures.kind at c.read_through.ensures.whole
