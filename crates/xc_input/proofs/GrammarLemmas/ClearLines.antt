@@ -16,8 +16,9 @@ use Rattle.std.proofs.lemmas.List.Sums.{sum_by-append}
 use Rattle.std.proofs.lemmas.Slice.Eq.{bytes_eq-Decides}
 use Rattle.xc_input.specs.declared.kind.Kind.{Kind}
 use Rattle.xc_input.specs.declared.fault.FaultKind.{FaultKind}
-use Rattle.xc_input.specs.declared.fault.FaultKind.TheVariants.{NulByte}
-use Rattle.xc_input.specs.declared.fault.FaultKind.TheVariants.{TooManyUses}
+use Rattle.xc_input.specs.declared.fault.FaultKind.TheVariants.{NulByte, TooManyUses, EmptyName, NameTooLong}
+use Rattle.xc_input.specs.declared.fault.FaultKind.TheVariants.{BadByteInName, UnknownItem, RepeatedInOption}
+use Rattle.xc_input.specs.declared.fault.FaultKind.TheVariants.{ColourOnPrimary, BadColour, ColourNotHere}
 use Rattle.xc_input.specs.Limits.{most_items, most_uses}
 use Rattle.xc_input.specs.Words.{has, before, place}
 use Rattle.xc_input.specs.Tokens.{tokens, parts, is_bar, is_skipped}
@@ -104,7 +105,9 @@ module _ (kind : Kind) (earlier : List (List ℕ)) (p : List ℕ) where
       let i = item-clear kind barred p names in
       let l = length-append names (name_of kind p ∷ []) in
       rw f (
-        λ a. (grind (arith, common_steps, a, u)),
+        λ a. (let x = s.0 a.0 in
+            let y = t.0 a.1 in
+            ((x.0, y.0, omega (arith, a.2, l)), i.1 (x.1, u.0 y.1, omega (arith, a.2, l)))),
         λ h. (let e = i.0 h.1 in (s.1 (h.0.0, e.0), t.1 (h.0.1, u.1 e.1), omega (arith, e.2, l))),
       )))
 
@@ -119,7 +122,14 @@ module _ (kind : Kind) (names : List (List ℕ)) (primaries : ℕ) (seen token :
 
   use-good : first checks ≡ None → IsUse (context kind names primaries) token (written names token)
       × (list_any (λ i. nat_eq i (item_number names (before COLON token))) seen ≡ false)
-  use-good e = grind (arith, test, fails, some-is, place, before, solid, by-test, has, cut-is, no-cut, none-after)
+  use-good e =
+      let no = fails checks e in
+      let name = solid (before COLON token) (no EmptyName) (no NameTooLong) (no BadByteInName) in
+      let item = some-is (place names (before COLON token)) (no UnknownItem) in
+      let cut = cut-is COLON token in
+      let whole = no-cut COLON token in
+      let none = none-after COLON token in
+      grind (arith, no ColourNotHere, no RepeatedInOption, no ColourOnPrimary, no BadColour)
 
   good-use : (u : Written) → IsUse (context kind names primaries) token u
       → list_any (λ j. nat_eq j u.item) seen ≡ false → (u ≡ written names token) × (first checks ≡ None)
@@ -129,7 +139,7 @@ module _ (kind : Kind) (names : List (List ℕ)) (primaries : ℕ) (seen token :
       grind (arith, nat_tests, past-name, none-after COLON token no, and-false (is_plain kind))
   good-use u (name, i, n, p, q, inr h) once =
       let cut = cut-at COLON name u.colour n.no_colon in
-      let own : before COLON token ≡ name = ap (before COLON) h.0 ∙ cut.0 in grind (arith, common_steps)
+      let own : before COLON token ≡ name = ap (before COLON) h.0 ∙ cut.0 in grind (arith, nat_tests)
 
 -- a token stands for no other use
 pub use-is : (c : Context) (token : List ℕ) (u : Written) → IsUse c token u → u ≡ written c.names token

@@ -81,8 +81,12 @@ good-bounds prefix low high (inr h) p q =
 module _ (kind : Kind) (sec : Bool) (token : List ℕ) where
   shape : (t : Bool) → has_prefix kind token ≡ t → first (bound_checks kind sec token) ≡ None
       → IsBare sec token (entry kind sec token) ⊎ IsBounded kind sec token (entry kind sec token)
-  shape true f e = grind (arith, nat_tests, cut-is BAR token, bounds-good (before BAR token) sec)
-  shape false f e = grind (arith, nat_tests)
+  shape true f e =
+      let b = and_parts (is_bounds kind) (has BAR token) f in
+      let c = cut-is BAR token b.1 in
+      let g = bounds-good (before BAR token) sec (rw f at e) in
+      rw f (inr (before BAR token, b.0, g.3, c.1, c.0, g.0, g.1, g.2))
+  shape false f e = rw f (inl (refl, refl, refl))
 
   -- a token that stands for an item stands for no other, and its prefix has no fault
   pub known : (e : Entry) → IsEntry kind sec token e → (e ≡ entry kind sec token)

@@ -79,9 +79,11 @@ row-is : (kind : Kind) (es : List Entry) (ps : List (List ℕ)) → StandFor kin
     → ((row_of kind (R es None) ps).entries ≡ es ++ items_in kind ps)
     × (P (row_of kind (R es None) ps) ≡ length es + length (before_first is_bar ps))
 row-is kind es [] a = (sym (append-nil es), omega arith)
-row-is kind es (p ∷ ps) a = by-test (is_bar p) (λ f. grind (arith, common_steps, row-behind, after-cons, before-cons))
+row-is kind es (p ∷ ps) a = by-test (is_bar p)
+    (λ f. let r = row-behind kind es (length es) ps (rw (after-cons p ps true f) at a) in
+    rw (after-cons p ps true f, before-cons p ps true f) (grind (arith, r)))
     (λ f. let r = row-is kind (es ++ entry kind false p ∷ []) ps (rw (after-cons p ps false f) at a) in
-    grind (arith, after-cons, before-cons, append_assoc, length-append))
+    rw (after-cons p ps false f, before-cons p ps false f) (grind (arith, r, append_assoc es, length-append es)))
 
 -- the items of the item line, before any option
 abbrev pub start : Kind → List ℕ → Sheet
