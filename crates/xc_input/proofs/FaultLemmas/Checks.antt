@@ -40,7 +40,7 @@ pub stopped : {T : Type 0} {a : Option FaultKind} (p q : List (FaultKind × Bool
     (e : LineError) → IsErrAnd r (λ x. x ≡ e) → a ≡ first (p ++ q) → Judged {T = Unit {0}} (first p) (Err e)
     → Judged a r
 stopped p q (Ok x) e h f j = absurd h
-stopped p q (Err (Fault k)) e h f j = grind (arith, first-front, first)
+stopped p q (Err (Fault k)) e h f j = grind (arith, first-front p q k)
 stopped p q (Err Memory) e h f j = tt
 
 pub names_of-length : (es : List Entry) → length (names_of es) ≡ length es

@@ -1,8 +1,7 @@
 -- The first of some checks that holds, for all functions that judge a token or a line.
 -- No list of checks is written out here or by those who use this: a check is asked for by its fault, and a list's
 -- front and rest by `take` and `drop`. So where a check is added to a list, only what speaks of that check changes.
-use Rattle.std.proofs.lemmas.Grind.{common_steps}
-use Rattle.std.proofs.Common.{◌≡◌, ℕ, List, [], ◌∷◌, ◌++◌, drop, None, Some, Bool, false}
+use Rattle.std.proofs.Common.{◌≡◌, ℕ, List, [], ◌∷◌, ◌++◌, drop, None, Some, Bool, true, false}
 use Rattle.std.proofs.Common.{length, refl, ap, sym, if◌then◌else◌, arith, append_assoc, append-nil}
 use Rattle.std.specs.Prelude.{◌↔◌}
 use denote.Enum.Bare.{sameb}
@@ -10,6 +9,7 @@ use Rattle.xc_input.specs.contracts.fault.FaultKind.{the_type}
 use Rattle.xc_input.specs.declared.fault.FaultKind.{FaultKind}
 use Rattle.xc_input.specs.declared.kind.Kind.TheVariants.{Plain}
 use Rattle.xc_input.specs.Faults.{first, checks_of_each, name_checks, item_checks}
+use Rattle.xc_input.proofs.FaultLemmas.BooleanTests.{by-test}
 
 -- the test of this fault among checks
 abbrev pub test : FaultKind → List (FaultKind × Bool) → Bool
@@ -19,8 +19,8 @@ test k (c ∷ cs) = (if sameb the_type k c.0 then c.1 else test k cs)
 -- where no check holds, that of a fault doesn't; the test computes to its condition
 pub fails : (cs : List (FaultKind × Bool)) → first cs ≡ None → (k : FaultKind) → test k cs ≡ false
 fails [] e k = refl
-fails (c ∷ cs) e k =
-    let rest : first cs ≡ None → test k cs ≡ false = λ f. fails cs f k in grind (arith, common_steps)
+fails ((a, true) ∷ cs) e k = absurd (cc)
+fails ((a, false) ∷ cs) e k = by-test (sameb the_type k a) (λ s. rw s) (λ s. rw s (fails cs e k))
 
 -- a check that holds among the first ones
 pub first-front : {A : Type 0} (a b : List (A × Bool)) (k : A) → first a ≡ Some k → first (a ++ b) ≡ Some k

@@ -164,4 +164,5 @@ pub cuts_part : (line rest front back : List ℕ) (n : ℕ) → rest ≡ drop_wh
     → (parts line ≡ front ∷ parts back) × (length back < length line) × StandsBefore line front back
 cuts_part line [] front back n e h bar w f g = absurd (omega arith)
 cuts_part line (b ∷ bs) front back n e h bar w f g =
-    let cut = cuts_first line (b ∷ bs) front back n e h w f g in grind (arith, common_steps, parts, drop_white-first)
+    let cut = cuts_first line (b ∷ bs) front back n e h w f g in
+    grind (arith, parts, cut, drop_white-first line b bs (sym e))

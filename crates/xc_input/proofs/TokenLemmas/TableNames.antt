@@ -46,7 +46,9 @@ apart earlier x none k d within same =
 pub names-more : {old new : List (List ℕ)} (name : List ℕ) {fault : Option FaultKind} → AreNames old
     → new ≡ old ++ name ∷ [] → fault ≡ first (name_checks name) → fault ≡ None → place old name ≡ None
     → list_any is_space name ≡ false → AreNames new
-names-more {old} name all e f g none solid = grind (arith, common_steps, name-good, all_pairs_push, apart)
+names-more {old} name all e f g none solid =
+    let distinct = all_pairs_push (λ x y. x ≢ y) old name all.distinct (apart old name none) in
+    grind (arith, common_steps, name-good name (sym f ∙ g), distinct)
 
 after-solid : (b : ℕ) (xs : List ℕ) → list_any is_space xs ≡ false → list_any is_space (after b xs) ≡ false
 after-solid b [] h = h

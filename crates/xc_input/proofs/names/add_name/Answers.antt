@@ -2,7 +2,6 @@ use Rattle.xc_input.proofs.FaultLemmas.Checks.{no-place}
 use Rattle.xc_input.proofs.TokenLemmas.Bytes.{position-map}
 use Rattle.xc_input.proofs.FaultLemmas.Checks.{last-place}
 use Rattle.std.proofs.Common.{arith}
-use Rattle.std.proofs.lemmas.Grind.{common_steps}
 use Rattle.xc_input.proofs.FaultLemmas.Checks.{new-key}
 use Rattle.xc_input.proofs.names.add_name.Goals as goal
 
@@ -10,4 +9,4 @@ pub returns-clause-added : goal.returns-clause-added
 returns-clause-added c = new-key _ _ _ _ c.requires c.in_ok-key.ensures.items c.in_ok-n.ensures.keys
 
 pub returns-clause-place : goal.returns-clause-place
-returns-clause-place c = grind (arith, common_steps, no-place, position-map, last-place)
+returns-clause-place c = grind (arith, no-place, position-map, last-place)

@@ -1,4 +1,3 @@
-use Rattle.std.proofs.lemmas.Grind.{common_steps}
 use Rattle.std.proofs.Common.{arith}
 use Rattle.xc_input.proofs.OptionLemmas.FlatParts.{numbered_get-at}
 use Rattle.xc_input.proofs.lists.Places.{drop_at}
@@ -6,4 +5,4 @@ use Rattle.xc_input.proofs.options.OptionsIterator.next.Goals as goal
 
 -- what is left begins with the element of the next number
 pub returns-clause-steps : goal.returns-clause-steps
-returns-clause-steps c = grind (arith, common_steps, drop_at, numbered_get-at)
+returns-clause-steps c = grind (arith, drop_at, numbered_get-at)

@@ -18,7 +18,7 @@ pub returns-clause-name : goal.returns-clause-name
 returns-clause-name c = grind (arith, common_steps, counts, numbered-map)
 
 pub returns-clause-bounds : goal.returns-clause-bounds
-returns-clause-bounds c = grind (arith, common_steps, counts, numbered-map, length-take-le, get_or-take)
+returns-clause-bounds c = grind (arith, counts, numbered-map, length-take-le, get_or-take)
 
 pub returns-clause-secondary : goal.returns-clause-secondary
 returns-clause-secondary c = λ secondary.
