@@ -30,7 +30,7 @@ loop-part-preserved c =
     let others = c.loop-part.invariant.1 ++ c.in-Some.part.now ∷ [] in (
       c.in-Ok.ensures.added.0,
       others,
-      grind (arith, common_steps, row-more),
+      rw c.in-Ok.ensures.added.1 (row-more c.in-Some.part.now c.loop-part.invariant.2),
       read-on c.loop-part.invariant.3 _ c.in-Some.ensures.0 c.in-Some.ensures.2
           (ap first (sym (row-checks c.in-Some.part.now c.loop-part.invariant.2)) ∙ c.in-Ok.ensures.judged),
     )

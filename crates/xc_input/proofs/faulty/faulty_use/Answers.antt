@@ -2,12 +2,12 @@ use Rattle.std.proofs.Common.{arith}
 use Rattle.std.proofs.lemmas.Grind.{common_steps}
 use Rattle.xc_input.specs.declared.faulty.FaultyToken.{FaultyToken}
 use Rattle.std.proofs.lemmas.List.{length-map}
-use Rattle.std.proofs.Common.{unwrap_or, sym, ap, ◌∙◌}
+use Rattle.std.proofs.Common.{unwrap_or, sym, ap, ◌∙◌, subst}
 use Rattle.xc_input.specs.Tokens.{tokens, parts}
 use Rattle.xc_input.specs.Faults.{first, token_checks, Context}
 use Rattle.xc_input.specs.FaultyTokens.{IsAtFault}
 use Rattle.xc_input.specs.inner.Sheets.{names_of}
-use Rattle.xc_input.specs.inner.Stages.{Row}
+use Rattle.xc_input.specs.inner.Stages.{Row, context}
 use Rattle.xc_input.specs.inner.Builders.{entry_of}
 use Rattle.xc_input.proofs.FaultLemmas.Checks.{items-length}
 use Rattle.xc_input.proofs.FaultyLemmas.{keys-length, tells-same}
@@ -25,10 +25,13 @@ pub returns : goal.returns
 returns c =
     let row = c.in-Ok.row in
     let ps = parts c.args.items.now in
-    let IsAt : Context → FaultyToken → Type 0 = λ k. IsAtFault tokens (token_checks k) c.args.line.now in
+    let IsAt : FaultyToken → Context → Type 0 = λ t k. IsAtFault tokens (token_checks k) c.args.line.now t in
     let faultless = ap first (sym (parts-checked ps (no-row c.args.kind))) ∙ c.in-Ok.ensures.judged in
     let are = ap (λ (r : Row). names_of r.entries) (sym c.in-Ok.ensures.row.1) ∙ sym c.in-Ok.ensures.row.0.0 in
     let many = ap P (sym c.in-Ok.ensures.row.1) ∙ ap (λ n. unwrap_or row.bar n)
     (length-map row.items.items entry_of ∙ sym (items-length row.items) ∙ sym c.len.ensures)
     ∙ sym c.unwrap_or-primary.ensures in
-    grind (arith, common_steps, context-is c.args.kind ps ((parts-clear c.args.kind ps).1 faultless).0.1, tells-same)
+    let said = context-is c.args.kind ps ((parts-clear c.args.kind ps).1 faultless).0.1
+    ∙ (λ i. context c.args.kind (are i) (many i)) in
+    tells-same c.faulty_among.result (λ t p. (faultless, subst (IsAt t) (sym said) p)) (λ t q. subst (IsAt t) said q.1)
+    c.faulty_among.ensures

@@ -1,4 +1,3 @@
-use Rattle.std.proofs.lemmas.Grind.{common_steps}
 use Rattle.std.proofs.Common.{arith, ◌∙◌, ap, refl, length, []}
 use Rattle.xc_input.specs.Tokens.{tokens}
 use Rattle.xc_input.specs.inner.Stages.{option_checks, whole_checks, context}
@@ -17,31 +16,38 @@ returns-in_err-option_line-clause-judged c =
     (content-is c.args.kind c.args.line.now c.requires.sound c.requires.started) c.in_err-option_line.ensures.judged
 
 pub returns-then-not-has_primary_use-clause-judged : goal.returns-then-not-has_primary_use-clause-judged
-returns-then-not-has_primary_use-clause-judged c = grind (arith, common_steps, no-primary, items-length)
+returns-then-not-has_primary_use-clause-judged c =
+    no-primary c.args.kind c.args.line.now c.requires.sound c.requires.started c.in_ok-option_line.ensures.uses
+    c.has_primary_use.ensures c.deref.ensures.value (c.len-start.ensures ∙ items-length c.args.self.now.uses)
+    c.in_ok-option_line.ensures.judged c.if-not-has_primary_use.true
 
 pub returns-then-not-has_primary_use-clause-taken : goal.returns-then-not-has_primary_use-clause-taken
 returns-then-not-has_primary_use-clause-taken c =
     left-out c.args.kind c.args.line.now c.requires.sound c.requires.started c.in_ok-option_line.ensures.uses
     c.has_primary_use.ensures c.deref.ensures.value (c.len-start.ensures ∙ items-length c.args.self.now.uses)
     c.args.count _ c.requires.started refl _ c.in_ok-option_line.ensures.colours
-    (grind (arith, common_steps, written-back, items-length))
+    (grind (arith, written-back, items-length))
     (c.option_line.auto.marks ∙ ap length c.deref_mut.ensures.value ∙ c.requires.sound.marks)
     c.in_ok-option_line.ensures.unmarked c.if-not-has_primary_use.true c.truncate.ensures.items
     c.truncate-then-not-has_primary_use.ensures.keys c.len-met.ensures.len refl
     (rw c.in_ok-push.was at c.push.ensures.items)
 
 pub returns-then-len-gt-MOST_USES-clause-judged : goal.returns-then-len-gt-MOST_USES-clause-judged
-returns-then-len-gt-MOST_USES-clause-judged c = grind (arith, common_steps, too-long, items-length)
+returns-then-len-gt-MOST_USES-clause-judged c =
+    too-long c.args.kind c.args.line.now c.requires.sound c.requires.started c.in_ok-option_line.ensures.uses
+    c.has_primary_use.ensures c.deref.ensures.value (c.len-start.ensures ∙ items-length c.args.self.now.uses)
+    c.in_ok-option_line.ensures.judged (c.len.ensures ∙ items-length c.option_line.new.uses)
+    c.if-not-has_primary_use.false c.if-len-gt-MOST_USES.true
 
 pub returns-clause-judged : goal.returns-clause-judged
-returns-clause-judged c = grind (arith, common_steps, fits, items-length)
+returns-clause-judged c = grind (arith, fits, items-length)
 
 pub returns-clause-taken : goal.returns-clause-taken
 returns-clause-taken c =
     taken c.args.kind c.args.line.now c.requires.sound c.requires.started c.in_ok-option_line.ensures.uses
     c.has_primary_use.ensures c.deref.ensures.value (c.len-start.ensures ∙ items-length c.args.self.now.uses)
     c.args.count _ c.requires.started refl _ c.in_ok-option_line.ensures.colours
-    (grind (arith, common_steps, written-back, items-length))
+    (grind (arith, written-back, items-length))
     (c.option_line.auto.marks ∙ ap length c.deref_mut.ensures.value ∙ c.requires.sound.marks)
     c.in_ok-option_line.ensures.unmarked c.if-not-has_primary_use.false refl refl refl
     c.in_ok-option_line.ensures.few_colours c.in_ok-option_line.ensures.distinct

@@ -20,12 +20,18 @@ returns-in-Some-clause-judged c =
     c.in_ok-token.ensures c.name_fault.ensures c.in-Some.is
 
 pub returns-then-len-ge-MOST_ITEMS-clause-judged : goal.returns-then-len-ge-MOST_ITEMS-clause-judged
-returns-then-len-ge-MOST_ITEMS-clause-judged c = grind (arith, common_steps, too-many, items-length, length-map)
+returns-then-len-ge-MOST_ITEMS-clause-judged c =
+    too-many c.args.kind (map entry_of c.args.self.now.items.items) _ c.args.token.now c.is_some.ensures
+    c.in_ok-token.ensures c.name_fault.ensures c.in_default.is c.requires.table.0 c.place_of.ensures
+    c.is_some-2.ensures c.if-is_some.false (c.len.ensures ∙ items-length c.args.self.now.items
+    ∙ sym (length-map c.args.self.now.items.items entry_of)) c.if-len-ge-MOST_ITEMS.true
 
 pub returns-clause-judged : goal.returns-clause-judged
 returns-clause-judged c =
-    judged-on _ _ c.push_item.result (grind (arith, common_steps, no-fault, items-length, length-map))
-    c.push_item.ensures.judged
+    judged-on _ _ c.push_item.result (no-fault c.args.kind (map entry_of c.args.self.now.items.items) _
+    c.args.token.now c.is_some.ensures c.in_ok-token.ensures c.name_fault.ensures c.in_default.is c.requires.table.0
+    c.place_of.ensures c.is_some-2.ensures c.if-is_some.false (c.len.ensures ∙ items-length c.args.self.now.items
+    ∙ sym (length-map c.args.self.now.items.items entry_of)) c.if-len-ge-MOST_ITEMS.false) c.push_item.ensures.judged
 
 pub returns-clause-added : goal.returns-clause-added
 returns-clause-added c =
@@ -36,5 +42,6 @@ returns-clause-added c =
     c.requires.solid) in
     let g = grown c.args.kind c.args.self.now.bar c.args.token.now c.is_some.ensures AreNames
     c.args.self.now.items.items c.push_item.new.items.items c.in_ok-token.ensures.1 c.requires.table named
-    c.in_ok-add_name.ensures.added (grind (arith, common_steps, items-length)) h in
+    c.in_ok-add_name.ensures.added
+    (omega (arith, c.len.ensures, items-length c.args.self.now.items, c.if-len-ge-MOST_ITEMS.false)) h in
     (g.0, g.1, refl)) c.push_item.ensures.added
