@@ -134,6 +134,7 @@ stands-clear kind lines named ignored h =
     let b = entries-are kind false (before_first is_bar ps) h.items.primary h.items.before_bar in
     let a = entries-are kind true (after_first is_bar ps) h.items.secondary h.items.behind_bar in
     let names = h.items.names ∙ (λ i. names_of (b.0 i ++ a.0 i)) ∙ sym (names-are kind h.item_line rest a.1) in
+    let distinct = each_two_from_AllPairs _ _ (rw names at h.items.distinct) in
     let bounds = h.items.bounds ∙ ap bounds_in b.0 in
     let many = ap length bounds ∙ length-map (primary kind h.item_line rest) _ ∙ few kind h.item_line rest in
     let o = subst (λ (c : Context). HaveOptions c rest named ignored)
@@ -143,7 +144,7 @@ stands-clear kind lines named ignored h =
     let colours = o.colours ∙ ap (λ uss. with_uses [] (flat uss)) kept in
     let uses : kept_uses c (plain rest) ≤ most_uses =
     omega (arith, o.few, ap (λ uss. length (flat uss)) kept, kept-count c rest) in (
-      (grind (arith, common_steps, a, each_two_from_AllPairs, names, uses)),
+      (((b.1, a.1), distinct, rw names at h.items.few), (w.1, uses)),
       λ i. record {
         names = names i;
         colours = colours i;

@@ -1,5 +1,4 @@
 -- One token of an option line, for `use_of` and the loop of `option_line`.
-use Rattle.std.proofs.lemmas.Grind.{common_steps}
 use Rattle.std.proofs.Common.{arith, ◌<◌, ◌≤◌, ◌≡◌, ℕ, ◌+◌, List, [], ◌∷◌, ◌++◌, Option, None, Some, Bool, true, false}
 use Rattle.std.proofs.Common.{◌&&◌, nat_eq, refl}
 use Rattle.std.proofs.Common.{length, drop}
@@ -52,13 +51,13 @@ module _ (kind : Kind) (primary : ℕ) (seen : List ℕ) {names : List (List ℕ
 
   -- a colour stands where none may
   pub not-here : stray ≡ true → judged ≡ Some ColourNotHere
-  not-here e = grind (arith, common_steps, cut, nat_tests)
+  not-here e = grind (arith, cut)
 
   module _ (allowed : stray ≡ false) where
     -- no item has the name
     pub unknown : {k : FaultKind} → first (name_checks t.name.now ++ (UnknownItem, true) ∷ []) ≡ Some k
         → t.place ≡ None → judged ≡ Some k
-    unknown f e = grind (arith, common_steps, cut, nat_tests)
+    unknown f e = grind (arith, cut)
 
     -- the item at place k has it, and is marked or not
     module _ (all : All IsName names) (marks : List Bool) (len : length marks ≡ length names)
@@ -66,7 +65,7 @@ module _ (kind : Kind) (primary : ℕ) (seen : List ℕ) {names : List (List ℕ
       past : (place names (before COLON text) ≡ Some k)
           × (get_or marks k false ≡ list_any (λ i. nat_eq i (k + 1)) seen)
           × (judged ≡ first (past_name kind names primary seen text))
-      past = grind (arith, common_steps, cut, mark-at, past-name, good-name, stored IsName, test, nat_tests)
+      past = grind (arith, cut, mark-at, past-name, good-name, stored IsName, test)
 
       pub repeated : get_or marks k false ≡ true → judged ≡ Some RepeatedInOption
       repeated e = grind (arith, past)

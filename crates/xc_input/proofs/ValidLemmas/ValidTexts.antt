@@ -29,7 +29,7 @@ use Rattle.xc_input.specs.Faults.{Context, has_primary}
 use Rattle.xc_input.specs.Named.{Named, IsName, IsColour, IsUnbroken, IsSound}
 use Rattle.xc_input.specs.Text.{IsUse, StandsFor}
 use Rattle.xc_input.specs.Faults.{context_of}
-use Rattle.xc_input.specs.inner.Stages.{entry}
+use Rattle.xc_input.specs.inner.Stages.{entry, written}
 use Rattle.xc_input.proofs.GrammarLemmas.Standing.{named_in, names-are, stands-clear}
 use Rattle.xc_input.proofs.GrammarLemmas.StageLemmas.{plain, kept_in, written_in, kept-count}
 use Rattle.xc_input.proofs.GrammarLemmas.ClearLines.{StandFor, AreClearTokens}
@@ -166,7 +166,11 @@ module _ (c : Context) (rest : List (ℕ × List ℕ)) (w : Each IsClean rest)
   cs = with_uses [] (flat uss)
 
   lines-good : Each (λ o. IsGoodOption c o.1) (written_in c rest)
-  lines-good = grind (arith, common_steps, each-map, each_both, use-good, unbroken-tokens, each-of _ _ rest h)
+  lines-good = each-map _ _ rest (each_both _ _ _ rest (λ l t w. (
+    each-map _ (written c.names) (tokens l.1) (each_both _ _ _ (tokens l.1) (λ t i u. use-good c t _ u i) t.0
+        (unbroken-tokens l.1 w.0 w.1)),
+    t.1,
+  )) (each-of (λ line. AreClearTokens c (tokens line)) (λ l. l.1) rest h) w)
 
   options-good : Each (λ us. IsGoodOption c us × (has_primary c.primaries us ≡ true)) uss
   options-good = grind (arith, common_steps, each-map, each_both, each-filter, lines-good, each_passes)
