@@ -1,4 +1,3 @@
-use Rattle.std.proofs.lemmas.Grind.{common_steps}
 use Rattle.std.proofs.lemmas.List.{length-map}
 use Rattle.std.proofs.Common.{arith}
 use Rattle.std.proofs.lemmas.Bool.Decides.{nat_tests}
@@ -7,7 +6,7 @@ use Rattle.xc_input.proofs.TokenLemmas.TableNames.{distinct-more}
 use Rattle.xc_input.proofs.colours.number_colour.Goals as goal
 
 pub returns-clause-number : goal.returns-clause-number
-returns-clause-number c = grind (arith, common_steps, nat_tests, new-number, length-map)
+returns-clause-number c = grind (arith, nat_tests, new-number, length-map)
 
 pub returns-clause-distinct : goal.returns-clause-distinct
-returns-clause-distinct c = grind (arith, common_steps, distinct-more)
+returns-clause-distinct c = grind (arith, distinct-more)

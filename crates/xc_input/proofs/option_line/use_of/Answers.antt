@@ -1,14 +1,13 @@
 use Rattle.std.proofs.Common.{arith}
-use Rattle.std.proofs.lemmas.Grind.{common_steps}
 use Rattle.xc_input.proofs.OptionLemmas.OneToken.{not-here, unknown, repeated, bare, on-primary, misfit, coloured}
 use Rattle.std.proofs.Common.{◌∙◌, sym}
 use Rattle.xc_input.proofs.option_line.use_of.Goals as goal
 
 pub returns-then-is_not_here-clause-judged : goal.returns-then-is_not_here-clause-judged
-returns-then-is_not_here-clause-judged c = grind (arith, common_steps, not-here)
+returns-then-is_not_here-clause-judged c = grind (arith, not-here)
 
 pub returns-in_default-clause-judged : goal.returns-in_default-clause-judged
-returns-in_default-clause-judged c = grind (arith, common_steps, unknown)
+returns-in_default-clause-judged c = grind (arith, unknown)
 
 pub returns-then-marks-place-clause-judged : goal.returns-then-marks-place-clause-judged
 returns-then-marks-place-clause-judged c = λ names text seen all len cut are.

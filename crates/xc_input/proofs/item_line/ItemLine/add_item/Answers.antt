@@ -1,10 +1,10 @@
 use Rattle.std.proofs.lemmas.List.{length-map}
-use Rattle.std.proofs.Common.{arith}
-use Rattle.std.proofs.lemmas.Grind.{common_steps}
-use Rattle.std.proofs.Common.{sym, refl, ◌∙◌, map}
+use Rattle.std.proofs.Common.{arith, is_some, sym, refl, ◌∙◌, map}
 use Rattle.xc_input.specs.inner.Builders.{entry_of, AreNames}
 use Rattle.std.proofs.lemmas.Result.{on_ok_weaker}
-use Rattle.xc_input.specs.Faults.{first}
+use Rattle.xc_input.specs.Faults.{bound_checks, name_of}
+use Rattle.xc_input.specs.inner.Sheets.{names_of}
+use Rattle.xc_input.specs.declared.line_error.LineError.TheVariants.{Fault}
 use Rattle.xc_input.proofs.FaultLemmas.FirstChecks.{alone}
 use Rattle.xc_input.proofs.TokenLemmas.TableNames.{names-more, name-solid}
 use Rattle.xc_input.proofs.FaultLemmas.Checks.{stopped, bad-name, too-many, no-fault, judged-on, grown}
@@ -12,7 +12,11 @@ use Rattle.xc_input.proofs.FaultLemmas.Checks.{none-is, items-length}
 use Rattle.xc_input.proofs.item_line.ItemLine.add_item.Goals as goal
 
 pub returns-in_err-token-clause-judged : goal.returns-in_err-token-clause-judged
-returns-in_err-token-clause-judged c = grind (arith, common_steps, stopped, alone, first)
+returns-in_err-token-clause-judged c =
+    stopped (bound_checks c.args.kind (is_some c.args.self.now.bar) c.args.token.now)
+    (alone (names_of (map entry_of c.args.self.now.items.items)) (name_of c.args.kind c.args.token.now))
+    c.from_residual.result (Fault c.in_err-token.field-0.0) c.from_residual.ensures.1 refl
+    (rw c.is_some.ensures at c.in_err-token.ensures)
 
 pub returns-in-Some-clause-judged : goal.returns-in-Some-clause-judged
 returns-in-Some-clause-judged c =

@@ -10,7 +10,7 @@ pub returns-in-Some-clause-state : goal.returns-in-Some-clause-state
 returns-in-Some-clause-state c = stays _ _ _ _ _ _ c.after.ensures c.in-Some.is c.self.invariant.1
 
 pub invariant_of-self : goal.invariant_of-self
-invariant_of-self c = grind (arith, common_steps, counts, stays, whole-more)
+invariant_of-self c = grind (arith, counts, stays, whole-more)
 
 pub returns-in-Err-clause-state : goal.returns-in-Err-clause-state
 returns-in-Err-clause-state c =
