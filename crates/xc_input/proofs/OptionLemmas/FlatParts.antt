@@ -66,7 +66,9 @@ pub pieces-snoc : {X : Type 0} (a : ℕ) (starts : List ℕ) (us vs : List X) (n
     → n ≡ length us + length vs → AreStarts (a ∷ starts ++ n ∷ []) (length (us ++ vs))
     × (pieces (a ∷ starts ++ n ∷ []) (us ++ vs) ≡ pieces (a ∷ starts) us ++ vs ∷ [])
 pieces-snoc a [] us vs n h e = grind (arith, common_steps, length-append, drop-append_seam, take-length)
-pieces-snoc a (b ∷ starts) us vs n h e = grind (arith, slice-front, starts-low, pieces-snoc b starts us vs n h.1 e)
+pieces-snoc a (b ∷ starts) us vs n h e =
+    let low = starts-low b starts (length us) h.1 in
+    grind (arith, slice-front us vs a b h.0 low, pieces-snoc b starts us vs n h.1 e)
 
 -- the parts have as many elements as stand behind the first start
 pieces-total : {X : Type 0} (a : ℕ) (starts : List ℕ) (us : List X) → AreStarts (a ∷ starts) (length us)

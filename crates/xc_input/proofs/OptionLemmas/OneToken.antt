@@ -1,7 +1,7 @@
 -- One token of an option line, for `use_of` and the loop of `option_line`.
 use Rattle.std.proofs.Common.{arith, ◌<◌, ◌≤◌, ◌≡◌, ℕ, ◌+◌, List, [], ◌∷◌, ◌++◌, Option, None, Some, Bool, true, false}
 use Rattle.std.proofs.Common.{◌&&◌, nat_eq, refl}
-use Rattle.std.proofs.Common.{length, drop}
+use Rattle.std.proofs.Common.{length, drop, sym, ◌∙◌}
 use Rattle.std.proofs.lemmas.Bool.Decides.{nat_tests}
 use Rattle.std.specs.List.{list_any}
 use Rattle.xc_input.specs.declared.kind.Kind.{Kind}
@@ -65,7 +65,11 @@ module _ (kind : Kind) (primary : ℕ) (seen : List ℕ) {names : List (List ℕ
       past : (place names (before COLON text) ≡ Some k)
           × (get_or marks k false ≡ list_any (λ i. nat_eq i (k + 1)) seen)
           × (judged ≡ first (past_name kind names primary seen text))
-      past = grind (arith, cut, mark-at, past-name, good-name, stored IsName, test)
+      past =
+          let at = sym cut.place ∙ found in
+          let good = good-name (before COLON text) (stored IsName names (before COLON text) k all at) in
+          let mark = mark-at marks names (before COLON text) seen k are len at in
+          (at, mark, grind (arith, cut, past-name kind names primary seen text, good, test))
 
       pub repeated : get_or marks k false ≡ true → judged ≡ Some RepeatedInOption
       repeated e = grind (arith, past)

@@ -5,7 +5,8 @@ use Rattle.std.proofs.Common.{ℕ, zero, suc, ◌≡◌, ◌+◌, ◌<◌, List,
 use Rattle.std.proofs.Common.{subst, ◌⊎◌, inl, inr}
 use Rattle.std.specs.Prelude.{flat_map, slice_get, AllPairs}
 use Rattle.std.specs.List.{AllByRecursion, enumerate_from}
-use Rattle.std.proofs.lemmas.List.Elements.{recursion_from_All}
+use Rattle.std.proofs.lemmas.List.Elements.{recursion_from_All, All-from_recursion}
+use Rattle.std.proofs.lemmas.List.Kept.{AllPairs-cons}
 use Rattle.xc_input.proofs.lists.EachElement.{each-append, each_front}
 use Rattle.xc_input.proofs.lists.Members.{IsIn, in-map, in-flat_map, in-take, in-enumerated, in-slice_get, each_in}
 use Rattle.xc_input.proofs.lists.Members.{each_from}
@@ -58,7 +59,8 @@ EachTwo-at R (z ∷ xs) (suc j) (suc k) x y a l e f = EachTwo-at R xs j k x y a.
 
 pub AllPairs-from_each_two : {X : Type 0} (R : X → X → Type 0) (xs : List X) → EachTwo R xs → AllPairs R xs
 AllPairs-from_each_two R [] a = λ i j d l m. absurd (omega (arith, m))
-AllPairs-from_each_two R (x ∷ xs) a = grind (arith, common_steps, AllPairs-from_each_two R xs a.1)
+AllPairs-from_each_two R (x ∷ xs) a =
+    AllPairs-cons R x xs (All-from_recursion (R x) xs a.0) (AllPairs-from_each_two R xs a.1)
 
 pub each_two_from_AllPairs : {X : Type 0} (R : X → X → Type 0) (xs : List X) → AllPairs R xs → EachTwo R xs
 each_two_from_AllPairs R [] a = tt

@@ -19,7 +19,7 @@ returns-then-is_empty-clause-answer c =
 pub returns-in_err-line-clause-answer : goal.returns-in_err-line-clause-answer
 returns-in_err-line-clause-answer c =
     let error = err_from_is_err_and c.from_residual.result c.from_residual.ensures.1 in
-    let some : 0 < length c.args.carry.now = grind (arith, nat_tests) in
+    let some : 0 < length c.args.carry.now = grind (arith, c.if-is_empty.false, c.is_empty.ensures) in
     rw (error.1, error.2) (ends-as _ _ _ _ _ c.in_err-line.ensures.kind
     (last-part c.args.reader c.args.carry.now _ c.requires some c.in_err-line.ensures.given)
     (line-ends _ _ c.in_err-line.field-0.0 c.in_err-line.ensures.state))

@@ -16,7 +16,7 @@ returns-in-Some-cut_behind c =
     let whole = sym (take-append-drop c.guess-at.result.1 c.skip_white-rest.result.now)
     ∙ ap (λ back. take c.guess-at.result.1 c.skip_white-rest.result.now ++ back) (sym known.1) in
     cut-token _ _ _ _ _ _ _ c.in-Some-cut_behind.cut.0 c.requires.names c.skip_white-rest.ensures
-    (grind (arith, nat_tests)) whole known.2 c.in-Some-cut_behind.ensures.name.0 c.in-Some-cut_behind.ensures.name.1
+    (grind (arith, c.if-is_empty.false, c.is_empty.ensures)) whole known.2 c.in-Some-cut_behind.ensures.name.0 c.in-Some-cut_behind.ensures.name.1
     c.in-Some-cut_behind.ensures.cut
 
 pub returns-in-Some : goal.returns-in-Some
@@ -27,6 +27,6 @@ returns-in-Some c =
 pub returns : goal.returns
 returns c =
     let h =
-    cuts_first _ _ _ _ _ c.skip_white-rest.ensures (grind (arith, nat_tests)) c.word_len.ensures.value
-    c.split_at.ensures.front c.split_at.ensures.back in
+    cuts_first _ _ _ _ _ c.skip_white-rest.ensures (grind (arith, c.if-is_empty.false, c.is_empty.ensures))
+    c.word_len.ensures.value c.split_at.ensures.front c.split_at.ensures.back in
     (c.split_at.result.0.now, h.0, h.1, c.looked_up.ensures)
