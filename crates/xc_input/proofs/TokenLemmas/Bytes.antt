@@ -100,11 +100,11 @@ skipped-first line (b ∷ bs) e h = skipped-front line (b ∷ bs) e
 
 pub take-word : (xs : List ℕ) → take (length (word xs)) xs ≡ word xs
 take-word [] = refl
-take-word (b ∷ bs) = grind (arith, common_steps, take-word bs)
+take-word (b ∷ bs) = grind (arith, take-word bs)
 
 pub drop-word : (xs : List ℕ) → drop (length (word xs)) xs ≡ behind xs
 drop-word [] = refl
-drop-word (b ∷ bs) = grind (arith, common_steps, drop-word bs)
+drop-word (b ∷ bs) = grind (arith, drop-word bs)
 
 -- leading white space stands before what is left behind it
 drop_white-front : (xs : List ℕ) → (front : List ℕ) × (xs ≡ front ++ drop_white xs)
@@ -116,7 +116,7 @@ drop_white-front (b ∷ bs) = let r = drop_white-front bs in
 cut-stands : (line rest front back : List ℕ) (n : ℕ) → rest ≡ drop_white line → front ≡ take n rest
     → back ≡ drop n rest → StandsBefore line front back
 cut-stands line rest front back n e f g =
-    grind (arith, common_steps, drop_white-front line, take-append-drop n rest, append_assoc)
+    grind (arith, drop_white-front line, take-append-drop n rest, append_assoc)
 
 -- what is left of such a line is shorter
 stands-shorter : (line front back : List ℕ) → 0 < length front → StandsBefore line front back

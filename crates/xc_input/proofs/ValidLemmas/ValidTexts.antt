@@ -74,7 +74,7 @@ number-below text e = grind (arith, nat_tests, value-below 0 0 text, pow-le-pow_
 bounds-good : (kind : Kind) (ts : List (List ℕ)) → StandFor kind false ts
     → Each (λ b. AreSoundBounds b × (b.high ≤ greatest_bound)) (bounds_in (map (entry kind false) ts))
 bounds-good kind [] a = tt
-bounds-good kind (t ∷ ts) a = grind (arith, common_steps, number-below, nat_tests, bounds-good kind ts a.1)
+bounds-good kind (t ∷ ts) a = grind (arith, number-below, nat_tests, bounds-good kind ts a.1)
 
 -- the name of an item
 abbrev IsGoodName : List ℕ → Type 0
