@@ -2,7 +2,7 @@
 use Rattle.std.proofs.lemmas.Grind.{common_steps}
 use Rattle.std.proofs.Common.{◌≡◌, ◌≢◌, ℕ, ◌+◌, ◌≤◌, List, [], ◌∷◌, ◌++◌, Option, None, Some, Bool, true, false, ◌&&◌}
 use Rattle.std.proofs.Common.{not, nat_lt, nat_eq, length, map, refl, ap, ◌∙◌, arith, if◌then◌else◌}
-use Rattle.std.proofs.Common.{inl, inr, ◌||◌, append-nil}
+use Rattle.std.proofs.Common.{inl, inr, sym, ◌||◌, append-nil}
 use Rattle.std.proofs.Math.Bool.{and-false, or-false}
 use Rattle.std.specs.Prelude.{◌↔◌}
 use Rattle.std.specs.Option.{option_map}
@@ -16,7 +16,7 @@ use Rattle.std.proofs.lemmas.List.Sums.{sum_by-append}
 use Rattle.std.proofs.lemmas.Slice.Eq.{bytes_eq-Decides}
 use Rattle.xc_input.specs.declared.kind.Kind.{Kind}
 use Rattle.xc_input.specs.declared.fault.FaultKind.{FaultKind}
-use Rattle.xc_input.specs.declared.fault.FaultKind.TheVariants.{NulByte, TooManyUses, EmptyName, NameTooLong}
+use Rattle.xc_input.specs.declared.fault.FaultKind.TheVariants.{NulByte, TwoBars, TooManyUses, EmptyName, NameTooLong}
 use Rattle.xc_input.specs.declared.fault.FaultKind.TheVariants.{BadByteInName, UnknownItem, RepeatedInOption}
 use Rattle.xc_input.specs.declared.fault.FaultKind.TheVariants.{ColourOnPrimary, BadColour, ColourNotHere}
 use Rattle.xc_input.specs.Limits.{most_items, most_uses}
@@ -79,37 +79,49 @@ AreClearParts kind ps = (StandFor kind false (before_first is_bar ps) × StandFo
     × EachTwo (λ m n. m ≢ n) (item_names kind ps) × (length (item_names kind ps) ≤ most_items)
 
 module _ (kind : Kind) (earlier : List (List ℕ)) (p : List ℕ) where
-  abbrev barred : Bool
-  barred = list_any is_bar earlier
+  -- this holds of each part, before the first bar and behind it
+  abbrev Sides : (Bool → List ℕ → Type 0) → List (List ℕ) → Type 0
+  Sides F ps = Each (F false) (before_first is_bar ps) × Each (F true) (after_first is_bar ps)
 
-  side-more : is_bar p ≡ false → (StandFor kind false (before_first is_bar (earlier ++ p ∷ []))
-      × StandFor kind true (after_first is_bar (earlier ++ p ∷ [])))
-      ↔ ((StandFor kind false (before_first is_bar earlier) × StandFor kind true (after_first is_bar earlier))
-      × IsEntry kind barred p (entry kind barred p))
-  side-more f = rw (before-snoc earlier p, after-snoc earlier p, f) (by-test barred
-      (λ b. let s = each-snoc (λ p. IsEntry kind true p (entry kind true p)) (after_first is_bar earlier) p in
+  side-more : (F : Bool → List ℕ → Type 0) → is_bar p ≡ false
+      → Sides F (earlier ++ p ∷ []) ↔ (Sides F earlier × F (list_any is_bar earlier) p)
+  side-more F f = rw (before-snoc earlier p, after-snoc earlier p, f) (by-test (list_any is_bar earlier)
+      (λ b. let s = each-snoc (F true) (after_first is_bar earlier) p in
       rw (b, append-nil) (λ a. (let e = s.0 a.1 in ((a.0, e.0), e.1)), λ h. (h.0.0, s.1 (h.0.1, h.1))))
-      (λ b. let s = each-snoc (λ p. IsEntry kind false p (entry kind false p)) (before_first is_bar earlier) p in
+      (λ b. let s = each-snoc (F false) (before_first is_bar earlier) p in
       rw (b, append-nil) (λ a. (let e = s.0 a.0 in ((e.0, a.1), e.1)), λ h. (s.1 (h.0.0, h.1), h.0.1))))
+
+  bar-more : (F : Bool → List ℕ → Type 0) → is_bar p ≡ true → (F true p → false ≡ true)
+      → Sides F (earlier ++ p ∷ []) ↔ (Sides F earlier × (list_any is_bar earlier ≡ false))
+  bar-more F f never = rw (before-snoc earlier p, after-snoc earlier p, f) (by-test (list_any is_bar earlier)
+      (λ b. let s = each-snoc (F true) (after_first is_bar earlier) p in
+      rw b (λ a. absurd (let e = never (s.0 a.1).1 in cc), λ h. absurd (let e = h.1 in cc)))
+      (λ b. rw (b, append-nil, append-nil) (λ a. (a, refl), λ h. h.0)))
 
   part-clear : AreClearParts kind (earlier ++ p ∷ [])
       ↔ (AreClearParts kind earlier × (first (part_checks kind earlier p) ≡ None))
-  part-clear = rw (names-snoc kind earlier p) (by-test (is_bar p)
-      (λ f. rw (before-snoc earlier p, after-snoc earlier p) (by-test barred
-      (λ b. let s = each-snoc (λ p. IsEntry kind true p (entry kind true p)) (after_first is_bar earlier) p in
-      rw (b, f) (grind (arith, s, no-bar))) (λ b. rw (b, f) (simp append-nil (λ a. (a, refl), λ h. h.0)))))
-      (λ f. let names = item_names kind earlier in
-      let s = side-more f in
+  part-clear =
+      let barred = list_any is_bar earlier in
+      let names = item_names kind earlier in
+      let stands : Bool → List ℕ → Type 0 = λ sec p. IsEntry kind sec p (entry kind sec p) in
+      by-test (is_bar p)
+      (λ f. let s = bar-more stands f (λ e. sym (no-bar kind p _ e) ∙ f) in
+      let n : item_names kind (earlier ++ p ∷ []) ≡ names = names-snoc kind earlier p ∙ rw f (append-nil names) in
+      rw (n, f) (
+        λ a. (let e = s.0 a.0 in ((e.0, a.1, a.2), rw e.1)),
+        λ h. (s.1 (h.0.0, fails ((TwoBars, barred) ∷ []) h.1 TwoBars), h.0.1, h.0.2),
+      ))
+      (λ f. let s = side-more stands f in
       let t = two-snoc (λ m n. m ≢ n) names (name_of kind p) in
       let u = new-name names (name_of kind p) in
       let i = item-clear kind barred p names in
       let l = length-append names (name_of kind p ∷ []) in
-      rw f (
+      rw (names-snoc kind earlier p, f) (
         λ a. (let x = s.0 a.0 in
             let y = t.0 a.1 in
             ((x.0, y.0, omega (arith, a.2, l)), i.1 (x.1, u.0 y.1, omega (arith, a.2, l)))),
         λ h. (let e = i.0 h.1 in (s.1 (h.0.0, e.0), t.1 (h.0.1, u.1 e.1), omega (arith, e.2, l))),
-      )))
+      ))
 
 pub parts-clear : (kind : Kind) (ps : List (List ℕ))
     → AreClearParts kind ps ↔ (first (checks_of_each (part_checks kind) [] ps) ≡ None)
