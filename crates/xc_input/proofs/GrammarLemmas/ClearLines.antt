@@ -31,7 +31,7 @@ use Rattle.xc_input.specs.Text.{IsEntry, IsUse}
 use Rattle.xc_input.specs.inner.Stages.{entry, token_checks, context, written, item_number}
 use Rattle.xc_input.proofs.FaultLemmas.BooleanTests.{by-test}
 use Rattle.xc_input.proofs.FaultLemmas.Checks.{some-is}
-use Rattle.xc_input.proofs.FaultLemmas.FirstChecks.{test, fails, none-append, clear-each}
+use Rattle.xc_input.proofs.FaultLemmas.FirstChecks.{fails, none-append, clear-each}
 use Rattle.xc_input.proofs.GrammarLemmas.NoFault.{solid, cut-is, no-cut, cut-at, item-clear}
 use Rattle.xc_input.proofs.lists.EachElement.{each-append, each_front}
 use Rattle.xc_input.proofs.lists.EachTwo.{EachTwo}
