@@ -29,7 +29,7 @@ is_listed s k = list_any (λ a. eqb a k) s
 
 pub listed_in : (s : List ℕ) (k : ℕ) → is_listed s k ≡ true → IsIn s k
 listed_in [] k e = cc
-listed_in (a ∷ s) k e = grind (arith, common_steps, listed_in s k, eqb-true)
+listed_in (a ∷ s) k e = grind (arith, listed_in s k, eqb-true)
 
 pub in_listed : (s : List ℕ) (k : ℕ) → IsIn s k → is_listed s k ≡ true
 in_listed [] k h = absurd h
@@ -49,14 +49,14 @@ member_of_set r s m same = record {
 -- the option of a number
 pub option_of : (p : Puzzle) (a : ℕ) → IsOption p a → (x : Numbered) × IsIn (numbered_options p) x
     × (x.number ≡ a) × (uses_of p a ≡ x.uses)
-option_of p a h = grind (arith, common_steps, at_number 0 p.options (a - 1) (omega (arith, h)), uses_known)
+option_of p a h = grind (arith, at_number 0 p.options (a - 1) (omega (arith, h)), uses_known)
 
 -- the option of one number more
 one_more : (p : Puzzle) (i a : ℕ) (s : List ℕ) (x : Numbered) → IsIn (numbered_options p) x → x.number ≡ a
     → is_listed s a ≡ false → passing (is_held (is_listed (a ∷ s)) i) (numbered_options p)
     ≡ cond (holds x i) 1 0 + passing (is_held (is_listed s) i) (numbered_options p)
 one_more p i a s x h e out =
-    let is : is_held (is_listed (a ∷ s)) i x ≡ holds x i = grind (arith, common_steps, eq-eqb) in
+    let is : is_held (is_listed (a ∷ s)) i x ≡ holds x i = grind (arith, eq-eqb) in
     one_less _ (is_held (is_listed s) i) 0 (numbered_options p) x (options_rise p) h
     (rw (e, out) (and-false (holds x i))) (λ y j apart. rw (ne_eqb a y.number (λ q. apart (e ∙ q))) refl)
     ∙ ap (λ b. cond b 1 0 + passing (is_held (is_listed s) i) (numbered_options p)) is
@@ -83,7 +83,7 @@ module _ (p : Puzzle) (v : IsValid p) where
     met = λ w k.
         let at = with_bounds 0 p.bounds w k in
         let same = held_times p w.item s (each_two_from_AllPairs _ _ c.distinct) (recursion_from_All _ _ c.known) in
-        grind (arith, common_steps, at, same, c.within w.item at.1);
+        grind (arith, at, same, c.within w.item at.1);
     agreed = λ x y h k e f apart j b d l g i.
         grind (arith, c.agree x.number y.number j b d, contains-in, listed_in, sound_item p v x j h, uses_known);
   }
@@ -100,7 +100,7 @@ module _ (p : Puzzle) (v : IsValid p) where
       record {
         known = All-from_recursion _ _ known;
         distinct = AllPairs-from_each_two _ _ two;
-        within = λ i b e. grind (arith, common_steps, bounded, held_times);
+        within = λ i b e. grind (arith, bounded, held_times);
         agree = λ a b i d e h k apart secondary f g.
             let x = t.left a (in-contains s a h) in
             let y = t.left b (in-contains s b k) in
@@ -124,4 +124,4 @@ module _ (p : Puzzle) (v : IsValid p) where
   pub each_cover_is_listed : EachCoverIsListed p
   each_cover_is_listed s c =
       let m = listed_for (primary_count p) (is_listed s) (whole p) (proper_whole p v) (covers_whole s c) in
-      grind (arith, common_steps, slice_get-in (members p) m.0 m.1, same_set s m.0 c m.2)
+      grind (arith, slice_get-in (members p) m.0 m.1, same_set s m.0 c m.2)

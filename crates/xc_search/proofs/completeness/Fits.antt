@@ -1,5 +1,4 @@
 -- A choice of option numbers that covers what is left, one branch on and back.
-use Rattle.std.proofs.lemmas.Grind.{common_steps}
 use Rattle.std.proofs.Common.{ℕ, ◌≡◌, ◌≢◌, ◌+◌, ◌<◌, ◌≤◌, Bool, true, false, cond, not, ◌&&◌, eqb}
 use Rattle.std.proofs.Common.{List, ◌∷◌, length, Option, Some, None, refl, sym, ap, ◌∙◌, arith}
 use Rattle.std.proofs.Common.{subst, ap₂, ◌⊎◌, inl, inr, eqb-true, ltb-true, ltb-false, lt-ltb, le-ltb, le-leb}
@@ -64,13 +63,13 @@ abbrev pub HasNumber : Residual → ℕ → Type 0
 HasNumber r k = (o : Numbered) × IsIn r.options o × (o.number ≡ k)
 
 pub in-cons_option : (o : Option ℕ) (ks : List ℕ) (k : ℕ) → IsIn (cons_option o ks) k ↔ (o ≡ Some k) ⊎ IsIn ks k
-in-cons_option None ks k = (λ h. inr h, λ h. grind (arith, common_steps))
-in-cons_option (Some x) ks k = grind (arith, common_steps)
+in-cons_option None ks k = (λ h. inr h, λ h. grind arith)
+in-cons_option (Some x) ks k = grind arith
 
 -- an option that is taken goes
 pub gone : {r : Residual} {w : Wanted} {b : Branch} → Rises 0 (numbers r.options) → IsBranchOf r w b → (k : ℕ)
     → b.choice.option ≡ Some k → HasNumber b.next k → ⊥
-gone rise (takes_one j n x known at) k e h = grind (arith, common_steps, in-filter, same_number, le-leb, and_left)
+gone rise (takes_one j n x known at) k e h = grind (arith, in-filter, same_number, le-leb, and_left)
 gone rise (takes_none n free) k e h = cc
 
 pub member_back : (r : Residual) (chosen : ℕ → Bool) (b : Branch) (l : List Choice) → Fits r chosen b
@@ -89,8 +88,8 @@ member_on {r} {w} {b} {chosen} {l} rise of left m =
 stays_agree : {n : ℕ} {r : Residual} → IsProper n r → (x y : Numbered) → stays r x y ≡ true → Agree n x y
 stays_agree {r = r} p x y stay j c d l e f =
     let may = use_passes (λ u. may_stay (item_left r u.item) u y) x.uses j c stay e in
-    by_option (item_left r j) (λ q. grind (arith, common_steps, eqb-true, ltb-true))
-    (λ w q. grind (arith, common_steps, in-find r.items j w q, p.sound w))
+    by_option (item_left r j) (λ q. grind (arith, eqb-true, ltb-true))
+    (λ w q. grind (arith, in-find r.items j w q, p.sound w))
 
 module _ (n : ℕ) (r : Residual) (p : IsProper n r) (chosen : ℕ → Bool) where
   -- whoever is chosen stays
@@ -103,15 +102,15 @@ module _ (n : ℕ) (r : Residual) (p : IsProper n r) (chosen : ℕ → Bool) whe
     where
       others_stay : (y : Numbered) → IsIn r.options y → chosen y.number ≡ true → x.number ≢ y.number
           → goes_on r i x y ≡ true
-      others_stay y h e apart = grind (arith, common_steps, f.others y h e, in-filter)
+      others_stay y h e apart = grind (arith, f.others y h e, in-filter)
 
       -- the option that is taken is one of those that were counted
       one_more : (j : ℕ) → passing (is_held chosen j) r.options
           ≡ cond (holds x j) 1 0 + passing (is_held chosen j) (pick r i x).options
       one_more j =
-          let is : is_held chosen j x ≡ holds x j = grind (arith, common_steps, f.option x.number refl) in
+          let is : is_held chosen j x ≡ holds x j = grind (arith, f.option x.number refl) in
           let q = goes_on r i x in
-          let out : q x ≡ false = grind (arith, common_steps, le-leb) in
+          let out : q x ≡ false = grind (arith, le-leb) in
           one_less (is_held chosen j) (λ y. q y && is_held chosen j y) 0 r.options x p.options_rise known
           (rw out refl) (λ y h apart. held_too q j y (λ e. others_stay y h e apart))
           ∙ ap₂ (λ b n. cond b 1 0 + n) is (ap length (sym (filter_both _ _ r.options)))
@@ -119,7 +118,7 @@ module _ (n : ℕ) (r : Residual) (p : IsProper n r) (chosen : ℕ → Bool) whe
       -- an item is held once more where the option holds it
       same_met : (w : Wanted) → 0 < w.high
           → IsMet chosen r.options w ↔ IsMet chosen (pick r i x).options (spend_one x w)
-      same_met w some = grind (arith, common_steps, one_more w.item)
+      same_met w some = grind (arith, one_more w.item)
 
       -- an item that is used up is held by no other
       met_next : ((v : Wanted) → IsIn (pick r i x).items v → IsMet chosen (pick r i x).options v) → (w : Wanted)
@@ -127,7 +126,7 @@ module _ (n : ℕ) (r : Residual) (p : IsProper n r) (chosen : ℕ → Bool) whe
       met_next met w h = by_bool (nat_lt 0 (spend_one x w).high)
           (λ e. met (spend_one x w) (filter-in _ _ _ (map-in _ _ _ h) e))
           (λ e. let left = find-in r.items w p.items_apart h in
-          grind (arith, common_steps, ltb-false, le-ltb, p.sound w h, none_pass, in-filter, used_up, left))
+          grind (arith, ltb-false, le-ltb, p.sound w h, none_pass, in-filter, used_up, left))
 
   module _ (w : Wanted) (known : IsIn r.items w) (free : w.low ≡ 0) (m : ℕ) (f : Fits r chosen (none_branch r w.item m))
     where
@@ -191,7 +190,7 @@ module _ (n : ℕ) (r : Residual) (p : IsProper n r) (chosen : ℕ → Bool) (c 
       → may_stay o u y ≡ true
   may_stay_beside x y u (Some w) h k e f apart i left =
       let twice = two_pass (is_held chosen w.item) 0 r.options x y p.options_rise h k in
-      grind (arith, common_steps, in-find r.items u.item w, c.met w, twice, ltb-false, holds_use x.uses u i)
+      grind (arith, in-find r.items u.item w, c.met w, twice, ltb-false, holds_use x.uses u i)
   may_stay_beside x y u None h k e f apart i left = by_bool (nat_le u.item n) (λ q.
       let w = p.items_left x u.item h (leb-true u.item n q) (holds_use x.uses u i) in
       let found = rw w.2 at (find-in r.items w.0 p.items_apart w.1) in cc)
@@ -215,7 +214,7 @@ module _ (n : ℕ) (r : Residual) (p : IsProper n r) (chosen : ℕ → Bool) (c 
   pub branch_for : (w : Wanted) → IsIn r.items w → (b : Branch) × IsIn (branches_of r w) b × Fits r chosen b
   branch_for w h = by_number (passing (is_held chosen w.item) r.options) (λ e.
       let fits : Fits r chosen (none_branch r w.item (branch_count r w)) =
-      grind (arith, common_steps, filter-in, one_passes (is_held chosen w.item) r.options) in
+      grind (arith, filter-in, one_passes (is_held chosen w.item) r.options) in
       (none_branch r w.item (branch_count r w), nones-in r w (omega (arith, c.met w h, e)), fits)) (λ k e.
       let hs = holding w.item r.options in
       let taken : Numbered → Bool = λ o. chosen o.number in

@@ -22,7 +22,6 @@ use Rattle.xc_search.proofs.listing.BranchesLess.{by_branches}
 use Rattle.xc_search.proofs.listing.BranchLists.{takes}
 use Rattle.xc_search.proofs.listing.EachBranch.{nones, behind, in-branches, in-nones, rise_behind}
 use Rattle.xc_search.proofs.listing.Unrolled.{listing_at}
-use Rattle.std.proofs.lemmas.Grind.{common_steps}
 use Rattle.xc_search.proofs.residual.NumberedOnce.{two_rise}
 
 -- no choice fits two branches
@@ -49,7 +48,7 @@ branches_apart r w rise =
     (EachTwo-enumerated (λ (x y : Numbered). x.number < y.number) 1 (take n hs)
     (EachTwo-take (λ (x y : Numbered). x.number < y.number) n hs
     (two_rise 0 hs (rises_filter (λ o. holds o w.item) 0 r.options rise))))))
-    (grind (arith, common_steps)) (none_apart r w)
+    (grind arith) (none_apart r w)
 
 -- two members are of no one choice
 abbrev pub Differ : Residual → List Choice → List Choice → Type 0

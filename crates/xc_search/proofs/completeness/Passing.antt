@@ -1,5 +1,4 @@
 -- How many of the options that are left pass a test, and the first that does.
-use Rattle.std.proofs.lemmas.Grind.{common_steps}
 use Rattle.std.proofs.Common.{ℕ, zero, suc, ◌≡◌, ◌≢◌, ◌+◌, ◌≤◌, Bool, true, false, cond, List, [], ◌∷◌, length, filter}
 use Rattle.std.proofs.Common.{take, refl, ap, ◌∙◌, arith, inl, inr, not, ◌&&◌, eqb}
 use Rattle.std.proofs.lemmas.Bool.Decides.{nat_tests}
@@ -25,7 +24,7 @@ none_pass t (o ∷ os) h = rw (h o (inl refl)) (none_pass t os (λ y k. h y (inr
 pub one_passes : (t : Numbered → Bool) (os : List Numbered) (x : Numbered) → IsIn os x → t x ≡ true → 1 ≤ passing t os
 one_passes t [] x h e = absurd h
 one_passes t (o ∷ os) x (inl q) e = let here : t o ≡ true = ap t q ∙ e in rw here (omega arith)
-one_passes t (o ∷ os) x (inr q) e = grind (arith, common_steps, one_passes t os x q e)
+one_passes t (o ∷ os) x (inr q) e = grind (arith, one_passes t os x q e)
 
 -- those who pass the one test pass the other too, but for x
 pub one_less : (t u : Numbered → Bool) (n : ℕ) (os : List Numbered) (x : Numbered) → Rises n (numbers os) → IsIn os x
@@ -50,7 +49,7 @@ pub first_passing : (t : Numbered → Bool) (a : ℕ) (os : List Numbered) (n : 
     (x : Numbered) × IsIn (take n os) x × (t x ≡ true) × ((y : Numbered) → IsIn os y → t y ≡ true → x.number ≤ y.number)
 first_passing t a [] n r h l = absurd (omega (arith, h))
 first_passing t a (o ∷ os) zero r h l = absurd (omega (arith, l, length-filter-le t (o ∷ os)))
-first_passing t a (o ∷ os) (suc n) r h l = grind (arith, common_steps, first_passing t o.number os n r.1, above_in)
+first_passing t a (o ∷ os) (suc n) r h l = grind (arith, first_passing t o.number os n r.1, above_in)
 
 -- ---- the uses of an option
 

@@ -1,5 +1,4 @@
 -- What holds of the whole problem, and of all that its branches leave.
-use Rattle.std.proofs.lemmas.Grind.{common_steps}
 use Rattle.std.proofs.Common.{ℕ, ◌≡◌, ◌+◌, ◌<◌, ◌≤◌, Bool, true, not, ◌&&◌, eqb, List, [], ◌∷◌, ap}
 use Rattle.std.proofs.Common.{map, filter, find, Some, None, arith, subst, inl, inr, eqb-true}
 use Rattle.std.proofs.Common.{eq-eqb, lt-ltb, ltb-true, ne_eqb}
@@ -55,13 +54,13 @@ pub record IsProper (n : ℕ) (r : Residual) : Type 0 where
 
 apart-filter : (q : Wanted → Bool) (ws : List Wanted) → AreApart ws → AreApart (filter q ws)
 apart-filter q [] a = tt
-apart-filter q (w ∷ ws) a = grind (arith, common_steps, apart-filter q ws a.1, each-filter)
+apart-filter q (w ∷ ws) a = grind (arith, apart-filter q ws a.1, each-filter)
 
 pub item-spend_one : (x : Numbered) (w : Wanted) → (spend_one x w).item ≡ w.item
-item-spend_one x w = grind (arith, common_steps)
+item-spend_one x w = grind arith
 
 apart-spend : (x : Numbered) (ws : List Wanted) → AreApart ws → AreApart (map (spend_one x) ws)
-apart-spend x ws a = grind (arith, common_steps, EachTwo-map, EachTwo-weaker, item-spend_one)
+apart-spend x ws a = grind (arith, EachTwo-map, EachTwo-weaker, item-spend_one)
 
 -- `item_left` finds the items that are left, and no others
 pub find-in : (ws : List Wanted) (w : Wanted) → AreApart ws → IsIn ws w → find (λ v. eqb v.item w.item) ws ≡ Some w
@@ -115,7 +114,7 @@ module _ {n : ℕ} {r : Residual} {w : Wanted} (p : IsProper n r) where
   left_behind (takes_one k m x known at) o h v j here =
       let stay : stays r x o ≡ true = and_right _ _ (in-filter (goes_on r w.item x) _ _ h).1 in
       let some : nat_lt 0 (spend_one x v).high ≡ true =
-      grind (arith, common_steps, p.sound v j, ltb-true, lt-ltb, used_up, find-in r.items v p.items_apart j) in
+      grind (arith, p.sound v j, ltb-true, lt-ltb, used_up, find-in r.items v p.items_apart j) in
       (spend_one x v, filter-in _ _ _ (map-in _ _ _ j) some, item-spend_one x v)
   left_behind (takes_none m free) o h v j here = grind (arith, in-filter, eqb-true, filter-in)
 
@@ -135,7 +134,7 @@ has_item p j h l = by_option (slice_get p.bounds (j - 1))
 
 apart_from : (k : ℕ) (bs : List Bounds) → AreApart (wanted_from (k + 1) bs)
 apart_from k [] = tt
-apart_from k (b ∷ bs) = grind (arith, common_steps, apart_from (k + 1) bs, each_from, with_bounds)
+apart_from k (b ∷ bs) = grind (arith, apart_from (k + 1) bs, each_from, with_bounds)
 
 pub sound_item : (p : Puzzle) → IsValid p → (o : Numbered) (j : ℕ) → IsIn (numbered_options p) o → holds o j ≡ true
     → IsItem p j

@@ -1,5 +1,4 @@
 -- Each branch leaves less: what holds of what is left, where it holds of what its branches leave, holds of all.
-use Rattle.std.proofs.lemmas.Grind.{common_steps}
 use Rattle.std.proofs.Common.{ℕ, ◌≡◌, ◌<◌, Bool, true, false, not, ◌&&◌, List, [], ◌∷◌, length, filter}
 use Rattle.std.proofs.Common.{zero, suc, Some, None, refl, arith, inl, inr, le-leb, eq-eqb, eqb}
 use Rattle.xc_search.specs.inner.Sizes.{size_of}
@@ -19,28 +18,28 @@ pub less_options : (i : ℕ) (q : Numbered → Numbered → Bool) → ((x : Numb
     → (os : List Numbered) → AllByRecursion (λ x. length (filter (q x) os) < length os) (holding i os)
 less_options i q fails [] = tt
 less_options i q fails (o ∷ os) =
-    grind (arith, common_steps, less_options i q fails os, each_weaker, length-filter-cons, length-filter-le)
+    grind (arith, less_options i q fails os, each_weaker, length-filter-cons, length-filter-le)
 
 picks_less : (r : Residual) (i : ℕ) → AllByRecursion (λ x. size_of (pick r i x) < size_of r) (holding i r.options)
 picks_less r i =
     each_weaker (λ x. length (pick r i x).options < length r.options) _ (holding i r.options)
-    (λ x h. grind (arith, common_steps, length-filter-le, length-map))
+    (λ x h. grind (arith, length-filter-le, length-map))
     (less_options i (λ x o. not (holds o i && nat_le o.number x.number) && stays r x o)
     (λ x e. rw (e, le-leb x.number x.number (omega arith))) r.options)
 
 pub less_items : (w : Wanted) (ws : List Wanted) → IsIn ws w
     → length (filter (λ v. not (eqb v.item w.item)) ws) < length ws
 less_items w [] h = absurd h
-less_items w (v ∷ vs) (inl e) = grind (arith, common_steps, eq-eqb, length-filter-le)
-less_items w (v ∷ vs) (inr h) = grind (arith, common_steps, less_items w vs h, length-filter-cons)
+less_items w (v ∷ vs) (inl e) = grind (arith, eq-eqb, length-filter-le)
+less_items w (v ∷ vs) (inr h) = grind (arith, less_items w vs h, length-filter-cons)
 
 best_is_one : (beats : Wanted → Wanted → Bool) (w : Wanted) (ws : List Wanted) → IsIn (w ∷ ws) (best_of beats w ws)
 best_is_one beats w [] = inl refl
-best_is_one beats w (v ∷ vs) = grind (arith, common_steps, best_is_one beats v vs, best_is_one beats w vs)
+best_is_one beats w (v ∷ vs) = grind (arith, best_is_one beats v vs, best_is_one beats w vs)
 
 pub least_is_one : (count : Wanted → ℕ) (ws : List Wanted) (w : Wanted) → first_least count ws ≡ Some w → IsIn ws w
 least_is_one count [] w e = cc
-least_is_one count (v ∷ vs) w e = grind (arith, common_steps, best_is_one)
+least_is_one count (v ∷ vs) w e = grind (arith, best_is_one)
 
 pub branches_less : (r : Residual) (w : Wanted) → branch_item r ≡ Some w
     → AllByRecursion (λ b. size_of b.next < size_of r) (branches_of r w)

@@ -1,6 +1,5 @@
 -- The branches of an item, one by one.
 use Rattle.std.proofs.Common.{arith}
-use Rattle.std.proofs.lemmas.Grind.{common_steps}
 use Rattle.std.proofs.Common.{ℕ, ◌≡◌, true, cond, eqb, List, [], ◌∷◌, map, take, Some, None, refl}
 use Rattle.std.proofs.Common.{eqb-true, eq-eqb}
 use Rattle.xc_search.specs.declared.choice.Choice.{Choice}
@@ -25,7 +24,7 @@ nones r w = cond (eqb w.low 0) (none_branch r w.item (branch_count r w) ∷ []) 
 
 pub in-nones : (r : Residual) (w : Wanted) (b : Branch) → IsIn (nones r w) b
     → (w.low ≡ 0) × (none_branch r w.item (branch_count r w) ≡ b)
-in-nones r w b h = grind (arith, common_steps, eqb-true)
+in-nones r w b h = grind (arith, eqb-true)
 
 pub in-branches : (r : Residual) (w : Wanted) (b : Branch) → IsIn (branches_of r w) b → IsBranchOf r w b
 in-branches r w b h =
@@ -51,7 +50,7 @@ takes-in r w x h =
 
 pub nones-in : (r : Residual) (w : Wanted) → w.low ≡ 0
     → IsIn (branches_of r w) (none_branch r w.item (branch_count r w))
-nones-in r w e = grind (arith, common_steps, eq-eqb, append-in_right)
+nones-in r w e = grind (arith, eq-eqb, append-in_right)
 
 -- ---- one level
 
@@ -63,7 +62,7 @@ behind rest b = map (λ m. b.choice ∷ m) (rest b.next)
 pub in-level : (rest : Residual → List (List Choice)) (w : Wanted) (r : Residual) (m : List Choice)
     → IsIn (level rest (Some w) r) m →
     (b : Branch) × (l : List Choice) × IsIn (branches_of r w) b × IsIn (rest b.next) l × (b.choice ∷ l ≡ m)
-in-level rest w r m h = grind (arith, common_steps, in-flat_map, in-map)
+in-level rest w r m h = grind (arith, in-flat_map, in-map)
 
 pub level-in : (rest : Residual → List (List Choice)) (w : Wanted) (r : Residual) (b : Branch) (l : List Choice)
     → IsIn (branches_of r w) b → IsIn (rest b.next) l → IsIn (level rest (Some w) r) (b.choice ∷ l)

@@ -1,6 +1,5 @@
 -- The listing is one level over itself, and what holds of members by their branches.
 use Rattle.std.proofs.Common.{arith}
-use Rattle.std.proofs.lemmas.Grind.{common_steps}
 use Rattle.std.proofs.Common.{◌≡◌, List, [], ◌∷◌, Option, Some, None, ap, ◌∙◌, subst, inl, inr}
 use Rattle.xc_search.specs.declared.choice.Choice.{Choice}
 use Rattle.xc_search.specs.Listing.{Wanted, Residual, Branch, branch_item, level, listing_to, listing}
@@ -14,7 +13,7 @@ use Rattle.xc_search.proofs.listing.ByDepth.{by_depth}
 pub listing_unrolled : (r : Residual) → listing r ≡ level listing (branch_item r) r
 unfolding listing listing_to
 listing_unrolled r =
-    by_depth {level = level} {to = listing_to} (grind (arith, common_steps, flat_map-same, each_weaker)) r
+    by_depth {level = level} {to = listing_to} (grind (arith, flat_map-same, each_weaker)) r
 
 pub listing_at : (r : Residual) (o : Option Wanted) → branch_item r ≡ o → listing r ≡ level listing o r
 listing_at r o e = listing_unrolled r ∙ ap (λ o. level listing o r) e

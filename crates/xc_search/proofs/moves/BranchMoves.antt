@@ -1,5 +1,4 @@
 -- A branch of a level, by its moves and by what is left.
-use Rattle.std.proofs.lemmas.Grind.{common_steps}
 use Rattle.std.proofs.Common.{ℕ, suc, ◌≡◌, ◌≢◌, ◌+◌, ◌-◌, ◌<◌, ◌≤◌, true, false, not, eqb, List}
 use Rattle.std.proofs.Common.{[], ◌∷◌, ◌++◌, length, map, filter, take, drop, Some, refl, sym, ap, ◌∙◌, arith, subst}
 use Rattle.std.proofs.Common.{eq-eqb, le-leb}
@@ -71,11 +70,11 @@ taken_at p t k m x u us vs option n e h le w =
     (uses_committed (u ∷ vs ++ us) (cut (residual_of p t) u.item x.number) apart n.searchable.wanted
     ∙ committed_picks (residual_of p t) u.item x us (u ∷ vs) w)
     (commit_all p (vs ++ us) s (commit_use u (cut (residual_of p t) u.item x.number)) apart.1 ready_then
-    (grind (arith, common_steps, before, legal_branch, within, le, still_wanted u.item (wanted_after p t))))
+    (grind (arith, before, legal_branch, within, le, still_wanted u.item (wanted_after p t))))
 
 option_at_item : (p : Puzzle) (i : ℕ) (x : Numbered) → IsOption p x → place_in i x.uses < length x.uses
     → IsOptionAt p i x.number
-option_at_item p i x option within = grind (arith, common_steps, each_weaker, recursion_from_All)
+option_at_item p i x option within = grind (arith, each_weaker, recursion_from_All)
 
 pub taken : (p : Puzzle) (t : List Move) (i k m : ℕ) (x : Numbered) → IsNode p t i
     → slice_get (holding i (left p t)) k ≡ Some x → (high_at p i - spends i (Spend i ∷ t) ≢ 0 → m ≡ suc k) → m ≤ suc k
@@ -99,7 +98,7 @@ taken p t i k m x n e h le =
 none_dec : (i : ℕ) (ws : List Wanted)
     → filter (λ w. not (eqb w.item i)) (map (dec i) ws) ≡ filter (λ w. not (eqb w.item i)) ws
 none_dec i [] = refl
-none_dec i (w ∷ ws) = grind (arith, common_steps, by_bool, none_dec i ws)
+none_dec i (w ∷ ws) = grind (arith, by_bool, none_dec i ws)
 
 spent_none : (p : Puzzle) (t : List Move) (i : ℕ) → none (residual_of p (Spend i ∷ t)) i ≡ none (residual_of p t) i
 spent_none p t i = ap (λ r. none r i) (residual_spend p t i) ∙ as_residual _ _ _ _ (none_dec i (wanted_after p t)) refl
@@ -118,4 +117,4 @@ none_taken p t i m n = by_bool (eqb (high_at p i - spends i (Spend i ∷ t)) 0) 
     (ap (filter (λ o. not (holds o i))) (left_off p m i s n.is_open) ∙ off_others i m (left p s)) ∙ spent_none p t i))
 
 pub legal_after_none : (p : Puzzle) (i : ℕ) (t : List Move) → IsItem p i → AreLegal p t → AreLegal p (after_none i t)
-legal_after_none p i t h l = grind (arith, common_steps)
+legal_after_none p i t h l = grind arith

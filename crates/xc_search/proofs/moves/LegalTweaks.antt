@@ -42,7 +42,7 @@ kept_tweaked f (suc m) i s h = h (tweaked m i s) ∙ kept_tweaked f m i s h
 
 pub listed_tweaked : (p : Puzzle) (m i : ℕ) (s : List Move) → listed p (tweaked m i s) i ≡ drop m (listed p s i)
 listed_tweaked p zero i s = refl
-listed_tweaked p (suc m) i s = grind (arith, common_steps, listed_tweaked p m i s, eq-eqb, drop_one)
+listed_tweaked p (suc m) i s = grind (arith, listed_tweaked p m i s, eq-eqb, drop_one)
 
 pub legal_tweaked : (p : Puzzle) (m i : ℕ) (s : List Move) → AreLegal p s → IsItem p i → purified i s ≡ None
     → m ≤ length (listed p s i) → AreLegal p (tweaked m i s)
@@ -65,7 +65,7 @@ off i (suc m) (o ∷ os) = cond (holds o i) (off i m os) (o ∷ off i (suc m) os
 
 not_first : (o : Numbered) (os : List Numbered) → Rises o.number (numbers os) → is_among (take 1 os) o ≡ false
 not_first o [] r = refl
-not_first o (x ∷ os) r = grind (arith, common_steps, ne_eqb)
+not_first o (x ∷ os) r = grind (arith, ne_eqb)
 
 off_one : (i n : ℕ) (os : List Numbered) → Rises n (numbers os) → without (take 1 (holding i os)) os ≡ off i 1 os
 off_one i n [] r = refl
@@ -110,15 +110,15 @@ left_off p (suc m) i s o = rw (kept_tweaked (is_open i) m i s (λ _. refl) ∙ o
 -- ---- a level is begun at an open primary item
 
 pub legal_node : (p : Puzzle) (i : ℕ) (t : List Move) → IsNode p t i → AreLegal p (after_spend p i t)
-legal_node p i t n = grind (arith, common_steps, has_left)
+legal_node p i t n = grind (arith, has_left)
 
 pub legal_branch : (p : Puzzle) (m i : ℕ) (t : List Move) → IsNode p t i → m ≤ length (holding i (left p t))
     → AreLegal p (tweaked m i (after_spend p i t))
-legal_branch p m i t n h = grind (arith, common_steps, legal_tweaked, legal_node, primary_pure, listed_open)
+legal_branch p m i t n h = grind (arith, legal_tweaked, legal_node, primary_pure, listed_open)
 
 pub listed_branch : (p : Puzzle) (m i : ℕ) (t : List Move) → IsNode p t i
     → listed p (tweaked m i (after_spend p i t)) i ≡ drop m (holding i (left p t))
-listed_branch p m i t n = grind (arith, common_steps, listed_tweaked, listed_open)
+listed_branch p m i t n = grind (arith, listed_tweaked, listed_open)
 
 -- before option x at place k of the item's list is committed for the other items
 pub branch_cut : (p : Puzzle) (u : Use) (t : List Move) (k m : ℕ) (x : Numbered) → IsNode p t u.item

@@ -1,5 +1,4 @@
 -- The covers of a problem are those of its parts, and no two parts share one.
-use Rattle.std.proofs.lemmas.Grind.{common_steps}
 use Rattle.std.proofs.Common.{ℕ, ◌≡◌, ◌≢◌, ◌≤◌, true, not, List, [], ◌∷◌, length, map, filter, refl}
 use Rattle.std.proofs.Common.{sym, ap, ap₂, ◌∙◌, arith, subst, inl, inr, eqb-true, eq-eqb}
 use Rattle.std.specs.Prelude.{Contains}
@@ -49,7 +48,7 @@ in_its_part p i s x c one o h =
     let known = each_in _ _ _ (recursion_from_All (IsNumber p) s c.known) h in
     let y = option_of p o known in
     let taken : IsIn s y.0.number = subst (IsIn s) (sym y.2) h in
-    let kept : is_in_part i x y.0 ≡ true = grind (arith, common_steps, by_bool, eq-eqb, taken) in
+    let kept : is_in_part i x y.0 ≡ true = grind (arith, by_bool, eq-eqb, taken) in
     let at = number_of_option p i x y.0 (filter-in _ _ _ y.1 kept) in
     (at.0, at.1, at.2 ∙ y.2)
 
@@ -80,7 +79,7 @@ module _ (p : Puzzle) (v : IsValid p) (i : ℕ) (once : IsHeldOnce p i) where
   same_one x y s c h k a b =
       let one = the_one s c in
       let of_x = of_item p i x (in-contains _ _ h) in
-      let of_y = of_item p i y (in-contains _ _ k) in grind (arith, common_steps, same_number, options_rise p)
+      let of_y = of_item p i y (in-contains _ _ k) in grind (arith, same_number, options_rise p)
 
   as_cover : {x : Numbered} {s : List ℕ} → IsPartCover p i x s → IsCover p s
   as_cover {x} h = subst (IsCover p) (sym h.3) (cover_of_problem p i x h.1 h.2)

@@ -1,5 +1,4 @@
 -- A part lists the same where it is a problem of its own, with its item in front.
-use Rattle.std.proofs.lemmas.Grind.{common_steps}
 use Rattle.std.proofs.Common.{ℕ, zero, suc, ◌≡◌, ◌+◌, ◌<◌, ◌≤◌, List, [], ◌∷◌, map}
 use Rattle.std.proofs.Common.{filter, Some, refl, sym, ap, ◌∙◌, arith, eqb-true, ne_eqb}
 use Rattle.xc_input.proofs.OptionLemmas.NumberedOptions.{numbered_from}
@@ -37,7 +36,7 @@ items_behind : (i n : ℕ) (bs : List Bounds) → 1 ≤ i → i < n
     → map (renumber_item (front_item i)) (wanted_from n (map bounds_of (filter (is_other i) (wanted_from n bs)))) ≡
     filter (is_other i) (wanted_from n bs)
 items_behind i n [] h k = refl
-items_behind i n (b ∷ bs) h k = grind (arith, common_steps, ne_eqb, nat_tests, items_behind i (n + 1) bs h)
+items_behind i n (b ∷ bs) h k = grind (arith, ne_eqb, nat_tests, items_behind i (n + 1) bs h)
 
 items_before : (i n : ℕ) (bs : List Bounds) → 1 ≤ n → n ≤ i
     → map (renumber_item (front_item i)) (wanted_from (n + 1) (map bounds_of (filter (is_other i) (wanted_from n bs))))
@@ -50,7 +49,7 @@ items_before i n (b ∷ bs) h k = grind (arith, items_behind, eqb-true, items_be
 uses_back : (i : ℕ) (us : List Use) → 1 ≤ i → AllByRecursion (λ u. 1 ≤ u.item) us
     → map (renumber_use (front_item i)) (map (renumber_use (front_number i)) us) ≡ us
 uses_back i [] h a = refl
-uses_back i (u ∷ us) h a = grind (arith, common_steps, nat_tests, uses_back i us h a.1)
+uses_back i (u ∷ us) h a = grind (arith, nat_tests, uses_back i us h a.1)
 
 options_back : (i k : ℕ) (g : ℕ → ℕ) (os : List Numbered) → 1 ≤ i
     → ((j : ℕ) (o : Numbered) → slice_get os j ≡ Some o → g (k + suc j) ≡ o.number)
@@ -76,7 +75,7 @@ parts_are_listed p v w h x =
 
     known : (y : Numbered) → Contains (whole (front_part p w x)).options y → IsNumber (part p w.item x) y.number
     known y k =
-        grind (arith, common_steps, numbered_at 0 (front_part p w x).options y (in-contains _ _ k), length-map)
+        grind (arith, numbered_at 0 (front_part p w x).options y (in-contains _ _ k), length-map)
 
     uses_known : AllByRecursion (λ o. AllByRecursion (λ u. 1 ≤ u.item) o.uses) (part_options p w.item x)
     uses_known = each_from _ (part_options p w.item x) (λ o k.

@@ -33,7 +33,7 @@ use Rattle.xc_search.proofs.completeness.Proper.{used_up}
 single : (n : ℕ) (xs : List Numbered) (x : Numbered) → Rises n (numbers xs) → IsIn xs x
     → ((y : Numbered) → IsIn xs y → y.number ≡ x.number) → xs ≡ x ∷ []
 single n [] x rise h same = absurd h
-single n (y ∷ []) x rise h same = grind (arith, common_steps)
+single n (y ∷ []) x rise h same = grind arith
 single n (y ∷ z ∷ zs) x rise h same = absurd (omega (arith, rise.1.0, same y (inl refl), same z (inr (inl refl))))
 
 abbrev pub is_other : ℕ → Wanted → Bool
@@ -42,7 +42,7 @@ is_other i v = not (eqb v.item i)
 find_other : (i j : ℕ) (ws : List Wanted) → eqb i j ≡ false
     → find (λ v. eqb v.item j) (filter (is_other i) ws) ≡ find (λ v. eqb v.item j) ws
 find_other i j [] e = refl
-find_other i j (v ∷ ws) e = grind (arith, common_steps, find_other i j ws e, find, eqb-true)
+find_other i j (v ∷ ws) e = grind (arith, find_other i j ws e, find, eqb-true)
 
 -- an option of the item is one of the problem
 pub of_item : (p : Puzzle) (i : ℕ) (x : Numbered) → IsIn (holding i (numbered_options p)) x
@@ -51,7 +51,7 @@ of_item p i x h = in-filter (λ o. holds o i) (numbered_options p) x h
 
 -- the bounds of an item that is to be held once
 pub held_once : (p : Puzzle) (w : Wanted) → IsIn (whole p).items w → IsHeldOnce p w.item → (w.low ≡ 1) × (w.high ≡ 1)
-held_once p w h once = let at = with_bounds 0 p.bounds w h in grind (arith, common_steps, at, once)
+held_once p w h once = let at = with_bounds 0 p.bounds w h in grind (arith, at, once)
 
 -- w is an item of the problem, to be held once, and x an option that holds it
 module _ (p : Puzzle) (v : IsValid p) (w : Wanted) (wanted : IsIn (whole p).items w) (once : IsHeldOnce p w.item)
@@ -68,8 +68,8 @@ module _ (p : Puzzle) (v : IsValid p) (w : Wanted) (wanted : IsIn (whole p).item
         let at = of_item p w.item x h in
         let rise = rises_filter (is_in_part w.item x) 0 (numbered_options p) (options_rise p) in
         single 0 _ x (rises_filter (λ o. holds o w.item) 0 (part_options p w.item x) rise)
-        (grind (arith, common_steps, filter-in, eq-eqb, at))
-        (λ y k. grind (arith, common_steps, in-filter, eqb-true, k))
+        (grind (arith, filter-in, eq-eqb, at))
+        (λ y k. grind (arith, in-filter, eqb-true, k))
 
     same_left : (j : ℕ) → item_left (part_in_front p w x) j ≡ item_left (whole p) j
     same_left j = by_bool (eqb w.item j) (λ e. grind (arith, e, eqb-true, found))
@@ -83,7 +83,7 @@ module _ (p : Puzzle) (v : IsValid p) (w : Wanted) (wanted : IsIn (whole p).item
         ∙ ap (map (spend_one x)) (filter_both _ _ (whole p).items
         ∙ filter_same (λ v. is_other w.item v && is_wanted (spend_one x v)) (λ v. is_wanted (spend_one x v)) _
         (each_from _ (whole p).items (λ u k.
-        grind (arith, common_steps, gone, same_wanted _ (whole p) u w proper k wanted))))
+        grind (arith, gone, same_wanted _ (whole p) u w proper k wanted))))
         ∙ sym (filter-map is_wanted (spend_one x) (whole p).items))
 
     same_options : (pick (part_in_front p w x) w.item x).options ≡ (pick (whole p) w.item x).options
@@ -91,7 +91,7 @@ module _ (p : Puzzle) (v : IsValid p) (w : Wanted) (wanted : IsIn (whole p).item
         let last = le-ltb 1 w.high (omega (arith, (held_once p w wanted once).1)) in
         simp (same_left, filter_both) (filter_same _ _ _ (each_from _ (numbered_options p) (λ o k.
         let used = used_up (whole p) x o w in
-        grind (arith, common_steps, used, last, found, and_right, of_item p w.item x h, and-false))))
+        grind (arith, used, last, found, and_right, of_item p w.item x h, and-false))))
 
     -- a part has one branch
     pub part_branch :
@@ -103,7 +103,7 @@ module _ (p : Puzzle) (v : IsValid p) (w : Wanted) (wanted : IsIn (whole p).item
 
     part_listed : (k n : ℕ)
         → behind listing (take_branch (whole p) w.item n (k, x)) ≡ map (first_as k n) (listing (part_in_front p w x))
-    part_listed k n = let listed = part_branch in grind (arith, common_steps, listed, map-map)
+    part_listed k n = let listed = part_branch in grind (arith, listed, map-map)
 
 all_branches : (p : Puzzle) (w : Wanted) → w.low ≡ 1 →
     branches_of (whole p) w ≡ map (take_branch (whole p) w.item (length (holding w.item (numbered_options p))))

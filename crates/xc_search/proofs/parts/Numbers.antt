@@ -28,7 +28,7 @@ IsNumber p k = (1 ≤ k) × (k ≤ option_count p)
 
 distinct_before : (f : ℕ → ℕ) (t : List ℕ) → EachTwo (λ a b. a ≢ b) (map f t) → EachTwo (λ a b. a ≢ b) t
 distinct_before f [] a = tt
-distinct_before f (k ∷ t) a = grind (arith, common_steps, distinct_before f t a.1, each_from, each_in, map-in f t)
+distinct_before f (k ∷ t) a = grind (arith, distinct_before f t a.1, each_from, each_in, map-in f t)
 
 module _ (p : Puzzle) (i : ℕ) (x : Numbered) where
   -- an option of a part is one of the problem
@@ -38,7 +38,7 @@ module _ (p : Puzzle) (i : ℕ) (x : Numbered) where
   -- its uses are the same under both numbers
   pub same_uses : (k : ℕ) → uses_of (part p i x) k ≡ uses_of p (number_in_problem p i x k)
   same_uses zero = refl
-  same_uses (suc k) = grind (arith, common_steps, slice_get-map, uses_known p, in_whole, in-slice_get)
+  same_uses (suc k) = grind (arith, slice_get-map, uses_known p, in_whole, in-slice_get)
 
   -- the option of a number
   pub at_place : (k : ℕ) → IsNumber (part p i x) k → (j : ℕ) × (o : Numbered) × (k ≡ suc j)

@@ -1,5 +1,4 @@
 -- The listing of what is left where its first item is to be held once and one option holds it.
-use Rattle.std.proofs.lemmas.Grind.{common_steps}
 use Rattle.std.proofs.Common.{ℕ, ◌≡◌, ◌<◌, ◌≤◌, true, List, [], ◌∷◌, length, map, filter, Some}
 use Rattle.std.proofs.Common.{refl, sym, ap, ◌∙◌, arith, subst, ◌⊎◌, inl, inr, ltb-true, ltb-false, lt-ltb, le-leb}
 use Rattle.std.proofs.Common.{ne_eqb, append-nil}
@@ -32,7 +31,7 @@ best_least count w (u ∷ us) v h = grind (arith, ltb-true, ltb-false, best_leas
 best_first : (count : Wanted → ℕ) (w : Wanted) (ws : List Wanted) → (best count w ws ≡ w)
     ⊎ (count (best count w ws) < count w)
 best_first count w [] = inl refl
-best_first count w (u ∷ us) = grind (arith, common_steps, best_least count u us u, best_first count w us)
+best_first count w (u ∷ us) = grind (arith, best_least count u us u, best_first count w us)
 
 -- ---- an item without branches
 

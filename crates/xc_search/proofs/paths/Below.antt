@@ -1,6 +1,5 @@
 -- What a path leaves is what the search has there.
 use Rattle.std.proofs.Common.{arith}
-use Rattle.std.proofs.lemmas.Grind.{common_steps}
 use Rattle.std.proofs.Common.{◌≡◌, true, List, [], ◌∷◌, ◌++◌, Some}
 use Rattle.std.proofs.Common.{refl, sym, ap, ◌∙◌}
 use Rattle.std.specs.Prelude.{All, option_and_then}
@@ -37,7 +36,7 @@ led_path p t ls a = (residual_of p t, led_left p t ls a)
 -- what comes is what is below the path, and then what the levels have to give
 pub comes_below : (p : Puzzle) (t : List Move) (ls : List Level) → AreLed p [] t ls
     → coming p t ls true ≡ below p (choices_of p ls) ++ to_give p t ls
-comes_below p t ls a = grind (arith, common_steps, led_left)
+comes_below p t ls a = grind (arith, led_left)
 
 -- the items of the choices are primary
 pub primary_choices : (p : Puzzle) (t : List Move) (ls : List Level) → AreStacked p t ls

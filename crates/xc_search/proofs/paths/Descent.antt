@@ -35,20 +35,20 @@ pub down_more : {p : Puzzle} {numbers : List ℕ} {path : List Choice} {t : List
 down_more {path = path} d s c searchable left = grind (arith, common_steps, left_by_more path c)
 
 pub down_first : (p : Puzzle) (t : List Move) → IsValid p → t ≡ [] → IsDown p [] [] t
-down_first p t v e = grind (arith, common_steps, no_moves_leave_all, starts_standing p v p t [] refl e refl)
+down_first p t v e = grind (arith, no_moves_leave_all, starts_standing p v p t [] refl e refl)
 
 -- there is no path with these numbers where there is no branch with the next of them
 pub down_none : (p : Puzzle) (numbers all : List ℕ) (path other : List Choice) (t : List Move) (k : ℕ) (ks : List ℕ)
     → IsDown p numbers path t → ((c : Choice) → c.k ≡ k → left_by_one c (residual_of p t) ≡ None)
     → all ≡ numbers ++ k ∷ ks → IsPathBy p all other → ⊥
-down_none p numbers all path other t k ks d none e is = grind (arith, common_steps, no_further)
+down_none p numbers all path other t k ks d none e is = grind (arith, no_further)
 
 -- a search stands there
 pub down_standing : {p : Puzzle} {numbers : List ℕ} {path : List Choice} {t : List Move} → IsDown p numbers path t
     → (ls : List Level) → ls ≡ [] → IsStanding p t ls true
 down_standing {p} {path = path} {t} d ls e =
     let less = left_less path (whole p) (residual_of p t) d.left in
-    grind (arith, common_steps, no_moves_leave_all p, shallow_first p)
+    grind (arith, no_moves_leave_all p, shallow_first p)
 
 -- with the members below the path to come
 pub down_coming : {p : Puzzle} {numbers : List ℕ} {path : List Choice} {t : List Move} → IsDown p numbers path t

@@ -1,5 +1,4 @@
 -- The levels of a search lead to where it stands.
-use Rattle.std.proofs.lemmas.Grind.{common_steps}
 use Rattle.std.proofs.Common.{◌≡◌, List, [], ◌∷◌, drop, arith}
 use Rattle.xc_dance.specs.declared.dance.Move.{Move}
 use Rattle.xc_search.specs.declared.level.Level.{Level}
@@ -21,4 +20,4 @@ led_begun p u t s l k ls b a = grind (arith)
 -- the newest level ended
 pub keeps_back : (d e : Dancing) (l : Level) (vs ks : Levels) → vs.levels ≡ l ∷ drop 1 vs.levels →
     e ≡ record d { trail = oldest l.mark d.trail } → ks ≡ record vs { levels = drop 1 vs.levels } → KeepsPath d vs e ks
-keeps_back d e l vs ks top ed ek = grind (arith, common_steps)
+keeps_back d e l vs ks top ed ek = grind arith

@@ -73,8 +73,8 @@ number_at r w j b e =
     let bs = branches_of r w in
     let h : j < n = omega (arith, slice_get_within bs j b e, ap length (branches_end r w), length-drop n bs) in
     let told : b.choice.k ≡ suc j = by_option (slice_get (holding w.item r.options) j)
-    (λ f. grind (arith, common_steps, branch_none r w j h f))
-    (λ x f. grind (arith, common_steps, branch_takes r w j x h f)) in
+    (λ f. grind (arith, branch_none r w j h f))
+    (λ x f. grind (arith, branch_takes r w j x h f)) in
     (h, told)
 
 -- and none whose number is 0 or greater than theirs
@@ -138,7 +138,7 @@ below_left p path s e = ap (λ o. unwrap_or (option_map (λ r. map (λ m. path +
 -- and so are the members below a path
 pub below_run : (p : Puzzle) (path : List Choice) → IsPath p path → (front back : List (List Choice)) ×
     (members p ≡ front ++ (below p path ++ back))
-below_run p path is = grind (arith, common_steps, runs path (whole p) is.0 is.1, below_left p path is.0 is.1)
+below_run p path is = grind (arith, runs path (whole p) is.0 is.1, below_left p path is.0 is.1)
 
 plans_same : (p : Puzzle) (plan paths : List (List Choice)) → AllByRecursion (IsPath p) plan → AllByRecursion
     (IsPath p) paths → map numbers_on paths ≡ map numbers_on plan → plan ≡ paths
@@ -146,7 +146,7 @@ plans_same p [] [] is has e = refl
 plans_same p [] (b ∷ bs) is has e = absurd (cc e)
 plans_same p (a ∷ plan) [] is has e = absurd (cc e)
 plans_same p (a ∷ plan) (b ∷ bs) is has e =
-    grind (arith, common_steps, plans_same p plan bs is.1 has.1, numbers_tell p a b is.0 has.0)
+    grind (arith, plans_same p plan bs is.1 has.1, numbers_tell p a b is.0 has.0)
 
 -- the parts of a cut, by their numbers
 pub cut_told : (p : Puzzle) (plan paths : List (List Choice)) → IsCut p plan → All (IsPath p) paths →

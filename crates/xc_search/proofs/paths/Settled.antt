@@ -1,5 +1,4 @@
 -- What is known of a node that was tried.
-use Rattle.std.proofs.lemmas.Grind.{common_steps}
 use Rattle.std.proofs.Common.{◌≡◌, ◌<◌, true, false, [], refl, sym, ap, ◌∙◌}
 use Rattle.std.proofs.Common.{arith, subst}
 use Rattle.xc_search.specs.Listing.{listing}
@@ -17,7 +16,7 @@ use Rattle.xc_search.proofs.stacked.PassedOver.{stands_behind}
 pub goes_behind : (d e : Dancing) (ls : Levels) → e ≡ d → IsStanding d.puzzle d.trail ls.levels true
     → listing (residual_of d.puzzle d.trail) ≡ [] →
     GoesOn d ls true e ls false × (visits e.puzzle e.trail ls.levels < ahead d.puzzle d.trail ls.levels true)
-goes_behind d e ls same s none = grind (arith, common_steps, stands_behind, work_unrolled, by_option)
+goes_behind d e ls same s none = grind (arith, stands_behind, work_unrolled, by_option)
 
 -- it comes back to the node
 pub comes_back : (d e f : Dancing) (ls ks : Levels) → ls.levels ≡ [] → e ≡ record d { trail = e.trail }

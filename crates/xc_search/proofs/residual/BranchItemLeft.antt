@@ -1,5 +1,4 @@
 -- The branch item by the lists is that of what is left.
-use Rattle.std.proofs.lemmas.Grind.{common_steps}
 use Rattle.std.proofs.Common.{ℕ, suc, ◌≡◌, ◌+◌, true, List, [], ◌∷◌, length, map, Option}
 use Rattle.std.proofs.Common.{Some, refl, ap, ◌∙◌, arith}
 use Rattle.xc_input.specs.declared.problem.Bounds.{Bounds}
@@ -20,18 +19,18 @@ use Rattle.xc_input.proofs.OptionLemmas.FlatParts.{numbered_get-at}
 use Rattle.xc_input.proofs.lists.EachElement.{each_weaker, each-map}
 
 each_open : (p : Puzzle) (t : List Move) → AllByRecursion (λ i. is_open i t ≡ true) (open_items p t)
-each_open p t = grind (arith, common_steps, recursion_from_All, filter_passes)
+each_open p t = grind (arith, recursion_from_All, filter_passes)
 
 counts_same : (p : Puzzle) (t : List Move) → AreLegal p t
     → AllByRecursion (λ w. branches_after p t w ≡ branch_count (residual_of p t) w) (wanted_after p t)
-counts_same p t legal = grind (arith, common_steps, each-map, each_weaker, listed_open, each_open)
+counts_same p t legal = grind (arith, each-map, each_weaker, listed_open, each_open)
 
 -- two counts that are one find one item, with one count
 best_alike : (f g : Wanted → ℕ) (w : Wanted) (ws : List Wanted) → f w ≡ g w → AllByRecursion (λ v. f v ≡ g v) ws →
     (best_of (λ x b. nat_lt (f x) (f b)) w ws ≡ best_of (λ x b. nat_lt (g x) (g b)) w ws)
     × (f (best_of (λ x b. nat_lt (f x) (f b)) w ws) ≡ g (best_of (λ x b. nat_lt (f x) (f b)) w ws))
 best_alike f g w [] e a = (refl, e)
-best_alike f g w (v ∷ vs) e a = grind (arith, common_steps, best_alike f g v vs a.0 a.1, best_alike f g w vs e a.1)
+best_alike f g w (v ∷ vs) e a = grind (arith, best_alike f g v vs a.0 a.1, best_alike f g w vs e a.1)
 
 abbrev with_count : (Wanted → ℕ) → Wanted → ℕ × ℕ
 with_count f w = (w.item, f w)
@@ -39,7 +38,7 @@ with_count f w = (w.item, f w)
 least_with_count : (f g : Wanted → ℕ) (ws : List Wanted) → AllByRecursion (λ v. f v ≡ g v) ws →
     option_map (with_count f) (first_least f ws) ≡ option_map (with_count g) (first_least g ws)
 least_with_count f g [] a = refl
-least_with_count f g (w ∷ ws) a = grind (arith, common_steps, best_alike f g w ws a.0 a.1)
+least_with_count f g (w ∷ ws) a = grind (arith, best_alike f g w ws a.0 a.1)
 
 -- the branch item of what is left, and its number of branches
 abbrev pub choice_of : Residual → Option (ℕ × ℕ)
@@ -59,7 +58,7 @@ wanted_shift p (b ∷ bs) k h =
     let here : bounds_at p (k + 1) ≡ Some b = numbered_get-at p.bounds (k + 1) k refl ∙ rw same at (h 0) in
     let later = wanted_shift p bs (k + 1)
     (λ j. let next : k + suc j ≡ (k + 1) + j = omega arith in rw next at (h (suc j))) in
-    grind (arith, common_steps, here, later)
+    grind (arith, here, later)
 
 pub no_moves_leave_all : (p : Puzzle) → residual_of p [] ≡ whole p
 no_moves_leave_all p =

@@ -1,5 +1,4 @@
 -- Taking an option: its branch item's use first, the others cyclically after it.
-use Rattle.std.proofs.lemmas.Grind.{common_steps}
 use Rattle.std.proofs.Common.{ℕ, suc, ◌≡◌, ◌+◌, ◌<◌, true, not, ◌&&◌, ◌||◌, List, [], ◌∷◌, ◌++◌}
 use Rattle.std.proofs.Common.{length, filter, take, drop, refl, arith, ap, ◌∙◌}
 use Rattle.std.proofs.lemmas.List.Elements.{filter_agree}
@@ -45,7 +44,7 @@ placed i us h =
 held_append : (us vs : List Use) (j : ℕ)
     → is_some (colour_in (us ++ vs) j) ≡ (is_some (colour_in us j) || is_some (colour_in vs j))
 held_append [] vs j = refl
-held_append (u ∷ us) vs j = grind (arith, common_steps, held_append us vs j)
+held_append (u ∷ us) vs j = grind (arith, held_append us vs j)
 
 pub apart_turned : (us vs : List Use) → AreApart (us ++ vs) → AreApart (vs ++ us)
 apart_turned us vs a = EachTwo-swapped Apart apart_sym us vs a

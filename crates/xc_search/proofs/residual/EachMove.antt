@@ -1,5 +1,4 @@
 -- What each move does to what is left.
-use Rattle.std.proofs.lemmas.Grind.{common_steps}
 use Rattle.std.proofs.Common.{ℕ, zero, suc, ◌≡◌, ◌+◌, ◌<◌, ◌≤◌, not, ◌&&◌, eqb, List, ◌∷◌, map}
 use Rattle.std.proofs.Common.{filter, refl, sym, ap, ◌∙◌, arith, ne_eqb}
 use Rattle.std.specs.List.{AllByRecursion, range_with_len}
@@ -18,7 +17,7 @@ use Rattle.std.proofs.Math.Bool.{and_comm}
 use Rattle.std.proofs.lemmas.List.Elements.{filter_agree}
 
 spent_once : (p : Puzzle) (t : List Move) (j i : ℕ) → wanted_at p (Spend j ∷ t) i ≡ dec j (wanted_at p t i)
-spent_once p t j i = grind (arith, common_steps)
+spent_once p t j i = grind arith
 
 -- one Spend lowers the bounds of its item
 pub residual_spend : (p : Puzzle) (t : List Move) (j : ℕ) → residual_of p (Spend j ∷ t) ≡
@@ -33,15 +32,15 @@ covered_items p t j = filter_agree _ _ (λ i. and_comm _ (is_open i t)) _ ∙ sy
 
 -- a Cover takes its item and the options that hold it
 pub residual_cover : (p : Puzzle) (t : List Move) (j : ℕ) → residual_of p (Cover j ∷ t) ≡ none (residual_of p t) j
-residual_cover p t j = grind (arith, common_steps, as_residual, covered_items, filter-map)
+residual_cover p t j = grind (arith, as_residual, covered_items, filter-map)
 
 pub in_range : (a n : ℕ) → AllByRecursion (λ i. (a ≤ i) × (i < a + n)) (range_with_len a n)
 in_range a zero = tt
-in_range a (suc n) = grind (arith, common_steps, in_range (a + 1) n, each_weaker)
+in_range a (suc n) = grind (arith, in_range (a + 1) n, each_weaker)
 
 secondary_items : (p : Puzzle) (t : List Move) (j : ℕ) → primary_count p < j
     → filter (λ i. not (eqb i j) && is_open i t) (range_with_len 1 (primary_count p)) ≡ open_items p t
-secondary_items p t j h = grind (arith, common_steps, filter_same, each_weaker, ne_eqb, in_range)
+secondary_items p t j h = grind (arith, filter_same, each_weaker, ne_eqb, in_range)
 
 -- a Purify takes the options that give its item another colour or none
 pub residual_purify : (p : Puzzle) (t : List Move) (j c : ℕ) → primary_count p < j → residual_of p (Purify j c ∷ t) ≡

@@ -1,5 +1,4 @@
 -- The branch item by a walk over the open items.
-use Rattle.std.proofs.lemmas.Grind.{common_steps}
 use Rattle.std.proofs.Common.{ℕ, ◌≡◌, ◌-◌, ltb, nat_lt, List, [], ◌∷◌, map, filter, Some, None, refl}
 use Rattle.std.proofs.Common.{sym, ap, ◌∙◌, arith, lt-ltb, le-ltb, ◌<◌, ◌≤◌, ◌⊎◌}
 use Rattle.std.specs.List.{best_of}
@@ -21,10 +20,10 @@ best_from p t w is =
     best_of (λ x best. nat_lt (branches_after p t x) (branches_after p t best)) w (map (wanted_at p t) is)
 
 pub open_rises : (p : Puzzle) (t : List Move) → Rises 0 (open_items p t)
-open_rises p t = grind (arith, common_steps, Rises-filter, is_open, Rises-range)
+open_rises p t = grind (arith, Rises-filter, is_open, Rises-range)
 
 pub next_open : (p : Puzzle) (t : List Move) (n k : ℕ) → next_above n (open_items p t) ≡ Some k → IsOpenPrimary p t k
-next_open p t n k e = grind (arith, common_steps, found_open t n k 1 (primary_count p) e)
+next_open p t n k e = grind (arith, found_open t n k 1 (primary_count p) e)
 
 -- w is the best up to item n: with it and the open items behind n the branch item is found
 abbrev IsBest : Puzzle → List Move → Wanted → ℕ → Type 0
@@ -50,22 +49,22 @@ pub walk_on : (p : Puzzle) (t : List Move) (i best n k count : ℕ) → WalksTo 
     (count < best → WalksTo p t k count k) × (best ≤ count → WalksTo p t i best k)
 walk_on p t i best n k count at e counted =
     let rest = next_above-split 0 n k (open_items p t) (open_rises p t) e in
-    grind (arith, common_steps, rest, next_open p t n k e, lt-ltb, le-ltb)
+    grind (arith, rest, next_open p t n k e, lt-ltb, le-ltb)
 
 pub choice_none : (p : Puzzle) (t : List Move) → next_above 0 (open_items p t) ≡ None → choice_after p t ≡ None
 choice_none p t e =
-    grind (arith, common_steps, above_all 0 (open_items p t) (open_rises p t), next_above-none 0 (open_items p t) e)
+    grind (arith, above_all 0 (open_items p t) (open_rises p t), next_above-none 0 (open_items p t) e)
 
 -- an item without branches stays the best
 stays_best : (p : Puzzle) (t : List Move) (i : ℕ) (is : List ℕ) → branches_after p t (wanted_at p t i) ≡ 0
     → best_from p t (wanted_at p t i) is ≡ wanted_at p t i
 stays_best p t i [] e = refl
-stays_best p t i (k ∷ is) e = grind (arith, common_steps, stays_best p t i is e, le-ltb)
+stays_best p t i (k ∷ is) e = grind (arith, stays_best p t i is e, le-ltb)
 
 -- no later item is better
 pub walk_ends : (p : Puzzle) (t : List Move) (i count n : ℕ) → WalksTo p t i count n
     → (next_above n (open_items p t) ≡ None) ⊎ (count ≡ 0) → Some (i, count) ≡ choice_after p t
-walk_ends p t i count n at end = grind (arith, common_steps, next_above-none, stays_best)
+walk_ends p t i count n at end = grind (arith, next_above-none, stays_best)
 
 -- the next open item stands further on
 pub nearer : (p : Puzzle) (t : List Move) (n k : ℕ) → next_above n (open_items p t) ≡ Some k
@@ -75,4 +74,4 @@ nearer p t n k e = omega (arith, next_above-gt n k (open_items p t) e, next_open
 -- where each is to be held once, an open item is to be held once more
 pub once_more : (p : Puzzle) (t : List Move) (i : ℕ) → IsOnce p × AreAllWanted (wanted_after p t) → IsOpenPrimary p t i
     → low_at p i - spends i t ≡ 1
-once_more p t i h o = grind (arith, common_steps, has_left)
+once_more p t i h o = grind (arith, has_left)

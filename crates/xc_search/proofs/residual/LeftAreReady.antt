@@ -1,6 +1,5 @@
 -- The uses of an option that is left are ready to be committed.
 use Rattle.xc_search.specs.inner.Levels.{AreAllWanted}
-use Rattle.std.proofs.lemmas.Grind.{common_steps}
 use Rattle.std.proofs.Common.{ℕ, ◌≡◌, ◌<◌, ◌≤◌, Bool, true, false, leb, List, []}
 use Rattle.std.proofs.Common.{◌∷◌, filter, find, Some, None, refl, ap, ◌∙◌, arith, subst, eqb-true, ltb-true}
 use Rattle.std.proofs.Common.{leb-true}
@@ -47,7 +46,7 @@ purified_second p j d [] l q = cc
 purified_second p j d (m ∷ t) l q = grind (arith, purified_second p j d t, eqb-true)
 
 pub primary_pure : (p : Puzzle) (j : ℕ) (t : List Move) → AreLegal p t → j ≤ primary_count p → purified j t ≡ None
-primary_pure p j t l h = grind (arith, common_steps, by_option, purified_second)
+primary_pure p j t l h = grind (arith, by_option, purified_second)
 
 found_holds : (P : Wanted → Type 0) (q : Wanted → Bool) (ws : List Wanted) (w : Wanted) → AllByRecursion P ws
     → find q ws ≡ Some w → P w
@@ -68,16 +67,16 @@ record IsFree (t : List Move) (x : Numbered) : Type 0 where
   agreeing : (j d : ℕ) → purified j t ≡ Some d → agrees d (colour_at x j) ≡ true
 
 agree_colour : (d c : ℕ) → agrees d (Some c) ≡ true → (d ≡ c) × (0 < c)
-agree_colour d c e = grind (arith, common_steps, eqb-true, ltb-true)
+agree_colour d c e = grind (arith, eqb-true, ltb-true)
 
 not_covered : (t : List Move) (x : Numbered) (u : Use) → IsFree t x → colour_at x u.item ≡ Some u.colour
     → is_covered u.item t ≡ false
-not_covered t x u f e = grind (arith, common_steps, f.uncovered u.item)
+not_covered t x u f e = grind (arith, f.uncovered u.item)
 
 ready_use : (p : Puzzle) (t : List Move) (x : Numbered) (u : Use) → AreLegal p t → AreAllWanted (wanted_after p t)
     → IsFree t x → IsSoundUse p u → colour_at x u.item ≡ Some u.colour → Ready p t u
 ready_use p t x u l a f s e = by_bool (leb u.item (primary_count p))
-    (λ h. grind (arith, common_steps, leb-true, open_if, not_covered, primary_pure, has_left))
+    (λ h. grind (arith, leb-true, open_if, not_covered, primary_pure, has_left))
     (λ h. let second : IsSecondary p u.item = (leb-false _ _ h, s.0.1) in
     by_option (purified u.item t) (λ i. secondary second (open_if u.item t (not_covered t x u f e) i))
     (λ d i. let same = agree_colour d u.colour (subst (λ o. agrees d o ≡ true) e (f.agreeing u.item d i)) in

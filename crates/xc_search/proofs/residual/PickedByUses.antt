@@ -1,7 +1,6 @@
 -- Taking an option use by use comes to `pick`.
 use Rattle.xc_search.specs.inner.Levels.{AreAllWanted}
 use Rattle.std.proofs.Common.{arith}
-use Rattle.std.proofs.lemmas.Grind.{common_steps}
 use Rattle.std.proofs.Common.{ℕ, ◌≡◌, Bool, true, false, cond, eqb, List, [], ◌∷◌, map, filter, find}
 use Rattle.std.proofs.Common.{refl, sym, ap, ap₂, ◌∙◌, eqb-true, eq-eqb, ne_eqb}
 use Rattle.xc_search.proofs.Spent.{less_one}
@@ -50,15 +49,15 @@ committed us r = record {
 -- items apart from j aren't in uses apart from it
 not_held : (j : ℕ) (us : List Use) → AllByRecursion (λ v. eqb j v.item ≡ false) us → is_some (colour_in us j) ≡ false
 not_held j [] a = refl
-not_held j (u ∷ us) a = grind (arith, common_steps, not_held j us a.1, ne_eqb u.item j, eq-eqb j u.item)
+not_held j (u ∷ us) a = grind (arith, not_held j us a.1, ne_eqb u.item j, eq-eqb j u.item)
 
 pub still_wanted : (j : ℕ) (ws : List Wanted) → AreAllWanted (filter is_wanted (map (dec j) ws))
 still_wanted j [] = tt
-still_wanted j (w ∷ ws) = grind (arith, common_steps, still_wanted j ws)
+still_wanted j (w ∷ ws) = grind (arith, still_wanted j ws)
 
 spends_more : (u : Use) (us : List Use) (w : Wanted)
     → spend_uses (u ∷ us) w ≡ cond (eqb w.item u.item) (less_one w) (spend_uses us w)
-spends_more u us w = grind (arith, common_steps, eq-eqb, eqb-true, ne_eqb)
+spends_more u us w = grind (arith, eq-eqb, eqb-true, ne_eqb)
 
 -- the items
 items_more : (u : Use) (us : List Use) (ws : List Wanted) → AllByRecursion (λ v. eqb u.item v.item ≡ false) us

@@ -44,7 +44,7 @@ ready_later p t s v a b c (same_colour h i k l) = same_colour h i (a ∙ k) (b �
 
 pub ready_after : (p : Puzzle) (u : Use) (t : List Move) (v : Use) → eqb v.item u.item ≡ false → Ready p t v
     → Ready p (after_use p u t) v
-ready_after p u t v e r = grind (arith, common_steps, ready_later)
+ready_after p u t v e r = grind (arith, ready_later)
 
 -- ---- the moves are legal
 
@@ -52,9 +52,9 @@ pub spent_self : (i : ℕ) (t : List Move) → spends i (Spend i ∷ t) ≡ suc 
 spent_self i t = let same : eqb i i ≡ true = eq-eqb i i refl in rw same (omega arith)
 
 pub legal_commit : (p : Puzzle) (u : Use) (t : List Move) → AreLegal p t → Ready p t u → AreLegal p (after_use p u t)
-legal_commit p u t l (primary h o k) = grind (arith, common_steps, le-leb)
-legal_commit p u t l (secondary h o) = grind (arith, common_steps, lt-leb, eqb-false)
-legal_commit p u t l (same_colour h c o q) = grind (arith, common_steps, lt-leb, ne_eqb)
+legal_commit p u t l (primary h o k) = grind (arith, le-leb)
+legal_commit p u t l (secondary h o) = grind (arith, lt-leb, eqb-false)
+legal_commit p u t l (same_colour h c o q) = grind (arith, lt-leb, ne_eqb)
 
 -- ---- one use
 
@@ -62,7 +62,7 @@ found_from : (p : Puzzle) (t : List Move) (j a n : ℕ) → a ≤ j → j < a + 
     find (λ w. eqb w.item j) (map (wanted_at p t) (filter (λ i. is_open i t) (range_with_len a n))) ≡ Some
     (wanted_at p t j)
 found_from p t j a zero h k o = absurd (omega (arith, h, k))
-found_from p t j a (suc n) h k o = grind (arith, common_steps, found_from p t j (a + 1) n, eqb-true, eqb-false, find)
+found_from p t j a (suc n) h k o = grind (arith, found_from p t j (a + 1) n, eqb-true, eqb-false, find)
 
 pub found_wanted : (p : Puzzle) (t : List Move) (j : ℕ) → IsPrimary p j → is_open j t ≡ true
     → item_left (residual_of p t) j ≡ Some (wanted_at p t j)
@@ -70,26 +70,26 @@ found_wanted p t j h o = found_from p t j 1 (primary_count p) h.0 (omega (arith,
 
 pub not_found : (p : Puzzle) (t : List Move) (j : ℕ) → primary_count p < j
     → AllByRecursion (λ w. eqb w.item j ≡ false) (wanted_after p t)
-not_found p t j h = grind (arith, common_steps, each-map, each-filter, each_weaker, ne_eqb, in_range)
+not_found p t j h = grind (arith, each-map, each-filter, each_weaker, ne_eqb, in_range)
 
 -- an item that isn't left has nothing to spend
 untouched : (j : ℕ) (ws : List Wanted) → AllByRecursion (λ w. eqb w.item j ≡ false) ws
     → (find (λ w. eqb w.item j) ws ≡ None) × (map (dec j) ws ≡ ws)
 untouched j [] a = (refl, refl)
-untouched j (w ∷ ws) a = grind (arith, common_steps, untouched j ws a.1)
+untouched j (w ∷ ws) a = grind (arith, untouched j ws a.1)
 
 -- every item that is left is as the Spends leave it
 pub as_spent : (p : Puzzle) (t : List Move) → AllByRecursion (λ w. w ≡ wanted_at p t w.item) (wanted_after p t)
-as_spent p t = grind (arith, common_steps, each-map, each_of_all)
+as_spent p t = grind (arith, each-map, each_of_all)
 
 -- an item that was held once more for the last time goes, and another stays
 covered_item : (p : Puzzle) (t : List Move) (j : ℕ) (w : Wanted) → w ≡ wanted_at p t w.item → is_wanted w ≡ true
     → high_at p j - spends j t ≡ 1 → not (eqb (dec j w).item j) ≡ is_wanted (dec j w)
-covered_item p t j w e a h = grind (arith, common_steps, le-ltb, eqb-true, ap (λ (w : Wanted). w.high) e)
+covered_item p t j w e a h = grind (arith, le-ltb, eqb-true, ap (λ (w : Wanted). w.high) e)
 
 kept_item : (p : Puzzle) (t : List Move) (j : ℕ) (w : Wanted) → w ≡ wanted_at p t w.item → is_wanted w ≡ true
     → 1 < high_at p j - spends j t → is_wanted (dec j w) ≡ true
-kept_item p t j w e a h = grind (arith, common_steps, lt-ltb, eqb-true, ap (λ (w : Wanted). w.high) e)
+kept_item p t j w e a h = grind (arith, lt-ltb, eqb-true, ap (λ (w : Wanted). w.high) e)
 
 pub opening_commits : (p : Puzzle) (u : Use) (t : List Move) → AreAllWanted (wanted_after p t) → IsPrimary p u.item
     → is_open u.item t ≡ true → spends u.item t < high_at p u.item →
@@ -128,7 +128,7 @@ pub commit_one : (p : Puzzle) (u : Use) (t : List Move) → AreAllWanted (wanted
 commit_one p u t a (primary h o k) = rw (le-leb u.item (primary_count p) h.1) (opening_commits p u t a h o k)
 commit_one p u t a (secondary h o) = rw (lt-leb u.item (primary_count p) h.0) (by_bool (eqb u.colour 0)
     (λ c. rw c (residual_cover_secondary p t u.item h.0
-    ∙ as_residual _ _ _ _ refl (grind (arith, common_steps, filter_agree, by_option, eqb-true, left))))
+    ∙ as_residual _ _ _ _ refl (grind (arith, filter_agree, by_option, eqb-true, left))))
     (λ c. rw (c, o) (residual_purify p t u.item u.colour h.0)) ∙ secondary_commits p u t a h.0)
 commit_one p u t a (same_colour h c o q) =
     let colour : eqb u.colour 0 ≡ false = ne_eqb u.colour 0 (λ e. omega (arith, c, e)) in

@@ -11,7 +11,7 @@ pub counted_more : {X : Type 0} (f : X → ℕ) (xs : List X) (k : ℕ) (x : X) 
     → sum_by f (take (suc k) xs) ≡ sum_by f (take k xs) + f x
 counted_more f [] k x e = cc
 counted_more f (y ∷ xs) zero x e = let same : y ≡ x = cc in omega (arith, sum_by-cons f y [], ap f same)
-counted_more f (y ∷ xs) (suc k) x e = grind (arith, common_steps, counted_more f xs k x e, sum_by-cons)
+counted_more f (y ∷ xs) (suc k) x e = grind (arith, counted_more f xs k x e, sum_by-cons)
 
 pub few_spends : (bs : List Bounds) (k : ℕ) → AllByRecursion (λ b. b.high ≤ 999999999) bs
     → sum_by (λ (b : Bounds). b.high) (take k bs) ≤ k * 999999999

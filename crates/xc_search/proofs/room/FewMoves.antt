@@ -1,5 +1,4 @@
 -- How many moves of a search stand: an item is closed once, and each of its tweaks takes an option off its list.
-use Rattle.std.proofs.lemmas.Grind.{common_steps}
 use Rattle.std.proofs.Common.{ℕ, zero, suc, ◌≡◌, ◌+◌, ◌<◌, ◌≤◌, List, [], ◌∷◌, length, refl, arith, eq-eqb}
 use Rattle.std.proofs.Common.{eqb, eqb-true, length-drop}
 use Rattle.xc_input.proofs.OptionLemmas.NumberedOptions.{numbered_from}
@@ -26,9 +25,9 @@ abbrev still_all : Puzzle → List Move → ℕ
 still_all p t = total (still p t) (range_with_len 1 (item_count p))
 
 no_more : (p : Puzzle) (t : List Move) (m : Move) (i : ℕ) → still p (m ∷ t) i ≤ still p t i
-no_more p t (Cover j) i = grind (arith, common_steps, length-filter-le)
-no_more p t (Purify j c) i = grind (arith, common_steps, length-filter-le)
-no_more p t (Tweak j) i = grind (arith, common_steps, eqb-true, length-filter-le)
+no_more p t (Cover j) i = grind (arith, length-filter-le)
+no_more p t (Purify j c) i = grind (arith, length-filter-le)
+no_more p t (Tweak j) i = grind (arith, eqb-true, length-filter-le)
 no_more p t (Spend j) i = omega arith
 
 one_less : (p : Puzzle) (t : List Move) (m : Move) (j : ℕ) → IsItem p j → still p (m ∷ t) j < still p t j
@@ -38,15 +37,15 @@ one_less p t m j at less =
 
 moves_counted : (p : Puzzle) (t : List Move) → AreLegal p t → length t + still_all p t ≤ spendings t + still_all p []
 moves_counted p [] l = omega arith
-moves_counted p (Cover j ∷ t) l = grind (arith, common_steps, one_less p t (Cover j) j, moves_counted p t l.1)
-moves_counted p (Purify j c ∷ t) l = grind (arith, common_steps, one_less p t (Purify j c) j, moves_counted p t l.1)
+moves_counted p (Cover j ∷ t) l = grind (arith, one_less p t (Cover j) j, moves_counted p t l.1)
+moves_counted p (Purify j c ∷ t) l = grind (arith, one_less p t (Purify j c) j, moves_counted p t l.1)
 moves_counted p (Tweak j ∷ t) l =
-    grind (arith, common_steps, moves_counted p t l.1, one_less p t (Tweak j) j, eq-eqb j j refl, length-drop)
+    grind (arith, moves_counted p t l.1, one_less p t (Tweak j) j, eq-eqb j j refl, length-drop)
 moves_counted p (Spend j ∷ t) l = omega (arith, moves_counted p t l.1)
 
 held_le : (u : Use) (us : List Use) (i : ℕ)
     → one_if (is_some (colour_in (u ∷ us) i)) ≤ one_if (eqb u.item i) + one_if (is_some (colour_in us i))
-held_le u us i = grind (arith, common_steps)
+held_le u us i = grind arith
 
 held_few : (us : List Use) (a n : ℕ) → total (λ i. one_if (is_some (colour_in us i))) (range_with_len a n) ≤ length us
 held_few [] a n = omega (arith, total_zero (range_with_len a n))
@@ -62,7 +61,7 @@ total_ones a (suc n) = omega (arith, total_ones (a + 1) n)
 
 holding_more : (o : Numbered) (os : List Numbered) (i : ℕ)
     → 1 + length (holding i (o ∷ os)) ≡ one_if (is_some (colour_in o.uses i)) + (1 + length (holding i os))
-holding_more o os i = grind (arith, common_steps)
+holding_more o os i = grind arith
 
 held_all : (os : List Numbered) (a n : ℕ) → total (λ i. 1 + length (holding i os)) (range_with_len a n) ≤ n + uses_in os
 held_all [] a n = omega (arith, total_ones a n)

@@ -25,12 +25,12 @@ total_highs (b ∷ bs) =
 
 total_high_at : (p : Puzzle) → total (high_at p) (range_with_len 1 (primary_count p)) ≡ high_total p
 total_high_at p =
-    grind (arith, common_steps, total_shifted (high_at p) 0 (primary_count p), total_same, total_highs p.bounds)
+    grind (arith, total_shifted (high_at p) 0 (primary_count p), total_same, total_highs p.bounds)
 
 -- with what they leave of the bounds the Spends that stand are no more
 pub few_spendings : (p : Puzzle) (t : List Move) → AreLegal p t
     → spendings t + total (λ i. high_at p i - spends i t) (range_with_len 1 (primary_count p)) ≤ high_total p
-few_spendings p [] l = grind (arith, common_steps, total_le, total_high_at p)
+few_spendings p [] l = grind (arith, total_le, total_high_at p)
 few_spendings p (Cover j ∷ t) l = few_spendings p t l.1
 few_spendings p (Purify j c ∷ t) l = few_spendings p t l.1
 few_spendings p (Tweak j ∷ t) l = few_spendings p t l.1

@@ -29,28 +29,28 @@ pub spent_tweaked : (m i : ℕ) (s : List Move) → spendings (tweaked m i s) �
 spent_tweaked m i s = kept_tweaked spendings m i s (λ _. refl)
 
 pub spent_after_spend : (p : Puzzle) (i : ℕ) (t : List Move) → spendings (after_spend p i t) ≡ suc (spendings t)
-spent_after_spend p i t = grind (arith, common_steps)
+spent_after_spend p i t = grind arith
 
 spent_after_none : (i : ℕ) (t : List Move) → spendings (after_none i t) ≡ spendings t
-spent_after_none i t = grind (arith, common_steps)
+spent_after_none i t = grind arith
 
 spent_uses : (p : Puzzle) (us : List Use) (t : List Move) → spendings (after_uses p us t) ≤ length us + spendings t
 spent_uses p [] t = omega arith
-spent_uses p (u ∷ us) t = grind (arith, common_steps, spent_after_spend, spent_uses p us (after_use p u t))
+spent_uses p (u ∷ us) t = grind (arith, spent_after_spend, spent_uses p us (after_use p u t))
 
 -- ---- uses of the options left
 
 fewer_uses : (q : Numbered → Bool) (os : List Numbered) → uses_in (filter q os) ≤ uses_in os
 fewer_uses q [] = omega arith
-fewer_uses q (o ∷ os) = grind (arith, common_steps, fewer_uses q os)
+fewer_uses q (o ∷ os) = grind (arith, fewer_uses q os)
 
 without_uses : (q : Numbered → Bool) (i k : ℕ) (x : Numbered) (os : List Numbered) → slice_get (holding i os) k ≡ Some x
     → q x ≡ false → uses_in (filter q os) + length x.uses ≤ uses_in os
 without_uses q i k x [] e f = cc
 without_uses q i k x (o ∷ os) e f = by_bool (holds o i)
-    (λ h. by_number k (λ z. grind (arith, common_steps, fewer_uses))
-    (λ j z. grind (arith, common_steps, without_uses q i j x os)))
-    (λ h. grind (arith, common_steps, without_uses q i k x os))
+    (λ h. by_number k (λ z. grind (arith, fewer_uses))
+    (λ j z. grind (arith, without_uses q i j x os)))
+    (λ h. grind (arith, without_uses q i k x os))
 
 open_is : (p : Puzzle) (t : List Move) → length (open_items p t) ≡ length (residual_of p t).items
 open_is p t = sym (length-map (open_items p t) (wanted_at p t))
@@ -58,7 +58,7 @@ open_is p t = sym (length-map (open_items p t) (wanted_at p t))
 -- ---- nodes
 
 pub sparing_first : (p : Puzzle) → IsSparing p []
-sparing_first p = grind (arith, common_steps, uses_whole, length-filter-le, length-range_with_len)
+sparing_first p = grind (arith, uses_whole, length-filter-le, length-range_with_len)
 
 -- the Spends of the moves that take an option, and the uses that they leave
 ruleset spends_made = (tweaked, others, spent_uses, spent_tweaked, spent_after_spend)
@@ -77,10 +77,10 @@ pub sparing_none : (p : Puzzle) (t : List Move) (i m : ℕ) → IsSparing p t
 sparing_none p t i m s b r =
     let less = less_items (wanted_at p t i) (wanted_after p t) (least_is_one _ _ _ b) in
     let fewer = fewer_uses (λ o. not (holds o i)) (left p t) in
-    grind (arith, common_steps, spent_after_none, spent_tweaked, spent_after_spend, open_is, less, fewer, r)
+    grind (arith, spent_after_none, spent_tweaked, spent_after_spend, open_is, less, fewer, r)
 
 -- also while a level is open and no branch was begun
 pub sparing_after_spend : (p : Puzzle) (t : List Move) (i : ℕ) → IsSparing p t
     → branch_item (residual_of p t) ≡ Some (wanted_at p t i)
     → spendings (after_spend p i t) ≤ use_count p.options + primary_count p
-sparing_after_spend p t i s b = grind (arith, common_steps, spent_after_spend, open_is, less_items, least_is_one)
+sparing_after_spend p t i s b = grind (arith, spent_after_spend, open_is, less_items, least_is_one)

@@ -1,5 +1,4 @@
 -- The one loop that passes over members and counts them.
-use Rattle.std.proofs.lemmas.Grind.{common_steps}
 use Rattle.std.proofs.Common.{ℕ, ◌≡◌, ◌+◌, ◌≤◌, true, false, length, drop, arith}
 use Rattle.xc_dance.specs.Dancing.{Dancing}
 use Rattle.xc_search.specs.inner.Levels.{Levels, IsStanding, coming}
@@ -19,14 +18,14 @@ pub record FallsBack (d : Dancing) (ls : Levels) (m : ℕ) (e : Dancing) (ks : L
 -- a branch below is entered
 pub enters_below : {d e : Dancing} {ls ks : Levels} (m : ℕ) {i q : ℕ} → EntersBranch d ls true e ks i q
     → EntersOver d ls m e ks m i q
-enters_below m b = grind (arith, common_steps)
+enters_below m b = grind arith
 
 -- a branch of a level is entered
 pub enters_back : {d e f : Dancing} {ls ks js : Levels} {m n i q : ℕ} → FallsBack d ls m e ks n
     → EntersBranch e ks false f js i q → EntersOver d ls m f js n i q
-enters_back back b = grind (arith, common_steps)
+enters_back back b = grind arith
 
 -- all levels end
 pub ends_back : {d e f : Dancing} {ls ks js : Levels} {m n : ℕ} → FallsBack d ls m e ks n → IsDone e ks false f js
     → EndsOver d ls m f js n
-ends_back back done = grind (arith, common_steps)
+ends_back back done = grind arith

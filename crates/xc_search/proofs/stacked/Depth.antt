@@ -26,7 +26,7 @@ use Rattle.xc_search.proofs.moves.LegalTweaks.{legal_node}
 
 spent_above : (ms t : List Move) → spendings t ≤ spendings (ms ++ t)
 spent_above [] t = omega arith
-spent_above (m ∷ ms) t = grind (arith, common_steps, spent_above ms t)
+spent_above (m ∷ ms) t = grind (arith, spent_above ms t)
 
 spent_oldest : (n : ℕ) (t : List Move) → spendings (oldest n t) ≤ spendings t
 spent_oldest n t =
@@ -53,7 +53,7 @@ shallower p t s l k ls stacked b =
 -- what has a branch item isn't empty
 some_left : (p : Puzzle) (t : List Move) (i : ℕ) → branch_item (residual_of p t) ≡ Some (wanted_at p t i)
     → 0 < size_of (residual_of p t)
-some_left p t i b = grind (arith, common_steps, less_items, least_is_one)
+some_left p t i b = grind (arith, less_items, least_is_one)
 
 -- before another level is begun there is room for it
 pub depth_at : (p : Puzzle) (t : List Move) (ls : List Level) (i : ℕ) → AreStacked p t ls → IsShallow p t ls

@@ -52,15 +52,15 @@ ext_trans ext_none b = b
 ext_trans (ext_more a) b = ext_more (ext_trans a b)
 
 pub ext_after_spend : (p : Puzzle) (i : ℕ) (t : List Move) → Extends (after_spend p i t) t
-ext_after_spend p i t = grind (arith, common_steps, ext_none, ext_more)
+ext_after_spend p i t = grind (arith, ext_none, ext_more)
 
 pub ext_uses : (p : Puzzle) (us : List Use) (t : List Move) → Extends (after_uses p us t) t
 ext_uses p [] t = ext_none
 ext_uses p (u ∷ us) t =
-    grind (arith, common_steps, ext_trans, ext_none, ext_more, ext_after_spend, ext_uses p us (after_use p u t))
+    grind (arith, ext_trans, ext_none, ext_more, ext_after_spend, ext_uses p us (after_use p u t))
 
 pub ext_after_branch : (p : Puzzle) (i : ℕ) (o : Option ℕ) (t : List Move) → Extends (after_branch p i o t) t
-ext_after_branch p i None t = grind (arith, common_steps, ext_none, ext_more)
+ext_after_branch p i None t = grind (arith, ext_none, ext_more)
 ext_after_branch p i (Some o) t = ext_uses p (others i (uses_of p o)) t
 
 pub ext_longer : {s t : List Move} → Extends s t → length t ≤ length s
@@ -80,7 +80,7 @@ ext_drop (suc n) [] = ext_none
 ext_drop (suc n) (m ∷ t) = ext_more (ext_drop n t)
 
 pub oldest-oldest : (m n : ℕ) (t : List Move) → m ≤ n → n ≤ length t → oldest m (oldest n t) ≡ oldest m t
-oldest-oldest m n t h k = grind (arith, common_steps, ext_oldest, ext_drop, length-oldest)
+oldest-oldest m n t h k = grind (arith, ext_oldest, ext_drop, length-oldest)
 
 -- m tweaks of the level's item, on the moves on which it was begun
 abbrev pub tweaked_at : Puzzle → List Move → Level → ℕ → List Move
@@ -107,7 +107,7 @@ chosen_item p t i n l e =
     (sym (choice_is_branch_item p t l) ∙ e) in
     let at = in-map (wanted_at p t) (open_items p t) found.0 (least_is_one _ _ _ found.1) in
     let one = in-filter (λ i. is_open i t) (range_with_len 1 (primary_count p)) at.0 at.1 in
-    let within = each_in _ _ at.0 (in_range 1 (primary_count p)) one.0 in grind (arith, common_steps)
+    let within = each_in _ _ at.0 (in_range 1 (primary_count p)) one.0 in grind arith
 
 -- ---- what is left is searched
 
@@ -135,7 +135,7 @@ own_place p i = ap (λ o. link_place p i (unwrap_or o 0)) (sym (at_own p i))
 -- a level's own moves stand before its first branch
 pub first_stands : (p : Puzzle) (t : List Move) (i n : ℕ) → IsSearchable p t → Chosen p t i n →
     IsLevelAt p t (after_spend p i t) (first_level p t i n)
-first_stands p t i n here c = grind (arith, common_steps, ext_longer, ext_after_spend, at_own, own_place, oldest_all)
+first_stands p t i n here c = grind (arith, ext_longer, ext_after_spend, at_own, own_place, oldest_all)
 
 -- a level is begun
 pub descended : (p : Puzzle) (t : List Move) (ls : List Level) (i n : ℕ) → IsSearchable p t → IsShallow p t ls

@@ -1,5 +1,4 @@
 -- The option that a level's next branch takes.
-use Rattle.std.proofs.lemmas.Grind.{common_steps}
 use Rattle.std.proofs.Common.{inl, inr, cond, ℕ, zero, suc, ◌≡◌, ◌≤◌, List, []}
 use Rattle.std.proofs.Common.{◌∷◌, length, map, drop, Some, refl, ap, ◌∙◌, arith, lt-ltb, le-ltb}
 use Rattle.std.specs.Prelude.{unwrap_or, slice_get, option_map, Contains}
@@ -41,8 +40,8 @@ above_last : (n : ℕ) (os : List Numbered) (k : ℕ) → Rises n (numbers os) �
     × (next_above (last_number n os k) (map number_of os) ≡ option_map number_of (slice_get os k))
 above_last n [] zero r h = (omega arith, refl)
 above_last n [] (suc k) r h = absurd (omega (arith, h))
-above_last n (o ∷ os) zero r h = grind (arith, common_steps, lt-ltb)
-above_last n (o ∷ os) (suc zero) r h = grind (arith, common_steps, above_last o.number os 0 r.1, le-ltb)
+above_last n (o ∷ os) zero r h = grind (arith, lt-ltb)
+above_last n (o ∷ os) (suc zero) r h = grind (arith, above_last o.number os 0 r.1, le-ltb)
 above_last n (o ∷ os) (suc (suc k)) r h = grind (arith, le-ltb, not_some, above_last o.number os (suc k) r.1)
 
 last_in : (os : List Numbered) (k : ℕ) → (last_number 0 os k ≡ 0) ⊎ Contains (map number_of os) (last_number 0 os k)

@@ -30,7 +30,7 @@ pub shown_next : (n : ℕ) (ms : List (List Choice)) (s m : List Choice) (rest :
 shown_next zero [] s m rest e = absurd (cc e)
 shown_next (suc n) [] s m rest e = absurd (cc e)
 shown_next zero (x ∷ ms) s m rest e = cc e
-shown_next (suc n) (x ∷ ms) s m rest e = grind (arith, common_steps, shown_next n ms x m rest e)
+shown_next (suc n) (x ∷ ms) s m rest e = grind (arith, shown_next n ms x m rest e)
 
 -- none is shown where there are fewer
 pub shown_past : (n : ℕ) (ms : List (List Choice)) (s : List Choice) → length ms < n → [] ≡ shown_after n ms s
@@ -59,7 +59,7 @@ pub record HasToPass (p : Puzzle) (t : List Move) (ls : List Level) (down : Bool
 pub went_over : {d e : Dancing} {ls ks : Levels} (down : Bool) {many more : ℕ} → 0 < many
     → HasToPass d.puzzle d.trail ls.levels down many more → StandsOver d ls more e ks 0 → WentOver d ls down many e ks
 went_over {d} {e} {ls} {ks} true {more = more} some has at =
-    grind (arith, common_steps, went_to d e ls ks true more at.over.still at.solved at.over.members)
+    grind (arith, went_to d e ls ks true more at.over.still at.solved at.over.members)
 went_over {d} {e} {ls} {ks} false {many} some has at = by_number many (λ h. absurd (omega (arith, some, h))) (λ n h.
     let was = (has.again refl).1 in
     let found = solution d.puzzle d.trail ls.levels (was.standing.searchable refl).legal was.none in
@@ -73,8 +73,8 @@ went_over {d} {e} {ls} {ks} false {many} some has at = by_number many (λ h. abs
 pub went_past : {d e : Dancing} {ls ks : Levels} (down : Bool) {many more : ℕ} (n : ℕ) {lacks : ℕ}
     → HasToPass d.puzzle d.trail ls.levels down many more → EndsOver d ls more e ks lacks →
     (lacks < many) × (n + 1 + lacks ≡ many → WentPast d ls down n e ks)
-went_past true n has ends = grind (arith, common_steps)
-went_past false n has ends = grind (arith, common_steps, solution)
+went_past true n has ends = grind arith
+went_past false n has ends = grind (arith, solution)
 
 -- a member is shown behind the choices before it
 shown_behind : (n : ℕ) (before : List Choice) (ms : List (List Choice)) (s t : List Choice) → 0 < n → n ≤ length ms →
@@ -101,15 +101,15 @@ module _ {d e : Dancing} {ls ks : Levels} {down below : Bool} {many n : ℕ} (p 
   where
     pub outlook_passed : (o : Outlook) → outlook d ls down ≡ o
         → (outlook e ks below ≡ past many o) × (n ≡ min many (length o.to_come))
-    outlook_passed o is = grind (arith, common_steps, drop_past, shown_past, p.past, p.over, p.within, p.searched)
+    outlook_passed o is = grind (arith, drop_past, shown_past, p.past, p.over, p.within, p.searched)
 
     -- and where it stands
     pub stands_there : IsStanding e.puzzle e.trail ks.levels below
         × (ks.levels ≢ [] → IsSolved e.puzzle e.trail ks.levels) × (e.puzzle ≡ d.puzzle) × (ks.room ≡ ls.room)
     stands_there = by_bool (nat_lt n many)
-        (λ h. let w = p.past (ltb-true n many h) in grind (arith, common_steps, stands_behind, p.searched))
+        (λ h. let w = p.past (ltb-true n many h) in grind (arith, stands_behind, p.searched))
         (λ h. let w = p.over (omega (arith, p.within, ltb-false n many h)) in
-        grind (arith, common_steps, stands_behind, p.searched))
+        grind (arith, stands_behind, p.searched))
 
 -- what a search stands for behind the choices before its first level
 abbrev of_search : List Choice → List Choice → Outlook → Outlook
@@ -118,10 +118,10 @@ of_search before shown w = record w { to_come = behind before w.to_come; shown =
 -- and after many more members, all of which were there
 pub search_over : (w v o : Outlook) (before shown : List Choice) (many : ℕ) → 0 < many → many ≤ length w.to_come
     → v ≡ past many w → of_search before shown w ≡ o → of_search before (before ++ v.shown) v ≡ past many o
-search_over w v o before shown many some there was is = grind (arith, common_steps, drop-map, shown_behind)
+search_over w v o before shown many some there was is = grind (arith, drop-map, shown_behind)
 
 -- or were not
 -- and where it begins, with no choices before
 pub search_begins : (w o : Outlook) (before shown : List Choice) → w ≡ o → o.shown ≡ [] → before ≡ [] → shown ≡ []
     → of_search before shown w ≡ o
-search_begins w o before shown is none no_choices not_shown = grind (arith, common_steps, map-id o.to_come)
+search_begins w o before shown is none no_choices not_shown = grind (arith, map-id o.to_come)

@@ -1,5 +1,4 @@
 -- The levels of a search show their options.
-use Rattle.std.proofs.lemmas.Grind.{common_steps}
 use Rattle.std.proofs.Common.{suc, List, [], ◌∷◌, reverse, refl, sym}
 use Rattle.std.proofs.Common.{◌∙◌, arith, subst}
 use Rattle.std.specs.Prelude.{All}
@@ -23,7 +22,7 @@ level_shown p u t l is_level = record {
       let last = last_taken (options_at p u l.item) l.begun o (sym is_level.option ∙ e) in
       let x = last.1 in
       let at = (branch.taken p u l.item last.0 (suc last.0) x is_level.node last.3 (λ _. refl) (omega arith)).at in
-      rw e (grind (arith, common_steps, last, at)));
+      rw e (grind (arith, last, at)));
 }
 
 each_shown : (p : Puzzle) (t : List Move) (ls : List Level) → AreStacked p t ls → AllByRecursion (IsShown p) ls

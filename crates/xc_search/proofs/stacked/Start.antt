@@ -23,7 +23,7 @@ wanted_at_first i (b ∷ bs) a = (lt-ltb 0 b.high (omega (arith, a.0)), wanted_a
 pub starts_standing : (p : Puzzle) → IsValid p → (q : Puzzle) (t : List Move) (ls : List Level) → q ≡ p → t ≡ []
     → ls ≡ [] → IsStanding q t ls true
 starts_standing p v q t ls e et el =
-    grind (arith, common_steps, no_moves_leave_all, wanted_at_first, recursion_from_All, sparing_first, shallow_first)
+    grind (arith, no_moves_leave_all, wanted_at_first, recursion_from_All, sparing_first, shallow_first)
 
 -- where no level stands, what comes is what is left
 pub comes_alone : (p : Puzzle) (t : List Move) (ls : List Level) → ls ≡ []
@@ -31,4 +31,4 @@ pub comes_alone : (p : Puzzle) (t : List Move) (ls : List Level) → ls ≡ []
 comes_alone p t ls e = grind (arith, common_steps, map-id (listing (residual_of p t)))
 
 pub starts_coming : (p : Puzzle) (t : List Move) (ls : List Level) → t ≡ [] → ls ≡ [] → coming p t ls true ≡ members p
-starts_coming p t ls et el = grind (arith, common_steps, comes_alone, no_moves_leave_all p)
+starts_coming p t ls et el = grind (arith, comes_alone, no_moves_leave_all p)

@@ -1,5 +1,4 @@
 -- How much work is left behind branches.
-use Rattle.std.proofs.lemmas.Grind.{common_steps}
 use Rattle.std.proofs.Common.{arith}
 use Rattle.std.proofs.Common.{ℕ, suc, ◌≡◌, ◌+◌, List, [], ◌∷◌, refl, ap₂}
 use Rattle.std.specs.List.{AllByRecursion}
@@ -14,4 +13,4 @@ cost-same f g (b ∷ bs) a = ap₂ (λ m n. suc (m + n)) a.0 (cost-same f g bs a
 
 pub work_unrolled : (r : Residual) → work r ≡ work_level work (branch_item r) r
 unfolding work work_to
-work_unrolled r = by_depth {level = work_level} {to = work_to} (grind (arith, common_steps, cost-same)) r
+work_unrolled r = by_depth {level = work_level} {to = work_to} (grind (arith, cost-same)) r

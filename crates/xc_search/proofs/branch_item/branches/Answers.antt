@@ -1,7 +1,6 @@
-use Rattle.std.proofs.lemmas.Grind.{common_steps}
 use Rattle.std.proofs.Common.{arith}
 use Rattle.xc_dance.proofs.MoveLemmas.ListLemmas.{length-listed}
 use Rattle.xc_search.proofs.branch_item.branches.Goals as goal
 
 pub overflow_add-result : goal.overflow_add-result
-overflow_add-result g c = grind (arith, common_steps, length-listed)
+overflow_add-result g c = grind (arith, length-listed)

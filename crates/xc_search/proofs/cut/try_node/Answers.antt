@@ -1,4 +1,3 @@
-use Rattle.std.proofs.lemmas.Grind.{common_steps}
 use Rattle.std.proofs.Common.{arith}
 use Rattle.xc_search.proofs.paths.Settled.{comes_back}
 use Rattle.xc_search.proofs.stacked.Start.{comes_alone}
@@ -8,4 +7,4 @@ pub returns-clause-back : goal.returns-clause-back
 returns-clause-back g c = search (arith, comes_back)
 
 pub returns-clause-barren : goal.returns-clause-barren
-returns-clause-barren g c is = grind (arith, common_steps, comes_alone)
+returns-clause-barren g c is = grind (arith, comes_alone)

@@ -1,5 +1,4 @@
 use Rattle.std.proofs.Common.{arith}
-use Rattle.std.proofs.lemmas.Grind.{common_steps}
 use Rattle.xc_search.proofs.stacked.LoopSteps.{back_at}
 use Rattle.xc_search.proofs.levels.enter_next.Goals as goal
 
@@ -7,4 +6,4 @@ pub undo_to-requires : goal.undo_to-requires
 undo_to-requires g c = c.requires.stacked.1.0.within.1
 
 pub enter-requires : goal.enter-requires
-enter-requires g c = grind (arith, common_steps, back_at)
+enter-requires g c = grind (arith, back_at)

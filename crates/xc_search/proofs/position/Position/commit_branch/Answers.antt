@@ -1,6 +1,5 @@
 use Rattle.std.proofs.Common.{ne_eqb}
 use Rattle.std.proofs.Common.{arith}
-use Rattle.std.proofs.lemmas.Grind.{common_steps}
 use Rattle.std.proofs.Common.{◌≡◌, None, Some, subst}
 use Rattle.xc_dance.specs.Commits.{option_at, IsUseAt}
 use Rattle.xc_search.specs.inner.Levels.{CanBranch}
@@ -10,10 +9,10 @@ use Rattle.xc_search.proofs.position.Position.commit_branch.Goals.{Then-place-it
 
 -- at the item's own node
 none : (g : _) (c : Then-place-item g) → option_at c.args.self.now.puzzle c.args.item c.args.place ≡ None
-none g c = grind (arith, common_steps, at_own)
+none g c = grind (arith, at_own)
 
 some : (g : _) (c : Else-place-item g) → (o : _) × (option_at c.args.self.now.puzzle c.args.item c.args.place ≡ Some o)
-some g c = grind (arith, common_steps, ne_eqb)
+some g c = grind (arith, ne_eqb)
 
 can : (g : _) (c : Else-place-item g)
     → CanBranch c.args.self.now.puzzle c.args.item (Some (some g c).0) c.args.self.now.trail
@@ -23,13 +22,13 @@ use_at : (g : _) (c : Else-place-item g) → IsUseAt c.args.self.now.puzzle c.ar
 use_at g c = grind (arith, can)
 
 pub cover_if_open-requires-clause-room : goal.cover_if_open-requires-clause-room
-cover_if_open-requires-clause-room g c = grind (arith, common_steps)
+cover_if_open-requires-clause-room g c = grind arith
 
 pub commit-requires-clause-can : goal.commit-requires-clause-can
-commit-requires-clause-can g c = grind (arith, common_steps, use_at)
+commit-requires-clause-can g c = grind (arith, use_at)
 
 pub returns-then-place-item : goal.returns-then-place-item
-returns-then-place-item g c = grind (arith, common_steps)
+returns-then-place-item g c = grind arith
 
 pub returns-else-place-item : goal.returns-else-place-item
-returns-else-place-item g c = grind (arith, common_steps, use_at)
+returns-else-place-item g c = grind (arith, use_at)

@@ -1,13 +1,12 @@
 use Rattle.xc_search.proofs.residual.ReadyUses.{spent_self}
 use Rattle.std.proofs.Common.{arith}
-use Rattle.std.proofs.lemmas.Grind.{common_steps}
 use Rattle.xc_search.proofs.room.FewMoves.{has_room}
 use Rattle.xc_search.proofs.room.SparingMoves.{sparing_after_spend}
 use Rattle.xc_search.proofs.moves.LegalTweaks.{legal_node}
 use Rattle.xc_search.proofs.position.Position.descend.Goals as goal
 
 pub spend_item-requires : goal.spend_item-requires
-spend_item-requires g c = grind (arith, common_steps, legal_node, has_room, sparing_after_spend)
+spend_item-requires g c = grind (arith, legal_node, has_room, sparing_after_spend)
 
 pub is_walked-walks-requires-clause-spent : goal.is_walked-walks-requires-clause-spent
-is_walked-walks-requires-clause-spent g c = grind (arith, common_steps, spent_self)
+is_walked-walks-requires-clause-spent g c = grind (arith, spent_self)

@@ -1,5 +1,4 @@
 use Rattle.std.proofs.Common.{arith, ◌∙◌}
-use Rattle.std.proofs.lemmas.Grind.{common_steps}
 use Rattle.xc_search.proofs.stacked.NextOption.{Seeking, seeking}
 use Rattle.xc_search.proofs.position.Position.next_place.Goals as goal
 use Rattle.xc_search.proofs.position.Position.next_place.Goals.{Joined-level}
@@ -7,7 +6,7 @@ use Rattle.xc_search.proofs.position.Position.next_place.Goals.{Joined-level}
 -- where the code looks below
 sought : (g : _) (c : Joined-level g)
     → Seeking c.args.self.now.puzzle c.args.self.now.trail c.args.level.now c.if-level.above
-sought g c = seeking c.requires.ready c.if-level.above (grind (arith, common_steps))
+sought g c = seeking c.requires.ready c.if-level.above (grind arith)
 
 pub node_below-requires-clause-place : goal.node_below-requires-clause-place
 node_below-requires-clause-place g c =

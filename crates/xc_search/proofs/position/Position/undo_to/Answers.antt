@@ -1,7 +1,6 @@
-use Rattle.std.proofs.lemmas.Grind.{common_steps}
 use Rattle.std.proofs.Common.{arith}
 use Rattle.xc_search.proofs.moves.OldestMoves.{oldest-drop}
 use Rattle.xc_search.proofs.position.Position.undo_to.Goals as goal
 
 pub loop-self-preserved : goal.loop-self-preserved
-loop-self-preserved g c = grind (arith, common_steps, oldest-drop)
+loop-self-preserved g c = grind (arith, oldest-drop)

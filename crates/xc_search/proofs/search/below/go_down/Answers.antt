@@ -10,7 +10,7 @@ use Rattle.xc_search.proofs.search.below.go_down.Goals as goal
 pub loop-number-init : goal.loop-number-init
 loop-number-init g c =
     let d = c.args.position.now in
-    let down = down_first d.puzzle d.trail c.requires.valid c.requires.none in grind (arith, common_steps, down)
+    let down = down_first d.puzzle d.trail c.requires.valid c.requires.none in grind (arith, down)
 
 pub returns-in_default-clause-no_path : goal.returns-in_default-clause-no_path
 returns-in_default-clause-no_path g c _ other is =

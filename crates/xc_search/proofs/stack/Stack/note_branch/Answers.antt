@@ -15,7 +15,7 @@ pub returns : goal.returns
 returns c =
     let levels = c.self.inside.levels.items in
     let b = c.args.branch in
-    let some : 0 < length levels = grind (arith, common_steps, length-reverse) in
+    let some : 0 < length levels = grind (arith, length-reverse) in
     let new = c.begin_level.ensures ∙ ap (begun_level b) c.index_mut.ensures.value in
     let turned : reverse (set levels (c.len-top.result - 1) c.begin_level.new.level) ≡ first_changed (begun_level b)
     (reverse levels) =
@@ -23,4 +23,4 @@ returns c =
     ∙ ap (λ n. reverse (set levels (n - 1) (begun_level b (get_or levels (n - 1) c.index_mut.result.now))))
     (c.len-top.ensures ∙ items-length c.self.inside.levels)
     ∙ newest_changed (begun_level b) levels c.index_mut.result.now some in
-    grind (arith, common_steps)
+    grind arith

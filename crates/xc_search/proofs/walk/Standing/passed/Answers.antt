@@ -1,4 +1,3 @@
-use Rattle.std.proofs.lemmas.Grind.{common_steps}
 use Rattle.std.proofs.Common.{arith, refl}
 use Rattle.xc_search.proofs.stacked.PassedOver.{HasToPass, went_over, went_past}
 use Rattle.xc_search.proofs.walk.Standing.passed.Goals as goal
@@ -6,7 +5,7 @@ use Rattle.xc_search.proofs.walk.Standing.passed.Goals.{in-None, in-Some, Joined
 
 has : (g : _) (c : Joined-down g) → HasToPass c.args.self.position.puzzle c.args.self.position.trail
     c.args.self.stack.levels c.args.self.down c.args.many c.if-down.more
-has g c = grind (arith, common_steps)
+has g c = grind arith
 
 pub fewer-passed-requires : goal.fewer-passed-requires
 fewer-passed-requires g c =

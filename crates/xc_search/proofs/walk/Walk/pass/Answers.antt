@@ -1,10 +1,9 @@
-use Rattle.std.proofs.lemmas.Grind.{common_steps}
 use Rattle.std.proofs.Common.{arith}
 use Rattle.xc_search.proofs.stacked.PassedOver.{outlook_passed, stands_there}
 use Rattle.xc_search.proofs.walk.Walk.pass.Goals as goal
 
 pub invariant_of-self-2 : goal.invariant_of-self-2
-invariant_of-self-2 g c = grind (arith, common_steps, stands_there c.replace_with.ensures)
+invariant_of-self-2 g c = grind (arith, stands_there c.replace_with.ensures)
 
 pub returns-clause-went : goal.returns-clause-went
 returns-clause-went g c = (outlook_passed c.replace_with.ensures c.args.self.now c.self.view_is).0

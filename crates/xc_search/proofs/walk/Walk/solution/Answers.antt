@@ -1,9 +1,8 @@
 use Rattle.std.proofs.Common.{arith}
-use Rattle.std.proofs.lemmas.Grind.{common_steps}
 use Rattle.xc_search.proofs.stacked.ShownLevels.{all_shown, shown_back}
 use Rattle.xc_search.proofs.walk.Walk.solution.Goals as goal
 
 pub invariant_of-result : goal.invariant_of-result
 invariant_of-result g c =
     let at = c.self.inside.standing in
-    record { shown = shown_back at.position.puzzle c.levels.result.now (grind (arith, common_steps, all_shown, at)) }
+    record { shown = shown_back at.position.puzzle c.levels.result.now (grind (arith, all_shown, at)) }
