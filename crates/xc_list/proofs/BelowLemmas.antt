@@ -1,5 +1,4 @@
 -- The parts of a search as they are written.
-use Rattle.std.proofs.lemmas.Grind.{common_steps}
 use Rattle.std.proofs.lemmas.List.Elements.{All-push}
 use Rattle.xc_dance.proofs.Copied.{take_more-get}
 use Rattle.xc_list.proofs.Planned.{one_more}
@@ -88,7 +87,7 @@ last_behind d (x ∷ xs) ys = last_behind x xs ys
 -- a row of paths ends with 0
 last_told : (paths : List (List ℕ)) → last_or 0 (numbers_told paths) ≡ 0
 last_told [] = refl
-last_told (path ∷ paths) = grind (arith, common_steps, last_behind, last_told paths)
+last_told (path ∷ paths) = grind (arith, last_behind, last_told paths)
 
 last_some : (d : ℕ) (xs : List ℕ) → AllByRecursion (λ n. 0 < n) xs → 0 < d → 0 < last_or d xs
 last_some d [] a h = h

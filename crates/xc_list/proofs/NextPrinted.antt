@@ -57,7 +57,7 @@ reaches a spacing k n o p come went some enough silent =
     record {
       last = k + (n - 1);
       number = omega (arith, some);
-      next = grind (arith, common_steps, shown_next, drop-drop);
+      next = grind (arith, shown_next, drop-drop);
       same =
           output_silent a spacing k (n - 1) (omega (arith, enough, some, ap length come, length-drop k ms))
           (λ j from below. silent j from (omega (arith, below, some)));
@@ -89,7 +89,7 @@ module _ {a : Named} {spacing k t : ℕ} {o : Outlook} (to : Reaches a spacing k
   -- its text was taken, or broke off
   pub takes : {x y z : SinkState} → Took x y (output a spacing k) → Took y z (printed_text a spacing (t, o.shown))
       → Took x z (output a spacing t)
-  takes {x = x} {y = y} {z = z} so_far more = grind (arith, common_steps, to, a, o, output_next, then_took)
+  takes {x = x} {y = y} {z = z} so_far more = grind (arith, to, a, o, output_next, then_took)
 
   pub stops : (limit : ℕ) {x y z : SinkState} → t ≤ limit → Took x y (output a spacing k)
       → BrokeOff y z (printed_text a spacing (t, o.shown)) → StoppedAt a spacing limit t x z

@@ -93,7 +93,7 @@ output_texts a spacing n = printed_texts a spacing (enumerate_from 1 (take n (me
 pub output_next : (a : Named) (spacing k : ℕ) {m : List Choice} {rest : List (List Choice)}
     → drop k (members a.puzzle) ≡ m ∷ rest
     → output a spacing (k + 1) ≡ output a spacing k ++ printed_text a spacing (k + 1, m)
-output_next a spacing k e = grind (arith, common_steps, texts_next, members, output_texts)
+output_next a spacing k e = grind (arith, texts_next, members, output_texts)
 
 -- a sink that broke off in a member's text broke off in the output
 pub stopped_broke : (a : Named) (spacing limit t : ℕ) {x z : SinkState} → StoppedAt a spacing limit t x z

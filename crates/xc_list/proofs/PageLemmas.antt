@@ -19,7 +19,7 @@ use Rattle.xc_input.proofs.TokenLemmas.Separators.{COLON}
 -- a text put on the page is held behind what was held
 pub held_more : (page more text : List ℕ) (from to end : ℕ) → from ≤ to → to ≤ length page
     → take end more ≡ take to page ++ text → held_text more from end ≡ held_text page from to ++ text
-held_more page more text from to end h l e = grind (arith, common_steps, length-take, drop-append-le)
+held_more page more text from to end h l e = grind (arith, length-take, drop-append-le)
 
 -- and the sink was not asked
 pub puts_held : (s : SinkState) (before after text : List ℕ) → after ≡ before ++ text → Puts s s before after text
@@ -34,7 +34,7 @@ pub record PutsFront (a b : SinkState) {X : Type 0} (before held : List ℕ) (f 
 
 -- the sink took all
 pub puts_out : {a b : SinkState} {before text : List ℕ} → Took a b (before ++ text) → Puts a b before [] text
-puts_out {before = before} {text = text} t = grind (arith, common_steps, append-nil)
+puts_out {before = before} {text = text} t = grind (arith, append-nil)
 
 pub then_puts : {a b c : SinkState} {x y z t u : List ℕ} → Puts a b x y t → Puts b c y z u → Puts a c x z (t ++ u)
 then_puts {x = x} {y = y} {z = z} {t = t} {u = u} p q = record {

@@ -76,7 +76,7 @@ loop_failed f xs i d r is h p q = rw (flat_map-parts f xs i d h) (failed r is (b
 pub option_texts : (f : Use → List ℕ) (item : ℕ) (all us before after : List Use) (p : ℕ) → us ≡ all
     → p ≡ place_in item us
     → before ≡ take p us → after ≡ drop p us → flat_map f (from_item item all) ≡ flat_map f after ++ flat_map f before
-option_texts f item all us before after p e at b a = grind (arith, common_steps, flat_map-append)
+option_texts f item all us before after p e at b a = grind (arith, flat_map-append)
 
 pub decimal_two : (n : ℕ) → (10 ≤ n) × (n < 100) → decimal n ≡ (48 + n / 10) ∷ (48 + n % 10) ∷ []
-decimal_two n h = grind (arith, common_steps, decimal_step, decimal_digit)
+decimal_two n h = grind (arith, decimal_step, decimal_digit)

@@ -1,6 +1,5 @@
 -- Two lists place by place, and tests of each element: for options that stand beside classes and bodies.
 use Rattle.std.proofs.Common.{[], arith}
-use Rattle.std.proofs.lemmas.Grind.{common_steps}
 use Rattle.std.proofs.Common.{◌≡◌, Bool, true, List, ◌∷◌, ◌++◌}
 use Rattle.std.specs.List.{AllZip, list_all}
 use Rattle.std.proofs.lemmas.List.Sums.{AllPass-from_list_all, list_all-from_AllPass}
@@ -22,7 +21,7 @@ pub beside : {A B : Type 0} (R : A → B → Type 0) (xs : List A) (ys : List B)
     → (x : A) × IsIn xs x × R x y
 beside {A = A} R xs ys y =
     by_pairs R (λ vs ws. IsIn ws y → (x : A) × IsIn vs x × R x y) (λ h. absurd h)
-    (λ v w vs ws r later h. grind (arith, common_steps)) xs ys
+    (λ v w vs ws r later h. grind arith) xs ys
 
 pub AllZip-append : {A B : Type 0} (R : A → B → Type 0) (xs xs' : List A) (ys ys' : List B) → AllZip R xs ys
     → AllZip R xs' ys' → AllZip R (xs ++ xs') (ys ++ ys')

@@ -1,5 +1,4 @@
 -- Verdicts by classes, and what a line changes.
-use Rattle.std.proofs.lemmas.Grind.{common_steps}
 use Rattle.std.specs.List.{AllByRecursion}
 use Rattle.std.proofs.Common.{[], ◌≡◌, ℕ, ◌+◌, ◌-◌, ◌^◌, ◌<◌, Bool, true, false, not, ◌||◌, nat_eq, min, List}
 use Rattle.std.proofs.Common.{◌∷◌, ◌++◌, length, filter, Option, Some, None, is_some, refl, sym, ap, ◌∙◌}
@@ -63,7 +62,7 @@ empty-append (Some n) bodies solutions = refl
 body-later : (o : Option ℕ) (bodies : List (List (List ℕ))) (words : List (List ℕ)) (later : Listing)
     → with_later o (bodies ++ words ∷ []) later ≡ with_later o bodies (before_listing (Body words) later)
 body-later None bodies words later = refl
-body-later (Some n) bodies words later = grind (arith, common_steps, append_assoc)
+body-later (Some n) bodies words later = grind (arith, append_assoc)
 
 not-first : (done : ℕ) → true ≡ not (done + 1 == 0)
 not-first done = let e : nat_eq (done + 1) 0 ≡ false = grind (arith, nat_tests) in ap not (sym e)

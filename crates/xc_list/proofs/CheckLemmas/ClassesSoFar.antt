@@ -1,5 +1,4 @@
 -- One option more among the classes.
-use Rattle.std.proofs.lemmas.Grind.{common_steps}
 use Rattle.std.proofs.lemmas.Bool.{cases_eq, cases_lt}
 use Rattle.std.proofs.lemmas.Bool.Decides.{nat_tests}
 use Rattle.std.proofs.Common.{[], ℕ, zero, suc, ◌≡◌, ◌≢◌, ◌+◌, ◌≤◌, Bool, cond, List, ◌∷◌, ◌++◌, map}
@@ -28,7 +27,7 @@ use Rattle.xc_list.proofs.CheckLemmas.ListedNumbers.{in-range}
 
 -- no more of the first n options are of a class than there are
 pub members-few : (p : Puzzle) (n : ℕ) (us : List Use) → class_size_to p n us ≤ n
-members-few p n us = grind (arith, common_steps, count_by-le-length, same_uses, length-range_with_len)
+members-few p n us = grind (arith, count_by-le-length, same_uses, length-range_with_len)
 
 members-suc : (p : Puzzle) (n : ℕ) (us : List Use)
     → class_size_to p (suc n) us ≡ class_size_to p n us + cond (same_uses us (class_at p (suc n))) 1 0

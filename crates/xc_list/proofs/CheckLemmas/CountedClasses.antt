@@ -1,5 +1,4 @@
 -- What classes add to the counts, and that the counts are 0 again once they were cleared.
-use Rattle.std.proofs.lemmas.Grind.{common_steps}
 use Rattle.std.proofs.lemmas.Bool.{cases_lt}
 use Rattle.std.proofs.Common.{[], ℕ, suc, ◌≡◌, ◌+◌, ◌<◌, ◌≤◌}
 use Rattle.std.proofs.Common.{List, ◌∷◌, ◌++◌, length, get_or, set, take, replicate}
@@ -32,7 +31,7 @@ use Rattle.xc_list.specs.inner.CoverCounts.{item_places}
 -- known uses are of the items that there are
 pub known_items : (p : Named) (us : List Use) (n : ℕ) → n ≡ item_count p.puzzle → All (IsKnownUse p) us
     → All (λ u. (1 ≤ u.item) × (u.item ≤ n)) us
-known_items p us n e = grind (arith, common_steps)
+known_items p us n e = grind arith
 
 -- the uses of each class are of different items
 pub classes_usable : (b : Classes) → IsSound b.problem → AreClasses b.problem.puzzle b.classes
@@ -56,7 +55,7 @@ uses_in-take classes ks i us l e =
     rw (take_more ks i 0 l, flat_map-append, get_or_from_slice_get classes _ us [] e, append-nil) refl
 
 pub zeros-at : (n k : ℕ) → get_or {A = ℕ} (replicate n 0) k 0 ≡ 0
-zeros-at n k = grind (arith, common_steps, cases_lt, get_or-replicate, get_or_past, length-replicate)
+zeros-at n k = grind (arith, cases_lt, get_or-replicate, get_or_past, length-replicate)
 
 -- uses of different items raise no count by more than 1
 pub added_once : (n : ℕ) (us : List Use) (ts : List ℕ) (k : ℕ) → AreItems n us → DifferInItems us
@@ -76,7 +75,7 @@ lowered_raised (k ∷ ks) ns = grind (arith, set-set, lowered_last, lowered_rais
 
 lowered_zeros : (ks ns : List ℕ) → ((k : ℕ) → get_or ns k 0 ≡ 0) → lowered ks ns ≡ ns
 lowered_zeros [] ns zeros = refl
-lowered_zeros (k ∷ ks) ns zeros = grind (arith, common_steps, set-get_or, zeros k, lowered_zeros ks ns zeros)
+lowered_zeros (k ∷ ks) ns zeros = grind (arith, set-get_or, zeros k, lowered_zeros ks ns zeros)
 
 pub lowered_back : (ks ns : List ℕ) → ns ≡ replicate (length ns) 0 → lowered ks (raised ks ns) ≡ ns
 lowered_back ks ns zeros =

@@ -1,6 +1,5 @@
 -- A listed solution is a cover exactly where its classes are, by counting.
 use Rattle.xc_input.proofs.lists.EachElement.{each_weaker}
-use Rattle.std.proofs.lemmas.Grind.{common_steps}
 use Rattle.std.specs.List.{AllByRecursion}
 use Rattle.std.specs.List.{AllZip}
 use Rattle.std.proofs.Common.{[], ℕ, zero, suc, ◌≡◌, ◌≢◌, true, List, ◌∷◌, filter}
@@ -50,7 +49,7 @@ option-differs p v o h =
 
 -- the uses of an option can be told
 pub option-known : (p : Named) → IsSound p → (o : ℕ) → IsOption p.puzzle o → All (IsKnownUse p) (uses_of p.puzzle o)
-option-known p r o h = grind (arith, common_steps, known_option, numbered_some)
+option-known p r o h = grind (arith, known_option, numbered_some)
 
 pub alike-classes : (p : Puzzle) → IsLikeness (alike p)
 alike-classes p = record {

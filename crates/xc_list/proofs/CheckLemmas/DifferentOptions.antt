@@ -1,6 +1,5 @@
 -- Different options in place of options that are alike: there are such exactly where no class is asked more often than
 -- it has members.
-use Rattle.std.proofs.lemmas.Grind.{common_steps}
 use Rattle.std.proofs.lemmas.Bool.Decides.{nat_tests}
 use Rattle.std.proofs.lemmas.Bool.{cases_Bool}
 use Rattle.std.proofs.Common.{[], ℕ, ◌≡◌, ◌≢◌, ◌+◌, ◌<◌, ◌≤◌, Bool, true, cond, not, ◌==◌, List, ◌∷◌}
@@ -77,7 +76,7 @@ spare q all s d l =
           let o = in-any free all e in
           (o.0, o.1, grind (arith, nat_tests, o.2), grind (arith, nat_tests, o.2, any-in))
       | inr e ↦
-          let within = count_within q all s d (λ x k h. grind (arith, common_steps, any-in, in-any, eqb-true)) in
+          let within = count_within q all s d (λ x k h. grind (arith, any-in, in-any, eqb-true)) in
           absurd (omega (arith, l, within))
     ]
 
@@ -91,7 +90,7 @@ pub give : (same : ℕ → ℕ → Bool) → IsLikeness same → (all : List ℕ
 give same classes all d [] h = ([], record { alike = tt; known = tt; apart = tt })
 give same classes all d (r ∷ reps) h =
     let later = give same classes all d reps (λ q k. omega (arith, h q (inr k))) in
-    let asked : cond true 1 0 + counted (same r) reps ≤ counted (same r) all = grind (arith, common_steps) in
+    let asked : cond true 1 0 + counted (same r) reps ≤ counted (same r) all = grind arith in
     let like = count_alike same classes r reps later.0 later.1.alike in
     let o = spare (same r) all later.0 d (omega (arith, asked, like)) in (
       o.0 ∷ later.0,

@@ -1,5 +1,4 @@
 -- Classes found by their uses.
-use Rattle.std.proofs.lemmas.Grind.{common_steps}
 use Rattle.xc_list.specs.inner.Classes.{same_uses}
 use Rattle.std.proofs.Common.{[], ℕ, suc, ◌≡◌, ◌<◌, if◌then◌else◌, Option, true, false, List, ◌∷◌, ◌++◌, length}
 use Rattle.std.proofs.Common.{map, get_or, position, Some, None, refl, sym, ap, ◌∙◌, arith, subst}
@@ -69,7 +68,7 @@ known-as p s words h =
 module _ (p : Named) (keys : List (Vec Use Global)) (counts : List ℕ) (b : IsOptionIndex p keys counts) where
   -- a body that no uses have the words of
   pub no-uses : (words : List (List ℕ)) → ((us : List Use) → HaveWords p words us → ⊥) → is_known p words ≡ false
-  no-uses words none = grind (arith, common_steps, known-as)
+  no-uses words none = grind (arith, known-as)
 
   -- a body of uses that are of no class
   pub no-class : (words : List (List ℕ)) (us : List Use) → HaveWords p words us
@@ -77,7 +76,7 @@ module _ (p : Named) (keys : List (Vec Use Global)) (counts : List ℕ) (b : IsO
   no-class words us have none = not_false (is_known p words) (λ h.
       let o = known-as p b.sound words h in
       let vs = uses_of p.puzzle o.0 in
-      let same : rotated_at o.2 vs ≡ us = grind (arith, common_steps, same_uses_by_words) in
+      let same : rotated_at o.2 vs ≡ us = grind (arith, same_uses_by_words) in
       let class : class_at p.puzzle o.0 ≡ class_of us =
       sym (class-turned o.2 vs (option-differs p.puzzle b.sound.valid o.0 o.1)) ∙ ap class_of same in
       none (subst (IsIn (key_uses keys)) class (in-contains _ _ (b.complete.whole o.0 o.1.0 o.1.1))))

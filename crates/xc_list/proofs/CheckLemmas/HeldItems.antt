@@ -1,5 +1,4 @@
 -- What uses add to the counts of their items.
-use Rattle.std.proofs.lemmas.Grind.{common_steps}
 use Rattle.std.proofs.Common.{[], ℕ, suc, ◌≡◌, ◌+◌, ◌-◌, ◌<◌, ◌≤◌, ◌==◌, List, ◌∷◌}
 use Rattle.std.proofs.Common.{◌++◌, length, get_or, set, refl, ◌∙◌, arith}
 use Rattle.std.specs.List.{AllByRecursion}
@@ -45,7 +44,7 @@ raised-at (j ∷ ks) ns k l =
 
 -- at a place behind all of them too
 pub raised-most : (ks ns : List ℕ) (k : ℕ) → get_or (raised ks ns) k 0 ≤ get_or ns k 0 + counted (λ j. j == k) ks
-raised-most ks ns k = grind (arith, common_steps, cases_lt, raised-at, get_or_past, length-raised)
+raised-most ks ns k = grind (arith, cases_lt, raised-at, get_or_past, length-raised)
 
 -- ---- uses
 
@@ -65,4 +64,4 @@ held-places n (u ∷ us) k a = grind (arith, nat_tests, held-places n us k a.1)
 -- at the place of each item
 pub added-at : (n : ℕ) (us : List Use) (ts : List ℕ) (k : ℕ) → AreItems n us → n ≡ length ts → k < n
     → get_or (added us ts) k 0 ≡ get_or ts k 0 + held (suc k) us
-added-at n us ts k a e l = grind (arith, common_steps, raised-at, held-places)
+added-at n us ts k a e l = grind (arith, raised-at, held-places)

@@ -101,11 +101,11 @@ agrees_with v d cs c = agrees v (length cs) (last_or d cs) c ≡ true
 agree-last : (d : ℕ) (cs : List ℕ) → EachTwo Agree cs → AllByRecursion (agrees_with None d cs) cs
 agree-last d [] h = tt
 agree-last d (x ∷ []) h = (refl, tt)
-agree-last d (x ∷ y ∷ cs) h = grind (arith, common_steps, last_same, each_weaker, nat_tests)
+agree-last d (x ∷ y ∷ cs) h = grind (arith, last_same, each_weaker, nat_tests)
 
 all_agree : (l : ℕ) (cs : List ℕ) → AllByRecursion (Agree l) cs → EachTwo Agree cs
 all_agree l [] a = tt
-all_agree l (c ∷ cs) a = grind (arith, common_steps, each_weaker, nat_tests, all_agree l cs a.1)
+all_agree l (c ∷ cs) a = grind (arith, each_weaker, nat_tests, all_agree l cs a.1)
 
 last-agree : (d : ℕ) (cs : List ℕ) → AllByRecursion (agrees_with None d cs) cs → EachTwo Agree cs
 last-agree d [] h = tt

@@ -1,5 +1,4 @@
 -- Numbers in a row, and what stands at a number.
-use Rattle.std.proofs.lemmas.Grind.{common_steps}
 use Rattle.std.proofs.lemmas.Bool.Decides.{nat_tests}
 use Rattle.std.proofs.Common.{[], ℕ, zero, suc, ◌≡◌, ◌≢◌, ◌+◌, ◌<◌, ◌≤◌, Bool, true, ◌||◌, List, ◌∷◌}
 use Rattle.std.proofs.Common.{length, Some, sym, ap, ◌∙◌, arith, inl, inr}
@@ -38,7 +37,7 @@ last_or d (n ∷ ns) = last_or n ns
 pub any-in : {X : Type 0} (p : X → Bool) (xs : List X) (x : X) → IsIn xs x → p x ≡ true → list_any p xs ≡ true
 any-in p [] x h e = absurd h
 any-in p (y ∷ ys) x (inl q) e = let f : p y ≡ true = ap p q ∙ e in ap (λ t. t || list_any p ys) f
-any-in p (y ∷ ys) x (inr h) e = grind (arith, common_steps, any-in p ys x h e)
+any-in p (y ∷ ys) x (inr h) e = grind (arith, any-in p ys x h e)
 
 pub in-any : {X : Type 0} (p : X → Bool) (xs : List X) → list_any p xs ≡ true → (x : X) × IsIn xs x × (p x ≡ true)
 in-any p [] h = cc
@@ -49,7 +48,7 @@ in-any {X} p (x ∷ xs) h = grind (arith, nat_tests, in-any p xs)
 pub numbered_some : {X : Type 0} (xs : List X) (i : ℕ) (d : X) → 1 ≤ i → i ≤ length xs
     → numbered_get xs i ≡ Some (unwrap_or (numbered_get xs i) d)
 numbered_some xs zero d h l = absurd (omega (arith, h))
-numbered_some xs (suc k) d h l = grind (arith, common_steps, slice_get-get_or, unwrap_or-slice_get)
+numbered_some xs (suc k) d h l = grind (arith, slice_get-get_or, unwrap_or-slice_get)
 
 -- what holds of all texts holds of the one at a number
 pub at_bytes : (P : List ℕ → Type 0) (texts : List (List ℕ)) (i : ℕ) → 1 ≤ i → i ≤ length texts → All P texts

@@ -1,5 +1,4 @@
 -- Rotations of uses, and that those of one list have one class: for the classes of the checker.
-use Rattle.std.proofs.lemmas.Grind.{common_steps}
 use Rattle.std.proofs.Common.{[], ℕ, zero, suc, ◌≡◌, ◌≢◌, ◌+◌, ◌<◌, ◌≤◌, ◌==◌, min, List, ◌∷◌, ◌++◌, length}
 use Rattle.std.proofs.Common.{drop, take, true, inl, inr, is_some, get_or, refl, sym, ap, ◌∙◌, arith, append_assoc}
 use Rattle.std.proofs.Common.{subst, eq-eqb, ne_eqb}
@@ -75,7 +74,7 @@ module _ (i : ℕ) (u : Use) where
 
 fold-min : (a b : ℕ) (xs : List ℕ) → fold min (min a b) xs ≡ min a (fold min b xs)
 fold-min a b [] = refl
-fold-min a b (x ∷ xs) = grind (arith, common_steps, fold-min a (min b x) xs)
+fold-min a b (x ∷ xs) = grind (arith, fold-min a (min b x) xs)
 
 least_same : (u : Use) (us : List Use) → least_of (us ++ u ∷ []) ≡ least_of (u ∷ us)
 least_same u [] = refl

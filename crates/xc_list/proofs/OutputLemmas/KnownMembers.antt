@@ -3,7 +3,6 @@ use Rattle.xc_search.proofs.listing.EachBranch.{in-nones}
 use Rattle.xc_search.proofs.listing.BranchesLess.{by_branches}
 use Rattle.xc_search.proofs.listing.Unrolled.{listing_at}
 use Rattle.std.proofs.Common.{[], None, Some}
-use Rattle.std.proofs.lemmas.Grind.{common_steps}
 use Rattle.xc_search.specs.Listing.{take_branch}
 use Rattle.std.proofs.Common.{map}
 use Rattle.xc_input.proofs.lists.Members.{IsIn, in-map, in-filter, in-append, each_in, each_from, in-take}
@@ -61,7 +60,7 @@ pick_known : (p : Puzzle) (r : Residual) (i : ℕ) (x : Numbered) → IsKnownRes
 pick_known p r i x known = grind (arith, in-map, in-filter, item-spend_one, length-filter-le, goes_on)
 
 none_known : (p : Puzzle) (r : Residual) (i : ℕ) → IsKnownResidual p r → IsKnownResidual p (none r i)
-none_known p r i known = grind (arith, common_steps, in-filter, length-filter-le)
+none_known p r i known = grind (arith, in-filter, length-filter-le)
 
 branch_known : (p : Puzzle) (r : Residual) (w : Wanted) (b : Branch) → IsKnownResidual p r → IsPrimary p w.item
     → IsIn (branches_of r w) b → IsKnownBranch p b

@@ -32,7 +32,7 @@ options_left os o x e = rw add-one (drop_at os o x (sym (numbered_get-at os (o +
 -- as many starts as options, and the length
 pub laid-count : (a : Named) (os : List (List Use)) (texts starts : List ℕ) → AreLaid a os texts starts
     → length starts ≡ length os + 1
-laid-count a os texts starts l = grind (arith, common_steps, length-pieces, length-map)
+laid-count a os texts starts l = grind (arith, length-pieces, length-map)
 
 numbered-map : {X : Type 0} (f : List Use → X) (os : List (List Use)) (o : ℕ) → (1 ≤ o) × (o ≤ length os)
     → numbered_get (map f os) o ≡ Some (f (unwrap_or (numbered_get os o) []))
@@ -47,7 +47,7 @@ module _ (a : Named) (item : ℕ) (us : List Use) {text : List ℕ} {place : ℕ
       ∙ flat_map-append (use_text a) (take (place_in item us) us) (drop (place_in item us) us)
 
   pub cut_within : place ≤ length text
-  cut_within = grind (arith, common_steps, length-append, a, item, us, at, halves)
+  cut_within = grind (arith, length-append, a, item, us, at, halves)
 
   -- the text behind the cut and the text before it are those of the uses from the item's on, cyclically
   pub cut_gives : flat_map (use_text a) (from_item item us) ≡ drop place text ++ take place text

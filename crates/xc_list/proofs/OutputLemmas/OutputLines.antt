@@ -1,6 +1,5 @@
 -- The lines of an output.
 use Rattle.std.proofs.Common.{[], arith}
-use Rattle.std.proofs.lemmas.Grind.{common_steps}
 use Rattle.xc_list.proofs.OutputLemmas.ChoiceBodies.{body_words, told}
 use Rattle.xc_list.proofs.OutputLemmas.KnownMembers.{IsCounted, AreCounted, member_counted}
 use Rattle.xc_input.proofs.lists.Members.{IsIn}
@@ -47,14 +46,14 @@ body-spaced p i (Some o) = sym (flat_map-map (λ w. 32 ∷ w) (use_word p) (from
 body-spaced p i None = ap (λ t. codes " null " ++ t) (sym (append-nil (bytes_at p.names i)))
 
 choice-ended : (p : Named) (c : Choice) → choice_text p c ≡ choice_line p c ++ 10 ∷ []
-choice-ended p c = grind (arith, common_steps, body-spaced, flat_map-append, append_assoc, append-nil)
+choice-ended p c = grind (arith, body-spaced, flat_map-append, append_assoc, append-nil)
 
 choices-ended : (p : Named) (m : List Choice) → flat_map (choice_text p) m ≡ ended (map (choice_line p) m)
 choices-ended p [] = refl
-choices-ended p (c ∷ m) = grind (arith, common_steps, choice-ended, append_assoc, choices-ended p m)
+choices-ended p (c ∷ m) = grind (arith, choice-ended, append_assoc, choices-ended p m)
 
 member-ended : (p : Named) (nm : ℕ × List Choice) → member_text p nm ≡ ended (member_lines p nm)
-member-ended p nm = grind (arith, common_steps, append_assoc, choices-ended)
+member-ended p nm = grind (arith, append_assoc, choices-ended)
 
 module _ (p : Named) (sound : IsSound p) (none : All (λ n. n ≢ codes "null") p.names) where
   pub read-choice_line : (c : Choice) → IsCounted p.puzzle c → (read (choice_line p c) ≡ Body (choice_words p c))

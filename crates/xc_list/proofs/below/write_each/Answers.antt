@@ -1,4 +1,3 @@
-use Rattle.std.proofs.lemmas.Grind.{common_steps}
 use Rattle.xc_list.proofs.Outputs.{texts_all, texts_next, texts_broke, holds_next}
 use Rattle.xc_list.specs.Below.{most_counted}
 use Rattle.xc_list.specs.Output.{member_text}
@@ -12,7 +11,7 @@ use Rattle.xc_list.proofs.below.write_each.Goals as goal
 use Rattle.xc_list.proofs.below.write_each.Goals.{In-Done, In-Solution}
 
 all : (g : _) (c : In-Done g) → c.loop-found.found ≡ length c.args.search.now.to_come
-all g c = grind (arith, common_steps, all_done)
+all g c = grind (arith, all_done)
 
 next : (g : _) (c : In-Solution g) → drop c.loop-found.found c.args.search.now.to_come
     ≡ c.next.new.self.shown ∷ c.next.new.self.to_come

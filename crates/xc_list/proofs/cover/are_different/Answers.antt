@@ -6,17 +6,16 @@ use Rattle.xc_list.proofs.CheckLemmas.ListedNumbers.{in-any}
 use Rattle.xc_input.proofs.lists.Members.{each_in}
 use Rattle.std.proofs.lemmas.Bool.{eqb-true}
 use Rattle.std.proofs.Common.{arith}
-use Rattle.std.proofs.lemmas.Grind.{common_steps}
 use Rattle.std.proofs.Common.{◌≢◌, refl, subst, sym}
 use Rattle.std.proofs.lemmas.List.{nil_from_length}
 use Rattle.xc_input.proofs.lists.EachTwo.{EachTwo, each_two_from_AllPairs, AllPairs-from_each_two}
 use Rattle.xc_list.proofs.cover.are_different.Goals as goal
 
 pub returns-then-contains : goal.returns-then-contains
-returns-then-contains c = grind (arith, common_steps, each_two_from_AllPairs, in-any, each_in, eqb-true)
+returns-then-contains c = grind (arith, each_two_from_AllPairs, in-any, each_in, eqb-true)
 
 pub loop-first-preserved : goal.loop-first-preserved
-loop-first-preserved c = grind (arith, common_steps, each_from, any-in, eq-eqb, nat_tests)
+loop-first-preserved c = grind (arith, each_from, any-in, eq-eqb, nat_tests)
 
 pub returns : goal.returns
 returns c =

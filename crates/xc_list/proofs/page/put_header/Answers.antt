@@ -1,4 +1,3 @@
-use Rattle.std.proofs.lemmas.Grind.{common_steps}
 use Rattle.std.proofs.Common.{arith}
 use Rattle.std.proofs.lemmas.Fmt.{length-decimal-le}
 use Rattle.std.proofs.lemmas.List.{length-set}
@@ -6,7 +5,7 @@ use Rattle.xc_list.proofs.PageLemmas.{header_held}
 use Rattle.xc_list.proofs.page.put_header.Goals as goal
 
 pub write_digits-from-requires : goal.write_digits-from-requires
-write_digits-from-requires c = grind (arith, common_steps, length-set, length-decimal-le)
+write_digits-from-requires c = grind (arith, length-set, length-decimal-le)
 
 pub returns-clause-put : goal.returns-clause-put
-returns-clause-put c = grind (arith, common_steps, header_held)
+returns-clause-put c = grind (arith, header_held)

@@ -1,5 +1,4 @@
 use Rattle.std.proofs.Common.{arith}
-use Rattle.std.proofs.lemmas.Grind.{common_steps}
 use Rattle.std.proofs.Common.{◌≡◌, ◌++◌}
 use Rattle.xc_search.specs.Cut.{IsPath, below}
 use Rattle.xc_list.proofs.Planned.{planned_more, planned_broke}
@@ -16,4 +15,4 @@ returns-in-Err-clause-plan g c =
     (part g (goal.at.returns-in-Err-clause-plan g c).After-path) c.in-Err.ensures
 
 pub loop-found-preserved : goal.loop-found-preserved
-loop-found-preserved g c = grind (arith, common_steps, planned_more, part)
+loop-found-preserved g c = grind (arith, planned_more, part)

@@ -1,4 +1,3 @@
-use Rattle.std.proofs.lemmas.Grind.{common_steps}
 use Rattle.xc_list.specs.Known.{IsKnownChoice}
 use Rattle.std.specs.Prelude.{All}
 use Rattle.xc_list.proofs.Outputs.{holds_next}
@@ -11,7 +10,7 @@ use Rattle.xc_list.proofs.runs.write_members.Goals.{After-pass-passed}
 at : (g : _) (c : After-pass-passed g) → c.steps_to_printed-steps.result ≤ c.pass-passed.result →
     Reaches c.args.bodies.now c.args.words.now.spacing c.loop-found.found
     (c.loop-found.found + c.steps_to_printed-steps.result) c.pass-passed.new.self
-at g c enough = grind (arith, common_steps, reaches)
+at g c enough = grind (arith, reaches)
 
 pub write_printed-requires-clause-known : goal.write_printed-requires-clause-known
 write_printed-requires-clause-known g c =

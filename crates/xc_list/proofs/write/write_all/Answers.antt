@@ -1,4 +1,3 @@
-use Rattle.std.proofs.lemmas.Grind.{common_steps}
 use Rattle.std.proofs.Common.{arith, sym, subst, []}
 use Rattle.xc_list.specs.Texts.{Writes}
 use Rattle.xc_list.proofs.TextLemmas.{front_more}
@@ -8,4 +7,4 @@ use Rattle.xc_list.proofs.write.write_all.Goals as goal
 pub returns-in-Ok-2 : goal.returns-in-Ok-2
 returns-in-Ok-2 g c =
     subst (Writes _ _ c.write_rest.result) (sym (front_more [] c.args.bytes.now c.in-Ok.n c.in-Ok.ensures.bound))
-    (grind (arith, common_steps, then_writes))
+    (grind (arith, then_writes))

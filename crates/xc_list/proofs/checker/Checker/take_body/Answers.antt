@@ -1,4 +1,3 @@
-use Rattle.std.proofs.lemmas.Grind.{common_steps}
 use Rattle.std.proofs.lemmas.Bool.Decides.{nat_tests}
 use Rattle.std.proofs.Common.{arith}
 use Rattle.std.proofs.Common.{◌≡◌, is_some, Some}
@@ -17,10 +16,10 @@ invariant_of-self-in-Ok-Some c =
     let i = c.self.inside in
     let words = words_in c.args.body.now in
     let said : read c.args.line.now ≡ Body words = c.requires in
-    let class : IsClassOfLine i.options c.args.line.now c.in-Ok-Some.class = grind (arith, common_steps) in
+    let class : IsClassOfLine i.options c.args.line.now c.in-Ok-Some.class = grind arith in
     let seen = noted-rightly i.options _ c.note.new.self.lines.items c.args.line.now c.in-Ok-Some.class class
     c.note.ensures c.self.invariant.seen in
-    grind (arith, common_steps)
+    grind arith
 
 pub returns-in_ok-take_class-in-Ok-Some-clause-takes : goal.returns-in_ok-take_class-in-Ok-Some-clause-takes
 returns-in_ok-take_class-in-Ok-Some-clause-takes c =

@@ -6,7 +6,7 @@ use Rattle.xc_list.proofs.CheckLemmas.LastColours.{held_once}
 use Rattle.xc_list.proofs.checker.counts.Counts.add.Goals as goal
 
 pub loop-u-init : goal.loop-u-init
-loop-u-init c = grind (arith, common_steps, held_once, each_two_from_AllPairs)
+loop-u-init c = grind (arith, held_once, each_two_from_AllPairs)
 
 pub hold-requires-clause-few : goal.hold-requires-clause-few
 hold-requires-clause-few c = grind (arith, common_steps)

@@ -1,5 +1,4 @@
 use Rattle.std.proofs.Common.{arith}
-use Rattle.std.proofs.lemmas.Grind.{common_steps}
 use Rattle.std.proofs.Common.{ℕ, ◌≡◌, ◌∙◌, List, length, replicate, sym, ap}
 use Rattle.std.proofs.lemmas.List.{length-replicate}
 use Rattle.xc_list.proofs.CheckLemmas.ShortItems.{short_begun, short_zeros}
@@ -9,4 +8,4 @@ again : (n : ℕ) (xs : List ℕ) → xs ≡ replicate n 0 → xs ≡ replicate 
 again n xs e = e ∙ ap (λ m. replicate m 0) (sym (ap length e ∙ length-replicate {A = ℕ} n 0))
 
 pub invariant_of-result : goal.invariant_of-result
-invariant_of-result c = grind (arith, common_steps, again, length-replicate, short_begun, short_zeros)
+invariant_of-result c = grind (arith, again, length-replicate, short_begun, short_zeros)

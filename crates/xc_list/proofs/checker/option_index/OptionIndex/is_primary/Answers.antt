@@ -1,10 +1,9 @@
 use Rattle.std.proofs.Common.{arith}
-use Rattle.std.proofs.lemmas.Grind.{common_steps}
 use Rattle.xc_list.proofs.CheckLemmas.NumberedTexts.{any-take-number, any-take-no_number}
 use Rattle.xc_list.proofs.checker.option_index.OptionIndex.is_primary.Goals as goal
 
 pub returns-in-Some : goal.returns-in-Some
-returns-in-Some c = grind (arith, common_steps, any-take-number)
+returns-in-Some c = grind (arith, any-take-number)
 
 pub returns-in-None : goal.returns-in-None
-returns-in-None c = grind (arith, common_steps, any-take-no_number)
+returns-in-None c = grind (arith, any-take-no_number)

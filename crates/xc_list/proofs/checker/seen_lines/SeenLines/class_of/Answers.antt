@@ -1,4 +1,3 @@
-use Rattle.std.proofs.lemmas.Grind.{common_steps}
 use Rattle.std.proofs.lemmas.Bool.Decides.{nat_tests}
 use Rattle.std.proofs.Common.{arith}
 use Rattle.xc_list.proofs.CheckLemmas.NotedLines.{found-at}
@@ -7,5 +6,5 @@ use Rattle.xc_list.proofs.checker.seen_lines.SeenLines.class_of.Goals as goal
 pub returns-then-eq : goal.returns-then-eq
 returns-then-eq c =
     let found = found-at c.deref.result.now _ _ c.args.line.now _ c.in_ok-seen.ensures.lookup.3.0
-    (c.in_ok-seen.ensures.lookup.3.1 c.in_ok-seen.seen.now) (grind (arith, common_steps)) c.as_slice.ensures.value in
+    (c.in_ok-seen.ensures.lookup.3.1 c.in_ok-seen.seen.now) (grind arith) c.as_slice.ensures.value in
     grind (arith, nat_tests, c.deref.ensures.value)
