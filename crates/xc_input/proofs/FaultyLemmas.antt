@@ -1,5 +1,4 @@
 -- The token at fault is found as its line is read, one token after another.
-use Rattle.std.proofs.lemmas.Grind.{common_steps}
 use Rattle.std.proofs.Common.{arith}
 use Rattle.std.proofs.lemmas.Bool.Decides.{nat_tests}
 use Rattle.std.proofs.lemmas.List.{length-map}
@@ -34,19 +33,19 @@ module _ {cut : List ℕ → List (List ℕ)} {checks : List (List ℕ) → List
   pub read-on : (behind : List ℕ) {piece : List ℕ} → cut rest ≡ piece ∷ cut behind → StandsBefore rest piece behind
       → first (checks others piece) ≡ None → IsReadTo cut checks line behind (others ++ piece ∷ [])
   read-on behind {piece} e s f =
-      let w = read-stands piece behind s in grind (arith, common_steps, append_assoc, first-each, first-back)
+      let w = read-stands piece behind s in grind (arith, append_assoc, first-each, first-back)
 
   pub read-stop : (behind : List ℕ) {piece : List ℕ} {k : FaultKind} (t : FaultyToken) → cut rest ≡ piece ∷ cut behind
       → first (checks others piece) ≡ Some k → line ≡ t.before.now ++ piece ++ behind → t.token.now ≡ piece
       → t.behind.now ≡ behind → t.kind ≡ k → IsAtFault cut checks line t
-  read-stop behind t e f place token back kind = grind (arith, common_steps, others, cut, first)
+  read-stop behind t e f place token back kind = grind (arith, others, cut, first)
 
   pub read-end : cut rest ≡ [] → (t : FaultyToken) → IsAtFault cut checks line t → ⊥
   read-end e t h = grind (arith, nat_tests, append-nil, first-each, first-front)
 
 -- there are as many names as items
 pub keys-length : (i : ItemLine) → IsItemTable i → length i.names.keys ≡ length i.items.items
-keys-length i t = grind (arith, common_steps, length-map, names_of-length)
+keys-length i t = grind (arith, length-map, names_of-length)
 
 -- what is told of the one is told of the other, where both say the same
 pub tells-same : {A : Type 0} {P Q : A → Type 0} (o : Option A) → ((x : A) → P x → Q x) → ((x : A) → Q x → P x)

@@ -109,4 +109,4 @@ last-place p [] e = refl
 last-place p (x ∷ xs) e = grind (arith, last-place p xs)
 
 pub items-length : {A : Type 0} (v : Vec A Global) → vec_len v ≡ length v.items
-items-length v = grind (arith, common_steps)
+items-length v = grind arith

@@ -1,6 +1,5 @@
 -- The first fault of a text, by its lines one after another, and that a text has none exactly where it stands for the
 -- problem that its lines give.
-use Rattle.std.proofs.lemmas.Grind.{common_steps}
 use Rattle.std.proofs.Common.{◌≡◌, ℕ, ◌+◌, List, [], ◌∷◌, ◌++◌, Option, None, Some, Bool, true, false, not}
 use Rattle.std.proofs.Common.{length, refl, ap, ◌∙◌, sym, subst, arith, if◌then◌else◌, append-nil}
 use Rattle.std.proofs.lemmas.Bool.Decides.{nat_tests}
@@ -97,4 +96,4 @@ stands-only kind lines named ignored h =
     let given = sheet-is kind h.item_line h.option_lines r.0.0.0.1 in
     let none = (lines-clear kind lines).0
     (h.no_nul, subst (AreClear kind) (sym (plain-content 1 lines ∙ ap plain h.content)) r.0) in
-    grind (arith, common_steps, first_fault-is)
+    grind (arith, first_fault-is)

@@ -1,5 +1,4 @@
 -- No check of parts, tokens and lines holds exactly where they stand for items, uses and options.
-use Rattle.std.proofs.lemmas.Grind.{common_steps}
 use Rattle.std.proofs.Common.{◌≡◌, ◌≢◌, ℕ, ◌+◌, ◌≤◌, List, [], ◌∷◌, ◌++◌, Option, None, Some, Bool, true, false, ◌&&◌}
 use Rattle.std.proofs.Common.{not, nat_lt, nat_eq, length, map, refl, ap, ◌∙◌, arith, if◌then◌else◌}
 use Rattle.std.proofs.Common.{inl, inr, sym, ◌||◌, append-nil}
@@ -238,7 +237,7 @@ line-clear kind earlier line =
     (λ f. rw (z, f) (simp (append-nil, or-false) (λ a. (a, refl), λ h. h.0)))
     (λ f. let c = content-clear kind (content earlier) line in
     let m = none-numbered n (first (content_checks kind (content earlier) line)) in
-    rw (z, f) (grind (arith, common_steps, or-false)))))
+    rw (z, f) (grind (arith, or-false)))))
 
 pub lines-clear : (kind : Kind) (lines : List (List ℕ)) → AreClearLines kind lines ↔ (line_fault kind lines ≡ None)
 lines-clear kind = clear-each (line_checks kind) (AreClearLines kind) (line-clear kind) (refl, tt)

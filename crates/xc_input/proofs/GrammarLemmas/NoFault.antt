@@ -1,5 +1,4 @@
 -- Checks that don't hold, and what they say of a token: for `add_item`, `use_of` and `finish`.
-use Rattle.std.proofs.lemmas.Grind.{common_steps}
 use Rattle.std.proofs.Common.{◌≡◌, ℕ, ◌<◌, ◌≤◌, List, [], ◌∷◌, ◌++◌, None, Bool, true, false, ◌||◌}
 use Rattle.std.proofs.Common.{nat_lt, nat_le, length, refl, ◌∙◌, arith}
 use Rattle.std.proofs.Common.{inl, inr, ◌⊎◌}
@@ -34,7 +33,7 @@ pub solid : (name : List ℕ) → nat_lt (length name) 1 ≡ false → nat_lt lo
 solid name a b c = grind (arith, nat_tests, or_parts (has COLON name) (has BAR name) c)
 
 pub name-good : (name : List ℕ) → first (name_checks name) ≡ None → IsName name
-name-good name e = grind (arith, common_steps, fails, solid)
+name-good name e = grind (arith, fails, solid)
 
 pub good-name : (name : List ℕ) → IsName name → first (name_checks name) ≡ None
 good-name name g = grind (arith, nat_tests)

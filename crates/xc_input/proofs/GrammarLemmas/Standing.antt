@@ -1,5 +1,4 @@
 -- Lines stand for a problem exactly where no check of them holds, and for no other problem.
-use Rattle.std.proofs.lemmas.Grind.{common_steps}
 use Rattle.std.proofs.Common.{◌≡◌, ℕ, ◌≤◌, List, [], ◌∷◌, ◌++◌, length, map, refl, ap, ◌∙◌, sym, subst, arith}
 use Rattle.std.proofs.Common.{Bool, false, true}
 use Rattle.std.proofs.lemmas.List.{length-append, length-map}
@@ -115,7 +114,7 @@ module _ (kind : Kind) (item : ℕ × List ℕ) (rest : List (ℕ × List ℕ)) 
           distinct = AllPairs-from_each_two _ _ h.0.1;
           few = h.0.2;
         };
-        options = grind (arith, common_steps, rest, length-map, primary, few, options);
+        options = grind (arith, rest, length-map, primary, few, options);
       }
 
   -- what the stage behind these lines says of them

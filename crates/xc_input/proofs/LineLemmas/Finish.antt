@@ -4,7 +4,6 @@ use Rattle.std.proofs.lemmas.List.{length-map}
 use Rattle.std.proofs.lemmas.List.{take-map}
 use Rattle.xc_input.proofs.lists.Filters.{map-map}
 use Rattle.std.proofs.lemmas.Bool.Decides.{nat_tests}
-use Rattle.std.proofs.lemmas.Grind.{common_steps}
 use Rattle.std.proofs.Common.{◌≡◌, ◌≢◌, ◌+◌, ◌-◌, ◌^◌, min, ℕ, List, Option, None, Some, Bool, true, false, length}
 use Rattle.std.proofs.Common.{refl, ap, ◌∙◌, sym, subst, arith, MatchOption}
 use Rattle.xc_input.specs.declared.kind.Kind.{Kind}
@@ -30,12 +29,12 @@ use Rattle.xc_input.proofs.FaultLemmas.FirstFaults.{Stands, stands, stands-only}
 
 pub refutes : (kind : Kind) (lines : List (List ℕ)) (e : InputError) → IsEndOf kind lines e → e ≢ Memory
     → (p : Named) (ig : List ℕ) → StandsFor kind lines p ig → ⊥
-refutes kind lines (Fault n k) h f p ig s = grind (arith, common_steps, stands-only kind lines p ig s)
+refutes kind lines (Fault n k) h f p ig s = grind (arith, stands-only kind lines p ig s)
 refutes kind lines Device h f p ig s = absurd h
 refutes kind lines Memory h f p ig s = absurd (f refl)
 
 by-builder : (d : ProblemBuilder) → named_of (sheet_of_builder d) ≡ named_by d
-by-builder d = grind (arith, common_steps, item-names, length-map, take-map, map-map, nat_tests)
+by-builder d = grind (arith, item-names, length-map, take-map, map-map, nat_tests)
 
 module _ {v : Reading} {kind : Kind} {lines : List (List ℕ)} {o : Option InputError}
     (is : v ≡ record { kind = kind; lines = lines; error = o }) (h : IsStateOf kind lines o) where
@@ -45,7 +44,7 @@ module _ {v : Reading} {kind : Kind} {lines : List (List ℕ)} {o : Option Input
 
   pub refuses : (e : InputError) → o ≡ Some e → e ≢ Memory → (p : Named) (ig : List ℕ)
       → StandsFor v.kind v.lines p ig → ⊥
-  refuses e f w p ig s = refutes kind lines e (grind (arith, common_steps, error-ends)) w p ig (StandsFor-given s)
+  refuses e f w p ig s = refutes kind lines e (grind (arith, error-ends)) w p ig (StandsFor-given s)
 
   module _ (f : o ≡ None) (d : ProblemBuilder)
       (m : MatchOption o (IsBuilder d × (stage_of_builder d ≡ stage_of kind lines)) (λ _. Unit {0})) where
@@ -57,7 +56,7 @@ module _ {v : Reading} {kind : Kind} {lines : List (List ℕ)} {o : Option Input
 
     pub no-items : d.started ≡ false → (count next : ℕ) → count ≡ line_number (length lines)
         → next ≡ min (count + 1) (2 ^ 64 - 1) → first_fault v.kind v.lines ≡ Some (next, NoItems)
-    no-items g count next c s = grind (arith, common_steps, is, ended g)
+    no-items g count next c s = grind (arith, is, ended g)
 
     pub unstarted : d.started ≡ false → (p : Named) (ig : List ℕ) → StandsFor v.kind v.lines p ig → ⊥
     unstarted g p ig s = grind (arith, stands-only kind lines p ig (StandsFor-given s), ended g)

@@ -31,14 +31,14 @@ stage-snoc kind n stage (l ∷ lines) line =
 -- an error of some lines is that of all
 pub IsErrorOf-more : (kind : Kind) (ls ms : List (List ℕ)) (e : InputError) → IsErrorOf kind ls e
     → IsErrorOf kind (ls ++ ms) e
-IsErrorOf-more kind ls ms (Fault n k) h = grind (arith, common_steps, first, checks-append, first-front)
+IsErrorOf-more kind ls ms (Fault n k) h = grind (arith, first, checks-append, first-front)
 IsErrorOf-more kind ls ms Device h = h
 IsErrorOf-more kind ls ms Memory h = tt
 
 -- one line more, after an error
 pub stays : (kind : Kind) (old new : List (List ℕ)) (line : List ℕ) (o : Option InputError) (e : InputError)
     → new ≡ old ++ line ∷ [] → o ≡ Some e → IsStateOf kind old o → IsErrorOf kind new e
-stays kind old new line o e f g h = grind (arith, common_steps, IsErrorOf-more)
+stays kind old new line o e f g h = grind (arith, IsErrorOf-more)
 
 pub counts : (old new : List (List ℕ)) (line : List ℕ) (count next : ℕ) → new ≡ old ++ line ∷ []
     → count ≡ line_number (length old) → next ≡ min (count + 1) (2 ^ 64 - 1) → next ≡ line_number (length new)
@@ -72,7 +72,7 @@ module _ (kind : Kind) (old new : List (List ℕ)) (line : List ℕ) (f : new �
 -- the end of the text
 -- the error of the lines is that of the text
 pub error-ends : (kind : Kind) (lines : List (List ℕ)) (e : InputError) → IsErrorOf kind lines e → IsEndOf kind lines e
-error-ends kind lines (Fault n k) h = grind (arith, common_steps)
+error-ends kind lines (Fault n k) h = grind arith
 error-ends kind lines Device h = h
 error-ends kind lines Memory h = tt
 

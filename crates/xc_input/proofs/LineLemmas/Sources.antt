@@ -1,5 +1,4 @@
 -- What the end of a source says of its text.
-use Rattle.std.proofs.lemmas.Grind.{common_steps}
 use Rattle.std.proofs.Common.{arith}
 use Rattle.std.proofs.lemmas.Bool.Decides.{nat_tests}
 use Rattle.std.proofs.Common.{◌≡◌, ℕ, ◌<◌, List, [], ◌∷◌, ◌++◌, Result, Err, length, subst}
@@ -25,4 +24,4 @@ line-ends kind lines e h =
 -- the lines of what was fed
 pub last-part : (reading : Reading) (carry : List ℕ) (after : List (List ℕ)) → IsBetween reading carry
     → 0 < length carry → after ≡ reading.lines ++ carry ∷ [] → after ≡ lines_of (fed reading carry)
-last-part reading carry after between some e = grind (arith, common_steps, lines_of-ended, lines_of-part)
+last-part reading carry after between some e = grind (arith, lines_of-ended, lines_of-part)

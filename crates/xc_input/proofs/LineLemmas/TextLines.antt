@@ -1,5 +1,4 @@
 -- What a text's lines are, once some of them were handed on.
-use Rattle.std.proofs.lemmas.Grind.{common_steps}
 use Rattle.xc_input.proofs.lists.EachElement.{each-append}
 use Rattle.std.proofs.Common.{◌≡◌, ◌≢◌, ℕ, ◌<◌, List, [], ◌∷◌, ◌++◌, true, false, nat_eq, Result, Ok}
 use Rattle.std.proofs.Common.{Err, length, refl, sym, ap, ◌∙◌, subst, append_assoc, append-nil, arith}
@@ -65,7 +64,7 @@ lines_of-part (x ∷ y ∷ l) h p = grind (arith, or_parts, has, lines_of-part (
 -- and of the bytes of some lines
 Spoils-ended : (kind : Kind) (ls : List (List ℕ)) (e : InputError) (bytes : List ℕ) → AreWhole ls → bytes ≡ ended ls
     → IsErrorOf kind ls e → Spoils kind bytes e
-Spoils-ended kind ls e bytes w f h = grind (arith, common_steps, lines_of-ended, IsErrorOf-more)
+Spoils-ended kind ls e bytes w f h = grind (arith, lines_of-ended, IsErrorOf-more)
 
 pub Spoils-more : (kind : Kind) (bytes more all : List ℕ) (e : InputError) → all ≡ bytes ++ more → Spoils kind bytes e
     → Spoils kind all e

@@ -1,5 +1,4 @@
 -- A colour keeps the number that it has where it is met first.
-use Rattle.std.proofs.lemmas.Grind.{common_steps}
 use Rattle.std.proofs.Common.{◌≡◌, ℕ, ◌+◌, ◌<◌, ◌≤◌, List, [], ◌∷◌, ◌++◌, Option, None, Some, Bool, true, false}
 use Rattle.std.proofs.Common.{◌||◌, nat_le}
 use Rattle.std.proofs.Common.{length, take, append-nil, append_assoc, refl}
@@ -72,7 +71,7 @@ primary-numbered primary cs (u ∷ us) = ap (λ t. nat_le u.item primary || t) (
 
 -- an option keeps its number of uses
 pub numbered-length : (colours : List (List ℕ)) (us : List Written) → length (numbered colours us) ≡ length us
-numbered-length colours us = grind (arith, common_steps, length-map)
+numbered-length colours us = grind (arith, length-map)
 
 pub with_uses-append : (cs : List (List ℕ)) (us vs : List Written)
     → with_uses cs (us ++ vs) ≡ with_uses (with_uses cs us) vs
@@ -96,7 +95,7 @@ numbered-more cs us u = grind (arith, number-later cs us (u ∷ []), with_uses-a
 -- at most one colour more
 pub colours_more : (cs : List (List ℕ)) (c : List ℕ) → length (with_colour cs c) ≤ length cs + 1
 colours_more cs [] = omega arith
-colours_more cs (b ∷ bs) = grind (arith, common_steps, by-place, place, length-append)
+colours_more cs (b ∷ bs) = grind (arith, by-place, place, length-append)
 
 -- the colours that were met stand first
 pub first_met : (cs : List (List ℕ)) (us : List Written) → take (length cs) (with_uses cs us) ≡ cs

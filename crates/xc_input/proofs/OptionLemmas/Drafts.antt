@@ -1,5 +1,4 @@
 -- Steps of a draft.
-use Rattle.std.proofs.lemmas.Grind.{common_steps}
 use Rattle.std.proofs.Common.{◌≡◌, ℕ, ◌+◌, ◌-◌, ◌<◌, ◌≤◌, List, [], ◌∷◌, ◌++◌, None, Some, Bool, true, false}
 use Rattle.std.proofs.Common.{nat_le, nat_lt, length, map, take, drop, ap, ◌∙◌, sym, subst}
 use Rattle.std.proofs.Common.{arith, Vec, Global, length-append}
@@ -40,7 +39,7 @@ use Rattle.std.proofs.Math.Bool.{and-false}
 pub new-number : (old new : List (List ℕ)) (colour : List ℕ) (n : ℕ) → 0 < length colour → place old colour ≡ None
     → new ≡ old ++ colour ∷ [] → n ≡ length old → n + 1 ≡ colour_number new colour
 new-number old new [] n h e f g = absurd (omega arith)
-new-number old new (b ∷ bs) n h e f g = grind (arith, common_steps, nat_tests, last-position, bytes_eq-Decides)
+new-number old new (b ∷ bs) n h e f g = grind (arith, nat_tests, last-position, bytes_eq-Decides)
 
 module _ (kind : Kind) {d : ProblemBuilder} (line : List ℕ) (s : IsBuilder d) (t : d.started ≡ true) where
   abbrev us : List Written

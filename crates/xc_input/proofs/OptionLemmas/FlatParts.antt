@@ -59,7 +59,7 @@ option_part starts us (suc k) a b h l m e f = grind (arith, get_or_default_zero,
 
 pub slice-front : {X : Type 0} (us vs : List X) (a b : ℕ) → a ≤ b → b ≤ length us
     → slice_range (us ++ vs) a b ≡ slice_range us a b
-slice-front us vs a b h l = grind (arith, common_steps, drop-append-le, take-append-le, length-drop)
+slice-front us vs a b h l = grind (arith, drop-append-le, take-append-le, length-drop)
 
 -- one part more
 pub pieces-snoc : {X : Type 0} (a : ℕ) (starts : List ℕ) (us vs : List X) (n : ℕ) → AreStarts (a ∷ starts) (length us)

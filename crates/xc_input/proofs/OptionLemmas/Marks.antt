@@ -1,5 +1,4 @@
 -- Marks at the items of a line.
-use Rattle.std.proofs.lemmas.Grind.{common_steps}
 use Rattle.std.proofs.Math.Seq.{take-append_seam}
 use Rattle.std.proofs.Common.{◌≡◌, ℕ, zero, suc, ◌+◌, ◌-◌, ◌<◌, ◌≤◌, List, [], ◌∷◌, ◌++◌, Bool, true, false}
 use Rattle.std.proofs.Common.{true≢false, nat_eq, length, map, get_or, set, take, drop, refl, ap}
@@ -54,4 +53,4 @@ mark-at marks names name seen place are count e = grind (arith, nat_tests, in-ra
 -- marks that were written through a slice
 pub written-back : (n : ℕ) (new old : List Bool) → length new ≡ length old → n ≡ length old
     → take n (new ++ drop (length new) old) ≡ new
-written-back n new old e f = grind (arith, common_steps, take-append_seam)
+written-back n new old e f = grind (arith, take-append_seam)

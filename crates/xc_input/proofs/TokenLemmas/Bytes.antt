@@ -6,7 +6,6 @@ use Rattle.std.proofs.Common.{Bool, length, get_or, take, drop, refl, sym, ap, �
 use Rattle.std.proofs.Common.{nat_eq, position, not, nat_lt, append_assoc, if◌then◌else◌, true, false}
 use Rattle.std.specs.List.{position_or_len, list_all, onto_first, slice_split}
 use Rattle.std.proofs.lemmas.Bool.Decides.{nat_tests}
-use Rattle.std.proofs.lemmas.Grind.{common_steps}
 use Rattle.std.proofs.lemmas.List.{length-map, take-append-drop}
 use Rattle.xc_input.specs.Words.{has, before, after}
 use Rattle.xc_input.specs.Tokens.{is_space, is_bar, is_skipped, parts, split_bars, tokens}
@@ -57,7 +56,7 @@ is_some_token token = nat_lt 0 (length token)
 some-first : (b c : ℕ) (parts : List (List ℕ)) → filter is_some_token (onto_first b (onto_first c parts))
     ≡ onto_first b (filter is_some_token (onto_first c parts))
 some-first b c [] = refl
-some-first b c (p ∷ ps) = grind (arith, common_steps)
+some-first b c (p ∷ ps) = grind arith
 
 tokens-onto : (b : ℕ) (bs : List ℕ) → filter is_some_token (onto_first b (slice_split is_space bs))
     ≡ onto b bs (tokens bs)

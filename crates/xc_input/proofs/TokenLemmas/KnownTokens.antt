@@ -1,5 +1,4 @@
 -- A text that begins with a short name that is known by its number.
-use Rattle.std.proofs.lemmas.Grind.{common_steps}
 use Rattle.std.proofs.lemmas.Bool.Decides.{nat_tests}
 use Rattle.std.proofs.Common.{◌≡◌, ℕ, ◌<◌, ◌≤◌, List, [], ◌∷◌, ◌++◌, Option, None, Some, IfSome, Bor}
 use Rattle.std.proofs.Common.{false, length, get_or, take, drop, ap, ◌∙◌, sym, arith, slice_get}
@@ -38,7 +37,7 @@ known-first names words text back n at number all own bytes behind within is kno
     (slice_get-get_or names at [] (omega (arith, low, own.few)) ∙ ap Some (sym name)) in
     let some : 1 ≤ length (take n text) = (stored IsName names (take n text) at all.named stands).some in
     let solid = stored (λ n. list_any is_space n ≡ false) names (take n text) at all.solid stands in
-    let whole : text ≡ take n text ++ back = grind (arith, common_steps, take-append-drop) in
+    let whole : text ≡ take n text ++ back = grind (arith, take-append-drop) in
     cut-token names text text (take n text) back p.1.now at p.0 all
     (whole ∙ sym (solid-front (take n text) back some solid) ∙ ap drop_white (sym whole))
     (omega (arith, some, length-take n text)) whole stands named.0 named.1 cut
@@ -50,4 +49,4 @@ drop_white-length (b ∷ bs) = grind (arith, nat_tests, drop_white-length bs)
 -- a line's first token, by the line without the white space that it begins with
 pub behind-all-white : (names : List (List ℕ)) (line others : List ℕ) (t : Token) {rest : List ℕ}
     → rest ≡ drop_white line → StandsFirst names rest t others → StandsFirst names line t others
-behind-all-white names line others t e h = grind (arith, common_steps, tokens-drop_white, drop_white-length)
+behind-all-white names line others t e h = grind (arith, tokens-drop_white, drop_white-length)

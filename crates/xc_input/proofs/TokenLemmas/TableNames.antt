@@ -35,7 +35,7 @@ use Rattle.xc_input.proofs.TokenLemmas.Separators.{BAR}
 pub stored : (P : List ℕ → Type 0) (names : List (List ℕ)) (name : List ℕ) (k : ℕ) → All P names
     → place names name ≡ Some k → P name
 stored P names name k all e =
-    grind (arith, common_steps, position-Some (bytes_eq name) names k [] e, bytes_eq-Decides name (get_or names k []))
+    grind (arith, position-Some (bytes_eq name) names k [] e, bytes_eq-Decides name (get_or names k []))
 
 pub apart : (earlier : List (List ℕ)) (x : List ℕ) → place earlier x ≡ None → (k : ℕ) (d : List ℕ) → k < length earlier
     → get_or earlier k d ≢ x

@@ -1,5 +1,4 @@
 -- Tokens and parts of a line have no white space, and no NUL byte and no line feed where the line has none.
-use Rattle.std.proofs.lemmas.Grind.{common_steps}
 use Rattle.std.proofs.Common.{arith}
 use Rattle.std.proofs.lemmas.Bool.Decides.{nat_tests}
 use Rattle.std.proofs.Common.{◌≡◌, ℕ, List, [], ◌∷◌, ◌++◌, Bool, false, nat_eq, refl, subst}
@@ -57,11 +56,11 @@ all-unbroken (x ∷ xs) s z f = (record { no_space = s.0; no_nul = z.0; no_feed 
 
 pub unbroken-tokens : (line : List ℕ) → has 0 line ≡ false → has 10 line ≡ false
     → AllByRecursion IsUnbroken (tokens line)
-unbroken-tokens line z f = grind (arith, common_steps, all-unbroken, lack-spaces, lack-tokens)
+unbroken-tokens line z f = grind (arith, all-unbroken, lack-spaces, lack-tokens)
 
 pub unbroken-parts : (line : List ℕ) → has 0 line ≡ false → has 10 line ≡ false
     → AllByRecursion IsUnbroken (parts line)
-unbroken-parts line z f = grind (arith, common_steps, all-unbroken, parts, lack-all, lack-spaces, lack-tokens)
+unbroken-parts line z f = grind (arith, all-unbroken, parts, lack-all, lack-spaces, lack-tokens)
 
 pub unbroken-behind : (front : List ℕ) (b : ℕ) (back : List ℕ) → IsUnbroken (front ++ b ∷ back) → IsUnbroken back
-unbroken-behind front b back h = grind (arith, common_steps, or_parts, list_any-append)
+unbroken-behind front b back h = grind (arith, or_parts, list_any-append)

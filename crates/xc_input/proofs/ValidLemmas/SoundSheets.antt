@@ -1,5 +1,4 @@
 -- The problem of a sheet.
-use Rattle.std.proofs.lemmas.Grind.{common_steps}
 use Rattle.std.proofs.Common.{◌≡◌, ℕ, ◌≤◌, false, List, true, length, map, drop}
 use Rattle.std.proofs.Common.{All, ap}
 use Rattle.std.proofs.Common.{arith, inl, inr}
@@ -44,5 +43,5 @@ behind-bounds kind items {n} (ps, a, are, k) =
     ∙ (λ i. drop (sym count i) (sym are i)) ∙ drop-map entry_of n items in (
       omega (arith, count, ap length are, length-append front back, length-map items entry_of),
       All-from_recursion IsOptional (drop n items) (each-of IsFree entry_of (drop n items)
-          (grind (arith, common_steps, same, each-map, each_weaker, optional))),
+          (grind (arith, same, each-map, each_weaker, optional))),
     )

@@ -173,7 +173,7 @@ module _ (c : Context) (rest : List (ℕ × List ℕ)) (w : Each IsClean rest)
   )) (each-of (λ line. AreClearTokens c (tokens line)) (λ l. l.1) rest h) w)
 
   options-good : Each (λ us. IsGoodOption c us × (has_primary c.primaries us ≡ true)) uss
-  options-good = grind (arith, common_steps, each-map, each_both, each-filter, lines-good, each_passes)
+  options-good = grind (arith, each-map, each_both, each-filter, lines-good, each_passes)
 
   colours-good : AreGood cs
   colours-good = good-colours c (flat uss) [] (each-flat _ uss (each_weaker _ _ uss (λ us g. g.0.0) options-good))
@@ -185,7 +185,7 @@ module _ (c : Context) (rest : List (ℕ × List ℕ)) (w : Each IsClean rest)
     sound-option us g e =
         let sound : (u : Written) → IsGoodUse c u
         → IsSoundUse p (record { item = u.item; colour = colour_number cs u.colour }) =
-        λ u h. grind (arith, common_steps) in
+        λ u h. grind arith in
         let some = Any-from_list_any _ (number_uses cs us) (primary-numbered c.primaries cs us ∙ e) in
         record {
           sound = All-from_recursion _ _ (each-map (IsSoundUse p) _ us (each_weaker (IsGoodUse c) _ us sound g.0));
@@ -208,9 +208,9 @@ sound kind lines named ignored s w =
     let c = context_of kind ps in
     let p = (named_in kind item rest).puzzle in
     let h = stands-clear kind lines named ignored s in
-    let w : Each IsClean (item ∷ rest) = grind (arith, common_steps, each-filter, s, clean) in
+    let w : Each IsClean (item ∷ rest) = grind (arith, each-filter, s, clean) in
     let one = some-primary (tokens item.1) (each_passes _ (slice_split is_space item.1))
-    (grind (arith, common_steps, each_passes, s, nat_tests)) in
+    (grind (arith, each_passes, s, nat_tests)) in
     let unbroken = All-from_recursion IsUnbroken ps (unbroken-parts item.1 w.0.0 w.0.1) in
     let front = entries-good kind false _ (All-take IsUnbroken _ ps unbroken) h.0.0.0.0 in
     let back = entries-good kind true _ (All-drop IsUnbroken _ ps unbroken) h.0.0.0.1 in

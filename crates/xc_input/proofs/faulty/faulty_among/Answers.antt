@@ -1,5 +1,4 @@
 use Rattle.std.proofs.Common.{arith}
-use Rattle.std.proofs.lemmas.Grind.{common_steps}
 use Rattle.std.proofs.Common.{◌-◌, ◌++◌, ◌∷◌, [], map, set, sym, ap, ◌∙◌, true, length-set}
 use Rattle.std.proofs.lemmas.List.{length-map}
 use Rattle.xc_input.specs.Faults.{item_of}
@@ -34,7 +33,7 @@ loop-token-preserved c =
     ∙ sym (map-snoc (item_of known) others c.in-Some.token.now) in (
       length-set c.loop-token.marks (c.in-Ok.written.item - 1) true ∙ c.loop-token.invariant.0,
       others ++ c.in-Some.token.now ∷ [],
-      grind (arith, common_steps, set, mark),
+      grind (arith, set, mark),
       read-on c.loop-token.invariant.3 _ c.in-Some.ensures.0 c.in-Some.ensures.2 judged.0,
     )
 

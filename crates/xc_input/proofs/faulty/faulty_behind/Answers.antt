@@ -1,5 +1,4 @@
 use Rattle.std.proofs.Common.{arith}
-use Rattle.std.proofs.lemmas.Grind.{common_steps}
 use Rattle.std.proofs.Common.{◌++◌, ◌∷◌, [], sym, ap, ◌∙◌}
 use Rattle.xc_input.specs.Faults.{first}
 use Rattle.xc_input.proofs.FaultyLemmas.{read-stands, read-on, read-stop, read-end}
@@ -9,7 +8,7 @@ use Rattle.xc_input.proofs.TokenLemmas.Unbroken.{part-solid}
 use Rattle.xc_input.proofs.faulty.faulty_behind.Goals as goal
 
 pub loop-part-init : goal.loop-part-init
-loop-part-init c = grind (arith, common_steps, no-row)
+loop-part-init c = grind (arith, no-row)
 
 pub add-requires-clause-solid : goal.add-requires-clause-solid
 add-requires-clause-solid c = part-solid c.loop-part.rest.now c.in-Some.ensures.0

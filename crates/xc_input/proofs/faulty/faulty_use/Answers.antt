@@ -1,5 +1,4 @@
 use Rattle.std.proofs.Common.{arith}
-use Rattle.std.proofs.lemmas.Grind.{common_steps}
 use Rattle.xc_input.specs.declared.faulty.FaultyToken.{FaultyToken}
 use Rattle.std.proofs.lemmas.List.{length-map}
 use Rattle.std.proofs.Common.{unwrap_or, sym, ap, ◌∙◌, subst}
@@ -19,7 +18,7 @@ pub returns-in-Err-Fault : goal.returns-in-Err-Fault
 returns-in-Err-Fault c = grind (arith, first, parts-checked, parts, no-row)
 
 pub faulty_among-requires-clause-marks : goal.faulty_among-requires-clause-marks
-faulty_among-requires-clause-marks c = grind (arith, common_steps, items-length, keys-length)
+faulty_among-requires-clause-marks c = grind (arith, items-length, keys-length)
 
 pub returns : goal.returns
 returns c =

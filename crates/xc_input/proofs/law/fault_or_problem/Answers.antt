@@ -1,5 +1,4 @@
 use Rattle.std.proofs.Common.{arith}
-use Rattle.std.proofs.lemmas.Grind.{common_steps}
 use Rattle.xc_input.proofs.GrammarLemmas.SheetGrammar.{named_of}
 use Rattle.xc_input.specs.inner.Stages.{stage_of}
 use Rattle.xc_input.proofs.FaultLemmas.FirstFaults.{faultless-stands, stands-only}
@@ -13,4 +12,4 @@ returns-clause-stands c = λ kind lines. (
 
 pub returns-clause-one : goal.returns-clause-one
 returns-clause-one c = λ kind lines a b is js s t.
-    let p = stands-only kind lines a is s in grind (arith, common_steps, stands-only kind lines b js t)
+    let p = stands-only kind lines a is s in grind (arith, stands-only kind lines b js t)

@@ -1,7 +1,6 @@
 use Rattle.std.proofs.Common.{arith}
-use Rattle.std.proofs.lemmas.Grind.{common_steps}
 use Rattle.xc_input.proofs.TokenLemmas.Bytes.{position-map}
 use Rattle.xc_input.proofs.names.place_of.Goals as goal
 
 pub returns : goal.returns
-returns c = grind (arith, common_steps, position-map)
+returns c = grind (arith, position-map)

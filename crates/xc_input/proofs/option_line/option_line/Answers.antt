@@ -1,6 +1,5 @@
 use Rattle.xc_input.proofs.OptionLemmas.Marks.{unmarked-few}
 use Rattle.std.proofs.Common.{append-nil}
-use Rattle.std.proofs.lemmas.Grind.{common_steps}
 use Rattle.std.proofs.Common.{◌∙◌, ap, arith}
 use Rattle.std.proofs.lemmas.List.{length-map, take_rest}
 use Rattle.std.proofs.Common.{◌++◌, ◌∷◌, []}
@@ -15,7 +14,7 @@ use Rattle.xc_input.proofs.OptionSteps.{behind_few, behind_more, all_added, late
 use Rattle.xc_input.proofs.option_line.option_line.Goals as goal
 
 pub loop-token-init : goal.loop-token-init
-loop-token-init c = grind (arith, common_steps, length-map, unmarked-few, append-nil)
+loop-token-init c = grind (arith, length-map, unmarked-few, append-nil)
 
 pub returns-in_err-written-clause-judged : goal.returns-in_err-written-clause-judged
 returns-in_err-written-clause-judged c =
@@ -43,7 +42,7 @@ loop-token-preserved c =
 pub clear-requires-clause-marked : goal.clear-requires-clause-marked
 clear-requires-clause-marked c =
     let start = c.len-start.ensures ∙ items-length c.args.uses.now in
-    grind (arith, common_steps, take_rest c.deref.result.now c.len-start.result, late_marked c.loop-token.invariant)
+    grind (arith, take_rest c.deref.result.now c.len-start.result, late_marked c.loop-token.invariant)
 
 pub returns-clause-uses : goal.returns-clause-uses
 returns-clause-uses c = all_added c.loop-token.invariant c.in_default.ensures

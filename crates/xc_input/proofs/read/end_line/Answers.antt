@@ -1,4 +1,3 @@
-use Rattle.std.proofs.lemmas.Grind.{common_steps}
 use Rattle.std.proofs.Common.{◌≡◌, ◌++◌, [], length, arith, sym, ap, ◌∙◌}
 use Rattle.std.proofs.lemmas.Bool.Decides.{nat_tests}
 use Rattle.std.proofs.lemmas.List.{nil_from_length}
@@ -14,7 +13,7 @@ returns-then-is_empty-clause-ended c =
     c.line.ensures.kind c.line.ensures.given c.line.ensures.error c.line.ensures.state none
 
 pub line-outcome-requires : goal.line-outcome-requires
-line-outcome-requires c = grind (arith, common_steps, has, lacks-append)
+line-outcome-requires c = grind (arith, has, lacks-append)
 
 pub returns-clause-ended : goal.returns-clause-ended
 returns-clause-ended c =

@@ -1,4 +1,3 @@
-use Rattle.std.proofs.lemmas.Grind.{common_steps}
 use Rattle.xc_input.proofs.LineLemmas.TextLines.{lines_of-ended}
 use Rattle.std.proofs.lemmas.List.{nil_from_length}
 use Rattle.std.proofs.Common.{append-nil}
@@ -13,7 +12,7 @@ pub returns-then-is_empty-clause-answer : goal.returns-then-is_empty-clause-answ
 returns-then-is_empty-clause-answer c =
     let f = c.finish.ensures in
     let none : length c.args.carry.now ≡ 0 = grind (arith, nat_tests) in
-    ends-as _ _ _ _ _ refl (grind (arith, common_steps, lines_of-ended, nil_from_length, append-nil))
+    ends-as _ _ _ _ _ refl (grind (arith, lines_of-ended, nil_from_length, append-nil))
     (record { accepted = f.accepted; only = f.only; first = f.first; refused = f.refused })
 
 pub returns-in_err-line-clause-answer : goal.returns-in_err-line-clause-answer

@@ -20,4 +20,4 @@ returns-in_err-end_line-clause-err c =
     (Spoils-more _ _ c.in-Some.others.now _ c.in_err-end_line.field-0.0 all c.in_err-end_line.ensures.ended.err))
 
 pub returns-clause-state : goal.returns-clause-state
-returns-clause-state c = grind (arith, common_steps, lacks-append, nat_tests)
+returns-clause-state c = grind (arith, lacks-append, nat_tests)

@@ -1,6 +1,5 @@
 use Rattle.xc_input.proofs.LineLemmas.TextLines.{lines_of-all}
 use Rattle.std.proofs.Common.{◌++◌, ◌∙◌, ◌<◌, take, length, subst, arith}
-use Rattle.std.proofs.lemmas.Grind.{common_steps}
 use Rattle.std.proofs.lemmas.Result.{err_from_is_err_and}
 use Rattle.xc_input.specs.inner.EndedLines.{ended}
 use Rattle.xc_input.specs.inner.Feeding.{fed, Spoils}
@@ -20,11 +19,11 @@ returns-in_err-feed-clause-part g c =
     let error = err_from_is_err_and c.from_residual-in_err-feed.result c.from_residual-in_err-feed.ensures.1 in
     let bytes = fed c.reading.reader c.reading.carry.items ++ take c.in_ok-n.n c.read.new.buf in
     let some : 0 < length (take c.in_ok-n.n c.read.new.buf) =
-    grind (arith, common_steps, c.if-n-eq0.false, c.in_ok-n.ensures.bound) in
+    grind (arith, c.if-n-eq0.false, c.in_ok-n.ensures.bound) in
     rw (error.1, error.2) (part-spoiled c.args.reader.now.kind c.in_err-feed.field-0.0
     (subst (λ kind. Spoils kind bytes c.in_err-feed.field-0.0) c.reading.invariant.1 c.in_err-feed.ensures.err)
     (gave_more _ _ _ _ _ c.reading.invariant.3 some c.in_ok-n.ensures.bytes.0 c.in_ok-n.ensures.given)
     (c.in_ok-n.ensures.failures ∙ c.reading.invariant.2))
 
 pub reading-preserved : goal.reading-preserved
-reading-preserved g c = grind (arith, common_steps, gave_more)
+reading-preserved g c = grind (arith, gave_more)

@@ -9,7 +9,7 @@ returns-in-None-clause-front c =
     sym (has-all c.args.byte c.args.bytes.now (λ k p. not_false _ (c.in-None.ensures k (omega arith) p))).1
 
 pub returns-in-None-clause-back : goal.returns-in-None-clause-back
-returns-in-None-clause-back c = grind (arith, common_steps, has-all)
+returns-in-None-clause-back c = grind (arith, has-all)
 
 pub returns-in-Some-clause-front : goal.returns-in-Some-clause-front
 returns-in-Some-clause-front c = grind (arith, common_steps, has-at)

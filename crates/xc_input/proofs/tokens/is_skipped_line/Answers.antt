@@ -1,4 +1,3 @@
-use Rattle.std.proofs.lemmas.Grind.{common_steps}
 use Rattle.std.proofs.Common.{◌≡◌, ◌∙◌, [], length, arith, sym}
 use Rattle.std.proofs.lemmas.List.{nil_from_length}
 use Rattle.xc_input.proofs.TokenLemmas.Bytes.{skipped-front, skipped-first}
@@ -10,4 +9,4 @@ returns-in-empty c =
     skipped-front c.args.line.now [] (sym (nil_from_length c.skip_white.result.now none) ∙ c.skip_white.ensures)
 
 pub returns-in-len1-up : goal.returns-in-len1-up
-returns-in-len1-up c = grind (arith, common_steps, skipped-first)
+returns-in-len1-up c = grind (arith, skipped-first)

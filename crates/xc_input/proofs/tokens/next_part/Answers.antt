@@ -1,4 +1,3 @@
-use Rattle.std.proofs.lemmas.Grind.{common_steps}
 use Rattle.xc_input.proofs.TokenLemmas.Bytes.{cuts_part, cuts_bar, no-token}
 use Rattle.std.proofs.lemmas.Bool.{ne_eqb}
 use Rattle.std.proofs.Common.{arith}
@@ -6,7 +5,7 @@ use Rattle.std.proofs.lemmas.Bool.Decides.{nat_tests}
 use Rattle.xc_input.proofs.tokens.next_part.Goals as goal
 
 pub returns-then-is_empty : goal.returns-then-is_empty
-returns-then-is_empty c = grind (arith, common_steps, no-token, nat_tests)
+returns-then-is_empty c = grind (arith, no-token, nat_tests)
 
 pub returns : goal.returns
 returns c =

@@ -1,10 +1,9 @@
 use Rattle.std.proofs.Common.{arith}
-use Rattle.std.proofs.lemmas.Grind.{common_steps}
 use Rattle.xc_input.proofs.TokenLemmas.TableNames.{number_in-tells}
 use Rattle.xc_input.proofs.problem.Problem.find_colour.Goals as goal
 
 pub returns-clause-value : goal.returns-clause-value
-returns-clause-value c = grind (arith, common_steps)
+returns-clause-value c = grind arith
 
 pub returns-clause-found : goal.returns-clause-found
 returns-clause-found c = (number_in-tells _ _ _ (returns-clause-value c)).0

@@ -1,4 +1,3 @@
-use Rattle.std.proofs.lemmas.Grind.{common_steps}
 use Rattle.std.proofs.Common.{length-take-le}
 use Rattle.std.proofs.lemmas.List.{length-map, get_or-take}
 use Rattle.std.proofs.Common.{arith, ◌≡◌, ◌-◌, sym, subst, length}
@@ -12,10 +11,10 @@ use Rattle.xc_input.proofs.problem.Problem.item.Goals as goal
 -- how many items there are, and how many primary ones
 counts : (c : After-index) → (item_count c.args.self.now.puzzle ≡ length c.self.inside.items.items)
     × (primary_count c.args.self.now.puzzle ≡ c.self.inside.primary)
-counts c = grind (arith, common_steps, length-take-le, length-map)
+counts c = grind (arith, length-take-le, length-map)
 
 pub returns-clause-name : goal.returns-clause-name
-returns-clause-name c = grind (arith, common_steps, counts, numbered-map)
+returns-clause-name c = grind (arith, counts, numbered-map)
 
 pub returns-clause-bounds : goal.returns-clause-bounds
 returns-clause-bounds c = grind (arith, counts, numbered-map, length-take-le, get_or-take)

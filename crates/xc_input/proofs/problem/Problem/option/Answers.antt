@@ -1,5 +1,4 @@
 use Rattle.std.proofs.Common.{arith, ◌≡◌, ◌≤◌, Some, ap, length, subst}
-use Rattle.std.proofs.lemmas.Grind.{common_steps}
 use Rattle.std.specs.Prelude.{All, slice_range}
 use Rattle.xc_input.specs.Problem.{option_count, numbered_get}
 use Rattle.xc_input.specs.inner.Flat.{pieces}
@@ -11,10 +10,10 @@ use Rattle.xc_input.proofs.problem.Problem.option.Goals.{After-deref}
 use Rattle.xc_input.proofs.problem.Problem.option.Goals as goal
 
 pub index-requires : goal.index-requires
-index-requires c = grind (arith, common_steps, length-pieces)
+index-requires c = grind (arith, length-pieces)
 
 pub index-requires-2 : goal.index-requires-2
-index-requires-2 c = grind (arith, common_steps, length-pieces)
+index-requires-2 c = grind (arith, length-pieces)
 
 -- the option's uses, between its start and the next
 part : (c : After-deref) → (let us = c.deref.result.now in let a = c.index.result.now in let b = c.index-2.result.now in
@@ -30,7 +29,7 @@ part c =
     c.requires.known.0
     (omega (arith, length-pieces starts us c.self.invariant.starts.1, count, c.requires.known.1)) c.index.ensures
     c.index-2.ensures in
-    grind (arith, common_steps)
+    grind arith
 
 pub slice_bounds-result-count : goal.slice_bounds-result-count
 slice_bounds-result-count c = (part (goal.at.slice_bounds-result-count c).After-deref).0
@@ -39,10 +38,10 @@ pub slice_bounds-result-start : goal.slice_bounds-result-start
 slice_bounds-result-start c = (part (goal.at.slice_bounds-result-start c).After-deref).0
 
 pub slice_bounds-result-end : goal.slice_bounds-result-end
-slice_bounds-result-end c = grind (arith, common_steps, part)
+slice_bounds-result-end c = grind (arith, part)
 
 pub returns-clause-value : goal.returns-clause-value
-returns-clause-value c = grind (arith, common_steps, part)
+returns-clause-value c = grind (arith, part)
 
 pub returns-clause-known : goal.returns-clause-known
 returns-clause-known c =

@@ -1,5 +1,4 @@
 use Rattle.std.proofs.Common.{arith}
-use Rattle.std.proofs.lemmas.Grind.{common_steps}
 use Rattle.std.proofs.Common.{sym}
 use Rattle.std.proofs.lemmas.Bool.{not-true, not-false}
 use Rattle.xc_input.proofs.LineLemmas.Finish.{refuses, no-items, unstarted, accepts, alone, is-sound, readable}
@@ -34,4 +33,4 @@ returns-clause-only c =
     c.in_default.is _ c.self.invariant.2)
 
 pub returns-clause-valid : goal.returns-clause-valid
-returns-clause-valid c = grind (arith, common_steps, is-sound, not-false)
+returns-clause-valid c = grind (arith, is-sound, not-false)

@@ -1,5 +1,4 @@
 use Rattle.std.proofs.Common.{arith}
-use Rattle.std.proofs.lemmas.Grind.{common_steps}
 use Rattle.std.proofs.Common.{sym, subst}
 use Rattle.xc_input.specs.inner.Feeding.{IsErrorOf}
 use Rattle.xc_input.proofs.LineLemmas.Reading.{stays, counts, fails, goes, stage-is}
@@ -20,10 +19,10 @@ returns-in-Err-clause-state c =
     (counts _ _ _ _ _ c.after.ensures c.self.invariant.0 c.saturating_add-self-inside.ensures) c.in-Err.ensures.judged)
 
 pub invariant_of-self-in-Err : goal.invariant_of-self-in-Err
-invariant_of-self-in-Err c = grind (arith, common_steps, counts, returns-in-Err-clause-state c, whole-more)
+invariant_of-self-in-Err c = grind (arith, counts, returns-in-Err-clause-state c, whole-more)
 
 pub returns-clause-state : goal.returns-clause-state
-returns-clause-state c = grind (arith, common_steps, goes)
+returns-clause-state c = grind (arith, goes)
 
 pub invariant_of-self-in_default-take : goal.invariant_of-self-in_default-take
 invariant_of-self-in_default-take c = grind (arith, counts, returns-clause-state, stage-is, whole-more)
