@@ -3,7 +3,8 @@ use Rattle.xc_list.proofs.planning.write_place.Goals as goal
 
 pub returns-in_err-write_numbered : goal.returns-in_err-write_numbered
 returns-in_err-write_numbered g c =
-    failed _ c.from_residual.ensures.0 (broke_before _ (broke_before _ (broke_before _ c.in_err-write_numbered.ensures)))
+    failed _ c.from_residual.ensures.0 (broke_before _ (broke_before _ (broke_before _
+    c.in_err-write_numbered.ensures)))
 
 pub returns-in_err-write_number : goal.returns-in_err-write_number
 returns-in_err-write_number g c =
