@@ -1,3 +1,4 @@
+use Rattle.std.proofs.lemmas.Grind.{common_steps}
 use Rattle.std.proofs.Common.{arith, ◌∙◌}
 use Rattle.xc_input.proofs.FaultLemmas.Checks.{items-length}
 use Rattle.xc_search.specs.inner.Levels.{chosen, IsShown}
@@ -20,3 +21,12 @@ loop-rest-preserved g c =
       capacity = put.capacity ∙ c.loop-rest.invariant.capacity;
       shown = all_behind (IsShown c.args.shown.2.now.puzzle) c.loop-rest.rest.now c.loop-rest.invariant.shown;
     }
+
+pub loop-choice-preserved : goal.loop-choice-preserved
+loop-choice-preserved g c = grind (arith, common_steps)
+
+pub loop-rest-init : goal.loop-rest-init
+loop-rest-init g c = grind (arith, common_steps)
+
+pub returns-clause-items : goal.returns-clause-items
+returns-clause-items g c = grind (arith, common_steps)
