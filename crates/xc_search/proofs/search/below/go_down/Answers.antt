@@ -31,3 +31,9 @@ loop-number-preserved g c =
     let more = down_more inv.down _ c.in-Some.choice (rw there at c.in-Some.ensures.searchable)
     (rw same at c.in-Some.ensures.left) in
     grind (arith, common_steps, more)
+
+pub push_reserved-requires : goal.push_reserved-requires
+push_reserved-requires g c = grind (arith, common_steps)
+
+pub returns-clause-down : goal.returns-clause-down
+returns-clause-down g c = grind (arith, common_steps)
