@@ -1,6 +1,6 @@
 //! Searches below the parts of a cut.
-use crate::made::{below, cut, refused, search};
-use fixtures::{ALONE, COLOURED, SEVEN, THREE_ALIKE, TWICE, on_problem};
+use crate::made::{KINDS, below, cut, refused, search};
+use fixtures::{SEVEN, on_problem};
 use std::alloc::Global;
 use xc_dance::{Dance, Lists};
 use xc_input::{Kind, Problem};
@@ -87,14 +87,6 @@ fn are_whole_by_each(alloc: Global, problem: &Problem) -> bool {
     }
     true
 }
-
-const KINDS: [(Kind, &[u8]); 5] = [
-    (Kind::Plain, SEVEN),
-    (Kind::Plain, THREE_ALIKE),
-    (Kind::Colours, COLOURED),
-    (Kind::Bounds, TWICE),
-    (Kind::Bounds, ALONE),
-];
 
 #[test]
 fn parts_of_each_kind(rt: HostRuntime) {

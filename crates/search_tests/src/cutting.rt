@@ -1,6 +1,6 @@
 //! A search cut into parts.
-use crate::made::{cut, search};
-use fixtures::{ALONE, COLOURED, SEVEN, THREE_ALIKE, TWICE, on_problem};
+use crate::made::{KINDS, cut, search};
+use fixtures::{THREE_ALIKE, on_problem};
 use std::alloc::Global;
 use xc_dance::{Dance, Lists};
 use xc_input::{Kind, Problem};
@@ -81,14 +81,6 @@ fn count_parts(alloc: Global, problem: &Problem, budget: u64) -> Option<usize> {
     let _lists = cut.close();
     Some(parts)
 }
-
-const KINDS: [(Kind, &[u8]); 5] = [
-    (Kind::Plain, SEVEN),
-    (Kind::Plain, THREE_ALIKE),
-    (Kind::Colours, COLOURED),
-    (Kind::Bounds, TWICE),
-    (Kind::Bounds, ALONE),
-];
 
 #[test]
 fn parts_of_each_kind(rt: HostRuntime) {

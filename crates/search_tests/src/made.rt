@@ -1,8 +1,18 @@
-//! Searches, walks and cuts over live lists that were made for them, and choices.
+//! Searches, walks and cuts over live lists that were made for them, choices, and problems of each kind.
+use fixtures::{ALONE, COLOURED, SEVEN, THREE_ALIKE, TWICE};
 use std::alloc::Global;
 use xc_dance::Lists;
-use xc_input::Problem;
+use xc_input::{Kind, Problem};
 use xc_search::{Choice, Cut, PathFault, Search, Walk, most_moves};
+
+/// Problems of each kind, that are listed whole and by parts.
+pub const KINDS: [(Kind, &[u8]); 5] = [
+    (Kind::Plain, SEVEN),
+    (Kind::Plain, THREE_ALIKE),
+    (Kind::Colours, COLOURED),
+    (Kind::Bounds, TWICE),
+    (Kind::Bounds, ALONE),
+];
 
 /// A search with all members of a problem's listing to come.
 pub fn search<'a>(alloc: Global, problem: &'a Problem) -> Option<Search<'a, Lists>> {
