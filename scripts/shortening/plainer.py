@@ -1,4 +1,4 @@
-"""Searches without std's common steps, where they pass without them. That is mostly cheaper; no time is looked at."""
+"""Searches without std's common steps, where they pass without them. That is often cheaper; no time is looked at."""
 import re
 from pathlib import Path
 
