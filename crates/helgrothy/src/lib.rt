@@ -1,13 +1,16 @@
 //! Exact cover problems, read, searched and judged: what a caller needs of the libraries, under one name.
-//! The three programs below stand in `examples.rt` too, where they are run.
+//! The three programs below stand in `examples.rt` too, where they are run. Each is over a problem as it was read:
+//!
+//! ```text
+//! let problem = read_problem(alloc, Kind::Bounds, &mut SliceSource::new(text))?.problem;
+//! ```
 //!
 //! The first cover of a problem, as numbers of options:
 //!
 //! ```text
-//! fn first_cover(alloc: Global, text: &[u8]) -> Result<Option<Vec<u32>>> {
-//!     let problem = read_problem(alloc, Kind::Colours, &mut SliceSource::new(text))?.problem;
-//!     let links = Links::for_search(alloc, &problem)?;
-//!     let mut search = Search::begin(alloc, links, &problem)?;
+//! fn first_cover(alloc: Global, problem: &Problem) -> Result<Option<Vec<u32>>> {
+//!     let links = Links::for_search(alloc, problem)?;
+//!     let mut search = Search::begin(alloc, links, problem)?;
 //!     let Some(choices) = search.next_solution() else {
 //!         return Ok(None);
 //!     };
@@ -18,10 +21,9 @@
 //! How many solutions there are, up to a limit:
 //!
 //! ```text
-//! fn count(alloc: Global, text: &[u8], limit: u64) -> Result<u64> {
-//!     let problem = read_problem(alloc, Kind::Bounds, &mut SliceSource::new(text))?.problem;
+//! fn count(alloc: Global, problem: &Problem, limit: u64) -> Result<u64> {
 //!     let words = Words { spacing: 0, limit };
-//!     let end = run(alloc, &problem, words, &mut VecSink::new(alloc))?;
+//!     let end = run(alloc, problem, words, &mut VecSink::new(alloc))?;
 //!     Ok(end.solutions())
 //! }
 //! ```
@@ -29,9 +31,8 @@
 //! Whether a listing has only covers:
 //!
 //! ```text
-//! fn are_covers(alloc: Global, text: &[u8], listing: &[u8]) -> Result<bool> {
-//!     let problem = read_problem(alloc, Kind::Plain, &mut SliceSource::new(text))?.problem;
-//!     let verdicts = check(alloc, &problem, listing)?;
+//! fn are_covers(alloc: Global, problem: &Problem, listing: &[u8]) -> Result<bool> {
+//!     let verdicts = check(alloc, problem, listing)?;
 //!     Ok(verdicts.iter().all(|v| v.cover))
 //! }
 //! ```
