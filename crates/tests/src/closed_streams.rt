@@ -1,9 +1,10 @@
 //! Streams that are closed, and a file that isn't there.
+use crate::told::Told;
 use fixtures::{gathered, on_one};
-use std::test::Fail;
+use std::alloc::AllocError;
 use xc_input::{Feed, Seed};
 use xc_list::Tray;
-use xc_tools::{Direct, Outgoing, closed_stream, judge, named_file};
+use xc_tools::{closed_stream, judge, named_file};
 
 /// Whether an open stream is taken for one, and nothing is told.
 fn is_open(rt: &HostRuntime, err: &mut Tray) -> bool {
@@ -21,25 +22,25 @@ fn streams_that_are_open(rt: HostRuntime) {
     );
 }
 
-/// The status of the judge of the file that the first word names, over an empty listing.
-fn status_of_file(rt: &HostRuntime, words: &[Vec<u8>]) -> Result<u8, Fail> {
-    let mut out = Outgoing::new(rt.alloc(), rt.stdout(), false)?;
-    let mut err = Direct::new(rt.stderr());
+/// Whether the judge of the file that the first word names, over an empty listing, tells that a read failed.
+fn fails_to_read(rt: &HostRuntime, words: &[Vec<u8>], told: &mut Told) -> bool {
     let mut problem = named_file(rt, words, Seed::FIXED);
     let mut listing = Feed::new(b"", 1, None);
-    Ok(judge(
+    told.status = judge(
         rt.alloc(),
         words,
         &mut problem,
         &mut listing,
-        &mut out,
-        &mut err,
-    ))
+        &mut told.out,
+        &mut told.err,
+    );
+    told.is(3, b"", b"Read failed.\n")
 }
 
 #[test]
-fn a_missing_file_fails_at_its_first_read(rt: HostRuntime) -> Result<(), Fail> {
+fn a_missing_file_fails_at_its_first_read(rt: HostRuntime) -> Result<(), AllocError> {
     let words = gathered(rt.alloc(), &[b"data/missing.dlx"])?;
-    assert!(rt; status_of_file(&rt, &words)? == 3);
+    let told = Told::new(rt.alloc(), 100, 100);
+    assert!(rt; on_one(told, |told| fails_to_read(&rt, &words, told)));
     Ok(())
 }
