@@ -21,3 +21,6 @@ loop-level-preserved g c =
     c.loop-level.level c.begin_level.new.level c.enter-branch.result inv.leads c.begin_level.ensures
     c.enter-branch.ensures.base (rw same at c.enter-branch.ensures.entered) in
     grind (arith, leads, inv)
+
+pub returns-clause-number : goal.returns-clause-number
+returns-clause-number g c = omega (arith, c.loop-level.invariant.within, c.loop-level-test.false)
