@@ -8,9 +8,7 @@ use Rattle.xc_search.proofs.paths.Descent.{down_first, down_more, down_none, par
 use Rattle.xc_search.proofs.search.below.go_down.Goals as goal
 
 pub loop-number-init : goal.loop-number-init
-loop-number-init g c =
-    let d = c.args.position.now in
-    let down = down_first d.puzzle d.trail c.requires.valid c.requires.none in grind (arith, down)
+loop-number-init g c = grind (arith, down_first _ _ c.requires.valid c.requires.none)
 
 pub returns-in_default-clause-no_path : goal.returns-in_default-clause-no_path
 returns-in_default-clause-no_path g c _ other is =

@@ -8,9 +8,8 @@ use Rattle.xc_search.proofs.search.below.reach_branch.Goals as goal
 
 pub loop-level-init : goal.loop-level-init
 loop-level-init g c =
-    let d = c.args.position.now in
-    let own = ext_whole (ext_after_spend d.puzzle c.args.item d.trail) in
-    grind (arith, own, first_stands d.puzzle d.trail c.args.item c.args.count c.requires.node.searchable)
+    let own = ext_whole (ext_after_spend c.args.position.now.puzzle c.args.item c.args.position.now.trail) in
+    grind (arith, own, first_stands _ _ c.args.item c.args.count c.requires.node.searchable)
 
 pub loop-level-preserved : goal.loop-level-preserved
 loop-level-preserved g c =

@@ -25,5 +25,4 @@ pub returns-in_default-clause-right : goal.returns-in_default-clause-right
 returns-in_default-clause-right g c = each_member_covers c.args.problem.now.puzzle c.most_levels.ensures.valid
 
 pub returns-in_default-clause-complete : goal.returns-in_default-clause-complete
-returns-in_default-clause-complete g c =
-    each_cover_is_listed_once c.args.problem.now.puzzle c.most_levels.ensures.valid
+returns-in_default-clause-complete g c = each_cover_is_listed_once c.args.problem.now.puzzle c.most_levels.ensures.valid
