@@ -4,6 +4,12 @@ use Rattle.xc_tools.specs.Solves.{solution}
 use Rattle.xc_tools.proofs.RunLemmas.{behind_nothing, finished}
 use Rattle.xc_tools.proofs.solving.solve_problem.Goals as goal
 
+pub returns-in-Err : goal.returns-in-Err
+returns-in-Err g c =
+    let took = rw c.in-Err.is at c.run.ensures.run in
+    let told = c.out_of_memory.ensures in
+    record { did = inr (inr (told.status, record { unwritten = took; told = behind_nothing WasTold told.told })) }
+
 pub returns-in-Ok-WriteFailed : goal.returns-in-Ok-WriteFailed
 returns-in-Ok-WriteFailed g c =
     let stop = rw c.in-Ok-WriteFailed.field-0-is at c.in-Ok-WriteFailed.ensures.run in
