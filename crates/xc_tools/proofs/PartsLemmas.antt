@@ -1,7 +1,7 @@
 -- Words that ask for no parts, and how a run over parts ends.
 use Rattle.xc_list.proofs.TextLemmas.{appends_kept}
 use Rattle.std.proofs.Common.{ℕ, ◌≡◌, ◌⊎◌, ◌+◌, ◌-◌, Bool, List, length, take, drop, map, sym}
-use Rattle.std.proofs.Common.{◌∙◌, arith, subst, length-drop, inl, inr}
+use Rattle.std.proofs.Common.{arith, subst, length-drop, inl, inr}
 use Rattle.std.specs.Prelude.{IsTrue, codes}
 use Rattle.std.specs.Io.KnownBytes.{Keeps}
 use Rattle.std.proofs.lemmas.List.{drop-map, take_all}
