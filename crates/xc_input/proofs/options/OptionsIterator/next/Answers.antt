@@ -1,4 +1,5 @@
 use Rattle.std.proofs.Common.{arith}
+use Rattle.std.proofs.lemmas.List.{drop_all}
 use Rattle.xc_input.proofs.OptionLemmas.FlatParts.{numbered_get-at}
 use Rattle.xc_input.proofs.lists.Places.{drop_at}
 use Rattle.xc_input.proofs.options.OptionsIterator.next.Goals as goal
@@ -6,3 +7,6 @@ use Rattle.xc_input.proofs.options.OptionsIterator.next.Goals as goal
 -- what is left begins with the element of the next number
 pub returns-clause-steps : goal.returns-clause-steps
 returns-clause-steps c = grind (arith, drop_at, numbered_get-at)
+
+pub returns-then-self-options-clause-steps : goal.returns-then-self-options-clause-steps
+returns-then-self-options-clause-steps c = grind (arith, drop_all)
