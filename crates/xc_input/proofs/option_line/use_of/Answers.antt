@@ -14,6 +14,9 @@ returns-then-marks-place-clause-judged c = λ names text seen all len cut are.
     repeated c.args.kind c.args.primary seen cut c.is_not_here.ensures c.if-is_not_here.false all c.args.marks.now len
     are c.in-Some.is c.if-marks-place.true
 
+pub returns-then-marks-place-clause-unmarked : goal.returns-then-marks-place-clause-unmarked
+returns-then-marks-place-clause-unmarked c = tt
+
 pub returns-in_default-colour-clause-judged : goal.returns-in_default-colour-clause-judged
 returns-in_default-colour-clause-judged c = λ names text seen all len cut are.
     bare c.args.kind c.args.primary seen cut c.is_not_here.ensures c.if-is_not_here.false all c.args.marks.now len are
