@@ -11,9 +11,8 @@ pub returns-in_err-end_line-clause-err : goal.returns-in_err-end_line-clause-err
 returns-in_err-end_line-clause-err c =
     let error = err_from_is_err_and c.from_residual.result c.from_residual.ensures.1 in
     let before = fed c.loop-end.reader c.loop-end.carry.items in
-    let split : c.loop-end.rest.now ≡ c.in-Some.end.now ++ 10 ∷ c.in-Some.others.now = c.in-Some.ensures.0 in
-    let all : fed c.args.reader.now c.args.carry.now.items ++ c.args.piece.now ≡
-    ((before ++ c.in-Some.end.now) ++ 10 ∷ []) ++ c.in-Some.others.now = grind (arith, common_steps) in
+    let all : fed c.args.reader.now c.args.carry.now.items ++ c.args.piece.now ≡ ((before ++ c.in-Some.end.now)
+    ++ 10 ∷ []) ++ c.in-Some.others.now = grind (arith, common_steps, c.in-Some.ensures.0) in
     rw (error.1, error.2) (subst
     (λ kind. Spoils kind (fed c.args.reader.now c.args.carry.now.items ++ c.args.piece.now)
     c.in_err-end_line.field-0.0) c.loop-end.invariant.1

@@ -9,10 +9,9 @@ use Rattle.xc_input.proofs.read.feed_all.Goals as goal
 pub returns-in_err-n-clause-part : goal.returns-in_err-n-clause-part
 returns-in_err-n-clause-part g c =
     let error = err_from_is_err_and c.from_residual.result c.from_residual.ensures.1 in
-    let r = c.reading.reader in
     let is = c.reading.invariant.0 in
-    let e = lines_of-all r.lines is.whole in rw (error.1, error.2)
-    (ended r.lines, c.reading.carry.items, grind (arith), grind (arith), grind (arith, e), is.partial)
+    let e = lines_of-all c.reading.reader.lines is.whole in rw (error.1, error.2)
+    (ended c.reading.reader.lines, c.reading.carry.items, grind (arith), grind (arith), grind (arith, e), is.partial)
 
 pub returns-in_err-feed-clause-part : goal.returns-in_err-feed-clause-part
 returns-in_err-feed-clause-part g c =
