@@ -22,13 +22,11 @@ part : (c : After-deref) → (let us = c.deref.result.now in let a = c.index.res
     (slice_range us a b)))
 part c =
     let starts = c.self.inside.starts.items in
-    let us = c.self.inside.uses.items in
     let count = ap (λ (v : Named). option_count v.puzzle) c.self.view_is in
     let r =
-    option_part starts us c.args.o c.index.result.now c.index-2.result.now c.self.invariant.starts.1
-    c.requires.known.0
-    (omega (arith, length-pieces starts us c.self.invariant.starts.1, count, c.requires.known.1)) c.index.ensures
-    c.index-2.ensures in
+    option_part starts c.self.inside.uses.items c.args.o _ _ c.self.invariant.starts.1 c.requires.known.0
+    (omega (arith, length-pieces starts c.self.inside.uses.items c.self.invariant.starts.1, count, c.requires.known.1))
+    c.index.ensures c.index-2.ensures in
     grind arith
 
 pub slice_bounds-result-count : goal.slice_bounds-result-count
