@@ -7,3 +7,6 @@ hide_one-count-requires-clause-can c = step_can _ _ (places_more _ _ c.loop-q-te
 
 pub loop-q-preserved : goal.loop-q-preserved
 loop-q-preserved c = grind (arith, places_more, step_on)
+
+pub hide_one-count-requires-clause-unmarked : goal.hide_one-count-requires-clause-unmarked
+hide_one-count-requires-clause-unmarked c = λ off. c.requires.unmarked off _ c.loop-q.auto.q c.loop-q-test.true
