@@ -26,9 +26,9 @@ ulink-first-requires c =
 -- the walk begins at the option's first node
 pub loop-q-init : goal.loop-q-init
 loop-q-init c =
-    let here = (goal.at.loop-q-init c).After-self in
-    let to = c.ulink-first.ensures ∙ ap (λ (n : Nodes). get_or n.ulink c.args.end 0) (first_nodes here) in
-    grind (arith, led here, along_first)
+    let s = (goal.at.loop-q-init c).After-self in
+    let to = c.ulink-first.ensures ∙ ap (λ (n : Nodes). get_or n.ulink c.args.end 0) (first_nodes s) in
+    record { puzzle = refl; room = refl; written = refl; along = λ x h. along_first _ _ _ _ _ (to ∙ (led s x h).first) }
 
 nodes_is : (c : After-self-in-loop-q) → c.self-in-loop-q.inside.nodes
     ≡ nodes_after c.args.self.now.puzzle c.loop-q.self.trail
