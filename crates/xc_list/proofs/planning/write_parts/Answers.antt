@@ -1,4 +1,5 @@
-use Rattle.std.proofs.Common.{arith}
+use Rattle.std.proofs.Math.Nat.{le_antisymm}
+use Rattle.std.proofs.Common.{arith, refl}
 use Rattle.std.proofs.Common.{◌≡◌, ◌++◌}
 use Rattle.xc_search.specs.Cut.{IsPath, below}
 use Rattle.xc_list.proofs.Planned.{planned_more, planned_broke}
@@ -16,3 +17,7 @@ returns-in-Err-clause-plan g c =
 
 pub loop-found-preserved : goal.loop-found-preserved
 loop-found-preserved g c = grind (arith, planned_more, part)
+
+pub returns-clause-plan : goal.returns-clause-plan
+returns-clause-plan g c =
+    (refl, _, rw (le_antisymm c.loop-found.auto.found-end c.loop-found-test.false) at c.loop-found.invariant.planned)

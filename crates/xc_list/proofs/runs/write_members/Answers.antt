@@ -1,3 +1,5 @@
+use Rattle.std.proofs.lemmas.Bool.{le-ltb}
+use Rattle.std.proofs.Math.Nat.{le_antisymm}
 use Rattle.xc_list.specs.Known.{IsKnownChoice}
 use Rattle.std.specs.Prelude.{All}
 use Rattle.xc_list.proofs.Outputs.{holds_next}
@@ -51,3 +53,8 @@ loop-found-preserved g c =
       below = c.steps_to_printed-steps.ensures.within;
       taken = takes to c.loop-found.invariant.taken c.in-Ok.ensures.written;
     }
+
+pub returns-clause-run : goal.returns-clause-run
+returns-clause-run g c =
+    let all = le_antisymm c.loop-found.invariant.below c.loop-found-test.false in
+    (rw (le-ltb _ _ (rw all at c.loop-found.invariant.within)), rw all at c.loop-found.invariant.taken)
