@@ -6,8 +6,7 @@ returns-in_err-write_number g c =
     failed _ c.from_residual.ensures.0 (broke_before _ (broke_before _ c.in_err-write_number.ensures))
 
 pub returns-in_err-write_all : goal.returns-in_err-write_all
-returns-in_err-write_all g c =
-    failed _ c.from_residual-in_err-write_all.ensures.0
+returns-in_err-write_all g c = failed _ c.from_residual-in_err-write_all.ensures.0
     (broke_before _ (then_broke c.in_ok-write_number.ensures c.in_err-write_all.ensures))
 
 pub returns : goal.returns

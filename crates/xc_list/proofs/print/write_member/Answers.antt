@@ -2,8 +2,7 @@ use Rattle.xc_list.proofs.Writing.{then_took, then_broke, broke_before, then_wri
 use Rattle.xc_list.proofs.print.write_member.Goals as goal
 
 pub returns-in_err-write_all : goal.returns-in_err-write_all
-returns-in_err-write_all g c =
-    failed _ c.from_residual-in_err-write_all.ensures.0
+returns-in_err-write_all g c = failed _ c.from_residual-in_err-write_all.ensures.0
     (broke_before _ (then_broke c.in_ok-write_number.ensures c.in_err-write_all.ensures))
 
 pub returns : goal.returns

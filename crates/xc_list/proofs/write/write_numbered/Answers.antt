@@ -2,8 +2,7 @@ use Rattle.xc_list.proofs.Writing.{then_took, then_broke, broke_before, then_wri
 use Rattle.xc_list.proofs.write.write_numbered.Goals as goal
 
 pub returns-in_err-write_number : goal.returns-in_err-write_number
-returns-in_err-write_number g c =
-    failed _ c.from_residual-in_err-write_number.ensures.0
+returns-in_err-write_number g c = failed _ c.from_residual-in_err-write_number.ensures.0
     (broke_before _ (then_broke c.in_ok-write_all.ensures c.in_err-write_number.ensures))
 
 pub returns : goal.returns
