@@ -23,6 +23,5 @@ loop-choice-preserved g c = record {
 }
 
 pub returns-in_err-next-clause-put : goal.returns-in_err-next-clause-put
-returns-in_err-next-clause-put g c =
-    if_failed _ _ c.from_residual.ensures.0
+returns-in_err-next-clause-put g c = if_failed _ _ c.from_residual.ensures.0
     (lines_broke c.loop-choice.invariant.put c.in-Some.ensures.some c.in_err-next.ensures.put)

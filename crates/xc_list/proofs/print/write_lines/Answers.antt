@@ -15,6 +15,5 @@ loop-choice-preserved g c = record {
 }
 
 pub returns-in_err-write_choice : goal.returns-in_err-write_choice
-returns-in_err-write_choice g c =
-    failed _ c.from_residual.ensures.0
+returns-in_err-write_choice g c = failed _ c.from_residual.ensures.0
     (lines_broke c.loop-choice.invariant.took c.in-Some.ensures.some c.in_err-write_choice.ensures)
