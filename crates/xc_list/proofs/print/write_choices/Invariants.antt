@@ -6,6 +6,5 @@ use Rattle.xc_list.proofs.print.write_choices.Given as goal
 
 -- the texts so far were taken, and no failure came
 abbrev pub invariant-loop-choice : goal.invariant-loop-choice
-invariant-loop-choice g l =
-    Took (g.S.Sink.state l.fn.sink) (g.S.Sink.state l.sink)
+invariant-loop-choice g l = Took (g.S.Sink.state l.fn.sink) (g.S.Sink.state l.sink)
     (flat_map (choice_text l.bodies) (take l.choice-index l.choices))
