@@ -68,8 +68,7 @@ pub ends : (a : Named) (spacing limit k n passed : ℕ) {x y : SinkState} → k 
     → passed ≡ length (drop k (members a.puzzle)) → passed < n → k + n ≤ limit → AreSilent spacing k (k + n)
     → Took x y (output a spacing k) → IsRun a spacing limit x y (Done (k + passed))
 ends a spacing limit k n passed {x = x} {y = y} within all less few silent so_far =
-    let end : k + passed ≡ length (members a.puzzle) =
-    omega (arith, all, within, length-drop k (members a.puzzle)) in
+    let end : k + passed ≡ length (members a.puzzle) = omega (arith, all, within, length-drop k (members a.puzzle)) in
     let below : k + passed < limit = omega (arith, less, few) in
     let same = output_silent a spacing k passed (omega (arith, end))
     (λ j from below. silent j from (omega (arith, below, less))) in

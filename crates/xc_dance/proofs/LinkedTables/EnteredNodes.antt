@@ -151,8 +151,7 @@ one_use j o (u ∷ us) d = grind (arith, absent_none, eqb-true, one_use j o us d
 pub options_hold : (j : ℕ) (os : List Numbered) → AllByRecursion (λ (x : Numbered). AreDistinct x.uses) os
     → held j (flat_map nodes_of os) ≡ map (λ (o : Numbered). o.number) (holding j os)
 options_hold j [] d = refl
-options_hold j (x ∷ os) d =
-    grind (arith, held-append, append-nil, one_use j x.number x.uses d.0, options_hold j os d.1)
+options_hold j (x ∷ os) d = grind (arith, held-append, append-nil, one_use j x.number x.uses d.0, options_hold j os d.1)
 
 pub owns_none : (j : ℕ) (js : List ℕ) (ns : List Node) → held j (map own js ++ ns) ≡ held j ns
 owns_none j [] ns = refl

@@ -73,8 +73,7 @@ record Beside (p : Puzzle) (i : ℕ) (l : Line) (b a x : ℕ) : Type 0 where
 members_up : (p : Puzzle) (i : ℕ) (l : Line) (a : ℕ) (xs : List ℕ) → IsLaid p → 0 < i → i ≤ item_count p
     → AllByRecursion (Named p i) xs → IsLinkedFrom l a xs → Way (λ c b x. Beside p i l b c x) a xs (l.up 0)
 members_up p i l a [] laid pos le named h = sym h.1
-members_up p i l a (x ∷ xs) laid pos le named h =
-    grind (arith, members_up p i l x xs laid pos le named.1 h.3)
+members_up p i l a (x ∷ xs) laid pos le named h = grind (arith, members_up p i l x xs laid pos le named.1 h.3)
 
 -- and up the members
 follow_up : (p : Puzzle) (ln : ℕ → Line) (i b : ℕ) (xs : List ℕ) (c : ℕ) → Way (Beside p i (ln i)) b xs c
@@ -200,13 +199,11 @@ cover_hides p t i = grind (arith, cover_colours, marked_none, takes_cover, is_op
 
 purify_passed : {p : Puzzle} (t : List Move) {i : ℕ} (c : ℕ)
     → Passed p i (color_in p t) (purify_start p t i c) (listed_numbers p t i)
-purify_passed {p} t {i} c =
-    grind (arith, in_above, ne_eqb, color_other p (color_in p t) i 0 c, rises_listed p t i)
+purify_passed {p} t {i} c = grind (arith, in_above, ne_eqb, color_other p (color_in p t) i 0 c, rises_listed p t i)
 
 pub purify_hides : (p : Puzzle) (t : List Move) (i c : ℕ) → AreLegal p t → IsLaid p → 0 < i → i ≤ item_count p
     → is_open i t ≡ true → Hides p t (Purify i c) i (Some c) (purify_start p t i c)
-purify_hides p t i c legal laid pos le opened =
-    search (arith, purify_passed, takes_purify, own_purify, purify_colours)
+purify_hides p t i c legal laid pos le opened = search (arith, purify_passed, takes_purify, own_purify, purify_colours)
 
 -- ---- what they write
 

@@ -179,8 +179,7 @@ move_step {p} t {spans} (Tweak i) legal may f =
 move_step {p} t {spans} (Spend i) legal may f =
     let next = Spend i ∷ t in
     let nodes = spent_nodes p t i f.laid in
-    let before : get_or (items_after p t).bound i 0 ≡ high_at p i - spends i t =
-    grind (arith, row_get, bound_own) in
+    let before : get_or (items_after p t).bound i 0 ≡ high_at p i - spends i t = grind (arith, row_get, bound_own) in
     let after : get_or (items_after p next).bound i 0 ≡ high_at p i - (1 + spends i t) =
     grind (arith, row_get, bound_own, spends_own) in
     let llinks : (items_after p next).llink ≡ (items_after p t).llink =

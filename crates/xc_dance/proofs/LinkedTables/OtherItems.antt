@@ -86,8 +86,7 @@ pub record OtherItem (p : Puzzle) (o i j : ℕ) : Type 0 where
   pub item : InRange p j
 
 pub other_item : {p : Puzzle} (o i j : ℕ) → IsFit p → is_in j (other_items p o i) ≡ true → OtherItem p o i j
-other_item {p} o i j fit e =
-    grind (arith, and_parts, false≢true, item_range, list_any-append, others_by)
+other_item {p} o i j fit e = grind (arith, and_parts, false≢true, item_range, list_any-append, others_by)
 
 -- ---- a walk down item i's list, which keeps the options of a colour: what it does to the lines
 

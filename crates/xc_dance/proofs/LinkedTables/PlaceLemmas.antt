@@ -95,8 +95,7 @@ place_first p = omega arith
 
 pub place_next : (p : Puzzle) (o : ℕ) (us : List Use) → slice_get p.options o ≡ Some us
     → spacer_place p (o + 1) ≡ spacer_place p o + 1 + length us
-place_next p o us e =
-    grind (arith, take_more-get p.options o us e, sum_by_push size (take o p.options) us)
+place_next p o us e = grind (arith, take_more-get p.options o us e, sum_by_push size (take o p.options) us)
 
 -- they rise
 pub place_grows : (p : Puzzle) (m n : ℕ) → m ≤ n → spacer_place p m ≤ spacer_place p n

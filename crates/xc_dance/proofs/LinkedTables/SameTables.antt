@@ -51,8 +51,7 @@ reading_is p t Slack k s = by_first _ k 0 (λ e. rw e refl) (λ ne. rw (ne_eqb k
 reading_is p t Top k s = top_cell p t k s.laid s.fit s.laid.small
 reading_is p t Ulink k s = ulink_cell p t k s.laid
 reading_is p t Dlink k s = dlink_cell p t k s.laid
-reading_is p t Color k s =
-    grind (arith, color_use p t k s.laid s.fit, color_own p t k s.laid, lt-leb, le-leb)
+reading_is p t Color k s = grind (arith, color_use p t k s.laid s.fit, color_own p t k s.laid, lt-leb, le-leb)
 
 -- lists with the same elements at the same places
 same_list : (xs ys : List ℕ) → ((k : ℕ) → slice_get xs k ≡ slice_get ys k) → xs ≡ ys

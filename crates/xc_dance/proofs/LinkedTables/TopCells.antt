@@ -114,8 +114,7 @@ module _ (p : Puzzle) (t : List Move) (q : ℕ) where
     where
       by_node : (n : Node) → slice_get (layout p) q ≡ Some n → top_read (top_in (line_of p t) n) ≡ top_of p t n
       by_node unused e = refl
-      by_node (own i) e =
-          grind (arith, read_small, numbers_few, length-map (listed p t i) (λ o. o.number))
+      by_node (own i) e = grind (arith, read_small, numbers_few, length-map (listed p t i) (λ o. o.number))
       by_node (spacer n) e = spacer_top n
       by_node (used o u) e = read_small u.item (omega (arith, (laid.nodes.ranged q (used o u) u.item o e refl).1, few))
 

@@ -91,8 +91,7 @@ pub way_made : {S : Type 0} (R : S → S → ℕ → Type 0) (table : S → Node
     (xs : List ℕ) (v : S) → Way R s xs v
     → CanAll step Can (table s) (map place xs) × (fold step (table s) (map place xs) ≡ table v)
 way_made R table place step Can each s [] v w = (tt, ap table w)
-way_made R table place step Can each s (x ∷ xs) v w =
-    grind (arith, way_made R table place step Can each w.0 xs v w.1.1)
+way_made R table place step Can each s (x ∷ xs) v w = grind (arith, way_made R table place step Can each w.0 xs v w.1.1)
 
 -- a step at node x leads from t to u, and writes n cells
 pub record Leads (k : Kind) (t u : Nodes) (x n : ℕ) : Type 0 where
@@ -171,8 +170,7 @@ module _ {w : Kind} {t0 : Nodes} {m x : ℕ} {t : Nodes} {p k n : ℕ} where
   pub follow_here : k < m → Following w t0 m x t p k n → Here w (followed (w.links t0) m x) t p k
   follow_here lt h =
       let all : List ℕ = followed (w.links t0) m x in
-      let at : drop k all ≡ get_or all k 0 ∷ drop (k + 1) all =
-      grind (arith, drop_more, length-followed) in
+      let at : drop k all ≡ get_or all k 0 ∷ drop (k + 1) all = grind (arith, drop_more, length-followed) in
       let first : drop k all ≡ p ∷ drop (k + 1) all = grind arith in
       grind (arith, subst (CanFollow w.step w.Can w.links t p) first h.walk)
 

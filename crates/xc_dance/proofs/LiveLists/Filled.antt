@@ -31,8 +31,7 @@ enlisted_none o n (l ∷ ls) = ap (λ ks. l ∷ ks) (enlisted_none o (n + 1) ls)
 enlisted_above : (us : List Use) (u : Use) (o n : ℕ) (ls : List (List ℕ)) → u.item < n
     → enlisted_from us o n ls ≡ enlisted_from (us ++ u ∷ []) o n ls
 enlisted_above us u o n [] lt = grind (arith, has_use_other)
-enlisted_above us u o n (l ∷ ls) lt =
-    grind (arith, has_use_other, enlisted_above us u o (n + 1) ls (omega (arith, lt)))
+enlisted_above us u o n (l ∷ ls) lt = grind (arith, has_use_other, enlisted_above us u o (n + 1) ls (omega (arith, lt)))
 
 -- the item of one more use has the option
 pub enlisted_more : (us : List Use) (u : Use) (o n k : ℕ) (ls : List (List ℕ)) → n + k ≡ u.item
@@ -40,8 +39,7 @@ pub enlisted_more : (us : List Use) (u : Use) (o n k : ℕ) (ls : List (List ℕ
     set (enlisted_from us o n ls) k (list_at (enlisted_from us o n ls) k ++ o ∷ []) ≡ enlisted_from
     (us ++ u ∷ []) o n ls
 enlisted_more us u o n k [] e new lt = refl
-enlisted_more us u o n zero (l ∷ ls) e new lt =
-    grind (arith, enlisted_above, or-true, list_any-append, or-false)
+enlisted_more us u o n zero (l ∷ ls) e new lt = grind (arith, enlisted_above, or-true, list_any-append, or-false)
 enlisted_more us u o n (suc k) (l ∷ ls) e new lt =
     grind (arith, has_use_other, enlisted_more us u o (n + 1) k ls (omega (arith, e)) new)
 

@@ -114,8 +114,7 @@ drop_white-front (b ∷ bs) = let r = drop_white-front bs in
 -- where a line is cut behind its leading white space, the front stands before the back
 cut-stands : (line rest front back : List ℕ) (n : ℕ) → rest ≡ drop_white line → front ≡ take n rest
     → back ≡ drop n rest → StandsBefore line front back
-cut-stands line rest front back n e f g =
-    grind (arith, drop_white-front line, take-append-drop n rest, append_assoc)
+cut-stands line rest front back n e f g = grind (arith, drop_white-front line, take-append-drop n rest, append_assoc)
 
 -- what is left of such a line is shorter
 stands-shorter : (line front back : List ℕ) → 0 < length front → StandsBefore line front back

@@ -184,8 +184,7 @@ module _ (c : Context) (rest : List (ℕ × List ℕ)) (w : Each IsClean rest)
         → IsSoundOption p (number_uses cs us)
     sound-option us g e =
         let sound : (u : Written) → IsGoodUse c u
-        → IsSoundUse p (record { item = u.item; colour = colour_number cs u.colour }) =
-        λ u h. grind arith in
+        → IsSoundUse p (record { item = u.item; colour = colour_number cs u.colour }) = λ u h. grind arith in
         let some = Any-from_list_any _ (number_uses cs us) (primary-numbered c.primaries cs us ∙ e) in
         record {
           sound = All-from_recursion _ _ (each-map (IsSoundUse p) _ us (each_weaker (IsGoodUse c) _ us sound g.0));

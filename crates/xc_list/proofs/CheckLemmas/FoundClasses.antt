@@ -30,8 +30,7 @@ use Rattle.std.proofs.lemmas.Option.{same_Some}
 pub found-key : (us : List Use) (keys : List (Vec Use Global)) (k : ℕ)
     → position (λ v. same_uses us v.items) keys ≡ Some k → slice_get (key_uses keys) k ≡ Some us
 found-key us keys k e =
-    let at =
-    position-Some (same_uses us) (key_uses keys) k [] (position-map (same_uses us) (λ v. v.items) keys ∙ e) in
+    let at = position-Some (same_uses us) (key_uses keys) k [] (position-map (same_uses us) (λ v. v.items) keys ∙ e) in
     cc (slice_get-get_or (key_uses keys) k [] at.0, (uses-same us (get_or (key_uses keys) k [])).0 at.1)
 
 -- uses that aren't

@@ -110,8 +110,7 @@ all_agree l (c ∷ cs) a = grind (arith, each_weaker, nat_tests, all_agree l cs 
 last-agree : (d : ℕ) (cs : List ℕ) → AllByRecursion (agrees_with None d cs) cs → EachTwo Agree cs
 last-agree d [] h = tt
 last-agree d (x ∷ []) h = (tt, tt)
-last-agree d (x ∷ y ∷ cs) h =
-    all_agree (last_or d (x ∷ y ∷ cs)) (x ∷ y ∷ cs) (grind (arith, common_steps, each_weaker))
+last-agree d (x ∷ y ∷ cs) h = all_agree (last_or d (x ∷ y ∷ cs)) (x ∷ y ∷ cs) (grind (arith, common_steps, each_weaker))
 
 -- an item with these bounds, or none where it is secondary, may be given these colours
 abbrev pub Fits : Option Bounds → List ℕ → Type 0

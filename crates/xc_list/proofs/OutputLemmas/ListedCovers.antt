@@ -69,8 +69,7 @@ module _ (p : Named) (sound : IsSound p) (none : All (λ n. n ≢ codes "null") 
       → listing_of (map (choice_line p) m ++ rest)
       ≡ record { loose = map (choice_words p) m ++ (listing_of rest).loose; solutions = (listing_of rest).solutions }
   listing_of-choices [] rest all = refl
-  listing_of-choices (c ∷ m) rest all =
-      cc ((read-choice_line p sound none c all.0).0, listing_of-choices m rest all.1)
+  listing_of-choices (c ∷ m) rest all = cc ((read-choice_line p sound none c all.0).0, listing_of-choices m rest all.1)
 
   listing_of-members : (nms : List (ℕ × List Choice)) → AllByRecursion (IsNumberedMember p) nms
       → listing_of (output_lines p nms) ≡ record { loose = []; solutions = map (solution_of p) nms }

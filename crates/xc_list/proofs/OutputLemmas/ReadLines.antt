@@ -119,8 +119,7 @@ pub read-choice : (body : List (List ℕ)) (k n : ℕ) → 1 ≤ length body →
     → (read (spaced (body ++ ending_words k n)) ≡ Body body) × (has 10 (spaced (body ++ ending_words k n)) ≡ false)
 read-choice [] k n some plain h l = absurd (omega (arith, some))
 read-choice (w ∷ body) k n some plain h l =
-    let all : AllByRecursion IsPlain ((w ∷ body) ++ ending_words k n) =
-    grind (arith, each-append, plain-ending) in
+    let all : AllByRecursion IsPlain ((w ∷ body) ++ ending_words k n) = grind (arith, each-append, plain-ending) in
     let is : body_of_words (words_in (w ++ spaced (body ++ ending_words k n))) ≡ Some (w ∷ body) =
     ap body_of_words (words_in-spaced w (body ++ ending_words k n) all)
     ∙ sym (before_three ((w ∷ body) ++ ending_words k n) (w ∷ body) (ending_words k n) (omega arith) refl refl

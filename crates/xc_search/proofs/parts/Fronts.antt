@@ -74,8 +74,7 @@ parts_are_listed p v w h x =
     one = let at = with_bounds 0 p.bounds w (in-contains _ _ h) in omega (arith, at.2)
 
     known : (y : Numbered) → Contains (whole (front_part p w x)).options y → IsNumber (part p w.item x) y.number
-    known y k =
-        grind (arith, numbered_at 0 (front_part p w x).options y (in-contains _ _ k), length-map)
+    known y k = grind (arith, numbered_at 0 (front_part p w x).options y (in-contains _ _ k), length-map)
 
     uses_known : AllByRecursion (λ o. AllByRecursion (λ u. 1 ≤ u.item) o.uses) (part_options p w.item x)
     uses_known = each_from _ (part_options p w.item x) (λ o k.

@@ -27,8 +27,7 @@ left_by_more (x ∷ path) c r = by_option (left_by_one x r) (λ e. rw e refl) (�
 pub led_left : (p : Puzzle) (t : List Move) (ls : List Level) → AreLed p [] t ls
     → left_by (choices_of p ls) (whole p) ≡ Some (residual_of p t)
 led_left p t [] a = ap Some (sym (no_moves_leave_all p)) ∙ ap (λ t. Some (residual_of p t)) (sym a)
-led_left p t (l ∷ ls) a =
-    rw (choices_more p l ls, left_by_more, led_left p (oldest l.mark t) ls a.1) (grind (arith))
+led_left p t (l ∷ ls) a = rw (choices_more p l ls, left_by_more, led_left p (oldest l.mark t) ls a.1) (grind (arith))
 
 pub led_path : (p : Puzzle) (t : List Move) (ls : List Level) → AreLed p [] t ls → IsPath p (choices_of p ls)
 led_path p t ls a = (residual_of p t, led_left p t ls a)

@@ -52,8 +52,7 @@ walk_on p t i best n k count at e counted =
     grind (arith, rest, next_open p t n k e, lt-ltb, le-ltb)
 
 pub choice_none : (p : Puzzle) (t : List Move) → next_above 0 (open_items p t) ≡ None → choice_after p t ≡ None
-choice_none p t e =
-    grind (arith, above_all 0 (open_items p t) (open_rises p t), next_above-none 0 (open_items p t) e)
+choice_none p t e = grind (arith, above_all 0 (open_items p t) (open_rises p t), next_above-none 0 (open_items p t) e)
 
 -- an item without branches stays the best
 stays_best : (p : Puzzle) (t : List Move) (i : ℕ) (is : List ℕ) → branches_after p t (wanted_at p t i) ≡ 0

@@ -24,8 +24,7 @@ total_highs (b ∷ bs) =
     grind (arith, common_steps, total_highs bs, total_shifted (high_in (b ∷ bs)) 0 (length bs), total_same, sum_by-cons)
 
 total_high_at : (p : Puzzle) → total (high_at p) (range_with_len 1 (primary_count p)) ≡ high_total p
-total_high_at p =
-    grind (arith, total_shifted (high_at p) 0 (primary_count p), total_same, total_highs p.bounds)
+total_high_at p = grind (arith, total_shifted (high_at p) 0 (primary_count p), total_same, total_highs p.bounds)
 
 -- with what they leave of the bounds the Spends that stand are no more
 pub few_spendings : (p : Puzzle) (t : List Move) → AreLegal p t

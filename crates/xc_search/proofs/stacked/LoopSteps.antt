@@ -96,8 +96,7 @@ enters_next d f l b vs ks stacked top ef entered ek =
     let back = returned p d.trail l js here in
     let all = begun_coming p s v l k js back.0 entered.begun in
     let under = oldest-oldest l.mark l.base d.trail here.0.within.0 here.0.within.1 in
-    let levels : ks ≡ record vs { levels = k ∷ js } =
-    ek ∙ ap (λ ls. record vs { levels = newest_begun b ls }) top in
+    let levels : ks ≡ record vs { levels = k ∷ js } = ek ∙ ap (λ ls. record vs { levels = newest_begun b ls }) top in
     rw levels (subst (λ (f : Dancing). EntersBranch d vs false f (record vs { levels = k ∷ js }) l.item b.place
     × ((u : List Move) → AreLed p u (oldest l.mark d.trail) js
     → AreLed f.puzzle u (branched f l.item b.place).trail (k ∷ js))) (sym ef) (

@@ -56,8 +56,7 @@ ext_after_spend p i t = grind (arith, ext_none, ext_more)
 
 pub ext_uses : (p : Puzzle) (us : List Use) (t : List Move) → Extends (after_uses p us t) t
 ext_uses p [] t = ext_none
-ext_uses p (u ∷ us) t =
-    grind (arith, ext_trans, ext_none, ext_more, ext_after_spend, ext_uses p us (after_use p u t))
+ext_uses p (u ∷ us) t = grind (arith, ext_trans, ext_none, ext_more, ext_after_spend, ext_uses p us (after_use p u t))
 
 pub ext_after_branch : (p : Puzzle) (i : ℕ) (o : Option ℕ) (t : List Move) → Extends (after_branch p i o t) t
 ext_after_branch p i None t = grind (arith, ext_none, ext_more)

@@ -54,6 +54,5 @@ loop-found-preserved g c =
 
 pub returns-clause-wrote : goal.returns-clause-wrote
 returns-clause-wrote g c =
-    let all : c.loop-found.found ≡ most_counted =
-    omega (arith, c.loop-found.auto.found-end, c.loop-found-test.false) in
+    let all : c.loop-found.found ≡ most_counted = omega (arith, c.loop-found.auto.found-end, c.loop-found-test.false) in
     rw all at c.loop-found.invariant.taken

@@ -72,8 +72,7 @@ overflow_add-q-in-loop-self c =
     let near = (fitted at.After-self).fit.near in omega (arith, within, near)
 
 pub loop-self-smaller : goal.loop-self-smaller
-loop-self-smaller c =
-    omega (arith, (found (goal.at.loop-self-smaller c).After-self-in-loop-self _ c.requires.1).within)
+loop-self-smaller c = omega (arith, (found (goal.at.loop-self-smaller c).After-self-in-loop-self _ c.requires.1).within)
 
 pub loop-self-preserved : goal.loop-self-preserved
 loop-self-preserved c =

@@ -19,8 +19,7 @@ pub overflow_add-start-in-loop-o : goal.overflow_add-start-in-loop-o
 overflow_add-start-in-loop-o c = grind (arith, fits (goal.at.overflow_add-start-in-loop-o c).After-option)
 
 pub overflow_add-start-in-loop-o-2 : goal.overflow_add-start-in-loop-o-2
-overflow_add-start-in-loop-o-2 c =
-    grind (arith, fits (goal.at.overflow_add-start-in-loop-o-2 c).After-option)
+overflow_add-start-in-loop-o-2 c = grind (arith, fits (goal.at.overflow_add-start-in-loop-o-2 c).After-option)
 
 pub loop-o-preserved : goal.loop-o-preserved
 loop-o-preserved c =

@@ -18,8 +18,7 @@ returns c =
     let some : 0 < length levels = grind (arith, length-reverse) in
     let new = c.begin_level.ensures ∙ ap (begun_level b) c.index_mut.ensures.value in
     let turned : reverse (set levels (c.len-top.result - 1) c.begin_level.new.level) ≡ first_changed (begun_level b)
-    (reverse levels) =
-    ap (λ l. reverse (set levels (c.len-top.result - 1) l)) new
+    (reverse levels) = ap (λ l. reverse (set levels (c.len-top.result - 1) l)) new
     ∙ ap (λ n. reverse (set levels (n - 1) (begun_level b (get_or levels (n - 1) c.index_mut.result.now))))
     (c.len-top.ensures ∙ items-length c.self.inside.levels)
     ∙ newest_changed (begun_level b) levels c.index_mut.result.now some in
