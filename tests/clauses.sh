@@ -8,7 +8,8 @@ awk '
 # the file that a message names, and the goal or the answer in it
 function place(told,    file, goal) {
     file = told; sub(/^note: /, "", file); sub(/^[.][/]/, "", file); sub(/:.*/, "", file)
-    if (match(told, /\(`[^`]*/)) goal = substr(told, RSTART + 2, RLENGTH - 2)
+    if (match(told, /: error: `[^`]*`:/)) goal = substr(told, RSTART + 10, RLENGTH - 12)
+    else if (match(told, /\(`[^`]*/)) goal = substr(told, RSTART + 2, RLENGTH - 2)
     else if (match(told, /`[^`]*/)) goal = substr(told, RSTART + 1, RLENGTH - 1)
     return file " " goal
 }
