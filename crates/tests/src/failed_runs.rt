@@ -127,12 +127,18 @@ fn judge_fails_so(
     })
 }
 
+/// Which reads of a problem and of its listing fail, how many bytes of verdicts are taken, those, and the message.
+const JUDGE_FAILING: [([Option<u64>; 2], usize, &[u8], &[u8]); 3] = [
+    ([Some(1), None], 100, b"", b"Read failed.\n"),
+    ([None, Some(2)], 100, b"", b"Read failed.\n"),
+    ([None, None], 4, b"1: c", b"Write failed.\n"),
+];
+
 #[test]
 fn reads_and_writes_of_the_judge_that_fail(rt: HostRuntime) {
-    let read = b"Read failed.\n";
-    assert!(rt; judge_fails_so(rt.alloc(), [Some(1), None], 100, b"", read));
-    assert!(rt; judge_fails_so(rt.alloc(), [None, Some(2)], 100, b"", read));
-    assert!(rt; judge_fails_so(rt.alloc(), [None, None], 4, b"1: c", b"Write failed.\n"));
+    for (fails_at, room, verdicts, told) in &JUDGE_FAILING {
+        assert!(rt; judge_fails_so(rt.alloc(), *fails_at, *room, verdicts, told));
+    }
 }
 
 /// Takes all bytes, and fails at each flush.

@@ -22,51 +22,52 @@ fn parts_give(
     run_gives(alloc, words, text, program, status, out, err)
 }
 
+/// Words, a problem and what the parts of its search give.
+const PARTS: [(&[&[u8]], &[u8], &[u8]); 3] = [
+    (
+        &[b"3", b"m0", b"1", b"0", b"2", b"0"],
+        TWICE,
+        b"Altogether 2 solutions.\nAltogether 1 solution.\n",
+    ),
+    (
+        &[b"3", b"m1", b"2", b"1", b"0"],
+        TWICE,
+        b"1:\n A B (2 of 2)\n null A (1 of 1)\nAltogether 1 solution.\n",
+    ),
+    (&[b"1", b"m1"], SEVEN, b""),
+];
+
 #[test]
 fn parts_of_small_problems(rt: HostRuntime) {
-    let alloc = rt.alloc();
-    let counts = b"Altogether 2 solutions.\nAltogether 1 solution.\n";
-    assert!(rt;
-        parts_give(
-            alloc,
-            &[b"3", b"m0", b"1", b"0", b"2", b"0"],
-            TWICE,
-            0,
-            counts,
-            b""
-        )
-    );
-    let part = b"1:\n A B (2 of 2)\n null A (1 of 1)\nAltogether 1 solution.\n";
-    assert!(rt; parts_give(alloc, &[b"3", b"m1", b"2", b"1", b"0"], TWICE, 0, part, b""));
-    assert!(rt; parts_give(alloc, &[b"1", b"m1"], SEVEN, 0, b"", b""));
+    for (words, text, listed) in &PARTS {
+        assert!(rt; parts_give(rt.alloc(), words, text, 0, listed, b""));
+    }
 }
+
+const USAGE: &[u8] = b"Usage: dlx_below 1|2|3 m0|m1 {BRANCH.. 0}..\n";
+
+/// Words and a problem, and the status, the listing and the message of the run that refuses them.
+const REFUSED: [(&[&[u8]], &[u8], u8, &[u8], &[u8]); 7] = [
+    (&[], SEVEN, 1, b"", USAGE),
+    (&[b"1"], SEVEN, 1, b"", USAGE),
+    (&[b"4", b"m1", b"0"], SEVEN, 1, b"", USAGE),
+    (&[b"1", b"m2", b"0"], SEVEN, 1, b"", USAGE),
+    (&[b"1", b"m1", b"2"], SEVEN, 1, b"", USAGE),
+    (
+        &[b"1", b"m0", b"2", b"0", b"3", b"0"],
+        SEVEN,
+        5,
+        b"Altogether 1 solution.\n",
+        b"No such path.\n",
+    ),
+    (&[b"1", b"m0", b"0"], b"", 2, b"", b"Line 1: no items.\n"),
+];
 
 #[test]
 fn parts_that_are_refused(rt: HostRuntime) {
-    let alloc = rt.alloc();
-    let usage = b"Usage: dlx_below 1|2|3 m0|m1 {BRANCH.. 0}..\n";
-    for words in [
-        &[] as &[&[u8]],
-        &[b"1"],
-        &[b"4", b"m1", b"0"],
-        &[b"1", b"m2", b"0"],
-        &[b"1", b"m1", b"2"],
-    ] {
-        assert!(rt; parts_give(alloc, words, SEVEN, 1, b"", usage));
+    for (words, text, status, listed, message) in &REFUSED {
+        assert!(rt; parts_give(rt.alloc(), words, text, *status, listed, message));
     }
-    let first = b"Altogether 1 solution.\n";
-    let words: &[&[u8]] = &[b"1", b"m0", b"2", b"0", b"3", b"0"];
-    assert!(rt; parts_give(alloc, words, SEVEN, 5, first, b"No such path.\n"));
-    assert!(rt;
-        parts_give(
-            alloc,
-            &[b"1", b"m0", b"0"],
-            b"",
-            2,
-            b"",
-            b"Line 1: no items.\n"
-        )
-    );
 }
 
 /// Passes on what a run gives whose output holds some lines back, and answers its status.

@@ -21,32 +21,49 @@ fn plan_gives(
     run_gives(alloc, words, text, program, status, out, err)
 }
 
+/// Words, a problem and its plan.
+const PLANS: [(&[&[u8]], &[u8], &[u8]); 3] = [
+    (
+        &[b"3", b"0"],
+        TWICE,
+        b" A:1/2@1 A:1/2@2\n A:1/2@1 A:2/2@0 B:1/1@3\n A:2/2@2 A:1/1@0\n",
+    ),
+    (&[b"3", b"100"], TWICE, b"\n"),
+    (
+        &[b"1", b"0", b"0", b"9"],
+        SEVEN,
+        b" a:2/2@4 b:1/1@5 c:1/1@1\n",
+    ),
+];
+
 #[test]
 fn plans_of_small_problems(rt: HostRuntime) {
-    let cut = b" A:1/2@1 A:1/2@2\n A:1/2@1 A:2/2@0 B:1/1@3\n A:2/2@2 A:1/1@0\n";
-    assert!(rt; plan_gives(rt.alloc(), &[b"3", b"0"], TWICE, 0, cut, b""));
-    assert!(rt; plan_gives(rt.alloc(), &[b"3", b"100"], TWICE, 0, b"\n", b""));
-    let whole = b" a:2/2@4 b:1/1@5 c:1/1@1\n";
-    assert!(rt; plan_gives(rt.alloc(), &[b"1", b"0", b"0", b"9"], SEVEN, 0, whole, b""));
+    for (words, text, plan) in &PLANS {
+        assert!(rt; plan_gives(rt.alloc(), words, text, 0, plan, b""));
+    }
 }
+
+const USAGE: &[u8] = b"Usage: dlx_parts 1|2|3 BUDGET [SIZE [LIMIT]]\n";
+
+/// Words and a problem, and the status, the plan and the message of the run that refuses them.
+const REFUSED: [(&[&[u8]], &[u8], u8, &[u8], &[u8]); 6] = [
+    (&[], SEVEN, 1, b"", USAGE),
+    (&[b"1"], SEVEN, 1, b"", USAGE),
+    (&[b"4", b"1"], SEVEN, 1, b"", USAGE),
+    (&[b"1", b"x"], SEVEN, 1, b"", USAGE),
+    (
+        &[b"3", b"0", b"0", b"1"],
+        TWICE,
+        5,
+        b" A:1/2@1 A:1/2@2\n",
+        b"The limit of parts was met.\n",
+    ),
+    (&[b"1", b"1"], b"", 2, b"", b"Line 1: no items.\n"),
+];
 
 #[test]
 fn plans_that_are_refused(rt: HostRuntime) {
-    let usage = b"Usage: dlx_parts 1|2|3 BUDGET [SIZE [LIMIT]]\n";
-    for words in [&[] as &[&[u8]], &[b"1"], &[b"4", b"1"], &[b"1", b"x"]] {
-        assert!(rt; plan_gives(rt.alloc(), words, SEVEN, 1, b"", usage));
+    for (words, text, status, plan, message) in &REFUSED {
+        assert!(rt; plan_gives(rt.alloc(), words, text, *status, plan, message));
     }
-    let met = b"The limit of parts was met.\n";
-    let first = b" A:1/2@1 A:1/2@2\n";
-    assert!(rt; plan_gives(rt.alloc(), &[b"3", b"0", b"0", b"1"], TWICE, 5, first, met));
-    assert!(rt;
-        plan_gives(
-            rt.alloc(),
-            &[b"1", b"1"],
-            b"",
-            2,
-            b"",
-            b"Line 1: no items.\n"
-        )
-    );
 }

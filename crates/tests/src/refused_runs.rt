@@ -160,39 +160,23 @@ fn is_refused(
     })
 }
 
+/// A kind, what stands before a token of a thousand times a byte and behind it, and what is said of the fault.
+const TOO_LONG: [(Kind, &[u8], u8, &[u8], &[u8]); 4] = [
+    (Kind::Plain, b"", b'a', b"", b"Line 1: name too long.\n"),
+    (Kind::Plain, b"A\n", b'a', b"", b"Line 2: name too long.\n"),
+    (Kind::Bounds, b"", b'1', b"|A", b"Line 1: bad bound.\n"),
+    (
+        Kind::Colours,
+        b"A | x\nA x:",
+        b'a',
+        b"",
+        b"Line 2: bad colour.\n",
+    ),
+];
+
 #[test]
 fn tokens_of_a_thousand_bytes(rt: HostRuntime) {
-    let alloc = rt.alloc();
-    let too_long = b"Line 1: name too long.\n";
-    assert!(rt; is_refused(alloc, Kind::Plain, b"", b'a', b"", too_long));
-    assert!(rt;
-        is_refused(
-            alloc,
-            Kind::Plain,
-            b"A\n",
-            b'a',
-            b"",
-            b"Line 2: name too long.\n"
-        )
-    );
-    assert!(rt;
-        is_refused(
-            alloc,
-            Kind::Bounds,
-            b"",
-            b'1',
-            b"|A",
-            b"Line 1: bad bound.\n"
-        )
-    );
-    assert!(rt;
-        is_refused(
-            alloc,
-            Kind::Colours,
-            b"A | x\nA x:",
-            b'a',
-            b"",
-            b"Line 2: bad colour.\n"
-        )
-    );
+    for (kind, before, byte, behind, message) in &TOO_LONG {
+        assert!(rt; is_refused(rt.alloc(), *kind, before, *byte, behind, message));
+    }
 }

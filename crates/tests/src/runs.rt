@@ -23,20 +23,25 @@ fn one_cover_of_seven_items(rt: HostRuntime) {
     );
 }
 
+/// Words of runs over three equal options, their listings and the messages.
+const SPACED: [(&[&[u8]], &[u8], &[u8]); 4] = [
+    (&[b"m2"], b"2:\n A (2 of 3)\n", b"Altogether 3 solutions.\n"),
+    (
+        &[b"m1", b"t2"],
+        b"1:\n A (1 of 3)\n2:\n A (2 of 3)\n",
+        b"Altogether 2 solutions (limit).\n",
+    ),
+    (
+        &[b"m1", b"t3"],
+        THREE_LISTING,
+        b"Altogether 3 solutions (limit).\n",
+    ),
+    (&[], b"", b"Altogether 3 solutions.\n"),
+];
+
 #[test]
 fn spacing_and_limit(rt: HostRuntime) {
-    let all = THREE_LISTING;
-    let rows: [(&[&[u8]], &[u8], &[u8]); 4] = [
-        (&[b"m2"], b"2:\n A (2 of 3)\n", b"Altogether 3 solutions.\n"),
-        (
-            &[b"m1", b"t2"],
-            &all[..30],
-            b"Altogether 2 solutions (limit).\n",
-        ),
-        (&[b"m1", b"t3"], all, b"Altogether 3 solutions (limit).\n"),
-        (&[], b"", b"Altogether 3 solutions.\n"),
-    ];
-    for (words, listing, end) in &rows {
+    for (words, listing, end) in &SPACED {
         assert!(rt; solve_tells(rt.alloc(), Kind::Plain, words, THREE_ALIKE, 0, listing, end));
     }
 }
