@@ -1,7 +1,6 @@
 //! Streams that are closed, and a file that isn't there.
 use crate::told::Told;
 use fixtures::{gathered, on_one};
-use std::alloc::AllocError;
 use xc_input::{Feed, Seed};
 use xc_list::Tray;
 use xc_tools::{closed_stream, judge, named_file};
@@ -22,13 +21,16 @@ fn streams_that_are_open(rt: HostRuntime) {
     );
 }
 
-/// Whether the judge of the file that the first word names, over an empty listing, tells that a read failed.
-fn fails_to_read(rt: &HostRuntime, words: &[Vec<u8>], told: &mut Told) -> bool {
-    let mut problem = named_file(rt, words, Seed::FIXED);
+/// Whether the judge of a file that isn't there, over an empty listing, tells that a read failed.
+fn fails_to_read(rt: &HostRuntime, told: &mut Told) -> bool {
+    let Ok(words) = gathered(rt.alloc(), &[b"data/missing.dlx"]) else {
+        return false;
+    };
+    let mut problem = named_file(rt, &words, Seed::FIXED);
     let mut listing = Feed::new(b"", 1, None);
     told.status = judge(
         rt.alloc(),
-        words,
+        &words,
         &mut problem,
         &mut listing,
         &mut told.out,
@@ -38,9 +40,7 @@ fn fails_to_read(rt: &HostRuntime, words: &[Vec<u8>], told: &mut Told) -> bool {
 }
 
 #[test]
-fn a_missing_file_fails_at_its_first_read(rt: HostRuntime) -> Result<(), AllocError> {
-    let words = gathered(rt.alloc(), &[b"data/missing.dlx"])?;
+fn a_missing_file_fails_at_its_first_read(rt: HostRuntime) {
     let told = Told::new(rt.alloc(), 100, 100);
-    assert!(rt; on_one(told, |told| fails_to_read(&rt, &words, told)));
-    Ok(())
+    assert!(rt; on_one(told, |told| fails_to_read(&rt, told)));
 }

@@ -2,9 +2,8 @@
 ghost use Rattle.std.specs.Prelude.{◌≡◌, ◌≤◌, length, IfOk};
 
 use fixtures::{SEVEN, gathered, on_one};
-use std::alloc::{AllocError, Global};
+use std::alloc::Global;
 use std::io::{Read, Write};
-use std::test::Fail;
 use xc_input::{Kind, Seed, Source};
 use xc_list::{Sink, Tray};
 use xc_tools::{Direct, Incoming, Outgoing, solve};
@@ -140,15 +139,15 @@ fn a_flush_that_fails_once(rt: HostRuntime) {
 /// The status of a run whose output goes to this writer.
 fn solved(
     alloc: Global,
-    words: &[Vec<u8>],
     text: &[u8],
     by_line: bool,
     writer: &mut FailsOnce,
     err: &mut Tray,
-) -> Result<u8, AllocError> {
+) -> Option<u8> {
+    let words = gathered(alloc, &[b"m1"]).ok()?;
     let mut input = Incoming::new(Some(text), Seed::FIXED);
-    let mut out = Outgoing::new(alloc, writer, by_line)?;
-    Ok(solve(alloc, Kind::Plain, words, &mut input, &mut out, err))
+    let mut out = Outgoing::new(alloc, writer, by_line).ok()?;
+    Some(solve(alloc, Kind::Plain, &words, &mut input, &mut out, err))
 }
 
 /// Whether a run whose output fails at the n-th call has this status, makes so many calls and tells this.
@@ -160,30 +159,38 @@ fn ends_so(
     status: u8,
     calls: u64,
     told: &[u8],
-) -> Result<bool, AllocError> {
-    let words = gathered(alloc, &[b"m1"])?;
-    Ok(on_one(Tray::new(alloc, 100, 100, false).ok(), |err| {
+) -> bool {
+    on_one(Tray::new(alloc, 100, 100, false).ok(), |err| {
         let mut writer = FailsOnce::at(n);
-        solved(alloc, &words, text, by_line, &mut writer, err).is_ok_and(|ended| ended == status)
+        solved(alloc, text, by_line, &mut writer, err) == Some(status)
             && writer.calls == calls
             && err.bytes() == told
-    }))
+    })
 }
 
-#[test]
-fn a_run_whose_output_fails_once(rt: HostRuntime) -> Result<(), Fail> {
-    let alloc = rt.alloc();
-    let two: &[u8] = b"A\nA\nA\n";
-    let at_1: &[u8] = b"Write failed at solution 1.\n";
-    let at_2: &[u8] = b"Write failed at solution 2.\n";
-    let at_flush: &[u8] = b"Write failed.\n";
+const TWO: &[u8] = b"A\nA\nA\n";
+
+const AT_1: &[u8] = b"Write failed at solution 1.\n";
+
+const AT_2: &[u8] = b"Write failed at solution 2.\n";
+
+const AT_FLUSH: &[u8] = b"Write failed.\n";
+
+/// Texts, whether their listings go out by lines, which call fails, and the status, the calls and the message.
+const ENDS: [(&[u8], bool, u64, u8, u64, &[u8]); 6] = [
     // By lines each of two solutions, which is put together and written at once, is a call, and then the flush.
-    assert!(rt; ends_so(alloc, two, true, 1, 3, 1, at_1)?);
-    assert!(rt; ends_so(alloc, two, true, 2, 3, 2, at_2)?);
-    assert!(rt; ends_so(alloc, two, true, 3, 3, 3, at_flush)?);
-    assert!(rt; ends_so(alloc, two, true, 4, 0, 3, b"Altogether 2 solutions.\n")?);
+    (TWO, true, 1, 3, 1, AT_1),
+    (TWO, true, 2, 3, 2, AT_2),
+    (TWO, true, 3, 3, 3, AT_FLUSH),
+    (TWO, true, 4, 0, 3, b"Altogether 2 solutions.\n"),
     // Else the first solution is passed on at its end.
-    assert!(rt; ends_so(alloc, SEVEN, false, 1, 3, 1, at_1)?);
-    assert!(rt; ends_so(alloc, SEVEN, false, 2, 3, 2, at_flush)?);
-    Ok(())
+    (SEVEN, false, 1, 3, 1, AT_1),
+    (SEVEN, false, 2, 3, 2, AT_FLUSH),
+];
+
+#[test]
+fn a_run_whose_output_fails_once(rt: HostRuntime) {
+    for (text, by_line, n, status, calls, told) in &ENDS {
+        assert!(rt; ends_so(rt.alloc(), text, *by_line, *n, *status, *calls, told));
+    }
 }

@@ -31,7 +31,7 @@ impl Told {
     }
 
     /// Runs a program over a text that is read so many bytes at a time.
-    pub fn run<F: Fn(&[Vec<u8>], &mut Feed, &mut Tray, &mut Tray) -> u8>(
+    fn run<F: Fn(&[Vec<u8>], &mut Feed, &mut Tray, &mut Tray) -> u8>(
         &mut self,
         alloc: Global,
         words: &[&[u8]],
@@ -56,9 +56,17 @@ impl Told {
         text: &[u8],
         step: usize,
     ) -> Result<(), AllocError> {
-        self.run(alloc, words, text, step, |words, input, out, err| {
-            solve(alloc, kind, words, input, out, err)
-        })
+        let words = gathered(alloc, words)?;
+        let mut input = Feed::new(text, step.max(1), None);
+        self.status = solve(
+            alloc,
+            kind,
+            &words,
+            &mut input,
+            &mut self.out,
+            &mut self.err,
+        );
+        Ok(())
     }
 
     /// Runs `judge` by these words, over texts that are read so many bytes at a time.
