@@ -1,13 +1,16 @@
 //! Searches below the parts of a cut.
-use crate::made::{KINDS, below, cut, refused, search};
+use crate::made::{KINDS, are_undone, below, on_each_cut, refused};
 use fixtures::{SEVEN, on_problem};
 use std::alloc::Global;
-use xc_dance::{Dance, Lists};
+use xc_dance::Lists;
 use xc_input::{Kind, Problem};
 use xc_search::{Choice, Cut, Cutting, PathFault, Search, Step};
 
-/// Whether a search ends behind members that another has to come next.
+/// Whether a search has no choices at first, and ends behind members that another has to come next.
 fn goes_along(below: &mut Search<Lists>, whole: &mut Search<Lists>) -> bool {
+    if !below.choices().is_empty() {
+        return false;
+    }
     for _ in 0..1000 {
         if below.next() == Step::Done {
             return below.choices().is_empty();
@@ -29,8 +32,8 @@ fn lists_part(
     let Some(mut below) = below(alloc, problem, numbers) else {
         return false;
     };
-    let along = below.choices().is_empty() && goes_along(&mut below, whole);
-    below.close().moves().is_empty() && along
+    let along = goes_along(&mut below, whole);
+    are_undone(below.close()) && along
 }
 
 /// The numbers of a path's choices.
@@ -60,53 +63,25 @@ fn lists_parts(
     false
 }
 
-/// Whether the parts of a cut have all members of a problem's search, in turn.
-fn have_all(alloc: Global, problem: &Problem, cut: &mut Cut<Lists>, budget: u64) -> bool {
-    let Some(mut whole) = search(alloc, problem) else {
-        return false;
-    };
-    lists_parts(alloc, problem, cut, budget, &mut whole)
-}
-
-/// Whether the parts within a budget have all members of a problem's search, in turn.
-fn are_whole(alloc: Global, problem: &Problem, budget: u64) -> bool {
-    let Some(mut cut) = cut(alloc, problem) else {
-        return false;
-    };
-    let all = have_all(alloc, problem, &mut cut, budget);
-    let _lists = cut.close();
-    all
-}
-
 /// Whether the parts within each budget have all members of a problem's search, in turn.
-fn are_whole_by_each(alloc: Global, problem: &Problem) -> bool {
-    for budget in 0..20 {
-        if !are_whole(alloc, problem, budget) {
-            return false;
-        }
-    }
-    true
+fn are_whole(alloc: Global, problem: &Problem) -> bool {
+    on_each_cut(alloc, problem, |cut, budget, whole| {
+        lists_parts(alloc, problem, cut, budget, whole)
+    })
 }
 
 #[test]
 fn parts_of_each_kind(rt: HostRuntime) {
     let alloc = rt.alloc();
     for (kind, text) in &KINDS {
-        assert!(rt;
-            on_problem(
-                alloc,
-                *kind,
-                *text,
-                |problem| are_whole_by_each(alloc, problem)
-            )
-        );
+        assert!(rt; on_problem(alloc, *kind, *text, |problem| are_whole(alloc, problem)));
     }
 }
 
 /// Whether there is no search below this path, and the dance comes back without moves.
 fn is_refused(alloc: Global, problem: &Problem, numbers: &[u32]) -> bool {
     match refused(alloc, problem, numbers) {
-        Some((lists, fault)) => fault == PathFault::NoPath && lists.moves().is_empty(),
+        Some((lists, fault)) => are_undone(lists) && fault == PathFault::NoPath,
         None => false,
     }
 }

@@ -1,5 +1,5 @@
 //! What is there for callers: the room of a search, and searches with no counting.
-use fixtures::{SEVEN, THREE_ALIKE, on_one, on_problem};
+use fixtures::{SEVEN, THREE_ALIKE, on_problem};
 use std::alloc::Global;
 use xc_dance::{Dance, Links, Lists, Memory};
 use xc_input::{Kind, Problem};
@@ -44,19 +44,25 @@ fn options_in_all(search: &mut Search<Links>) -> usize {
     options
 }
 
-/// Whether the solutions of a text have so many options in all.
-fn has_options(alloc: Global, text: &[u8], options: usize) -> bool {
-    on_problem(alloc, Kind::Plain, text, |problem| {
-        on_one(begun(alloc, problem), |search| {
-            options_in_all(search) == options
-        })
-    })
+/// How many options the solutions of a problem have in all.
+fn options_of(alloc: Global, problem: &Problem) -> Option<usize> {
+    let mut search = begun(alloc, problem)?;
+    let options = options_in_all(&mut search);
+    // By `drop`, which is proved for any type; at the end of its scope the search's own drop would be proved here.
+    drop(search);
+    Some(options)
 }
 
 #[test]
 fn solutions_one_by_one(rt: HostRuntime) {
-    assert!(rt; has_options(rt.alloc(), SEVEN, 3));
-    assert!(rt; has_options(rt.alloc(), THREE_ALIKE, 3));
+    let alloc = rt.alloc();
+    for text in [SEVEN, THREE_ALIKE] {
+        assert!(rt;
+            on_problem(alloc, Kind::Plain, text, |problem| {
+                options_of(alloc, problem) == Some(3)
+            })
+        );
+    }
 }
 
 /// How many solutions a search visits, of at most so many, and whether all were.
@@ -69,17 +75,21 @@ fn visit(search: &mut Search<Links>, most: usize) -> (usize, bool) {
     (most - left.min(most), all && search.choices().is_empty())
 }
 
-/// Whether a search over three equal options visits so many of at most so many, and whether those are all.
-fn visits(alloc: Global, most: usize, visited: (usize, bool)) -> bool {
-    on_problem(alloc, Kind::Plain, THREE_ALIKE, |problem| {
-        on_one(begun(alloc, problem), |search| {
-            visit(search, most) == visited
-        })
-    })
+/// How many solutions of a problem are visited, of at most so many, and whether all are.
+fn visited(alloc: Global, problem: &Problem, most: usize) -> Option<(usize, bool)> {
+    let mut search = begun(alloc, problem)?;
+    let visited = visit(&mut search, most);
+    drop(search);
+    Some(visited)
 }
 
 #[test]
 fn solutions_until_enough(rt: HostRuntime) {
-    assert!(rt; visits(rt.alloc(), 2, (2, false)));
-    assert!(rt; visits(rt.alloc(), 9, (3, true)));
+    let alloc = rt.alloc();
+    assert!(rt;
+        on_problem(alloc, Kind::Plain, THREE_ALIKE, |problem| {
+            visited(alloc, problem, 2) == Some((2, false))
+                && visited(alloc, problem, 9) == Some((3, true))
+        })
+    );
 }

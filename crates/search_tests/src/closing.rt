@@ -21,11 +21,14 @@ fn go_on(search: &mut Search<Links>, steps: usize) -> usize
 }
 
 /// Whether tables are as they were built.
-fn are_as_built(alloc: Global, problem: &Problem, links: &Links) -> bool {
-    on_one(
+fn are_as_built(alloc: Global, problem: &Problem, links: Links) -> bool {
+    let same = on_one(
         Links::for_search(alloc, problem).ok(),
         |built| links.same(built),
-    )
+    );
+    // By `drop`, which is proved for any type; at the end of their scope their own drop would be proved here.
+    drop(links);
+    same
 }
 
 fn search<'a>(alloc: Global, problem: &'a Problem) -> Option<Search<'a, Links>> {
@@ -40,7 +43,7 @@ fn closes(alloc: Global, problem: &Problem, steps: usize, solutions: usize) -> b
         return false;
     };
     let found = go_on(&mut search, steps);
-    are_as_built(alloc, problem, &search.close()) && found == solutions
+    are_as_built(alloc, problem, search.close()) && found == solutions
 }
 
 /// Whether a search that is closed gives the tables as they were built, after each number of steps
@@ -93,10 +96,7 @@ fn a_search_begins_or_hands_back_its_dance(rt: HostRuntime) {
     let alloc = rt.alloc();
     assert!(rt;
         on_problem(alloc, Kind::Bounds, ALONE, |problem| {
-            on_one(
-                handed_back(alloc, problem),
-                |links| are_as_built(alloc, problem, links)
-            )
+            handed_back(alloc, problem).is_some_and(|links| are_as_built(alloc, problem, links))
         })
     );
 }

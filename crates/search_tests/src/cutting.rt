@@ -1,8 +1,8 @@
 //! A search cut into parts.
-use crate::made::{KINDS, cut, search};
+use crate::made::{KINDS, are_undone, cut, on_each_cut};
 use fixtures::{THREE_ALIKE, on_problem};
 use std::alloc::Global;
-use xc_dance::{Dance, Lists};
+use xc_dance::Lists;
 use xc_input::{Kind, Problem};
 use xc_search::{Choice, Cut, Cutting, Search, Step};
 
@@ -20,7 +20,7 @@ fn goes_over(search: &mut Search<Lists>, path: &[Choice]) -> bool {
 }
 
 /// Whether the members of a search that stands at its first are those below the parts, in turn.
-fn lists_by_parts(search: &mut Search<Lists>, cut: &mut Cut<Lists>, budget: u64) -> bool {
+fn lists_by_parts(cut: &mut Cut<Lists>, budget: u64, search: &mut Search<Lists>) -> bool {
     let mut done = false;
     for _ in 0..1000 {
         if cut.next(budget, 0) == Cutting::Done {
@@ -34,34 +34,12 @@ fn lists_by_parts(search: &mut Search<Lists>, cut: &mut Cut<Lists>, budget: u64)
     false
 }
 
-/// Whether the parts of a cut list a problem.
-fn list_all(alloc: Global, problem: &Problem, cut: &mut Cut<Lists>, budget: u64) -> bool {
-    let Some(mut search) = search(alloc, problem) else {
-        return false;
-    };
+/// Whether the parts of a cut list the problem of a search.
+fn list_all(cut: &mut Cut<Lists>, budget: u64, search: &mut Search<Lists>) -> bool {
     search.next() == Step::Solution
         && cut.path().is_empty()
-        && lists_by_parts(&mut search, cut, budget)
+        && lists_by_parts(cut, budget, search)
         && cut.path().is_empty()
-}
-
-/// Whether parts within a budget list a problem.
-fn is_cut(alloc: Global, problem: &Problem, budget: u64) -> bool {
-    let Some(mut cut) = cut(alloc, problem) else {
-        return false;
-    };
-    let listed = list_all(alloc, problem, &mut cut, budget);
-    cut.close().moves().is_empty() && listed
-}
-
-/// Whether parts within each budget list a problem.
-fn is_cut_by_each(alloc: Global, problem: &Problem) -> bool {
-    for budget in 0..20 {
-        if !is_cut(alloc, problem, budget) {
-            return false;
-        }
-    }
-    true
 }
 
 /// How many parts are left within a budget.
@@ -78,8 +56,7 @@ fn count_left(cut: &mut Cut<Lists>, budget: u64) -> usize {
 fn count_parts(alloc: Global, problem: &Problem, budget: u64) -> Option<usize> {
     let mut cut = cut(alloc, problem)?;
     let parts = count_left(&mut cut, budget);
-    let _lists = cut.close();
-    Some(parts)
+    are_undone(cut.close()).then_some(parts)
 }
 
 #[test]
@@ -91,7 +68,7 @@ fn parts_of_each_kind(rt: HostRuntime) {
                 alloc,
                 *kind,
                 *text,
-                |problem| is_cut_by_each(alloc, problem)
+                |problem| on_each_cut(alloc, problem, list_all)
             )
         );
     }

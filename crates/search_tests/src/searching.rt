@@ -1,5 +1,5 @@
 //! A search over live lists.
-use crate::made::{choice, search};
+use crate::made::{choice, on_search};
 use fixtures::{SEVEN, THREE_ALIKE, on_problem};
 use std::alloc::Global;
 use xc_dance::{Dance, Lists};
@@ -16,11 +16,10 @@ fn finds_alone(search: &mut Search<Lists>, wanted: &[Choice]) -> bool {
         && search.choices().is_empty()
 }
 
-/// Whether a search finds the cover of seven items alone, and undoes all moves.
-fn solves_seven_items(mut search: Search<Lists>) -> bool {
+/// Whether a search finds the cover of seven items alone.
+fn solves_seven_items(search: &mut Search<Lists>) -> bool {
     let wanted = [choice(1, 4, 2, 2), choice(2, 5, 1, 1), choice(3, 1, 1, 1)];
-    let found = finds_alone(&mut search, &wanted);
-    search.close().moves().is_empty() && found
+    finds_alone(search, &wanted)
 }
 
 /// The item on which lists that are as built branch, and in how many branches.
@@ -35,7 +34,7 @@ fn one_cover_of_seven_items(rt: HostRuntime) {
     assert!(rt;
         on_problem(alloc, Kind::Plain, SEVEN, |problem| {
             first_chosen(alloc, problem) == Some((1, 2))
-                && search(alloc, problem).is_some_and(solves_seven_items)
+                && on_search(alloc, problem, solves_seven_items)
         })
     );
 }
@@ -48,17 +47,12 @@ fn passes_over_three(search: &mut Search<Lists>) -> bool {
         && search.choices().is_empty()
 }
 
-fn passes_over_all(mut search: Search<Lists>) -> bool {
-    let passed = passes_over_three(&mut search);
-    search.close().moves().is_empty() && passed
-}
-
 #[test]
 fn three_passed_over(rt: HostRuntime) {
     let alloc = rt.alloc();
     assert!(rt;
         on_problem(alloc, Kind::Plain, THREE_ALIKE, |problem| {
-            search(alloc, problem).is_some_and(passes_over_all)
+            on_search(alloc, problem, passes_over_three)
         })
     );
 }

@@ -1,7 +1,7 @@
 //! A walk over live lists.
-use crate::made::{choice, walk};
+use crate::made::{are_undone, choice, walk};
 use fixtures::{SEVEN, on_problem};
-use xc_dance::{Dance, Lists};
+use xc_dance::Lists;
 use xc_input::Kind;
 use xc_search::{Choice, Walk};
 
@@ -29,7 +29,7 @@ fn passes_over_one(walk: &mut Walk<Lists>, wanted: &[Choice]) -> bool {
 fn finds_seven_items(mut walk: Walk<Lists>) -> bool {
     let wanted = [choice(1, 4, 2, 2), choice(2, 5, 1, 1), choice(3, 1, 1, 1)];
     let found = passes_over_one(&mut walk, &wanted);
-    walk.close().moves().is_empty() && found
+    are_undone(walk.close()) && found
 }
 
 #[test]
