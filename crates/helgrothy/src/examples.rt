@@ -5,13 +5,17 @@ use std::test::Fail;
 
 const TEXT: &[u8] = b"a b c d e f g\nc e\na d g\nb c f\na d f\nb g\nd e g\n";
 
-fn first_cover(alloc: Global, problem: &Problem) -> Result<Option<Vec<u32>>, Fail> {
-    let links = Links::for_search(alloc, problem)?;
-    let mut search = Search::begin(alloc, links, problem)?;
+fn next_cover(alloc: Global, search: &mut Search<Links>) -> Result<Option<Vec<u32>>, Fail> {
     let Some(choices) = search.next_solution() else {
         return Ok(None);
     };
     Ok(Some(choices.iter().filter_map(|c| c.option).collect(alloc)?))
+}
+
+fn first_cover(alloc: Global, problem: &Problem) -> Result<Option<Vec<u32>>, Fail> {
+    let links = Links::for_search(alloc, problem)?;
+    let mut search = Search::begin(alloc, links, problem)?;
+    next_cover(alloc, &mut search)
 }
 
 fn count(alloc: Global, problem: &Problem, limit: u64) -> Result<u64, Fail> {

@@ -8,13 +8,17 @@
 //! The first cover of a problem, as numbers of options:
 //!
 //! ```text
-//! fn first_cover(alloc: Global, problem: &Problem) -> Result<Option<Vec<u32>>> {
-//!     let links = Links::for_search(alloc, problem)?;
-//!     let mut search = Search::begin(alloc, links, problem)?;
+//! fn next_cover(alloc: Global, search: &mut Search<Links>) -> Result<Option<Vec<u32>>> {
 //!     let Some(choices) = search.next_solution() else {
 //!         return Ok(None);
 //!     };
 //!     Ok(Some(choices.iter().filter_map(|c| c.option).collect(alloc)?))
+//! }
+//!
+//! fn first_cover(alloc: Global, problem: &Problem) -> Result<Option<Vec<u32>>> {
+//!     let links = Links::for_search(alloc, problem)?;
+//!     let mut search = Search::begin(alloc, links, problem)?;
+//!     next_cover(alloc, &mut search)
 //! }
 //! ```
 //!
