@@ -17,7 +17,7 @@ fn print_options(rt: &impl Print, choices: &[Choice]) -> io::Result<()> {
 }
 
 /// Prints a line for each solution that the search has to come.
-fn print_covers(rt: &impl Print, search: &mut Search<Links>) -> io::Result<()> {
+fn print_covers(rt: &impl Print, search: &mut Search<Links>) -> Result<()> {
     for number in 1..u64::MAX {
         let Some(choices) = search.next_solution() else {
             break;
@@ -32,8 +32,7 @@ fn print_covers(rt: &impl Print, search: &mut Search<Links>) -> io::Result<()> {
 fn search_covers(rt: &HostRuntime, problem: &Problem) -> Result<()> {
     let links = Links::for_search(rt.alloc(), problem)?;
     let mut search = Search::begin(rt.alloc(), links, problem)?;
-    print_covers(rt, &mut search)?;
-    Ok(())
+    print_covers(rt, &mut search)
 }
 
 fn main(rt: HostRuntime) -> Result<()> {

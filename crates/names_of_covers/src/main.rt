@@ -23,11 +23,7 @@ fn write_names<S: Sink>(
 }
 
 /// Writes a line for each of the next ten solutions.
-fn write_ten<S: Sink>(
-    output: &mut S,
-    problem: &Problem,
-    search: &mut Search<Links>,
-) -> Result<(), SinkFault> {
+fn write_ten<S: Sink>(output: &mut S, problem: &Problem, search: &mut Search<Links>) -> Result<()> {
     for _ in 0..10 {
         let Some(choices) = search.next_solution() else {
             break;
@@ -41,8 +37,7 @@ fn write_ten<S: Sink>(
 fn print_ten(rt: &HostRuntime, problem: &Problem) -> Result<()> {
     let links = Links::for_search(rt.alloc(), problem)?;
     let mut search = Search::begin(rt.alloc(), links, problem)?;
-    write_ten(&mut Direct::new(rt.stdout()), problem, &mut search)?;
-    Ok(())
+    write_ten(&mut Direct::new(rt.stdout()), problem, &mut search)
 }
 
 fn main(rt: HostRuntime) -> Result<()> {
