@@ -1,6 +1,6 @@
 -- What a buffer holds behind a run whose text was put into it.
 use Rattle.std.proofs.Common.{◌≡◌, ℕ, ◌<◌, ◌≤◌, Bool, true, false, List, [], ◌++◌, Option}
-use Rattle.std.proofs.Common.{None, Some, length, drop, refl, sym, ap, ◌∙◌, arith, subst, nat_lt, lt-ltb}
+use Rattle.std.proofs.Common.{None, Some, length, drop, refl, sym, ap, arith, subst, nat_lt, lt-ltb}
 use Rattle.std.specs.Prelude.{if◌then◌else◌}
 use Rattle.std.proofs.lemmas.List.{length-append}
 use Rattle.std.specs.Io.KnownBytes.{Appends}
