@@ -19,8 +19,7 @@ bounds_here : (c : After-item-item)
 bounds_here c = grind arith
 
 pub overflow_sub-item : goal.overflow_sub-item
-overflow_sub-item c =
-    let low = low_most (c.loop-i.i + 1) c.requires.valid in grind arith
+overflow_sub-item c = let low = low_most (c.loop-i.i + 1) c.requires.valid in grind arith
 
 pub set-requires-in-loop-i : goal.set-requires-in-loop-i
 set-requires-in-loop-i c = grind (arith, column_len)

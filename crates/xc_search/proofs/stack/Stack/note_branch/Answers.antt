@@ -8,8 +8,7 @@ use Rattle.xc_search.specs.inner.Levels.{begun_level}
 use Rattle.xc_search.proofs.stack.Stack.note_branch.Goals as goal
 
 pub invariant_of-self : goal.invariant_of-self
-invariant_of-self c =
-    let levels = c.self.inside.levels.items in grind (arith, common_steps)
+invariant_of-self c = let levels = c.self.inside.levels.items in grind (arith, common_steps)
 
 pub returns : goal.returns
 returns c =
