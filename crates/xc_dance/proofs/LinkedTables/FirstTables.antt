@@ -113,8 +113,7 @@ column_len f n k = length-filled f _ _ ∙ length-range_with_len 0 n
 
 pub column_more : (f : ℕ → ℕ) (n k v : ℕ) → k < n → v ≡ f k
     → set (filled f (range_with_len 0 n) k) k v ≡ filled f (range_with_len 0 n) (k + 1)
-column_more f n k v lt is =
-    let z : 0 + k ≡ k = omega arith in filled_more f _ _ (range_get 0 _ _ lt ∙ ap Some z) is
+column_more f n k v lt is = let z : 0 + k ≡ k = omega arith in filled_more f _ _ (range_get 0 _ _ lt ∙ ap Some z) is
 
 pub rings_linked : (p : Puzzle) (k : ℕ) → item_count p + 2 ≤ k → linked_to p k ≡ bound_to p 1
 rings_linked p k le = grind (arith, same_items, filled_all, length-range_with_len)

@@ -13,8 +13,7 @@ use Rattle.xc_dance.specs.inner.Lists.Taking.{numbers_of, rooms_of, list_at, les
 
 pub less-absent : (x : ℕ) (xs : List ℕ) → ((k : ℕ) → k < length xs → get_or xs k 0 ≢ x) → less (x ∷ []) xs ≡ xs
 less-absent x [] h = refl
-less-absent x (y ∷ ys) h =
-    let rest = less-absent x ys (λ k lt. h (suc k) (omega (arith, lt))) in grind (arith, h 0)
+less-absent x (y ∷ ys) h = let rest = less-absent x ys (λ k lt. h (suc k) (omega (arith, lt))) in grind (arith, h 0)
 
 pub above : (n : ℕ) (xs : List ℕ) (k : ℕ) → Rises n xs → k < length xs → n < get_or xs k 0
 above n [] k r lt = absurd (omega (arith, lt))
