@@ -3,8 +3,8 @@ use Rattle.xc_dance.proofs.LinkedTables.Walks.{costs-append, Kind}
 use Rattle.std.proofs.Common.{arith}
 use Rattle.std.proofs.lemmas.Grind.{common_steps}
 use Rattle.std.proofs.Common.{◌≡◌, ℕ, ◌+◌, ◌≤◌, List, ◌++◌, fold, get_or}
-use Rattle.xc_dance.specs.declared.links.nodes.Nodes.{Nodes}
-use Rattle.xc_dance.specs.declared.links.nodes.TheConstants.{SPACER}
+use Rattle.xc_dance.specs.inner.Links.Columns.{Nodes}
+use Rattle.xc_dance.specs.declared.links.cells.nodes.TheConstants.{SPACER}
 use Rattle.xc_dance.specs.inner.Links.Walks.{costs, CanAll}
 use Rattle.xc_dance.proofs.LinkedTables.Walks.{CanAll-append, Underway, steps_end, Reached, Tells}
 

@@ -7,7 +7,7 @@ use Rattle.std.proofs.lemmas.Option.{slice_get-get_or}
 use Rattle.xc_input.specs.declared.problem.Use.{Use}
 use Rattle.xc_input.specs.Problem.{Puzzle}
 use Rattle.xc_dance.specs.declared.dance.Move.{Move}
-use Rattle.xc_dance.specs.declared.links.nodes.Nodes.{Nodes}
+use Rattle.xc_dance.specs.inner.Links.Columns.{Nodes}
 use Rattle.xc_dance.specs.Linked.{Linked, dancing_of}
 use Rattle.xc_dance.specs.Fields.{used, layout, spacer_place}
 use Rattle.xc_dance.specs.Commits.{CanStand, IsUseAt, after_use, after_uses}
@@ -18,7 +18,7 @@ use Rattle.xc_dance.specs.inner.Links.UseNodes.{uses_behind, uses_before}
 use Rattle.xc_dance.proofs.MoveLemmas.Commits.{stood_before}
 use Rattle.xc_dance.proofs.LinkedTables.UsePlaces.{Segment, use_cells, spacer_cells, behind_all, before_all}
 use Rattle.xc_dance.proofs.LinkedTables.UsePlaces.{behind_segment, before_segment}
-use Rattle.xc_dance.specs.declared.links.nodes.TheConstants.{SPACER}
+use Rattle.xc_dance.specs.declared.links.cells.nodes.TheConstants.{SPACER}
 use Rattle.std.proofs.lemmas.List.{nil_from_length}
 use Rattle.std.proofs.lemmas.Grind.{common_steps}
 

@@ -22,7 +22,7 @@ use Rattle.xc_dance.specs.inner.Links.FirstNodes.{blank, entered}
 use Rattle.xc_dance.specs.Moves.{listed_numbers}
 use Rattle.xc_dance.specs.Fields.{Node, own, spacer, used, layout, nodes_of, is_in, link_place}
 use Rattle.xc_dance.specs.inner.Links.Laid.{IsFit, AreDistinct, IsName, Placed, IsLaid}
-use Rattle.xc_dance.specs.declared.links.nodes.Nodes.{Nodes}
+use Rattle.xc_dance.specs.inner.Links.Columns.{Nodes}
 use Rattle.xc_dance.specs.inner.Links.Cells.{top_in, color_in, fixed_up, fixed_down, nodes_from, ulink_in, dlink_in}
 use Rattle.xc_dance.specs.inner.Links.Cells.{line_of, up_of, down_of, nodes_after}
 use Rattle.xc_dance.proofs.LinkedTables.Sweep.{put_at-same, put_at-other, put_at, IsLinkedFrom, with_line}
@@ -36,7 +36,7 @@ use Rattle.xc_dance.proofs.LinkedTables.GoodLines.{link_same}
 use Rattle.std.proofs.Common.{◌⊎◌}
 use Rattle.xc_dance.specs.inner.Links.Cells.{slot_of}
 use Rattle.xc_dance.proofs.MoveLemmas.Shortened.{rises_listed}
-use Rattle.xc_dance.specs.declared.links.nodes.TheConstants.{SPACER}
+use Rattle.xc_dance.specs.declared.links.cells.nodes.TheConstants.{SPACER}
 
 -- ---- a line to which members come one by one, each as the last
 

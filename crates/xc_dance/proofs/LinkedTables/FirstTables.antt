@@ -21,7 +21,7 @@ use Rattle.std.proofs.lemmas.Option.{slice_get_within}
 use Rattle.xc_dance.specs.inner.Links.FirstNodes.{filled, blanks, rows_of, laid_to, with_row}
 use Rattle.xc_dance.specs.inner.Links.Columns.{Laying}
 use Rattle.xc_dance.proofs.Copied.{take_more-get}
-use Rattle.xc_dance.specs.declared.links.nodes.Row.{Row}
+use Rattle.xc_dance.specs.declared.links.rows.Row.{Row}
 use Rattle.xc_dance.specs.Fields.{Node, unused, own, spacer, layout, spacer_place, last_below, first_above, first_of}
 use Rattle.xc_dance.specs.Fields.{last_of, ring_of}
 use Rattle.xc_dance.specs.inner.Links.Cells.{top_in, ulink_in, dlink_in, color_in, fixed_up, fixed_down}
@@ -30,7 +30,7 @@ use Rattle.xc_dance.specs.inner.Links.FirstItems.{linked_to, bound_to}
 use Rattle.xc_dance.proofs.LinkedTables.PlaceLemmas.{head_is, place_next, range_get}
 use Rattle.xc_dance.proofs.LinkedTables.RingStep.{same_items}
 use Rattle.xc_dance.proofs.LinkedTables.Sweep.{last_below-more, last_of-more, stay_all}
-use Rattle.xc_dance.specs.declared.links.nodes.TheConstants.{SPACER}
+use Rattle.xc_dance.specs.declared.links.cells.nodes.TheConstants.{SPACER}
 use Rattle.std.proofs.Common.{cond, eqb, leb}
 
 -- ---- columns that are filled from the first cell on; what isn't filled yet is 0

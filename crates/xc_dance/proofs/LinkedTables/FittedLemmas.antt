@@ -20,7 +20,7 @@ use Rattle.xc_dance.proofs.MoveLemmas.StateLemmas.{high_within}
 use Rattle.std.proofs.lemmas.List.Folds.{list_any_none}
 use Rattle.std.proofs.Common.{◌∙◌, eqb}
 use Rattle.xc_dance.proofs.LinkedTables.PlaceLemmas.{layout_small, has_spans}
-use Rattle.xc_dance.specs.declared.links.nodes.TheConstants.{MARK}
+use Rattle.xc_dance.specs.declared.links.cells.nodes.TheConstants.{MARK}
 
 -- ---- a valid problem is fit for the walks
 

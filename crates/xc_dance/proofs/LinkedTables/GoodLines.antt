@@ -8,7 +8,7 @@ use Rattle.std.proofs.lemmas.Grind.{common_steps}
 use Rattle.std.proofs.lemmas.List.{length-map}
 use Rattle.std.proofs.Math.Path.{fun_ext}
 use Rattle.xc_input.specs.Problem.{Puzzle, item_count, colour_in, uses_of}
-use Rattle.xc_dance.specs.declared.links.nodes.Nodes.{Nodes}
+use Rattle.xc_dance.specs.inner.Links.Columns.{Nodes}
 use Rattle.xc_dance.specs.Fields.{Node, own, layout, link_place}
 use Rattle.xc_dance.specs.inner.Links.Lines.{Line}
 use Rattle.xc_dance.specs.inner.Links.Steps.{unlinked, CanHide, CanUnhide, hidden, unhidden}
@@ -25,7 +25,7 @@ use Rattle.xc_dance.proofs.LinkedTables.Sweep.{cut, with_line, IsLinkedFrom, put
 use Rattle.xc_dance.proofs.LinkedTables.Sweep.{swept, swept_len, stay, cuts, up_after, down_after}
 use Rattle.xc_dance.proofs.MoveLemmas.ListLemmas.{length-listed}
 use Rattle.xc_dance.proofs.MoveLemmas.Shortened.{holds_use, holders}
-use Rattle.xc_dance.specs.declared.links.nodes.TheConstants.{MARK, SPACER}
+use Rattle.xc_dance.specs.declared.links.cells.nodes.TheConstants.{MARK, SPACER}
 use Rattle.xc_dance.proofs.LinkedTables.LinkColumns.{relinked-unlinked}
 use Rattle.xc_dance.specs.Fields.{is_in}
 use Rattle.std.proofs.lemmas.Bool.{false≢true}

@@ -22,7 +22,7 @@ use Rattle.xc_dance.specs.inner.Links.Lines.{Line}
 use Rattle.xc_dance.specs.inner.Links.Steps.{followed, list_of, list_back}
 use Rattle.xc_dance.specs.inner.Links.Cells.{ulink_in, dlink_in, nodes_after, line_of, color_in, nodes_from}
 use Rattle.xc_dance.specs.inner.Links.Laid.{Placed, IsLaid, IsFit}
-use Rattle.xc_dance.specs.declared.links.nodes.Nodes.{Nodes}
+use Rattle.xc_dance.specs.inner.Links.Columns.{Nodes}
 use Rattle.xc_dance.specs.inner.Links.Span.{Span}
 use Rattle.xc_dance.specs.inner.Lists.Losing.{is_kept}
 use Rattle.xc_dance.specs.Cost.{leaving, cost_of, marking}

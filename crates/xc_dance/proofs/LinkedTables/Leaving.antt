@@ -41,7 +41,7 @@ use Rattle.xc_dance.proofs.MoveLemmas.Members.{element_of, in_filter, same_membe
 use Rattle.xc_dance.proofs.LinkedTables.MarkedNodes.{options_left, Met, each_met, open_unmarked, color_is}
 use Rattle.xc_dance.proofs.LinkedTables.MarkedNodes.{colour_some, colour_small}
 use Rattle.xc_dance.proofs.LinkedTables.LaidLemmas.{IsOption}
-use Rattle.xc_dance.specs.declared.links.nodes.TheConstants.{MARK}
+use Rattle.xc_dance.specs.declared.links.cells.nodes.TheConstants.{MARK}
 use Rattle.xc_dance.specs.inner.Links.Cells.{line_of}
 use Rattle.xc_input.proofs.lists.Filters.{length-filter-le}
 use Rattle.xc_dance.proofs.LinkedTables.OtherItems.{leavers, other_item}

@@ -10,7 +10,7 @@ use Rattle.std.proofs.lemmas.List.{map-set}
 use Rattle.std.proofs.Math.Path.{fun_ext}
 use Rattle.std.proofs.Math.Seq.{map-set_same}
 use Rattle.xc_input.specs.Problem.{Puzzle, item_count}
-use Rattle.xc_dance.specs.declared.links.nodes.Nodes.{Nodes}
+use Rattle.xc_dance.specs.inner.Links.Columns.{Nodes}
 use Rattle.xc_dance.specs.inner.Links.Steps.{unlinked, relinked, HasSize, NamesPlaces}
 use Rattle.xc_dance.specs.inner.Links.Steps.{CanUnhide}
 use Rattle.xc_dance.specs.Fields.{Node, own, layout, link_place}
@@ -19,7 +19,7 @@ use Rattle.xc_dance.specs.inner.Links.Cells.{slot_of, link_at, fixed_up, fixed_d
 use Rattle.xc_dance.specs.inner.Links.Cells.{nodes_from}
 use Rattle.xc_dance.specs.inner.Links.Laid.{Placed, IsLaid, IsName}
 use Rattle.xc_dance.proofs.LinkedTables.Sweep.{put_at-same, put_at-other, put_at, with_line}
-use Rattle.xc_dance.specs.declared.links.nodes.TheConstants.{SPACER}
+use Rattle.xc_dance.specs.declared.links.cells.nodes.TheConstants.{SPACER}
 
 -- ---- columns that are maps of a layout, and one write to them
 

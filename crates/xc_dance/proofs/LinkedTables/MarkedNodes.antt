@@ -30,7 +30,7 @@ use Rattle.xc_dance.proofs.LinkedTables.OneOption.{is_mark}
 use Rattle.xc_dance.proofs.LinkedTables.LaidLemmas.{IsOption, options_numbered}
 use Rattle.xc_dance.proofs.LinkedTables.OneList.{marked_list}
 use Rattle.xc_dance.proofs.MoveLemmas.Shortened.{rises_listed}
-use Rattle.xc_dance.specs.declared.links.nodes.TheConstants.{MARK}
+use Rattle.xc_dance.specs.declared.links.cells.nodes.TheConstants.{MARK}
 
 -- ---- the other uses of an option in an open item's list: each is in its own item's list, or marked
 

@@ -9,7 +9,7 @@ use Rattle.std.proofs.lemmas.Option.{slice_get_within}
 use Rattle.xc_input.specs.Problem.{Puzzle, primary_count, item_count, high_at, IsItem, uses_of, colour_in}
 use Rattle.std.proofs.lemmas.Bool.{cases_lt}
 use Rattle.xc_dance.specs.declared.dance.Move.{Move}
-use Rattle.xc_dance.specs.declared.links.nodes.Nodes.{Nodes}
+use Rattle.xc_dance.specs.inner.Links.Columns.{Nodes}
 use Rattle.xc_dance.specs.Linked.{Linked}
 use Rattle.std.proofs.lemmas.List.{length-map}
 use Rattle.xc_dance.specs.declared.dance.Move.TheVariants.{Purify, Spend}
@@ -33,7 +33,7 @@ use Rattle.xc_dance.proofs.LinkedTables.PlaceLemmas.{node_between}
 use Rattle.xc_dance.proofs.LinkedTables.Sweep.{first_above-first}
 use Rattle.xc_dance.proofs.LinkedTables.UsePlaces.{use_cells, spacer_cells}
 use Rattle.xc_dance.proofs.MoveLemmas.Members.{element_of}
-use Rattle.xc_dance.specs.declared.links.nodes.TheConstants.{SPACER}
+use Rattle.xc_dance.specs.declared.links.cells.nodes.TheConstants.{SPACER}
 
 -- ---- what the tables answer, against what the moves make of the lists
 

@@ -12,7 +12,7 @@ use Rattle.xc_dance.specs.inner.Links.ListWalks.{with_colour, is_kept_colour, is
 use Rattle.xc_dance.specs.inner.Links.ListWalks.{leave_cost, back_cost, CanLeave, CanReturn}
 use Rattle.xc_dance.specs.inner.Links.Cells.{nodes_from, ulink_in, dlink_in}
 use Rattle.xc_dance.specs.inner.Links.Laid.{Placed, IsLaid}
-use Rattle.xc_dance.specs.declared.links.nodes.Nodes.{Nodes}
+use Rattle.xc_dance.specs.inner.Links.Columns.{Nodes}
 use Rattle.xc_dance.specs.inner.Links.Span.{Span}
 use Rattle.xc_dance.specs.inner.Lists.Losing.{is_kept}
 use Rattle.xc_dance.proofs.LinkedTables.LinkColumns.{get_map, map_put, same_nodes, written_back, get_up}
@@ -23,7 +23,7 @@ use Rattle.xc_dance.proofs.LinkedTables.GoodLines.{Named}
 use Rattle.xc_dance.proofs.LinkedTables.OneOption.{is_mark, left_one, left_all, AreReady, walked}
 use Rattle.xc_dance.proofs.LinkedTables.OneOption.{all_other, gone_count}
 use Rattle.xc_dance.proofs.LinkedTables.Spacers.{Turns, turns, gone_from}
-use Rattle.xc_dance.specs.declared.links.nodes.TheConstants.{MARK}
+use Rattle.xc_dance.specs.declared.links.cells.nodes.TheConstants.{MARK}
 use Rattle.xc_dance.proofs.LinkedTables.OneOption.{all_at}
 use Rattle.xc_dance.proofs.LinkedTables.OtherItems.{OtherItem, leaves, left_by, left_list, other_item}
 use Rattle.xc_dance.proofs.LinkedTables.OtherItems.{others_apart, own_apart}

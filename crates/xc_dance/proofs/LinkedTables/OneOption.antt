@@ -14,7 +14,7 @@ use Rattle.xc_dance.proofs.LinkedTables.LinkColumns.{get_item}
 use Rattle.xc_dance.proofs.LinkedTables.GoodLines.{Step, step_open, step_marked, Named}
 use Rattle.std.proofs.lemmas.Bool.{eqb-false}
 use Rattle.xc_dance.proofs.LinkedTables.Sweep.{other_items, cut, with_line}
-use Rattle.xc_dance.specs.declared.links.nodes.TheConstants.{MARK}
+use Rattle.xc_dance.specs.declared.links.cells.nodes.TheConstants.{MARK}
 use Rattle.xc_dance.proofs.LinkedTables.Sweep.{in_more, is_in-first}
 use Rattle.std.proofs.lemmas.Bool.{false≢true}
 use Rattle.xc_dance.proofs.LinkedTables.Walks.{Way}

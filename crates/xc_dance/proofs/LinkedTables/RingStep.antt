@@ -5,7 +5,7 @@ use Rattle.std.specs.List.{range_with_len}
 use Rattle.std.specs.Prelude.{slice_get}
 use Rattle.std.proofs.lemmas.List.{length-map}
 use Rattle.std.proofs.lemmas.List.FromFn.{get_or-map-range_with_len, length-range_with_len}
-use Rattle.xc_dance.specs.declared.links.items.Items.{Items}
+use Rattle.xc_dance.specs.inner.Links.Columns.{Items}
 use Rattle.xc_dance.specs.Fields.{ring_of, ring_head, left_of, right_of, last_below, first_above}
 use Rattle.xc_dance.proofs.LinkedTables.LinkColumns.{map_put, map_same}
 use Rattle.xc_dance.specs.declared.dance.Move.{Move}

@@ -21,7 +21,7 @@ use Rattle.xc_dance.proofs.LinkedTables.PlaceLemmas.{is_at, spacer_here, place_f
 use Rattle.xc_dance.proofs.LinkedTables.MarkedNodes.{colour_small}
 use Rattle.xc_dance.proofs.LinkedTables.GoodLines.{numbers_few}
 use Rattle.xc_dance.proofs.LinkedTables.Sweep.{by_first}
-use Rattle.xc_dance.specs.declared.links.nodes.TheConstants.{SPACER}
+use Rattle.xc_dance.specs.declared.links.cells.nodes.TheConstants.{SPACER}
 
 -- ---- numbers that are read
 

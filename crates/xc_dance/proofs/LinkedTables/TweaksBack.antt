@@ -19,7 +19,7 @@ use Rattle.xc_dance.specs.inner.Links.Taken.{taken_nodes}
 use Rattle.xc_dance.specs.inner.Links.Cells.{color_in, line_of, nodes_after, dlink_in, nodes_from, fixed_down, top_in}
 use Rattle.xc_dance.specs.inner.Links.Cells.{ulink_in}
 use Rattle.xc_dance.specs.inner.Links.Made.{IsFitted}
-use Rattle.xc_dance.specs.declared.links.nodes.Nodes.{Nodes}
+use Rattle.xc_dance.specs.inner.Links.Columns.{Nodes}
 use Rattle.xc_dance.specs.Cost.{cost_of_newest, undo_tweaks_cost}
 use Rattle.xc_dance.specs.inner.Links.Steps.{followed}
 use Rattle.xc_dance.specs.inner.Links.TweaksBack.{brought_back, with_top, with_dlink}

@@ -9,7 +9,7 @@ use Rattle.std.proofs.lemmas.List.{length-map, get_or_past}
 use Rattle.std.proofs.lemmas.Option.{slice_get-get_or, same_Some, slice_get-map, get_or_from_slice_get}
 use Rattle.xc_input.specs.Problem.{Puzzle, colour_in, uses_of, item_count}
 use Rattle.xc_input.specs.declared.problem.Use.{Use}
-use Rattle.xc_dance.specs.declared.links.nodes.Nodes.{Nodes}
+use Rattle.xc_dance.specs.inner.Links.Columns.{Nodes}
 use Rattle.xc_dance.specs.Fields.{Node, layout, link_place, unused, own, used, is_marked}
 use Rattle.xc_dance.specs.inner.Links.Steps.{hidden, unhidden, hide_cost}
 use Rattle.xc_dance.specs.inner.Links.Walks.{costs}
@@ -26,7 +26,7 @@ use Rattle.xc_dance.specs.inner.Links.Unmarked.{IsPlain, HasUnmarked, IsUnmarked
 use Rattle.xc_dance.proofs.LinkedTables.OneOption.{is_mark}
 use Rattle.xc_dance.proofs.LinkedTables.LinkColumns.{get_map}
 use Rattle.xc_dance.proofs.LinkedTables.PlaceLemmas.{is_at}
-use Rattle.xc_dance.specs.declared.links.nodes.TheConstants.{MARK, SPACER}
+use Rattle.xc_dance.specs.declared.links.cells.nodes.TheConstants.{MARK, SPACER}
 
 -- ---- what steps of hide and unhide write: 3 at each node that isn't marked
 

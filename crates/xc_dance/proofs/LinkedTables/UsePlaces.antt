@@ -17,7 +17,7 @@ use Rattle.xc_dance.specs.inner.Links.OptionPlaces.{start_at}
 use Rattle.xc_dance.specs.inner.Links.UseNodes.{uses_behind, uses_before}
 use Rattle.xc_dance.proofs.LinkedTables.LinkColumns.{get_map}
 use Rattle.xc_dance.proofs.LinkedTables.PlaceLemmas.{option_nodes, get_dropped, get_taken, behind_items, held_node}
-use Rattle.xc_dance.specs.declared.links.nodes.TheConstants.{SPACER}
+use Rattle.xc_dance.specs.declared.links.cells.nodes.TheConstants.{SPACER}
 
 -- an item that stands among uses is held
 pub held_of : (i : ℕ) (us : List Use) → place_in i us < length us → is_some (colour_in us i) ≡ true

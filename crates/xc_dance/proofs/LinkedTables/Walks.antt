@@ -7,11 +7,11 @@ use Rattle.std.proofs.lemmas.List.Sums.{sum_by-cons}
 use Rattle.std.proofs.lemmas.Grind.{common_steps}
 use Rattle.std.proofs.lemmas.Bool.{eqb-false}
 use Rattle.std.proofs.lemmas.List.{drop_more, reverse-append}
-use Rattle.xc_dance.specs.declared.links.nodes.Nodes.{Nodes}
+use Rattle.xc_dance.specs.inner.Links.Columns.{Nodes}
 use Rattle.xc_dance.specs.inner.Links.Steps.{followed, IsSpacer, places, hidden, unhidden, CanHide, CanUnhide}
 use Rattle.xc_dance.specs.inner.Links.Steps.{hide_cost}
 use Rattle.xc_dance.specs.inner.Links.Walks.{costs, CanAll, CanFollow}
-use Rattle.xc_dance.specs.declared.links.nodes.TheConstants.{SPACER}
+use Rattle.xc_dance.specs.declared.links.cells.nodes.TheConstants.{SPACER}
 
 -- ---- walks over nodes, under way and at their end: for hide and unhide, down a list and up, and down nodes that come
 -- back

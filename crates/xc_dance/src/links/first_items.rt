@@ -6,48 +6,41 @@ ghost use Rattle.xc_dance.specs.inner.Links.ItemCells.{llink_at, rlink_at, items
 ghost use Rattle.xc_dance.specs.inner.Links.FirstItems.{linked_to, bound_to};
 
 use crate::links::items::Items;
-use crate::tally::Tally;
 use std::alloc::{AllocError, Global};
 use xc_input::Problem;
 
 /// The item table before any move.
 #[tactic(auto, using(crate::proofs::LinkedTables::FirstTables::item_columns))]
-pub(crate) fn first_items(
-    alloc: Global,
-    problem: &Problem,
-    writes: &mut Tally,
-) -> Result<Items, AllocError>
+pub(crate) fn first_items(alloc: Global, problem: &Problem) -> Result<Items, AllocError>
     requires { IsValid problem.now.puzzle }
-    ensures { IfOk result (λ t. t ≡ items_after problem.now.puzzle []) }
+    ensures { IfOk result (λ t. t.cells ≡ items_after problem.now.puzzle []) }
 {
     let mut items = Items::new(alloc, problem.items(), problem.primary())?;
-    link_rings(&mut items, problem, writes);
-    set_bounds(&mut items, problem, writes);
+    link_rings(&mut items, problem);
+    set_bounds(&mut items, problem);
     Ok(items)
 }
 
 /// Links the items with their rings' heads.
 #[tactic(auto, using(crate::proofs::LinkedTables::FirstTables::item_columns))]
-fn link_rings(items: &mut Items, problem: &Problem, writes: &mut Tally)
-    requires { items.old ≡ linked_to problem.now.puzzle 0 }
-    ensures { items.new ≡ linked_to problem.now.puzzle (item_count problem.now.puzzle + 2) }
+fn link_rings(items: &mut Items, problem: &Problem)
+    requires { items.old.cells ≡ linked_to problem.now.puzzle 0 }
+    ensures { items.new.cells ≡ linked_to problem.now.puzzle (item_count problem.now.puzzle + 2) }
 {
     for i in 0..problem.items() + 2 {
-        items.llink.set(i, first_left(problem, i), writes);
-        items.rlink.set(i, first_right(problem, i), writes);
+        items.set_links(i, first_left(problem, i), first_right(problem, i));
     }
 }
 
 /// Fills in the bounds of the primary items.
-fn set_bounds(items: &mut Items, problem: &Problem, writes: &mut Tally)
+fn set_bounds(items: &mut Items, problem: &Problem)
     requires valid { IsValid problem.now.puzzle }
-    requires before { items.old ≡ bound_to problem.now.puzzle 1 }
-    ensures { items.new ≡ items_after problem.now.puzzle [] }
+    requires before { items.old.cells ≡ bound_to problem.now.puzzle 1 }
+    ensures { items.new.cells ≡ items_after problem.now.puzzle [] }
 {
     for i in 0..problem.primary() {
         let item = problem.item(i + 1);
-        items.bound.set(i + 1, item.high, writes);
-        items.slack.set(i + 1, item.high - item.low, writes);
+        items.set_bounds(i + 1, item.high, item.high - item.low);
     }
 }
 

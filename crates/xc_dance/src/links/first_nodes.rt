@@ -7,28 +7,24 @@ ghost use Rattle.xc_dance.specs.inner.Links.Cells.{fixed_up, fixed_down, nodes_f
 ghost use Rattle.xc_dance.specs.Fields.{spacer_place};
 ghost use Rattle.xc_dance.specs.inner.Links.FirstNodes.{laid_to, blanks};
 
-use crate::links::nodes::{Nodes, Row, Rows, SPACER};
+use crate::links::cells::{Nodes, SPACER};
 use crate::links::options::node_count;
-use crate::tally::Tally;
+use crate::links::rows::{Row, Rows};
 use std::alloc::{AllocError, Global};
 use xc_input::Problem;
 
 /// The node table before any move.
-pub(crate) fn first_nodes(
-    alloc: Global,
-    problem: &Problem,
-    writes: &mut Tally,
-) -> Result<Nodes, AllocError>
+pub(crate) fn first_nodes(alloc: Global, problem: &Problem) -> Result<Nodes, AllocError>
     requires limits { IsWithinLimits problem.now.puzzle }
     requires fit { IsFit problem.now.puzzle }
-    ensures { IfOk result (λ t. t ≡ nodes_after problem.now.puzzle []) }
+    ensures { IfOk result (λ t. t.cells ≡ nodes_after problem.now.puzzle []) }
 {
     let count = node_count(problem);
     let mut rows = Rows::new(alloc, count as usize)?;
     lay_items(&mut rows, problem);
     lay_options(&mut rows, problem);
     let mut nodes = rows.nodes();
-    link_uses(&mut nodes, problem, count, writes);
+    link_uses(&mut nodes, problem, count);
     Ok(nodes)
 }
 
@@ -120,16 +116,16 @@ fn lay_uses(rows: &mut Rows, problem: &Problem, o: u32)
 }
 
 /// Enters each use's node into its item's list.
-fn link_uses(nodes: &mut Nodes, problem: &Problem, count: u32, writes: &mut Tally)
+fn link_uses(nodes: &mut Nodes, problem: &Problem, count: u32)
     requires limits { IsWithinLimits problem.now.puzzle }
     requires fit { IsFit problem.now.puzzle }
     requires count { count ≡ length (layout problem.now.puzzle) }
-    requires before { nodes.old ≡ nodes_from problem.now.puzzle blanks (color_in problem.now.puzzle []) }
-    ensures { nodes.new ≡ nodes_after problem.now.puzzle [] }
+    requires before { nodes.old.cells ≡ nodes_from problem.now.puzzle blanks (color_in problem.now.puzzle []) }
+    ensures { nodes.new.cells ≡ nodes_after problem.now.puzzle [] }
 {
     for q in problem.items() + 1..count {
         if nodes.top(q) < SPACER {
-            nodes.enter(q, writes);
+            nodes.enter(q);
         }
     }
 }

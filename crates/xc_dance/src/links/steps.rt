@@ -5,93 +5,82 @@
 //! and 1.03 handed over by value.
 ghost use Rattle.std.specs.Prelude.{◌≡◌, ◌≢◌, false, ℕ, ◌+◌, ◌-◌, ◌*◌, ◌<◌, ◌≤◌, ◌^◌, length, slice_index, fold};
 ghost use Rattle.std.specs.Prelude.{reverse};
-ghost use Rattle.xc_dance.specs.inner.Links.Columns.{values, columns};
+ghost use Rattle.xc_dance.specs.inner.Links.Columns.{values};
+ghost use Rattle.xc_dance.specs.inner.Links.Lent.{lent, lent_writes, IsRow, IsLinkRow};
 ghost use Rattle.xc_dance.specs.inner.Links.Steps.{HasSize, NamesPlaces, unlinked, relinked, hidden, hide_cost};
 ghost use Rattle.xc_dance.specs.inner.Links.Steps.{hide_costs, CanHide, CanHideAll, places, unhidden, CanUnhide};
 ghost use Rattle.xc_dance.specs.inner.Links.Steps.{CanUnhideAll, unhide_costs, others_of, hidden_node, unhidden_node};
 ghost use Rattle.xc_dance.specs.inner.Links.Steps.{CanHideNode, CanUnhideNode};
 ghost use Rattle.xc_dance.specs.inner.Links.Unmarked.{AreUnmarked, IsUnmarked};
-ghost use Rattle.xc_dance.specs.declared.links.nodes.TheConstants.{MARK};
+ghost use Rattle.xc_dance.specs.declared.links.cells.nodes.TheConstants.{MARK};
 
-use crate::links::cells::{Cell, Link, down_at, get_at, set_at, set_down_at, set_up_at, up_at};
-use crate::links::nodes::{MARK, SPACER};
+use crate::links::cells::{Cells, CellsMut, LinksMut, MARK, SPACER};
 use crate::links::spans::Spans;
-use crate::tally::Tally;
 
 /// Takes node q out of its list.
 #[inline(always)]
-pub(crate) fn unlink(
-    top: &mut [Cell],
-    links: &mut [Link],
-    color: &[Cell],
-    q: usize,
-    writes: &mut Tally,
-)
-    requires size { HasSize (columns top.old links.old color.now) (length (columns top.old links.old color.now).top) }
-    requires places { NamesPlaces (columns top.old links.old color.now) q }
-    requires some { 0 < slice_index (columns top.old links.old color.now).top
-        (slice_index (columns top.old links.old color.now).top q) }
-    ensures done { columns top.new links.new color.now ≡ unlinked (columns top.old links.old color.now) q }
-    ensures counted { writes.new.count ≡ writes.old.count + 3 }
+pub(crate) fn unlink(top: &mut CellsMut<'_>, links: &mut LinksMut<'_>, color: &Cells<'_>, q: usize)
+    requires size { HasSize (lent top.old links.old color.now.cells.now) (length (lent top.old links.old color.now.cells.now).top) }
+    requires places { NamesPlaces (lent top.old links.old color.now.cells.now) q }
+    requires some { 0 < slice_index (lent top.old links.old color.now.cells.now).top
+        (slice_index (lent top.old links.old color.now.cells.now).top q) }
+    ensures done { lent top.new links.new color.now.cells.now ≡ unlinked (lent top.old links.old color.now.cells.now) q }
+    ensures counted { lent_writes top.new links.new color.now.cells.now ≡ lent_writes top.old links.old color.now.cells.now + 3 }
+    ensures rows { IsRow top.old top.new × IsLinkRow links.old links.new }
 {
-    let u = up_at(links, q);
-    let d = down_at(links, q);
-    set_down_at(links, u as usize, d, writes);
-    set_up_at(links, d as usize, u, writes);
+    let u = links.up_at(q);
+    let d = links.down_at(q);
+    links.set_down_at(u as usize, d);
+    links.set_up_at(d as usize, u);
     // Read behind these writes: with a level that is noted with its first branch, that took 0.91 of the instructions
     // over eleven problems.
-    let i = get_at(top, q) as usize;
-    let count = get_at(top, i);
-    set_at(top, i, count - 1, writes);
+    let i = top.get_at(q) as usize;
+    let count = top.get_at(i);
+    top.set_at(i, count - 1);
 }
 
 /// Puts node q back into its list.
 #[inline(always)]
-pub(crate) fn relink(
-    top: &mut [Cell],
-    links: &mut [Link],
-    color: &[Cell],
-    q: usize,
-    writes: &mut Tally,
-)
-    requires size { HasSize (columns top.old links.old color.now) (length (columns top.old links.old color.now).top) }
-    requires places { NamesPlaces (columns top.old links.old color.now) q }
-    requires few { slice_index (columns top.old links.old color.now).top
-        (slice_index (columns top.old links.old color.now).top q) < 2 ^ 31 }
+pub(crate) fn relink(top: &mut CellsMut<'_>, links: &mut LinksMut<'_>, color: &Cells<'_>, q: usize)
+    requires size { HasSize (lent top.old links.old color.now.cells.now) (length (lent top.old links.old color.now.cells.now).top) }
+    requires places { NamesPlaces (lent top.old links.old color.now.cells.now) q }
+    requires few { slice_index (lent top.old links.old color.now.cells.now).top
+        (slice_index (lent top.old links.old color.now.cells.now).top q) < 2 ^ 31 }
     requires near { q < 2 ^ 32 }
-    ensures done { columns top.new links.new color.now ≡ relinked (columns top.old links.old color.now) q }
-    ensures counted { writes.new.count ≡ writes.old.count + 3 }
+    ensures done { lent top.new links.new color.now.cells.now ≡ relinked (lent top.old links.old color.now.cells.now) q }
+    ensures counted { lent_writes top.new links.new color.now.cells.now ≡ lent_writes top.old links.old color.now.cells.now + 3 }
+    ensures rows { IsRow top.old top.new × IsLinkRow links.old links.new }
 {
-    let u = up_at(links, q) as usize;
-    let d = down_at(links, q) as usize;
-    set_down_at(links, u, q as u32, writes);
-    set_up_at(links, d, q as u32, writes);
-    let i = get_at(top, q) as usize;
-    let count = get_at(top, i);
-    set_at(top, i, count + 1, writes);
+    let u = links.up_at(q) as usize;
+    let d = links.down_at(q) as usize;
+    links.set_down_at(u, q as u32);
+    links.set_up_at(d, q as u32);
+    let i = top.get_at(q) as usize;
+    let count = top.get_at(i);
+    top.set_at(i, count + 1);
 }
 
 /// A step of hide. `marks` tells whether a node of an option may be marked. It is a constant where this is inlined, so
 /// that two loops stand, one without the test.
 #[inline(always)]
 fn hide_one(
-    top: &mut [Cell],
-    links: &mut [Link],
-    color: &[Cell],
+    top: &mut CellsMut<'_>,
+    links: &mut LinksMut<'_>,
+    color: &Cells<'_>,
     q: usize,
     marks: bool,
-    writes: &mut Tally,
 ) -> u64
-    requires can { CanHide (columns top.old links.old color.now) q }
-    requires unmarked { marks ≡ false → slice_index (values color.now) q ≢ MARK }
-    ensures done { columns top.new links.new color.now ≡ hidden (columns top.old links.old color.now) q }
-    ensures cost { result ≡ hide_cost (columns top.old links.old color.now) q }
-    ensures counted { writes.new.count ≡ writes.old.count + result }
+    requires can { CanHide (lent top.old links.old color.now.cells.now) q }
+    requires unmarked { marks ≡ false → slice_index (values color.now.cells.now) q ≢ MARK }
+    ensures done { lent top.new links.new color.now.cells.now ≡ hidden (lent top.old links.old color.now.cells.now) q }
+    ensures cost { result ≡ hide_cost (lent top.old links.old color.now.cells.now) q }
+    ensures counted { lent_writes top.new links.new color.now.cells.now ≡ lent_writes top.old links.old color.now.cells.now + result }
+    ensures rows { IsRow top.old top.new × IsLinkRow links.old links.new }
 {
-    if marks && get_at(color, q) == MARK {
+    if marks && color.get_at(q) == MARK {
         0
     } else {
-        unlink(top, links, color, q, writes);
+        unlink(top, links, color, q);
         3
     }
 }
@@ -99,26 +88,26 @@ fn hide_one(
 /// Steps of hide at the places from a to below b.
 #[inline(always)]
 fn hide_range(
-    top: &mut [Cell],
-    links: &mut [Link],
-    color: &[Cell],
+    top: &mut CellsMut<'_>,
+    links: &mut LinksMut<'_>,
+    color: &Cells<'_>,
     a: usize,
     b: usize,
     marks: bool,
-    writes: &mut Tally,
 ) -> u64
-    requires can { CanHideAll (columns top.old links.old color.now) (places a b) }
-    requires unmarked { marks ≡ false → AreUnmarked (values color.now) a b }
+    requires can { CanHideAll (lent top.old links.old color.now.cells.now) (places a b) }
+    requires unmarked { marks ≡ false → AreUnmarked (values color.now.cells.now) a b }
     requires near { b ≤ 2 ^ 32 }
-    ensures done { columns top.new links.new color.now ≡ fold hidden (columns top.old links.old color.now)
+    ensures done { lent top.new links.new color.now.cells.now ≡ fold hidden (lent top.old links.old color.now.cells.now)
         (places a b) }
-    ensures cost { result ≡ hide_costs (columns top.old links.old color.now) (places a b) }
-    ensures counted { writes.new.count ≡ writes.old.count + result }
+    ensures cost { result ≡ hide_costs (lent top.old links.old color.now.cells.now) (places a b) }
+    ensures counted { lent_writes top.new links.new color.now.cells.now ≡ lent_writes top.old links.old color.now.cells.now + result }
+    ensures rows { IsRow top.old top.new × IsLinkRow links.old links.new }
     ensures few { result ≤ 3 * (b - a) }
 {
     let mut count = 0u64;
     for q in a..b {
-        count += hide_one(top, links, color, q, marks, writes);
+        count += hide_one(top, links, color, q, marks);
     }
     count
 }
@@ -127,54 +116,54 @@ fn hide_range(
 /// marked nodes: from behind p to the spacer, which leads to the option's first node, and from there to before p.
 #[inline(always)]
 pub(crate) fn hide(
-    top: &mut [Cell],
-    links: &mut [Link],
-    color: &[Cell],
+    top: &mut CellsMut<'_>,
+    links: &mut LinksMut<'_>,
+    color: &Cells<'_>,
     spans: &Spans,
     p: u32,
     marks: bool,
-    writes: &mut Tally,
 ) -> u64
     requires span { p < length spans.now }
-    requires can { CanHideNode spans.now (columns top.old links.old color.now) p }
-    requires unmarked { marks ≡ false → IsUnmarked spans.now (values color.now) }
-    ensures done { columns top.new links.new color.now ≡ hidden_node spans.now (columns top.old links.old color.now) p }
-    ensures cost { result ≡ hide_costs (columns top.old links.old color.now) (others_of spans.now p) }
+    requires can { CanHideNode spans.now (lent top.old links.old color.now.cells.now) p }
+    requires unmarked { marks ≡ false → IsUnmarked spans.now (values color.now.cells.now) }
+    ensures done { lent top.new links.new color.now.cells.now ≡ hidden_node spans.now (lent top.old links.old color.now.cells.now) p }
+    ensures cost { result ≡ hide_costs (lent top.old links.old color.now.cells.now) (others_of spans.now p) }
     ensures few { result ≤ 3 * 2 ^ 32 }
-    ensures counted { writes.new.count ≡ writes.old.count + result }
+    ensures counted { lent_writes top.new links.new color.now.cells.now ≡ lent_writes top.old links.old color.now.cells.now + result }
+    ensures rows { IsRow top.old top.new × IsLinkRow links.old links.new }
 {
     let mut above = 0u64;
     let mut q = p as usize + 1;
-    while get_at(top, q) < SPACER {
-        above += hide_one(top, links, color, q, marks, writes);
+    while top.get_at(q) < SPACER {
+        above += hide_one(top, links, color, q, marks);
         q += 1;
     }
-    let first = up_at(links, q) as usize;
-    let below = hide_range(top, links, color, first, p as usize, marks, writes);
+    let first = links.up_at(q) as usize;
+    let below = hide_range(top, links, color, first, p as usize, marks);
     above + below
 }
 
 /// A step of unhide.
 #[inline(always)]
 fn unhide_one(
-    top: &mut [Cell],
-    links: &mut [Link],
-    color: &[Cell],
+    top: &mut CellsMut<'_>,
+    links: &mut LinksMut<'_>,
+    color: &Cells<'_>,
     q: usize,
     marks: bool,
-    writes: &mut Tally,
 ) -> u64
-    requires can { CanUnhide (columns top.old links.old color.now) q }
-    requires unmarked { marks ≡ false → slice_index (values color.now) q ≢ MARK }
+    requires can { CanUnhide (lent top.old links.old color.now.cells.now) q }
+    requires unmarked { marks ≡ false → slice_index (values color.now.cells.now) q ≢ MARK }
     requires near { q < 2 ^ 32 }
-    ensures done { columns top.new links.new color.now ≡ unhidden (columns top.old links.old color.now) q }
-    ensures cost { result ≡ hide_cost (columns top.old links.old color.now) q }
-    ensures counted { writes.new.count ≡ writes.old.count + result }
+    ensures done { lent top.new links.new color.now.cells.now ≡ unhidden (lent top.old links.old color.now.cells.now) q }
+    ensures cost { result ≡ hide_cost (lent top.old links.old color.now.cells.now) q }
+    ensures counted { lent_writes top.new links.new color.now.cells.now ≡ lent_writes top.old links.old color.now.cells.now + result }
+    ensures rows { IsRow top.old top.new × IsLinkRow links.old links.new }
 {
-    if marks && get_at(color, q) == MARK {
+    if marks && color.get_at(q) == MARK {
         0
     } else {
-        relink(top, links, color, q, writes);
+        relink(top, links, color, q);
         3
     }
 }
@@ -182,26 +171,26 @@ fn unhide_one(
 /// Steps of unhide at the places from below b down to a.
 #[inline(always)]
 fn unhide_range(
-    top: &mut [Cell],
-    links: &mut [Link],
-    color: &[Cell],
+    top: &mut CellsMut<'_>,
+    links: &mut LinksMut<'_>,
+    color: &Cells<'_>,
     a: usize,
     b: usize,
     marks: bool,
-    writes: &mut Tally,
 ) -> u64
-    requires can { CanUnhideAll (columns top.old links.old color.now) (reverse (places a b)) }
-    requires unmarked { marks ≡ false → AreUnmarked (values color.now) a b }
+    requires can { CanUnhideAll (lent top.old links.old color.now.cells.now) (reverse (places a b)) }
+    requires unmarked { marks ≡ false → AreUnmarked (values color.now.cells.now) a b }
     requires near { b ≤ 2 ^ 32 }
-    ensures done { columns top.new links.new color.now ≡ fold unhidden (columns top.old links.old color.now)
+    ensures done { lent top.new links.new color.now.cells.now ≡ fold unhidden (lent top.old links.old color.now.cells.now)
         (reverse (places a b)) }
-    ensures cost { result ≡ unhide_costs (columns top.old links.old color.now) (reverse (places a b)) }
-    ensures counted { writes.new.count ≡ writes.old.count + result }
+    ensures cost { result ≡ unhide_costs (lent top.old links.old color.now.cells.now) (reverse (places a b)) }
+    ensures counted { lent_writes top.new links.new color.now.cells.now ≡ lent_writes top.old links.old color.now.cells.now + result }
+    ensures rows { IsRow top.old top.new × IsLinkRow links.old links.new }
     ensures few { result ≤ 3 * (b - a) }
 {
     let mut count = 0u64;
     for q in (a..b).rev() {
-        count += unhide_one(top, links, color, q, marks, writes);
+        count += unhide_one(top, links, color, q, marks);
     }
     count
 }
@@ -212,30 +201,30 @@ fn unhide_range(
 // turned round in mind.
 #[inline(always)]
 pub(crate) fn unhide(
-    top: &mut [Cell],
-    links: &mut [Link],
-    color: &[Cell],
+    top: &mut CellsMut<'_>,
+    links: &mut LinksMut<'_>,
+    color: &Cells<'_>,
     spans: &Spans,
     p: u32,
     marks: bool,
-    writes: &mut Tally,
 ) -> u64
     requires span { p < length spans.now }
-    requires can { CanUnhideNode spans.now (columns top.old links.old color.now) p }
-    requires unmarked { marks ≡ false → IsUnmarked spans.now (values color.now) }
-    ensures done { columns top.new links.new color.now ≡ unhidden_node spans.now
-        (columns top.old links.old color.now) p }
-    ensures cost { result ≡ unhide_costs (columns top.old links.old color.now) (reverse (others_of spans.now p)) }
+    requires can { CanUnhideNode spans.now (lent top.old links.old color.now.cells.now) p }
+    requires unmarked { marks ≡ false → IsUnmarked spans.now (values color.now.cells.now) }
+    ensures done { lent top.new links.new color.now.cells.now ≡ unhidden_node spans.now
+        (lent top.old links.old color.now.cells.now) p }
+    ensures cost { result ≡ unhide_costs (lent top.old links.old color.now.cells.now) (reverse (others_of spans.now p)) }
     ensures few { result ≤ 3 * 2 ^ 32 }
-    ensures counted { writes.new.count ≡ writes.old.count + result }
+    ensures counted { lent_writes top.new links.new color.now.cells.now ≡ lent_writes top.old links.old color.now.cells.now + result }
+    ensures rows { IsRow top.old top.new × IsLinkRow links.old links.new }
 {
     let mut below = 0u64;
     let mut q = p as usize - 1;
-    while get_at(top, q) < SPACER {
-        below += unhide_one(top, links, color, q, marks, writes);
+    while top.get_at(q) < SPACER {
+        below += unhide_one(top, links, color, q, marks);
         q -= 1;
     }
-    let end = down_at(links, q) as usize + 1;
-    let above = unhide_range(top, links, color, p as usize + 1, end, marks, writes);
+    let end = links.down_at(q) as usize + 1;
+    let above = unhide_range(top, links, color, p as usize + 1, end, marks);
     below + above
 }

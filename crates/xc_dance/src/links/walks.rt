@@ -1,27 +1,26 @@
 //! Walks down the list of an item and back up. The nodes of a colour that is kept are marked on the way, the options of
 //! the others hidden.
 ghost use Rattle.std.specs.Prelude.{◌≡◌, ℕ, ◌+◌, ◌-◌, ◌*◌, ◌<◌, ◌≤◌, ◌^◌, length, slice_index, fold, None, false};
-ghost use Rattle.xc_dance.specs.inner.Links.Columns.{values, columns};
+ghost use Rattle.xc_dance.specs.inner.Links.Columns.{values};
+ghost use Rattle.xc_dance.specs.inner.Links.Lent.{lent, lent_writes, IsRow, IsLinkRow};
 ghost use Rattle.xc_dance.specs.inner.Links.Steps.{list_of, list_back};
 ghost use Rattle.xc_dance.specs.inner.Links.ListWalks.{is_kept_colour, left_node, leave_cost, back_node, back_cost};
 ghost use Rattle.xc_dance.specs.inner.Links.ListWalks.{CanLeave, CanReturn, walk_costs, back_costs, CanHideList};
 ghost use Rattle.xc_dance.specs.inner.Links.ListWalks.{CanUnhideList};
 ghost use Rattle.xc_dance.specs.inner.Links.Unmarked.{IsUnmarked};
 
-use crate::links::cells::{Cell, Link, down, get, set, up};
-use crate::links::nodes::MARK;
+use crate::links::cells::{Cells, CellsMut, LinksMut, MARK};
 use crate::links::spans::Spans;
 use crate::links::steps::{hide, unhide};
-use crate::tally::Tally;
 
 /// Whether the node has the colour that is kept.
 #[inline(always)]
-fn is_kept(color: &[Cell], p: u32, keep: Option<u32>) -> bool
-    requires { p < length (values color.now) }
-    ensures { result ≡ is_kept_colour keep (slice_index (values color.now) p) }
+fn is_kept(color: &Cells<'_>, p: u32, keep: Option<u32>) -> bool
+    requires { p < length (values color.now.cells.now) }
+    ensures { result ≡ is_kept_colour keep (slice_index (values color.now.cells.now) p) }
 {
     match keep {
-        Some(colour) => get(color, p) == colour,
+        Some(colour) => color.get(p) == colour,
         None => false,
     }
 }
@@ -29,87 +28,87 @@ fn is_kept(color: &[Cell], p: u32, keep: Option<u32>) -> bool
 /// A step down a list at node p: a node of the colour kept is marked, the option of any other one is hidden.
 #[inline(always)]
 fn leave(
-    top: &mut [Cell],
-    links: &mut [Link],
-    color: &mut [Cell],
+    top: &mut CellsMut<'_>,
+    links: &mut LinksMut<'_>,
+    color: &mut CellsMut<'_>,
     spans: &Spans,
     p: u32,
     keep: Option<u32>,
     marks: bool,
-    writes: &mut Tally,
 ) -> u64
-    requires can { CanLeave spans.now keep (columns top.old links.old color.old) p }
-    requires unmarked { marks ≡ false → IsUnmarked spans.now (values color.old) }
-    ensures done { columns top.new links.new color.new ≡ left_node spans.now keep
-        (columns top.old links.old color.old) p }
-    ensures cost { result ≡ leave_cost spans.now keep (columns top.old links.old color.old) p }
+    requires can { CanLeave spans.now keep (lent top.old links.old color.old.cells.now) p }
+    requires unmarked { marks ≡ false → IsUnmarked spans.now (values color.old.cells.now) }
+    ensures done { lent top.new links.new color.new.cells.now ≡ left_node spans.now keep
+        (lent top.old links.old color.old.cells.now) p }
+    ensures cost { result ≡ leave_cost spans.now keep (lent top.old links.old color.old.cells.now) p }
     ensures few { result ≤ 3 * 2 ^ 32 }
-    ensures counted { writes.new.count ≡ writes.old.count + result }
+    ensures counted { lent_writes top.new links.new color.new.cells.now ≡ lent_writes top.old links.old color.old.cells.now + result }
+    ensures rows { IsRow top.old top.new × IsLinkRow links.old links.new × IsRow color.old color.new }
 {
-    if is_kept(color, p, keep) {
-        set(color, p, MARK, writes);
+    if is_kept(&color.seen(), p, keep) {
+        color.set(p, MARK);
         return 1;
     }
-    hide(top, links, color, spans, p, marks, writes)
+    hide(top, links, &color.seen(), spans, p, marks)
 }
 
 /// A step up a list at node p: a marked node gets the colour kept back, the option of any other one is put back.
 #[inline(always)]
 fn come_back(
-    top: &mut [Cell],
-    links: &mut [Link],
-    color: &mut [Cell],
+    top: &mut CellsMut<'_>,
+    links: &mut LinksMut<'_>,
+    color: &mut CellsMut<'_>,
     spans: &Spans,
     p: u32,
     keep: Option<u32>,
     marks: bool,
-    writes: &mut Tally,
 ) -> u64
-    requires can { CanReturn spans.now keep (columns top.old links.old color.old) p }
-    requires unmarked { marks ≡ false → IsUnmarked spans.now (values color.old) }
-    ensures done { columns top.new links.new color.new ≡ back_node spans.now keep
-        (columns top.old links.old color.old) p }
-    ensures cost { result ≡ back_cost spans.now keep (columns top.old links.old color.old) p }
+    requires can { CanReturn spans.now keep (lent top.old links.old color.old.cells.now) p }
+    requires unmarked { marks ≡ false → IsUnmarked spans.now (values color.old.cells.now) }
+    ensures done { lent top.new links.new color.new.cells.now ≡ back_node spans.now keep
+        (lent top.old links.old color.old.cells.now) p }
+    ensures cost { result ≡ back_cost spans.now keep (lent top.old links.old color.old.cells.now) p }
     ensures few { result ≤ 3 * 2 ^ 32 }
-    ensures counted { writes.new.count ≡ writes.old.count + result }
+    ensures counted { lent_writes top.new links.new color.new.cells.now ≡ lent_writes top.old links.old color.old.cells.now + result }
+    ensures rows { IsRow top.old top.new × IsLinkRow links.old links.new × IsRow color.old color.new }
 {
     if let Some(colour) = keep {
-        if get(color, p) == MARK {
-            set(color, p, colour, writes);
+        if color.get(p) == MARK {
+            color.set(p, colour);
             return 1;
         }
     }
-    unhide(top, links, color, spans, p, marks, writes)
+    unhide(top, links, &color.seen(), spans, p, marks)
 }
 
 /// Goes down the list of item i: its nodes of the colour kept are marked, the others are hidden. It is the loop of
 /// cover where no colour is kept, and of purify where one is.
 #[inline(always)]
 pub(crate) fn hide_list(
-    top: &mut [Cell],
-    links: &mut [Link],
-    color: &mut [Cell],
+    top: &mut CellsMut<'_>,
+    links: &mut LinksMut<'_>,
+    color: &mut CellsMut<'_>,
     spans: &Spans,
     i: u32,
     keep: Option<u32>,
     marks: bool,
-    writes: &mut Tally,
 ) -> u64
-    requires can { CanHideList spans.now keep (columns top.old links.old color.old) i }
-    requires unmarked { marks ≡ false → IsUnmarked spans.now (values color.old) }
+    requires can { CanHideList spans.now keep (lent top.old links.old color.old.cells.now) i }
+    requires unmarked { marks ≡ false → IsUnmarked spans.now (values color.old.cells.now) }
     requires none { marks ≡ false → keep ≡ None }
-    ensures done { columns top.new links.new color.new ≡ fold (left_node spans.now keep)
-        (columns top.old links.old color.old) (list_of (columns top.old links.old color.old) i) }
-    ensures cost { result ≡ walk_costs spans.now keep (columns top.old links.old color.old)
-        (list_of (columns top.old links.old color.old) i) }
+    ensures done { lent top.new links.new color.new.cells.now ≡ fold (left_node spans.now keep)
+        (lent top.old links.old color.old.cells.now) (list_of (lent top.old links.old color.old.cells.now) i) }
+    ensures cost { result ≡ walk_costs spans.now keep (lent top.old links.old color.old.cells.now)
+        (list_of (lent top.old links.old color.old.cells.now) i) }
     ensures few_writes { result ≤ 3 * 2 ^ 62 }
-    ensures counted { writes.new.count ≡ writes.old.count + result }
+    ensures counted { lent_writes top.new links.new color.new.cells.now ≡ lent_writes top.old links.old color.old.cells.now + result }
+    ensures rows { IsRow top.old top.new × IsLinkRow links.old links.new × IsRow color.old color.new }
 {
     let mut count = 0u64;
-    let mut p = down(links, i);
-    for _ in 0..get(top, i) {
-        count += leave(top, links, color, spans, p, keep, marks, writes);
-        p = down(links, p);
+    let mut p = links.down(i);
+    for _ in 0..top.get(i) {
+        count += leave(top, links, color, spans, p, keep, marks);
+        p = links.down(p);
     }
     count
 }
@@ -118,52 +117,52 @@ pub(crate) fn hide_list(
 #[cold]
 #[inline(never)]
 pub(crate) fn hide_among_marks(
-    top: &mut [Cell],
-    links: &mut [Link],
-    color: &mut [Cell],
+    top: &mut CellsMut<'_>,
+    links: &mut LinksMut<'_>,
+    color: &mut CellsMut<'_>,
     spans: &Spans,
     i: u32,
     keep: Option<u32>,
-    writes: &mut Tally,
 ) -> u64
-    requires { CanHideList spans.now keep (columns top.old links.old color.old) i }
-    ensures done { columns top.new links.new color.new ≡ fold (left_node spans.now keep)
-        (columns top.old links.old color.old) (list_of (columns top.old links.old color.old) i) }
-    ensures cost { result ≡ walk_costs spans.now keep (columns top.old links.old color.old)
-        (list_of (columns top.old links.old color.old) i) }
+    requires { CanHideList spans.now keep (lent top.old links.old color.old.cells.now) i }
+    ensures done { lent top.new links.new color.new.cells.now ≡ fold (left_node spans.now keep)
+        (lent top.old links.old color.old.cells.now) (list_of (lent top.old links.old color.old.cells.now) i) }
+    ensures cost { result ≡ walk_costs spans.now keep (lent top.old links.old color.old.cells.now)
+        (list_of (lent top.old links.old color.old.cells.now) i) }
     ensures few_writes { result ≤ 3 * 2 ^ 62 }
-    ensures counted { writes.new.count ≡ writes.old.count + result }
+    ensures counted { lent_writes top.new links.new color.new.cells.now ≡ lent_writes top.old links.old color.old.cells.now + result }
+    ensures rows { IsRow top.old top.new × IsLinkRow links.old links.new × IsRow color.old color.new }
 {
-    hide_list(top, links, color, spans, i, keep, true, writes)
+    hide_list(top, links, color, spans, i, keep, true)
 }
 
 /// Undoes `hide_list`, from bottom to top.
 #[inline(always)]
 pub(crate) fn unhide_list(
-    top: &mut [Cell],
-    links: &mut [Link],
-    color: &mut [Cell],
+    top: &mut CellsMut<'_>,
+    links: &mut LinksMut<'_>,
+    color: &mut CellsMut<'_>,
     spans: &Spans,
     i: u32,
     keep: Option<u32>,
     marks: bool,
-    writes: &mut Tally,
 ) -> u64
-    requires can { CanUnhideList spans.now keep (columns top.old links.old color.old) i }
-    requires unmarked { marks ≡ false → IsUnmarked spans.now (values color.old) }
+    requires can { CanUnhideList spans.now keep (lent top.old links.old color.old.cells.now) i }
+    requires unmarked { marks ≡ false → IsUnmarked spans.now (values color.old.cells.now) }
     requires none { marks ≡ false → keep ≡ None }
-    ensures done { columns top.new links.new color.new ≡ fold (back_node spans.now keep)
-        (columns top.old links.old color.old) (list_back (columns top.old links.old color.old) i) }
-    ensures cost { result ≡ back_costs spans.now keep (columns top.old links.old color.old)
-        (list_back (columns top.old links.old color.old) i) }
+    ensures done { lent top.new links.new color.new.cells.now ≡ fold (back_node spans.now keep)
+        (lent top.old links.old color.old.cells.now) (list_back (lent top.old links.old color.old.cells.now) i) }
+    ensures cost { result ≡ back_costs spans.now keep (lent top.old links.old color.old.cells.now)
+        (list_back (lent top.old links.old color.old.cells.now) i) }
     ensures few_writes { result ≤ 3 * 2 ^ 62 }
-    ensures counted { writes.new.count ≡ writes.old.count + result }
+    ensures counted { lent_writes top.new links.new color.new.cells.now ≡ lent_writes top.old links.old color.old.cells.now + result }
+    ensures rows { IsRow top.old top.new × IsLinkRow links.old links.new × IsRow color.old color.new }
 {
     let mut count = 0u64;
-    let mut p = up(links, i);
-    for _ in 0..get(top, i) {
-        count += come_back(top, links, color, spans, p, keep, marks, writes);
-        p = up(links, p);
+    let mut p = links.up(i);
+    for _ in 0..top.get(i) {
+        count += come_back(top, links, color, spans, p, keep, marks);
+        p = links.up(p);
     }
     count
 }
@@ -172,21 +171,21 @@ pub(crate) fn unhide_list(
 #[cold]
 #[inline(never)]
 pub(crate) fn unhide_among_marks(
-    top: &mut [Cell],
-    links: &mut [Link],
-    color: &mut [Cell],
+    top: &mut CellsMut<'_>,
+    links: &mut LinksMut<'_>,
+    color: &mut CellsMut<'_>,
     spans: &Spans,
     i: u32,
     keep: Option<u32>,
-    writes: &mut Tally,
 ) -> u64
-    requires { CanUnhideList spans.now keep (columns top.old links.old color.old) i }
-    ensures done { columns top.new links.new color.new ≡ fold (back_node spans.now keep)
-        (columns top.old links.old color.old) (list_back (columns top.old links.old color.old) i) }
-    ensures cost { result ≡ back_costs spans.now keep (columns top.old links.old color.old)
-        (list_back (columns top.old links.old color.old) i) }
+    requires { CanUnhideList spans.now keep (lent top.old links.old color.old.cells.now) i }
+    ensures done { lent top.new links.new color.new.cells.now ≡ fold (back_node spans.now keep)
+        (lent top.old links.old color.old.cells.now) (list_back (lent top.old links.old color.old.cells.now) i) }
+    ensures cost { result ≡ back_costs spans.now keep (lent top.old links.old color.old.cells.now)
+        (list_back (lent top.old links.old color.old.cells.now) i) }
     ensures few_writes { result ≤ 3 * 2 ^ 62 }
-    ensures counted { writes.new.count ≡ writes.old.count + result }
+    ensures counted { lent_writes top.new links.new color.new.cells.now ≡ lent_writes top.old links.old color.old.cells.now + result }
+    ensures rows { IsRow top.old top.new × IsLinkRow links.old links.new × IsRow color.old color.new }
 {
-    unhide_list(top, links, color, spans, i, keep, true, writes)
+    unhide_list(top, links, color, spans, i, keep, true)
 }

@@ -2,14 +2,14 @@
 use Rattle.std.specs.Prelude.{ℕ, zero, suc, ◌+◌, ◌-◌, nat_lt, List, length, map, Option, Some, None, unwrap_or}
 use Rattle.std.specs.Prelude.{if◌then◌else◌}
 use Rattle.xc_dance.specs.declared.dance.Move.{Move}
-use Rattle.xc_dance.specs.declared.links.nodes.Nodes.{Nodes}
+use Rattle.xc_dance.specs.inner.Links.Columns.{Nodes}
 use Rattle.xc_input.specs.Problem.{Puzzle, option_count}
 use Rattle.xc_dance.specs.Moves.{listed, purified}
 use Rattle.xc_dance.specs.Moves.{listed_numbers}
 use Rattle.xc_dance.specs.Fields.{Node, unused, own, spacer, used, layout, spacer_place, link_place, above, below_of}
 use Rattle.xc_dance.specs.Fields.{is_marked, first_of, last_of}
 use Rattle.xc_dance.specs.inner.Links.Lines.{Line}
-use Rattle.xc_dance.specs.declared.links.nodes.TheConstants.{MARK, SPACER}
+use Rattle.xc_dance.specs.declared.links.cells.nodes.TheConstants.{MARK, SPACER}
 
 -- the item and the member that a node stands for, 0 being the item's own node
 abbrev pub slot_of : Node → Option (ℕ × ℕ)

@@ -1,7 +1,7 @@
 -- No public clause cites this module. The item table before any move, as it is filled.
 use Rattle.std.specs.Prelude.{ℕ, ◌+◌, [], map}
 use Rattle.std.specs.List.{range_with_len}
-use Rattle.xc_dance.specs.declared.links.items.Items.{Items}
+use Rattle.xc_dance.specs.inner.Links.Columns.{Items}
 use Rattle.xc_input.specs.Problem.{Puzzle, primary_count, item_count}
 use Rattle.xc_dance.specs.inner.Links.ItemCells.{llink_at, rlink_at, bound_at, slack_at}
 use Rattle.xc_dance.specs.inner.Links.FirstNodes.{filled}

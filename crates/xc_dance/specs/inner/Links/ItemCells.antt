@@ -2,7 +2,7 @@
 use Rattle.std.specs.Prelude.{ℕ, ◌+◌, ◌-◌, ◌==◌, nat_le, List, map, if◌then◌else◌}
 use Rattle.std.specs.List.{range_with_len}
 use Rattle.xc_dance.specs.declared.dance.Move.{Move}
-use Rattle.xc_dance.specs.declared.links.items.Items.{Items}
+use Rattle.xc_dance.specs.inner.Links.Columns.{Items}
 use Rattle.xc_input.specs.Problem.{Puzzle, primary_count, item_count, low_at, high_at}
 use Rattle.xc_dance.specs.Moves.{spends}
 use Rattle.xc_dance.specs.Fields.{ring_of, left_of, right_of, first_of, last_of}

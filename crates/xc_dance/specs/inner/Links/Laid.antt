@@ -5,7 +5,7 @@ use Rattle.std.specs.List.{AllByRecursion}
 use Rattle.xc_input.specs.declared.problem.Use.{Use}
 use Rattle.xc_dance.specs.Fields.{Node, own, used, layout, link_place}
 use Rattle.xc_dance.specs.inner.Links.Cells.{slot_of}
-use Rattle.xc_dance.specs.declared.links.nodes.TheConstants.{MARK}
+use Rattle.xc_dance.specs.declared.links.cells.nodes.TheConstants.{MARK}
 
 -- 0, or an option that holds item j
 abbrev pub IsName : Puzzle → ℕ → ℕ → Type 0

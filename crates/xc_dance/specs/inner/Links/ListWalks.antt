@@ -1,12 +1,12 @@
 -- No public clause cites this module. A walk over a list, which may keep the nodes of one colour.
 use Rattle.std.specs.Prelude.{Bool, false, Option, Some, None, ℕ, ◌<◌, ◌≡◌, ◌==◌, List, length, slice_index, slice_set}
 use Rattle.std.specs.Prelude.{if◌then◌else◌, ◌^◌, reverse}
-use Rattle.xc_dance.specs.declared.links.nodes.Nodes.{Nodes}
+use Rattle.xc_dance.specs.inner.Links.Columns.{Nodes}
 use Rattle.xc_dance.specs.inner.Links.Span.{Span}
 use Rattle.xc_dance.specs.inner.Links.Steps.{HasSize, hide_costs, CanHideNode, CanUnhideNode, unhide_costs, others_of}
 use Rattle.xc_dance.specs.inner.Links.Steps.{hidden_node, list_of, unhidden_node, list_back}
 use Rattle.xc_dance.specs.inner.Links.Walks.{costs, CanFollow}
-use Rattle.xc_dance.specs.declared.links.nodes.TheConstants.{MARK}
+use Rattle.xc_dance.specs.declared.links.cells.nodes.TheConstants.{MARK}
 
 -- node q has this colour now
 abbrev pub with_colour : Nodes → ℕ → ℕ → Nodes

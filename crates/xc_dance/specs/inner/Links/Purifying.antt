@@ -1,6 +1,6 @@
 -- No public clause cites this module. Purify on the node table.
 use Rattle.std.specs.Prelude.{Some, ℕ, ◌<◌, List, length, fold}
-use Rattle.xc_dance.specs.declared.links.nodes.Nodes.{Nodes}
+use Rattle.xc_dance.specs.inner.Links.Columns.{Nodes}
 use Rattle.xc_dance.specs.inner.Links.Span.{Span}
 use Rattle.xc_dance.specs.inner.Links.Steps.{list_of, list_back}
 use Rattle.xc_dance.specs.inner.Links.ListWalks.{with_colour, left_node, back_node, CanHideList, CanUnhideList}

@@ -1,6 +1,6 @@
 -- No public clause cites this module. One step on the rings of items.
 use Rattle.std.specs.Prelude.{Bool, not, ◌==◌, ℕ, slice_index, slice_set}
-use Rattle.xc_dance.specs.declared.links.items.Items.{Items}
+use Rattle.xc_dance.specs.inner.Links.Columns.{Items}
 
 -- item i leaves its ring
 abbrev pub left_ring : Items → ℕ → Items

@@ -3,10 +3,10 @@ use Rattle.std.specs.Prelude.{ℕ, ◌+◌, ◌-◌, ◌<◌, ◌≤◌, ◌≡�
 use Rattle.std.specs.Prelude.{slice_set, if◌then◌else◌, fold, ◌^◌, reverse}
 use Rattle.std.proofs.Common.{zero, suc, get_or}
 use Rattle.std.specs.List.{range_with_len}
-use Rattle.xc_dance.specs.declared.links.nodes.Nodes.{Nodes}
+use Rattle.xc_dance.specs.inner.Links.Columns.{Nodes}
 use Rattle.xc_dance.specs.inner.Links.Span.{Span}
 use Rattle.xc_dance.specs.inner.Links.Walks.{costs, CanAll}
-use Rattle.xc_dance.specs.declared.links.nodes.TheConstants.{MARK, SPACER}
+use Rattle.xc_dance.specs.declared.links.cells.nodes.TheConstants.{MARK, SPACER}
 
 -- all columns have n cells
 pub record HasSize (t : Nodes) (n : ℕ) : Type 0 where

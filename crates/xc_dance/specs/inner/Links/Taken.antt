@@ -2,7 +2,7 @@
 use Rattle.std.specs.Prelude.{ℕ, ◌<◌, ◌≡◌, List, [], ◌∷◌, ◌++◌, length, slice_index, ⊤}
 use Rattle.xc_dance.specs.declared.dance.Move.{Move}
 use Rattle.xc_dance.specs.declared.dance.Move.TheVariants.{Cover, Purify, Tweak, Spend}
-use Rattle.xc_dance.specs.declared.links.nodes.Nodes.{Nodes}
+use Rattle.xc_dance.specs.inner.Links.Columns.{Nodes}
 pub use Rattle.xc_dance.specs.Fields.{taken_nodes}
 
 -- ---- the list in which they are kept, the newest last

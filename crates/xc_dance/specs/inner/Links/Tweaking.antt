@@ -1,6 +1,6 @@
 -- No public clause cites this module. Tweak on the node table.
 use Rattle.std.specs.Prelude.{Bool, false, ℕ, ◌+◌, ◌<◌, ◌≡◌, List, length, slice_index, if◌then◌else◌, ◌^◌, reverse}
-use Rattle.xc_dance.specs.declared.links.nodes.Nodes.{Nodes}
+use Rattle.xc_dance.specs.inner.Links.Columns.{Nodes}
 use Rattle.xc_dance.specs.inner.Links.Span.{Span}
 use Rattle.xc_dance.specs.inner.Links.Steps.{HasSize, NamesPlaces, unlinked, relinked, hide_costs, CanHideNode}
 use Rattle.xc_dance.specs.inner.Links.Steps.{CanUnhideNode, unhide_costs, others_of, hidden_node, unhidden_node}

@@ -1,7 +1,7 @@
 -- No public clause cites this module. Many Tweaks undone at once, downwards.
 use Rattle.std.specs.Prelude.{Bool, false, ℕ, ◌+◌, ◌<◌, ◌≡◌, List, length, slice_index, slice_set, if◌then◌else◌, fold}
 use Rattle.std.specs.Prelude.{◌^◌, reverse}
-use Rattle.xc_dance.specs.declared.links.nodes.Nodes.{Nodes}
+use Rattle.xc_dance.specs.inner.Links.Columns.{Nodes}
 use Rattle.xc_dance.specs.inner.Links.Span.{Span}
 use Rattle.xc_dance.specs.inner.Links.Steps.{CanUnhideNode, unhide_costs, others_of, followed}
 use Rattle.xc_dance.specs.inner.Links.Tweaking.{unhidden_unless}

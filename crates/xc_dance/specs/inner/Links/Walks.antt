@@ -1,6 +1,6 @@
 -- No public clause cites this module. It has walks over nodes, whatever a step does and writes.
 use Rattle.std.specs.Prelude.{ℕ, ◌+◌, ◌<◌, ◌≡◌, List, [], ◌∷◌, length, slice_index}
-use Rattle.xc_dance.specs.declared.links.nodes.Nodes.{Nodes}
+use Rattle.xc_dance.specs.inner.Links.Columns.{Nodes}
 
 -- what steps at these nodes write, one after another
 abbrev pub costs : (Nodes → ℕ → Nodes) → (Nodes → ℕ → ℕ) → Nodes → List ℕ → ℕ

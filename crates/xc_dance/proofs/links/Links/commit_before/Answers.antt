@@ -1,7 +1,7 @@
 use Rattle.xc_dance.proofs.LinkedTables.Along.{along_first, before_at, Leads, leads, IsNext, nodes_told, whole}
 use Rattle.std.proofs.Common.{◌≡◌, ◌-◌, ℕ, get_or, ap, ◌∙◌, arith, refl}
 use Rattle.std.proofs.lemmas.List.{length-map}
-use Rattle.xc_dance.specs.declared.links.nodes.Nodes.{Nodes}
+use Rattle.xc_dance.specs.inner.Links.Columns.{Nodes}
 use Rattle.xc_dance.specs.Commits.{IsUseAt}
 use Rattle.xc_dance.specs.inner.Links.Cells.{nodes_after}
 use Rattle.xc_dance.specs.inner.Links.OptionPlaces.{start_at}
@@ -10,7 +10,7 @@ use Rattle.xc_dance.proofs.Committing.{may, one_more}
 use Rattle.xc_dance.proofs.links.Links.commit_before.Goals as goal
 use Rattle.xc_dance.proofs.links.Links.commit_before.Goals.{After-self, After-self-in-loop-q}
 
-first_nodes : (c : After-self) → c.self.inside.nodes ≡ nodes_after c.args.self.now.puzzle c.args.self.now.trail
+first_nodes : (c : After-self) → c.self.inside.nodes.cells ≡ nodes_after c.args.self.now.puzzle c.args.self.now.trail
 first_nodes c = nodes_told c.self.invariant.nodes c.self.view_is refl
 
 -- where the spacer leads
@@ -30,7 +30,7 @@ loop-q-init c =
     let to = c.ulink-first.ensures ∙ ap (λ (n : Nodes). get_or n.ulink c.args.end 0) (first_nodes s) in
     record { puzzle = refl; room = refl; written = refl; along = λ x h. along_first _ _ _ _ _ (to ∙ (led s x h).first) }
 
-nodes_is : (c : After-self-in-loop-q) → c.self-in-loop-q.inside.nodes
+nodes_is : (c : After-self-in-loop-q) → c.self-in-loop-q.inside.nodes.cells
     ≡ nodes_after c.args.self.now.puzzle c.loop-q.self.trail
 nodes_is c = nodes_told c.self-in-loop-q.invariant.nodes c.self-in-loop-q.view_is c.loop-q.invariant.puzzle
 

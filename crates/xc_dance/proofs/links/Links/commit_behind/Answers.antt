@@ -2,7 +2,7 @@ use Rattle.xc_dance.specs.inner.Links.Made.{IsFitted}
 use Rattle.xc_dance.specs.inner.Links.OptionSpans.{spans_of}
 use Rattle.std.proofs.Common.{◌≡◌, ◌<◌, ◌+◌, ℕ, length, get_or, ap, subst, ◌∙◌, arith, refl}
 use Rattle.std.proofs.lemmas.List.{length-map}
-use Rattle.xc_dance.specs.declared.links.nodes.Nodes.{Nodes}
+use Rattle.xc_dance.specs.inner.Links.Columns.{Nodes}
 use Rattle.xc_dance.specs.Commits.{IsUseAt}
 use Rattle.xc_dance.specs.Linked.{Linked}
 use Rattle.xc_dance.specs.inner.Links.Cells.{nodes_after}
@@ -12,7 +12,7 @@ use Rattle.xc_dance.proofs.LinkedTables.Along.{along_first, Behind, behind_at, I
 use Rattle.xc_dance.proofs.Committing.{may, one_more}
 use Rattle.xc_dance.proofs.links.Links.commit_behind.Goals as goal
 use Rattle.xc_dance.proofs.links.Links.commit_behind.Goals.{After-self, After-self-in-loop-self}
-use Rattle.xc_dance.specs.declared.links.nodes.TheConstants.{SPACER}
+use Rattle.xc_dance.specs.declared.links.cells.nodes.TheConstants.{SPACER}
 
 fitted : (c : After-self) → IsFitted c.args.self.now.puzzle (spans_of c.args.self.now.puzzle)
 fitted c = subst (λ (s : Linked). IsFitted s.puzzle (spans_of s.puzzle)) c.self.view_is c.self.invariant.fitted
@@ -35,14 +35,14 @@ found c x held =
     behind_at (subst (λ (s : Linked). IsLaid s.puzzle) c.self.view_is c.self.invariant.fitted.laid) held
     (c.loop-self.invariant.along x held)
 
-nodes_is : (c : After-self-in-loop-self) → c.self-in-loop-self.inside.nodes
+nodes_is : (c : After-self-in-loop-self) → c.self-in-loop-self.inside.nodes.cells
     ≡ nodes_after c.args.self.now.puzzle c.loop-self.self.trail
 nodes_is c = nodes_told c.self-in-loop-self.invariant.nodes c.self-in-loop-self.view_is c.loop-self.invariant.puzzle
 
-at_top : (c : After-self-in-loop-self) → c.loop-self.q < length c.self-in-loop-self.inside.nodes.top
+at_top : (c : After-self-in-loop-self) → c.loop-self.q < length c.self-in-loop-self.inside.nodes.cells.top
 at_top c = grind (arith, found c c.requires.0 c.requires.1, length-map, nodes_is c)
 
-top_is : (c : After-self-in-loop-self) → get_or c.self-in-loop-self.inside.nodes.top c.loop-self.q 0
+top_is : (c : After-self-in-loop-self) → get_or c.self-in-loop-self.inside.nodes.cells.top c.loop-self.q 0
     ≡ top_at c.args.self.now.puzzle c.loop-self.self.trail c.loop-self.q
 top_is c = ap (λ (n : Nodes). get_or n.top c.loop-self.q 0) (nodes_is c)
 
@@ -53,7 +53,7 @@ pub top-j-requires : goal.top-j-requires
 top-j-requires c = at_top (goal.at.top-j-requires c).After-self-in-loop-self
 
 -- the next use, where TOP isn't that of a spacer
-next : (c : After-self-in-loop-self) → get_or c.self-in-loop-self.inside.nodes.top c.loop-self.q 0 < SPACER → (x : ℕ)
+next : (c : After-self-in-loop-self) → get_or c.self-in-loop-self.inside.nodes.cells.top c.loop-self.q 0 < SPACER → (x : ℕ)
     → IsUseAt c.args.self.now.puzzle c.args.i x c.args.place →
     IsNext c.args.self.now.puzzle x (c.args.place + 1) (uses_behind c.args.self.now.puzzle c.args.i x)
     c.args.self.now.trail c.loop-self.self.trail c.loop-self.q

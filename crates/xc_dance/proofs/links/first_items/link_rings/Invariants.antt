@@ -3,4 +3,4 @@ use Rattle.xc_dance.specs.inner.Links.FirstItems.{linked_to}
 use Rattle.xc_dance.proofs.links.first_items.link_rings.Given as goal
 
 abbrev pub invariant-loop-i : goal.invariant-loop-i
-invariant-loop-i l = l.items ≡ linked_to l.problem.puzzle l.i
+invariant-loop-i l = l.items.cells ≡ linked_to l.problem.puzzle l.i

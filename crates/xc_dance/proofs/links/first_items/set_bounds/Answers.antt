@@ -10,9 +10,6 @@ use Rattle.xc_dance.proofs.links.first_items.set_bounds.Goals as goal
 use Rattle.xc_dance.proofs.links.first_items.set_bounds.Goals.{After-item-item}
 use Rattle.xc_dance.proofs.LinkedTables.RingStep.{same_items}
 
-pub set-requires : goal.set-requires
-set-requires c = grind (arith, column_len)
-
 -- the item has the bounds of its number
 bounds_here : (c : After-item-item)
     → bounds_at c.args.problem.now.puzzle (c.loop-i.i + 1) ≡ Some (bounds_of c.item-item.result.now)
@@ -21,8 +18,8 @@ bounds_here c = grind arith
 pub overflow_sub-item : goal.overflow_sub-item
 overflow_sub-item c = let low = low_most (c.loop-i.i + 1) c.requires.valid in grind arith
 
-pub set-requires-in-loop-i : goal.set-requires-in-loop-i
-set-requires-in-loop-i c = grind (arith, column_len)
+pub set_bounds-requires : goal.set_bounds-requires
+set_bounds-requires c = grind (arith, column_len)
 
 pub loop-i-preserved : goal.loop-i-preserved
 loop-i-preserved c = grind (arith, bounds_here, column_more, same_items, ne_eqb)

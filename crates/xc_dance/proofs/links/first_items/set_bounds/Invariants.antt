@@ -3,4 +3,4 @@ use Rattle.xc_dance.specs.inner.Links.FirstItems.{bound_to}
 use Rattle.xc_dance.proofs.links.first_items.set_bounds.Given as goal
 
 abbrev pub invariant-loop-i : goal.invariant-loop-i
-invariant-loop-i l = l.items ≡ bound_to l.problem.puzzle (l.i + 1)
+invariant-loop-i l = l.items.cells ≡ bound_to l.problem.puzzle (l.i + 1)

@@ -6,7 +6,7 @@ use Rattle.std.proofs.lemmas.Grind.{common_steps}
 use Rattle.std.specs.Prelude.{slice_get, slice_index}
 use Rattle.xc_input.specs.declared.problem.Use.{Use}
 use Rattle.xc_input.specs.Problem.{Puzzle, item_count, IsWithinLimits}
-use Rattle.xc_dance.specs.declared.links.nodes.Nodes.{Nodes}
+use Rattle.xc_dance.specs.inner.Links.Columns.{Nodes, NodeTable}
 use Rattle.xc_dance.specs.Fields.{Node, unused, own, spacer, used, layout}
 use Rattle.xc_dance.specs.inner.Links.Laid.{IsFit}
 use Rattle.xc_dance.specs.inner.Links.Cells.{nodes_from, color_in}
@@ -18,7 +18,7 @@ use Rattle.xc_dance.proofs.LinkedTables.PlaceLemmas.{is_at}
 use Rattle.xc_dance.proofs.links.first_nodes.link_uses.Goals as goal
 use Rattle.xc_dance.proofs.links.first_nodes.link_uses.Goals.{Then-top-lt-SPACER, then-top-lt-SPACER}
 use Rattle.xc_dance.proofs.links.first_nodes.link_uses.Goals.{else-top-lt-SPACER}
-use Rattle.xc_dance.specs.declared.links.nodes.TheConstants.{SPACER}
+use Rattle.xc_dance.specs.declared.links.cells.nodes.TheConstants.{SPACER}
 
 abbrev so_far : Puzzle → ℕ → Nodes
 so_far p q = nodes_from p (lines_of (take q (layout p))) (color_in p [])
@@ -40,7 +40,7 @@ loop-q-init c = grind (arith, nodes_same, held_none)
 
 -- a use may be entered
 use_here : (c : Then-top-lt-SPACER) → (o : ℕ) × (u : Use)
-    × UseStep c.args.problem.now.puzzle c.loop-q.nodes c.loop-q.q o u
+    × UseStep c.args.problem.now.puzzle c.loop-q.nodes.cells c.loop-q.q o u
 use_here c =
     let p = c.args.problem.now.puzzle in
     let q = c.loop-q.q in
@@ -61,10 +61,10 @@ loop-q-preserved c =
     let s = step _ _ c.requires.fit c.requires.limits from at in
     elim c.if-top-lt-SPACER.branch [
       | then-top-lt-SPACER w ↦
-          w.nodes-is ∙ w.enter.ensures ∙ ap (λ (t : Nodes). entered t q) c.loop-q.invariant
+          ap (λ (t : NodeTable). t.cells) w.nodes-is ∙ w.enter.ensures ∙ ap (λ (t : Nodes). entered t q) c.loop-q.invariant
           ∙ (s.0 (omega (arith, top, c.top.ensures, w.if-top-lt-SPACER))).2.done
       | else-top-lt-SPACER w ↦
-          w.nodes-is ∙ c.loop-q.invariant ∙ s.1 (omega (arith, top, c.top.ensures, w.if-top-lt-SPACER))
+          ap (λ (t : NodeTable). t.cells) w.nodes-is ∙ c.loop-q.invariant ∙ s.1 (omega (arith, top, c.top.ensures, w.if-top-lt-SPACER))
     ]
 
 pub returns : goal.returns

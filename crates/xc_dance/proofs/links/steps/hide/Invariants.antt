@@ -1,5 +1,5 @@
 use Rattle.std.proofs.Common.{◌≡◌, ◌+◌, ◌-◌, ◌*◌, ◌<◌, ◌≤◌}
-use Rattle.xc_dance.specs.inner.Links.Columns.{columns}
+use Rattle.xc_dance.specs.inner.Links.Lent.{lent, lent_writes, IsRow, IsLinkRow}
 use Rattle.xc_dance.specs.inner.Links.Steps.{places, span_at}
 use Rattle.xc_dance.proofs.LinkedTables.Walks.{Underway, hide_walk}
 use Rattle.xc_dance.proofs.links.steps.hide.Given as goal
@@ -9,11 +9,12 @@ abbrev pub invariant-loop-top : goal.invariant-loop-top
 invariant-loop-top l =
     let end = (span_at l.spans l.p).end in
     record {
-      walk : Underway hide_walk (columns l.initial.top l.initial.links l.color) (places (l.p + 1) end)
-          (columns l.top l.links l.color) (places l.q end) l.above;
+      walk : Underway hide_walk (lent l.initial.top l.initial.links l.color.cells.now) (places (l.p + 1) end)
+          (lent l.top l.links l.color.cells.now) (places l.q end) l.above;
       behind : l.p < l.q;
       to : l.q ≤ end;
-      counted : l.writes.count ≡ l.initial.writes.count + l.above;
+      counted : lent_writes l.top l.links l.color.cells.now ≡ lent_writes l.initial.top l.initial.links l.color.cells.now + l.above;
+      rows : IsRow l.initial.top l.top × IsLinkRow l.initial.links l.links;
       few : l.above ≤ 3 * l.q;
     }
 

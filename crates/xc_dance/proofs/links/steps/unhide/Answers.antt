@@ -1,7 +1,7 @@
 use Rattle.std.proofs.Common.{◌≡◌, ℕ, ◌+◌, ◌-◌, ◌<◌, ◌≤◌, ◌++◌, List, ◌∷◌, fold, reverse, ap, arith}
 use Rattle.std.proofs.lemmas.List.{reverse-append}
-use Rattle.xc_dance.specs.declared.links.nodes.Nodes.{Nodes}
-use Rattle.xc_dance.specs.inner.Links.Columns.{columns}
+use Rattle.xc_dance.specs.inner.Links.Columns.{Nodes}
+use Rattle.xc_dance.specs.inner.Links.Lent.{lent}
 use Rattle.xc_dance.specs.inner.Links.Span.{Span}
 use Rattle.xc_dance.specs.inner.Links.Steps.{unhidden, CanUnhideAll, CanUnhideNode, places, others, others_of, span_at}
 use Rattle.xc_dance.proofs.LinkedTables.Walks.{places_none, reverse-places, CanAll-append, underway, step_can, step_on}
@@ -9,7 +9,7 @@ use Rattle.xc_dance.proofs.LinkedTables.Walks.{Tells, tells, unhide_walk}
 use Rattle.xc_dance.proofs.Rounds.{Met, met}
 use Rattle.xc_dance.proofs.links.steps.unhide.Goals as goal
 use Rattle.xc_dance.proofs.links.steps.unhide.Goals.{After-get_at, After-down_at}
-use Rattle.xc_dance.specs.declared.links.nodes.TheConstants.{SPACER}
+use Rattle.xc_dance.specs.declared.links.cells.nodes.TheConstants.{SPACER}
 
 both : (p first end : ℕ) → reverse (others p first end) ≡ reverse (places first p) ++ reverse (places (p + 1) end)
 both p first end = reverse-append (places (p + 1) end) (places first p)
@@ -25,11 +25,11 @@ next first q pos le = let same : q - 1 + 1 ≡ q = omega (arith, pos, le) in gri
 
 -- the tables where the walk is
 abbrev now : After-get_at → Nodes
-now c = columns c.loop-top.top c.loop-top.links c.args.color.now
+now c = lent c.loop-top.top c.loop-top.links c.args.color.now.cells.now
 
 -- what TOP tells
 told : (c : After-get_at) → (let s = span_at c.args.spans.now c.args.p in Tells (now c)
-    (fold unhidden (columns c.args.top.now c.args.links.now c.args.color.now) (reverse (places s.first c.args.p)))
+    (fold unhidden (lent c.args.top.now c.args.links.now c.args.color.now.cells.now) (reverse (places s.first c.args.p)))
     c.loop-top.q (s.first - 1) (reverse (places s.first (c.loop-top.q + 1))))
 told c = grind (arith, places_none, tells, next)
 
@@ -69,8 +69,8 @@ pub overflow_add-end : goal.overflow_add-end
 overflow_add-end c = grind (arith, leads)
 
 -- and there the rest of the walk begins
-rest : (c : After-down_at) → Met unhide_walk (columns c.args.top.now c.args.links.now c.args.color.now)
-    (reverse (others_of c.args.spans.now c.args.p)) (columns c.loop-top.top c.loop-top.links c.args.color.now)
+rest : (c : After-down_at) → Met unhide_walk (lent c.args.top.now c.args.links.now c.args.color.now.cells.now)
+    (reverse (others_of c.args.spans.now c.args.p)) (lent c.loop-top.top c.loop-top.links c.args.color.now.cells.now)
     c.loop-top.below (reverse (places (c.args.p + 1) (c.down_at.result + 1)))
 rest c =
     let s = span_at c.args.spans.now c.args.p in

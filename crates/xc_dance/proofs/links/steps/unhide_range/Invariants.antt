@@ -1,13 +1,14 @@
 use Rattle.std.proofs.Common.{◌≡◌, ◌+◌, ◌-◌, ◌*◌, ◌≤◌, reverse}
-use Rattle.xc_dance.specs.inner.Links.Columns.{columns}
+use Rattle.xc_dance.specs.inner.Links.Lent.{lent, lent_writes, IsRow, IsLinkRow}
 use Rattle.xc_dance.specs.inner.Links.Steps.{places}
 use Rattle.xc_dance.proofs.LinkedTables.Walks.{Underway, unhide_walk}
 use Rattle.xc_dance.proofs.links.steps.unhide_range.Given as goal
 
 abbrev pub invariant-loop-q : goal.invariant-loop-q
 invariant-loop-q l = record {
-  walk : Underway unhide_walk (columns l.initial.top l.initial.links l.color)
-      (reverse (places l.a l.b)) (columns l.top l.links l.color) (reverse (places l.a l.q)) l.count;
-  counted : l.writes.count ≡ l.initial.writes.count + l.count;
+  walk : Underway unhide_walk (lent l.initial.top l.initial.links l.color.cells.now)
+      (reverse (places l.a l.b)) (lent l.top l.links l.color.cells.now) (reverse (places l.a l.q)) l.count;
+  counted : lent_writes l.top l.links l.color.cells.now ≡ lent_writes l.initial.top l.initial.links l.color.cells.now + l.count;
+  rows : IsRow l.initial.top l.top × IsLinkRow l.initial.links l.links;
   few : l.count + 3 * (l.q - l.a) ≤ 3 * (l.b - l.a);
 }

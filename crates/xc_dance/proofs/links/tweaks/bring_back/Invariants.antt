@@ -1,15 +1,16 @@
 use Rattle.xc_dance.proofs.LinkedTables.TweaksBack.{bringing}
 use Rattle.std.proofs.Common.{◌≡◌, ◌+◌, ◌*◌, ◌^◌, ◌≤◌}
-use Rattle.xc_dance.specs.declared.links.nodes.Nodes.{Nodes}
-use Rattle.xc_dance.specs.inner.Links.Columns.{columns}
+use Rattle.xc_dance.specs.inner.Links.Columns.{Nodes}
+use Rattle.xc_dance.specs.inner.Links.Lent.{lent, lent_writes, IsRow, IsLinkRow}
 use Rattle.xc_dance.proofs.LinkedTables.Walks.{Following}
 use Rattle.xc_dance.proofs.links.tweaks.bring_back.Given as goal
 
 abbrev pub invariant-loop : goal.invariant-loop
 invariant-loop l =
-    let old : Nodes = columns l.fn.top l.fn.links l.color in
+    let old : Nodes = lent l.fn.top l.fn.links l.color.cells.now in
     record {
-      walk : Following (bringing l.spans l.covered) old l.k l.x (columns l.top l.links l.color) l.p l.counter l.count;
-      counted : l.writes.count ≡ l.initial.writes.count + l.count;
+      walk : Following (bringing l.spans l.covered) old l.k l.x (lent l.top l.links l.color.cells.now) l.p l.counter l.count;
+      counted : lent_writes l.top l.links l.color.cells.now ≡ lent_writes l.fn.top l.fn.links l.color.cells.now + l.count;
+      rows : IsRow l.fn.top l.top × IsLinkRow l.fn.links l.links;
       few : l.count ≤ (3 * 2 ^ 32 + 1) * l.counter;
     }

@@ -14,7 +14,7 @@ loop-preserved c =
     let made = c.leave-count.ensures in
     let unmarked = left_unmarked _ _ _ _ _ _ made.done c.requires.none c.loop.invariant.unmarked in
     let walk = follow_on _ _ _ (omega arith) made.done c.down-p-in-loop.ensures made.cost c.loop.invariant.walk in
-    record { walk = walk; unmarked = unmarked; counted = omega arith; few = omega arith }
+    record { walk = walk; unmarked = unmarked; counted = omega arith; rows = grind arith; few = omega arith }
 
 pub returns : goal.returns
 returns c = let e = follow_end (omega arith) c.loop.invariant.walk in grind arith

@@ -6,7 +6,7 @@ use Rattle.std.proofs.lemmas.Slice.Eq.{bytes_eq-Decides}
 use Rattle.xc_dance.specs.declared.links.cells.Cell.{Cell}
 use Rattle.xc_dance.specs.contracts.links.cells.CellPartialEq.TheImpl.{ghosts}
 use Rattle.xc_dance.specs.inner.Links.Columns.{values}
-use Rattle.xc_dance.proofs.links.cells.same_cells.Goals as goal
+use Rattle.xc_dance.proofs.links.cells.column.Column.same.Goals as goal
 
 by_values : (xs ys : List Cell) → pointwise ghosts.eq xs ys ≡ bytes_eq (values xs) (values ys)
 by_values [] [] = refl

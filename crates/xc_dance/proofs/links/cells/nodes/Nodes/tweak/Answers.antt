@@ -1,6 +1,6 @@
 use Rattle.std.proofs.Common.{arith}
 use Rattle.std.proofs.lemmas.Grind.{common_steps}
-use Rattle.xc_dance.proofs.links.nodes.Nodes.tweak.Goals as goal
+use Rattle.xc_dance.proofs.links.cells.nodes.Nodes.tweak.Goals as goal
 
 pub unlink-requires-clause-size : goal.unlink-requires-clause-size
 unlink-requires-clause-size c = grind (arith, common_steps)

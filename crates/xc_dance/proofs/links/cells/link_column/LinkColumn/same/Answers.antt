@@ -6,7 +6,7 @@ use Rattle.std.proofs.lemmas.Slice.Eq.{bytes_eq-Decides}
 use Rattle.xc_dance.specs.declared.links.cells.Link.{Link}
 use Rattle.xc_dance.specs.contracts.links.cells.LinkPartialEq.TheImpl.{ghosts}
 use Rattle.xc_dance.specs.inner.Links.Columns.{ups, downs}
-use Rattle.xc_dance.proofs.links.cells.same_links.Goals as goal
+use Rattle.xc_dance.proofs.links.cells.link_column.LinkColumn.same.Goals as goal
 
 by_columns : (xs ys : List Link)
     → pointwise ghosts.eq xs ys ≡ (bytes_eq (ups xs) (ups ys) && bytes_eq (downs xs) (downs ys))

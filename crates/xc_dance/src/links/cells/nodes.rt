@@ -1,0 +1,310 @@
+//! The node table. Names and numbers of steps are those of section 7.2.2.1 of The Art of Computer Programming, Volume
+//! 4B.
+ghost use Rattle.std.specs.Prelude.{◌≡◌, ℕ, ◌+◌, ◌-◌, ◌*◌, ◌<◌, ◌≤◌, ◌^◌, length, slice_index, slice_get, fold, None};
+ghost use Rattle.std.specs.Prelude.{Some, false, if◌then◌else◌, IfOk, IsTrue, ◌↔◌};
+
+use crate::links::cells::{CellsMut, Column, LinkColumn, LinksMut};
+use crate::links::spans::Spans;
+use crate::links::steps::{relink, unlink};
+use crate::links::tweaks::{bring_back, hide_unless, unhide_unless};
+use crate::links::walks::{hide_among_marks, hide_list, unhide_among_marks, unhide_list};
+use std::alloc::{AllocError, Global};
+use std::marker::Model;
+
+/// The colour of a marked node.
+pub(crate) const MARK: u32 = 0xffff_ffff;
+
+/// The number that a spacer's TOP is kept behind. TOP of every other node is below it.
+pub(crate) const SPACER: u32 = 0x8000_0000;
+
+/// The nodes, of sixteen bytes each: four cells of 32 bits, so that more of them stay near the processor. Their links
+/// lie in pairs, since each step reads both; TOP and COLOR lie apart, since a walk down a list reads neither. Contracts
+/// see four columns. In a model in C four columns took 1.05 of the time, and nodes of four cells side by side 1.14.
+#[derive(Drop)]
+pub(crate) struct Nodes {
+    top: Column,
+    links: LinkColumn,
+    color: Column,
+}
+
+impl Model for Nodes {
+    ghost use Rattle.xc_dance.specs.inner.Links.Columns.{NodeTable, columns, written};
+
+    ghost Value = { NodeTable };
+
+    ghost view = { λ a. record {
+      cells = columns a.top.cells.items a.links.links.items a.color.cells.items;
+      written = written a.top.cells.items a.links.links.items a.color.cells.items;
+    } };
+}
+
+impl Nodes {
+    ghost use Rattle.xc_dance.specs.inner.Links.Columns.{columns};
+    ghost use Rattle.xc_dance.specs.inner.Links.FirstNodes.{entered};
+    ghost use Rattle.xc_dance.specs.inner.Links.Steps.{HasSize, list_of, list_back};
+    ghost use Rattle.xc_dance.specs.inner.Links.ListWalks.{left_node, back_node, walk_costs, back_costs, CanHideList};
+    ghost use Rattle.xc_dance.specs.inner.Links.ListWalks.{CanUnhideList, with_colour};
+    ghost use Rattle.xc_dance.specs.inner.Links.Unmarked.{IsUnmarked};
+    ghost use Rattle.xc_dance.specs.inner.Links.Purifying.{purified_list, unpurified_list, CanPurify, CanUnpurify};
+    ghost use Rattle.xc_dance.specs.inner.Links.Tweaking.{tweaked, untweaked, tweak_cost, untweak_cost, CanTweak};
+    ghost use Rattle.xc_dance.specs.inner.Links.Tweaking.{CanUntweak};
+    ghost use Rattle.xc_dance.specs.inner.Links.TweaksBack.{untweaked_all, untweak_all_cost, CanUntweakAll};
+
+    /// The node table of these columns.
+    pub(crate) fn of(top: Column, links: LinkColumn, color: Column) -> Nodes
+        ensures { result.cells ≡ columns top.cells.items links.links.items color.cells.items }
+    {
+        Nodes { top, links, color }
+    }
+
+    /// TOP of node q; LEN of an item's own node.
+    #[inline(always)]
+    pub(crate) fn top(&self, q: u32) -> u32
+        requires { q < length self.now.cells.top }
+        ensures { result ≡ slice_index self.now.cells.top q }
+    {
+        self.top.get(q)
+    }
+
+    /// The same by an index.
+    #[inline(always)]
+    pub(crate) fn top_at(&self, q: usize) -> u32
+        requires { q < length self.now.cells.top }
+        ensures { result ≡ slice_index self.now.cells.top q }
+    {
+        self.top.get_at(q)
+    }
+
+    /// ULINK of node q.
+    #[inline(always)]
+    pub(crate) fn ulink(&self, q: u32) -> u32
+        requires { q < length self.now.cells.ulink }
+        ensures { result ≡ slice_index self.now.cells.ulink q }
+    {
+        self.links.up(q)
+    }
+
+    /// DLINK of node q.
+    #[inline(always)]
+    pub(crate) fn dlink(&self, q: u32) -> u32
+        requires { q < length self.now.cells.dlink }
+        ensures { result ≡ slice_index self.now.cells.dlink q }
+    {
+        self.links.down(q)
+    }
+
+    /// COLOR of node q.
+    #[inline(always)]
+    pub(crate) fn color(&self, q: u32) -> u32
+        requires { q < length self.now.cells.color }
+        ensures { result ≡ slice_index self.now.cells.color q }
+    {
+        self.color.get(q)
+    }
+
+    /// TOP of the node at a place, if there is one.
+    pub(crate) fn read_top(&self, q: u32) -> Option<u32>
+        ensures { result ≡ slice_get self.now.cells.top q }
+    {
+        self.top.read(q)
+    }
+
+    /// ULINK of the node at a place, if there is one.
+    pub(crate) fn read_ulink(&self, q: u32) -> Option<u32>
+        ensures { result ≡ slice_get self.now.cells.ulink q }
+    {
+        self.links.read_up(q)
+    }
+
+    /// DLINK of the node at a place, if there is one.
+    pub(crate) fn read_dlink(&self, q: u32) -> Option<u32>
+        ensures { result ≡ slice_get self.now.cells.dlink q }
+    {
+        self.links.read_down(q)
+    }
+
+    /// COLOR of the node at a place, if there is one.
+    pub(crate) fn read_color(&self, q: u32) -> Option<u32>
+        ensures { result ≡ slice_get self.now.cells.color q }
+    {
+        self.color.read(q)
+    }
+
+    /// Makes node q, which leads to its item's own node downwards, the last of its item's list.
+    pub(crate) fn enter(&mut self, q: u32)
+        requires size { HasSize self.old.cells (length self.old.cells.top) }
+        requires place { q < length self.old.cells.top }
+        requires item { slice_index self.old.cells.top q < length self.old.cells.top }
+        requires last { slice_index self.old.cells.ulink (slice_index self.old.cells.top q) < length self.old.cells.top }
+        requires few { slice_index self.old.cells.top (slice_index self.old.cells.top q) < 2 ^ 31 }
+        ensures { self.new.cells ≡ entered self.old.cells q }
+    {
+        let i = self.top.get(q);
+        let last = self.links.up(i);
+        self.links.set_up(q, last);
+        self.links.set_up(i, q);
+        self.links.set_down(last, q);
+        let count = self.top.get(i);
+        self.top.set(i, count + 1);
+    }
+
+    /// Whether all cells are equal.
+    pub(crate) fn same(&self, other: &Nodes) -> bool
+        ensures { IsTrue result ↔ (self.now.cells ≡ other.now.cells) }
+    {
+        self.top.same(&other.top) && self.links.same(&other.links) && self.color.same(&other.color)
+    }
+
+    /// Hides all nodes of item i's list, as cover, (12), does from top to bottom.
+    #[inline(always)]
+    pub(crate) fn cover(&mut self, spans: &Spans, i: u32, marks: bool) -> u64
+        requires can { CanHideList spans.now None self.old.cells i }
+        requires unmarked { marks ≡ false → IsUnmarked spans.now self.old.cells.color }
+        ensures done { self.new.cells ≡ fold (left_node spans.now None) self.old.cells (list_of self.old.cells i) }
+        ensures cost { result ≡ walk_costs spans.now None self.old.cells (list_of self.old.cells i) }
+        ensures few_writes { result ≤ 3 * 2 ^ 62 }
+        ensures counted { self.new.written ≡ self.old.written + result }
+    {
+        let top = self.top.cells.as_mut_slice();
+        let links = self.links.links.as_mut_slice();
+        let color = self.color.cells.as_mut_slice();
+        let mut top = CellsMut { cells: &mut *top };
+        let mut links = LinksMut { links: &mut *links };
+        let mut color = CellsMut { cells: &mut *color };
+        if marks {
+            return hide_among_marks(&mut top, &mut links, &mut color, spans, i, None);
+        }
+        hide_list(&mut top, &mut links, &mut color, spans, i, None, false)
+    }
+
+    /// Undoes `cover`, as uncover, (14), does from bottom to top, so that each node finds its neighbours of before.
+    #[inline(always)]
+    pub(crate) fn uncover(&mut self, spans: &Spans, i: u32, marks: bool) -> u64
+        requires can { CanUnhideList spans.now None self.old.cells i }
+        requires unmarked { marks ≡ false → IsUnmarked spans.now self.old.cells.color }
+        ensures done { self.new.cells ≡ fold (back_node spans.now None) self.old.cells (list_back self.old.cells i) }
+        ensures cost { result ≡ back_costs spans.now None self.old.cells (list_back self.old.cells i) }
+        ensures few_writes { result ≤ 3 * 2 ^ 62 }
+        ensures counted { self.new.written ≡ self.old.written + result }
+    {
+        let top = self.top.cells.as_mut_slice();
+        let links = self.links.links.as_mut_slice();
+        let color = self.color.cells.as_mut_slice();
+        let mut top = CellsMut { cells: &mut *top };
+        let mut links = LinksMut { links: &mut *links };
+        let mut color = CellsMut { cells: &mut *color };
+        if marks {
+            return unhide_among_marks(&mut top, &mut links, &mut color, spans, i, None);
+        }
+        unhide_list(&mut top, &mut links, &mut color, spans, i, None, false)
+    }
+
+    /// Purifies item i with the colour c, as Algorithm C does. The colour stands at the item's own node, so that it can
+    /// be read whether an item is purified.
+    #[inline(always)]
+    pub(crate) fn purify(&mut self, spans: &Spans, i: u32, c: u32) -> u64
+        requires can { CanPurify spans.now c self.old.cells i }
+        ensures done { self.new.cells ≡ purified_list spans.now c self.old.cells i }
+        ensures cost { result ≡ walk_costs spans.now (Some c) (with_colour self.old.cells i c) (list_of self.old.cells i) + 1 }
+        ensures counted { self.new.written ≡ self.old.written + result }
+    {
+        let top = self.top.cells.as_mut_slice();
+        let links = self.links.links.as_mut_slice();
+        let color = self.color.cells.as_mut_slice();
+        let mut top = CellsMut { cells: &mut *top };
+        let mut links = LinksMut { links: &mut *links };
+        let mut color = CellsMut { cells: &mut *color };
+        color.set(i, c);
+        hide_among_marks(&mut top, &mut links, &mut color, spans, i, Some(c)) + 1
+    }
+
+    /// Undoes `purify`, as unpurify does from bottom to top.
+    #[inline(always)]
+    pub(crate) fn unpurify(&mut self, spans: &Spans, i: u32, c: u32) -> u64
+        requires can { CanUnpurify spans.now c self.old.cells i }
+        ensures done { self.new.cells ≡ unpurified_list spans.now c self.old.cells i }
+        ensures cost { result ≡ back_costs spans.now (Some c) self.old.cells (list_back self.old.cells i) + 1 }
+        ensures counted { self.new.written ≡ self.old.written + result }
+    {
+        let top = self.top.cells.as_mut_slice();
+        let links = self.links.links.as_mut_slice();
+        let color = self.color.cells.as_mut_slice();
+        let mut top = CellsMut { cells: &mut *top };
+        let mut links = LinksMut { links: &mut *links };
+        let mut color = CellsMut { cells: &mut *color };
+        let count = unhide_among_marks(&mut top, &mut links, &mut color, spans, i, Some(c));
+        // 0 again, so that an item is open exactly where it is in its ring and this cell is 0.
+        color.set(i, 0);
+        count + 1
+    }
+
+    /// Takes the first node off the list of item i, and hides its option unless i is covered: tweak of Algorithm M, and
+    /// tweak' where i is covered. The node keeps its links.
+    #[inline(always)]
+    pub(crate) fn tweak(&mut self, spans: &Spans, covered: bool, i: u32, marks: bool) -> u64
+        requires can { CanTweak spans.now covered self.old.cells i }
+        requires unmarked { marks ≡ false → IsUnmarked spans.now self.old.cells.color }
+        ensures done { self.new.cells ≡ tweaked spans.now covered self.old.cells i }
+        ensures cost { result ≡ tweak_cost spans.now covered self.old.cells i }
+        ensures counted { self.new.written ≡ self.old.written + result }
+    {
+        let x = self.dlink(i);
+        let top = self.top.cells.as_mut_slice();
+        let links = self.links.links.as_mut_slice();
+        let mut top = CellsMut { cells: &mut *top };
+        let mut links = LinksMut { links: &mut *links };
+        let color = &self.color.seen();
+        let count = hide_unless(&mut top, &mut links, color, spans, covered, x, marks);
+        unlink(&mut top, &mut links, color, x as usize);
+        count + 3
+    }
+
+    /// Puts node x, which a Tweak took off, back.
+    #[inline(always)]
+    pub(crate) fn untweak(&mut self, spans: &Spans, covered: bool, x: u32, marks: bool) -> u64
+        requires can { CanUntweak spans.now covered self.old.cells x }
+        requires unmarked { marks ≡ false → IsUnmarked spans.now self.old.cells.color }
+        ensures done { self.new.cells ≡ untweaked spans.now covered self.old.cells x }
+        ensures cost { result ≡ untweak_cost spans.now covered self.old.cells x }
+        ensures counted { self.new.written ≡ self.old.written + result }
+    {
+        let top = self.top.cells.as_mut_slice();
+        let links = self.links.links.as_mut_slice();
+        let mut top = CellsMut { cells: &mut *top };
+        let mut links = LinksMut { links: &mut *links };
+        let color = &self.color.seen();
+        relink(&mut top, &mut links, color, x as usize);
+        let count = unhide_unless(&mut top, &mut links, color, spans, covered, x, marks);
+        count + 3
+    }
+
+    /// Undoes k Tweaks of item i, x being the first node that they took off. It is untweak of Algorithm M: DLINK of
+    /// each node still leads to the next that was taken off, so one walk down brings all of them back.
+    #[inline(always)]
+    pub(crate) fn untweak_all(
+        &mut self,
+        spans: &Spans,
+        covered: bool,
+        i: u32,
+        x: u32,
+        k: u32,
+        marks: bool,
+    ) -> u64
+        requires can { CanUntweakAll spans.now covered self.old.cells i x k }
+        requires unmarked { marks ≡ false → IsUnmarked spans.now self.old.cells.color }
+        ensures done { self.new.cells ≡ untweaked_all spans.now covered self.old.cells i x k }
+        ensures cost { result ≡ untweak_all_cost spans.now covered self.old.cells i x k }
+        ensures counted { self.new.written ≡ self.old.written + result }
+    {
+        let top = self.top.cells.as_mut_slice();
+        let links = self.links.links.as_mut_slice();
+        let mut top = CellsMut { cells: &mut *top };
+        let mut links = LinksMut { links: &mut *links };
+        let color = &self.color.seen();
+        links.set_down(i, x);
+        let count = bring_back(&mut top, &mut links, color, spans, covered, x, k, marks);
+        let len = top.get(i);
+        top.set(i, len + k);
+        count + 2
+    }
+}
