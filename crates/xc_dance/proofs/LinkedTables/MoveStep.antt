@@ -20,8 +20,7 @@ use Rattle.xc_dance.specs.inner.Links.Made.{nodes_made, items_made, nodes_unmade
 use Rattle.xc_dance.specs.inner.Links.Made.{made_cost, unmade_cost, IsFitted}
 use Rattle.xc_dance.specs.Cost.{cost_of, cost_of_newest}
 use Rattle.xc_dance.specs.inner.Links.Taken.{CanNote, taken_nodes, noted, IsRecalled}
-use Rattle.xc_dance.specs.inner.Links.Columns.{Nodes}
-use Rattle.xc_dance.specs.inner.Links.Columns.{Items}
+use Rattle.xc_dance.specs.inner.Links.Columns.{Nodes, Items}
 use Rattle.xc_dance.proofs.LinkedTables.RingStep.{same_items, row_same, still_llink, still_rlink, row_get, row_len}
 use Rattle.xc_dance.proofs.LinkedTables.Turned.{Stays, link_gone, link_beside, link_other, link_back, link_next}
 use Rattle.xc_dance.proofs.LinkedTables.Turned.{ring_step}

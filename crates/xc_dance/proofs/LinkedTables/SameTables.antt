@@ -12,8 +12,7 @@ use Rattle.xc_input.specs.Problem.{Puzzle, item_count}
 use Rattle.xc_dance.specs.declared.dance.Move.{Move}
 use Rattle.xc_dance.specs.declared.links.field.Field.{Field}
 use Rattle.xc_dance.specs.declared.links.field.Field.TheVariants.{Llink, Rlink, Bound, Slack, Top, Ulink, Dlink, Color}
-use Rattle.xc_dance.specs.inner.Links.Columns.{Nodes}
-use Rattle.xc_dance.specs.inner.Links.Columns.{Items}
+use Rattle.xc_dance.specs.inner.Links.Columns.{Nodes, Items}
 use Rattle.xc_dance.specs.Fields.{field_of}
 use Rattle.xc_dance.specs.inner.Links.Cells.{nodes_after}
 use Rattle.xc_dance.specs.inner.Links.ItemCells.{items_after}

@@ -13,9 +13,8 @@ use Rattle.xc_dance.specs.inner.Links.Span.{Span}
 use Rattle.xc_input.specs.Problem.{Puzzle, item_count}
 use Rattle.xc_dance.specs.Moves.{AreTweaks, AreLegal, is_covered, is_open, purified, listed_numbers, listed}
 use Rattle.xc_dance.specs.Fields.{layout, link_place, first_of}
-use Rattle.xc_dance.specs.inner.Links.Columns.{Nodes}
+use Rattle.xc_dance.specs.inner.Links.Columns.{Nodes, Items}
 use Rattle.xc_dance.specs.Cost.{undo_tweaks_cost}
-use Rattle.xc_dance.specs.inner.Links.Columns.{Items}
 use Rattle.xc_dance.specs.inner.Links.Rings.{is_off}
 use Rattle.xc_dance.specs.inner.Links.Taken.{taken_nodes}
 use Rattle.xc_dance.specs.inner.Links.Cells.{line_of, nodes_after, top_in}

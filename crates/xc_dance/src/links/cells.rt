@@ -1,16 +1,19 @@
-//! Cells that count their own writes. No other module can make a cell, write one uncounted, or put one in another's
-//! place.
+//! Cells that count their own writes, and the two tables that consist of them. Other modules read and write cells by
+//! place, and can't make, copy, replace or exchange one: only this file and those of its folder have to be read to see
+//! that each write is counted.
 ghost use Rattle.std.specs.Prelude.{◌≡◌, ◌+◌, ◌==◌};
 ghost use Rattle.std.proofs.Common.{rules};
 ghost use Rattle.std.specs.Cmp.Rules.{comparing};
 
 mod column;
+mod items;
 mod lent;
 mod link_column;
 mod nodes;
 
 use crate::tally::Tally;
 pub(crate) use column::Column;
+pub(crate) use items::Items;
 pub(crate) use lent::{Cells, CellsMut, LinksMut};
 pub(crate) use link_column::LinkColumn;
 pub(crate) use nodes::{MARK, Nodes, SPACER};
@@ -34,8 +37,8 @@ impl PartialEq for Cell {
 }
 
 impl Cell {
-    /// A new cell. No contract tells at which count it begins: so what is put in the place of another cell has a count
-    /// of which nothing can be proved.
+    /// A new cell. At which count it begins is in no contract on purpose: nothing can be proved of the count of tables
+    /// that are put in the place of others.
     #[inline(always)]
     fn new(value: u32) -> Cell
         ensures { result.value ≡ value }

@@ -5,7 +5,7 @@ ghost use Rattle.xc_input.specs.Problem.{low_at};
 ghost use Rattle.xc_dance.specs.inner.Links.ItemCells.{llink_at, rlink_at, items_after};
 ghost use Rattle.xc_dance.specs.inner.Links.FirstItems.{linked_to, bound_to};
 
-use crate::links::items::Items;
+use crate::links::cells::Items;
 use std::alloc::{AllocError, Global};
 use xc_input::Problem;
 

@@ -29,7 +29,10 @@ impl Model for Rows {
 
     ghost Value = { Laying };
 
-    ghost view = { λ a. record { count = a.count; nodes = columns a.top.cells.items a.links.links.items a.color.cells.items } };
+    ghost view = { λ a. record {
+      count = a.count;
+      nodes = columns a.top.cells.items a.links.links.items a.color.cells.items;
+    } };
 
     ghost invariant = { λ a. record {
       top : a.count ≤ vec_capacity a.top.cells;

@@ -1,8 +1,5 @@
-//! Steps over the nodes of one option: hide and unhide. The walks take the tables as slices, so that their bases stay
-//! in registers: behind a vector each would be loaded anew after every write. The compiler's output has eleven
-//! instructions for a node that is hidden or comes back, with four loads and three stores, no bounds check and no call.
-//! One struct of the three slices took 1.10 of the instructions lent, since its address then leaves the search's loop,
-//! and 1.03 handed over by value.
+//! Steps over the nodes of one option: hide and unhide. The compiler's output has eleven instructions for a node that
+//! is hidden or comes back, with four loads and three stores, no bounds check and no call.
 ghost use Rattle.std.specs.Prelude.{◌≡◌, ◌≢◌, false, ℕ, ◌+◌, ◌-◌, ◌*◌, ◌<◌, ◌≤◌, ◌^◌, length, slice_index, fold};
 ghost use Rattle.std.specs.Prelude.{reverse};
 ghost use Rattle.xc_dance.specs.inner.Links.Columns.{values};
@@ -20,12 +17,12 @@ use crate::links::spans::Spans;
 /// Takes node q out of its list.
 #[inline(always)]
 pub(crate) fn unlink(top: &mut CellsMut<'_>, links: &mut LinksMut<'_>, color: &Cells<'_>, q: usize)
-    requires size { HasSize (lent top.old links.old color.now.cells.now) (length (lent top.old links.old color.now.cells.now).top) }
-    requires places { NamesPlaces (lent top.old links.old color.now.cells.now) q }
-    requires some { 0 < slice_index (lent top.old links.old color.now.cells.now).top
-        (slice_index (lent top.old links.old color.now.cells.now).top q) }
-    ensures done { lent top.new links.new color.now.cells.now ≡ unlinked (lent top.old links.old color.now.cells.now) q }
-    ensures counted { lent_writes top.new links.new color.now.cells.now ≡ lent_writes top.old links.old color.now.cells.now + 3 }
+    requires size { HasSize (lent top.old links.old color.now) (length (lent top.old links.old color.now).top) }
+    requires places { NamesPlaces (lent top.old links.old color.now) q }
+    requires some { 0 < slice_index (lent top.old links.old color.now).top
+        (slice_index (lent top.old links.old color.now).top q) }
+    ensures done { lent top.new links.new color.now ≡ unlinked (lent top.old links.old color.now) q }
+    ensures counted { lent_writes top.new links.new color.now ≡ lent_writes top.old links.old color.now + 3 }
     ensures rows { IsRow top.old top.new × IsLinkRow links.old links.new }
 {
     let u = links.up_at(q);
@@ -42,13 +39,13 @@ pub(crate) fn unlink(top: &mut CellsMut<'_>, links: &mut LinksMut<'_>, color: &C
 /// Puts node q back into its list.
 #[inline(always)]
 pub(crate) fn relink(top: &mut CellsMut<'_>, links: &mut LinksMut<'_>, color: &Cells<'_>, q: usize)
-    requires size { HasSize (lent top.old links.old color.now.cells.now) (length (lent top.old links.old color.now.cells.now).top) }
-    requires places { NamesPlaces (lent top.old links.old color.now.cells.now) q }
-    requires few { slice_index (lent top.old links.old color.now.cells.now).top
-        (slice_index (lent top.old links.old color.now.cells.now).top q) < 2 ^ 31 }
+    requires size { HasSize (lent top.old links.old color.now) (length (lent top.old links.old color.now).top) }
+    requires places { NamesPlaces (lent top.old links.old color.now) q }
+    requires few { slice_index (lent top.old links.old color.now).top
+        (slice_index (lent top.old links.old color.now).top q) < 2 ^ 31 }
     requires near { q < 2 ^ 32 }
-    ensures done { lent top.new links.new color.now.cells.now ≡ relinked (lent top.old links.old color.now.cells.now) q }
-    ensures counted { lent_writes top.new links.new color.now.cells.now ≡ lent_writes top.old links.old color.now.cells.now + 3 }
+    ensures done { lent top.new links.new color.now ≡ relinked (lent top.old links.old color.now) q }
+    ensures counted { lent_writes top.new links.new color.now ≡ lent_writes top.old links.old color.now + 3 }
     ensures rows { IsRow top.old top.new × IsLinkRow links.old links.new }
 {
     let u = links.up_at(q) as usize;
@@ -70,11 +67,11 @@ fn hide_one(
     q: usize,
     marks: bool,
 ) -> u64
-    requires can { CanHide (lent top.old links.old color.now.cells.now) q }
+    requires can { CanHide (lent top.old links.old color.now) q }
     requires unmarked { marks ≡ false → slice_index (values color.now.cells.now) q ≢ MARK }
-    ensures done { lent top.new links.new color.now.cells.now ≡ hidden (lent top.old links.old color.now.cells.now) q }
-    ensures cost { result ≡ hide_cost (lent top.old links.old color.now.cells.now) q }
-    ensures counted { lent_writes top.new links.new color.now.cells.now ≡ lent_writes top.old links.old color.now.cells.now + result }
+    ensures done { lent top.new links.new color.now ≡ hidden (lent top.old links.old color.now) q }
+    ensures cost { result ≡ hide_cost (lent top.old links.old color.now) q }
+    ensures counted { lent_writes top.new links.new color.now ≡ lent_writes top.old links.old color.now + result }
     ensures rows { IsRow top.old top.new × IsLinkRow links.old links.new }
 {
     if marks && color.get_at(q) == MARK {
@@ -95,13 +92,13 @@ fn hide_range(
     b: usize,
     marks: bool,
 ) -> u64
-    requires can { CanHideAll (lent top.old links.old color.now.cells.now) (places a b) }
+    requires can { CanHideAll (lent top.old links.old color.now) (places a b) }
     requires unmarked { marks ≡ false → AreUnmarked (values color.now.cells.now) a b }
     requires near { b ≤ 2 ^ 32 }
-    ensures done { lent top.new links.new color.now.cells.now ≡ fold hidden (lent top.old links.old color.now.cells.now)
+    ensures done { lent top.new links.new color.now ≡ fold hidden (lent top.old links.old color.now)
         (places a b) }
-    ensures cost { result ≡ hide_costs (lent top.old links.old color.now.cells.now) (places a b) }
-    ensures counted { lent_writes top.new links.new color.now.cells.now ≡ lent_writes top.old links.old color.now.cells.now + result }
+    ensures cost { result ≡ hide_costs (lent top.old links.old color.now) (places a b) }
+    ensures counted { lent_writes top.new links.new color.now ≡ lent_writes top.old links.old color.now + result }
     ensures rows { IsRow top.old top.new × IsLinkRow links.old links.new }
     ensures few { result ≤ 3 * (b - a) }
 {
@@ -124,12 +121,12 @@ pub(crate) fn hide(
     marks: bool,
 ) -> u64
     requires span { p < length spans.now }
-    requires can { CanHideNode spans.now (lent top.old links.old color.now.cells.now) p }
+    requires can { CanHideNode spans.now (lent top.old links.old color.now) p }
     requires unmarked { marks ≡ false → IsUnmarked spans.now (values color.now.cells.now) }
-    ensures done { lent top.new links.new color.now.cells.now ≡ hidden_node spans.now (lent top.old links.old color.now.cells.now) p }
-    ensures cost { result ≡ hide_costs (lent top.old links.old color.now.cells.now) (others_of spans.now p) }
+    ensures done { lent top.new links.new color.now ≡ hidden_node spans.now (lent top.old links.old color.now) p }
+    ensures cost { result ≡ hide_costs (lent top.old links.old color.now) (others_of spans.now p) }
     ensures few { result ≤ 3 * 2 ^ 32 }
-    ensures counted { lent_writes top.new links.new color.now.cells.now ≡ lent_writes top.old links.old color.now.cells.now + result }
+    ensures counted { lent_writes top.new links.new color.now ≡ lent_writes top.old links.old color.now + result }
     ensures rows { IsRow top.old top.new × IsLinkRow links.old links.new }
 {
     let mut above = 0u64;
@@ -152,12 +149,12 @@ fn unhide_one(
     q: usize,
     marks: bool,
 ) -> u64
-    requires can { CanUnhide (lent top.old links.old color.now.cells.now) q }
+    requires can { CanUnhide (lent top.old links.old color.now) q }
     requires unmarked { marks ≡ false → slice_index (values color.now.cells.now) q ≢ MARK }
     requires near { q < 2 ^ 32 }
-    ensures done { lent top.new links.new color.now.cells.now ≡ unhidden (lent top.old links.old color.now.cells.now) q }
-    ensures cost { result ≡ hide_cost (lent top.old links.old color.now.cells.now) q }
-    ensures counted { lent_writes top.new links.new color.now.cells.now ≡ lent_writes top.old links.old color.now.cells.now + result }
+    ensures done { lent top.new links.new color.now ≡ unhidden (lent top.old links.old color.now) q }
+    ensures cost { result ≡ hide_cost (lent top.old links.old color.now) q }
+    ensures counted { lent_writes top.new links.new color.now ≡ lent_writes top.old links.old color.now + result }
     ensures rows { IsRow top.old top.new × IsLinkRow links.old links.new }
 {
     if marks && color.get_at(q) == MARK {
@@ -178,13 +175,13 @@ fn unhide_range(
     b: usize,
     marks: bool,
 ) -> u64
-    requires can { CanUnhideAll (lent top.old links.old color.now.cells.now) (reverse (places a b)) }
+    requires can { CanUnhideAll (lent top.old links.old color.now) (reverse (places a b)) }
     requires unmarked { marks ≡ false → AreUnmarked (values color.now.cells.now) a b }
     requires near { b ≤ 2 ^ 32 }
-    ensures done { lent top.new links.new color.now.cells.now ≡ fold unhidden (lent top.old links.old color.now.cells.now)
+    ensures done { lent top.new links.new color.now ≡ fold unhidden (lent top.old links.old color.now)
         (reverse (places a b)) }
-    ensures cost { result ≡ unhide_costs (lent top.old links.old color.now.cells.now) (reverse (places a b)) }
-    ensures counted { lent_writes top.new links.new color.now.cells.now ≡ lent_writes top.old links.old color.now.cells.now + result }
+    ensures cost { result ≡ unhide_costs (lent top.old links.old color.now) (reverse (places a b)) }
+    ensures counted { lent_writes top.new links.new color.now ≡ lent_writes top.old links.old color.now + result }
     ensures rows { IsRow top.old top.new × IsLinkRow links.old links.new }
     ensures few { result ≤ 3 * (b - a) }
 {
@@ -209,13 +206,13 @@ pub(crate) fn unhide(
     marks: bool,
 ) -> u64
     requires span { p < length spans.now }
-    requires can { CanUnhideNode spans.now (lent top.old links.old color.now.cells.now) p }
+    requires can { CanUnhideNode spans.now (lent top.old links.old color.now) p }
     requires unmarked { marks ≡ false → IsUnmarked spans.now (values color.now.cells.now) }
-    ensures done { lent top.new links.new color.now.cells.now ≡ unhidden_node spans.now
-        (lent top.old links.old color.now.cells.now) p }
-    ensures cost { result ≡ unhide_costs (lent top.old links.old color.now.cells.now) (reverse (others_of spans.now p)) }
+    ensures done { lent top.new links.new color.now ≡ unhidden_node spans.now
+        (lent top.old links.old color.now) p }
+    ensures cost { result ≡ unhide_costs (lent top.old links.old color.now) (reverse (others_of spans.now p)) }
     ensures few { result ≤ 3 * 2 ^ 32 }
-    ensures counted { lent_writes top.new links.new color.now.cells.now ≡ lent_writes top.old links.old color.now.cells.now + result }
+    ensures counted { lent_writes top.new links.new color.now ≡ lent_writes top.old links.old color.now + result }
     ensures rows { IsRow top.old top.new × IsLinkRow links.old links.new }
 {
     let mut below = 0u64;

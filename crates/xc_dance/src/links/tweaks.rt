@@ -26,14 +26,14 @@ pub(crate) fn hide_unless(
     marks: bool,
 ) -> u64
     requires can { covered ≡ false → (x < length spans.now)
-        × CanHideNode spans.now (lent top.old links.old color.now.cells.now) x }
+        × CanHideNode spans.now (lent top.old links.old color.now) x }
     requires unmarked { marks ≡ false → IsUnmarked spans.now (values color.now.cells.now) }
-    ensures done { lent top.new links.new color.now.cells.now ≡ hidden_unless spans.now covered
-        (lent top.old links.old color.now.cells.now) x }
-    ensures cost { result ≡ (if covered then 0 else hide_costs (lent top.old links.old color.now.cells.now)
+    ensures done { lent top.new links.new color.now ≡ hidden_unless spans.now covered
+        (lent top.old links.old color.now) x }
+    ensures cost { result ≡ (if covered then 0 else hide_costs (lent top.old links.old color.now)
         (others_of spans.now x)) }
     ensures few { result ≤ 3 * 2 ^ 32 }
-    ensures counted { lent_writes top.new links.new color.now.cells.now ≡ lent_writes top.old links.old color.now.cells.now + result }
+    ensures counted { lent_writes top.new links.new color.now ≡ lent_writes top.old links.old color.now + result }
     ensures rows { IsRow top.old top.new × IsLinkRow links.old links.new }
 {
     if covered {
@@ -58,14 +58,14 @@ fn put_back(
     marks: bool,
 ) -> u64
     requires can { covered ≡ false → (x < length spans.now)
-        × CanUnhideNode spans.now (lent top.old links.old color.now.cells.now) x }
+        × CanUnhideNode spans.now (lent top.old links.old color.now) x }
     requires unmarked { marks ≡ false → IsUnmarked spans.now (values color.now.cells.now) }
-    ensures done { lent top.new links.new color.now.cells.now ≡ unhidden_unless spans.now covered
-        (lent top.old links.old color.now.cells.now) x }
-    ensures cost { result ≡ (if covered then 0 else unhide_costs (lent top.old links.old color.now.cells.now)
+    ensures done { lent top.new links.new color.now ≡ unhidden_unless spans.now covered
+        (lent top.old links.old color.now) x }
+    ensures cost { result ≡ (if covered then 0 else unhide_costs (lent top.old links.old color.now)
         (reverse (others_of spans.now x))) }
     ensures few { result ≤ 3 * 2 ^ 32 }
-    ensures counted { lent_writes top.new links.new color.now.cells.now ≡ lent_writes top.old links.old color.now.cells.now + result }
+    ensures counted { lent_writes top.new links.new color.now ≡ lent_writes top.old links.old color.now + result }
     ensures rows { IsRow top.old top.new × IsLinkRow links.old links.new }
 {
     if covered {
@@ -78,7 +78,7 @@ fn put_back(
     }
 }
 
-/// The same out of line: the one that calls it stays small.
+/// `put_back` out of line: what calls it stays small.
 #[cold]
 #[inline(never)]
 pub(crate) fn unhide_unless(
@@ -91,14 +91,14 @@ pub(crate) fn unhide_unless(
     marks: bool,
 ) -> u64
     requires can { covered ≡ false → (x < length spans.now)
-        × CanUnhideNode spans.now (lent top.old links.old color.now.cells.now) x }
+        × CanUnhideNode spans.now (lent top.old links.old color.now) x }
     requires unmarked { marks ≡ false → IsUnmarked spans.now (values color.now.cells.now) }
-    ensures done { lent top.new links.new color.now.cells.now ≡ unhidden_unless spans.now covered
-        (lent top.old links.old color.now.cells.now) x }
-    ensures cost { result ≡ (if covered then 0 else unhide_costs (lent top.old links.old color.now.cells.now)
+    ensures done { lent top.new links.new color.now ≡ unhidden_unless spans.now covered
+        (lent top.old links.old color.now) x }
+    ensures cost { result ≡ (if covered then 0 else unhide_costs (lent top.old links.old color.now)
         (reverse (others_of spans.now x))) }
     ensures few { result ≤ 3 * 2 ^ 32 }
-    ensures counted { lent_writes top.new links.new color.now.cells.now ≡ lent_writes top.old links.old color.now.cells.now + result }
+    ensures counted { lent_writes top.new links.new color.now ≡ lent_writes top.old links.old color.now + result }
     ensures rows { IsRow top.old top.new × IsLinkRow links.old links.new }
 {
     put_back(top, links, color, spans, covered, x, marks)
@@ -116,13 +116,13 @@ fn bring_back_one(
     p: u32,
     marks: bool,
 ) -> u64
-    requires can { CanBringBack spans.now covered (lent top.old links.old color.now.cells.now) p }
+    requires can { CanBringBack spans.now covered (lent top.old links.old color.now) p }
     requires unmarked { marks ≡ false → IsUnmarked spans.now (values color.now.cells.now) }
-    ensures done { lent top.new links.new color.now.cells.now ≡ brought_back spans.now covered
-        (lent top.old links.old color.now.cells.now) p }
-    ensures cost { result ≡ bring_back_cost spans.now covered (lent top.old links.old color.now.cells.now) p }
+    ensures done { lent top.new links.new color.now ≡ brought_back spans.now covered
+        (lent top.old links.old color.now) p }
+    ensures cost { result ≡ bring_back_cost spans.now covered (lent top.old links.old color.now) p }
     ensures few { result ≤ 3 * 2 ^ 32 + 1 }
-    ensures counted { lent_writes top.new links.new color.now.cells.now ≡ lent_writes top.old links.old color.now.cells.now + result }
+    ensures counted { lent_writes top.new links.new color.now ≡ lent_writes top.old links.old color.now + result }
     ensures rows { IsRow top.old top.new × IsLinkRow links.old links.new }
 {
     let count = put_back(top, links, color, spans, covered, p, marks);
@@ -145,15 +145,15 @@ pub(crate) fn bring_back(
     marks: bool,
 ) -> u64
     requires many { k < 2 ^ 30 }
-    requires can { CanBringBackAll spans.now covered (lent top.old links.old color.now.cells.now) x
-        (followed (lent top.old links.old color.now.cells.now).dlink k x) }
+    requires can { CanBringBackAll spans.now covered (lent top.old links.old color.now) x
+        (followed (lent top.old links.old color.now).dlink k x) }
     requires unmarked { marks ≡ false → IsUnmarked spans.now (values color.now.cells.now) }
-    ensures done { lent top.new links.new color.now.cells.now ≡ fold (brought_back spans.now covered)
-        (lent top.old links.old color.now.cells.now) (followed (lent top.old links.old color.now.cells.now).dlink k x) }
-    ensures cost { result ≡ bring_back_costs spans.now covered (lent top.old links.old color.now.cells.now)
-        (followed (lent top.old links.old color.now.cells.now).dlink k x) }
+    ensures done { lent top.new links.new color.now ≡ fold (brought_back spans.now covered)
+        (lent top.old links.old color.now) (followed (lent top.old links.old color.now).dlink k x) }
+    ensures cost { result ≡ bring_back_costs spans.now covered (lent top.old links.old color.now)
+        (followed (lent top.old links.old color.now).dlink k x) }
     ensures few_writes { result ≤ 3 * 2 ^ 62 + 2 ^ 30 }
-    ensures counted { lent_writes top.new links.new color.now.cells.now ≡ lent_writes top.old links.old color.now.cells.now + result }
+    ensures counted { lent_writes top.new links.new color.now ≡ lent_writes top.old links.old color.now + result }
     ensures rows { IsRow top.old top.new × IsLinkRow links.old links.new }
 {
     let mut count = 0u64;

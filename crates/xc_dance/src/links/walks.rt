@@ -2,7 +2,7 @@
 //! the others hidden.
 ghost use Rattle.std.specs.Prelude.{◌≡◌, ℕ, ◌+◌, ◌-◌, ◌*◌, ◌<◌, ◌≤◌, ◌^◌, length, slice_index, fold, None, false};
 ghost use Rattle.xc_dance.specs.inner.Links.Columns.{values};
-ghost use Rattle.xc_dance.specs.inner.Links.Lent.{lent, lent_writes, IsRow, IsLinkRow};
+ghost use Rattle.xc_dance.specs.inner.Links.Lent.{lent_all, all_writes, IsRow, IsLinkRow};
 ghost use Rattle.xc_dance.specs.inner.Links.Steps.{list_of, list_back};
 ghost use Rattle.xc_dance.specs.inner.Links.ListWalks.{is_kept_colour, left_node, leave_cost, back_node, back_cost};
 ghost use Rattle.xc_dance.specs.inner.Links.ListWalks.{CanLeave, CanReturn, walk_costs, back_costs, CanHideList};
@@ -36,13 +36,13 @@ fn leave(
     keep: Option<u32>,
     marks: bool,
 ) -> u64
-    requires can { CanLeave spans.now keep (lent top.old links.old color.old.cells.now) p }
+    requires can { CanLeave spans.now keep (lent_all top.old links.old color.old) p }
     requires unmarked { marks ≡ false → IsUnmarked spans.now (values color.old.cells.now) }
-    ensures done { lent top.new links.new color.new.cells.now ≡ left_node spans.now keep
-        (lent top.old links.old color.old.cells.now) p }
-    ensures cost { result ≡ leave_cost spans.now keep (lent top.old links.old color.old.cells.now) p }
+    ensures done { lent_all top.new links.new color.new ≡ left_node spans.now keep
+        (lent_all top.old links.old color.old) p }
+    ensures cost { result ≡ leave_cost spans.now keep (lent_all top.old links.old color.old) p }
     ensures few { result ≤ 3 * 2 ^ 32 }
-    ensures counted { lent_writes top.new links.new color.new.cells.now ≡ lent_writes top.old links.old color.old.cells.now + result }
+    ensures counted { all_writes top.new links.new color.new ≡ all_writes top.old links.old color.old + result }
     ensures rows { IsRow top.old top.new × IsLinkRow links.old links.new × IsRow color.old color.new }
 {
     if is_kept(&color.seen(), p, keep) {
@@ -63,13 +63,13 @@ fn come_back(
     keep: Option<u32>,
     marks: bool,
 ) -> u64
-    requires can { CanReturn spans.now keep (lent top.old links.old color.old.cells.now) p }
+    requires can { CanReturn spans.now keep (lent_all top.old links.old color.old) p }
     requires unmarked { marks ≡ false → IsUnmarked spans.now (values color.old.cells.now) }
-    ensures done { lent top.new links.new color.new.cells.now ≡ back_node spans.now keep
-        (lent top.old links.old color.old.cells.now) p }
-    ensures cost { result ≡ back_cost spans.now keep (lent top.old links.old color.old.cells.now) p }
+    ensures done { lent_all top.new links.new color.new ≡ back_node spans.now keep
+        (lent_all top.old links.old color.old) p }
+    ensures cost { result ≡ back_cost spans.now keep (lent_all top.old links.old color.old) p }
     ensures few { result ≤ 3 * 2 ^ 32 }
-    ensures counted { lent_writes top.new links.new color.new.cells.now ≡ lent_writes top.old links.old color.old.cells.now + result }
+    ensures counted { all_writes top.new links.new color.new ≡ all_writes top.old links.old color.old + result }
     ensures rows { IsRow top.old top.new × IsLinkRow links.old links.new × IsRow color.old color.new }
 {
     if let Some(colour) = keep {
@@ -93,15 +93,15 @@ pub(crate) fn hide_list(
     keep: Option<u32>,
     marks: bool,
 ) -> u64
-    requires can { CanHideList spans.now keep (lent top.old links.old color.old.cells.now) i }
+    requires can { CanHideList spans.now keep (lent_all top.old links.old color.old) i }
     requires unmarked { marks ≡ false → IsUnmarked spans.now (values color.old.cells.now) }
     requires none { marks ≡ false → keep ≡ None }
-    ensures done { lent top.new links.new color.new.cells.now ≡ fold (left_node spans.now keep)
-        (lent top.old links.old color.old.cells.now) (list_of (lent top.old links.old color.old.cells.now) i) }
-    ensures cost { result ≡ walk_costs spans.now keep (lent top.old links.old color.old.cells.now)
-        (list_of (lent top.old links.old color.old.cells.now) i) }
+    ensures done { lent_all top.new links.new color.new ≡ fold (left_node spans.now keep)
+        (lent_all top.old links.old color.old) (list_of (lent_all top.old links.old color.old) i) }
+    ensures cost { result ≡ walk_costs spans.now keep (lent_all top.old links.old color.old)
+        (list_of (lent_all top.old links.old color.old) i) }
     ensures few_writes { result ≤ 3 * 2 ^ 62 }
-    ensures counted { lent_writes top.new links.new color.new.cells.now ≡ lent_writes top.old links.old color.old.cells.now + result }
+    ensures counted { all_writes top.new links.new color.new ≡ all_writes top.old links.old color.old + result }
     ensures rows { IsRow top.old top.new × IsLinkRow links.old links.new × IsRow color.old color.new }
 {
     let mut count = 0u64;
@@ -124,13 +124,13 @@ pub(crate) fn hide_among_marks(
     i: u32,
     keep: Option<u32>,
 ) -> u64
-    requires { CanHideList spans.now keep (lent top.old links.old color.old.cells.now) i }
-    ensures done { lent top.new links.new color.new.cells.now ≡ fold (left_node spans.now keep)
-        (lent top.old links.old color.old.cells.now) (list_of (lent top.old links.old color.old.cells.now) i) }
-    ensures cost { result ≡ walk_costs spans.now keep (lent top.old links.old color.old.cells.now)
-        (list_of (lent top.old links.old color.old.cells.now) i) }
+    requires { CanHideList spans.now keep (lent_all top.old links.old color.old) i }
+    ensures done { lent_all top.new links.new color.new ≡ fold (left_node spans.now keep)
+        (lent_all top.old links.old color.old) (list_of (lent_all top.old links.old color.old) i) }
+    ensures cost { result ≡ walk_costs spans.now keep (lent_all top.old links.old color.old)
+        (list_of (lent_all top.old links.old color.old) i) }
     ensures few_writes { result ≤ 3 * 2 ^ 62 }
-    ensures counted { lent_writes top.new links.new color.new.cells.now ≡ lent_writes top.old links.old color.old.cells.now + result }
+    ensures counted { all_writes top.new links.new color.new ≡ all_writes top.old links.old color.old + result }
     ensures rows { IsRow top.old top.new × IsLinkRow links.old links.new × IsRow color.old color.new }
 {
     hide_list(top, links, color, spans, i, keep, true)
@@ -147,15 +147,15 @@ pub(crate) fn unhide_list(
     keep: Option<u32>,
     marks: bool,
 ) -> u64
-    requires can { CanUnhideList spans.now keep (lent top.old links.old color.old.cells.now) i }
+    requires can { CanUnhideList spans.now keep (lent_all top.old links.old color.old) i }
     requires unmarked { marks ≡ false → IsUnmarked spans.now (values color.old.cells.now) }
     requires none { marks ≡ false → keep ≡ None }
-    ensures done { lent top.new links.new color.new.cells.now ≡ fold (back_node spans.now keep)
-        (lent top.old links.old color.old.cells.now) (list_back (lent top.old links.old color.old.cells.now) i) }
-    ensures cost { result ≡ back_costs spans.now keep (lent top.old links.old color.old.cells.now)
-        (list_back (lent top.old links.old color.old.cells.now) i) }
+    ensures done { lent_all top.new links.new color.new ≡ fold (back_node spans.now keep)
+        (lent_all top.old links.old color.old) (list_back (lent_all top.old links.old color.old) i) }
+    ensures cost { result ≡ back_costs spans.now keep (lent_all top.old links.old color.old)
+        (list_back (lent_all top.old links.old color.old) i) }
     ensures few_writes { result ≤ 3 * 2 ^ 62 }
-    ensures counted { lent_writes top.new links.new color.new.cells.now ≡ lent_writes top.old links.old color.old.cells.now + result }
+    ensures counted { all_writes top.new links.new color.new ≡ all_writes top.old links.old color.old + result }
     ensures rows { IsRow top.old top.new × IsLinkRow links.old links.new × IsRow color.old color.new }
 {
     let mut count = 0u64;
@@ -178,13 +178,13 @@ pub(crate) fn unhide_among_marks(
     i: u32,
     keep: Option<u32>,
 ) -> u64
-    requires { CanUnhideList spans.now keep (lent top.old links.old color.old.cells.now) i }
-    ensures done { lent top.new links.new color.new.cells.now ≡ fold (back_node spans.now keep)
-        (lent top.old links.old color.old.cells.now) (list_back (lent top.old links.old color.old.cells.now) i) }
-    ensures cost { result ≡ back_costs spans.now keep (lent top.old links.old color.old.cells.now)
-        (list_back (lent top.old links.old color.old.cells.now) i) }
+    requires { CanUnhideList spans.now keep (lent_all top.old links.old color.old) i }
+    ensures done { lent_all top.new links.new color.new ≡ fold (back_node spans.now keep)
+        (lent_all top.old links.old color.old) (list_back (lent_all top.old links.old color.old) i) }
+    ensures cost { result ≡ back_costs spans.now keep (lent_all top.old links.old color.old)
+        (list_back (lent_all top.old links.old color.old) i) }
     ensures few_writes { result ≤ 3 * 2 ^ 62 }
-    ensures counted { lent_writes top.new links.new color.new.cells.now ≡ lent_writes top.old links.old color.old.cells.now + result }
+    ensures counted { all_writes top.new links.new color.new ≡ all_writes top.old links.old color.old + result }
     ensures rows { IsRow top.old top.new × IsLinkRow links.old links.new × IsRow color.old color.new }
 {
     unhide_list(top, links, color, spans, i, keep, true)

@@ -1,11 +1,10 @@
 -- No public clause cites this module. The node table before any move, filled in two turns: first
 -- every node by itself, with empty lists, and then node by node into the lists.
 use Rattle.std.specs.Prelude.{ℕ, zero, suc, ◌+◌, List, [], ◌∷◌, ◌++◌, length, map, take, slice_index, slice_set}
-use Rattle.xc_dance.specs.inner.Links.Columns.{Nodes}
+use Rattle.xc_dance.specs.inner.Links.Columns.{Nodes, Laying}
 use Rattle.xc_dance.specs.declared.links.rows.Row.{Row}
 use Rattle.xc_input.specs.Problem.{Puzzle}
 use Rattle.xc_dance.specs.Fields.{Node, layout}
-use Rattle.xc_dance.specs.inner.Links.Columns.{Laying}
 use Rattle.xc_dance.specs.inner.Links.Lines.{Line}
 use Rattle.xc_dance.specs.inner.Links.Cells.{top_in, ulink_in, dlink_in, color_in}
 

@@ -1,6 +1,6 @@
 -- No public clause cites this module. Cells that are lent to a walk.
-use Rattle.std.specs.Prelude.{ℕ, ◌≡◌, List, length}
-use Rattle.xc_dance.specs.declared.links.cells.Cell.{Cell}
+use Rattle.std.specs.Prelude.{ℕ, ◌≡◌, length}
+use Rattle.xc_dance.specs.declared.links.cells.lent.Cells.{Cells}
 use Rattle.xc_dance.specs.declared.links.cells.lent.CellsMut.{CellsMut}
 use Rattle.xc_dance.specs.declared.links.cells.lent.LinksMut.{LinksMut}
 use Rattle.xc_dance.specs.inner.Links.Columns.{Nodes, columns, written}
@@ -13,10 +13,18 @@ IsRow s n = (n.cells.ghost_name ≡ s.cells.ghost_name) × (length n.cells.now �
 abbrev pub IsLinkRow : LinksMut → LinksMut → Type 0
 IsLinkRow s n = (n.links.ghost_name ≡ s.links.ghost_name) × (length n.links.now ≡ length s.links.now)
 
--- the columns that are lent
-abbrev pub lent : CellsMut → LinksMut → List Cell → Nodes
-lent top links color = columns top.cells.now links.links.now color
+-- the columns that are lent, COLOR to be read alone
+abbrev pub lent : CellsMut → LinksMut → Cells → Nodes
+lent top links color = columns top.cells.now links.links.now color.cells.now
 
--- how often these cells were written
-abbrev pub lent_writes : CellsMut → LinksMut → List Cell → ℕ
-lent_writes top links color = written top.cells.now links.links.now color
+-- how often their cells were written
+abbrev pub lent_writes : CellsMut → LinksMut → Cells → ℕ
+lent_writes top links color = written top.cells.now links.links.now color.cells.now
+
+-- the columns that are lent, all of them to be written
+abbrev pub lent_all : CellsMut → LinksMut → CellsMut → Nodes
+lent_all top links color = columns top.cells.now links.links.now color.cells.now
+
+-- how often their cells were written
+abbrev pub all_writes : CellsMut → LinksMut → CellsMut → ℕ
+all_writes top links color = written top.cells.now links.links.now color.cells.now

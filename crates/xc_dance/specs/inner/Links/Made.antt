@@ -2,9 +2,8 @@
 use Rattle.std.specs.Prelude.{None, Some, ℕ, ◌+◌, ◌-◌, ◌<◌, ◌^◌, List, length, slice_index, fold}
 use Rattle.xc_dance.specs.declared.dance.Move.{Move}
 use Rattle.xc_dance.specs.declared.dance.Move.TheVariants.{Cover, Purify, Tweak, Spend}
-use Rattle.xc_dance.specs.inner.Links.Columns.{Nodes}
+use Rattle.xc_dance.specs.inner.Links.Columns.{Nodes, Items}
 use Rattle.xc_dance.specs.inner.Links.Span.{Span}
-use Rattle.xc_dance.specs.inner.Links.Columns.{Items}
 use Rattle.xc_input.specs.Problem.{Puzzle, high_at}
 use Rattle.xc_dance.specs.inner.Links.ListWalks.{left_node, back_node, CanHideList, CanUnhideList, with_colour}
 use Rattle.xc_dance.specs.inner.Links.ListWalks.{walk_costs, back_costs}

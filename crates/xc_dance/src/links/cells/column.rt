@@ -1,4 +1,4 @@
-//! A column of a table, and its cells as they are lent to a walk.
+//! A column of a table.
 ghost use Rattle.std.specs.Prelude.{◌≡◌, ◌+◌, ◌<◌, ◌≤◌, ◌++◌, ◌∷◌, [], length, vec_capacity, slice_index, slice_set};
 ghost use Rattle.std.specs.Prelude.{replicate, IfOk, slice_get, ◌↔◌, IsTrue};
 ghost use Rattle.xc_dance.specs.inner.Links.Columns.{values, writes};
@@ -14,7 +14,7 @@ pub(crate) struct Column {
 }
 
 impl Column {
-    /// CellsMut that are all 0.
+    /// Cells that are all 0.
     pub(crate) fn new(alloc: Global, count: usize) -> Result<Column, AllocError>
         ensures { IfOk result (λ c. values c.cells.items ≡ replicate count 0) }
     {

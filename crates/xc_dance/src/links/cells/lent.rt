@@ -1,5 +1,5 @@
-//! The cells of a column as they are lent to a walk. Their base and length stay in registers there: behind a column they
-//! would be loaded anew after every write.
+//! The cells of a column as they are lent to a walk: a pointer and a length, which stay in registers there. Those of a
+//! column would be loaded anew after every write.
 ghost use Rattle.std.specs.Prelude.{◌≡◌, ◌+◌, ◌<◌, length, slice_index, slice_set};
 ghost use Rattle.xc_dance.specs.inner.Links.Columns.{values, writes, ups, downs, link_writes};
 ghost use Rattle.xc_dance.specs.inner.Links.Lent.{IsRow, IsLinkRow};
@@ -22,7 +22,7 @@ pub(crate) struct LinksMut<'a> {
     pub(super) links: &'a mut [Link],
 }
 
-/// Written out, so that it is known what the column has afterwards.
+/// Not derived: the contract says which cells the column has afterwards.
 impl Drop for CellsMut<'_> {
     #[inline(always)]
     fn drop(self)
@@ -63,7 +63,7 @@ impl Cells<'_> {
 }
 
 impl CellsMut<'_> {
-    /// The same cells, to be read.
+    /// The same cells, for a walk that reads them.
     #[inline(always)]
     pub(crate) fn seen(&self) -> Cells<'_>
         ensures { result.cells.now ≡ self.now.cells.now }

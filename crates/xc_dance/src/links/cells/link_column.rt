@@ -1,4 +1,4 @@
-//! The links of all nodes, and these cells as they are lent to a walk.
+//! The links of all nodes.
 ghost use Rattle.std.specs.Prelude.{◌≡◌, ◌+◌, ◌<◌, ◌≤◌, ◌++◌, ◌∷◌, [], length, vec_capacity, slice_index, slice_set};
 ghost use Rattle.std.specs.Prelude.{IfOk, slice_get, ◌↔◌, IsTrue};
 ghost use Rattle.xc_dance.specs.inner.Links.Columns.{ups, downs, link_writes};

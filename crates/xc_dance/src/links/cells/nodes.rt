@@ -135,7 +135,8 @@ impl Nodes {
         requires size { HasSize self.old.cells (length self.old.cells.top) }
         requires place { q < length self.old.cells.top }
         requires item { slice_index self.old.cells.top q < length self.old.cells.top }
-        requires last { slice_index self.old.cells.ulink (slice_index self.old.cells.top q) < length self.old.cells.top }
+        requires last { slice_index self.old.cells.ulink (slice_index self.old.cells.top q)
+            < length self.old.cells.top }
         requires few { slice_index self.old.cells.top (slice_index self.old.cells.top q) < 2 ^ 31 }
         ensures { self.new.cells ≡ entered self.old.cells q }
     {
@@ -205,7 +206,8 @@ impl Nodes {
     pub(crate) fn purify(&mut self, spans: &Spans, i: u32, c: u32) -> u64
         requires can { CanPurify spans.now c self.old.cells i }
         ensures done { self.new.cells ≡ purified_list spans.now c self.old.cells i }
-        ensures cost { result ≡ walk_costs spans.now (Some c) (with_colour self.old.cells i c) (list_of self.old.cells i) + 1 }
+        ensures cost { result ≡ walk_costs spans.now (Some c) (with_colour self.old.cells i c)
+            (list_of self.old.cells i) + 1 }
         ensures counted { self.new.written ≡ self.old.written + result }
     {
         let top = self.top.cells.as_mut_slice();

@@ -17,11 +17,11 @@ up can = (CanAll-append hidden CanHide _ _ _ can.steps).0
 
 -- the tables where the walk is
 abbrev now : After-get_at → Nodes
-now c = lent c.loop-top.top c.loop-top.links c.args.color.now.cells.now
+now c = lent c.loop-top.top c.loop-top.links c.args.color.now
 
 -- what TOP tells
 told : (c : After-get_at) → (let end = (span_at c.args.spans.now c.args.p).end in
-    Tells (now c) (fold hidden (lent c.args.top.now c.args.links.now c.args.color.now.cells.now) (places (c.args.p + 1) end))
+    Tells (now c) (fold hidden (lent c.args.top.now c.args.links.now c.args.color.now) (places (c.args.p + 1) end))
     c.loop-top.q end (places c.loop-top.q end))
 told c = grind (arith, places_more, places_none, tells)
 
@@ -60,7 +60,7 @@ leads c met first is = grind (arith, told c)
 
 -- and there the rest of the walk begins
 rest : (c : After-get_at) → SPACER ≤ c.get_at.result → (first : ℕ) → first ≡ get_or (now c).ulink c.loop-top.q 0
-    → Met hide_walk (lent c.args.top.now c.args.links.now c.args.color.now.cells.now)
+    → Met hide_walk (lent c.args.top.now c.args.links.now c.args.color.now)
     (others_of c.args.spans.now c.args.p) (now c) c.loop-top.above (places first c.args.p)
 rest c spacer first is =
     let e = c.get_at.ensures in

@@ -9,11 +9,11 @@ abbrev pub invariant-loop-top : goal.invariant-loop-top
 invariant-loop-top l =
     let end = (span_at l.spans l.p).end in
     record {
-      walk : Underway hide_walk (lent l.initial.top l.initial.links l.color.cells.now) (places (l.p + 1) end)
-          (lent l.top l.links l.color.cells.now) (places l.q end) l.above;
+      walk : Underway hide_walk (lent l.initial.top l.initial.links l.color) (places (l.p + 1) end)
+          (lent l.top l.links l.color) (places l.q end) l.above;
       behind : l.p < l.q;
       to : l.q ≤ end;
-      counted : lent_writes l.top l.links l.color.cells.now ≡ lent_writes l.initial.top l.initial.links l.color.cells.now + l.above;
+      counted : lent_writes l.top l.links l.color ≡ lent_writes l.initial.top l.initial.links l.color + l.above;
       rows : IsRow l.initial.top l.top × IsLinkRow l.initial.links l.links;
       few : l.above ≤ 3 * l.q;
     }

@@ -6,9 +6,9 @@ use Rattle.xc_dance.proofs.links.steps.hide_range.Given as goal
 
 abbrev pub invariant-loop-q : goal.invariant-loop-q
 invariant-loop-q l = record {
-  walk : Underway hide_walk (lent l.initial.top l.initial.links l.color.cells.now) (places l.a l.b)
-      (lent l.top l.links l.color.cells.now) (places l.q l.b) l.count;
-  counted : lent_writes l.top l.links l.color.cells.now ≡ lent_writes l.initial.top l.initial.links l.color.cells.now + l.count;
+  walk : Underway hide_walk (lent l.initial.top l.initial.links l.color) (places l.a l.b)
+      (lent l.top l.links l.color) (places l.q l.b) l.count;
+  counted : lent_writes l.top l.links l.color ≡ lent_writes l.initial.top l.initial.links l.color + l.count;
   rows : IsRow l.initial.top l.top × IsLinkRow l.initial.links l.links;
   few : l.count ≤ 3 * (l.q - l.a);
 }

@@ -25,11 +25,11 @@ next first q pos le = let same : q - 1 + 1 ≡ q = omega (arith, pos, le) in gri
 
 -- the tables where the walk is
 abbrev now : After-get_at → Nodes
-now c = lent c.loop-top.top c.loop-top.links c.args.color.now.cells.now
+now c = lent c.loop-top.top c.loop-top.links c.args.color.now
 
 -- what TOP tells
 told : (c : After-get_at) → (let s = span_at c.args.spans.now c.args.p in Tells (now c)
-    (fold unhidden (lent c.args.top.now c.args.links.now c.args.color.now.cells.now) (reverse (places s.first c.args.p)))
+    (fold unhidden (lent c.args.top.now c.args.links.now c.args.color.now) (reverse (places s.first c.args.p)))
     c.loop-top.q (s.first - 1) (reverse (places s.first (c.loop-top.q + 1))))
 told c = grind (arith, places_none, tells, next)
 
@@ -69,8 +69,8 @@ pub overflow_add-end : goal.overflow_add-end
 overflow_add-end c = grind (arith, leads)
 
 -- and there the rest of the walk begins
-rest : (c : After-down_at) → Met unhide_walk (lent c.args.top.now c.args.links.now c.args.color.now.cells.now)
-    (reverse (others_of c.args.spans.now c.args.p)) (lent c.loop-top.top c.loop-top.links c.args.color.now.cells.now)
+rest : (c : After-down_at) → Met unhide_walk (lent c.args.top.now c.args.links.now c.args.color.now)
+    (reverse (others_of c.args.spans.now c.args.p)) (lent c.loop-top.top c.loop-top.links c.args.color.now)
     c.loop-top.below (reverse (places (c.args.p + 1) (c.down_at.result + 1)))
 rest c =
     let s = span_at c.args.spans.now c.args.p in
