@@ -75,9 +75,9 @@ fn branches_of<D: Dance>(dance: &D, problem: &Problem, i: u32, once: bool) -> u3
     }
 }
 
-// Over the linked tables, where each item is held once, a turn of the loop is ten instructions with
-// two loads: the next open item and its length. No bounds check is left, and the lesser of two
-// lengths is taken without a jump.
+// Over the linked tables, where each item is held once, a turn of the loop has two loads: the next open item and its
+// length. No bounds check is left. The test for an item without branches stands where a new minimum is found, which is
+// seldom, and not at each turn.
 #[inline(always)]
 fn choose_by<D: Dance>(dance: &D, problem: &Problem, once: bool) -> Option<(u32, usize)>
     requires same { (D.state dance.now).puzzle ≡ problem.now.puzzle }
@@ -88,17 +88,22 @@ fn choose_by<D: Dance>(dance: &D, problem: &Problem, once: bool) -> Option<(u32,
 {
     let mut item = dance.open_after(0)?;
     let mut fewest = branches_of(dance, problem, item, once);
+    if fewest == 0 {
+        return Some((item, 0));
+    }
     let mut at = item;
-    while fewest > 0 {
+    loop {
         let Some(next) = dance.open_after(at) else {
             return Some((item, fewest as usize));
         };
         let n = branches_of(dance, problem, next, once);
+        at = next;
         if n < fewest {
+            if n == 0 {
+                return Some((next, 0));
+            }
             item = next;
             fewest = n;
         }
-        at = next;
     }
-    Some((item, fewest as usize))
 }

@@ -1,6 +1,6 @@
 -- The branch item by a walk over the open items.
 use Rattle.std.proofs.Common.{ℕ, ◌≡◌, ◌-◌, ltb, nat_lt, List, [], ◌∷◌, map, filter, Some, None, refl}
-use Rattle.std.proofs.Common.{sym, ap, ◌∙◌, arith, lt-ltb, le-ltb, ◌<◌, ◌≤◌, ◌⊎◌}
+use Rattle.std.proofs.Common.{sym, ap, ◌∙◌, arith, lt-ltb, le-ltb, ◌<◌, ◌≤◌}
 use Rattle.std.specs.List.{best_of}
 use Rattle.xc_dance.specs.declared.dance.Move.{Move}
 use Rattle.xc_input.specs.Problem.{Puzzle, primary_count, low_at}
@@ -61,9 +61,14 @@ stays_best p t i [] e = refl
 stays_best p t i (k ∷ is) e = grind (arith, stays_best p t i is e, le-ltb)
 
 -- no later item is better
+pub walk_stops : (p : Puzzle) (t : List Move) (i count n : ℕ) → WalksTo p t i count n → count ≡ 0
+    → Some (i, 0) ≡ choice_after p t
+walk_stops p t i count n at none = grind (arith, stays_best)
+
+-- no item is left
 pub walk_ends : (p : Puzzle) (t : List Move) (i count n : ℕ) → WalksTo p t i count n
-    → (next_above n (open_items p t) ≡ None) ⊎ (count ≡ 0) → Some (i, count) ≡ choice_after p t
-walk_ends p t i count n at end = grind (arith, next_above-none, stays_best)
+    → next_above n (open_items p t) ≡ None → Some (i, count) ≡ choice_after p t
+walk_ends p t i count n at end = grind (arith, next_above-none)
 
 -- the next open item stands further on
 pub nearer : (p : Puzzle) (t : List Move) (n k : ℕ) → next_above n (open_items p t) ≡ Some k

@@ -3,8 +3,8 @@ use Rattle.xc_input.specs.Problem.{primary_count}
 use Rattle.xc_search.proofs.branch_item.choose_by.Given as goal
 use Rattle.xc_search.proofs.residual.FirstFewest.{WalksTo}
 
-abbrev pub invariant-loop-fewest : goal.invariant-loop-fewest
-invariant-loop-fewest g l = WalksTo l.problem.puzzle (g.D.Dance.state l.dance).trail l.item l.fewest l.at
+abbrev pub invariant-loop-next : goal.invariant-loop-next
+invariant-loop-next g l = WalksTo l.problem.puzzle (g.D.Dance.state l.dance).trail l.item l.fewest l.at
 
-abbrev pub decreases-loop-fewest : goal.decreases-loop-fewest
-decreases-loop-fewest g l = primary_count l.problem.puzzle - l.at
+abbrev pub decreases-loop-next : goal.decreases-loop-next
+decreases-loop-next g l = primary_count l.problem.puzzle - l.at
