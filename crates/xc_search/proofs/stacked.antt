@@ -2,6 +2,7 @@ pub mod BackAtLevel
 pub mod BegunComesFirst
 pub mod CountedOver
 pub mod Depth
+pub mod EarlyChoice
 pub mod LevelsLeft
 pub mod LoopSteps
 pub mod NextBranch

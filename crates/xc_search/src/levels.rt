@@ -3,7 +3,7 @@ ghost use Rattle.std.specs.Prelude.{◌≡◌, ◌+◌, ◌<◌, ◌≤◌, ◌^
 ghost use Rattle.std.specs.Prelude.{IfSome, IsNone};
 ghost use Rattle.xc_input.specs.Problem.{Puzzle};
 ghost use Rattle.xc_search.specs.inner.MostLevels.{most_levels};
-ghost use Rattle.xc_search.specs.inner.Levels.{AreStacked, IsStanding, IsEntered, begun_level};
+ghost use Rattle.xc_search.specs.inner.Levels.{AreStacked, IsNext, IsStanding, IsEntered, begun_level};
 ghost use Rattle.xc_search.specs.inner.Commits.{oldest};
 ghost use Rattle.xc_search.specs.inner.Ahead.{work_left, GoesOn, EntersBranch, IsDone, branched};
 ghost use Rattle.xc_search.specs.inner.Ahead.{EntersOver, StandsOver, EndsOver};
@@ -36,17 +36,24 @@ pub enum Below {
     Solution,
 }
 
-/// Begins a level and enters its first branch, since what is left wasn't searched yet. A level without
-/// branches ends at once, and isn't noted.
+/// Begins a level at an item, the next one, and enters its first branch, since what is left wasn't searched yet. A level
+/// without branches ends at once, and isn't noted. At the branch item it goes on with the search's own path.
 #[inline(always)]
-pub fn deepen<D: Dance>(position: &mut Position<D>, stack: &mut Stack) -> Below
+pub fn deepen<D: Dance>(
+    position: &mut Position<D>,
+    stack: &mut Stack,
+    next: Option<(u32, usize)>,
+) -> Below
     requires standing { IsStanding position.old.puzzle position.old.trail stack.old.levels true }
     requires levels_fit { most_levels position.old.puzzle ≤ stack.old.room }
+    requires next { IsNext position.old.puzzle position.old.trail next }
+    requires few { IfSome next (λ c. c.1 < 2 ^ 32) }
     ensures same { result ≡ Below.Solution → (position.new ≡ position.old) × (stack.new ≡ stack.old) }
     ensures solved { result ≡ Below.Solution → choice_after position.old.puzzle position.old.trail ≡ None }
     ensures deeper { (b : Entered) → result ≡ Below.Branch b →
         EntersBranch position.old stack.old true position.new stack.new b.item b.place }
     ensures deeper_path { (b : Entered) → result ≡ Below.Branch b →
+        next ≡ choice_after position.old.puzzle position.old.trail →
         KeepsPath position.old stack.old (branched position.new b.item b.place) stack.new }
     ensures near { (b : Entered) → result ≡ Below.Branch b → b.place < 2 ^ 32 }
     ensures nothing { result ≡ Below.Nothing → GoesOn position.old stack.old true position.new stack.new false }
@@ -54,7 +61,7 @@ pub fn deepen<D: Dance>(position: &mut Position<D>, stack: &mut Stack) -> Below
         work_left position.new stack.new false < work_left position.old stack.old true }
     ensures path { result ≡ Below.Nothing → KeepsPath position.old stack.old position.new stack.new }
 {
-    let Some((item, count)) = position.choose() else {
+    let Some((item, count)) = next else {
         return Below::Solution;
     };
     let count = count as u32;
@@ -164,7 +171,8 @@ fn go_on<D: Dance>(position: &mut Position<D>, stack: &mut Stack, more: &mut u64
     ensures done { result ≡ Next.Nothing →
         EndsOver position.old stack.old more.old position.new stack.new more.new }
 {
-    match deepen(position, stack) {
+    let next = position.choose_early();
+    match deepen(position, stack, next) {
         Below::Branch(entered) => return Next::Branch(entered),
         Below::Nothing => {}
         Below::Solution => {

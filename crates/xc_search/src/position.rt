@@ -7,10 +7,10 @@ ghost use Rattle.xc_search.specs.inner.Commits.{MayStand};
 ghost use Rattle.xc_dance.specs.Moves.{IsLegal, AreTweaks, listed_numbers, next_above};
 ghost use Rattle.xc_search.specs.Residuals.{wanted_after, choice_after};
 ghost use Rattle.xc_search.specs.Room.{room_for};
-ghost use Rattle.xc_search.specs.inner.Levels.{AreAllWanted};
+ghost use Rattle.xc_search.specs.inner.Levels.{AreAllWanted, IsEarlyChoice};
 ghost use Rattle.xc_search.specs.inner.MostLevels.{IsOnce};
 
-use crate::branch_item::choose_next;
+use crate::branch_item::{choose_early, choose_next};
 use crate::counts::is_once;
 use std::marker::Model;
 use xc_dance::{Dance, Move};
@@ -102,6 +102,17 @@ impl<'a, D: Dance> Position<'a, D> {
         ensures few { IfSome result (λ c. c.1 < 2 ^ 32) }
     {
         choose_next(&self.dance, self.problem, self.once)
+    }
+
+    /// An item to be branched on, the branch item unless some item has no branches, where no open item is held as often
+    /// as it may be.
+    #[inline(always)]
+    pub fn choose_early(&self) -> Option<(u32, usize)>
+        requires { AreAllWanted (wanted_after self.now.puzzle self.now.trail) }
+        ensures choice { IsEarlyChoice self.now.puzzle self.now.trail result }
+        ensures few { IfSome result (λ c. c.1 < 2 ^ 32) }
+    {
+        choose_early(&self.dance, self.problem, self.once)
     }
 
     /// How many moves stand.

@@ -1,3 +1,4 @@
+use Rattle.xc_search.proofs.stacked.EarlyChoice.{early_next}
 use Rattle.xc_search.proofs.stacked.NextLevel.{solution}
 use Rattle.std.proofs.Common.{arith, ◌≡◌, ◌∙◌, ap, refl}
 use Rattle.xc_search.specs.declared.levels.Entered.{Entered}
@@ -7,6 +8,11 @@ use Rattle.xc_search.proofs.stacked.CountedOver.{FallsBack, enters_below, enters
 use Rattle.xc_search.proofs.stacked.CountedOver.{ends_back}
 use Rattle.xc_search.proofs.levels.go_on.Goals as goal
 use Rattle.xc_search.proofs.levels.go_on.Goals.{Joined-deepen}
+
+pub deepen-requires-clause-next : goal.deepen-requires-clause-next
+deepen-requires-clause-next g c =
+    let here = c.requires.standing.searchable refl in
+    early_next _ _ _ here.valid here.legal c.choose_early-next.ensures.choice
 
 same_entered : (a b : Entered) → next.Branch a ≡ next.Branch b → a ≡ b
 same_entered a b is = cc is
