@@ -1,7 +1,7 @@
 //! The branch item: the open primary item with the fewest branches.
-ghost use Rattle.std.specs.Prelude.{◌≡◌, ◌-◌, ◌<◌, ◌≤◌, ◌^◌, true, Some, None, IfSome, IsNone};
+ghost use Rattle.std.specs.Prelude.{◌≡◌, ◌-◌, ◌<◌, ◌≤◌, ◌^◌, true, length, Some, None, IfSome, IsNone};
 ghost use Rattle.xc_input.specs.Problem.{low_at};
-ghost use Rattle.xc_dance.specs.Moves.{IsOpenPrimary, spends};
+ghost use Rattle.xc_dance.specs.Moves.{IsOpenPrimary, open_items, spends};
 ghost use Rattle.xc_search.specs.Residuals.{branches_after, wanted_at, wanted_after, choice_after};
 ghost use Rattle.xc_search.specs.inner.MostLevels.{IsOnce};
 ghost use Rattle.xc_search.specs.inner.Levels.{AreAllWanted, IsEarlyChoice};
@@ -181,4 +181,24 @@ fn first_fewest<D: Dance>(dance: &D, problem: &Problem, once: bool, enough: u32)
         }
     }
     Some(Fewest { item, branches, at })
+}
+
+/// The first open primary item, where so many are open.
+#[inline(always)]
+pub fn first_of_open<D: Dance>(dance: &D, many: usize) -> Option<u32>
+    requires { 0 < many }
+    ensures open { IfSome result (IsOpenPrimary (D.state dance.now).puzzle (D.state dance.now).trail) }
+    ensures many { IfSome result (λ _. length (open_items (D.state dance.now).puzzle (D.state dance.now).trail) ≡ many) }
+{
+    let first = dance.open_after(0)?;
+    let mut at = first;
+    let mut seen: usize = 1;
+    while seen < many {
+        at = dance.open_after(at)?;
+        seen += 1;
+    }
+    match dance.open_after(at) {
+        Some(_) => None,
+        None => Some(first),
+    }
 }

@@ -19,7 +19,7 @@ takes r w =
     map (take_branch r w.item (branch_count r w))
     (enumerate_from 1 (take (branch_count r w) (holding w.item r.options)))
 
-length-takes : (r : Residual) (w : Wanted)
+pub length-takes : (r : Residual) (w : Wanted)
     → length (takes r w) ≡ length (take (branch_count r w) (holding w.item r.options))
 length-takes r w = length-map _ (take_branch r w.item (branch_count r w)) ∙ length-enumerate_from 1 _
 

@@ -1,5 +1,5 @@
 -- The branch item by a walk over the open items.
-use Rattle.std.proofs.Common.{ℕ, ◌≡◌, ◌-◌, ltb, nat_lt, List, [], ◌∷◌, map, filter, Some, None, refl}
+use Rattle.std.proofs.Common.{ℕ, ◌+◌, length, ◌≡◌, ◌-◌, ltb, nat_lt, List, [], ◌∷◌, map, filter, Some, None, refl}
 use Rattle.std.proofs.Common.{sym, ap, ◌∙◌, arith, lt-ltb, le-ltb, ◌<◌, ◌≤◌}
 use Rattle.std.specs.List.{best_of}
 use Rattle.xc_dance.specs.declared.dance.Move.{Move}
@@ -114,3 +114,26 @@ nearer p t n k e = omega (arith, next_above-gt n k (open_items p t) e, next_open
 pub once_more : (p : Puzzle) (t : List Move) (i : ℕ) → IsOnce p × AreAllWanted (wanted_after p t) → IsOpenPrimary p t i
     → low_at p i - spends i t ≡ 1
 once_more p t i h o = grind (arith, has_left)
+
+-- ---- how many items are open
+
+-- a walk over the open items stands at item n, and saw so many
+pub record CountsTo (p : Puzzle) (t : List Move) (n seen : ℕ) : Type 0 where
+  pub at_open : IsOpenPrimary p t n
+  pub counted : seen + length (filter (λ j. ltb n j) (open_items p t)) ≡ length (open_items p t)
+
+pub count_first : (p : Puzzle) (t : List Move) (k : ℕ) → next_above 0 (open_items p t) ≡ Some k → CountsTo p t k 1
+count_first p t k e =
+    let all = sym (above_all 0 (open_items p t) (open_rises p t)) ∙ next_above-split 0 0 k _ (open_rises p t) e in
+    record { at_open = next_open p t 0 k e; counted = omega (arith, ap length all) }
+
+pub count_on : (p : Puzzle) (t : List Move) (n k seen : ℕ) → CountsTo p t n seen → next_above n (open_items p t) ≡ Some k
+    → CountsTo p t k (seen + 1)
+count_on p t n k seen at e = record {
+  at_open = next_open p t n k e;
+  counted = omega (arith, at.counted, ap length (next_above-split 0 n k (open_items p t) (open_rises p t) e));
+}
+
+pub count_ends : (p : Puzzle) (t : List Move) (n seen : ℕ) → CountsTo p t n seen
+    → next_above n (open_items p t) ≡ None → length (open_items p t) ≡ seen
+count_ends p t n seen at e = omega (arith, at.counted, ap length (next_above-none n (open_items p t) e))

@@ -104,6 +104,14 @@ pub record EndsOver (d : Dancing) (ls : Levels) (m : ℕ) (e : Dancing) (ks : Le
   pub ended : ks.levels ≡ []
   pub count : m ≡ n + length (coming d.puzzle d.trail ls.levels true)
 
+-- Nothing is left below, and members are still to be passed over.
+pub record FallsBack (d : Dancing) (ls : Levels) (m : ℕ) (e : Dancing) (ks : Levels) (n : ℕ) : Type 0 where
+  pub still : (e ≡ record d { trail = e.trail }) × (ks ≡ record ls { levels = ks.levels })
+  pub standing : IsStanding e.puzzle e.trail ks.levels false
+  pub members : drop m (coming d.puzzle d.trail ls.levels true) ≡ drop n (coming e.puzzle e.trail ks.levels false)
+  pub count : m + length (coming e.puzzle e.trail ks.levels false) ≡ n + length (coming d.puzzle d.trail ls.levels true)
+  pub less : work_left e ks false ≤ work_left d ls true
+
 -- It went over n members: the choices of ks are the last of them.
 pub record WentOver (d : Dancing) (ls : Levels) (down : Bool) (n : ℕ) (e : Dancing) (ks : Levels) : Type 0 where
   pub still : (e ≡ record d { trail = e.trail }) × (ks ≡ record ls { levels = ks.levels })
