@@ -8,7 +8,7 @@ use Rattle.xc_search.specs.inner.Levels.{Levels, IsStanding}
 use Rattle.xc_search.specs.inner.Ahead.{visits, ahead, GoesOn}
 use Rattle.xc_search.specs.inner.Paths.{AreLed, KeepsPath, ground}
 use Rattle.xc_search.proofs.paths.Led.{led_ground}
-use Rattle.xc_search.proofs.stacked.WorkUnrolled.{some_work}
+use Rattle.xc_search.proofs.stacked.LessWork.{some_work}
 use Rattle.xc_search.proofs.stacked.PassedOver.{stands_behind}
 
 -- a node without a solution

@@ -5,7 +5,7 @@ use Rattle.std.proofs.Math.Seq.{drop-append-add}
 use Rattle.xc_search.specs.Listing.{listing}
 use Rattle.xc_search.specs.inner.Residual.{residual_of}
 use Rattle.xc_search.proofs.stacked.PassedOver.{stands_behind}
-use Rattle.xc_search.proofs.stacked.WorkUnrolled.{some_work}
+use Rattle.xc_search.proofs.stacked.LessWork.{some_work}
 use Rattle.xc_dance.specs.Dancing.{Dancing}
 use Rattle.xc_search.specs.inner.Levels.{Levels, IsStanding, choices_of, to_give, coming}
 use Rattle.xc_search.specs.inner.Ahead.{EntersBranch, IsDone}

@@ -30,7 +30,7 @@ use Rattle.xc_search.proofs.residual.EachMove.{in_range}
 use Rattle.xc_input.proofs.lists.Members.{each_in}
 use Rattle.xc_search.proofs.residual.BranchItemLeft.{choice_is_branch_item}
 use Rattle.xc_search.proofs.moves.OldestMoves.{oldest_all, oldest-drop}
-use Rattle.xc_search.proofs.stacked.WorkUnrolled.{less_work}
+use Rattle.xc_search.proofs.stacked.LessWork.{less_work}
 use Rattle.xc_input.proofs.lists.Filters.{map-map}
 use Rattle.xc_search.proofs.Cases.{mapped_none, mapped_some}
 use Rattle.xc_search.specs.inner.Commits.{tweaked}
