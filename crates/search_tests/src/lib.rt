@@ -18,6 +18,8 @@ mod closing;
 #[cfg(test)]
 mod cutting;
 #[cfg(test)]
+mod passing;
+#[cfg(test)]
 mod searching;
 #[cfg(test)]
 mod walking;

@@ -5,10 +5,15 @@ use xc_dance::{Dance, Lists};
 use xc_input::{Kind, Problem};
 use xc_search::{Choice, Cut, PathFault, Search, Walk, most_moves};
 
+/// Once `a x` is taken, `b` to `h` have one branch each and `i` none, seven items behind the first of these.
+const FAR_DEAD_END: &[u8] =
+    b"a b c d e f g h i x\na i\na x\ni x\nb\nb x\nc\nc x\nd\nd x\ne\ne x\nf\nf x\ng\ng x\nh\nh x\n";
+
 /// Problems of each kind, that are listed whole and by parts.
-pub const KINDS: [(Kind, &[u8]); 5] = [
+pub const KINDS: [(Kind, &[u8]); 6] = [
     (Kind::Plain, SEVEN),
     (Kind::Plain, THREE_ALIKE),
+    (Kind::Plain, FAR_DEAD_END),
     (Kind::Colours, COLOURED),
     (Kind::Bounds, TWICE),
     (Kind::Bounds, ALONE),

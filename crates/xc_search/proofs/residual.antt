@@ -1,6 +1,7 @@
 pub mod BranchItemLeft
 pub mod CyclicUses
 pub mod EachMove
+pub mod EvenOptions
 pub mod FirstFewest
 pub mod LeftAreReady
 pub mod NumberedOnce

@@ -2,6 +2,8 @@ pub mod BackAtLevel
 pub mod BegunComesFirst
 pub mod CountedOver
 pub mod Depth
+pub mod EarlyChoice
+pub mod LessWork
 pub mod LevelsLeft
 pub mod LoopSteps
 pub mod NextBranch
@@ -10,4 +12,3 @@ pub mod NextOption
 pub mod PassedOver
 pub mod ShownLevels
 pub mod Start
-pub mod WorkUnrolled

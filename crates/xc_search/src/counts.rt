@@ -1,10 +1,10 @@
 //! How many moves and levels a search has at most.
-ghost use Rattle.std.specs.Prelude.{◌≡◌, true};
+ghost use Rattle.std.specs.Prelude.{◌≡◌, ◌<◌, true};
 ghost use Rattle.xc_input.specs.Problem.{IsValid};
 ghost use Rattle.xc_search.specs.Room.{room_for};
-ghost use Rattle.xc_search.specs.inner.MostLevels.{high_total, most_levels, IsOnce};
+ghost use Rattle.xc_search.specs.inner.MostLevels.{high_total, most_levels, primary_uses, IsOnce, IsEven};
 
-use xc_input::Problem;
+use xc_input::{Problem, Use};
 
 /// How many moves a search of the problem has on its trail at most: twice the items and twice the uses. It is public,
 /// so that a caller can give a dance the room that a search asks for.
@@ -48,4 +48,37 @@ pub fn is_once(problem: &Problem) -> bool
         }
     }
     true
+}
+
+/// How many primary items these uses hold.
+fn count_primary(problem: &Problem, uses: &[Use]) -> usize
+    ensures { result ≡ primary_uses problem.now.puzzle uses.now }
+{
+    let primary = problem.primary();
+    let mut held: usize = 0;
+    for u in uses {
+        if u.item <= primary {
+            held += 1;
+        }
+    }
+    held
+}
+
+/// How many primary items each option holds, where all options hold as many and each item is to be held exactly once. 0
+/// where that isn't known.
+pub fn even_size(problem: &Problem) -> usize
+    requires { IsOnce problem.now.puzzle }
+    ensures { 0 < result → IsEven problem.now.puzzle result }
+{
+    let options = problem.options();
+    if options == 0 {
+        return 0;
+    }
+    let size = count_primary(problem, problem.option(1));
+    for o in 1..options {
+        if count_primary(problem, problem.option(o + 1)) != size {
+            return 0;
+        }
+    }
+    size
 }

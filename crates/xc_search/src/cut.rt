@@ -266,7 +266,8 @@ fn open_node<D: Dance>(position: &mut Position<D>, stack: &mut Stack) -> Settled
         work_left position.new stack.new false < work_left position.old stack.old true }
     ensures path { KeepsPath position.old stack.old position.new stack.new }
 {
-    match deepen(position, stack) {
+    let next = position.choose();
+    match deepen(position, stack, next) {
         Below::Branch(entered) => {
             position.commit_branch(entered.item, entered.place as u32);
             Settled::Opened
@@ -345,7 +346,8 @@ fn visit_node<D: Dance>(position: &mut Position<D>, levels: &mut Stack, found: b
     ensures barren { result.found ≡ false →
         (found ≡ false) × GoesOn position.old levels.old true position.new levels.new result.goes_on }
 {
-    match deepen(position, levels) {
+    let next = position.choose();
+    match deepen(position, levels, next) {
         Below::Branch(entered) => {
             position.commit_branch(entered.item, entered.place as u32);
             Visit {

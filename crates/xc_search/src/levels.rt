@@ -1,12 +1,14 @@
 //! The levels of the search.
-ghost use Rattle.std.specs.Prelude.{◌≡◌, ◌+◌, ◌<◌, ◌≤◌, ◌^◌, List, [], ◌∷◌, true, false, None};
+ghost use Rattle.std.specs.Prelude.{◌≡◌, ◌+◌, ◌<◌, ◌≤◌, ◌^◌, List, [], ◌∷◌, length, true, false, None};
 ghost use Rattle.std.specs.Prelude.{IfSome, IsNone};
 ghost use Rattle.xc_input.specs.Problem.{Puzzle};
 ghost use Rattle.xc_search.specs.inner.MostLevels.{most_levels};
-ghost use Rattle.xc_search.specs.inner.Levels.{AreStacked, IsStanding, IsEntered, begun_level};
+ghost use Rattle.xc_search.specs.inner.Levels.{AreStacked, IsNext, IsSearchable, IsStanding, IsEntered, begun_level};
 ghost use Rattle.xc_search.specs.inner.Commits.{oldest};
 ghost use Rattle.xc_search.specs.inner.Ahead.{work_left, GoesOn, EntersBranch, IsDone, branched};
-ghost use Rattle.xc_search.specs.inner.Ahead.{EntersOver, StandsOver, EndsOver};
+ghost use Rattle.xc_search.specs.inner.Ahead.{EntersOver, StandsOver, EndsOver, FallsBack};
+ghost use Rattle.xc_search.specs.Listing.{listing};
+ghost use Rattle.xc_search.specs.inner.Residual.{residual_of};
 ghost use Rattle.xc_search.specs.Residuals.{choice_after};
 ghost use Rattle.xc_search.specs.inner.Paths.{KeepsPath};
 
@@ -36,17 +38,24 @@ pub enum Below {
     Solution,
 }
 
-/// Begins a level and enters its first branch, since what is left wasn't searched yet. A level without
-/// branches ends at once, and isn't noted.
+/// Begins a level at an item, the next one, and enters its first branch, since what is left wasn't searched yet. A level
+/// without branches ends at once, and isn't noted. At the branch item it goes on with the search's own path.
 #[inline(always)]
-pub fn deepen<D: Dance>(position: &mut Position<D>, stack: &mut Stack) -> Below
+pub fn deepen<D: Dance>(
+    position: &mut Position<D>,
+    stack: &mut Stack,
+    next: Option<(u32, usize)>,
+) -> Below
     requires standing { IsStanding position.old.puzzle position.old.trail stack.old.levels true }
     requires levels_fit { most_levels position.old.puzzle ≤ stack.old.room }
+    requires next { IsNext position.old.puzzle position.old.trail next }
+    requires few { IfSome next (λ c. c.1 < 2 ^ 32) }
     ensures same { result ≡ Below.Solution → (position.new ≡ position.old) × (stack.new ≡ stack.old) }
     ensures solved { result ≡ Below.Solution → choice_after position.old.puzzle position.old.trail ≡ None }
     ensures deeper { (b : Entered) → result ≡ Below.Branch b →
         EntersBranch position.old stack.old true position.new stack.new b.item b.place }
     ensures deeper_path { (b : Entered) → result ≡ Below.Branch b →
+        next ≡ choice_after position.old.puzzle position.old.trail →
         KeepsPath position.old stack.old (branched position.new b.item b.place) stack.new }
     ensures near { (b : Entered) → result ≡ Below.Branch b → b.place < 2 ^ 32 }
     ensures nothing { result ≡ Below.Nothing → GoesOn position.old stack.old true position.new stack.new false }
@@ -54,7 +63,7 @@ pub fn deepen<D: Dance>(position: &mut Position<D>, stack: &mut Stack) -> Below
         work_left position.new stack.new false < work_left position.old stack.old true }
     ensures path { result ≡ Below.Nothing → KeepsPath position.old stack.old position.new stack.new }
 {
-    let Some((item, count)) = position.choose() else {
+    let Some((item, count)) = next else {
         return Below::Solution;
     };
     let count = count as u32;
@@ -150,10 +159,72 @@ enum Next {
     Nothing,
 }
 
+/// Passes over all that is left, with no move, where its solutions are known to be no more than are to be passed over.
+#[inline(always)]
+fn pass_last<D: Dance>(position: &Position<D>, more: &mut u64) -> bool
+    requires { IsSearchable position.now.puzzle position.now.trail }
+    ensures passed { result ≡ true →
+        more.old ≡ more.new + length (listing (residual_of position.now.puzzle position.now.trail)) }
+    ensures not_passed { result ≡ false → more.new ≡ more.old }
+{
+    let Some(left) = position.last_choices() else {
+        return false;
+    };
+    let left = u64::from(left);
+    if left > *more {
+        return false;
+    }
+    *more -= left;
+    true
+}
+
+/// Goes below the levels: enters a first branch where what is left has any. A solution is passed over where `more` are
+/// to be, and is one of them. `last` is how many levels stood where the last choice led to a solution: where as many
+/// stand again, the solutions may be counted at once.
+#[inline(always)]
+fn go_below<D: Dance>(
+    position: &mut Position<D>,
+    stack: &mut Stack,
+    more: &mut u64,
+    last: &mut usize,
+) -> Below
+    requires standing { IsStanding position.old.puzzle position.old.trail stack.old.levels true }
+    requires levels_fit { most_levels position.old.puzzle ≤ stack.old.room }
+    ensures entered { (b : Entered) → result ≡ Below.Branch b →
+        EntersOver position.old stack.old more.old position.new stack.new more.new b.item b.place }
+    ensures near { (b : Entered) → result ≡ Below.Branch b → b.place < 2 ^ 32 }
+    ensures stands { result ≡ Below.Solution →
+        StandsOver position.old stack.old more.old position.new stack.new more.new }
+    ensures back { result ≡ Below.Nothing →
+        FallsBack position.old stack.old more.old position.new stack.new more.new }
+{
+    if stack.levels().len() == *last && pass_last(position, more) {
+        return Below::Nothing;
+    }
+    let next = position.choose_early();
+    match deepen(position, stack, next) {
+        Below::Branch(entered) => Below::Branch(entered),
+        Below::Nothing => Below::Nothing,
+        Below::Solution => {
+            *last = stack.levels().len().saturating_sub(1);
+            if *more == 0 {
+                return Below::Solution;
+            }
+            *more -= 1;
+            Below::Nothing
+        }
+    }
+}
+
 /// Enters the next branch, a first one where what is left has any. A solution is passed over where `more` are to be,
 /// and is one of them.
 #[inline(always)]
-fn go_on<D: Dance>(position: &mut Position<D>, stack: &mut Stack, more: &mut u64) -> Next
+fn go_on<D: Dance>(
+    position: &mut Position<D>,
+    stack: &mut Stack,
+    more: &mut u64,
+    last: &mut usize,
+) -> Next
     requires standing { IsStanding position.old.puzzle position.old.trail stack.old.levels true }
     requires levels_fit { most_levels position.old.puzzle ≤ stack.old.room }
     ensures entered { (b : Entered) → result ≡ Next.Branch b →
@@ -164,15 +235,10 @@ fn go_on<D: Dance>(position: &mut Position<D>, stack: &mut Stack, more: &mut u64
     ensures done { result ≡ Next.Nothing →
         EndsOver position.old stack.old more.old position.new stack.new more.new }
 {
-    match deepen(position, stack) {
+    match go_below(position, stack, more, last) {
         Below::Branch(entered) => return Next::Branch(entered),
+        Below::Solution => return Next::Solution,
         Below::Nothing => {}
-        Below::Solution => {
-            if *more == 0 {
-                return Next::Solution;
-            }
-            *more -= 1;
-        }
     }
     match resume(position, stack) {
         Some(entered) => Next::Branch(entered),
@@ -193,8 +259,9 @@ pub fn advance<D: Dance>(position: &mut Position<D>, stack: &mut Stack, many: u6
     ensures ended { IfSome result (λ more. EndsOver position.old stack.old many position.new stack.new more) }
 {
     let mut more = many;
+    let mut last = usize::MAX;
     loop {
-        match go_on(position, stack, &mut more) {
+        match go_on(position, stack, &mut more, &mut last) {
             Next::Branch(entered) => position.commit_branch(entered.item, entered.place as u32),
             Next::Solution => return None,
             Next::Nothing => return Some(more),

@@ -7,11 +7,13 @@ ghost use Rattle.xc_search.specs.inner.Commits.{MayStand};
 ghost use Rattle.xc_dance.specs.Moves.{IsLegal, AreTweaks, listed_numbers, next_above};
 ghost use Rattle.xc_search.specs.Residuals.{wanted_after, choice_after};
 ghost use Rattle.xc_search.specs.Room.{room_for};
-ghost use Rattle.xc_search.specs.inner.Levels.{AreAllWanted};
+ghost use Rattle.xc_search.specs.inner.Levels.{AreAllWanted, IsEarlyChoice, IsSearchable};
+ghost use Rattle.xc_search.specs.Listing.{listing};
+ghost use Rattle.xc_search.specs.inner.Residual.{residual_of};
 ghost use Rattle.xc_search.specs.inner.MostLevels.{IsOnce};
 
-use crate::branch_item::choose_next;
-use crate::counts::is_once;
+use crate::branch_item::{choose_early, choose_next, first_of_open};
+use crate::counts::{even_size, is_once};
 use std::marker::Model;
 use xc_dance::{Dance, Move};
 use xc_input::Problem;
@@ -24,13 +26,15 @@ pub struct Position<'a, D: Dance> {
     problem: &'a Problem,
     /// Each primary item is to be held exactly once.
     once: bool,
+    /// How many primary items each option holds, where that is one number, and `once`; else 0.
+    each_holds: usize,
 }
 
 impl<'a, D: Dance> Model for Position<'a, D> {
-    ghost use Rattle.std.specs.Prelude.{◌≡◌, ◌≤◌, true};
+    ghost use Rattle.std.specs.Prelude.{◌≡◌, ◌<◌, ◌≤◌, true};
     ghost use Rattle.xc_dance.specs.Dancing.{Dancing};
     ghost use Rattle.xc_search.specs.Room.{room_for};
-    ghost use Rattle.xc_search.specs.inner.MostLevels.{IsOnce};
+    ghost use Rattle.xc_search.specs.inner.MostLevels.{IsOnce, IsEven};
 
     ghost Value = { Dancing };
 
@@ -40,6 +44,7 @@ impl<'a, D: Dance> Model for Position<'a, D> {
       same : (D.state a.dance).puzzle ≡ a.problem.now.puzzle;
       moves_fit : room_for a.problem.now.puzzle ≤ (D.state a.dance).room;
       once : a.once ≡ true → IsOnce a.problem.now.puzzle;
+      even : 0 < a.each_holds → IsEven a.problem.now.puzzle a.each_holds;
     } };
 }
 
@@ -51,10 +56,12 @@ impl<'a, D: Dance> Position<'a, D> {
         ensures { result ≡ D.state dance }
     {
         let once = is_once(problem);
+        let each_holds = if once { even_size(problem) } else { 0 };
         Position {
             dance,
             problem,
             once,
+            each_holds,
         }
     }
 
@@ -74,6 +81,7 @@ impl<'a, D: Dance> Position<'a, D> {
             dance,
             problem: _,
             once: _,
+            each_holds: _,
         } = self;
         dance
     }
@@ -102,6 +110,31 @@ impl<'a, D: Dance> Position<'a, D> {
         ensures few { IfSome result (λ c. c.1 < 2 ^ 32) }
     {
         choose_next(&self.dance, self.problem, self.once)
+    }
+
+    /// An item to be branched on, the branch item unless some item has no branches, where no open item is held as often
+    /// as it may be.
+    #[inline(always)]
+    pub fn choose_early(&self) -> Option<(u32, usize)>
+        requires { AreAllWanted (wanted_after self.now.puzzle self.now.trail) }
+        ensures choice { IsEarlyChoice self.now.puzzle self.now.trail result }
+        ensures few { IfSome result (λ c. c.1 < 2 ^ 32) }
+    {
+        choose_early(&self.dance, self.problem, self.once)
+    }
+
+    /// How many solutions what is left has, where the next choice is known to be the last: where no more items are open
+    /// than each option holds, each option that is left holds all of them.
+    #[inline(always)]
+    pub fn last_choices(&self) -> Option<u32>
+        requires { IsSearchable self.now.puzzle self.now.trail }
+        ensures { IfSome result (λ n. n ≡ length (listing (residual_of self.now.puzzle self.now.trail))) }
+    {
+        if self.each_holds == 0 {
+            return None;
+        }
+        let first = first_of_open(&self.dance, self.each_holds)?;
+        Some(self.dance.len(first))
     }
 
     /// How many moves stand.

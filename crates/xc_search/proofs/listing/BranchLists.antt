@@ -1,11 +1,13 @@
 -- The branches of an item in their order.
 use Rattle.std.proofs.lemmas.Grind.{common_steps}
-use Rattle.std.proofs.Common.{ℕ, suc, ◌≡◌, ◌+◌, ◌<◌, true, eqb, List, [], length, map}
+use Rattle.std.proofs.Common.{ℕ, suc, ◌≡◌, ◌+◌, ◌<◌, ◌≤◌, true, eqb, List, [], ◌∷◌, length, map, length-append}
 use Rattle.std.proofs.Common.{take, drop, Some, None, ◌∙◌, arith, eqb-true, eq-eqb}
 use Rattle.std.proofs.lemmas.Option.{slice_get-map}
 use Rattle.std.specs.Prelude.{slice_get}
 use Rattle.std.specs.List.{enumerate_from}
-use Rattle.xc_input.specs.Problem.{Numbered, holding}
+use Rattle.xc_input.specs.Problem.{Numbered, holds, holding}
+use Rattle.xc_input.proofs.lists.Filters.{length-filter-le}
+use Rattle.xc_search.proofs.Cases.{by_bool}
 use Rattle.xc_search.specs.Listing.{Wanted, Residual, Branch, branches_of, branch_count, take_branch, none_branch}
 use Rattle.std.proofs.lemmas.List.{length-map, length-take}
 use Rattle.std.proofs.lemmas.List.FromFn.{length-enumerate_from}
@@ -17,7 +19,7 @@ takes r w =
     map (take_branch r w.item (branch_count r w))
     (enumerate_from 1 (take (branch_count r w) (holding w.item r.options)))
 
-length-takes : (r : Residual) (w : Wanted)
+pub length-takes : (r : Residual) (w : Wanted)
     → length (takes r w) ≡ length (take (branch_count r w) (holding w.item r.options))
 length-takes r w = length-map _ (take_branch r w.item (branch_count r w)) ∙ length-enumerate_from 1 _
 
@@ -27,6 +29,26 @@ pub branch_takes : (r : Residual) (w : Wanted) (k : ℕ) (x : Numbered) → k < 
 branch_takes r w k x h e =
     let at = get_numbered 1 _ k x (get_take (branch_count r w) (holding w.item r.options) k h ∙ e) in
     get_left (takes r w) _ k _ (rw (slice_get-map, at))
+
+-- an item has at most a branch for each option, and the branch of none
+pub few_branches : (r : Residual) (w : Wanted) → length (branches_of r w) ≤ length r.options + 1
+few_branches r w =
+    let few = length-filter-le (λ o. holds o w.item) r.options in
+    by_bool (eqb w.low 0)
+    (λ e. rw e (omega (
+      arith,
+      length-append (takes r w) (none_branch r w.item (branch_count r w) ∷ []),
+      length-takes r w,
+      length-take (branch_count r w) (holding w.item r.options),
+      few,
+    )))
+    (λ e. rw e (omega (
+      arith,
+      length-append (takes r w) [],
+      length-takes r w,
+      length-take (branch_count r w) (holding w.item r.options),
+      few,
+    )))
 
 -- a branch behind the last option takes none
 pub branch_none : (r : Residual) (w : Wanted) (k : ℕ) → k < branch_count r w

@@ -41,15 +41,19 @@ pub least_is_one : (count : Wanted → ℕ) (ws : List Wanted) (w : Wanted) → 
 least_is_one count [] w e = cc
 least_is_one count (v ∷ vs) w e = grind (arith, best_is_one)
 
-pub branches_less : (r : Residual) (w : Wanted) → branch_item r ≡ Some w
+pub each_less : (r : Residual) (w : Wanted) → IsIn r.items w
     → AllByRecursion (λ b. size_of b.next < size_of r) (branches_of r w)
-branches_less r w e =
+each_less r w known =
     let n = branch_count r w in
-    let fewer = less_items w r.items (least_is_one _ _ _ e) in
+    let fewer = less_items w r.items known in
     let none_less = length-filter-le (λ o. not (holds o w.item)) r.options in
     each-append _ _ _ (each-map _ (take_branch r w.item n) _
     (each-numbered (λ x. size_of (pick r w.item x) < size_of r) n 1 (holding w.item r.options) (picks_less r w.item)))
     (by_bool (eqb w.low 0) (λ h. rw h (omega (arith, fewer, none_less), tt)) (λ h. rw h tt))
+
+pub branches_less : (r : Residual) (w : Wanted) → branch_item r ≡ Some w
+    → AllByRecursion (λ b. size_of b.next < size_of r) (branches_of r w)
+branches_less r w e = each_less r w (least_is_one _ _ _ e)
 
 -- what holds where no item is left, and where it holds of what the branches leave
 pub by_branches : (P : Residual → Type 0) → ((r : Residual) → branch_item r ≡ None → P r)

@@ -11,15 +11,16 @@ use Rattle.xc_search.specs.Listing.{whole}
 use Rattle.xc_search.specs.Cut.{left_by_one, below, IsPathBy}
 use Rattle.xc_search.specs.inner.Residual.{residual_of}
 use Rattle.xc_search.specs.inner.Levels.{IsSearchable, IsStanding, IsEntered}
-use Rattle.xc_search.specs.inner.Levels.{begun_level, taken}
+use Rattle.xc_search.specs.inner.Levels.{begun_level, chosen, taken}
 use Rattle.xc_search.specs.inner.Levels.{coming, behind}
-use Rattle.xc_search.specs.inner.Descent.{Leads, IsDown}
+use Rattle.xc_search.specs.inner.Descent.{Leads, LeadsTo, IsDown}
+use Rattle.xc_search.specs.inner.Paths.{IsBranchItem}
 use Rattle.xc_search.proofs.residual.BranchItemLeft.{no_moves_leave_all}
 use Rattle.xc_search.proofs.stacked.NextLevel.{ext_after_branch, ext_whole}
 use Rattle.xc_search.proofs.stacked.NextLevel.{oldest-oldest}
 use Rattle.xc_search.proofs.stacked.Start.{starts_standing, comes_alone}
 use Rattle.xc_search.proofs.stacked.Depth.{shallow_first}
-use Rattle.xc_search.proofs.paths.Below.{left_by_more}
+use Rattle.xc_search.proofs.paths.Below.{left_by_more, left_by_level}
 use Rattle.xc_search.proofs.paths.Numbers.{no_further, left_less, below_left}
 
 -- before the next branch
@@ -59,3 +60,9 @@ down_coming {p} {path = path} {t} d ls e =
 -- the number at a place, behind those before it
 pub parts_at : (ns : List ℕ) (i d : ℕ) → i < length ns → ns ≡ take i ns ++ get_or ns i d ∷ drop (i + 1) ns
 parts_at ns i d h = grind (arith, common_steps)
+
+-- a level of the branch item leads to what its choice leaves
+pub led_to : (p : Puzzle) (u t : List Move) (l : Level) → IsBranchItem p u l.item → LeadsTo p u t l
+    → left_by_one (chosen p l) (residual_of p u) ≡ Some (residual_of p t)
+led_to p u t l first leads =
+    left_by_level p u l leads.branch first leads.at leads.choice ∙ ap Some (sym leads.next)

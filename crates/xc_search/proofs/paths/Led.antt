@@ -6,7 +6,7 @@ use Rattle.xc_input.specs.Problem.{Puzzle}
 use Rattle.xc_dance.specs.Dancing.{Dancing}
 use Rattle.xc_search.specs.inner.Commits.{oldest}
 use Rattle.xc_search.specs.inner.Levels.{Levels, IsBegun}
-use Rattle.xc_search.specs.inner.Paths.{AreLed, KeepsPath, ground}
+use Rattle.xc_search.specs.inner.Paths.{AreLed, KeepsPath, IsBranchItem, ground}
 
 pub led_ground : (p : Puzzle) (u t : List Move) (ls : List Level) → AreLed p u t ls → ground t ls ≡ u
 led_ground p u t [] a = a
@@ -14,8 +14,8 @@ led_ground p u t (l ∷ ls) a = led_ground p u (oldest l.mark t) ls a.1
 
 -- a branch was begun
 pub led_begun : (p : Puzzle) (u t s : List Move) (l k : Level) (ls : List Level) → IsBegun p t l s k
-    → AreLed p u (oldest l.mark t) ls → AreLed p u s (k ∷ ls)
-led_begun p u t s l k ls b a = grind (arith)
+    → IsBranchItem p (oldest l.mark t) l.item → AreLed p u (oldest l.mark t) ls → AreLed p u s (k ∷ ls)
+led_begun p u t s l k ls b first a = grind (arith)
 
 -- the newest level ended
 pub keeps_back : (d e : Dancing) (l : Level) (vs ks : Levels) → vs.levels ≡ l ∷ drop 1 vs.levels →

@@ -8,15 +8,14 @@ use Rattle.xc_search.specs.inner.Levels.{Levels, IsStanding}
 use Rattle.xc_search.specs.inner.Ahead.{visits, ahead, GoesOn}
 use Rattle.xc_search.specs.inner.Paths.{AreLed, KeepsPath, ground}
 use Rattle.xc_search.proofs.paths.Led.{led_ground}
-use Rattle.xc_search.proofs.stacked.WorkUnrolled.{work_unrolled}
-use Rattle.xc_search.proofs.Cases.{by_option}
+use Rattle.xc_search.proofs.stacked.LessWork.{some_work}
 use Rattle.xc_search.proofs.stacked.PassedOver.{stands_behind}
 
 -- a node without a solution
 pub goes_behind : (d e : Dancing) (ls : Levels) → e ≡ d → IsStanding d.puzzle d.trail ls.levels true
     → listing (residual_of d.puzzle d.trail) ≡ [] →
     GoesOn d ls true e ls false × (visits e.puzzle e.trail ls.levels < ahead d.puzzle d.trail ls.levels true)
-goes_behind d e ls same s none = grind (arith, stands_behind, work_unrolled, by_option)
+goes_behind d e ls same s none = grind (arith, stands_behind, some_work)
 
 -- it comes back to the node
 pub comes_back : (d e f : Dancing) (ls ks : Levels) → ls.levels ≡ [] → e ≡ record d { trail = e.trail }

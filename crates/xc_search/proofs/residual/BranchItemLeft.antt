@@ -21,7 +21,7 @@ use Rattle.xc_input.proofs.lists.EachElement.{each_weaker, each-map}
 each_open : (p : Puzzle) (t : List Move) → AllByRecursion (λ i. is_open i t ≡ true) (open_items p t)
 each_open p t = grind (arith, recursion_from_All, filter_passes)
 
-counts_same : (p : Puzzle) (t : List Move) → AreLegal p t
+pub counts_same : (p : Puzzle) (t : List Move) → AreLegal p t
     → AllByRecursion (λ w. branches_after p t w ≡ branch_count (residual_of p t) w) (wanted_after p t)
 counts_same p t legal = grind (arith, each-map, each_weaker, listed_open, each_open)
 

@@ -31,7 +31,7 @@ left_options p v (m ∷ t) = kept (IsOption p) p t m (left_options p v t)
 
 -- ---- open or not
 
-open_if : (j : ℕ) (t : List Move) → is_covered j t ≡ false → purified j t ≡ None → is_open j t ≡ true
+pub open_if : (j : ℕ) (t : List Move) → is_covered j t ≡ false → purified j t ≡ None → is_open j t ≡ true
 open_if j [] c q = refl
 open_if j (m ∷ t) c q = grind (arith, open_if j t)
 

@@ -6,7 +6,7 @@ use Rattle.std.specs.Prelude.{slice_get}
 use Rattle.xc_input.specs.declared.problem.Use.{Use}
 use Rattle.xc_dance.specs.declared.dance.Move.{Move}
 use Rattle.xc_input.specs.Problem.{Puzzle, Numbered, holds, primary_count, holding, use_count, uses_of}
-use Rattle.xc_search.specs.Listing.{none, stays, branch_item}
+use Rattle.xc_search.specs.Listing.{none, stays}
 use Rattle.xc_dance.specs.Moves.{open_items}
 use Rattle.xc_search.specs.Residuals.{wanted_at, wanted_after}
 use Rattle.xc_search.specs.inner.Residual.{residual_of}
@@ -15,7 +15,8 @@ use Rattle.xc_dance.specs.Commits.{after_spend, after_use, after_uses, others}
 use Rattle.xc_search.specs.inner.Commits.{tweaked, after_none}
 use Rattle.xc_search.specs.inner.Sparing.{spendings, uses_in, IsSparing}
 use Rattle.xc_input.proofs.lists.Filters.{length-filter-le}
-use Rattle.xc_search.proofs.listing.BranchesLess.{less_items, least_is_one}
+use Rattle.xc_search.proofs.listing.BranchesLess.{less_items}
+use Rattle.xc_input.proofs.lists.Members.{IsIn}
 use Rattle.xc_search.proofs.room.FewMoves.{uses_whole}
 use Rattle.std.proofs.lemmas.List.{length-map}
 use Rattle.std.proofs.lemmas.List.FromFn.{length-range_with_len}
@@ -70,17 +71,16 @@ pub sparing_taken : (p : Puzzle) (t : List Move) (i k m : ℕ) (x : Numbered) �
     → IsSparing p (after_uses p (others i (uses_of p x.number)) (tweaked m i (after_spend p i t)))
 sparing_taken p t i k m x s e took = grind (arith, common_steps, spends_made, uses_kept, le-leb)
 
-pub sparing_none : (p : Puzzle) (t : List Move) (i m : ℕ) → IsSparing p t
-    → branch_item (residual_of p t) ≡ Some (wanted_at p t i) →
+pub sparing_none : (p : Puzzle) (t : List Move) (i m : ℕ) → IsSparing p t → IsIn (wanted_after p t) (wanted_at p t i) →
     residual_of p (after_none i (tweaked m i (after_spend p i t))) ≡ none (residual_of p t) i
     → IsSparing p (after_none i (tweaked m i (after_spend p i t)))
-sparing_none p t i m s b r =
-    let less = less_items (wanted_at p t i) (wanted_after p t) (least_is_one _ _ _ b) in
+sparing_none p t i m s known r =
+    let less = less_items (wanted_at p t i) (wanted_after p t) known in
     let fewer = fewer_uses (λ o. not (holds o i)) (left p t) in
     grind (arith, spent_after_none, spent_tweaked, spent_after_spend, open_is, less, fewer, r)
 
 -- also while a level is open and no branch was begun
 pub sparing_after_spend : (p : Puzzle) (t : List Move) (i : ℕ) → IsSparing p t
-    → branch_item (residual_of p t) ≡ Some (wanted_at p t i)
+    → IsIn (wanted_after p t) (wanted_at p t i)
     → spendings (after_spend p i t) ≤ use_count p.options + primary_count p
-sparing_after_spend p t i s b = grind (arith, spent_after_spend, open_is, less_items, least_is_one)
+sparing_after_spend p t i s known = grind (arith, spent_after_spend, open_is, less_items)

@@ -10,11 +10,11 @@ use Rattle.xc_dance.specs.Moves.{AreTweaks}
 use Rattle.xc_search.specs.Residuals.{wanted_at}
 use Rattle.xc_search.specs.inner.Residual.{residual_of}
 use Rattle.xc_search.specs.inner.Levels.{IsLevel, AreStacked}
-use Rattle.xc_search.specs.inner.Levels.{to_give}
+use Rattle.xc_search.specs.inner.Levels.{to_give, branches_at}
 use Rattle.xc_search.specs.inner.Commits.{oldest}
 use Rattle.xc_search.specs.inner.Ahead.{visits}
 use Rattle.xc_search.proofs.listing.BranchLists.{branches_end}
-use Rattle.xc_search.proofs.stacked.NextLevel.{ext_after_spend, ext_longer, length-oldest, oldest-oldest, branches_here}
+use Rattle.xc_search.proofs.stacked.NextLevel.{ext_after_spend, ext_longer, length-oldest, oldest-oldest}
 use Rattle.xc_search.proofs.stacked.NextLevel.{ground_is}
 
 pub returned : (p : Puzzle) (t : List Move) (l : Level) (ls : List Level) → AreStacked p t (l ∷ ls) →
@@ -25,10 +25,11 @@ returned p t l ls stacked = grind (arith, oldest-oldest, length-oldest)
 -- a level whose branches were all begun gives nothing more
 pub finished : (p : Puzzle) (t : List Move) (l : Level) (ls : List Level) → AreStacked p t (l ∷ ls) → l.count ≤ l.begun
     → (to_give p t (l ∷ ls) ≡ to_give p (oldest l.mark t) ls) × (visits p (oldest l.mark t) ls < visits p t (l ∷ ls))
+unfolding branches_at
 finished p t l ls stacked h =
     let u = oldest l.mark t in
     let w = wanted_at p u l.item in
-    grind (arith, branches_here p u w stacked.0.branch, branches_end (residual_of p u) w)
+    grind (arith, branches_end (residual_of p u) w)
 
 -- its tweaks are the newest moves
 pub closing : (p : Puzzle) (t : List Move) (l : Level) → IsLevel p t l → l.base ≡ length t

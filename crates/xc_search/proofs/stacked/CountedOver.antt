@@ -1,20 +1,16 @@
 -- The one loop that passes over members and counts them.
-use Rattle.std.proofs.Common.{ℕ, ◌≡◌, ◌+◌, ◌≤◌, true, false, length, drop, arith}
+use Rattle.std.proofs.Common.{ℕ, suc, ◌≡◌, ◌+◌, ◌∷◌, ◌++◌, true, false, length, map, refl, ap, arith, length-append}
+use Rattle.std.proofs.lemmas.List.{length-map}
+use Rattle.std.proofs.Math.Seq.{drop-append-add}
+use Rattle.xc_search.specs.Listing.{listing}
+use Rattle.xc_search.specs.inner.Residual.{residual_of}
+use Rattle.xc_search.proofs.stacked.PassedOver.{stands_behind}
+use Rattle.xc_search.proofs.stacked.LessWork.{some_work}
 use Rattle.xc_dance.specs.Dancing.{Dancing}
-use Rattle.xc_search.specs.inner.Levels.{Levels, IsStanding, coming}
-use Rattle.xc_search.specs.inner.Ahead.{EntersBranch, IsDone, work_left}
-use Rattle.xc_search.specs.inner.Ahead.{EntersOver, EndsOver}
+use Rattle.xc_search.specs.inner.Levels.{Levels, IsStanding, choices_of, to_give, coming}
+use Rattle.xc_search.specs.inner.Ahead.{EntersBranch, IsDone}
+use Rattle.xc_search.specs.inner.Ahead.{EntersOver, EndsOver, FallsBack}
 
--- Nothing is left below, and members are still to be passed over.
-pub record FallsBack (d : Dancing) (ls : Levels) (m : ℕ) (e : Dancing) (ks : Levels) (n : ℕ) : Type 0 where
-  pub still : (e ≡ record d { trail = e.trail }) × (ks ≡ record ls { levels = ks.levels })
-  pub standing : IsStanding e.puzzle e.trail ks.levels false
-  pub members : drop m (coming d.puzzle d.trail ls.levels true) ≡ drop n (coming e.puzzle e.trail ks.levels false)
-  pub count : m + length (coming e.puzzle e.trail ks.levels false) ≡ n + length (coming d.puzzle d.trail ls.levels true)
-  pub less : work_left e ks false ≤ work_left d ls true
-
--- an item without branches leaves no member
--- a solution is one of them
 -- a branch below is entered
 pub enters_below : {d e : Dancing} {ls ks : Levels} (m : ℕ) {i q : ℕ} → EntersBranch d ls true e ks i q
     → EntersOver d ls m e ks m i q
@@ -29,3 +25,31 @@ enters_back back b = grind arith
 pub ends_back : {d e f : Dancing} {ls ks js : Levels} {m n : ℕ} → FallsBack d ls m e ks n → IsDone e ks false f js
     → EndsOver d ls m f js n
 ends_back back done = grind arith
+
+-- all that is left is passed over with no move
+pub falls_over : (d : Dancing) (ls : Levels) (m n : ℕ) → IsStanding d.puzzle d.trail ls.levels true
+    → m ≡ n + length (listing (residual_of d.puzzle d.trail)) → FallsBack d ls m d ls n
+falls_over d ls m n s passed =
+    let ms = map (λ m. choices_of d.puzzle ls.levels ++ m) (listing (residual_of d.puzzle d.trail)) in
+    let rest = to_give d.puzzle d.trail ls.levels in
+    let all : length ms + n ≡ m =
+    omega (arith, passed, length-map (listing (residual_of d.puzzle d.trail)) (λ m. choices_of d.puzzle ls.levels ++ m)) in
+    record {
+      still = (refl, refl);
+      standing = stands_behind d.puzzle d.trail ls.levels s.stacked;
+      members = rw (← all) (drop-append-add ms rest n);
+      count = omega (arith, all, length-append ms rest);
+      less = omega (arith, some_work (residual_of d.puzzle d.trail));
+    }
+
+-- a solution is one of them
+pub passes_one : (d : Dancing) (ls : Levels) (m n : ℕ) → IsStanding d.puzzle d.trail ls.levels true
+    → coming d.puzzle d.trail ls.levels true ≡ choices_of d.puzzle ls.levels ∷ to_give d.puzzle d.trail ls.levels
+    → m ≡ suc n → FallsBack d ls m d ls n
+passes_one d ls m n s one is = record {
+  still = (refl, refl);
+  standing = stands_behind d.puzzle d.trail ls.levels s.stacked;
+  members = rw (is, one) refl;
+  count = omega (arith, is, ap length one);
+  less = omega (arith, some_work (residual_of d.puzzle d.trail));
+}

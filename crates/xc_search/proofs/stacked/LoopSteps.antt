@@ -1,32 +1,31 @@
 -- The steps of the search's loop.
 use Rattle.std.proofs.Common.{ℕ, ◌≡◌, ◌+◌, ◌-◌, ◌<◌, ◌≤◌, Bool, true, false, List, ◌∷◌, length, drop, refl}
-use Rattle.std.proofs.Common.{Some, sym, ap, ◌∙◌, arith, subst, ap₂, length-drop, drop-drop}
+use Rattle.std.proofs.Common.{sym, ap, ◌∙◌, arith, subst, ap₂, length-drop, drop-drop}
 use Rattle.xc_dance.specs.declared.dance.Move.{Move}
 use Rattle.xc_search.specs.declared.level.Level.{Level}
 use Rattle.xc_search.specs.declared.level.Begun.{Begun}
 use Rattle.xc_input.specs.Problem.{Puzzle}
 use Rattle.xc_dance.specs.Dancing.{Dancing}
 use Rattle.xc_dance.specs.Moves.{AreTweaks}
-use Rattle.xc_search.specs.Residuals.{choice_after}
 use Rattle.xc_dance.specs.Commits.{option_at, after_spend}
 use Rattle.xc_search.specs.inner.Commits.{oldest}
-use Rattle.xc_search.specs.inner.Levels.{Levels, IsNode, IsLevel, AreStacked, IsStanding, MayBegin}
+use Rattle.xc_search.specs.inner.Levels.{Levels, IsNode, IsLevel, AreStacked, IsStanding, MayBegin, MayBranch}
 use Rattle.xc_search.specs.inner.Levels.{IsEntered, first_level}
 use Rattle.xc_search.specs.inner.Levels.{begun_level, newest_begun}
 use Rattle.xc_search.specs.inner.Ahead.{visits, ahead, GoesOn, EntersBranch, branched}
 use Rattle.xc_search.proofs.moves.OldestMoves.{oldest_all}
-use Rattle.xc_search.proofs.stacked.NextLevel.{descended, chosen_item, oldest-oldest}
+use Rattle.xc_search.proofs.stacked.NextLevel.{descended, open_in, oldest-oldest}
 use Rattle.xc_search.proofs.stacked.BackAtLevel.{returned, closing}
 use Rattle.xc_search.proofs.stacked.BegunComesFirst.{begun_coming}
 use Rattle.xc_search.proofs.stacked.Depth.{shallower}
 use Rattle.xc_search.specs.inner.Levels.{after_branch}
 use Rattle.xc_search.proofs.stacked.NextLevel.{ext_whole, ext_after_spend}
-use Rattle.xc_search.specs.inner.Paths.{KeepsPath, AreLed}
+use Rattle.xc_search.specs.inner.Paths.{KeepsPath, AreLed, IsBranchItem}
 use Rattle.xc_search.proofs.paths.Led.{led_begun}
 use Rattle.xc_search.specs.inner.Ahead.{work_left}
 use Rattle.xc_search.specs.inner.Residual.{residual_of}
+use Rattle.xc_search.specs.Residuals.{wanted_at}
 use Rattle.xc_search.proofs.parts.OneBranch.{none_listed}
-use Rattle.xc_search.proofs.listing.BranchesLess.{least_is_one}
 use Rattle.xc_search.proofs.paths.Settled.{goes_behind}
 use Rattle.xc_search.proofs.stacked.PassedOver.{stands_behind}
 
@@ -34,9 +33,9 @@ pub GoesOn-trans : (d e f : Dancing) (ls ks js : Levels) (x y z : Bool) → Goes
     → GoesOn d ls x f js z
 GoesOn-trans d e f ls ks js x y z a b = grind (arith)
 
-pub node_at : (p : Puzzle) (t : List Move) (ls : List Level) (i n : ℕ) → IsStanding p t ls true
-    → choice_after p t ≡ Some (i, n) → IsNode p t i
-node_at p t ls i n s e = grind (arith, chosen_item)
+pub node_at : (p : Puzzle) (t : List Move) (ls : List Level) (i n : ℕ) → IsStanding p t ls true → MayBranch p t i n
+    → IsNode p t i
+node_at p t ls i n s may = record { searchable = s.searchable refl; item = may.item; is_open = may.is_open }
 
 -- the levels with one more
 abbrev pub with_level : Level → Levels → Levels
@@ -47,7 +46,7 @@ pub record Opens (d e : Dancing) (ls : Levels) (i n : ℕ) (l : Level) : Type 0 
   pub spent : e ≡ record d { trail = after_spend d.puzzle i d.trail }
   pub level : l ≡ first_level d.puzzle d.trail i n
   pub standing : IsStanding d.puzzle d.trail ls.levels true
-  pub chosen : choice_after d.puzzle d.trail ≡ Some (i, n)
+  pub next : MayBranch d.puzzle d.trail i n
 
 -- it stands with its own moves, nothing is lost, and less is ahead
 pub deepens : {d e : Dancing} {ls : Levels} {i n : ℕ} {l : Level} → Opens d e ls i n l →
@@ -57,8 +56,7 @@ deepens {d} {e} {ls} {i} {n} {l} o =
     let p = d.puzzle in
     let t = d.trail in
     let here = o.standing.searchable refl in
-    let all = descended p t ls.levels i n here (o.standing.shallow refl) (chosen_item p t i n here.legal o.chosen)
-    o.standing.stacked in
+    let all = descended p t ls.levels i n here (o.standing.shallow refl) o.next o.standing.stacked in
     let on : GoesOn d ls true _ (with_level (first_level p t i n) ls) false =
     record { still = (refl, refl); standing = stands_behind p (after_spend p i t) _ all.0; members = all.1 } in
     rw (o.spent, o.level) (on, all.2, ext_whole (ext_after_spend p i t), refl)
@@ -84,7 +82,8 @@ pub enters_next : (d f : Dancing) (l : Level) (b : Begun) (vs ks : Levels) → A
     → vs.levels ≡ l ∷ drop 1 vs.levels → f ≡ record d { trail = f.trail }
     → IsEntered d.puzzle (oldest l.base d.trail) l f.trail (begun_level b l)
     → ks ≡ record vs { levels = newest_begun b vs.levels } → EntersBranch d vs false f ks l.item b.place
-    × ((u : List Move) → AreLed d.puzzle u (oldest l.mark d.trail) (drop 1 vs.levels)
+    × ((u : List Move) → IsBranchItem d.puzzle (oldest l.mark d.trail) l.item
+    → AreLed d.puzzle u (oldest l.mark d.trail) (drop 1 vs.levels)
     → AreLed f.puzzle u (branched f l.item b.place).trail ks.levels)
 enters_next d f l b vs ks stacked top ef entered ek =
     let p = d.puzzle in
@@ -98,17 +97,18 @@ enters_next d f l b vs ks stacked top ef entered ek =
     let under = oldest-oldest l.mark l.base d.trail here.0.within.0 here.0.within.1 in
     let levels : ks ≡ record vs { levels = k ∷ js } = ek ∙ ap (λ ls. record vs { levels = newest_begun b ls }) top in
     rw levels (subst (λ (f : Dancing). EntersBranch d vs false f (record vs { levels = k ∷ js }) l.item b.place
-    × ((u : List Move) → AreLed p u (oldest l.mark d.trail) js
+    × ((u : List Move) → IsBranchItem p (oldest l.mark d.trail) l.item → AreLed p u (oldest l.mark d.trail) js
     → AreLed f.puzzle u (branched f l.item b.place).trail (k ∷ js))) (sym ef) (
       grind (arith, entered, all, back, shallower p s v l k js back.0 entered.begun, top),
-      λ u a. led_begun p u s v l k js entered.begun (rw under a),
+      λ u first a. led_begun p u s v l k js entered.begun (rw under first) (rw under a),
     ))
 
 -- a new level's first branch is entered
 pub enters_first : {d e : Dancing} {ls : Levels} {i n : ℕ} {l : Level} → Opens d e ls i n l → (f : Dancing)
     (ks : Levels) (b : Begun) → f ≡ record e { trail = f.trail }
     → IsEntered e.puzzle e.trail l f.trail (begun_level b l) → ks ≡ with_level (begun_level b l) ls
-    → EntersBranch d ls true f ks i b.place × KeepsPath d ls (branched f i b.place) ks
+    → EntersBranch d ls true f ks i b.place
+    × (IsBranchItem d.puzzle d.trail i → KeepsPath d ls (branched f i b.place) ks)
 enters_first {d} {e} {ls} {i} {n} {l} o f ks b ef entered ek =
     let down = deepens o in
     let item : l.item ≡ i = ap (λ (l : Level). l.item) o.level in
@@ -118,7 +118,7 @@ enters_first {d} {e} {ls} {i} {n} {l} o f ks b ef entered ek =
     let work = ap (λ p. visits p e.trail (l ∷ ls.levels)) same in
     let enters = goes_on_to d e f ls (with_level l ls) ks _ _ l.item b.place down.0 (omega (arith, down.1, work))
     next.0 in
-    rw (← item) (enters, λ u a. next.1 u (rw (down.2, same) a))
+    rw (← item) (enters, λ first u a. next.1 u (rw (down.2, same) first) (rw (down.2, same) a))
 
 -- a level without branches ends at once, in the state before
 pub passes_over : {d e : Dancing} {ls : Levels} {i n : ℕ} {l : Level} → Opens d e ls i n l → (f : Dancing) → n ≡ 0
@@ -126,9 +126,8 @@ pub passes_over : {d e : Dancing} {ls : Levels} {i n : ℕ} {l : Level} → Open
     × (work_left f ls false < work_left d ls true) × KeepsPath d ls f ls
 passes_over {d} {ls = ls} {i = i} {n = n} o f none ef =
     let r = residual_of d.puzzle d.trail in
-    let c = chosen_item d.puzzle d.trail i n (o.standing.searchable refl).legal o.chosen in
     let same : f ≡ d = ef ∙ ap₂ (λ (e : Dancing) t. record e { trail = t }) o.spent (deepens o).2 in
-    let listed = none_listed r _ (least_is_one _ _ _ c.branch) (sym c.count ∙ none) in
+    let listed = none_listed r (wanted_at d.puzzle d.trail i) (open_in d.puzzle d.trail i o.next.item o.next.is_open) (sym o.next.count ∙ none) in
     let went = goes_behind d f ls same o.standing listed in (went.0, went.1, λ u a. rw same a)
 
 -- what is asked back at a level

@@ -24,7 +24,7 @@ use Rattle.xc_search.proofs.moves.LegalTweaks.{legal_branch}
 use Rattle.xc_search.proofs.stacked.NextLevel.{Extends, ext_none, ext_more, ext_trans}
 use Rattle.xc_search.proofs.stacked.NextLevel.{ext_after_spend}
 use Rattle.xc_search.proofs.stacked.NextLevel.{ext_whole, ext_longer, length-oldest}
-use Rattle.xc_search.proofs.stacked.NextLevel.{branches_here}
+use Rattle.xc_search.proofs.stacked.NextLevel.{open_in}
 use Rattle.xc_input.proofs.FaultLemmas.BooleanTests.{and_left}
 use Rattle.xc_search.proofs.stacked.NextLevel.{ext_after_branch}
 use Rattle.std.proofs.Common.{zero}
@@ -52,7 +52,7 @@ covered_walks p u i e = eqb-true _ _ (and_left _ _ e)
 -- The next branch of level l takes option o, if one, behind m tweaks: what is known of its moves.
 record Makes (p : Puzzle) (t : List Move) (l : Level) (m : ℕ) (o : Option ℕ) : Type 0 where
   pub branch : Branch
-  pub at : slice_get (branches_at p (oldest l.mark t)) l.begun ≡ Some branch
+  pub at : slice_get (branches_at p (oldest l.mark t) l.item) l.begun ≡ Some branch
   pub choice : branch.choice ≡ record { item = l.item; option = o; k = l.begun + 1; n = l.count }
   pub tweaks : m ≡ cond l.walks 0 (min (l.begun + 1) (length (options_at p (oldest l.mark t) l.item)))
   pub next : residual_of p (after_branch p l.item o (tweaked_at p t l m)) ≡ branch.next
@@ -63,6 +63,7 @@ record Makes (p : Puzzle) (t : List Move) (l : Level) (m : ℕ) (o : Option ℕ)
 module _ {p : Puzzle} {t : List Move} {l : Level} (may : MayBegin p t l) where
   makes_option : (m : ℕ) (x : Numbered) → slice_get (options_at p (oldest l.mark t) l.item) l.begun ≡ Some x
       → m ≡ cond l.walks l.tweaks (l.tweaks + 1) → Makes p t l m (Some x.number)
+  unfolding branches_at
   makes_option m x e more =
       let u = oldest l.mark t in
       let r = residual_of p u in
@@ -73,8 +74,7 @@ module _ {p : Puzzle} {t : List Move} {l : Level} (may : MayBegin p t l) where
       (grind (arith)) in
       record {
         branch = take_branch r l.item (branch_count r (wanted_at p u l.item)) (1 + l.begun, x);
-        at = ap (λ bs. slice_get bs l.begun) (branches_here p u _ level.branch)
-            ∙ branch_takes r (wanted_at p u l.item) l.begun x (omega (arith, may.more, level.count)) e;
+        at = branch_takes r (wanted_at p u l.item) l.begun x (omega (arith, may.more, level.count)) e;
         choice = grind (arith, level.count);
         tweaks = grind (arith, level.tweaks);
         next = took.picked.residual;
@@ -83,6 +83,7 @@ module _ {p : Puzzle} {t : List Move} {l : Level} (may : MayBegin p t l) where
       }
 
   makes_none : slice_get (options_at p (oldest l.mark t) l.item) l.begun ≡ None → Makes p t l l.tweaks None
+  unfolding branches_at
   makes_none e =
       let u = oldest l.mark t in
       let r = residual_of p u in
@@ -90,10 +91,11 @@ module _ {p : Puzzle} {t : List Move} {l : Level} (may : MayBegin p t l) where
       let last = branch_none r (wanted_at p u l.item) l.begun (omega (arith, may.more, level.count)) e in
       let few : l.tweaks ≤ length (options_at p u l.item) = grind (arith, level.tweaks) in
       let gone = none_taken p u l.item l.tweaks level.node in
-      let sparing = sparing_none p u l.item l.tweaks level.node.searchable.sparing level.branch gone in
+      let known = open_in p u l.item level.node.item level.node.is_open in
+      let sparing = sparing_none p u l.item l.tweaks level.node.searchable.sparing known gone in
       record {
         branch = none_branch r l.item (branch_count r (wanted_at p u l.item));
-        at = ap (λ bs. slice_get bs l.begun) (branches_here p u _ level.branch) ∙ last.0;
+        at = last.0;
         choice = grind (arith, last.2, level.count);
         tweaks = grind (arith, level.tweaks, not_some (options_at p u l.item) l.begun e);
         next = gone;
@@ -124,6 +126,7 @@ module _ {p : Puzzle} {t : List Move} {l : Level} (may : MayBegin p t l) where
         choice = cc (at, begun, made.choice);
         begun = omega (arith, begun);
         mark = refl;
+        item = refl;
         below = under;
         level = rw under
             (grind (arith, may.level, ext_longer, ext_ground, ext_v, ext_whole, numbered_get-at));
@@ -141,6 +144,6 @@ module _ {p : Puzzle} {t : List Move} {l : Level} (may : MayBegin p t l) where
       let within = slice_get_within (options_at p u l.item) l.begun found.0 found.1 in
       let stood : l.tweaks ≡ min l.begun (length (options_at p u l.item)) = may.level.tweaks ∙ rw c refl in
       let legal = legal_branch p (suc l.tweaks) l.item u node (omega (arith, stood, within)) in
-      let few = sparing_after_spend p u l.item node.searchable.sparing may.level.branch in
+      let few = sparing_after_spend p u l.item node.searchable.sparing (open_in p u l.item node.item node.is_open) in
       let room = has_room p (tweaked_at p t l (suc l.tweaks)) legal (omega (arith, spent_tweaked, few)) in
       rw (ground_is may.level may.whole) (legal.0, omega (arith, room))

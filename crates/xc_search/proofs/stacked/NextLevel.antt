@@ -3,31 +3,34 @@ use Rattle.std.proofs.lemmas.Grind.{common_steps}
 use Rattle.std.proofs.Common.{ℕ, zero, suc, ◌≡◌, ◌-◌, ◌<◌, ◌≤◌, true, List, [], ◌∷◌, ◌++◌}
 use Rattle.std.proofs.Common.{length, map, drop, Some, None, refl, sym, ap, ◌∙◌, arith}
 use Rattle.std.proofs.Common.{eq-eqb, length-drop}
-use Rattle.std.specs.Prelude.{flat_map, unwrap_or}
+use Rattle.std.specs.Prelude.{Bool, find, flat_map, unwrap_or}
+use Rattle.std.proofs.Common.{inl, inr}
+use Rattle.xc_search.proofs.Cases.{by_bool, by_option}
 use Rattle.std.specs.List.{range_with_len}
 use Rattle.xc_input.specs.declared.problem.Use.{Use}
 use Rattle.xc_search.specs.declared.choice.Choice.{Choice}
 use Rattle.xc_dance.specs.declared.dance.Move.{Move}
 use Rattle.xc_search.specs.declared.level.Level.{Level}
 use Rattle.xc_input.specs.Problem.{Puzzle, primary_count, IsPrimary}
-use Rattle.xc_search.specs.Listing.{Wanted, Branch, branches_of, branch_count, branch_item, listing, level}
+use Rattle.xc_search.specs.Listing.{Wanted, Branch, branch_count, branch_item, listing}
 use Rattle.xc_dance.specs.Moves.{is_open, open_items, AreLegal}
-use Rattle.xc_search.specs.Residuals.{wanted_at, choice_after}
+use Rattle.xc_search.specs.Residuals.{wanted_at, wanted_after, choice_after}
 use Rattle.xc_search.specs.inner.Residual.{residual_of}
-use Rattle.xc_search.specs.inner.Levels.{branches_at, members_of, IsSearchable, IsLevelAt, IsShallow}
+use Rattle.xc_search.specs.inner.Levels.{branches_at, members_of, IsSearchable, IsNode, IsLevelAt, IsShallow, MayBranch, IsNext}
 use Rattle.xc_search.specs.inner.Levels.{AreStacked, IsPlace, choices_of, to_give, coming, first_level}
 use Rattle.xc_dance.specs.Fields.{link_place}
 use Rattle.xc_dance.specs.Commits.{option_at, after_spend, after_use, after_uses}
 use Rattle.xc_search.specs.inner.Commits.{oldest}
 use Rattle.xc_search.specs.inner.Ahead.{cost, visits, ahead}
-use Rattle.xc_input.proofs.lists.Members.{in-map, in-filter}
-use Rattle.xc_search.proofs.listing.Unrolled.{listing_unrolled}
+use Rattle.xc_input.proofs.lists.Members.{IsIn, in-map, in-filter}
+use Rattle.xc_search.proofs.residual.ReadyUses.{found_wanted}
+use Rattle.xc_search.proofs.listing.Unrolled.{listing_unrolled, listing_at}
 use Rattle.xc_search.proofs.listing.BranchesLess.{least_is_one}
 use Rattle.xc_search.proofs.residual.EachMove.{in_range}
 use Rattle.xc_input.proofs.lists.Members.{each_in}
 use Rattle.xc_search.proofs.residual.BranchItemLeft.{choice_is_branch_item}
 use Rattle.xc_search.proofs.moves.OldestMoves.{oldest_all, oldest-drop}
-use Rattle.xc_search.proofs.stacked.WorkUnrolled.{work_unrolled}
+use Rattle.xc_search.proofs.stacked.LessWork.{less_work}
 use Rattle.xc_input.proofs.lists.Filters.{map-map}
 use Rattle.xc_search.proofs.Cases.{mapped_none, mapped_some}
 use Rattle.xc_search.specs.inner.Commits.{tweaked}
@@ -92,6 +95,15 @@ ground_is {t = t} is_level whole = sym (ap (λ n. oldest n t) whole ∙ oldest_a
 
 -- ---- the item of a level
 
+found_in : (q : Wanted → Bool) (ws : List Wanted) (w : Wanted) → find q ws ≡ Some w → IsIn ws w
+found_in q [] w e = absurd (cc e)
+found_in q (v ∷ vs) w e = by_bool (q v) (λ h. inl (cc (rw (find, h) at e))) (λ h. inr (found_in q vs w (rw (find, h) at e)))
+
+-- an open primary item is left
+pub open_in : (p : Puzzle) (t : List Move) (i : ℕ) → IsPrimary p i → is_open i t ≡ true
+    → IsIn (wanted_after p t) (wanted_at p t i)
+open_in p t i h o = found_in _ _ _ (found_wanted p t i h o)
+
 pub record Chosen (p : Puzzle) (t : List Move) (i n : ℕ) : Type 0 where
   pub branch : branch_item (residual_of p t) ≡ Some (wanted_at p t i)
   pub count : n ≡ branch_count (residual_of p t) (wanted_at p t i)
@@ -110,9 +122,22 @@ chosen_item p t i n l e =
 
 -- ---- what is left is searched
 
-pub branches_here : (p : Puzzle) (t : List Move) (w : Wanted) → branch_item (residual_of p t) ≡ Some w
-    → branches_at p t ≡ branches_of (residual_of p t) w
-branches_here p t w e = rw e refl
+-- the branch item may be branched on
+may_choose : (p : Puzzle) (t : List Move) (i n : ℕ) → AreLegal p t → choice_after p t ≡ Some (i, n) → MayBranch p t i n
+may_choose p t i n l e =
+    let c = chosen_item p t i n l e in
+    record {
+      item = c.item;
+      is_open = c.is_open;
+      count = c.count;
+      lists = listing_at (residual_of p t) (Some (wanted_at p t i)) c.branch;
+    }
+
+pub choice_next : (p : Puzzle) (t : List Move) (o : Option (ℕ × ℕ)) → AreLegal p t → o ≡ choice_after p t → IsNext p t o
+choice_next p t o l e = record {
+  some = by_option o (λ n. rw n tt) (λ c n. rw n (may_choose p t c.0 c.1 l (sym e ∙ n)));
+  none = λ n. sym e ∙ n;
+}
 
 -- no primary item is left: one member, with no more choices
 pub solution : (p : Puzzle) (t : List Move) (ls : List Level) → AreLegal p t → choice_after p t ≡ None
@@ -132,20 +157,21 @@ pub own_place : (p : Puzzle) (i : ℕ) → IsPlace p i i
 own_place p i = ap (λ o. link_place p i (unwrap_or o 0)) (sym (at_own p i))
 
 -- a level's own moves stand before its first branch
-pub first_stands : (p : Puzzle) (t : List Move) (i n : ℕ) → IsSearchable p t → Chosen p t i n →
-    IsLevelAt p t (after_spend p i t) (first_level p t i n)
-first_stands p t i n here c = grind (arith, ext_longer, ext_after_spend, at_own, own_place, oldest_all)
+pub first_stands : (p : Puzzle) (t : List Move) (i n : ℕ) → IsNode p t i
+    → n ≡ branch_count (residual_of p t) (wanted_at p t i) → IsLevelAt p t (after_spend p i t) (first_level p t i n)
+first_stands p t i n node count = grind (arith, ext_longer, ext_after_spend, at_own, own_place, oldest_all)
 
 -- a level is begun
 pub descended : (p : Puzzle) (t : List Move) (ls : List Level) (i n : ℕ) → IsSearchable p t → IsShallow p t ls
-    → Chosen p t i n → AreStacked p t ls → AreStacked p (after_spend p i t) (first_level p t i n ∷ ls)
+    → MayBranch p t i n → AreStacked p t ls → AreStacked p (after_spend p i t) (first_level p t i n ∷ ls)
     × (coming p t ls true ≡ to_give p (after_spend p i t) (first_level p t i n ∷ ls))
     × (visits p (after_spend p i t) (first_level p t i n ∷ ls) < ahead p t ls true)
+unfolding branches_at
 descended p t ls i n here sh c stacked =
     let r = residual_of p t in
     let s = after_spend p i t in
     let under : oldest (length t) s ≡ t = ext_whole (ext_after_spend p i t) in
-    let branches = branches_here p t (wanted_at p t i) c.branch in
-    let unrolled = listing_unrolled r ∙ ap (λ o. level listing o r) c.branch
-    ∙ ap (flat_map (λ b. map (λ m. b.choice ∷ m) (listing b.next))) (sym branches) in
-    grind (arith, work_unrolled r, cost, first_stands p t i n here c, members_all (choices_of p ls) (branches_at p t))
+    let node : IsNode p t i = record { searchable = here; item = c.item; is_open = c.is_open } in
+    let less = less_work r (wanted_at p t i) (open_in p t i c.item c.is_open) in
+    let all = ap (map (λ m. choices_of p ls ++ m)) c.lists ∙ members_all (choices_of p ls) (branches_at p t i) in
+    grind (arith, less, cost, first_stands p t i n node c.count, all)

@@ -1,11 +1,11 @@
 -- No public clause cites this module. How much work a search has ahead, and what a step of its loop does.
 use Rattle.std.specs.Prelude.{ℕ, zero, suc, ◌+◌, ◌<◌, ◌≤◌, ◌≡◌, Bool, true, false, List, [], ◌∷◌, drop, length}
-use Rattle.std.specs.Prelude.{Option, Some, None}
+use Rattle.std.specs.Prelude.{None}
 use Rattle.xc_search.specs.inner.Sizes.{size_of}
 use Rattle.xc_dance.specs.declared.dance.Move.{Move}
 use Rattle.xc_search.specs.declared.level.Level.{Level}
 use Rattle.xc_input.specs.Problem.{Puzzle}
-use Rattle.xc_search.specs.Listing.{Wanted, Residual, Branch, branch_item, branches_of}
+use Rattle.xc_search.specs.Listing.{Residual, Branch}
 use Rattle.xc_search.specs.inner.Residual.{residual_of}
 use Rattle.xc_search.specs.Outlook.{shown_after}
 use Rattle.xc_search.specs.Residuals.{choice_after}
@@ -20,24 +20,25 @@ abbrev pub cost : (Residual → ℕ) → List Branch → ℕ
 cost f [] = 0
 cost f (b ∷ bs) = suc (f b.next + cost f bs)
 
--- one level of work, over the work of what is left
-abbrev pub work_level : (Residual → ℕ) → Option Wanted → Residual → ℕ
-work_level f None r = 2
-work_level f (Some w) r = suc (suc (cost f (branches_of r w)))
+-- n times m
+abbrev pub times : ℕ → ℕ → ℕ
+times zero m = 0
+times (suc n) m = m + times n m
 
--- the work, by levels to a depth
-unfoldable pub work_to : ℕ → Residual → ℕ
-work_to zero r = 2
-work_to (suc d) r = work_level (work_to d) (branch_item r) r
+-- the work of what has this size, of which no item has more branches than that
+unfoldable pub work_of : ℕ → ℕ
+work_of zero = 2
+work_of (suc d) = times (suc d) (suc (work_of d)) + 2
 
--- nodes and levels to be visited
+-- no more nodes and levels are to be visited
 unfoldable pub work : Residual → ℕ
-work r = work_to (size_of r) r
+work r = work_of (size_of r)
 
 -- what the levels have still to visit by the branches that weren't begun
 abbrev pub visits : Puzzle → List Move → List Level → ℕ
 visits p t [] = 0
-visits p t (l ∷ ls) = suc (cost work (drop l.begun (branches_at p (oldest l.mark t)))) + visits p (oldest l.mark t) ls
+visits p t (l ∷ ls) =
+    suc (cost work (drop l.begun (branches_at p (oldest l.mark t) l.item))) + visits p (oldest l.mark t) ls
 
 -- and before that, where what is left wasn't searched yet, what that takes
 abbrev pub ahead : Puzzle → List Move → List Level → Bool → ℕ
@@ -102,6 +103,14 @@ pub record EndsOver (d : Dancing) (ls : Levels) (m : ℕ) (e : Dancing) (ks : Le
   pub still : (e ≡ record d { trail = e.trail }) × (ks ≡ record ls { levels = ks.levels })
   pub ended : ks.levels ≡ []
   pub count : m ≡ n + length (coming d.puzzle d.trail ls.levels true)
+
+-- Nothing is left below, and members are still to be passed over.
+pub record FallsBack (d : Dancing) (ls : Levels) (m : ℕ) (e : Dancing) (ks : Levels) (n : ℕ) : Type 0 where
+  pub still : (e ≡ record d { trail = e.trail }) × (ks ≡ record ls { levels = ks.levels })
+  pub standing : IsStanding e.puzzle e.trail ks.levels false
+  pub members : drop m (coming d.puzzle d.trail ls.levels true) ≡ drop n (coming e.puzzle e.trail ks.levels false)
+  pub count : m + length (coming e.puzzle e.trail ks.levels false) ≡ n + length (coming d.puzzle d.trail ls.levels true)
+  pub less : work_left e ks false ≤ work_left d ls true
 
 -- It went over n members: the choices of ks are the last of them.
 pub record WentOver (d : Dancing) (ls : Levels) (down : Bool) (n : ℕ) (e : Dancing) (ks : Levels) : Type 0 where

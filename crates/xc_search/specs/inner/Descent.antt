@@ -13,7 +13,7 @@ use Rattle.xc_search.specs.inner.Levels.{IsLevel, IsSearchable, CanBranch, branc
 -- the moves t of the level's newest branch leave what the branch leaves of what the moves u leave
 pub record LeadsTo (p : Puzzle) (u t : List Move) (l : Level) : Type 0 where
   pub branch : Branch
-  pub at : slice_get (branches_at p u) (l.begun - 1) ≡ Some branch
+  pub at : slice_get (branches_at p u l.item) (l.begun - 1) ≡ Some branch
   pub choice : chosen p l ≡ branch.choice
   pub next : residual_of p t ≡ branch.next
   pub searchable : IsSearchable p t

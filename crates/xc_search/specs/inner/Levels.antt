@@ -1,5 +1,5 @@
 -- No public clause cites this module. The levels of a search.
-use Rattle.std.specs.Prelude.{◌<◌, ℕ, suc, All, IfSome, ◌+◌, ◌≤◌, ◌≡◌, Bool, true, false, nat_lt, min, List, [], ◌∷◌}
+use Rattle.std.specs.Prelude.{◌⊎◌, ◌<◌, ℕ, suc, All, IfSome, ◌+◌, ◌≤◌, ◌≡◌, Bool, true, false, nat_lt, min, List, [], ◌∷◌}
 use Rattle.std.specs.Prelude.{◌++◌, length, map, drop, reverse, Option, Some, None, option_map, unwrap_or, slice_get}
 use Rattle.std.specs.Prelude.{flat_map, if◌then◌else◌}
 use Rattle.xc_search.specs.inner.Sizes.{size_of}
@@ -11,9 +11,9 @@ use Rattle.xc_search.specs.declared.level.Begun.{Begun}
 use Rattle.xc_input.specs.declared.problem.Use.{Use}
 use Rattle.xc_input.specs.Problem.{Puzzle, Numbered, IsValid, IsItem, IsPrimary, IsOption, numbered_get, holding}
 use Rattle.xc_input.specs.Problem.{uses_of, option_count, primary_count}
-use Rattle.xc_search.specs.Listing.{Wanted, Branch, branch_item, branch_count, branches_of, listing}
-use Rattle.xc_dance.specs.Moves.{is_open, AreLegal}
-use Rattle.xc_search.specs.Residuals.{wanted_at, wanted_after}
+use Rattle.xc_search.specs.Listing.{Wanted, Branch, branch_count, branches_of, level, listing}
+use Rattle.xc_dance.specs.Moves.{is_open, AreLegal, IsOpenPrimary}
+use Rattle.xc_search.specs.Residuals.{wanted_at, wanted_after, branches_after, choice_after}
 use Rattle.xc_search.specs.inner.Residual.{residual_of}
 use Rattle.xc_dance.specs.inner.Left.{left}
 use Rattle.xc_dance.specs.Fields.{link_place}
@@ -46,6 +46,34 @@ pub record IsNode (p : Puzzle) (t : List Move) (i : ℕ) : Type 0 where
   pub item : IsPrimary p i
   pub is_open : is_open i t ≡ true
 
+-- Item i, with n branches, may be branched on: each member of what is left begins with one of its branches, in their
+-- order.
+pub record MayBranch (p : Puzzle) (t : List Move) (i n : ℕ) : Type 0 where
+  pub item : IsPrimary p i
+  pub is_open : is_open i t ≡ true
+  pub count : n ≡ branch_count (residual_of p t) (wanted_at p t i)
+  pub lists : listing (residual_of p t) ≡ level listing (Some (wanted_at p t i)) (residual_of p t)
+
+-- an item that may be branched on, with its number of branches; none where no primary item is open
+pub record IsNext (p : Puzzle) (t : List Move) (o : Option (ℕ × ℕ)) : Type 0 where
+  pub some : IfSome o (λ c. MayBranch p t c.0 c.1)
+  pub none : o ≡ None → choice_after p t ≡ None
+
+-- another open item is taken, with so many branches, where some item has none
+pub record IsDeadEnd (p : Puzzle) (t : List Move) (o : Option (ℕ × ℕ)) : Type 0 where
+  pub item : ℕ
+  pub count : ℕ
+  pub is : o ≡ Some (item, count)
+  pub is_open : IsOpenPrimary p t item
+  pub counted : count ≡ branches_after p t (wanted_at p t item)
+  pub short : ℕ
+  pub short_open : IsOpenPrimary p t short
+  pub without : branches_after p t (wanted_at p t short) ≡ 0
+
+-- the branch item, or another where the way on is a dead end
+abbrev pub IsEarlyChoice : Puzzle → List Move → Option (ℕ × ℕ) → Type 0
+IsEarlyChoice p t o = (o ≡ choice_after p t) ⊎ IsDeadEnd p t o
+
 -- the options left that hold item i
 abbrev pub options_at : Puzzle → List Move → ℕ → List Numbered
 options_at p t i = holding i (left p t)
@@ -67,7 +95,6 @@ pub record IsShown (p : Puzzle) (l : Level) : Type 0 where
 pub record IsLevelAt (p : Puzzle) (u t : List Move) (l : Level) : Type 0 where
   pub within : (l.mark ≤ l.base) × (l.base ≤ length t)
   pub node : IsNode p u l.item
-  pub branch : branch_item (residual_of p u) ≡ Some (wanted_at p u l.item)
   pub count : l.count ≡ branch_count (residual_of p u) (wanted_at p u l.item)
   pub begun : l.begun ≤ l.count
   pub walking : l.walks ≡ walks p u l.item
@@ -97,13 +124,9 @@ chosen p l = record { item = l.item; option = taken p l; k = l.begun; n = l.coun
 abbrev pub choices_of : Puzzle → List Level → List Choice
 choices_of p ls = map (chosen p) (reverse ls)
 
--- the branches of what moves leave
-abbrev pub branches_at : Puzzle → List Move → List Branch
-branches_at p t = branches_from (branch_item (residual_of p t))
-  where
-    branches_from : Option Wanted → List Branch
-    branches_from None = []
-    branches_from (Some w) = branches_of (residual_of p t) w
+-- the branches of item i, of what moves leave
+unfoldable pub branches_at : Puzzle → List Move → ℕ → List Branch
+branches_at p t i = branches_of (residual_of p t) (wanted_at p t i)
 
 -- the members of these branches, behind the choices before them
 abbrev pub members_of : List Choice → List Branch → List (List Choice)
@@ -113,7 +136,7 @@ members_of before bs = flat_map (λ b. map (λ m. before ++ b.choice ∷ m) (lis
 abbrev pub to_give : Puzzle → List Move → List Level → List (List Choice)
 to_give p t [] = []
 to_give p t (l ∷ ls) =
-    members_of (choices_of p ls) (drop l.begun (branches_at p (oldest l.mark t))) ++ to_give p (oldest l.mark t) ls
+    members_of (choices_of p ls) (drop l.begun (branches_at p (oldest l.mark t) l.item)) ++ to_give p (oldest l.mark t) ls
 
 -- and before that, where what is left wasn't searched yet, what that gives
 abbrev pub coming : Puzzle → List Move → List Level → Bool → List (List Choice)
@@ -157,11 +180,12 @@ pub record MayBegin (p : Puzzle) (t : List Move) (l : Level) : Type 0 where
 -- From level l on moves t a branch was begun, and level k stands on moves s.
 pub record IsBegun (p : Puzzle) (t : List Move) (l : Level) (s : List Move) (k : Level) : Type 0 where
   pub branch : Branch
-  pub at : slice_get (branches_at p (oldest l.mark t)) l.begun ≡ Some branch
+  pub at : slice_get (branches_at p (oldest l.mark t) l.item) l.begun ≡ Some branch
   pub next : residual_of p s ≡ branch.next
   pub choice : chosen p k ≡ branch.choice
   pub begun : k.begun ≡ suc l.begun
   pub mark : k.mark ≡ l.mark
+  pub item : k.item ≡ l.item
   pub below : oldest l.mark s ≡ oldest l.mark t
   pub level : IsLevel p s k
   pub searchable : IsSearchable p s

@@ -1,18 +1,24 @@
 -- No public clause cites this module. The paths that the levels of a search stand for.
-use Rattle.std.specs.Prelude.{◌-◌, ◌≡◌, Bool, true, List, [], ◌∷◌, Some, slice_get}
+use Rattle.std.specs.Prelude.{ℕ, ◌-◌, ◌≡◌, Bool, true, List, [], ◌∷◌, Some, slice_get}
 use Rattle.xc_dance.specs.declared.dance.Move.{Move}
 use Rattle.xc_search.specs.declared.level.Level.{Level}
 use Rattle.xc_input.specs.Problem.{Puzzle}
-use Rattle.xc_search.specs.Listing.{Branch}
+use Rattle.xc_search.specs.Listing.{Branch, branch_item}
+use Rattle.xc_search.specs.Residuals.{wanted_at}
 use Rattle.xc_dance.specs.Dancing.{Dancing}
 use Rattle.xc_search.specs.inner.Commits.{oldest}
 use Rattle.xc_search.specs.inner.Residual.{residual_of}
 use Rattle.xc_search.specs.inner.Levels.{Levels, AreStacked, branches_at, chosen, coming}
 
--- the level's newest branch leaves what the moves t leave
+-- item i is the branch item of what the moves leave
+abbrev pub IsBranchItem : Puzzle → List Move → ℕ → Type 0
+IsBranchItem p t i = branch_item (residual_of p t) ≡ Some (wanted_at p t i)
+
+-- the level's newest branch is one of the branch item, and leaves what the moves t leave
 pub record IsLed (p : Puzzle) (t : List Move) (l : Level) : Type 0 where
+  pub is_branch_item : IsBranchItem p (oldest l.mark t) l.item
   pub branch : Branch
-  pub at : slice_get (branches_at p (oldest l.mark t)) (l.begun - 1) ≡ Some branch
+  pub at : slice_get (branches_at p (oldest l.mark t) l.item) (l.begun - 1) ≡ Some branch
   pub choice : chosen p l ≡ branch.choice
   pub next : residual_of p t ≡ branch.next
 

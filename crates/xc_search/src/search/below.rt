@@ -2,7 +2,7 @@
 ghost use Rattle.std.specs.Prelude.{◌≡◌, ◌+◌, ◌<◌, ◌≤◌, List, [], length, true, false, None, Some, IfSome, IsNone};
 ghost use Rattle.std.specs.Prelude.{IfOk, IfErr, vec_capacity};
 ghost use Rattle.xc_input.specs.Problem.{IsValid};
-ghost use Rattle.xc_search.specs.Listing.{branch_item, branch_count};
+ghost use Rattle.xc_search.specs.Listing.{branch_count};
 ghost use Rattle.xc_search.specs.Residuals.{wanted_at};
 ghost use Rattle.xc_search.specs.Room.{room_for};
 ghost use Rattle.xc_search.specs.Cut.{below, left_by_one, IsPathBy};
@@ -34,8 +34,6 @@ pub enum PathFault {
 /// aren't made.
 fn reach_branch<D: Dance>(position: &mut Position<D>, item: u32, count: u32, number: u32) -> Level
     requires node { IsNode position.old.puzzle position.old.trail item }
-    requires branch { branch_item (residual_of position.old.puzzle position.old.trail)
-        ≡ Some (wanted_at position.old.puzzle position.old.trail item) }
     requires count { count ≡ branch_count (residual_of position.old.puzzle position.old.trail)
         (wanted_at position.old.puzzle position.old.trail item) }
     requires within { number ≤ count }

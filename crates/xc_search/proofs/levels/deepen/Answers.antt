@@ -1,5 +1,5 @@
-use Rattle.std.proofs.Common.{arith, ◌≡◌, ◌∙◌, Some, refl, sym}
-use Rattle.xc_search.specs.Residuals.{choice_after}
+use Rattle.std.proofs.Common.{arith, ◌≡◌, ◌∙◌, refl, sym}
+use Rattle.xc_search.specs.inner.Levels.{MayBranch}
 use Rattle.xc_search.proofs.stacked.Depth.{depth_at}
 use Rattle.xc_search.proofs.stacked.NextLevel.{chosen_item}
 use Rattle.xc_search.proofs.stacked.LoopSteps.{Opens, node_at, deepens, may_enter, enters_first}
@@ -12,36 +12,30 @@ use Rattle.xc_search.specs.declared.levels.Below.TheVariants.{Branch}
 same_branch : (a b : Entered) → Branch a ≡ Branch b → a ≡ b
 same_branch a b is = cc
 
-chose : (g : _) (c : In-Some g)
-    → choice_after c.args.position.now.puzzle c.args.position.now.trail ≡ Some (c.in-Some.item, c.in-Some.count)
-chose g c = sym c.choose.ensures.choice ∙ c.in-Some.is
+may_branch : (g : _) (c : In-Some g)
+    → MayBranch c.args.position.now.puzzle c.args.position.now.trail c.in-Some.item c.in-Some.count
+may_branch g c = rw c.in-Some.is at c.requires.next.some
 
 opened : (g : _) (c : After-descend-level g) → Opens c.args.position.now c.descend-level.new.self c.args.stack.now
     c.in-Some.item c.in-Some.count c.descend-level.result
 opened g c = grind (arith)
 
 pub returns-in_default-clause-solved : goal.returns-in_default-clause-solved
-returns-in_default-clause-solved g c _ = sym c.choose.ensures.choice ∙ c.in_default.is
+returns-in_default-clause-solved g c _ = c.requires.next.none c.in_default.is
 
-pub descend-level-requires-clause-node : goal.descend-level-requires-clause-node
-descend-level-requires-clause-node g c =
-    node_at _ _ _ _ _ c.requires.standing (chose g (goal.at.descend-level-requires-clause-node g c).In-Some)
-
-pub descend-level-requires-clause-branch : goal.descend-level-requires-clause-branch
-descend-level-requires-clause-branch g c =
-    (chosen_item _ _ _ _ (c.requires.standing.searchable refl).legal
-    (chose g (goal.at.descend-level-requires-clause-branch g c).In-Some)).branch
+pub descend-level-requires : goal.descend-level-requires
+descend-level-requires g c =
+    node_at _ _ _ _ _ c.requires.standing (may_branch g (goal.at.descend-level-requires g c).In-Some)
 
 pub push-requires : goal.push-requires
 push-requires g c =
     let o = opened g (goal.at.push-requires g c).After-descend-level in
     let s = c.args.position.now in
-    let branch = (chosen_item _ _ _ _ (o.standing.searchable refl).legal o.chosen).branch in
     omega (
       arith,
       c.requires.levels_fit,
       depth_at s.puzzle s.trail c.args.stack.now.levels _ o.standing.stacked
-          (o.standing.shallow refl) (node_at _ _ _ _ _ o.standing o.chosen) branch,
+          (o.standing.shallow refl) (node_at _ _ _ _ _ o.standing o.next),
     )
 
 pub undo_to-requires : goal.undo_to-requires
@@ -75,7 +69,9 @@ returns-clause-deeper g c b is =
     c.enter-branch.ensures.entered (rw c.begin_level.ensures at c.push.ensures)).0
 
 pub returns-clause-deeper_path : goal.returns-clause-deeper_path
-returns-clause-deeper_path g c b is =
-    rw (← same_branch _ b is) (enters_first (opened g (goal.at.returns-clause-deeper_path g c).After-descend-level)
+returns-clause-deeper_path g c b is chose =
+    let some = (goal.at.returns-clause-deeper_path g c).In-Some in
+    let first = chosen_item _ _ _ _ (c.requires.standing.searchable refl).legal (sym chose ∙ some.in-Some.is) in
+    rw (← same_branch _ b is) ((enters_first (opened g (goal.at.returns-clause-deeper_path g c).After-descend-level)
     c.enter-branch.new.self c.push.new.self c.enter-branch.result c.enter-branch.ensures.still
-    c.enter-branch.ensures.entered (rw c.begin_level.ensures at c.push.ensures)).1
+    c.enter-branch.ensures.entered (rw c.begin_level.ensures at c.push.ensures)).1 first.branch)

@@ -40,6 +40,7 @@ returns-then-level-clause-resumed_path g c = λ u a.
     (enters_next c.loop-level.position c.enter_next-branch.new.position c.in-Some.level.now c.enter_next-branch.result
     c.loop-level.stack c.note_branch.new.self c.loop-level.invariant.goes_on.standing.stacked c.in-Some.ensures.some
     c.enter_next-branch.ensures.still c.enter_next-branch.ensures.entered c.note_branch.ensures).1 u
+    (rw c.in-Some.ensures.some at (c.loop-level.invariant.path u a)).0.is_branch_item
     (rw c.in-Some.ensures.some at (c.loop-level.invariant.path u a)).1
 
 pub loop-level-smaller : goal.loop-level-smaller

@@ -9,7 +9,7 @@ use Rattle.xc_search.proofs.search.below.reach_branch.Goals as goal
 pub loop-level-init : goal.loop-level-init
 loop-level-init g c =
     let own = ext_whole (ext_after_spend c.args.position.now.puzzle c.args.item c.args.position.now.trail) in
-    grind (arith, own, first_stands _ _ c.args.item c.args.count c.requires.node.searchable)
+    grind (arith, own, first_stands _ _ c.args.item c.args.count c.requires.node c.requires.count)
 
 pub loop-level-preserved : goal.loop-level-preserved
 loop-level-preserved g c =

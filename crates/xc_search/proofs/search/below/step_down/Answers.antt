@@ -3,6 +3,7 @@ use Rattle.xc_search.specs.Residuals.{wanted_at}
 use Rattle.xc_search.specs.inner.Residual.{residual_of}
 use Rattle.xc_search.proofs.stacked.NextLevel.{Chosen, chosen_item}
 use Rattle.xc_search.proofs.paths.Numbers.{no_branch}
+use Rattle.xc_search.proofs.paths.Descent.{led_to}
 use Rattle.xc_search.proofs.search.below.step_down.Goals as goal
 use Rattle.xc_search.proofs.search.below.step_down.Goals.{In_ok-item}
 
@@ -23,10 +24,15 @@ reach_branch-level-requires-clause-node g c =
     let here = at g (goal.at.reach_branch-level-requires-clause-node g c).In_ok-item in
     record { searchable = c.requires.searchable; item = here.item; is_open = here.is_open }
 
-pub reach_branch-level-requires-clause-branch : goal.reach_branch-level-requires-clause-branch
-reach_branch-level-requires-clause-branch g c = (at g
-    (goal.at.reach_branch-level-requires-clause-branch g c).In_ok-item).branch
-
 pub reach_branch-level-requires-clause-count : goal.reach_branch-level-requires-clause-count
 reach_branch-level-requires-clause-count g c = (at g
     (goal.at.reach_branch-level-requires-clause-count g c).In_ok-item).count
+
+pub returns-clause-left : goal.returns-clause-left
+returns-clause-left g c =
+    let here = at g (goal.at.returns-clause-left g c).In_ok-item in
+    let d = c.args.position.now in
+    let leads = c.reach_branch-level.ensures.leads in
+    let l = c.reach_branch-level.result in
+    let next = led_to d.puzzle d.trail _ l (rw c.reach_branch-level.ensures.item here.branch) (leads.next (omega arith)) in
+    grind (arith, next)

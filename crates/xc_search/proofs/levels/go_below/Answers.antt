@@ -1,0 +1,40 @@
+use Rattle.std.proofs.Common.{arith, ◌≡◌, ◌∙◌, refl}
+use Rattle.xc_search.proofs.stacked.CountedOver.{enters_below, falls_over, passes_one}
+use Rattle.xc_search.proofs.stacked.EarlyChoice.{early_next}
+use Rattle.xc_search.proofs.stacked.NextLevel.{solution}
+use Rattle.xc_search.proofs.levels.go_below.Goals as goal
+use Rattle.xc_search.proofs.levels.go_below.Goals.{After-choose_early-next}
+use Rattle.xc_search.proofs.levels.go_below.Goals.{else-levels-last-via-then-levels-last+else-pass_last}
+use Rattle.xc_search.proofs.levels.go_below.Goals.{else-levels-last-via-else-levels-last}
+
+pub returns-then-pass_last-clause-back : goal.returns-then-pass_last-clause-back
+returns-then-pass_last-clause-back g c _ =
+    falls_over _ _ _ _ c.requires.standing (c.pass_last.ensures.passed c.if-pass_last.true)
+
+pub deepen-requires-clause-next : goal.deepen-requires-clause-next
+deepen-requires-clause-next g c =
+    let here = c.requires.standing.searchable refl in
+    early_next _ _ _ here.valid here.legal c.choose_early-next.ensures.choice
+
+-- where the last choice wasn't counted, as many are to be passed over
+as_many : (g : _) (c : After-choose_early-next g) → c.else-levels-last.more ≡ c.args.more.now
+as_many g c = elim c.else-levels-last.branch [
+  | else-levels-last-via-then-levels-last+else-pass_last w ↦
+      w.more-is ∙ w.pass_last.ensures.not_passed w.if-pass_last.false
+  | else-levels-last-via-else-levels-last w ↦ w.more-is
+]
+
+pub returns-in-Branch-clause-entered : goal.returns-in-Branch-clause-entered
+returns-in-Branch-clause-entered g c b is =
+    rw (as_many g (goal.at.returns-in-Branch-clause-entered g c).After-choose_early-next)
+    (enters_below c.args.more.now (c.deepen.ensures.deeper b (c.in-Branch.is ∙ is)))
+
+pub returns-else-more-eq0-clause-back : goal.returns-else-more-eq0-clause-back
+returns-else-more-eq0-clause-back g c _ =
+    let same = as_many g (goal.at.returns-else-more-eq0-clause-back g c).After-choose_early-next in
+    let d = c.args.position.now in
+    let here = c.deepen.ensures.same c.in-Solution.is in
+    let none = c.deepen.ensures.solved c.in-Solution.is in
+    let one = solution d.puzzle d.trail c.args.stack.now.levels (c.requires.standing.searchable refl).legal none in
+    rw (here.0, here.1) (passes_one d c.args.stack.now _ _ c.requires.standing one
+    (omega (arith, same, c.if-more-eq0.false)))

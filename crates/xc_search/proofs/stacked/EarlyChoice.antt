@@ -1,0 +1,34 @@
+-- A choice that is made early: where some item has no branches, any open item lists the same, nothing.
+use Rattle.std.proofs.Common.{ℕ, List, Option, sym, ap, ◌∙◌, arith, inl, inr}
+use Rattle.xc_dance.specs.declared.dance.Move.{Move}
+use Rattle.xc_dance.specs.Moves.{AreLegal}
+use Rattle.xc_dance.proofs.LinkedTables.FirstTables.{low_most}
+use Rattle.xc_input.specs.Problem.{Puzzle, IsValid}
+use Rattle.xc_input.proofs.lists.Members.{each_in}
+use Rattle.xc_search.specs.Residuals.{wanted_at}
+use Rattle.xc_search.specs.inner.Residual.{residual_of}
+use Rattle.xc_search.specs.inner.Levels.{IsNext, MayBranch, IsDeadEnd, IsEarlyChoice}
+use Rattle.xc_search.proofs.parts.OneBranch.{dead_end}
+use Rattle.xc_search.proofs.residual.BranchItemLeft.{counts_same}
+use Rattle.xc_search.proofs.stacked.NextLevel.{open_in, choice_next}
+
+dead_next : (p : Puzzle) (t : List Move) (o : Option (ℕ × ℕ)) → IsValid p → AreLegal p t → IsDeadEnd p t o
+    → IsNext p t o
+dead_next p t o valid legal d =
+    let r = residual_of p t in
+    let same = counts_same p t legal in
+    let known = open_in p t d.item d.is_open.0 d.is_open.1 in
+    let short = open_in p t d.short d.short_open.0 d.short_open.1 in
+    let may : MayBranch p t d.item d.count = record {
+      item = d.is_open.0;
+      is_open = d.is_open.1;
+      count = d.counted ∙ each_in _ _ _ same known;
+      lists = dead_end r (wanted_at p t d.item) (wanted_at p t d.short) short
+          (omega (arith, low_most d.short valid)) (sym (each_in _ _ _ same short) ∙ d.without) (ap (wanted_at p t));
+    } in
+    record { some = rw d.is may; none = λ n. absurd (cc (n, d.is)) }
+
+pub early_next : (p : Puzzle) (t : List Move) (o : Option (ℕ × ℕ)) → IsValid p → AreLegal p t → IsEarlyChoice p t o
+    → IsNext p t o
+early_next p t o valid legal (inl e) = choice_next p t o legal e
+early_next p t o valid legal (inr d) = dead_next p t o valid legal d
