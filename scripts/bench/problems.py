@@ -5,13 +5,23 @@ Each is for the program of its kind, and its number of solutions is known from e
 clock or a system's randomness, so they are the same everywhere.
 """
 
+from __future__ import annotations
+
 import itertools
 import os
 import sys
-from collections import namedtuple
+from typing import Any, Callable, Iterable, NamedTuple, TextIO
 
-Problem = namedtuple("Problem", "name kind count source make")
-PROBLEMS = []
+
+class Problem(NamedTuple):
+    name: str
+    kind: int
+    count: int
+    source: str
+    make: Callable[[], Any]
+
+
+PROBLEMS: list[Problem] = []
 
 
 def problem(kind, count, source):
@@ -24,7 +34,7 @@ def problem(kind, count, source):
     return register
 
 
-def write(primary, secondary, options, file):
+def write(primary: list[str], secondary: list[str], options: Iterable[Iterable[str]], file: TextIO) -> None:
     bar = " | " + " ".join(secondary) if secondary else ""
     print(" ".join(primary) + bar, file=file)
     for option in options:
