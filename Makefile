@@ -52,10 +52,11 @@ believed:
 	@scripts/believed --page >docs/BELIEVED.md
 
 # The tables of docs/BENCH.md, and what each form that was decided by speed gains. They need gcc, valgrind and Python.
+# WORDS are for the scripts, as `make bench WORDS='--page docs/BENCH.md --core 3'`.
 bench:
-	@scripts/bench/tables.py
+	@scripts/bench/tables.py $(WORDS)
 bench-forms:
-	@scripts/bench/forms.py
+	@scripts/bench/forms.py $(WORDS)
 
 # A program is built by running it once; `dlxcheck`, `dlx_parts` and `dlx_below` without words end with status 1.
 all: bin
