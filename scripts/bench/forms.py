@@ -103,7 +103,8 @@ def place(form: Form) -> str:
     file, old, _ = form.changes[0]
     text = (TOP / file).read_text()
     names = NAMED.findall(text[: text.index(old) + len(old)])
-    return f"`{file.removeprefix('crates/').replace('/src/', '/').removesuffix('.rt')}`, `{names[-1]}`"
+    module = file.removeprefix("crates/").replace("/src/", "/").removesuffix(".rt")
+    return ", ".join(f"`{it}`" for it in [module, *names[-1:]])
 
 
 def ratio(form: Form) -> float:
