@@ -18,7 +18,8 @@ libdir = $(PREFIX)/lib
 # The library for C, which is installed where it was built; none with `LIBRARY=`.
 LIBRARY = $(wildcard bindings/out/libhelgrothy.a)
 
-.PHONY: run bin all test test-mutants test-hostile test-python test-parts test-docs pictures believed bench bench-forms
+.PHONY: run bin all test test-mutants test-hostile test-python test-parts test-docs pictures believed
+.PHONY: bench bench-forms test-bench
 .PHONY: lib install install-lib uninstall uninstall-lib dist deb wheel version release
 .PHONY: test-bindings test-install test-dist test-deb test-wheel
 run: bin
@@ -57,6 +58,8 @@ bench:
 	@scripts/bench/tables.py $(WORDS)
 bench-forms:
 	@scripts/bench/forms.py $(WORDS)
+test-bench:
+	@python3 scripts/bench/test_bench.py
 
 # A program is built by running it once; `dlxcheck`, `dlx_parts` and `dlx_below` without words end with status 1.
 all: bin
