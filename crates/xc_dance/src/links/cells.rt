@@ -76,8 +76,7 @@ pub(crate) fn get(cells: &[Cell], place: u32) -> u32
     get_at(cells, place as usize)
 }
 
-/// The same by an index: a walk over places that are indices widens none of them, which took 0.98 of the instructions
-/// where options have two uses, and 0.91 on pentominoes.
+/// The same by an index: a walk over places that are indices widens none of them.
 #[inline(always)]
 pub(crate) fn get_at(cells: &[Cell], place: usize) -> u32
     requires { place < length (values cells.now) }

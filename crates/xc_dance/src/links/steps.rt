@@ -38,8 +38,7 @@ pub(crate) fn unlink(
     let d = down_at(links, q);
     set_down_at(links, u as usize, d, writes);
     set_up_at(links, d as usize, u, writes);
-    // Read behind these writes: with a level that is noted with its first branch, that took 0.91 of the instructions
-    // over eleven problems.
+    // Read behind these writes, so that nothing is kept over them.
     let i = get_at(top, q) as usize;
     let count = get_at(top, i);
     set_at(top, i, count - 1, writes);
