@@ -19,6 +19,7 @@ libdir = $(PREFIX)/lib
 LIBRARY = $(wildcard bindings/out/libhelgrothy.a)
 
 .PHONY: run bin all test test-mutants test-hostile test-python test-parts test-docs pictures believed
+.PHONY: bench bench-forms test-bench
 .PHONY: lib install install-lib uninstall uninstall-lib dist deb wheel version release
 .PHONY: test-bindings test-install test-dist test-deb test-wheel
 run: bin
@@ -41,6 +42,7 @@ test-docs: bin
 	@sh tests/pages.sh . man/*.[15]
 	@scripts/pictures/pictures compare
 	@scripts/believed --page | diff docs/BELIEVED.md -
+	@scripts/bench/forms.py --check
 
 # The pictures of the documents, made anew.
 pictures:
@@ -49,6 +51,15 @@ pictures:
 # The page of what has to be believed, made anew.
 believed:
 	@scripts/believed --page >docs/BELIEVED.md
+
+# The tables of docs/BENCH.md, and what each form that was decided by speed gains. They need gcc, valgrind and Python.
+# WORDS are for the scripts, as `make bench WORDS='--page docs/BENCH.md --core 3'`.
+bench:
+	@scripts/bench/tables.py $(WORDS)
+bench-forms:
+	@scripts/bench/forms.py $(WORDS)
+test-bench:
+	@python3 scripts/bench/test_bench.py
 
 # A program is built by running it once; `dlxcheck`, `dlx_parts` and `dlx_below` without words end with status 1.
 all: bin

@@ -1,8 +1,9 @@
 #!/usr/bin/env python3
-"""bench.py FOLDER [--c NAME=FOLDER].. [--c-alone] [--repeat K] [--core C] [--only NAME,..] [--most SECONDS] [--page PAGE]
+"""bench.py FOLDER [--ours FOLDER] [--c NAME=FOLDER].. [--c-alone] [--repeat K] [--core C] [--only NAME,..]
+         [--most SECONDS] [--page PAGE]
 
-Counts the solutions of the problems that problems.py wrote into FOLDER, by the programs that `make all` built and,
-beside them, by other solvers: C programs dlx1, dlx2 and dlx3 in each folder given by --c, and, where they are
+Counts the solutions of the problems that problems.py wrote into FOLDER, by the programs that `make all` built or those
+in the folder given by --ours and, beside them, by other solvers: C programs dlx1, dlx2 and dlx3 in each folder given by --c, and, where they are
 installed, clasp and Gecode (fzn-gecode), as 0-1 problems that are made from the same texts, and Sage's dancing links
 (sage), for problems of kind 1. All take turns, on one core where --core gives its number. Told are ratios of CPU time,
 ours to theirs, the median of K runs (3), or of at most 3 where one of each took more than 15 seconds together: below 1
@@ -293,6 +294,7 @@ def grow(ours, in_c, most):
 def main():
     parser = argparse.ArgumentParser(description=__doc__, formatter_class=argparse.RawDescriptionHelpFormatter)
     parser.add_argument("folder")
+    parser.add_argument("--ours", default=os.path.join(TOP, "crates", "dlx{0}", "out"))
     parser.add_argument("--c", action="append", default=[], type=lambda word: word.rpartition("=")[::2])
     parser.add_argument("--c-alone", action="store_true")
     parser.add_argument("--repeat", type=int, default=3)
@@ -303,7 +305,7 @@ def main():
     given = parser.parse_args()
     if given.core is not None:
         os.sched_setaffinity(0, {given.core})
-    ours = Exact("ours", os.path.join(TOP, "crates", "dlx{0}", "out"))
+    ours = Exact("ours", given.ours)
     in_c = [Exact(name or os.path.basename(os.path.abspath(folder)), os.path.abspath(folder)) for name, folder in given.c]
     installed = (Clasp(), "clasp"), (Gecode(), "fzn-gecode"), (Sage(), "sage")
     installed = [solver for solver, program in installed if shutil.which(program) and not given.c_alone]

@@ -1,7 +1,9 @@
 """Tables of a page."""
 
+from __future__ import annotations
 
-def put(page, made):
+
+def put(page: str, made: list[str]) -> None:
     """Puts a table, as its lines, in the place of that with the same head."""
     with open(page, encoding="utf-8") as file:
         lines = file.read().split("\n")

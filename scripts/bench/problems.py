@@ -5,26 +5,45 @@ Each is for the program of its kind, and its number of solutions is known from e
 clock or a system's randomness, so they are the same everywhere.
 """
 
+from __future__ import annotations
+
 import itertools
 import os
 import sys
-from collections import namedtuple
-
-Problem = namedtuple("Problem", "name kind count source make")
-PROBLEMS = []
+from dataclasses import dataclass
+from typing import Callable, Iterable, Iterator, TextIO, TypeVar
 
 
-def problem(kind, count, source):
+# The primary items, the secondary items and the options.
+Made = tuple[list[str], list[str], Iterable[Iterable[str]]]
+Make = Callable[[], Made]
+Cell = tuple[int, int]
+
+
+@dataclass(frozen=True)
+class Problem:
+    name: str
+    kind: int
+    count: int
+    source: str
+    make: Make
+
+
+PROBLEMS: list[Problem] = []
+T = TypeVar("T")
+
+
+def problem(kind: int, count: int, source: str) -> Callable[[Make], Make]:
     """Registers a function that gives the primary items, the secondary items and the options."""
 
-    def register(make):
+    def register(make: Make) -> Make:
         PROBLEMS.append(Problem(make.__name__, kind, count, source, make))
         return make
 
     return register
 
 
-def write(primary, secondary, options, file):
+def write(primary: list[str], secondary: list[str], options: Iterable[Iterable[str]], file: TextIO) -> None:
     bar = " | " + " ".join(secondary) if secondary else ""
     print(" ".join(primary) + bar, file=file)
     for option in options:
@@ -34,29 +53,29 @@ def write(primary, secondary, options, file):
 class Dice:
     """A generator of numbers of our own (a linear congruence), so that problems don't depend on Python's."""
 
-    def __init__(self, seed):
+    def __init__(self, seed: int) -> None:
         self.state = (seed * 2862933555777941757 + 3037000493) % 2**64
 
-    def below(self, n):
+    def below(self, n: int) -> int:
         self.state = (self.state * 6364136223846793005 + 1442695040888963407) % 2**64
         return (self.state >> 33) * n >> 31
 
-    def sample(self, among, count):
-        among = list(among)
-        for i in range(len(among) - 1, 0, -1):
+    def sample(self, among: Iterable[T], count: int) -> list[T]:
+        mixed = list(among)
+        for i in range(len(mixed) - 1, 0, -1):
             j = self.below(i + 1)
-            among[i], among[j] = among[j], among[i]
-        return among[:count]
+            mixed[i], mixed[j] = mixed[j], mixed[i]
+        return mixed[:count]
 
 
-def cells(rows, columns):
+def cells(rows: int, columns: int) -> list[Cell]:
     return list(itertools.product(range(rows), range(columns)))
 
 
 # Kind 1: items alone.
 
 
-def queens(n):
+def queens(n: int) -> Made:
     """Ranks and files from the middle outwards, and the diagonals of more than one square."""
     order = sorted(range(n), key=lambda i: (abs(2 * i - n + 1), i))
     rows_and_columns = [name for i in order for name in (f"r{i}", f"c{i}")]
@@ -69,12 +88,12 @@ def queens(n):
 
 
 @problem(1, 14200, "literature")
-def queens12():
+def queens12() -> Made:
     return queens(12)
 
 
 @problem(1, 35584, "literature, both directions")
-def langford11():
+def langford11() -> Made:
     n = 11
     options = [(str(k), f"s{j}", f"s{j + k + 1}") for k in range(1, n + 1) for j in range(1, 2 * n - k)]
     return [str(k) for k in range(1, n + 1)] + [f"s{j}" for j in range(1, 2 * n + 1)], [], options
@@ -87,7 +106,7 @@ PENTOMINOES = {
 TETROMINOES = {"I": "XXXX", "O": "XX XX", "T": "XXX .X.", "S": "XX. .XX", "L": "X.. XXX"}
 
 
-def forms(shape):
+def forms(shape: str) -> list[tuple[Cell, ...]]:
     """The different forms of a shape, turned and mirrored."""
     now = [(r, c) for r, row in enumerate(shape.split()) for c, mark in enumerate(row) if mark == "X"]
     found = set()
@@ -98,7 +117,7 @@ def forms(shape):
     return sorted(found)
 
 
-def placements(shapes, board):
+def placements(shapes: dict[str, str], board: list[Cell]) -> Iterator[list[str]]:
     for piece in sorted(shapes):
         for form in forms(shapes[piece]):
             for down, right in board:
@@ -108,19 +127,19 @@ def placements(shapes, board):
 
 
 @problem(1, 9356, "literature, each tiling in four images")
-def pentominoes6x10():
+def pentominoes6x10() -> Made:
     board = cells(6, 10)
     return sorted(PENTOMINOES) + [f"{r:x}{c:x}" for r, c in board], [], placements(PENTOMINOES, board)
 
 
 @problem(1, 4897344, "Sage", )
-def sudoku_many():
+def sudoku_many() -> Made:
     """A puzzle of 17 clues less two of them."""
     grid = "000000010400000000020000000000050407008000300001090000300400200050100000000806000"
     clues = [i for i, digit in enumerate(grid) if digit != "0"]
     given = {divmod(i, 9): grid[i] for i in clues if i not in (clues[3], clues[9])}
 
-    def uses(r, c, d):
+    def uses(r: int, c: int, d: str) -> list[str]:
         return [f"p{r}{c}", f"r{r}{d}", f"c{c}{d}", f"b{r // 3 * 3 + c // 3}{d}"]
 
     held = {item for (r, c), d in given.items() for item in uses(r, c, d)}
@@ -130,27 +149,27 @@ def sudoku_many():
 
 
 @problem(1, 135135, "literature, 13!!")
-def matchings14():
+def matchings14() -> Made:
     people = [f"v{i}" for i in range(14)]
     return people, [], itertools.combinations(people, 2)
 
 
 @problem(1, 1346269, "literature, a Fibonacci number")
-def dominoes2x30():
+def dominoes2x30() -> Made:
     pairs = [((0, c), (1, c)) for c in range(30)] + [((r, c), (r, c + 1)) for r in range(2) for c in range(29)]
     return [f"{r}.{c}" for r, c in cells(2, 30)], [], [[f"{r}.{c}" for r, c in pair] for pair in pairs]
 
 
 @problem(1, 161280, "literature, Latin squares of order 5")
-def latin5():
+def latin5() -> Made:
     items = [f"{way}{i}{j}" for way in "prc" for i, j in cells(5, 5)]
     return items, [], [[f"p{i}{j}", f"r{i}{k}", f"c{j}{k}"] for i, j in cells(5, 5) for k in range(5)]
 
 
 @problem(1, 1108800, "literature, 13!/5616")
-def planes3():
+def planes3() -> Made:
     """Projective planes of order 3: each pair of 13 points in one of the blocks of four."""
-    def pairs(points):
+    def pairs(points: Iterable[int]) -> list[str]:
         return ["".join(f"{x:x}" for x in pair) for pair in itertools.combinations(points, 2)]
 
     return pairs(range(13)), [], [pairs(block) for block in itertools.combinations(range(13), 4)]
@@ -159,9 +178,9 @@ def planes3():
 # Kind 2: secondary items with colours.
 
 
-def words(count, length, seed):
+def words(count: int, length: int, seed: int) -> list[str]:
     """Made-up words, of consonants and vowels by turns."""
-    dice, found = Dice(seed), {}
+    dice, found = Dice(seed), dict[str, int]()
     while len(found) < count:
         first = dice.below(2)
         found["".join("aeiou"[dice.below(5)] if (k + first) % 2 else "bdlmnrst"[dice.below(8)] for k in range(length))] = 1
@@ -169,7 +188,7 @@ def words(count, length, seed):
 
 
 @problem(2, 31053, "brute force")
-def squares4():
+def squares4() -> Made:
     """Squares of four words across and four down, of 250 words."""
     lines = [f"{way}{i}" for way in "AD" for i in range(4)]
     options = []
@@ -181,8 +200,8 @@ def squares4():
 
 
 @problem(2, 6240, "literature, one-factorizations of K8 with the colours at one point fixed")
-def factorizations8():
-    def edge(a, b):
+def factorizations8() -> Made:
+    def edge(a: int, b: int) -> str:
         return f"e{min(a, b)}{max(a, b)}"
 
     options = []
@@ -195,7 +214,7 @@ def factorizations8():
 
 
 @problem(2, 2**20 + 8, "transfer matrix")
-def prism20():
+def prism20() -> Made:
     """Colourings of the edges of a prism of 20 sides by three colours."""
     edges = {}
     for i in range(20):
@@ -214,44 +233,44 @@ def prism20():
 
 
 @problem(3, 4860, "literature")
-def dominating_queens():
+def dominating_queens() -> Made:
     """Five queens that attack or stand on each of the 64 squares."""
-    def attacked(a):
+    def attacked(a: Cell) -> list[str]:
         return [f"{r}{c}" for r, c in cells(8, 8) if a[0] == r or a[1] == c or abs(a[0] - r) == abs(a[1] - c)]
 
     return ["5|#"] + [f"1:5|{r}{c}" for r, c in cells(8, 8)], [], [["#"] + attacked(a) for a in cells(8, 8)]
 
 
 @problem(3, 2680, "literature")
-def bounded_queens11():
+def bounded_queens11() -> Made:
     """Queens whose diagonals are primary items that may be left out."""
     primary, diagonals, options = queens(11)
     return primary + [f"0:1|{d}" for d in diagonals], [], options
 
 
-def grid_edges(rows, columns, bounds):
+def grid_edges(rows: int, columns: int, bounds: str) -> Made:
     pairs = [((r, c), (r, c + 1)) for r in range(rows) for c in range(columns - 1)]
     pairs += [((r, c), (r + 1, c)) for r in range(rows - 1) for c in range(columns)]
     return [f"{bounds}|{r}{c}" for r, c in cells(rows, columns)], [], [[f"{r}{c}" for r, c in p] for p in pairs]
 
 
 @problem(3, 972080, "transfer matrix")
-def two_factors6x8():
+def two_factors6x8() -> Made:
     """Sets of edges of a grid of which each point has two."""
     return grid_edges(6, 8, "2")
 
 
 @problem(3, 3106, "by dlx1 with two copies of each piece")
-def tetrominoes5x8():
+def tetrominoes5x8() -> Made:
     board = cells(5, 8)
     items = [f"2|{piece}" for piece in sorted(TETROMINOES)] + [f"{r:x}{c:x}" for r, c in board]
     return items, [], placements(TETROMINOES, board)
 
 
 @problem(3, 4725, "brute force")
-def coverings8():
+def coverings8() -> Made:
     """Six blocks of four of eight points that have each pair."""
-    def pairs(points):
+    def pairs(points: Iterable[int]) -> list[str]:
         return ["".join(map(str, pair)) for pair in itertools.combinations(points, 2)]
 
     blocks = [["#"] + pairs(block) for block in itertools.combinations(range(8), 4)]
@@ -262,7 +281,7 @@ def coverings8():
 
 
 @problem(1, 1, "by construction")
-def many_items():
+def many_items() -> Made:
     """100,000 items, a solution of 10,000 options."""
     dice, options = Dice(1), []
     for group in range(10000):
@@ -274,11 +293,11 @@ def many_items():
 
 
 @problem(1, 1, "by construction")
-def many_uses():
+def many_uses() -> Made:
     """5,000,000 uses: most of the time is reading."""
     dice, items = Dice(2), [f"item{i:03}" for i in range(1000)]
 
-    def options():
+    def options() -> Iterator[list[str]]:
         for o in range(100000):
             if o % 5000 == 2500:
                 yield items[o // 5000 * 50 : o // 5000 * 50 + 50]
@@ -291,18 +310,18 @@ def many_uses():
 
 
 @problem(1, 1, "by construction")
-def many_levels():
+def many_levels() -> Made:
     items = [f"d{i}" for i in range(50000)]
     return items, [], [[item] for item in items]
 
 
 @problem(2, 1, "by construction")
-def many_colours():
+def many_colours() -> Made:
     """200,000 words of eight letters in a grid of 40 by 50, as uses with colours: most of the time is reading."""
     dice, words = Dice(3), [f"word{i}" for i in range(100)]
     grid = [f"r{r}c{c}" for r, c in cells(40, 50)]
 
-    def options():
+    def options() -> Iterator[list[str]]:
         yield ["all"] + words
         for o in range(200000):
             at, step = dice.below(2000), 50 if dice.below(2) else 1
@@ -312,7 +331,7 @@ def many_colours():
     return ["all"] + words, grid, options()
 
 
-def main():
+def main() -> None:
     if len(sys.argv) < 2:
         sys.exit(__doc__)
     os.makedirs(sys.argv[1], exist_ok=True)

@@ -139,8 +139,7 @@ pub fn looked_up<'a>(names: &NameSet, token: &'a [u8]) -> Token<'a>
 }
 
 /// The token that a text begins with, where its name is a short one that the guesses know, and what is left
-/// behind it. Two numbers are compared, and no bytes: with what is seldom needed out of line, 0.75 of the instructions
-/// for plain uses, and 0.77 for coloured ones with guesses by their one byte.
+/// behind it. Two numbers are compared, and no bytes.
 #[inline(always)]
 fn known_token<'a>(guesses: &Guesses, text: &'a [u8]) -> Option<(Token<'a>, &'a [u8])>
     ensures { (names : List (List ℕ)) → AreNames names → AreWords names guesses.now.words.items

@@ -195,7 +195,7 @@ fn text_of<'a>(problem: &Problem, layout: &'a Layout, o: u32) -> &'a [u8]
 
 /// Puts the text of an option on a page, cut before an item's use, the part behind the cut first.
 // Out of line, since in most lines the branch item's use is the first: among the values of those this left too few in
-// registers, 1.06 of what printing takes.
+// registers.
 #[inline(never)]
 fn put_cut(
     problem: &Problem,

@@ -43,7 +43,7 @@ pub fn choose<D: Dance>(dance: &D, problem: &Problem) -> Option<(u32, u32)>
 /// Does what `choose` does. `once`: each primary item is to be held exactly once, and those that are
 /// open aren't held yet. Then the pass over the items reads no bounds.
 // The number of branches is an index, since the compiler packs two numbers of 32 bits into one word and takes them
-// apart again: 0.994 of the instructions.
+// apart again.
 #[inline(always)]
 pub fn choose_next<D: Dance>(dance: &D, problem: &Problem, once: bool) -> Option<(u32, usize)>
     requires same { (D.state dance.now).puzzle ≡ problem.now.puzzle }

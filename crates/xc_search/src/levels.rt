@@ -88,8 +88,7 @@ pub fn end_level<D: Dance>(position: &mut Position<D>, level: &Level)
     ensures { position.new ≡ record position.old { trail = oldest level.now.mark position.old.trail } }
 {
     if level.tweaks > 0 {
-        // Not set apart, though rare: as a call that takes the state by value and gives it back, this took 1.07 of the
-        // instructions on bounded queens.
+        // Not set apart, though rare, as by a call that takes the state by value and gives it back.
         position.undo_to(level.base);
         position.undo_tweaks(level.tweaks as usize);
     }
@@ -131,7 +130,7 @@ pub fn resume<D: Dance>(position: &mut Position<D>, stack: &mut Stack) -> Option
     ensures done { IsNone result → IsDone position.old stack.old false position.new stack.new }
     ensures path { IsNone result → KeepsPath position.old stack.old position.new stack.new }
 {
-    // A level that goes on and a level that ends are two paths: 0.95 of the instructions where options have two uses.
+    // A level that goes on and a level that ends are two paths.
     while let Some(level) = stack.top() {
         if level.begun < level.count {
             let item = level.item;
@@ -249,9 +248,8 @@ fn go_on<D: Dance>(
 /// Passes over so many solutions and stands at the next. Where there is none, all levels have ended, and it tells how
 /// many were not there to be passed over. A search that stands at a solution finds that one again, as the first.
 // One loop for all of them, which at each turn first asks for what is below, so that no flag tells whether that was
-// searched: 0.992 of the instructions over thirteen problems.
-// No wish to be inlined: its one call is, and then after what it calls was taken in, which leaves more in registers
-// and took 0.955 of the instructions in the programs as they are built.
+// searched.
+// No wish to be inlined: its one call is, and then after what it calls was taken in.
 pub fn advance<D: Dance>(position: &mut Position<D>, stack: &mut Stack, many: u64) -> Option<u64>
     requires standing { IsStanding position.old.puzzle position.old.trail stack.old.levels true }
     requires levels_fit { most_levels position.old.puzzle ≤ stack.old.room }

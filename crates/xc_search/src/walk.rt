@@ -139,7 +139,7 @@ impl<'a, D: Dance> Walk<'a, D> {
         } }
         ensures count { result ≡ min many (length self.old.to_come) }
     {
-        // Told apart here: in the loop's function this test alone took 0.07 more of the instructions.
+        // Told apart here, and not in the loop's function.
         if many == 0 {
             return 0;
         }
@@ -219,9 +219,9 @@ impl<'a, D: Dance> Standing<'a, D> {
 
     /// Goes on by so many solutions, or over all where fewer are left, and tells by how many. It takes the search by
     /// value, so that its loop holds the bases and lengths of all tables as values of its own: behind a reference each
-    /// would be loaded anew after each write to a table. By itself that took 0.99 of the instructions.
+    /// would be loaded anew after each write to a table.
     // It holds while no address of the state leaves the loop: what stands out of line there takes slices, and all else
-    // asks to be inlined. Together with what follows from it this took 0.90 over thirteen problems.
+    // asks to be inlined.
     #[inline(never)]
     fn passed(self, many: u64) -> (Standing<'a, D>, ())
         requires some { 0 < many }
@@ -256,8 +256,7 @@ impl<'a, D: Dance> Standing<'a, D> {
 }
 
 /// How many solutions were passed over of `many`, where the search then ended and `more` lacked beside the last.
-// A call for its coldness alone: else the compiler takes a search's end for as likely as a step of its loop, 1.021 of
-// the instructions.
+// A call for its coldness alone: else the compiler takes a search's end for as likely as a step of its loop.
 #[cold]
 #[inline(never)]
 fn fewer(many: u64, more: u64) -> u64

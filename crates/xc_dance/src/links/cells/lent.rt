@@ -51,8 +51,7 @@ impl Cells<'_> {
         self.get_at(place as usize)
     }
 
-    /// The same by an index: a walk over places that are indices widens none of them, which took 0.98 of the
-    /// instructions where options have two uses, and 0.91 on pentominoes.
+    /// The same by an index: a walk over places that are indices widens none of them.
     #[inline(always)]
     pub(crate) fn get_at(&self, place: usize) -> u32
         requires { place < length (values self.now.cells.now) }
