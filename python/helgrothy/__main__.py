@@ -7,12 +7,12 @@ command could not be done, with one line on standard error that says why.
 from __future__ import annotations
 
 import argparse
-import os
 import re
 import sys
 from typing import Any, Callable, Iterable, List, Optional, Sequence
 
-from . import __version__, why
+from . import __version__, console, why
+from .console import Parser, limited, positive, seconds, write
 from .draw import Drawing, Pattern, drawing_of
 from .errors import HelgrothyError, NoPicture, OutOfTime
 from .export import FORMATS
@@ -20,7 +20,6 @@ from .lint import lint
 from .make import KINDS
 from .make.kind import Kind
 from .problem import Problem
-from .syntax import bytes_of
 
 _EXAMPLES = """\
 examples:
@@ -39,30 +38,23 @@ examples:
 
 def main(words: Optional[Sequence[str]] = None) -> int:
     """Does what the words of a command say, and gives its status."""
+    return console.run("helgrothy", lambda: _act(words), unread=0)
+
+
+def _act(words: Optional[Sequence[str]]) -> int:
     arguments = _parser().parse_args(words)
-    try:
+    with limited(getattr(arguments, "seconds", None)):
         status: int = arguments.command(arguments)
-        sys.stdout.flush()
-        return status
-    except BrokenPipeError:
-        # Nobody reads any longer; what is still held back goes nowhere.
-        os.dup2(os.open(os.devnull, os.O_WRONLY), 1)
-        return 2
-    except KeyboardInterrupt:
-        return 130
-    except OSError as error:
-        return _fail(f"{error.filename}: {error.strerror}" if error.filename else str(error))
-    except (HelgrothyError, ValueError) as error:
-        return _fail(str(error))
+    return status
 
 
 def _fail(message: str, status: int = 2) -> int:
-    print(f"helgrothy: {message}", file=sys.stderr)
+    console.say(f"helgrothy: {message}")
     return status
 
 
 def _parser() -> argparse.ArgumentParser:
-    parser = argparse.ArgumentParser(
+    parser = Parser(
         prog="helgrothy",
         description="Makes, solves and draws exact cover problems, by the programs dlx1, dlx2 and dlx3.",
         epilog=_EXAMPLES,
@@ -94,7 +86,7 @@ def _add_make(commands: Any) -> None:
 
 
 def _make(arguments: argparse.Namespace) -> int:
-    _print(f"{line}\n" for line in arguments.kind.make(arguments).lines())
+    write(f"{line}\n" for line in arguments.kind.make(arguments).lines())
     return 0
 
 
@@ -125,11 +117,11 @@ def _add_kind(commands: Any, kind: Kind) -> None:
 
 def _add_solving(parser: argparse.ArgumentParser) -> None:
     which = parser.add_mutually_exclusive_group()
-    which.add_argument("--number", type=_positive, metavar="K", help="the K-th solution instead of the first")
-    which.add_argument("--limit", type=_positive, metavar="N", help="the first N solutions")
+    which.add_argument("--number", type=positive, metavar="K", help="the K-th solution instead of the first")
+    which.add_argument("--limit", type=positive, metavar="N", help="the first N solutions")
     which.add_argument("--all", action="store_true", help="all solutions")
     parser.add_argument("--svg", action="store_true", help="a picture as SVG, of one solution")
-    parser.add_argument("--seconds", type=float, metavar="S", help="give up after S seconds")
+    parser.add_argument("--seconds", type=seconds, metavar="S", help="give up after S seconds")
 
 
 def _solve(arguments: argparse.Namespace) -> int:
@@ -152,13 +144,13 @@ def _show(problem: Problem[Any], arguments: argparse.Namespace) -> int:
             _show_one(draw, [problem.line(option) for option in solution], arguments.svg, shown)
             shown += 1
         ending = f"Altogether {solutions.total} solution{'' if solutions.total == 1 else 's'}"
-        print(f"{ending}{'.' if solutions.complete else ' (limit).'}", file=sys.stderr)
+        console.say(f"{ending}{'.' if solutions.complete else ' (limit).'}")
     return 0 if shown else 1
 
 
 def _show_one(draw: Callable[[Sequence[str]], Any], lines: List[str], is_svg: bool, before: int) -> None:
     picture = draw(lines)
-    _print(["\n" if before and not is_svg else "", picture.svg() if is_svg else str(picture)])
+    write(["\n" if before and not is_svg else "", picture.svg() if is_svg else str(picture)])
 
 
 def _listed_options(lines: Sequence[str]) -> str:
@@ -179,7 +171,7 @@ def _add_draw(commands: Any) -> None:
         formatter_class=argparse.RawDescriptionHelpFormatter,
     )
     parser.add_argument("problem", metavar="PROBLEM", help="the file of the problem that the listing is of")
-    parser.add_argument("--number", type=_positive, metavar="K", help="the solution of this number alone")
+    parser.add_argument("--number", type=positive, metavar="K", help="the solution of this number alone")
     parser.add_argument("--svg", action="store_true", help="a picture as SVG, of the first solution or that of --number")
     _add_patterns(parser)
     parser.set_defaults(command=_draw)
@@ -203,7 +195,7 @@ def _draw(arguments: argparse.Namespace) -> int:
     problem = _problem(arguments.problem)
     draw = _drawing(problem, arguments, None)
     shown = 0
-    for listed in problem.listed(sys.stdin.buffer):
+    for listed in problem.listed(console.input_lines()):
         if arguments.number in (None, listed.number):
             _show_one(draw, [problem.line(option) for option in listed.options()], arguments.svg, shown)
             shown += 1
@@ -219,15 +211,27 @@ def _drawing(
     if arguments.cell is not None:
         try:
             return Pattern(arguments.cell, arguments.label or r"(?!)").of(problem)
-        except re.error as error:
+        except (re.error, OverflowError, RecursionError) as error:
             raise ValueError(f"a pattern is wrong: {error}") from None
     try:
         drawing: Drawing = drawing_of(problem)
-        return drawing
     except NoPicture:
         if otherwise is None or arguments.svg:
             raise
         return otherwise
+    return drawing if otherwise is None or arguments.svg else _drawn_or(drawing, otherwise)
+
+
+def _drawn_or(drawing: Drawing, otherwise: Callable[[Sequence[str]], Any]) -> Callable[[Sequence[str]], Any]:
+    """A drawing, or what else is shown of a solution that it doesn't draw."""
+
+    def draw(lines: Sequence[str]) -> Any:
+        try:
+            return drawing(lines)
+        except NoPicture:
+            return otherwise(lines)
+
+    return draw
 
 
 # ---- lint, export, why
@@ -246,8 +250,8 @@ def _add_lint(commands: Any) -> None:
 
 
 def _lint(arguments: argparse.Namespace) -> int:
-    remarks = lint(_read(arguments.problem), int(arguments.program[-1]))
-    _print(f"{remark}\n" for remark in remarks)
+    remarks = lint(console.read(arguments.problem), int(arguments.program[-1]))
+    write(f"{remark}\n" for remark in remarks)
     return 1 if remarks else 0
 
 
@@ -264,7 +268,7 @@ def _add_export(commands: Any) -> None:
 
 
 def _export(arguments: argparse.Namespace) -> int:
-    _print(f"{line}\n" for line in FORMATS[arguments.format](_problem(arguments.problem)))
+    write(f"{line}\n" for line in FORMATS[arguments.format](_problem(arguments.problem)))
     return 0
 
 
@@ -276,7 +280,7 @@ def _add_why(commands: Any) -> None:
         "finds in the time. Status 1 says that there is a solution.",
     )
     _add_problem(parser)
-    parser.add_argument("--seconds", type=float, default=10.0, metavar="S", help="the time (default: 10)")
+    parser.add_argument("--seconds", type=seconds, default=10.0, metavar="S", help="the time (default: 10)")
     parser.set_defaults(command=_why)
 
 
@@ -288,13 +292,14 @@ def _why(arguments: argparse.Namespace) -> int:
         return _fail(f"in {arguments.seconds:g} seconds it isn't known whether there is a solution")
     if conflict is None:
         return _fail("there is a solution", 1)
-    print("can't all be held:", *map(problem.name, conflict.items))
+    told = [f"can't all be held: {' '.join(map(problem.name, conflict.items))}"]
     if conflict.sums is not None:
-        print(conflict.sums.text(problem.name))
+        told.append(conflict.sums.text(problem.name))
     if conflict.is_least:
-        print("without any one of them the others can be held")
+        told.append("without any one of them the others can be held")
     else:
-        print("perhaps fewer do: not all were tried to the end in the time")
+        told.append("perhaps fewer do: not all were tried to the end in the time")
+    write(f"{line}\n" for line in told)
     return 0
 
 
@@ -305,34 +310,12 @@ def _add_problem(parser: argparse.ArgumentParser) -> None:
     parser.add_argument("problem", nargs="?", default="-", metavar="PROBLEM", help="a file (default: standard input)")
 
 
-def _read(path: str) -> bytes:
-    if path == "-":
-        return sys.stdin.buffer.read()
-    with open(path, "rb") as file:
-        return file.read()
-
-
 def _problem(path: str) -> Problem[Any]:
-    text = _read(path)
+    text = console.read(path)
     try:
         return Problem.parse(text)
     except HelgrothyError as error:
         raise ValueError(f"{'standard input' if path == '-' else path}: {error}") from None
-
-
-def _print(texts: Iterable[str]) -> None:
-    """Names go out as the bytes that they came as, UTF-8 or not."""
-    out = sys.stdout.buffer
-    for text in texts:
-        out.write(bytes_of(text))
-    out.flush()
-
-
-def _positive(word: str) -> int:
-    number = int(word)
-    if number < 1:
-        raise argparse.ArgumentTypeError("it has to be at least 1")
-    return number
 
 
 def run() -> None:

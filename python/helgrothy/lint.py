@@ -7,6 +7,7 @@ from dataclasses import dataclass
 from typing import Dict, FrozenSet, Iterator, List, Optional, Tuple
 
 from .problem import Problem
+from .shown import shown
 from .sums import search
 from .syntax import Bounds, Sheet, read
 
@@ -23,7 +24,8 @@ class Remark:
     is_fault: bool = False
 
     def __str__(self) -> str:
-        return f"line {self.line}: {self.token}: {self.text}" if self.token else f"line {self.line}: {self.text}"
+        token = f"{self.token}: " if self.token else ""
+        return f"line {self.line}: {shown(token + self.text)}"
 
 
 def lint(text: bytes, kind: int = 3, seconds: float = 1.0) -> List[Remark]:

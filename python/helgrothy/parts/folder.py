@@ -296,13 +296,6 @@ def keep_failure(folder: Folder, failure: Failure) -> None:
             os.remove(path)
 
 
-def reason_of(error: Exception) -> str:
-    """What an error says, and of which file."""
-    if isinstance(error, OSError) and error.strerror:
-        return f"{os.fsdecode(error.filename)}: {error.strerror}" if error.filename else error.strerror
-    return str(error)
-
-
 def refuse(path: str) -> None:
     """Raises `PartsFault` where no new folder can be."""
     if os.path.lexists(path):

@@ -9,11 +9,11 @@ import subprocess
 from contextlib import suppress
 from typing import IO, Callable, Iterable, Iterator, List, NamedTuple, Sequence, Tuple
 
-from ..errors import HelgrothyError, PartsFault, ProgramFailed
+from ..errors import HelgrothyError, PartsFault, ProgramFailed, reason_of
 from ..guard import let_go, start
 from ..programs import find, has
 from .below import NAME, Below, batches
-from .folder import Doubt, Failure, Folder, Output, Record, host, keep_failure, reason_of
+from .folder import Doubt, Failure, Folder, Output, Record, host, keep_failure
 from .text import PartText
 from .tree import Path
 
