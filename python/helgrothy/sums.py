@@ -78,6 +78,8 @@ def search(problem: Problem[Any], seconds: float = 2.0) -> Optional[Sums]:
     deadline = time.monotonic() + seconds
     rows = _rows(problem)
     for weights in _class_weights(rows, _classes(problem)):
+        if time.monotonic() > deadline:
+            return None
         found = _weigh(rows, problem.items, weights)
         if found.is_proof:
             return _fewer(rows, problem.items, found, deadline)
