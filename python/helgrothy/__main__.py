@@ -9,6 +9,7 @@ from __future__ import annotations
 import argparse
 import re
 import sys
+import time
 from typing import Any, Callable, Iterable, List, Optional, Sequence
 
 from . import __version__, console, why
@@ -34,6 +35,11 @@ examples:
   helgrothy why mine.dlx
   helgrothy export asp mine.dlx | gringo | clasp 0
 """
+
+# A reason is looked for so long where a problem turns out to have no solution.
+_REASON_SECONDS = 2.0
+# Of the time that a command is given, so that what was found by then can be told.
+_SHARE = 0.9
 
 
 def main(words: Optional[Sequence[str]] = None) -> int:
@@ -138,14 +144,39 @@ def _show(problem: Problem[Any], arguments: argparse.Namespace) -> int:
     if arguments.svg and limit != number:
         raise ValueError("an SVG is of one solution: --number says which")
     draw = _drawing(problem, arguments, _listed_options)
+    deadline = None if arguments.seconds is None else time.monotonic() + arguments.seconds
     shown = 0
-    with problem.solve(limit, number, seconds=arguments.seconds) as solutions:
-        for solution in solutions:
-            _show_one(draw, [problem.line(option) for option in solution], arguments.svg, shown)
-            shown += 1
-        ending = f"Altogether {solutions.total} solution{'' if solutions.total == 1 else 's'}"
-        console.say(f"{ending}{'.' if solutions.complete else ' (limit).'}")
+    try:
+        solutions = problem.solve(limit, number, seconds=arguments.seconds)
+        with why.Watch(problem, console.say) as watch, solutions:
+            for solution in solutions:
+                watch.end()
+                _show_one(draw, [problem.line(option) for option in solution], arguments.svg, shown)
+                shown += 1
+    except OutOfTime as error:
+        return _fail(f"{error}; {_counted(max(error.found * (arguments.number or 1), shown))} till then")
+    console.say(f"Altogether {_counted(solutions.total or 0)}{'.' if solutions.complete else ' (limit).'}")
+    if solutions.total == 0:
+        _tell_why(problem, deadline)
     return 0 if shown else 1
+
+
+def _counted(total: int) -> str:
+    return f"{total} solution{'' if total == 1 else 's'}"
+
+
+def _tell_why(problem: Problem[Any], deadline: Optional[float]) -> None:
+    """Says on standard error why there is no solution, where a short while tells."""
+    left = _REASON_SECONDS if deadline is None else min(_REASON_SECONDS, deadline - time.monotonic())
+    try:
+        conflict = why.find(problem, left * _SHARE) if left > 0 else None
+    except OutOfTime:
+        conflict = None
+    if conflict is None:
+        console.say(f"no reason was found in {max(left, 0):.2g} seconds; `helgrothy why` may look longer")
+        return
+    for line in conflict.lines(problem):
+        console.say(line)
 
 
 def _show_one(draw: Callable[[Sequence[str]], Any], lines: List[str], is_svg: bool, before: int) -> None:
@@ -276,8 +307,9 @@ def _add_why(commands: Any) -> None:
     parser = commands.add_parser(
         "why",
         help="tell which items conflict where there is no solution",
-        description="Tells primary items that can't all be held, where there is no solution: as few as leaving out "
-        "finds in the time. Status 1 says that there is a solution.",
+        description="Tells primary items that can't all be held, where there is no solution: those that ask for more "
+        "than the items beside them allow, else as few as leaving out finds in the time, by the programs and, where it "
+        "is on the path, by cadical or clasp. Status 1 says that there is a solution.",
     )
     _add_problem(parser)
     parser.add_argument("--seconds", type=seconds, default=10.0, metavar="S", help="the time (default: 10)")
@@ -287,19 +319,12 @@ def _add_why(commands: Any) -> None:
 def _why(arguments: argparse.Namespace) -> int:
     problem = _problem(arguments.problem)
     try:
-        conflict = why.find(problem, arguments.seconds)
+        conflict = why.find(problem, arguments.seconds * _SHARE)
     except OutOfTime:
         return _fail(f"in {arguments.seconds:g} seconds it isn't known whether there is a solution")
     if conflict is None:
         return _fail("there is a solution", 1)
-    told = [f"can't all be held: {' '.join(map(problem.name, conflict.items))}"]
-    if conflict.sums is not None:
-        told.append(conflict.sums.text(problem.name))
-    if conflict.is_least:
-        told.append("without any one of them the others can be held")
-    else:
-        told.append("perhaps fewer do: not all were tried to the end in the time")
-    write(f"{line}\n" for line in told)
+    write(f"{line}\n" for line in conflict.lines(problem))
     return 0
 
 

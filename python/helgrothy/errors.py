@@ -61,7 +61,9 @@ class ProgramFailed(HelgrothyError, RuntimeError):
 
 
 class OutOfTime(HelgrothyError, TimeoutError):
-    """A run took longer than it was given."""
+    """A run took longer than it was given. `found` says how many solutions it had told by then."""
+
+    found = 0
 
 
 class NoPicture(HelgrothyError, LookupError):

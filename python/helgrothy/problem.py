@@ -28,7 +28,7 @@ from typing import (
 )
 
 from . import listing as listings
-from .errors import ListingFault, NoPicture, ProblemFault, ProgramFailed
+from .errors import ListingFault, NoPicture, OutOfTime, ProblemFault, ProgramFailed
 from .listing import Decoder, Listed, Null
 from .names import codes, colour_names, item_names
 from .programs import Ending, Run
@@ -39,6 +39,8 @@ if TYPE_CHECKING:
     from .draw import Pattern, Picture
 
 Uses = Mapping[Hashable, Optional[Hashable]]
+# One of so many solutions is printed where they are counted for a time.
+_NUMBERED = 1000
 Option = TypeVar("Option", bound=Iterable[Hashable])
 BoundsLike = Union[None, int, Tuple[int, int]]
 
@@ -247,8 +249,12 @@ class Problem(Generic[Option]):
         may_be_null = any(low < high for low, high in self.items.values())
         give = partial(Solution, with_nulls if nulls or not may_be_null else without_nulls)
         with Run(f"dlx{self.kind}", words, _ended(wire.lines), seconds) as run:
-            is_cut = yield from listings.stream(run.chunks(), give, is_whole)
-            ending = Ending(run)
+            try:
+                is_cut = yield from listings.stream(run.chunks(), give, is_whole, outcome.count)
+                ending = Ending(run)
+            except OutOfTime as error:
+                error.found = outcome.found
+                raise
             if is_cut:
                 raise run.failure()
             outcome.ending = ending
@@ -275,12 +281,22 @@ class Problem(Generic[Option]):
     def count(self, limit: Optional[int] = None, *, seconds: Optional[float] = None) -> int:
         """How many solutions there are, or `limit` where there are as many or more.
 
-        Raises `ProgramNotFound`, `ProgramFailed` and, where it takes longer than `seconds`, `OutOfTime`.
+        Raises `ProgramNotFound`, `ProgramFailed` and, where it takes longer than `seconds`, `OutOfTime`, whose `found`
+        is then a number that was reached at least.
         """
-        with Run(f"dlx{self.kind}", _words(limit, 0), _ended(self.lines()), seconds) as run:
-            for _ in run.chunks():
-                pass
-            return Ending(run).total
+        # Where the time may end first, a few solutions are printed for their numbers.
+        words = _words(limit, 0 if seconds is None else _NUMBERED)
+        found = 0
+        with Run(f"dlx{self.kind}", words, _ended(self.lines()), seconds) as run:
+            try:
+                line = b""
+                for chunk in run.chunks():
+                    found = listings.last_number(line + chunk) or found
+                    line = (line + chunk).rpartition(b"\n")[2]
+                return Ending(run).total
+            except OutOfTime as error:
+                error.found = found
+                raise
 
     def check(self, listing: Union[str, bytes, IO[str], IO[bytes], Iterable[Iterable[Any]]]) -> List[bool]:
         """Of each solution whether it is one, as dlxcheck judges it, which holds all of them in memory.
@@ -361,9 +377,14 @@ class _Wire(Generic[Option]):
 
 
 class _Outcome:
-    """How a run ended. The run knows this and not its `Solutions`, so no circle keeps either of them alive."""
+    """How many solutions came, and how the run ended. The run knows this and not its `Solutions`, so no circle keeps
+    either of them alive."""
 
     ending: Optional[Ending] = None
+    found = 0
+
+    def count(self, more: int) -> None:
+        self.found += more
 
 
 class Solutions(Generic[Option]):
