@@ -10,7 +10,7 @@ import signal
 import sys
 import threading
 from contextlib import contextmanager, suppress
-from typing import Any, Callable, Iterable, Iterator, Optional
+from typing import Any, Callable, Iterable, Iterator, List, Optional
 
 from .errors import HelgrothyError, OutOfTime, reason_of
 from .programs import end_all
@@ -209,7 +209,7 @@ def _drop(stream: Any, number: int) -> None:
 
 
 def _read(file: Any, name: str) -> bytes:
-    pieces = []
+    pieces: List[bytes] = []
     left = _MOST_TEXT
     while True:
         piece = file.read(min(_CHUNK, left + 1))

@@ -62,7 +62,7 @@ class Picture:
             raise NoPicture("there is no cell to draw")
         self._size = max(r for r, _ in self.cells) + 1, max(c for _, c in self.cells) + 1
         check_size(*self._size, len(self.cells))
-        if min(map(min, self.cells)) < 0:
+        if any(r < 0 or c < 0 for r, c in self.cells):
             raise NoPicture("a cell has a row or a column below 0")
 
     def text(self) -> str:

@@ -60,6 +60,17 @@ class ProgramFailed(HelgrothyError, RuntimeError):
         return f"{self.program} {ended}: {self.message or 'no message'}"
 
 
+class UnknownChoice(HelgrothyError, KeyError):
+    """A line that a program printed says no option of the problem."""
+
+    def __init__(self, line: bytes) -> None:
+        super().__init__(line)
+        self.line = line
+
+    def __str__(self) -> str:
+        return f"a program printed what is no option of the problem: {self.line.decode('utf-8', 'backslashreplace')}"
+
+
 class OutOfTime(HelgrothyError, TimeoutError):
     """A run took longer than it was given. `found` says how many solutions it had told by then."""
 

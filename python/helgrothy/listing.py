@@ -11,7 +11,7 @@ import re
 from dataclasses import dataclass
 from typing import Callable, Dict, Generator, Generic, Hashable, Iterable, Iterator, List, Mapping, Optional, TypeVar, Union
 
-from .errors import ListingFault
+from .errors import ListingFault, UnknownChoice
 from .syntax import text_of
 
 O = TypeVar("O")
@@ -41,7 +41,7 @@ def turned(body: bytes) -> bytes:
 class Decoder(Dict[bytes, Union[O, Null]], Generic[O]):
     """What each choice line says: an option, or `Null`. A table that fills itself as lines are looked up.
 
-    `options` are by `turned` bodies, `items` the primary items by name. Raises `KeyError` for a line that says
+    `options` are by `turned` bodies, `items` the primary items by name. Raises `UnknownChoice` for a line that says
     neither. A body that is both an option's and that of a choice of none is read as the option's, as by dlxcheck.
     """
 
@@ -53,7 +53,7 @@ class Decoder(Dict[bytes, Union[O, Null]], Generic[O]):
         self._items = items
 
     def __missing__(self, line: bytes) -> Union[O, Null]:
-        body = line[1 : line.rindex(b" (")]
+        body = line[1 : max(line.rfind(b" ("), 0)]
         choice = self._bodies.get(body)
         if choice is None:
             choice = self._bodies[body] = self._read(body)
@@ -71,9 +71,9 @@ class Decoder(Dict[bytes, Union[O, Null]], Generic[O]):
         key = turned(body)
         if key in self._options:
             return self._options[key]
-        if body.startswith(b"null "):
+        if body.startswith(b"null ") and body[5:] in self._items:
             return Null(self._items[body[5:]])
-        raise KeyError(body)
+        raise UnknownChoice(body)
 
 
 def stream(
@@ -143,7 +143,7 @@ def solutions(lines: Iterable[bytes], decode: Decoder[O]) -> Iterator[Listed[O]]
         else:
             try:
                 listed.choices.append(decode[line])
-            except KeyError:
+            except UnknownChoice:
                 raise ListingFault(number, text_of(line.strip()), "unknown option") from None
     if listed is not None:
         yield listed

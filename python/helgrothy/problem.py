@@ -28,6 +28,7 @@ from typing import (
 )
 
 from . import listing as listings
+from .alike import Alike, Branches
 from .errors import ListingFault, NoPicture, OutOfTime, ProblemFault, ProgramFailed
 from .listing import Decoder, Listed, Null
 from .names import codes, colour_names, item_names
@@ -206,10 +207,10 @@ class Problem(Generic[Option]):
         for option in self.options:
             yield self.line(option)
 
-    def _item_line(self, names: Mapping[Hashable, str], more: Sequence[str] = ()) -> str:
-        """The item line with these names, and with more secondary items."""
+    def _item_line(self, names: Mapping[Hashable, str]) -> str:
+        """The item line with these names."""
         tokens = [_item_token(names[item], bounds) for item, bounds in self.items.items()]
-        behind = [*(names[item] for item in self.secondary), *more]
+        behind = [names[item] for item in self.secondary]
         return " ".join(tokens + (["|", *behind] if behind else []))
 
     @property
@@ -238,7 +239,7 @@ class Problem(Generic[Option]):
         self, outcome: _Outcome, words: List[str], nulls: bool, seconds: Optional[float]
     ) -> Generator[Solution[Any], None, None]:
         wire = _Wire(self)
-        with_nulls = wire.decoder.read
+        with_nulls = wire.read
 
         def without_nulls(lines: bytes) -> List[Any]:
             return [choice for choice in with_nulls(lines) if not isinstance(choice, Null)]
@@ -348,26 +349,48 @@ class Problem(Generic[Option]):
 
 
 class _Wire(Generic[Option]):
-    """A problem as it is given to a solver whose listing is read back: with names as short as can be, since each
-    byte of a listing costs time, and with a secondary item of its own in each option that another one is like.
+    """A problem as it is given to a solver whose listing is read back: with names as short as can be, since each byte
+    of a listing costs time.
     """
 
     def __init__(self, problem: Problem[Option]) -> None:
         code = codes()
         self._names = {item: next(code) for item in (*problem.items, *problem.secondary)}
         self._colours = dict(zip(problem.colours, codes()))
+        self._options = problem.options
+        self._has_nulls = any(low < high for low, high in problem.items.values())
         lines = [self._line(option, problem) for option in problem.options]
-        bodies = [listings.turned(bytes_of(line)) for line in lines]
-        times = Counter(bodies)
-        tags = []
-        for number, body in enumerate(bodies):
-            if times[body] > 1:
-                tags.append(next(code))
-                lines[number] += f" {tags[-1]}"
-                bodies[number] = listings.turned(bytes_of(lines[number]))
-        self.lines = [problem._item_line(self._names, tags), *lines]
-        items = {bytes_of(self._names[item]): item for item in problem.items}
-        self.decoder: Decoder[Option] = Decoder(dict(zip(bodies, problem.options)), items)
+        self.lines = [problem._item_line(self._names), *lines]
+        self._items = {bytes_of(self._names[item]): item for item in problem.items}
+        numbers: Dict[bytes, Union[int, Alike]] = {}
+        self._branches: Optional[Branches] = None
+        for number, line in enumerate(lines):
+            if numbers.setdefault(listings.turned(bytes_of(line)), number) != number:
+                numbers[listings.turned(bytes_of(line))] = Alike()
+        if len(numbers) < len(lines):
+            uses = [tuple(problem.pairs(option)) for option in problem.options]
+            self._branches = Branches(uses, {item: high for item, (_, high) in problem.items.items()})
+        self._decoder: Decoder[Union[int, Alike]] = Decoder(numbers, self._items)
+
+    def numbers(self, lines: bytes) -> List[Union[int, Null]]:
+        """The choices of lines: numbers of options, from 0 on, and choices of none. Raises `UnknownChoice`."""
+        found: Any = self._decoder.read(lines)
+        if self._branches is None or not any(isinstance(choice, Alike) for choice in found):
+            numbers: List[Union[int, Null]] = found
+            return numbers
+        parts = lines.split(b"\n")[:-1]
+        items = [
+            choice.item if isinstance(choice, Null) else self._items.get(part.split(b" ", 2)[1])
+            for part, choice in zip(parts, found)
+        ]
+        return self._branches.told_apart(parts, items, found)
+
+    def read(self, lines: bytes) -> List[Union[Option, Null]]:
+        """The choices of lines. Raises `UnknownChoice`."""
+        numbers: Any = self.numbers(lines)
+        if self._has_nulls:
+            return [choice if isinstance(choice, Null) else self._options[choice] for choice in numbers]
+        return list(map(self._options.__getitem__, numbers))
 
     def _line(self, option: Option, problem: Problem[Option]) -> str:
         return " ".join(

@@ -54,6 +54,27 @@ class Solving(unittest.TestCase):
         found = list(Problem("abc", options=options).solve())
         self.assertEqual([sorted(map(id, s)) for s in found], [sorted([id(o), id(options[3])]) for o in options[:3]])
 
+    def test_equal_options_take_no_item(self):
+        many = [["a"] for _ in range(100_000)]
+        problem = Problem("a", options=many)
+        last = list(problem.solve())[-1]
+        self.assertIs(last[0], many[-1])
+        items = range(600)
+        pairs = [(k, k + 1) for k in range(0, 600, 2)] * 200
+        self.assertEqual(len(next(Problem(items, options=pairs + pairs).solve())), 300)
+        # As many items as there may be.
+        self.assertEqual(len(list(Problem(range(100_000), options=[range(100_000)] * 2).solve())), 2)
+
+    def test_equal_options_with_bounds_and_colours(self):
+        options = [["a"], ["a", "b"], ["a"], {"b": None, "x": 1}, ["a"], {"x": 1, "b": None}, {"a": None, "x": 2}]
+        place = {id(option): k for k, option in enumerate(options)}
+        found = [[place[id(o)] for o in s] for s in Problem({"a": (1, 3), "b": (0, 2)}, "x", options).solve()]
+        self.assertEqual(len(set(map(frozenset, found))), len(found))
+        with_numbers = [{**(o if isinstance(o, dict) else dict.fromkeys(o)), k: None} for k, o in enumerate(options)]
+        told_apart = Problem({"a": (1, 3), "b": (0, 2)}, ["x", *range(7)], with_numbers)
+        wanted = [[with_numbers.index(o) for o in s] for s in told_apart.solve()]
+        self.assertEqual(found, wanted)
+
     def test_colours_of_any_kind(self):
         red, long = object(), "a colour longer than 8 bytes"
         problem = Problem(
@@ -206,7 +227,7 @@ class Streaming(unittest.TestCase):
             os.chmod(wrong, stat.S_IRWXU)
             with mock.patch.dict(os.environ, HELGROTHY_BIN=folder):
                 with Problem("a", options=["a"]).solve() as solutions:
-                    with self.assertRaises(KeyError):
+                    with self.assertRaisesRegex(KeyError, "a program printed what is no option of the problem: what"):
                         list(next(solutions))
 
 
