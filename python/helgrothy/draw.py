@@ -27,6 +27,9 @@ _QUEEN = "M8 12l5 9 5-12 5 12 5-9-3 15H11zM11 29h14v2H11z"
 # A picture has so many places at most, or so many for each cell that isn't a hole: it doesn't grow with the numbers
 # that are in names.
 _MOST_PLACES, _MOST_BY_CELL = 10_000, 16
+# A pattern that is found nowhere.
+_NOTHING = r"(?!)"
+_LONGEST_SAMPLE = 60
 _DECIMAL = re.compile(r"[0-9]+\Z")
 
 
@@ -42,7 +45,7 @@ class Cell:
     is_quiet: bool = False
 
 
-@dataclass
+@dataclass(repr=False)
 class Picture:
     """Cells by row and column, both from 0 on; a place without one is a hole.
 
@@ -75,6 +78,9 @@ class Picture:
 
     def __str__(self) -> str:
         return self.text()
+
+    def __repr__(self) -> str:
+        return self.text().rstrip("\n")
 
     def _repr_svg_(self) -> str:
         return self.svg()
@@ -279,7 +285,7 @@ class Pattern:
     """
 
     cell: str
-    label: str = r"(?!)"
+    label: str = _NOTHING
 
     def of(self, problem: Problem[Any]) -> Drawing:
         """The drawing for a problem. Raises `NoPicture` where no option has a cell, or `re.error`."""
@@ -288,8 +294,11 @@ class Pattern:
         if cell.groups < 2:
             raise re.error("the pattern of a cell has no group for its row or column")
         board: Set[Place] = {place for option in problem.options for place, _ in _cells(cell, problem.line(option))}
+        lines = map(problem.line, problem.options)
         if not board:
-            raise NoPicture("no option has a cell of this pattern")
+            raise no_match("cell", self.cell, "whole words", lines)
+        if self.label != _NOTHING and not any(map(label.search, lines)):
+            raise no_match("label", self.label, "whole words", map(problem.line, problem.options))
         top, left = min(r for r, _ in board), min(c for _, c in board)
         check_size(max(r for r, _ in board) - top + 1, max(c for _, c in board) - left + 1, len(board))
         shades = Shades()
@@ -307,6 +316,13 @@ class Pattern:
             return Picture("a solution", cells, has_grid=any(place.group is None for place in cells.values()))
 
         return draw
+
+
+def no_match(what: str, pattern: str, parts: str, lines: Iterator[str]) -> NoPicture:
+    """What to say of a pattern that isn't found in any of the lines of options."""
+    line = shown(next(lines, "and there are none"))
+    sample = line if len(line) <= _LONGEST_SAMPLE else f"{line[:_LONGEST_SAMPLE]} .."
+    return NoPicture(f"no {what} is found by {shown(pattern)}: it was matched with {parts} of options, such as {sample}")
 
 
 def _cells(cell: re.Pattern[str], line: str) -> Iterator[Tuple[Place, str]]:

@@ -72,7 +72,9 @@ class UnknownChoice(HelgrothyError, KeyError):
 
 
 class OutOfTime(HelgrothyError, TimeoutError):
-    """A run took longer than it was given."""
+    """A run took longer than it was given. `found` says how many solutions it had told by then."""
+
+    found = 0
 
 
 class NoPicture(HelgrothyError, LookupError):

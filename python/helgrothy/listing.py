@@ -9,7 +9,7 @@ from __future__ import annotations
 
 import re
 from dataclasses import dataclass
-from typing import Callable, Dict, Generator, Generic, Hashable, Iterable, Iterator, List, Mapping, TypeVar, Union
+from typing import Callable, Dict, Generator, Generic, Hashable, Iterable, Iterator, List, Mapping, Optional, TypeVar, Union
 
 from .errors import ListingFault, UnknownChoice
 from .syntax import text_of
@@ -19,6 +19,7 @@ S = TypeVar("S")
 
 _HEADER = re.compile(rb"([0-9]{1,20}):\Z")
 _CHOICE = re.compile(rb" \S+(?: \S+)* \([0-9]{1,10} of [0-9]{1,10}\)\Z")
+_NUMBERS = re.compile(rb"^([0-9]{1,20}):$", re.MULTILINE)
 # So many lines are remembered with the numbers behind them.
 _MOST_LINES = 1 << 15
 
@@ -76,9 +77,13 @@ class Decoder(Dict[bytes, Union[O, Null]], Generic[O]):
 
 
 def stream(
-    chunks: Iterable[bytes], give: Callable[[bytes], S], is_whole: Callable[[bytes], bool]
+    chunks: Iterable[bytes],
+    give: Callable[[bytes], S],
+    is_whole: Callable[[bytes], bool],
+    count: Callable[[int], None] = lambda more: None,
 ) -> Generator[S, None, bool]:
-    """The solutions of a program's own listing as its bytes come; `give` makes one of its choice lines.
+    """The solutions of a program's own listing as its bytes come; `give` makes one of its choice lines, and `count` is
+    told how many more there are.
 
     A solution ends where the next one begins, and behind its lines is that one's number, which is no line. So that
     the last one that came needn't wait for it, `is_whole` says whether lines are all of a solution. Returns whether
@@ -96,11 +101,19 @@ def stream(
         if pieces and not is_open:
             del pieces[0]
             is_open = True
+        count(len(pieces))
         yield from map(give, pieces)
         if is_open and rest.endswith(b"\n") and is_whole(rest):
+            count(1)
             yield give(rest)
             rest, is_open = b"", False
     return is_open
+
+
+def last_number(text: bytes) -> Optional[int]:
+    """The last number of a solution in a part of a program's own listing."""
+    numbers = _NUMBERS.findall(text)
+    return int(numbers[-1]) if numbers else None
 
 
 @dataclass

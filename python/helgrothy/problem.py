@@ -6,11 +6,13 @@ import tempfile
 import warnings
 from collections import Counter
 from functools import partial
+from numbers import Integral
 from types import TracebackType
 from typing import (
     IO,
     TYPE_CHECKING,
     Any,
+    Callable,
     Dict,
     Generator,
     Generic,
@@ -19,6 +21,7 @@ from typing import (
     Iterator,
     List,
     Mapping,
+    NoReturn,
     Optional,
     Sequence,
     Tuple,
@@ -29,7 +32,7 @@ from typing import (
 
 from . import listing as listings
 from .alike import Alike, Branches
-from .errors import ListingFault, NoPicture, ProblemFault, ProgramFailed
+from .errors import ListingFault, NoPicture, OutOfTime, ProblemFault, ProgramFailed
 from .listing import Decoder, Listed, Null
 from .names import codes, colour_names, item_names
 from .programs import Ending, Run
@@ -37,9 +40,18 @@ from .solution import Solution
 from .syntax import MOST_ITEMS, MOST_USES, ONCE, Bounds, Sheet, bounds_fault, bytes_of, read, text_of
 
 if TYPE_CHECKING:
-    from .draw import Pattern, Picture
+    from .draw import Drawing, Pattern, Picture
+    from .table import Table
+
+    Drawn = Union[Pattern, Table]
 
 Uses = Mapping[Hashable, Optional[Hashable]]
+_HASHABLE = "items and colours are hashable"
+# A notebook shows so many solutions at most, which may take so long.
+_MOST_PICTURES = 24
+_MOST_SECONDS = 5.0
+# One of so many solutions is printed where they are counted for a time.
+_NUMBERED = 1000
 Option = TypeVar("Option", bound=Iterable[Hashable])
 BoundsLike = Union[None, int, Tuple[int, int]]
 
@@ -49,12 +61,17 @@ class Problem(Generic[Option]):
 
     items: the primary items, each to be held exactly once; or a mapping that gives each one its bounds: None for
         once, `v` for exactly v times, `(u, v)` for at least u and at most v times.
-    secondary: items that are held at most once, or by any number of options that give them the same colour.
+    secondary: items that are held at most once, or by any number of options that give them the same colour. True
+        takes all items of the options that aren't primary.
     options: each an iterable of items, or a mapping from items to colours, None for an item without one.
+        `add_option` adds one later.
     comments: lines of text that stand above the problem when it is written.
 
     Items and colours are any hashable values, equal ones being the same. An option without a primary item is in no
     solution, which a warning tells.
+
+    `pattern` may be set to a `Pattern` or a `Table` of `helgrothy.draw` and `helgrothy.table`, by which solutions are
+    drawn from then on.
 
     Raises `ProblemFault` where an item is unknown, twice in an option, named twice, and so on; its line is that of
     `text`.
@@ -66,7 +83,7 @@ class Problem(Generic[Option]):
     def __init__(
         self,
         items: Union[Mapping[Any, BoundsLike], Iterable[Hashable]],
-        secondary: Iterable[Hashable] = (),
+        secondary: Union[Iterable[Hashable], bool] = (),
         options: Iterable[Option] = (),
         *,
         comments: Iterable[str] = (),
@@ -74,11 +91,18 @@ class Problem(Generic[Option]):
         self.comments: Tuple[str, ...] = tuple(line for text in comments for line in text.split("\n"))
         self.items: Dict[Hashable, Bounds] = {}
         self.secondary: Dict[Hashable, None] = {}
-        self.options: List[Option] = []
+        self.options: Options[Option] = Options()
+        self.pattern: Optional[Drawn] = None
         self._line = len(self.comments) + 1
-        self._take_items(items, secondary)
-        self._names = item_names([*self.items, *self.secondary])
-        self._take_options(options)
+        self._takes_rest = secondary is True
+        self._uses = 0
+        self._colours: Dict[Hashable, None] = {}
+        # Names of items and colours are made when they are first asked for.
+        self._item_names: Optional[Dict[Hashable, str]] = None
+        self._colour_names: Optional[Dict[Hashable, str]] = None
+        self._take_items(items, () if isinstance(secondary, bool) else secondary)
+        for option in options:
+            self._take(option)
 
     def _take_items(
         self, items: Union[Mapping[Any, BoundsLike], Iterable[Hashable]], secondary: Iterable[Hashable]
@@ -86,9 +110,11 @@ class Problem(Generic[Option]):
         pairs: Iterable[Tuple[Hashable, BoundsLike]]
         pairs = items.items() if isinstance(items, Mapping) else ((item, None) for item in items)
         for item, bounds in pairs:
+            self._refuse(not _is_hashable(item), item, "bad name", _HASHABLE)
             self._refuse(item in self.items, item, "name repeated")
             self.items[item] = self._bounds(item, bounds)
         for item in secondary:
+            self._refuse(not _is_hashable(item), item, "bad name", _HASHABLE)
             self._refuse(item in self.items or item in self.secondary, item, "name repeated")
             self.secondary[item] = None
         self._refuse(not self.items, "", "no items")
@@ -101,43 +127,65 @@ class Problem(Generic[Option]):
     def _bounds(self, item: Hashable, given: BoundsLike) -> Bounds:
         if given is None:
             return ONCE
-        pair = (given, given) if isinstance(given, int) else tuple(given)
-        is_pair = len(pair) == 2 and all(isinstance(bound, int) for bound in pair)
-        self._refuse(not is_pair, item, "bad bound", "bounds are None, a number or two")
-        low, high = pair
+        pair = (given, given) if isinstance(given, Integral) else tuple(given) if isinstance(given, (tuple, list)) else ()
+        is_pair = len(pair) == 2 and all(isinstance(bound, Integral) for bound in pair)
+        hint = "bounds are None, a number or two; items is a mapping, so its values are bounds: list(items) takes its keys"
+        self._refuse(not is_pair, item, "bad bound", hint)
+        low, high = map(int, pair)
         reason = bounds_fault(low, high)
         self._refuse(reason is not None, item, reason or "")
         return Bounds(low, high)
 
-    def _take_options(self, options: Iterable[Option]) -> None:
-        colours: Dict[Hashable, None] = {}
-        uses = 0
-        for number, given in enumerate(options, 1):
-            # What can be gone through only once is kept as a tuple.
-            option: Any = tuple(given) if isinstance(given, Iterator) else given
-            here = self._check_option(option, number)
-            uses += here
-            self._refuse(uses > MOST_USES, "", "too many uses", option=number)
-            if isinstance(option, Mapping):
-                colours.update(dict.fromkeys(colour for colour in option.values() if colour is not None))
-            self.options.append(option)
-        self.colours = colour_names(colours)
+    def add_option(self, option: Option) -> int:
+        """Adds an option behind the others; returns its number in `options`, from 0 on. Raises `ProblemFault`."""
+        self._take(option)
+        return len(self.options) - 1
 
-    def _check_option(self, option: Option, number: int) -> int:
-        """Looks at an option's items; how many uses it counts for."""
+    def _take(self, given: Option) -> None:
+        number = len(self.options) + 1
+        is_option = isinstance(given, Iterable)
+        self._refuse(not is_option, given, "bad option", "an option is an iterable of items, or a mapping", number)
+        # What can be gone through only once is kept as a tuple.
+        option: Any = tuple(given) if isinstance(given, Iterator) else given
+        try:
+            rest, colours = self._check_option(option, number)
+        except TypeError:
+            for item, colour in self.pairs(option):
+                self._refuse(not _is_hashable(item), item, "unknown item", _HASHABLE, number)
+                self._refuse(not _is_hashable(colour), colour, "bad colour", _HASHABLE, number)
+            raise
+        if rest:
+            self._refuse(len(self.items) + len(self.secondary) + len(rest) > MOST_ITEMS, "", "too many items")
+            self.secondary.update(rest)
+            self._item_names = None
+        if colours.keys() - self._colours.keys():
+            self._colours.update(colours)
+            self._colour_names = None
+        list.append(self.options, option)
+
+    def _check_option(self, option: Option, number: int) -> Tuple[Dict[Hashable, None], Dict[Hashable, None]]:
+        """Looks at an option's items; those that become secondary by it, and its colours."""
         has_primary = False
         seen = set()
+        rest: Dict[Hashable, None] = {}
+        colours: Dict[Hashable, None] = {}
         for item, colour in self.pairs(option):
-            if item not in self._names:
+            if item not in self.items and item not in self.secondary:
                 hint = "a text is an option of its letters; split it" if isinstance(option, str) else ""
-                self._refuse(True, item, "unknown item", hint, number)
+                self._refuse(not self._takes_rest, item, "unknown item", hint, number)
+                rest[item] = None
             self._refuse(item in seen, item, "item repeated in option", option=number)
             self._refuse(colour is not None and item in self.items, item, "colour on a primary item", option=number)
             seen.add(item)
             has_primary = has_primary or item in self.items
-        if not has_primary:
+            if colour is not None:
+                colours[colour] = None
+        if has_primary:
+            self._refuse(self._uses + len(seen) > MOST_USES, "", "too many uses", option=number)
+            self._uses += len(seen)
+        else:
             warnings.warn(f"option {number} has no primary item, so it is in no solution", stacklevel=4)
-        return len(seen) if has_primary else 0
+        return rest, colours
 
     @staticmethod
     def pairs(option: Iterable[Hashable]) -> Iterable[Tuple[Hashable, Optional[Hashable]]]:
@@ -171,11 +219,24 @@ class Problem(Generic[Option]):
         """Which program the problem is for: 3 where an item has bounds, else 2 where an option has a colour, else 1."""
         if any(bounds != ONCE for bounds in self.items.values()):
             return 3
-        return 2 if self.colours else 1
+        return 2 if self._colours else 1
 
     def name(self, item: Hashable) -> str:
         """An item's name in the problem's text: the item itself where it is a legal name. Raises `KeyError`."""
         return self._names[item]
+
+    @property
+    def _names(self) -> Dict[Hashable, str]:
+        if self._item_names is None:
+            self._item_names = item_names([*self.items, *self.secondary])
+        return self._item_names
+
+    @property
+    def colours(self) -> Dict[Hashable, str]:
+        """The colours, each with its name."""
+        if self._colour_names is None:
+            self._colour_names = colour_names(self._colours)
+        return self._colour_names
 
     @property
     def item_names(self) -> List[str]:
@@ -189,10 +250,10 @@ class Problem(Generic[Option]):
 
     def uses(self, option: Iterable[Hashable]) -> Dict[str, Optional[str]]:
         """The names of an option's items, each with its colour's name or None. Raises `ProblemFault`."""
+        names, colours = self._names, self.colours
         try:
             return {
-                self._names[item]: None if colour is None else self.colours[colour]
-                for item, colour in self.pairs(option)
+                names[item]: None if colour is None else colours[colour] for item, colour in self.pairs(option)
             }
         except KeyError as error:
             raise ProblemFault(0, str(error.args[0]), "unknown item or colour") from None
@@ -235,25 +296,29 @@ class Problem(Generic[Option]):
         if spacing < 1:
             raise ValueError("spacing must be at least 1")
         outcome = _Outcome()
-        return Solutions(self._stream(outcome, words, nulls, seconds), outcome)
+
+        def first(most: int) -> Solutions[Option]:
+            few = most if limit is None else min(limit, most * spacing)
+            return self.solve(few, spacing, seconds=_MOST_SECONDS if seconds is None else min(seconds, _MOST_SECONDS))
+
+        return Solutions(self._stream(outcome, words, nulls, seconds), outcome, first)
 
     def _stream(
         self, outcome: _Outcome, words: List[str], nulls: bool, seconds: Optional[float]
     ) -> Generator[Solution[Any], None, None]:
         wire = _Wire(self)
-        with_nulls = wire.read
-
-        def without_nulls(lines: bytes) -> List[Any]:
-            return [choice for choice in with_nulls(lines) if not isinstance(choice, Null)]
 
         def is_whole(lines: bytes) -> bool:
-            return self._is_whole(with_nulls(lines))
+            return self._is_whole(wire.read(lines))
 
-        may_be_null = any(low < high for low, high in self.items.values())
-        give = partial(Solution, with_nulls if nulls or not may_be_null else without_nulls)
+        give = partial(Solution, _Source(self, wire, nulls))
         with Run(f"dlx{self.kind}", words, _ended(wire.lines), seconds) as run:
-            is_cut = yield from listings.stream(run.chunks(), give, is_whole)
-            ending = Ending(run)
+            try:
+                is_cut = yield from listings.stream(run.chunks(), give, is_whole, outcome.count)
+                ending = Ending(run)
+            except OutOfTime as error:
+                error.found = outcome.found
+                raise
             if is_cut:
                 raise run.failure()
             outcome.ending = ending
@@ -280,12 +345,22 @@ class Problem(Generic[Option]):
     def count(self, limit: Optional[int] = None, *, seconds: Optional[float] = None) -> int:
         """How many solutions there are, or `limit` where there are as many or more.
 
-        Raises `ProgramNotFound`, `ProgramFailed` and, where it takes longer than `seconds`, `OutOfTime`.
+        Raises `ProgramNotFound`, `ProgramFailed` and, where it takes longer than `seconds`, `OutOfTime`, whose `found`
+        is then a number that was reached at least.
         """
-        with Run(f"dlx{self.kind}", _words(limit, 0), _ended(self.lines()), seconds) as run:
-            for _ in run.chunks():
-                pass
-            return Ending(run).total
+        # Where the time may end first, a few solutions are printed for their numbers.
+        words = _words(limit, 0 if seconds is None else _NUMBERED)
+        found = 0
+        with Run(f"dlx{self.kind}", words, _ended(self.lines()), seconds) as run:
+            try:
+                line = b""
+                for chunk in run.chunks():
+                    found = listings.last_number(line + chunk) or found
+                    line = (line + chunk).rpartition(b"\n")[2]
+                return Ending(run).total
+            except OutOfTime as error:
+                error.found = found
+                raise
 
     def check(self, listing: Union[str, bytes, IO[str], IO[bytes], Iterable[Iterable[Any]]]) -> List[bool]:
         """Of each solution whether it is one, as dlxcheck judges it, which holds all of them in memory.
@@ -315,15 +390,20 @@ class Problem(Generic[Option]):
                 if not isinstance(choice, Null):
                     yield bytes_of(f" {self.line(choice)} (1 of 1)\n")
 
-    def draw(self, solution: Iterable[Any] = (), pattern: Optional[Pattern] = None) -> Picture:
+    def draw(self, solution: Iterable[Any] = (), pattern: Optional[Drawn] = None) -> Picture:
         """A picture of a solution, or of the problem as it stands before one. Raises `NoPicture`.
 
-        The problems that `helgrothy.make` makes have pictures of their own; others are drawn by a pattern.
+        The problems that `helgrothy.make` makes have pictures of their own; others are drawn by a pattern, which may
+        be that of the problem.
         """
+        return self._drawing(pattern)([self.line(choice) for choice in solution if not isinstance(choice, Null)])
+
+    def _drawing(self, pattern: Optional[Drawn] = None) -> Drawing:
+        """Raises `NoPicture`."""
         from .draw import drawing_of
 
-        draw = drawing_of(self) if pattern is None else pattern.of(self)
-        return draw([self.line(choice) for choice in solution if not isinstance(choice, Null)])
+        pattern = pattern or self.pattern
+        return drawing_of(self) if pattern is None else pattern.of(self)
 
     def _repr_svg_(self) -> Optional[str]:
         """The problem before it is solved, for notebooks; None where it has no picture."""
@@ -334,6 +414,21 @@ class Problem(Generic[Option]):
 
     def __repr__(self) -> str:
         return f"<Problem of {len(self.items)} + {len(self.secondary)} items and {len(self.options)} options>"
+
+
+class Options(List[Option]):
+    """A problem's options. One is added by the problem's `add_option`, which looks at it, and not here."""
+
+    def append(self, *_: Any, **__: Any) -> NoReturn:
+        raise TypeError("an option is added by add_option of its problem")
+
+    extend = insert = __iadd__ = __imul__ = append
+
+    def __setitem__(self, *_: Any, **__: Any) -> NoReturn:
+        self.append()
+
+    def __reduce__(self) -> Tuple[Any, ...]:
+        return Options, (list(self),)
 
 
 class _Wire(Generic[Option]):
@@ -387,10 +482,39 @@ class _Wire(Generic[Option]):
         )
 
 
+class _Source(Generic[Option]):
+    """What reads and draws the solutions of a run."""
+
+    def __init__(self, problem: Problem[Option], wire: _Wire[Option], nulls: bool) -> None:
+        self._problem = problem
+        self._wire = wire
+        self._may_be_null = any(low < high for low, high in problem.items.values())
+        self.options: Callable[[bytes], List[Any]] = (
+            wire.read if nulls or not self._may_be_null else self._without_nulls
+        )
+
+    def _without_nulls(self, lines: bytes) -> List[Any]:
+        return [choice for choice in self._wire.read(lines) if not isinstance(choice, Null)]
+
+    def numbers(self, lines: bytes) -> List[int]:
+        return [number for number in self._wire.numbers(lines) if not isinstance(number, Null)]
+
+    def svg(self, options: Sequence[Any]) -> Optional[str]:
+        try:
+            return self._problem.draw(options).svg()
+        except NoPicture:
+            return None
+
+
 class _Outcome:
-    """How a run ended. The run knows this and not its `Solutions`, so no circle keeps either of them alive."""
+    """How many solutions came, and how the run ended. The run knows this and not its `Solutions`, so no circle keeps
+    either of them alive."""
 
     ending: Optional[Ending] = None
+    found = 0
+
+    def count(self, more: int) -> None:
+        self.found += more
 
 
 class Solutions(Generic[Option]):
@@ -398,9 +522,15 @@ class Solutions(Generic[Option]):
     where a loop over it is left and nothing holds it any longer.
     """
 
-    def __init__(self, stream: Generator[Solution[Option], None, None], outcome: _Outcome) -> None:
+    def __init__(
+        self,
+        stream: Generator[Solution[Option], None, None],
+        outcome: _Outcome,
+        first: Callable[[int], Solutions[Option]],
+    ) -> None:
         self._stream = stream
         self._outcome = outcome
+        self._first = first
 
     def __iter__(self) -> Iterator[Solution[Option]]:
         # The generator itself, so that a loop pays no call of Python more for each solution.
@@ -423,6 +553,28 @@ class Solutions(Generic[Option]):
         """Ends the program, if it runs."""
         self._stream.close()
 
+    def _repr_html_(self) -> Optional[str]:
+        """Pictures of the first solutions, for notebooks; None where the problem has none.
+
+        They are searched anew for a few seconds, so that these solutions stay as they are.
+        """
+        pictures: List[str] = []
+        told = "no more were found in the time"
+        with self._first(_MOST_PICTURES + 1) as solutions:
+            try:
+                for solution in solutions:
+                    picture = solution._repr_svg_()
+                    if picture is None:
+                        return None
+                    pictures.append(f'<div style="margin: 0 1em 1em 0">{picture}</div>')
+                told = f"{len(pictures)} solution{'' if len(pictures) == 1 else 's'}"
+            except OutOfTime:
+                pass
+        if len(pictures) > _MOST_PICTURES:
+            told = f"the first {_MOST_PICTURES} solutions"
+        shown = "".join(pictures[:_MOST_PICTURES])
+        return f'<div style="display: flex; flex-wrap: wrap">{shown}</div><div>{told}</div>'
+
     def __enter__(self) -> Solutions[Option]:
         return self
 
@@ -430,6 +582,15 @@ class Solutions(Generic[Option]):
         self, kind: Optional[Type[BaseException]], error: Optional[BaseException], trace: Optional[TracebackType]
     ) -> None:
         self.close()
+
+
+def _is_hashable(value: object) -> bool:
+    """Whether a value has a hash; a tuple has one only where its parts do."""
+    try:
+        hash(value)
+    except TypeError:
+        return False
+    return True
 
 
 def _item_token(name: str, bounds: Bounds) -> str:
