@@ -248,7 +248,7 @@ def _add_patterns(parser: argparse.ArgumentParser) -> None:
         "--cell",
         metavar="PATTERN",
         help="a regular expression that finds the cells in an option's line; its first two groups (or those named row "
-        "and column) are row and column, a number or a letter, and a third one its label",
+        "and column) are row and column, a number or a single letter, and a third one its label",
     )
     for name in ("row", "column"):
         parser.add_argument(
