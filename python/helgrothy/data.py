@@ -15,6 +15,9 @@ from .problem import Problem
 
 Uses = Mapping[str, Optional[str]]
 
+# Lines of CSV are filled up to so many items: one long option doesn't make all others long.
+_MOST_FILLED = 1_000
+
 
 def places_of(problem: Problem[Any]) -> Callable[[Iterable[Any]], List[int]]:
     """What gives the places of a problem's own options, from 0 on; of one that is there twice the last."""
@@ -75,7 +78,7 @@ class Csv(Data):
 
     def solution(self, number: int, places: Sequence[int]) -> str:
         return self._lines(
-            [number, place + 1, *words, *[""] * (self._width - len(words))]
+            [number, place + 1, *words, *[""] * (min(self._width, _MOST_FILLED) - len(words))]
             for place, words in ((place, list(self._words(place))) for place in places)
         )
 

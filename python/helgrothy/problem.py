@@ -88,12 +88,14 @@ class Problem(Generic[Option]):
         *,
         comments: Iterable[str] = (),
     ) -> None:
-        self.comments: Tuple[str, ...] = tuple(line for text in comments for line in text.split("\n"))
+        self.comments: Tuple[str, ...] = _comment_lines(comments)
         self.items: Dict[Hashable, Bounds] = {}
         self.secondary: Dict[Hashable, None] = {}
         self.options: Options[Option] = Options()
         self.pattern: Optional[Drawn] = None
         self._line = len(self.comments) + 1
+        for what, given in (("items", items), ("secondary", () if secondary is True else secondary), ("options", options)):
+            self._refuse(not isinstance(given, Iterable) and given is not False, given, f"bad {what}", "no iterable")
         self._takes_rest = secondary is True
         self._uses = 0
         self._colours: Dict[Hashable, None] = {}
@@ -419,6 +421,18 @@ class Problem(Generic[Option]):
 
     def __repr__(self) -> str:
         return f"<Problem of {len(self.items)} + {len(self.secondary)} items and {len(self.options)} options>"
+
+
+def _comment_lines(comments: Iterable[str]) -> Tuple[str, ...]:
+    lines = tuple(line for text in comments for line in text.split("\n"))
+    for number, line in enumerate(lines, 1):
+        try:
+            reason = "NUL byte" if b"\0" in bytes_of(line) else None
+        except UnicodeEncodeError:
+            reason = "bad text"
+        if reason is not None:
+            raise ProblemFault(number, "", reason)
+    return lines
 
 
 class Options(List[Option]):

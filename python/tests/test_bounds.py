@@ -213,6 +213,11 @@ class Time(unittest.TestCase):
             make.roster.problem(table + "".join(f"p{k} 1 -s\n" for k in range(6_000)))
         self.assertLess(time.monotonic() - start, 5)
 
+    def test_one_long_option_makes_no_other_long(self):
+        names = [f"{k:x}" for k in range(3_000)]
+        text = " ".join(names) + "\n" + "\n".join([*names, " ".join(names), ""])
+        self.assertLess(len(run("solve", "--csv", given=text)[1]), 4_000_000)
+
     def test_time_is_over_while_a_program_ends(self):
         with self.assertRaises(OutOfTime), console.limited(0.2):
             problem = make.queens.problem(30)

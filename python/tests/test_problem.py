@@ -174,6 +174,11 @@ class Solving(unittest.TestCase):
         self.assertEqual(Problem.parse(problem.text).item_names, names)
         self.assertEqual(list(problem.solve()), [[items]])
 
+    def test_names_that_are_no_text(self):
+        problem = Problem(["\ud800", "\ud800b"], ["\udfff"], [{"\ud800": None, "\udfff": "\ud801"}, ["\ud800b"]])
+        self.assertEqual(list(problem.solve()), [problem.options])
+        self.assertEqual(Problem.parse(problem.text).item_names, problem.item_names)
+
     def test_examples(self):
         for path in sorted(glob.glob(os.path.join(EXAMPLES, "*.dlx"))):
             with open(path, "rb") as file:
@@ -271,6 +276,11 @@ class Faults(unittest.TestCase):
             (1, "", "no items"): lambda: Problem(""),
             (2, "", "no items"): lambda: Problem.parse("| a b\n"),
             (2, "B,", "unknown item"): lambda: Problem.parse("A B\nA B,\n"),
+            (1, "5", "bad items"): lambda: Problem(5),
+            (1, "5", "bad secondary"): lambda: Problem("a", 5),
+            (1, "None", "bad options"): lambda: Problem("a", options=None),
+            (2, "", "NUL byte"): lambda: Problem("a", comments=["one", "\0"]),
+            (1, "", "bad text"): lambda: Problem("a", comments=["\ud800"]),
         }.items():
             with self.subTest(wanted=wanted), self.assertRaises(ProblemFault) as raised:
                 make_it()
