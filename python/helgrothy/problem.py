@@ -37,7 +37,7 @@ from .listing import Decoder, Listed, Null
 from .names import codes, colour_names, item_names
 from .programs import Ending, Run
 from .solution import Solution
-from .syntax import MOST_ITEMS, MOST_USES, ONCE, Bounds, bounds_fault, bytes_of, read, text_of
+from .syntax import MOST_ITEMS, MOST_USES, ONCE, Bounds, Sheet, bounds_fault, bytes_of, read, text_of
 
 if TYPE_CHECKING:
     from .draw import Drawing, Pattern, Picture
@@ -200,7 +200,11 @@ class Problem(Generic[Option]):
 
         Options that are ignored are left out. Raises `ProblemFault`, the one that the program would tell.
         """
-        sheet = read(bytes_of(text) if isinstance(text, str) else text, kind)
+        return cls.of(read(bytes_of(text) if isinstance(text, str) else text, kind, most_faults=1))
+
+    @classmethod
+    def of(cls, sheet: Sheet) -> Problem[Dict[str, Optional[str]]]:
+        """The problem of a text that was read. Raises `ProblemFault`, the first one of the sheet."""
         if sheet.faults:
             raise sheet.faults[0]
         items = {item.name: item.bounds for item in sheet.items.values() if item.bounds is not None}

@@ -57,7 +57,7 @@ def _is_done(folder: Folder, number: int, words: List[str]) -> bool:
         return False
     if before is None or len(before.words) < len(words):
         return False
-    with suppress(FileNotFoundError):
+    with suppress(OSError):
         os.remove(folder.failed(number))
     return True
 
@@ -88,7 +88,7 @@ def run(folder: Folder, number: int, words: List[str]) -> Record:
     except Doubt:
         before = None
     if before is not None and len(before.words) >= len(words):
-        with suppress(FileNotFoundError):
+        with suppress(OSError):
             os.remove(folder.failed(number))
         return before
     return _kept(folder, number, words, lambda number: _run(folder, number, words))
@@ -108,7 +108,7 @@ def _kept(folder: Folder, number: int, words: List[str], run_part: Callable[[int
     except Exception as error:
         keep_failure(folder, Failure(number, words, reason_of(error), host()))
         raise
-    with suppress(FileNotFoundError):
+    with suppress(OSError):
         os.remove(folder.failed(number))
     return record
 
