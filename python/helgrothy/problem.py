@@ -5,6 +5,7 @@ from __future__ import annotations
 import tempfile
 import warnings
 from collections import Counter
+from collections.abc import Iterable, Iterator, Mapping
 from functools import partial
 from numbers import Integral
 from types import TracebackType
@@ -17,10 +18,7 @@ from typing import (
     Generator,
     Generic,
     Hashable,
-    Iterable,
-    Iterator,
     List,
-    Mapping,
     NoReturn,
     Optional,
     Sequence,

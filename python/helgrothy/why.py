@@ -17,11 +17,12 @@ from typing import Any, Callable, Dict, Hashable, Iterator, List, Optional, Set,
 from . import sat
 from .errors import OutOfTime
 from .problem import Problem
-from .sums import Sums, search
+from .sums import Count, Sums, search
 from .syntax import Bounds
 
-# The largest part of the whole time that one question may take, and the counting.
+# The largest part of the whole time that one question may take, and the search for weights; and that of the matching.
 _SHARE = 0.1
+_COUNTED = 0.2
 # Who answers is asked for so long first, and then for so many times longer again.
 _FIRST_SECONDS = 0.1
 _LONGER = 3
@@ -76,13 +77,20 @@ def find(problem: Problem[Any], seconds: float = 10.0) -> Optional[Conflict]:
     short = [item for item, count in _held(problem).items() if count < problem.items[item].low]
     if short:
         return Conflict(short[:1], True)
-    found = search(problem, seconds * _SHARE)
+    count = Count(problem)
+    found = count.by_matching(seconds * _COUNTED)
     question = _Question(problem, deadline, seconds * _SHARE)
     if found is not None and found.is_whole:
         return Conflict(found.asking, question.needs_all(found), found)
-    items = [item for item, bounds in problem.items.items() if bounds.low] if found is None else found.asking
-    if found is None and question.has_solution(set(items), deadline - time.monotonic()):
+    asked = [item for item, bounds in problem.items.items() if bounds.low]
+    if found is None:
+        # A problem that is soon searched needs no proof by weights where it has a solution.
+        if question.is_soon_solved(set(asked)):
+            return None
+        found = count.by_climbing(seconds * _SHARE)
+    if found is None and question.has_solution(set(asked), deadline - time.monotonic()):
         return None
+    items = asked if found is None else found.asking
     kept = _left(items, question)
     if found is not None and len(kept) == len(items):
         return Conflict(kept, question.is_sure, found)
@@ -157,6 +165,13 @@ class _Question:
             pass
         self.is_sure = False
         return False
+
+    def is_soon_solved(self, kept: Set[Hashable]) -> bool:
+        """Whether a short search finds a solution."""
+        try:
+            return self._searched(kept, min(_FIRST_SECONDS, self._deadline - time.monotonic()))
+        except OutOfTime:
+            return False
 
     def needs_all(self, found: Sums) -> bool:
         """Whether there is a solution without any one of the items that sums ask too much of."""

@@ -11,7 +11,7 @@ from unittest import mock
 
 from helgrothy import OutOfTime, Problem, make, sat, why
 from helgrothy.matching import Matching
-from helgrothy.sums import search
+from helgrothy.sums import Count, search
 
 # Pictures of nine regions that were meant to have nine cells each.
 JIGSAWS = (
@@ -86,6 +86,16 @@ class Counting(unittest.TestCase):
                 self.assertTrue(is_short(short[0]))
                 self.assertEqual(short[1], {right for left in short[0] for right in near[left]})
 
+    def test_problems_made_to_hurt(self):
+        rng = random.Random(3)
+        names = ["".join(rng.choices("abcdefgh", k=9)) for _ in range(9000)]
+        two = [f"a{k}" for k in range(5000)] + [f"b{k}c" for k in range(5000)]
+        for items, options in ((names, [names]), (two, [two] * 8), (two, [two[k : k + 5001] for k in range(0, 5000, 99)])):
+            problem = Problem(dict.fromkeys(items), options=[list(dict.fromkeys(option)) for option in options])
+            begun = time.process_time()
+            search(problem, 0.5)
+            self.assertLess(time.process_time() - begun, 3)
+
     def test_no_time(self):
         self.assertIsNone(search(jigsaw(JIGSAWS[0]), 0))
 
@@ -148,7 +158,7 @@ class Solvers(unittest.TestCase):
     @unittest.skipUnless(SOLVERS, "needs cadical or clasp")
     def test_where_the_programs_come_to_no_end(self):
         problem = jigsaw(JIGSAWS[0])
-        with mock.patch.object(why, "search", lambda *_: None):
+        with mock.patch.multiple(Count, by_matching=lambda *_: None, by_climbing=lambda *_: None):
             conflict = why.find(problem)
         self.assertIn(conflict.by, SOLVERS + ["dlx1"])
         self.assertIsNone(conflict.sums)
