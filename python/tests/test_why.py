@@ -108,6 +108,30 @@ class Conflicts(unittest.TestCase):
         queens = why.find(make.queens.problem(3))
         self.assertEqual((len(queens.items), queens.is_least, queens.sums), (3, True, None))
 
+    def test_random_problems(self):
+        """What is told can't be held, and can without any one of the items where it is said to be least."""
+        rng = random.Random(4)
+        for _ in range(60):
+            names = [f"p{k}" for k in range(rng.randint(2, 6))]
+            items = {name: rng.choice([None, None, 2, (0, 2), (1, 3)]) for name in names}
+            options = []
+            for _ in range(rng.randint(2, 12)):
+                options.append({name: None for name in names if rng.random() < 0.4} or {"p0": None})
+                options[-1].update({f"s{k}": rng.choice([None, 1, 2]) for k in range(3) if rng.random() < 0.3})
+            problem = Problem(items, True, options)
+
+            def can_be_held(kept):
+                bounds = {item: (low if item in kept else 0, high) for item, (low, high) in problem.items.items()}
+                return Problem(bounds, problem.secondary, options).count(limit=1) > 0
+
+            conflict = why.find(problem)
+            with self.subTest(problem=problem.text, conflict=conflict):
+                self.assertEqual(conflict is None, can_be_held(set(items)))
+                if conflict is not None:
+                    self.assertFalse(can_be_held(set(conflict.items)))
+                    for item in conflict.items if conflict.is_least else ():
+                        self.assertTrue(can_be_held(set(conflict.items) - {item}))
+
     def test_too_few_options(self):
         for problem, wanted in (
             (Problem("ab", options=["b"]), ["can't all be held: a", "it is in no option"]),
