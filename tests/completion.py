@@ -1,5 +1,5 @@
 #!/usr/bin/env python3
-"""completion.py SHELL FILE: types the beginnings of commands into a bash, zsh or fish that has read FILE, and Tab behind.
+"""completion.py SHELL FILE: types beginnings of commands into a bash, zsh or fish that has read FILE, and Tab behind.
 
 Prints the lines that the shell doesn't make of them what it should, and nothing else. A shell that isn't installed has
 nothing to print.

@@ -125,9 +125,9 @@ class Problem(Generic[Option]):
     def _bounds(self, item: Hashable, given: BoundsLike) -> Bounds:
         if given is None:
             return ONCE
-        pair = (given, given) if isinstance(given, Integral) else tuple(given) if isinstance(given, (tuple, list)) else ()
-        is_pair = len(pair) == 2 and all(isinstance(bound, Integral) for bound in pair)
-        hint = "bounds are None, a number or two; items is a mapping, so its values are bounds: list(items) takes its keys"
+        pair: Any = (given, given) if isinstance(given, Integral) else given
+        is_pair = isinstance(pair, (tuple, list)) and len(pair) == 2 and all(isinstance(one, Integral) for one in pair)
+        hint = "bounds are None, a number or two; items is a mapping, whose values are bounds: list(items) has its keys"
         self._refuse(not is_pair, item, "bad bound", hint)
         low, high = map(int, pair)
         reason = bounds_fault(low, high)

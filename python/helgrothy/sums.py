@@ -43,7 +43,7 @@ class Sums:
         """The proof in words."""
         less = [item for item, weight in self.weights.items() if weight < 0]
         many = "" if self._are_alike() else ", each by its weight"
-        ask, allow = (f"{verb}s" if len(items) == 1 else verb for verb, items in (("ask", self.asking), ("allow", less)))
+        ask, allow = "asks" if len(self.asking) == 1 else "ask", "allows" if len(less) == 1 else "allow"
         asked = f"{self._list(self.asking, names)} {ask} for {self.low} in all{self._each()}{many}"
         if not less:
             return f"the sums can't work: {asked}, and the options give {self.given}"

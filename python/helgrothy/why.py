@@ -184,14 +184,15 @@ class _Question:
     def has_solution(self, kept: Set[Hashable], seconds: float) -> bool:
         """Asks each who may answer in turn, ever longer, and first the one who answered last. Raises `OutOfTime`."""
         deadline = time.monotonic() + seconds
-        turn = _FIRST_SECONDS
+        is_alone = len(self._answers) == 1 and self._solver is None
+        turn = seconds if is_alone else _FIRST_SECONDS
         while True:
             for name, answer in list(self._answers):
                 left = deadline - time.monotonic()
                 if left <= 0:
                     raise OutOfTime("the time was over before an answer")
                 try:
-                    has_one = answer(kept, left if len(self._answers) == 1 and self._solver is None else min(left, turn))
+                    has_one = answer(kept, min(left, turn))
                 except OutOfTime:
                     continue
                 self._answers.sort(key=lambda one: one[0] != name)

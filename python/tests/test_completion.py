@@ -28,7 +28,8 @@ class Completion(unittest.TestCase):
         split = commands["dlx-split"]
         self.assertEqual([str(place) for place in split.places], ["words dlx1 dlx2 dlx3", "problem", "folder"])
         self.assertEqual([option.names for option in split.options][1:], [("--version",), ("--parts",), ("--seconds",)])
-        self.assertEqual(set(commands["helgrothy"].commands), {"make", "solve", "draw", "lint", "export", "why", *KINDS})
+        others = {"make", "solve", "draw", "lint", "export", "why"}
+        self.assertEqual(set(commands["helgrothy"].commands), {*others, *KINDS})
         values = {option.names[-1]: option.value for option in commands["helgrothy lint"].options}
         self.assertEqual(str(values["--for"]), "words dlx1 dlx2 dlx3")
 

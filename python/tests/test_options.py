@@ -80,7 +80,7 @@ class Faults(unittest.TestCase):
     def test_values_that_were_meant_as_no_bounds(self):
         with self.assertRaises(ProblemFault) as raised:
             Problem({"E13": ["ann", "bob"]})
-        self.assertIn("list(items) takes its keys", str(raised.exception))
+        self.assertIn("list(items) has its keys", str(raised.exception))
         self.assertEqual(Problem({"a": Fraction(2).numerator}).items["a"], (2, 2))
 
 

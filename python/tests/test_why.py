@@ -44,7 +44,8 @@ class Counting(unittest.TestCase):
                 conflict = why.find(problem)
                 self.assertLess(time.process_time() - begun, 2)
                 self.assertTrue(conflict.is_least and len({item[0] for item in conflict.items}) == 1)
-                self.assertRegex(conflict.sums.text(problem.name), r": (\w),1 .* \1,9 ask for 9 in all, and .* allow 8$")
+                told = conflict.sums.text(problem.name)
+                self.assertRegex(told, r": (\w),1 .* \1,9 ask for 9 in all, and .* allow 8$")
 
     def test_a_whole_class(self):
         box = make.polyominoes.problem("pentominoes", "6x9")
@@ -90,7 +91,8 @@ class Counting(unittest.TestCase):
         rng = random.Random(3)
         names = ["".join(rng.choices("abcdefgh", k=9)) for _ in range(9000)]
         two = [f"a{k}" for k in range(5000)] + [f"b{k}c" for k in range(5000)]
-        for items, options in ((names, [names]), (two, [two] * 8), (two, [two[k : k + 5001] for k in range(0, 5000, 99)])):
+        long = [two[k : k + 5001] for k in range(0, 5000, 99)]
+        for items, options in ((names, [names]), (two, [two] * 8), (two, long)):
             problem = Problem(dict.fromkeys(items), options=[list(dict.fromkeys(option)) for option in options])
             begun = time.process_time()
             search(problem, 0.5)

@@ -223,7 +223,8 @@ def zsh(commands: List[Command]) -> str:
             if name.startswith("--")
         )
         names = " ".join(_quoted(f"{name}:{told}") for name, told in command.commands.items())
-        cases += f"        {_quoted(command.path)})\n            options=({options})\n            commands=({names}) ;;\n"
+        cases += f"        {_quoted(command.path)})\n            options=({options})\n"
+        cases += f"            commands=({names}) ;;\n"
     return (
         f"#compdef {_names(commands)}\n"
         + _MADE.format("zsh")
