@@ -174,7 +174,7 @@ def _show(problem: Problem[Any], arguments: argparse.Namespace) -> int:
     except OutOfTime as error:
         return _fail(f"{error}; {_counted(max(error.found * (arguments.number or 1), shown))} till then")
     console.say(f"Altogether {_counted(solutions.total or 0)}{'.' if solutions.complete else ' (limit).'}")
-    if solutions.total == 0:
+    if solutions.total == 0 and not watch.has_told:
         _tell_why(problem, deadline)
     return 0 if shown else 1
 

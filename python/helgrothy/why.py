@@ -10,6 +10,7 @@ from __future__ import annotations
 
 import threading
 import time
+from contextlib import suppress
 from dataclasses import dataclass
 from types import TracebackType
 from typing import Any, Callable, Dict, Hashable, Iterator, List, Optional, Set, Tuple, Type
@@ -107,7 +108,10 @@ def _held(problem: Problem[Any]) -> Dict[Hashable, int]:
 
 
 class Watch:
-    """Counts the bounds beside a search that shows no solution for a while, and tells where they can't work."""
+    """Counts the bounds beside a search that shows no solution for a while, and tells where they can't work.
+
+    has_told: whether it has told that.
+    """
 
     def __init__(self, problem: Problem[Any], tell: Callable[[str], None]) -> None:
         self._problem = problem
@@ -115,6 +119,7 @@ class Watch:
         self._timer = threading.Timer(_QUIET_SECONDS, self._count)
         self._timer.daemon = True
         self._is_over = False
+        self.has_told = False
 
     def __enter__(self) -> Watch:
         self._timer.start()
@@ -131,9 +136,12 @@ class Watch:
         self._timer.cancel()
 
     def _count(self) -> None:
-        found = search(self._problem, _QUIET_SECONDS)
-        if found is not None and not self._is_over:
-            self._tell(f"{found.text(self._problem.name)}: there is no solution")
+        # Where there is no memory for it, or nobody to be told, the search goes on all the same.
+        with suppress(MemoryError, OSError):
+            found = search(self._problem, _QUIET_SECONDS)
+            if found is not None and not self._is_over:
+                self._tell(f"{found.text(self._problem.name)}: there is no solution")
+                self.has_told = True
 
 
 # Whether items can be held, the others being let off; raises `OutOfTime` where so many seconds don't tell.
