@@ -34,6 +34,9 @@ examples:
   dlx1 m1 < queens.dlx | helgrothy draw queens.dlx
   helgrothy solve queens.dlx --number 92
 
+  helgrothy solve exams.dlx --row 'mon|tue' --column 'hall|lab' --label 'maths|art'
+  helgrothy solve exams.dlx --all --json
+
   helgrothy lint mine.dlx
   helgrothy why mine.dlx
   helgrothy export asp mine.dlx | gringo | clasp 0

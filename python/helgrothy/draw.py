@@ -348,7 +348,8 @@ def _number(word: Optional[str]) -> int:
         return int(word)
     if word and len(word) == 1 and word.isascii() and word.isalpha():
         return int(word, 36)
-    raise NoPicture(f"{word or 'nothing'} is no row or column: neither a number nor a letter")
+    why = "neither a number nor a single letter; names are rows and columns of a table (--row, --column)"
+    raise NoPicture(f"{word or 'nothing'} is no row or column: {why}")
 
 
 def drawing_of(problem: Problem[Any]) -> Drawing:

@@ -174,6 +174,11 @@ class _Question:
         self.is_sure = False
         return False
 
+    def may_take_longer(self) -> bool:
+        """Gives each question more time; False where there is none."""
+        self._most *= _LONGER
+        return time.monotonic() < self._deadline
+
     def is_soon_solved(self, kept: Set[Hashable]) -> bool:
         """Whether a short search finds a solution."""
         try:
@@ -235,7 +240,9 @@ class _Question:
 
 
 def _left(items: List[Hashable], question: _Question) -> List[Hashable]:
-    """What is left when parts of the items are let off, ever smaller ones, and then single ones."""
+    """What is left when parts of the items are let off, ever smaller ones, and then single ones; these once more, while
+    there is time, where some questions had no answer.
+    """
     step = max(1, len(items) // 2)
     while True:
         k = 0
@@ -245,7 +252,7 @@ def _left(items: List[Hashable], question: _Question) -> List[Hashable]:
                 items = fewer
             else:
                 k += step
-        if step == 1:
+        if step == 1 and (question.is_sure or not question.may_take_longer()):
             return items
         # Only the last round, over single items, says which are needed.
         question.is_sure = True

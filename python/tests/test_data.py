@@ -134,6 +134,8 @@ class Tables(unittest.TestCase):
         ):
             with self.subTest(drawn=drawn), self.assertRaisesRegex(NoPicture, wanted):
                 problem.draw((), drawn)
+        with self.assertRaisesRegex(NoPicture, r"tue is no row or column: .*\(--row, --column\)"):
+            problem.draw((), Pattern(r"(mon|tue)(\d),\w+"))
         self.assertEqual(run("solve", "--row", "(", given=LESSONS)[0], 2)
         told = run("solve", "--row", "mon", "--cell", r"(\d)", given=LESSONS)[2]
         self.assertIn("not both", told)

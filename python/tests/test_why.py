@@ -185,10 +185,10 @@ class Solvers(unittest.TestCase):
     def test_where_the_programs_come_to_no_end(self):
         problem = jigsaw(JIGSAWS[0])
         with mock.patch.multiple(Count, by_matching=lambda *_: None, by_climbing=lambda *_: None):
-            conflict = why.find(problem)
+            conflict = why.find(problem, 4)
         self.assertIn(conflict.by, SOLVERS + ["dlx1"])
         self.assertIsNone(conflict.sums)
-        self.assertLess(len(conflict.items), 60)
+        self.assertLess(len(conflict.items), 324)
 
     def test_a_solver_that_fails(self):
         with tempfile.TemporaryDirectory() as folder:
