@@ -24,6 +24,7 @@ from .make import KINDS
 from .make.kind import Kind
 from .problem import Problem
 from .table import Table
+from .watch import Watch
 
 _EXAMPLES = """\
 examples:
@@ -169,7 +170,7 @@ def _show(problem: Problem[Any], arguments: argparse.Namespace) -> int:
     shown = 0
     try:
         solutions = problem.solve(limit, number, seconds=arguments.seconds)
-        with why.Watch(problem, console.say) as watch, solutions:
+        with Watch(problem, console.say) as watch, solutions:
             for solution in solutions:
                 watch.end()
                 show(arguments.number or shown + 1, solution, lambda _: solution.numbers)

@@ -8,17 +8,14 @@ limit, so an item of which it isn't known in time whether it can be let off stay
 
 from __future__ import annotations
 
-import threading
 import time
-from contextlib import suppress
 from dataclasses import dataclass
-from types import TracebackType
-from typing import Any, Callable, Dict, Hashable, Iterator, List, Optional, Set, Tuple, Type
+from typing import Any, Callable, Dict, Hashable, Iterator, List, Optional, Set, Tuple
 
 from . import sat
 from .errors import OutOfTime
 from .problem import Problem
-from .sums import Count, Sums, search
+from .sums import Count, Sums
 from .syntax import Bounds
 
 # The largest part of the whole time that one question may take, and the search for weights; and that of the matching.
@@ -27,8 +24,6 @@ _COUNTED = 0.2
 # Who answers is asked for so long first, and then for so many times longer again.
 _FIRST_SECONDS = 0.1
 _LONGER = 3
-# A search that shows no solution for so long is counted beside it, for as long.
-_QUIET_SECONDS = 1.0
 
 
 @dataclass(frozen=True)
@@ -107,43 +102,6 @@ def _held(problem: Problem[Any]) -> Dict[Hashable, int]:
     return times
 
 
-class Watch:
-    """Counts the bounds beside a search that shows no solution for a while, and tells where they can't work.
-
-    has_told: whether it has told that.
-    """
-
-    def __init__(self, problem: Problem[Any], tell: Callable[[str], None]) -> None:
-        self._problem = problem
-        self._tell = tell
-        self._timer = threading.Timer(_QUIET_SECONDS, self._count)
-        self._timer.daemon = True
-        self._is_over = False
-        self.has_told = False
-
-    def __enter__(self) -> Watch:
-        self._timer.start()
-        return self
-
-    def __exit__(
-        self, kind: Optional[Type[BaseException]], error: Optional[BaseException], trace: Optional[TracebackType]
-    ) -> None:
-        self.end()
-
-    def end(self) -> None:
-        """Tells nothing from now on."""
-        self._is_over = True
-        self._timer.cancel()
-
-    def _count(self) -> None:
-        # Where there is no memory for it, or nobody to be told, the search goes on all the same.
-        with suppress(MemoryError, OSError):
-            found = search(self._problem, _QUIET_SECONDS)
-            if found is not None and not self._is_over:
-                self._tell(f"{found.text(self._problem.name)}: there is no solution")
-                self.has_told = True
-
-
 # Whether items can be held, the others being let off; raises `OutOfTime` where so many seconds don't tell.
 _Answer = Callable[[Set[Hashable], float], bool]
 
@@ -159,7 +117,9 @@ class _Question:
         self._deadline = deadline
         self._most = most
         self._answers: List[Tuple[str, _Answer]] = [(f"dlx{problem.kind}", self._searched)]
-        self._solver = sat.solver()
+        # A problem whose clauses would take too long to write is left to the programs.
+        is_small = sat.writing_seconds(problem) < (deadline - time.monotonic()) / 2
+        self._solver = sat.solver() if is_small else None
         self.is_sure = True
         self.by = ""
 

@@ -9,7 +9,7 @@ import time
 import unittest
 from unittest import mock
 
-from helgrothy import OutOfTime, Problem, make, sat, why
+from helgrothy import OutOfTime, Problem, make, sat, watch, why
 from helgrothy.matching import Matching
 from helgrothy.sums import Count, search
 
@@ -147,12 +147,12 @@ class Conflicts(unittest.TestCase):
 
     def test_a_search_that_shows_nothing_is_counted(self):
         told = []
-        with mock.patch.object(why, "_QUIET_SECONDS", 0.2), why.Watch(jigsaw(JIGSAWS[0]), told.append):
+        with mock.patch.object(watch, "_QUIET_SECONDS", 0.2), watch.Watch(jigsaw(JIGSAWS[0]), told.append):
             time.sleep(2)
         self.assertEqual(len(told), 1)
         self.assertTrue(told[0].endswith("there is no solution"), told)
-        with mock.patch.object(why, "_QUIET_SECONDS", 0.2), why.Watch(jigsaw(JIGSAWS[0]), told.append) as watch:
-            watch.end()
+        with mock.patch.object(watch, "_QUIET_SECONDS", 0.2), watch.Watch(jigsaw(JIGSAWS[0]), told.append) as beside:
+            beside.end()
             time.sleep(0.5)
         self.assertEqual(len(told), 1)
 
