@@ -10,7 +10,7 @@ import argparse
 import re
 import sys
 import time
-from typing import Any, Callable, Iterable, List, Optional, Sequence
+from typing import Any, Callable, List, Optional, Sequence
 
 from . import __version__, console, why
 from .console import Parser, limited, positive, seconds, write
