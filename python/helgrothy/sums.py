@@ -42,35 +42,28 @@ class Sums:
     def text(self, names: Callable[[Hashable], str]) -> str:
         """The proof in words."""
         less = [item for item, weight in self.weights.items() if weight < 0]
-        many = "" if self._are_alike() else ", each by its weight"
-        ask, allow = "asks" if len(self.asking) == 1 else "ask", "allows" if len(less) == 1 else "allow"
-        asked = f"{self._list(self.asking, names)} {ask} for {self.low} in all{self._each()}{many}"
+        asked = self._part(self.asking, "ask", f"for {self.low} in all", names)
         if not less:
             return f"the sums can't work: {asked}, and the options give {self.given}"
-        return f"the sums can't work: {asked}, and {self._list(less, names)} {allow} {self.high + self.given}"
+        return f"the sums can't work: {asked}, and {self._part(less, 'allow', str(self.high + self.given), names)}"
 
     @property
     def asking(self) -> List[Hashable]:
         """The items of weights above 0."""
         return [item for item, weight in self.weights.items() if weight > 0]
 
-    def _are_alike(self) -> bool:
-        """Whether all items that ask have one weight, and all that allow count once."""
-        return len({weight for weight in self.weights.values() if weight > 0}) == 1 and all(
-            weight >= -1 for weight in self.weights.values()
-        )
-
-    def _each(self) -> str:
-        weight = max(self.weights.values())
-        return f", {weight} each" if weight > 1 and self._are_alike() else ""
-
-    def _list(self, items: List[Hashable], names: Callable[[Hashable], str]) -> str:
+    def _part(self, items: List[Hashable], verb: str, much: str, names: Callable[[Hashable], str]) -> str:
+        """What items ask for or allow: of one weight all together, else each by its weight."""
+        weights = {abs(self.weights[item]) for item in items}
+        is_one = len(weights) == 1
         words = []
         for item in items[: _MOST_NAMES if len(items) <= _MOST_NAMES else _FEW_NAMES]:
-            weight = 1 if self._are_alike() else abs(self.weights[item])
+            weight = 1 if is_one else abs(self.weights[item])
             words.append(names(item) if weight == 1 else f"{weight} x {names(item)}")
         listed = " ".join(words)
-        return listed if len(words) == len(items) else f"the {len(items)} items {listed} .."
+        told = listed if len(words) == len(items) else f"the {len(items)} items {listed} .."
+        by = "" if weights == {1} else f", {min(weights)} each" if is_one else ", each by its weight"
+        return f"{told} {verb}{'s' if len(items) == 1 else ''} {much}{by}"
 
     @property
     def is_proof(self) -> bool:

@@ -152,7 +152,7 @@ class _Question:
         lows = {item: found.weights[item] * self._problem.items[item].low for item in asked}
         if found.low - min(lows.values()) > found.high + found.given:
             return False
-        return not any(self.can_go(asked - {item}) for item in found.asking) and self.is_sure
+        return not any(self.can_go(asked - {item}) or not self.is_sure for item in found.asking)
 
     def has_solution(self, kept: Set[Hashable], seconds: float) -> bool:
         """Asks each who may answer in turn, ever longer, and first the one who answered last. Raises `OutOfTime`."""

@@ -11,7 +11,7 @@ from unittest import mock
 
 from helgrothy import OutOfTime, Problem, make, sat, watch, why
 from helgrothy.matching import Matching
-from helgrothy.sums import Count, search
+from helgrothy.sums import Count, Sums, search
 
 # Pictures of nine regions that were meant to have nine cells each.
 JIGSAWS = (
@@ -56,6 +56,15 @@ class Counting(unittest.TestCase):
         nurses = why.find(make.roster.problem(NURSES))
         self.assertEqual((len(nurses.items), nurses.sums.low, nurses.sums.high), (9, 9, 6))
         self.assertIsNone(search(make.roster.problem(NURSES.replace("0:2", "0:3"))))
+
+    def test_words(self):
+        for weights, wanted in (
+            ({"a": 2, "b": 2, "c": -1}, "a b ask for 9 in all, 2 each, and c allows 8"),
+            ({"a": 2, "b": 1, "c": -1, "d": -1}, "2 x a b ask for 9 in all, each by its weight, and c d allow 8"),
+            ({"a": 1, "c": -5, "d": -5}, "a asks for 9 in all, and c d allow 8, 5 each"),
+            ({**dict.fromkeys(range(20), 1)}, "the 20 items 0 1 2 .. ask for 9 in all, and the options give 1"),
+        ):
+            self.assertEqual(Sums(weights, 9, 7, 1).text(str), f"the sums can't work: {wanted}")
 
     def test_items_that_share_one(self):
         fives = make.sudoku.problem("55" + "." * 79)
