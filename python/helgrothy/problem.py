@@ -438,7 +438,8 @@ class _Wire(Generic[Option]):
         code = codes()
         self._names = {item: next(code) for item in (*problem.items, *problem.secondary)}
         self._colours = dict(zip(problem.colours, codes()))
-        self._options = problem.options
+        # Those of the run, whatever becomes of the problem's list meanwhile.
+        self._options = list(problem.options)
         self._has_nulls = any(low < high for low, high in problem.items.values())
         lines = [self._line(option, problem) for option in problem.options]
         self.lines = [problem._item_line(self._names), *lines]

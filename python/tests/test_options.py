@@ -60,6 +60,15 @@ class Secondary(unittest.TestCase):
         self.assertEqual(["c"] + Problem("a", options=["a"]).options, ["c", "a"])
 
 
+    def test_options_that_go_while_solutions_come(self):
+        problem = Problem("ab", options=["a", "b", "ab"])
+        wanted = list(map(list, problem.solve()))
+        solutions = problem.solve()
+        first = next(solutions)
+        del problem.options[0]
+        self.assertEqual([first, *solutions], wanted)
+
+
 class Faults(unittest.TestCase):
     def test_what_is_no_problem(self):
         for wanted, make_it in (
