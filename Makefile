@@ -20,7 +20,8 @@ libdir = $(PREFIX)/lib
 # The library for C, which is installed where it was built; none with `LIBRARY=`.
 LIBRARY = $(wildcard bindings/out/libhelgrothy.a)
 
-.PHONY: run bin all test test-mutants test-hostile test-python test-parts test-docs pictures completion believed
+.PHONY: run bin all test test-mutants test-hostile test-hostile-python test-python test-parts test-docs
+.PHONY: pictures completion believed
 .PHONY: lib install install-lib uninstall uninstall-lib dist deb wheel version release
 .PHONY: test-bindings test-install test-dist test-deb test-wheel
 run: bin
@@ -37,6 +38,8 @@ test-hostile:
 	@python3 scripts/hostile/hostile.py
 test-python:
 	@sh tests/python.sh && python3 python/tests/trial.py 2000 1
+test-hostile-python:
+	@python3 tests/hostile_python.py 5000 1
 test-parts: bin
 	@PATH=$$PWD/bin:$$PATH python3 tests/parts.py 300 1
 test-docs: bin

@@ -156,7 +156,7 @@ class Problem(Generic[Option]):
             self._refuse(len(self.items) + len(self.secondary) + len(rest) > MOST_ITEMS, "", "too many items")
             self.secondary.update(rest)
             self._item_names = None
-        if colours.keys() - self._colours.keys():
+        if any(colour not in self._colours for colour in colours):
             self._colours.update(colours)
             self._colour_names = None
         list.append(self.options, option)
@@ -188,7 +188,7 @@ class Problem(Generic[Option]):
     @staticmethod
     def pairs(option: Iterable[Hashable]) -> Iterable[Tuple[Hashable, Optional[Hashable]]]:
         """An option's items, each with its colour or None."""
-        if isinstance(option, Mapping):
+        if isinstance(option, (dict, Mapping)):
             return option.items()
         return ((item, None) for item in option)
 
@@ -208,8 +208,13 @@ class Problem(Generic[Option]):
         items = {item.name: item.bounds for item in sheet.items.values() if item.bounds is not None}
         secondary = [item.name for item in sheet.items.values() if item.bounds is None]
         problem: Problem[Dict[str, Optional[str]]] = Problem(
-            items, secondary, (option.uses for option in sheet.options), comments=(text for _, text in sheet.comments)
+            items, secondary, comments=(text for _, text in sheet.comments)
         )
+        # The reader has looked at the options.
+        for option in sheet.options:
+            list.append(problem.options, option.uses)
+            problem._uses += len(option.uses)
+            problem._colours.update((colour, None) for colour in option.uses.values() if colour is not None)
         return problem
 
     @property
