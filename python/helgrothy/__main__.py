@@ -10,7 +10,7 @@ import argparse
 import re
 import sys
 import time
-from typing import Any, Callable, Iterable, List, Optional, Sequence
+from typing import Any, Callable, List, Optional, Sequence
 
 from . import __version__, console, why
 from .console import Parser, limited, positive, seconds, write
@@ -24,6 +24,7 @@ from .make import KINDS
 from .make.kind import Kind
 from .problem import Problem
 from .table import Table
+from .watch import Watch
 
 _EXAMPLES = """\
 examples:
@@ -33,6 +34,9 @@ examples:
   helgrothy make queens 8 > queens.dlx
   dlx1 m1 < queens.dlx | helgrothy draw queens.dlx
   helgrothy solve queens.dlx --number 92
+
+  helgrothy solve exams.dlx --row 'mon|tue' --column 'hall|lab' --label 'maths|art'
+  helgrothy solve exams.dlx --all --json
 
   helgrothy lint mine.dlx
   helgrothy why mine.dlx
@@ -166,7 +170,7 @@ def _show(problem: Problem[Any], arguments: argparse.Namespace) -> int:
     shown = 0
     try:
         solutions = problem.solve(limit, number, seconds=arguments.seconds)
-        with why.Watch(problem, console.say) as watch, solutions:
+        with Watch(problem, console.say) as watch, solutions:
             for solution in solutions:
                 watch.end()
                 show(arguments.number or shown + 1, solution, lambda _: solution.numbers)
@@ -174,7 +178,7 @@ def _show(problem: Problem[Any], arguments: argparse.Namespace) -> int:
     except OutOfTime as error:
         return _fail(f"{error}; {_counted(max(error.found * (arguments.number or 1), shown))} till then")
     console.say(f"Altogether {_counted(solutions.total or 0)}{'.' if solutions.complete else ' (limit).'}")
-    if solutions.total == 0:
+    if solutions.total == 0 and not watch.has_told:
         _tell_why(problem, deadline)
     return 0 if shown else 1
 

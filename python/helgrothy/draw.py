@@ -322,7 +322,8 @@ def no_match(what: str, pattern: str, parts: str, lines: Iterator[str]) -> NoPic
     """What to say of a pattern that isn't found in any of the lines of options."""
     line = shown(next(lines, "and there are none"))
     sample = line if len(line) <= _LONGEST_SAMPLE else f"{line[:_LONGEST_SAMPLE]} .."
-    return NoPicture(f"no {what} is found by {shown(pattern)}: it was matched with {parts} of options, such as {sample}")
+    tried = f"it was matched with {parts} of options, such as {sample}"
+    return NoPicture(f"no {what} is found by {shown(pattern)}: {tried}")
 
 
 def _cells(cell: re.Pattern[str], line: str) -> Iterator[Tuple[Place, str]]:
@@ -347,7 +348,8 @@ def _number(word: Optional[str]) -> int:
         return int(word)
     if word and len(word) == 1 and word.isascii() and word.isalpha():
         return int(word, 36)
-    raise NoPicture(f"{word or 'nothing'} is no row or column: neither a number nor a letter")
+    why = "neither a number nor a single letter; names are rows and columns of a table (--row, --column)"
+    raise NoPicture(f"{word or 'nothing'} is no row or column: {why}")
 
 
 def drawing_of(problem: Problem[Any]) -> Drawing:

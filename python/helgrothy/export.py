@@ -58,7 +58,7 @@ def _counter(after: int) -> Iterator[int]:
 
 def asp(problem: Problem[Any]) -> Iterator[str]:
     """The lines of an answer set program for gringo and clasp: x(N) takes option N, which holds(N,ITEM)."""
-    yield f"% An exact cover problem: x(N) takes option N. Costs: #minimize {{C,N : x(N), cost(N,C)}}."
+    yield "% An exact cover problem: x(N) takes option N. Costs: #minimize {C,N : x(N), cost(N,C)}."
     yield f"{{x(1..{len(problem.options)})}}." if problem.options else ""
     for number, option in enumerate(problem.options, 1):
         for name in problem.uses(option):

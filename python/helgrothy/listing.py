@@ -9,7 +9,20 @@ from __future__ import annotations
 
 import re
 from dataclasses import dataclass
-from typing import Callable, Dict, Generator, Generic, Hashable, Iterable, Iterator, List, Mapping, Optional, TypeVar, Union
+from typing import (
+    Callable,
+    Dict,
+    Generator,
+    Generic,
+    Hashable,
+    Iterable,
+    Iterator,
+    List,
+    Mapping,
+    Optional,
+    TypeVar,
+    Union,
+)
 
 from .errors import ListingFault, UnknownChoice
 from .syntax import text_of

@@ -22,8 +22,10 @@ Row = Tuple[Hashable, ...]
 Place = int
 Classes = Sequence[int]
 
-# The clock is looked at once in so many rows.
-_ROWS = 256
+# The clock is looked at once in so many steps, and so many steps go over two classes at most: an option of many items
+# or of many classes has as many as these have pairs.
+_STEPS = 20_000
+_MOST_STEPS = 3_000_000
 # So many of what is left over are looked at for the smallest shortage.
 _MOST_STARTS = 64
 _NONE = -1
@@ -131,14 +133,19 @@ class _Search:
                 yield short
 
     def pairs(self, classes: Classes) -> _Pairs:
-        """The pairs of classes of which an option holds both; none where the time is over before all are known."""
+        """The pairs of classes of which an option holds both; none where the time is over before all are known, or
+        where there are too many."""
         pairs: _Pairs = {}
-        for number, row in enumerate(self.rows):
-            if number % _ROWS == 0 and time.monotonic() > self.deadline:
-                return {}
+        steps, look = 0, 0
+        for row in self.rows:
             parts: Dict[int, List[Place]] = {}
             for place in row:
                 parts.setdefault(classes[place], []).append(place)
+            # Each item with each one of another class, and each class with each other one.
+            steps += len(row) + len(parts) ** 2 + len(row) ** 2 - sum(len(places) ** 2 for places in parts.values())
+            if steps > _MOST_STEPS or (steps > look and time.monotonic() > self.deadline):
+                return {}
+            look = max(look, steps + _STEPS) if steps > look else look
             for one, places in parts.items():
                 asking = [place for place in places if self.bounds[place].low]
                 for other, others in parts.items():

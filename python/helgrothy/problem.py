@@ -5,6 +5,7 @@ from __future__ import annotations
 import tempfile
 import warnings
 from collections import Counter
+from collections.abc import Iterable, Iterator, Mapping
 from functools import partial
 from numbers import Integral
 from types import TracebackType
@@ -17,10 +18,7 @@ from typing import (
     Generator,
     Generic,
     Hashable,
-    Iterable,
-    Iterator,
     List,
-    Mapping,
     NoReturn,
     Optional,
     Sequence,
@@ -129,9 +127,9 @@ class Problem(Generic[Option]):
     def _bounds(self, item: Hashable, given: BoundsLike) -> Bounds:
         if given is None:
             return ONCE
-        pair = (given, given) if isinstance(given, Integral) else tuple(given) if isinstance(given, (tuple, list)) else ()
-        is_pair = len(pair) == 2 and all(isinstance(bound, Integral) for bound in pair)
-        hint = "bounds are None, a number or two; items is a mapping, so its values are bounds: list(items) takes its keys"
+        pair: Any = (given, given) if isinstance(given, Integral) else given
+        is_pair = isinstance(pair, (tuple, list)) and len(pair) == 2 and all(isinstance(one, Integral) for one in pair)
+        hint = "bounds are None, a number or two; items is a mapping, whose values are bounds: list(items) has its keys"
         self._refuse(not is_pair, item, "bad bound", hint)
         low, high = map(int, pair)
         reason = bounds_fault(low, high)
@@ -459,7 +457,8 @@ class _Wire(Generic[Option]):
         code = codes()
         self._names = {item: next(code) for item in (*problem.items, *problem.secondary)}
         self._colours = dict(zip(problem.colours, codes()))
-        self._options = problem.options
+        # Those of the run, whatever becomes of the problem's list meanwhile.
+        self._options = list(problem.options)
         self._has_nulls = any(low < high for low, high in problem.items.values())
         lines = [self._line(option, problem) for option in problem.options]
         self.lines = [problem._item_line(self._names), *lines]

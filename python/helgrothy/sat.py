@@ -21,6 +21,8 @@ SOLVERS = {"cadical": ["-q", "-n"], "clasp": ["-q"]}
 # A solver's status has the first where it found a solution; the second alone says that there is none.
 _FOUND = (10, 30)
 _NONE = 20
+# To write the clauses of 600,000 uses took 8 seconds.
+_WRITING_SECONDS = 1.3e-5
 
 
 def solver() -> Optional[Tuple[str, List[str]]]:
@@ -32,6 +34,11 @@ def solver() -> Optional[Tuple[str, List[str]]]:
         if path is not None:
             return name, [path, *words]
     return None
+
+
+def writing_seconds(problem: Problem[Any]) -> float:
+    """About how long it takes to write a problem's clauses."""
+    return _WRITING_SECONDS * sum(1 for option in problem.options for _ in problem.pairs(option))
 
 
 class Clauses:

@@ -69,7 +69,8 @@ class Solution(Sequence[O], Generic[O]):
 
     def __hash__(self) -> int:
         # Options may have no hash, but their items have; options that are equal hold the same.
-        return hash(tuple(option if isinstance(option, Null) else frozenset(option) for option in self._options()))  # type: ignore[call-overload]
+        choices: List[Any] = self._options()
+        return hash(tuple(choice if isinstance(choice, Null) else frozenset(choice) for choice in choices))
 
     def __lt__(self, other: Sequence[O]) -> bool:
         return self._options() < list(other)

@@ -9,8 +9,9 @@ which `Sums.is_proof` does.
 from __future__ import annotations
 
 import time
+from collections.abc import Mapping
 from dataclasses import dataclass, replace
-from typing import Any, Callable, Dict, Hashable, List, Mapping, Optional, Sequence, Set, Tuple
+from typing import Any, Callable, Dict, Hashable, List, Optional, Sequence, Set, Tuple
 
 from .matching import shortage
 from .problem import Problem
@@ -19,6 +20,8 @@ from .syntax import Bounds
 # So many names are told; of more, the first few.
 _MOST_NAMES = 12
 _FEW_NAMES = 3
+# The part of the time that a matching may take.
+_MATCHED = 0.6
 # Weights are looked for among such small numbers.
 _LARGEST = (1, 2, 3, 4, 5, 6, 12)
 
@@ -39,35 +42,28 @@ class Sums:
     def text(self, names: Callable[[Hashable], str]) -> str:
         """The proof in words."""
         less = [item for item, weight in self.weights.items() if weight < 0]
-        many = "" if self._are_alike() else ", each by its weight"
-        ask, allow = (f"{verb}s" if len(items) == 1 else verb for verb, items in (("ask", self.asking), ("allow", less)))
-        asked = f"{self._list(self.asking, names)} {ask} for {self.low} in all{self._each()}{many}"
+        asked = self._part(self.asking, "ask", f"for {self.low} in all", names)
         if not less:
             return f"the sums can't work: {asked}, and the options give {self.given}"
-        return f"the sums can't work: {asked}, and {self._list(less, names)} {allow} {self.high + self.given}"
+        return f"the sums can't work: {asked}, and {self._part(less, 'allow', str(self.high + self.given), names)}"
 
     @property
     def asking(self) -> List[Hashable]:
         """The items of weights above 0."""
         return [item for item, weight in self.weights.items() if weight > 0]
 
-    def _are_alike(self) -> bool:
-        """Whether all items that ask have one weight, and all that allow count once."""
-        return len({weight for weight in self.weights.values() if weight > 0}) == 1 and all(
-            weight >= -1 for weight in self.weights.values()
-        )
-
-    def _each(self) -> str:
-        weight = max(self.weights.values())
-        return f", {weight} each" if weight > 1 and self._are_alike() else ""
-
-    def _list(self, items: List[Hashable], names: Callable[[Hashable], str]) -> str:
+    def _part(self, items: List[Hashable], verb: str, much: str, names: Callable[[Hashable], str]) -> str:
+        """What items ask for or allow: of one weight all together, else each by its weight."""
+        weights = {abs(self.weights[item]) for item in items}
+        is_one = len(weights) == 1
         words = []
         for item in items[: _MOST_NAMES if len(items) <= _MOST_NAMES else _FEW_NAMES]:
-            weight = 1 if self._are_alike() else abs(self.weights[item])
+            weight = 1 if is_one else abs(self.weights[item])
             words.append(names(item) if weight == 1 else f"{weight} x {names(item)}")
         listed = " ".join(words)
-        return listed if len(words) == len(items) else f"the {len(items)} items {listed} .."
+        told = listed if len(words) == len(items) else f"the {len(items)} items {listed} .."
+        by = "" if weights == {1} else f", {min(weights)} each" if is_one else ", each by its weight"
+        return f"{told} {verb}{'s' if len(items) == 1 else ''} {much}{by}"
 
     @property
     def is_proof(self) -> bool:
@@ -84,46 +80,68 @@ def bounds_of(problem: Problem[Any]) -> Dict[Hashable, Bounds]:
     return {**problem.items, **{item: Bounds(0, 1) for item in problem.secondary if item not in coloured}}
 
 
-def _weigh(rows: Sequence[Row], bounds: Mapping[Hashable, Bounds], weights: Dict[Hashable, int]) -> Sums:
-    low = sum(weight * bounds[item].low for item, weight in weights.items() if weight > 0)
-    high = sum(-weight * bounds[item].high for item, weight in weights.items() if weight < 0)
-    given = sum(max(0, sum(weights.get(item, 0) for item in row)) for row in rows)
-    return Sums(weights, low, high, given)
-
-
 def search(problem: Problem[Any], seconds: float = 2.0) -> Optional[Sums]:
     """Weights that prove that there is no solution, with as few items as leaving out finds; None where none are
     found in the time, which says nothing. Where a whole class of items is the proof, it stays whole.
     """
     deadline = time.monotonic() + seconds
-    bounds = bounds_of(problem)
-    rows = [tuple(item for item, _ in problem.pairs(option) if item in bounds) for option in problem.options]
-    return _by_matching(problem, rows, bounds, deadline) or _by_climbing(rows, bounds, deadline)
+    count = Count(problem)
+    return count.by_matching(seconds * _MATCHED) or count.by_climbing(deadline - time.monotonic())
 
 
-def _by_matching(
-    problem: Problem[Any], rows: Sequence[Row], bounds: Mapping[Hashable, Bounds], deadline: float
-) -> Optional[Sums]:
-    short = shortage(rows, bounds, problem.name, deadline)
-    if short is None:
+class Count:
+    """What each option of a problem holds of the items that have bounds, to look for such weights."""
+
+    def __init__(self, problem: Problem[Any]) -> None:
+        self._name = problem.name
+        self._bounds = bounds = bounds_of(problem)
+        self._rows: List[Row] = [
+            tuple(item for item, _ in problem.pairs(option) if item in bounds) for option in problem.options
+        ]
+
+    def by_matching(self, seconds: float) -> Optional[Sums]:
+        """Weights from a matching of two classes of items."""
+        deadline = time.monotonic() + seconds
+        short = shortage(self._rows, self._bounds, self._name, deadline)
+        if short is None:
+            return None
+        found = self._weigh(short.weights)
+        if not found.is_proof:
+            return None
+        return replace(found, is_whole=True) if short.is_whole else self._fewer(found, deadline)
+
+    def by_climbing(self, seconds: float) -> Optional[Sums]:
+        """Weights from raising those of what is asked for too little, and lowering others."""
+        deadline = time.monotonic() + seconds
+        scales = {item: 0.0 for item in self._bounds}
+        step = 1.0
+        while time.monotonic() < deadline and step > 0.02:
+            _climb(self._rows, self._bounds, scales, step)
+            step *= 0.97
+            for largest in _LARGEST:
+                if time.monotonic() > deadline:
+                    break
+                found = self._weigh(_whole(scales, largest))
+                if found.is_proof:
+                    return self._fewer(found, deadline)
         return None
-    found = _weigh(rows, bounds, short.weights)
-    if not found.is_proof:
-        return None
-    return replace(found, is_whole=True) if short.is_whole else _fewer(rows, bounds, found, deadline)
 
+    def _weigh(self, weights: Dict[Hashable, int]) -> Sums:
+        bounds = self._bounds
+        low = sum(weight * bounds[item].low for item, weight in weights.items() if weight > 0)
+        high = sum(-weight * bounds[item].high for item, weight in weights.items() if weight < 0)
+        given = sum(max(0, sum(weights.get(item, 0) for item in row)) for row in self._rows)
+        return Sums(weights, low, high, given)
 
-def _by_climbing(rows: Sequence[Row], bounds: Mapping[Hashable, Bounds], deadline: float) -> Optional[Sums]:
-    scales = {item: 0.0 for item in bounds}
-    step = 1.0
-    while time.monotonic() < deadline and step > 0.02:
-        _climb(rows, bounds, scales, step)
-        step *= 0.97
-        for largest in _LARGEST:
-            found = _weigh(rows, bounds, _whole(scales, largest))
-            if found.is_proof:
-                return _fewer(rows, bounds, found, deadline)
-    return None
+    def _fewer(self, found: Sums, deadline: float) -> Sums:
+        """The proof without items that it doesn't need."""
+        for item in list(found.weights):
+            if time.monotonic() > deadline:
+                break
+            less = self._weigh({other: weight for other, weight in found.weights.items() if other != item})
+            if less.is_proof:
+                found = less
+        return found
 
 
 def _climb(
@@ -149,13 +167,3 @@ def _whole(scales: Dict[Hashable, float], largest: int) -> Dict[Hashable, int]:
     most = max((abs(scale) for scale in scales.values()), default=0.0) or 1.0
     rounded = {item: round(scale * largest / most) for item, scale in scales.items()}
     return {item: weight for item, weight in rounded.items() if weight}
-
-
-def _fewer(rows: Sequence[Row], items: Mapping[Hashable, Bounds], found: Sums, deadline: float) -> Sums:
-    for item in list(found.weights):
-        if time.monotonic() > deadline:
-            break
-        less = _weigh(rows, items, {other: weight for other, weight in found.weights.items() if other != item})
-        if less.is_proof:
-            found = less
-    return found

@@ -66,10 +66,18 @@ class _Names:
         self.what = what
         self.given = pattern or ""
         self.pattern = None if pattern is None else re.compile(rf"(?<!\w)(?:{pattern})(?!\w)")
+        # Most words stand in many options.
+        self._known: Dict[str, List[str]] = {}
         self.order: Dict[str, int] = {} if pattern is not None else {"": 0}
 
     def of(self, word: str) -> List[str]:
         """The names in a word."""
+        known = self._known.get(word)
+        if known is None:
+            known = self._known[word] = self._found(word)
+        return known
+
+    def _found(self, word: str) -> List[str]:
         if self.pattern is None:
             return []
         group = 1 if self.pattern.groups else 0

@@ -8,25 +8,22 @@ limit, so an item of which it isn't known in time whether it can be let off stay
 
 from __future__ import annotations
 
-import threading
 import time
 from dataclasses import dataclass
-from types import TracebackType
-from typing import Any, Callable, Dict, Hashable, Iterator, List, Optional, Set, Tuple, Type
+from typing import Any, Callable, Dict, Hashable, Iterator, List, Optional, Set, Tuple
 
 from . import sat
 from .errors import OutOfTime
 from .problem import Problem
-from .sums import Sums, search
+from .sums import Count, Sums
 from .syntax import Bounds
 
-# The largest part of the whole time that one question may take, and the counting.
+# The largest part of the whole time that one question may take, and the search for weights; and that of the matching.
 _SHARE = 0.1
+_COUNTED = 0.2
 # Who answers is asked for so long first, and then for so many times longer again.
 _FIRST_SECONDS = 0.1
 _LONGER = 3
-# A search that shows no solution for so long is counted beside it, for as long.
-_QUIET_SECONDS = 1.0
 
 
 @dataclass(frozen=True)
@@ -76,13 +73,20 @@ def find(problem: Problem[Any], seconds: float = 10.0) -> Optional[Conflict]:
     short = [item for item, count in _held(problem).items() if count < problem.items[item].low]
     if short:
         return Conflict(short[:1], True)
-    found = search(problem, seconds * _SHARE)
+    count = Count(problem)
+    found = count.by_matching(seconds * _COUNTED)
     question = _Question(problem, deadline, seconds * _SHARE)
     if found is not None and found.is_whole:
         return Conflict(found.asking, question.needs_all(found), found)
-    items = [item for item, bounds in problem.items.items() if bounds.low] if found is None else found.asking
-    if found is None and question.has_solution(set(items), deadline - time.monotonic()):
+    asked = [item for item, bounds in problem.items.items() if bounds.low]
+    if found is None:
+        # A problem that is soon searched needs no proof by weights where it has a solution.
+        if question.is_soon_solved(set(asked)):
+            return None
+        found = count.by_climbing(seconds * _SHARE)
+    if found is None and question.has_solution(set(asked), deadline - time.monotonic()):
         return None
+    items = asked if found is None else found.asking
     kept = _left(items, question)
     if found is not None and len(kept) == len(items):
         return Conflict(kept, question.is_sure, found)
@@ -96,36 +100,6 @@ def _held(problem: Problem[Any]) -> Dict[Hashable, int]:
             if item in times:
                 times[item] += 1
     return times
-
-
-class Watch:
-    """Counts the bounds beside a search that shows no solution for a while, and tells where they can't work."""
-
-    def __init__(self, problem: Problem[Any], tell: Callable[[str], None]) -> None:
-        self._problem = problem
-        self._tell = tell
-        self._timer = threading.Timer(_QUIET_SECONDS, self._count)
-        self._timer.daemon = True
-        self._is_over = False
-
-    def __enter__(self) -> Watch:
-        self._timer.start()
-        return self
-
-    def __exit__(
-        self, kind: Optional[Type[BaseException]], error: Optional[BaseException], trace: Optional[TracebackType]
-    ) -> None:
-        self.end()
-
-    def end(self) -> None:
-        """Tells nothing from now on."""
-        self._is_over = True
-        self._timer.cancel()
-
-    def _count(self) -> None:
-        found = search(self._problem, _QUIET_SECONDS)
-        if found is not None and not self._is_over:
-            self._tell(f"{found.text(self._problem.name)}: there is no solution")
 
 
 # Whether items can be held, the others being let off; raises `OutOfTime` where so many seconds don't tell.
@@ -143,7 +117,9 @@ class _Question:
         self._deadline = deadline
         self._most = most
         self._answers: List[Tuple[str, _Answer]] = [(f"dlx{problem.kind}", self._searched)]
-        self._solver = sat.solver()
+        # A problem whose clauses would take too long to write is left to the programs.
+        is_small = sat.writing_seconds(problem) < (deadline - time.monotonic()) / 2
+        self._solver = sat.solver() if is_small else None
         self.is_sure = True
         self.by = ""
 
@@ -158,25 +134,38 @@ class _Question:
         self.is_sure = False
         return False
 
+    def may_take_longer(self) -> bool:
+        """Gives each question more time; False where there is none."""
+        self._most *= _LONGER
+        return time.monotonic() < self._deadline
+
+    def is_soon_solved(self, kept: Set[Hashable]) -> bool:
+        """Whether a short search finds a solution."""
+        try:
+            return self._searched(kept, min(_FIRST_SECONDS, self._deadline - time.monotonic()))
+        except OutOfTime:
+            return False
+
     def needs_all(self, found: Sums) -> bool:
         """Whether there is a solution without any one of the items that sums ask too much of."""
         asked = set(found.asking)
         lows = {item: found.weights[item] * self._problem.items[item].low for item in asked}
         if found.low - min(lows.values()) > found.high + found.given:
             return False
-        return not any(self.can_go(asked - {item}) for item in found.asking) and self.is_sure
+        return not any(self.can_go(asked - {item}) or not self.is_sure for item in found.asking)
 
     def has_solution(self, kept: Set[Hashable], seconds: float) -> bool:
         """Asks each who may answer in turn, ever longer, and first the one who answered last. Raises `OutOfTime`."""
         deadline = time.monotonic() + seconds
-        turn = _FIRST_SECONDS
+        is_alone = len(self._answers) == 1 and self._solver is None
+        turn = seconds if is_alone else _FIRST_SECONDS
         while True:
             for name, answer in list(self._answers):
                 left = deadline - time.monotonic()
                 if left <= 0:
                     raise OutOfTime("the time was over before an answer")
                 try:
-                    has_one = answer(kept, left if len(self._answers) == 1 and self._solver is None else min(left, turn))
+                    has_one = answer(kept, min(left, turn))
                 except OutOfTime:
                     continue
                 self._answers.sort(key=lambda one: one[0] != name)
@@ -211,7 +200,9 @@ class _Question:
 
 
 def _left(items: List[Hashable], question: _Question) -> List[Hashable]:
-    """What is left when parts of the items are let off, ever smaller ones, and then single ones."""
+    """What is left when parts of the items are let off, ever smaller ones, and then single ones; these once more, while
+    there is time, where some questions had no answer.
+    """
     step = max(1, len(items) // 2)
     while True:
         k = 0
@@ -221,7 +212,7 @@ def _left(items: List[Hashable], question: _Question) -> List[Hashable]:
                 items = fewer
             else:
                 k += step
-        if step == 1:
+        if step == 1 and (question.is_sure or not question.may_take_longer()):
             return items
         # Only the last round, over single items, says which are needed.
         question.is_sure = True

@@ -84,6 +84,9 @@ class Commands(unittest.TestCase):
         self.assertEqual(run("solve", given="A B\nA\n"), (1, "", told))
         status, _, told = run("sudoku", "55" + "." * 79)
         self.assertIn("r1c1 r1c2 ask for 2 in all, and r1=5 allows 1\n", told)
+        grid, words = self.file("grid.txt", "..#\n#.#\n"), self.file("words.txt", "cat dog")
+        told = run("words", grid, words)[2]
+        self.assertIn("can't all be held: across-r1c1\nit is in no option\n", told)
         with mock.patch.object(why, "find", side_effect=OutOfTime("no")):
             told = run("queens", "3")[2]
         self.assertRegex(told, "no reason was found in [0-9.]+ seconds; `helgrothy why` may look longer\n")

@@ -129,11 +129,13 @@ class Tables(unittest.TestCase):
             (Table("mo", "hall"), r"no row is found by mo: .* such as maths tue1,hall$"),
             (Table("mon1", "hal"), r"no column is found by hal: .* such as maths tue1,hall$"),
             (Table("mon1", "hall", "x"), r"no label is found by x: .* such as maths tue1,hall$"),
-            (Pattern(r"(\d)-(\d)"), r"no cell is found by \(\\d\)-\(\\d\): .* whole words of options, such as maths tue1,hall$"),
-            (Pattern(r"maths|art (mon|tue)(\d),\w+", "nobody"), "no "),
+            (Pattern(r"(\d)-(\d)"), r"no cell is found by \(\\d\)-\(\\d\): .* whole words .* such as maths tue1,hall$"),
+            (Pattern(r"\w\w\w(\d),(\w)\w+", "nobody"), r"no label is found by nobody: .* whole words"),
         ):
             with self.subTest(drawn=drawn), self.assertRaisesRegex(NoPicture, wanted):
                 problem.draw((), drawn)
+        with self.assertRaisesRegex(NoPicture, r"tue is no row or column: .*\(--row, --column\)"):
+            problem.draw((), Pattern(r"(mon|tue)(\d),\w+"))
         self.assertEqual(run("solve", "--row", "(", given=LESSONS)[0], 2)
         told = run("solve", "--row", "mon", "--cell", r"(\d)", given=LESSONS)[2]
         self.assertIn("not both", told)

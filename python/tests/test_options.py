@@ -60,6 +60,15 @@ class Secondary(unittest.TestCase):
         self.assertEqual(["c"] + Problem("a", options=["a"]).options, ["c", "a"])
 
 
+    def test_options_that_go_while_solutions_come(self):
+        problem = Problem("ab", options=["a", "b", "ab"])
+        wanted = list(map(list, problem.solve()))
+        solutions = problem.solve()
+        first = next(solutions)
+        del problem.options[0]
+        self.assertEqual([first, *solutions], wanted)
+
+
 class Faults(unittest.TestCase):
     def test_what_is_no_problem(self):
         for wanted, make_it in (
@@ -80,7 +89,7 @@ class Faults(unittest.TestCase):
     def test_values_that_were_meant_as_no_bounds(self):
         with self.assertRaises(ProblemFault) as raised:
             Problem({"E13": ["ann", "bob"]})
-        self.assertIn("list(items) takes its keys", str(raised.exception))
+        self.assertIn("list(items) has its keys", str(raised.exception))
         self.assertEqual(Problem({"a": Fraction(2).numerator}).items["a"], (2, 2))
 
 

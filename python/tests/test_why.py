@@ -9,9 +9,9 @@ import time
 import unittest
 from unittest import mock
 
-from helgrothy import OutOfTime, Problem, make, sat, why
+from helgrothy import OutOfTime, Problem, make, sat, watch, why
 from helgrothy.matching import Matching
-from helgrothy.sums import search
+from helgrothy.sums import Count, Sums, search
 
 # Pictures of nine regions that were meant to have nine cells each.
 JIGSAWS = (
@@ -44,7 +44,8 @@ class Counting(unittest.TestCase):
                 conflict = why.find(problem)
                 self.assertLess(time.process_time() - begun, 2)
                 self.assertTrue(conflict.is_least and len({item[0] for item in conflict.items}) == 1)
-                self.assertRegex(conflict.sums.text(problem.name), r": (\w),1 .* \1,9 ask for 9 in all, and .* allow 8$")
+                told = conflict.sums.text(problem.name)
+                self.assertRegex(told, r": (\w),1 .* \1,9 ask for 9 in all, and .* allow 8$")
 
     def test_a_whole_class(self):
         box = make.polyominoes.problem("pentominoes", "6x9")
@@ -55,6 +56,15 @@ class Counting(unittest.TestCase):
         nurses = why.find(make.roster.problem(NURSES))
         self.assertEqual((len(nurses.items), nurses.sums.low, nurses.sums.high), (9, 9, 6))
         self.assertIsNone(search(make.roster.problem(NURSES.replace("0:2", "0:3"))))
+
+    def test_words(self):
+        for weights, wanted in (
+            ({"a": 2, "b": 2, "c": -1}, "a b ask for 9 in all, 2 each, and c allows 8"),
+            ({"a": 2, "b": 1, "c": -1, "d": -1}, "2 x a b ask for 9 in all, each by its weight, and c d allow 8"),
+            ({"a": 1, "c": -5, "d": -5}, "a asks for 9 in all, and c d allow 8, 5 each"),
+            ({**dict.fromkeys(range(20), 1)}, "the 20 items 0 1 2 .. ask for 9 in all, and the options give 1"),
+        ):
+            self.assertEqual(Sums(weights, 9, 7, 1).text(str), f"the sums can't work: {wanted}")
 
     def test_items_that_share_one(self):
         fives = make.sudoku.problem("55" + "." * 79)
@@ -86,6 +96,17 @@ class Counting(unittest.TestCase):
                 self.assertTrue(is_short(short[0]))
                 self.assertEqual(short[1], {right for left in short[0] for right in near[left]})
 
+    def test_problems_made_to_hurt(self):
+        rng = random.Random(3)
+        names = ["".join(rng.choices("abcdefgh", k=9)) for _ in range(9000)]
+        two = [f"a{k}" for k in range(5000)] + [f"b{k}c" for k in range(5000)]
+        long = [two[k : k + 5001] for k in range(0, 5000, 99)]
+        for items, options in ((names, [names]), (two, [two] * 8), (two, long)):
+            problem = Problem(dict.fromkeys(items), options=[list(dict.fromkeys(option)) for option in options])
+            begun = time.process_time()
+            search(problem, 0.5)
+            self.assertLess(time.process_time() - begun, 3)
+
     def test_no_time(self):
         self.assertIsNone(search(jigsaw(JIGSAWS[0]), 0))
 
@@ -97,6 +118,30 @@ class Conflicts(unittest.TestCase):
         self.assertIsNone(why.find(make.queens.problem(6)))
         queens = why.find(make.queens.problem(3))
         self.assertEqual((len(queens.items), queens.is_least, queens.sums), (3, True, None))
+
+    def test_random_problems(self):
+        """What is told can't be held, and can without any one of the items where it is said to be least."""
+        rng = random.Random(4)
+        for _ in range(60):
+            names = [f"p{k}" for k in range(rng.randint(2, 6))]
+            items = {name: rng.choice([None, None, 2, (0, 2), (1, 3)]) for name in names}
+            options = []
+            for _ in range(rng.randint(2, 12)):
+                options.append({name: None for name in names if rng.random() < 0.4} or {"p0": None})
+                options[-1].update({f"s{k}": rng.choice([None, 1, 2]) for k in range(3) if rng.random() < 0.3})
+            problem = Problem(items, True, options)
+
+            def can_be_held(kept):
+                bounds = {item: (low if item in kept else 0, high) for item, (low, high) in problem.items.items()}
+                return Problem(bounds, problem.secondary, options).count(limit=1) > 0
+
+            conflict = why.find(problem)
+            with self.subTest(problem=problem.text, conflict=conflict):
+                self.assertEqual(conflict is None, can_be_held(set(items)))
+                if conflict is not None:
+                    self.assertFalse(can_be_held(set(conflict.items)))
+                    for item in conflict.items if conflict.is_least else ():
+                        self.assertTrue(can_be_held(set(conflict.items) - {item}))
 
     def test_too_few_options(self):
         for problem, wanted in (
@@ -111,12 +156,12 @@ class Conflicts(unittest.TestCase):
 
     def test_a_search_that_shows_nothing_is_counted(self):
         told = []
-        with mock.patch.object(why, "_QUIET_SECONDS", 0.2), why.Watch(jigsaw(JIGSAWS[0]), told.append):
+        with mock.patch.object(watch, "_QUIET_SECONDS", 0.2), watch.Watch(jigsaw(JIGSAWS[0]), told.append):
             time.sleep(2)
         self.assertEqual(len(told), 1)
         self.assertTrue(told[0].endswith("there is no solution"), told)
-        with mock.patch.object(why, "_QUIET_SECONDS", 0.2), why.Watch(jigsaw(JIGSAWS[0]), told.append) as watch:
-            watch.end()
+        with mock.patch.object(watch, "_QUIET_SECONDS", 0.2), watch.Watch(jigsaw(JIGSAWS[0]), told.append) as beside:
+            beside.end()
             time.sleep(0.5)
         self.assertEqual(len(told), 1)
 
@@ -148,11 +193,11 @@ class Solvers(unittest.TestCase):
     @unittest.skipUnless(SOLVERS, "needs cadical or clasp")
     def test_where_the_programs_come_to_no_end(self):
         problem = jigsaw(JIGSAWS[0])
-        with mock.patch.object(why, "search", lambda *_: None):
-            conflict = why.find(problem)
+        with mock.patch.multiple(Count, by_matching=lambda *_: None, by_climbing=lambda *_: None):
+            conflict = why.find(problem, 4)
         self.assertIn(conflict.by, SOLVERS + ["dlx1"])
         self.assertIsNone(conflict.sums)
-        self.assertLess(len(conflict.items), 60)
+        self.assertLess(len(conflict.items), 324)
 
     def test_a_solver_that_fails(self):
         with tempfile.TemporaryDirectory() as folder:
