@@ -116,7 +116,7 @@ class Pictures(unittest.TestCase):
         days = "maths art | mon-1 wednesday-1\nmaths mon-1\nart wednesday-1\n"
         status, _, error = run("solve", "--cell", r"(\w+)-(\d)", "--label", "maths|art", given=days)
         self.assertEqual(status, 2)
-        self.assertIn("mon is no row or column: neither a number nor a letter", error)
+        self.assertIn("mon is no row or column: neither a number nor a single letter", error)
         self.assertLess(time.monotonic() - start, 5)
 
     def test_patterns_that_match_in_part(self):
