@@ -13,13 +13,15 @@ mandir = $(PREFIX)/share/man
 docdir = $(PREFIX)/share/doc/helgrothy
 pythondir = $(PREFIX)/share/helgrothy
 completiondir = $(PREFIX)/share/bash-completion/completions
+zshdir = $(PREFIX)/share/zsh/site-functions
+fishdir = $(PREFIX)/share/fish/vendor_completions.d
 includedir = $(PREFIX)/include
 libdir = $(PREFIX)/lib
 # The library for C, which is installed where it was built; none with `LIBRARY=`.
 LIBRARY = $(wildcard bindings/out/libhelgrothy.a)
 
-.PHONY: run bin all test test-mutants test-hostile test-python test-parts test-docs pictures believed
-.PHONY: bench bench-forms test-bench
+.PHONY: run bin all test test-mutants test-hostile test-hostile-python test-python test-parts test-docs
+.PHONY: pictures completion believed bench bench-forms test-bench
 .PHONY: lib install install-lib uninstall uninstall-lib dist deb wheel version release
 .PHONY: test-bindings test-install test-dist test-deb test-wheel
 run: bin
@@ -36,6 +38,8 @@ test-hostile:
 	@python3 scripts/hostile/hostile.py
 test-python:
 	@sh tests/python.sh && python3 python/tests/trial.py 2000 1
+test-hostile-python:
+	@python3 tests/hostile_python.py 5000 1
 test-parts: bin
 	@PATH=$$PWD/bin:$$PATH python3 tests/parts.py 300 1
 test-docs: bin
@@ -47,6 +51,10 @@ test-docs: bin
 # The pictures of the documents, made anew.
 pictures:
 	@scripts/pictures/pictures
+
+# Completion for shells, made anew from the parsers.
+completion:
+	@scripts/completion
 
 # The page of what has to be believed, made anew.
 believed:
@@ -98,6 +106,9 @@ install: bin install-lib
 	for script in $(SCRIPTS:split=) plan below; do ln -sfn dlx-split.1 "$(DESTDIR)$(mandir)/man1/dlx-$$script.1" || exit 1; done
 	install -m 644 release/completion.bash "$(DESTDIR)$(completiondir)/dlx1"
 	for command in $(COMMANDS:dlx1=); do ln -sfn dlx1 "$(DESTDIR)$(completiondir)/$$command" || exit 1; done
+	install -D -m 644 release/completion.zsh "$(DESTDIR)$(zshdir)/_helgrothy"
+	install -D -m 644 release/completion.fish "$(DESTDIR)$(fishdir)/dlx1.fish"
+	for command in $(COMMANDS:dlx1=); do ln -sfn dlx1.fish "$(DESTDIR)$(fishdir)/$$command.fish" || exit 1; done
 	$(call copy,docs examples CHANGELOG.md python/README.md,$(DESTDIR)$(docdir))
 	cd release && $(call copy,README.md,$(DESTDIR)$(docdir))
 	sed -i '1s/$$/ $(VERSION)/' "$(DESTDIR)$(docdir)/README.md"
@@ -115,8 +126,10 @@ uninstall-lib:
 
 uninstall: uninstall-lib
 	for command in $(COMMANDS); do \
-	    rm -f "$(DESTDIR)$(bindir)/$$command" "$(DESTDIR)$(completiondir)/$$command" || exit 1; \
+	    rm -f "$(DESTDIR)$(bindir)/$$command" "$(DESTDIR)$(completiondir)/$$command" \
+	        "$(DESTDIR)$(fishdir)/$$command.fish" || exit 1; \
 	done
+	rm -f "$(DESTDIR)$(zshdir)/_helgrothy"
 	for page in $(COMMANDS:%=%.1) dlx.5; do rm -f "$(DESTDIR)$(mandir)/man$${page##*.}/$$page" || exit 1; done
 	for part in docs examples python/README.md CHANGELOG.md README.md; do \
 	    rm -rf "$(DESTDIR)$(docdir)/$$part" || exit 1; \

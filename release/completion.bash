@@ -1,4 +1,4 @@
-# Completion of the words of programs and commands in bash. It needs nothing but bash, 4.3 or later.
+# Completion of the words of programs and commands in bash, 4.3 or later, which needs nothing else. Made by scripts/completion: changes belong there.
 
 # Files that end with .dlx, and folders on the way to them; where there are none of these, any file.
 _dlx_problem() {
@@ -7,58 +7,133 @@ _dlx_problem() {
     [[ ${COMPREPLY[*]} ]] || mapfile -t COMPREPLY < <(compgen -f -- "$1")
 }
 
-_dlx_folder() {
-    compopt -o filenames
-    mapfile -t COMPREPLY < <(compgen -d -- "$1")
+# Completes a word as what it may be: words, behind `file` those or a file, `problem` or `folder`.
+_dlx_complete() {
+    case $1 in
+        problem) _dlx_problem "$2" ;;
+        folder) compopt -o filenames; mapfile -t COMPREPLY < <(compgen -d -- "$2") ;;
+        file) compopt -o default ;;
+        file*) compopt -o filenames; mapfile -t COMPREPLY < <(compgen -W "${1#* }" -- "$2"; compgen -f -- "$2") ;;
+        words*) mapfile -t COMPREPLY < <(compgen -W "${1#words}" -- "$2") ;;
+    esac
 }
-
-_dlx_words() {
-    mapfile -t COMPREPLY < <(compgen -W "$2" -- "$1")
-}
-
-# The place of the word that is typed among those that are no options.
-_dlx_place() {
-    local at
-    place=1
-    for ((at = 1; at < COMP_CWORD; at++)); do
-        case ${COMP_WORDS[at]} in
-            --parts | --seconds) ((at++)) ;;
-            --*) ;;
-            *) ((place++)) ;;
-        esac
-    done
-}
-
-_dlx_kinds='sudoku queens langford polyominoes words roster roundrobin'
 
 _dlx() {
-    local word=$2 before=$3 place
+    local word=$2 path=${COMP_WORDS[0]##*/} place=1 at given value options
     COMPREPLY=()
-    case ${COMP_WORDS[0]##*/}:$before in
-        helgrothy:make) _dlx_words "$word" "$_dlx_kinds"; return ;;
-        helgrothy:export) _dlx_words "$word" 'asp cnf opb'; return ;;
-        dlx[123]:'<' | dlx-plan:'<' | dlx-below:'<') _dlx_problem "$word"; return ;;
-        *:*[\<\>]) compopt -o default; return ;;
-        dlx-split:--*s) return ;;
+    case $3 in
+        '<') _dlx_complete problem "$word"; return ;;
+        *[\<\>]) compopt -o default; return ;;
     esac
-    _dlx_place
-    case ${COMP_WORDS[0]##*/}:$place:$word in
-        dlx-split:*:--*) _dlx_words "$word" '--parts --seconds'; return ;;
-        dlx-parts:*:--*) _dlx_words "$word" '--undone'; return ;;
-    esac
-    case ${COMP_WORDS[0]##*/}:$place in
-        dlxcheck:1) _dlx_problem "$word" ;;
-        dlxcheck:2 | dlx-plan:1 | dlx-below:1) _dlx_words "$word" '1 2 3' ;;
-        dlx-below:2) _dlx_words "$word" 'm0 m1' ;;
-        dlx[123]:*) _dlx_words "$word" 'm1 m1000 t1 t2' ;;
-        dlx-split:1) _dlx_words "$word" 'dlx1 dlx2 dlx3' ;;
-        dlx-split:2) _dlx_problem "$word" ;;
-        dlx-split:3 | dlx-run:1 | dlx-join:1 | dlx-parts:1) _dlx_folder "$word" ;;
-        dlx-run:2) _dlx_words "$word" 'all' ;;
-        dlx-run:3) _dlx_words "$word" 'm1' ;;
-        helgrothy:1) _dlx_words "$word" "$_dlx_kinds make solve draw lint export why" ;;
-        helgrothy:*) compopt -o default ;;
+    for ((at = 1; at < COMP_CWORD; at++)); do
+        given=${COMP_WORDS[at]}
+        if [[ $given == *[\<\>] ]]; then
+            ((at++))
+        elif _dlx_value "$path $given"; then
+            [[ ${COMP_WORDS[at + 1]} == = ]] && ((at++))
+            if ((++at >= COMP_CWORD)); then
+                _dlx_complete "$value" "${word#=}"
+                return
+            fi
+        elif [[ $given != -?* ]]; then
+            if _dlx_options "$path $given"; then
+                path+=" $given" place=1
+            else
+                ((place++))
+            fi
+        fi
+    done
+    _dlx_place "$path" "$place"
+    if [[ $word == -* || -z $value ]]; then
+        _dlx_options "$path"
+        value="words $options"
+    fi
+    _dlx_complete "$value" "$word"
+}
+
+# The options of a command, which is none where there is no such command.
+_dlx_options() {
+    options=
+    case $1 in
+        'dlx1' | 'dlx2' | 'dlx3' | 'dlxcheck' | 'dlx-plan' | 'dlx-below')
+            options='' ;;
+        'dlx-split')
+            options='--help --version --parts --seconds' ;;
+        'dlx-run' | 'dlx-join' | 'dlx-progress' | 'helgrothy')
+            options='--help --version' ;;
+        'dlx-parts')
+            options='--help --version --undone' ;;
+        'helgrothy make' | 'helgrothy make sudoku' | 'helgrothy make queens' | 'helgrothy make langford' | 'helgrothy make words' | 'helgrothy export')
+            options='--help' ;;
+        'helgrothy make polyominoes')
+            options='--help --no-turns --no-mirrors' ;;
+        'helgrothy make roster')
+            options='--help --rest' ;;
+        'helgrothy make roundrobin')
+            options='--help --double' ;;
+        'helgrothy solve')
+            options='--help --number --limit --all --svg --json --csv --seconds --cell --row --column --label' ;;
+        'helgrothy draw')
+            options='--help --number --svg --json --csv --cell --row --column --label' ;;
+        'helgrothy lint')
+            options='--help --for' ;;
+        'helgrothy why')
+            options='--help --seconds' ;;
+        'helgrothy sudoku' | 'helgrothy queens' | 'helgrothy langford' | 'helgrothy words')
+            options='--help --number --limit --all --svg --json --csv --seconds' ;;
+        'helgrothy polyominoes')
+            options='--help --no-turns --no-mirrors --number --limit --all --svg --json --csv --seconds' ;;
+        'helgrothy roster')
+            options='--help --rest --number --limit --all --svg --json --csv --seconds' ;;
+        'helgrothy roundrobin')
+            options='--help --double --number --limit --all --svg --json --csv --seconds' ;;
+        *) return 1 ;;
     esac
 }
 
-complete -F _dlx dlx1 dlx2 dlx3 dlxcheck dlx-plan dlx-below dlx-split dlx-run dlx-join dlx-parts helgrothy
+# What an option of a command takes.
+_dlx_value() {
+    value=
+    case $1 in
+        'dlx-split --parts' | 'dlx-split --seconds' | 'helgrothy solve --number' | 'helgrothy solve --limit' | 'helgrothy solve --seconds' | 'helgrothy solve --cell' | 'helgrothy solve --row' | 'helgrothy solve --column' | 'helgrothy solve --label' | 'helgrothy draw --number' | 'helgrothy draw --cell' | 'helgrothy draw --row' | 'helgrothy draw --column' | 'helgrothy draw --label' | 'helgrothy why --seconds' | 'helgrothy sudoku --number' | 'helgrothy sudoku --limit' | 'helgrothy sudoku --seconds' | 'helgrothy queens --number' | 'helgrothy queens --limit' | 'helgrothy queens --seconds' | 'helgrothy langford --number' | 'helgrothy langford --limit' | 'helgrothy langford --seconds' | 'helgrothy polyominoes --number' | 'helgrothy polyominoes --limit' | 'helgrothy polyominoes --seconds' | 'helgrothy words --number' | 'helgrothy words --limit' | 'helgrothy words --seconds' | 'helgrothy roster --number' | 'helgrothy roster --limit' | 'helgrothy roster --seconds' | 'helgrothy roundrobin --number' | 'helgrothy roundrobin --limit' | 'helgrothy roundrobin --seconds')
+            value='words' ;;
+        'helgrothy lint --for')
+            value='words dlx1 dlx2 dlx3' ;;
+        *) return 1 ;;
+    esac
+}
+
+# What may stand in a place of a command's words.
+_dlx_place() {
+    value=
+    case $1:$2 in
+        'dlxcheck:1' | 'dlx-split:2' | 'helgrothy solve:1' | 'helgrothy draw:1' | 'helgrothy lint:1' | 'helgrothy export:2' | 'helgrothy why:1')
+            value='problem' ;;
+        'dlxcheck:2' | 'dlx-plan:1' | 'dlx-below:1')
+            value='words 1 2 3' ;;
+        'dlx-below:2')
+            value='words m0 m1' ;;
+        'dlx-split:1')
+            value='words dlx1 dlx2 dlx3' ;;
+        'dlx-split:3' | 'dlx-run:1' | 'dlx-join:1' | 'dlx-parts:1')
+            value='folder' ;;
+        'dlx-run:2')
+            value='words all' ;;
+        'helgrothy:1')
+            value='words make solve draw lint export why sudoku queens langford polyominoes words roster roundrobin' ;;
+        'helgrothy make:1')
+            value='words sudoku queens langford polyominoes words roster roundrobin' ;;
+        'helgrothy make sudoku:1' | 'helgrothy make queens:1' | 'helgrothy make polyominoes:2' | 'helgrothy make words:1' | 'helgrothy make words:2' | 'helgrothy make roster:1' | 'helgrothy make roundrobin:1' | 'helgrothy sudoku:1' | 'helgrothy queens:1' | 'helgrothy polyominoes:2' | 'helgrothy words:1' | 'helgrothy words:2' | 'helgrothy roster:1' | 'helgrothy roundrobin:1')
+            value='file' ;;
+        'helgrothy make polyominoes:1' | 'helgrothy polyominoes:1')
+            value='file pentominoes tetrominoes' ;;
+        'helgrothy export:1')
+            value='words asp cnf opb' ;;
+        'dlx1:'* | 'dlx2:'* | 'dlx3:'*)
+            value='words m1 m1000 t1 t2' ;;
+        'dlx-run:'*)
+            value='words m1' ;;
+    esac
+}
+
+complete -F _dlx dlx1 dlx2 dlx3 dlxcheck dlx-plan dlx-below dlx-split dlx-run dlx-join dlx-parts dlx-progress helgrothy

@@ -13,7 +13,8 @@ trap 'rm -rf "$root"' EXIT
 trap 'exit 2' HUP INT TERM
 chmod 755 "$root"
 
-MAKEFLAGS= make -s install LIBRARY= VERSION="$version" DESTDIR="$root" PREFIX=/usr pythondir=/usr/lib/python3/dist-packages
+MAKEFLAGS= make -s install LIBRARY= VERSION="$version" DESTDIR="$root" PREFIX=/usr pythondir=/usr/lib/python3/dist-packages \
+    zshdir=/usr/share/zsh/vendor-completions
 find "$root/usr/share/man" -type f -exec gzip -9n {} +
 for script in run join parts progress plan below; do
     rm "$root/usr/share/man/man1/dlx-$script.1"

@@ -6,9 +6,10 @@
     for solution in problem.solve():
         print(solution)
 
-`helgrothy.make` makes problems that people know, `helgrothy.draw` draws solutions, `helgrothy.lint` looks for slips,
-`helgrothy.why` for conflicts, `helgrothy.export` writes problems for other solvers, and `helgrothy.parts` searches in
-parts. `python3 -m helgrothy --help` has the same as commands.
+`helgrothy.make` makes problems that people know, `helgrothy.draw` and `helgrothy.table` draw solutions,
+`helgrothy.data` writes them as JSON and CSV, `helgrothy.lint` looks for slips, `helgrothy.why` for conflicts,
+`helgrothy.export` writes problems for other solvers, and `helgrothy.parts` searches in parts.
+`python3 -m helgrothy --help` has the same as commands.
 """
 
 from .errors import (

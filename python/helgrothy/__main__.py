@@ -7,12 +7,15 @@ command could not be done, with one line on standard error that says why.
 from __future__ import annotations
 
 import argparse
-import os
 import re
 import sys
-from typing import Any, Callable, Iterable, List, Optional, Sequence
+import time
+from typing import Any, Callable, List, Optional, Sequence
 
-from . import __version__, why
+from . import __version__, console, why
+from .console import Parser, limited, positive, seconds, write
+from .data import FORMATS as FORMS
+from .data import places_of
 from .draw import Drawing, Pattern, drawing_of
 from .errors import HelgrothyError, NoPicture, OutOfTime
 from .export import FORMATS
@@ -20,7 +23,8 @@ from .lint import lint
 from .make import KINDS
 from .make.kind import Kind
 from .problem import Problem
-from .syntax import bytes_of
+from .table import Table
+from .watch import Watch
 
 _EXAMPLES = """\
 examples:
@@ -31,38 +35,39 @@ examples:
   dlx1 m1 < queens.dlx | helgrothy draw queens.dlx
   helgrothy solve queens.dlx --number 92
 
+  helgrothy solve exams.dlx --row 'mon|tue' --column 'hall|lab' --label 'maths|art'
+  helgrothy solve exams.dlx --all --json
+
   helgrothy lint mine.dlx
   helgrothy why mine.dlx
   helgrothy export asp mine.dlx | gringo | clasp 0
 """
 
+# A reason is looked for so long where a problem turns out to have no solution.
+_REASON_SECONDS = 2.0
+# Of the time that a command is given, so that what was found by then can be told.
+_SHARE = 0.9
+
 
 def main(words: Optional[Sequence[str]] = None) -> int:
     """Does what the words of a command say, and gives its status."""
+    return console.run("helgrothy", lambda: _act(words), unread=0)
+
+
+def _act(words: Optional[Sequence[str]]) -> int:
     arguments = _parser().parse_args(words)
-    try:
+    with limited(getattr(arguments, "seconds", None)):
         status: int = arguments.command(arguments)
-        sys.stdout.flush()
-        return status
-    except BrokenPipeError:
-        # Nobody reads any longer; what is still held back goes nowhere.
-        os.dup2(os.open(os.devnull, os.O_WRONLY), 1)
-        return 2
-    except KeyboardInterrupt:
-        return 130
-    except OSError as error:
-        return _fail(f"{error.filename}: {error.strerror}" if error.filename else str(error))
-    except (HelgrothyError, ValueError) as error:
-        return _fail(str(error))
+    return status
 
 
 def _fail(message: str, status: int = 2) -> int:
-    print(f"helgrothy: {message}", file=sys.stderr)
+    console.say(f"helgrothy: {message}")
     return status
 
 
 def _parser() -> argparse.ArgumentParser:
-    parser = argparse.ArgumentParser(
+    parser = Parser(
         prog="helgrothy",
         description="Makes, solves and draws exact cover problems, by the programs dlx1, dlx2 and dlx3.",
         epilog=_EXAMPLES,
@@ -94,7 +99,7 @@ def _add_make(commands: Any) -> None:
 
 
 def _make(arguments: argparse.Namespace) -> int:
-    _print(f"{line}\n" for line in arguments.kind.make(arguments).lines())
+    write(f"{line}\n" for line in arguments.kind.make(arguments).lines())
     return 0
 
 
@@ -120,16 +125,31 @@ def _add_kind(commands: Any, kind: Kind) -> None:
     )
     kind.add_arguments(parser)
     _add_solving(parser)
-    parser.set_defaults(command=_make_and_solve, kind=kind, cell=None, label=None)
+    parser.set_defaults(command=_make_and_solve, kind=kind, cell=None, row=None, column=None, label=None)
 
 
 def _add_solving(parser: argparse.ArgumentParser) -> None:
     which = parser.add_mutually_exclusive_group()
-    which.add_argument("--number", type=_positive, metavar="K", help="the K-th solution instead of the first")
-    which.add_argument("--limit", type=_positive, metavar="N", help="the first N solutions")
+    which.add_argument("--number", type=positive, metavar="K", help="the K-th solution instead of the first")
+    which.add_argument("--limit", type=positive, metavar="N", help="the first N solutions")
     which.add_argument("--all", action="store_true", help="all solutions")
-    parser.add_argument("--svg", action="store_true", help="a picture as SVG, of one solution")
-    parser.add_argument("--seconds", type=float, metavar="S", help="give up after S seconds")
+    _add_forms(parser, "a picture as SVG, of one solution")
+    parser.add_argument("--seconds", type=seconds, metavar="S", help="give up after S seconds")
+
+
+def _add_forms(parser: argparse.ArgumentParser, svg: str) -> None:
+    form = parser.add_mutually_exclusive_group()
+    form.add_argument("--svg", action="store_true", help=svg)
+    form.add_argument(
+        "--json",
+        dest="data",
+        action="store_const",
+        const="json",
+        help="a line of JSON for each solution: its number, the numbers of its options, their items, and the colours",
+    )
+    form.add_argument(
+        "--csv", dest="data", action="store_const", const="csv", help="a table as CSV, with a line for each choice"
+    )
 
 
 def _solve(arguments: argparse.Namespace) -> int:
@@ -145,20 +165,62 @@ def _show(problem: Problem[Any], arguments: argparse.Namespace) -> int:
     limit = None if arguments.all else arguments.limit or number
     if arguments.svg and limit != number:
         raise ValueError("an SVG is of one solution: --number says which")
-    draw = _drawing(problem, arguments, _listed_options)
+    show = _showing(problem, arguments, _listed_options)
+    deadline = None if arguments.seconds is None else time.monotonic() + arguments.seconds
     shown = 0
-    with problem.solve(limit, number, seconds=arguments.seconds) as solutions:
-        for solution in solutions:
-            _show_one(draw, [problem.line(option) for option in solution], arguments.svg, shown)
-            shown += 1
-        ending = f"Altogether {solutions.total} solution{'' if solutions.total == 1 else 's'}"
-        print(f"{ending}{'.' if solutions.complete else ' (limit).'}", file=sys.stderr)
+    try:
+        solutions = problem.solve(limit, number, seconds=arguments.seconds)
+        with Watch(problem, console.say) as watch, solutions:
+            for solution in solutions:
+                watch.end()
+                show(arguments.number or shown + 1, solution, lambda _: solution.numbers)
+                shown += 1
+    except OutOfTime as error:
+        return _fail(f"{error}; {_counted(max(error.found * (arguments.number or 1), shown))} till then")
+    console.say(f"Altogether {_counted(solutions.total or 0)}{'.' if solutions.complete else ' (limit).'}")
+    if solutions.total == 0 and not watch.has_told:
+        _tell_why(problem, deadline)
     return 0 if shown else 1
 
 
-def _show_one(draw: Callable[[Sequence[str]], Any], lines: List[str], is_svg: bool, before: int) -> None:
-    picture = draw(lines)
-    _print(["\n" if before and not is_svg else "", picture.svg() if is_svg else str(picture)])
+def _counted(total: int) -> str:
+    return f"{total} solution{'' if total == 1 else 's'}"
+
+
+def _tell_why(problem: Problem[Any], deadline: Optional[float]) -> None:
+    """Says on standard error why there is no solution, where a short while tells."""
+    left = _REASON_SECONDS if deadline is None else min(_REASON_SECONDS, deadline - time.monotonic())
+    try:
+        conflict = why.find(problem, left * _SHARE) if left > 0 else None
+    except OutOfTime:
+        conflict = None
+    if conflict is None:
+        console.say(f"no reason was found in {max(left, 0):.2g} seconds; `helgrothy why` may look longer")
+        return
+    for line in conflict.lines(problem):
+        console.say(line)
+
+
+# Shows a solution: its number, its options, and what gives the places of these among the problem's.
+_Show = Callable[[int, Sequence[Any], Callable[[Sequence[Any]], List[int]]], None]
+
+
+def _showing(
+    problem: Problem[Any], arguments: argparse.Namespace, otherwise: Optional[Callable[[Sequence[str]], Any]]
+) -> _Show:
+    """What shows solutions one after another: as data, or drawn."""
+    if arguments.data is not None:
+        data = FORMS[arguments.data](problem)
+        write([data.head()])
+        return lambda number, options, places: write([data.solution(number, places(options))])
+    draw = _drawing(problem, arguments, otherwise)
+    between = iter([""])
+
+    def show(number: int, options: Sequence[Any], places: object) -> None:
+        picture = draw([problem.line(option) for option in options])
+        write([next(between, "\n"), picture.svg() if arguments.svg else str(picture)])
+
+    return show
 
 
 def _listed_options(lines: Sequence[str]) -> str:
@@ -179,8 +241,8 @@ def _add_draw(commands: Any) -> None:
         formatter_class=argparse.RawDescriptionHelpFormatter,
     )
     parser.add_argument("problem", metavar="PROBLEM", help="the file of the problem that the listing is of")
-    parser.add_argument("--number", type=_positive, metavar="K", help="the solution of this number alone")
-    parser.add_argument("--svg", action="store_true", help="a picture as SVG, of the first solution or that of --number")
+    parser.add_argument("--number", type=positive, metavar="K", help="the solution of this number alone")
+    _add_forms(parser, "a picture as SVG, of the first solution or that of --number")
     _add_patterns(parser)
     parser.set_defaults(command=_draw)
 
@@ -190,8 +252,15 @@ def _add_patterns(parser: argparse.ArgumentParser) -> None:
         "--cell",
         metavar="PATTERN",
         help="a regular expression that finds the cells in an option's line; its first two groups (or those named row "
-        "and column) are row and column, a number or a letter, and a third one its label",
+        "and column) are row and column, a number or a single letter, and a third one its label",
     )
+    for name in ("row", "column"):
+        parser.add_argument(
+            f"--{name}",
+            metavar="PATTERN",
+            help=f"a regular expression that finds the name of a {name} in the words of an option: the picture is a "
+            "table of these names, in the order of the file",
+        )
     parser.add_argument(
         "--label", metavar="PATTERN", help="a regular expression that finds the label in an option's line"
     )
@@ -201,11 +270,12 @@ def _draw(arguments: argparse.Namespace) -> int:
     if arguments.problem == "-":
         raise ValueError("the problem is a file; the listing comes from standard input")
     problem = _problem(arguments.problem)
-    draw = _drawing(problem, arguments, None)
+    show = _showing(problem, arguments, None)
+    places = places_of(problem)
     shown = 0
-    for listed in problem.listed(sys.stdin.buffer):
+    for listed in problem.listed(console.input_lines()):
         if arguments.number in (None, listed.number):
-            _show_one(draw, [problem.line(option) for option in listed.options()], arguments.svg, shown)
+            show(listed.number, listed.options(), places)
             shown += 1
             if arguments.svg or arguments.number:
                 break
@@ -216,18 +286,34 @@ def _drawing(
     problem: Problem[Any], arguments: argparse.Namespace, otherwise: Optional[Callable[[Sequence[str]], Any]]
 ) -> Callable[[Sequence[str]], Any]:
     """What draws solutions: by the patterns that are given, else as the problem was made, else otherwise."""
-    if arguments.cell is not None:
+    if arguments.cell is not None and (arguments.row is not None or arguments.column is not None):
+        raise ValueError("--cell is for a board, --row and --column are for a table: not both")
+    if (arguments.cell, arguments.row, arguments.column) != (None, None, None):
         try:
+            if arguments.cell is None:
+                return Table(arguments.row, arguments.column, arguments.label).of(problem)
             return Pattern(arguments.cell, arguments.label or r"(?!)").of(problem)
-        except re.error as error:
+        except (re.error, OverflowError, RecursionError) as error:
             raise ValueError(f"a pattern is wrong: {error}") from None
     try:
         drawing: Drawing = drawing_of(problem)
-        return drawing
     except NoPicture:
         if otherwise is None or arguments.svg:
             raise
         return otherwise
+    return drawing if otherwise is None or arguments.svg else _drawn_or(drawing, otherwise)
+
+
+def _drawn_or(drawing: Drawing, otherwise: Callable[[Sequence[str]], Any]) -> Callable[[Sequence[str]], Any]:
+    """A drawing, or what else is shown of a solution that it doesn't draw."""
+
+    def draw(lines: Sequence[str]) -> Any:
+        try:
+            return drawing(lines)
+        except NoPicture:
+            return otherwise(lines)
+
+    return draw
 
 
 # ---- lint, export, why
@@ -246,8 +332,8 @@ def _add_lint(commands: Any) -> None:
 
 
 def _lint(arguments: argparse.Namespace) -> int:
-    remarks = lint(_read(arguments.problem), int(arguments.program[-1]))
-    _print(f"{remark}\n" for remark in remarks)
+    remarks = lint(console.read(arguments.problem), int(arguments.program[-1]))
+    write(f"{remark}\n" for remark in remarks)
     return 1 if remarks else 0
 
 
@@ -264,7 +350,7 @@ def _add_export(commands: Any) -> None:
 
 
 def _export(arguments: argparse.Namespace) -> int:
-    _print(f"{line}\n" for line in FORMATS[arguments.format](_problem(arguments.problem)))
+    write(f"{line}\n" for line in FORMATS[arguments.format](_problem(arguments.problem)))
     return 0
 
 
@@ -272,29 +358,24 @@ def _add_why(commands: Any) -> None:
     parser = commands.add_parser(
         "why",
         help="tell which items conflict where there is no solution",
-        description="Tells primary items that can't all be held, where there is no solution: as few as leaving out "
-        "finds in the time. Status 1 says that there is a solution.",
+        description="Tells primary items that can't all be held, where there is no solution: those that ask for more "
+        "than the items beside them allow, else as few as leaving out finds in the time, by the programs and, where it "
+        "is on the path, by cadical or clasp. Status 1 says that there is a solution.",
     )
     _add_problem(parser)
-    parser.add_argument("--seconds", type=float, default=10.0, metavar="S", help="the time (default: 10)")
+    parser.add_argument("--seconds", type=seconds, default=10.0, metavar="S", help="the time (default: 10)")
     parser.set_defaults(command=_why)
 
 
 def _why(arguments: argparse.Namespace) -> int:
     problem = _problem(arguments.problem)
     try:
-        conflict = why.find(problem, arguments.seconds)
+        conflict = why.find(problem, arguments.seconds * _SHARE)
     except OutOfTime:
         return _fail(f"in {arguments.seconds:g} seconds it isn't known whether there is a solution")
     if conflict is None:
         return _fail("there is a solution", 1)
-    print("can't all be held:", *map(problem.name, conflict.items))
-    if conflict.sums is not None:
-        print(conflict.sums.text(problem.name))
-    if conflict.is_least:
-        print("without any one of them the others can be held")
-    else:
-        print("perhaps fewer do: not all were tried to the end in the time")
+    write(f"{line}\n" for line in conflict.lines(problem))
     return 0
 
 
@@ -305,34 +386,12 @@ def _add_problem(parser: argparse.ArgumentParser) -> None:
     parser.add_argument("problem", nargs="?", default="-", metavar="PROBLEM", help="a file (default: standard input)")
 
 
-def _read(path: str) -> bytes:
-    if path == "-":
-        return sys.stdin.buffer.read()
-    with open(path, "rb") as file:
-        return file.read()
-
-
 def _problem(path: str) -> Problem[Any]:
-    text = _read(path)
+    text = console.read(path)
     try:
         return Problem.parse(text)
     except HelgrothyError as error:
         raise ValueError(f"{'standard input' if path == '-' else path}: {error}") from None
-
-
-def _print(texts: Iterable[str]) -> None:
-    """Names go out as the bytes that they came as, UTF-8 or not."""
-    out = sys.stdout.buffer
-    for text in texts:
-        out.write(bytes_of(text))
-    out.flush()
-
-
-def _positive(word: str) -> int:
-    number = int(word)
-    if number < 1:
-        raise argparse.ArgumentTypeError("it has to be at least 1")
-    return number
 
 
 def run() -> None:

@@ -13,6 +13,7 @@ from html import escape
 from typing import TYPE_CHECKING, Any, Callable, Dict, Hashable, Iterator, List, Optional, Sequence, Set, Tuple
 
 from .errors import NoPicture
+from .shown import shown
 
 if TYPE_CHECKING:
     from .problem import Problem
@@ -23,6 +24,13 @@ _SIDE = 36
 _FONT = 16
 # A queen in a square of side 36.
 _QUEEN = "M8 12l5 9 5-12 5 12 5-9-3 15H11zM11 29h14v2H11z"
+# A picture has so many places at most, or so many for each cell that isn't a hole: it doesn't grow with the numbers
+# that are in names.
+_MOST_PLACES, _MOST_BY_CELL = 10_000, 16
+# A pattern that is found nowhere.
+_NOTHING = r"(?!)"
+_LONGEST_SAMPLE = 60
+_DECIMAL = re.compile(r"[0-9]+\Z")
 
 
 @dataclass
@@ -37,7 +45,7 @@ class Cell:
     is_quiet: bool = False
 
 
-@dataclass
+@dataclass(repr=False)
 class Picture:
     """Cells by row and column, both from 0 on; a place without one is a hole.
 
@@ -56,6 +64,9 @@ class Picture:
         if not self.cells:
             raise NoPicture("there is no cell to draw")
         self._size = max(r for r, _ in self.cells) + 1, max(c for _, c in self.cells) + 1
+        check_size(*self._size, len(self.cells))
+        if any(r < 0 or c < 0 for r, c in self.cells):
+            raise NoPicture("a cell has a row or a column below 0")
 
     def text(self) -> str:
         """The picture as lines of text: a dot is an empty cell, a blank a hole."""
@@ -68,6 +79,9 @@ class Picture:
     def __str__(self) -> str:
         return self.text()
 
+    def __repr__(self) -> str:
+        return self.text().rstrip("\n")
+
     def _repr_svg_(self) -> str:
         return self.svg()
 
@@ -77,6 +91,12 @@ class Picture:
         if one is None or other is None:
             return one is not other
         return one.group != other.group
+
+
+def check_size(rows: int, columns: int, cells: int) -> None:
+    """Raises `NoPicture` for more rows and columns than a problem of so many cells has reason for."""
+    if rows * columns > max(_MOST_PLACES, _MOST_BY_CELL * cells):
+        raise NoPicture(f"{rows} rows and {columns} columns are too many for a picture of {cells} cells")
 
 
 Drawing = Callable[[Sequence[str]], Picture]
@@ -101,26 +121,27 @@ class _Text:
         self.rows = rows
         self.columns = columns
         labels = [[self.label((r, c)) for c in range(columns)] for r in range(rows)]
-        heads = [list(picture.columns)] if picture.columns else []
+        heads = [list(map(shown, picture.columns))] if picture.columns else []
         widest = [max(len(line[c]) for line in heads + labels) for c in range(columns)]
         self.widths = widest if picture.columns else [max(widest)] * columns
         self.labels = labels
-        self.head = max((len(name) for name in picture.rows), default=0)
+        self.heads = list(map(shown, picture.rows))
+        self.head = max(map(len, self.heads), default=0)
 
     def label(self, at: Place) -> str:
         cell = self.picture.cells.get(at)
         if cell is None:
             return " "
-        return cell.label or ("Q" if cell.is_queen else ".")
+        return shown(cell.label) or ("Q" if cell.is_queen else ".")
 
     def text(self) -> str:
         lines = []
         if self.picture.columns:
-            lines.append(self.line("", list(self.picture.columns)))
+            lines.append(self.line("", list(map(shown, self.picture.columns))))
         for r, labels in enumerate(self.labels):
             if self.picture.has_boxes and r and self.is_cut((r - 1, 0), (r, 0), (0, 1), self.columns):
                 lines.append(self.rule())
-            lines.append(self.line(self.picture.rows[r] if self.picture.rows else "", labels))
+            lines.append(self.line(self.heads[r] if self.heads else "", labels))
         return "".join(f"{line.rstrip()}\n" for line in lines)
 
     def line(self, head: str, labels: List[str]) -> str:
@@ -164,7 +185,7 @@ class _Svg:
         lines = [
             f'<svg xmlns="http://www.w3.org/2000/svg" width="{width}" height="{height}" '
             f'viewBox="0 0 {width} {height}" font-family="sans-serif" font-size="{_FONT}" text-anchor="middle">',
-            f"<title>{escape(self.picture.title)}</title>",
+            f"<title>{escape(shown(self.picture.title))}</title>",
             f'<rect width="{width}" height="{height}" fill="#fff"/>',
             *self.fills(),
             *self.lines(),
@@ -187,7 +208,8 @@ class _Svg:
                     c += 1
                 if fill not in ("", "#fff"):
                     x, y = self.at(r, start)
-                    yield f'<rect x="{x}" y="{y}" width="{(c - start) * self.wide}" height="{_SIDE}" fill="{fill}"/>'
+                    size = f'width="{(c - start) * self.wide}" height="{_SIDE}"'
+                    yield f'<rect x="{x}" y="{y}" {size} fill="{escape(fill)}"/>'
 
     def fill(self, at: Place) -> str:
         cell = self.picture.cells.get(at)
@@ -229,12 +251,12 @@ class _Svg:
             yield self.word(self.left - 10, self.top + r * _SIDE, name, ' fill="#555" text-anchor="end"')
 
     def word(self, x: float, y: float, text: str, more: str) -> str:
-        return f'<text x="{x:g}" y="{y + _SIDE / 2 + 5.5:g}"{more}>{escape(text)}</text>'
+        return f'<text x="{x:g}" y="{y + _SIDE / 2 + 5.5:g}"{more}>{escape(shown(text))}</text>'
 
 
 def _width(label: str) -> int:
     """Room for a label, by the mean width of a letter."""
-    return round(len(label) * _FONT * 0.62) + 18
+    return round(len(shown(label)) * _FONT * 0.62) + 18
 
 
 def _runs(marks: List[bool]) -> Iterator[Tuple[int, int]]:
@@ -253,9 +275,9 @@ def _runs(marks: List[bool]) -> Iterator[Tuple[int, int]]:
 class Pattern:
     """A drawing by two patterns (regular expressions) that are looked for in the lines of options.
 
-    cell: finds the cells of an option; its groups `row` and `column`, or else its first two, are their place, as
-        numbers or as a letter behind them (9, a, b, ..). With one group all cells are in one row. A third group, or
-        else the cell's colour, is the cell's label.
+    cell: finds the cells of an option; its groups `row` and `column`, or else its first two, are their place, each a
+        number, or a single letter, which goes on behind the digits (9, a, b, ..). With one group all cells are in one
+        row. A third group, or else the cell's colour, is the cell's label.
     label: finds the label of an option's other cells: its first group, or else all of it. Cells without any label
         are stars in the text.
 
@@ -263,7 +285,7 @@ class Pattern:
     """
 
     cell: str
-    label: str = r"(?!)"
+    label: str = _NOTHING
 
     def of(self, problem: Problem[Any]) -> Drawing:
         """The drawing for a problem. Raises `NoPicture` where no option has a cell, or `re.error`."""
@@ -272,9 +294,13 @@ class Pattern:
         if cell.groups < 2:
             raise re.error("the pattern of a cell has no group for its row or column")
         board: Set[Place] = {place for option in problem.options for place, _ in _cells(cell, problem.line(option))}
+        lines = map(problem.line, problem.options)
         if not board:
-            raise NoPicture("no option has a cell of this pattern")
+            raise no_match("cell", self.cell, "whole words", lines)
+        if self.label != _NOTHING and not any(map(label.search, lines)):
+            raise no_match("label", self.label, "whole words", map(problem.line, problem.options))
         top, left = min(r for r, _ in board), min(c for _, c in board)
+        check_size(max(r for r, _ in board) - top + 1, max(c for _, c in board) - left + 1, len(board))
         shades = Shades()
 
         def draw(lines: Sequence[str]) -> Picture:
@@ -283,7 +309,7 @@ class Pattern:
                 found = label.search(line)
                 name = "" if found is None else found.group(1 if label.groups else 0)
                 for (r, c), own in _cells(cell, line):
-                    place = cells[r - top, c - left]
+                    place = cells.setdefault((r - top, c - left), Cell())
                     place.label, place.is_quiet = own or name or "*", not (own or name)
                     if not own:
                         place.group, place.fill = number, shades[name or number]
@@ -292,31 +318,38 @@ class Pattern:
         return draw
 
 
+def no_match(what: str, pattern: str, parts: str, lines: Iterator[str]) -> NoPicture:
+    """What to say of a pattern that isn't found in any of the lines of options."""
+    line = shown(next(lines, "and there are none"))
+    sample = line if len(line) <= _LONGEST_SAMPLE else f"{line[:_LONGEST_SAMPLE]} .."
+    tried = f"it was matched with {parts} of options, such as {sample}"
+    return NoPicture(f"no {what} is found by {shown(pattern)}: {tried}")
+
+
 def _cells(cell: re.Pattern[str], line: str) -> Iterator[Tuple[Place, str]]:
     """The places that an option's line names, and the label of each that has one of its own."""
     named = cell.groupindex
     for found in cell.finditer(line):
-        groups = [group for group in found.groups() if group is not None]
         colour = found.group("colour_")
         if "row" in named and "column" in named:
-            place = _number(found.group("row")), _number(found.group("column"))
+            row, column = found.group("row", "column")
             own = found.group("label") if "label" in named else ""
-        elif cell.groups == 2:
-            place, own = (0, _number(groups[0])), ""
         else:
-            place = _number(groups[0]), _number(groups[1])
-            own = groups[2] if cell.groups > 3 else ""
-        yield place, own or colour or ""
+            # Groups that match nothing, as those of another branch, don't count.
+            row, column, own = ([group for group in found.groups()[:-1] if group is not None] + ["", "", ""])[:3]
+            if cell.groups == 2:
+                row, column = "0", row
+        yield (_number(row), _number(column)), own or colour or ""
 
 
-def _number(word: str) -> int:
-    """A number, or a letter as in numbers to base 36."""
-    if word.isdigit():
+def _number(word: Optional[str]) -> int:
+    """A number, or a single letter as in numbers to base 36."""
+    if word and _DECIMAL.match(word):
         return int(word)
-    try:
+    if word and len(word) == 1 and word.isascii() and word.isalpha():
         return int(word, 36)
-    except ValueError:
-        raise NoPicture(f"{word} is no row or column: neither a number nor a letter") from None
+    why = "neither a number nor a single letter; names are rows and columns of a table (--row, --column)"
+    raise NoPicture(f"{word or 'nothing'} is no row or column: {why}")
 
 
 def drawing_of(problem: Problem[Any]) -> Drawing:

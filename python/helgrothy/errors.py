@@ -2,6 +2,10 @@
 
 from __future__ import annotations
 
+import os
+
+from .shown import shown
+
 
 class HelgrothyError(Exception):
     """The parent of every exception that this package raises of its own."""
@@ -21,8 +25,8 @@ class Fault(HelgrothyError, ValueError):
         self.hint = hint
 
     def __str__(self) -> str:
-        token = f"{self.token}: " if self.token else ""
-        hint = f" ({self.hint})" if self.hint else ""
+        token = f"{shown(self.token)}: " if self.token else ""
+        hint = f" ({shown(self.hint)})" if self.hint else ""
         return f"line {self.line}: {token}{self.reason}{hint}"
 
 
@@ -56,8 +60,21 @@ class ProgramFailed(HelgrothyError, RuntimeError):
         return f"{self.program} {ended}: {self.message or 'no message'}"
 
 
+class UnknownChoice(HelgrothyError, KeyError):
+    """A line that a program printed says no option of the problem."""
+
+    def __init__(self, line: bytes) -> None:
+        super().__init__(line)
+        self.line = line
+
+    def __str__(self) -> str:
+        return f"a program printed what is no option of the problem: {self.line.decode('utf-8', 'backslashreplace')}"
+
+
 class OutOfTime(HelgrothyError, TimeoutError):
-    """A run took longer than it was given."""
+    """A run took longer than it was given. `found` says how many solutions it had told by then."""
+
+    found = 0
 
 
 class NoPicture(HelgrothyError, LookupError):
@@ -66,3 +83,10 @@ class NoPicture(HelgrothyError, LookupError):
 
 class PartsFault(HelgrothyError, ValueError):
     """A folder of parts, its plan or what is asked of them isn't as it should be."""
+
+
+def reason_of(error: Exception) -> str:
+    """What an error says, and of which file."""
+    if isinstance(error, OSError) and error.strerror:
+        return f"{os.fsdecode(error.filename)}: {error.strerror}" if error.filename else error.strerror
+    return str(error)

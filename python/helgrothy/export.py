@@ -6,7 +6,8 @@ variables there are follows from these.
 
 from __future__ import annotations
 
-from typing import Any, Dict, Hashable, Iterator, List, NamedTuple, Optional
+from itertools import zip_longest
+from typing import Any, Dict, Hashable, Iterator, List, NamedTuple, Optional, Sequence, Tuple
 
 from .problem import Problem
 
@@ -57,7 +58,7 @@ def _counter(after: int) -> Iterator[int]:
 
 def asp(problem: Problem[Any]) -> Iterator[str]:
     """The lines of an answer set program for gringo and clasp: x(N) takes option N, which holds(N,ITEM)."""
-    yield f"% An exact cover problem: x(N) takes option N. Costs: #minimize {{C,N : x(N), cost(N,C)}}."
+    yield "% An exact cover problem: x(N) takes option N. Costs: #minimize {C,N : x(N), cost(N,C)}."
     yield f"{{x(1..{len(problem.options)})}}." if problem.options else ""
     for number, option in enumerate(problem.options, 1):
         for name in problem.uses(option):
@@ -119,28 +120,40 @@ def _sum(plus: List[int], minus: List[int], least: int) -> str:
 
 def cnf(problem: Problem[Any]) -> Iterator[str]:
     """The lines of a problem in DIMACS CNF. Sums are counted by chains of variables that follow from the options."""
-    clauses = [[-number] for number in _ignored(problem)]
-    last = len(problem.options)
-    fresh = _counter(last)
-    for item in _items(problem):
-        choices = _choices(item, fresh)
-        for variable, options in choices.items():
-            clauses += [[-option, variable] for option in options] + [[-variable, *options]]
-        _bound(item.options.get(None, []) + list(choices), item.low, item.high, fresh, clauses)
-    variables = max([last, next(fresh) - 1])
-    yield f"c variables 1 to {last} take the options in their order"
-    yield f"p cnf {variables} {len(clauses)}"
-    for clause in clauses:
+    variables, found = clauses(problem)
+    yield f"c variables 1 to {len(problem.options)} take the options in their order"
+    yield f"p cnf {variables} {len(found)}"
+    for clause in found:
         yield " ".join(map(str, [*clause, 0]))
 
 
-def _bound(held: List[int], low: int, high: int, fresh: Iterator[int], clauses: List[List[int]]) -> None:
-    """Clauses that say that at least `low` and at most `high` of these hold."""
+def clauses(problem: Problem[Any], let_off: Sequence[int] = ()) -> Tuple[int, List[List[int]]]:
+    """The number of variables, and the clauses.
+
+    let_off: for each primary item a variable behind those of the options that lets it be held less often than its
+    bounds say.
+    """
+    found = [[-number] for number in _ignored(problem)]
+    last = max([len(problem.options), *let_off])
+    fresh = _counter(last)
+    for item, let in zip_longest(_items(problem), let_off):
+        choices = _choices(item, fresh)
+        for variable, options in choices.items():
+            found += [[-option, variable] for option in options] + [[-variable, *options]]
+        held = item.options.get(None, []) + list(choices)
+        _bound(held, item.low, item.high, fresh, found, [] if let is None else [let])
+    return max([last, next(fresh) - 1]), found
+
+
+def _bound(
+    held: List[int], low: int, high: int, fresh: Iterator[int], clauses: List[List[int]], let_off: List[int]
+) -> None:
+    """Clauses that say that at least `low`, where none of `let_off` holds, and at most `high` of these hold."""
     if low > len(held):
-        clauses.append([])
+        clauses.append([*let_off])
         return
     if low == 1:
-        clauses.append(list(held))
+        clauses.append([*held, *let_off])
     if high >= len(held) and low < 2:
         return
     if high == 1 and len(held) <= 5:
@@ -163,7 +176,7 @@ def _bound(held: List[int], low: int, high: int, fresh: Iterator[int], clauses: 
             clauses.append([-now, *was, variable])
             clauses += [[-now, *was, old] for old in fewer]
     if low > 1:
-        clauses.append([at_least[low - 1]])
+        clauses.append([at_least[low - 1], *let_off])
 
 
 FORMATS = {"asp": asp, "opb": opb, "cnf": cnf}

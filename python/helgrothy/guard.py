@@ -35,7 +35,7 @@ class _Guard:
         given, self.pipe = os.pipe()
         try:
             self._shell = subprocess.Popen(
-                ["sh", "-c", _SHELL],
+                ["/bin/sh", "-c", _SHELL],
                 stdin=given,
                 stdout=subprocess.DEVNULL,
                 stderr=subprocess.DEVNULL,

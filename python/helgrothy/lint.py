@@ -4,13 +4,17 @@ from __future__ import annotations
 
 from collections import Counter
 from dataclasses import dataclass
+from itertools import islice
 from typing import Dict, FrozenSet, Iterator, List, Optional, Tuple
 
 from .problem import Problem
+from .shown import shown
 from .sums import search
 from .syntax import Bounds, Sheet, read
 
 _LONGEST = 40
+# Of each rule so many remarks are told.
+_MOST = 1_000
 
 
 @dataclass(frozen=True)
@@ -23,24 +27,41 @@ class Remark:
     is_fault: bool = False
 
     def __str__(self) -> str:
-        return f"line {self.line}: {self.token}: {self.text}" if self.token else f"line {self.line}: {self.text}"
+        token = f"{self.token}: " if self.token else ""
+        return f"line {self.line}: {shown(token + self.text)}"
 
 
 def lint(text: bytes, kind: int = 3, seconds: float = 1.0) -> List[Remark]:
     """All remarks on the text of a problem for dlx`kind`, in the order of its lines. Raises nothing.
 
-    Proofs that the sums of the bounds can't work are looked for so many seconds.
+    Proofs that the sums of the bounds can't work are looked for so many seconds. Behind a thousand faults the text isn't
+    read on, and of each kind of slip a thousand are told.
     """
     sheet = read(text, kind)
     remarks = [Remark(fault.line, fault.token, _reason(fault.reason, fault.hint), True) for fault in sheet.faults]
-    for rule in (_mark, _bars, _numbers, _held, _twins, _ignored):
-        remarks += rule(sheet)
+    for rule in (_mark, _bars, _numbers):
+        remarks += _some(rule(sheet))
+    if sheet.is_cut:
+        remarks.append(Remark(sheet.faults[-1].line, "", f"so many faults ({len(sheet.faults)}) that the rest isn't read"))
+        return sorted(remarks, key=lambda remark: remark.line)
+    for rule in (_held, _twins, _ignored):
+        remarks += _some(rule(sheet))
     if not sheet.faults and not any(remark.text.endswith("no solution") for remark in remarks):
-        problem = Problem.parse(text, kind)
+        problem = Problem.of(sheet)
         found = search(problem, seconds)
         if found is not None:
             remarks.append(Remark(sheet.item_line, "", f"{found.text(problem.name)}: there is no solution"))
     return sorted(remarks, key=lambda remark: remark.line)
+
+
+def _some(remarks: Iterator[Remark]) -> Iterator[Remark]:
+    """The first remarks of a rule, and how many there are beside them."""
+    yield from islice(remarks, _MOST)
+    last = None
+    for count, last in enumerate(remarks, 1):
+        pass
+    if last is not None:
+        yield Remark(last.line, "", f"{count} more such remark{'' if count == 1 else 's'}, the last one for this line")
 
 
 def _reason(reason: str, hint: str) -> str:

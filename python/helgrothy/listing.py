@@ -9,9 +9,22 @@ from __future__ import annotations
 
 import re
 from dataclasses import dataclass
-from typing import Callable, Dict, Generator, Generic, Hashable, Iterable, Iterator, List, Mapping, TypeVar, Union
+from typing import (
+    Callable,
+    Dict,
+    Generator,
+    Generic,
+    Hashable,
+    Iterable,
+    Iterator,
+    List,
+    Mapping,
+    Optional,
+    TypeVar,
+    Union,
+)
 
-from .errors import ListingFault
+from .errors import ListingFault, UnknownChoice
 from .syntax import text_of
 
 O = TypeVar("O")
@@ -19,6 +32,7 @@ S = TypeVar("S")
 
 _HEADER = re.compile(rb"([0-9]{1,20}):\Z")
 _CHOICE = re.compile(rb" \S+(?: \S+)* \([0-9]{1,10} of [0-9]{1,10}\)\Z")
+_NUMBERS = re.compile(rb"^([0-9]{1,20}):$", re.MULTILINE)
 # So many lines are remembered with the numbers behind them.
 _MOST_LINES = 1 << 15
 
@@ -40,7 +54,7 @@ def turned(body: bytes) -> bytes:
 class Decoder(Dict[bytes, Union[O, Null]], Generic[O]):
     """What each choice line says: an option, or `Null`. A table that fills itself as lines are looked up.
 
-    `options` are by `turned` bodies, `items` the primary items by name. Raises `KeyError` for a line that says
+    `options` are by `turned` bodies, `items` the primary items by name. Raises `UnknownChoice` for a line that says
     neither. A body that is both an option's and that of a choice of none is read as the option's, as by dlxcheck.
     """
 
@@ -52,7 +66,7 @@ class Decoder(Dict[bytes, Union[O, Null]], Generic[O]):
         self._items = items
 
     def __missing__(self, line: bytes) -> Union[O, Null]:
-        body = line[1 : line.rindex(b" (")]
+        body = line[1 : max(line.rfind(b" ("), 0)]
         choice = self._bodies.get(body)
         if choice is None:
             choice = self._bodies[body] = self._read(body)
@@ -70,15 +84,19 @@ class Decoder(Dict[bytes, Union[O, Null]], Generic[O]):
         key = turned(body)
         if key in self._options:
             return self._options[key]
-        if body.startswith(b"null "):
+        if body.startswith(b"null ") and body[5:] in self._items:
             return Null(self._items[body[5:]])
-        raise KeyError(body)
+        raise UnknownChoice(body)
 
 
 def stream(
-    chunks: Iterable[bytes], give: Callable[[bytes], S], is_whole: Callable[[bytes], bool]
+    chunks: Iterable[bytes],
+    give: Callable[[bytes], S],
+    is_whole: Callable[[bytes], bool],
+    count: Callable[[int], None] = lambda more: None,
 ) -> Generator[S, None, bool]:
-    """The solutions of a program's own listing as its bytes come; `give` makes one of its choice lines.
+    """The solutions of a program's own listing as its bytes come; `give` makes one of its choice lines, and `count` is
+    told how many more there are.
 
     A solution ends where the next one begins, and behind its lines is that one's number, which is no line. So that
     the last one that came needn't wait for it, `is_whole` says whether lines are all of a solution. Returns whether
@@ -96,11 +114,19 @@ def stream(
         if pieces and not is_open:
             del pieces[0]
             is_open = True
+        count(len(pieces))
         yield from map(give, pieces)
         if is_open and rest.endswith(b"\n") and is_whole(rest):
+            count(1)
             yield give(rest)
             rest, is_open = b"", False
     return is_open
+
+
+def last_number(text: bytes) -> Optional[int]:
+    """The last number of a solution in a part of a program's own listing."""
+    numbers = _NUMBERS.findall(text)
+    return int(numbers[-1]) if numbers else None
 
 
 @dataclass
@@ -130,7 +156,7 @@ def solutions(lines: Iterable[bytes], decode: Decoder[O]) -> Iterator[Listed[O]]
         else:
             try:
                 listed.choices.append(decode[line])
-            except KeyError:
+            except UnknownChoice:
                 raise ListingFault(number, text_of(line.strip()), "unknown option") from None
     if listed is not None:
         yield listed

@@ -9,9 +9,10 @@ from typing import Callable, Dict, Hashable, Iterable, Iterator, Optional, Set
 
 from .syntax import MOST_COLOUR, MOST_NAME, bytes_of, name_fault, text_of
 
-_NOT_IN_NAME = re.compile(r"[\s:|\0]+", re.ASCII)
+# What isn't in a name, halves of characters among it, which no text has as bytes; `text_of` uses \udc80 to \udcff.
+_NOT_IN_NAME = re.compile(r"[\s:|\0\ud800-\udc7f\udd00-\udfff]+", re.ASCII)
 _IN_NAME = [bytes([byte]) for byte in range(256) if byte not in b"\0 \t\n\v\f\r:|"]
-_NOT_IN_COLOUR = re.compile(r"[\s\0]+", re.ASCII)
+_NOT_IN_COLOUR = re.compile(r"[\s\0\ud800-\udc7f\udd00-\udfff]+", re.ASCII)
 
 
 def item_names(items: Iterable[Hashable]) -> Dict[Hashable, str]:
@@ -33,11 +34,11 @@ def codes() -> Iterator[str]:
 
 
 def _is_name(text: str) -> bool:
-    return name_fault(bytes_of(text)) is None and not _NOT_IN_NAME.search(text)
+    return not _NOT_IN_NAME.search(text) and name_fault(bytes_of(text)) is None
 
 
 def _is_colour(text: str) -> bool:
-    return 1 <= len(bytes_of(text)) <= MOST_COLOUR and not _NOT_IN_COLOUR.search(text)
+    return not _NOT_IN_COLOUR.search(text) and 1 <= len(bytes_of(text)) <= MOST_COLOUR
 
 
 def _named(

@@ -5,20 +5,21 @@ from __future__ import annotations
 import tempfile
 import warnings
 from collections import Counter
+from collections.abc import Iterable, Iterator, Mapping
 from functools import partial
+from numbers import Integral
 from types import TracebackType
 from typing import (
     IO,
     TYPE_CHECKING,
     Any,
+    Callable,
     Dict,
     Generator,
     Generic,
     Hashable,
-    Iterable,
-    Iterator,
     List,
-    Mapping,
+    NoReturn,
     Optional,
     Sequence,
     Tuple,
@@ -28,17 +29,27 @@ from typing import (
 )
 
 from . import listing as listings
-from .errors import ListingFault, NoPicture, ProblemFault, ProgramFailed
+from .alike import Alike, Branches
+from .errors import ListingFault, NoPicture, OutOfTime, ProblemFault, ProgramFailed
 from .listing import Decoder, Listed, Null
 from .names import codes, colour_names, item_names
 from .programs import Ending, Run
 from .solution import Solution
-from .syntax import MOST_ITEMS, MOST_USES, ONCE, Bounds, bounds_fault, bytes_of, read, text_of
+from .syntax import MOST_ITEMS, MOST_USES, ONCE, Bounds, Sheet, bounds_fault, bytes_of, read, text_of
 
 if TYPE_CHECKING:
-    from .draw import Pattern, Picture
+    from .draw import Drawing, Pattern, Picture
+    from .table import Table
+
+    Drawn = Union[Pattern, Table]
 
 Uses = Mapping[Hashable, Optional[Hashable]]
+_HASHABLE = "items and colours are hashable"
+# A notebook shows so many solutions at most, which may take so long.
+_MOST_PICTURES = 24
+_MOST_SECONDS = 5.0
+# One of so many solutions is printed where they are counted for a time.
+_NUMBERED = 1000
 Option = TypeVar("Option", bound=Iterable[Hashable])
 BoundsLike = Union[None, int, Tuple[int, int]]
 
@@ -48,12 +59,17 @@ class Problem(Generic[Option]):
 
     items: the primary items, each to be held exactly once; or a mapping that gives each one its bounds: None for
         once, `v` for exactly v times, `(u, v)` for at least u and at most v times.
-    secondary: items that are held at most once, or by any number of options that give them the same colour.
+    secondary: items that are held at most once, or by any number of options that give them the same colour. True
+        takes all items of the options that aren't primary.
     options: each an iterable of items, or a mapping from items to colours, None for an item without one.
+        `add_option` adds one later.
     comments: lines of text that stand above the problem when it is written.
 
     Items and colours are any hashable values, equal ones being the same. An option without a primary item is in no
     solution, which a warning tells.
+
+    `pattern` may be set to a `Pattern` or a `Table` of `helgrothy.draw` and `helgrothy.table`, by which solutions are
+    drawn from then on.
 
     Raises `ProblemFault` where an item is unknown, twice in an option, named twice, and so on; its line is that of
     `text`.
@@ -65,19 +81,28 @@ class Problem(Generic[Option]):
     def __init__(
         self,
         items: Union[Mapping[Any, BoundsLike], Iterable[Hashable]],
-        secondary: Iterable[Hashable] = (),
+        secondary: Union[Iterable[Hashable], bool] = (),
         options: Iterable[Option] = (),
         *,
         comments: Iterable[str] = (),
     ) -> None:
-        self.comments: Tuple[str, ...] = tuple(line for text in comments for line in text.split("\n"))
+        self.comments: Tuple[str, ...] = _comment_lines(comments)
         self.items: Dict[Hashable, Bounds] = {}
         self.secondary: Dict[Hashable, None] = {}
-        self.options: List[Option] = []
+        self.options: Options[Option] = Options()
+        self.pattern: Optional[Drawn] = None
         self._line = len(self.comments) + 1
-        self._take_items(items, secondary)
-        self._names = item_names([*self.items, *self.secondary])
-        self._take_options(options)
+        for what, given in (("items", items), ("secondary", () if secondary is True else secondary), ("options", options)):
+            self._refuse(not isinstance(given, Iterable) and given is not False, given, f"bad {what}", "no iterable")
+        self._takes_rest = secondary is True
+        self._uses = 0
+        self._colours: Dict[Hashable, None] = {}
+        # Names of items and colours are made when they are first asked for.
+        self._item_names: Optional[Dict[Hashable, str]] = None
+        self._colour_names: Optional[Dict[Hashable, str]] = None
+        self._take_items(items, () if isinstance(secondary, bool) else secondary)
+        for option in options:
+            self._take(option)
 
     def _take_items(
         self, items: Union[Mapping[Any, BoundsLike], Iterable[Hashable]], secondary: Iterable[Hashable]
@@ -85,9 +110,11 @@ class Problem(Generic[Option]):
         pairs: Iterable[Tuple[Hashable, BoundsLike]]
         pairs = items.items() if isinstance(items, Mapping) else ((item, None) for item in items)
         for item, bounds in pairs:
+            self._refuse(not _is_hashable(item), item, "bad name", _HASHABLE)
             self._refuse(item in self.items, item, "name repeated")
             self.items[item] = self._bounds(item, bounds)
         for item in secondary:
+            self._refuse(not _is_hashable(item), item, "bad name", _HASHABLE)
             self._refuse(item in self.items or item in self.secondary, item, "name repeated")
             self.secondary[item] = None
         self._refuse(not self.items, "", "no items")
@@ -100,48 +127,70 @@ class Problem(Generic[Option]):
     def _bounds(self, item: Hashable, given: BoundsLike) -> Bounds:
         if given is None:
             return ONCE
-        pair = (given, given) if isinstance(given, int) else tuple(given)
-        is_pair = len(pair) == 2 and all(isinstance(bound, int) for bound in pair)
-        self._refuse(not is_pair, item, "bad bound", "bounds are None, a number or two")
-        low, high = pair
+        pair: Any = (given, given) if isinstance(given, Integral) else given
+        is_pair = isinstance(pair, (tuple, list)) and len(pair) == 2 and all(isinstance(one, Integral) for one in pair)
+        hint = "bounds are None, a number or two; items is a mapping, whose values are bounds: list(items) has its keys"
+        self._refuse(not is_pair, item, "bad bound", hint)
+        low, high = map(int, pair)
         reason = bounds_fault(low, high)
         self._refuse(reason is not None, item, reason or "")
         return Bounds(low, high)
 
-    def _take_options(self, options: Iterable[Option]) -> None:
-        colours: Dict[Hashable, None] = {}
-        uses = 0
-        for number, given in enumerate(options, 1):
-            # What can be gone through only once is kept as a tuple.
-            option: Any = tuple(given) if isinstance(given, Iterator) else given
-            here = self._check_option(option, number)
-            uses += here
-            self._refuse(uses > MOST_USES, "", "too many uses", option=number)
-            if isinstance(option, Mapping):
-                colours.update(dict.fromkeys(colour for colour in option.values() if colour is not None))
-            self.options.append(option)
-        self.colours = colour_names(colours)
+    def add_option(self, option: Option) -> int:
+        """Adds an option behind the others; returns its number in `options`, from 0 on. Raises `ProblemFault`."""
+        self._take(option)
+        return len(self.options) - 1
 
-    def _check_option(self, option: Option, number: int) -> int:
-        """Looks at an option's items; how many uses it counts for."""
+    def _take(self, given: Option) -> None:
+        number = len(self.options) + 1
+        is_option = isinstance(given, Iterable)
+        self._refuse(not is_option, given, "bad option", "an option is an iterable of items, or a mapping", number)
+        # What can be gone through only once is kept as a tuple.
+        option: Any = tuple(given) if isinstance(given, Iterator) else given
+        try:
+            rest, colours = self._check_option(option, number)
+        except TypeError:
+            for item, colour in self.pairs(option):
+                self._refuse(not _is_hashable(item), item, "unknown item", _HASHABLE, number)
+                self._refuse(not _is_hashable(colour), colour, "bad colour", _HASHABLE, number)
+            raise
+        if rest:
+            self._refuse(len(self.items) + len(self.secondary) + len(rest) > MOST_ITEMS, "", "too many items")
+            self.secondary.update(rest)
+            self._item_names = None
+        if any(colour not in self._colours for colour in colours):
+            self._colours.update(colours)
+            self._colour_names = None
+        list.append(self.options, option)
+
+    def _check_option(self, option: Option, number: int) -> Tuple[Dict[Hashable, None], Dict[Hashable, None]]:
+        """Looks at an option's items; those that become secondary by it, and its colours."""
         has_primary = False
         seen = set()
+        rest: Dict[Hashable, None] = {}
+        colours: Dict[Hashable, None] = {}
         for item, colour in self.pairs(option):
-            if item not in self._names:
+            if item not in self.items and item not in self.secondary:
                 hint = "a text is an option of its letters; split it" if isinstance(option, str) else ""
-                self._refuse(True, item, "unknown item", hint, number)
+                self._refuse(not self._takes_rest, item, "unknown item", hint, number)
+                rest[item] = None
             self._refuse(item in seen, item, "item repeated in option", option=number)
             self._refuse(colour is not None and item in self.items, item, "colour on a primary item", option=number)
             seen.add(item)
             has_primary = has_primary or item in self.items
-        if not has_primary:
+            if colour is not None:
+                colours[colour] = None
+        if has_primary:
+            self._refuse(self._uses + len(seen) > MOST_USES, "", "too many uses", option=number)
+            self._uses += len(seen)
+        else:
             warnings.warn(f"option {number} has no primary item, so it is in no solution", stacklevel=4)
-        return len(seen) if has_primary else 0
+        return rest, colours
 
     @staticmethod
     def pairs(option: Iterable[Hashable]) -> Iterable[Tuple[Hashable, Optional[Hashable]]]:
         """An option's items, each with its colour or None."""
-        if isinstance(option, Mapping):
+        if isinstance(option, (dict, Mapping)):
             return option.items()
         return ((item, None) for item in option)
 
@@ -151,14 +200,23 @@ class Problem(Generic[Option]):
 
         Options that are ignored are left out. Raises `ProblemFault`, the one that the program would tell.
         """
-        sheet = read(bytes_of(text) if isinstance(text, str) else text, kind)
+        return cls.of(read(bytes_of(text) if isinstance(text, str) else text, kind, most_faults=1))
+
+    @classmethod
+    def of(cls, sheet: Sheet) -> Problem[Dict[str, Optional[str]]]:
+        """The problem of a text that was read. Raises `ProblemFault`, the first one of the sheet."""
         if sheet.faults:
             raise sheet.faults[0]
         items = {item.name: item.bounds for item in sheet.items.values() if item.bounds is not None}
         secondary = [item.name for item in sheet.items.values() if item.bounds is None]
         problem: Problem[Dict[str, Optional[str]]] = Problem(
-            items, secondary, (option.uses for option in sheet.options), comments=(text for _, text in sheet.comments)
+            items, secondary, comments=(text for _, text in sheet.comments)
         )
+        # The reader has looked at the options.
+        for option in sheet.options:
+            list.append(problem.options, option.uses)
+            problem._uses += len(option.uses)
+            problem._colours.update((colour, None) for colour in option.uses.values() if colour is not None)
         return problem
 
     @property
@@ -166,11 +224,24 @@ class Problem(Generic[Option]):
         """Which program the problem is for: 3 where an item has bounds, else 2 where an option has a colour, else 1."""
         if any(bounds != ONCE for bounds in self.items.values()):
             return 3
-        return 2 if self.colours else 1
+        return 2 if self._colours else 1
 
     def name(self, item: Hashable) -> str:
         """An item's name in the problem's text: the item itself where it is a legal name. Raises `KeyError`."""
         return self._names[item]
+
+    @property
+    def _names(self) -> Dict[Hashable, str]:
+        if self._item_names is None:
+            self._item_names = item_names([*self.items, *self.secondary])
+        return self._item_names
+
+    @property
+    def colours(self) -> Dict[Hashable, str]:
+        """The colours, each with its name."""
+        if self._colour_names is None:
+            self._colour_names = colour_names(self._colours)
+        return self._colour_names
 
     @property
     def item_names(self) -> List[str]:
@@ -184,10 +255,10 @@ class Problem(Generic[Option]):
 
     def uses(self, option: Iterable[Hashable]) -> Dict[str, Optional[str]]:
         """The names of an option's items, each with its colour's name or None. Raises `ProblemFault`."""
+        names, colours = self._names, self.colours
         try:
             return {
-                self._names[item]: None if colour is None else self.colours[colour]
-                for item, colour in self.pairs(option)
+                names[item]: None if colour is None else colours[colour] for item, colour in self.pairs(option)
             }
         except KeyError as error:
             raise ProblemFault(0, str(error.args[0]), "unknown item or colour") from None
@@ -204,10 +275,10 @@ class Problem(Generic[Option]):
         for option in self.options:
             yield self.line(option)
 
-    def _item_line(self, names: Mapping[Hashable, str], more: Sequence[str] = ()) -> str:
-        """The item line with these names, and with more secondary items."""
+    def _item_line(self, names: Mapping[Hashable, str]) -> str:
+        """The item line with these names."""
         tokens = [_item_token(names[item], bounds) for item, bounds in self.items.items()]
-        behind = [*(names[item] for item in self.secondary), *more]
+        behind = [names[item] for item in self.secondary]
         return " ".join(tokens + (["|", *behind] if behind else []))
 
     @property
@@ -230,25 +301,29 @@ class Problem(Generic[Option]):
         if spacing < 1:
             raise ValueError("spacing must be at least 1")
         outcome = _Outcome()
-        return Solutions(self._stream(outcome, words, nulls, seconds), outcome)
+
+        def first(most: int) -> Solutions[Option]:
+            few = most if limit is None else min(limit, most * spacing)
+            return self.solve(few, spacing, seconds=_MOST_SECONDS if seconds is None else min(seconds, _MOST_SECONDS))
+
+        return Solutions(self._stream(outcome, words, nulls, seconds), outcome, first)
 
     def _stream(
         self, outcome: _Outcome, words: List[str], nulls: bool, seconds: Optional[float]
     ) -> Generator[Solution[Any], None, None]:
         wire = _Wire(self)
-        with_nulls = wire.decoder.read
-
-        def without_nulls(lines: bytes) -> List[Any]:
-            return [choice for choice in with_nulls(lines) if not isinstance(choice, Null)]
 
         def is_whole(lines: bytes) -> bool:
-            return self._is_whole(with_nulls(lines))
+            return self._is_whole(wire.read(lines))
 
-        may_be_null = any(low < high for low, high in self.items.values())
-        give = partial(Solution, with_nulls if nulls or not may_be_null else without_nulls)
+        give = partial(Solution, _Source(self, wire, nulls))
         with Run(f"dlx{self.kind}", words, _ended(wire.lines), seconds) as run:
-            is_cut = yield from listings.stream(run.chunks(), give, is_whole)
-            ending = Ending(run)
+            try:
+                is_cut = yield from listings.stream(run.chunks(), give, is_whole, outcome.count)
+                ending = Ending(run)
+            except OutOfTime as error:
+                error.found = outcome.found
+                raise
             if is_cut:
                 raise run.failure()
             outcome.ending = ending
@@ -275,12 +350,22 @@ class Problem(Generic[Option]):
     def count(self, limit: Optional[int] = None, *, seconds: Optional[float] = None) -> int:
         """How many solutions there are, or `limit` where there are as many or more.
 
-        Raises `ProgramNotFound`, `ProgramFailed` and, where it takes longer than `seconds`, `OutOfTime`.
+        Raises `ProgramNotFound`, `ProgramFailed` and, where it takes longer than `seconds`, `OutOfTime`, whose `found`
+        is then a number that was reached at least.
         """
-        with Run(f"dlx{self.kind}", _words(limit, 0), _ended(self.lines()), seconds) as run:
-            for _ in run.chunks():
-                pass
-            return Ending(run).total
+        # Where the time may end first, a few solutions are printed for their numbers.
+        words = _words(limit, 0 if seconds is None else _NUMBERED)
+        found = 0
+        with Run(f"dlx{self.kind}", words, _ended(self.lines()), seconds) as run:
+            try:
+                line = b""
+                for chunk in run.chunks():
+                    found = listings.last_number(line + chunk) or found
+                    line = (line + chunk).rpartition(b"\n")[2]
+                return Ending(run).total
+            except OutOfTime as error:
+                error.found = found
+                raise
 
     def check(self, listing: Union[str, bytes, IO[str], IO[bytes], Iterable[Iterable[Any]]]) -> List[bool]:
         """Of each solution whether it is one, as dlxcheck judges it, which holds all of them in memory.
@@ -310,15 +395,20 @@ class Problem(Generic[Option]):
                 if not isinstance(choice, Null):
                     yield bytes_of(f" {self.line(choice)} (1 of 1)\n")
 
-    def draw(self, solution: Iterable[Any] = (), pattern: Optional[Pattern] = None) -> Picture:
+    def draw(self, solution: Iterable[Any] = (), pattern: Optional[Drawn] = None) -> Picture:
         """A picture of a solution, or of the problem as it stands before one. Raises `NoPicture`.
 
-        The problems that `helgrothy.make` makes have pictures of their own; others are drawn by a pattern.
+        The problems that `helgrothy.make` makes have pictures of their own; others are drawn by a pattern, which may
+        be that of the problem.
         """
+        return self._drawing(pattern)([self.line(choice) for choice in solution if not isinstance(choice, Null)])
+
+    def _drawing(self, pattern: Optional[Drawn] = None) -> Drawing:
+        """Raises `NoPicture`."""
         from .draw import drawing_of
 
-        draw = drawing_of(self) if pattern is None else pattern.of(self)
-        return draw([self.line(choice) for choice in solution if not isinstance(choice, Null)])
+        pattern = pattern or self.pattern
+        return drawing_of(self) if pattern is None else pattern.of(self)
 
     def _repr_svg_(self) -> Optional[str]:
         """The problem before it is solved, for notebooks; None where it has no picture."""
@@ -331,27 +421,77 @@ class Problem(Generic[Option]):
         return f"<Problem of {len(self.items)} + {len(self.secondary)} items and {len(self.options)} options>"
 
 
+def _comment_lines(comments: Iterable[str]) -> Tuple[str, ...]:
+    lines = tuple(line for text in comments for line in text.split("\n"))
+    for number, line in enumerate(lines, 1):
+        try:
+            reason = "NUL byte" if b"\0" in bytes_of(line) else None
+        except UnicodeEncodeError:
+            reason = "bad text"
+        if reason is not None:
+            raise ProblemFault(number, "", reason)
+    return lines
+
+
+class Options(List[Option]):
+    """A problem's options. One is added by the problem's `add_option`, which looks at it, and not here."""
+
+    def append(self, *_: Any, **__: Any) -> NoReturn:
+        raise TypeError("an option is added by add_option of its problem")
+
+    extend = insert = __iadd__ = __imul__ = append
+
+    def __setitem__(self, *_: Any, **__: Any) -> NoReturn:
+        self.append()
+
+    def __reduce__(self) -> Tuple[Any, ...]:
+        return Options, (list(self),)
+
+
 class _Wire(Generic[Option]):
-    """A problem as it is given to a solver whose listing is read back: with names as short as can be, since each
-    byte of a listing costs time, and with a secondary item of its own in each option that another one is like.
+    """A problem as it is given to a solver whose listing is read back: with names as short as can be, since each byte
+    of a listing costs time.
     """
 
     def __init__(self, problem: Problem[Option]) -> None:
         code = codes()
         self._names = {item: next(code) for item in (*problem.items, *problem.secondary)}
         self._colours = dict(zip(problem.colours, codes()))
+        # Those of the run, whatever becomes of the problem's list meanwhile.
+        self._options = list(problem.options)
+        self._has_nulls = any(low < high for low, high in problem.items.values())
         lines = [self._line(option, problem) for option in problem.options]
-        bodies = [listings.turned(bytes_of(line)) for line in lines]
-        times = Counter(bodies)
-        tags = []
-        for number, body in enumerate(bodies):
-            if times[body] > 1:
-                tags.append(next(code))
-                lines[number] += f" {tags[-1]}"
-                bodies[number] = listings.turned(bytes_of(lines[number]))
-        self.lines = [problem._item_line(self._names, tags), *lines]
-        items = {bytes_of(self._names[item]): item for item in problem.items}
-        self.decoder: Decoder[Option] = Decoder(dict(zip(bodies, problem.options)), items)
+        self.lines = [problem._item_line(self._names), *lines]
+        self._items = {bytes_of(self._names[item]): item for item in problem.items}
+        numbers: Dict[bytes, Union[int, Alike]] = {}
+        self._branches: Optional[Branches] = None
+        for number, line in enumerate(lines):
+            if numbers.setdefault(listings.turned(bytes_of(line)), number) != number:
+                numbers[listings.turned(bytes_of(line))] = Alike()
+        if len(numbers) < len(lines):
+            uses = [tuple(problem.pairs(option)) for option in problem.options]
+            self._branches = Branches(uses, {item: high for item, (_, high) in problem.items.items()})
+        self._decoder: Decoder[Union[int, Alike]] = Decoder(numbers, self._items)
+
+    def numbers(self, lines: bytes) -> List[Union[int, Null]]:
+        """The choices of lines: numbers of options, from 0 on, and choices of none. Raises `UnknownChoice`."""
+        found: Any = self._decoder.read(lines)
+        if self._branches is None or not any(isinstance(choice, Alike) for choice in found):
+            numbers: List[Union[int, Null]] = found
+            return numbers
+        parts = lines.split(b"\n")[:-1]
+        items = [
+            choice.item if isinstance(choice, Null) else self._items.get(part.split(b" ", 2)[1])
+            for part, choice in zip(parts, found)
+        ]
+        return self._branches.told_apart(parts, items, found)
+
+    def read(self, lines: bytes) -> List[Union[Option, Null]]:
+        """The choices of lines. Raises `UnknownChoice`."""
+        numbers: Any = self.numbers(lines)
+        if self._has_nulls:
+            return [choice if isinstance(choice, Null) else self._options[choice] for choice in numbers]
+        return list(map(self._options.__getitem__, numbers))
 
     def _line(self, option: Option, problem: Problem[Option]) -> str:
         return " ".join(
@@ -360,10 +500,39 @@ class _Wire(Generic[Option]):
         )
 
 
+class _Source(Generic[Option]):
+    """What reads and draws the solutions of a run."""
+
+    def __init__(self, problem: Problem[Option], wire: _Wire[Option], nulls: bool) -> None:
+        self._problem = problem
+        self._wire = wire
+        self._may_be_null = any(low < high for low, high in problem.items.values())
+        self.options: Callable[[bytes], List[Any]] = (
+            wire.read if nulls or not self._may_be_null else self._without_nulls
+        )
+
+    def _without_nulls(self, lines: bytes) -> List[Any]:
+        return [choice for choice in self._wire.read(lines) if not isinstance(choice, Null)]
+
+    def numbers(self, lines: bytes) -> List[int]:
+        return [number for number in self._wire.numbers(lines) if not isinstance(number, Null)]
+
+    def svg(self, options: Sequence[Any]) -> Optional[str]:
+        try:
+            return self._problem.draw(options).svg()
+        except NoPicture:
+            return None
+
+
 class _Outcome:
-    """How a run ended. The run knows this and not its `Solutions`, so no circle keeps either of them alive."""
+    """How many solutions came, and how the run ended. The run knows this and not its `Solutions`, so no circle keeps
+    either of them alive."""
 
     ending: Optional[Ending] = None
+    found = 0
+
+    def count(self, more: int) -> None:
+        self.found += more
 
 
 class Solutions(Generic[Option]):
@@ -371,9 +540,15 @@ class Solutions(Generic[Option]):
     where a loop over it is left and nothing holds it any longer.
     """
 
-    def __init__(self, stream: Generator[Solution[Option], None, None], outcome: _Outcome) -> None:
+    def __init__(
+        self,
+        stream: Generator[Solution[Option], None, None],
+        outcome: _Outcome,
+        first: Callable[[int], Solutions[Option]],
+    ) -> None:
         self._stream = stream
         self._outcome = outcome
+        self._first = first
 
     def __iter__(self) -> Iterator[Solution[Option]]:
         # The generator itself, so that a loop pays no call of Python more for each solution.
@@ -396,6 +571,28 @@ class Solutions(Generic[Option]):
         """Ends the program, if it runs."""
         self._stream.close()
 
+    def _repr_html_(self) -> Optional[str]:
+        """Pictures of the first solutions, for notebooks; None where the problem has none.
+
+        They are searched anew for a few seconds, so that these solutions stay as they are.
+        """
+        pictures: List[str] = []
+        told = "no more were found in the time"
+        with self._first(_MOST_PICTURES + 1) as solutions:
+            try:
+                for solution in solutions:
+                    picture = solution._repr_svg_()
+                    if picture is None:
+                        return None
+                    pictures.append(f'<div style="margin: 0 1em 1em 0">{picture}</div>')
+                told = f"{len(pictures)} solution{'' if len(pictures) == 1 else 's'}"
+            except OutOfTime:
+                pass
+        if len(pictures) > _MOST_PICTURES:
+            told = f"the first {_MOST_PICTURES} solutions"
+        shown = "".join(pictures[:_MOST_PICTURES])
+        return f'<div style="display: flex; flex-wrap: wrap">{shown}</div><div>{told}</div>'
+
     def __enter__(self) -> Solutions[Option]:
         return self
 
@@ -403,6 +600,15 @@ class Solutions(Generic[Option]):
         self, kind: Optional[Type[BaseException]], error: Optional[BaseException], trace: Optional[TracebackType]
     ) -> None:
         self.close()
+
+
+def _is_hashable(value: object) -> bool:
+    """Whether a value has a hash; a tuple has one only where its parts do."""
+    try:
+        hash(value)
+    except TypeError:
+        return False
+    return True
 
 
 def _item_token(name: str, bounds: Bounds) -> str:

@@ -2,7 +2,7 @@
 
 A program is looked for in the folders of `HELGROTHY_BIN` (parted as those of `PATH` are), then beside the package
 (`bin` in it, as an installed wheel has it; `bin` of an unpacked release; where a repository builds it), and last
-on the path.
+on the path, of which only whole paths count: what lies in the current folder is never run.
 """
 
 from __future__ import annotations
@@ -10,18 +10,20 @@ from __future__ import annotations
 import os
 import re
 import select
-import shutil
+import stat
 import subprocess
 import tempfile
 import time
 from types import TracebackType
-from typing import IO, Iterable, Iterator, List, Optional, Sequence, Type
+from typing import IO, Iterable, Iterator, List, Optional, Sequence, Set, Type
 
 from .errors import OutOfTime, ProgramFailed, ProgramNotFound
 
 PROGRAMS = ("dlx1", "dlx2", "dlx3", "dlxcheck")
 VARIABLE = "HELGROTHY_BIN"
 _CHUNK = 1 << 18
+# The system takes no longer times.
+_LONGEST = 1e9
 _LAST_LINE = re.compile(r"Altogether (\d+) solutions?( \(limit\))?\.\Z")
 
 
@@ -30,23 +32,26 @@ def folders(program: str) -> List[str]:
     package = os.path.dirname(os.path.abspath(__file__))
     top = os.path.dirname(os.path.dirname(package))
     given = [folder for folder in os.environ.get(VARIABLE, "").split(os.pathsep) if folder]
-    return given + [
-        os.path.join(package, "bin"),
-        os.path.join(top, "bin"),
-        os.path.join(top, "crates", program, "out"),
-    ]
+    beside = [os.path.join(package, "bin")]
+    # Anybody may make a `bin` beside a package that lies in a folder of /tmp.
+    if _is_anybodys(package) or not _is_anybodys(top):
+        beside += [os.path.join(top, "bin"), os.path.join(top, "crates", program, "out")]
+    return given + beside
+
+
+def _is_anybodys(folder: str) -> bool:
+    """Whether all users may write into a folder."""
+    return bool(os.stat(folder).st_mode & stat.S_IWOTH)
 
 
 def find(program: str) -> str:
     """The path of a program. Raises `ProgramNotFound`."""
-    for folder in folders(program):
+    on_path = filter(os.path.isabs, os.environ.get("PATH", os.defpath).split(os.pathsep))
+    for folder in [*folders(program), *on_path]:
         path = os.path.join(folder, program)
         if os.path.isfile(path) and os.access(path, os.X_OK):
             return path
-    found = shutil.which(program)
-    if found is None:
-        raise ProgramNotFound(f"{program} is neither beside the package nor on the path; name its folder by {VARIABLE}")
-    return found
+    raise ProgramNotFound(f"{program} is neither beside the package nor on the path; name its folder by {VARIABLE}")
 
 
 def has(program: str) -> bool:
@@ -56,6 +61,17 @@ def has(program: str) -> bool:
     except ProgramNotFound:
         return False
     return True
+
+
+_running: Set[subprocess.Popen[bytes]] = set()
+
+
+def end_all() -> None:
+    """Ends the programs that run: behind an exception that came while one was being ended."""
+    for process in list(_running):
+        process.kill()
+        process.wait()
+        _running.discard(process)
 
 
 class Run:
@@ -70,7 +86,7 @@ class Run:
     ) -> None:
         path = find(program)
         self.program = program
-        self._deadline = None if seconds is None else time.monotonic() + seconds
+        self._deadline = None if seconds is None else time.monotonic() + min(seconds, _LONGEST)
         with tempfile.TemporaryFile() as given:
             given.writelines(text)
             given.seek(0)
@@ -78,6 +94,7 @@ class Run:
             self._process = subprocess.Popen(
                 [path, *words], stdin=given, stdout=subprocess.PIPE, stderr=self._told, bufsize=0
             )
+            _running.add(self._process)
 
     def __enter__(self) -> Run:
         return self
@@ -88,6 +105,7 @@ class Run:
         if self._process.poll() is None:
             self._process.kill()
             self._process.wait()
+        _running.discard(self._process)
         if self._process.stdout is not None:
             self._process.stdout.close()
         self._told.close()

@@ -8,8 +8,9 @@ from __future__ import annotations
 
 import difflib
 import re
+import time
 from dataclasses import dataclass, field
-from typing import Dict, List, NamedTuple, Optional, Tuple
+from typing import Collection, Dict, Iterator, List, NamedTuple, Optional, Tuple
 
 from .errors import ProblemFault
 
@@ -19,6 +20,11 @@ MOST_NAME = 32
 MOST_COLOUR = 8
 MOST_BOUND = 999_999_999
 WHITE = b" \t\v\f\r"
+# Behind so many faults a text isn't read on.
+MOST_FAULTS = 1_000
+# The nearest names are looked for so many seconds in all, and among so many names each.
+_HINTING = 0.2
+_MOST_NEAR = 20_000
 
 _BOUND = re.compile(rb"([0-9]{1,9})(?::([0-9]{1,9}))?\Z")
 
@@ -60,6 +66,8 @@ class Sheet:
     options: List[OptionLine] = field(default_factory=list)
     ignored: List[int] = field(default_factory=list)
     faults: List[ProblemFault] = field(default_factory=list)
+    # Whether there were so many faults that the text wasn't read on.
+    is_cut: bool = False
 
 
 def text_of(raw: bytes) -> str:
@@ -91,29 +99,39 @@ def bounds_fault(low: int, high: int) -> Optional[str]:
     return None
 
 
-def read(raw: bytes, kind: int = 3) -> Sheet:
-    """Reads the text of a problem for the program dlx`kind`. Raises nothing: faults are in the sheet."""
-    return _Reader(kind).read(raw)
+def read(raw: bytes, kind: int = 3, most_faults: int = MOST_FAULTS) -> Sheet:
+    """Reads the text of a problem for the program dlx`kind`. Raises nothing: faults are in the sheet.
+
+    Behind so many faults nothing is read, and the sheet says so.
+    """
+    return _Reader(kind, most_faults).read(raw)
 
 
 class _Reader:
-    def __init__(self, kind: int) -> None:
+    def __init__(self, kind: int, most_faults: int) -> None:
         self.kind = kind
+        self.most_faults = most_faults
         self.sheet = Sheet()
         self.uses = 0
+        self.nearest = Nearest()
 
     def read(self, raw: bytes) -> Sheet:
         lines = raw.split(b"\n")
         if not lines[-1]:
             lines.pop()
-        for number, line in enumerate(lines, 1):
-            self.read_line(number, line)
-        if not self.sheet.item_line:
-            self.tell(len(lines) + 1, b"", "no items")
+        try:
+            for number, line in enumerate(lines, 1):
+                self.read_line(number, line)
+            if not self.sheet.item_line:
+                self.tell(len(lines) + 1, b"", "no items")
+        except _Enough:
+            self.sheet.is_cut = True
         return self.sheet
 
     def tell(self, line: int, token: bytes, reason: str, hint: str = "") -> None:
         self.sheet.faults.append(ProblemFault(line, text_of(token), reason, hint))
+        if len(self.sheet.faults) == self.most_faults:
+            raise _Enough
 
     def read_line(self, number: int, line: bytes) -> None:
         if b"\0" in line:
@@ -180,10 +198,18 @@ class _Reader:
         uses: Dict[str, Optional[str]] = {}
         has_primary = False
         faults = len(self.sheet.faults)
+        items = self.sheet.items
         for token in tokens:
+            # Most uses are names without colours, and without faults.
+            name = text_of(token)
+            item = items.get(name)
+            if item is not None and name not in uses:
+                uses[name] = None
+                has_primary = has_primary or item.bounds is not None
+                continue
             raw_name, colon, colour = token.partition(b":")
             name = text_of(raw_name)
-            item = self.sheet.items.get(name)
+            item = items.get(name)
             reason = self.use_fault(item, raw_name, colon, colour, name in uses)
             if reason is not None:
                 self.tell(number, token, reason, self.hint_for_use(reason, raw_name))
@@ -226,23 +252,48 @@ class _Reader:
         if reason == "unknown item":
             if name.startswith(b"#"):
                 return "a comment begins with |"
-            return nearest(text_of(name), list(self.sheet.items))
+            return self.nearest.question(text_of(name), self.sheet.items)
         return ""
 
 
-def nearest(name: str, names: List[str]) -> str:
-    """A question for the name that was meant, or nothing where none is near."""
-    near = difflib.get_close_matches(name, names, 1, 0.5) if len(names) <= 20_000 else []
-    return f"is it {near[0]}?" if near else ""
+class _Enough(Exception):
+    """There are as many faults as are told."""
 
 
-def _cut_bars(tokens: List[bytes]) -> List[bytes]:
+class Nearest:
+    """Questions for the names that were meant, for a part of a second in all."""
+
+    def __init__(self) -> None:
+        self._left = _HINTING
+
+    def question(self, name: str, names: Collection[str]) -> str:
+        """A question for the name that was meant, or nothing where none is near, or the time is over."""
+        start = time.monotonic()
+        near = _near(name, names, start + self._left) if self._left > 0 and len(names) <= _MOST_NEAR else None
+        self._left -= time.monotonic() - start
+        return "" if near is None else f"is it {near}?"
+
+
+def _near(name: str, names: Collection[str], deadline: float) -> Optional[str]:
+    """The name that has most in common with one, as `difflib` reckons, or None where none has half."""
+    likeness = difflib.SequenceMatcher()
+    likeness.set_seq2(name)
+    best, most = None, 0.5
+    for other in names:
+        if time.monotonic() > deadline:
+            return None
+        likeness.set_seq1(other)
+        if likeness.real_quick_ratio() >= most and likeness.quick_ratio() >= most and likeness.ratio() >= most:
+            if best is None or likeness.ratio() > most:
+                best, most = other, likeness.ratio()
+    return best
+
+
+def _cut_bars(tokens: List[bytes]) -> Iterator[bytes]:
     """The item line's tokens; a bar at the start of one stands for itself."""
-    cut: List[bytes] = []
     for token in tokens:
-        while token.startswith(b"|"):
-            cut.append(b"|")
-            token = token[1:]
-        if token:
-            cut.append(token)
-    return cut
+        name = token.lstrip(b"|")
+        for _ in range(len(token) - len(name)):
+            yield b"|"
+        if name:
+            yield name

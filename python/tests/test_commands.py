@@ -9,7 +9,7 @@ import tempfile
 import unittest
 from unittest import mock
 
-from helgrothy import make
+from helgrothy import OutOfTime, make, why
 from helgrothy.__main__ import main
 
 PACKAGE = os.path.dirname(os.path.dirname(os.path.abspath(__file__)))
@@ -54,7 +54,8 @@ class Commands(unittest.TestCase):
         self.assertEqual(run("solve", given=text), (0, board, "Altogether 1 solution (limit).\n"))
         self.assertEqual(run("queens", "4", "--all")[1].count("\n\n"), 1)
         self.assertEqual(run("queens", "4", "--number", "2")[1][:7], ". Q . .")
-        self.assertEqual(run("queens", "3"), (1, "", "Altogether 0 solutions.\n"))
+        status, _, told = run("queens", "3")
+        self.assertEqual((status, told.splitlines()[0]), (1, "Altogether 0 solutions."))
         path = self.file("q.dlx", text)
         listing = "2:\n r1 c3 a3 b6 (1 of 2)\n"
         self.assertEqual(run("draw", path, given=listing)[:2], (0, ". . Q .\n" + ". . . .\n" * 3))
@@ -77,6 +78,21 @@ class Commands(unittest.TestCase):
         self.assertEqual(run("why", given="A\nA\n"), (1, "", "helgrothy: there is a solution\n"))
         self.assertEqual(run("why", given="A B\nA\n")[1].splitlines()[0], "can't all be held: B")
         self.assertEqual(run("export", "cnf", given="A\nA\n")[1].splitlines()[1:], ["p cnf 1 1", "1 0"])
+
+    def test_no_solution_has_its_reason(self):
+        told = "Altogether 0 solutions.\ncan't all be held: B\nit is in no option\n"
+        self.assertEqual(run("solve", given="A B\nA\n"), (1, "", told))
+        status, _, told = run("sudoku", "55" + "." * 79)
+        self.assertIn("r1c1 r1c2 ask for 2 in all, and r1=5 allows 1\n", told)
+        grid, words = self.file("grid.txt", "..#\n#.#\n"), self.file("words.txt", "cat dog")
+        told = run("words", grid, words)[2]
+        self.assertIn("can't all be held: across-r1c1\nit is in no option\n", told)
+        with mock.patch.object(why, "find", side_effect=OutOfTime("no")):
+            told = run("queens", "3")[2]
+        self.assertRegex(told, "no reason was found in [0-9.]+ seconds; `helgrothy why` may look longer\n")
+        status, _, told = run("langford", "15", "--all", "--seconds", "0.5")
+        self.assertEqual(status, 2)
+        self.assertRegex(told, r"[0-9]+ solutions? till then\n\Z")
 
     def test_failures(self):
         for words, wanted in (

@@ -1,7 +1,9 @@
 """Searches in parts: plans, texts, records, what is refused, and the commands."""
 
 import contextlib
+import hashlib
 import io
+import json
 import os
 import random
 import shutil
@@ -14,7 +16,7 @@ import time
 import unittest
 from unittest import mock
 
-from helgrothy import ProgramFailed, ProgramNotFound, parts, programs
+from helgrothy import ListingFault, ProgramFailed, ProgramNotFound, parts, programs
 from helgrothy.errors import PartsFault
 from helgrothy.parts import progress
 from helgrothy.parts.__main__ import main
@@ -385,6 +387,96 @@ class Records(InParts):
         self.assertEqual((os.path.exists(left), os.path.exists(empty)), (False, True))
 
 
+class Strangers(InParts):
+    """Files in a folder that no run of a part writes."""
+
+    def test_a_problem_that_is_changed_under_a_run(self):
+        folder = self.split(1, b"A B C D\n" + b"A\nB\nC\nD\n" * 3, 4)
+        with open(os.path.join(folder.path, "problem.dlx"), "rb+") as file:
+            file.truncate(len(folder.problem) - 2)
+        for part in folder.plan.parts:
+            parts.run(folder, part.number, [])
+        with open(os.path.join(folder.path, "problem.dlx"), "wb") as file:
+            file.write(folder.problem)
+        self.assertEqual(parts.Joined(parts.Folder(folder.path)).solutions, 81)
+
+    def test_records_of_other_forms(self):
+        folder = self.queens()
+        told = vars(folder.record(2))
+        for change in (
+            {"more": 1},
+            {"part": "2"},
+            {"part": 2.0},
+            {"found": None},
+            {"found": ["1"]},
+            {"found": [10**400]},
+            {"words": "m1"},
+            {"seconds": "long"},
+            {"seconds": float("nan")},
+            {"seconds": 10**400},
+            {"length": -1},
+            {"listing": 5},
+            {"problem": None},
+        ):
+            self.rewrite(folder, json.dumps({**told, **change}).encode())
+            self.assertIn("part 2 is doubtful: its record is of another form", self.reasons())
+        self.rewrite(folder, json.dumps({name: told[name] for name in list(told)[1:]}).encode())
+        self.assertIn("part 2 is doubtful", self.reasons())
+        self.rewrite(folder, b"[" * 10_000)
+        self.assertIn("part 2 is doubtful", self.reasons())
+        self.assertEqual(command("dlx-join", folder.path)[0], 1)
+        self.assertEqual(command("dlx-run", folder.path, "all", "m1")[0], 0)
+        self.assertEqual(command("dlx-join", folder.path)[0], 0)
+
+    def rewrite(self, folder, told: bytes) -> None:
+        with open(folder.done(2), "rb") as file:
+            listing = file.read().rpartition(b"| ")[0]
+        with open(folder.done(2), "wb") as file:
+            file.write(b"%s| %s %s\n" % (listing, told, hashlib.sha256(told).hexdigest().encode()))
+
+    def test_what_is_no_file(self):
+        folder = self.queens()
+        for make in (
+            lambda path: os.symlink("/dev/zero", path),
+            lambda path: os.symlink(path, path),
+            os.mkfifo,
+            os.mkdir,
+        ):
+            os.remove(folder.done(2))
+            make(folder.done(2))
+            self.assertIn("part 2 is doubtful", self.reasons())
+            self.assertIn(b"doubtful: 2, ", command("dlx-parts", folder.path)[1])
+            # The others are run all the same.
+            os.remove(folder.done(1))
+            status, _, error = command("dlx-run", folder.path, "all", "m1")
+            self.assertIsNotNone(folder.record(1))
+            if make is os.mkdir:
+                self.assertEqual((status, error.count("\n")), (1, 1))
+                os.rmdir(folder.done(2))
+                self.assertEqual(command("dlx-run", folder.path, "all", "m1")[0], 0)
+            self.assertEqual(command("dlx-join", folder.path)[0], 0)
+
+    def test_failures_and_runs_of_other_forms(self):
+        folder = self.queens()
+        os.remove(folder.done(2))
+        for content in (b"[" * 100_000, b"{}", b"5", b"\xff"):
+            self.file("parts/00002.failed", content)
+            self.assertEqual(command("dlx-parts", folder.path)[0], 0)
+        os.remove(folder.failed(2))
+        os.mkfifo(folder.failed(2))
+        for name in ("\u00b2.tmp", "00002.tmp", "00002.a.b.c.tmp", ".tmp"):
+            self.file(f"parts/{name}", b"")
+        self.assertEqual(command("dlx-parts", "--undone", folder.path), (0, b"2\n", ""))
+        self.assertEqual(command("dlx-run", folder.path, "all", "m1")[0], 0)
+        self.assertEqual(command("dlx-join", folder.path)[0], 0)
+
+    def test_names_that_steer_a_terminal(self):
+        status, _, error = command("dlx-join", self.path("\033]0;x\007nowhere"))
+        self.assertEqual(status, 2)
+        self.assertIn("\\x1b]0;x\\x07nowhere is no folder", error)
+        self.assertIn("unrecognized arguments: \\x1b", command("dlx-join", self.folder, "\033")[2])
+
+
 class Commands(InParts):
     def test_from_a_problem_to_its_listing(self):
         text = b"A B | x\nA\nB\nx\nA B\nA x\n"
@@ -451,6 +543,9 @@ class Commands(InParts):
             (("dlx1", self.file("q.dlx", b"A\nB\n"), folder), "line 2: B: unknown item"),
             (("dlx1", problem, self.path("no/parts")), "no is no folder"),
             (("dlx1", problem, problem), "p.dlx is there already"),
+            (("--parts", "99999999999999999999", "dlx1", problem, folder), "it has to be a number from 1 to"),
+            (("--parts", "1_0", "dlx1", problem, folder), "it has to be a number from 1 to"),
+            (("--seconds", "nan", "dlx1", problem, folder), "more than 0 seconds"),
         ):
             status, out, error = command("dlx-split", *words)
             self.assertEqual((status, out), (2, b""))
@@ -483,8 +578,10 @@ class Commands(InParts):
         progress.follow(listing, told.append, 0)
         self.assertEqual(len(told), 2)
         self.assertIn("solution 4, 87.50% of the tree, about 0.0 seconds left", told[1])
-        with self.assertRaises(ValueError):
-            list(progress.shares([b"Altogether 4 solutions.\n"]))
+        for line in (b"Altogether 4 solutions.\n", b"1:", b" A (1 of 0)\n", b" A (2 of 1)\n", b" A (1 of %s)\n" % (b"9" * 400)):
+            with self.assertRaises(ListingFault) as raised:
+                list(progress.shares([b"1:\n", line + b"x" if line == b"1:" else line]))
+            self.assertEqual((raised.exception.line, raised.exception.reason), (2, "bad line"))
 
 
 if __name__ == "__main__":

@@ -54,6 +54,27 @@ class Solving(unittest.TestCase):
         found = list(Problem("abc", options=options).solve())
         self.assertEqual([sorted(map(id, s)) for s in found], [sorted([id(o), id(options[3])]) for o in options[:3]])
 
+    def test_equal_options_take_no_item(self):
+        many = [["a"] for _ in range(100_000)]
+        problem = Problem("a", options=many)
+        last = list(problem.solve())[-1]
+        self.assertIs(last[0], many[-1])
+        items = range(600)
+        pairs = [(k, k + 1) for k in range(0, 600, 2)] * 200
+        self.assertEqual(len(next(Problem(items, options=pairs + pairs).solve())), 300)
+        # As many items as there may be.
+        self.assertEqual(len(list(Problem(range(100_000), options=[range(100_000)] * 2).solve())), 2)
+
+    def test_equal_options_with_bounds_and_colours(self):
+        options = [["a"], ["a", "b"], ["a"], {"b": None, "x": 1}, ["a"], {"x": 1, "b": None}, {"a": None, "x": 2}]
+        place = {id(option): k for k, option in enumerate(options)}
+        found = [[place[id(o)] for o in s] for s in Problem({"a": (1, 3), "b": (0, 2)}, "x", options).solve()]
+        self.assertEqual(len(set(map(frozenset, found))), len(found))
+        with_numbers = [{**(o if isinstance(o, dict) else dict.fromkeys(o)), k: None} for k, o in enumerate(options)]
+        told_apart = Problem({"a": (1, 3), "b": (0, 2)}, ["x", *range(7)], with_numbers)
+        wanted = [[with_numbers.index(o) for o in s] for s in told_apart.solve()]
+        self.assertEqual(found, wanted)
+
     def test_colours_of_any_kind(self):
         red, long = object(), "a colour longer than 8 bytes"
         problem = Problem(
@@ -124,8 +145,7 @@ class Solving(unittest.TestCase):
         self.assertTrue(second < first and first >= second and ["a"] < first)
         for copied in (copy.copy(first), copy.deepcopy(first), pickle.loads(pickle.dumps(next(problem.solve())))):
             self.assertEqual((copied.__class__, copied), (list, first))
-        with self.assertRaises(TypeError):
-            hash(first)
+        self.assertEqual({first: 1, second: 2}[next(problem.solve())], 1)
 
     def test_solutions_that_are_kept(self):
         problem = make.queens.problem(8)
@@ -153,6 +173,11 @@ class Solving(unittest.TestCase):
         self.assertEqual(len(set(names)), len(items))
         self.assertEqual(Problem.parse(problem.text).item_names, names)
         self.assertEqual(list(problem.solve()), [[items]])
+
+    def test_names_that_are_no_text(self):
+        problem = Problem(["\ud800", "\ud800b"], ["\udfff"], [{"\ud800": None, "\udfff": "\ud801"}, ["\ud800b"]])
+        self.assertEqual(list(problem.solve()), [problem.options])
+        self.assertEqual(Problem.parse(problem.text).item_names, problem.item_names)
 
     def test_examples(self):
         for path in sorted(glob.glob(os.path.join(EXAMPLES, "*.dlx"))):
@@ -206,7 +231,7 @@ class Streaming(unittest.TestCase):
             os.chmod(wrong, stat.S_IRWXU)
             with mock.patch.dict(os.environ, HELGROTHY_BIN=folder):
                 with Problem("a", options=["a"]).solve() as solutions:
-                    with self.assertRaises(KeyError):
+                    with self.assertRaisesRegex(KeyError, "a program printed what is no option of the problem: what"):
                         list(next(solutions))
 
 
@@ -251,6 +276,11 @@ class Faults(unittest.TestCase):
             (1, "", "no items"): lambda: Problem(""),
             (2, "", "no items"): lambda: Problem.parse("| a b\n"),
             (2, "B,", "unknown item"): lambda: Problem.parse("A B\nA B,\n"),
+            (1, "5", "bad items"): lambda: Problem(5),
+            (1, "5", "bad secondary"): lambda: Problem("a", 5),
+            (1, "None", "bad options"): lambda: Problem("a", options=None),
+            (2, "", "NUL byte"): lambda: Problem("a", comments=["one", "\0"]),
+            (1, "", "bad text"): lambda: Problem("a", comments=["\ud800"]),
         }.items():
             with self.subTest(wanted=wanted), self.assertRaises(ProblemFault) as raised:
                 make_it()

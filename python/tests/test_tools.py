@@ -1,10 +1,10 @@
-"""Lint, why and the exports."""
+"""Lint and the exports."""
 
 import shutil
 import subprocess
 import unittest
 
-from helgrothy import OutOfTime, Problem, export, make, why
+from helgrothy import Problem, export, make
 from helgrothy.lint import lint
 from helgrothy.sums import search
 
@@ -36,25 +36,10 @@ class Lint(unittest.TestCase):
     def test_sums(self):
         remarks = lint(make.roster.problem(NURSES).text.encode())
         self.assertEqual(len(remarks), 1)
-        self.assertRegex(remarks[0].text, r"the sums can't work: .* ask for 7 in all, and .* allow 6: there is no")
+        self.assertRegex(remarks[0].text, r"the sums can't work: .* ask for 9 in all, and .* allow 6: there is no")
         area = search(make.polyominoes.problem("pentominoes", "\n".join(["." * 10] * 6 + ["."])))
         self.assertTrue(area is not None and area.is_proof)
         self.assertIsNone(search(make.queens.problem(6)))
-
-
-class Why(unittest.TestCase):
-    def test_conflicts(self):
-        clash = Problem("abcd", ["x"], [["a", "x"], ["b", "x"], ["c"], ["d"]])
-        self.assertEqual(why.find(clash), why.Conflict(["a", "b"], True))
-        self.assertIsNone(why.find(make.queens.problem(6)))
-        self.assertEqual(why.find(Problem("ab", options=["b"])).items, ["a"])
-        nurses = why.find(make.roster.problem(NURSES))
-        self.assertEqual(len(nurses.items), 7)
-        self.assertTrue(nurses.is_least)
-
-    def test_time(self):
-        with self.assertRaises(OutOfTime):
-            why.find(make.langford.problem(14), 0.2)
 
 
 @unittest.skipUnless(shutil.which("clasp") and shutil.which("gringo"), "needs clasp and gringo")

@@ -4,13 +4,16 @@ from __future__ import annotations
 
 import argparse
 import re
-import sys
 from dataclasses import dataclass
-from typing import Any, Callable, List, Optional, Sequence, Tuple
+from typing import Any, Callable, List, Optional, Sequence, Sized, Tuple, TypeVar
 
+from ..console import read
 from ..draw import Drawing
 from ..errors import TableFault
 from ..problem import Problem
+from ..syntax import MOST_ITEMS, MOST_USES
+
+T = TypeVar("T", bound=Sized)
 
 _MADE = re.compile(r"helgrothy make ([a-z]+)(?: |\Z)")
 
@@ -33,11 +36,32 @@ def kind_of(comments: Sequence[str]) -> Optional[str]:
 
 
 def read_text(path: str) -> str:
-    """The text of a file, or of standard input where its name is `-`."""
-    if path == "-":
-        return sys.stdin.read()
-    with open(path, encoding="utf-8") as file:
-        return file.read()
+    """The text of a file, or of standard input where its name is `-`. Raises `OSError` and `ValueError`."""
+    try:
+        return read(path).decode()
+    except UnicodeDecodeError as error:
+        name = "standard input" if path == "-" else path
+        raise ValueError(f"{name}: byte {error.start + 1} isn't UTF-8") from None
+
+
+class Counted(List[T]):
+    """Options as they are made: no more than a problem may have. Raises `ValueError`."""
+
+    def __init__(self) -> None:
+        super().__init__()
+        self._uses = 0
+
+    def add(self, option: T) -> None:
+        self._uses += len(option)
+        if self._uses > MOST_USES:
+            raise ValueError(f"the problem would have more than {MOST_USES} uses of items")
+        super().append(option)
+
+
+def check_items(items: int) -> None:
+    """Raises `ValueError` for more items than a problem may have."""
+    if items > MOST_ITEMS:
+        raise ValueError(f"the problem would have {items} items, and may have {MOST_ITEMS}")
 
 
 def numbered(text: str) -> List[Tuple[int, str]]:

@@ -5,9 +5,9 @@ from __future__ import annotations
 import argparse
 from typing import Any, List, Sequence
 
-from ..draw import Cell, Drawing, Picture, Shades
+from ..draw import Cell, Drawing, Picture, Shades, check_size
 from ..problem import Problem
-from .kind import Kind
+from .kind import Counted, Kind, check_items
 
 
 def problem(pairs: int) -> Problem[List[str]]:
@@ -19,9 +19,11 @@ def problem(pairs: int) -> Problem[List[str]]:
     if pairs < 1:
         raise ValueError("there has to be a pair")
     places = 2 * pairs
-    options = [
-        [str(i), f"s{first}", f"s{first + i + 1}"] for i in range(1, pairs + 1) for first in range(1, places - i)
-    ]
+    check_items(pairs + places)
+    options: Counted[List[str]] = Counted()
+    for i in range(1, pairs + 1):
+        for first in range(1, places - i):
+            options.add([str(i), f"s{first}", f"s{first + i + 1}"])
     return Problem(
         [*(str(i) for i in range(1, pairs + 1)), *(f"s{place}" for place in range(1, places + 1))],
         options=options,
@@ -34,7 +36,9 @@ def problem(pairs: int) -> Problem[List[str]]:
 
 def drawing(problem: Problem[Any]) -> Drawing:
     """A row of numbers."""
-    places = max(int(item[1:]) for item in problem.item_names if item.startswith("s"))
+    numbers = [int(item[1:]) for item in problem.item_names if item.startswith("s")]
+    places = max(numbers)
+    check_size(1, places, len(numbers))
     shades = Shades()
 
     def draw(lines: Sequence[str]) -> Picture:

@@ -7,10 +7,11 @@ import re
 from collections import Counter
 from typing import Any, Dict, FrozenSet, Iterator, List, Sequence, Set, Tuple
 
-from ..draw import Cell, Drawing, Picture, Shades
+from ..draw import Cell, Drawing, Picture, Shades, check_size
 from ..errors import TableFault
 from ..problem import Problem
-from .kind import Kind, numbered, picture, read_text
+from ..syntax import MOST_USES
+from .kind import Counted, Kind, check_items, numbered, picture, read_text
 
 Square = Tuple[int, int]
 Form = FrozenSet[Square]
@@ -23,8 +24,10 @@ SETS = {
         "WW\n.WW\n..W\n\n.X\nXXX\n.X\n\nYYYY\n.Y\n\nZZ\n.Z\n.ZZ\n"
     ),
 }
-_BOX = re.compile(r"(\d+)x(\d+)\Z")
-_CELL = re.compile(r"r(\d+)c(\d+)\Z")
+_BOX = re.compile(r"([0-9]{1,9})x([0-9]{1,9})\Z")
+_CELL = re.compile(r"r([0-9]+)c([0-9]+)\Z")
+# It is looked so often at most whether a square of a piece lies on a cell.
+_MOST_LOOKS = 10 * MOST_USES
 
 
 def problem(
@@ -40,16 +43,23 @@ def problem(
     An option is a piece with the cells rRcC that it fills. Raises `TableFault`.
     """
     cells = _region(region)
-    options = []
+    options: Counted[List[str]] = Counted()
     copies: Counter[str] = Counter()
     forms: Dict[str, Form] = {}
     for number, name, form in _pieces(SETS.get(pieces, pieces)):
         if forms.setdefault(name, form) != form:
             raise TableFault(number, name, "another piece has this letter")
         copies[name] += 1
+    check_items(len(forms) + len(cells))
+    looks = 0
     for name, form in forms.items():
-        for turned in _turned(form, turns, mirrors):
-            options += [[name, *(f"r{r}c{c}" for r, c in held)] for held in _laid(turned, cells)]
+        # A piece of more squares than there are cells can't be laid.
+        for turned in _turned(form, turns, mirrors) if len(form) <= len(cells) else ():
+            looks += len(form) * len(cells)
+            if looks > _MOST_LOOKS:
+                raise ValueError("the pieces and the region are too large to be laid")
+            for held in _laid(turned, cells):
+                options.add([name, *(f"r{r}c{c}" for r, c in held)])
     return Problem(
         {**dict(copies), **{f"r{r}c{c}": 1 for r, c in cells}},
         options=options,
@@ -67,6 +77,7 @@ def _region(region: str) -> List[Square]:
         high, wide = int(box.group(1)), int(box.group(2))
         if not high or not wide:
             raise TableFault(1, region, "an empty region")
+        check_items(high * wide)
         return [(r, c) for r in range(1, high + 1) for c in range(1, wide + 1)]
     lines = enumerate((line for _, line in picture(region)), 1)
     cells = [(r, c) for r, line in lines for c, mark in enumerate(line, 1) if mark not in "# "]
@@ -128,6 +139,7 @@ def drawing(problem: Problem[Any]) -> Drawing:
     found = map(_CELL.match, problem.item_names)
     board = [(int(cell.group(1)), int(cell.group(2))) for cell in found if cell]
     top, left = min(r for r, _ in board), min(c for _, c in board)
+    check_size(max(r for r, _ in board) - top + 1, max(c for _, c in board) - left + 1, len(board))
     shades = Shades()
     for item in problem.item_names:
         if not _CELL.match(item):

@@ -3,12 +3,15 @@
 from __future__ import annotations
 
 import argparse
+import re
 from typing import Any, Dict, Iterator, List, Optional, Sequence, Tuple
 
 from ..draw import Cell, Drawing, Picture, Shades
 from ..errors import TableFault
 from ..problem import Problem
-from .kind import Kind, picture, read_text
+from .kind import Counted, Kind, check_items, picture, read_text
+
+_NUMBER = re.compile(r"-?[0-9]{1,18}\Z")
 
 
 def problem(size: int = 0, regions: Optional[str] = None) -> Problem[List[str]]:
@@ -25,13 +28,14 @@ def problem(size: int = 0, regions: Optional[str] = None) -> Problem[List[str]]:
         return _in_regions(regions)
     if size < 1:
         raise ValueError("a board has at least one row")
+    check_items(6 * size - 6)
     diagonals = [f"{way}{d}" for way in "ab" for d in range(2, 2 * size - 1)]
     known = set(diagonals)
-    options = [
-        [f"r{r}", f"c{c}", *(name for name in (f"a{r + c - 1}", f"b{size - r + c}") if name in known)]
-        for r in range(1, size + 1)
-        for c in range(1, size + 1)
-    ]
+    options: Counted[List[str]] = Counted()
+    for r in range(1, size + 1):
+        for c in range(1, size + 1):
+            crossed = [name for name in (f"a{r + c - 1}", f"b{size - r + c}") if name in known]
+            options.add([f"r{r}", f"c{c}", *crossed])
     return Problem(
         _lines(size),
         diagonals,
@@ -125,7 +129,7 @@ def _add_arguments(parser: argparse.ArgumentParser) -> None:
 
 
 def _make(arguments: argparse.Namespace) -> Problem[List[str]]:
-    if arguments.board.isdigit():
+    if _NUMBER.match(arguments.board):
         return problem(int(arguments.board))
     return problem(regions=read_text(arguments.board))
 

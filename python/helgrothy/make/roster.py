@@ -5,21 +5,25 @@ from __future__ import annotations
 import argparse
 import re
 from dataclasses import dataclass
-from typing import Any, Dict, List, Sequence, Tuple
+from typing import Any, Dict, Iterator, List, Sequence, Set, Tuple
 
-from ..draw import Cell, Drawing, Picture, Shades
+from ..draw import Cell, Drawing, Picture, Shades, check_size
 from ..errors import TableFault
 from ..problem import Problem
-from .kind import Kind, numbered, read_text
+from ..syntax import MOST_USES
+from .kind import Counted, Kind, numbered, read_text
 
-_NUMBERS = re.compile(r"(\d{1,9})(?::(\d{1,9}))?\Z")
+# How many people a shift of a day takes, at least and at most.
+Needs = Dict[Tuple[str, str], Tuple[int, int]]
+
+_NUMBERS = re.compile(r"([0-9]{1,9})(?::([0-9]{1,9}))?\Z")
 
 
 @dataclass
 class _Person:
     name: str
     bounds: Tuple[int, int]
-    off: List[str]
+    off: Set[str]
 
 
 def problem(table: str, *, rest: bool = False) -> Problem[List[str]]:
@@ -43,15 +47,16 @@ def problem(table: str, *, rest: bool = False) -> Problem[List[str]]:
     """
     days, needs, people = _read(table)
     shifts = list(dict.fromkeys(shift for _, shift in needs))
-    options = []
+    rests = _Rests(days, shifts)
+    if len(needs) * len(people) > MOST_USES:
+        raise ValueError(f"{len(needs)} shifts of days for {len(people)} people are too many")
+    options: Counted[List[str]] = Counted()
     secondary: Dict[str, None] = {}
     for person in people:
-        for (day, shift), (_, most) in needs.items():
-            if not most or {day, shift, f"{day}/{shift}"} & set(person.off):
-                continue
-            once = [f"{person.name}-{day}", *(_rests(person.name, days, day, shifts, shift) if rest else [])]
+        for day, shift in _free(person, needs):
+            once = [f"{person.name}-{day}", *(rests.items(person.name, day, shift) if rest else [])]
             secondary.update(dict.fromkeys(once))
-            options.append([f"{day}/{shift}", person.name, *once])
+            options.add([f"{day}/{shift}", person.name, *once])
     return Problem(
         {
             **{f"{day}/{shift}": bounds for (day, shift), bounds in needs.items() if bounds[1]},
@@ -67,15 +72,32 @@ def problem(table: str, *, rest: bool = False) -> Problem[List[str]]:
     )
 
 
-def _rests(name: str, days: Sequence[str], day: str, shifts: Sequence[str], shift: str) -> List[str]:
+class _Rests:
     """Items that a shift and a higher one on the next day have in common: the lines of the table between them."""
-    at, place = days.index(day), shifts.index(shift)
-    after = [f"{name}-{day}>{line}" for line in shifts[:place]] if at + 1 < len(days) else []
-    before = [f"{name}-{days[at - 1]}>{line}" for line in shifts[place : len(shifts) - 1]] if at else []
-    return after + before
+
+    def __init__(self, days: Sequence[str], shifts: Sequence[str]) -> None:
+        self._days = days
+        self._shifts = shifts
+        # Of equal days the first one counts.
+        self._day = {day: at for at, day in reversed(list(enumerate(days)))}
+        self._shift = {shift: place for place, shift in enumerate(shifts)}
+
+    def items(self, name: str, day: str, shift: str) -> List[str]:
+        days, shifts = self._days, self._shifts
+        at, place = self._day[day], self._shift[shift]
+        after = [f"{name}-{day}>{line}" for line in shifts[:place]] if at + 1 < len(days) else []
+        before = [f"{name}-{days[at - 1]}>{line}" for line in shifts[place : len(shifts) - 1]] if at else []
+        return after + before
 
 
-def _read(table: str) -> Tuple[List[str], Dict[Tuple[str, str], Tuple[int, int]], List[_Person]]:
+def _free(person: _Person, needs: Needs) -> Iterator[Tuple[str, str]]:
+    """The shifts of days that a person may take."""
+    for (day, shift), (_, most) in needs.items():
+        if most and person.off.isdisjoint((day, shift, f"{day}/{shift}")):
+            yield day, shift
+
+
+def _read(table: str) -> Tuple[List[str], Needs, List[_Person]]:
     lines = [(number, line.split()) for number, line in numbered(table) if not line.startswith("#")]
     while lines and not lines[0][1]:
         lines.pop(0)
@@ -83,28 +105,28 @@ def _read(table: str) -> Tuple[List[str], Dict[Tuple[str, str], Tuple[int, int]]
     if end < 2:
         raise TableFault(1, "", "a table begins with a line of days and lines of shifts")
     days = lines[0][1][1:]
-    needs = {}
+    needs: Needs = {}
     for number, (shift, *counts) in lines[1:end]:
         if len(counts) != len(days):
             raise TableFault(number, shift, f"{len(counts)} numbers for {len(days)} days")
         for day, word in zip(days, counts):
             needs[day, shift] = _numbers(number, word)
-    people = [_person(number, words, days, needs) for number, words in lines[end:] if words]
+    known = {word for day, shift in needs for word in (day, shift, f"{day}/{shift}")}
+    people = [_person(number, words, days, known) for number, words in lines[end:] if words]
     if not people:
         raise TableFault(lines[-1][0], "", "no people behind a blank line")
     return days, needs, people
 
 
-def _person(number: int, words: Sequence[str], days: Sequence[str], needs: Dict[Tuple[str, str], Any]) -> _Person:
+def _person(number: int, words: Sequence[str], days: Sequence[str], known: Set[str]) -> _Person:
     name, *rest = words
     bounds = (0, len(days))
     if rest and not rest[0].startswith("-"):
         bounds = _numbers(number, rest.pop(0))
-    known = {word for day, shift in needs for word in (day, shift, f"{day}/{shift}")}
     for word in rest:
         if word[:1] != "-" or word[1:] not in known:
             raise TableFault(number, word, "neither -DAY, -SHIFT nor -DAY/SHIFT of the table")
-    return _Person(name, bounds, [word[1:] for word in rest])
+    return _Person(name, bounds, {word[1:] for word in rest})
 
 
 def _numbers(number: int, word: str) -> Tuple[int, int]:
@@ -120,6 +142,8 @@ def drawing(problem: Problem[Any]) -> Drawing:
     slots = [item for item in problem.item_names if "/" in item]
     days = list(dict.fromkeys(slot.split("/")[0] for slot in slots))
     people = [item for item in problem.item_names if "/" not in item]
+    check_size(len(people), len(days), len(problem.options))
+    row, column = ({name: number for number, name in enumerate(names)} for names in (people, days))
     shades = Shades()
     for slot in slots:
         shades[slot.split("/")[1]]
@@ -129,7 +153,7 @@ def drawing(problem: Problem[Any]) -> Drawing:
         for line in lines:
             slot, person = line.split()[:2]
             day, shift = slot.split("/")
-            cells[people.index(person), days.index(day)] = Cell(shift, fill=shades[shift])
+            cells[row[person], column[day]] = Cell(shift, fill=shades[shift])
         return Picture("a roster", cells, people, days)
 
     return draw

@@ -7,12 +7,12 @@ import re
 from collections import Counter
 from typing import Any, Dict, Iterable, List, Sequence, Tuple
 
-from ..draw import Cell, Drawing, Picture
+from ..draw import Cell, Drawing, Picture, check_size
 from ..errors import TableFault
 from ..problem import Problem
-from .kind import Kind, numbered, read_text
+from .kind import Counted, Kind, check_items, numbered, read_text
 
-_WISH = re.compile(r"(home|away):(\d+)\Z")
+_WISH = re.compile(r"(home|away):([0-9]{1,9})\Z")
 
 
 def problem(teams: Iterable[str], *, double: bool = False) -> Problem[List[str]]:
@@ -30,18 +30,23 @@ def problem(teams: Iterable[str], *, double: bool = False) -> Problem[List[str]]
         raise TableFault(len(names) + 1, "", "a round robin has at least two teams")
     wished = dict(wishes)
     rounds = (len(names) - 1 + len(names) % 2) * (2 if double else 1)
+    pairs = len(names) * (len(names) - 1)
+    check_items((pairs if double else pairs // 2) + len(names) * rounds)
+    place: Dict[str, int] = {}
+    for number, name in enumerate(names):
+        place.setdefault(name, number)
     games = {
-        (home, away): f"{home}-{away}" if double or names.index(home) < names.index(away) else f"{away}-{home}"
+        (home, away): f"{home}-{away}" if double or place[home] < place[away] else f"{away}-{home}"
         for home in names
         for away in names
         if home != away
     }
-    options = []
+    options: Counted[List[str]] = Counted()
     for (home, away), pair in games.items():
         for number in range(1, rounds + 1):
             if wished[home].get(number) != "away" and wished[away].get(number) != "home":
                 game = [pair, f"{home}@{number}", f"{away}@{number}"]
-                options.append(game if double else [*game, f"home={home}"])
+                options.add(game if double else [*game, f"home={home}"])
     played = [f"{name}@{number}" for number in range(1, rounds + 1) for name in names]
     is_even = len(names) % 2 == 0
     least = (len(names) - 1) // 2
@@ -80,13 +85,14 @@ def drawing(problem: Problem[Any]) -> Drawing:
         home, away, number = _cut(problem.line(option))
         order.update({home: None, away: None})
         last = max(last, number)
-    names = list(order)
-    games = max(len(names) // 2, 1)
+    place = {name: number for number, name in enumerate(order)}
+    games = max(len(place) // 2, 1)
+    check_size(last, games, len(problem.options))
 
     def draw(lines: Sequence[str]) -> Picture:
         cells = {(r, c): Cell() for r in range(last) for c in range(games)}
         held: Counter[int] = Counter()
-        for home, away, number in sorted(map(_cut, lines), key=lambda game: names.index(game[0])):
+        for home, away, number in sorted(map(_cut, lines), key=lambda game: place[game[0]]):
             cells[number - 1, held[number]].label = f"{home}-{away}"
             held[number] += 1
         return Picture("a round robin", cells, [f"round {number}" for number in range(1, last + 1)])

@@ -7,9 +7,10 @@ import re
 from collections import Counter
 from typing import Any, Dict, Iterable, Iterator, List, Optional, Sequence, Tuple
 
-from ..draw import Cell, Drawing, Picture
+from ..draw import Cell, Drawing, Picture, check_size
 from ..problem import Problem
-from .kind import Kind, picture, read_text
+from ..syntax import MOST_USES
+from .kind import Counted, Kind, picture, read_text
 
 Square = Tuple[int, int]
 Option = Dict[str, Optional[str]]
@@ -30,22 +31,18 @@ def problem(grid: str, words: Iterable[str]) -> Problem[Option]:
     rows = [line for _, line in picture(grid)]
     marks = {(r, c): mark for r, row in enumerate(rows, 1) for c, mark in enumerate(row, 1) if mark != "#"}
     slots = {f"{way}-{_name(squares[0])}": squares for way, squares in _slots(marks)}
-    by_length: Dict[int, Dict[str, None]] = {}
-    for word in words:
-        if word.isalpha():
-            by_length.setdefault(len(word), {})[word.lower()] = None
-    fitting = {
-        slot: [word for word in by_length.get(len(squares), ()) if _fits(word, [marks[at] for at in squares])]
-        for slot, squares in slots.items()
-    }
+    lexicon = _Lexicon(words)
+    fitting = {slot: lexicon.fitting([marks[at] for at in squares]) for slot, squares in slots.items()}
+    if sum((1 + len(slots[slot])) * len(words) for slot, words in fitting.items()) > MOST_USES:
+        raise ValueError(f"the problem would have more than {MOST_USES} uses of items")
     times = Counter(word for words in fitting.values() for word in words)
-    options: List[Option] = []
+    options: Counted[Option] = Counted()
     for slot, squares in slots.items():
         for word in fitting[slot]:
             option: Option = {slot: None, **{_name(at): letter for at, letter in zip(squares, word)}}
             if times[word] > 1:
                 option[f"={word}"] = None
-            options.append(option)
+            options.add(option)
     return Problem(
         list(slots),
         [*(_name(at) for at in marks), *(f"={word}" for word, count in times.items() if count > 1)],
@@ -76,8 +73,31 @@ def _slots(marks: Dict[Square, str]) -> Iterator[Tuple[str, List[Square]]]:
                 yield way, squares
 
 
-def _fits(word: str, marks: Sequence[str]) -> bool:
-    return all(not mark.isalpha() or mark.lower() == letter for letter, mark in zip(word, marks))
+class _Lexicon:
+    """A list of words, each once, that is asked for those that fit given letters."""
+
+    def __init__(self, words: Iterable[str]) -> None:
+        self._words = list(dict.fromkeys(word.lower() for word in words if word.isalpha()))
+        # The words of a length; with a letter at a place; and what was found for the letters of places.
+        self._of_length: Dict[int, List[str]] = {}
+        self._with: Dict[Tuple[int, int, str], List[str]] = {}
+        self._fitting: Dict[Tuple[str, ...], List[str]] = {}
+        for word in self._words:
+            self._of_length.setdefault(len(word), []).append(word)
+            for place, letter in enumerate(word):
+                self._with.setdefault((len(word), place, letter), []).append(word)
+
+    def fitting(self, marks: Sequence[str]) -> List[str]:
+        """The words for a row of squares with these marks, of which letters are given, in their order."""
+        letters = tuple(mark.lower() if mark.isalpha() else "" for mark in marks)
+        found = self._fitting.get(letters)
+        if found is None:
+            given = [(place, letter) for place, letter in enumerate(letters) if letter]
+            rows = [self._with.get((len(letters), place, letter), []) for place, letter in given]
+            candidates = min(rows, key=len, default=self._of_length.get(len(letters), []))
+            found = [word for word in candidates if all(word[place] == letter for place, letter in given)]
+            self._fitting[letters] = found
+        return found
 
 
 def drawing(problem: Problem[Any]) -> Drawing:
@@ -85,6 +105,7 @@ def drawing(problem: Problem[Any]) -> Drawing:
     found = map(_CELL.match, problem.secondary_names)
     board = {(int(cell.group(1)) - 1, int(cell.group(2)) - 1) for cell in found if cell}
     rows, columns = max(r for r, _ in board) + 1, max(c for _, c in board) + 1
+    check_size(rows, columns, len(board))
 
     def draw(lines: Sequence[str]) -> Picture:
         cells = {

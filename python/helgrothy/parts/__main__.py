@@ -6,17 +6,16 @@ Status 0 says that all is well, 1 that a part isn't, 2 that the command could no
 from __future__ import annotations
 
 import argparse
-import os
 import re
 import signal
 import sys
 from typing import Callable, Dict, List, NoReturn, Optional, Sequence
 
-from .. import __version__
-from ..errors import HelgrothyError, PartsFault
+from .. import __version__, console
+from ..errors import PartsFault, reason_of
 from . import DEFAULT_PARTS
 from . import split as cut
-from .folder import Folder, ranges, reason_of
+from .folder import Folder, ranges
 from .join import Joined, NotJoined
 from .plan import BY_RUNS
 from .progress import follow
@@ -28,25 +27,21 @@ _PROGRAMS = ("dlx1", "dlx2", "dlx3")
 
 def main(command: str, words: Optional[Sequence[str]] = None) -> int:
     """Does what the words of a command say, and gives its status."""
-    try:
-        return _COMMANDS[command](sys.argv[1:] if words is None else words)
-    except BrokenPipeError:
-        # Nobody reads any longer; what is still held back goes nowhere.
-        os.dup2(os.open(os.devnull, os.O_WRONLY), 1)
-        return 2
-    except KeyboardInterrupt:
-        return 130
-    except (HelgrothyError, ValueError, OSError) as error:
-        _say(command, reason_of(error))
-        return 2
+    return console.run(command, lambda: _act(command, sys.argv[1:] if words is None else words))
+
+
+def _act(command: str, words: Sequence[str]) -> int:
+    if command not in _COMMANDS:
+        raise PartsFault(f"no such command; there are {', '.join(_COMMANDS)}")
+    return _COMMANDS[command](words)
 
 
 def _say(command: str, message: str) -> None:
-    print(f"{command}: {message}", file=sys.stderr)
+    console.say(f"{command}: {message}")
 
 
 def _parser(command: str, description: str, epilog: Optional[str] = None) -> argparse.ArgumentParser:
-    parser = argparse.ArgumentParser(
+    parser = console.Parser(
         prog=command, description=description, epilog=epilog, formatter_class=argparse.RawDescriptionHelpFormatter
     )
     parser.add_argument("--version", action="version", version=f"{command} {__version__}")
@@ -58,15 +53,14 @@ def _parser(command: str, description: str, epilog: Optional[str] = None) -> arg
 
 def _split(words: Sequence[str]) -> int:
     parser = _parser("dlx-split", "Cuts the search of a problem into parts, and writes the plan into a new folder.")
-    parser.add_argument("--parts", type=_positive, metavar="N", help=f"at least N parts (default: {DEFAULT_PARTS})")
-    parser.add_argument("--seconds", type=_seconds, metavar="S", help="until no part is judged to take longer")
+    parser.add_argument("--parts", type=console.positive, metavar="N", help=f"at least N parts (default: {DEFAULT_PARTS})")
+    parser.add_argument("--seconds", type=console.seconds, metavar="S", help="until no part is judged to take longer")
     parser.add_argument("program", choices=_PROGRAMS, metavar="PROGRAM", help="dlx1, dlx2 or dlx3")
     parser.add_argument("problem", metavar="PROBLEM", help="a file")
     parser.add_argument("folder", metavar="FOLDER", help="the new folder")
     said = parser.parse_args(words)
     _take_along()
-    with open(said.problem, "rb") as file:
-        problem = file.read()
+    problem = console.read_file(said.problem)
     folder = cut(said.program, problem, said.folder, said.parts, said.seconds)
     count = len(folder.plan.parts)
     how = ", cut by short runs" if folder.plan.by == BY_RUNS else ""
@@ -88,7 +82,7 @@ def _run(words: Sequence[str]) -> int:
     )
     parser.add_argument("folder", metavar="FOLDER", help="a folder that dlx-split made")
     parser.add_argument("parts", metavar="PARTS", help="which parts, as below")
-    parser.add_argument("words", metavar="m1", nargs="*", help="list the solutions, and don't only count them")
+    parser.add_argument("words", metavar="m1", nargs="*", default=[], help="list the solutions, and don't only count them")
     said = parser.parse_args(words)
     wanted = words_of(said.words)
     folder = Folder(said.folder)
@@ -136,16 +130,14 @@ def _join(words: Sequence[str]) -> int:
     said = parser.parse_args(words)
     try:
         joined = Joined(Folder(said.folder))
-        for chunk in joined.listing():
-            sys.stdout.buffer.write(chunk)
-        sys.stdout.buffer.flush()
+        console.write_bytes(joined.listing())
     except NotJoined as error:
         for reason in error.reasons:
             _say("dlx-join", reason)
         return 1
     for line in joined.ignored:
-        print(f"Option ignored (no primary items): line {line}", file=sys.stderr)
-    print(f"Altogether {joined.solutions} solution{'' if joined.solutions == 1 else 's'}.", file=sys.stderr)
+        console.say(f"Option ignored (no primary items): line {line}")
+    console.say(f"Altogether {joined.solutions} solution{'' if joined.solutions == 1 else 's'}.")
     return 0
 
 
@@ -159,9 +151,7 @@ def _parts(words: Sequence[str]) -> int:
     said = parser.parse_args(words)
     folder = Folder(said.folder)
     found = state(folder)
-    for line in [ranges(found.undone)] if said.undone else lines(folder, found):
-        print(line)
-    sys.stdout.flush()
+    console.write(f"{line}\n" for line in ([ranges(found.undone)] if said.undone else lines(folder, found)))
     return 0
 
 
@@ -175,7 +165,7 @@ def _progress(words: Sequence[str]) -> int:
         "example:\n  dlx1 m1000 < queens.dlx | dlx-progress",
     )
     parser.parse_args(words)
-    follow(sys.stdin.buffer, lambda line: print(line, file=sys.stderr, flush=True))
+    follow(console.input_lines(), console.say)
     return 0
 
 
@@ -190,20 +180,6 @@ def _take_along() -> None:
 
 def _end(number: int, _: object) -> NoReturn:
     sys.exit(128 + number)
-
-
-def _positive(word: str) -> int:
-    number = int(word)
-    if number < 1:
-        raise argparse.ArgumentTypeError("it has to be at least 1")
-    return number
-
-
-def _seconds(word: str) -> float:
-    seconds = float(word)
-    if not seconds > 0:
-        raise argparse.ArgumentTypeError("it has to be more than 0")
-    return seconds
 
 
 _COMMANDS: Dict[str, Callable[[Sequence[str]], int]] = {
@@ -240,5 +216,10 @@ def progress() -> None:
     sys.exit(main("dlx-progress"))
 
 
+def run(command: str) -> NoReturn:
+    """The command of this name, with the words of the process."""
+    sys.exit(main(command))
+
+
 if __name__ == "__main__":
-    sys.exit(main(sys.argv[1], sys.argv[2:]))
+    sys.exit(main(sys.argv[1] if len(sys.argv) > 1 else "dlx-*", sys.argv[2:]))

@@ -6,6 +6,7 @@ import os
 import re
 import signal
 import subprocess
+import tempfile
 import time
 from contextlib import suppress
 from typing import IO, Iterator, List, Optional, Sequence, Tuple
@@ -13,7 +14,7 @@ from typing import IO, Iterator, List, Optional, Sequence, Tuple
 from ..errors import ProgramFailed
 from ..guard import let_go, start
 from ..programs import find
-from .folder import PROBLEM, Folder, Output, Record
+from .folder import Folder, Output, Record
 from .plan import MOST_WORDS
 from .text import choice_lines
 
@@ -56,7 +57,10 @@ class Below:
         self._folder = folder
         self._words = words
         command = [find(NAME), *words_of_parts(folder, numbers, words)]
-        with open(os.path.join(folder.path, PROBLEM), "rb") as problem:
+        # The bytes that were compared with the plan: the folder's file may be another one by now.
+        with tempfile.TemporaryFile() as problem:
+            problem.write(folder.problem)
+            problem.seek(0)
             self._process = start(command, stdin=problem, stdout=subprocess.PIPE, stderr=subprocess.PIPE)
         self._rest = b""
         self._seconds = 0.0

@@ -14,12 +14,15 @@ place.
 
 from __future__ import annotations
 
+import errno
 import fcntl
 import hashlib
 import json
 import os
+import re
 import secrets
 import socket
+import stat
 import time
 from contextlib import suppress
 from dataclasses import asdict, dataclass
@@ -34,6 +37,10 @@ _CHUNK = 1 << 20
 # A record is no longer than this.
 _MOST_RECORD = 1 << 14
 _RECORD = b"| "
+# Numbers of records are below this.
+_MOST_NUMBER = 1 << 64
+# The name of a run's file: part, host, process and a number of its own.
+_RUN = re.compile(r"([0-9]{5,})\.[^.]+\.[0-9]+\.[0-9a-f]+\.tmp\Z")
 # An empty file that no run holds may be one that a run is about to hold, if it was made just now.
 _JUST_NOW = 10.0
 
@@ -61,6 +68,9 @@ class Record:
     def solutions(self) -> int:
         return sum(self.found)
 
+    def _numbers(self) -> List[int]:
+        return [self.part, self.status, self.length, *self.found]
+
     def line(self) -> bytes:
         """The record's line, with its own digest at the end."""
         told = json.dumps(asdict(self)).encode()
@@ -72,7 +82,25 @@ class Record:
         told, _, check = line[len(_RECORD) :].rstrip(b"\n").rpartition(b" ")
         if digest(told).encode() != check:
             raise Doubt("its record is damaged")
-        return cls(**json.loads(told))
+        try:
+            record = cls(**json.loads(told))
+        except (ValueError, TypeError, RecursionError):
+            raise Doubt("its record is of another form") from None
+        if not record.is_whole():
+            raise Doubt("its record is of another form")
+        return record
+
+    def is_whole(self) -> bool:
+        """Whether each field is of its type."""
+        lists = [self.words, self.found]
+        texts = [self.program, self.problem, self.plan, self.listing]
+        return (
+            all(isinstance(values, list) for values in lists)
+            and all(type(number) is int and 0 <= number < _MOST_NUMBER for number in self._numbers())
+            and all(isinstance(text, str) for text in texts)
+            and isinstance(self.seconds, (int, float))
+            and 0 <= self.seconds < _MOST_NUMBER
+        )
 
 
 @dataclass(frozen=True)
@@ -95,11 +123,11 @@ class Folder:
     def __init__(self, path: str) -> None:
         self.path = path
         try:
-            with open(os.path.join(path, PLAN), "rb") as file:
+            with opened(os.path.join(path, PLAN)) as file:
                 self._plan = file.read()
-            with open(os.path.join(path, PROBLEM), "rb") as file:
+            with opened(os.path.join(path, PROBLEM)) as file:
                 self.problem = file.read()
-        except FileNotFoundError:
+        except (FileNotFoundError, NotADirectoryError):
             raise PartsFault(f"{path} is no folder that dlx-split made") from None
         self.plan = Plan.read(self._plan)
         if digest(self.problem) != self.plan.problem:
@@ -146,16 +174,18 @@ class Folder:
     def record(self, number: int) -> Optional[Record]:
         """The record of a part, or None where it isn't done. Raises `Doubt` where it doesn't fit the folder."""
         try:
-            with open(self.done(number), "rb") as file:
+            with opened(self.done(number)) as file:
                 return self._record(number, file)[0]
         except FileNotFoundError:
             return None
+        except OSError as error:
+            raise Doubt(f"it can't be read: {error.strerror}") from None
 
     def _record(self, number: int, file: IO[bytes]) -> Tuple[Record, int]:
         """The record of an open file, and where it begins."""
         size = file.seek(0, os.SEEK_END)
         file.seek(max(size - _MOST_RECORD, 0))
-        end = file.read()
+        end = file.read(_MOST_RECORD)
         start = (b"\n" + end).rfind(b"\n" + _RECORD)
         if start < 0 or not end.endswith(b"\n"):
             raise Doubt("its record is damaged")
@@ -179,7 +209,7 @@ class Folder:
     def verified(self, number: int) -> Optional[Record]:
         """The record of a part whose listing was read through and compared with it, or None where it isn't done."""
         try:
-            with open(self.done(number), "rb") as file:
+            with opened(self.done(number)) as file:
                 record, size = self._record(number, file)
                 file.seek(0)
                 summed = Summed()
@@ -187,31 +217,33 @@ class Folder:
                     summed.take(chunk)
         except FileNotFoundError:
             return None
+        except OSError as error:
+            raise Doubt(f"it can't be read: {error.strerror}") from None
         summed.compare(record)
         return record
 
     def failure(self, number: int) -> Optional[Failure]:
         try:
-            with open(self.failed(number), "rb") as file:
-                return Failure(**json.loads(file.read()))
-        except (FileNotFoundError, ValueError, TypeError):
+            with opened(self.failed(number)) as file:
+                return Failure(**json.loads(file.read(_MOST_RECORD)))
+        except (OSError, ValueError, TypeError, RecursionError):
             return None
 
     def runs(self) -> Iterator[Tuple[int, str, bool]]:
         """Of each run that didn't end: its part, its file, and whether it goes on."""
         for name in sorted(os.listdir(self.path)):
-            number = name.split(".")[0]
-            if name.endswith(".tmp") and number.isdigit():
+            run = _RUN.match(name)
+            if run is not None:
                 path = os.path.join(self.path, name)
                 is_held = _is_held(path)
                 if is_held is not None:
-                    yield int(number), path, is_held
+                    yield int(run.group(1)), path, is_held
 
     def clear(self, number: int) -> None:
         """Removes what broken runs of a part left."""
         for part, path, is_held in self.runs():
             if part == number and not is_held:
-                with suppress(FileNotFoundError):
+                with suppress(OSError):
                     os.remove(path)
 
 
@@ -296,13 +328,6 @@ def keep_failure(folder: Folder, failure: Failure) -> None:
             os.remove(path)
 
 
-def reason_of(error: Exception) -> str:
-    """What an error says, and of which file."""
-    if isinstance(error, OSError) and error.strerror:
-        return f"{os.fsdecode(error.filename)}: {error.strerror}" if error.filename else error.strerror
-    return str(error)
-
-
 def refuse(path: str) -> None:
     """Raises `PartsFault` where no new folder can be."""
     if os.path.lexists(path):
@@ -339,7 +364,19 @@ def ranges(numbers: Sequence[int]) -> str:
 
 
 def _owner() -> str:
-    return f"{host()}.{os.getpid()}.{secrets.token_hex(4)}"
+    return f"{host()}.{os.getpid()}.{secrets.token_hex(8)}"
+
+
+def opened(path: str) -> IO[bytes]:
+    """A file that is read: whatever else has its name isn't waited for, nor read without end. Raises `OSError`."""
+    opened = os.open(path, os.O_RDONLY | os.O_NONBLOCK)
+    try:
+        if not stat.S_ISREG(os.fstat(opened).st_mode):
+            raise OSError(errno.EINVAL, "it is no file", path)
+        return open(opened, "rb")
+    except BaseException:
+        os.close(opened)
+        raise
 
 
 def _hold(file: IO[bytes]) -> None:
@@ -351,7 +388,7 @@ def _hold(file: IO[bytes]) -> None:
 def _is_held(path: str) -> Optional[bool]:
     """Whether a run holds the file, or is about to; None where the file is gone."""
     try:
-        with open(path, "rb") as file:
+        with opened(path) as file:
             fcntl.flock(file.fileno(), fcntl.LOCK_SH | fcntl.LOCK_NB)
             about = os.fstat(file.fileno())
             return about.st_size == 0 and time.time() - about.st_mtime < _JUST_NOW

@@ -5,7 +5,7 @@ from __future__ import annotations
 from typing import IO, Dict, Iterable, Iterator, List, Sequence, Tuple
 
 from ..errors import PartsFault
-from .folder import Doubt, Folder, Record, Summed, chunks, ranges
+from .folder import Doubt, Folder, Record, Summed, chunks, opened, ranges
 from .text import choice_lines
 from .tree import Tree
 
@@ -40,9 +40,9 @@ class Joined:
         for record in self._records if self.is_listed else []:
             paths = [choice_lines(self._folder.lines, path) for path in self._folder.part(record.part).paths]
             try:
-                with open(self._folder.done(record.part), "rb") as file:
+                with opened(self._folder.done(record.part)) as file:
                     yield from _renumbered(_checked(file, record), number, _heads(paths, record.found))
-            except (Doubt, FileNotFoundError):
+            except (Doubt, OSError):
                 raise NotJoined([f"part {record.part} was changed while it was read"]) from None
             number += record.solutions
 

@@ -40,7 +40,7 @@ BY_PLANNER, BY_RUNS = "dlx-plan", "runs"
 _LONGEST_ROW = 100
 # A command has so many words at most, which every system lets through; a path takes one for each choice and one more.
 MOST_WORDS = 10_000
-_CHOICE = re.compile(r"([^ :|]+):([1-9][0-9]*)/([1-9][0-9]*)@([0-9]+)\Z")
+_CHOICE = re.compile(r"([^ :|]+):([1-9][0-9]{0,17})/([1-9][0-9]{0,17})@([0-9]{1,18})\Z")
 
 
 @dataclass(frozen=True)

@@ -96,7 +96,7 @@ class Planner:
 
     def _cut(self, budget: int, limit: int = _MOST) -> Optional[List[Path]]:
         """The paths with at most so many nodes below; or None where there are more than `limit`, or it takes long."""
-        run = self._run(budget, 0, limit + 1, 2 * _LONGEST)
+        run = self._run(budget, 0, min(limit + 1, _MOST), 2 * _LONGEST)
         if run.status != 0:
             return None
         return [choices_of(line.split(" ")[1:], self._tree.line_of) for line in run.lines]

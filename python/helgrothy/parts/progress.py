@@ -6,24 +6,35 @@ to be equally large: the sum of (k - 1) / (n of this level and of those above it
 
 from __future__ import annotations
 
+import re
 import time
 from typing import Callable, Iterable, Iterator, Tuple
 
+from ..errors import ListingFault
+from ..syntax import text_of
 from .states import duration
+
+_HEADER = re.compile(rb"([0-9]{1,20}):\n?\Z")
+_CHOICE = re.compile(rb"\A .* \(([0-9]{1,10}) of ([0-9]{1,10})\)\n?\Z")
+# So much of a line is told.
+_LONGEST = 40
 
 
 def shares(listing: Iterable[bytes]) -> Iterator[Tuple[int, float]]:
-    """Of each solution of a listing its number, and the share of the tree before it. Raises `ValueError`."""
+    """Of each solution of a listing its number, and the share of the tree before it. Raises `ListingFault`."""
     number, before, branch = 0, 0.0, 1.0
-    for line in listing:
-        if line.startswith(b" "):
-            k, _, n = line.rsplit(b" ", 3)[1:]
-            branch /= int(n.rstrip(b")\n"))
-            before += (int(k[1:]) - 1) * branch
-        else:
+    for at, line in enumerate(listing, 1):
+        choice = _CHOICE.search(line)
+        header = None if choice else _HEADER.match(line)
+        if choice is not None and number and 1 <= int(choice.group(1)) <= int(choice.group(2)):
+            branch /= int(choice.group(2))
+            before += (int(choice.group(1)) - 1) * branch
+        elif header is not None and int(header.group(1)):
             if number:
                 yield number, before
-            number, before, branch = int(line.rstrip(b":\n")), 0.0, 1.0
+            number, before, branch = int(header.group(1)), 0.0, 1.0
+        else:
+            raise ListingFault(at, text_of(line.rstrip(b"\n")[:_LONGEST]), "bad line")
     if number:
         yield number, before
 

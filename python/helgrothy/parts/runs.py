@@ -9,11 +9,11 @@ import subprocess
 from contextlib import suppress
 from typing import IO, Callable, Iterable, Iterator, List, NamedTuple, Sequence, Tuple
 
-from ..errors import HelgrothyError, PartsFault, ProgramFailed
+from ..errors import HelgrothyError, PartsFault, ProgramFailed, reason_of
 from ..guard import let_go, start
 from ..programs import find, has
 from .below import NAME, Below, batches
-from .folder import Doubt, Failure, Folder, Output, Record, host, keep_failure, reason_of
+from .folder import Doubt, Failure, Folder, Output, Record, host, keep_failure
 from .text import PartText
 from .tree import Path
 
@@ -57,7 +57,7 @@ def _is_done(folder: Folder, number: int, words: List[str]) -> bool:
         return False
     if before is None or len(before.words) < len(words):
         return False
-    with suppress(FileNotFoundError):
+    with suppress(OSError):
         os.remove(folder.failed(number))
     return True
 
@@ -88,7 +88,7 @@ def run(folder: Folder, number: int, words: List[str]) -> Record:
     except Doubt:
         before = None
     if before is not None and len(before.words) >= len(words):
-        with suppress(FileNotFoundError):
+        with suppress(OSError):
             os.remove(folder.failed(number))
         return before
     return _kept(folder, number, words, lambda number: _run(folder, number, words))
@@ -108,7 +108,7 @@ def _kept(folder: Folder, number: int, words: List[str], run_part: Callable[[int
     except Exception as error:
         keep_failure(folder, Failure(number, words, reason_of(error), host()))
         raise
-    with suppress(FileNotFoundError):
+    with suppress(OSError):
         os.remove(folder.failed(number))
     return record
 

@@ -34,7 +34,7 @@ class Tree:
     """A problem for the program dlx`kind`, by the numbers of its items and options. Raises `ProblemFault`."""
 
     def __init__(self, text: bytes, kind: int) -> None:
-        sheet = read(text, kind)
+        sheet = read(text, kind, most_faults=1)
         if sheet.faults:
             raise sheet.faults[0]
         self.text = text

@@ -1,0 +1,229 @@
+"""What commands read, print and end with: standard streams, closed or not, messages, and how long they may take."""
+
+from __future__ import annotations
+
+import argparse
+import codecs
+import os
+import re
+import signal
+import sys
+import threading
+from contextlib import contextmanager, suppress
+from typing import Any, Callable, Iterable, Iterator, List, Optional
+
+from .errors import HelgrothyError, OutOfTime, reason_of
+from .programs import end_all
+from .shown import shown
+from .syntax import bytes_of, text_of
+
+# No legal problem that names each item as short as it can is longer, and more isn't read.
+_MOST_TEXT = 1 << 30
+_CHUNK = 1 << 20
+# No option has so many items that the line of a listing is longer.
+_MOST_LINE = 1 << 23
+# Numbers in the words of commands: the programs take these too.
+_MOST_NUMBER = (1 << 64) - 1
+# More than anybody waits, and no more than the system's clocks take.
+_MOST_SECONDS = 1e9
+_INPUT, _OUTPUT, _ERROR = "standard input", "standard output", "standard error"
+
+
+class Parser(argparse.ArgumentParser):
+    """A parser whose messages hold no byte that steers a terminal."""
+
+    def error(self, message: str) -> Any:
+        super().error(shown(message))
+
+
+def run(command: str, act: Callable[[], int], unread: int = 2) -> int:
+    """What a command does, and its status; `unread` is that where nobody reads what it prints any longer.
+
+    Where it can't be done the status is 2, and a line on standard error says why.
+    """
+    try:
+        _open_all()
+        if signal.getsignal(signal.SIGINT) is signal.SIG_DFL and _is_main():
+            signal.signal(signal.SIGINT, signal.default_int_handler)
+        try:
+            return act()
+        finally:
+            with _naming(_OUTPUT):
+                sys.stdout.flush()
+    except BrokenPipeError as error:
+        _drop_output()
+        return unread if error.filename == _OUTPUT else 2
+    except KeyboardInterrupt:
+        _drop_output()
+        return 130
+    except MemoryError:
+        reason = "out of memory"
+    except RecursionError:
+        reason = "nested too deeply"
+    except (HelgrothyError, ValueError, OSError) as error:
+        reason = reason_of(error)
+    _drop_output()
+    try:
+        say(f"{command}: {reason}")
+    except OSError:
+        # Nobody can be told why.
+        _drop(sys.stderr, 2)
+    return 2
+
+
+def say(line: str) -> None:
+    """Writes a line to standard error. Raises `OSError`."""
+    with _naming(_ERROR):
+        print(shown(line), file=sys.stderr, flush=True)
+
+
+def write(texts: Iterable[str]) -> None:
+    """Writes texts to standard output as the bytes that they came as, UTF-8 or not; to a terminal only what it prints.
+
+    Raises `OSError`.
+    """
+    write_bytes(map(bytes_of, texts))
+
+
+def write_bytes(pieces: Iterable[bytes]) -> None:
+    """Writes to standard output, to a terminal only what it prints. Raises `OSError`."""
+    out = sys.stdout.buffer
+    for piece in _printed(pieces) if sys.stdout.isatty() else pieces:
+        with _naming(_OUTPUT):
+            out.write(piece)
+    with _naming(_OUTPUT):
+        out.flush()
+
+
+def read(path: str) -> bytes:
+    """The bytes of a file, or of standard input where its name is `-`. Raises `OSError` and `ValueError`."""
+    if path != "-":
+        return read_file(path)
+    with _naming(_INPUT):
+        return _read(sys.stdin.buffer, _INPUT)
+
+
+def read_file(path: str) -> bytes:
+    """The bytes of a file. Raises `OSError` and `ValueError`."""
+    with open(path, "rb") as file:
+        return _read(file, path)
+
+
+def input_lines() -> Iterator[bytes]:
+    """The lines of standard input, each with its end. Raises `OSError`, and `ValueError` for one that is too long."""
+    number = 0
+    while True:
+        with _naming(_INPUT):
+            line = sys.stdin.buffer.readline(_MOST_LINE)
+        number += 1
+        if len(line) == _MOST_LINE:
+            raise ValueError(f"{_INPUT}: line {number} has more than {_MOST_LINE >> 20} MB")
+        if not line:
+            return
+        yield line
+
+
+def positive(word: str) -> int:
+    """A number of at least 1, for a parser."""
+    if not re.match(r"[0-9]+\Z", word) or len(word) > 20 or not 1 <= int(word) <= _MOST_NUMBER:
+        raise argparse.ArgumentTypeError(f"{word}: it has to be a number from 1 to {_MOST_NUMBER}")
+    return int(word)
+
+
+def seconds(word: str) -> float:
+    """A time, for a parser."""
+    try:
+        time = 0.0 if "_" in word else float(word)
+    except ValueError:
+        time = 0.0
+    if not time > 0:
+        raise argparse.ArgumentTypeError(f"{word}: it has to be more than 0 seconds")
+    return min(time, _MOST_SECONDS)
+
+
+@contextmanager
+def limited(most: Optional[float]) -> Iterator[None]:
+    """Has what is done take at most so many seconds. Raises `OutOfTime`, in the main thread alone."""
+    if most is None or not _is_main():
+        yield
+        return
+
+    def end(*_: object) -> None:
+        raise OutOfTime(f"it wasn't done in {most:g} seconds")
+
+    before = signal.signal(signal.SIGALRM, end)
+    try:
+        # Should an exception be lost, where Python can't pass it on, the next one comes soon.
+        signal.setitimer(signal.ITIMER_REAL, most, 1.0)
+        yield
+    finally:
+        signal.setitimer(signal.ITIMER_REAL, 0)
+        signal.signal(signal.SIGALRM, before)
+        end_all()
+
+
+def _is_main() -> bool:
+    return threading.current_thread() is threading.main_thread()
+
+
+@contextmanager
+def _naming(stream: str) -> Iterator[None]:
+    """A failure of a stream says which one it is."""
+    try:
+        yield
+    except OSError as error:
+        if not error.filename and error.errno is not None:
+            error.filename = stream
+        raise
+
+
+def _open_all() -> None:
+    """No file that is opened gets the number of a standard stream that is closed: that one fails at its first use."""
+    for number, (name, mode, other) in enumerate(
+        (("stdin", "r", os.O_WRONLY), ("stdout", "w", os.O_RDONLY), ("stderr", "w", os.O_RDONLY))
+    ):
+        try:
+            os.fstat(number)
+        except OSError:
+            # It gets the least number that is free.
+            os.open(os.devnull, other)
+        if getattr(sys, name) is None:
+            setattr(sys, name, open(number, mode, encoding="utf-8", errors="backslashreplace", closefd=False))
+
+
+def _drop_output() -> None:
+    """What is still held back for standard output goes nowhere."""
+    try:
+        with suppress(ValueError):
+            sys.stdout.flush()
+    except OSError:
+        _drop(sys.stdout, 1)
+
+
+def _drop(stream: Any, number: int) -> None:
+    with suppress(OSError, ValueError):
+        if stream.fileno() == number:
+            nowhere = os.open(os.devnull, os.O_WRONLY)
+            os.dup2(nowhere, number)
+            os.close(nowhere)
+
+
+def _read(file: Any, name: str) -> bytes:
+    pieces: List[bytes] = []
+    left = _MOST_TEXT
+    while True:
+        piece = file.read(min(_CHUNK, left + 1))
+        if not piece:
+            return b"".join(pieces)
+        left -= len(piece)
+        if left < 0:
+            raise ValueError(f"{name} has more than {_MOST_TEXT >> 20} MB")
+        pieces.append(piece)
+
+
+def _printed(pieces: Iterable[bytes]) -> Iterator[bytes]:
+    """Lines as they may go to a terminal."""
+    decoder = codecs.getincrementaldecoder("utf-8")("surrogateescape")
+    for text in map(decoder.decode, pieces):
+        yield bytes_of("".join(part if part in "\t\n" else shown(part) for part in re.split("([\t\n])", text)))
+    yield bytes_of(shown(decoder.decode(b"", True)))

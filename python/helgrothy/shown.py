@@ -1,0 +1,20 @@
+"""Text as people may look at it: a name may hold bytes that steer a terminal, and SVG takes not every character."""
+
+from __future__ import annotations
+
+
+def shown(text: str) -> str:
+    r"""The text with an escape (\x1b, \u202e) for each character that isn't printed, and for bytes that aren't UTF-8."""
+    return text if text.isprintable() else "".join(map(_shown, text))
+
+
+def _shown(character: str) -> str:
+    if character.isprintable():
+        return character
+    code = ord(character)
+    if 0xDC80 <= code <= 0xDCFF:
+        # A byte, as `text_of` keeps it.
+        code -= 0xDC00
+    if code < 0x100:
+        return f"\\x{code:02x}"
+    return f"\\u{code:04x}" if code < 0x10000 else f"\\U{code:08x}"

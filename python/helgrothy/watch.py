@@ -1,0 +1,51 @@
+"""A count of the bounds beside a search that shows no solution for a while."""
+
+from __future__ import annotations
+
+import threading
+from contextlib import suppress
+from types import TracebackType
+from typing import Any, Callable, Optional, Type
+
+from .problem import Problem
+from .sums import search
+
+# A search may show no solution for so long; the count takes as long.
+_QUIET_SECONDS = 1.0
+
+
+class Watch:
+    """Counts the bounds beside a search, where that shows no solution for a while, and tells where they can't work.
+
+    has_told: whether it has told that.
+    """
+
+    def __init__(self, problem: Problem[Any], tell: Callable[[str], None]) -> None:
+        self._problem = problem
+        self._tell = tell
+        self._timer = threading.Timer(_QUIET_SECONDS, self._count)
+        self._timer.daemon = True
+        self._is_over = False
+        self.has_told = False
+
+    def __enter__(self) -> Watch:
+        self._timer.start()
+        return self
+
+    def __exit__(
+        self, kind: Optional[Type[BaseException]], error: Optional[BaseException], trace: Optional[TracebackType]
+    ) -> None:
+        self.end()
+
+    def end(self) -> None:
+        """Tells nothing from now on."""
+        self._is_over = True
+        self._timer.cancel()
+
+    def _count(self) -> None:
+        # Where there is no memory for it, or nobody to be told, the search goes on all the same.
+        with suppress(MemoryError, OSError):
+            found = search(self._problem, _QUIET_SECONDS)
+            if found is not None and not self._is_over:
+                self._tell(f"{found.text(self._problem.name)}: there is no solution")
+                self.has_told = True

@@ -1,0 +1,38 @@
+"""Completion for shells is as the parsers of the commands have it."""
+
+import os
+import sys
+import unittest
+
+TOP = os.path.dirname(os.path.dirname(os.path.dirname(os.path.abspath(__file__))))
+sys.path.append(os.path.join(TOP, "scripts"))
+
+from completing import shells  # noqa: E402
+from completing.commands import all_commands  # noqa: E402
+
+from helgrothy.make import KINDS  # noqa: E402
+
+
+class Completion(unittest.TestCase):
+    def test_files_are_as_the_parsers_have_it(self):
+        for name, text in shells.all_texts().items():
+            with open(os.path.join(TOP, "release", f"completion.{name}"), encoding="utf-8") as file:
+                self.assertEqual(file.read(), text, f"scripts/completion makes {name} anew")
+
+    def test_what_is_known(self):
+        commands = {command.path: command for command in all_commands()}
+        for kind in KINDS:
+            self.assertIn(f"helgrothy make {kind}", commands)
+            names = {name for option in commands[f"helgrothy {kind}"].options for name in option.names}
+            self.assertLessEqual({"--svg", "--json", "--csv", "--all", "--number", "--limit", "--seconds"}, names)
+        split = commands["dlx-split"]
+        self.assertEqual([str(place) for place in split.places], ["words dlx1 dlx2 dlx3", "problem", "folder"])
+        self.assertEqual([option.names for option in split.options][1:], [("--version",), ("--parts",), ("--seconds",)])
+        others = {"make", "solve", "draw", "lint", "export", "why"}
+        self.assertEqual(set(commands["helgrothy"].commands), {*others, *KINDS})
+        values = {option.names[-1]: option.value for option in commands["helgrothy lint"].options}
+        self.assertEqual(str(values["--for"]), "words dlx1 dlx2 dlx3")
+
+
+if __name__ == "__main__":
+    unittest.main()

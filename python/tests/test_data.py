@@ -1,0 +1,147 @@
+"""Solutions as data and as tables."""
+
+import csv
+import io
+import json
+import os
+import random
+import re
+import tempfile
+import unittest
+
+from helgrothy import NoPicture, Problem, make
+from helgrothy.draw import Pattern
+from helgrothy.table import Table
+from test_commands import run
+
+ROOMS = "ann bob | door\nann door:red\nbob door:green\nbob door:red\n"
+LESSONS = "maths art | mon1,hall tue1,hall mon1,lab ann,mon1\nmaths tue1,hall\nmaths mon1,hall ann,mon1\nart mon1,lab\n"
+
+
+def exams():
+    """A timetable as someone writes it: exams in slots and rooms, and students who sit one exam at a time."""
+    rng = random.Random(5)
+    sits = {f"E{k:02d}": [] for k in range(1, 16)}
+    for student in range(1, 61):
+        base = rng.choice([0, 5, 10])
+        for k in {*rng.sample(range(base, base + 5), 2)}:
+            sits[f"E{k + 1:02d}"].append(f"s{student:02d}")
+    slots = ["mon1", "mon2", "tue1", "tue2", "wed1", "wed2"]
+    rooms = {"hall": 20, "aula": 15, "lab": 12}
+    options = [
+        (exam, (slot, room), *((who, slot) for who in sitting))
+        for exam, sitting in sits.items()
+        for slot in slots
+        for room, seats in rooms.items()
+        if len(sitting) <= seats
+    ]
+    return Problem(list(sits), True, options)
+
+
+class Json(unittest.TestCase):
+    def test_lines(self):
+        status, text, told = run("solve", "--json", "--all", given=ROOMS)
+        self.assertEqual((status, told), (0, "Altogether 1 solution.\n"))
+        self.assertEqual(
+            json.loads(text),
+            {"number": 1, "options": [1, 3], "items": [["ann", "door"], ["bob", "door"]], "colours": {"door": "red"}},
+        )
+        lines = run("queens", "6", "--json", "--all")[1].splitlines()
+        board = make.queens.problem(6)
+        self.assertEqual([json.loads(line)["number"] for line in lines], [1, 2, 3, 4])
+        for line, solution in zip(lines, board.solve()):
+            self.assertEqual([board.options[number - 1] for number in json.loads(line)["options"]], solution)
+        self.assertEqual(run("queens", "6", "--json", "--number", "3")[1], f"{lines[2]}\n")
+        self.assertEqual(run("queens", "6", "--json", "--limit", "2")[1].splitlines(), lines[:2])
+        self.assertEqual(run("queens", "3", "--json")[:2], (1, ""))
+
+    def test_names_of_any_bytes(self):
+        with tempfile.NamedTemporaryFile() as file:
+            file.write(b"a\xff\x1b \xc3\xa4\na\xff\x1b\n\xc3\xa4\n")
+            file.flush()
+            text = run("solve", file.name, "--json")[1]
+        self.assertTrue(text.isascii() and text.count("\n") == 1 and "\x1b" not in text)
+        self.assertEqual(json.loads(text)["items"], [["a\udcff\x1b"], ["ä"]])
+
+    def test_a_listing(self):
+        with tempfile.TemporaryDirectory() as folder:
+            path = os.path.join(folder, "rooms.dlx")
+            with open(path, "w") as file:
+                file.write(ROOMS)
+            text = run("draw", path, "--json", given="7:\n door:red bob (1 of 1)\n ann door:red (1 of 1)\n")[1]
+            self.assertEqual((json.loads(text)["number"], json.loads(text)["options"]), (7, [3, 1]))
+            text = run("draw", path, "--csv", given="7:\n ann door:red (1 of 1)\n")[1]
+            self.assertEqual(text, "solution,option,item 1,item 2\n7,1,ann,door:red\n")
+
+
+class Csv(unittest.TestCase):
+    def test_lines(self):
+        text = run("solve", "--csv", "--all", given=LESSONS)[1]
+        rows = list(csv.reader(io.StringIO(text)))
+        self.assertEqual(rows[0], ["solution", "option", "item 1", "item 2", "item 3"])
+        self.assertEqual(rows[1:3], [["1", "3", "art", "mon1,lab", ""], ["1", "1", "maths", "tue1,hall", ""]])
+        self.assertEqual({len(row) for row in rows}, {5})
+        for other in ("--json", "--svg"):
+            self.assertEqual(run("queens", "6", "--csv", other)[0], 2)
+
+
+class Tables(unittest.TestCase):
+    def test_a_timetable(self):
+        problem = exams()
+        with tempfile.NamedTemporaryFile("w", suffix=".dlx") as file:
+            file.write(problem.text)
+            file.flush()
+            words = ("solve", file.name, "--row", r"[a-z]{3}\d", "--column", "hall|aula|lab")
+            status, text, _ = run(*words, "--label", r"E\d+")
+            self.assertEqual(status, 0)
+            rows = [line.split() for line in text.splitlines()]
+            self.assertEqual(rows[0], ["hall", "aula", "lab"])
+            self.assertEqual([row[0] for row in rows[1:]], ["mon1", "mon2", "tue1", "tue2", "wed1", "wed2"])
+            self.assertEqual(sorted(re.findall(r"E\d+", text)), [f"E{k:02d}" for k in range(1, 16)])
+            picture = run(*words, "--svg")[1]
+            self.assertEqual(picture.count(">E"), 15)
+            self.assertTrue(all(f">{name}</text>" in picture for name in ("mon1", "wed2", "hall", "lab")))
+
+    def test_names(self):
+        problem = Problem.parse(LESSONS)
+        solution = next(problem.solve())
+        for table, wanted in (
+            (Table(r"mon\d|tue\d", "hall|lab", "maths|art"), "     hall  lab\nmon1 .     art\ntue1 maths .\n"),
+            (Table(r"(mon|tue)\d", "hall|lab"), "    hall  lab\nmon .     art\ntue maths .\n"),
+            (Table(row="hall|lab"), "hall maths\nlab  art\n"),
+            (Table(column=r"\w+\d", label="maths|art"), "mon1 tue1\nart  maths\n"),
+            (Table(r"\w+\d", "maths|art", "hall|lab"), "     maths art\nmon1 .     lab\ntue1 hall  .\n"),
+        ):
+            with self.subTest(table=table):
+                self.assertEqual(str(problem.draw(solution, table)), wanted)
+        problem.pattern = Table("hall|lab")
+        self.assertEqual(str(problem.draw(solution)), "hall maths\nlab  art\n")
+        self.assertIn(">maths</text>", solution._repr_svg_())
+
+    def test_several_in_one_cell(self):
+        options = ["a mon".split(), "b mon".split(), "c tue".split()]
+        days = Problem({"a": 1, "b": 1, "c": 1, "mon": 2, "tue": 1}, options=options)
+        self.assertEqual(str(days.draw(next(days.solve()), Table("mon|tue"))), "mon a b\ntue c\n")
+
+    def test_patterns_that_do_not_fit(self):
+        problem = Problem.parse(LESSONS)
+        for drawn, wanted in (
+            (Table("mo", "hall"), r"no row is found by mo: .* such as maths tue1,hall$"),
+            (Table("mon1", "hal"), r"no column is found by hal: .* such as maths tue1,hall$"),
+            (Table("mon1", "hall", "x"), r"no label is found by x: .* such as maths tue1,hall$"),
+            (Pattern(r"(\d)-(\d)"), r"no cell is found by \(\\d\)-\(\\d\): .* whole words .* such as maths tue1,hall$"),
+            (Pattern(r"\w\w\w(\d),(\w)\w+", "nobody"), r"no label is found by nobody: .* whole words"),
+        ):
+            with self.subTest(drawn=drawn), self.assertRaisesRegex(NoPicture, wanted):
+                problem.draw((), drawn)
+        with self.assertRaisesRegex(NoPicture, r"tue is no row or column: .*\(--row, --column\)"):
+            problem.draw((), Pattern(r"(mon|tue)(\d),\w+"))
+        self.assertEqual(run("solve", "--row", "(", given=LESSONS)[0], 2)
+        told = run("solve", "--row", "mon", "--cell", r"(\d)", given=LESSONS)[2]
+        self.assertIn("not both", told)
+        with self.assertRaisesRegex(NoPicture, "none"):
+            Problem({"a": (0, 1)}).draw((), Table("a"))
+
+
+if __name__ == "__main__":
+    unittest.main()

@@ -1,0 +1,181 @@
+"""The commands as processes: what they load and run, and what they say where standard streams are closed."""
+
+import itertools
+import os
+import subprocess
+import sys
+import tempfile
+import unittest
+from unittest import mock
+
+from helgrothy import Problem, ProgramNotFound, programs
+from helgrothy.make import queens
+
+SCRIPT = os.path.join(os.path.dirname(os.path.dirname(os.path.dirname(os.path.abspath(__file__)))), "scripts", "helgrothy")
+# A module of each that the commands load, and of each that these load in turn.
+MODULES = ["argparse", "colorsys", "difflib", "fractions", "html", "random", "re", "signal", "statistics", "tempfile"]
+BOARD = ". . Q .\nQ . . .\n. . . Q\n. Q . .\n"
+
+
+def command(name, *words, redirected="", **how):
+    """A run of a command of this name, with a shell's redirections, by the Python that runs the tests."""
+    environment = {**os.environ, **how.pop("environment", {})}
+    environment["PATH"] = f"{os.path.dirname(sys.executable)}{os.pathsep}{environment.get('PATH', '')}"
+    with tempfile.TemporaryDirectory() as folder:
+        link = os.path.join(folder, name)
+        os.symlink(SCRIPT, link)
+        script = f'"$0" "$@" {redirected}'
+        how = {"stdout": subprocess.PIPE, "stderr": subprocess.PIPE, **how}
+        return subprocess.run(["/bin/sh", "-c", script, link, *words], env=environment, text=True, **how)
+
+
+class Isolated(unittest.TestCase):
+    def setUp(self) -> None:
+        folder = tempfile.TemporaryDirectory()
+        self.addCleanup(folder.cleanup)
+        self.folder = folder.name
+
+    def file(self, name: str, text: str, mode: int = 0o644) -> str:
+        path = os.path.join(self.folder, name)
+        os.makedirs(os.path.dirname(path), exist_ok=True)
+        with open(path, "w") as file:
+            file.write(text)
+        os.chmod(path, mode)
+        return path
+
+    def strangers_folder(self) -> None:
+        for module in MODULES:
+            self.file(f"{module}.py", "print('HIJACKED')\n")
+        for name in ("__init__", "__main__", "parts/__init__", "parts/__main__"):
+            self.file(f"helgrothy/{name}.py", "print('HIJACKED')\n")
+        for program in ("dlx1", "dlx-plan", "dlx-below", "sh"):
+            self.file(program, "#!/bin/sh\necho HIJACKED\n", 0o755)
+        self.file("p.dlx", "A B\nA\nB\nA B\n")
+
+    def test_nothing_of_the_current_folder_is_loaded(self):
+        self.strangers_folder()
+        given = {"PYTHONPATH": ".", "PYTHONHOME": "/nowhere", "PYTHONINSPECT": "1", "PYTHONSTARTUP": "random.py"}
+        for environment in ({}, given, {"PYTHONPATH": f":{self.folder}"}):
+            how = {"cwd": self.folder, "environment": environment}
+            self.assertEqual(command("helgrothy", "queens", "4", **how).stdout, BOARD)
+            # Of two unknown names, so that names are compared.
+            self.file("q.dlx", "tuesday\ntusday\n")
+            self.assertIn("is it tuesday?", command("helgrothy", "lint", "q.dlx", **how).stdout)
+            split = command("dlx-split", "--parts", "2", "dlx1", "p.dlx", "folder", **how)
+            self.assertEqual((split.returncode, split.stdout), (0, ""), split.stderr)
+            self.assertEqual(command("dlx-run", "folder", "all", "m1", **how).returncode, 0)
+            self.assertNotIn("HIJACKED", (joined := command("dlx-join", "folder", **how)).stdout)
+            self.assertEqual(joined.stderr, "Altogether 2 solutions.\n")
+            subprocess.run(["rm", "-r", os.path.join(self.folder, "folder")], check=True)
+
+    def test_no_program_of_the_current_folder_is_run(self):
+        self.strangers_folder()
+        before = os.getcwd()
+        os.chdir(self.folder)
+        try:
+            with mock.patch.object(programs, "folders", lambda program: []):
+                for path in (".", "", ":", "./"):
+                    with mock.patch.dict(os.environ, PATH=path), self.assertRaises(ProgramNotFound):
+                        programs.find("dlx1")
+        finally:
+            os.chdir(before)
+
+    def test_programs_beside_the_package_come_before_the_path(self):
+        self.file("dlx1", "#!/bin/sh\necho HIJACKED\n", 0o755)
+        with mock.patch.dict(os.environ, PATH=f"{self.folder}:/usr/bin:/bin"):
+            self.assertEqual(Problem("a", options=["a"]).count(), 1)
+        done = command("helgrothy", "queens", "4", environment={"PATH": f"{self.folder}:/usr/bin:/bin"})
+        self.assertEqual(done.stdout, BOARD)
+
+    def test_no_program_that_anybody_may_put_there_is_run(self):
+        os.chmod(self.folder, 0o1777)
+        self.file("bin/dlx1", "#!/bin/sh\n", 0o755)
+        package = self.file("python/helgrothy/programs.py", "")
+        os.chmod(os.path.dirname(os.path.dirname(package)), 0o755)
+        with mock.patch.object(programs, "__file__", package):
+            self.assertNotIn(os.path.join(self.folder, "bin"), programs.folders("dlx1"))
+            os.chmod(self.folder, 0o755)
+            self.assertIn(os.path.join(self.folder, "bin"), programs.folders("dlx1"))
+
+    def test_temporary_files_are_for_nobody_else(self):
+        seen = []
+        find = programs.find
+
+        def look(program: str) -> str:
+            seen.extend((entry.name, entry.stat().st_mode & 0o077) for entry in os.scandir(self.folder))
+            return find(program)
+
+        with mock.patch.object(programs, "find", look), mock.patch("tempfile.tempdir", self.folder):
+            for _ in range(2):
+                Problem("a", options=["a"]).check([["a"]])
+                list(Problem("a", options=["a"]).solve())
+        self.assertEqual({mode for _, mode in seen}, {0})
+        self.assertEqual(len({name for name, _ in seen}), 2)
+
+
+class ClosedStreams(unittest.TestCase):
+    """Each of the three may be closed: it fails where it is used, and no other file takes its number."""
+
+    def setUp(self) -> None:
+        folder = tempfile.TemporaryDirectory()
+        self.addCleanup(folder.cleanup)
+        self.folder = folder.name
+        with open(os.path.join(self.folder, "p.dlx"), "w") as file:
+            file.write("A | x\nx\nA x\nA\n")
+        command("dlx-split", "--parts", "2", "dlx1", "p.dlx", "folder", cwd=self.folder)
+        command("dlx-run", "folder", "all", "m1", cwd=self.folder)
+
+    def test_all_combinations(self):
+        listing = "1:\n A x (1 of 2)\n2:\n A (2 of 2)\n"
+        one = [(True, False, False), (False, True, False), (False, False, True)]
+        for name, words, given, printed, message in (
+            ("dlx-join", ["folder"], False, listing, "Option ignored (no primary items): line 2\nAltogether 2 solutions.\n"),
+            ("helgrothy", ["solve", "-", "--all"], True, "A x\n\nA\n", "Altogether 2 solutions.\n"),
+            ("helgrothy", ["lint"], True, "line 2: an option without a primary item is ignored\n", ""),
+            ("helgrothy", ["queens", "4"], False, BOARD, "Altogether 1 solution (limit).\n"),
+            ("helgrothy", ["make", "langford", "1"], False, None, ""),
+            ("helgrothy", ["--help"], False, None, ""),
+            ("dlx-parts", ["folder"], False, None, ""),
+            ("dlx-progress", [], True, "", "0.0 seconds: solution 2, 50.00% of the tree, about 0.0 seconds left\n"),
+        ):
+            has_all = name == "dlx-join" or words == ["solve", "-", "--all"]
+            for closed in itertools.product((False, True), repeat=3) if has_all else one:
+                with self.subTest(name=name, words=words, closed=closed):
+                    self.try_one(name, words, given, printed, message, closed)
+
+    def try_one(self, name, words, given, printed, message, closed):
+        told = os.path.join(self.folder, "listing.txt")
+        with open(told, "w") as file:
+            file.write("1:\n A x (1 of 2)\n2:\n A (2 of 2)\n")
+        start = f"<{'p.dlx' if name == 'helgrothy' else told}"
+        redirected = " ".join(["<&-" if closed[0] else start, *([">&-"] if closed[1] else []), *(["2>&-"] if closed[2] else [])])
+        done = command(name, *words, redirected=redirected, cwd=self.folder)
+        is_well = not (closed[0] and given or closed[1] and printed != "" or closed[2] and message)
+        self.assertEqual(done.returncode == (1 if words == ["lint"] else 0), is_well, done)
+        self.assertNotIn("Traceback", done.stderr)
+        if printed is not None and not (closed[0] and given):
+            self.assertEqual(done.stdout, "" if closed[1] else printed)
+        if not is_well and not closed[2]:
+            stream = "standard input" if closed[0] and given else "standard output"
+            self.assertEqual((done.returncode, done.stderr), (2, f"{name}: {stream}: Bad file descriptor\n"))
+        elif not is_well:
+            self.assertEqual((done.returncode, done.stderr), (2, ""))
+
+    def test_a_folder_as_standard_input(self):
+        done = command("helgrothy", "lint", redirected="<.", cwd=self.folder)
+        self.assertEqual((done.returncode, done.stdout, done.stderr), (2, "", "helgrothy: standard input is a folder\n"))
+
+    def test_a_full_disk(self):
+        done = command("helgrothy", "queens", "4", redirected=">/dev/full")
+        self.assertEqual((done.returncode, done.stderr), (2, "helgrothy: standard output: No space left on device\n"))
+        done = command("helgrothy", "--help", redirected=">/dev/full")
+        self.assertEqual((done.returncode, done.stderr), (2, "helgrothy: standard output: No space left on device\n"))
+
+    def test_nobody_reads(self):
+        self.assertEqual(command("helgrothy", "make", "queens", "100", redirected="| head -n 1; exit 0").stderr, "")
+        script = f"({sys.executable} -I {SCRIPT} 2>&1; echo $? >&2) | true"
+        self.assertNotIn("Traceback", subprocess.run(["sh", "-c", script], stderr=subprocess.PIPE, text=True).stderr)
+
+
+if __name__ == "__main__":
+    unittest.main()

@@ -1,0 +1,292 @@
+# Completion of the words of programs and commands in fish. Made by scripts/completion: changes belong there.
+
+# Each command finds this file by a name of its own, and one reading is enough for all of them.
+set -q __helgrothy_commands; and return
+
+# Whether the words before the one that is typed lead to a command and, where one is given, to a place of its words.
+function __helgrothy_is -a command place
+    set -l words (commandline -opc)
+    set -l path (string replace -r '.*/' '' -- $words[1])
+    set -l at 1
+    set -l is_value 0
+    for given in $words[2..-1]
+        if test $is_value = 1
+            set is_value 0
+        else if contains -- "$path $given" $__helgrothy_valued
+            set is_value 1
+        else if string match -q -- '-?*' $given
+            continue
+        else if contains -- "$path $given" $__helgrothy_commands
+            set path "$path $given"
+            set at 1
+        else
+            set at (math $at + 1)
+        end
+    end
+    test "$path" = "$command"; or return 1
+    switch "$place"
+        case ''
+            return 0
+        case '*+'
+            test $at -ge (string trim -c + -- $place)
+        case '*'
+            test $at = $place
+    end
+end
+
+set -g __helgrothy_commands \
+    'dlx1' \
+    'dlx2' \
+    'dlx3' \
+    'dlxcheck' \
+    'dlx-plan' \
+    'dlx-below' \
+    'dlx-split' \
+    'dlx-run' \
+    'dlx-join' \
+    'dlx-parts' \
+    'dlx-progress' \
+    'helgrothy' \
+    'helgrothy make' \
+    'helgrothy make sudoku' \
+    'helgrothy make queens' \
+    'helgrothy make langford' \
+    'helgrothy make polyominoes' \
+    'helgrothy make words' \
+    'helgrothy make roster' \
+    'helgrothy make roundrobin' \
+    'helgrothy solve' \
+    'helgrothy draw' \
+    'helgrothy lint' \
+    'helgrothy export' \
+    'helgrothy why' \
+    'helgrothy sudoku' \
+    'helgrothy queens' \
+    'helgrothy langford' \
+    'helgrothy polyominoes' \
+    'helgrothy words' \
+    'helgrothy roster' \
+    'helgrothy roundrobin'
+
+set -g __helgrothy_valued \
+    'dlx-split --parts' \
+    'dlx-split --seconds' \
+    'helgrothy solve --number' \
+    'helgrothy solve --limit' \
+    'helgrothy solve --seconds' \
+    'helgrothy solve --cell' \
+    'helgrothy solve --row' \
+    'helgrothy solve --column' \
+    'helgrothy solve --label' \
+    'helgrothy draw --number' \
+    'helgrothy draw --cell' \
+    'helgrothy draw --row' \
+    'helgrothy draw --column' \
+    'helgrothy draw --label' \
+    'helgrothy lint --for' \
+    'helgrothy why --seconds' \
+    'helgrothy sudoku --number' \
+    'helgrothy sudoku --limit' \
+    'helgrothy sudoku --seconds' \
+    'helgrothy queens --number' \
+    'helgrothy queens --limit' \
+    'helgrothy queens --seconds' \
+    'helgrothy langford --number' \
+    'helgrothy langford --limit' \
+    'helgrothy langford --seconds' \
+    'helgrothy polyominoes --number' \
+    'helgrothy polyominoes --limit' \
+    'helgrothy polyominoes --seconds' \
+    'helgrothy words --number' \
+    'helgrothy words --limit' \
+    'helgrothy words --seconds' \
+    'helgrothy roster --number' \
+    'helgrothy roster --limit' \
+    'helgrothy roster --seconds' \
+    'helgrothy roundrobin --number' \
+    'helgrothy roundrobin --limit' \
+    'helgrothy roundrobin --seconds'
+
+complete -c dlx1 -f
+complete -c dlx2 -f
+complete -c dlx3 -f
+complete -c dlxcheck -f
+complete -c dlx-plan -f
+complete -c dlx-below -f
+complete -c dlx-split -f
+complete -c dlx-run -f
+complete -c dlx-join -f
+complete -c dlx-parts -f
+complete -c dlx-progress -f
+complete -c helgrothy -f
+complete -c dlx-split -n '__helgrothy_is \'dlx-split\'' -s h -l help -d 'show this help message and exit'
+complete -c dlx-split -n '__helgrothy_is \'dlx-split\'' -l version -d 'show program\'s version number and exit'
+complete -c dlx-split -n '__helgrothy_is \'dlx-split\'' -l parts -r -f -d 'at least N parts (default: 100)'
+complete -c dlx-split -n '__helgrothy_is \'dlx-split\'' -l seconds -r -f -d 'until no part is judged to take longer'
+complete -c dlx-run -n '__helgrothy_is \'dlx-run\'' -s h -l help -d 'show this help message and exit'
+complete -c dlx-run -n '__helgrothy_is \'dlx-run\'' -l version -d 'show program\'s version number and exit'
+complete -c dlx-join -n '__helgrothy_is \'dlx-join\'' -s h -l help -d 'show this help message and exit'
+complete -c dlx-join -n '__helgrothy_is \'dlx-join\'' -l version -d 'show program\'s version number and exit'
+complete -c dlx-parts -n '__helgrothy_is \'dlx-parts\'' -s h -l help -d 'show this help message and exit'
+complete -c dlx-parts -n '__helgrothy_is \'dlx-parts\'' -l version -d 'show program\'s version number and exit'
+complete -c dlx-parts -n '__helgrothy_is \'dlx-parts\'' -l undone -d 'the undone parts alone, as sbatch --array= takes them'
+complete -c dlx-progress -n '__helgrothy_is \'dlx-progress\'' -s h -l help -d 'show this help message and exit'
+complete -c dlx-progress -n '__helgrothy_is \'dlx-progress\'' -l version -d 'show program\'s version number and exit'
+complete -c helgrothy -n '__helgrothy_is \'helgrothy\'' -s h -l help -d 'show this help message and exit'
+complete -c helgrothy -n '__helgrothy_is \'helgrothy\'' -l version -d 'show program\'s version number and exit'
+complete -c helgrothy -n '__helgrothy_is \'helgrothy\' 1' -a make -d 'write a problem'
+complete -c helgrothy -n '__helgrothy_is \'helgrothy\' 1' -a solve -d 'solve a problem and draw what is found'
+complete -c helgrothy -n '__helgrothy_is \'helgrothy\' 1' -a draw -d 'draw a listing'
+complete -c helgrothy -n '__helgrothy_is \'helgrothy\' 1' -a lint -d 'tell all faults and slips of a problem'
+complete -c helgrothy -n '__helgrothy_is \'helgrothy\' 1' -a export -d 'write a problem for another solver'
+complete -c helgrothy -n '__helgrothy_is \'helgrothy\' 1' -a why -d 'tell which items conflict where there is no solution'
+complete -c helgrothy -n '__helgrothy_is \'helgrothy\' 1' -a sudoku -d 'make and solve a Sudoku from its clues'
+complete -c helgrothy -n '__helgrothy_is \'helgrothy\' 1' -a queens -d 'make and solve queens on a board, or in coloured regions'
+complete -c helgrothy -n '__helgrothy_is \'helgrothy\' 1' -a langford -d 'make and solve Langford\'s pairs'
+complete -c helgrothy -n '__helgrothy_is \'helgrothy\' 1' -a polyominoes -d 'make and solve pieces of squares that fill a region'
+complete -c helgrothy -n '__helgrothy_is \'helgrothy\' 1' -a words -d 'make and solve words across and down in a grid'
+complete -c helgrothy -n '__helgrothy_is \'helgrothy\' 1' -a roster -d 'make and solve shifts of people on days'
+complete -c helgrothy -n '__helgrothy_is \'helgrothy\' 1' -a roundrobin -d 'make and solve a round robin at home and away'
+complete -c helgrothy -n '__helgrothy_is \'helgrothy make\'' -s h -l help -d 'show this help message and exit'
+complete -c helgrothy -n '__helgrothy_is \'helgrothy make\' 1' -a sudoku -d 'a Sudoku from its clues'
+complete -c helgrothy -n '__helgrothy_is \'helgrothy make\' 1' -a queens -d 'queens on a board, or in coloured regions'
+complete -c helgrothy -n '__helgrothy_is \'helgrothy make\' 1' -a langford -d 'Langford\'s pairs'
+complete -c helgrothy -n '__helgrothy_is \'helgrothy make\' 1' -a polyominoes -d 'pieces of squares that fill a region'
+complete -c helgrothy -n '__helgrothy_is \'helgrothy make\' 1' -a words -d 'words across and down in a grid'
+complete -c helgrothy -n '__helgrothy_is \'helgrothy make\' 1' -a roster -d 'shifts of people on days'
+complete -c helgrothy -n '__helgrothy_is \'helgrothy make\' 1' -a roundrobin -d 'a round robin at home and away'
+complete -c helgrothy -n '__helgrothy_is \'helgrothy make sudoku\'' -s h -l help -d 'show this help message and exit'
+complete -c helgrothy -n '__helgrothy_is \'helgrothy make queens\'' -s h -l help -d 'show this help message and exit'
+complete -c helgrothy -n '__helgrothy_is \'helgrothy make langford\'' -s h -l help -d 'show this help message and exit'
+complete -c helgrothy -n '__helgrothy_is \'helgrothy make polyominoes\'' -s h -l help -d 'show this help message and exit'
+complete -c helgrothy -n '__helgrothy_is \'helgrothy make polyominoes\'' -l no-turns -d 'pieces may not be turned'
+complete -c helgrothy -n '__helgrothy_is \'helgrothy make polyominoes\'' -l no-mirrors -d 'pieces may not be mirrored'
+complete -c helgrothy -n '__helgrothy_is \'helgrothy make words\'' -s h -l help -d 'show this help message and exit'
+complete -c helgrothy -n '__helgrothy_is \'helgrothy make roster\'' -s h -l help -d 'show this help message and exit'
+complete -c helgrothy -n '__helgrothy_is \'helgrothy make roster\'' -l rest -d 'no shift on the next day that stands higher in the table'
+complete -c helgrothy -n '__helgrothy_is \'helgrothy make roundrobin\'' -s h -l help -d 'show this help message and exit'
+complete -c helgrothy -n '__helgrothy_is \'helgrothy make roundrobin\'' -l double -d 'each two teams meet twice, once at each one\'s home'
+complete -c helgrothy -n '__helgrothy_is \'helgrothy solve\'' -s h -l help -d 'show this help message and exit'
+complete -c helgrothy -n '__helgrothy_is \'helgrothy solve\'' -l number -r -f -d 'the K-th solution instead of the first'
+complete -c helgrothy -n '__helgrothy_is \'helgrothy solve\'' -l limit -r -f -d 'the first N solutions'
+complete -c helgrothy -n '__helgrothy_is \'helgrothy solve\'' -l all -d 'all solutions'
+complete -c helgrothy -n '__helgrothy_is \'helgrothy solve\'' -l svg -d 'a picture as SVG, of one solution'
+complete -c helgrothy -n '__helgrothy_is \'helgrothy solve\'' -l json -d 'a line of JSON for each solution: its number, the numbers of its options, their items, and the colours'
+complete -c helgrothy -n '__helgrothy_is \'helgrothy solve\'' -l csv -d 'a table as CSV, with a line for each choice'
+complete -c helgrothy -n '__helgrothy_is \'helgrothy solve\'' -l seconds -r -f -d 'give up after S seconds'
+complete -c helgrothy -n '__helgrothy_is \'helgrothy solve\'' -l cell -r -f -d 'a regular expression that finds the cells in an option\'s line; its first two groups (or those named row and column) are row and column, a number or a single letter, and a third one its label'
+complete -c helgrothy -n '__helgrothy_is \'helgrothy solve\'' -l row -r -f -d 'a regular expression that finds the name of a row in the words of an option: the picture is a table of these names, in the order of the file'
+complete -c helgrothy -n '__helgrothy_is \'helgrothy solve\'' -l column -r -f -d 'a regular expression that finds the name of a column in the words of an option: the picture is a table of these names, in the order of the file'
+complete -c helgrothy -n '__helgrothy_is \'helgrothy solve\'' -l label -r -f -d 'a regular expression that finds the label in an option\'s line'
+complete -c helgrothy -n '__helgrothy_is \'helgrothy draw\'' -s h -l help -d 'show this help message and exit'
+complete -c helgrothy -n '__helgrothy_is \'helgrothy draw\'' -l number -r -f -d 'the solution of this number alone'
+complete -c helgrothy -n '__helgrothy_is \'helgrothy draw\'' -l svg -d 'a picture as SVG, of the first solution or that of --number'
+complete -c helgrothy -n '__helgrothy_is \'helgrothy draw\'' -l json -d 'a line of JSON for each solution: its number, the numbers of its options, their items, and the colours'
+complete -c helgrothy -n '__helgrothy_is \'helgrothy draw\'' -l csv -d 'a table as CSV, with a line for each choice'
+complete -c helgrothy -n '__helgrothy_is \'helgrothy draw\'' -l cell -r -f -d 'a regular expression that finds the cells in an option\'s line; its first two groups (or those named row and column) are row and column, a number or a single letter, and a third one its label'
+complete -c helgrothy -n '__helgrothy_is \'helgrothy draw\'' -l row -r -f -d 'a regular expression that finds the name of a row in the words of an option: the picture is a table of these names, in the order of the file'
+complete -c helgrothy -n '__helgrothy_is \'helgrothy draw\'' -l column -r -f -d 'a regular expression that finds the name of a column in the words of an option: the picture is a table of these names, in the order of the file'
+complete -c helgrothy -n '__helgrothy_is \'helgrothy draw\'' -l label -r -f -d 'a regular expression that finds the label in an option\'s line'
+complete -c helgrothy -n '__helgrothy_is \'helgrothy lint\'' -s h -l help -d 'show this help message and exit'
+complete -c helgrothy -n '__helgrothy_is \'helgrothy lint\'' -l for -r -f -a 'dlx1 dlx2 dlx3' -d 'default: dlx3'
+complete -c helgrothy -n '__helgrothy_is \'helgrothy export\'' -s h -l help -d 'show this help message and exit'
+complete -c helgrothy -n '__helgrothy_is \'helgrothy why\'' -s h -l help -d 'show this help message and exit'
+complete -c helgrothy -n '__helgrothy_is \'helgrothy why\'' -l seconds -r -f -d 'the time (default: 10)'
+complete -c helgrothy -n '__helgrothy_is \'helgrothy sudoku\'' -s h -l help -d 'show this help message and exit'
+complete -c helgrothy -n '__helgrothy_is \'helgrothy sudoku\'' -l number -r -f -d 'the K-th solution instead of the first'
+complete -c helgrothy -n '__helgrothy_is \'helgrothy sudoku\'' -l limit -r -f -d 'the first N solutions'
+complete -c helgrothy -n '__helgrothy_is \'helgrothy sudoku\'' -l all -d 'all solutions'
+complete -c helgrothy -n '__helgrothy_is \'helgrothy sudoku\'' -l svg -d 'a picture as SVG, of one solution'
+complete -c helgrothy -n '__helgrothy_is \'helgrothy sudoku\'' -l json -d 'a line of JSON for each solution: its number, the numbers of its options, their items, and the colours'
+complete -c helgrothy -n '__helgrothy_is \'helgrothy sudoku\'' -l csv -d 'a table as CSV, with a line for each choice'
+complete -c helgrothy -n '__helgrothy_is \'helgrothy sudoku\'' -l seconds -r -f -d 'give up after S seconds'
+complete -c helgrothy -n '__helgrothy_is \'helgrothy queens\'' -s h -l help -d 'show this help message and exit'
+complete -c helgrothy -n '__helgrothy_is \'helgrothy queens\'' -l number -r -f -d 'the K-th solution instead of the first'
+complete -c helgrothy -n '__helgrothy_is \'helgrothy queens\'' -l limit -r -f -d 'the first N solutions'
+complete -c helgrothy -n '__helgrothy_is \'helgrothy queens\'' -l all -d 'all solutions'
+complete -c helgrothy -n '__helgrothy_is \'helgrothy queens\'' -l svg -d 'a picture as SVG, of one solution'
+complete -c helgrothy -n '__helgrothy_is \'helgrothy queens\'' -l json -d 'a line of JSON for each solution: its number, the numbers of its options, their items, and the colours'
+complete -c helgrothy -n '__helgrothy_is \'helgrothy queens\'' -l csv -d 'a table as CSV, with a line for each choice'
+complete -c helgrothy -n '__helgrothy_is \'helgrothy queens\'' -l seconds -r -f -d 'give up after S seconds'
+complete -c helgrothy -n '__helgrothy_is \'helgrothy langford\'' -s h -l help -d 'show this help message and exit'
+complete -c helgrothy -n '__helgrothy_is \'helgrothy langford\'' -l number -r -f -d 'the K-th solution instead of the first'
+complete -c helgrothy -n '__helgrothy_is \'helgrothy langford\'' -l limit -r -f -d 'the first N solutions'
+complete -c helgrothy -n '__helgrothy_is \'helgrothy langford\'' -l all -d 'all solutions'
+complete -c helgrothy -n '__helgrothy_is \'helgrothy langford\'' -l svg -d 'a picture as SVG, of one solution'
+complete -c helgrothy -n '__helgrothy_is \'helgrothy langford\'' -l json -d 'a line of JSON for each solution: its number, the numbers of its options, their items, and the colours'
+complete -c helgrothy -n '__helgrothy_is \'helgrothy langford\'' -l csv -d 'a table as CSV, with a line for each choice'
+complete -c helgrothy -n '__helgrothy_is \'helgrothy langford\'' -l seconds -r -f -d 'give up after S seconds'
+complete -c helgrothy -n '__helgrothy_is \'helgrothy polyominoes\'' -s h -l help -d 'show this help message and exit'
+complete -c helgrothy -n '__helgrothy_is \'helgrothy polyominoes\'' -l no-turns -d 'pieces may not be turned'
+complete -c helgrothy -n '__helgrothy_is \'helgrothy polyominoes\'' -l no-mirrors -d 'pieces may not be mirrored'
+complete -c helgrothy -n '__helgrothy_is \'helgrothy polyominoes\'' -l number -r -f -d 'the K-th solution instead of the first'
+complete -c helgrothy -n '__helgrothy_is \'helgrothy polyominoes\'' -l limit -r -f -d 'the first N solutions'
+complete -c helgrothy -n '__helgrothy_is \'helgrothy polyominoes\'' -l all -d 'all solutions'
+complete -c helgrothy -n '__helgrothy_is \'helgrothy polyominoes\'' -l svg -d 'a picture as SVG, of one solution'
+complete -c helgrothy -n '__helgrothy_is \'helgrothy polyominoes\'' -l json -d 'a line of JSON for each solution: its number, the numbers of its options, their items, and the colours'
+complete -c helgrothy -n '__helgrothy_is \'helgrothy polyominoes\'' -l csv -d 'a table as CSV, with a line for each choice'
+complete -c helgrothy -n '__helgrothy_is \'helgrothy polyominoes\'' -l seconds -r -f -d 'give up after S seconds'
+complete -c helgrothy -n '__helgrothy_is \'helgrothy words\'' -s h -l help -d 'show this help message and exit'
+complete -c helgrothy -n '__helgrothy_is \'helgrothy words\'' -l number -r -f -d 'the K-th solution instead of the first'
+complete -c helgrothy -n '__helgrothy_is \'helgrothy words\'' -l limit -r -f -d 'the first N solutions'
+complete -c helgrothy -n '__helgrothy_is \'helgrothy words\'' -l all -d 'all solutions'
+complete -c helgrothy -n '__helgrothy_is \'helgrothy words\'' -l svg -d 'a picture as SVG, of one solution'
+complete -c helgrothy -n '__helgrothy_is \'helgrothy words\'' -l json -d 'a line of JSON for each solution: its number, the numbers of its options, their items, and the colours'
+complete -c helgrothy -n '__helgrothy_is \'helgrothy words\'' -l csv -d 'a table as CSV, with a line for each choice'
+complete -c helgrothy -n '__helgrothy_is \'helgrothy words\'' -l seconds -r -f -d 'give up after S seconds'
+complete -c helgrothy -n '__helgrothy_is \'helgrothy roster\'' -s h -l help -d 'show this help message and exit'
+complete -c helgrothy -n '__helgrothy_is \'helgrothy roster\'' -l rest -d 'no shift on the next day that stands higher in the table'
+complete -c helgrothy -n '__helgrothy_is \'helgrothy roster\'' -l number -r -f -d 'the K-th solution instead of the first'
+complete -c helgrothy -n '__helgrothy_is \'helgrothy roster\'' -l limit -r -f -d 'the first N solutions'
+complete -c helgrothy -n '__helgrothy_is \'helgrothy roster\'' -l all -d 'all solutions'
+complete -c helgrothy -n '__helgrothy_is \'helgrothy roster\'' -l svg -d 'a picture as SVG, of one solution'
+complete -c helgrothy -n '__helgrothy_is \'helgrothy roster\'' -l json -d 'a line of JSON for each solution: its number, the numbers of its options, their items, and the colours'
+complete -c helgrothy -n '__helgrothy_is \'helgrothy roster\'' -l csv -d 'a table as CSV, with a line for each choice'
+complete -c helgrothy -n '__helgrothy_is \'helgrothy roster\'' -l seconds -r -f -d 'give up after S seconds'
+complete -c helgrothy -n '__helgrothy_is \'helgrothy roundrobin\'' -s h -l help -d 'show this help message and exit'
+complete -c helgrothy -n '__helgrothy_is \'helgrothy roundrobin\'' -l double -d 'each two teams meet twice, once at each one\'s home'
+complete -c helgrothy -n '__helgrothy_is \'helgrothy roundrobin\'' -l number -r -f -d 'the K-th solution instead of the first'
+complete -c helgrothy -n '__helgrothy_is \'helgrothy roundrobin\'' -l limit -r -f -d 'the first N solutions'
+complete -c helgrothy -n '__helgrothy_is \'helgrothy roundrobin\'' -l all -d 'all solutions'
+complete -c helgrothy -n '__helgrothy_is \'helgrothy roundrobin\'' -l svg -d 'a picture as SVG, of one solution'
+complete -c helgrothy -n '__helgrothy_is \'helgrothy roundrobin\'' -l json -d 'a line of JSON for each solution: its number, the numbers of its options, their items, and the colours'
+complete -c helgrothy -n '__helgrothy_is \'helgrothy roundrobin\'' -l csv -d 'a table as CSV, with a line for each choice'
+complete -c helgrothy -n '__helgrothy_is \'helgrothy roundrobin\'' -l seconds -r -f -d 'give up after S seconds'
+complete -c dlx1 -n '__helgrothy_is \'dlx1\' 1+' -f -a 'm1 m1000 t1 t2'
+complete -c dlx2 -n '__helgrothy_is \'dlx2\' 1+' -f -a 'm1 m1000 t1 t2'
+complete -c dlx3 -n '__helgrothy_is \'dlx3\' 1+' -f -a 'm1 m1000 t1 t2'
+complete -c dlxcheck -n '__helgrothy_is \'dlxcheck\' 1' -f -a '(__fish_complete_suffix .dlx)'
+complete -c dlxcheck -n '__helgrothy_is \'dlxcheck\' 2' -f -a '1 2 3'
+complete -c dlx-plan -n '__helgrothy_is \'dlx-plan\' 1' -f -a '1 2 3'
+complete -c dlx-below -n '__helgrothy_is \'dlx-below\' 1' -f -a '1 2 3'
+complete -c dlx-below -n '__helgrothy_is \'dlx-below\' 2' -f -a 'm0 m1'
+complete -c dlx-split -n '__helgrothy_is \'dlx-split\' 1' -f -a 'dlx1 dlx2 dlx3'
+complete -c dlx-split -n '__helgrothy_is \'dlx-split\' 2' -f -a '(__fish_complete_suffix .dlx)'
+complete -c dlx-split -n '__helgrothy_is \'dlx-split\' 3' -f -a '(__fish_complete_directories)'
+complete -c dlx-run -n '__helgrothy_is \'dlx-run\' 1' -f -a '(__fish_complete_directories)'
+complete -c dlx-run -n '__helgrothy_is \'dlx-run\' 2' -f -a 'all'
+complete -c dlx-run -n '__helgrothy_is \'dlx-run\' 3+' -f -a 'm1'
+complete -c dlx-join -n '__helgrothy_is \'dlx-join\' 1' -f -a '(__fish_complete_directories)'
+complete -c dlx-parts -n '__helgrothy_is \'dlx-parts\' 1' -f -a '(__fish_complete_directories)'
+complete -c helgrothy -n '__helgrothy_is \'helgrothy make sudoku\' 1' -F
+complete -c helgrothy -n '__helgrothy_is \'helgrothy make queens\' 1' -F
+complete -c helgrothy -n '__helgrothy_is \'helgrothy make polyominoes\' 1' -F -a 'pentominoes tetrominoes'
+complete -c helgrothy -n '__helgrothy_is \'helgrothy make polyominoes\' 2' -F
+complete -c helgrothy -n '__helgrothy_is \'helgrothy make words\' 1' -F
+complete -c helgrothy -n '__helgrothy_is \'helgrothy make words\' 2' -F
+complete -c helgrothy -n '__helgrothy_is \'helgrothy make roster\' 1' -F
+complete -c helgrothy -n '__helgrothy_is \'helgrothy make roundrobin\' 1' -F
+complete -c helgrothy -n '__helgrothy_is \'helgrothy solve\' 1' -f -a '(__fish_complete_suffix .dlx)'
+complete -c helgrothy -n '__helgrothy_is \'helgrothy draw\' 1' -f -a '(__fish_complete_suffix .dlx)'
+complete -c helgrothy -n '__helgrothy_is \'helgrothy lint\' 1' -f -a '(__fish_complete_suffix .dlx)'
+complete -c helgrothy -n '__helgrothy_is \'helgrothy export\' 1' -f -a 'asp cnf opb'
+complete -c helgrothy -n '__helgrothy_is \'helgrothy export\' 2' -f -a '(__fish_complete_suffix .dlx)'
+complete -c helgrothy -n '__helgrothy_is \'helgrothy why\' 1' -f -a '(__fish_complete_suffix .dlx)'
+complete -c helgrothy -n '__helgrothy_is \'helgrothy sudoku\' 1' -F
+complete -c helgrothy -n '__helgrothy_is \'helgrothy queens\' 1' -F
+complete -c helgrothy -n '__helgrothy_is \'helgrothy polyominoes\' 1' -F -a 'pentominoes tetrominoes'
+complete -c helgrothy -n '__helgrothy_is \'helgrothy polyominoes\' 2' -F
+complete -c helgrothy -n '__helgrothy_is \'helgrothy words\' 1' -F
+complete -c helgrothy -n '__helgrothy_is \'helgrothy words\' 2' -F
+complete -c helgrothy -n '__helgrothy_is \'helgrothy roster\' 1' -F
+complete -c helgrothy -n '__helgrothy_is \'helgrothy roundrobin\' 1' -F

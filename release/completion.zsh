@@ -1,0 +1,198 @@
+#compdef dlx1 dlx2 dlx3 dlxcheck dlx-plan dlx-below dlx-split dlx-run dlx-join dlx-parts dlx-progress helgrothy
+# Completion of the words of programs and commands in zsh. Made by scripts/completion: changes belong there.
+
+# Completes a word as what it may be: words, behind `file` those or a file, `problem` or `folder`.
+_helgrothy_complete() {
+    case $1 in
+        problem) _files -g '*.dlx' ;;
+        folder) _files -/ ;;
+        file*) (( ${#${=1}} > 1 )) && compadd -- ${${=1}[2,-1]}; _files ;;
+        'words '*) compadd -- ${${=1}[2,-1]} ;;
+        *) return 1 ;;
+    esac
+}
+
+_helgrothy() {
+    local path_=${words[1]:t} value given
+    local -a options commands
+    local -i place=1 at
+    for ((at = 2; at < CURRENT; at++)); do
+        given=${words[at]}
+        if _helgrothy_value "$path_ $given"; then
+            if ((++at >= CURRENT)); then
+                _helgrothy_complete "$value"
+                return
+            fi
+        elif [[ $given != -?* ]]; then
+            if _helgrothy_options "$path_ $given"; then
+                path_+=" $given" place=1
+            else
+                ((place++))
+            fi
+        fi
+    done
+    _helgrothy_options "$path_"
+    _helgrothy_place "$path_" "$place"
+    if [[ $PREFIX == -* ]]; then
+        if [[ $PREFIX == --*=* ]] && _helgrothy_value "$path_ ${PREFIX%%=*}"; then
+            compset -P '*='
+            _helgrothy_complete "$value"
+            return
+        fi
+        _describe -o option options
+    elif ((place == 1 && $#commands)); then
+        _describe command commands
+    else
+        _helgrothy_complete "$value" || _describe -o option options
+    fi
+}
+
+# The options and commands of a command, if there is such a one.
+_helgrothy_options() {
+    case $1 in
+        'dlx1')
+            options=()
+            commands=() ;;
+        'dlx2')
+            options=()
+            commands=() ;;
+        'dlx3')
+            options=()
+            commands=() ;;
+        'dlxcheck')
+            options=()
+            commands=() ;;
+        'dlx-plan')
+            options=()
+            commands=() ;;
+        'dlx-below')
+            options=()
+            commands=() ;;
+        'dlx-split')
+            options=('--help:show this help message and exit' '--version:show program'\''s version number and exit' '--parts:at least N parts (default: 100)' '--seconds:until no part is judged to take longer')
+            commands=() ;;
+        'dlx-run')
+            options=('--help:show this help message and exit' '--version:show program'\''s version number and exit')
+            commands=() ;;
+        'dlx-join')
+            options=('--help:show this help message and exit' '--version:show program'\''s version number and exit')
+            commands=() ;;
+        'dlx-parts')
+            options=('--help:show this help message and exit' '--version:show program'\''s version number and exit' '--undone:the undone parts alone, as sbatch --array= takes them')
+            commands=() ;;
+        'dlx-progress')
+            options=('--help:show this help message and exit' '--version:show program'\''s version number and exit')
+            commands=() ;;
+        'helgrothy')
+            options=('--help:show this help message and exit' '--version:show program'\''s version number and exit')
+            commands=('make:write a problem' 'solve:solve a problem and draw what is found' 'draw:draw a listing' 'lint:tell all faults and slips of a problem' 'export:write a problem for another solver' 'why:tell which items conflict where there is no solution' 'sudoku:make and solve a Sudoku from its clues' 'queens:make and solve queens on a board, or in coloured regions' 'langford:make and solve Langford'\''s pairs' 'polyominoes:make and solve pieces of squares that fill a region' 'words:make and solve words across and down in a grid' 'roster:make and solve shifts of people on days' 'roundrobin:make and solve a round robin at home and away') ;;
+        'helgrothy make')
+            options=('--help:show this help message and exit')
+            commands=('sudoku:a Sudoku from its clues' 'queens:queens on a board, or in coloured regions' 'langford:Langford'\''s pairs' 'polyominoes:pieces of squares that fill a region' 'words:words across and down in a grid' 'roster:shifts of people on days' 'roundrobin:a round robin at home and away') ;;
+        'helgrothy make sudoku')
+            options=('--help:show this help message and exit')
+            commands=() ;;
+        'helgrothy make queens')
+            options=('--help:show this help message and exit')
+            commands=() ;;
+        'helgrothy make langford')
+            options=('--help:show this help message and exit')
+            commands=() ;;
+        'helgrothy make polyominoes')
+            options=('--help:show this help message and exit' '--no-turns:pieces may not be turned' '--no-mirrors:pieces may not be mirrored')
+            commands=() ;;
+        'helgrothy make words')
+            options=('--help:show this help message and exit')
+            commands=() ;;
+        'helgrothy make roster')
+            options=('--help:show this help message and exit' '--rest:no shift on the next day that stands higher in the table')
+            commands=() ;;
+        'helgrothy make roundrobin')
+            options=('--help:show this help message and exit' '--double:each two teams meet twice, once at each one'\''s home')
+            commands=() ;;
+        'helgrothy solve')
+            options=('--help:show this help message and exit' '--number:the K-th solution instead of the first' '--limit:the first N solutions' '--all:all solutions' '--svg:a picture as SVG, of one solution' '--json:a line of JSON for each solution: its number, the numbers of its options, their items, and the colours' '--csv:a table as CSV, with a line for each choice' '--seconds:give up after S seconds' '--cell:a regular expression that finds the cells in an option'\''s line; its first two groups (or those named row and column) are row and column, a number or a single letter, and a third one its label' '--row:a regular expression that finds the name of a row in the words of an option: the picture is a table of these names, in the order of the file' '--column:a regular expression that finds the name of a column in the words of an option: the picture is a table of these names, in the order of the file' '--label:a regular expression that finds the label in an option'\''s line')
+            commands=() ;;
+        'helgrothy draw')
+            options=('--help:show this help message and exit' '--number:the solution of this number alone' '--svg:a picture as SVG, of the first solution or that of --number' '--json:a line of JSON for each solution: its number, the numbers of its options, their items, and the colours' '--csv:a table as CSV, with a line for each choice' '--cell:a regular expression that finds the cells in an option'\''s line; its first two groups (or those named row and column) are row and column, a number or a single letter, and a third one its label' '--row:a regular expression that finds the name of a row in the words of an option: the picture is a table of these names, in the order of the file' '--column:a regular expression that finds the name of a column in the words of an option: the picture is a table of these names, in the order of the file' '--label:a regular expression that finds the label in an option'\''s line')
+            commands=() ;;
+        'helgrothy lint')
+            options=('--help:show this help message and exit' '--for:default: dlx3')
+            commands=() ;;
+        'helgrothy export')
+            options=('--help:show this help message and exit')
+            commands=() ;;
+        'helgrothy why')
+            options=('--help:show this help message and exit' '--seconds:the time (default: 10)')
+            commands=() ;;
+        'helgrothy sudoku')
+            options=('--help:show this help message and exit' '--number:the K-th solution instead of the first' '--limit:the first N solutions' '--all:all solutions' '--svg:a picture as SVG, of one solution' '--json:a line of JSON for each solution: its number, the numbers of its options, their items, and the colours' '--csv:a table as CSV, with a line for each choice' '--seconds:give up after S seconds')
+            commands=() ;;
+        'helgrothy queens')
+            options=('--help:show this help message and exit' '--number:the K-th solution instead of the first' '--limit:the first N solutions' '--all:all solutions' '--svg:a picture as SVG, of one solution' '--json:a line of JSON for each solution: its number, the numbers of its options, their items, and the colours' '--csv:a table as CSV, with a line for each choice' '--seconds:give up after S seconds')
+            commands=() ;;
+        'helgrothy langford')
+            options=('--help:show this help message and exit' '--number:the K-th solution instead of the first' '--limit:the first N solutions' '--all:all solutions' '--svg:a picture as SVG, of one solution' '--json:a line of JSON for each solution: its number, the numbers of its options, their items, and the colours' '--csv:a table as CSV, with a line for each choice' '--seconds:give up after S seconds')
+            commands=() ;;
+        'helgrothy polyominoes')
+            options=('--help:show this help message and exit' '--no-turns:pieces may not be turned' '--no-mirrors:pieces may not be mirrored' '--number:the K-th solution instead of the first' '--limit:the first N solutions' '--all:all solutions' '--svg:a picture as SVG, of one solution' '--json:a line of JSON for each solution: its number, the numbers of its options, their items, and the colours' '--csv:a table as CSV, with a line for each choice' '--seconds:give up after S seconds')
+            commands=() ;;
+        'helgrothy words')
+            options=('--help:show this help message and exit' '--number:the K-th solution instead of the first' '--limit:the first N solutions' '--all:all solutions' '--svg:a picture as SVG, of one solution' '--json:a line of JSON for each solution: its number, the numbers of its options, their items, and the colours' '--csv:a table as CSV, with a line for each choice' '--seconds:give up after S seconds')
+            commands=() ;;
+        'helgrothy roster')
+            options=('--help:show this help message and exit' '--rest:no shift on the next day that stands higher in the table' '--number:the K-th solution instead of the first' '--limit:the first N solutions' '--all:all solutions' '--svg:a picture as SVG, of one solution' '--json:a line of JSON for each solution: its number, the numbers of its options, their items, and the colours' '--csv:a table as CSV, with a line for each choice' '--seconds:give up after S seconds')
+            commands=() ;;
+        'helgrothy roundrobin')
+            options=('--help:show this help message and exit' '--double:each two teams meet twice, once at each one'\''s home' '--number:the K-th solution instead of the first' '--limit:the first N solutions' '--all:all solutions' '--svg:a picture as SVG, of one solution' '--json:a line of JSON for each solution: its number, the numbers of its options, their items, and the colours' '--csv:a table as CSV, with a line for each choice' '--seconds:give up after S seconds')
+            commands=() ;;
+        *) return 1 ;;
+    esac
+}
+
+# What an option of a command takes.
+_helgrothy_value() {
+    value=
+    case $1 in
+        'dlx-split --parts' | 'dlx-split --seconds' | 'helgrothy solve --number' | 'helgrothy solve --limit' | 'helgrothy solve --seconds' | 'helgrothy solve --cell' | 'helgrothy solve --row' | 'helgrothy solve --column' | 'helgrothy solve --label' | 'helgrothy draw --number' | 'helgrothy draw --cell' | 'helgrothy draw --row' | 'helgrothy draw --column' | 'helgrothy draw --label' | 'helgrothy why --seconds' | 'helgrothy sudoku --number' | 'helgrothy sudoku --limit' | 'helgrothy sudoku --seconds' | 'helgrothy queens --number' | 'helgrothy queens --limit' | 'helgrothy queens --seconds' | 'helgrothy langford --number' | 'helgrothy langford --limit' | 'helgrothy langford --seconds' | 'helgrothy polyominoes --number' | 'helgrothy polyominoes --limit' | 'helgrothy polyominoes --seconds' | 'helgrothy words --number' | 'helgrothy words --limit' | 'helgrothy words --seconds' | 'helgrothy roster --number' | 'helgrothy roster --limit' | 'helgrothy roster --seconds' | 'helgrothy roundrobin --number' | 'helgrothy roundrobin --limit' | 'helgrothy roundrobin --seconds')
+            value='words' ;;
+        'helgrothy lint --for')
+            value='words dlx1 dlx2 dlx3' ;;
+        *) return 1 ;;
+    esac
+}
+
+# What may stand in a place of a command's words.
+_helgrothy_place() {
+    value=
+    case $1:$2 in
+        'dlxcheck:1' | 'dlx-split:2' | 'helgrothy solve:1' | 'helgrothy draw:1' | 'helgrothy lint:1' | 'helgrothy export:2' | 'helgrothy why:1')
+            value='problem' ;;
+        'dlxcheck:2' | 'dlx-plan:1' | 'dlx-below:1')
+            value='words 1 2 3' ;;
+        'dlx-below:2')
+            value='words m0 m1' ;;
+        'dlx-split:1')
+            value='words dlx1 dlx2 dlx3' ;;
+        'dlx-split:3' | 'dlx-run:1' | 'dlx-join:1' | 'dlx-parts:1')
+            value='folder' ;;
+        'dlx-run:2')
+            value='words all' ;;
+        'helgrothy:1')
+            value='words make solve draw lint export why sudoku queens langford polyominoes words roster roundrobin' ;;
+        'helgrothy make:1')
+            value='words sudoku queens langford polyominoes words roster roundrobin' ;;
+        'helgrothy make sudoku:1' | 'helgrothy make queens:1' | 'helgrothy make polyominoes:2' | 'helgrothy make words:1' | 'helgrothy make words:2' | 'helgrothy make roster:1' | 'helgrothy make roundrobin:1' | 'helgrothy sudoku:1' | 'helgrothy queens:1' | 'helgrothy polyominoes:2' | 'helgrothy words:1' | 'helgrothy words:2' | 'helgrothy roster:1' | 'helgrothy roundrobin:1')
+            value='file' ;;
+        'helgrothy make polyominoes:1' | 'helgrothy polyominoes:1')
+            value='file pentominoes tetrominoes' ;;
+        'helgrothy export:1')
+            value='words asp cnf opb' ;;
+        'dlx1:'* | 'dlx2:'* | 'dlx3:'*)
+            value='words m1 m1000 t1 t2' ;;
+        'dlx-run:'*)
+            value='words m1' ;;
+    esac
+}
+
+_helgrothy "$@"

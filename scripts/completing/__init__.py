@@ -1,0 +1,1 @@
+"""Completion for shells, from the parsers of the commands."""

@@ -1,0 +1,115 @@
+"""What may stand in each place of a command's words: told by the parsers, or here for what has none."""
+
+from __future__ import annotations
+
+import argparse
+from dataclasses import dataclass, field
+from typing import Any, Dict, Iterator, List, NoReturn, Optional, Tuple
+from unittest import mock
+
+from helgrothy.__main__ import _parser
+from helgrothy.make.polyominoes import SETS
+from helgrothy.parts.__main__ import _COMMANDS
+
+# What a word may be: any of some words, a file, a folder, a problem (a file that ends with .dlx), or something that
+# nobody can guess.
+FILE, FOLDER, PROBLEM = "file", "folder", "problem"
+_BY_NAME = {"PROBLEM": PROBLEM, "FOLDER": FOLDER, "LISTING": FILE}
+# Those whose help says that they are files, or may be.
+_FILES = ("CLUES", "N|REGIONS", "PIECES", "REGION", "GRID", "LIST", "TABLE", "TEAMS")
+_WORDS = {"PIECES": sorted(SETS), "PARTS": ["all"], "m1": ["m1"]}
+
+
+@dataclass(frozen=True)
+class Value:
+    """What a word may be."""
+
+    words: Tuple[str, ...] = ()
+    files: str = ""
+
+    def __str__(self) -> str:
+        return " ".join([self.files or "words", *self.words])
+
+
+@dataclass(frozen=True)
+class Option:
+    """An option: its names, its help, and its value, if it takes one."""
+
+    names: Tuple[str, ...]
+    help: str
+    value: Optional[Value] = None
+
+
+@dataclass
+class Command:
+    """A command by its names one behind another, its options, the places of its words and its own commands.
+
+    goes_on: whether the last place may be repeated.
+    """
+
+    path: str
+    options: List[Option] = field(default_factory=list)
+    places: List[Value] = field(default_factory=list)
+    goes_on: bool = False
+    commands: Dict[str, str] = field(default_factory=dict)
+
+
+def all_commands() -> Iterator[Command]:
+    """All programs and commands, each before its own."""
+    kinds = Value(("1", "2", "3"))
+    for program in ("dlx1", "dlx2", "dlx3"):
+        yield Command(program, places=[Value(("m1", "m1000", "t1", "t2"))], goes_on=True)
+    yield Command("dlxcheck", places=[Value(files=PROBLEM), kinds])
+    yield Command("dlx-plan", places=[kinds])
+    yield Command("dlx-below", places=[kinds, Value(("m0", "m1"))])
+    for name in _COMMANDS:
+        yield from _of(name, _parser_of(name))
+    yield from _of("helgrothy", _parser())
+
+
+class _Seen(Exception):
+    """The parser that a command has made."""
+
+
+def _parser_of(command: str) -> argparse.ArgumentParser:
+    """The parser of a command, which makes it where it runs."""
+
+    def see(parser: argparse.ArgumentParser, *_: Any, **__: Any) -> NoReturn:
+        raise _Seen(parser)
+
+    with mock.patch.object(argparse.ArgumentParser, "parse_args", see):
+        try:
+            _COMMANDS[command]([])
+        except _Seen as seen:
+            parser: argparse.ArgumentParser = seen.args[0]
+            return parser
+    raise ValueError(f"{command} has no parser")
+
+
+def _of(path: str, parser: argparse.ArgumentParser) -> Iterator[Command]:
+    command = Command(path)
+    below: List[Command] = []
+    for action in parser._actions:
+        if isinstance(action, argparse._SubParsersAction):
+            command.commands = {choice.dest: choice.help or "" for choice in action._choices_actions}
+            for name, its_parser in action.choices.items():
+                below += _of(f"{path} {name}", its_parser)
+        elif action.option_strings:
+            value = None if action.nargs == 0 else _value(action)
+            command.options.append(Option(tuple(action.option_strings), _help(action), value))
+        else:
+            command.places.append(_value(action))
+            command.goes_on = action.nargs == "*"
+    yield command
+    yield from below
+
+
+def _value(action: argparse.Action) -> Value:
+    if action.choices is not None:
+        return Value(tuple(map(str, action.choices)))
+    name = str(action.metavar)
+    return Value(tuple(_WORDS.get(name, ())), _BY_NAME.get(name, FILE if name in _FILES else ""))
+
+
+def _help(action: argparse.Action) -> str:
+    return " ".join((action.help or "").split())

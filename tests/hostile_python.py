@@ -1,0 +1,712 @@
+#!/usr/bin/env python3
+"""hostile_python.py [TRIES [SEED]]: tries the commands of the Python package on what is made to hurt them.
+
+Texts, listings, tables, patterns, words and folders of parts of all kinds, by a seed, so that the same tries come
+again. Of each try: no traceback, no end by want of memory, an answer in time, a status that the manual has, no byte on
+a terminal that steers it, and an SVG that is well formed and holds nothing active. Most call `main` in a process that
+does many; texts of 1 MB, closed streams, terminals and folders with Python files and programs of others in them are
+processes of their own. A try that goes wrong is told in a line. The last line is `N passed, M failed`.
+"""
+
+import contextlib
+import io
+import itertools
+import json
+import os
+import pty
+import random
+import resource
+import select
+import shutil
+import signal
+import subprocess
+import sys
+import tempfile
+import time
+import traceback
+import xml.etree.ElementTree
+from unittest import mock
+
+TOP = os.path.dirname(os.path.dirname(os.path.abspath(__file__)))
+sys.path.insert(0, os.path.join(TOP, "python"))
+
+from helgrothy import __main__ as commands  # noqa: E402
+from helgrothy import make, parts  # noqa: E402
+from helgrothy.parts import __main__ as part_commands  # noqa: E402
+
+SCRIPT = os.path.join(TOP, "scripts", "helgrothy")
+# A try may take so many seconds on a machine that does other things too, and so much memory.
+HANG, MEMORY = 30, 3 << 30
+# A text of 1 MB that is made to hurt takes so many times what an ordinary one takes, and a little more, at most.
+TIMES, MORE = 3, 0.3
+ELEMENTS = {"svg", "title", "rect", "path", "text", "g"}
+ATTRIBUTES = {
+    "width", "height", "viewBox", "font-family", "font-size", "font-weight", "text-anchor", "x", "y", "fill", "d",
+    "stroke", "stroke-width", "stroke-linecap", "transform",
+}  # fmt: skip
+
+# Bytes that have a meaning to terminals, browsers, shells, Python or the texts of problems.
+EVIL = [
+    b"\x1b]0;owned\x07", b"\x1b[2J", b"\x9b31m", b"\xc2\x9b31m", b"\x7f", b"\x01", b"\xff\xfe", b"\xed\xa0\x80",
+    b"<script>alert(1)</script>", b"]]>", b"&lt;", b"&#0;", b"\"onload='x'", b"<!--", b"<![CDATA[", b"{0}", b"%s", b"$(id)",
+    "\u202egnp.exe".encode(), "\ufeff".encode(), "\u2028".encode(), "\u00a0".encode(), "\u0661".encode(),
+    "\u00b2".encode(), b"null", b"r1", b"c1", b"s1", b"-", b"/", b"0", b"=", b"@", b"#", b"\\", b"'", b'"',
+    b"9" * 20, b"r999999999", b"c99999999", b"s99999999", b"x" * 32, b"y" * 33, b"a" * 31 + b"b", b"in-", b"k1-1",
+]  # fmt: skip
+WORDS = [
+    "0", "-1", "1", "2", "1_0", "1e400", "nan", "inf", "-inf", "", " 1", "\u0663", "9" * 20, "9" * 400, "18446744073709551615",
+    "-", "--", "\x1b[2J", "all", "1-2", "1/2", "1,2", "2-1", "m1", "m0", "t1", "/dev/null", "/", ".", "nowhere",
+    "\udcff", "a\nb", "dlx1", "dlx3", "4", "2x3", "99999x99999", "0x5", "99999", "-3",
+]  # fmt: skip
+PATTERNS = [
+    r"r(\d+)c(\d+)", r"(\w)(\w)", r"r(\d+) c(\d+)", r"\S+", r"(\d+)", r"(.)", "()()", "(", ")", "[", "a{99999999999}", "(" * 200 + ")" * 200,
+    r"(?P<row>\w)(?P<column>\w)", r"(?P<row>\w)?(?P<column>\w)?x?", r"(?P<colour_>a)(b)", r"(\w)(\w)?(\w)?(\w)?", r"(a)|(b)|(\w)",
+    r"(\S+) (\S+)", r"r(\d+) c(\d+)", r"\S+", ".*", "", "(?i)(a)(b)", r"(\w+)-(\d)", "\x1b(.)(.)", r"(?P<row>.)(?P<column>.)(?P<label>.)",
+]  # fmt: skip
+
+
+class Stream(io.TextIOWrapper):
+    """A standard stream in memory, which may claim to be a terminal."""
+
+    def __init__(self, raw: bytes = b"", is_terminal: bool = False) -> None:
+        super().__init__(io.BytesIO(raw), encoding="utf-8", errors="backslashreplace", write_through=True)
+        self.is_terminal = is_terminal
+
+    def isatty(self) -> bool:
+        return self.is_terminal
+
+    def told(self) -> bytes:
+        self.flush()
+        return self.buffer.getvalue()
+
+
+def steers(raw: bytes) -> bool:
+    """Whether bytes do more on a terminal than to be seen."""
+    try:
+        return not all(part.isprintable() for line in raw.decode().split("\n") for part in line.split("\t"))
+    except UnicodeDecodeError:
+        return True
+
+
+def wrong_with_svg(raw: bytes) -> str:
+    """What is wrong with an SVG, if anything."""
+    if b"<!" in raw or b"<?" in raw:
+        return "a declaration"
+    try:
+        root = xml.etree.ElementTree.fromstring(raw)
+    except xml.etree.ElementTree.ParseError as error:
+        return f"no XML: {error}"
+    for element in root.iter():
+        name = element.tag.rpartition("}")[2]
+        if not element.tag.startswith("{http://www.w3.org/2000/svg}") or name not in ELEMENTS:
+            return f"an element {name}"
+        if set(element.attrib) - ATTRIBUTES:
+            return f"attributes {set(element.attrib) - ATTRIBUTES}"
+        if any("(" in value for key, value in element.attrib.items() if key != "transform"):
+            return "an attribute that calls something"
+    return ""
+
+
+# ---- what is made to hurt
+
+
+def name(rng: random.Random) -> bytes:
+    if rng.random() < 0.6:
+        return rng.choice([b"A", b"B", b"C", b"x", b"y", b"r1", b"r2", b"c1", b"c2", b"r1c1", b"r2c1", b"a1", b"b2"])
+    return rng.choice(EVIL) + rng.choice([b"", b"", rng.choice(EVIL)])
+
+
+def text(rng: random.Random) -> bytes:
+    """A text of a problem, mostly with few faults."""
+    kind = rng.random()
+    if kind < 0.4:
+        return changed(rng, rng.choice(MADE))
+    primary = list(dict.fromkeys(name(rng) for _ in range(rng.randint(1, 6))))
+    secondary = [one for one in dict.fromkeys(name(rng) for _ in range(rng.randint(0, 3))) if one not in primary]
+    if kind < 0.92:
+        # Legal names, so that there is a problem behind them.
+        primary = [legal(one) for one in primary]
+        secondary = [one for one in map(legal, secondary) if one not in primary]
+    bounds = [b"", b"", b"", b"2|", b"0:1|", b"0:1|", b"1:3|", b"0:999999999|", b"3:2|"] if rng.random() < 0.3 else [b""]
+    head = [rng.choice(bounds) + one for one in dict.fromkeys(primary)]
+    lines = [b"| " + rng.choice([b"a comment", b"helgrothy make queens 4", b"\x1b[2J", *EVIL])] if rng.random() < 0.3 else []
+    lines.append(b" ".join([*head, b"|", *dict.fromkeys(secondary)] if secondary else head))
+    colours = [b"", b"", b":r", b":\x1b[1m", b":<b>", b":", b":" + b"c" * 9, b":\xff"]
+    for _ in range(rng.randint(0, 12)):
+        uses = rng.sample(primary, rng.randint(0, len(primary)))
+        uses += [one + rng.choice(colours[: rng.choice([2, 2, 5, 5, 5, 8])]) for one in secondary if rng.random() < 0.4]
+        if rng.random() < 0.02:
+            uses.append(name(rng))
+        lines.append(rng.choice([b" ", b" ", b"\t", b"\v"]).join(uses) + rng.choice([b"", b"", b"\r"]))
+        if rng.random() < 0.2:
+            lines.append(lines[-1])
+    return b"\n".join(lines) + rng.choice([b"", b"\n", b"\n\n", b"\n\0"] if rng.random() < 0.1 else [b"\n"])
+
+
+def legal(one: bytes) -> bytes:
+    return one.replace(b":", b".").replace(b"|", b".")[:32] or b"A"
+
+
+def changed(rng: random.Random, raw: bytes) -> bytes:
+    """A text with some of its words, lines or bytes changed."""
+    lines = raw.split(b"\n")
+    for _ in range(rng.choice([0, 0, 0, 1, 1, 2, 5])):
+        at = rng.randrange(len(lines))
+        words = lines[at].split(b" ")
+        where = rng.randrange(len(words))
+        what = rng.random()
+        if what < 0.2:
+            lines[at] = lines[at].replace(words[where], rng.choice(EVIL)) if words[where] else rng.choice(EVIL)
+        elif what < 0.5:
+            # Everywhere, so that it stays a problem.
+            lines = [line.replace(words[where] or b"?", legal(rng.choice(EVIL))) for line in lines]
+        elif what < 0.55:
+            words[where] = words[where].translate(bytes.maketrans(b"0123456789", bytes(rng.sample(b"0123456789", 10))))
+            lines[at] = b" ".join(words)
+        elif what < 0.7:
+            del words[where]
+            lines[at] = b" ".join(words)
+        elif what < 0.8:
+            del lines[at]
+            lines = lines or [b""]
+        elif what < 0.9:
+            lines.insert(at, rng.choice(lines))
+        else:
+            lines[at] = lines[at] + bytes([rng.randrange(256)])
+    return b"\n".join(lines)
+
+
+def listing(rng: random.Random, problem: bytes) -> bytes:
+    """A listing, of the problem or of none."""
+    lines = [line for line in problem.split(b"\n") if line.strip() and not line.startswith(b"|")]
+    uses = lines[1:] or [b"A"]
+    lines = []
+    for number in range(rng.randint(0, 4)):
+        lines.append(b"%d:" % rng.choice([number + 1, 0, 10**19, 10**25]) if rng.random() < 0.1 else b"%d:" % (number + 1))
+        for _ in range(rng.randint(0, 4)):
+            words = rng.choice(uses).split() or [b"A"]
+            turn = rng.randrange(len(words))
+            odd = [(b"1", b"0"), (b"9" * 400, b"1"), (b"0", b"2"), (b"-1", b"x")]
+            k, n = rng.choice(odd if rng.random() < 0.03 else [(b"1", b"1"), (b"2", b"3")])
+            lines.append(b" %s (%s of %s)" % (b" ".join(words[turn:] + words[:turn]), k, n))
+    return changed(rng, b"\n".join([*lines, b""]))
+
+
+ROSTER = b"-      mon tue wed\nearly  1   1   1\nlate   1   1   0:1\n\nann    2:3\nbob    2    -tue\ncat    1:2  -late\n"
+TEAMS = b"ann\nbob home:1\ncat\ndan away:2\n"
+GRID = b"...\n.#.\n...\n"
+LIST = b"tea ear tar ate eat rat art oat era are\n"
+PIECES = b"LL\nL\n\nII\n\nO\n"
+REGION = b"...\n.#.\n...\n"
+REGIONS = b"aabb\naabb\nccdd\nccdd\n"
+CLUES = b"1234\n3412\n2143\n43..\n"
+TABLES = [ROSTER, TEAMS, GRID, LIST, PIECES, REGION, REGIONS, CLUES]
+MADE = [
+    problem.text.encode()
+    for problem in (
+        make.queens.problem(4),
+        make.queens.problem(regions="abbb\naabc\ndacc\nddcc\n"),
+        make.langford.problem(3),
+        make.sudoku.problem(CLUES.decode()),
+        make.roster.problem(ROSTER.decode()),
+        make.roundrobin.problem(TEAMS.decode().splitlines()),
+        make.words.problem(GRID.decode(), LIST.decode().split()),
+        make.polyominoes.problem("LL\nL\n\nII\n\nO\n", "...\n...\n"),
+    )
+]
+
+
+# ---- tries in this process
+
+
+class Try:
+    """A try: a command's name and words, what standard input gives, and whether standard output is a terminal."""
+
+    def __init__(self, rng: random.Random, folder: str) -> None:
+        self.rng = rng
+        self.folder = folder
+        self.files = 0
+        self.given = b""
+        self.is_terminal = rng.random() < 0.5
+        make_words = rng.choices(
+            [self.solve, self.draw, self.lint, self.export, self.why, self.kind, self.make, self.odd, self.parts, self.progress],
+            [20, 16, 12, 6, 6, 14, 8, 6, 10, 6],
+        )[0]
+        self.name, self.words = make_words()
+
+    def file(self, content: bytes) -> str:
+        self.files += 1
+        path = os.path.join(self.folder, f"{self.files}{self.rng.choice(['', '.dlx', chr(27), chr(0xDCFF)])}")
+        with open(path, "wb") as file:
+            file.write(content)
+        return path
+
+    def input(self, content: bytes):
+        """A file, or standard input."""
+        if self.rng.random() < 0.5:
+            return self.file(content)
+        self.given = content
+        return "-"
+
+    def pattern(self) -> str:
+        return self.rng.choice(PATTERNS[:4] if self.rng.random() < 0.5 else PATTERNS)
+
+    def forms(self):
+        rng = self.rng
+        words = rng.choice([[], ["--svg"], ["--svg"], ["--json"], ["--csv"]])
+        if rng.random() < 0.35:
+            words += [f"--cell={self.pattern()}"]
+        elif rng.random() < 0.3:
+            words += [f"--{axis}={self.pattern()}" for axis in rng.choice([["row"], ["column"], ["row", "column"]])]
+        if rng.random() < 0.2:
+            words += [f"--label={self.pattern()}"]
+        return words
+
+    def choice(self):
+        rng = self.rng
+        words = rng.choice([[], ["--all"], ["--limit", "3"], ["--number", "2"]])
+        if rng.random() < 0.1:
+            words = [rng.choice(["--number", "--limit", "--seconds"]), rng.choice(WORDS)]
+        return [*words, *([] if "--seconds" in words else ["--seconds", "5"])]
+
+    def solve(self):
+        forms = self.forms()
+        choice = ["--seconds", "5"] if "--svg" in forms and self.rng.random() < 0.9 else self.choice()
+        return "helgrothy", ["solve", self.input(text(self.rng)), *choice, *forms]
+
+    def draw(self):
+        problem = text(self.rng)
+        self.given = listing(self.rng, problem)
+        which = ["--number", self.rng.choice(["1", "2", self.rng.choice(WORDS)])] if self.rng.random() < 0.1 else []
+        return "helgrothy", ["draw", self.file(problem), *which, *self.forms()]
+
+    def lint(self):
+        return "helgrothy", ["lint", self.input(text(self.rng)), "--for", self.rng.choice(["dlx1", "dlx2", "dlx3"])]
+
+    def export(self):
+        return "helgrothy", ["export", self.rng.choice(["asp", "opb", "cnf"]), self.input(text(self.rng))]
+
+    def why(self):
+        return "helgrothy", ["why", self.input(text(self.rng)), "--seconds", "0.5"]
+
+    def kind_words(self):
+        rng = self.rng
+        kind = rng.choice(list(make.KINDS))
+        if kind == "langford":
+            return kind, [rng.choice(["3", "4", *WORDS])]
+        if kind == "sudoku":
+            return kind, [rng.choice([CLUES.decode().replace("\n", ""), self.input(changed(rng, CLUES)), *WORDS])]
+        if kind == "queens":
+            return kind, [rng.choice(["5", "6", self.input(changed(rng, rng.choice([REGIONS, *TABLES]))), *WORDS])]
+        given = {"words": [GRID, LIST], "polyominoes": [PIECES, REGION], "roster": [ROSTER], "roundrobin": [TEAMS]}[kind]
+        tables = [self.file(changed(rng, table if rng.random() < 0.9 else rng.choice(TABLES))) for table in given]
+        if rng.random() < 0.1:
+            tables[-1] = rng.choice(WORDS)
+        more = {"roster": ["--rest"], "roundrobin": ["--double"], "polyominoes": ["--no-turns"]}.get(kind, [])
+        return kind, [*tables, *(more if rng.random() < 0.3 else [])]
+
+    def kind(self):
+        kind, words = self.kind_words()
+        if self.rng.random() < 0.3:
+            return "helgrothy", [kind, *words, "--svg", "--seconds", "5"]
+        return "helgrothy", [kind, *words, *self.choice(), *self.rng.choice([[], ["--json"], ["--csv"]])]
+
+    def make(self):
+        kind, words = self.kind_words()
+        return "helgrothy", ["make", kind, *words]
+
+    def odd(self):
+        """Words that mean nothing, or something at another place."""
+        rng = self.rng
+        known = ["solve", "make", "draw", "lint", "why", "export", "queens", "--svg", "--seconds", "--help", "--version", "--number"]
+        self.given = text(rng)
+        name = rng.choice(["helgrothy", "helgrothy", "dlx-split", "dlx-run", "dlx-join", "dlx-parts", "dlx-progress", "dlx-none"])
+        # No run of a search without an end.
+        return name, [rng.choice([*known, *WORDS]) for _ in range(rng.randint(0, 4))]
+
+    def progress(self):
+        self.given = listing(self.rng, self.rng.choice(MADE))
+        return "dlx-progress", []
+
+    def parts(self):
+        """A folder of parts, damaged, and a command for it."""
+        rng = self.rng
+        folder = os.path.join(self.folder, "parts")
+        shutil.copytree(os.path.join(os.path.dirname(self.folder), f"parts{rng.randrange(4)}"), folder)
+        for _ in range(rng.randint(0, 3)):
+            self.damage(folder)
+        words = rng.choice([["dlx-parts"], ["dlx-parts", "--undone"], ["dlx-join"], ["dlx-join"], ["dlx-run"], ["dlx-run"]])
+        if words[0] != "dlx-run":
+            return words[0], [*words[1:], folder]
+        which = rng.choice(["all", "1", *WORDS]) if rng.random() < 0.5 else "all"
+        return "dlx-run", [folder, which, *rng.choice([["m1"], ["m1"], [], [rng.choice(WORDS)]])]
+
+    def damage(self, folder: str) -> None:
+        rng = self.rng
+        path = os.path.join(folder, rng.choice(sorted(os.listdir(folder))))
+        what = rng.randrange(8)
+        if what == 0 and not os.path.isdir(path):
+            os.remove(path)
+            rng.choice([os.mkdir, os.mkfifo, lambda to: os.symlink("/dev/zero", to), lambda to: os.symlink(to, to)])(path)
+        elif what == 1:
+            names = ["\u00b2.tmp", "00001.tmp", "00001.a.1.ff.tmp", "9" * 60 + ".a.1.ff.tmp", "00001.failed", "\udcff", "00002.done"]
+            with contextlib.suppress(OSError), open(os.path.join(folder, rng.choice(names)), "xb") as file:
+                file.write(rng.choice([b"", b"[" * 100_000, b"{}", b"5", b"\xff", b'{"part": 1, "words": [], "reason": "\\u001b[2J", "host": "x"}']))
+        elif what == 2 and os.path.isfile(path):
+            self.forge(path)
+        elif os.path.isfile(path) and not os.path.islink(path):
+            with open(path, "rb") as file:
+                content = file.read()
+            with open(path, "wb") as file:
+                file.write(changed(rng, content))
+
+    def forge(self, path: str) -> None:
+        """A record with right digests, of another form."""
+        with open(path, "rb") as file:
+            before, _, record = file.read().rpartition(b"| ")
+        try:
+            told = json.loads(record.rpartition(b" ")[0])
+        except ValueError:
+            return
+        field = self.rng.choice(list(told))
+        told[field] = self.rng.choice([None, -1, "x", [], {}, 1.5, 10**400, float("nan"), ["m1"], True, "\x1b[2J"])
+        raw = json.dumps(told).encode()
+        with open(path, "wb") as file:
+            file.write(b"%s| %s %s\n" % (before, raw, parts.plan.digest(raw).encode()))
+
+    def run(self) -> str:
+        """What is wrong, if anything."""
+        out, error = Stream(is_terminal=self.is_terminal), Stream(is_terminal=True)
+        status = None
+        with mock.patch.object(sys, "stdin", Stream(self.given)), mock.patch.object(sys, "stdout", out):
+            with mock.patch.object(sys, "stderr", error):
+                try:
+                    if self.name == "helgrothy":
+                        status = commands.main(self.words)
+                    else:
+                        status = part_commands.main(self.name, self.words)
+                except SystemExit as ended:
+                    status = ended.code
+                except BaseException:
+                    return f"traceback: {traceback.format_exc()}"
+        return self.judge(status, out.told(), error.told())
+
+    def judge(self, status, out: bytes, error: bytes) -> str:
+        if status not in (0, 1, 2):
+            return f"status {status}"
+        if b"Traceback" in error or b"Exception ignored" in error:
+            return f"traceback: {error!r}"
+        if b"out of memory" in error:
+            return "out of memory"
+        if steers(error):
+            return f"bytes that steer a terminal in {error!r}"
+        if self.is_terminal and steers(out):
+            return f"bytes that steer a terminal in {out[:300]!r}"
+        if status == 2 and not error:
+            return "status 2 without a reason"
+        if status == 0 and "--svg" in self.words and self.words[0] not in ("make", "lint", "export", "why") and out.startswith(b"<"):
+            return wrong_with_svg(out)
+        return ""
+
+
+def prepare(top: str) -> None:
+    """Folders of parts, done and half done."""
+    for number in range(4):
+        folder = os.path.join(top, f"parts{number}")
+        with mock.patch("helgrothy.parts.planner.find", side_effect=parts.ProgramNotFound):
+            made = parts.split("dlx1", make.queens.problem(5).text.encode(), folder, parts=4)
+        for part in made.plan.parts[: None if number < 3 else 2]:
+            parts.run(made, part.number, ["m1"])
+
+
+def try_all(tries: int, seed: int, top: str) -> int:
+    """How many of so many tries go wrong: in processes that do many each, so that one that hangs can be ended."""
+    failed, start = 0, 0
+    while start < tries:
+        reading, writing = os.pipe()
+        child = os.fork()
+        if child == 0:
+            os.close(reading)
+            try_from(start, tries, seed, top, writing)
+        os.close(writing)
+        at, wrong = watched(child, reading, start)
+        failed += wrong
+        if at < tries:
+            failed += 1
+        start = at + 1
+    return failed
+
+
+def try_from(start: int, tries: int, seed: int, top: str, writing: int) -> None:
+    resource.setrlimit(resource.RLIMIT_AS, (MEMORY, MEMORY))
+    os.setpgid(0, 0)
+    for number in range(start, tries):
+        os.write(writing, b"begin %d\n" % number)
+        folder = tempfile.mkdtemp(dir=top)
+        one = Try(random.Random(f"{seed} {number}"), folder)
+        os.write(writing, f"words {[one.name, *one.words]!r}\n".encode("utf-8", "backslashreplace"))
+        wrong = one.run()
+        if wrong:
+            print(f"try {number} of seed {seed}: {[one.name, *one.words]!r}: {wrong}", flush=True)
+            os.write(writing, b"wrong\n")
+        shutil.rmtree(folder, ignore_errors=True)
+    os.write(writing, b"begin %d\n" % tries)
+    os._exit(0)
+
+
+def watched(child: int, reading: int, at: int):
+    """The number of the try at which a process ended, and how many went wrong."""
+    wrong, told, words = 0, b"", ""
+    with contextlib.closing(os.fdopen(reading, "rb", buffering=0)) as pipe:
+        while True:
+            if not select.select([pipe], [], [], HANG)[0]:
+                print(f"try {at}: no answer in {HANG} seconds: {words}", flush=True)
+                os.killpg(child, signal.SIGKILL)
+                break
+            chunk = pipe.read(1 << 16)
+            if not chunk:
+                break
+            *lines, told = (told + chunk).split(b"\n")
+            for line in lines:
+                what, _, rest = line.partition(b" ")
+                if what == b"begin":
+                    at = int(rest)
+                elif what == b"words":
+                    words = rest.decode()
+                else:
+                    wrong += 1
+    _, status = os.waitpid(child, 0)
+    if os.waitstatus_to_exitcode(status) > 0:
+        print(f"try {at}: the process ended with {os.waitstatus_to_exitcode(status)}: {words}", flush=True)
+    return at, wrong
+
+
+# ---- tries by processes
+
+
+class Processes:
+    """Tries that are processes of their own."""
+
+    def __init__(self, top: str) -> None:
+        self.top = top
+        self.bin = os.path.join(top, "bin")
+        os.mkdir(self.bin)
+        for one in ("helgrothy", "dlx-split", "dlx-run", "dlx-join", "dlx-parts", "dlx-progress"):
+            os.symlink(SCRIPT, os.path.join(self.bin, one))
+        self.passed = self.failed = 0
+        # The Python that runs this file.
+        self.environment = {**os.environ, "PATH": f"{os.path.dirname(sys.executable)}:/usr/bin:/bin"}
+
+    def tell(self, is_well: bool, what: str) -> None:
+        self.passed += is_well
+        self.failed += not is_well
+        if not is_well:
+            print(what, flush=True)
+
+    def shell(self, script: str, cwd=None, **environment):
+        """A run of a script by the shell, in which the commands have their names."""
+        told = {**self.environment, "PATH": f"{self.bin}:{self.environment['PATH']}", **environment}
+        how = {"cwd": cwd or self.top, "env": told, "stdin": subprocess.DEVNULL, "capture_output": True}
+        # What doesn't end by itself has the status 124.
+        return subprocess.run(["timeout", str(2 * HANG), "/bin/sh", "-c", script], **how)
+
+    def file(self, name: str, content: bytes) -> str:
+        path = os.path.join(self.top, name)
+        with open(path, "wb") as file:
+            file.write(content)
+        return path
+
+    def closed_streams(self) -> None:
+        """Standard streams in all combinations: messages never reach the listing, and what couldn't be said is told."""
+        self.file("p.dlx", b"A | x\nx\nA x\nA\n")
+        self.shell("dlx-split dlx1 p.dlx f && dlx-run f all m1")
+        for command, printed in (
+            ("dlx-join f", b"1:\n A x (1 of 2)\n2:\n A (2 of 2)\n"),
+            ("helgrothy solve p.dlx --all", b"A x\n\nA\n"),
+            ("helgrothy solve --all", b"A x\n\nA\n"),
+            ("helgrothy lint p.dlx", b"line 2: an option without a primary item is ignored\n"),
+            ("helgrothy why p.dlx", b""),
+            ("helgrothy make langford 1", None),
+            ("dlx-parts f", None),
+            ("dlx-progress", b""),
+        ):
+            for streams in itertools.product(("<p.dlx", "<&-"), (">listing", ">&-", ">/dev/full"), ("2>told", "2>&-", "2>/dev/full")):
+                self.shell("rm -f listing told")
+                done = self.shell(f"{command} {' '.join(streams)}; echo $? >status")
+                told, listed = (self.shell(f"cat {one} 2>/dev/null").stdout for one in ("told", "listing"))
+                is_right = printed is None or listed in (b"", printed)
+                is_said = int(self.shell("cat status").stdout) != 0 or streams[1:] == (">listing", "2>told")
+                is_said = is_said or command in ("helgrothy make langford 1", "dlx-parts f") and streams[1] == ">listing"
+                is_well = is_right and is_said and b"Traceback" not in told + done.stderr
+                self.tell(is_well, f"{command} {streams}: {done.stderr!r} {told!r} {listed!r}")
+
+    def strangers(self) -> None:
+        """A folder of another user's: Python files and programs that the commands must not run."""
+        folder = os.path.join(self.top, "strangers")
+        os.makedirs(os.path.join(folder, "helgrothy", "parts"))
+        modules = [one for one in sorted(sys.stdlib_module_names) if not one.startswith("_")] if hasattr(sys, "stdlib_module_names") else ["re", "random", "difflib", "colorsys", "argparse"]
+        for module in modules:
+            self.file(f"strangers/{module}.py", b"import os; os.write(2, b'HIJACKED')\n")
+        for module in ("__init__", "__main__", "parts/__init__", "parts/__main__"):
+            self.file(f"strangers/helgrothy/{module}.py", b"print('HIJACKED')\n")
+        for program in ("dlx1", "dlx2", "dlx3", "dlxcheck", "dlx-plan", "dlx-below", "cadical", "clasp"):
+            os.chmod(self.file(f"strangers/{program}", b"#!/bin/sh\necho HIJACKED >&2\n"), 0o755)
+        self.file("strangers/p.dlx", b"tuesday B\ntuesday\nB\n")
+        self.file("strangers/q.dlx", b"tuesday B\ntusday\n")
+        self.file("strangers/r.dlx", b"A B C\nA B\nB C\nA C\n")
+        for path in ({}, {"PYTHONPATH": "."}, {"PYTHONPATH": ":"}, {"PYTHONSTARTUP": "re.py"}, {"PYTHONHOME": "."}, {"PATH": f"{self.bin}:{self.environment['PATH']}:.::"}):
+            self.shell("rm -rf f", folder)
+            for command in (
+                "helgrothy lint q.dlx", "helgrothy solve p.dlx --all", "helgrothy queens 5 --svg", "helgrothy why r.dlx",
+                "helgrothy export cnf p.dlx", "dlx-split --parts 2 dlx1 p.dlx f", "dlx-run f all m1", "dlx-join f", "dlx-parts f",
+            ):  # fmt: skip
+                done = self.shell(command, folder, **path)
+                is_well = b"HIJACKED" not in done.stdout + done.stderr and b"Traceback" not in done.stderr and done.returncode in (0, 1)
+                self.tell(is_well, f"{command} with {path}: {done}")
+
+    def terminals(self) -> None:
+        """A terminal of the system, on both outputs."""
+        evil = [one for one in map(legal, EVIL) if not set(one) & set(b"\0 \t\n\v\f\r")]
+        path = self.file("evil.dlx", b" ".join(dict.fromkeys(evil)) + b"\n" + b"\n".join(evil) + b"\n")
+        wrong = self.file("wrong.dlx", b"A\n\x1b]0;pwn\x07\n")
+        for command in (["solve", path], ["lint", path], ["lint", wrong], ["solve", wrong], ["export", "asp", path], ["why", path],
+                        ["solve", path, "--cell", "(.)(.)"], ["solve", path, "--json"], ["solve", path, "--csv"], ["\x1b[2J"]):  # fmt: skip
+            child, terminal = pty.fork()
+            if child == 0:
+                os.execve(SCRIPT, ["helgrothy", *command], self.environment)
+            told = b""
+            with contextlib.suppress(OSError):
+                while True:
+                    told += os.read(terminal, 1 << 16)
+            os.waitpid(child, 0)
+            os.close(terminal)
+            self.tell(not steers(told.replace(b"\r\n", b"\n")), f"{command} on a terminal: {told!r}")
+
+    def large(self) -> None:
+        """Texts and listings of 1 MB: none takes much longer than an ordinary one, nor than it is given."""
+        hurting = large_texts()
+        ordinary = self.file("ordinary.dlx", hurting.pop("ordinary"))
+        for command in ("helgrothy lint", "helgrothy solve --svg --seconds 20", "helgrothy export opb"):
+            usual = self.used(f"{command} {ordinary} >/dev/null")
+            for what, content in hurting.items():
+                path = self.file("large.dlx", content)
+                seconds = self.used(f"{command} {path} >/dev/null")
+                self.tell(seconds <= TIMES * usual + MORE, f"{command}, {what}: {seconds:.1f} seconds, an ordinary text {usual:.1f}")
+        for what, content in hurting.items():
+            path = self.file("large.dlx", content)
+            for command in ("solve --seconds 1", "why --seconds 1"):
+                start = time.monotonic()
+                done = self.shell(f"helgrothy {command} {path}")
+                seconds = time.monotonic() - start
+                is_well = seconds < 4 and b"Traceback" not in done.stderr and b"out of memory" not in done.stderr
+                self.tell(is_well, f"{command}, {what}: {seconds:.1f} seconds, {done.stderr[-200:]!r}")
+        self.large_listings()
+
+    def large_listings(self) -> None:
+        problem = self.file("queens.dlx", make.queens.problem(8).text.encode())
+        one = b"1:\n" + b" r1 c1 b8 (1 of 1)\n" * 8
+        ordinary = self.file("listing", one * (1_000_000 // len(one)))
+        for command in (f"helgrothy draw {problem}", f"helgrothy draw {problem} --json", "dlx-progress"):
+            usual = self.used(f"{command} <{ordinary} >/dev/null")
+            for what, content in {
+                "no choices": b"".join(b"%d:\n" % number for number in range(1, 130_000)),
+                "one solution": b"1:\n" + b" r1 c1 b8 (1 of 1)\n" * 50_000,
+                "one line": b"1:\n " + b"r1 " * 330_000,
+                "brackets": b"1:\n " + b" (1 of" * 140_000 + b" 1)\n",
+                "NUL": b"\0" * 1_000_000,
+                "digits": b"9" * 1_000_000 + b":\n",
+                "blank lines": b"\n" * 1_000_000,
+            }.items():
+                path = self.file("large", content)
+                seconds = self.used(f"{command} <{path} >/dev/null")
+                # 130,000 solutions are as many boards or lines.
+                is_well = seconds <= TIMES * usual + MORE or what == "no choices" and seconds < 60
+                self.tell(is_well, f"{command}, {what}: {seconds:.1f} seconds, an ordinary listing {usual:.1f}")
+
+    def makers(self) -> None:
+        """Tables and numbers that ask for more than there can be."""
+        many = b" ".join(b"d%d" % number for number in range(2_000))
+        slots = b"- " + many + b"\n" + b"".join(b"s%d%s\n" % (shift, b" 1" * 2_000) for shift in range(100))
+        people = b"".join(b"p%d 1 -s0\n" % number for number in range(50_000))
+        for what, command in {
+            "queens": "queens 99999",
+            "queens, more": "queens 999999999999",
+            "langford": "langford 99999",
+            "langford, more": f"langford {'9' * 30}",
+            "a box": "polyominoes pentominoes 99999x99999",
+            "roster": f"roster {self.file('roster', slots + chr(10).encode() + people)}",
+            "roster, one day": f"roster {self.file('roster1', b'- d' + chr(10).encode() + b''.join(b's%d 1' % n + chr(10).encode() for n in range(60_000)) + chr(10).encode() + people)}",
+            "roster, rest": f"roster --rest {self.file('roster2', slots + chr(10).encode() + people[:1000])}",
+            "roundrobin": f"roundrobin {self.file('teams', b''.join(b't%d' % n + chr(10).encode() for n in range(100_000)))}",
+            "roundrobin, 250": f"roundrobin {self.file('teams2', b''.join(b't%d' % n + chr(10).encode() for n in range(250)))}",
+            "words": f"words {self.file('grid', (b'.' * 1000 + chr(10).encode()) * 900)} {self.file('list', b' '.join(b'%c' % (97 + n % 26) * 1000 for n in range(900)))}",
+            "words, given": f"words {self.file('grid2', b'ab#' * 300_000)} {self.file('list2', ' '.join('a' + chr(0x4E00 + n) for n in range(20_000)).encode())}",
+            "a piece": f"polyominoes {self.file('piece', (b'A' * 1000 + chr(10).encode()) * 900)} {self.file('region', (b'.' * 1000 + chr(10).encode()) * 90)}",
+            "pieces": f"polyominoes {self.file('piece2', (b'A' * 150 + chr(10).encode()) * 150)} {self.file('region2', ((b'.' * 299 + b'#') + chr(10).encode()) * 300)}",
+        }.items():
+            start = time.monotonic()
+            done = self.shell(f"ulimit -v {MEMORY >> 10}; helgrothy make {command} >/dev/null")
+            seconds = time.monotonic() - start
+            is_well = done.returncode in (0, 2) and seconds < HANG and b"Traceback" not in done.stderr and b"memory" not in done.stderr
+            self.tell(is_well, f"make, {what}: {seconds:.1f} seconds, {done.returncode}, {done.stderr[-300:]!r}")
+
+    def used(self, script: str) -> float:
+        """The seconds of a processor that a script takes."""
+        before = resource.getrusage(resource.RUSAGE_CHILDREN)
+        self.shell(script)
+        after = resource.getrusage(resource.RUSAGE_CHILDREN)
+        return after.ru_utime + after.ru_stime - before.ru_utime - before.ru_stime
+
+
+def large_texts():
+    """Texts of 1 MB, by what they are."""
+    rng = random.Random(1)
+    names = [a + b for a in "abcdefghijklmnopqrst" for b in "abcdefghijklmnopqrstuvwxyz0123"]
+    lines = [" ".join(names[:300]) + " | " + " ".join(names[300:])]
+    lines += [" ".join([rng.choice(names[:300]), *rng.sample(names[300:], 2)]) for _ in range(111_000)]
+    near = "n" * 27
+
+    def filled(head: str, line: str) -> bytes:
+        return (head + line * ((1_000_000 - len(head)) // len(line))).encode()
+
+    return {
+        "ordinary": "\n".join([*lines, ""]).encode(),
+        "unknown names": filled(" ".join(f"na{i:05d}" for i in range(20_000)) + "\n", "nb12345 nb4567 xx999\n"),
+        "long unknown names": filled(" ".join(f"{near}{i:05d}" for i in range(19_000)) + "\n", near + "xxxxx\n"),
+        "unknown letters": filled("A\n", "b " * 100 + "\n"),
+        "bars": b"A " + b"|" * 999_990 + b"\n",
+        "single bars": b"A " + b"| " * 499_990 + b"\n",
+        "items in no option": " ".join(f"{i:x}" for i in range(99_999)).encode() + b"\n" + b"1\n" * 200_000,
+        "too many items": " ".join(f"{i:x}" for i in range(165_000)).encode() + b"\n",
+        "equal options": filled("a b\n", "a b\n"),
+        "ignored options": filled("a | x\n", "x\n"),
+        "comments": filled("", "| a b c\n") + b"a b c\na b c\n",
+        "one option": b"a\n" + b"a " * 499_990 + b"\n",
+        "one name": b"a\n" + b"a" * 999_990 + b"\n",
+        "NUL": b"a\n" + b"\0" * 999_990 + b"\n",
+        "lines of NUL": filled("a\n", "\0\n"),
+        "blank lines": b"\n" * 1_000_000,
+        "colours": b"a | x\n" + b"".join(b"a x:%d\n" % i for i in range(100_000)),
+        "options of one item": b"0:999999999|a\n" + b"a\n" * 499_000,
+        "long options": " ".join(f"{i:x}" for i in range(50_000)).encode() + b"\n" + (" ".join(f"{i:x}" for i in range(50_000)).encode() + b"\n") * 3,
+        "bytes that aren't UTF-8": b"a\n" + b"\xff \xfe\n" * 199_000,
+        "a board by names": b"| helgrothy make queens 5\n" + b" ".join(b"r%d c%d" % (i, i * 9_999) for i in range(3_000)) + b"\n" + b"".join(b"r%d c%d\n" % (i, i * 9_999) for i in range(3_000)) * 20,
+        "a row by names": b"| helgrothy make langford 5\n1 s99999999 s1\n1 s99999999 s1\n" * 20_000,
+    }  # fmt: skip
+
+
+def main() -> int:
+    tries, seed = map(int, [*sys.argv[1:], *["5000", "1"][len(sys.argv) - 1 :]])
+    with tempfile.TemporaryDirectory() as top:
+        prepare(top)
+        failed = try_all(tries, seed, top)
+        passed = tries - failed
+        processes = Processes(top)
+        for part in (processes.closed_streams, processes.strangers, processes.terminals, processes.makers, processes.large):
+            part()
+    print(f"{passed + processes.passed} passed, {failed + processes.failed} failed")
+    return 1 if failed + processes.failed else 0
+
+
+if __name__ == "__main__":
+    sys.exit(main())
