@@ -116,7 +116,7 @@ class Pictures(unittest.TestCase):
         days = "maths art | mon-1 wednesday-1\nmaths mon-1\nart wednesday-1\n"
         status, _, error = run("solve", "--cell", r"(\w+)-(\d)", "--label", "maths|art", given=days)
         self.assertEqual(status, 2)
-        self.assertIn("mon is no row or column: neither a number nor a letter", error)
+        self.assertIn("mon is no row or column: neither a number nor a single letter", error)
         self.assertLess(time.monotonic() - start, 5)
 
     def test_patterns_that_match_in_part(self):
@@ -212,6 +212,12 @@ class Time(unittest.TestCase):
         with self.assertRaises(ValueError):
             make.roster.problem(table + "".join(f"p{k} 1 -s\n" for k in range(6_000)))
         self.assertLess(time.monotonic() - start, 5)
+
+    def test_many_levels_of_equal_options(self):
+        start = time.monotonic()
+        options = [[k] for k in range(4_000) for _ in range(3)]
+        self.assertEqual(next(Problem(range(4_000), options=options).solve()), options[::3])
+        self.assertLess(time.monotonic() - start, 8)
 
     def test_one_long_option_makes_no_other_long(self):
         names = [f"{k:x}" for k in range(3_000)]
