@@ -7,7 +7,7 @@ What is left is found from the lines before, by the rules of docs/SEARCH.md.
 from __future__ import annotations
 
 from dataclasses import dataclass
-from typing import Dict, Hashable, Iterator, List, Mapping, Optional, Sequence, Set, Tuple, Union
+from typing import Dict, Hashable, List, Mapping, Optional, Sequence, Set, Tuple, Union
 
 from .errors import UnknownChoice
 from .listing import Null
@@ -34,53 +34,62 @@ class Branches:
             for item, _ in option:
                 if item in high:
                     self._holders[item].append(number)
-        # Of each level the lines above it, the branch item and what is left of it: solutions in a row have most of
-        # these in common.
-        self._known: Dict[int, Tuple[Sequence[bytes], Hashable, _Left]] = {}
+        # The lines of the solution before, and of each level what is left of its branch item: solutions in a row have
+        # most of these in common.
+        self._lines: Sequence[bytes] = ()
+        self._levels: List[_Left] = []
 
     def told_apart(
         self, lines: Sequence[bytes], items: Sequence[Hashable], choices: Sequence[Union[int, Null, Alike]]
     ) -> List[Union[int, Null]]:
         """The choices of a solution, with its lines and branch items. Raises `UnknownChoice`."""
+        del self._levels[_common(self._lines, lines) + 1 :]
+        self._lines = lines
         found: List[Union[int, Null]] = []
-        for level, choice in enumerate(choices):
+        state = _State(self._high)
+        for level, (line, item, choice) in enumerate(zip(lines, items, choices)):
+            left = self._left(level, item)
             if isinstance(choice, Alike):
-                left = self._left(lines[:level], items[:level], found, items[level])
-                branch = left.option(_branch(lines[level]))
-                if branch is None:
-                    raise UnknownChoice(lines[level])
-                choice = branch
+                option = left.option(_branch(line), self._uses, state)
+                if option is None:
+                    raise UnknownChoice(line)
+                choice = option
             found.append(choice)
+            state.take(item, choice, () if isinstance(choice, Null) else self._uses[choice])
         return found
 
-    def _left(
-        self, lines: Sequence[bytes], items: Sequence[Hashable], choices: Sequence[Union[int, Null]], item: Hashable
-    ) -> _Left:
-        known = self._known.get(len(lines))
-        if known is not None and known[0] == lines and known[1] == item:
-            return known[2]
-        state = _State(self._high)
-        for branch_item, choice in zip(items, choices):
-            state.take(branch_item, choice, () if isinstance(choice, Null) else self._uses[choice])
-        left = _Left(number for number in self._holders[item] if state.has(number, self._uses[number]))
-        self._known[len(lines)] = lines, item, left
-        return left
+    def _left(self, level: int, item: Hashable) -> _Left:
+        """What is left at a level, which has to be the first one that isn't known, or a known one."""
+        if level == len(self._levels):
+            self._levels.append(_Left(item, self._holders.get(item, [])))
+        elif self._levels[level].item != item:
+            self._levels[level:] = [_Left(item, self._holders.get(item, []))]
+        return self._levels[level]
+
+
+def _common(one: Sequence[bytes], other: Sequence[bytes]) -> int:
+    """How many lines two solutions begin with in common."""
+    return next((k for k, (a, b) in enumerate(zip(one, other)) if a != b), min(len(one), len(other)))
 
 
 class _Left:
-    """Options that are left, which are looked for as far as they are asked for."""
+    """Options that are left at a level, which are looked for as far as they are asked for."""
 
-    def __init__(self, options: Iterator[int]) -> None:
-        self._options = options
+    def __init__(self, item: Hashable, holders: Sequence[int]) -> None:
+        self.item = item
+        self._holders = holders
+        self._looked = 0
         self._found: List[int] = []
 
-    def option(self, branch: int) -> Optional[int]:
-        """The option of a branch, if there is such a branch."""
+    def option(self, branch: int, uses: Sequence[Uses], state: _State) -> Optional[int]:
+        """The option of a branch, if there is such a branch. The state is that of the level, each time."""
         while len(self._found) < branch:
-            number = next(self._options, None)
-            if number is None:
+            if self._looked == len(self._holders):
                 return None
-            self._found.append(number)
+            number = self._holders[self._looked]
+            self._looked += 1
+            if state.has(number, uses[number]):
+                self._found.append(number)
         return self._found[branch - 1] if branch > 0 else None
 
 

@@ -213,6 +213,12 @@ class Time(unittest.TestCase):
             make.roster.problem(table + "".join(f"p{k} 1 -s\n" for k in range(6_000)))
         self.assertLess(time.monotonic() - start, 5)
 
+    def test_many_levels_of_equal_options(self):
+        start = time.monotonic()
+        options = [[k] for k in range(4_000) for _ in range(3)]
+        self.assertEqual(next(Problem(range(4_000), options=options).solve()), options[::3])
+        self.assertLess(time.monotonic() - start, 8)
+
     def test_one_long_option_makes_no_other_long(self):
         names = [f"{k:x}" for k in range(3_000)]
         text = " ".join(names) + "\n" + "\n".join([*names, " ".join(names), ""])
