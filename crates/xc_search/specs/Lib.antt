@@ -7,5 +7,6 @@ pub mod Visited
 pub mod Cut
 pub mod Parts
 pub mod Spans
+pub mod InSpan
 pub mod Worked
 pub mod inner

@@ -69,7 +69,7 @@ members_rise p = AllPairs-from_each_two _ _ (listing_rises (whole p))
 abbrev pub is_within : List ℕ → Option (List ℕ) → List Choice → Bool
 is_within from until m = not (precedes (row_of m) from) && is_before until (row_of m)
 
-keep_none : {X : Type 0} (p : X → Bool) (xs : List X) → AllByRecursion (λ x. p x ≡ false) xs → filter p xs ≡ []
+pub keep_none : {X : Type 0} (p : X → Bool) (xs : List X) → AllByRecursion (λ x. p x ≡ false) xs → filter p xs ≡ []
 keep_none p [] a = refl
 keep_none p (x ∷ xs) a = rw a.0 (keep_none p xs a.1)
 

@@ -5,11 +5,11 @@ use Rattle.xc_search.specs.Spans.{precedes}
 use Rattle.xc_search.proofs.Cases.{by_bool}
 
 -- the first numbers decide, or the rest where they are the same
-before_first : (x y : ℕ) (a b : List ℕ) → precedes (x ∷ a) (y ∷ b) ≡ true →
+pub before_first : (x y : ℕ) (a b : List ℕ) → precedes (x ∷ a) (y ∷ b) ≡ true →
     (x < y) ⊎ ((x ≡ y) × (precedes a b ≡ true))
 before_first x y a b e = grind (arith, nat_tests)
 
-behind_first : (x y : ℕ) (a b : List ℕ) → precedes (x ∷ a) (y ∷ b) ≡ false →
+pub behind_first : (x y : ℕ) (a b : List ℕ) → precedes (x ∷ a) (y ∷ b) ≡ false →
     (y < x) ⊎ ((x ≡ y) × (precedes a b ≡ false))
 behind_first x y a b e = grind (arith, nat_tests)
 
@@ -19,7 +19,7 @@ less_before x y a b h = grind (arith, nat_tests)
 pub less_behind : (x y : ℕ) (a b : List ℕ) → y < x → precedes (x ∷ a) (y ∷ b) ≡ false
 less_behind x y a b h = grind (arith, nat_tests)
 
-same_before : (x y : ℕ) (a b : List ℕ) → x ≡ y → precedes a b ≡ true → precedes (x ∷ a) (y ∷ b) ≡ true
+pub same_before : (x y : ℕ) (a b : List ℕ) → x ≡ y → precedes a b ≡ true → precedes (x ∷ a) (y ∷ b) ≡ true
 same_before x y a b h e = grind (arith, nat_tests)
 
 pub not_itself : (a : List ℕ) → precedes a a ≡ false
