@@ -12,8 +12,9 @@ use crate::counts::most_levels;
 use crate::levels::unwind;
 use crate::position::Position;
 use crate::rows::is_before;
-use crate::spanning::{reach, run};
+use crate::spanning::{State, Task, reach, run_on};
 use crate::stack::Stack;
+use core::mem::replace_with;
 use std::alloc::{AllocError, Global};
 use std::marker::Model;
 use xc_dance::{Dance, Memory};
@@ -52,8 +53,7 @@ pub struct RowNumber {
 /// dance may; `close` gives the dance back.
 #[derive(Drop)]
 pub struct Span<'a, D: Dance> {
-    position: Position<'a, D>,
-    stack: Stack,
+    state: State<'a, D>,
     /// What is left wasn't looked at yet. Else it stands at a solution.
     down: bool,
     /// No member of the span is left.
@@ -75,22 +75,22 @@ impl<'a, D: Dance> Model for Span<'a, D> {
     ghost Value = { InSpan };
 
     ghost view = { λ s. record {
-      puzzle = s.position.puzzle;
-      row = if s.ended then None else Some (row_from s.position.puzzle s.stack.levels s.down);
+      puzzle = s.state.position.puzzle;
+      row = if s.ended then None else Some (row_from s.state.position.puzzle s.state.stack.levels s.down);
       until = option_map (λ u. u.now) s.until;
       shown = s.choices.items;
-      room = s.position.room;
+      room = s.state.position.room;
     } };
 
     ghost invariant = { λ s. record {
-      stacked : AreStacked s.position.puzzle s.position.trail s.stack.levels;
-      led : AreLed s.position.puzzle [] s.position.trail s.stack.levels;
-      standing : s.ended ≡ false → IsStanding s.position.puzzle s.position.trail s.stack.levels true;
-      solved : s.ended ≡ false → s.down ≡ false → IsSolved s.position.puzzle s.position.trail s.stack.levels;
+      stacked : AreStacked s.state.position.puzzle s.state.position.trail s.state.stack.levels;
+      led : AreLed s.state.position.puzzle [] s.state.position.trail s.state.stack.levels;
+      standing : s.ended ≡ false → IsStanding s.state.position.puzzle s.state.position.trail s.state.stack.levels true;
+      solved : s.ended ≡ false → s.down ≡ false → IsSolved s.state.position.puzzle s.state.position.trail s.state.stack.levels;
       before : s.ended ≡ false →
-          is_before (option_map (λ u. u.now) s.until) (row_at s.position.puzzle s.stack.levels) ≡ true;
-      levels_fit : s.stack.room ≡ most_levels s.position.puzzle;
-      choices_fit : most_levels s.position.puzzle ≤ vec_capacity s.choices;
+          is_before (option_map (λ u. u.now) s.until) (row_at s.state.position.puzzle s.state.stack.levels) ≡ true;
+      levels_fit : s.state.stack.room ≡ most_levels s.state.position.puzzle;
+      choices_fit : most_levels s.state.position.puzzle ≤ vec_capacity s.choices;
     } };
 }
 
@@ -134,8 +134,7 @@ impl<'a, D: Dance> Span<'a, D> {
         let reached = reach(&mut position, &mut stack, from);
         let within = is_before(stack.levels(), until);
         Ok(Span {
-            position,
-            stack,
+            state: State { position, stack },
             down: true,
             ended: !reached || !within,
             until,
@@ -193,12 +192,18 @@ impl<'a, D: Dance> Span<'a, D> {
         }
         // Where it stands at a solution, it finds that one again.
         let over = if self.down { many - 1 } else { many };
-        let ran = run(&mut self.position, &mut self.stack, self.until, over, steps);
+        let task = Task {
+            until: self.until,
+            over,
+            steps,
+        };
+        let ran = replace_with(&mut self.state, task, run_on);
         let taken = steps - ran.steps;
         match ran.halt {
             Halt::Member => {
                 self.down = false;
-                self.stack.show(&[], &self.position, &mut self.choices);
+                let state = &self.state;
+                state.stack.show(&[], &state.position, &mut self.choices);
                 Went {
                     halt: Halt::Member,
                     members: many,
@@ -238,7 +243,7 @@ impl<'a, D: Dance> Span<'a, D> {
         if self.ended {
             return Ok(Vec::new(alloc));
         }
-        let levels = self.stack.levels();
+        let levels = self.state.stack.levels();
         let mut row = Vec::with_capacity(alloc, levels.len() + 1)?;
         for level in levels {
             row.push_reserved(RowNumber {
@@ -257,13 +262,16 @@ impl<'a, D: Dance> Span<'a, D> {
         ensures { D.state result ≡ record { puzzle = self.entry.puzzle; trail = []; room = self.entry.room } }
     {
         let Span {
-            mut position,
-            stack,
+            state,
             down: _,
             ended: _,
             until: _,
             choices: _,
         } = self;
+        let State {
+            mut position,
+            stack,
+        } = state;
         unwind(&mut position, stack);
         position.into_dance()
     }

@@ -5,7 +5,7 @@ ghost use Rattle.xc_search.specs.inner.MostLevels.{most_levels};
 ghost use Rattle.xc_search.specs.inner.Levels.{IsStanding, coming};
 ghost use Rattle.xc_search.specs.inner.Ahead.{IsSolved};
 ghost use Rattle.xc_search.specs.inner.Paths.{AreLed, KeepsPath};
-ghost use Rattle.xc_search.specs.inner.Spanning.{Enters, Ends, Stands, EndsSpan, row_at};
+ghost use Rattle.xc_search.specs.inner.Spanning.{Enters, Ends, Stands, EndsSpan, RanTo, row_at};
 ghost use Rattle.xc_search.specs.declared.levels.Entered.{Entered};
 
 use crate::levels::{Below, Next, deepen, resume};
@@ -87,6 +87,23 @@ pub fn reach<D: Dance>(position: &mut Position<D>, stack: &mut Stack, from: &[u3
     }
 }
 
+/// Where a search of a span stands.
+// It has no model, so that the contract of `run_on` names its fields.
+#[derive(Drop)]
+pub struct State<'a, D: Dance> {
+    pub position: Position<'a, D>,
+    pub stack: Stack,
+}
+
+/// What a run is to do: to pass over so many members of a span that ends before `until`, and to stand at the next,
+/// unless that takes more than so many branches to begin.
+#[derive(Clone, Copy)]
+pub struct Task<'u> {
+    pub until: Option<&'u [u32]>,
+    pub over: u64,
+    pub steps: u64,
+}
+
 /// What a run came to: of the members that it was to pass over, and of its steps, so many are left.
 #[derive(Clone, Copy)]
 pub struct Ran {
@@ -95,9 +112,31 @@ pub struct Ran {
     pub steps: u64,
 }
 
+/// Does what a task says. It takes the state by value, as a walk's loop does: behind a reference the bases and lengths
+/// of all tables would be loaded anew after each write to one.
+#[inline(never)]
+pub fn run_on<'a, 'u, D: Dance>(state: State<'a, D>, task: Task<'u>) -> (State<'a, D>, Ran)
+    requires standing { IsStanding state.position.puzzle state.position.trail state.stack.levels true }
+    requires levels_fit { most_levels state.position.puzzle ≤ state.stack.room }
+    requires led { AreLed state.position.puzzle [] state.position.trail state.stack.levels }
+    requires before { is_before (option_map (λ u. u.now) task.until)
+        (row_at state.position.puzzle state.stack.levels) ≡ true }
+    ensures { RanTo state.entry.position state.entry.stack task.entry.over task.entry.steps
+        (option_map (λ u. u.now) task.entry.until)
+        result.1.halt result.0.position result.0.stack result.1.more result.1.steps }
+{
+    let State {
+        mut position,
+        mut stack,
+    } = state;
+    let ran = run(&mut position, &mut stack, task.until, task.over, task.steps);
+    (State { position, stack }, ran)
+}
+
 /// Passes over so many members of a span that ends before `until`, and stands at the next, unless that takes more than
-/// `steps` branches to begin.
-pub fn run<D: Dance>(
+/// `most` branches to begin.
+// No wish to be inlined: its one call is, as that of `advance` is.
+fn run<D: Dance>(
     position: &mut Position<D>,
     stack: &mut Stack,
     until: Option<&[u32]>,

@@ -1,12 +1,14 @@
 -- No public clause cites this module. A search of a span, step by step.
-use Rattle.std.specs.Prelude.{ℕ, ◌+◌, ◌<◌, ◌≡◌, Bool, true, false, List, [], ◌∷◌, ◌++◌, length, replicate, Option}
+use Rattle.std.specs.Prelude.{ℕ, ◌+◌, ◌<◌, ◌≡◌, Bool, true, false, List, [], ◌∷◌, ◌++◌, length, replicate, Option, ◌-◌, ◌≤◌, ◌⊎◌}
 use Rattle.xc_search.specs.declared.level.Level.{Level}
+use Rattle.xc_search.specs.declared.span.Halt.{Halt}
+use Rattle.xc_search.specs.declared.span.Halt.TheVariants.{Member, End, Steps}
 use Rattle.xc_input.specs.Problem.{Puzzle}
 use Rattle.xc_dance.specs.Dancing.{Dancing}
 use Rattle.xc_dance.specs.Commits.{option_at}
-use Rattle.xc_search.specs.Spans.{row_of, between}
+use Rattle.xc_search.specs.Spans.{row_of, is_before, between}
 use Rattle.xc_search.specs.inner.Levels.{Levels, IsStanding, AreStacked, IsPlace, CanBranch, choices_of, coming}
-use Rattle.xc_search.specs.inner.Ahead.{work_left, branched}
+use Rattle.xc_search.specs.inner.Ahead.{IsSolved, work_left, branched}
 use Rattle.xc_search.specs.inner.Paths.{AreLed, KeepsPath}
 
 -- the row of the levels
@@ -62,3 +64,14 @@ pub record EndsSpan (d : Dancing) (ls : Levels) (m : ℕ) (until : Option (List 
   pub stacked : AreStacked e.puzzle e.trail ks.levels
   pub led : AreLed e.puzzle [] e.trail ks.levels
   pub count : m ≡ n + length (between d.puzzle (row_at d.puzzle ls.levels) until)
+
+-- It ran so: it stands at a member, ran out of steps, or came to the end.
+pub record RanTo (d : Dancing) (ls : Levels) (m most : ℕ) (until : Option (List ℕ)) (halt : Halt) (e : Dancing)
+    (ks : Levels) (n steps : ℕ) : Type 0 where
+  pub stands : (halt ≡ Member) ⊎ (halt ≡ Steps) → Stands d ls m e ks n (most - steps)
+  pub before : (halt ≡ Member) ⊎ (halt ≡ Steps) → is_before until (row_at e.puzzle ks.levels) ≡ true
+  pub solved : halt ≡ Member → (n ≡ 0) × IsSolved e.puzzle e.trail ks.levels
+  pub ran_out : halt ≡ Steps → steps ≡ 0
+  pub ended : halt ≡ End → EndsSpan d ls m until e ks n
+  pub fewer : n ≤ m
+  pub within : steps ≤ most

@@ -16,10 +16,10 @@ use Rattle.xc_search.proofs.span.Span.row.Goals.{then-not-self, else-not-self, J
 
 module _ (g : _) (c : Joined-not-self g) where
   abbrev p : Puzzle
-  p = c.self.inside.position.puzzle
+  p = c.self.inside.state.position.puzzle
 
   abbrev ls : List Level
-  ls = c.self.inside.stack.levels
+  ls = c.self.inside.state.stack.levels
 
   all : (f : Level → ℕ) → map f (take c.loop-level.level-index c.levels-levels.result.now) ≡ map f c.levels-levels.result.now
   all f = grind (arith, common_steps)
@@ -51,7 +51,7 @@ module _ (g : _) (c : Joined-not-self g) where
       ≡ branches_along (whole p) (row_from p ls c.self.inside.down)
   branches =
       told (λ (x : RowNumber). x.n) (λ (l : Level). l.count) refl c.loop-level.invariant.branches
-      ∙ branches_told p c.self.inside.position.trail ls c.self.inside.down _ c.self.invariant.stacked
+      ∙ branches_told p c.self.inside.state.position.trail ls c.self.inside.down _ c.self.invariant.stacked
       c.self.invariant.led (c.self.invariant.solved c.if-self.false)
       (ap (map (λ (l : Level). l.count))
       (sym (reverse-reverse c.levels-levels.result.now) ∙ ap reverse c.levels-levels.ensures.levels))
