@@ -160,3 +160,16 @@ pub fn worked_parts()
     ensures alone { map (λ x. members (front_part seven_items item_b x)) (holding 2 (numbered_options seven_items))
         ≡ [] ∷ ((choice 1 (Some 4) 1 1 ∷ choice 2 (Some 3) 1 1 ∷ choice 3 (Some 1) 1 1 ∷ []) ∷ []) ∷ [] }
 {}
+
+/// Spans of worked problems, computed by the definitions.
+pub fn worked_spans()
+    ensures beginning { precedes (3 ∷ []) (3 ∷ 1 ∷ []) ≡ true }
+    ensures number { precedes (3 ∷ 9 ∷ []) (4 ∷ []) ≡ true }
+    ensures itself { precedes (3 ∷ 1 ∷ []) (3 ∷ 1 ∷ []) ≡ false }
+    ensures rows { map row_of (members up_to_twice)
+        ≡ (1 ∷ 1 ∷ []) ∷ (1 ∷ 2 ∷ []) ∷ (2 ∷ 1 ∷ []) ∷ (3 ∷ []) ∷ [] }
+    ensures from { map row_of (between up_to_twice (2 ∷ 0 ∷ []) None) ≡ (2 ∷ 1 ∷ []) ∷ (3 ∷ []) ∷ [] }
+    ensures until { map row_of (between up_to_twice (1 ∷ 2 ∷ []) (Some (3 ∷ [])))
+        ≡ (1 ∷ 2 ∷ []) ∷ (2 ∷ 1 ∷ []) ∷ [] }
+    ensures nothing { between up_to_twice (1 ∷ 2 ∷ []) (Some (1 ∷ 2 ∷ [])) ≡ [] }
+{}

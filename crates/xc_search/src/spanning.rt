@@ -46,8 +46,8 @@ fn enter_branch<D: Dance>(position: &mut Position<D>, stack: &mut Stack, more: &
     }
 }
 
-/// Goes on until the row of the levels doesn't come before `from`, and makes no more moves than it must. False where all
-/// levels ended, since no row of a branch comes so late.
+/// Goes on until the row of the levels doesn't come before `from`, into no branch but those whose rows begin it. False
+/// where all levels ended, since no branch has a row that late.
 pub fn reach<D: Dance>(position: &mut Position<D>, stack: &mut Stack, from: &[u32]) -> bool
     requires standing { IsStanding position.old.puzzle position.old.trail stack.old.levels true }
     requires levels_fit { most_levels position.old.puzzle ≤ stack.old.room }
@@ -70,6 +70,7 @@ pub fn reach<D: Dance>(position: &mut Position<D>, stack: &mut Stack, from: &[u3
         match place_of(stack.levels(), from) {
             Place::Reached => return true,
             Place::Begins => {
+                // A solution here comes before `from`, and is passed over.
                 let mut more = 1;
                 match enter_branch(position, stack, &mut more) {
                     Next::Branch(entered) => {

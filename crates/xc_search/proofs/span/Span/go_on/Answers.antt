@@ -1,4 +1,4 @@
-use Rattle.std.proofs.Common.{ℕ, ◌≡◌, ◌-◌, ◌<◌, true, false, List, [], Option, refl, ap, ◌∙◌, arith, inl, inr, ◌⊎◌, length}
+use Rattle.std.proofs.Common.{ℕ, ◌≡◌, ◌-◌, ◌<◌, true, false, List, [], Option, refl, sym, ap, ◌∙◌, arith, inl, inr, ◌⊎◌, length}
 use Rattle.std.specs.Prelude.{option_map}
 use Rattle.xc_search.specs.Spans.{is_before, between}
 use Rattle.xc_search.specs.inner.Levels.{choices_of}
@@ -35,8 +35,8 @@ at g c = record { led = c.self.invariant.led; solved = c.self.invariant.solved c
 
 over : (g : _) (c : After-replace_with-ran g) → c.if-self-2.over ≡ over_first c.args.many c.self.inside.down
 over g c = elim c.if-self-2.branch [
-  | then-self-2 w ↦ grind (arith, w.if-self-2, w.over-is)
-  | else-self-2 w ↦ grind (arith, w.if-self-2, w.over-is)
+  | then-self-2 w ↦ w.over-is ∙ ap (over_first c.args.many) (sym w.if-self-2.true)
+  | else-self-2 w ↦ w.over-is ∙ ap (over_first c.args.many) (sym w.if-self-2.false)
 ]
 
 some : (g : _) (c : After-replace_with-ran g) → 0 < c.args.many
