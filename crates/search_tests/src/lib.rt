@@ -1,4 +1,4 @@
-//! Tests of searches, cuts and searches below paths. They use public calls alone. The gate tries them beside
+//! Tests of searches, cuts, and searches of spans and below paths. They use public calls alone. The gate tries them beside
 //! the proofs of the libraries that they don't use.
 #![tactic(auto)]
 
@@ -21,5 +21,7 @@ mod cutting;
 mod passing;
 #[cfg(test)]
 mod searching;
+#[cfg(test)]
+mod spanning;
 #[cfg(test)]
 mod walking;

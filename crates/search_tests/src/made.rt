@@ -1,9 +1,9 @@
-//! Searches, walks and cuts over live lists that were made for them, choices, and problems of each kind.
+//! Searches, walks, cuts and searches of spans over live lists that were made for them, choices, and problems of each kind.
 use fixtures::{ALONE, COLOURED, SEVEN, THREE_ALIKE, TWICE};
 use std::alloc::Global;
 use xc_dance::{Dance, Lists};
 use xc_input::{Kind, Problem};
-use xc_search::{Choice, Cut, PathFault, Search, Walk, most_moves};
+use xc_search::{Choice, Cut, PathFault, Search, Span, Walk, most_moves};
 
 /// Once `a x` is taken, `b` to `h` have one branch each and `i` none, seven items behind the first of these.
 const FAR_DEAD_END: &[u8] =
@@ -49,6 +49,17 @@ pub fn on_search<F: Fn(&mut Search<Lists>) -> bool>(
 pub fn walk<'a>(alloc: Global, problem: &'a Problem) -> Option<Walk<'a, Lists>> {
     let lists = Lists::new(alloc, problem, most_moves(problem)).ok()?;
     Walk::new(alloc, lists, problem).ok()
+}
+
+/// A search of the span between these rows.
+pub fn span<'a>(
+    alloc: Global,
+    problem: &'a Problem,
+    from: &[u32],
+    until: Option<&'a [u32]>,
+) -> Option<Span<'a, Lists>> {
+    let lists = Lists::new(alloc, problem, most_moves(problem)).ok()?;
+    Span::new(alloc, lists, problem, from, until).ok()
 }
 
 /// A search below the path of these numbers.

@@ -7,4 +7,5 @@ pub mod paths
 pub mod residual
 pub mod room
 pub mod stacked
+pub mod spans
 pub mod Spent

@@ -6,5 +6,7 @@ pub mod Outlook
 pub mod Visited
 pub mod Cut
 pub mod Parts
+pub mod Spans
+pub mod InSpan
 pub mod Worked
 pub mod inner

@@ -7,3 +7,4 @@ pub mod Paths
 pub mod Residual
 pub mod Sparing
 pub mod Sizes
+pub mod Spanning

@@ -1,5 +1,6 @@
 //! Laws of the listing: its members are the covers, each once, and those of the parts that a search is split into.
 ghost use Rattle.std.specs.Prelude.{ℕ, ◌≡◌, List, [], ◌∷◌, ◌++◌, All, map, flat_map, Some, None, Contains};
+ghost use Rattle.std.specs.Prelude.{Option, IfSome, AllPairs, true, false};
 ghost use Rattle.xc_input.specs.Problem.{Puzzle, Numbered, IsValid, numbered_options, holding};
 ghost use Rattle.xc_search.specs.Listing.{Wanted, Residual, whole, branch_item, level, listing};
 ghost use Rattle.xc_search.specs.Worked.{choice, seven_items, item_b, two_colours, once_or_twice, equal_options};
@@ -12,6 +13,7 @@ ghost use Rattle.xc_search.specs.declared.choice.Choice.{Choice};
 ghost use Rattle.xc_search.specs.Parts.{IsHeldOnce, part, in_problem, part_in_front, front_part, PartsJoin};
 ghost use Rattle.xc_search.specs.Parts.{PartsAreApart, PartsInOrder, PartsCover, PartsListCovers, PartsListOnce};
 ghost use Rattle.xc_search.specs.Parts.{AreKeptApart, AreKeptInOrder, ListsAlike, ListsPart};
+ghost use Rattle.xc_search.specs.Spans.{row_of, precedes, between, spans_from, RowsRise};
 
 /// The listing is one level over itself.
 pub fn listing_unrolls()
@@ -99,6 +101,22 @@ pub fn numbers_tell_cuts()
         map numbers_on paths ≡ map numbers_on plan → members p ≡ flat_map (below p) paths }
 {}
 
+/// The members of a listing stand in the order of their rows.
+pub fn rows_rise()
+    ensures { (p : Puzzle) → AllPairs (λ a b. precedes (row_of a) (row_of b) ≡ true) (members p) }
+{}
+
+/// Two spans whose ends meet are one span.
+pub fn spans_meet()
+    ensures { (p : Puzzle) (a b : List ℕ) (until : Option (List ℕ)) → precedes b a ≡ false →
+        IfSome until (λ u. precedes u b ≡ false) → between p a (Some b) ++ between p b until ≡ between p a until }
+{}
+
+/// Rows that rise, from the empty row to the end, cut the listing into spans that in turn are all of its members.
+pub fn spans_join()
+    ensures { (p : Puzzle) (rows : List (List ℕ)) → RowsRise [] rows → spans_from p [] rows ≡ members p }
+{}
+
 /// The listings of worked problems, computed by the definitions.
 pub fn worked_listings()
     ensures seven_items { members seven_items
@@ -141,4 +159,17 @@ pub fn worked_parts()
         ≡ [] ∷ ((choice 2 (Some 5) 1 1 ∷ choice 1 (Some 4) 1 1 ∷ choice 3 (Some 1) 1 1 ∷ []) ∷ []) ∷ [] }
     ensures alone { map (λ x. members (front_part seven_items item_b x)) (holding 2 (numbered_options seven_items))
         ≡ [] ∷ ((choice 1 (Some 4) 1 1 ∷ choice 2 (Some 3) 1 1 ∷ choice 3 (Some 1) 1 1 ∷ []) ∷ []) ∷ [] }
+{}
+
+/// Spans of worked problems, computed by the definitions.
+pub fn worked_spans()
+    ensures beginning { precedes (3 ∷ []) (3 ∷ 1 ∷ []) ≡ true }
+    ensures number { precedes (3 ∷ 9 ∷ []) (4 ∷ []) ≡ true }
+    ensures itself { precedes (3 ∷ 1 ∷ []) (3 ∷ 1 ∷ []) ≡ false }
+    ensures rows { map row_of (members up_to_twice)
+        ≡ (1 ∷ 1 ∷ []) ∷ (1 ∷ 2 ∷ []) ∷ (2 ∷ 1 ∷ []) ∷ (3 ∷ []) ∷ [] }
+    ensures from { map row_of (between up_to_twice (2 ∷ 0 ∷ []) None) ≡ (2 ∷ 1 ∷ []) ∷ (3 ∷ []) ∷ [] }
+    ensures until { map row_of (between up_to_twice (1 ∷ 2 ∷ []) (Some (3 ∷ [])))
+        ≡ (1 ∷ 2 ∷ []) ∷ (2 ∷ 1 ∷ []) ∷ [] }
+    ensures nothing { between up_to_twice (1 ∷ 2 ∷ []) (Some (1 ∷ 2 ∷ [])) ≡ [] }
 {}

@@ -149,7 +149,7 @@ pub fn resume<D: Dance>(position: &mut Position<D>, stack: &mut Stack) -> Option
 
 /// What a search goes on with.
 #[derive(Clone, Copy)]
-enum Next {
+pub enum Next {
     /// A branch, which was entered.
     Branch(Entered),
     /// A solution, which the levels' choices are.

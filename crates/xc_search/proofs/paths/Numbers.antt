@@ -66,7 +66,7 @@ no_further (d ∷ done) [] r s x k ks e none n f = absurd (cc n)
 no_further (d ∷ done) (c ∷ path) r s x k ks e none n f = grind (arith, then_left, stepped, no_further done path)
 
 -- the number of a branch is its place
-number_at : (r : Residual) (w : Wanted) (j : ℕ) (b : Branch) → slice_get (branches_of r w) j ≡ Some b
+pub number_at : (r : Residual) (w : Wanted) (j : ℕ) (b : Branch) → slice_get (branches_of r w) j ≡ Some b
     → (j < branch_count r w) × (b.choice.k ≡ suc j)
 number_at r w j b e =
     let n = branch_count r w in

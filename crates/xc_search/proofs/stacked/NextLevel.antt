@@ -144,7 +144,7 @@ pub solution : (p : Puzzle) (t : List Move) (ls : List Level) → AreLegal p t �
     → coming p t ls true ≡ choices_of p ls ∷ to_give p t ls
 solution p t ls l e = grind (arith, common_steps, listing_unrolled, mapped_none, choice_is_branch_item)
 
-members_all : (before : List Choice) (bs : List Branch)
+pub members_all : (before : List Choice) (bs : List Branch)
     → map (λ m. before ++ m) (flat_map (λ b. map (λ m. b.choice ∷ m) (listing b.next)) bs) ≡ members_of before bs
 members_all before [] = refl
 members_all before (b ∷ bs) = grind (arith, common_steps, members_all before bs, map-map)

@@ -1,0 +1,83 @@
+use Rattle.std.proofs.Common.{ℕ, List, Option, ◌≡◌, true, false, not, sym, ap, ◌∙◌, arith}
+use Rattle.std.specs.Prelude.{option_map, ◌||◌}
+use Rattle.std.proofs.lemmas.Bool.Decides.{nat_tests}
+use Rattle.xc_dance.specs.Dancing.{Dancing}
+use Rattle.xc_search.specs.Spans.{is_before}
+use Rattle.xc_search.specs.Cover.{members}
+use Rattle.xc_search.specs.inner.Levels.{Levels, coming}
+use Rattle.xc_search.specs.inner.MostLevels.{most_levels}
+use Rattle.xc_search.specs.inner.Spanning.{row_at}
+use Rattle.xc_search.proofs.stacked.Start.{starts_standing, starts_coming}
+use Rattle.xc_search.proofs.spans.Kept.{row_levels}
+use Rattle.xc_search.proofs.spans.Advance.{first_left, first_row}
+use Rattle.xc_search.proofs.span.Span.new.Goals as goal
+use Rattle.xc_search.proofs.span.Span.new.Goals.{Joined-not-reached, then-not-reached, else-not-reached}
+
+pub reach-reached-requires-clause-standing : goal.reach-reached-requires-clause-standing
+reach-reached-requires-clause-standing g c =
+    starts_standing _ c.most_levels-most.ensures.valid _ _ _
+    (ap (λ (s : Dancing). s.puzzle) c.new-position.ensures ∙ c.requires.same)
+    (ap (λ (s : Dancing). s.trail) c.new-position.ensures ∙ c.requires.none)
+    (ap (λ (s : Levels). s.levels) c.in-Ok-new.ensures)
+
+module _ (g : _) (c : Joined-not-reached g) where
+  abbrev at : Dancing
+  at = c.reach-reached.new.position
+
+  abbrev until : Option (List ℕ)
+  until = option_map (λ u. u.now) c.args.until
+
+  moved : at.puzzle ≡ c.new-position.result.puzzle
+  moved = ap (λ (s : Dancing). s.puzzle) c.reach-reached.ensures.still
+
+  puzzle : at.puzzle ≡ c.args.problem.now.puzzle
+  puzzle = moved ∙ ap (λ (s : Dancing). s.puzzle) c.new-position.ensures ∙ c.requires.same
+
+  ended : c.if-not-reached.result ≡ not c.reach-reached.result || not c.is_before-within.result
+  ended = elim c.if-not-reached.branch [
+    | then-not-reached w ↦ grind (arith, nat_tests, w.if-not-reached, w.result-is)
+    | else-not-reached w ↦ grind (arith, nat_tests, w.if-not-reached, w.result-is)
+  ]
+
+  within : c.is_before-within.result ≡ is_before until (row_at at.puzzle c.reach-reached.new.stack.levels)
+  within =
+      c.is_before-within.ensures
+      ∙ ap (is_before until)
+      (row_levels at.puzzle c.levels.result.now c.reach-reached.new.stack.levels c.levels.ensures.levels)
+
+  all : coming c.new-position.result.puzzle c.new-position.result.trail c.in-Ok-new.stack.levels true ≡ members at.puzzle
+  all =
+      starts_coming _ _ _ (ap (λ (s : Dancing). s.trail) c.new-position.ensures ∙ c.requires.none)
+      (ap (λ (s : Levels). s.levels) c.in-Ok-new.ensures)
+      ∙ ap members (sym moved)
+
+pub invariant_of-result : goal.invariant_of-result
+invariant_of-result g c =
+    let reach = c.reach-reached.ensures in
+    let open_at : c.if-not-reached.result ≡ false → (c.reach-reached.result ≡ true) × (c.is_before-within.result ≡ true) =
+    λ h. grind (arith, nat_tests, ended g c, h) in
+    let room = ap (λ (s : Levels). s.room) reach.levels ∙ ap (λ (s : Levels). s.room) c.in-Ok-new.ensures in
+    let most = ap most_levels (puzzle g c) in
+    record {
+      stacked = reach.standing.stacked;
+      led = reach.led;
+      standing = λ h. rw (open_at h).0 at reach.standing;
+      solved = λ h i. absurd (cc i);
+      before = λ h. sym (within g c) ∙ (open_at h).1;
+      levels_fit = omega (arith, c.most_levels-most.ensures.value, room, most);
+      choices_fit = omega (arith, c.most_levels-most.ensures.value, c.in-Ok.ensures.capacity, most);
+    }
+
+pub returns-clause-left : goal.returns-clause-left
+returns-clause-left g c =
+    let reach = c.reach-reached.ensures in
+    rw (← puzzle g c) (first_left (at g c).puzzle (at g c).trail c.reach-reached.new.stack.levels c.args.from.now
+    (until g c) _ c.reach-reached.result c.is_before-within.result reach.led (all g c) reach.reached reach.kept
+    reach.none (within g c) c.if-not-reached.result (ended g c))
+
+pub returns-clause-row : goal.returns-clause-row
+returns-clause-row g c =
+    let reach = c.reach-reached.ensures in
+    rw (← puzzle g c) (first_row (at g c).puzzle (at g c).trail c.reach-reached.new.stack.levels c.args.from.now
+    (until g c) _ c.reach-reached.result c.is_before-within.result reach.led (all g c) reach.reached reach.kept
+    reach.none (within g c) c.if-not-reached.result (ended g c))

@@ -1,0 +1,10 @@
+pub mod Rows
+pub mod Rising
+pub mod Lies
+pub mod Later
+pub mod Onward
+pub mod Kept
+pub mod Running
+pub mod Advance
+pub mod Told
+pub mod Along

@@ -1,0 +1,381 @@
+-- A search of a span went on from one row to another.
+use Rattle.std.proofs.lemmas.Bool.Decides.{nat_tests}
+use Rattle.std.proofs.Common.{ℕ, suc, ◌≡◌, ◌+◌, ◌-◌, ◌<◌, Bool, true, false, not, ◌&&◌, List, [], ◌∷◌, ◌++◌, filter}
+use Rattle.std.proofs.Common.{length, cond, Option, Some, None, refl, sym, ap, ◌∙◌, arith, subst, length-append, ◌⊎◌, inl, inr}
+use Rattle.std.proofs.lemmas.List.Elements.{filter_agree}
+use Rattle.std.specs.Prelude.{IfSome, unwrap_or, option_map, ◌||◌}
+use Rattle.xc_dance.specs.declared.dance.Move.{Move}
+use Rattle.xc_dance.specs.Dancing.{Dancing}
+use Rattle.xc_search.specs.declared.choice.Choice.{Choice}
+use Rattle.xc_search.specs.declared.level.Level.{Level}
+use Rattle.xc_input.specs.Problem.{Puzzle}
+use Rattle.xc_search.specs.Cover.{members}
+use Rattle.xc_search.specs.Listing.{listing}
+use Rattle.xc_search.specs.Outlook.{shown_after}
+use Rattle.xc_search.specs.Spans.{row_of, precedes, is_before, between}
+use Rattle.xc_search.specs.inner.Residual.{residual_of}
+use Rattle.xc_search.specs.inner.Levels.{Levels, choices_of, coming, to_give}
+use Rattle.xc_search.specs.inner.Ahead.{IsSolved}
+use Rattle.xc_search.specs.inner.Paths.{AreLed}
+use Rattle.xc_search.specs.inner.Spanning.{row_at, row_from, Stands, EndsSpan}
+use Rattle.xc_input.proofs.lists.Filters.{filter_both}
+use Rattle.xc_search.proofs.Cases.{by_bool, by_number, mapped_none}
+use Rattle.xc_search.proofs.residual.BranchItemLeft.{choice_is_branch_item}
+use Rattle.xc_search.proofs.listing.Unrolled.{listing_at}
+use Rattle.xc_search.proofs.stacked.NextLevel.{solution}
+use Rattle.xc_search.proofs.spans.Rows.{not_before, before_not_before, before_either_way, not_itself}
+use Rattle.xc_search.proofs.spans.Rising.{is_within, spans_meet, keep_none}
+use Rattle.xc_input.proofs.lists.EachElement.{each_of_all}
+use Rattle.xc_search.proofs.spans.Lies.{lies_behind, led_lies}
+use Rattle.xc_search.proofs.spans.Later.{led_later, led_after}
+use Rattle.xc_search.proofs.spans.Running.{led_from, between_kept}
+
+-- ---- rows
+
+-- right behind a row
+pub right_behind : (a : List ℕ) → precedes a (a ++ 0 ∷ []) ≡ true
+right_behind [] = refl
+right_behind (x ∷ a) = grind (arith, nat_tests, right_behind a)
+
+-- and no row is between them
+pub none_between : (a u : List ℕ) → precedes a u ≡ true → precedes u (a ++ 0 ∷ []) ≡ false
+none_between a [] e = absurd (cc e)
+none_between [] (y ∷ u) e = grind (arith, nat_tests)
+none_between (x ∷ a) (y ∷ u) e = grind (arith, nat_tests, none_between a u)
+
+-- the end of a span isn't before a row of the span, nor before the one right behind it
+pub end_not_before : (until : Option (List ℕ)) (a : List ℕ) → is_before until a ≡ true
+    → IfSome until (λ u. precedes u a ≡ false)
+end_not_before None a e = tt
+end_not_before (Some u) a e = before_either_way a u e
+
+pub end_not_right_behind : (until : Option (List ℕ)) (a : List ℕ) → is_before until a ≡ true
+    → IfSome until (λ u. precedes u (a ++ 0 ∷ []) ≡ false)
+end_not_right_behind None a e = tt
+end_not_right_behind (Some u) a e = none_between a u e
+
+-- ---- where a search stands
+
+pub record IsAt (p : Puzzle) (t : List Move) (ls : List Level) (down : Bool) : Type 0 where
+  pub led : AreLed p [] t ls
+  pub solved : down ≡ false → IsSolved p t ls
+
+solved_alone : (p : Puzzle) (t : List Move) (ls : List Level) → IsSolved p t ls → listing (residual_of p t) ≡ [] ∷ []
+solved_alone p t ls s =
+    let legal = (s.standing.searchable refl).legal in
+    listing_at (residual_of p t) None (grind (arith, mapped_none, choice_is_branch_item p t legal, s.none))
+
+pub at_from : (p : Puzzle) (t : List Move) (ls : List Level) (down : Bool) → IsAt p t ls down
+    → between p (row_from p ls down) None ≡ coming p t ls down
+at_from p t ls true a = led_from p t ls a.led
+at_from p t ls false a = lies_behind (led_lies p t ls a.led) (solved_alone p t ls (a.solved refl))
+
+-- the member at which it stands isn't to come
+one_less : (p : Puzzle) (t : List Move) (ls : List Level) → IsSolved p t ls
+    → length (coming p t ls true) ≡ suc (length (coming p t ls false))
+one_less p t ls s = ap length (solution p t ls (s.standing.searchable refl).legal s.none)
+
+-- ---- spans between rows
+
+pub lengths_meet : (p : Puzzle) (a b : List ℕ) (until : Option (List ℕ)) → precedes b a ≡ false
+    → IfSome until (λ u. precedes u b ≡ false) →
+    length (between p a (Some b)) + length (between p b until) ≡ length (between p a until)
+lengths_meet p a b until ab bu = omega (
+  arith,
+  length-append (between p a (Some b)) (between p b until),
+  ap length (spans_meet p a b until ab bu),
+)
+
+-- a span is what its end leaves of all behind its beginning
+pub within_span : (p : Puzzle) (from : List ℕ) (until : Option (List ℕ))
+    → between p from until ≡ filter (λ m. is_before until (row_of m)) (between p from None)
+within_span p from until =
+    sym (filter_both (λ m. is_before until (row_of m)) (is_within from None) (members p)
+    ∙ filter_agree _ _ (λ m. ap (λ b. b && is_before until (row_of m)) (and_true (not (precedes (row_of m) from))))
+    (members p))
+  where
+    and_true : (b : Bool) → b && true ≡ b
+    and_true true = refl
+    and_true false = refl
+
+shown_last : (front : List (List Choice)) (m : List Choice) (back : List (List Choice)) (was : List Choice)
+    → shown_after (suc (length front)) (front ++ m ∷ back) was ≡ m
+shown_last [] m back was = refl
+shown_last (x ∷ front) m back was = shown_last front m back x
+
+-- It went on by n members.
+pub record Advances (p : Puzzle) (from : List ℕ) (until : Option (List ℕ)) (to : List ℕ) (n : ℕ) : Type 0 where
+  pub later : precedes from to ≡ true
+  pub count : length (between p from (Some to)) ≡ n
+  pub all : between p from until ≡ between p from (Some to) ++ between p to until
+
+advances : (p : Puzzle) (from : List ℕ) (until : Option (List ℕ)) (to : List ℕ) (n : ℕ) → precedes from to ≡ true
+    → IfSome until (λ u. precedes u to ≡ false)
+    → n + length (between p to None) ≡ length (between p from None) → Advances p from until to n
+advances p from until to n later within count =
+    let back = before_either_way from to later in
+    record {
+      later = later;
+      count = omega (arith, count, lengths_meet p from to None back tt);
+      all = sym (spans_meet p from to until back within);
+    }
+
+-- the row at which it began comes before that of a state with less ahead
+from_before : (p : Puzzle) (t s : List Move) (ls ks : List Level) (down : Bool) → AreLed p [] t ls → AreLed p [] s ks
+    → precedes (row_at p ls) (row_at p ks) ≡ true → precedes (row_from p ls down) (row_at p ks) ≡ true
+from_before p t s ls ks true a b h = h
+from_before p t s ls ks false a b h = led_after p s ks (row_at p ls) b h
+
+-- how many members it has to pass over, to stand at the last of so many
+abbrev pub over_first : ℕ → Bool → ℕ
+over_first many true = many - 1
+over_first many false = many
+
+-- it ran out of steps
+module _ {d e : Dancing} {ls ks : Levels} {down : Bool} {many n begun : ℕ} (a : IsAt d.puzzle d.trail ls.levels down)
+    (s : Stands d ls (over_first many down) e ks n begun) (some : 0 < many)
+  where
+    -- the row from which it went on, and the one at which it stands
+    abbrev began : List ℕ
+    began = row_from d.puzzle ls.levels down
+
+    abbrev now : List ℕ
+    now = row_at d.puzzle ks.levels
+
+    same_puzzle : e.puzzle ≡ d.puzzle
+    same_puzzle = ap (λ (d : Dancing). d.puzzle) s.still.0
+
+    rows_from : 0 < begun → precedes (row_from d.puzzle ls.levels down) (row_at d.puzzle ks.levels) ≡ true
+    rows_from h =
+        let led : AreLed d.puzzle [] e.trail ks.levels = rw same_puzzle at s.led in
+        let less = rw same_puzzle at (s.less h) in
+        from_before d.puzzle d.trail e.trail ls.levels ks.levels down a.led led
+        (led_later d.puzzle d.trail e.trail ls.levels ks.levels a.led led less)
+
+    led_here : AreLed d.puzzle [] e.trail ks.levels
+    led_here = rw same_puzzle at s.led
+
+    counted : over_first many down + length (coming d.puzzle e.trail ks.levels true)
+        ≡ n + length (coming d.puzzle d.trail ls.levels true)
+    counted = rw same_puzzle at s.count
+
+    -- fewer than it was to go on by
+    pub still_more : 0 < begun → n < many
+    still_more h = elim down as (λ v. IsAt d.puzzle d.trail ls.levels v → over_first many v
+        + length (coming d.puzzle e.trail ks.levels true) ≡ n + length (coming d.puzzle d.trail ls.levels true)
+        → precedes (row_from d.puzzle ls.levels v) (row_at d.puzzle ks.levels) ≡ true → n < many) [
+          | true ↦ λ at count later.
+              let rest = lengths_meet d.puzzle (row_at d.puzzle ls.levels) now None
+              (before_either_way (row_at d.puzzle ls.levels) now later) tt in
+              let from = ap length (led_from d.puzzle d.trail ls.levels at.led) in
+              let to = ap length (led_from d.puzzle e.trail ks.levels led_here) in
+              omega (arith, count, rest, from, to, some)
+          | false ↦ λ at count later.
+              let rest = lengths_meet d.puzzle (row_from d.puzzle ls.levels false) now None
+              (before_either_way (row_from d.puzzle ls.levels false) now later) tt in
+              let from = ap length (at_from d.puzzle d.trail ls.levels false at) in
+              let to = ap length (led_from d.puzzle e.trail ks.levels led_here) in
+              let one = one_less d.puzzle d.trail ls.levels (at.solved refl) in
+              omega (arith, count, rest, from, to, one)
+        ] a counted (rows_from h)
+
+    -- how many members it went on by
+    gone : n < many → (many - 1 - n) + length (coming d.puzzle e.trail ks.levels true)
+        ≡ length (coming d.puzzle d.trail ls.levels down)
+    gone less = elim down as (λ v. IsAt d.puzzle d.trail ls.levels v → over_first many v
+        + length (coming d.puzzle e.trail ks.levels true) ≡ n + length (coming d.puzzle d.trail ls.levels true)
+        → (many - 1 - n) + length (coming d.puzzle e.trail ks.levels true)
+        ≡ length (coming d.puzzle d.trail ls.levels v)) [
+          | true ↦ λ at count. omega (arith, count, less)
+          | false ↦ λ at count. omega (arith, count, less, one_less d.puzzle d.trail ls.levels (at.solved refl))
+        ] a counted
+
+    module _ (until : Option (List ℕ)) (before : is_before until (row_at d.puzzle ks.levels) ≡ true) where
+      pub ran_out : 0 < begun → Advances d.puzzle (row_from d.puzzle ls.levels down) until (row_at d.puzzle ks.levels)
+          (many - 1 - n)
+      ran_out h = advances d.puzzle _ until (row_at d.puzzle ks.levels) (many - 1 - n) (rows_from h)
+          (end_not_before until _ before)
+          (omega (
+            arith,
+            gone (still_more h),
+            ap length (at_from d.puzzle d.trail ls.levels down a),
+            ap length (led_from d.puzzle e.trail ks.levels led_here),
+          ))
+
+      -- it stands at a member
+      module _ (solved : IsSolved d.puzzle e.trail ks.levels) (last : n ≡ 0) where
+        -- where no branch was begun it stands where it stood
+        no_earlier : (precedes (row_from d.puzzle ls.levels down) (row_at d.puzzle ks.levels) ≡ true)
+            ⊎ (row_from d.puzzle ls.levels down ≡ row_at d.puzzle ks.levels)
+        no_earlier = by_number begun
+            (λ h. let same = s.same h in
+            let all : over_first many down ≡ 0 = omega (arith, same.2, last) in
+            let levels = ap (λ (l : Levels). row_at d.puzzle l.levels) (sym same.1) in
+            inr (first down all ∙ levels))
+            (λ k h. inl (rows_from (omega (arith, h))))
+          where
+            first : (down : Bool) → over_first many down ≡ 0 → row_from d.puzzle ls.levels down ≡ row_at d.puzzle ls.levels
+            first true h = refl
+            first false h = absurd (omega (arith, h, some))
+
+        not_later : precedes (row_at d.puzzle ks.levels) (row_from d.puzzle ls.levels down) ≡ false
+        not_later = elim no_earlier [
+          | inl h ↦ before_either_way began now h
+          | inr h ↦ rw h (not_itself now)
+        ]
+
+        later : precedes (row_from d.puzzle ls.levels down) (row_from d.puzzle ks.levels false) ≡ true
+        later = elim no_earlier [
+          | inl h ↦ before_not_before began now (now ++ 0 ∷ []) h
+              (before_either_way now (now ++ 0 ∷ []) (right_behind now))
+          | inr h ↦ rw h (right_behind now)
+        ]
+
+        here : IsAt d.puzzle e.trail ks.levels false
+        here = record { led = led_here; solved = λ _. solved }
+
+        pub at_member : Advances d.puzzle (row_from d.puzzle ls.levels down) until
+            (row_from d.puzzle ks.levels false) many
+        at_member = advances d.puzzle _ until (row_from d.puzzle ks.levels false) many later
+            (end_not_right_behind until _ before)
+            (omega (
+              arith,
+              gone (omega (arith, last, some)),
+              last,
+              some,
+              one_less d.puzzle e.trail ks.levels solved,
+              ap length (at_from d.puzzle d.trail ls.levels down a),
+              ap length (at_from d.puzzle e.trail ks.levels false here),
+            ))
+
+        -- and that is the last of them
+        pub shown_there : (was : List Choice) → shown_after many (between d.puzzle began until) was
+            ≡ choices_of d.puzzle ks.levels
+        shown_there was =
+            let front = between d.puzzle began (Some now) in
+            let own = choices_of d.puzzle ks.levels in
+            let found : coming d.puzzle e.trail ks.levels true ≡ own ∷ to_give d.puzzle e.trail ks.levels =
+            solution d.puzzle e.trail ks.levels (solved.standing.searchable refl).legal solved.none in
+            let rest = within_span d.puzzle now until
+            ∙ ap (filter (λ m. is_before until (row_of m))) (led_from d.puzzle e.trail ks.levels led_here ∙ found) in
+            let here : filter (λ m. is_before until (row_of m)) (own ∷ to_give d.puzzle e.trail ks.levels)
+            ≡ own ∷ filter (λ m. is_before until (row_of m)) (to_give d.puzzle e.trail ks.levels) =
+            rw before refl in
+            let all = sym (spans_meet d.puzzle began now until not_later (end_not_before until now before))
+            ∙ ap (λ ms. front ++ ms) (rest ∙ here) in
+            let count : suc (length front) ≡ many =
+            omega (
+              arith,
+              some,
+              last,
+              gone (omega (arith, last, some)),
+              lengths_meet d.puzzle began now None not_later tt,
+              ap length (at_from d.puzzle d.trail ls.levels down a),
+              ap length (led_from d.puzzle e.trail ks.levels led_here),
+            ) in
+            rw all (subst (λ n. shown_after n (front ++ own
+            ∷ filter (λ m. is_before until (row_of m)) (to_give d.puzzle e.trail ks.levels)) was ≡ own) count
+            (shown_last front own _ was))
+
+-- it came to its end
+module _ {d e : Dancing} {ls ks : Levels} {down : Bool} {many n : ℕ} {until : Option (List ℕ)}
+    (a : IsAt d.puzzle d.trail ls.levels down) (s : EndsSpan d ls (over_first many down) until e ks n) (some : 0 < many)
+    (before : is_before until (row_at d.puzzle ls.levels) ≡ true)
+  where
+    pub at_end : (n < many) × (length (between d.puzzle (row_from d.puzzle ls.levels down) until) ≡ many - 1 - n)
+    at_end = elim down as (λ v. IsAt d.puzzle d.trail ls.levels v → over_first many v
+        ≡ n + length (between d.puzzle (row_at d.puzzle ls.levels) until) →
+        (n < many) × (length (between d.puzzle (row_from d.puzzle ls.levels v) until) ≡ many - 1 - n)) [
+          | true ↦ λ at count. (omega (arith, count, some), omega (arith, count, some))
+          | false ↦ λ at count.
+              let row = row_at d.puzzle ls.levels in
+              let back = before_either_way row (row ++ 0 ∷ []) (right_behind row) in
+              let within = lengths_meet d.puzzle row (row ++ 0 ∷ []) until back (end_not_right_behind until row before) in
+              let all = lengths_meet d.puzzle row (row ++ 0 ∷ []) None back tt in
+              let from = ap length (led_from d.puzzle d.trail ls.levels at.led) in
+              let to = ap length (at_from d.puzzle d.trail ls.levels false at) in
+              let one = one_less d.puzzle d.trail ls.levels (at.solved refl) in
+              (omega (arith, count, within, all, from, to, one), omega (arith, count, within, all, from, to, one))
+        ] a s.count
+
+-- ---- where a search begins
+
+pub none_long : {X : Type 0} (xs : List X) → length xs ≡ 0 → xs ≡ []
+none_long [] h = refl
+none_long (x ∷ xs) h = absurd (omega (arith, h))
+
+from_row : (p : Puzzle) (from : List ℕ) → filter (λ m. not (precedes (row_of m) from)) (members p) ≡ between p from None
+from_row p from = filter_agree _ _ (λ m. grind (arith, nat_tests)) (members p)
+
+-- it reached a row, and no member stands between
+module _ (p : Puzzle) (from row : List ℕ) (reached : precedes row from ≡ false)
+    (same : between p from None ≡ between p row None)
+  where
+    pub begins_within : (until : Option (List ℕ)) → between p row until ≡ between p from until
+    begins_within until =
+        within_span p row until ∙ ap (filter (λ m. is_before until (row_of m))) (sym same)
+        ∙ sym (within_span p from until)
+
+    pub none_passed : between p from (Some row) ≡ []
+    none_passed =
+        none_long _ (omega (arith, lengths_meet p from row None reached tt, ap length same))
+
+pub begins_from : (p : Puzzle) (t : List Move) (ls : List Level) (from : List ℕ) (all : List (List Choice))
+    → AreLed p [] t ls → precedes (row_at p ls) from ≡ false → all ≡ members p →
+    filter (λ m. not (precedes (row_of m) from)) all ≡ filter (λ m. not (precedes (row_of m) from)) (coming p t ls true)
+    → between p from None ≡ between p (row_at p ls) None
+begins_from p t ls from all led reached is kept =
+    sym (from_row p from) ∙ ap (filter (λ m. not (precedes (row_of m) from))) (sym is) ∙ kept
+    ∙ ap (filter (λ m. not (precedes (row_of m) from))) (sym (led_from p t ls led))
+    ∙ between_kept p (row_at p ls) from reached
+
+-- none is left
+pub none_from : (p : Puzzle) (from : List ℕ) (all : List (List Choice)) (until : Option (List ℕ)) → all ≡ members p
+    → filter (λ m. not (precedes (row_of m) from)) all ≡ [] → between p from until ≡ []
+none_from p from all until is none =
+    within_span p from until
+    ∙ ap (filter (λ m. is_before until (row_of m)))
+    (sym (from_row p from) ∙ ap (filter (λ m. not (precedes (row_of m) from))) (sym is) ∙ none)
+
+-- a span that ends before it begins
+pub none_within : (p : Puzzle) (row : List ℕ) (until : Option (List ℕ)) → is_before until row ≡ false
+    → between p row until ≡ []
+none_within p row None past = absurd (cc past)
+none_within p row (Some u) past =
+    keep_none (is_within row (Some u)) (members p) (each_of_all _ (members p) (λ m.
+    by_bool (precedes (row_of m) row)
+    (λ e. grind (arith, nat_tests, e))
+    (λ e. grind (arith, nat_tests, e, not_before u row (row_of m) past e))))
+
+-- What a search that begins at a row stands for: whether it reached one, and that before its span's end.
+module _ (p : Puzzle) (t : List Move) (ls : List Level) (from : List ℕ) (until : Option (List ℕ))
+    (all : List (List Choice)) (reaches within : Bool) (led : AreLed p [] t ls) (start : all ≡ members p)
+    (at : reaches ≡ true → precedes (row_at p ls) from ≡ false)
+    (kept : reaches ≡ true → filter (λ m. not (precedes (row_of m) from)) all
+    ≡ filter (λ m. not (precedes (row_of m) from)) (coming p t ls true))
+    (none : reaches ≡ false → filter (λ m. not (precedes (row_of m) from)) all ≡ [])
+    (is : within ≡ is_before until (row_at p ls))
+  where
+    same : reaches ≡ true → between p from None ≡ between p (row_at p ls) None
+    same h = begins_from p t ls from all led (at h) start (kept h)
+
+    pub first_left : (ended : Bool) → ended ≡ not reaches || not within
+        → unwrap_or (option_map (λ row. between p row until) (cond ended None (Some (row_at p ls)))) []
+        ≡ between p from until
+    first_left ended e = by_bool reaches
+        (λ r. by_bool within
+        (λ w. let more : ended ≡ false = rw (r, w) at e in
+        rw more (begins_within p from (row_at p ls) (at r) (same r) until))
+        (λ w. let shut : ended ≡ true = rw (r, w) at e in
+        rw shut (sym (none_within p (row_at p ls) until (sym is ∙ w))
+        ∙ begins_within p from (row_at p ls) (at r) (same r) until)))
+        (λ r. let shut : ended ≡ true = rw r at e in
+        rw shut (sym (none_from p from all until start (none r))))
+
+    pub first_row : (ended : Bool) → ended ≡ not reaches || not within
+        → IfSome (cond ended None (Some (row_at p ls))) (λ row.
+        (precedes row from ≡ false) × (between p from (Some row) ≡ []))
+    first_row ended e = by_bool ended (λ h. rw h tt) (λ h.
+        let r : reaches ≡ true = by_bool reaches (λ r. r) (λ r.
+        let shut : ended ≡ true = rw r at e in absurd (cc (shut, h))) in
+        rw h (at r, none_passed p from (row_at p ls) (at r) (same r)))

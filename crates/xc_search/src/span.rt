@@ -1,0 +1,278 @@
+//! A search of a span: of the members from one row of numbers on and before another.
+ghost use Rattle.std.specs.Prelude.{ℕ, ◌≡◌, ◌<◌, ◌≤◌, List, [], ◌++◌, length, map, true, false, Some, None, IfSome, IsSome};
+ghost use Rattle.std.specs.Prelude.{IfOk, IfErr, option_map};
+ghost use Rattle.xc_search.specs.Outlook.{shown_after};
+ghost use Rattle.xc_search.specs.Room.{room_for};
+ghost use Rattle.xc_search.specs.Listing.{whole};
+ghost use Rattle.xc_search.specs.Spans.{precedes, between};
+ghost use Rattle.xc_search.specs.InSpan.{left_of, reached, branches_along};
+
+use crate::choice::Choice;
+use crate::counts::most_levels;
+use crate::levels::unwind;
+use crate::position::Position;
+use crate::rows::is_before;
+use crate::spanning::{State, Task, reach, run_on};
+use crate::stack::Stack;
+use core::mem::replace_with;
+use std::alloc::{AllocError, Global};
+use std::marker::Model;
+use xc_dance::{Dance, Memory};
+use xc_input::Problem;
+
+/// Where a search of a span halted.
+#[derive(Clone, Copy, Debug, PartialEq, Eq)]
+pub enum Halt {
+    /// It went on by as many members as it was to, and stands at the last of them.
+    Member,
+    /// No member of the span is left.
+    End,
+    /// It ran out of steps, and stands between two branches.
+    Steps,
+}
+
+/// How far a search of a span went on.
+#[derive(Clone, Copy, Debug, PartialEq, Eq)]
+pub struct Went {
+    pub halt: Halt,
+    /// By how many members.
+    pub members: u64,
+    /// How many branches it began.
+    pub steps: u64,
+}
+
+/// A number of a row: branch `k` of the `n` branches of its level.
+#[derive(Clone, Copy, Debug, PartialEq, Eq, Hash)]
+pub struct RowNumber {
+    pub k: u32,
+    pub n: u32,
+}
+
+/// A search of a span of a problem's listing, over a dance of that problem, whose moves it makes and undoes. It stands
+/// at a row of numbers, and for the members of the span from that row on. It may be let go as it stands, where its
+/// dance may; `close` gives the dance back.
+#[derive(Drop)]
+pub struct Span<'a, D: Dance> {
+    state: State<'a, D>,
+    /// What is left wasn't looked at yet. Else it stands at a solution.
+    down: bool,
+    /// No member of the span is left.
+    ended: bool,
+    until: Option<&'a [u32]>,
+    choices: Vec<Choice>,
+}
+
+impl<'a, D: Dance> Model for Span<'a, D> {
+    ghost use Rattle.std.specs.Prelude.{◌≡◌, ◌≤◌, [], true, false, Some, None, option_map, vec_capacity, if◌then◌else◌};
+    ghost use Rattle.xc_search.specs.InSpan.{InSpan};
+    ghost use Rattle.xc_search.specs.Spans.{is_before};
+    ghost use Rattle.xc_search.specs.inner.Ahead.{IsSolved};
+    ghost use Rattle.xc_search.specs.inner.MostLevels.{most_levels};
+    ghost use Rattle.xc_search.specs.inner.Levels.{AreStacked, IsStanding};
+    ghost use Rattle.xc_search.specs.inner.Paths.{AreLed};
+    ghost use Rattle.xc_search.specs.inner.Spanning.{row_at, row_from};
+
+    ghost Value = { InSpan };
+
+    ghost view = { λ s. record {
+      puzzle = s.state.position.puzzle;
+      row = if s.ended then None else Some (row_from s.state.position.puzzle s.state.stack.levels s.down);
+      until = option_map (λ u. u.now) s.until;
+      shown = s.choices.items;
+      room = s.state.position.room;
+    } };
+
+    ghost invariant = { λ s. record {
+      stacked : AreStacked s.state.position.puzzle s.state.position.trail s.state.stack.levels;
+      led : AreLed s.state.position.puzzle [] s.state.position.trail s.state.stack.levels;
+      standing : s.ended ≡ false → IsStanding s.state.position.puzzle s.state.position.trail s.state.stack.levels true;
+      solved : s.ended ≡ false → s.down ≡ false → IsSolved s.state.position.puzzle s.state.position.trail s.state.stack.levels;
+      before : s.ended ≡ false →
+          is_before (option_map (λ u. u.now) s.until) (row_at s.state.position.puzzle s.state.stack.levels) ≡ true;
+      levels_fit : s.state.stack.room ≡ most_levels s.state.position.puzzle;
+      choices_fit : most_levels s.state.position.puzzle ≤ vec_capacity s.choices;
+    } };
+}
+
+impl<'a, D: Dance> Span<'a, D> {
+    /// Begins a search at the row `from`, of the members before the row `until`, or of all that follow; over a dance
+    /// that has no moves and room for `2 * items + 2 * uses` of them. A row is the numbers `k` of a member's choices,
+    /// from the first level down, or any other numbers: a row that begins another comes before it. What it takes to
+    /// come to the first row isn't counted as steps.
+    ///
+    /// All memory is taken here: where there is none, the dance comes back as it was.
+    pub fn new(
+        alloc: Global,
+        dance: D,
+        problem: &'a Problem,
+        from: &[u32],
+        until: Option<&'a [u32]>,
+    ) -> Result<Span<'a, D>, (D, Memory)>
+        requires same { (D.state dance).puzzle ≡ problem.now.puzzle }
+        requires none { (D.state dance).trail ≡ [] }
+        requires room { room_for problem.now.puzzle ≤ (D.state dance).room }
+        ensures begun { IfOk result (λ s. s ≡ record {
+          puzzle = problem.now.puzzle;
+          row = s.row;
+          until = option_map (λ u. u.now) until.entry;
+          shown = [];
+          room = (D.state dance).room;
+        }) }
+        ensures left { IfOk result (λ s. left_of s ≡ between problem.now.puzzle from.now s.until) }
+        ensures row { IfOk result (λ s. IfSome s.row (λ row.
+            (precedes row from.now ≡ false) × (between problem.now.puzzle from.now (Some row) ≡ []))) }
+        ensures back { IfErr result (λ e. e.0 ≡ dance) }
+    {
+        let most = most_levels(problem);
+        let Ok(choices) = Vec::with_capacity(alloc, most) else {
+            return Err((dance, Memory));
+        };
+        let Ok(mut stack) = Stack::new(alloc, most) else {
+            return Err((dance, Memory));
+        };
+        let mut position = Position::new(dance, problem);
+        let reached = reach(&mut position, &mut stack, from);
+        let within = is_before(stack.levels(), until);
+        Ok(Span {
+            state: State { position, stack },
+            down: true,
+            ended: !reached || !within,
+            until,
+            choices,
+        })
+    }
+
+    /// After `Member` the choices of that member, from the first level down; else none.
+    pub fn choices(&self) -> &[Choice]
+        ensures { result.now ≡ self.now.shown }
+    {
+        &self.choices
+    }
+
+    /// Goes on by so many members and at most so many steps, each a branch that is begun. It may run out of steps
+    /// between any two branches, and not at members alone. After `End` it answers `End` again.
+    pub fn go_on(&mut self, many: u64, steps: u64) -> Went
+        ensures still { self.new ≡ record self.old { row = self.new.row; shown = self.new.shown } }
+        ensures passed { IfSome self.old.row (λ from. left_of self.old
+            ≡ between self.old.puzzle from (reached self.new) ++ left_of self.new) }
+        ensures count { IfSome self.old.row (λ from.
+            length (between self.old.puzzle from (reached self.new)) ≡ result.members) }
+        ensures later { 0 < many → 0 < steps → IfSome self.old.row (λ from. IfSome self.new.row (λ row.
+            precedes from row ≡ true)) }
+        ensures member { result.halt ≡ Halt.Member → (result.members ≡ many)
+            × (self.new.shown ≡ shown_after many (left_of self.old) self.old.shown) }
+        ensures end { result.halt ≡ Halt.End → (self.new.row ≡ None) × (self.new.shown ≡ []) }
+        ensures ran_out { result.halt ≡ Halt.Steps → IsSome self.new.row × (self.new.shown ≡ [])
+            × (result.steps ≡ steps) × (result.members < many) }
+        ensures within { (result.steps ≤ steps) × (result.members ≤ many) }
+        ensures ended { self.old.row ≡ None → (result.halt ≡ Halt.End) × (result.members ≡ 0) × (self.new.row ≡ None) }
+    {
+        if self.ended {
+            self.choices.clear();
+            return Went {
+                halt: Halt::End,
+                members: 0,
+                steps: 0,
+            };
+        }
+        if many == 0 {
+            return Went {
+                halt: Halt::Member,
+                members: 0,
+                steps: 0,
+            };
+        }
+        if steps == 0 {
+            self.choices.clear();
+            return Went {
+                halt: Halt::Steps,
+                members: 0,
+                steps: 0,
+            };
+        }
+        // Where it stands at a solution, it finds that one again.
+        let over = if self.down { many - 1 } else { many };
+        let task = Task {
+            until: self.until,
+            over,
+            steps,
+        };
+        let ran = replace_with(&mut self.state, task, run_on);
+        let taken = steps - ran.steps;
+        match ran.halt {
+            Halt::Member => {
+                self.down = false;
+                let state = &self.state;
+                state.stack.show(&[], &state.position, &mut self.choices);
+                Went {
+                    halt: Halt::Member,
+                    members: many,
+                    steps: taken,
+                }
+            }
+            Halt::End => {
+                self.ended = true;
+                self.choices.clear();
+                Went {
+                    halt: Halt::End,
+                    members: many - 1 - ran.more,
+                    steps: taken,
+                }
+            }
+            Halt::Steps => {
+                self.down = true;
+                self.choices.clear();
+                Went {
+                    halt: Halt::Steps,
+                    members: many - 1 - ran.more,
+                    steps: taken,
+                }
+            }
+        }
+    }
+
+    /// The row at which it stands, each number with the number of branches of its level; none after `End`. The members
+    /// of the span from this row on are those that are left. At a member that was passed it is the row right behind
+    /// that one's, which ends with 0 of 0 branches.
+    pub fn row(&self, alloc: Global) -> Result<Vec<RowNumber>, AllocError>
+        ensures numbers { IfOk result (λ row. IfSome self.now.row (λ numbers. map (λ x. x.k) row.items ≡ numbers)) }
+        ensures branches { IfOk result (λ row. IfSome self.now.row (λ numbers.
+            map (λ x. x.n) row.items ≡ branches_along (whole self.now.puzzle) numbers)) }
+        ensures none { IfOk result (λ row. self.now.row ≡ None → row.items ≡ []) }
+    {
+        if self.ended {
+            return Ok(Vec::new(alloc));
+        }
+        let levels = self.state.stack.levels();
+        let mut row = Vec::with_capacity(alloc, levels.len() + 1)?;
+        for level in levels {
+            row.push_reserved(RowNumber {
+                k: level.begun,
+                n: level.count,
+            });
+        }
+        if !self.down {
+            row.push_reserved(RowNumber { k: 0, n: 0 });
+        }
+        Ok(row)
+    }
+
+    /// Undoes every move and gives the dance back, after any answer of `go_on`.
+    pub fn close(self) -> D
+        ensures { D.state result ≡ record { puzzle = self.entry.puzzle; trail = []; room = self.entry.room } }
+    {
+        let Span {
+            state,
+            down: _,
+            ended: _,
+            until: _,
+            choices: _,
+        } = self;
+        let State {
+            mut position,
+            stack,
+        } = state;
+        unwind(&mut position, stack);
+        position.into_dance()
+    }
+}
