@@ -30,7 +30,8 @@ fn enter_branch<D: Dance>(position: &mut Position<D>, stack: &mut Stack, more: &
     ensures done { result ≡ Next.Nothing →
         Ends position.old stack.old more.old position.new stack.new more.new }
 {
-    match deepen(position, stack) {
+    let next = position.choose();
+    match deepen(position, stack, next) {
         Below::Branch(entered) => return Next::Branch(entered),
         Below::Nothing => {}
         Below::Solution => {

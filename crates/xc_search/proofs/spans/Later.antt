@@ -11,18 +11,18 @@ use Rattle.xc_search.specs.Listing.{Wanted, Residual, Branch, whole, branch_item
 use Rattle.xc_search.specs.Spans.{row_of, precedes}
 use Rattle.xc_search.specs.inner.Commits.{oldest}
 use Rattle.xc_search.specs.inner.Residual.{residual_of}
-use Rattle.xc_search.specs.inner.Levels.{chosen, choices_of}
+use Rattle.xc_search.specs.Residuals.{wanted_at}
+use Rattle.xc_search.specs.inner.Levels.{branches_at, chosen, choices_of}
 use Rattle.xc_search.specs.inner.Paths.{AreLed}
-use Rattle.xc_search.specs.inner.Ahead.{cost, work, work_level, visits, ahead}
+use Rattle.xc_search.specs.inner.Ahead.{cost, work, visits, ahead}
 use Rattle.xc_input.proofs.lists.Places.{drop_at}
 use Rattle.xc_search.proofs.Cases.{by_bool}
 use Rattle.xc_search.proofs.paths.Numbers.{number_at}
 use Rattle.xc_search.proofs.residual.BranchItemLeft.{no_moves_leave_all}
-use Rattle.xc_search.proofs.stacked.NextLevel.{branches_here}
-use Rattle.xc_search.proofs.stacked.WorkUnrolled.{work_unrolled}
+use Rattle.xc_search.proofs.listing.EachBranch.{branch_item-in}
+use Rattle.xc_search.proofs.stacked.LessWork.{less_work}
 use Rattle.xc_search.proofs.stacked.BegunComesFirst.{choices_more}
 use Rattle.xc_search.proofs.spans.Rows.{behind_first, before_first, less_before, same_before}
-use Rattle.xc_search.proofs.spans.Lies.{item_at}
 
 -- By the branches of these numbers what leaves r leads to what leaves s, with so many visits to be made on the way back.
 abbrev pub Leads : Residual → List ℕ → ℕ → Residual → Type 0
@@ -47,18 +47,19 @@ leads_more r (j ∷ x) v s l w e k b at some =
 
 pub led_leads : (p : Puzzle) (t : List Move) (ls : List Level) → AreLed p [] t ls
     → Leads (whole p) (row_of (choices_of p ls)) (visits p t ls) (residual_of p t)
+unfolding branches_at
 led_leads p t [] a = rw a (refl, no_moves_leave_all p)
 led_leads p t (l ∷ ls) a =
     let u = oldest l.mark t in
-    let at = item_at p u (l.begun - 1) a.0.branch a.0.at in
+    let w = wanted_at p u l.item in
     let number : a.0.branch.choice.k ≡ l.begun = sym (ap (λ (c : Choice). c.k) a.0.choice) in
     let some : 0 < l.begun =
-    omega (arith, number, (number_at (residual_of p u) at.0 (l.begun - 1) a.0.branch at.2).1) in
-    let next = leads_more _ _ _ _ (led_leads p u ls a.1) at.0 at.1 l.begun a.0.branch at.2 some in
+    omega (arith, number, (number_at (residual_of p u) w (l.begun - 1) a.0.branch a.0.at).1) in
+    let next = leads_more _ _ _ _ (led_leads p u ls a.1) w a.0.is_branch_item l.begun a.0.branch a.0.at some in
     let row : row_of (choices_of p (l ∷ ls)) ≡ row_of (choices_of p ls) ++ l.begun ∷ [] =
     ap row_of (choices_more p l ls) ∙ map-append (λ c. c.k) (choices_of p ls) (chosen p l ∷ []) in
-    let more : visits p u ls + suc (cost work (drop l.begun (branches_of (residual_of p u) at.0))) ≡ visits p t (l ∷ ls) =
-    omega (arith, ap (λ bs. cost work (drop l.begun bs)) (branches_here p u at.0 at.1)) in
+    let more : visits p u ls + suc (cost work (drop l.begun (branches_of (residual_of p u) w))) ≡ visits p t (l ∷ ls) =
+    omega arith in
     rw (row, a.0.next) (subst (λ v. Leads (whole p) (row_of (choices_of p ls) ++ l.begun ∷ []) v a.0.branch.next) more
     next)
 
@@ -76,8 +77,8 @@ cost_fewer [] (suc i) (suc j) h = omega arith
 cost_fewer bs (suc i) zero h = absurd (omega (arith, h))
 cost_fewer (b ∷ bs) (suc i) (suc j) h = cost_fewer bs i j (omega (arith, h))
 
-work_at : (r : Residual) (w : Wanted) → branch_item r ≡ Some w → work r ≡ suc (suc (cost work (branches_of r w)))
-work_at r w e = work_unrolled r ∙ ap (λ o. work_level work o r) e
+work_at : (r : Residual) (w : Wanted) → branch_item r ≡ Some w → cost work (branches_of r w) + 2 ≤ work r
+work_at r w e = less_work r w (branch_item-in r w e)
 
 -- less work is ahead further down
 leads_less : (r : Residual) (x : List ℕ) (v : ℕ) (s : Residual) → Leads r x v s → v + work s ≤ work r

@@ -16,16 +16,16 @@ use Rattle.xc_search.specs.Cover.{members}
 use Rattle.xc_search.specs.Spans.{row_of, precedes, between}
 use Rattle.xc_search.specs.inner.Commits.{oldest}
 use Rattle.xc_search.specs.inner.Residual.{residual_of}
+use Rattle.xc_search.specs.Residuals.{wanted_at}
 use Rattle.xc_search.specs.inner.Levels.{branches_at, members_of, choices_of, to_give}
 use Rattle.xc_search.specs.inner.Paths.{AreLed}
 use Rattle.xc_input.proofs.lists.EachElement.{each-append, each-map, each_weaker, each_of_all}
 use Rattle.xc_input.proofs.lists.Filters.{keep_all, map-same}
 use Rattle.xc_input.proofs.lists.Places.{drop_at}
-use Rattle.xc_search.proofs.Cases.{by_option}
 use Rattle.xc_search.proofs.paths.Numbers.{number_at}
 use Rattle.xc_search.proofs.listing.Unrolled.{listing_at}
 use Rattle.xc_search.proofs.residual.BranchItemLeft.{no_moves_leave_all}
-use Rattle.xc_search.proofs.stacked.NextLevel.{branches_here, members_all}
+use Rattle.xc_search.proofs.stacked.NextLevel.{members_all}
 use Rattle.xc_search.proofs.stacked.BegunComesFirst.{choices_more}
 use Rattle.xc_search.proofs.spans.Rows.{less_before, less_behind, same_beginning}
 use Rattle.xc_search.proofs.spans.Rising.{is_within, keep_none}
@@ -150,24 +150,16 @@ lies_next p path r after l w e k b at number =
           (λ m h x. rw (append_assoc (row_of path) (k ∷ []) x) (h (k ∷ x))) l.behind));
     }
 
--- the branch item of moves at which a branch stands
-pub item_at : (p : Puzzle) (u : List Move) (j : ℕ) (b : Branch) → slice_get (branches_at p u) j ≡ Some b →
-    (w : Wanted) × (branch_item (residual_of p u) ≡ Some w) × (slice_get (branches_of (residual_of p u) w) j ≡ Some b)
-item_at p u j b e = by_option (branch_item (residual_of p u))
-    (λ h. let none : None ≡ Some b = rw h at e in absurd (cc none))
-    (λ w h. (w, h, ap (λ bs. slice_get bs j) (sym (branches_here p u w h)) ∙ e))
-
 pub led_lies : (p : Puzzle) (t : List Move) (ls : List Level) → AreLed p [] t ls
     → LiesAt p (choices_of p ls) (residual_of p t) (to_give p t ls)
+unfolding branches_at
 led_lies p t [] a = rw a (rw (no_moves_leave_all p) (lies_first p))
 led_lies p t (l ∷ ls) a =
     let u = oldest l.mark t in
-    let here = led_lies p u ls a.1 in
-    let at = item_at p u (l.begun - 1) a.0.branch a.0.at in
     let number : a.0.branch.choice.k ≡ l.begun = sym (ap (λ (c : Choice). c.k) a.0.choice) in
-    let next = lies_next p (choices_of p ls) (residual_of p u) (to_give p u ls) here at.0 at.1 l.begun a.0.branch at.2
-    number in
-    rw (choices_more p l ls, a.0.choice, a.0.next, branches_here p u at.0 at.1) next
+    let next = lies_next p (choices_of p ls) (residual_of p u) (to_give p u ls) (led_lies p u ls a.1) (wanted_at p u l.item)
+    a.0.is_branch_item l.begun a.0.branch a.0.at number in
+    rw (choices_more p l ls, a.0.choice, a.0.next) next
 
 -- ---- spans that begin there
 

@@ -2,7 +2,7 @@ use Rattle.std.proofs.Common.{arith, ◌≡◌, ◌∙◌, ap, refl}
 use Rattle.xc_search.specs.declared.levels.Entered.{Entered}
 use Rattle.xc_search.specs.declared.levels.Below.TheVariants.{Branch}
 use Rattle.xc_search.specs.declared.levels.Next.TheVariants as next
-use Rattle.xc_search.proofs.stacked.NextLevel.{solution}
+use Rattle.xc_search.proofs.stacked.NextLevel.{choice_next, solution}
 use Rattle.xc_search.proofs.spans.Onward.{Falls, enters_below, enters_back, ends_back}
 use Rattle.xc_search.proofs.spanning.enter_branch.Goals as goal
 use Rattle.xc_search.proofs.spanning.enter_branch.Goals.{Joined-deepen}
@@ -10,10 +10,14 @@ use Rattle.xc_search.proofs.spanning.enter_branch.Goals.{Joined-deepen}
 same_entered : (a b : Entered) → next.Branch a ≡ next.Branch b → a ≡ b
 same_entered a b is = cc is
 
+pub deepen-requires-clause-next : goal.deepen-requires-clause-next
+deepen-requires-clause-next g c =
+    choice_next _ _ _ (c.requires.standing.searchable refl).legal c.choose-next.ensures.choice
+
 pub returns-in-Branch-clause-entered : goal.returns-in-Branch-clause-entered
 returns-in-Branch-clause-entered g c b is =
     let there = c.in-Branch.is ∙ ap Branch (same_entered _ b is) in
-    enters_below c.args.more.now (c.deepen.ensures.deeper b there) (c.deepen.ensures.deeper_path b there)
+    enters_below c.args.more.now (c.deepen.ensures.deeper b there) (c.deepen.ensures.deeper_path b there c.choose-next.ensures.choice)
 
 falls : (g : _) (c : Joined-deepen g) → Falls c.args.position.now c.args.stack.now c.args.more.now
     c.deepen.new.position c.deepen.new.stack c.match-deepen.more
