@@ -20,58 +20,66 @@ libdir = $(PREFIX)/lib
 # The library for C, which is installed where it was built; none with `LIBRARY=`.
 LIBRARY = $(wildcard bindings/out/libhelgrothy.a)
 
-.PHONY: run bin all test test-mutants test-hostile test-hostile-python test-python test-parts test-docs
-.PHONY: pictures completion believed bench bench-forms test-bench
+.PHONY: help run bin all $(PROGRAMS) dlx_parts dlx_below test test-mutants test-hostile test-hostile-python test-python test-parts test-docs
+.PHONY: pictures completion believed bench bench-forms test-bench test-build
 .PHONY: lib install install-lib uninstall uninstall-lib dist deb wheel version release
 .PHONY: test-bindings test-install test-dist test-deb test-wheel
-run: bin
-	cd crates/dlx1 && rt run -- m1 < ../../examples/seven.dlx
-test:
+# Without a target: what there is.
+help:
+	@sed -n 's/^\([a-z-]*\):.* ## /\1: /p' Makefile | LC_ALL=C sort
+
+run: dlx1 ## build dlx1 and solve examples/seven.dlx
+	bin/dlx1 m1 < examples/seven.dlx
+test: ## the merge gate: proofs, wrong bodies, tests, programs
 	@sh tests/gate.sh
 	@sh tests/statuses.sh
 	@$(MAKE) -s --no-print-directory bin
 	@sh tests/guide.sh docs/GUIDE.md
 	@sh tests/python.sh
-test-mutants:
+test-mutants: ## plant the wrong bodies of mutants/
 	@python3 tests/mutants.py
-test-hostile:
+test-hostile: ## the programs on what is made to hurt
 	@python3 scripts/hostile/hostile.py
-test-python:
+test-python: ## the Python package, and 2,000 random problems
 	@sh tests/python.sh && python3 python/tests/trial.py 2000 1
-test-hostile-python:
+test-hostile-python: ## the Python commands on what is made to hurt
 	@python3 tests/hostile_python.py 5000 1
-test-parts: bin
+test-parts: bin ## 300 random problems in parts
 	@PATH=$$PWD/bin:$$PATH python3 tests/parts.py 300 1
-test-docs: bin
+test-docs: bin ## the commands, pictures and tables of the pages
 	@sh tests/pages.sh . man/*.[15]
 	@scripts/pictures/pictures compare
 	@scripts/believed --page | diff docs/BELIEVED.md -
 	@scripts/bench/forms.py --check
 
 # The pictures of the documents, made anew.
-pictures:
+pictures: ## draw the pictures of the pages anew
 	@scripts/pictures/pictures
 
 # Completion for shells, made anew from the parsers.
-completion:
+completion: ## write completion for shells anew
 	@scripts/completion
 
 # The page of what has to be believed, made anew.
-believed:
+believed: ## write docs/BELIEVED.md anew
 	@scripts/believed --page >docs/BELIEVED.md
 
 # The tables of docs/BENCH.md, and what each form that was decided by speed gains. They need gcc, valgrind and Python.
 # WORDS are for the scripts, as `make bench WORDS='--page docs/BENCH.md --core 3'`.
-bench:
+bench: ## print the tables of docs/BENCH.md
 	@scripts/bench/tables.py $(WORDS)
-bench-forms:
+bench-forms: ## count what each form gains that was decided by speed
 	@scripts/bench/forms.py $(WORDS)
-test-bench:
+test-build: ## test the script that builds
+	@python3 tests/build.py
+test-bench: ## test the scripts that measure
 	@python3 scripts/bench/test_bench.py
 
-# A program is built by running it once; `dlxcheck`, `dlx_parts` and `dlx_below` without words end with status 1.
-all: bin
-	for program in $(PROGRAMS) dlx_parts dlx_below; do (cd crates/$$program && rt run </dev/null; test -x out/$$program) || exit 1; done
+# What was built of these sources, here or by the gate, is taken as it is.
+all: bin ## build all programs, from nothing about a quarter of an hour
+	@scripts/build $(PROGRAMS) dlx_parts dlx_below
+$(PROGRAMS) dlx_parts dlx_below: bin
+	@scripts/build $@
 
 # `bin` leads to the programs and scripts by the names that they have once they are installed.
 bin:
@@ -83,7 +91,7 @@ bin:
 	@ln -sfn ../scripts/helgrothy bin/helgrothy
 
 # The library for C is the crate with the toolchain's three calls of malloc, in one object that tells no other names.
-lib:
+lib: ## build the library for C
 	cd crates/xc_c && rt lib
 	@rm -rf bindings/out && mkdir bindings/out
 	@cd bindings/out && ar x ../../crates/xc_c/out/libxc_c.a && ar x "$$(dirname "$$(rt doc)")/c/liblibc_c.a" && \
@@ -96,7 +104,7 @@ COMMANDS = $(PROGRAMS) $(PLANNER) $(BELOW) $(SCRIPTS:%=dlx-%) helgrothy
 copy = find -L $(1) -type f ! -name '*.pyc' -exec sh -c \
     'for file; do install -D -m 644 "$$file" "$(2)/$$file" || exit 1; done' copy {} +
 
-install: bin install-lib
+install: bin install-lib ## install under PREFIX, in DESTDIR
 	install -d "$(DESTDIR)$(bindir)" "$(DESTDIR)$(mandir)/man1" "$(DESTDIR)$(mandir)/man5" "$(DESTDIR)$(completiondir)"
 	for command in $(COMMANDS); do install -m 755 bin/$$command "$(DESTDIR)$(bindir)/" || exit 1; done
 	for page in man/*.[15]; do \
@@ -124,7 +132,7 @@ uninstall-lib:
 	rm -f "$(DESTDIR)$(includedir)/helgrothy.h" "$(DESTDIR)$(libdir)/libhelgrothy.a" \
 	    "$(DESTDIR)$(libdir)/pkgconfig/helgrothy.pc"
 
-uninstall: uninstall-lib
+uninstall: uninstall-lib ## take away what was installed
 	for command in $(COMMANDS); do \
 	    rm -f "$(DESTDIR)$(bindir)/$$command" "$(DESTDIR)$(completiondir)/$$command" \
 	        "$(DESTDIR)$(fishdir)/$$command.fish" || exit 1; \
@@ -146,21 +154,21 @@ deb: bin version
 	@sh release/deb.sh $(VERSION)
 wheel: bin version
 	@python3 release/wheel.py $(VERSION)
-version:
+version: ## see that all files name the version
 	@grep -q '^## $(VERSION)$$' CHANGELOG.md || { echo "CHANGELOG.md says nothing of $(VERSION)" >&2; exit 1; }
 	@grep -q '^__version__ = "$(VERSION)"$$' python/helgrothy/__init__.py && \
 	    grep -q '^version = "$(VERSION)"$$' python/pyproject.toml || \
 	    { echo "the Python package isn't of $(VERSION)" >&2; exit 1; }
-release: dist deb wheel
+release: dist deb wheel ## pack the archive, the Debian package and the wheel
 	cd dist && sha256sum helgrothy[-_]$(VERSION)* > SHA256SUMS
 
-test-bindings: lib
+test-bindings: lib ## the examples in C and Rust, and hostile calls
 	@sh tests/bindings.sh
-test-install: bin
+test-install: bin ## an installation
 	@sh tests/install.sh
-test-dist: dist
+test-dist: dist ## the archive
 	@sh tests/dist.sh $(VERSION)
-test-deb: deb
+test-deb: deb ## the Debian package
 	@sh tests/deb.sh $(VERSION)
-test-wheel: wheel
+test-wheel: wheel ## the wheel
 	@sh tests/wheel.sh $(VERSION)

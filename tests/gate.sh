@@ -21,3 +21,7 @@ fi
 RT_JOBS=${RT_JOBS:-$(nproc)} rt ci &
 whole=$!
 wait $whole
+status=$?
+# `make all` takes the programs that this built.
+[ $status != 0 ] || scripts/build --note dlx1 dlx2 dlx3 dlxcheck dlx_parts dlx_below
+exit $status
