@@ -60,12 +60,13 @@ pub fn choose_next<D: Dance>(dance: &D, problem: &Problem, once: bool) -> Option
     Some((found.item, found.branches as usize))
 }
 
-/// How many more open items are asked for their branches once one with a single branch was found: most dead ends are near.
+/// How many more open items are asked for their branches once one with a single branch was found: most dead ends are
+/// near.
 const FURTHER: u32 = 6;
 
-/// An item to branch on, which may be another than the branch item where some item has no branches: then what is left has
-/// no solution, by whichever item it is searched. It looks at the open items up to the first with one branch, and at a
-/// few more for one without. `once` as for `choose_next`.
+/// An item to branch on, which may be another than the branch item where some item has no branches: then what is left
+/// has no solution, by whichever item it is searched. It looks at the open items up to the first with one branch, and
+/// at a few more for one without. `once` as for `choose_next`.
 #[inline(always)]
 pub fn choose_early<D: Dance>(dance: &D, problem: &Problem, once: bool) -> Option<(u32, usize)>
     requires same { (D.state dance.now).puzzle ≡ problem.now.puzzle }
@@ -188,7 +189,8 @@ fn first_fewest<D: Dance>(dance: &D, problem: &Problem, once: bool, enough: u32)
 pub fn first_of_open<D: Dance>(dance: &D, many: usize) -> Option<u32>
     requires { 0 < many }
     ensures open { IfSome result (IsOpenPrimary (D.state dance.now).puzzle (D.state dance.now).trail) }
-    ensures many { IfSome result (λ _. length (open_items (D.state dance.now).puzzle (D.state dance.now).trail) ≡ many) }
+    ensures many { IfSome result (λ _.
+        length (open_items (D.state dance.now).puzzle (D.state dance.now).trail) ≡ many) }
 {
     let first = dance.open_after(0)?;
     let mut at = first;

@@ -38,8 +38,8 @@ pub enum Below {
     Solution,
 }
 
-/// Begins a level at an item, the next one, and enters its first branch, since what is left wasn't searched yet. A level
-/// without branches ends at once, and isn't noted. At the branch item it goes on with the search's own path.
+/// Begins a level at an item, the next one, and enters its first branch, since what is left wasn't searched yet. A
+/// level without branches ends at once, and isn't noted. At the branch item it goes on with the search's own path.
 #[inline(always)]
 pub fn deepen<D: Dance>(
     position: &mut Position<D>,

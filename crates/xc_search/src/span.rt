@@ -1,6 +1,6 @@
 //! A search of a span: of the members from one row of numbers on and before another.
-ghost use Rattle.std.specs.Prelude.{ℕ, ◌≡◌, ◌<◌, ◌≤◌, List, [], ◌++◌, length, map, true, false, Some, None, IfSome, IsSome};
-ghost use Rattle.std.specs.Prelude.{IfOk, IfErr, option_map};
+ghost use Rattle.std.specs.Prelude.{ℕ, ◌≡◌, ◌<◌, ◌≤◌, List, [], ◌++◌, length, map, true, false, Some, None, IfSome};
+ghost use Rattle.std.specs.Prelude.{IsSome, IfOk, IfErr, option_map};
 ghost use Rattle.xc_search.specs.Outlook.{shown_after};
 ghost use Rattle.xc_search.specs.Room.{room_for};
 ghost use Rattle.xc_search.specs.Listing.{whole};
@@ -86,7 +86,8 @@ impl<'a, D: Dance> Model for Span<'a, D> {
       stacked : AreStacked s.state.position.puzzle s.state.position.trail s.state.stack.levels;
       led : AreLed s.state.position.puzzle [] s.state.position.trail s.state.stack.levels;
       standing : s.ended ≡ false → IsStanding s.state.position.puzzle s.state.position.trail s.state.stack.levels true;
-      solved : s.ended ≡ false → s.down ≡ false → IsSolved s.state.position.puzzle s.state.position.trail s.state.stack.levels;
+      solved : s.ended ≡ false → s.down ≡ false →
+          IsSolved s.state.position.puzzle s.state.position.trail s.state.stack.levels;
       before : s.ended ≡ false →
           is_before (option_map (λ u. u.now) s.until) (row_at s.state.position.puzzle s.state.stack.levels) ≡ true;
       levels_fit : s.state.stack.room ≡ most_levels s.state.position.puzzle;

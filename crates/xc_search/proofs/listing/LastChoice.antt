@@ -5,11 +5,13 @@ use Rattle.std.proofs.lemmas.List.{length-take}
 use Rattle.std.specs.Prelude.{flat_map, nat_lt}
 use Rattle.std.specs.List.{AllByRecursion}
 use Rattle.xc_input.specs.Problem.{Numbered, holds, holding}
-use Rattle.xc_search.specs.Listing.{Wanted, Residual, Branch, branch_count, branch_item, branches_of, take_branch, spend_one, pick, listing}
+use Rattle.xc_search.specs.Listing.{Wanted, Residual, Branch, branch_count, branch_item, branches_of, take_branch}
+use Rattle.xc_search.specs.Listing.{spend_one, pick, listing}
 use Rattle.xc_input.proofs.lists.Filters.{keep_all}
 use Rattle.xc_input.proofs.lists.Members.{IsIn, each_from}
 use Rattle.xc_search.proofs.listing.BranchLists.{takes, length-takes}
-use Rattle.xc_search.proofs.listing.EachBranch.{behind, IsBranchOf, takes_one, takes_none, in-branches, no_items_left, branch_item-in}
+use Rattle.xc_search.proofs.listing.EachBranch.{behind, IsBranchOf, takes_one, takes_none, in-branches, no_items_left}
+use Rattle.xc_search.proofs.listing.EachBranch.{branch_item-in}
 use Rattle.xc_search.proofs.listing.Unrolled.{listing_at}
 use Rattle.xc_search.proofs.Cases.{by_option}
 

@@ -105,7 +105,8 @@ holds_all p t n even s few x h =
     let option = each_in _ _ _ (left_options p s.valid t) h in
     let uses = recursion_from_All _ _ option.sound.sound in
     let apart = apart_from_pairs x.uses option.sound.distinct in
-    let counted = uses_held (primary_count p) x.uses apart (each_weaker (IsSoundUse p) (λ (u : Use). 1 ≤ u.item) x.uses (λ u a. a.0.0) uses) in
+    let counted = uses_held (primary_count p) x.uses apart (each_weaker (IsSoundUse p) (λ
+    (u : Use). 1 ≤ u.item) x.uses (λ u a. a.0.0) uses) in
     let size = length-filter (λ (u : Use). nat_le u.item (primary_count p)) x.uses
     ∙ each_in _ _ _ (left_even p n even t) h in
     all_pass (λ i. holds x i) (open_items p t)
@@ -136,5 +137,6 @@ pub last_counted : (p : Puzzle) (t : List Move) (n i : ℕ) → IsEven p n → I
     → length (open_items p t) ≡ n → IsOpenPrimary p t i → length (listed p t i) ≡ length (listing (residual_of p t))
 last_counted p t n i even s few at =
     let last = is_last p t n i even s few at in
-    let all = keep_all (λ o. holds o i) (left p t) (each_from _ _ (λ x h. last.held x (wanted_at p t i) h (open_in p t i at.0 at.1))) in
+    let all = keep_all (λ o. holds o i) (left p t) (each_from _ _ (λ x h. last.held x (wanted_at p t i) h
+    (open_in p t i at.0 at.1))) in
     ap length (listed_open p t s.legal i at.1 ∙ all) ∙ sym (last_members last)

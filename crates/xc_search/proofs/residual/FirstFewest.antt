@@ -82,7 +82,8 @@ dead_end_there : (p : Puzzle) (t : List Move) (i count n : ℕ) → WalksTo p t 
     → first_least (branches_after p t) (wanted_after p t) ≡ Some z
     → branches_after p t z < branches_after p t (wanted_at p t i) → IsDeadEnd p t (Some (i, count))
 dead_end_there p t i count n at few z least less =
-    let found = in-map (wanted_at p t) (open_items p t) z (least_is_one (branches_after p t) (wanted_after p t) z least) in
+    let found = in-map (wanted_at p t) (open_items p t) z (least_is_one (branches_after p t)
+    (wanted_after p t) z least) in
     let one = in-filter (λ i. is_open i t) (range_with_len 1 (primary_count p)) found.0 found.1 in
     let within = each_in _ _ found.0 (in_range 1 (primary_count p)) one.0 in
     record {
@@ -127,7 +128,8 @@ count_first p t k e =
     let all = sym (above_all 0 (open_items p t) (open_rises p t)) ∙ next_above-split 0 0 k _ (open_rises p t) e in
     record { at_open = next_open p t 0 k e; counted = omega (arith, ap length all) }
 
-pub count_on : (p : Puzzle) (t : List Move) (n k seen : ℕ) → CountsTo p t n seen → next_above n (open_items p t) ≡ Some k
+pub count_on : (p : Puzzle) (t : List Move) (n k seen : ℕ) → CountsTo p t n seen
+    → next_above n (open_items p t) ≡ Some k
     → CountsTo p t k (seen + 1)
 count_on p t n k seen at e = record {
   at_open = next_open p t n k e;

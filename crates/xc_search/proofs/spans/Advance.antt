@@ -1,7 +1,8 @@
 -- A search of a span went on from one row to another.
 use Rattle.std.proofs.lemmas.Bool.Decides.{nat_tests}
 use Rattle.std.proofs.Common.{ℕ, suc, ◌≡◌, ◌+◌, ◌-◌, ◌<◌, Bool, true, false, not, ◌&&◌, List, [], ◌∷◌, ◌++◌, filter}
-use Rattle.std.proofs.Common.{length, cond, Option, Some, None, refl, sym, ap, ◌∙◌, arith, subst, length-append, ◌⊎◌, inl, inr}
+use Rattle.std.proofs.Common.{length, cond, Option, Some, None, refl, sym, ap, ◌∙◌, arith, subst, length-append, ◌⊎◌}
+use Rattle.std.proofs.Common.{inl, inr}
 use Rattle.std.proofs.lemmas.List.Elements.{filter_agree}
 use Rattle.std.specs.Prelude.{IfSome, unwrap_or, option_map, ◌||◌}
 use Rattle.xc_dance.specs.declared.dance.Move.{Move}
@@ -214,7 +215,8 @@ module _ {d e : Dancing} {ls ks : Levels} {down : Bool} {many n begun : ℕ} (a 
             inr (first down all ∙ levels))
             (λ k h. inl (rows_from (omega (arith, h))))
           where
-            first : (down : Bool) → over_first many down ≡ 0 → row_from d.puzzle ls.levels down ≡ row_at d.puzzle ls.levels
+            first : (down : Bool) → over_first many down ≡ 0
+                → row_from d.puzzle ls.levels down ≡ row_at d.puzzle ls.levels
             first true h = refl
             first false h = absurd (omega (arith, h, some))
 
@@ -290,7 +292,8 @@ module _ {d e : Dancing} {ls ks : Levels} {down : Bool} {many n : ℕ} {until : 
           | false ↦ λ at count.
               let row = row_at d.puzzle ls.levels in
               let back = before_either_way row (row ++ 0 ∷ []) (right_behind row) in
-              let within = lengths_meet d.puzzle row (row ++ 0 ∷ []) until back (end_not_right_behind until row before) in
+              let within = lengths_meet d.puzzle row (row ++ 0 ∷ []) until back
+              (end_not_right_behind until row before) in
               let all = lengths_meet d.puzzle row (row ++ 0 ∷ []) None back tt in
               let from = ap length (led_from d.puzzle d.trail ls.levels at.led) in
               let to = ap length (at_from d.puzzle d.trail ls.levels false at) in

@@ -43,7 +43,8 @@ begun_keeps {d} {e} {ls} {ks} b q none =
 pub end_keeps : {d e : Dancing} {ls ks : Levels} {m n : ℕ} → Ends d ls m e ks n → (q : List Choice → Bool)
     → q (choices_of d.puzzle ls.levels) ≡ false → filter q (coming d.puzzle d.trail ls.levels true) ≡ []
 end_keeps {d} {e} {ls} b q none =
-    ap (filter q) (b.members ∙ sym (append_nothing b.over)) ∙ filter_others q b.over (choices_of d.puzzle ls.levels) [] none
+    ap (filter q) (b.members ∙ sym (append_nothing b.over))
+    ∙ filter_others q b.over (choices_of d.puzzle ls.levels) [] none
   where
     append_nothing : (n : ℕ) → replicate n (choices_of d.puzzle ls.levels) ++ []
         ≡ replicate n (choices_of d.puzzle ls.levels)

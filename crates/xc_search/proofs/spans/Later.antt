@@ -24,7 +24,8 @@ use Rattle.xc_search.proofs.stacked.LessWork.{less_work}
 use Rattle.xc_search.proofs.stacked.BegunComesFirst.{choices_more}
 use Rattle.xc_search.proofs.spans.Rows.{behind_first, before_first, less_before, same_before}
 
--- By the branches of these numbers what leaves r leads to what leaves s, with so many visits to be made on the way back.
+-- By the branches of these numbers what leaves r leads to what leaves s, with so many visits to be made on the way
+-- back.
 abbrev pub Leads : Residual → List ℕ → ℕ → Residual → Type 0
 Leads r [] v s = (v ≡ 0) × (s ≡ r)
 Leads r (k ∷ x) v s =

@@ -157,7 +157,8 @@ led_lies p t [] a = rw a (rw (no_moves_leave_all p) (lies_first p))
 led_lies p t (l ∷ ls) a =
     let u = oldest l.mark t in
     let number : a.0.branch.choice.k ≡ l.begun = sym (ap (λ (c : Choice). c.k) a.0.choice) in
-    let next = lies_next p (choices_of p ls) (residual_of p u) (to_give p u ls) (led_lies p u ls a.1) (wanted_at p u l.item)
+    let next = lies_next p (choices_of p ls) (residual_of p u) (to_give p u ls) (led_lies p u ls a.1)
+    (wanted_at p u l.item)
     a.0.is_branch_item l.begun a.0.branch a.0.at number in
     rw (choices_more p l ls, a.0.choice, a.0.next) next
 

@@ -30,7 +30,8 @@ module _ (o : InSpan) (p : Puzzle) (ended : Bool) (row : List ℕ) (until : Opti
 
     -- to a later row
     module _ (q : Puzzle) (to : List ℕ) (n : ℕ) (now : List Choice) (same : q ≡ p) (a : Advances p row until to n) where
-      pub told_passed : IfSome o.row (λ from. left_of o ≡ between o.puzzle from (reached (in_span q ended to until now room))
+      pub told_passed : IfSome o.row (λ from. left_of o
+          ≡ between o.puzzle from (reached (in_span q ended to until now room))
           ++ left_of (in_span q ended to until now room))
       told_passed = rw (stood, goes, same) a.all
 
@@ -42,7 +43,8 @@ module _ (o : InSpan) (p : Puzzle) (ended : Bool) (row : List ℕ) (until : Opti
           precedes from row ≡ true))
       told_later = rw (stood, goes) a.later
 
-    pub told_shown : (many : ℕ) (m : List Choice) → ((was : List Choice) → shown_after many (between p row until) was ≡ m)
+    pub told_shown : (many : ℕ) (m : List Choice) → ((was : List Choice)
+        → shown_after many (between p row until) was ≡ m)
         → m ≡ shown_after many (left_of o) o.shown
     told_shown many m h = rw stood (sym (h shown))
 

@@ -22,4 +22,11 @@ pub begun_coming : (p : Puzzle) (t s : List Move) (l k : Level) (ls : List Level
     × (ahead p s (k ∷ ls) true < visits p t (l ∷ ls))
 begun_coming p t s l k ls stacked b =
     let u = oldest l.mark t in
-    grind (arith, common_steps, drop_at (branches_at p u l.item) l.begun b.branch b.at, map-same, choices_more, append_assoc)
+    grind (
+      arith,
+      common_steps,
+      drop_at (branches_at p u l.item) l.begun b.branch b.at,
+      map-same,
+      choices_more,
+      append_assoc,
+    )

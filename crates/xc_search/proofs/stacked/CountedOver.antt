@@ -33,7 +33,12 @@ falls_over d ls m n s passed =
     let ms = map (λ m. choices_of d.puzzle ls.levels ++ m) (listing (residual_of d.puzzle d.trail)) in
     let rest = to_give d.puzzle d.trail ls.levels in
     let all : length ms + n ≡ m =
-    omega (arith, passed, length-map (listing (residual_of d.puzzle d.trail)) (λ m. choices_of d.puzzle ls.levels ++ m)) in
+    omega (
+      arith,
+      passed,
+      length-map (listing (residual_of d.puzzle d.trail))
+          (λ m. choices_of d.puzzle ls.levels ++ m),
+    ) in
     record {
       still = (refl, refl);
       standing = stands_behind d.puzzle d.trail ls.levels s.stacked;

@@ -127,7 +127,8 @@ pub passes_over : {d e : Dancing} {ls : Levels} {i n : ℕ} {l : Level} → Open
 passes_over {d} {ls = ls} {i = i} {n = n} o f none ef =
     let r = residual_of d.puzzle d.trail in
     let same : f ≡ d = ef ∙ ap₂ (λ (e : Dancing) t. record e { trail = t }) o.spent (deepens o).2 in
-    let listed = none_listed r (wanted_at d.puzzle d.trail i) (open_in d.puzzle d.trail i o.next.item o.next.is_open) (sym o.next.count ∙ none) in
+    let listed = none_listed r (wanted_at d.puzzle d.trail i) (open_in d.puzzle d.trail i o.next.item o.next.is_open)
+    (sym o.next.count ∙ none) in
     let went = goes_behind d f ls same o.standing listed in (went.0, went.1, λ u a. rw same a)
 
 -- what is asked back at a level

@@ -16,7 +16,8 @@ use Rattle.xc_search.specs.Listing.{Wanted, Branch, branch_count, branch_item, l
 use Rattle.xc_dance.specs.Moves.{is_open, open_items, AreLegal}
 use Rattle.xc_search.specs.Residuals.{wanted_at, wanted_after, choice_after}
 use Rattle.xc_search.specs.inner.Residual.{residual_of}
-use Rattle.xc_search.specs.inner.Levels.{branches_at, members_of, IsSearchable, IsNode, IsLevelAt, IsShallow, MayBranch, IsNext}
+use Rattle.xc_search.specs.inner.Levels.{branches_at, members_of, IsSearchable, IsNode, IsLevelAt, IsShallow, MayBranch}
+use Rattle.xc_search.specs.inner.Levels.{IsNext}
 use Rattle.xc_search.specs.inner.Levels.{AreStacked, IsPlace, choices_of, to_give, coming, first_level}
 use Rattle.xc_dance.specs.Fields.{link_place}
 use Rattle.xc_dance.specs.Commits.{option_at, after_spend, after_use, after_uses}
@@ -97,7 +98,8 @@ ground_is {t = t} is_level whole = sym (ap (λ n. oldest n t) whole ∙ oldest_a
 
 found_in : (q : Wanted → Bool) (ws : List Wanted) (w : Wanted) → find q ws ≡ Some w → IsIn ws w
 found_in q [] w e = absurd (cc e)
-found_in q (v ∷ vs) w e = by_bool (q v) (λ h. inl (cc (rw (find, h) at e))) (λ h. inr (found_in q vs w (rw (find, h) at e)))
+found_in q (v ∷ vs) w e = by_bool (q v) (λ h. inl (cc (rw (find, h) at e))) (λ h. inr (found_in q vs w (rw
+    (find, h) at e)))
 
 -- an open primary item is left
 pub open_in : (p : Puzzle) (t : List Move) (i : ℕ) → IsPrimary p i → is_open i t ≡ true

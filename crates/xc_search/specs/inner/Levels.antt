@@ -1,5 +1,6 @@
 -- No public clause cites this module. The levels of a search.
-use Rattle.std.specs.Prelude.{◌⊎◌, ◌<◌, ℕ, suc, All, IfSome, ◌+◌, ◌≤◌, ◌≡◌, Bool, true, false, nat_lt, min, List, [], ◌∷◌}
+use Rattle.std.specs.Prelude.{◌⊎◌, ◌<◌, ℕ, suc, All, IfSome, ◌+◌, ◌≤◌, ◌≡◌, Bool, true, false, nat_lt, min, List, []}
+use Rattle.std.specs.Prelude.{◌∷◌}
 use Rattle.std.specs.Prelude.{◌++◌, length, map, drop, reverse, Option, Some, None, option_map, unwrap_or, slice_get}
 use Rattle.std.specs.Prelude.{flat_map, if◌then◌else◌}
 use Rattle.xc_search.specs.inner.Sizes.{size_of}
@@ -136,7 +137,8 @@ members_of before bs = flat_map (λ b. map (λ m. before ++ b.choice ∷ m) (lis
 abbrev pub to_give : Puzzle → List Move → List Level → List (List Choice)
 to_give p t [] = []
 to_give p t (l ∷ ls) =
-    members_of (choices_of p ls) (drop l.begun (branches_at p (oldest l.mark t) l.item)) ++ to_give p (oldest l.mark t) ls
+    members_of (choices_of p ls) (drop l.begun (branches_at p (oldest l.mark t) l.item)) ++ to_give p
+    (oldest l.mark t) ls
 
 -- and before that, where what is left wasn't searched yet, what that gives
 abbrev pub coming : Puzzle → List Move → List Level → Bool → List (List Choice)

@@ -1,5 +1,6 @@
 -- No public clause cites this module. A search of a span, step by step.
-use Rattle.std.specs.Prelude.{ℕ, ◌+◌, ◌<◌, ◌≡◌, Bool, true, false, List, [], ◌∷◌, ◌++◌, length, replicate, Option, ◌-◌, ◌≤◌, ◌⊎◌}
+use Rattle.std.specs.Prelude.{ℕ, ◌+◌, ◌<◌, ◌≡◌, Bool, true, false, List, [], ◌∷◌, ◌++◌, length, replicate, Option, ◌-◌}
+use Rattle.std.specs.Prelude.{◌≤◌, ◌⊎◌}
 use Rattle.xc_search.specs.declared.level.Level.{Level}
 use Rattle.xc_search.specs.declared.span.Halt.{Halt}
 use Rattle.xc_search.specs.declared.span.Halt.TheVariants.{Member, End, Steps}
@@ -15,7 +16,8 @@ use Rattle.xc_search.specs.inner.Paths.{AreLed, KeepsPath}
 abbrev pub row_at : Puzzle → List Level → List ℕ
 row_at p ls = row_of (choices_of p ls)
 
--- the row from which on the search goes on: that of the levels, or the one right behind it where it stands at a solution
+-- the row from which on the search goes on: that of the levels, or the one right behind it where it stands at a
+-- solution
 abbrev pub row_from : Puzzle → List Level → Bool → List ℕ
 row_from p ls true = row_at p ls
 row_from p ls false = row_at p ls ++ 0 ∷ []

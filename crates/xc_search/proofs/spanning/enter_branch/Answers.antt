@@ -17,7 +17,8 @@ deepen-requires-clause-next g c =
 pub returns-in-Branch-clause-entered : goal.returns-in-Branch-clause-entered
 returns-in-Branch-clause-entered g c b is =
     let there = c.in-Branch.is ∙ ap Branch (same_entered _ b is) in
-    enters_below c.args.more.now (c.deepen.ensures.deeper b there) (c.deepen.ensures.deeper_path b there c.choose-next.ensures.choice)
+    enters_below c.args.more.now (c.deepen.ensures.deeper b there)
+    (c.deepen.ensures.deeper_path b there c.choose-next.ensures.choice)
 
 falls : (g : _) (c : Joined-deepen g) → Falls c.args.position.now c.args.stack.now c.args.more.now
     c.deepen.new.position c.deepen.new.stack c.match-deepen.more

@@ -7,16 +7,19 @@ use Rattle.xc_search.proofs.spanning.reach.Goals.{In-Begins, In-Before}
 
 pub returns-in-Reached-clause-reached : goal.returns-in-Reached-clause-reached
 returns-in-Reached-clause-reached g c _ =
-    rw (← row_levels c.loop-more.position.puzzle c.levels.result.now c.loop-more.stack.levels c.levels.ensures.levels) (c.in-Reached.ensures.reached refl)
+    rw (← row_levels c.loop-more.position.puzzle c.levels.result.now c.loop-more.stack.levels c.levels.ensures.levels)
+    (c.in-Reached.ensures.reached refl)
 
 begins : (g : _) (c : In-Begins g)
     → precedes (row_at c.loop-more.position.puzzle c.loop-more.stack.levels) c.args.from.now ≡ true
-begins g c = rw (← row_levels c.loop-more.position.puzzle c.levels.result.now c.loop-more.stack.levels c.levels.ensures.levels) (c.in-Begins.ensures.begins refl)
+begins g c = rw (← row_levels c.loop-more.position.puzzle c.levels.result.now c.loop-more.stack.levels
+    c.levels.ensures.levels) (c.in-Begins.ensures.begins refl)
 
 before : (g : _) (c : In-Before g) (x : List ℕ)
     → precedes (row_at c.loop-more.position.puzzle c.loop-more.stack.levels ++ x) c.args.from.now ≡ true
 before g c x =
-    rw (← row_levels c.loop-more.position.puzzle c.levels.result.now c.loop-more.stack.levels c.levels.ensures.levels) (c.in-Before.ensures.before refl x)
+    rw (← row_levels c.loop-more.position.puzzle c.levels.result.now c.loop-more.stack.levels c.levels.ensures.levels)
+    (c.in-Before.ensures.before refl x)
 
 pub commit_branch-requires-clause-can : goal.commit_branch-requires-clause-can
 commit_branch-requires-clause-can g c = (c.in-Branch.ensures.entered c.in-Branch.entered refl).can

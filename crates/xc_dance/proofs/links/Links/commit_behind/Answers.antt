@@ -53,7 +53,8 @@ pub top-j-requires : goal.top-j-requires
 top-j-requires c = at_top (goal.at.top-j-requires c).After-self-in-loop-self
 
 -- the next use, where TOP isn't that of a spacer
-next : (c : After-self-in-loop-self) → get_or c.self-in-loop-self.inside.nodes.cells.top c.loop-self.q 0 < SPACER → (x : ℕ)
+next : (c : After-self-in-loop-self) → get_or c.self-in-loop-self.inside.nodes.cells.top c.loop-self.q 0 < SPACER
+    → (x : ℕ)
     → IsUseAt c.args.self.now.puzzle c.args.i x c.args.place →
     IsNext c.args.self.now.puzzle x (c.args.place + 1) (uses_behind c.args.self.now.puzzle c.args.i x)
     c.args.self.now.trail c.loop-self.self.trail c.loop-self.q

@@ -61,10 +61,12 @@ loop-q-preserved c =
     let s = step _ _ c.requires.fit c.requires.limits from at in
     elim c.if-top-lt-SPACER.branch [
       | then-top-lt-SPACER w ↦
-          ap (λ (t : NodeTable). t.cells) w.nodes-is ∙ w.enter.ensures ∙ ap (λ (t : Nodes). entered t q) c.loop-q.invariant
+          ap (λ (t : NodeTable). t.cells) w.nodes-is ∙ w.enter.ensures
+          ∙ ap (λ (t : Nodes). entered t q) c.loop-q.invariant
           ∙ (s.0 (omega (arith, top, c.top.ensures, w.if-top-lt-SPACER))).2.done
       | else-top-lt-SPACER w ↦
-          ap (λ (t : NodeTable). t.cells) w.nodes-is ∙ c.loop-q.invariant ∙ s.1 (omega (arith, top, c.top.ensures, w.if-top-lt-SPACER))
+          ap (λ (t : NodeTable). t.cells) w.nodes-is ∙ c.loop-q.invariant
+          ∙ s.1 (omega (arith, top, c.top.ensures, w.if-top-lt-SPACER))
     ]
 
 pub returns : goal.returns

@@ -7,4 +7,5 @@ use Rattle.xc_dance.proofs.links.first_nodes.link_uses.Given as goal
 -- the uses' nodes so far stand in their lists
 abbrev pub invariant-loop-q : goal.invariant-loop-q
 invariant-loop-q l =
-    l.nodes.cells ≡ nodes_from l.problem.puzzle (lines_of (take l.q (layout l.problem.puzzle))) (color_in l.problem.puzzle [])
+    l.nodes.cells ≡ nodes_from l.problem.puzzle (lines_of (take l.q (layout l.problem.puzzle)))
+    (color_in l.problem.puzzle [])

@@ -34,5 +34,6 @@ returns-clause-left g c =
     let d = c.args.position.now in
     let leads = c.reach_branch-level.ensures.leads in
     let l = c.reach_branch-level.result in
-    let next = led_to d.puzzle d.trail _ l (rw c.reach_branch-level.ensures.item here.branch) (leads.next (omega arith)) in
+    let next = led_to d.puzzle d.trail _ l (rw c.reach_branch-level.ensures.item here.branch) (leads.next
+    (omega arith)) in
     grind (arith, next)

@@ -1,4 +1,5 @@
-use Rattle.std.proofs.Common.{ℕ, ◌≡◌, ◌-◌, ◌<◌, true, false, List, [], Option, refl, sym, ap, ◌∙◌, arith, inl, inr, ◌⊎◌, length}
+use Rattle.std.proofs.Common.{ℕ, ◌≡◌, ◌-◌, ◌<◌, true, false, List, [], Option, refl, sym, ap, ◌∙◌, arith, inl, inr, ◌⊎◌}
+use Rattle.std.proofs.Common.{length}
 use Rattle.std.specs.Prelude.{option_map}
 use Rattle.xc_search.specs.Spans.{is_before, between}
 use Rattle.xc_search.specs.inner.Levels.{choices_of}
@@ -9,8 +10,10 @@ use Rattle.xc_search.specs.declared.choice.Choice.{Choice}
 use Rattle.xc_search.specs.declared.span.Halt.TheVariants.{Member, End, Steps}
 use Rattle.xc_search.specs.Outlook.{shown_after}
 use Rattle.xc_search.specs.inner.Ahead.{IsSolved}
-use Rattle.xc_search.proofs.spans.Advance.{Advances, IsAt, over_first, ran_out, still_more, at_member, shown_there, at_end}
-use Rattle.xc_search.proofs.spans.Told.{told_passed, told_count, told_later, told_shown, told_same, told_still, told_none, told_end}
+use Rattle.xc_search.proofs.spans.Advance.{Advances, IsAt, over_first, ran_out, still_more, at_member, shown_there}
+use Rattle.xc_search.proofs.spans.Advance.{at_end}
+use Rattle.xc_search.proofs.spans.Told.{told_passed, told_count, told_later, told_shown, told_same, told_still}
+use Rattle.xc_search.proofs.spans.Told.{told_none, told_end}
 use Rattle.xc_search.proofs.span.Span.go_on.Goals as goal
 use Rattle.xc_search.proofs.span.Span.go_on.Goals.{Else-many-eq0, After-replace_with-ran, In-Member, In-Steps, In-End}
 use Rattle.xc_search.proofs.span.Span.go_on.Goals.{then-self-2, else-self-2}
@@ -29,7 +32,8 @@ returns-then-steps-eq0-clause-passed g c = told_still c.args.self.now _ _ _ _ _ 
 pub returns-then-steps-eq0-clause-count : goal.returns-then-steps-eq0-clause-count
 returns-then-steps-eq0-clause-count g c = told_none c.args.self.now _ _ _ _ _ _ c.self.view_is c.if-self.false []
 
-at : (g : _) (c : After-replace_with-ran g) → IsAt c.self.inside.state.position.puzzle c.self.inside.state.position.trail
+at : (g : _) (c : After-replace_with-ran g)
+    → IsAt c.self.inside.state.position.puzzle c.self.inside.state.position.trail
     c.self.inside.state.stack.levels c.self.inside.down
 at g c = record { led = c.self.invariant.led; solved = c.self.invariant.solved c.if-self.false }
 
@@ -49,7 +53,8 @@ module _ (g : _) (c : After-replace_with-ran g) where
   -- where it stands
   stands : (c.replace_with-ran.result.halt ≡ Member) ⊎ (c.replace_with-ran.result.halt ≡ Steps) →
       Stands c.self.inside.state.position c.self.inside.state.stack (over_first c.args.many c.self.inside.down)
-      c.replace_with-ran.new.dest.position c.replace_with-ran.new.dest.stack c.replace_with-ran.result.more (c.args.steps - c.replace_with-ran.result.steps)
+      c.replace_with-ran.new.dest.position c.replace_with-ran.new.dest.stack c.replace_with-ran.result.more
+      (c.args.steps - c.replace_with-ran.result.steps)
   stands h = rw (over g c) at (c.replace_with-ran.ensures.stands h)
 
   moved : (c.replace_with-ran.result.halt ≡ Member) ⊎ (c.replace_with-ran.result.halt ≡ Steps) →
@@ -62,12 +67,14 @@ module _ (g : _) (c : After-replace_with-ran g) where
 
   -- how it went on to a member
   module _ (h : c.replace_with-ran.result.halt ≡ Member) where
-    solved : IsSolved c.self.inside.state.position.puzzle c.replace_with-ran.new.dest.position.trail c.replace_with-ran.new.dest.stack.levels
+    solved : IsSolved c.self.inside.state.position.puzzle c.replace_with-ran.new.dest.position.trail
+        c.replace_with-ran.new.dest.stack.levels
     solved = rw (moved (inl h)) at (c.replace_with-ran.ensures.solved h).1
 
     to_member : Advances c.self.inside.state.position.puzzle
         (row_from c.self.inside.state.position.puzzle c.self.inside.state.stack.levels c.self.inside.down) until
-        (row_from c.replace_with-ran.new.dest.position.puzzle c.replace_with-ran.new.dest.stack.levels false) c.args.many
+        (row_from c.replace_with-ran.new.dest.position.puzzle c.replace_with-ran.new.dest.stack.levels false)
+        c.args.many
     to_member =
         rw (moved (inl h)) (at_member (at g c) (stands (inl h)) (some g c) until (before (inl h)) solved
         (c.replace_with-ran.ensures.solved h).0)
@@ -95,7 +102,8 @@ module _ (g : _) (c : After-replace_with-ran g) where
 
   -- or to the end
   module _ (h : c.replace_with-ran.result.halt ≡ End) where
-    ends : EndsSpan c.self.inside.state.position c.self.inside.state.stack (over_first c.args.many c.self.inside.down) until
+    ends : EndsSpan c.self.inside.state.position c.self.inside.state.stack
+        (over_first c.args.many c.self.inside.down) until
         c.replace_with-ran.new.dest.position c.replace_with-ran.new.dest.stack c.replace_with-ran.result.more
     ends = rw (over g c) at (c.replace_with-ran.ensures.ended h)
 
@@ -106,7 +114,8 @@ module _ (g : _) (c : After-replace_with-ran g) where
 
 pub show-requires-clause-shown : goal.show-requires-clause-shown
 show-requires-clause-shown g c =
-    all_shown c.replace_with-ran.new.dest.position.puzzle c.replace_with-ran.new.dest.position.trail c.replace_with-ran.new.dest.stack.levels
+    all_shown c.replace_with-ran.new.dest.position.puzzle c.replace_with-ran.new.dest.position.trail
+    c.replace_with-ran.new.dest.stack.levels
     (c.replace_with-ran.ensures.stands (inl c.in-Member.is)).standing.stacked
 
 pub overflow_sub-result-in-End : goal.overflow_sub-result-in-End
@@ -115,24 +124,31 @@ overflow_sub-result-in-End g c =
 
 pub overflow_sub-result-in-Steps-2 : goal.overflow_sub-result-in-Steps-2
 overflow_sub-result-in-Steps-2 g c =
-    omega (arith, fewer g (goal.at.overflow_sub-result-in-Steps-2 g c).After-replace_with-ran c.in-Steps.is (omega arith))
+    omega (
+      arith,
+      fewer g (goal.at.overflow_sub-result-in-Steps-2 g c).After-replace_with-ran c.in-Steps.is
+          (omega arith),
+    )
 
 pub returns-in-Member-clause-passed : goal.returns-in-Member-clause-passed
 returns-in-Member-clause-passed g c =
     let r = (goal.at.returns-in-Member-clause-passed g c).After-replace_with-ran in
-    told_passed c.args.self.now _ _ _ _ _ _ c.self.view_is c.if-self.false c.replace_with-ran.new.dest.position.puzzle _ c.args.many
+    told_passed c.args.self.now _ _ _ _ _ _ c.self.view_is c.if-self.false c.replace_with-ran.new.dest.position.puzzle
+    _ c.args.many
     c.show.new.shown.items (moved g r (inl c.in-Member.is)) (to_member g r c.in-Member.is)
 
 pub returns-in-Member-clause-count : goal.returns-in-Member-clause-count
 returns-in-Member-clause-count g c =
     let r = (goal.at.returns-in-Member-clause-count g c).After-replace_with-ran in
-    told_count c.args.self.now _ _ _ _ _ _ c.self.view_is c.if-self.false c.replace_with-ran.new.dest.position.puzzle _ c.args.many
+    told_count c.args.self.now _ _ _ _ _ _ c.self.view_is c.if-self.false c.replace_with-ran.new.dest.position.puzzle
+    _ c.args.many
     c.show.new.shown.items (moved g r (inl c.in-Member.is)) (to_member g r c.in-Member.is)
 
 pub returns-in-Member-clause-later : goal.returns-in-Member-clause-later
 returns-in-Member-clause-later g c _ _ =
     let r = (goal.at.returns-in-Member-clause-later g c).After-replace_with-ran in
-    told_later c.args.self.now _ _ _ _ _ _ c.self.view_is c.if-self.false c.replace_with-ran.new.dest.position.puzzle _ c.args.many
+    told_later c.args.self.now _ _ _ _ _ _ c.self.view_is c.if-self.false c.replace_with-ran.new.dest.position.puzzle
+    _ c.args.many
     c.show.new.shown.items (moved g r (inl c.in-Member.is)) (to_member g r c.in-Member.is)
 
 pub returns-in-Member-clause-member : goal.returns-in-Member-clause-member
@@ -153,17 +169,20 @@ returns-in-End-clause-count g c =
 pub returns-in-Steps-clause-passed : goal.returns-in-Steps-clause-passed
 returns-in-Steps-clause-passed g c =
     let r = (goal.at.returns-in-Steps-clause-passed g c).After-replace_with-ran in
-    told_passed c.args.self.now _ _ _ _ _ _ c.self.view_is c.if-self.false c.replace_with-ran.new.dest.position.puzzle _ _
+    told_passed c.args.self.now _ _ _ _ _ _ c.self.view_is c.if-self.false c.replace_with-ran.new.dest.position.puzzle
+    _ _
     c.clear-in-Steps.new.self.items (moved g r (inr c.in-Steps.is)) (to_row g r c.in-Steps.is (omega arith))
 
 pub returns-in-Steps-clause-count : goal.returns-in-Steps-clause-count
 returns-in-Steps-clause-count g c =
     let r = (goal.at.returns-in-Steps-clause-count g c).After-replace_with-ran in
-    told_count c.args.self.now _ _ _ _ _ _ c.self.view_is c.if-self.false c.replace_with-ran.new.dest.position.puzzle _ _
+    told_count c.args.self.now _ _ _ _ _ _ c.self.view_is c.if-self.false c.replace_with-ran.new.dest.position.puzzle
+    _ _
     c.clear-in-Steps.new.self.items (moved g r (inr c.in-Steps.is)) (to_row g r c.in-Steps.is (omega arith))
 
 pub returns-in-Steps-clause-later : goal.returns-in-Steps-clause-later
 returns-in-Steps-clause-later g c _ _ =
     let r = (goal.at.returns-in-Steps-clause-later g c).After-replace_with-ran in
-    told_later c.args.self.now _ _ _ _ _ _ c.self.view_is c.if-self.false c.replace_with-ran.new.dest.position.puzzle _ _
+    told_later c.args.self.now _ _ _ _ _ _ c.self.view_is c.if-self.false c.replace_with-ran.new.dest.position.puzzle
+    _ _
     c.clear-in-Steps.new.self.items (moved g r (inr c.in-Steps.is)) (to_row g r c.in-Steps.is (omega arith))

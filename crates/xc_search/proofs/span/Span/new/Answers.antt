@@ -45,7 +45,8 @@ module _ (g : _) (c : Joined-not-reached g) where
       ∙ ap (is_before until)
       (row_levels at.puzzle c.levels.result.now c.reach-reached.new.stack.levels c.levels.ensures.levels)
 
-  all : coming c.new-position.result.puzzle c.new-position.result.trail c.in-Ok-new.stack.levels true ≡ members at.puzzle
+  all : coming c.new-position.result.puzzle c.new-position.result.trail c.in-Ok-new.stack.levels true
+      ≡ members at.puzzle
   all =
       starts_coming _ _ _ (ap (λ (s : Dancing). s.trail) c.new-position.ensures ∙ c.requires.none)
       (ap (λ (s : Levels). s.levels) c.in-Ok-new.ensures)
@@ -54,7 +55,8 @@ module _ (g : _) (c : Joined-not-reached g) where
 pub invariant_of-result : goal.invariant_of-result
 invariant_of-result g c =
     let reach = c.reach-reached.ensures in
-    let open_at : c.if-not-reached.result ≡ false → (c.reach-reached.result ≡ true) × (c.is_before-within.result ≡ true) =
+    let open_at : c.if-not-reached.result ≡ false
+    → (c.reach-reached.result ≡ true) × (c.is_before-within.result ≡ true) =
     λ h. grind (arith, nat_tests, ended g c, h) in
     let room = ap (λ (s : Levels). s.room) reach.levels ∙ ap (λ (s : Levels). s.room) c.in-Ok-new.ensures in
     let most = ap most_levels (puzzle g c) in

@@ -21,7 +21,8 @@ module _ (g : _) (c : Joined-not-self g) where
   abbrev ls : List Level
   ls = c.self.inside.state.stack.levels
 
-  all : (f : Level → ℕ) → map f (take c.loop-level.level-index c.levels-levels.result.now) ≡ map f c.levels-levels.result.now
+  all : (f : Level → ℕ) → map f (take c.loop-level.level-index c.levels-levels.result.now)
+      ≡ map f c.levels-levels.result.now
   all f = grind (arith, common_steps)
 
   -- a last number where it stands at a solution
