@@ -40,7 +40,6 @@ pub enum Below {
 
 /// Begins a level at an item, the next one, and enters its first branch, since what is left wasn't searched yet. A
 /// level without branches ends at once, and isn't noted. At the branch item it goes on with the search's own path.
-#[inline(always)]
 pub fn deepen<D: Dance>(
     position: &mut Position<D>,
     stack: &mut Stack,
@@ -82,7 +81,6 @@ pub fn deepen<D: Dance>(
 }
 
 /// Ends a level, the newest one.
-#[inline(always)]
 pub fn end_level<D: Dance>(position: &mut Position<D>, level: &Level)
     requires stacked { (p : Puzzle) × (ls : List Level) × AreStacked p position.old.trail (level.now ∷ ls) }
     ensures { position.new ≡ record position.old { trail = oldest level.now.mark position.old.trail } }
@@ -105,7 +103,6 @@ fn behind(k: u32, many: u32) -> u32
 }
 
 /// Enters the next branch of a level, the newest one, which has another.
-#[inline(always)]
 fn enter_next<D: Dance>(position: &mut Position<D>, level: &Level) -> Begun
     requires stacked { (ls : List Level) × AreStacked position.old.puzzle position.old.trail (level.now ∷ ls) }
     requires more { level.now.begun < level.now.count }

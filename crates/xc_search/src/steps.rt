@@ -23,7 +23,6 @@ impl<'a, D: Dance> Position<'a, D> {
     }
 
     /// Spends an item, and covers it where its bound is then used up.
-    #[inline(always)]
     pub fn spend_item(&mut self, i: u32)
         requires { MayStand self.old.puzzle (after_spend self.old.puzzle i self.old.trail) }
         ensures { self.new ≡ record self.old { trail = after_spend self.old.puzzle i self.old.trail } }
