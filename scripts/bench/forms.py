@@ -29,7 +29,7 @@ HERE = Path(__file__).resolve().parent
 TOP = HERE.parent.parent
 HEAD = "| Form | Instead | Where | Counted on | Ratio | Kit |"
 LINE = re.compile(r"(# (?:form|instead|set)|file|old|new):(?: (.*))?")
-NAMED = re.compile(r"\b(?:fn|struct|enum|impl|trait) +(\w+)")
+NAMED = re.compile(r"\b(?:fn|struct|enum|impl|trait|const(?! fn)) +(\w+)")
 
 
 class Change(NamedTuple):
@@ -101,7 +101,7 @@ def copy(program: str, to: Path) -> None:
 
 
 def place(form: Form) -> str:
-    """Where the form stands: the file, and the function or type that its first change is in."""
+    """Where the form stands: the file, and the function, type or constant that its first change is in."""
     file, old, _ = form.changes[0]
     text = (TOP / file).read_text()
     names = NAMED.findall(text[: text.index(old) + len(old)])
