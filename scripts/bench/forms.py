@@ -7,8 +7,8 @@ stands in the code, what instead, and the set of runs (instructions.py) that it 
 copy, which is built without proofs and counted. The ratio is that of the instructions of the code as it stands to those
 with the edit, the geometric mean over the set: below 1 the form gains, and from 0.995 to 1.005 it could go. Both have to
 end with the same last line. Builds and counts are kept in scripts/bench/out by the checksums of what they are made of,
-so after a run that was broken off only the rest is made. --check only looks whether each old text stands there once,
-which is looked at first in any case. --page puts the table in the place of that with the same head in a page.
+so after a run that was broken off only the rest is made. --check only looks whether each file is there and has the old
+text once, which is looked at first in any case. --page puts the table in the place of that with the same head in a page.
 """
 
 from __future__ import annotations
@@ -29,7 +29,7 @@ HERE = Path(__file__).resolve().parent
 TOP = HERE.parent.parent
 HEAD = "| Form | Instead | Where | Counted on | Ratio | Kit |"
 LINE = re.compile(r"(# (?:form|instead|set)|file|old|new):(?: (.*))?")
-NAMED = re.compile(r"\b(?:fn|struct|enum|impl|trait) +(\w+)")
+NAMED = re.compile(r"\b(?:fn|struct|enum|impl|trait|const(?! fn)) +(\w+)")
 
 
 class Change(NamedTuple):
@@ -70,6 +70,8 @@ def planted(form: Form, tree: Path) -> dict[Path, str]:
     """The files of a tree that a form changes, with its changes."""
     texts: dict[Path, str] = {}
     for file, old, new in form.changes:
+        if not (tree / file).exists():
+            raise ValueError(f"{form.name}: there is no {file}")
         text = texts.get(tree / file) or (tree / file).read_text()
         if text.count(old) != 1:
             raise ValueError(f"{form.name}: this stands in {file} {text.count(old)} times:\n{old}")
@@ -78,7 +80,7 @@ def planted(form: Form, tree: Path) -> dict[Path, str]:
 
 
 def stale(forms: list[Form]) -> list[str]:
-    """What is to be said of forms whose old text doesn't stand in the sources once."""
+    """What is to be said of forms whose file is gone, or whose old text doesn't stand in the sources once."""
     told = []
     for form in forms:
         try:
@@ -99,7 +101,7 @@ def copy(program: str, to: Path) -> None:
 
 
 def place(form: Form) -> str:
-    """Where the form stands: the file, and the function or type that its first change is in."""
+    """Where the form stands: the file, and the function, type or constant that its first change is in."""
     file, old, _ = form.changes[0]
     text = (TOP / file).read_text()
     names = NAMED.findall(text[: text.index(old) + len(old)])
