@@ -9,8 +9,24 @@ trap 'exit 2' HUP INT TERM
 strict="-std=c99 -Wall -Wextra -Werror"
 
 printf '1:\n a d f (2 of 2)\n b g (1 of 1)\n c e (1 of 1)\n' >"$work/listing"
-{ cat "$work/listing" && printf 'status 0\nline 2: fault 11\n'; } >"$work/c.wanted"
+{ cat "$work/listing" && printf 'status 0\nline 2: unknown item\n'; } >"$work/c.wanted"
 { cat "$work/listing" && printf 'Done\nFault { line: 2, number: 11 }\n'; } >"$work/rust.wanted"
+# Each fault has its number from the library's code, and its words from those that the programs' texts are proved equal to.
+awk -v 'words=crates/xc_input/specs/FaultTexts.antt' '
+    BEGIN {
+        while ((getline line < words) > 0)
+            while (match(line, /\([A-Za-z]+, codes "[^"]*"\)/)) {
+                row = substr(line, RSTART + 1, RLENGTH - 3)
+                line = substr(line, RSTART + RLENGTH)
+                split(row, part, /, codes "/)
+                text[part[1]] = part[2]
+            }
+    }
+    match($0, /FaultKind::[A-Za-z]+ => [0-9]+/) {
+        split(substr($0, RSTART + 11, RLENGTH - 11), part, / => /)
+        print part[2], text[part[1]]
+    }' crates/xc_c/src/numbers.rt >"$work/texts"
+cat VERSION "$work/texts" >"$work/corners.wanted"
 gcc $strict -Ibindings/c bindings/c/example.c -Lbindings/out -lhelgrothy -o "$work/c"
 "$work/c" | diff - "$work/c.wanted"
 if command -v rustc >/dev/null; then
@@ -21,7 +37,7 @@ fi
 MAKEFLAGS= make -s install-lib PREFIX="$work/with space"
 flags=$(PKG_CONFIG_LIBDIR="$work/with space/lib/pkgconfig" pkg-config --cflags --libs helgrothy)
 eval "gcc $strict tests/bindings.c $flags -Wl,--wrap=malloc,--wrap=realloc,--wrap=free -o \"\$work/corners\""
-"$work/corners" | diff - VERSION
+"$work/corners" | diff - "$work/corners.wanted"
 MAKEFLAGS= make -s uninstall-lib PREFIX="$work/with space"
 left=$(find "$work/with space" ! -type d)
 [ -z "$left" ] || { echo "left behind: $left"; exit 1; }
