@@ -1,6 +1,7 @@
 #!/bin/sh
 # bindings.sh: compiles the examples in C and in Rust with the library that `make lib` built, and compares what they print.
-# Then installs the library, and compiles bindings.c by what pkg-config says of it. Prints what differs.
+# Then installs the library, compiles bindings.c and the example by what pkg-config says of it, and loads it in Python.
+# Prints what differs.
 set -eu
 cd "$(dirname "$0")/.."
 work=$(mktemp -d)
@@ -27,7 +28,8 @@ awk -v 'words=crates/xc_input/specs/FaultTexts.antt' '
         print part[2], text[part[1]]
     }' crates/xc_c/src/numbers.rt >"$work/texts"
 cat VERSION "$work/texts" >"$work/corners.wanted"
-gcc $strict -Ibindings/c bindings/c/example.c -Lbindings/out -lhelgrothy -o "$work/c"
+sed -n 's/^uint32_t \(helgrothy_[a-z]*\)(.*/\1/p' bindings/c/helgrothy.h | LC_ALL=C sort >"$work/calls"
+gcc $strict -Ibindings/c bindings/c/example.c bindings/out/libhelgrothy.a -o "$work/c"
 "$work/c" | diff - "$work/c.wanted"
 if command -v rustc >/dev/null; then
     rustc --edition 2024 -D warnings -A dead_code -Lbindings/out bindings/rust/example.rs -o "$work/rust"
@@ -35,9 +37,19 @@ if command -v rustc >/dev/null; then
 fi
 
 MAKEFLAGS= make -s install-lib PREFIX="$work/with space"
-flags=$(PKG_CONFIG_LIBDIR="$work/with space/lib/pkgconfig" pkg-config --cflags --libs helgrothy)
-eval "gcc $strict tests/bindings.c $flags -Wl,--wrap=malloc,--wrap=realloc,--wrap=free -o \"\$work/corners\""
+lib="$work/with space/lib"
+flags=$(PKG_CONFIG_LIBDIR="$lib/pkgconfig" pkg-config --cflags --libs helgrothy)
+# `--wrap` reaches no shared library.
+eval "gcc $strict tests/bindings.c -Wl,-Bstatic $flags -Wl,-Bdynamic -Wl,--wrap=malloc,--wrap=realloc,--wrap=free \
+    -o \"\$work/corners\""
 "$work/corners" | diff - "$work/corners.wanted"
+
+eval "gcc $strict bindings/c/example.c $flags -o \"\$work/shared\""
+LD_LIBRARY_PATH=$lib "$work/shared" | diff - "$work/c.wanted"
+! "$work/shared" 2>/dev/null || { echo "the program that was linked with the shared library runs without it"; exit 1; }
+nm -D --defined-only "$lib/libhelgrothy.so" | awk '{ print $3 }' | diff - "$work/calls"
+python3 tests/bindings.py "$lib/libhelgrothy.so"
+
 MAKEFLAGS= make -s uninstall-lib PREFIX="$work/with space"
 left=$(find "$work/with space" ! -type d)
 [ -z "$left" ] || { echo "left behind: $left"; exit 1; }
