@@ -168,6 +168,7 @@ version: ## see that all files name the version
 	@grep -q '^__version__ = "$(VERSION)"$$' python/helgrothy/__init__.py && \
 	    grep -q '^version = "$(VERSION)"$$' python/pyproject.toml || \
 	    { echo "the Python package isn't of $(VERSION)" >&2; exit 1; }
+	@grep -q '^version = "$(VERSION)"$$' bindings/rust/Cargo.toml || { echo "the crate for Rust isn't of $(VERSION)" >&2; exit 1; }
 release: dist deb wheel ## pack the archive, the Debian package and the wheel
 	cd dist && sha256sum helgrothy[-_]$(VERSION)* > SHA256SUMS
 
