@@ -18,7 +18,9 @@ fishdir = $(PREFIX)/share/fish/vendor_completions.d
 includedir = $(PREFIX)/include
 libdir = $(PREFIX)/lib
 # The library for C, which is installed where it was built; none with `LIBRARY=`.
-LIBRARY = $(wildcard bindings/out/libhelgrothy.a)
+LIBRARY = $(wildcard bindings/out/libhelgrothy.so)
+# The number rises where a program that was linked with an earlier library couldn't run with this one.
+SONAME = libhelgrothy.so.0
 
 .PHONY: help run bin all $(PROGRAMS) dlx_parts dlx_below test test-mutants test-hostile test-hostile-python test-python test-parts test-docs
 .PHONY: pictures completion believed bench bench-forms test-bench test-build
@@ -90,13 +92,15 @@ bin:
 	@for script in $(SCRIPTS); do ln -sfn ../scripts/helgrothy bin/dlx-$$script || exit 1; done
 	@ln -sfn ../scripts/helgrothy bin/helgrothy
 
-# The library for C is the crate with the toolchain's three calls of malloc, in one object that tells no other names.
+# The library for C is the crate with the toolchain's three calls of malloc, in one object that tells no other names, as
+# an archive and as a shared library.
 lib: ## build the library for C
 	cd crates/xc_c && rt lib
 	@rm -rf bindings/out && mkdir bindings/out
 	@cd bindings/out && ar x ../../crates/xc_c/out/libxc_c.a && ar x "$$(dirname "$$(rt doc)")/c/liblibc_c.a" && \
 	    ld -r *.o -o helgrothy.o && objcopy --wildcard --keep-global-symbol='helgrothy_*' helgrothy.o && \
-	    ar rcsD libhelgrothy.a helgrothy.o && rm *.o
+	    ar rcsD libhelgrothy.a helgrothy.o && \
+	    gcc -shared -Wl,-soname,$(SONAME),-z,defs,-z,text,-z,relro,-z,now helgrothy.o -o libhelgrothy.so && rm *.o
 
 # What follows takes the programs as `make all` built them, and needs no toolchain.
 COMMANDS = $(PROGRAMS) $(PLANNER) $(BELOW) $(SCRIPTS:%=dlx-%) helgrothy
@@ -123,14 +127,19 @@ install: bin install-lib ## install under PREFIX, in DESTDIR
 	cd python && $(call copy,helgrothy,$(DESTDIR)$(pythondir))
 
 install-lib:
-	$(if $(LIBRARY),install -D -m 644 $(LIBRARY) "$(DESTDIR)$(libdir)/libhelgrothy.a")
+	$(if $(LIBRARY),install -D -m 644 $(LIBRARY:.so=.a) "$(DESTDIR)$(libdir)/libhelgrothy.a")
+	$(if $(LIBRARY),install -m 644 $(LIBRARY) "$(DESTDIR)$(libdir)/libhelgrothy.so.$(VERSION)")
+	$(if $(LIBRARY),ln -sfn libhelgrothy.so.$(VERSION) "$(DESTDIR)$(libdir)/$(SONAME)")
+	$(if $(LIBRARY),ln -sfn $(SONAME) "$(DESTDIR)$(libdir)/libhelgrothy.so")
 	$(if $(LIBRARY),install -D -m 644 bindings/c/helgrothy.h "$(DESTDIR)$(includedir)/helgrothy.h")
 	$(if $(LIBRARY),sed 's|@includedir@|$(includedir)|; s|@libdir@|$(libdir)|; s|@version@|$(VERSION)|' \
 	    bindings/c/helgrothy.pc.in | install -D -m 644 /dev/stdin "$(DESTDIR)$(libdir)/pkgconfig/helgrothy.pc")
 
 uninstall-lib:
-	rm -f "$(DESTDIR)$(includedir)/helgrothy.h" "$(DESTDIR)$(libdir)/libhelgrothy.a" \
-	    "$(DESTDIR)$(libdir)/pkgconfig/helgrothy.pc"
+	for file in libhelgrothy.a libhelgrothy.so $(SONAME) libhelgrothy.so.$(VERSION) pkgconfig/helgrothy.pc; do \
+	    rm -f "$(DESTDIR)$(libdir)/$$file" || exit 1; \
+	done
+	rm -f "$(DESTDIR)$(includedir)/helgrothy.h"
 
 uninstall: uninstall-lib ## take away what was installed
 	for command in $(COMMANDS); do \
@@ -159,6 +168,7 @@ version: ## see that all files name the version
 	@grep -q '^__version__ = "$(VERSION)"$$' python/helgrothy/__init__.py && \
 	    grep -q '^version = "$(VERSION)"$$' python/pyproject.toml || \
 	    { echo "the Python package isn't of $(VERSION)" >&2; exit 1; }
+	@grep -q '^version = "$(VERSION)"$$' bindings/rust/Cargo.toml || { echo "the crate for Rust isn't of $(VERSION)" >&2; exit 1; }
 release: dist deb wheel ## pack the archive, the Debian package and the wheel
 	cd dist && sha256sum helgrothy[-_]$(VERSION)* > SHA256SUMS
 

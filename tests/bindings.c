@@ -1,5 +1,6 @@
 /* The corners of the calls for C: what is not a kind, buffers of each size, faults, and memory that runs out. It is
-   linked with malloc, realloc and free wrapped. Prints what differs from what is expected. */
+   linked with malloc, realloc and free wrapped. Prints the version, each fault with its words, and what differs from
+   what is expected. */
 #include <helgrothy.h>
 #include <stdio.h>
 #include <string.h>
@@ -61,6 +62,10 @@ int main(void) {
 
     EXPECT(helgrothy_version() == HELGROTHY_VERSION);
     printf("%d.%d.%d\n", HELGROTHY_VERSION / 10000, HELGROTHY_VERSION / 100 % 100, HELGROTHY_VERSION % 100);
+    for (fault = 1; strcmp(helgrothy_fault_text(fault), "unknown fault") != 0; fault++)
+        printf("%u %s\n", fault, helgrothy_fault_text(fault));
+    EXPECT(strcmp(helgrothy_fault_text(0), "no fault") == 0);
+    EXPECT(strcmp(helgrothy_fault_text(UINT32_MAX), "unknown fault") == 0);
 
     for (uint32_t kind = HELGROTHY_PLAIN; kind <= HELGROTHY_BOUNDS; kind++) {
         for (size_t room = 0; room < LISTED; room++)

@@ -9,7 +9,7 @@ static void solve(const char *text) {
     uint64_t line;
     uint32_t fault, status = helgrothy_list(HELGROTHY_PLAIN, text, strlen(text), 1, 10, listing, sizeof listing, &used);
     if (status == HELGROTHY_FAULT && helgrothy_fault(HELGROTHY_PLAIN, text, strlen(text), &line, &fault) == status)
-        printf("line %llu: fault %u\n", (unsigned long long)line, fault);
+        printf("line %llu: %s\n", (unsigned long long)line, helgrothy_fault_text(fault));
     else
         printf("%.*sstatus %u\n", (int)used, listing, status);
 }

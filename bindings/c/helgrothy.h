@@ -37,6 +37,31 @@ uint32_t helgrothy_version(void);
    where the answer isn't HELGROTHY_FAULT; HELGROTHY_DONE says that there is none. */
 uint32_t helgrothy_fault(uint32_t kind, const void *text, size_t length, uint64_t *line, uint32_t *fault);
 
+/* A fault in words by its number, as the programs print it behind the number of the line. It is never NULL. */
+static inline const char *helgrothy_fault_text(uint32_t fault) {
+    static const char *const texts[] = {
+        "no fault",
+        "no items",
+        "NUL byte",
+        "empty name",
+        "name too long",
+        "bad byte in name",
+        "name repeated",
+        "second bar",
+        "bad bound",
+        "bound order",
+        "bound on a secondary item",
+        "unknown item",
+        "item repeated in option",
+        "colour on a primary item",
+        "bad colour",
+        "colour not allowed here",
+        "too many items",
+        "too many uses",
+    };
+    return fault < sizeof texts / sizeof *texts ? texts[fault] : "unknown fault";
+}
+
 /* How many solutions there are, up to the limit; 0 where nothing was searched. */
 uint32_t helgrothy_count(uint32_t kind, const void *text, size_t length, uint64_t limit, uint64_t *count);
 

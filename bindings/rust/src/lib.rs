@@ -1,6 +1,7 @@
 //! Exact cover problems, by the calls of `helgrothy.h`, which says what they do.
 
 use std::ffi::c_void;
+use std::fmt;
 
 #[link(name = "helgrothy", kind = "static")]
 unsafe extern "C" {
@@ -44,6 +45,42 @@ pub enum Error {
     Fault { line: u64, number: u32 },
     /// There was no memory.
     Memory,
+}
+
+impl fmt::Display for Error {
+    fn fmt(&self, f: &mut fmt::Formatter<'_>) -> fmt::Result {
+        match self {
+            Error::Fault { line, number } => write!(f, "line {line}: {}", fault_text(*number)),
+            Error::Memory => f.write_str("out of memory"),
+        }
+    }
+}
+
+impl std::error::Error for Error {}
+
+/// A fault in words by its number, as the programs print it behind the number of the line.
+pub fn fault_text(number: u32) -> &'static str {
+    match number {
+        0 => "no fault",
+        1 => "no items",
+        2 => "NUL byte",
+        3 => "empty name",
+        4 => "name too long",
+        5 => "bad byte in name",
+        6 => "name repeated",
+        7 => "second bar",
+        8 => "bad bound",
+        9 => "bound order",
+        10 => "bound on a secondary item",
+        11 => "unknown item",
+        12 => "item repeated in option",
+        13 => "colour on a primary item",
+        14 => "bad colour",
+        15 => "colour not allowed here",
+        16 => "too many items",
+        17 => "too many uses",
+        _ => "unknown fault",
+    }
 }
 
 fn ended(kind: Kind, text: &[u8], status: u32) -> Result<End, Error> {

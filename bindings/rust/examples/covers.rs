@@ -1,13 +1,11 @@
 //! Prints the covers of a problem, or its first fault.
-mod helgrothy;
-
 use helgrothy::{Kind, list};
 
 fn solve(text: &[u8]) {
     let mut listing = [0; 1000];
     match list(Kind::Plain, text, 1, 10, &mut listing) {
         Ok((used, end)) => println!("{}{end:?}", String::from_utf8_lossy(&listing[..used])),
-        Err(error) => println!("{error:?}"),
+        Err(error) => println!("{error}"),
     }
 }
 
