@@ -163,12 +163,19 @@ deb: bin version
 	@sh release/deb.sh $(VERSION)
 wheel: bin version
 	@python3 release/wheel.py $(VERSION)
-version: ## see that all files name the version
+# The version as a number, which C has: 10000 times the first part, 100 times the second, and the third.
+NUMBER = $(shell echo $(VERSION) | awk -F. '{ print 10000 * $$1 + 100 * $$2 + $$3 }')
+version: ## check that all files name the version
 	@grep -q '^## $(VERSION)$$' CHANGELOG.md || { echo "CHANGELOG.md says nothing of $(VERSION)" >&2; exit 1; }
 	@grep -q '^__version__ = "$(VERSION)"$$' python/helgrothy/__init__.py && \
 	    grep -q '^version = "$(VERSION)"$$' python/pyproject.toml || \
 	    { echo "the Python package isn't of $(VERSION)" >&2; exit 1; }
 	@grep -q '^version = "$(VERSION)"$$' bindings/rust/Cargo.toml || { echo "the crate for Rust isn't of $(VERSION)" >&2; exit 1; }
+	@grep -q '^#define HELGROTHY_VERSION $(NUMBER)$$' bindings/c/helgrothy.h || \
+	    { echo "the header for C isn't of $(VERSION)" >&2; exit 1; }
+	@sed -n '/fn helgrothy_version/,/^}/p' crates/xc_c/src/lib.rt | tr -d '\n' | \
+	    grep -q 'version_number $(subst ., ,$(VERSION)) }{    $(NUMBER)}' || \
+	    { echo "the library for C isn't of $(VERSION)" >&2; exit 1; }
 release: dist deb wheel ## pack the archive, the Debian package and the wheel
 	cd dist && sha256sum helgrothy[-_]$(VERSION)* > SHA256SUMS
 
