@@ -52,6 +52,7 @@ test-docs: bin ## the commands, pictures and tables of the pages
 	@sh tests/pages.sh . man/*.[15]
 	@scripts/pictures/pictures compare
 	@scripts/believed --page | diff docs/BELIEVED.md -
+	@scripts/faults --check
 	@scripts/bench/forms.py --check
 
 # The pictures of the documents, made anew.
