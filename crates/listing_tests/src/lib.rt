@@ -1,5 +1,5 @@
-//! Tests of what is written beside runs over a keeper: lines, solutions, parts and plans, and what is there for
-//! callers. They use public calls alone, so they stand on top, where no library is proved a second time for them.
+//! Tests of what is written beside runs over a keeper: lines and solutions, and what is there for callers. They use
+//! public calls alone, so they stand on top, where no library is proved a second time for them.
 #![tactic(auto)]
 
 // What is there for callers.
@@ -9,9 +9,5 @@ mod callers;
 // Listings.
 #[cfg(test)]
 mod lines;
-#[cfg(test)]
-mod parts;
-#[cfg(test)]
-mod plans;
 #[cfg(test)]
 mod written;

@@ -1,5 +1,5 @@
-//! Tests of searches, cuts, and searches of spans and below paths. They use public calls alone. The gate tries them beside
-//! the proofs of the libraries that they don't use.
+//! Tests of searches and of searches of spans. They use public calls alone. The gate tries them beside the proofs of the
+//! libraries that they don't use.
 #![tactic(auto)]
 
 // What is there for callers.
@@ -12,11 +12,7 @@ mod made;
 
 // Searches.
 #[cfg(test)]
-mod below;
-#[cfg(test)]
 mod closing;
-#[cfg(test)]
-mod cutting;
 #[cfg(test)]
 mod passing;
 #[cfg(test)]

@@ -1,5 +1,5 @@
 //! Passes over many solutions, of which the last choices are counted at once.
-use crate::made::{are_undone, below};
+use crate::made::{are_undone, search};
 use fixtures::on_problem;
 use std::alloc::Global;
 use xc_dance::Lists;
@@ -10,8 +10,8 @@ use xc_search::{Search, Step};
 const PAIRS: &[u8] =
     b"a b c d e f\na b\nc d\ne f\ne f\ne f\nc e\nd f\nd f\na c\nb d\ne f\nb e\nd f\na d\nb c\n";
 
-/// Paths of its search, from the whole down.
-const PATHS: [&[u32]; 5] = [&[], &[1], &[2], &[3], &[1, 1]];
+/// How many solutions are passed over before.
+const BEFORE: [u64; 5] = [0, 1, 6, 12, 17];
 
 /// How many solutions a search goes on by, one by one.
 fn steps(search: &mut Search<Lists>, many: u64) -> u64 {
@@ -23,36 +23,42 @@ fn steps(search: &mut Search<Lists>, many: u64) -> u64 {
     many
 }
 
-/// Whether a pass ends where as many single steps end, and goes on as they do.
-fn ends_alike(passed: &mut Search<Lists>, stepped: &mut Search<Lists>, many: u64) -> bool {
-    passed.pass(many) == steps(stepped, many)
+/// Whether a pass, behind another one, ends where as many single steps end, and goes on as they do.
+fn ends_alike(
+    passed: &mut Search<Lists>,
+    stepped: &mut Search<Lists>,
+    before: u64,
+    many: u64,
+) -> bool {
+    passed.pass(before) == steps(stepped, before)
+        && passed.pass(many) == steps(stepped, many)
         && passed.choices() == stepped.choices()
         && passed.next() == stepped.next()
         && passed.choices() == stepped.choices()
 }
 
-/// Whether it is so of a pass below the path of these numbers, and all moves are undone.
+/// Whether it is so of a problem's search, and all moves are undone.
 fn passes_alike(
     alloc: Global,
     problem: &Problem,
-    numbers: &[u32],
+    before: u64,
     many: u64,
     stepped: &mut Search<Lists>,
 ) -> bool {
-    let Some(mut passed) = below(alloc, problem, numbers) else {
+    let Some(mut passed) = search(alloc, problem) else {
         return false;
     };
-    let alike = ends_alike(&mut passed, stepped, many);
+    let alike = ends_alike(&mut passed, stepped, before, many);
     are_undone(passed.close()) && alike
 }
 
-/// Whether it is so of passes of every size below a path.
-fn pass_alike(alloc: Global, problem: &Problem, numbers: &[u32]) -> bool {
+/// Whether it is so of passes of every size.
+fn pass_alike(alloc: Global, problem: &Problem, before: u64) -> bool {
     for many in 0..24 {
-        let Some(mut stepped) = below(alloc, problem, numbers) else {
+        let Some(mut stepped) = search(alloc, problem) else {
             return false;
         };
-        let alike = passes_alike(alloc, problem, numbers, many, &mut stepped);
+        let alike = passes_alike(alloc, problem, before, many, &mut stepped);
         if !(are_undone(stepped.close()) && alike) {
             return false;
         }
@@ -63,13 +69,13 @@ fn pass_alike(alloc: Global, problem: &Problem, numbers: &[u32]) -> bool {
 #[test]
 fn passes_of_every_size(rt: HostRuntime) {
     let alloc = rt.alloc();
-    for numbers in &PATHS {
+    for before in &BEFORE {
         assert!(rt;
             on_problem(
                 alloc,
                 Kind::Plain,
                 PAIRS,
-                |problem| pass_alike(alloc, problem, *numbers)
+                |problem| pass_alike(alloc, problem, *before)
             )
         );
     }

@@ -18,10 +18,6 @@ mod judging;
 #[cfg(test)]
 mod large;
 #[cfg(test)]
-mod parts;
-#[cfg(test)]
-mod plans;
-#[cfg(test)]
 mod refused_listings;
 #[cfg(test)]
 mod refused_runs;

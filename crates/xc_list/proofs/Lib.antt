@@ -1,11 +1,9 @@
-pub mod BelowLemmas
 pub mod CheckLemmas
 pub mod Digits
 pub mod OutputLemmas
 pub mod NextPrinted
 pub mod Outputs
 pub mod PageLemmas
-pub mod Planned
 pub mod TextLemmas
 pub mod Writing
 pub mod WordLemmas

@@ -11,8 +11,7 @@ use lib.Lanes.{put_chunk, chunk}
 use Rattle.std.specs.Prelude.{flat_map}
 use Rattle.xc_list.specs.Texts.{SinkState, Took, BrokeOff}
 use Rattle.xc_list.specs.inner.Pages.{Puts, held_text}
-use Rattle.xc_list.proofs.Planned.{one_more}
-use Rattle.xc_list.proofs.Writing.{then_took, then_broke, took_nothing, broke_before}
+use Rattle.xc_list.proofs.Writing.{one_more, then_took, then_broke, took_nothing, broke_before}
 use Rattle.std.proofs.lemmas.Grind.{common_steps}
 use Rattle.xc_input.proofs.TokenLemmas.Separators.{COLON}
 

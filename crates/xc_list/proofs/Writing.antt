@@ -1,7 +1,7 @@
 -- What a sink has taken, text after text.
 use Rattle.std.specs.Prelude.{MatchResult}
 use Rattle.std.proofs.Common.{◌≡◌, ℕ, ◌+◌, ◌/◌, ◌%◌, ◌<◌, ◌≤◌, List, [], ◌∷◌, ◌++◌, Result, Ok, Err, length, take}
-use Rattle.std.proofs.Common.{drop, get_or, ◌∙◌, append-nil, arith, subst, zero, suc, refl}
+use Rattle.std.proofs.Common.{drop, get_or, ap, ◌∙◌, append-nil, arith, subst, zero, suc, refl}
 use Rattle.std.proofs.KnownBytes.{Appends-nil}
 use Rattle.xc_list.specs.inner.LineParts.{colour_text}
 use Rattle.std.specs.Prelude.{flat_map, IsErr, codes, decimal}
@@ -27,6 +27,10 @@ pub flat_map-parts : {X : Type 0} (f : X → List ℕ) (xs : List X) (i : ℕ) (
 flat_map-parts f xs i d h =
     let all : xs ≡ take (i + 1) xs ++ drop (i + 1) xs = grind (arith, common_steps) in
     cc (all, flat_map-append f (take (i + 1) xs) (drop (i + 1) xs), flat_map-take-more f xs i d h)
+
+pub one_more : {X A : Type 0} (f : X → List A) (xs : List X) (x : X)
+    → flat_map f (xs ++ x ∷ []) ≡ flat_map f xs ++ f x
+one_more f xs x = flat_map-append f xs (x ∷ []) ∙ ap (λ ys. flat_map f xs ++ ys) (append-nil (f x))
 
 pub took_nothing : (s : SinkState) → Took s s []
 took_nothing s = record { no_failure = refl; whole = Appends-nil s.taken; unflushed = refl }

@@ -1,11 +1,8 @@
-pub mod Below
 pub mod Known
 pub mod Listed
 pub mod ListingLines
 pub mod Messages
 pub mod Output
-pub mod PartWords
-pub mod Plans
 pub mod Runs
 pub mod Settings
 pub mod Texts

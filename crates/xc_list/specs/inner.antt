@@ -6,7 +6,6 @@ pub mod Ends
 pub mod Layout
 pub mod OptionIndex
 pub mod Pages
-pub mod PartsBelow
 pub mod SeenLines
 pub mod LineParts
 pub mod Listings

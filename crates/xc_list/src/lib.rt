@@ -11,7 +11,6 @@
 //! ```
 #![tactic(auto)]
 
-mod below;
 mod bodies;
 mod checker;
 mod cover;
@@ -19,8 +18,6 @@ pub mod laws;
 mod line;
 mod messages;
 mod page;
-mod part_words;
-mod planning;
 mod print;
 mod runs;
 mod sink;
@@ -29,13 +26,10 @@ mod vec_sink;
 mod words;
 mod write;
 
-pub use below::{PartFault, PartsFault, list_parts, list_parts_over, read_paths};
 pub use checker::{ListingFault, Verdict, check};
 pub use cover::is_cover;
 pub use line::write_line;
 pub use messages::{summary, warnings, word_fault};
-pub use part_words::PartWords;
-pub use planning::{PlanWords, plan};
 pub use print::write_solution;
 pub use runs::{End, run, run_over, run_over_links};
 pub use sink::{Sink, Tray, WriteFailed};

@@ -2,8 +2,6 @@ pub mod Cases
 pub mod completeness
 pub mod listing
 pub mod moves
-pub mod parts
-pub mod paths
 pub mod residual
 pub mod room
 pub mod stacked

@@ -3,6 +3,7 @@ pub mod BegunComesFirst
 pub mod CountedOver
 pub mod Depth
 pub mod EarlyChoice
+pub mod Led
 pub mod LessWork
 pub mod LevelsLeft
 pub mod LoopSteps

@@ -2,8 +2,7 @@
 use Rattle.std.specs.Prelude.{ℕ, ◌-◌, List, [], ◌∷◌, length, Option, Some, None, unwrap_or, option_map, slice_get}
 use Rattle.xc_search.specs.declared.choice.Choice.{Choice}
 use Rattle.xc_input.specs.Problem.{Puzzle}
-use Rattle.xc_search.specs.Listing.{Residual}
-use Rattle.xc_search.specs.Cut.{branches_left}
+use Rattle.xc_search.specs.Listing.{Residual, Branch, branch_item, branches_of}
 use Rattle.xc_search.specs.Spans.{between}
 
 -- A search of a span of this problem's listing: the row from which on its members are left, if any are, the row before
@@ -28,6 +27,10 @@ row_or_end (Some row) until = Some row
 -- up to which row it went
 abbrev pub reached : InSpan → Option (List ℕ)
 reached s = row_or_end s.row s.until
+
+-- the branches of what is left: those of its branch item
+abbrev pub branches_left : Residual → List Branch
+branches_left r = unwrap_or (option_map (branches_of r) (branch_item r)) []
 
 -- what the k-th branch leaves, where there is one
 abbrev pub left_by_number : ℕ → Residual → Residual

@@ -4,8 +4,6 @@ pub mod Residuals
 pub mod Room
 pub mod Outlook
 pub mod Visited
-pub mod Cut
-pub mod Parts
 pub mod Spans
 pub mod InSpan
 pub mod Worked

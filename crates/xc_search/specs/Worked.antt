@@ -4,7 +4,6 @@ use Rattle.xc_input.specs.declared.problem.Bounds.{Bounds}
 use Rattle.xc_input.specs.declared.problem.Use.{Use}
 use Rattle.xc_search.specs.declared.choice.Choice.{Choice}
 use Rattle.xc_input.specs.Problem.{Puzzle}
-use Rattle.xc_search.specs.Listing.{Wanted}
 
 -- held at least low and at most high times
 abbrev pub within : ℕ → ℕ → Bounds
@@ -32,10 +31,6 @@ seven_items = record {
       ∷ (plain 1 ∷ plain 4 ∷ plain 6 ∷ []) ∷ (plain 2 ∷ plain 7 ∷ []) ∷ (plain 4 ∷ plain 5 ∷ plain 7 ∷ [])
       ∷ [];
 }
-
--- its second item, b
-abbrev pub item_b : Wanted
-item_b = record { item = 2; low = 1; high = 1 }
 
 -- p q r | x y: p q x y:A / p r x:A y / p x:B / q x:A / r y:B
 abbrev pub two_colours : Puzzle

@@ -1,6 +1,5 @@
 pub mod Ahead
 pub mod Commits
-pub mod Descent
 pub mod Levels
 pub mod MostLevels
 pub mod Paths

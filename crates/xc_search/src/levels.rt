@@ -81,7 +81,7 @@ pub fn deepen<D: Dance>(
 }
 
 /// Ends a level, the newest one.
-pub fn end_level<D: Dance>(position: &mut Position<D>, level: &Level)
+fn end_level<D: Dance>(position: &mut Position<D>, level: &Level)
     requires stacked { (p : Puzzle) × (ls : List Level) × AreStacked p position.old.trail (level.now ∷ ls) }
     ensures { position.new ≡ record position.old { trail = oldest level.now.mark position.old.trail } }
 {

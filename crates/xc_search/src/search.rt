@@ -13,10 +13,6 @@ use std::marker::Model;
 use xc_dance::{Dance, Memory};
 use xc_input::Problem;
 
-mod below;
-
-pub use below::PathFault;
-
 /// An answer of `Search::next`.
 #[derive(Clone, Copy, Debug, PartialEq, Eq)]
 pub enum Step {
@@ -32,24 +28,19 @@ pub enum Step {
 #[derive(Drop)]
 pub struct Search<'a, D: Dance> {
     walk: Walk<'a, D>,
-    /// The choices that lead to the first level.
-    before: Vec<Choice>,
     choices: Vec<Choice>,
 }
 
 impl<'a, D: Dance> Model for Search<'a, D> {
-    ghost use Rattle.std.specs.Prelude.{◌+◌, ◌≤◌, length, vec_capacity};
+    ghost use Rattle.std.specs.Prelude.{◌≤◌, vec_capacity};
     ghost use Rattle.xc_search.specs.Outlook.{Outlook};
     ghost use Rattle.xc_search.specs.inner.MostLevels.{most_levels};
-    ghost use Rattle.xc_search.specs.inner.Levels.{behind};
 
     ghost Value = { Outlook };
 
-    ghost view = { λ s. record s.walk { to_come = behind s.before.items s.walk.to_come; shown = s.choices.items } };
+    ghost view = { λ s. record s.walk { shown = s.choices.items } };
 
-    ghost invariant = { λ s. record {
-      choices_fit : length s.before.items + most_levels s.walk.puzzle ≤ vec_capacity s.choices;
-    } };
+    ghost invariant = { λ s. record { choices_fit : most_levels s.walk.puzzle ≤ vec_capacity s.choices } };
 }
 
 impl<'a, D: Dance> Search<'a, D> {
@@ -75,11 +66,7 @@ impl<'a, D: Dance> Search<'a, D> {
             return Err((dance, Memory));
         };
         match Walk::new(alloc, dance, problem) {
-            Ok(walk) => Ok(Search {
-                walk,
-                before: Vec::new(alloc),
-                choices,
-            }),
+            Ok(walk) => Ok(Search { walk, choices }),
             Err(refused) => Err(refused),
         }
     }
@@ -117,7 +104,7 @@ impl<'a, D: Dance> Search<'a, D> {
         if passed < many {
             self.choices.clear();
         } else if many > 0 {
-            self.walk.show(&self.before, &mut self.choices);
+            self.walk.show(&mut self.choices);
         }
         passed
     }
@@ -126,11 +113,7 @@ impl<'a, D: Dance> Search<'a, D> {
     pub fn close(self) -> D
         ensures { D.state result ≡ record { puzzle = self.entry.puzzle; trail = []; room = self.entry.room } }
     {
-        let Search {
-            walk,
-            before: _,
-            choices: _,
-        } = self;
+        let Search { walk, choices: _ } = self;
         walk.close()
     }
 }

@@ -11,9 +11,6 @@ use std::alloc::{AllocError, Global};
 use std::marker::Model;
 use xc_dance::Dance;
 
-/// A whole search, of which `share` tells how much is done.
-pub const WHOLE: u64 = 1 << 63;
-
 /// The levels of a search.
 #[derive(Drop)]
 pub struct Stack {
@@ -82,20 +79,6 @@ impl Stack {
         ensures { self.new ≡ record self.old { levels = drop 1 self.old.levels } }
     {
         let _ = self.levels.pop();
-    }
-
-    /// How much of the search is done, of 2^63, where each branch of a level counts alike. The
-    /// newest branches aren't done.
-    pub fn share(&self) -> u64 {
-        let mut share: u64 = 0;
-        let mut part = WHOLE;
-        for level in &self.levels {
-            part /= u64::from(level.count.max(1));
-            share = share.saturating_add(part.saturating_mul(u64::from(
-                level.begun.saturating_sub(1),
-            )));
-        }
-        share
     }
 
     /// The levels, the oldest first.

@@ -1,5 +1,5 @@
 //! A walk over a problem's solutions.
-ghost use Rattle.std.specs.Prelude.{◌≡◌, ◌≢◌, ◌+◌, ◌<◌, ◌≤◌, [], ◌∷◌, ◌++◌, drop, length, min, true, false};
+ghost use Rattle.std.specs.Prelude.{◌≡◌, ◌≢◌, ◌+◌, ◌<◌, ◌≤◌, [], ◌∷◌, drop, length, min, true, false};
 ghost use Rattle.std.specs.Prelude.{IfOk, IfErr, IfSome, IsNone, vec_capacity};
 ghost use Rattle.xc_search.specs.Outlook.{shown_after};
 ghost use Rattle.xc_search.specs.Room.{room_for};
@@ -85,28 +85,14 @@ impl<'a, D: Dance> Walk<'a, D> {
         let Ok(stack) = Stack::new(alloc, most_levels(problem)) else {
             return Err((dance, Memory));
         };
-        Ok(Walk::from(Position::new(dance, problem), stack))
-    }
-
-    /// A walk over what the moves of a position leave.
-    pub(crate) fn from(position: Position<'a, D>, stack: Stack) -> Walk<'a, D>
-        requires standing { IsStanding position.puzzle position.trail stack.levels true }
-        requires levels_fit { stack.room ≡ most_levels position.puzzle }
-        ensures { result ≡ record {
-          puzzle = position.entry.puzzle;
-          to_come = coming position.entry.puzzle position.entry.trail stack.levels true;
-          shown = choices_of position.entry.puzzle stack.levels;
-          room = position.entry.room;
-        } }
-    {
-        Walk {
+        Ok(Walk {
             standing: Standing {
-                position,
+                position: Position::new(dance, problem),
                 stack,
                 down: true,
                 passed: 0,
             },
-        }
+        })
     }
 
     /// The choices of the solution at which the walk stands, from the first level down; none where it stands at none.
@@ -120,14 +106,14 @@ impl<'a, D: Dance> Walk<'a, D> {
         }
     }
 
-    /// Puts choices, and behind them those of `solution`, in the place of those that stand in `shown`.
-    pub(crate) fn show(&self, before: &[Choice], shown: &mut Vec<Choice>)
-        requires { length before.now + most_levels self.now.puzzle ≤ vec_capacity shown.old }
-        ensures items { shown.new.items ≡ before.now ++ self.now.shown }
+    /// Puts the choices of `solution` in the place of those that stand in `shown`.
+    pub(crate) fn show(&self, shown: &mut Vec<Choice>)
+        requires { most_levels self.now.puzzle ≤ vec_capacity shown.old }
+        ensures items { shown.new.items ≡ self.now.shown }
         ensures capacity { vec_capacity shown.new ≡ vec_capacity shown.old }
     {
         let standing = &self.standing;
-        standing.stack.show(before, &standing.position, shown);
+        standing.stack.show(&[], &standing.position, shown);
     }
 
     /// Goes on by so many solutions, or over all where fewer are left, and answers by how many. It then stands at the

@@ -1,4 +1,3 @@
 pub mod JudgeLemmas
-pub mod PartsLemmas
 pub mod RunLemmas
 pub mod StreamLemmas

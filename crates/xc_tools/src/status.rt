@@ -18,10 +18,6 @@ pub(crate) const FAILED: u8 = 3;
 pub(crate) const NO_MEMORY: u8 = 4;
 /// Some solution is not a cover.
 pub(crate) const NOT_ALL_COVERS: u8 = 5;
-/// The search has no path with these numbers.
-pub(crate) const NO_PATH: u8 = 5;
-/// There are as many parts as a plan may have.
-pub(crate) const LIMIT_MET: u8 = 5;
 
 /// Writes a line in place of the last one, as far as that goes, and gives its status.
 pub(crate) fn refuse<E: Sink>(status: u8, text: &[u8], err: &mut E) -> u8

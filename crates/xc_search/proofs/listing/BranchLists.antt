@@ -1,13 +1,13 @@
 -- The branches of an item in their order.
 use Rattle.std.proofs.lemmas.Grind.{common_steps}
 use Rattle.std.proofs.Common.{ℕ, suc, ◌≡◌, ◌+◌, ◌<◌, ◌≤◌, true, eqb, List, [], ◌∷◌, length, map, length-append}
-use Rattle.std.proofs.Common.{take, drop, Some, None, ◌∙◌, arith, eqb-true, eq-eqb}
-use Rattle.std.proofs.lemmas.Option.{slice_get-map}
+use Rattle.std.proofs.Common.{take, drop, Some, None, ap, ◌∙◌, arith, eqb-true, eq-eqb, length-drop}
+use Rattle.std.proofs.lemmas.Option.{slice_get-map, slice_get_within}
 use Rattle.std.specs.Prelude.{slice_get}
 use Rattle.std.specs.List.{enumerate_from}
 use Rattle.xc_input.specs.Problem.{Numbered, holds, holding}
 use Rattle.xc_input.proofs.lists.Filters.{length-filter-le}
-use Rattle.xc_search.proofs.Cases.{by_bool}
+use Rattle.xc_search.proofs.Cases.{by_bool, by_option}
 use Rattle.xc_search.specs.Listing.{Wanted, Residual, Branch, branches_of, branch_count, take_branch, none_branch}
 use Rattle.std.proofs.lemmas.List.{length-map, length-take}
 use Rattle.std.proofs.lemmas.List.FromFn.{length-enumerate_from}
@@ -66,3 +66,15 @@ branch_none r w k h e =
 
 pub branches_end : (r : Residual) (w : Wanted) → drop (branch_count r w) (branches_of r w) ≡ []
 branches_end r w = grind (arith, common_steps, length-takes, eqb-true)
+
+-- the number of a branch is its place
+pub number_at : (r : Residual) (w : Wanted) (j : ℕ) (b : Branch) → slice_get (branches_of r w) j ≡ Some b
+    → (j < branch_count r w) × (b.choice.k ≡ suc j)
+number_at r w j b e =
+    let n = branch_count r w in
+    let bs = branches_of r w in
+    let h : j < n = omega (arith, slice_get_within bs j b e, ap length (branches_end r w), length-drop n bs) in
+    let told : b.choice.k ≡ suc j = by_option (slice_get (holding w.item r.options) j)
+    (λ f. grind (arith, branch_none r w j h f))
+    (λ x f. grind (arith, branch_takes r w j x h f)) in
+    (h, told)

@@ -10,7 +10,7 @@ use Rattle.xc_search.specs.inner.Levels.{AreAllWanted, IsDeadEnd, IsEarlyChoice}
 use Rattle.xc_search.proofs.residual.LeftAreReady.{has_left}
 use Rattle.xc_search.proofs.residual.EachMove.{in_range}
 use Rattle.xc_search.proofs.listing.BranchesLess.{least_is_one}
-use Rattle.xc_search.proofs.parts.OneBranch.{best, best_first}
+use Rattle.xc_search.proofs.listing.DeadEnds.{best, best_first}
 use Rattle.xc_input.proofs.lists.Members.{in-map, in-filter, each_in}
 use Rattle.std.specs.List.{range_with_len}
 use Rattle.std.proofs.Common.{inl, inr}

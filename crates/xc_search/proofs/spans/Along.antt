@@ -9,8 +9,7 @@ use Rattle.xc_search.specs.declared.level.Level.{Level}
 use Rattle.xc_input.specs.Problem.{Puzzle, holding}
 use Rattle.xc_search.specs.Listing.{Wanted, Residual, Branch, whole, branch_item, branches_of, branch_count}
 use Rattle.xc_search.specs.Residuals.{wanted_at}
-use Rattle.xc_search.specs.Cut.{branches_left}
-use Rattle.xc_search.specs.InSpan.{left_by_number, branches_along}
+use Rattle.xc_search.specs.InSpan.{branches_left, left_by_number, branches_along}
 use Rattle.xc_search.specs.inner.Commits.{oldest}
 use Rattle.xc_search.specs.inner.Residual.{residual_of}
 use Rattle.xc_search.specs.inner.Levels.{AreStacked, choices_of, chosen}

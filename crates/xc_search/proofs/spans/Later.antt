@@ -17,7 +17,7 @@ use Rattle.xc_search.specs.inner.Paths.{AreLed}
 use Rattle.xc_search.specs.inner.Ahead.{cost, work, visits, ahead}
 use Rattle.xc_input.proofs.lists.Places.{drop_at}
 use Rattle.xc_search.proofs.Cases.{by_bool}
-use Rattle.xc_search.proofs.paths.Numbers.{number_at}
+use Rattle.xc_search.proofs.listing.BranchLists.{number_at}
 use Rattle.xc_search.proofs.residual.BranchItemLeft.{no_moves_leave_all}
 use Rattle.xc_search.proofs.listing.EachBranch.{branch_item-in}
 use Rattle.xc_search.proofs.stacked.LessWork.{less_work}

@@ -22,7 +22,7 @@ use Rattle.xc_search.specs.inner.Paths.{AreLed}
 use Rattle.xc_input.proofs.lists.EachElement.{each-append, each-map, each_weaker, each_of_all}
 use Rattle.xc_input.proofs.lists.Filters.{keep_all, map-same}
 use Rattle.xc_input.proofs.lists.Places.{drop_at}
-use Rattle.xc_search.proofs.paths.Numbers.{number_at}
+use Rattle.xc_search.proofs.listing.BranchLists.{number_at}
 use Rattle.xc_search.proofs.listing.Unrolled.{listing_at}
 use Rattle.xc_search.proofs.residual.BranchItemLeft.{no_moves_leave_all}
 use Rattle.xc_search.proofs.stacked.NextLevel.{members_all}

@@ -8,7 +8,7 @@ use Rattle.xc_input.proofs.lists.Members.{each_in}
 use Rattle.xc_search.specs.Residuals.{wanted_at}
 use Rattle.xc_search.specs.inner.Residual.{residual_of}
 use Rattle.xc_search.specs.inner.Levels.{IsNext, MayBranch, IsDeadEnd, IsEarlyChoice}
-use Rattle.xc_search.proofs.parts.OneBranch.{dead_end}
+use Rattle.xc_search.proofs.listing.DeadEnds.{dead_end}
 use Rattle.xc_search.proofs.residual.BranchItemLeft.{counts_same}
 use Rattle.xc_search.proofs.stacked.NextLevel.{open_in, choice_next}
 

@@ -1,5 +1,5 @@
 -- The steps of the search's loop.
-use Rattle.std.proofs.Common.{ℕ, ◌≡◌, ◌+◌, ◌-◌, ◌<◌, ◌≤◌, Bool, true, false, List, ◌∷◌, length, drop, refl}
+use Rattle.std.proofs.Common.{ℕ, ◌≡◌, ◌+◌, ◌-◌, ◌<◌, ◌≤◌, Bool, true, false, List, [], ◌∷◌, length, drop, refl}
 use Rattle.std.proofs.Common.{sym, ap, ◌∙◌, arith, subst, ap₂, length-drop, drop-drop}
 use Rattle.xc_dance.specs.declared.dance.Move.{Move}
 use Rattle.xc_search.specs.declared.level.Level.{Level}
@@ -21,13 +21,14 @@ use Rattle.xc_search.proofs.stacked.Depth.{shallower}
 use Rattle.xc_search.specs.inner.Levels.{after_branch}
 use Rattle.xc_search.proofs.stacked.NextLevel.{ext_whole, ext_after_spend}
 use Rattle.xc_search.specs.inner.Paths.{KeepsPath, AreLed, IsBranchItem}
-use Rattle.xc_search.proofs.paths.Led.{led_begun}
+use Rattle.xc_search.proofs.stacked.Led.{led_begun}
 use Rattle.xc_search.specs.inner.Ahead.{work_left}
 use Rattle.xc_search.specs.inner.Residual.{residual_of}
 use Rattle.xc_search.specs.Residuals.{wanted_at}
-use Rattle.xc_search.proofs.parts.OneBranch.{none_listed}
-use Rattle.xc_search.proofs.paths.Settled.{goes_behind}
+use Rattle.xc_search.proofs.listing.DeadEnds.{none_listed}
 use Rattle.xc_search.proofs.stacked.PassedOver.{stands_behind}
+use Rattle.xc_search.proofs.stacked.LessWork.{some_work}
+use Rattle.xc_search.specs.Listing.{listing}
 
 pub GoesOn-trans : (d e f : Dancing) (ls ks js : Levels) (x y z : Bool) → GoesOn d ls x e ks y → GoesOn e ks y f js z
     → GoesOn d ls x f js z
@@ -119,6 +120,12 @@ enters_first {d} {e} {ls} {i} {n} {l} o f ks b ef entered ek =
     let enters = goes_on_to d e f ls (with_level l ls) ks _ _ l.item b.place down.0 (omega (arith, down.1, work))
     next.0 in
     rw (← item) (enters, λ first u a. next.1 u (rw (down.2, same) first) (rw (down.2, same) a))
+
+-- where what is left has no solution
+goes_behind : (d e : Dancing) (ls : Levels) → e ≡ d → IsStanding d.puzzle d.trail ls.levels true
+    → listing (residual_of d.puzzle d.trail) ≡ [] →
+    GoesOn d ls true e ls false × (visits e.puzzle e.trail ls.levels < ahead d.puzzle d.trail ls.levels true)
+goes_behind d e ls same s none = grind (arith, stands_behind, some_work)
 
 -- a level without branches ends at once, in the state before
 pub passes_over : {d e : Dancing} {ls : Levels} {i n : ℕ} {l : Level} → Opens d e ls i n l → (f : Dancing) → n ≡ 0

@@ -1,15 +1,14 @@
 -- A search that goes on over many members.
-use Rattle.std.proofs.Common.{ℕ, zero, suc, ◌≡◌, ◌+◌, ◌<◌, ◌≤◌, Bool, true, false, List, [], ◌∷◌, ◌++◌, length, drop}
+use Rattle.std.proofs.Common.{ℕ, zero, suc, ◌≡◌, ◌+◌, ◌<◌, ◌≤◌, Bool, true, false, List, [], ◌∷◌, length, drop}
 use Rattle.std.proofs.Common.{min, refl, sym, ap, ◌∙◌, arith, subst, ltb-true, ltb-false, ◌≢◌}
 use Rattle.std.proofs.lemmas.Grind.{common_steps}
-use Rattle.std.proofs.lemmas.List.{drop-map, map-id}
 use Rattle.xc_search.specs.declared.choice.Choice.{Choice}
 use Rattle.xc_dance.specs.Dancing.{Dancing}
 use Rattle.xc_search.specs.Outlook.{Outlook, shown_after}
 use Rattle.xc_input.specs.Problem.{Puzzle}
 use Rattle.xc_dance.specs.declared.dance.Move.{Move}
 use Rattle.xc_search.specs.declared.level.Level.{Level}
-use Rattle.xc_search.specs.inner.Levels.{Levels, IsStanding, coming, behind, choices_of}
+use Rattle.xc_search.specs.inner.Levels.{Levels, IsStanding, coming, choices_of}
 use Rattle.xc_search.specs.inner.Ahead.{IsSolved, StandsOver, EndsOver, WentOver, WentPast, Passed}
 use Rattle.xc_search.proofs.stacked.NextLevel.{solution}
 use Rattle.xc_search.proofs.Cases.{by_number}
@@ -76,14 +75,12 @@ pub went_past : {d e : Dancing} {ls ks : Levels} (down : Bool) {many more : ℕ}
 went_past true n has ends = grind arith
 went_past false n has ends = grind (arith, solution)
 
--- a member is shown behind the choices before it
-shown_behind : (n : ℕ) (before : List Choice) (ms : List (List Choice)) (s t : List Choice) → 0 < n → n ≤ length ms →
-    shown_after n (behind before ms) s ≡ before ++ shown_after n ms t
-shown_behind zero before ms s t h k = absurd (omega (arith, h))
-shown_behind (suc n) before [] s t h k = absurd (omega (arith, k))
-shown_behind (suc zero) before (m ∷ ms) s t h k = refl
-shown_behind (suc (suc n)) before (m ∷ ms) s t h k = shown_behind (suc n) before ms (before ++ m) m (omega arith)
-    (omega (arith, k))
+-- a member is shown whatever was shown before
+shown_anyway : (n : ℕ) (ms : List (List Choice)) (s t : List Choice) → 0 < n → n ≤ length ms →
+    shown_after n ms s ≡ shown_after n ms t
+shown_anyway zero ms s t h k = absurd (omega (arith, h))
+shown_anyway (suc n) [] s t h k = absurd (omega (arith, k))
+shown_anyway (suc n) (m ∷ ms) s t h k = refl
 
 abbrev outlook : Dancing → Levels → Bool → Outlook
 outlook d ls down = record {
@@ -111,17 +108,7 @@ module _ {d e : Dancing} {ls ks : Levels} {down below : Bool} {many n : ℕ} (p 
         (λ h. let w = p.over (omega (arith, p.within, ltb-false n many h)) in
         grind (arith, stands_behind, p.searched))
 
--- what a search stands for behind the choices before its first level
-abbrev of_search : List Choice → List Choice → Outlook → Outlook
-of_search before shown w = record w { to_come = behind before w.to_come; shown = shown }
-
--- and after many more members, all of which were there
-pub search_over : (w v o : Outlook) (before shown : List Choice) (many : ℕ) → 0 < many → many ≤ length w.to_come
-    → v ≡ past many w → of_search before shown w ≡ o → of_search before (before ++ v.shown) v ≡ past many o
-search_over w v o before shown many some there was is = grind (arith, drop-map, shown_behind)
-
--- or were not
--- and where it begins, with no choices before
-pub search_begins : (w o : Outlook) (before shown : List Choice) → w ≡ o → o.shown ≡ [] → before ≡ [] → shown ≡ []
-    → of_search before shown w ≡ o
-search_begins w o before shown is none no_choices not_shown = grind (arith, map-id o.to_come)
+-- what a search stands for after many more members, all of which were there
+pub search_over : (w v o : Outlook) (shown : List Choice) (many : ℕ) → 0 < many → many ≤ length w.to_come
+    → v ≡ past many w → record w { shown = shown } ≡ o → record v { shown = v.shown } ≡ past many o
+search_over w v o shown many some there was is = grind (arith, shown_anyway)

@@ -145,10 +145,6 @@ abbrev pub coming : Puzzle → List Move → List Level → Bool → List (List 
 coming p t ls true = map (λ m. choices_of p ls ++ m) (listing (residual_of p t)) ++ to_give p t ls
 coming p t ls false = to_give p t ls
 
--- these members, with the choices before them
-abbrev pub behind : List Choice → List (List Choice) → List (List Choice)
-behind before ms = map (λ m. before ++ m) ms
-
 -- the levels stand, and what is left can be searched
 pub record IsStanding (p : Puzzle) (t : List Move) (ls : List Level) (down : Bool) : Type 0 where
   pub stacked : AreStacked p t ls

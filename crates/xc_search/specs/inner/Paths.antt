@@ -1,5 +1,5 @@
 -- No public clause cites this module. The paths that the levels of a search stand for.
-use Rattle.std.specs.Prelude.{ℕ, ◌-◌, ◌≡◌, Bool, true, List, [], ◌∷◌, Some, slice_get}
+use Rattle.std.specs.Prelude.{ℕ, ◌-◌, ◌≡◌, List, [], ◌∷◌, Some, slice_get}
 use Rattle.xc_dance.specs.declared.dance.Move.{Move}
 use Rattle.xc_search.specs.declared.level.Level.{Level}
 use Rattle.xc_input.specs.Problem.{Puzzle}
@@ -8,7 +8,7 @@ use Rattle.xc_search.specs.Residuals.{wanted_at}
 use Rattle.xc_dance.specs.Dancing.{Dancing}
 use Rattle.xc_search.specs.inner.Commits.{oldest}
 use Rattle.xc_search.specs.inner.Residual.{residual_of}
-use Rattle.xc_search.specs.inner.Levels.{Levels, AreStacked, branches_at, chosen, coming}
+use Rattle.xc_search.specs.inner.Levels.{Levels, branches_at, chosen}
 
 -- item i is the branch item of what the moves leave
 abbrev pub IsBranchItem : Puzzle → List Move → ℕ → Type 0
@@ -27,18 +27,7 @@ abbrev pub AreLed : Puzzle → List Move → List Move → List Level → Type 0
 AreLed p u t [] = t ≡ u
 AreLed p u t (l ∷ ls) = IsLed p t l × AreLed p u (oldest l.mark t) ls
 
--- the moves on which the levels were begun
-abbrev pub ground : List Move → List Level → List Move
-ground t [] = t
-ground t (l ∷ ls) = ground (oldest l.mark t) ls
-
 -- Where levels ls led to state d, levels ks lead to state e from the same moves.
 abbrev pub KeepsPath : Dancing → Levels → Dancing → Levels → Type 0
 KeepsPath d ls e ks =
     (u : List Move) → AreLed d.puzzle u d.trail ls.levels → AreLed e.puzzle u e.trail ks.levels
-
--- It reached a part: what state e leaves wasn't looked at yet, and comes next.
-pub record IsPart (d : Dancing) (ls : Levels) (down : Bool) (e : Dancing) (ks : Levels) : Type 0 where
-  pub still : (e ≡ record d { trail = e.trail }) × (ks ≡ record ls { levels = ks.levels })
-  pub stacked : AreStacked e.puzzle e.trail ks.levels
-  pub members : coming d.puzzle d.trail ls.levels down ≡ coming e.puzzle e.trail ks.levels true

@@ -2,7 +2,7 @@ use Rattle.xc_search.proofs.stacked.BackAtLevel.{finished}
 use Rattle.std.proofs.Common.{◌<◌, ◌∷◌, drop, false, arith}
 use Rattle.xc_search.specs.inner.Levels.{AreStacked}
 use Rattle.xc_search.specs.inner.Ahead.{GoesOn, visits}
-use Rattle.xc_search.proofs.paths.Led.{keeps_back}
+use Rattle.xc_search.proofs.stacked.Led.{keeps_back}
 use Rattle.xc_search.proofs.stacked.LoopSteps.{GoesOn-trans, goes_on_to}
 use Rattle.xc_search.proofs.levels.resume.Goals as goal
 use Rattle.xc_search.proofs.levels.resume.Goals.{In-Some, After-pop}

@@ -1,5 +1,4 @@
 use Rattle.std.proofs.Common.{arith}
-use Rattle.xc_search.proofs.stacked.PassedOver.{search_begins}
 use Rattle.xc_search.proofs.completeness.Covering.{each_member_covers}
 use Rattle.xc_search.proofs.completeness.Exactly.{each_cover_is_listed_once}
 use Rattle.xc_search.proofs.search.Search.new.Goals as goal
@@ -11,4 +10,4 @@ pub returns-in_default-clause-complete : goal.returns-in_default-clause-complete
 returns-in_default-clause-complete g c = each_cover_is_listed_once c.args.problem.now.puzzle c.most_levels.ensures.valid
 
 pub returns-in-Ok-new-clause-begun : goal.returns-in-Ok-new-clause-begun
-returns-in-Ok-new-clause-begun g c = grind (arith, search_begins)
+returns-in-Ok-new-clause-begun g c = grind (arith)

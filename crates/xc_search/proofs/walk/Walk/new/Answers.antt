@@ -6,11 +6,13 @@ use Rattle.xc_search.proofs.completeness.Covering.{each_member_covers}
 use Rattle.xc_search.proofs.completeness.Exactly.{each_cover_is_listed_once}
 use Rattle.xc_search.proofs.walk.Walk.new.Goals as goal
 
-pub from-requires-clause-standing : goal.from-requires-clause-standing
-from-requires-clause-standing g c =
-    starts_standing _ c.most_levels.ensures.valid _ _ _
+pub invariant_of-result : goal.invariant_of-result
+invariant_of-result g c =
+    let standing = starts_standing _ c.most_levels.ensures.valid _ _ _
     (ap (λ (s : Dancing). s.puzzle) c.new-2.ensures ∙ c.requires.same)
-    (ap (λ (s : Dancing). s.trail) c.new-2.ensures ∙ c.requires.none) (ap (λ (s : Levels). s.levels) c.in-Ok.ensures)
+    (ap (λ (s : Dancing). s.trail) c.new-2.ensures ∙ c.requires.none)
+    (ap (λ (s : Levels). s.levels) c.in-Ok.ensures) in
+    grind (arith, standing)
 
 pub returns-clause-begun : goal.returns-clause-begun
 returns-clause-begun g c = grind (arith, starts_coming)

@@ -1,16 +1,12 @@
 -- The levels of a search lead to where it stands.
-use Rattle.std.proofs.Common.{◌≡◌, List, [], ◌∷◌, drop, arith}
+use Rattle.std.proofs.Common.{◌≡◌, List, ◌∷◌, drop, arith}
 use Rattle.xc_dance.specs.declared.dance.Move.{Move}
 use Rattle.xc_search.specs.declared.level.Level.{Level}
 use Rattle.xc_input.specs.Problem.{Puzzle}
 use Rattle.xc_dance.specs.Dancing.{Dancing}
 use Rattle.xc_search.specs.inner.Commits.{oldest}
 use Rattle.xc_search.specs.inner.Levels.{Levels, IsBegun}
-use Rattle.xc_search.specs.inner.Paths.{AreLed, KeepsPath, IsBranchItem, ground}
-
-pub led_ground : (p : Puzzle) (u t : List Move) (ls : List Level) → AreLed p u t ls → ground t ls ≡ u
-led_ground p u t [] a = a
-led_ground p u t (l ∷ ls) a = led_ground p u (oldest l.mark t) ls a.1
+use Rattle.xc_search.specs.inner.Paths.{AreLed, KeepsPath, IsBranchItem}
 
 -- a branch was begun
 pub led_begun : (p : Puzzle) (u t s : List Move) (l k : Level) (ls : List Level) → IsBegun p t l s k

@@ -1,17 +1,16 @@
--- The listing of what is left where its first item is to be held once and one option holds it.
+-- The listing of what is left where an item has no branches.
 use Rattle.std.proofs.Common.{ℕ, ◌≡◌, ◌<◌, ◌≤◌, true, List, [], ◌∷◌, length, map, filter, Some}
-use Rattle.std.proofs.Common.{refl, sym, ap, ◌∙◌, arith, subst, ◌⊎◌, inl, inr, ltb-true, ltb-false, lt-ltb, le-leb}
-use Rattle.std.proofs.Common.{◌≢◌, not, eqb, ne_eqb, append-nil}
+use Rattle.std.proofs.Common.{refl, sym, ap, ◌∙◌, arith, ◌⊎◌, inl, inr, ltb-true, ltb-false, lt-ltb, le-leb}
+use Rattle.std.proofs.Common.{◌≢◌, not, eqb, ne_eqb}
 use Rattle.std.specs.Prelude.{nat_lt, flat_map}
 use Rattle.std.specs.List.{AllByRecursion, best_of}
-use Rattle.xc_search.specs.declared.choice.Choice.{Choice}
 use Rattle.xc_input.specs.Problem.{Numbered, holds, holding}
 use Rattle.xc_search.specs.Listing.{Wanted, Residual, Branch, branch_count, branch_item, spend_one, pick, none}
 use Rattle.xc_search.specs.Listing.{branches_of, level, listing}
 use Rattle.xc_input.proofs.lists.Filters.{filter_swap, length-filter-le}
 use Rattle.xc_input.proofs.lists.Members.{IsIn, in-filter, filter-in, map-in, each_in, each_from}
 use Rattle.xc_search.proofs.completeness.Proper.{goes_on}
-use Rattle.xc_search.proofs.listing.BranchesLess.{less_options, least_is_one}
+use Rattle.xc_search.proofs.listing.BranchesLess.{less_options}
 use Rattle.xc_search.proofs.listing.EachBranch.{behind, IsBranchOf, takes_one, takes_none, in-branches}
 use Rattle.xc_search.proofs.listing.Unrolled.{listing_unrolled}
 
@@ -92,31 +91,3 @@ dead_end r w v k sound e same =
     lists_none (takes_none n free) =
         let other : v.item ≢ w.item = λ q. absurd (omega (arith, e, free, ap (λ (z : Wanted). z.low) (same q))) in
         let short = still_without r w.item v k other e in none_listed (none r w.item) v short.0 short.1
-
--- ---- one branch
-
--- the choice of the one branch
-abbrev pub only_choice : ℕ → Numbered → Choice
-only_choice i x = record { item = i; option = Some x.number; k = 1; n = 1 }
-
-pub one_branch : (r : Residual) (w : Wanted) (ws : List Wanted) (x : Numbered) → r.items ≡ w ∷ ws → w.low ≡ 1
-    → holding w.item r.options ≡ x ∷ [] → ((v : Wanted) → IsIn r.items v → v.low ≤ v.high) →
-    listing r ≡ map (λ m. only_choice w.item x ∷ m) (listing (pick r w.item x))
-one_branch r w ws x first low held sound = grind (arith, listing_unrolled, by_best, best_first)
-  where
-    one : branch_count r w ≡ 1
-    one = omega (arith, low, ap length held)
-
-    by_best : (best (branch_count r) w ws ≡ w) ⊎ (branch_count r (best (branch_count r) w ws) < branch_count r w)
-        → level listing (Some (best (branch_count r) w ws)) r ≡ map (λ m. only_choice w.item x ∷ m)
-        (listing (pick r w.item x))
-    by_best (inl q) = rw (q, low, held) (append-nil _)
-    by_best (inr less) =
-        let z = best (branch_count r) w ws in
-        let none_left : branch_count r z ≡ 0 = omega (arith, one, less) in
-        let known = subst (λ vs. IsIn vs z) (sym first) (least_is_one (branch_count r) (w ∷ ws) z refl) in
-        let short =
-        still_short r w.item x z (subst (λ os. IsIn os x) (sym held) (inl refl)) known (sound z known) none_left in
-        ap (flat_map (behind listing)) (no_branches r z none_left)
-        ∙ sym (ap (map (λ m. only_choice w.item x ∷ m))
-        (none_listed (pick r w.item x) (spend_one x z) short.0 short.1))

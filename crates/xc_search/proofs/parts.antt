@@ -1,7 +1,0 @@
-pub mod Covers
-pub mod Fronts
-pub mod InOrder
-pub mod Listed
-pub mod Numbers
-pub mod OneBranch
-pub mod Renumbered
