@@ -18,6 +18,8 @@ pub(crate) const FAILED: u8 = 3;
 pub(crate) const NO_MEMORY: u8 = 4;
 /// Some solution is not a cover.
 pub(crate) const NOT_ALL_COVERS: u8 = 5;
+/// The ends of spans don't meet.
+pub(crate) const GAP: u8 = 5;
 /// The search has no path with these numbers.
 pub(crate) const NO_PATH: u8 = 5;
 /// There are as many parts as a plan may have.
