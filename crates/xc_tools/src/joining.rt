@@ -1,6 +1,6 @@
 //! A whole run that joins the texts of spans.
 
-use crate::span_files::Located;
+use crate::span_source::Located;
 use crate::span_lines::{Act, Joint, Refusal, put_word};
 use crate::status::{
     BAD_INPUT, BAD_WORDS, COMPLETE, FAILED, GAP, NO_MEMORY, flush_and_refuse, out_of_memory, refuse,

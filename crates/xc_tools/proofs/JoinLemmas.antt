@@ -1,0 +1,5 @@
+-- What the lines of the texts of spans come to.
+pub mod SpanWords
+pub mod SpanRuns
+pub mod SpanLines
+pub mod Chains
