@@ -3,3 +3,6 @@ pub mod SpanWords
 pub mod SpanRuns
 pub mod SpanLines
 pub mod Chains
+pub mod Ends
+pub mod Reading
+pub mod Stopped

@@ -2,3 +2,4 @@
 pub mod WholeTexts
 pub mod TakenAnswers
 pub mod SpanLines
+pub mod Joining

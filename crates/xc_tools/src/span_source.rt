@@ -1,42 +1,14 @@
 //! Files that are read one after another, or standard input.
+ghost use Rattle.std.specs.Prelude.{◌≤◌, length, IfOk};
 
 use crate::incoming::Incoming;
+use crate::located::{Located, Place};
 use crate::system::System;
 use std::alloc::{AllocError, Global};
 use std::fs::{self, Files};
 use std::io::{self, Read};
 use std::str;
-use xc_input::{Feed, Seed, SliceSource, Source};
-
-/// A line of a text that was read from some place.
-#[derive(Clone, Copy)]
-pub struct Place<'a> {
-    /// The file's name, where the text is a file's.
-    pub file: Option<&'a [u8]>,
-    /// The line in it, from 1.
-    pub line: u64,
-}
-
-/// A source that tells from which place a line came.
-pub trait Located: Source {
-    /// The place of the line with this number, from 1, among all lines that were read, or of the end of the
-    /// file in which the line `begun` stands, where that is another file.
-    fn place(&self, begun: u64, line: u64) -> Place<'_>;
-}
-
-/// A text in memory is one place.
-impl<'a> Located for Feed<'a> {
-    fn place(&self, _begun: u64, line: u64) -> Place<'_> {
-        Place { file: None, line }
-    }
-}
-
-/// A text in memory is one place.
-impl<'a> Located for SliceSource<'a> {
-    fn place(&self, _begun: u64, line: u64) -> Place<'_> {
-        Place { file: None, line }
-    }
-}
+use xc_input::Seed;
 
 /// How many line feeds were read up to a file's end, and whether its last line has none.
 #[derive(Clone, Copy)]
@@ -107,7 +79,9 @@ impl<'a, R: Files, I: Read + Drop> SpanFiles<'a, R, I> {
     }
 
     /// Reads from the open file, and closes it at its end.
-    fn read_open(&mut self, buf: &mut [u8]) -> io::Result<usize> {
+    fn read_open(&mut self, buf: &mut [u8]) -> io::Result<usize>
+        ensures { IfOk result (λ n. n ≤ length buf.new) }
+    {
         let Some(file) = &mut self.file else {
             return Ok(0);
         };

@@ -103,10 +103,10 @@ gap-span a false finished row n s ls h e =
 
 -- ---- members before a row
 
-abbrev so_far : Puzzle → List ℕ → List (List Choice)
+abbrev pub so_far : Puzzle → List ℕ → List (List Choice)
 so_far p row = between p [] (Some row)
 
-so_far-none : (p : Puzzle) → so_far p [] ≡ []
+pub so_far-none : (p : Puzzle) → so_far p [] ≡ []
 so_far-none p = keep_none _ (members p) (each_of_all _ (members p) (λ m. refl))
 
 so_far-rest : (p : Puzzle) (row : List ℕ) → so_far p row ++ between p row None ≡ members p
@@ -140,13 +140,13 @@ IsEarly faulty = ⊥
 IsEarly (apart m n) = Unit {0}
 
 -- what is listed up to some row, this and perhaps more is the whole
-abbrev IsBegun : Named → Bool → List ℕ → List ℕ → Type 0
+abbrev pub IsBegun : Named → Bool → List ℕ → List ℕ → Type 0
 IsBegun a listed row text = (tail : List ℕ)
     × (listed_part listed a 0 (so_far a.puzzle row) ++ (text ++ tail) ≡ listed_part listed a 0 (members a.puzzle))
 
 -- Spans from a row on meet, and these lines led to the listing's end and its whole text; or they don't, and a beginning
 -- was written.
-abbrev Outcome : Named → Bool → List ℕ → List Span → Stand → List ℕ → Type 0
+abbrev pub Outcome : Named → Bool → List ℕ → List Span → Stand → List ℕ → Type 0
 Outcome a listed row spans st text =
     (DoMeet row spans × (st ≡ goes (rest_at listed true [] (length (members a.puzzle))))
     × (listed_part listed a 0 (so_far a.puzzle row) ++ text ≡ listed_part listed a 0 (members a.puzzle)))
@@ -291,7 +291,7 @@ module _ (a : Named) (listed : Bool) where
       dash_or_digits n u short.0 short.1 ((bytes_eq-Decides (row_text (n ∷ u)) (codes "-")).0 q)) in
       behind-span s spans n u e all _ _ (rw inside (later n u k short count))
 
-  chain : (spans : List Span) (row : List ℕ) (j : ℕ) → AllByRecursion (IsSpan a) spans → AreShort row
+  pub chain : (spans : List Span) (row : List ℕ) (j : ℕ) → AllByRecursion (IsSpan a) spans → AreShort row
       → j ≡ length (so_far a.puzzle row)
       → Outcome a listed row spans (after (goes (rest_at listed false row j)) (all_lines a listed spans))
       (wrote (goes (rest_at listed false row j)) (all_lines a listed spans))

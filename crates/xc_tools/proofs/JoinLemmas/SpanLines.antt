@@ -102,7 +102,7 @@ module _ (a : Named) (sound : IsSound a) where
   whole-choices [] all = tt
   whole-choices (c ∷ m) all = (free-choice c all.0, whole-choices m all.1)
 
-whole-append : (ls ms : List (List ℕ)) → AreWhole ls → AreWhole ms → AreWhole (ls ++ ms)
+pub whole-append : (ls ms : List (List ℕ)) → AreWhole ls → AreWhole ms → AreWhole (ls ++ ms)
 whole-append [] ms p q = q
 whole-append (l ∷ ls) ms p q = (p.0, whole-append ls ms p.1 q)
 
