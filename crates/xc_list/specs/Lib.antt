@@ -5,6 +5,7 @@ pub mod Messages
 pub mod Output
 pub mod Runs
 pub mod Settings
+pub mod SpanTexts
 pub mod Texts
 pub mod Worked
 pub mod inner

@@ -1,3 +1,4 @@
+pub mod JoinLemmas
 pub mod JudgeLemmas
 pub mod RunLemmas
 pub mod StreamLemmas

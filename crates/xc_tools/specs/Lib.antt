@@ -1,5 +1,6 @@
 pub mod Errors
 pub mod Given
+pub mod Joins
 pub mod Judges
 pub mod Solves
 pub mod Streams

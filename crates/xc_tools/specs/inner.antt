@@ -1,3 +1,5 @@
 -- What only contracts of private functions cite: how a whole text is read.
 pub mod WholeTexts
 pub mod TakenAnswers
+pub mod SpanLines
+pub mod Joining

@@ -40,6 +40,16 @@ impl<R: Read + Drop> Incoming<System<R>> {
     }
 }
 
+impl<R: Read + Drop> Incoming<System<R>> {
+    /// The reader of std, where there is one.
+    pub(crate) fn stream(&self) -> Option<&R> {
+        match &self.reader {
+            Some(reader) => Some(reader.stream()),
+            None => None,
+        }
+    }
+}
+
 impl<R: SystemReader + Drop> Incoming<R> {
     /// The same of any reader.
     pub fn over(reader: Option<R>, seed: Seed) -> Incoming<R>

@@ -19,7 +19,7 @@ use xc_input::{Kind, Problem, Read, Source, read_problem};
 use xc_list::{End, Sink, Words, run, summary, warnings, word_fault};
 
 /// Flushes the output, and tells the end of a complete run.
-fn finish<O: Sink, E: Sink>(end: &End, out: &mut O, err: &mut E) -> u8
+pub(crate) fn finish<O: Sink, E: Sink>(end: &End, out: &mut O, err: &mut E) -> u8
     ensures kept { Keeps (O.state out.old).taken (O.state out.new).taken }
     ensures flushed_once { (O.state out.new).flushes ≡ (O.state out.old).flushes + 1 }
     ensures did { ((result ≡ 0) × ((O.state out.new).failures ≡ (O.state out.old).failures)

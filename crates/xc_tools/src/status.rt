@@ -18,6 +18,8 @@ pub(crate) const FAILED: u8 = 3;
 pub(crate) const NO_MEMORY: u8 = 4;
 /// Some solution is not a cover.
 pub(crate) const NOT_ALL_COVERS: u8 = 5;
+/// The ends of spans don't meet.
+pub(crate) const GAP: u8 = 5;
 
 /// Writes a line in place of the last one, as far as that goes, and gives its status.
 pub(crate) fn refuse<E: Sink>(status: u8, text: &[u8], err: &mut E) -> u8

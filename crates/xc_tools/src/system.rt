@@ -84,6 +84,11 @@ impl<T: Drop> System<T> {
         }
     }
 
+    /// The stream.
+    pub(crate) fn stream(&self) -> &T {
+        &self.stream
+    }
+
     /// Counts a call.
     fn count(&mut self, answer: Answer)
         ensures stream { self.new.stream ≡ self.old.stream }

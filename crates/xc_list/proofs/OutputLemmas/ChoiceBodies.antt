@@ -49,7 +49,7 @@ pub record IsTold (p : Named) (i : ℕ) (o : Option ℕ) : Type 0 where
       (λ j. (is_known p (body_words p i o) ≡ true) × (stands_for p (body_words p i o) j ≡ true))
 
 module _ (p : Named) (sound : IsSound p) where
-  plain-name : (i : ℕ) → IsItem p.puzzle i → IsPlain (bytes_at p.names i)
+  pub plain-name : (i : ℕ) → IsItem p.puzzle i → IsPlain (bytes_at p.names i)
   plain-name i item =
       let within : i ≤ length p.names = omega (arith, item.1, sound.named.count) in
       let unbroken = at_bytes IsUnbroken p.names i item.0 within sound.named.unbroken_names in
@@ -63,7 +63,7 @@ module _ (p : Named) (sound : IsSound p) where
       let unbroken = at_bytes IsUnbroken p.colours (suc c) (omega arith) h sound.named.unbroken_colours in
       rw (colour_text-some p.colours (suc c) (omega arith)) (unbroken.no_space, unbroken.no_feed)
 
-  plain-use : (u : Use) → IsKnownUse p u → IsPlain (use_word p u)
+  pub plain-use : (u : Use) → IsKnownUse p u → IsPlain (use_word p u)
   plain-use u known =
       let colour = plain-colour u.colour known.1 in
       plain-append _ (colour_text p.colours u.colour) (plain-name u.item known.0) colour.0 colour.1

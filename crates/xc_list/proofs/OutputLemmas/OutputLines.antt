@@ -45,14 +45,14 @@ body-spaced : (p : Named) (i : ℕ) (o : Option ℕ) → body_text p i o ≡ spa
 body-spaced p i (Some o) = sym (flat_map-map (λ w. 32 ∷ w) (use_word p) (from_item i (uses_of p.puzzle o)))
 body-spaced p i None = ap (λ t. codes " null " ++ t) (sym (append-nil (bytes_at p.names i)))
 
-choice-ended : (p : Named) (c : Choice) → choice_text p c ≡ choice_line p c ++ 10 ∷ []
+pub choice-ended : (p : Named) (c : Choice) → choice_text p c ≡ choice_line p c ++ 10 ∷ []
 choice-ended p c = grind (arith, body-spaced, flat_map-append, append_assoc, append-nil)
 
 choices-ended : (p : Named) (m : List Choice) → flat_map (choice_text p) m ≡ ended (map (choice_line p) m)
 choices-ended p [] = refl
 choices-ended p (c ∷ m) = grind (arith, choice-ended, append_assoc, choices-ended p m)
 
-member-ended : (p : Named) (nm : ℕ × List Choice) → member_text p nm ≡ ended (member_lines p nm)
+pub member-ended : (p : Named) (nm : ℕ × List Choice) → member_text p nm ≡ ended (member_lines p nm)
 member-ended p nm = grind (arith, append_assoc, choices-ended)
 
 module _ (p : Named) (sound : IsSound p) (none : All (λ n. n ≢ codes "null") p.names) where

@@ -33,7 +33,7 @@ digits_read : IsNumeralModel (λ ds. list_all is_ascii_digit ds ≡ true) (value
 digits_read = numerals_by_fold _ (search rules) value_from (search rules)
 
 -- a number below 10 ^ k has at most k digits
-are_digits-decimal : (k n : ℕ) → 0 < k → n < 10 ^ k → n < 2 ^ 64 → are_digits k (decimal n) ≡ true
+pub are_digits-decimal : (k n : ℕ) → 0 < k → n < 10 ^ k → n < 2 ^ 64 → are_digits k (decimal n) ≡ true
 are_digits-decimal k n h l m = grind (arith, decimal_nonempty, length-decimal-le, digits_decimal, digits_read)
 
 lacks : (p q : ℕ → Bool) → ((b : ℕ) → p b ≡ true → q b ≡ false) → (bs : List ℕ) → list_all p bs ≡ true
@@ -43,7 +43,7 @@ lacks p q apart (b ∷ bs) h = grind (arith, nat_tests, apart b, lacks p q apart
 
 -- ---- headers
 
-before_last-last : (b : ℕ) (front : List ℕ) → before_last b (front ++ b ∷ []) ≡ Some front
+pub before_last-last : (b : ℕ) (front : List ℕ) → before_last b (front ++ b ∷ []) ≡ Some front
 before_last-last b front = grind (arith, nat_tests, last_byte)
 
 pub read-header : (n : ℕ) → n < 2 ^ 64 → read (decimal n ++ codes ":") ≡ Header n

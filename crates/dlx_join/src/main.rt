@@ -1,0 +1,36 @@
+//! Joins the texts of spans: `dlx-join m0|m1 [FILE..]`.
+#![tactic(auto)]
+
+use std::alloc::AllocError;
+use std::io::IsTerminal;
+use std::process::ExitCode;
+use xc_tools::{
+    Direct, Outgoing, asked_join, closed_stream, join_spans, out_of_memory, random_seed,
+    span_files, words,
+};
+
+fn main(rt: HostRuntime) -> ExitCode {
+    ExitCode::from(run(&rt).unwrap_or_else(|_| out_of_memory(&mut Direct::new(rt.stderr()))))
+}
+
+/// Joins the texts of the named files or of standard input, and gives the status. Right words are followed by
+/// a look at the standard streams: a file would take the number of a closed one.
+fn run(rt: &HostRuntime) -> Result<u8, AllocError> {
+    let mut out = Outgoing::new(rt.alloc(), rt.stdout(), rt.stdout().is_terminal())?;
+    let mut err = Direct::new(rt.stderr());
+    let words = words(rt)?;
+    if asked_join(&words).is_some()
+        && let Some(status) = closed_stream(&rt.stdin(), &rt.stdout(), &rt.stderr(), &mut err)
+    {
+        return Ok(status);
+    }
+    let names = words.get(1..).unwrap_or(&[]);
+    let mut input = span_files(rt.alloc(), rt, names, rt.stdin(), random_seed(rt))?;
+    Ok(join_spans(
+        rt.alloc(),
+        &words,
+        &mut input,
+        &mut out,
+        &mut err,
+    ))
+}

@@ -1,0 +1,196 @@
+-- What is known of a text of spans once some of its lines were read.
+use Rattle.std.proofs.Common.{◌≡◌, ℕ, suc, ◌+◌, ◌-◌, ◌^◌, ◌<◌, ◌≤◌, ◌⊎◌, inl, inr, Bool, true, false, List, [], ◌∷◌, ◌++◌}
+use Rattle.std.proofs.Common.{Option, None, Some, length, flat_map, refl, sym, ap, ◌∙◌, arith, append_assoc, append-nil}
+use Rattle.std.proofs.Common.{min, nat_lt, subst, take, drop, filter, not, zero, length-append}
+use Rattle.std.specs.Prelude.{All, ◌==◌, ◌&&◌, ◌%◌, if◌then◌else◌}
+use Rattle.std.specs.List.{AllByRecursion, enumerate_from}
+use Rattle.std.proofs.lemmas.Bool.Decides.{nat_tests}
+use Rattle.std.proofs.lemmas.Grind.{common_steps}
+use Rattle.std.proofs.lemmas.List.Elements.{recursion_from_All}
+use Rattle.xc_input.proofs.lists.Members.{IsIn, each_from, in-filter}
+use Rattle.xc_input.specs.Named.{Named, IsSound}
+use Rattle.xc_input.specs.Words.{has}
+use Rattle.xc_input.specs.Lines.{lines_of}
+use Rattle.xc_input.specs.inner.EndedLines.{ended, AreWhole}
+use Rattle.xc_input.proofs.LineLemmas.TextLines.{lines_of-all, lines_of-ended, lines_of-part}
+use Rattle.xc_search.specs.declared.choice.Choice.{Choice}
+use Rattle.xc_search.specs.Cover.{members}
+use Rattle.xc_search.specs.Spans.{between}
+use Rattle.xc_list.specs.SpanTexts.{most_counted}
+use Rattle.xc_list.specs.Output.{is_printed, member_text, output}
+use Rattle.xc_list.specs.Runs.{end_of}
+use Rattle.xc_list.specs.declared.runs.End.{End}
+use Rattle.xc_list.specs.declared.runs.End.TheVariants.{Done, Limit}
+use Rattle.xc_tools.specs.Joins.{AreTexts, DoMeet, IsBeginning, IsSpan, Span, joined, members_of, text_of}
+use Rattle.xc_tools.specs.inner.SpanLines.{Join, Stand, goes, faulty, apart, after, start, step, wrote}
+use Rattle.xc_tools.proofs.JoinLemmas.SpanRuns.{after-append, listed_from, listed_part, rest_at, shown, span_lines}
+use Rattle.xc_tools.proofs.JoinLemmas.SpanRuns.{wrote-append}
+use Rattle.xc_tools.proofs.JoinLemmas.SpanLines.{ended-append, texts-ended, whole-append, whole-span}
+use Rattle.xc_tools.proofs.JoinLemmas.Chains.{IsEarly, all_lines, after-apart, chain, short-span, so_far-none}
+
+-- ---- the whole listing
+
+past_most : (n : ℕ) (a : Named) (ms : List (List Choice)) → most_counted ≤ n → listed_from a n ms ≡ []
+past_most n a [] h = refl
+past_most n a (m ∷ ms) h =
+    let high : nat_lt most_counted (n + 1) ≡ true = grind (arith, nat_tests) in
+    rw high (past_most (n + 1) a ms (omega (arith, h)))
+
+all_printed : (n : ℕ) → is_printed 1 n ≡ true
+all_printed n = grind (arith, nat_tests)
+
+abbrev printed_from : Named → ℕ → ℕ → List (List Choice) → List ℕ
+printed_from a n most ms =
+    flat_map (member_text a) (filter (λ nm. is_printed 1 nm.0) (enumerate_from n (take most ms)))
+
+from-printed : (a : Named) (ms : List (List Choice)) (n most : ℕ) → n + most ≡ most_counted
+    → listed_from a n ms ≡ printed_from a (n + 1) most ms
+from-printed a [] n zero e = refl
+from-printed a [] n (suc most) e = refl
+from-printed a (m ∷ ms) n zero e = past_most n a (m ∷ ms) (omega (arith, e))
+from-printed a (m ∷ ms) n (suc most) e =
+    let low : nat_lt most_counted (n + 1) ≡ false = grind (arith, nat_tests) in
+    rw (low, all_printed (n + 1)) (ap (λ t. member_text a (n + 1, m) ++ t) (from-printed a ms (n + 1) most
+    (omega (arith, e))))
+
+joined-is : (a : Named) (listed : Bool) → listed_part listed a 0 (members a.puzzle) ≡ joined a listed
+joined-is a true = from-printed a (members a.puzzle) 0 most_counted refl
+joined-is a false = refl
+
+start-is : (listed : Bool) → start listed ≡ rest_at listed false [] 0
+start-is true = refl
+start-is false = refl
+
+part-none : (listed : Bool) (a : Named) → listed_part listed a 0 [] ≡ []
+part-none true a = refl
+part-none false a = refl
+
+after-faulty : (ls : List (List ℕ)) → after faulty ls ≡ faulty
+after-faulty [] = refl
+after-faulty (l ∷ ls) = after-faulty ls
+
+-- parts of what stands
+abbrev found_in : Stand → Option ℕ
+found_in (goes s) = s.found
+found_in faulty = None
+found_in (apart m n) = None
+
+abbrev finished_in : Stand → Bool
+finished_in (goes s) = s.finished
+finished_in faulty = false
+finished_in (apart m n) = false
+
+abbrev total_in : Stand → ℕ
+total_in (goes s) = s.total
+total_in faulty = 0
+total_in (apart m n) = 0
+
+-- how a run ends over so many
+pub end_of-total : (a : Named) (total : ℕ) → total ≡ min most_counted (length (members a.puzzle))
+    → (if total == most_counted then Limit total else Done total) ≡ end_of a most_counted
+end_of-total a total e = grind (arith, nat_tests)
+
+-- ---- lines of texts
+
+module _ (a : Named) (listed : Bool) (sound : IsSound a) where
+  whole-texts : (spans : List Span) → AllByRecursion (IsSpan a) spans → AreWhole (all_lines a listed spans)
+  whole-texts [] each = tt
+  whole-texts (s ∷ spans) each =
+      whole-append (span_lines a listed s) (all_lines a listed spans)
+      (whole-span a sound listed s (short-span a s each.0) (each_from _ _ (λ m i. (in-filter _ _ m i).0)))
+      (whole-texts spans each.1)
+
+module _ (a : Named) (listed : Bool) (sound : IsSound a) (spans : List Span) (text : List ℕ)
+    (are : AreTexts a listed spans text) where
+  each : AllByRecursion (IsSpan a) spans
+  each = recursion_from_All (IsSpan a) spans are.each
+
+  text-is : text ≡ ended (all_lines a listed spans)
+  text-is = sym are.whole ∙ texts-ended a listed spans
+
+  -- the lines that begin a text are its first lines
+  pub first-lines : (ls : List (List ℕ)) (rest : List ℕ) → AreWhole ls → text ≡ ended ls ++ rest
+      → all_lines a listed spans ≡ ls ++ lines_of rest
+  first-lines ls rest whole e =
+      sym (lines_of-all (all_lines a listed spans) (whole-texts a listed sound spans each))
+      ∙ ap lines_of (sym text-is ∙ e) ∙ lines_of-ended ls rest whole
+
+  -- a text ends behind a line feed
+  pub no-rest : (ls : List (List ℕ)) (rest : List ℕ) → AreWhole ls → has 10 rest ≡ false → text ≡ ended ls ++ rest
+      → rest ≡ []
+  no-rest ls [] whole free e = refl
+  no-rest ls (b ∷ rest) whole free e =
+      let lines = first-lines ls (b ∷ rest) whole e in
+      let last = lines_of-part (b ∷ rest) free (omega arith) in
+      let two : ended ls ++ (b ∷ rest) ≡ ended ls ++ ended ((b ∷ rest) ∷ []) =
+      sym e ∙ text-is ∙ ap ended (lines ∙ ap (λ l. ls ++ l) last) ∙ ended-append ls ((b ∷ rest) ∷ []) in
+      absurd (omega (arith, ap length two, length-append (ended ls) (b ∷ rest),
+      length-append (ended ls) (ended ((b ∷ rest) ∷ [])), length-append (b ∷ rest) (10 ∷ [])))
+
+  outcome : (DoMeet [] spans × (after (goes (start listed)) (all_lines a listed spans)
+      ≡ goes (rest_at listed true [] (length (members a.puzzle))))
+      × (wrote (goes (start listed)) (all_lines a listed spans) ≡ joined a listed))
+      ⊎ ((DoMeet [] spans → ⊥) × IsEarly (after (goes (start listed)) (all_lines a listed spans))
+      × IsBeginning (wrote (goes (start listed)) (all_lines a listed spans)) (joined a listed))
+  outcome =
+      let none = so_far-none a.puzzle in
+      let front : listed_part listed a 0 (between a.puzzle [] (Some [])) ≡ [] =
+      ap (listed_part listed a 0) none ∙ part-none listed a in
+      rw (start-is listed) (elim (chain a listed spans [] 0 each tt (ap length (sym none))) [
+        | inl h ↦ inl (h.0, h.1, ap (λ t. t ++ wrote (goes (rest_at listed false [] 0)) (all_lines a listed spans)) (sym front) ∙ h.2 ∙ joined-is a listed)
+        | inr h ↦ inr (h.0, h.1, (h.2.0, ap (λ t. t ++ (wrote (goes (rest_at listed false [] 0)) (all_lines a listed spans) ++ h.2.0)) (sym front) ∙ h.2.1 ∙ joined-is a listed))
+      ])
+
+  -- ---- behind some of the lines
+  module _ (ls more : List (List ℕ)) (first : all_lines a listed spans ≡ ls ++ more) where
+    ends-in : after (goes (start listed)) (all_lines a listed spans) ≡ after (after (goes (start listed)) ls) more
+    ends-in = ap (after (goes (start listed))) first ∙ after-append (goes (start listed)) ls more
+
+    pub never-faulty : after (goes (start listed)) ls ≡ faulty → ⊥
+    never-faulty e =
+        let end = ends-in ∙ ap (λ z. after z more) e ∙ after-faulty more in
+        elim outcome [
+          | inl h ↦ absurd (cc (end, h.1))
+          | inr h ↦ absurd (subst IsEarly end h.1)
+        ]
+
+    pub never-meets : (m n : List ℕ) → after (goes (start listed)) ls ≡ apart m n → DoMeet [] spans → ⊥
+    never-meets m n e =
+        let end = ends-in ∙ ap (λ z. after z more) e ∙ after-apart m n more in
+        elim outcome [
+          | inl h ↦ absurd (cc (end, h.1))
+          | inr h ↦ h.0
+        ]
+
+    pub begins : IsBeginning (wrote (goes (start listed)) ls) (joined a listed)
+    begins =
+        let tail = wrote (after (goes (start listed)) ls) more in
+        let split : wrote (goes (start listed)) (all_lines a listed spans) ≡ wrote (goes (start listed)) ls ++ tail =
+        ap (wrote (goes (start listed))) first ∙ wrote-append (goes (start listed)) ls more in
+        elim outcome [
+          | inl h ↦ (tail, sym split ∙ h.2)
+          | inr h ↦ (tail ++ h.2.0, sym (append_assoc (wrote (goes (start listed)) ls) tail h.2.0)
+              ∙ ap (λ t. t ++ h.2.0) (sym split) ∙ h.2.1)
+        ]
+
+  -- behind all lines
+  module _ (s : Join) (e : after (goes (start listed)) (all_lines a listed spans) ≡ goes s) where
+    pub none-open : s.found ≡ None
+    none-open = elim outcome [
+      | inl h ↦ ap found_in (sym e ∙ h.1)
+      | inr h ↦ (subst IsEarly e h.1).0
+    ]
+
+    pub not-finished : s.finished ≡ false → DoMeet [] spans → ⊥
+    not-finished f = elim outcome [
+      | inl h ↦ absurd (cc (f, ap finished_in (sym e ∙ h.1)))
+      | inr h ↦ h.0
+    ]
+
+    pub finished : s.finished ≡ true → DoMeet [] spans
+        × (wrote (goes (start listed)) (all_lines a listed spans) ≡ joined a listed)
+        × (s.total ≡ min most_counted (length (members a.puzzle)))
+    finished f = elim outcome [
+      | inl h ↦ (h.0, h.2, ap total_in (sym e ∙ h.1))
+      | inr h ↦ absurd (cc (f, (subst IsEarly e h.1).1))
+    ]

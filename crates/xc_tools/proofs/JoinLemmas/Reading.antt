@@ -1,0 +1,216 @@
+-- Lines of spans' texts that are read one after another.
+use Rattle.std.proofs.Common.{◌≡◌, ℕ, ◌+◌, ◌-◌, ◌<◌, ◌≤◌, Bool, true, false, List, [], ◌∷◌, ◌++◌, Result, Ok, Err, Some, None}
+use Rattle.std.proofs.Common.{length, refl, sym, ap, ◌∙◌, arith, append_assoc, append-nil, subst, take, drop, length-append}
+use Rattle.std.specs.Prelude.{IfErr, nat_eq}
+use Rattle.std.proofs.lemmas.Bool.Decides.{nat_tests}
+use Rattle.std.proofs.lemmas.Grind.{common_steps}
+use Rattle.xc_input.specs.Words.{has}
+use Rattle.xc_input.specs.inner.EndedLines.{ended, AreWhole}
+use Rattle.xc_input.proofs.LineLemmas.TextLines.{lacks-append}
+use Rattle.xc_list.specs.Texts.{SinkState, Took, BrokeOff}
+use Rattle.xc_list.proofs.Writing.{then_broke, then_took, took_nothing}
+use Rattle.xc_tools.specs.declared.joining.Stop.{Stop}
+use Rattle.xc_tools.specs.declared.joining.Stop.TheVariants.{NotText, Gap, Device, Memory, WriteFailed}
+use Rattle.xc_tools.specs.declared.span_lines.Joint.{Joint}
+use Rattle.xc_tools.specs.declared.span_lines.Refusal.{Refusal}
+use Rattle.xc_tools.specs.declared.span_lines.Refusal.TheVariants as refusals
+use Rattle.xc_tools.specs.inner.SpanLines.{Join, Stand, goes, faulty, apart, after, by_line, join_of, start, step, wrote}
+use Rattle.xc_tools.specs.inner.SpanLines.{Refuses}
+use Rattle.xc_tools.specs.inner.Joining.{Adds, EndsAt, IsLast, StopsIn, StopsReading, reached, says_of, stop_of}
+use Rattle.xc_tools.specs.inner.Joining.{written}
+use Rattle.xc_input.specs.Pieces.{SourceState, Gave}
+use Rattle.std.proofs.Math.Seq.{take-append-add}
+use Rattle.std.proofs.lemmas.List.{length-take}
+use Rattle.xc_tools.proofs.JoinLemmas.SpanRuns.{after-append, wrote-append}
+use Rattle.xc_tools.proofs.JoinLemmas.SpanLines.{ended-append, whole-append}
+
+-- ---- one line more
+
+module _ (listed : Bool) (ls : List (List ℕ)) (line : List ℕ) (s : Join) (e : reached listed ls ≡ goes s) where
+  pub stands-more : reached listed (ls ++ line ∷ []) ≡ (by_line s line).0
+  stands-more = after-append (goes (start listed)) ls (line ∷ []) ∙ ap (λ z. (step z line).0) e
+
+  pub written-more : written listed (ls ++ line ∷ []) ≡ written listed ls ++ (by_line s line).1
+  written-more =
+      wrote-append (goes (start listed)) ls (line ∷ [])
+      ∙ ap (λ z. written listed ls ++ ((step z line).1 ++ [])) e
+      ∙ ap (λ t. written listed ls ++ t) (append-nil (by_line s line).1)
+
+  pub adds-more : (R : SinkState → SinkState → List ℕ → Type 0) (x y : SinkState) (st : Stand) (text : List ℕ)
+      → by_line s line ≡ (st, text) → R x y text → Adds listed ls (ls ++ line ∷ []) R x y
+  adds-more R x y st text f said = record {
+    text = text;
+    more = written-more ∙ ap (λ r. written listed ls ++ r.1) f;
+    said = said;
+  }
+
+pub whole-more : (ls : List (List ℕ)) (line : List ℕ) → AreWhole ls → has 10 line ≡ false → AreWhole (ls ++ line ∷ [])
+whole-more ls line w f = whole-append ls (line ∷ []) w (f, tt)
+
+pub adds-none : (listed : Bool) (ls : List (List ℕ)) (x : SinkState) → Adds listed ls ls Took x x
+adds-none listed ls x = record { text = []; more = sym (append-nil (written listed ls)); said = took_nothing x }
+
+-- ---- a line that stops the run
+
+-- before it, for want of memory
+pub stops-before : (listed : Bool) (ls : List (List ℕ)) (rest bytes : List ℕ) (new : Joint) (x : SinkState)
+    → AreWhole ls → bytes ≡ ended ls ++ rest → StopsIn listed ls bytes new x x Memory
+stops-before listed ls rest bytes new x w e = record {
+  lines = ls;
+  rest = rest;
+  front = e;
+  whole = w;
+  last = tt;
+  adds = adds-none listed ls x;
+}
+
+module _ (listed : Bool) (ls : List (List ℕ)) (line : List ℕ) (s : Join) (e : reached listed ls ≡ goes s)
+    (w : AreWhole ls) (f : has 10 line ≡ false) (new : Joint) (x : SinkState) where
+  front-line : ended ls ++ (line ++ 10 ∷ []) ≡ ended (ls ++ line ∷ []) ++ []
+  front-line = sym (ended-append ls (line ∷ [])) ∙ sym (append-nil (ended (ls ++ line ∷ [])))
+
+  pub refused : (r : Refusal) → Refuses r new (by_line s line)
+      → StopsIn listed ls (ended ls ++ (line ++ 10 ∷ [])) new x x (stop_of r)
+  refused refusals.NotText is = record {
+    lines = ls ++ line ∷ [];
+    rest = [];
+    front = front-line;
+    whole = whole-more ls line w f;
+    last = stands-more listed ls line s e ∙ ap (λ r. r.0) is;
+    adds = adds-more listed ls line s e Took x x faulty [] is (took_nothing x);
+  }
+  refused refusals.Gap is = record {
+    lines = ls ++ line ∷ [];
+    rest = [];
+    front = front-line;
+    whole = whole-more ls line w f;
+    last = stands-more listed ls line s e ∙ ap (λ r. r.0) is;
+    adds = adds-more listed ls line s e Took x x (apart new.met.items new.next.items) [] is (took_nothing x);
+  }
+  refused refusals.Memory is = stops-before listed ls (line ++ 10 ∷ []) _ new x w refl
+
+  pub unwritten : (y : SinkState) (st : Stand) (text : List ℕ) → by_line s line ≡ (st, text) → BrokeOff x y text
+      → StopsIn listed ls (ended ls ++ (line ++ 10 ∷ [])) new x y WriteFailed
+  unwritten y st text is broke = record {
+    lines = ls ++ line ∷ [];
+    rest = [];
+    front = front-line;
+    whole = whole-more ls line w f;
+    last = tt;
+    adds = adds-more listed ls line s e BrokeOff x y st text is broke;
+  }
+
+-- ---- more bytes, and others before
+
+pub stops-more : (listed : Bool) (before : List (List ℕ)) (bytes more all : List ℕ) (new : Joint) (x y : SinkState)
+    (e : Stop) → all ≡ bytes ++ more → StopsIn listed before bytes new x y e → StopsIn listed before all new x y e
+stops-more listed before bytes more all new x y e is h = record {
+  lines = h.lines;
+  rest = h.rest ++ more;
+  front = is ∙ ap (λ bs. bs ++ more) h.front ∙ append_assoc (ended h.lines) h.rest more;
+  whole = h.whole;
+  last = h.last;
+  adds = h.adds;
+}
+
+pub adds-then : (listed : Bool) (a b c : List (List ℕ)) (x y z : SinkState) → Adds listed a b Took x y
+    → Adds listed b c Took y z → Adds listed a c Took x z
+adds-then listed a b c x y z p q = record {
+  text = p.text ++ q.text;
+  more = q.more ∙ ap (λ t. t ++ q.text) p.more ∙ append_assoc (written listed a) p.text q.text;
+  said = then_took p.said q.said;
+}
+
+says-then : (e : Stop) (x y z : SinkState) (s t : List ℕ) → Took x y s → says_of e y z t → says_of e x z (s ++ t)
+says-then NotText x y z s t p q = then_took p q
+says-then Gap x y z s t p q = then_took p q
+says-then Device x y z s t p q = then_took p q
+says-then Memory x y z s t p q = then_took p q
+says-then WriteFailed x y z s t p q = then_broke p q
+
+pub stops-then : (listed : Bool) (a b : List (List ℕ)) (bytes : List ℕ) (new : Joint) (x y z : SinkState) (e : Stop)
+    → Adds listed a b Took x y → StopsIn listed b bytes new y z e → StopsIn listed a bytes new x z e
+stops-then listed a b bytes new x y z e p h = record {
+  lines = h.lines;
+  rest = h.rest;
+  front = h.front;
+  whole = h.whole;
+  last = h.last;
+  adds = record {
+    text = p.text ++ h.adds.text;
+    more = h.adds.more ∙ ap (λ t. t ++ h.adds.text) p.more ∙ append_assoc (written listed a) p.text h.adds.text;
+    said = says-then e x y z p.text h.adds.text p.said h.adds.said;
+  };
+}
+
+-- what stands before a last byte
+pub before_end : (whole front : List ℕ) (b : ℕ) → whole ≡ front ++ b ∷ [] → take (length whole - 1) whole ≡ front
+before_end whole front b e = grind (arith, common_steps, length-append front (b ∷ []))
+
+-- a list cut behind a byte
+pub cut_behind : (xs ys : List ℕ) (k b : ℕ) → k < length xs → xs ≡ take k xs ++ b ∷ ys
+    → (xs ≡ take (k + 1) xs ++ ys) × (take (k + 1) xs ≡ take k xs ++ b ∷ [])
+cut_behind xs ys k b h e =
+    let front = take k xs in
+    let size : k + 1 ≡ length front + 1 = omega (arith, length-take k xs, h) in
+    let first : take (k + 1) xs ≡ front ++ b ∷ [] =
+    ap (λ n. take n xs) size ∙ ap (take (length front + 1)) e ∙ take-append-add front (b ∷ ys) 1 in
+    (e ∙ sym (append_assoc front (b ∷ []) ys) ∙ ap (λ t. t ++ ys) (sym first), first)
+
+-- ---- a line that was carried on
+
+module _ (carry line whole : List ℕ) (e : whole ≡ carry ++ (line ++ 10 ∷ [])) where
+  carried : whole ≡ (carry ++ line) ++ 10 ∷ []
+  carried = e ∙ sym (append_assoc carry line (10 ∷ []))
+
+  pub before-feed : take (length whole - 1) whole ≡ carry ++ line
+  before-feed = before_end whole (carry ++ line) 10 carried
+
+  pub free-before : has 10 carry ≡ false → has 10 line ≡ false → has 10 (take (length whole - 1) whole) ≡ false
+  free-before p q = ap (has 10) before-feed ∙ lacks-append 10 carry line p q
+
+  pub feed-behind : whole ≡ take (length whole - 1) whole ++ 10 ∷ []
+  feed-behind = carried ∙ ap (λ t. t ++ 10 ∷ []) (sym before-feed)
+
+-- ---- why reading stopped
+
+pub stops-reading : (listed : Bool) (new : Joint) (a b : SourceState) (x y : SinkState) (bytes : List ℕ) (e : Stop)
+    → Gave a b bytes → StopsIn listed [] bytes new x y e → StopsReading listed new a b x y e
+stops-reading listed new a b x y bytes NotText g h = (bytes, g, h)
+stops-reading listed new a b x y bytes Gap g h = (bytes, g, h)
+stops-reading listed new a b x y bytes Device g h = absurd h.last
+stops-reading listed new a b x y bytes Memory g h = (bytes, g, h)
+stops-reading listed new a b x y bytes WriteFailed g h = (bytes, g, h)
+
+-- a line that was carried on or not is taken, and nothing is carried on
+pub fed-line : (old new : List (List ℕ)) (carry line left with_feed others : List ℕ) → new ≡ old ++ (carry ++ line) ∷ []
+    → left ≡ [] → with_feed ≡ line ++ 10 ∷ []
+    → (ended new ++ left) ++ others ≡ (ended old ++ carry) ++ (with_feed ++ others)
+fed-line old new carry line left with_feed others e n w =
+    let last : ended new ++ left ≡ (ended old ++ carry) ++ with_feed =
+    ap (λ t. ended new ++ t) n ∙ append-nil (ended new) ∙ ap ended e ∙ ended-append old ((carry ++ line) ∷ [])
+    ∙ ap (λ t. ended old ++ t) (append_assoc carry line (10 ∷ []) ∙ ap (λ t. carry ++ t) (sym w))
+    ∙ sym (append_assoc (ended old) carry with_feed) in
+    ap (λ t. t ++ others) last ∙ append_assoc (ended old ++ carry) with_feed others
+
+-- the same told in another way
+pub stops-as : {before : List (List ℕ)} {bytes : List ℕ} {new : Joint} {x y : SinkState} {e : Stop} {b c : Bool} → b ≡ c
+    → StopsIn b before bytes new x y e → StopsIn c before bytes new x y e
+stops-as {before = before} {bytes = bytes} {new = new} {x = x} {y = y} {e = e} is h =
+    subst (λ b. StopsIn b before bytes new x y e) is h
+
+pub stops-from : {a b : List (List ℕ)} {bytes : List ℕ} {new : Joint} {x y : SinkState} {e : Stop} {listed : Bool} → a ≡ b
+    → StopsIn listed a bytes new x y e → StopsIn listed b bytes new x y e
+stops-from {bytes = bytes} {new = new} {x = x} {y = y} {e = e} {listed = listed} is h =
+    subst (λ b. StopsIn listed b bytes new x y e) is h
+
+pub adds-as : {before lines : List (List ℕ)} {x y : SinkState} {b c : Bool} → b ≡ c
+    → Adds b before lines Took x y → Adds c before lines Took x y
+adds-as {before = before} {lines = lines} {x = x} {y = y} is h = subst (λ b. Adds b before lines Took x y) is h
+
+pub gave-as : {a b : SourceState} {s t : List ℕ} → s ≡ t → Gave a b s → Gave a b t
+gave-as {a = a} {b = b} is h = subst (Gave a b) is h
+
+pub ends-as : {s t : List ℕ} (old new : Joint) (r : Result (Unit {0}) Stop) → s ≡ t → EndsAt s old new r
+    → EndsAt t old new r
+ends-as old new r is h = subst (λ s. EndsAt s old new r) is h

@@ -1,0 +1,34 @@
+use Rattle.std.proofs.Common.{◌∙◌, ap}
+use Rattle.std.proofs.lemmas.Result.{err_from_is_err_and}
+use Rattle.xc_list.specs.Texts.{Took}
+use Rattle.xc_tools.specs.inner.Joining.{reached}
+use Rattle.xc_tools.proofs.JoinLemmas.Reading.{adds-more, refused, stands-more, unwritten, whole-more}
+use Rattle.xc_tools.proofs.joining.take_line.Goals as goal
+
+pub returns-in_err-act-clause-stops : goal.returns-in_err-act-clause-stops
+returns-in_err-act-clause-stops g c =
+    let error = err_from_is_err_and c.from_residual.result c.from_residual.ensures.1 in
+    rw (error.1, error.2) (refused c.args.lines.now.joint.listed c.args.lines.now.given.lines c.args.line.now _
+    c.requires.after.stands c.requires.after.whole c.requires.free _ _ _ c.in_err-act.ensures.step)
+
+pub returns-in_err-write_act-clause-stops : goal.returns-in_err-write_act-clause-stops
+returns-in_err-write_act-clause-stops g c =
+    let error = err_from_is_err_and c.from_residual-in_err-write_act.result c.from_residual-in_err-write_act.ensures.1 in
+    rw (error.1, error.2) (unwritten c.args.lines.now.joint.listed c.args.lines.now.given.lines c.args.line.now _
+    c.requires.after.stands c.requires.after.whole c.requires.free _ _ _ _ _ c.in_ok-act.ensures.step
+    (c.in_err-write_act.ensures c.args.line.now c.requires.with_feed))
+
+pub returns-clause-after : goal.returns-clause-after
+returns-clause-after g c = record {
+  stands = ap (λ b. reached b c.after.result.lines) c.take.ensures.listed
+      ∙ ap (reached c.args.lines.now.joint.listed) c.after.ensures
+      ∙ stands-more c.args.lines.now.joint.listed c.args.lines.now.given.lines c.args.line.now _
+      c.requires.after.stands ∙ ap (λ r. r.0) c.in_ok-act.ensures.step;
+  whole = rw c.after.ensures (whole-more _ c.args.line.now c.requires.after.whole c.requires.free);
+}
+
+pub returns-clause-adds : goal.returns-clause-adds
+returns-clause-adds g c =
+    rw c.after.ensures (adds-more c.args.lines.now.joint.listed c.args.lines.now.given.lines c.args.line.now _
+    c.requires.after.stands Took _ _ _ _ c.in_ok-act.ensures.step
+    (c.in_ok-write_act.ensures c.args.line.now c.requires.with_feed))

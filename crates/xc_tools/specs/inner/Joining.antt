@@ -1,0 +1,101 @@
+-- No public clause cites this module. How far a run that joins spans came.
+use Rattle.std.specs.Prelude.{ℕ, ◌≡◌, ◌⊎◌, Bool, true, false, List, [], ◌∷◌, ◌++◌, None, Result, Ok, Err, min}
+use Rattle.xc_input.specs.Words.{has}
+use Rattle.xc_input.specs.inner.EndedLines.{ended, AreWhole}
+use Rattle.xc_input.specs.Calls.{Rose}
+use Rattle.xc_input.specs.Pieces.{SourceState, Gave, GaveAll}
+use Rattle.xc_list.specs.Texts.{SinkState, Took, BrokeOff, WasTold}
+use Rattle.xc_tools.specs.Joins.{gap_text, no_text}
+use Rattle.std.specs.Prelude.{codes}
+use Rattle.xc_tools.specs.declared.joining.Lines.{Lines}
+use Rattle.xc_tools.specs.declared.joining.Stop.{Stop}
+use Rattle.xc_tools.specs.declared.joining.Stop.TheVariants.{NotText, Gap, Device, Memory, WriteFailed}
+use Rattle.xc_tools.specs.declared.span_lines.Joint.{Joint}
+use Rattle.xc_tools.specs.declared.span_lines.Refusal.{Refusal}
+use Rattle.xc_tools.specs.declared.span_lines.Refusal.TheVariants as refusals
+use Rattle.xc_tools.specs.inner.SpanLines.{Stand, goes, faulty, apart, after, join_of, start, wrote}
+
+-- what stands after lines from the beginning on
+abbrev pub reached : Bool → List (List ℕ) → Stand
+reached listed lines = after (goes (start listed)) lines
+
+-- what is written for them
+abbrev pub written : Bool → List (List ℕ) → List ℕ
+written listed lines = wrote (goes (start listed)) lines
+
+-- what was taken and what is carried on
+abbrev pub fed : Lines → List ℕ → List ℕ
+fed l carry = ended l.given.lines ++ carry
+
+-- The lines that were taken led here, and none of them has a line feed in it.
+pub record IsAfter (l : Lines) : Type 0 where
+  pub stands : reached l.joint.listed l.given.lines ≡ goes (join_of l.joint)
+  pub whole : AreWhole l.given.lines
+
+-- This is so of a sink and what is written for the second lines behind the first.
+pub record Adds (listed : Bool) (before lines : List (List ℕ)) (says : SinkState → SinkState → List ℕ → Type 0)
+    (old new : SinkState) : Type 0 where
+  pub text : List ℕ
+  pub more : written listed lines ≡ written listed before ++ text
+  pub said : says old new text
+
+-- why lines were the last ones
+abbrev pub IsLast : Bool → List (List ℕ) → Joint → Stop → Type 0
+IsLast listed lines new NotText = reached listed lines ≡ faulty
+IsLast listed lines new Gap = reached listed lines ≡ apart new.met.items new.next.items
+IsLast listed lines new Device = ⊥
+IsLast listed lines new Memory = Unit {0}
+IsLast listed lines new WriteFailed = Unit {0}
+
+-- what is so of the sink then
+abbrev pub says_of : Stop → SinkState → SinkState → List ℕ → Type 0
+says_of WriteFailed old new text = BrokeOff old new text
+says_of _ old new text = Took old new text
+
+-- Bytes began with lines of which the last one stopped a run, which had taken others before.
+pub record StopsIn (listed : Bool) (before : List (List ℕ)) (bytes : List ℕ) (new : Joint) (out_old out_new : SinkState)
+    (e : Stop) : Type 0 where
+  pub lines : List (List ℕ)
+  pub rest : List ℕ
+  pub front : bytes ≡ ended lines ++ rest
+  pub whole : AreWhole lines
+  pub last : IsLast listed lines new e
+  pub adds : Adds listed before lines (says_of e) out_old out_new
+
+-- why a line that was refused stops a run
+abbrev pub stop_of : Refusal → Stop
+stop_of refusals.NotText = NotText
+stop_of refusals.Gap = Gap
+stop_of refusals.Memory = Memory
+
+-- Why reading stopped: a read failed behind what the source gave; or in lines that it gave.
+abbrev pub StopsReading : Bool → Joint → SourceState → SourceState → SinkState → SinkState → Stop → Type 0
+StopsReading listed new old_in new_in out_old out_new Device = (lines : List (List ℕ)) × (rest : List ℕ)
+    × Gave old_in new_in (ended lines ++ rest) × AreWhole lines × Took out_old out_new (written listed lines)
+StopsReading listed new old_in new_in out_old out_new e =
+    (bytes : List ℕ) × Gave old_in new_in bytes × StopsIn listed [] bytes new out_old out_new e
+
+-- what is said where the input ended, behind what is carried on
+abbrev pub EndsAt : List ℕ → Joint → Joint → Result (Unit {0}) Stop → Type 0
+EndsAt carry old new (Ok u) = (carry ≡ []) × (old.finished ≡ true) × (old.found ≡ None) × (new ≡ old)
+EndsAt carry old new (Err NotText) = (carry ≡ [] → old.found ≡ None → ⊥)
+EndsAt carry old new (Err Gap) = (carry ≡ []) × (old.finished ≡ false) × (old.found ≡ None)
+EndsAt carry old new (Err Memory) = Unit {0}
+EndsAt carry old new (Err e) = ⊥
+
+-- What joining all that a source gives came to: it stopped in reading; or the source gave its end behind lines and a
+-- part of one, and the run ended so.
+abbrev pub JoinsAll : Bool → Joint → SourceState → SourceState → SinkState → SinkState → Result (Unit {0}) Stop → Type 0
+JoinsAll listed new old_in new_in out_old out_new r =
+    ((e : Stop) × (r ≡ Err e) × StopsReading listed new old_in new_in out_old out_new e)
+    ⊎ ((lines : List (List ℕ)) × (rest : List ℕ) × (old : Joint) × GaveAll old_in new_in (ended lines ++ rest)
+    × AreWhole lines × (has 10 rest ≡ false) × (reached listed lines ≡ goes (join_of old)) × EndsAt rest old new r
+    × Took out_old out_new (written listed lines))
+
+-- what was told of a run that stopped, by its status
+abbrev pub ToldStop : Stop → ℕ → SinkState → SinkState → Type 0
+ToldStop stop status old new = ((status ≡ 2) × (stop ≡ NotText) × (file : List ℕ) × (line : ℕ) × WasTold old new (no_text file line))
+    ⊎ ((status ≡ 5) × (stop ≡ Gap) × (met : List ℕ) × (next : List ℕ) × WasTold old new (gap_text met next))
+    ⊎ ((status ≡ 4) × WasTold old new (codes "Out of memory.\n"))
+    ⊎ ((status ≡ 3) × WasTold old new (codes "Read failed.\n"))
+    ⊎ ((status ≡ 3) × WasTold old new (codes "Write failed.\n"))

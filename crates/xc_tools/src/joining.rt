@@ -1,0 +1,438 @@
+//! A whole run that joins the texts of spans.
+ghost use Rattle.std.specs.Prelude.{◌≡◌, ◌<◌, ◌++◌, ◌∷◌, [], ℕ, List, false, length, codes, decimal, IfErr, IfOk, OnOk};
+ghost use Rattle.std.specs.Prelude.{◌⊎◌, ◌==◌, IsOkAnd, MatchOption, map, if◌then◌else◌};
+ghost use Rattle.std.specs.Io.KnownBytes.{Keeps};
+ghost use Rattle.xc_list.specs.SpanTexts.{most_counted};
+ghost use Rattle.xc_list.specs.declared.runs.End.TheVariants.{Done, Limit};
+ghost use Rattle.xc_input.specs.Pieces.{GaveAll};
+ghost use Rattle.xc_input.specs.Words.{has};
+ghost use Rattle.xc_input.specs.inner.EndedLines.{ended};
+ghost use Rattle.xc_list.specs.Texts.{Took, WasTold, Writes};
+ghost use Rattle.xc_tools.specs.Joins.{asked_join, gap_text, no_text, DidJoin, DidJoinWords};
+ghost use Rattle.xc_tools.specs.Solves.{streams};
+ghost use Rattle.xc_tools.specs.declared.joining.Stop.TheVariants.{Device, Memory, WriteFailed};
+ghost use Rattle.xc_tools.specs.inner.Joining.{written, fed, stop_of, Adds, EndsAt, IsAfter, JoinsAll, StopsIn};
+ghost use Rattle.xc_tools.specs.inner.Joining.{StopsReading, ToldStop};
+ghost use Rattle.xc_tools.specs.inner.SpanLines.{act_text};
+
+use crate::located::Located;
+use crate::solving::finish;
+use crate::span_lines::{Act, Joint, Refusal, put_word};
+use crate::status::{
+    BAD_INPUT, BAD_WORDS, COMPLETE, FAILED, GAP, NO_MEMORY, flush_and_refuse, out_of_memory, refuse,
+};
+use bstr::ByteSlice;
+use itoa::Buffer;
+use std::alloc::{AllocError, Global};
+use xc_input::{Given, ReadFailed};
+use xc_list::{End, Sink, SinkFault, write_all, write_line};
+
+/// How many bytes are asked of a source at once.
+const PIECE: usize = 65536;
+
+/// Why no more is read.
+#[derive(Clone, Copy)]
+pub(crate) enum Stop {
+    /// A line isn't one of a span's text.
+    NotText,
+    /// Ends don't meet.
+    Gap,
+    Device,
+    Memory,
+    WriteFailed,
+}
+
+impl From<ReadFailed> for Stop {
+    ghost from_gives = { λ _ e. e ≡ Device };
+
+    fn from(_: ReadFailed) -> Stop {
+        Stop::Device
+    }
+}
+
+impl From<AllocError> for Stop {
+    ghost from_gives = { λ _ e. e ≡ Memory };
+
+    fn from(_: AllocError) -> Stop {
+        Stop::Memory
+    }
+}
+
+impl From<SinkFault> for Stop {
+    ghost from_gives = { λ _ e. e ≡ WriteFailed };
+
+    fn from(_: SinkFault) -> Stop {
+        Stop::WriteFailed
+    }
+}
+
+impl From<Refusal> for Stop {
+    ghost from_gives = { λ refusal e. e ≡ stop_of refusal };
+
+    fn from(refusal: Refusal) -> Stop {
+        match refusal {
+            Refusal::NotText => Stop::NotText,
+            Refusal::Gap => Stop::Gap,
+            Refusal::Memory => Stop::Memory,
+        }
+    }
+}
+
+/// The lines up to now, and what was made of them.
+#[derive(Drop)]
+pub(crate) struct Lines {
+    joint: Joint,
+    given: Given,
+    /// How many there were.
+    taken: u64,
+    /// The one in which the open text begins, or else the last one.
+    begun: u64,
+}
+
+/// Writes what is to be written for a line, which is given with its line feed.
+fn write_act<O: Sink>(act: Act, with_feed: &[u8], out: &mut O) -> Result<(), SinkFault>
+    ensures { (line : List ℕ) → with_feed.now ≡ line ++ 10 ∷ [] →
+        Writes (O.state out.old) (O.state out.new) result (act_text act line) }
+{
+    match act {
+        Act::Nothing => Ok(()),
+        Act::Copy => write_all(out, with_feed),
+        Act::Header(number) => write_line(out, b"", number, &[b":\n"]),
+    }
+}
+
+/// Takes a line, given without and with its line feed.
+fn take_line<O: Sink>(
+    alloc: Global,
+    lines: &mut Lines,
+    line: &[u8],
+    with_feed: &[u8],
+    out: &mut O,
+) -> Result<(), Stop>
+    requires after { IsAfter lines.old }
+    requires free { has 10 line.now ≡ false }
+    requires with_feed { with_feed.now ≡ line.now ++ 10 ∷ [] }
+    ensures listed { lines.new.joint.listed ≡ lines.old.joint.listed }
+    ensures after { OnOk result (IsAfter lines.new) }
+    ensures given { OnOk result (lines.new.given.lines ≡ lines.old.given.lines ++ line.now ∷ []) }
+    ensures adds { OnOk result (Adds lines.old.joint.listed lines.old.given.lines lines.new.given.lines Took
+        (O.state out.old) (O.state out.new)) }
+    ensures stops { IfErr result (StopsIn lines.old.joint.listed lines.old.given.lines
+        (ended lines.old.given.lines ++ (line.now ++ 10 ∷ [])) lines.new.joint (O.state out.old) (O.state out.new)) }
+{
+    let act = lines.joint.take(alloc, line)?;
+    write_act(act, with_feed, out)?;
+    lines.given = Given::after(&lines.given, line);
+    Ok(())
+}
+
+/// Counts a line more.
+fn count_line(lines: &mut Lines)
+    ensures joint { lines.new.joint ≡ lines.old.joint }
+    ensures given { lines.new.given.lines ≡ lines.old.given.lines }
+{
+    lines.taken = lines.taken.saturating_add(1);
+    if lines.joint.found.is_none() {
+        lines.begun = lines.taken;
+    }
+}
+
+/// Takes a line that ends here.
+fn end_line<O: Sink>(
+    alloc: Global,
+    lines: &mut Lines,
+    carry: &mut Vec<u8>,
+    line: &[u8],
+    with_feed: &[u8],
+    out: &mut O,
+) -> Result<(), Stop>
+    requires after { IsAfter lines.old }
+    requires part { has 10 carry.old.items ≡ false }
+    requires free { has 10 line.now ≡ false }
+    requires with_feed { with_feed.now ≡ line.now ++ 10 ∷ [] }
+    ensures listed { lines.new.joint.listed ≡ lines.old.joint.listed }
+    ensures after { OnOk result (IsAfter lines.new) }
+    ensures given { OnOk result
+        (lines.new.given.lines ≡ lines.old.given.lines ++ (carry.old.items ++ line.now) ∷ []) }
+    ensures carry { OnOk result (carry.new.items ≡ []) }
+    ensures adds { OnOk result (Adds lines.old.joint.listed lines.old.given.lines lines.new.given.lines Took
+        (O.state out.old) (O.state out.new)) }
+    ensures stops { IfErr result (StopsIn lines.old.joint.listed lines.old.given.lines
+        (fed lines.old carry.old.items ++ with_feed.now) lines.new.joint (O.state out.old) (O.state out.new)) }
+{
+    count_line(lines);
+    if carry.is_empty() {
+        return take_line(alloc, lines, line, with_feed, out);
+    }
+    carry.extend_from_slice(with_feed)?;
+    let whole = carry.as_slice();
+    let outcome = take_line(alloc, lines, &whole[..whole.len() - 1], whole, out);
+    carry.clear();
+    outcome
+}
+
+/// The first line that ends in a piece, without and with its line feed, and what is left behind it.
+fn next_line(piece: &[u8]) -> Option<(&[u8], &[u8], &[u8])>
+    ensures { MatchOption result (has 10 piece.now ≡ false)
+        (λ p. (piece.now ≡ p.1.now ++ p.2.now) × (p.1.now ≡ p.0.now ++ 10 ∷ []) × (has 10 p.0.now ≡ false)) }
+{
+    let k = piece.find_byte(b'\n')?;
+    Some((&piece[..k], &piece[..k + 1], &piece[k + 1..]))
+}
+
+/// Takes the lines that end in a piece, and carries on the rest.
+fn feed<O: Sink>(
+    alloc: Global,
+    lines: &mut Lines,
+    carry: &mut Vec<u8>,
+    piece: &[u8],
+    out: &mut O,
+) -> Result<(), Stop>
+    requires after { IsAfter lines.old }
+    requires part { has 10 carry.old.items ≡ false }
+    ensures listed { lines.new.joint.listed ≡ lines.old.joint.listed }
+    ensures after { OnOk result (IsAfter lines.new) }
+    ensures part { OnOk result (has 10 carry.new.items ≡ false) }
+    ensures fed { OnOk result (fed lines.new carry.new.items ≡ fed lines.old carry.old.items ++ piece.now) }
+    ensures adds { OnOk result (Adds lines.old.joint.listed lines.old.given.lines lines.new.given.lines Took
+        (O.state out.old) (O.state out.new)) }
+    ensures stops { IfErr result (StopsIn lines.old.joint.listed lines.old.given.lines
+        (fed lines.old carry.old.items ++ piece.now) lines.new.joint (O.state out.old) (O.state out.new)) }
+{
+    let mut rest = piece;
+    while let Some((line, with_feed, others)) = next_line(rest) {
+        end_line(alloc, lines, carry, line, with_feed, out)?;
+        rest = others;
+    }
+    carry.extend_from_slice(rest)?;
+    Ok(())
+}
+
+/// A buffer of zeros.
+fn buffer(alloc: Global) -> Result<Vec<u8>, AllocError>
+    ensures { IfOk result (λ v. length v.items ≡ 65536) }
+{
+    vec![in alloc; 0; PIECE]
+}
+
+/// Takes all that the source gives.
+fn feed_all<S: Located, O: Sink>(
+    alloc: Global,
+    lines: &mut Lines,
+    carry: &mut Vec<u8>,
+    buf: &mut [u8],
+    input: &mut S,
+    out: &mut O,
+) -> Result<(), Stop>
+    requires room { 0 < length buf.old }
+    requires after { IsAfter lines.old }
+    requires none { lines.old.given.lines ≡ [] }
+    requires part { carry.old.items ≡ [] }
+    ensures listed { lines.new.joint.listed ≡ lines.old.joint.listed }
+    ensures after { OnOk result (IsAfter lines.new) }
+    ensures part { OnOk result (has 10 carry.new.items ≡ false) }
+    ensures all { OnOk result (GaveAll (S.Source.state input.old) (S.Source.state input.new)
+        (fed lines.new carry.new.items)) }
+    ensures adds { OnOk result (Took (O.state out.old) (O.state out.new)
+        (written lines.old.joint.listed lines.new.given.lines)) }
+    ensures stops { IfErr result (StopsReading lines.old.joint.listed lines.new.joint
+        (S.Source.state input.old) (S.Source.state input.new) (O.state out.old) (O.state out.new)) }
+{
+    'reading: loop {
+        let n = input.read(buf)?;
+        if n == 0 {
+            return Ok(());
+        }
+        feed(alloc, lines, carry, &buf[..n], out)?;
+    }
+}
+
+/// Looks whether the text ends where it may.
+fn end_text(lines: &mut Lines, carry: &[u8]) -> Result<(), Stop>
+    ensures given { lines.new.given.lines ≡ lines.old.given.lines }
+    ensures ends { EndsAt carry.now lines.old.joint lines.new.joint result }
+{
+    if lines.joint.found.is_some() || !carry.is_empty() {
+        count_line(lines);
+        return Err(Stop::NotText);
+    }
+    if !lines.joint.finished {
+        put_word(&mut lines.joint.next, b"-")?;
+        return Err(Stop::Gap);
+    }
+    Ok(())
+}
+
+/// What is told of ends that don't meet.
+fn gap_text(alloc: Global, joint: &Joint) -> Result<Vec<u8>, AllocError>
+    ensures { IfOk result (λ text. text.items ≡ gap_text joint.now.met.items joint.now.next.items) }
+{
+    let mut text = Vec::new(alloc);
+    text.extend_from_slice(b"Gap: from ")?;
+    text.extend_from_slice(&joint.met)?;
+    text.extend_from_slice(b" until ")?;
+    text.extend_from_slice(&joint.next)?;
+    text.extend_from_slice(b".\n")?;
+    Ok(text)
+}
+
+/// A file's name in front of a message, where there is one.
+fn put_name(text: &mut Vec<u8>, file: Option<&[u8]>) -> Result<(), AllocError> {
+    if let Some(name) = file {
+        text.extend_from_slice(name)?;
+        text.extend_from_slice(b": ")?;
+    }
+    Ok(())
+}
+
+/// What is told of a line that isn't one of a span's text.
+fn fault_text(alloc: Global, file: Option<&[u8]>, line: u64) -> Result<Vec<u8>, AllocError>
+    ensures { IfOk result (λ text. (front : List ℕ) × (text.items ≡ no_text front line)) }
+{
+    let mut text = Vec::new(alloc);
+    put_name(&mut text, file)?;
+    text.extend_from_slice(b"line ")?;
+    text.extend_from_slice(Buffer::new().format(line).as_bytes())?;
+    text.extend_from_slice(b": not the text of a span.\n")?;
+    Ok(text)
+}
+
+/// Flushes the output and tells a text, where there is memory for it.
+fn tell<O: Sink, E: Sink>(
+    status: u8,
+    text: Result<Vec<u8>, AllocError>,
+    out: &mut O,
+    err: &mut E,
+) -> u8
+    ensures kept { Keeps (O.state out.old).taken (O.state out.new).taken }
+    ensures did { IsOkAnd text (λ t. (result ≡ status) × WasTold (E.state err.old) (E.state err.new) t.items)
+        ⊎ ((result ≡ 4) × WasTold (E.state err.old) (E.state err.new) (codes "Out of memory.\n"))
+        ⊎ ((result ≡ 3) × WasTold (E.state err.old) (E.state err.new) (codes "Write failed.\n")) }
+{
+    match text {
+        Ok(text) => flush_and_refuse(status, &text, out, err),
+        Err(_) => flush_and_refuse(NO_MEMORY, b"Out of memory.\n", out, err),
+    }
+}
+
+/// How the whole listing ends.
+fn end_of_total(total: u64) -> End
+    ensures { result ≡ (if total == most_counted then Limit total else Done total) }
+{
+    if total == u64::MAX {
+        End::Limit(total)
+    } else {
+        End::Done(total)
+    }
+}
+
+/// Reads and joins all texts.
+fn join_all<S: Located, O: Sink>(
+    alloc: Global,
+    lines: &mut Lines,
+    input: &mut S,
+    out: &mut O,
+) -> Result<(), Stop>
+    requires after { IsAfter lines.old }
+    requires none { lines.old.given.lines ≡ [] }
+    ensures joins { JoinsAll lines.old.joint.listed lines.new.joint (S.Source.state input.old)
+        (S.Source.state input.new) (O.state out.old) (O.state out.new) result }
+{
+    let mut store = buffer(alloc)?;
+    let mut carry = Vec::new(alloc);
+    feed_all(alloc, lines, &mut carry, store.as_mut_slice(), input, out)?;
+    end_text(lines, &carry)
+}
+
+/// Tells why no more was read.
+fn tell_stop<S: Located, O: Sink, E: Sink>(
+    alloc: Global,
+    stop: Stop,
+    lines: &Lines,
+    input: &S,
+    out: &mut O,
+    err: &mut E,
+) -> u8
+    ensures kept { Keeps (O.state out.old).taken (O.state out.new).taken }
+    ensures did { ToldStop stop result (E.state err.old) (E.state err.new) }
+{
+    match stop {
+        Stop::NotText => {
+            let place = input.place(lines.begun, lines.taken);
+            tell(BAD_INPUT, fault_text(alloc, place.file, place.line), out, err)
+        }
+        Stop::Gap => tell(GAP, gap_text(alloc, &lines.joint), out, err),
+        Stop::Device => flush_and_refuse(FAILED, b"Read failed.\n", out, err),
+        Stop::Memory => flush_and_refuse(NO_MEMORY, b"Out of memory.\n", out, err),
+        Stop::WriteFailed => refuse(FAILED, b"Write failed.\n", err),
+    }
+}
+
+/// Nothing was read yet.
+fn first_lines(joint: Joint) -> Lines
+    ensures joint { result.joint ≡ joint }
+    ensures given { result.given.lines ≡ [] }
+{
+    Lines {
+        joint,
+        given: Given::new(),
+        taken: 0,
+        begun: 1,
+    }
+}
+
+/// Joins the texts that a source gives.
+fn join_input<S: Located, O: Sink, E: Sink>(
+    alloc: Global,
+    listed: bool,
+    input: &mut S,
+    out: &mut O,
+    err: &mut E,
+) -> u8
+    ensures did { DidJoin listed result
+        (streams S.Source.state O.state E.state input.old out.old err.old)
+        (streams S.Source.state O.state E.state input.new out.new err.new) }
+{
+    let Ok(joint) = Joint::new(alloc, listed) else {
+        return out_of_memory(err);
+    };
+    let mut lines = first_lines(joint);
+    match join_all(alloc, &mut lines, input, out) {
+        Ok(()) => finish(&end_of_total(lines.joint.total), out, err),
+        Err(stop) => tell_stop(alloc, stop, &lines, input, out, err),
+    }
+}
+
+/// What words ask for: `m1` for listings, `m0` for records alone.
+pub fn asked_join(words: &[Vec<u8>]) -> Option<bool>
+    ensures { result ≡ asked_join (map (λ w. w.items) words.now) }
+{
+    match words.first()?.as_slice() {
+        b"m0" => Some(false),
+        b"m1" => Some(true),
+        _ => None,
+    }
+}
+
+/// A whole run that joins spans: reads the texts that `dlx-span` writes, one after another, looks whether
+/// each begins where the one before it ended, from the beginning of the listing to its end, and writes the
+/// solutions to `out`, numbered anew, and how many there are to `err`. The words are `m1` for listings or
+/// `m0` for records alone, and then the names of files, which aren't looked at here. It gives the status: 0
+/// where the listing is complete, 1 for other words, 2 for what isn't the text of a span, 3 where a read or
+/// a write failed, 4 where memory was wanting, 5 where the ends don't meet.
+pub fn join_spans<S: Located, O: Sink, E: Sink>(
+    alloc: Global,
+    words: &[Vec<u8>],
+    input: &mut S,
+    out: &mut O,
+    err: &mut E,
+) -> u8
+    ensures did { DidJoinWords (map (λ w. w.items) words.now) result
+        (streams S.Source.state O.state E.state input.old out.old err.old)
+        (streams S.Source.state O.state E.state input.new out.new err.new) }
+{
+    match asked_join(words) {
+        Some(listed) => join_input(alloc, listed, input, out, err),
+        None => refuse(BAD_WORDS, b"Usage: dlx-join m0|m1 [FILE..]\n", err),
+    }
+}
