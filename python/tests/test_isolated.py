@@ -9,9 +9,8 @@ import unittest
 from unittest import mock
 
 from helgrothy import Problem, ProgramNotFound, programs
-from helgrothy.make import queens
-
 SCRIPT = os.path.join(os.path.dirname(os.path.dirname(os.path.dirname(os.path.abspath(__file__)))), "scripts", "helgrothy")
+PACKAGE = os.path.dirname(os.path.dirname(programs.__file__))
 # A module of each that the commands load, and of each that these load in turn.
 MODULES = ["argparse", "colorsys", "difflib", "fractions", "html", "random", "re", "signal", "statistics", "tempfile"]
 BOARD = ". . Q .\nQ . . .\n. . . Q\n. Q . .\n"
@@ -67,6 +66,34 @@ class Isolated(unittest.TestCase):
             self.assertNotIn("HIJACKED", (joined := command("dlx-join", "folder", **how)).stdout)
             self.assertEqual(joined.stderr, "Altogether 2 solutions.\n")
             subprocess.run(["rm", "-r", os.path.join(self.folder, "folder")], check=True)
+
+    def test_run_by_m_the_package_loads_nothing_of_the_current_folder(self):
+        """Python looks there first, and did so for what it loaded before the package."""
+        before, after = (self.modules_of(more) for more in ("", "import helgrothy.__main__; "))
+        for module in [it for it in after if it not in before and it not in sys.builtin_module_names]:
+            self.file(f"{module}.py", "print('HIJACKED')\n")
+        self.assertLessEqual({"colorsys.py", "difflib.py", "fractions.py"}, set(os.listdir(self.folder)))
+        for path in (PACKAGE, f"{self.folder}:{PACKAGE}", f".:{PACKAGE}:", f"{PACKAGE}:../{os.path.basename(self.folder)}/"):
+            done = self.python("-m", "helgrothy", "queens", "4", path=path)
+            self.assertEqual((done.stdout, done.stderr), (BOARD, "Altogether 1 solution (limit).\n"), path)
+
+    def test_a_program_that_uses_the_package_still_finds_its_own_modules(self):
+        self.file("mine/__init__.py", "import helgrothy\n")
+        self.file("mine/__main__.py", "import helgrothy.make, other\n")
+        self.file("other.py", "print('found')\n")
+        for words in (["-m", "mine"], ["-c", "import helgrothy, other"]):
+            done = self.python(*words, path=PACKAGE)
+            self.assertEqual((done.stdout, done.stderr), ("found\n", ""))
+
+    def modules_of(self, more: str) -> "set[str]":
+        """The modules, but for those in packages, that Python loads to run one by -m, and for this besides."""
+        done = self.python("-c", f"import sys, runpy; {more}print(*sys.modules)", path=PACKAGE)
+        return {module for module in done.stdout.split() if "." not in module and module != "helgrothy"}
+
+    def python(self, *words: str, path: str) -> "subprocess.CompletedProcess[str]":
+        """A run of Python in the folder."""
+        how = {"cwd": self.folder, "env": {**os.environ, "PYTHONPATH": path}, "text": True}
+        return subprocess.run([sys.executable, *words], stdout=subprocess.PIPE, stderr=subprocess.PIPE, **how)
 
     def test_no_program_of_the_current_folder_is_run(self):
         self.strangers_folder()
