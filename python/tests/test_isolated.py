@@ -124,6 +124,18 @@ class Isolated(unittest.TestCase):
             os.chmod(self.folder, 0o755)
             self.assertIn(os.path.join(self.folder, "bin"), programs.folders("dlx1"))
 
+    def test_no_package_that_anybody_may_put_there_is_loaded(self):
+        with open(SCRIPT) as file:
+            script = self.file("bin/helgrothy", file.read(), 0o755)
+        self.file("python/helgrothy/__init__.py", "")
+        self.file("python/helgrothy/__main__.py", "def run(): print('LOADED')\n")
+        for mode, told in ((0o755, "LOADED\n"), (0o1777, "")):
+            os.chmod(self.folder, mode)
+            done = subprocess.run([script], stdout=subprocess.PIPE, stderr=subprocess.PIPE, text=True)
+            self.assertEqual(done.stdout, told)
+        said = f"helgrothy: no package is loaded from '{self.folder}', into which anybody may write\n"
+        self.assertEqual((done.returncode, done.stderr), (2, said))
+
     def test_temporary_files_are_for_nobody_else(self):
         seen = []
         find = programs.find
