@@ -212,6 +212,11 @@ class ClosedStreams(unittest.TestCase):
 
     def test_nobody_reads(self):
         self.assertEqual(command("helgrothy", "make", "queens", "100", redirected="| head -n 1; exit 0").stderr, "")
+        # It is no failure, where a script asks for that of each command of a pipe.
+        script = f"({SCRIPT} queens 10 --all; echo $? >status) | head -n 1"
+        subprocess.run(["sh", "-c", script], stdout=subprocess.DEVNULL, stderr=subprocess.DEVNULL, cwd=self.folder)
+        with open(os.path.join(self.folder, "status")) as file:
+            self.assertEqual(file.read(), "0\n")
         script = f"({sys.executable} -I {SCRIPT} 2>&1; echo $? >&2) | true"
         self.assertNotIn("Traceback", subprocess.run(["sh", "-c", script], stderr=subprocess.PIPE, text=True).stderr)
 
