@@ -78,13 +78,13 @@ test-bench: ## test the scripts that measure
 	@python3 scripts/bench/test_bench.py
 
 # What was built of these sources, here or by the gate, is taken as it is.
-all: bin ## build all programs, from nothing about a quarter of an hour
+all: bin ## build all programs (`make dlx1` that one), from nothing about a quarter of an hour
 	@scripts/build $(PROGRAMS) dlx_parts dlx_below
 $(PROGRAMS) dlx_parts dlx_below: bin
 	@scripts/build $@
 
 # `bin` leads to the programs and scripts by the names that they have once they are installed.
-bin:
+bin: ## lead to the programs and scripts that there are
 	@mkdir -p bin
 	@for program in $(PROGRAMS); do ln -sfn ../crates/$$program/out/$$program bin/$$program || exit 1; done
 	@ln -sfn ../crates/dlx_parts/out/dlx_parts bin/$(PLANNER)
@@ -157,11 +157,11 @@ uninstall: uninstall-lib ## take away what was installed
 # Each of these makes a file in `dist`. The same files give the same bytes: whatever is packed is of this time.
 SOURCE_DATE_EPOCH := $(or $(SOURCE_DATE_EPOCH),$(shell git log -1 --format=%ct 2>/dev/null))
 export SOURCE_DATE_EPOCH
-dist: bin version
+dist: bin version ## pack the archive
 	@sh release/dist.sh $(VERSION)
-deb: bin version
+deb: bin version ## pack the Debian package
 	@sh release/deb.sh $(VERSION)
-wheel: bin version
+wheel: bin version ## pack the wheel
 	@python3 release/wheel.py $(VERSION)
 version: ## see that all files name the version
 	@grep -q '^## $(VERSION)$$' CHANGELOG.md || { echo "CHANGELOG.md says nothing of $(VERSION)" >&2; exit 1; }
@@ -169,7 +169,7 @@ version: ## see that all files name the version
 	    grep -q '^version = "$(VERSION)"$$' python/pyproject.toml || \
 	    { echo "the Python package isn't of $(VERSION)" >&2; exit 1; }
 	@grep -q '^version = "$(VERSION)"$$' bindings/rust/Cargo.toml || { echo "the crate for Rust isn't of $(VERSION)" >&2; exit 1; }
-release: dist deb wheel ## pack the archive, the Debian package and the wheel
+release: dist deb wheel ## pack all three
 	cd dist && sha256sum helgrothy[-_]$(VERSION)* > SHA256SUMS
 
 test-bindings: lib ## the examples in C and Rust, and hostile calls
