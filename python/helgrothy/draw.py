@@ -371,7 +371,7 @@ def drawing_of(problem: Problem[Any]) -> Drawing:
             return draw(given)
         except NoPicture:
             raise
-        except (StopIteration, LookupError, ValueError):
+        except (StopIteration, LookupError, ValueError, ArithmeticError):
             raise NoPicture(f"the problem isn't as `helgrothy make {name}` made it") from None
 
     drawing: Drawing = as_made(KINDS[name].drawing, problem)

@@ -102,6 +102,16 @@ class Pictures(unittest.TestCase):
             self.assertEqual((status, error.count("\n")), (2, 1))
         self.assertLess(time.monotonic() - start, 5)
 
+    def test_a_piece_without_cells(self):
+        text = "| helgrothy make polyominoes\nA r1c1 | x\nA x\nr1c1\n"
+        self.assertEqual(run("solve", given=text)[:2], (0, "A x\nr1c1\n"))
+        with tempfile.NamedTemporaryFile("w", suffix=".dlx") as file:
+            file.write(text)
+            file.flush()
+            status, out, error = run("draw", file.name, given="1:\n A x (1 of 1)\n r1c1 (1 of 1)\n")
+        self.assertEqual((status, out), (2, ""))
+        self.assertEqual(error, "helgrothy: the problem isn't as `helgrothy make polyominoes` made it\n")
+
     def test_patterns(self):
         for names, fits in (
             ("r1c1 r2c9", True),
