@@ -182,11 +182,11 @@ class Time(unittest.TestCase):
     def test_hints_take_a_part_of_a_second(self):
         near = "n" * 27
         text = " ".join(f"{near}{k:05d}" for k in range(19_000)) + "\n" + f"{near}xxxxx\n" * 30
-        start = time.monotonic()
+        start = time.process_time()
         read(text.encode())
         with self.assertRaises(ValueError):
             Problem.parse(text)
-        self.assertLess(time.monotonic() - start, 3)
+        self.assertLess(time.process_time() - start, 3)
         self.assertIn("is it tuesday?", str(read(b"tuesday\ntusday\n").faults[0]))
 
     def test_many_faults(self):
@@ -217,7 +217,7 @@ class Time(unittest.TestCase):
             self.assertIn("standard input has more than", run("lint", given="A" * 1_000)[2])
 
     def test_makers_count_before_they_make(self):
-        start = time.monotonic()
+        start = time.process_time()
         for words in (
             ("queens", "99999"),
             ("queens", "999999999999"),
@@ -235,7 +235,7 @@ class Time(unittest.TestCase):
         table = "- " + " ".join(f"d{k}" for k in range(days)) + "\ns" + " 1" * days + "\n\n"
         with self.assertRaises(ValueError):
             make.roster.problem(table + "".join(f"p{k} 1 -s\n" for k in range(6_000)))
-        self.assertLess(time.monotonic() - start, 5)
+        self.assertLess(time.process_time() - start, 5)
 
     def test_many_levels_of_equal_options(self):
         start = time.monotonic()
