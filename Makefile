@@ -78,7 +78,7 @@ test-bench: ## test the scripts that measure
 	@python3 scripts/bench/test_bench.py
 
 # What was built of these sources, here or by the gate, is taken as it is.
-all: bin ## build all programs (`make dlx1` that one), from nothing about a quarter of an hour
+all: bin ## build all programs, from nothing about a quarter of an hour
 	@scripts/build $(PROGRAMS) dlx_parts dlx_below
 $(PROGRAMS) dlx_parts dlx_below: bin
 	@scripts/build $@
