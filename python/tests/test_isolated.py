@@ -47,7 +47,7 @@ class Isolated(unittest.TestCase):
             self.file(f"{module}.py", "print('HIJACKED')\n")
         for name in ("__init__", "__main__", "parts/__init__", "parts/__main__"):
             self.file(f"helgrothy/{name}.py", "print('HIJACKED')\n")
-        for program in ("dlx1", "dlx-plan", "dlx-below", "sh"):
+        for program in ("dlx1", "dlx-plan", "dlx-below", "sh", "python3", "readlink", "dirname"):
             self.file(program, "#!/bin/sh\necho HIJACKED\n", 0o755)
         self.file("p.dlx", "A B\nA\nB\nA B\n")
 
@@ -94,6 +94,15 @@ class Isolated(unittest.TestCase):
         """A run of Python in the folder."""
         how = {"cwd": self.folder, "env": {**os.environ, "PYTHONPATH": path}, "text": True}
         return subprocess.run([sys.executable, *words], stdout=subprocess.PIPE, stderr=subprocess.PIPE, **how)
+
+    def test_no_python_of_the_current_folder_is_run(self):
+        self.strangers_folder()
+        python, script = os.path.dirname(sys.executable), os.path.relpath(SCRIPT, self.folder)
+        rest = f"{python}:/usr/bin:/bin"
+        for path in ("", ".:..", f".:{rest}", f":./:{rest}", f"../{os.path.basename(self.folder)}:{rest}"):
+            how = {"cwd": self.folder, "env": {**os.environ, "PATH": path}, "text": True}
+            done = subprocess.run([script, "queens", "4"], stdout=subprocess.PIPE, stderr=subprocess.PIPE, **how)
+            self.assertEqual((done.stdout, done.stderr), (BOARD, "Altogether 1 solution (limit).\n"), path)
 
     def test_no_program_of_the_current_folder_is_run(self):
         self.strangers_folder()
