@@ -85,7 +85,7 @@ $(PROGRAMS) dlx_parts dlx_below: bin
 	@scripts/build $@
 
 # `bin` leads to the programs and scripts by the names that they have once they are installed.
-bin:
+bin: ## lead to the programs and scripts that there are
 	@mkdir -p bin
 	@for program in $(PROGRAMS); do ln -sfn ../crates/$$program/out/$$program bin/$$program || exit 1; done
 	@ln -sfn ../crates/dlx_parts/out/dlx_parts bin/$(PLANNER)
@@ -158,11 +158,11 @@ uninstall: uninstall-lib ## take away what was installed
 # Each of these makes a file in `dist`. The same files give the same bytes: whatever is packed is of this time.
 SOURCE_DATE_EPOCH := $(or $(SOURCE_DATE_EPOCH),$(shell git log -1 --format=%ct 2>/dev/null))
 export SOURCE_DATE_EPOCH
-dist: bin version
+dist: bin version ## pack the archive
 	@sh release/dist.sh $(VERSION)
-deb: bin version
+deb: bin version ## pack the Debian package
 	@sh release/deb.sh $(VERSION)
-wheel: bin version
+wheel: bin version ## pack the wheel
 	@python3 release/wheel.py $(VERSION)
 # The version as a number, which C has: 10000 times the first part, 100 times the second, and the third.
 NUMBER = $(shell echo $(VERSION) | awk -F. '{ print 10000 * $$1 + 100 * $$2 + $$3 }')

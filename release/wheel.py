@@ -11,6 +11,9 @@ import time
 import zipfile
 
 PROGRAMS = ("dlx1", "dlx2", "dlx3", "dlxcheck", "dlx-plan", "dlx-below")
+# What pip writes for an entry point can't keep Python from the current folder and PYTHONPATH, so the commands are the
+# repository's script under each name.
+COMMANDS = ("helgrothy", "dlx-split", "dlx-run", "dlx-join", "dlx-parts", "dlx-progress")
 # The programs need glibc 2.34.
 TAG = "py3-none-manylinux_2_34_x86_64"
 
@@ -28,16 +31,6 @@ Classifier: Typing :: Typed
 Description-Content-Type: text/markdown
 
 {description}"""
-
-ENTRY_POINTS = """\
-[console_scripts]
-dlx-join = helgrothy.parts.__main__:join
-dlx-parts = helgrothy.parts.__main__:tell
-dlx-progress = helgrothy.parts.__main__:progress
-dlx-run = helgrothy.parts.__main__:run_parts
-dlx-split = helgrothy.parts.__main__:split
-helgrothy = helgrothy.__main__:run
-"""
 
 WHEEL = f"""\
 Wheel-Version: 1.0
@@ -64,12 +57,14 @@ def package():
 
 
 def programs(version):
-    """The programs beside the package, which looks for them there, and on the path of an environment."""
+    """The programs beside the package, which looks for them there, and, with the commands, on an environment's path."""
     files = {}
     for name in PROGRAMS:
         program = read(f"bin/{name}")
         files[f"helgrothy/bin/{name}"] = program
         files[f"helgrothy-{version}.data/scripts/{name}"] = program
+    for name in COMMANDS:
+        files[f"helgrothy-{version}.data/scripts/{name}"] = read("scripts/helgrothy")
     return files
 
 
@@ -89,7 +84,6 @@ def main():
     # What it is, and what it means that there is no licence.
     description = "\n\n".join(read("release/README.md").decode().split("\n\n")[:3]) + "\n"
     files[f"{about}/METADATA"] = METADATA.format(version=version, description=description).encode()
-    files[f"{about}/entry_points.txt"] = ENTRY_POINTS.encode()
     files[f"{about}/WHEEL"] = WHEEL.encode()
     files[f"{about}/RECORD"] = record(files, f"{about}/RECORD").encode()
 

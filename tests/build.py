@@ -70,5 +70,16 @@ class Build(unittest.TestCase):
         self.assertIn("no proof of low", told)
 
 
+class Help(unittest.TestCase):
+    def test_make_help_names_all_targets(self) -> None:
+        lines = (TOP / "Makefile").read_text().splitlines()
+        targets = {word for line in lines if line.startswith(".PHONY:") for word in line.split()[1:]}
+        targets -= {"help", "$(PROGRAMS)", "install-lib", "uninstall-lib"}
+        ran = subprocess.run(["make", "-s", "-C", TOP, "help"], capture_output=True, text=True, check=True)
+        told = [line.partition(": ")[0] for line in ran.stdout.splitlines()]
+        self.assertEqual(told, sorted(told, key=lambda name: f"{name}:"))
+        self.assertEqual({name for name in targets if not name.startswith("dlx")}, set(told))
+
+
 if __name__ == "__main__":
     unittest.main()

@@ -586,7 +586,8 @@ class Processes:
         """Texts and listings of 1 MB: none takes much longer than an ordinary one, nor than it is given."""
         hurting = large_texts()
         ordinary = self.file("ordinary.dlx", hurting.pop("ordinary"))
-        for command in ("helgrothy lint", "helgrothy solve --svg --seconds 20", "helgrothy export opb"):
+        exports = [f"helgrothy export {form}" for form in ("asp", "cnf", "opb")]
+        for command in ("helgrothy lint", "helgrothy solve --svg --seconds 20", *exports):
             usual = self.used(f"{command} {ordinary} >/dev/null")
             for what, content in hurting.items():
                 path = self.file("large.dlx", content)
@@ -688,6 +689,8 @@ def large_texts():
         "blank lines": b"\n" * 1_000_000,
         "colours": b"a | x\n" + b"".join(b"a x:%d\n" % i for i in range(100_000)),
         "options of one item": b"0:999999999|a\n" + b"a\n" * 499_000,
+        "half of all options": filled("249000|a\n", "a\n"),
+        "half of the options of each item": " ".join(f"50:90|{i:x}" for i in range(1800)).encode() + b"\n" + b"".join(b"%x\n" % (i % 1800) for i in range(200_000)),
         "long options": " ".join(f"{i:x}" for i in range(50_000)).encode() + b"\n" + (" ".join(f"{i:x}" for i in range(50_000)).encode() + b"\n") * 3,
         "bytes that aren't UTF-8": b"a\n" + b"\xff \xfe\n" * 199_000,
         "a board by names": b"| helgrothy make queens 5\n" + b" ".join(b"r%d c%d" % (i, i * 9_999) for i in range(3_000)) + b"\n" + b"".join(b"r%d c%d\n" % (i, i * 9_999) for i in range(3_000)) * 20,

@@ -29,7 +29,15 @@ said=$(cd "$empty" && env -i HOME="$empty" PATH="$empty/venv/bin:/usr/bin:/bin" 
     helgrothy queens 4 2>&1
     python use.py "$1"
     # Without the environment on the path the package finds its own programs.
-    env PATH=/nowhere "$2/venv/bin/python" use.py "$1"' sh "$version" "$empty")
+    env PATH=/nowhere "$2/venv/bin/python" use.py "$1"
+    # The commands load nothing from the folder that they are in, whatever PYTHONPATH is, also by a link from elsewhere.
+    mkdir strangers && cd strangers
+    for module in sitecustomize site os re argparse colorsys random helgrothy; do echo "print(\"HIJACKED\")" >$module.py; done
+    ln -s venv/bin/helgrothy ../link
+    for path in "" . :; do
+        PYTHONPATH=$path helgrothy queens 1 2>&1
+        PYTHONPATH=$path ../link --version
+    done' sh "$version" "$empty")
 [ "$said" = "Altogether 2 solutions.
 . . Q .
 Q . . .
@@ -37,7 +45,16 @@ Q . . .
 . Q . .
 Altogether 1 solution (limit).
 2
-2" ] || { echo "$said"; exit 1; }
+2
+Q
+Altogether 1 solution (limit).
+helgrothy $version
+Q
+Altogether 1 solution (limit).
+helgrothy $version
+Q
+Altogether 1 solution (limit).
+helgrothy $version" ] || { echo "$said"; exit 1; }
 "$empty/venv/bin/pip" uninstall -q -y helgrothy
 left=$(find "$empty/venv" -name '*helgrothy*' -o -name 'dlx*')
 [ -z "$left" ] || { echo "left behind: $left"; exit 1; }

@@ -12,6 +12,8 @@
 `python3 -m helgrothy --help` has the same as commands.
 """
 
+# First, since it says where the modules of all that follows may come from.
+from . import alone  # noqa: F401
 from .errors import (
     Fault,
     HelgrothyError,

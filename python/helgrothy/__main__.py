@@ -251,8 +251,8 @@ def _add_patterns(parser: argparse.ArgumentParser) -> None:
     parser.add_argument(
         "--cell",
         metavar="PATTERN",
-        help="a regular expression that finds the cells in an option's line; its first two groups (or those named row "
-        "and column) are row and column, a number or a single letter, and a third one its label",
+        help="a regular expression that finds the cells, as whole words, in an option's line; its first two groups (or "
+        "those named row and column) are row and column, a number or a single letter, and a third one its label",
     )
     for name in ("row", "column"):
         parser.add_argument(

@@ -15,7 +15,7 @@ from typing import Any, Callable, Iterable, Iterator, List, Optional
 from .errors import HelgrothyError, OutOfTime, reason_of
 from .programs import end_all
 from .shown import shown
-from .syntax import bytes_of, text_of
+from .syntax import bytes_of
 
 # No legal problem that names each item as short as it can is longer, and more isn't read.
 _MOST_TEXT = 1 << 30

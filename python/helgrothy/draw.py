@@ -281,7 +281,8 @@ class Pattern:
     label: finds the label of an option's other cells: its first group, or else all of it. Cells without any label
         are stars in the text.
 
-    A match begins and ends where words of the line do. It may go over several words.
+    A match begins and ends where words of the line do. It may go over several words. A solution that gives a cell two
+    labels has no picture.
     """
 
     cell: str
@@ -305,12 +306,16 @@ class Pattern:
 
         def draw(lines: Sequence[str]) -> Picture:
             cells = {(r - top, c - left): Cell() for r, c in board}
+            labels: Dict[Place, str] = {}
             for number, line in enumerate(lines):
                 found = label.search(line)
                 name = "" if found is None else found.group(1 if label.groups else 0)
                 for (r, c), own in _cells(cell, line):
                     place = cells.setdefault((r - top, c - left), Cell())
                     place.label, place.is_quiet = own or name or "*", not (own or name)
+                    if labels.setdefault((r, c), place.label) != place.label:
+                        both = f"both {shown(labels[r, c])} and {shown(place.label)} are"
+                        raise NoPicture(f"{both} in row {r}, column {c}: a board has one label in a cell")
                     if not own:
                         place.group, place.fill = number, shades[name or number]
             return Picture("a solution", cells, has_grid=any(place.group is None for place in cells.values()))
@@ -366,7 +371,7 @@ def drawing_of(problem: Problem[Any]) -> Drawing:
             return draw(given)
         except NoPicture:
             raise
-        except (StopIteration, LookupError, ValueError):
+        except (StopIteration, LookupError, ValueError, ArithmeticError):
             raise NoPicture(f"the problem isn't as `helgrothy make {name}` made it") from None
 
     drawing: Drawing = as_made(KINDS[name].drawing, problem)

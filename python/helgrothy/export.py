@@ -7,8 +7,9 @@ variables there are follows from these.
 from __future__ import annotations
 
 from itertools import zip_longest
-from typing import Any, Dict, Hashable, Iterator, List, NamedTuple, Optional, Sequence, Tuple
+from typing import Any, Dict, Hashable, Iterator, List, NamedTuple, Optional, Sequence
 
+from .counting import Clauses
 from .problem import Problem
 
 
@@ -119,64 +120,31 @@ def _sum(plus: List[int], minus: List[int], least: int) -> str:
 
 
 def cnf(problem: Problem[Any]) -> Iterator[str]:
-    """The lines of a problem in DIMACS CNF. Sums are counted by chains of variables that follow from the options."""
-    variables, found = clauses(problem)
+    """The lines of a problem in DIMACS CNF. Sums are counted by variables that follow from the options."""
+    found = clauses(problem)
     yield f"c variables 1 to {len(problem.options)} take the options in their order"
-    yield f"p cnf {variables} {len(found)}"
-    for clause in found:
-        yield " ".join(map(str, [*clause, 0]))
+    yield f"p cnf {found.last} {found.count}"
+    for lines in found.lines:
+        yield lines[:-1]
 
 
-def clauses(problem: Problem[Any], let_off: Sequence[int] = ()) -> Tuple[int, List[List[int]]]:
-    """The number of variables, and the clauses.
+def clauses(problem: Problem[Any], let_off: Sequence[int] = ()) -> Clauses:
+    """The clauses of a problem.
 
     let_off: for each primary item a variable behind those of the options that lets it be held less often than its
     bounds say.
     """
-    found = [[-number] for number in _ignored(problem)]
-    last = max([len(problem.options), *let_off])
-    fresh = _counter(last)
+    found = Clauses(max([len(problem.options), *let_off]))
+    for number in _ignored(problem):
+        found.add(-number)
     for item, let in zip_longest(_items(problem), let_off):
-        choices = _choices(item, fresh)
+        choices = {found.fresh(): options for colour, options in item.options.items() if colour is not None}
         for variable, options in choices.items():
-            found += [[-option, variable] for option in options] + [[-variable, *options]]
-        held = item.options.get(None, []) + list(choices)
-        _bound(held, item.low, item.high, fresh, found, [] if let is None else [let])
-    return max([last, next(fresh) - 1]), found
-
-
-def _bound(
-    held: List[int], low: int, high: int, fresh: Iterator[int], clauses: List[List[int]], let_off: List[int]
-) -> None:
-    """Clauses that say that at least `low`, where none of `let_off` holds, and at most `high` of these hold."""
-    if low > len(held):
-        clauses.append([*let_off])
-        return
-    if low == 1:
-        clauses.append([*held, *let_off])
-    if high >= len(held) and low < 2:
-        return
-    if high == 1 and len(held) <= 5:
-        clauses += [[-a, -b] for k, a in enumerate(held) for b in held[:k]]
-        return
-    most = min(high, len(held))
-    # at_least[j] is a variable that says that j + 1 of those so far hold.
-    at_least: List[int] = []
-    for variable in held:
-        before = at_least
-        if len(before) == most:
-            clauses.append([-variable, -before[most - 1]])
-        at_least = [next(fresh) for _ in range(min(len(before) + 1, most))]
-        for j, now in enumerate(at_least):
-            # now holds exactly where it held before, or `variable` holds and one fewer held before.
-            was = [before[j]] if j < len(before) else []
-            fewer = [before[j - 1]] if j else []
-            clauses += [[-old, now] for old in was]
-            clauses.append([-variable, *(-old for old in fewer), now])
-            clauses.append([-now, *was, variable])
-            clauses += [[-now, *was, old] for old in fewer]
-    if low > 1:
-        clauses.append([at_least[low - 1], *let_off])
+            for option in options:
+                found.add(-option, variable)
+            found.add(-variable, *options)
+        found.bound(item.options.get(None, []) + list(choices), item.low, item.high, [] if let is None else [let])
+    return found
 
 
 FORMATS = {"asp": asp, "opb": opb, "cnf": cnf}

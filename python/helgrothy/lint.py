@@ -34,15 +34,16 @@ class Remark:
 def lint(text: bytes, kind: int = 3, seconds: float = 1.0) -> List[Remark]:
     """All remarks on the text of a problem for dlx`kind`, in the order of its lines. Raises nothing.
 
-    Proofs that the sums of the bounds can't work are looked for so many seconds. Behind a thousand faults the text isn't
-    read on, and of each kind of slip a thousand are told.
+    Proofs that the sums of the bounds can't work are looked for so many seconds. Behind a thousand faults the text
+    isn't read on, and of each kind of slip a thousand are told.
     """
     sheet = read(text, kind)
     remarks = [Remark(fault.line, fault.token, _reason(fault.reason, fault.hint), True) for fault in sheet.faults]
     for rule in (_mark, _bars, _numbers):
         remarks += _some(rule(sheet))
     if sheet.is_cut:
-        remarks.append(Remark(sheet.faults[-1].line, "", f"so many faults ({len(sheet.faults)}) that the rest isn't read"))
+        rest = f"so many faults ({len(sheet.faults)}) that the rest isn't read"
+        remarks.append(Remark(sheet.faults[-1].line, "", rest))
         return sorted(remarks, key=lambda remark: remark.line)
     for rule in (_held, _twins, _ignored):
         remarks += _some(rule(sheet))

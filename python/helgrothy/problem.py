@@ -92,7 +92,8 @@ class Problem(Generic[Option]):
         self.options: Options[Option] = Options()
         self.pattern: Optional[Drawn] = None
         self._line = len(self.comments) + 1
-        for what, given in (("items", items), ("secondary", () if secondary is True else secondary), ("options", options)):
+        others = () if secondary is True else secondary
+        for what, given in (("items", items), ("secondary", others), ("options", options)):
             self._refuse(not isinstance(given, Iterable) and given is not False, given, f"bad {what}", "no iterable")
         self._takes_rest = secondary is True
         self._uses = 0

@@ -48,17 +48,18 @@ class Clauses:
         self._command = command
         options = len(problem.options)
         self._let_off: Dict[Hashable, int] = {item: options + k for k, item in enumerate(problem.items, 1)}
-        self._variables, found = clauses(problem, list(self._let_off.values()))
-        self._count = len(found)
-        self._text = _lines(found)
+        found = clauses(problem, list(self._let_off.values()))
+        self._variables = found.last
+        self._count = found.count
+        self._text = "".join(found.lines).encode()
 
     def has_solution(self, kept: Set[Hashable], seconds: float) -> bool:
         """Whether these items can be held as their bounds say, the others being let off. Raises `OutOfTime`."""
-        units = [[-variable if item in kept else variable] for item, variable in self._let_off.items()]
+        units = [-variable if item in kept else variable for item, variable in self._let_off.items()]
         with tempfile.TemporaryFile() as given:
             given.write(b"p cnf %d %d\n" % (self._variables, self._count + len(units)))
             given.write(self._text)
-            given.write(_lines(units))
+            given.write("".join(f"{unit} 0\n" for unit in units).encode())
             given.seek(0)
             try:
                 status = subprocess.run(
@@ -69,7 +70,3 @@ class Clauses:
         if status not in (*_FOUND, _NONE):
             raise OutOfTime(f"{os.path.basename(self._command[0])} gave no answer")
         return status != _NONE
-
-
-def _lines(found: List[List[int]]) -> bytes:
-    return "".join(f"{' '.join(map(str, [*clause, 0]))}\n" for clause in found).encode()

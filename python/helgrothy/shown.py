@@ -4,7 +4,7 @@ from __future__ import annotations
 
 
 def shown(text: str) -> str:
-    r"""The text with an escape (\x1b, \u202e) for each character that isn't printed, and for bytes that aren't UTF-8."""
+    r"""The text with an escape (\x1b, \u202e) for each character that isn't printed, and each byte that isn't UTF-8."""
     return text if text.isprintable() else "".join(map(_shown, text))
 
 

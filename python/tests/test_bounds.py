@@ -48,6 +48,10 @@ class Shown(unittest.TestCase):
             self.assertIn(f"line 2: {name}B: unknown item", run(*words, given=text)[2])
         self.assertIn(f"{name}: No such file", run("lint", ESCAPES)[2])
         self.assertIn(f"unrecognized arguments: {name}", run("lint", "-", ESCAPES)[2])
+        with tempfile.NamedTemporaryFile("w", suffix=ESCAPES) as file:
+            file.write(text)
+            file.flush()
+            self.assertIn(f"{shown(file.name)}: line 2: {name}B: unknown item", run("draw", file.name)[2])
 
     def test_names_on_a_terminal(self):
         text = f"{ESCAPES} B\n{ESCAPES}\nB\n"
@@ -98,6 +102,16 @@ class Pictures(unittest.TestCase):
             self.assertEqual((status, error.count("\n")), (2, 1))
         self.assertLess(time.monotonic() - start, 5)
 
+    def test_a_piece_without_cells(self):
+        text = "| helgrothy make polyominoes\nA r1c1 | x\nA x\nr1c1\n"
+        self.assertEqual(run("solve", given=text)[:2], (0, "A x\nr1c1\n"))
+        with tempfile.NamedTemporaryFile("w", suffix=".dlx") as file:
+            file.write(text)
+            file.flush()
+            status, out, error = run("draw", file.name, given="1:\n A x (1 of 1)\n r1c1 (1 of 1)\n")
+        self.assertEqual((status, out), (2, ""))
+        self.assertEqual(error, "helgrothy: the problem isn't as `helgrothy make polyominoes` made it\n")
+
     def test_patterns(self):
         for names, fits in (
             ("r1c1 r2c9", True),
@@ -123,6 +137,16 @@ class Pictures(unittest.TestCase):
         for cell in (r"r(\d+)(c(\d+))?", r"(?P<row>\d)?(?P<column>\d)?x?", "(a{99999999999})(b)", "(" * 200, r"(x)|(y)", "()()"):
             status, _, error = run("solve", "--cell", cell, given="r1 r1c1 x\nr1 r1c1 x\n")
             self.assertEqual((status, error.count("\n")), (2, 1), error)
+
+    def test_two_labels_in_one_cell(self):
+        cube = "a b | 0,0,0 0,0,1 1,0,0\na 0,0,0 1,0,0\nb 0,0,1\n"
+        for words in (("--cell", r"(\d),(\d),(\d)"), ("--cell", r"(\d),(\d),\d", "--label", "[ab]")):
+            status, out, error = run("solve", *words, given=cube)
+            self.assertEqual((status, out), (2, ""))
+            self.assertRegex(error, "both . and . are in row 0, column 0: a board has one label in a cell\n")
+        # Where both are the same they are one, as letters of words that cross.
+        cross = "a b | 1,1 1,2 2,1\na 1,1:x 1,2:y\nb 1,1:x 2,1:z\n"
+        self.assertEqual(run("solve", "--cell", r"(\d),(\d)", given=cross)[1], "x y\nz\n")
 
     def test_places_below_0(self):
         with self.assertRaises(NoPicture):
@@ -158,26 +182,26 @@ class Time(unittest.TestCase):
     def test_hints_take_a_part_of_a_second(self):
         near = "n" * 27
         text = " ".join(f"{near}{k:05d}" for k in range(19_000)) + "\n" + f"{near}xxxxx\n" * 30
-        start = time.monotonic()
+        start = time.process_time()
         read(text.encode())
         with self.assertRaises(ValueError):
             Problem.parse(text)
-        self.assertLess(time.monotonic() - start, 3)
+        self.assertLess(time.process_time() - start, 3)
         self.assertIn("is it tuesday?", str(read(b"tuesday\ntusday\n").faults[0]))
 
     def test_many_faults(self):
         for text in (b"A\n" + b"b " * 490_000, b"A " + b"|" * 990_000, b"A\n" + b"\0\n" * 490_000):
-            start = time.monotonic()
+            start = time.process_time()
             remarks = lint(text)
             self.assertEqual(len(remarks), syntax.MOST_FAULTS + 1)
             self.assertTrue(str(remarks[-1]).endswith("so many faults (1000) that the rest isn't read"))
-            self.assertLess(time.monotonic() - start, 3)
+            self.assertLess(time.process_time() - start, 3)
             with self.assertRaises(ValueError):
                 Problem.parse(text)
         # Each colour is looked up, and not compared with all before it.
-        start = time.monotonic()
+        start = time.process_time()
         Problem.parse("a | x\n" + "".join(f"a x:{k}\n" for k in range(50_000)))
-        self.assertLess(time.monotonic() - start, 5)
+        self.assertLess(time.process_time() - start, 5)
 
     def test_many_remarks(self):
         remarks = lint(b"a b\n" + b"a b\n" * 1_500)
@@ -193,7 +217,7 @@ class Time(unittest.TestCase):
             self.assertIn("standard input has more than", run("lint", given="A" * 1_000)[2])
 
     def test_makers_count_before_they_make(self):
-        start = time.monotonic()
+        start = time.process_time()
         for words in (
             ("queens", "99999"),
             ("queens", "999999999999"),
@@ -211,7 +235,7 @@ class Time(unittest.TestCase):
         table = "- " + " ".join(f"d{k}" for k in range(days)) + "\ns" + " 1" * days + "\n\n"
         with self.assertRaises(ValueError):
             make.roster.problem(table + "".join(f"p{k} 1 -s\n" for k in range(6_000)))
-        self.assertLess(time.monotonic() - start, 5)
+        self.assertLess(time.process_time() - start, 5)
 
     def test_many_levels_of_equal_options(self):
         start = time.monotonic()

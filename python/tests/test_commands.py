@@ -84,9 +84,14 @@ class Commands(unittest.TestCase):
         self.assertEqual(run("solve", given="A B\nA\n"), (1, "", told))
         status, _, told = run("sudoku", "55" + "." * 79)
         self.assertIn("r1c1 r1c2 ask for 2 in all, and r1=5 allows 1\n", told)
+        remarks = run("lint", given=run("make", "sudoku", "55" + "." * 79)[1])[1]
+        self.assertIn("the sums can't work: r1c1 r1c2 ask for 2 in all, and r1=5 allows 1: there is no solution\n", remarks)
         grid, words = self.file("grid.txt", "..#\n#.#\n"), self.file("words.txt", "cat dog")
         told = run("words", grid, words)[2]
         self.assertIn("can't all be held: across-r1c1\nit is in no option\n", told)
+        box = "F I L N P T U V W X Y Z ask for 60 in all, 5 each, and the 54 items r1c1 r1c2 r1c3 .. allow 54"
+        self.assertIn(f"{box}: there is no solution\n", run("polyominoes", "pentominoes", "6x9")[2])
+        self.assertIn(f"{box}: there is no solution\n", run("lint", given=run("make", "polyominoes", "pentominoes", "6x9")[1])[1])
         with mock.patch.object(why, "find", side_effect=OutOfTime("no")):
             told = run("queens", "3")[2]
         self.assertRegex(told, "no reason was found in [0-9.]+ seconds; `helgrothy why` may look longer\n")

@@ -118,6 +118,11 @@ class Tables(unittest.TestCase):
         self.assertEqual(str(problem.draw(solution)), "hall maths\nlab  art\n")
         self.assertIn(">maths</text>", solution._repr_svg_())
 
+    def test_letters_that_are_no_neighbours(self):
+        days = "maths art | m-1 w-1\nmaths m-1\nart w-1\n"
+        words = ("--row", "[mtw]", "--column", r"\d", "--label", "maths|art")
+        self.assertEqual(run("solve", *words, given=days)[1], "  1\nm maths\nw art\n")
+
     def test_several_in_one_cell(self):
         options = ["a mon".split(), "b mon".split(), "c tue".split()]
         days = Problem({"a": 1, "b": 1, "c": 1, "mon": 2, "tue": 1}, options=options)

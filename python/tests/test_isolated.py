@@ -9,9 +9,8 @@ import unittest
 from unittest import mock
 
 from helgrothy import Problem, ProgramNotFound, programs
-from helgrothy.make import queens
-
 SCRIPT = os.path.join(os.path.dirname(os.path.dirname(os.path.dirname(os.path.abspath(__file__)))), "scripts", "helgrothy")
+PACKAGE = os.path.dirname(os.path.dirname(programs.__file__))
 # A module of each that the commands load, and of each that these load in turn.
 MODULES = ["argparse", "colorsys", "difflib", "fractions", "html", "random", "re", "signal", "statistics", "tempfile"]
 BOARD = ". . Q .\nQ . . .\n. . . Q\n. Q . .\n"
@@ -48,7 +47,7 @@ class Isolated(unittest.TestCase):
             self.file(f"{module}.py", "print('HIJACKED')\n")
         for name in ("__init__", "__main__", "parts/__init__", "parts/__main__"):
             self.file(f"helgrothy/{name}.py", "print('HIJACKED')\n")
-        for program in ("dlx1", "dlx-plan", "dlx-below", "sh"):
+        for program in ("dlx1", "dlx-plan", "dlx-below", "sh", "python3", "readlink", "dirname"):
             self.file(program, "#!/bin/sh\necho HIJACKED\n", 0o755)
         self.file("p.dlx", "A B\nA\nB\nA B\n")
 
@@ -67,6 +66,43 @@ class Isolated(unittest.TestCase):
             self.assertNotIn("HIJACKED", (joined := command("dlx-join", "folder", **how)).stdout)
             self.assertEqual(joined.stderr, "Altogether 2 solutions.\n")
             subprocess.run(["rm", "-r", os.path.join(self.folder, "folder")], check=True)
+
+    def test_run_by_m_the_package_loads_nothing_of_the_current_folder(self):
+        """Python looks there first, and did so for what it loaded before the package."""
+        before, after = (self.modules_of(more) for more in ("", "import helgrothy.__main__; "))
+        for module in [it for it in after if it not in before and it not in sys.builtin_module_names]:
+            self.file(f"{module}.py", "print('HIJACKED')\n")
+        self.assertLessEqual({"colorsys.py", "difflib.py", "fractions.py"}, set(os.listdir(self.folder)))
+        for path in (PACKAGE, f"{self.folder}:{PACKAGE}", f".:{PACKAGE}:", f"{PACKAGE}:../{os.path.basename(self.folder)}/"):
+            done = self.python("-m", "helgrothy", "queens", "4", path=path)
+            self.assertEqual((done.stdout, done.stderr), (BOARD, "Altogether 1 solution (limit).\n"), path)
+
+    def test_a_program_that_uses_the_package_still_finds_its_own_modules(self):
+        self.file("mine/__init__.py", "import helgrothy\n")
+        self.file("mine/__main__.py", "import helgrothy.make, other\n")
+        self.file("other.py", "print('found')\n")
+        for words in (["-m", "mine"], ["-c", "import helgrothy, other"]):
+            done = self.python(*words, path=PACKAGE)
+            self.assertEqual((done.stdout, done.stderr), ("found\n", ""))
+
+    def modules_of(self, more: str) -> "set[str]":
+        """The modules, but for those in packages, that Python loads to run one by -m, and for this besides."""
+        done = self.python("-c", f"import sys, runpy; {more}print(*sys.modules)", path=PACKAGE)
+        return {module for module in done.stdout.split() if "." not in module and module != "helgrothy"}
+
+    def python(self, *words: str, path: str) -> "subprocess.CompletedProcess[str]":
+        """A run of Python in the folder."""
+        how = {"cwd": self.folder, "env": {**os.environ, "PYTHONPATH": path}, "text": True}
+        return subprocess.run([sys.executable, *words], stdout=subprocess.PIPE, stderr=subprocess.PIPE, **how)
+
+    def test_no_python_of_the_current_folder_is_run(self):
+        self.strangers_folder()
+        python, script = os.path.dirname(sys.executable), os.path.relpath(SCRIPT, self.folder)
+        rest = f"{python}:/usr/bin:/bin"
+        for path in ("", ".:..", f".:{rest}", f":./:{rest}", f"../{os.path.basename(self.folder)}:{rest}"):
+            how = {"cwd": self.folder, "env": {**os.environ, "PATH": path}, "text": True}
+            done = subprocess.run([script, "queens", "4"], stdout=subprocess.PIPE, stderr=subprocess.PIPE, **how)
+            self.assertEqual((done.stdout, done.stderr), (BOARD, "Altogether 1 solution (limit).\n"), path)
 
     def test_no_program_of_the_current_folder_is_run(self):
         self.strangers_folder()
@@ -96,6 +132,18 @@ class Isolated(unittest.TestCase):
             self.assertNotIn(os.path.join(self.folder, "bin"), programs.folders("dlx1"))
             os.chmod(self.folder, 0o755)
             self.assertIn(os.path.join(self.folder, "bin"), programs.folders("dlx1"))
+
+    def test_no_package_that_anybody_may_put_there_is_loaded(self):
+        with open(SCRIPT) as file:
+            script = self.file("bin/helgrothy", file.read(), 0o755)
+        self.file("python/helgrothy/__init__.py", "")
+        self.file("python/helgrothy/__main__.py", "def run(): print('LOADED')\n")
+        for mode, told in ((0o755, "LOADED\n"), (0o1777, "")):
+            os.chmod(self.folder, mode)
+            done = subprocess.run([script], stdout=subprocess.PIPE, stderr=subprocess.PIPE, text=True)
+            self.assertEqual(done.stdout, told)
+        said = f"helgrothy: no package is loaded from '{self.folder}', into which anybody may write\n"
+        self.assertEqual((done.returncode, done.stderr), (2, said))
 
     def test_temporary_files_are_for_nobody_else(self):
         seen = []
@@ -173,6 +221,11 @@ class ClosedStreams(unittest.TestCase):
 
     def test_nobody_reads(self):
         self.assertEqual(command("helgrothy", "make", "queens", "100", redirected="| head -n 1; exit 0").stderr, "")
+        # It is no failure, where a script asks for that of each command of a pipe.
+        script = f"({SCRIPT} queens 10 --all; echo $? >status) | head -n 1"
+        subprocess.run(["sh", "-c", script], stdout=subprocess.DEVNULL, stderr=subprocess.DEVNULL, cwd=self.folder)
+        with open(os.path.join(self.folder, "status")) as file:
+            self.assertEqual(file.read(), "0\n")
         script = f"({sys.executable} -I {SCRIPT} 2>&1; echo $? >&2) | true"
         self.assertNotIn("Traceback", subprocess.run(["sh", "-c", script], stderr=subprocess.PIPE, text=True).stderr)
 

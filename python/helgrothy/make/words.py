@@ -49,7 +49,8 @@ def problem(grid: str, words: Iterable[str]) -> Problem[Option]:
         options,
         comments=[
             "helgrothy make words GRID LIST",
-            "A word in each place across and down; a letter is a colour of its square rRcC, =word is used once. The grid:",
+            "A word in each place across and down; a letter is a colour of its square rRcC, =word is used once. "
+            "The grid:",
             *rows,
         ],
     )
