@@ -51,8 +51,8 @@ pub use xc_input::{
     ReadFailed, Reader, Seed, Seeded, SliceSource, Source, Use, faulty_token, read_problem,
 };
 pub use xc_list::{
-    End, ListingFault, Sink, SinkFault, Tray, VecSink, Verdict, WordFault, Words, WriteFailed, check,
-    is_cover, run, run_over, summary, warnings, write_all, write_solution,
+    End, ListingFault, Sink, SinkFault, Tray, VecSink, Verdict, WordFault, Words, WriteFailed,
+    check, is_cover, run, run_over, summary, warnings, write_all, write_solution,
 };
 pub use xc_search::{Choice, NoSearch, Search, Step, branches, choose, most_moves};
 pub use xc_tools::{Direct, Incoming, Outgoing, random_seed};

@@ -38,6 +38,9 @@ module _ {X : Type 0} (ms : List X) (k : ℕ) {m : X} {rest : List X} (e : drop 
   pub holds_next : (P : X → Type 0) → All P ms → P m
   holds_next P all = All-head P m rest (subst (All P) e (All-drop P k ms all))
 
+pub all_done : {X : Type 0} (ms : List X) (k : ℕ) → drop k ms ≡ [] → k ≤ length ms → k ≡ length ms
+all_done ms k e h = omega (arith, ap length e, length-drop k ms, h)
+
 enumerate_append : {X : Type 0} (n : ℕ) (xs ys : List X) → enumerate_from n
     (xs ++ ys) ≡ enumerate_from n xs ++ enumerate_from (n + length xs) ys
 enumerate_append n [] ys = let e : n ≡ n + 0 = omega arith in ap (λ k. enumerate_from k ys) e
