@@ -14,6 +14,8 @@ mod seeds;
 #[cfg(test)]
 mod failed_runs;
 #[cfg(test)]
+mod joins;
+#[cfg(test)]
 mod judging;
 #[cfg(test)]
 mod large;

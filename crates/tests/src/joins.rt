@@ -1,0 +1,163 @@
+//! Texts of spans that are joined.
+use crate::told::run_gives;
+use fixtures::{THREE_LISTING, gathered};
+use std::alloc::Global;
+use xc_input::Feed;
+use xc_list::Tray;
+use xc_tools::join_spans;
+
+/// Whether `join_spans` tells this of a text.
+fn joins(
+    alloc: Global,
+    words: &[&[u8]],
+    text: &[u8],
+    status: u8,
+    out: &[u8],
+    err: &[u8],
+) -> bool {
+    let program = |words: &[Vec<u8>], input: &mut Feed, out: &mut Tray, err: &mut Tray| {
+        join_spans(alloc, words, input, out, err)
+    };
+    run_gives(alloc, words, text, program, status, out, err)
+}
+
+/// Three equal options in two spans, of which the search of the first stopped.
+const LISTED: &[u8] = b"from -\n1:\n A (1 of 3)\nfrom - until 2 of 3 solutions 1 steps 1\nfrom 2\n1:\n A (2 of 3)\n2:\n A (3 of 3)\nfrom 2 until - solutions 2 steps 2\n";
+
+const COUNTED: &[u8] =
+    b"from - until 2 of 3 solutions 1 steps 1\nfrom 2 until - solutions 2 steps 2\n";
+
+/// Words and texts that are joined, and what is listed and told.
+const JOINED: [(&[&[u8]], &[u8], &[u8], &[u8]); 5] = [
+    (&[b"m1"], LISTED, THREE_LISTING, b"Altogether 3 solutions.\n"),
+    (&[b"m0"], COUNTED, b"", b"Altogether 3 solutions.\n"),
+    (
+        &[b"m0", b"file"],
+        b"from - until - solutions 1 steps 0\n",
+        b"",
+        b"Altogether 1 solution.\n",
+    ),
+    (
+        &[b"m1"],
+        b"from -\nfrom - until - solutions 0 steps 12\n",
+        b"",
+        b"Altogether 0 solutions.\n",
+    ),
+    (
+        &[b"m0"],
+        b"from - until 3.1.7 of 8.9.9 solutions 18446744073709551615 steps 1\nfrom 3.1.7 until - solutions 1 steps 1\n",
+        b"",
+        b"Altogether 18446744073709551615 solutions (limit).\n",
+    ),
+];
+
+#[test]
+fn joined_texts(rt: HostRuntime) {
+    for (words, text, out, err) in &JOINED {
+        assert!(rt; joins(rt.alloc(), words, text, 0, out, err));
+    }
+}
+
+const USAGE: &[u8] = b"Usage: dlx-join m0|m1 [FILE..]\n";
+
+#[test]
+fn other_words(rt: HostRuntime) {
+    assert!(rt; joins(rt.alloc(), &[], LISTED, 1, b"", USAGE));
+    assert!(rt; joins(rt.alloc(), &[b"m2"], LISTED, 1, b"", USAGE));
+}
+
+/// Texts whose ends don't meet, what is listed of them and which gap is told.
+const GAPS: [(&[u8], &[u8], &[u8]); 6] = [
+    (b"", b"", b"Gap: from - until -.\n"),
+    (b"from 2\n", b"", b"Gap: from - until 2.\n"),
+    (
+        b"from -\n1:\n A (1 of 3)\nfrom - until 2 solutions 1 steps 1\n",
+        b"1:\n A (1 of 3)\n",
+        b"Gap: from 2 until -.\n",
+    ),
+    (
+        b"from -\n1:\n A (1 of 3)\nfrom - until 2 solutions 1 steps 1\nfrom 3\n",
+        b"1:\n A (1 of 3)\n",
+        b"Gap: from 2 until 3.\n",
+    ),
+    (
+        b"from -\nfrom - until 2 solutions 0 steps 1\nfrom -\n",
+        b"",
+        b"Gap: from 2 until -.\n",
+    ),
+    (
+        b"from -\nfrom - until - solutions 0 steps 1\nfrom -\n",
+        b"",
+        b"Gap: from - until -.\n",
+    ),
+];
+
+#[test]
+fn ends_that_do_not_meet(rt: HostRuntime) {
+    for (text, out, err) in &GAPS {
+        assert!(rt; joins(rt.alloc(), &[b"m1"], text, 5, out, err));
+    }
+}
+
+/// What isn't the texts of listed spans, and the line that is told.
+const DAMAGED: [(&[u8], &[u8]); 14] = [
+    (b"from - until - solutions 0 steps 1\n", b"line 1"),
+    (b"1:\n", b"line 1"),
+    (b"from -", b"line 1"),
+    (b"from -\n", b"line 2"),
+    (b"from 3..1\n", b"line 1"),
+    (b"from 3-1\n", b"line 1"),
+    (b"from -\n A (1 of 3)\n", b"line 2"),
+    (b"from -\n2:\n", b"line 2"),
+    (b"from -\n1:\n A (1 of 3)\n1:\n", b"line 4"),
+    (b"from -\n1:\n A (1 of 3)\nfrom - until 2 solutions 2 steps 1\n", b"line 4"),
+    (b"from -\nfrom 1 until 2 solutions 0 steps 1\n", b"line 2"),
+    (b"from -\nfrom - until 2 of solutions 0 steps 1\n", b"line 2"),
+    (b"from -\nfrom - until 2 solutions 0 steps\n", b"line 2"),
+    (b"from -\nfrom - until 2 solutions 0 steps 1 \n", b"line 2"),
+];
+
+/// Whether a text is refused with its line, of which the message begins so.
+fn is_damaged(alloc: Global, text: &[u8], line: &[u8]) -> bool {
+    let Ok(mut wanted) = gathered(alloc, &[line]) else {
+        return false;
+    };
+    let Some(mut wanted) = wanted.pop() else {
+        return false;
+    };
+    if wanted.extend_from_slice(b": not the text of a span.\n").is_err() {
+        return false;
+    }
+    joins(alloc, &[b"m1"], text, 2, listed_of(text), &wanted)
+}
+
+/// What is listed of these texts: what their first solution has, if it is whole.
+fn listed_of(text: &[u8]) -> &'static [u8] {
+    match text {
+        [b'f', b'r', b'o', b'm', b' ', b'-', b'\n', b'1', ..] => b"1:\n A (1 of 3)\n",
+        _ => b"",
+    }
+}
+
+#[test]
+fn damaged_texts(rt: HostRuntime) {
+    for (text, line) in &DAMAGED {
+        assert!(rt; is_damaged(rt.alloc(), text, line));
+    }
+}
+
+/// The status of a run of which the read of this number fails, over a sink that takes so many bytes.
+fn status_of(alloc: Global, fails_at: Option<u64>, room: usize) -> Option<u8> {
+    let words = gathered(alloc, &[b"m1"]).ok()?;
+    let mut input = Feed::new(LISTED, 7, fails_at);
+    let mut out = Tray::new(alloc, 3, room, false).ok()?;
+    let mut err = Tray::new(alloc, 100, 100, false).ok()?;
+    Some(join_spans(alloc, &words, &mut input, &mut out, &mut err))
+}
+
+#[test]
+fn failed_joins(rt: HostRuntime) {
+    assert!(rt; status_of(rt.alloc(), None, 100) == Some(0));
+    assert!(rt; status_of(rt.alloc(), Some(3), 100) == Some(3));
+    assert!(rt; status_of(rt.alloc(), None, 20) == Some(3));
+}
