@@ -42,7 +42,7 @@ led_left p t [] a = ap Some (sym (no_moves_leave_all p)) ∙ ap (λ t. Some (res
 led_left p t (l ∷ ls) a =
     let b = a.0 in
     rw (choices_more p l ls, left_by_more, led_left p (oldest l.mark t) ls a.1)
-    (left_by_level p (oldest l.mark t) l b.branch b.is_branch_item b.at b.choice ∙ ap Some (sym b.next))
+    (left_by_level p (oldest l.mark t) l b.branch b.leads b.at b.choice ∙ ap Some (sym b.next))
 
 pub led_path : (p : Puzzle) (t : List Move) (ls : List Level) → AreLed p [] t ls → IsPath p (choices_of p ls)
 led_path p t ls a = (residual_of p t, led_left p t ls a)
