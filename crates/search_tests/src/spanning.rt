@@ -45,12 +45,13 @@ fn lists_span<'a>(
     problem: &'a Problem,
     from: &[u32],
     until: Option<&'a [u32]>,
+    steps: u64,
     whole: &mut Search<Lists>,
 ) -> bool {
     let Some(mut span) = span(alloc, problem, from, until) else {
         return false;
     };
-    let along = goes_along(&mut span, 1, whole);
+    let along = goes_along(&mut span, steps, whole);
     are_undone(span.close()) && along
 }
 
@@ -59,23 +60,24 @@ fn lists_spans(
     alloc: Global,
     problem: &Problem,
     rows: &[&[u32]],
+    steps: u64,
     whole: &mut Search<Lists>,
 ) -> bool {
     let mut from: &[u32] = &[];
     for row in rows {
-        if !lists_span(alloc, problem, from, Some(*row), whole) {
+        if !lists_span(alloc, problem, from, Some(*row), steps, whole) {
             return false;
         }
         from = *row;
     }
-    lists_span(alloc, problem, from, None, whole) && whole.next() == Step::Done
+    lists_span(alloc, problem, from, None, steps, whole) && whole.next() == Step::Done
 }
 
 /// Whether the spans of each cut have all members of a problem, in turn.
-fn cuts_join(alloc: Global, problem: &Problem) -> bool {
+fn cuts_join(alloc: Global, problem: &Problem, steps: u64) -> bool {
     for rows in &CUTS {
         if !on_search(alloc, problem, |whole| {
-            lists_spans(alloc, problem, *rows, whole)
+            lists_spans(alloc, problem, *rows, steps, whole)
         }) {
             return false;
         }
@@ -87,7 +89,91 @@ fn cuts_join(alloc: Global, problem: &Problem) -> bool {
 fn spans_of_each_kind(rt: HostRuntime) {
     let alloc = rt.alloc();
     for (kind, text) in &KINDS {
-        assert!(rt; on_problem(alloc, *kind, *text, |problem| cuts_join(alloc, problem)));
+        assert!(rt; on_problem(alloc, *kind, *text, |problem| cuts_join(alloc, problem, 1)));
+    }
+}
+
+#[test]
+fn spans_without_a_bound_of_steps(rt: HostRuntime) {
+    let alloc = rt.alloc();
+    for (kind, text) in &KINDS {
+        assert!(rt;
+            on_problem(
+                alloc,
+                *kind,
+                *text,
+                |problem| cuts_join(alloc, problem, u64::MAX)
+            )
+        );
+    }
+}
+
+/// Two choices for `a` and `b`, and three for `c` and `d` below each: the last choices, which are counted at once below
+/// the second of the two.
+const PAIRS: &[u8] = b"a b c d | v w x y z\na b v\na b w\nc d x\nc d y\nc d z\n";
+
+/// Rows between which its spans have so many members. Most end amid the members of a last choice.
+const COUNTED: [(&[u32], &[u32], u64); 12] = [
+    (&[], &[9], 6),
+    (&[], &[1, 2], 1),
+    (&[], &[1, 3, 0], 3),
+    (&[], &[2], 3),
+    (&[], &[2, 0], 3),
+    (&[], &[2, 1], 3),
+    (&[], &[2, 2], 4),
+    (&[], &[2, 1, 7], 4),
+    (&[], &[2, 3], 5),
+    (&[], &[2, 7], 6),
+    (&[1, 2], &[2, 3], 4),
+    (&[2, 2], &[2, 3], 1),
+];
+
+/// How many members the span between these rows has, by so many steps at once.
+fn counted<'a>(
+    alloc: Global,
+    problem: &'a Problem,
+    from: &[u32],
+    until: &'a [u32],
+    steps: u64,
+) -> Option<u64> {
+    let mut span = span(alloc, problem, from, Some(until))?;
+    let mut members: u64 = 0;
+    for _ in 0..100 {
+        let went = span.go_on(u64::MAX, steps);
+        members = members.saturating_add(went.members);
+        if went.halt == Halt::End {
+            return if are_undone(span.close()) {
+                Some(members)
+            } else {
+                None
+            };
+        }
+    }
+    None
+}
+
+/// Whether the spans of a problem have as many members as these say.
+fn are_counted(alloc: Global, problem: &Problem, steps: u64) -> bool {
+    for (from, until, members) in &COUNTED {
+        if counted(alloc, problem, *from, *until, steps) != Some(*members) {
+            return false;
+        }
+    }
+    true
+}
+
+#[test]
+fn spans_that_end_amid_the_last_choices(rt: HostRuntime) {
+    let alloc = rt.alloc();
+    for steps in [1, 2, 3, 4, u64::MAX] {
+        assert!(rt;
+            on_problem(
+                alloc,
+                Kind::Plain,
+                PAIRS,
+                |problem| are_counted(alloc, problem, steps)
+            )
+        );
     }
 }
 

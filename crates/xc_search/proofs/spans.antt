@@ -3,8 +3,11 @@ pub mod Rising
 pub mod Lies
 pub mod Later
 pub mod Onward
+pub mod Exact
+pub mod Passing
 pub mod Kept
 pub mod Running
+pub mod Runs
 pub mod Advance
 pub mod Told
 pub mod Along

@@ -1,5 +1,5 @@
 //! The levels of the search.
-ghost use Rattle.std.specs.Prelude.{◌≡◌, ◌+◌, ◌<◌, ◌≤◌, ◌^◌, List, [], ◌∷◌, length, true, false, None};
+ghost use Rattle.std.specs.Prelude.{◌≡◌, ◌+◌, ◌<◌, ◌≤◌, ◌^◌, List, [], ◌∷◌, length, true, false, None, Bool};
 ghost use Rattle.std.specs.Prelude.{IfSome, IsNone};
 ghost use Rattle.xc_input.specs.Problem.{Puzzle};
 ghost use Rattle.xc_search.specs.inner.MostLevels.{most_levels};
@@ -10,7 +10,7 @@ ghost use Rattle.xc_search.specs.inner.Ahead.{EntersOver, StandsOver, EndsOver, 
 ghost use Rattle.xc_search.specs.Listing.{listing};
 ghost use Rattle.xc_search.specs.inner.Residual.{residual_of};
 ghost use Rattle.xc_search.specs.Residuals.{choice_after};
-ghost use Rattle.xc_search.specs.inner.Paths.{KeepsPath};
+ghost use Rattle.xc_search.specs.inner.Paths.{KeepsBy, IsChosenBy};
 
 use crate::level::{Begun, Level, begin_level};
 use crate::position::Position;
@@ -53,14 +53,15 @@ pub fn deepen<D: Dance>(
     ensures solved { result ≡ Below.Solution → choice_after position.old.puzzle position.old.trail ≡ None }
     ensures deeper { (b : Entered) → result ≡ Below.Branch b →
         EntersBranch position.old stack.old true position.new stack.new b.item b.place }
-    ensures deeper_path { (b : Entered) → result ≡ Below.Branch b →
-        next ≡ choice_after position.old.puzzle position.old.trail →
-        KeepsPath position.old stack.old (branched position.new b.item b.place) stack.new }
+    ensures deeper_path { (b : Entered) → result ≡ Below.Branch b → (exact : Bool) →
+        IsChosenBy exact position.old.puzzle position.old.trail next →
+        KeepsBy exact position.old stack.old (branched position.new b.item b.place) stack.new }
     ensures near { (b : Entered) → result ≡ Below.Branch b → b.place < 2 ^ 32 }
     ensures nothing { result ≡ Below.Nothing → GoesOn position.old stack.old true position.new stack.new false }
     ensures fewer { result ≡ Below.Nothing →
         work_left position.new stack.new false < work_left position.old stack.old true }
-    ensures path { result ≡ Below.Nothing → KeepsPath position.old stack.old position.new stack.new }
+    ensures path { result ≡ Below.Nothing → (exact : Bool) →
+        KeepsBy exact position.old stack.old position.new stack.new }
 {
     let Some((item, count)) = next else {
         return Below::Solution;
@@ -121,11 +122,12 @@ pub fn resume<D: Dance>(position: &mut Position<D>, stack: &mut Stack) -> Option
     requires standing { IsStanding position.old.puzzle position.old.trail stack.old.levels false }
     ensures resumed { IfSome result (λ b.
         EntersBranch position.old stack.old false position.new stack.new b.item b.place) }
-    ensures resumed_path { IfSome result (λ b.
-        KeepsPath position.old stack.old (branched position.new b.item b.place) stack.new) }
+    ensures resumed_path { IfSome result (λ b. (exact : Bool) →
+        KeepsBy exact position.old stack.old (branched position.new b.item b.place) stack.new) }
     ensures near { IfSome result (λ b. b.place < 2 ^ 32) }
     ensures done { IsNone result → IsDone position.old stack.old false position.new stack.new }
-    ensures path { IsNone result → KeepsPath position.old stack.old position.new stack.new }
+    ensures path { IsNone result → (exact : Bool) →
+        KeepsBy exact position.old stack.old position.new stack.new }
 {
     // A level that goes on and a level that ends are two paths.
     while let Some(level) = stack.top() {
@@ -157,7 +159,7 @@ pub enum Next {
 
 /// Passes over all that is left, with no move, where its solutions are known to be no more than are to be passed over.
 #[inline(always)]
-fn pass_last<D: Dance>(position: &Position<D>, more: &mut u64) -> bool
+pub fn pass_last<D: Dance>(position: &Position<D>, more: &mut u64) -> bool
     requires { IsSearchable position.now.puzzle position.now.trail }
     ensures passed { result ≡ true →
         more.old ≡ more.new + length (listing (residual_of position.now.puzzle position.now.trail)) }

@@ -12,9 +12,8 @@ use crate::counts::most_levels;
 use crate::levels::unwind;
 use crate::position::Position;
 use crate::rows::is_before;
-use crate::spanning::{State, Task, reach, run_on};
+use crate::spanning::{State, Stop, go_over, reach};
 use crate::stack::Stack;
-use core::mem::replace_with;
 use std::alloc::{AllocError, Global};
 use std::marker::Model;
 use xc_dance::{Dance, Memory};
@@ -84,7 +83,7 @@ impl<'a, D: Dance> Model for Span<'a, D> {
 
     ghost invariant = { λ s. record {
       stacked : AreStacked s.state.position.puzzle s.state.position.trail s.state.stack.levels;
-      led : AreLed s.state.position.puzzle [] s.state.position.trail s.state.stack.levels;
+      led : s.ended ≡ false → AreLed s.state.position.puzzle [] s.state.position.trail s.state.stack.levels;
       standing : s.ended ≡ false → IsStanding s.state.position.puzzle s.state.position.trail s.state.stack.levels true;
       solved : s.ended ≡ false → s.down ≡ false →
           IsSolved s.state.position.puzzle s.state.position.trail s.state.stack.levels;
@@ -128,14 +127,15 @@ impl<'a, D: Dance> Span<'a, D> {
         let Ok(choices) = Vec::with_capacity(alloc, most) else {
             return Err((dance, Memory));
         };
-        let Ok(mut stack) = Stack::new(alloc, most) else {
+        let Ok(stack) = Stack::new(alloc, most) else {
             return Err((dance, Memory));
         };
-        let mut position = Position::new(dance, problem);
-        let reached = reach(&mut position, &mut stack, from);
-        let within = is_before(stack.levels(), until);
+        let position = Position::new(dance, problem);
+        let mut state = State { position, stack };
+        let reached = reach(&mut state, from);
+        let within = is_before(state.stack.levels(), until);
         Ok(Span {
-            state: State { position, stack },
+            state,
             down: true,
             ended: !reached || !within,
             until,
@@ -151,7 +151,8 @@ impl<'a, D: Dance> Span<'a, D> {
     }
 
     /// Goes on by so many members and at most so many steps, each a branch that is begun. It may run out of steps
-    /// between any two branches, and not at members alone. After `End` it answers `End` again.
+    /// between any two branches, and not at members alone; with `u64::MAX` steps it doesn't, and may begin branches that
+    /// lead to no member and are none of the search's tree. After `End` it answers `End` again.
     pub fn go_on(&mut self, many: u64, steps: u64) -> Went
         ensures still { self.new ≡ record self.old { row = self.new.row; shown = self.new.shown } }
         ensures passed { IfSome self.old.row (λ from. left_of self.old
@@ -193,15 +194,10 @@ impl<'a, D: Dance> Span<'a, D> {
         }
         // Where it stands at a solution, it finds that one again.
         let over = if self.down { many - 1 } else { many };
-        let task = Task {
-            until: self.until,
-            over,
-            steps,
-        };
-        let ran = replace_with(&mut self.state, task, run_on);
+        let ran = go_over(&mut self.state, self.until, over, steps);
         let taken = steps - ran.steps;
-        match ran.halt {
-            Halt::Member => {
+        match ran.stop {
+            Stop::Member => {
                 self.down = false;
                 let state = &self.state;
                 state.stack.show(&[], &state.position, &mut self.choices);
@@ -211,7 +207,7 @@ impl<'a, D: Dance> Span<'a, D> {
                     steps: taken,
                 }
             }
-            Halt::End => {
+            Stop::Row | Stop::Nothing => {
                 self.ended = true;
                 self.choices.clear();
                 Went {
@@ -220,7 +216,7 @@ impl<'a, D: Dance> Span<'a, D> {
                     steps: taken,
                 }
             }
-            Halt::Steps => {
+            Stop::Steps => {
                 self.down = true;
                 self.choices.clear();
                 Went {

@@ -1,91 +1,162 @@
 //! The steps of a search of a span.
-ghost use Rattle.std.specs.Prelude.{◌≡◌, ◌-◌, ◌<◌, ◌≤◌, ◌^◌, ◌⊎◌, [], true, false, filter, not, option_map};
+ghost use Rattle.std.specs.Prelude.{◌≡◌, ◌+◌, ◌-◌, ◌<◌, ◌≤◌, ◌^◌, ◌++◌, Bool, List, ℕ, Option, Some, [], true, false, not};
+ghost use Rattle.std.specs.Prelude.{length, filter, map, option_map, ◌≢◌, IfSome};
+ghost use Rattle.xc_search.specs.Listing.{listing};
 ghost use Rattle.xc_search.specs.Spans.{precedes, row_of, is_before};
+ghost use Rattle.xc_search.specs.inner.Residual.{residual_of};
 ghost use Rattle.xc_search.specs.inner.MostLevels.{most_levels};
-ghost use Rattle.xc_search.specs.inner.Levels.{IsStanding, coming};
+ghost use Rattle.xc_search.specs.inner.Levels.{AreStacked, IsSearchable, IsStanding, AreAllWanted, coming};
+ghost use Rattle.xc_search.specs.Residuals.{wanted_after};
 ghost use Rattle.xc_search.specs.inner.Ahead.{IsSolved};
-ghost use Rattle.xc_search.specs.inner.Paths.{AreLed, KeepsPath};
-ghost use Rattle.xc_search.specs.inner.Spanning.{Enters, Ends, Stands, EndsSpan, RanTo, row_at};
+ghost use Rattle.xc_search.specs.inner.Paths.{AreLed, AreLedBy, IsChosenBy};
+ghost use Rattle.xc_search.specs.inner.Spanning.{Enters, Ends, Falls, IsRest, RunsTo, RanTo, is_counted, row_at};
 ghost use Rattle.xc_search.specs.declared.levels.Entered.{Entered};
 
-use crate::levels::{Below, Next, deepen, resume};
+use crate::level::Level;
+use crate::levels::{Below, Next, deepen, pass_last, resume};
 use crate::position::Position;
-use crate::rows::{Place, is_before, place_of};
-use crate::span::Halt;
+use crate::rows::{Place, place_of};
 use crate::stack::Stack;
+use core::mem::replace_with;
 use xc_dance::Dance;
 
-/// Enters the next branch: the first one below, or else the next of a level. A solution is passed over where `more` are
-/// to be, and is one of them.
+/// What is left below the levels.
+#[derive(Clone, Copy)]
+pub enum Rest {
+    /// The run begins behind it. All of it comes before the row `until`.
+    Behind,
+    /// All of it comes before the row `until`.
+    Before,
+    /// The row of the levels begins `until`, or may begin it.
+    About,
+}
+
+/// What is left below the levels where a run begins.
 #[inline(always)]
-fn enter_branch<D: Dance>(position: &mut Position<D>, stack: &mut Stack, more: &mut u64) -> Next
+fn first_rest(levels: &[Level], until: Option<&[u32]>, behind: bool) -> Rest
+    requires behind { behind ≡ true → (x : List ℕ) →
+        is_before (option_map (λ u. u.now) until) (map (λ l. l.begun) levels.now ++ x) ≡ true }
+    ensures all { result ≢ Rest.About → (x : List ℕ) →
+        is_before (option_map (λ u. u.now) until.entry) (map (λ l. l.begun) levels.now ++ x) ≡ true }
+    ensures counted { behind ≡ false → is_counted result ≡ true }
+{
+    if behind {
+        return Rest::Behind;
+    }
+    let Some(until) = until else {
+        return Rest::Before;
+    };
+    match place_of(levels, until) {
+        Place::Before => Rest::Before,
+        Place::Begins | Place::Reached => Rest::About,
+    }
+}
+
+/// Passes over all that is left below the levels, with no move: where the run begins behind it, or where it is known to
+/// be no more than is to be passed over, and comes before the span's end.
+#[inline(always)]
+fn pass_below<D: Dance>(position: &Position<D>, rest: Rest, more: &mut u64) -> bool
+    requires { IsSearchable position.now.puzzle position.now.trail }
+    ensures aside { result ≡ true → rest ≢ Rest.About }
+    ensures passed { result ≡ true → is_counted rest ≡ true →
+        more.old ≡ more.new + length (listing (residual_of position.now.puzzle position.now.trail)) }
+    ensures not_passed { result ≡ false → more.new ≡ more.old }
+{
+    match rest {
+        Rest::Behind => true,
+        Rest::Before => pass_last(position, more),
+        Rest::About => false,
+    }
+}
+
+/// An item to branch on: the branch item, unless an early choice is to be made.
+#[inline(always)]
+fn choose_by<D: Dance>(position: &Position<D>, early: bool) -> Option<(u32, usize)>
+    requires { AreAllWanted (wanted_after position.now.puzzle position.now.trail) }
+    ensures choice { IsChosenBy (not early) position.now.puzzle position.now.trail result }
+    ensures few { IfSome result (λ c. c.1 < 2 ^ 32) }
+{
+    if early {
+        position.choose_early()
+    } else {
+        position.choose()
+    }
+}
+
+/// Goes below the levels: enters a first branch where what is left has any. A solution is passed over where `more` are
+/// to be, and is one of them. `last` is how many levels stood where the last choice led to a solution: where as many
+/// stand again, the solutions may be counted at once.
+#[inline(always)]
+fn go_below<D: Dance>(
+    position: &mut Position<D>,
+    stack: &mut Stack,
+    rest: Rest,
+    early: bool,
+    more: &mut u64,
+    last: &mut usize,
+) -> Below
     requires standing { IsStanding position.old.puzzle position.old.trail stack.old.levels true }
     requires levels_fit { most_levels position.old.puzzle ≤ stack.old.room }
-    ensures entered { (b : Entered) → result ≡ Next.Branch b →
-        Enters position.old stack.old more.old position.new stack.new more.new b.item b.place }
+    ensures entered { (b : Entered) → result ≡ Below.Branch b → (until : Option (List ℕ)) →
+        IsRest until position.old.puzzle stack.old.levels rest → Enters (not early) (is_counted rest) until
+        position.old stack.old more.old position.new stack.new more.new b.item b.place }
+    ensures near { (b : Entered) → result ≡ Below.Branch b → b.place < 2 ^ 32 }
+    ensures same { result ≡ Below.Solution →
+        (position.new ≡ position.old) × (stack.new ≡ stack.old) × (more.old ≡ 0) × (more.new ≡ 0) }
+    ensures solved { result ≡ Below.Solution → IsSolved position.old.puzzle position.old.trail stack.old.levels }
+    ensures back { result ≡ Below.Nothing → (until : Option (List ℕ)) →
+        IsRest until position.old.puzzle stack.old.levels rest → Falls (not early) (is_counted rest) until
+        position.old stack.old more.old position.new stack.new more.new }
+{
+    if stack.levels().len() == *last && pass_below(position, rest, more) {
+        return Below::Nothing;
+    }
+    let next = choose_by(position, early);
+    match deepen(position, stack, next) {
+        Below::Branch(entered) => Below::Branch(entered),
+        Below::Nothing => Below::Nothing,
+        Below::Solution => {
+            *last = stack.levels().len().saturating_sub(1);
+            if *more == 0 {
+                return Below::Solution;
+            }
+            *more -= 1;
+            Below::Nothing
+        }
+    }
+}
+
+/// Enters the next branch: the first one below, or else the next of a level.
+#[inline(always)]
+fn enter_branch<D: Dance>(
+    position: &mut Position<D>,
+    stack: &mut Stack,
+    rest: Rest,
+    early: bool,
+    more: &mut u64,
+    last: &mut usize,
+) -> Next
+    requires standing { IsStanding position.old.puzzle position.old.trail stack.old.levels true }
+    requires levels_fit { most_levels position.old.puzzle ≤ stack.old.room }
+    ensures entered { (b : Entered) → result ≡ Next.Branch b → (until : Option (List ℕ)) →
+        IsRest until position.old.puzzle stack.old.levels rest → Enters (not early) (is_counted rest) until
+        position.old stack.old more.old position.new stack.new more.new b.item b.place }
     ensures near { (b : Entered) → result ≡ Next.Branch b → b.place < 2 ^ 32 }
     ensures same { result ≡ Next.Solution →
         (position.new ≡ position.old) × (stack.new ≡ stack.old) × (more.old ≡ 0) × (more.new ≡ 0) }
     ensures solved { result ≡ Next.Solution → IsSolved position.old.puzzle position.old.trail stack.old.levels }
-    ensures done { result ≡ Next.Nothing →
-        Ends position.old stack.old more.old position.new stack.new more.new }
+    ensures done { result ≡ Next.Nothing → (until : Option (List ℕ)) →
+        IsRest until position.old.puzzle stack.old.levels rest → Ends (is_counted rest) until
+        position.old stack.old more.old position.new stack.new more.new }
 {
-    let next = position.choose();
-    match deepen(position, stack, next) {
+    match go_below(position, stack, rest, early, more, last) {
         Below::Branch(entered) => return Next::Branch(entered),
+        Below::Solution => return Next::Solution,
         Below::Nothing => {}
-        Below::Solution => {
-            if *more == 0 {
-                return Next::Solution;
-            }
-            *more -= 1;
-        }
     }
     match resume(position, stack) {
         Some(entered) => Next::Branch(entered),
         None => Next::Nothing,
-    }
-}
-
-/// Goes on until the row of the levels doesn't come before `from`, into no branch but those whose rows begin it. False
-/// where all levels ended, since no branch has a row that late.
-pub fn reach<D: Dance>(position: &mut Position<D>, stack: &mut Stack, from: &[u32]) -> bool
-    requires standing { IsStanding position.old.puzzle position.old.trail stack.old.levels true }
-    requires levels_fit { most_levels position.old.puzzle ≤ stack.old.room }
-    requires led { AreLed position.old.puzzle [] position.old.trail stack.old.levels }
-    ensures still { position.new ≡ record position.old { trail = position.new.trail } }
-    ensures levels { stack.new ≡ record stack.old { levels = stack.new.levels } }
-    ensures standing { IsStanding position.new.puzzle position.new.trail stack.new.levels result }
-    ensures led { AreLed position.new.puzzle [] position.new.trail stack.new.levels }
-    ensures reached { result ≡ true → precedes (row_at position.new.puzzle stack.new.levels) from.now ≡ false }
-    ensures kept { result ≡ true →
-        filter (λ m. not (precedes (row_of m) from.now))
-        (coming position.old.puzzle position.old.trail stack.old.levels true)
-        ≡ filter (λ m. not (precedes (row_of m) from.now))
-        (coming position.new.puzzle position.new.trail stack.new.levels true) }
-    ensures none { result ≡ false →
-        filter (λ m. not (precedes (row_of m) from.now))
-        (coming position.old.puzzle position.old.trail stack.old.levels true) ≡ [] }
-{
-    loop {
-        match place_of(stack.levels(), from) {
-            Place::Reached => return true,
-            Place::Begins => {
-                // A solution here comes before `from`, and is passed over.
-                let mut more = 1;
-                match enter_branch(position, stack, &mut more) {
-                    Next::Branch(entered) => {
-                        position.commit_branch(entered.item, entered.place as u32);
-                    }
-                    Next::Solution => return false,
-                    Next::Nothing => return false,
-                }
-            }
-            Place::Before => match resume(position, stack) {
-                Some(entered) => position.commit_branch(entered.item, entered.place as u32),
-                None => return false,
-            },
-        }
     }
 }
 
@@ -102,97 +173,214 @@ pub struct State<'a, D: Dance> {
 #[derive(Clone, Copy)]
 pub struct Task<'u> {
     pub until: Option<&'u [u32]>,
+    /// It begins behind what is left below the levels, all of which comes before `until` and isn't counted.
+    pub behind: bool,
+    /// It may branch on another item than the branch item where what is left has no members.
+    pub early: bool,
     pub over: u64,
     pub steps: u64,
+}
+
+/// Where a run halted.
+#[derive(Clone, Copy)]
+pub enum Stop {
+    /// At a member.
+    Member,
+    /// Between two branches, for want of steps.
+    Steps,
+    /// At a branch whose row doesn't come before `until`.
+    Row,
+    /// All levels ended.
+    Nothing,
 }
 
 /// What a run came to: of the members that it was to pass over, and of its steps, so many are left.
 #[derive(Clone, Copy)]
 pub struct Ran {
-    pub halt: Halt,
+    pub stop: Stop,
     pub more: u64,
     pub steps: u64,
 }
 
 /// Does what a task says. It takes the state by value, as a walk's loop does: behind a reference the bases and lengths
 /// of all tables would be loaded anew after each write to one.
+// The way to a row goes by it too, step by step, so that the search's loop has the one call of each large function and
+// takes it in.
 #[inline(never)]
 pub fn run_on<'a, 'u, D: Dance>(state: State<'a, D>, task: Task<'u>) -> (State<'a, D>, Ran)
     requires standing { IsStanding state.position.puzzle state.position.trail state.stack.levels true }
     requires levels_fit { most_levels state.position.puzzle ≤ state.stack.room }
-    requires led { AreLed state.position.puzzle [] state.position.trail state.stack.levels }
+    requires led { AreLedBy (not task.early) state.position.puzzle [] state.position.trail state.stack.levels }
     requires before { is_before (option_map (λ u. u.now) task.until)
         (row_at state.position.puzzle state.stack.levels) ≡ true }
-    ensures { RanTo state.entry.position state.entry.stack task.entry.over task.entry.steps
-        (option_map (λ u. u.now) task.entry.until)
-        result.1.halt result.0.position result.0.stack result.1.more result.1.steps }
+    requires behind { task.behind ≡ true → (x : List ℕ) → is_before (option_map (λ u. u.now) task.until)
+        (row_at state.position.puzzle state.stack.levels ++ x) ≡ true }
+    ensures { RunsTo (not task.entry.early) (not task.entry.behind) (option_map (λ u. u.now) task.entry.until)
+        state.entry.position state.entry.stack task.entry.over task.entry.steps
+        result.1.stop result.0.position result.0.stack result.1.more result.1.steps }
 {
     let State {
         mut position,
         mut stack,
     } = state;
-    let ran = run(&mut position, &mut stack, task.until, task.over, task.steps);
+    let ran = run(&mut position, &mut stack, task);
     (State { position, stack }, ran)
 }
 
-/// Passes over so many members of a span that ends before `until`, and stands at the next, unless that takes more than
-/// `most` branches to begin.
+/// Does what a task says.
 // No wish to be inlined: its one call is, as that of `advance` is.
-fn run<D: Dance>(
-    position: &mut Position<D>,
-    stack: &mut Stack,
-    until: Option<&[u32]>,
-    many: u64,
-    most: u64,
-) -> Ran
+fn run<'u, D: Dance>(position: &mut Position<D>, stack: &mut Stack, task: Task<'u>) -> Ran
     requires standing { IsStanding position.old.puzzle position.old.trail stack.old.levels true }
     requires levels_fit { most_levels position.old.puzzle ≤ stack.old.room }
-    requires led { AreLed position.old.puzzle [] position.old.trail stack.old.levels }
-    requires before { is_before (option_map (λ u. u.now) until) (row_at position.old.puzzle stack.old.levels) ≡ true }
-    ensures stands { (result.halt ≡ Halt.Member) ⊎ (result.halt ≡ Halt.Steps) →
-        Stands position.old stack.old many position.new stack.new result.more (most - result.steps) }
-    ensures before { (result.halt ≡ Halt.Member) ⊎ (result.halt ≡ Halt.Steps) →
-        is_before (option_map (λ u. u.now) until.entry) (row_at position.new.puzzle stack.new.levels) ≡ true }
-    ensures solved { result.halt ≡ Halt.Member → (result.more ≡ 0)
-        × IsSolved position.new.puzzle position.new.trail stack.new.levels }
-    ensures ran_out { result.halt ≡ Halt.Steps → result.steps ≡ 0 }
-    ensures ended { result.halt ≡ Halt.End →
-        EndsSpan position.old stack.old many (option_map (λ u. u.now) until.entry) position.new stack.new result.more }
-    ensures fewer { result.more ≤ many }
-    ensures within { result.steps ≤ most }
+    requires led { AreLedBy (not task.early) position.old.puzzle [] position.old.trail stack.old.levels }
+    requires before { is_before (option_map (λ u. u.now) task.until) (row_at position.old.puzzle stack.old.levels)
+        ≡ true }
+    requires behind { task.behind ≡ true → (x : List ℕ) → is_before (option_map (λ u. u.now) task.until)
+        (row_at position.old.puzzle stack.old.levels ++ x) ≡ true }
+    ensures { RunsTo (not task.entry.early) (not task.entry.behind) (option_map (λ u. u.now) task.entry.until)
+        position.old stack.old task.entry.over task.entry.steps
+        result.stop position.new stack.new result.more result.steps }
 {
-    let mut more = many;
-    let mut steps = most;
+    let Task {
+        until,
+        behind,
+        early,
+        over,
+        steps,
+    } = task;
+    let mut more = over;
+    let mut steps = steps;
+    // Where it begins behind what is left, that is asked at once.
+    let mut last = if behind {
+        stack.levels().len()
+    } else {
+        usize::MAX
+    };
+    let mut rest = first_rest(stack.levels(), until, behind);
     while steps > 0 {
-        match enter_branch(position, stack, &mut more) {
+        match enter_branch(position, stack, rest, early, &mut more, &mut last) {
             Next::Branch(entered) => position.commit_branch(entered.item, entered.place as u32),
             Next::Solution => {
                 return Ran {
-                    halt: Halt::Member,
+                    stop: Stop::Member,
                     more,
                     steps,
                 };
             }
             Next::Nothing => {
                 return Ran {
-                    halt: Halt::End,
+                    stop: Stop::Nothing,
                     more,
                     steps,
                 };
             }
         }
         steps -= 1;
-        if !is_before(stack.levels(), until) {
-            return Ran {
-                halt: Halt::End,
-                more,
-                steps,
+        if let Some(until) = until {
+            rest = match place_of(stack.levels(), until) {
+                Place::Before => Rest::Before,
+                Place::Begins => Rest::About,
+                Place::Reached => {
+                    return Ran {
+                        stop: Stop::Row,
+                        more,
+                        steps,
+                    };
+                }
             };
         }
     }
     Ran {
-        halt: Halt::Steps,
+        stop: Stop::Steps,
         more,
         steps,
+    }
+}
+
+/// Goes on until the row of the levels doesn't come before `from`, into no branch but those whose rows begin it. False
+/// where all levels ended, since no branch has a row that late.
+pub fn reach<'a, D: Dance>(state: &mut State<'a, D>, from: &[u32]) -> bool
+    requires standing { IsStanding state.old.position.puzzle state.old.position.trail state.old.stack.levels true }
+    requires levels_fit { most_levels state.old.position.puzzle ≤ state.old.stack.room }
+    requires led { AreLed state.old.position.puzzle [] state.old.position.trail state.old.stack.levels }
+    ensures still { state.new.position ≡ record state.old.position { trail = state.new.position.trail } }
+    ensures levels { state.new.stack ≡ record state.old.stack { levels = state.new.stack.levels } }
+    ensures stacked { AreStacked state.new.position.puzzle state.new.position.trail state.new.stack.levels }
+    ensures standing { result ≡ true →
+        IsStanding state.new.position.puzzle state.new.position.trail state.new.stack.levels true }
+    ensures led { result ≡ true →
+        AreLed state.new.position.puzzle [] state.new.position.trail state.new.stack.levels }
+    ensures reached { result ≡ true →
+        precedes (row_at state.new.position.puzzle state.new.stack.levels) from.now ≡ false }
+    ensures kept { result ≡ true →
+        filter (λ m. not (precedes (row_of m) from.now))
+        (coming state.old.position.puzzle state.old.position.trail state.old.stack.levels true)
+        ≡ filter (λ m. not (precedes (row_of m) from.now))
+        (coming state.new.position.puzzle state.new.position.trail state.new.stack.levels true) }
+    ensures none { result ≡ false →
+        filter (λ m. not (precedes (row_of m) from.now))
+        (coming state.old.position.puzzle state.old.position.trail state.old.stack.levels true) ≡ [] }
+{
+    loop {
+        let behind = match place_of(state.stack.levels(), from) {
+            Place::Reached => return true,
+            Place::Before => true,
+            Place::Begins => false,
+        };
+        // One step passes over no more than one member that is counted.
+        let task = Task {
+            until: Some(from),
+            behind,
+            early: false,
+            over: 1,
+            steps: 1,
+        };
+        match replace_with(state, task, run_on).stop {
+            Stop::Member | Stop::Steps | Stop::Row => {}
+            Stop::Nothing => return false,
+        }
+    }
+}
+
+/// Passes over so many members of a span that ends before `until`, and stands at the next, unless that takes more than
+/// so many branches to begin; as many as it takes, where `u64::MAX` are allowed.
+pub fn go_over<'a, 'u, D: Dance>(
+    state: &mut State<'a, D>,
+    until: Option<&'u [u32]>,
+    over: u64,
+    steps: u64,
+) -> Ran
+    requires standing { IsStanding state.old.position.puzzle state.old.position.trail state.old.stack.levels true }
+    requires levels_fit { most_levels state.old.position.puzzle ≤ state.old.stack.room }
+    requires led { AreLed state.old.position.puzzle [] state.old.position.trail state.old.stack.levels }
+    requires before { is_before (option_map (λ u. u.now) until)
+        (row_at state.old.position.puzzle state.old.stack.levels) ≡ true }
+    requires some { 0 < steps }
+    ensures { RanTo state.old.position state.old.stack over steps (option_map (λ u. u.now) until.entry)
+        result.stop state.new.position state.new.stack result.more result.steps }
+{
+    let early = steps == u64::MAX;
+    let mut more = over;
+    let mut left = steps;
+    loop {
+        let task = Task {
+            until,
+            behind: false,
+            early,
+            over: more,
+            steps: left,
+        };
+        let ran = replace_with(state, task, run_on);
+        match ran.stop {
+            Stop::Steps => {
+                if !early {
+                    return ran;
+                }
+                // No row is told of a branch that an early choice led to, so it goes on.
+                more = ran.more;
+                left = 1;
+            }
+            Stop::Member | Stop::Row | Stop::Nothing => return ran,
+        }
     }
 }

@@ -1,6 +1,6 @@
 -- A search of a span went on from one row to another.
 use Rattle.std.proofs.lemmas.Bool.Decides.{nat_tests}
-use Rattle.std.proofs.Common.{ℕ, suc, ◌≡◌, ◌+◌, ◌-◌, ◌<◌, Bool, true, false, not, ◌&&◌, List, [], ◌∷◌, ◌++◌, filter}
+use Rattle.std.proofs.Common.{ℕ, suc, ◌≡◌, ◌+◌, ◌-◌, ◌<◌, Bool, true, false, not, List, [], ◌∷◌, ◌++◌, filter}
 use Rattle.std.proofs.Common.{length, cond, Option, Some, None, refl, sym, ap, ◌∙◌, arith, subst, length-append, ◌⊎◌}
 use Rattle.std.proofs.Common.{inl, inr}
 use Rattle.std.proofs.lemmas.List.Elements.{filter_agree}
@@ -19,17 +19,15 @@ use Rattle.xc_search.specs.inner.Levels.{Levels, choices_of, coming, to_give}
 use Rattle.xc_search.specs.inner.Ahead.{IsSolved}
 use Rattle.xc_search.specs.inner.Paths.{AreLed}
 use Rattle.xc_search.specs.inner.Spanning.{row_at, row_from, Stands, EndsSpan}
-use Rattle.xc_input.proofs.lists.Filters.{filter_both}
 use Rattle.xc_search.proofs.Cases.{by_bool, by_number, mapped_none}
 use Rattle.xc_search.proofs.residual.BranchItemLeft.{choice_is_branch_item}
 use Rattle.xc_search.proofs.listing.Unrolled.{listing_at}
 use Rattle.xc_search.proofs.stacked.NextLevel.{solution}
-use Rattle.xc_search.proofs.spans.Rows.{not_before, before_not_before, before_either_way, not_itself}
-use Rattle.xc_search.proofs.spans.Rising.{is_within, spans_meet, keep_none}
-use Rattle.xc_input.proofs.lists.EachElement.{each_of_all}
+use Rattle.xc_search.proofs.spans.Rows.{before_not_before, before_either_way, not_itself}
+use Rattle.xc_search.proofs.spans.Rising.{spans_meet}
 use Rattle.xc_search.proofs.spans.Lies.{lies_behind, led_lies}
 use Rattle.xc_search.proofs.spans.Later.{led_later, led_after}
-use Rattle.xc_search.proofs.spans.Running.{led_from, between_kept}
+use Rattle.xc_search.proofs.spans.Running.{led_from, between_kept, within_span, none_within, came_to}
 
 -- ---- rows
 
@@ -61,7 +59,7 @@ pub record IsAt (p : Puzzle) (t : List Move) (ls : List Level) (down : Bool) : T
   pub led : AreLed p [] t ls
   pub solved : down ≡ false → IsSolved p t ls
 
-solved_alone : (p : Puzzle) (t : List Move) (ls : List Level) → IsSolved p t ls → listing (residual_of p t) ≡ [] ∷ []
+pub solved_alone : (p : Puzzle) (t : List Move) (ls : List Level) → IsSolved p t ls → listing (residual_of p t) ≡ [] ∷ []
 solved_alone p t ls s =
     let legal = (s.standing.searchable refl).legal in
     listing_at (residual_of p t) None (grind (arith, mapped_none, choice_is_branch_item p t legal, s.none))
@@ -69,7 +67,7 @@ solved_alone p t ls s =
 pub at_from : (p : Puzzle) (t : List Move) (ls : List Level) (down : Bool) → IsAt p t ls down
     → between p (row_from p ls down) None ≡ coming p t ls down
 at_from p t ls true a = led_from p t ls a.led
-at_from p t ls false a = lies_behind (led_lies p t ls a.led) (solved_alone p t ls (a.solved refl))
+at_from p t ls false a = lies_behind (led_lies true p t ls a.led) (solved_alone p t ls (a.solved refl))
 
 -- the member at which it stands isn't to come
 one_less : (p : Puzzle) (t : List Move) (ls : List Level) → IsSolved p t ls
@@ -86,18 +84,6 @@ lengths_meet p a b until ab bu = omega (
   length-append (between p a (Some b)) (between p b until),
   ap length (spans_meet p a b until ab bu),
 )
-
--- a span is what its end leaves of all behind its beginning
-pub within_span : (p : Puzzle) (from : List ℕ) (until : Option (List ℕ))
-    → between p from until ≡ filter (λ m. is_before until (row_of m)) (between p from None)
-within_span p from until =
-    sym (filter_both (λ m. is_before until (row_of m)) (is_within from None) (members p)
-    ∙ filter_agree _ _ (λ m. ap (λ b. b && is_before until (row_of m)) (and_true (not (precedes (row_of m) from))))
-    (members p))
-  where
-    and_true : (b : Bool) → b && true ≡ b
-    and_true true = refl
-    and_true false = refl
 
 shown_last : (front : List (List Choice)) (m : List Choice) (back : List (List Choice)) (was : List Choice)
     → shown_after (suc (length front)) (front ++ m ∷ back) was ≡ m
@@ -133,8 +119,9 @@ over_first many true = many - 1
 over_first many false = many
 
 -- it ran out of steps
-module _ {d e : Dancing} {ls ks : Levels} {down : Bool} {many n begun : ℕ} (a : IsAt d.puzzle d.trail ls.levels down)
-    (s : Stands d ls (over_first many down) e ks n begun) (some : 0 < many)
+module _ {d e : Dancing} {ls ks : Levels} {down : Bool} {many n begun : ℕ} {end : Option (List ℕ)}
+    (a : IsAt d.puzzle d.trail ls.levels down) (s : Stands true true end d ls (over_first many down) e ks n begun)
+    (some : 0 < many)
   where
     -- the row from which it went on, and the one at which it stands
     abbrev began : List ℕ
@@ -158,7 +145,7 @@ module _ {d e : Dancing} {ls ks : Levels} {down : Bool} {many n begun : ℕ} (a 
 
     counted : over_first many down + length (coming d.puzzle e.trail ks.levels true)
         ≡ n + length (coming d.puzzle d.trail ls.levels true)
-    counted = rw same_puzzle at s.count
+    counted = rw same_puzzle at (came_to s refl)
 
     -- fewer than it was to go on by
     pub still_more : 0 < begun → n < many
@@ -340,19 +327,9 @@ none_from p from all until is none =
     ∙ ap (filter (λ m. is_before until (row_of m)))
     (sym (from_row p from) ∙ ap (filter (λ m. not (precedes (row_of m) from))) (sym is) ∙ none)
 
--- a span that ends before it begins
-pub none_within : (p : Puzzle) (row : List ℕ) (until : Option (List ℕ)) → is_before until row ≡ false
-    → between p row until ≡ []
-none_within p row None past = absurd (cc past)
-none_within p row (Some u) past =
-    keep_none (is_within row (Some u)) (members p) (each_of_all _ (members p) (λ m.
-    by_bool (precedes (row_of m) row)
-    (λ e. grind (arith, nat_tests, e))
-    (λ e. grind (arith, nat_tests, e, not_before u row (row_of m) past e))))
-
 -- What a search that begins at a row stands for: whether it reached one, and that before its span's end.
 module _ (p : Puzzle) (t : List Move) (ls : List Level) (from : List ℕ) (until : Option (List ℕ))
-    (all : List (List Choice)) (reaches within : Bool) (led : AreLed p [] t ls) (start : all ≡ members p)
+    (all : List (List Choice)) (reaches within : Bool) (led : reaches ≡ true → AreLed p [] t ls) (start : all ≡ members p)
     (at : reaches ≡ true → precedes (row_at p ls) from ≡ false)
     (kept : reaches ≡ true → filter (λ m. not (precedes (row_of m) from)) all
     ≡ filter (λ m. not (precedes (row_of m) from)) (coming p t ls true))
@@ -360,7 +337,7 @@ module _ (p : Puzzle) (t : List Move) (ls : List Level) (from : List ℕ) (until
     (is : within ≡ is_before until (row_at p ls))
   where
     same : reaches ≡ true → between p from None ≡ between p (row_at p ls) None
-    same h = begins_from p t ls from all led (at h) start (kept h)
+    same h = begins_from p t ls from all (led h) (at h) start (kept h)
 
     pub first_left : (ended : Bool) → ended ≡ not reaches || not within
         → unwrap_or (option_map (λ row. between p row until) (cond ended None (Some (row_at p ls)))) []

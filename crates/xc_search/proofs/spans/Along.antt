@@ -58,7 +58,7 @@ led_along p t (l ∷ ls) s a =
     let row : row_at p (l ∷ ls) ≡ row_at p ls ++ l.begun ∷ [] =
     ap (map (λ c. c.k)) (choices_more p l ls) ∙ map-append (λ c. c.k) (choices_of p ls) (chosen p l ∷ []) in
     let count : length (branches_left (residual_of p u)) ≡ l.count =
-    ap length (left_here (residual_of p u) (wanted_at p u l.item) a.0.is_branch_item)
+    ap length (left_here (residual_of p u) (wanted_at p u l.item) a.0.leads)
     ∙ length-branches (residual_of p u) (wanted_at p u l.item) ∙ sym s.0.count in
     ap (branches_along (whole p)) row ∙ along_more (whole p) (row_at p ls) _ _ l.begun (led_leads p u ls a.1)
     ∙ ap₂ (λ xs n. xs ++ n ∷ []) (led_along p u ls s.2 a.1) count

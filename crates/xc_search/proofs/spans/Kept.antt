@@ -1,25 +1,16 @@
--- What a step of a search of a span keeps of the members still to come.
-use Rattle.std.proofs.lemmas.Grind.{common_steps}
-use Rattle.std.proofs.Common.{ℕ, zero, suc, ◌≡◌, ◌<◌, Bool, true, false, not, List, [], ◌++◌, map, filter}
-use Rattle.std.proofs.Common.{replicate, reverse, refl, sym, ap, ◌∙◌, arith}
-use Rattle.std.proofs.lemmas.List.{map-append, reverse-reverse}
-use Rattle.std.proofs.lemmas.List.Elements.{filter-append}
-use Rattle.xc_dance.specs.declared.dance.Move.{Move}
+-- On the way to a row.
+use Rattle.std.proofs.Common.{ℕ, ◌≡◌, Bool, true, not, List, [], map, filter, reverse, refl, sym, ap, ◌∙◌, arith, Option, Some, ◌++◌, append-nil, ap₂}
+use Rattle.std.proofs.lemmas.List.{reverse-reverse}
 use Rattle.xc_dance.specs.Dancing.{Dancing}
-use Rattle.xc_search.specs.declared.choice.Choice.{Choice}
 use Rattle.xc_search.specs.declared.level.Level.{Level}
 use Rattle.xc_input.specs.Problem.{Puzzle}
-use Rattle.xc_search.specs.Listing.{listing}
-use Rattle.xc_search.specs.Spans.{row_of, precedes}
-use Rattle.xc_search.specs.inner.Residual.{residual_of}
-use Rattle.xc_search.specs.inner.Levels.{Levels, IsStanding, choices_of, chosen, coming, to_give}
-use Rattle.xc_search.specs.inner.Ahead.{EntersBranch, IsDone, branched, work_left}
-use Rattle.xc_search.specs.inner.Paths.{AreLed, KeepsPath}
-use Rattle.xc_search.specs.inner.Spanning.{row_at, Begins, Ends}
-use Rattle.xc_input.proofs.lists.EachElement.{each-map, each_of_all}
+use Rattle.xc_search.specs.Spans.{row_of, precedes, is_before}
+use Rattle.xc_search.specs.inner.Levels.{Levels, IsStanding, chosen, coming}
+use Rattle.xc_search.specs.inner.Paths.{AreLed}
+use Rattle.xc_search.specs.inner.Spanning.{row_at, Ends, IsRest, Stands}
+use Rattle.xc_search.specs.declared.spanning.Rest.TheVariants.{Before, About}
 use Rattle.xc_input.proofs.lists.Filters.{map-map}
-use Rattle.xc_search.proofs.stacked.PassedOver.{stands_behind}
-use Rattle.xc_search.proofs.spans.Rising.{keep_none}
+use Rattle.xc_search.proofs.spans.Passing.{over_keeps}
 
 -- the row of the levels, by their numbers from the oldest on
 pub row_levels : (p : Puzzle) (vs ls : List Level) → reverse vs ≡ ls → map (λ (l : Level). l.begun) vs ≡ row_at p ls
@@ -27,42 +18,23 @@ row_levels p vs ls e =
     sym (ap (λ ls. row_of (map (chosen p) (reverse ls))) (sym e)
     ∙ ap (λ vs. row_of (map (chosen p) vs)) (reverse-reverse vs) ∙ map-map (chosen p) (λ c. c.k) vs)
 
-filter_others : {X : Type 0} (q : X → Bool) (n : ℕ) (x : X) (xs : List X) → q x ≡ false
-    → filter q (replicate n x ++ xs) ≡ filter q xs
-filter_others q zero x xs e = refl
-filter_others q (suc n) x xs e = rw e (filter_others q n x xs e)
+-- what a row tells of the levels'
+pub rest_before : (p : Puzzle) (vs ls : List Level) (u : List ℕ) (until : Option (List ℕ)) → reverse vs ≡ ls
+    → until ≡ Some u → ((x : List ℕ) → precedes (map (λ (l : Level). l.begun) vs ++ x) u ≡ true)
+    → IsRest until p ls Before
+rest_before p vs ls u until e some before =
+    let row : row_at p ls ≡ map (λ (l : Level). l.begun) vs = sym (row_levels p vs ls e) in
+    record {
+      before = ap₂ is_before some (row ∙ sym (append-nil (map (λ (l : Level). l.begun) vs))) ∙ before [];
+      all = λ _ x. ap₂ is_before some (ap (λ r. r ++ x) row) ∙ before x;
+    }
 
--- a test that the levels' own choices fail passes what it passed
-pub begun_keeps : {d e : Dancing} {ls ks : Levels} {m n : ℕ} → Begins d ls m e ks n → (q : List Choice → Bool)
-    → q (choices_of d.puzzle ls.levels) ≡ false →
-    filter q (coming d.puzzle d.trail ls.levels true) ≡ filter q (coming e.puzzle e.trail ks.levels true)
-begun_keeps {d} {e} {ls} {ks} b q none =
-    ap (filter q) b.members
-    ∙ filter_others q b.over (choices_of d.puzzle ls.levels) (coming e.puzzle e.trail ks.levels true) none
-
-pub end_keeps : {d e : Dancing} {ls ks : Levels} {m n : ℕ} → Ends d ls m e ks n → (q : List Choice → Bool)
-    → q (choices_of d.puzzle ls.levels) ≡ false → filter q (coming d.puzzle d.trail ls.levels true) ≡ []
-end_keeps {d} {e} {ls} b q none =
-    ap (filter q) (b.members ∙ sym (append_nothing b.over))
-    ∙ filter_others q b.over (choices_of d.puzzle ls.levels) [] none
-  where
-    append_nothing : (n : ℕ) → replicate n (choices_of d.puzzle ls.levels) ++ []
-        ≡ replicate n (choices_of d.puzzle ls.levels)
-    append_nothing n = grind (arith, common_steps)
-
--- where all below the levels comes before a row, what is left from that row on is what the levels have to give
-pub skipped : (p : Puzzle) (t : List Move) (ls : List Level) (from : List ℕ)
-    → ((x : List ℕ) → precedes (row_at p ls ++ x) from ≡ true) →
-    filter (λ m. not (precedes (row_of m) from)) (coming p t ls true)
-    ≡ filter (λ m. not (precedes (row_of m) from)) (coming p t ls false)
-skipped p t ls from h =
-    let q = λ (m : List Choice). not (precedes (row_of m) from) in
-    let below = map (λ m. choices_of p ls ++ m) (listing (residual_of p t)) in
-    filter-append q below (to_give p t ls)
-    ∙ ap (λ xs. xs ++ filter q (to_give p t ls)) (keep_none q below
-    (each-map (λ m. q m ≡ false) (λ m. choices_of p ls ++ m) (listing (residual_of p t))
-    (each_of_all _ (listing (residual_of p t)) (λ m.
-    ap not (ap (λ r. precedes r from) (map-append (λ c. c.k) (choices_of p ls) m) ∙ h (row_of m))))))
+pub rest_about : (p : Puzzle) (vs ls : List Level) (u : List ℕ) (until : Option (List ℕ)) → reverse vs ≡ ls
+    → until ≡ Some u → precedes (map (λ (l : Level). l.begun) vs) u ≡ true → IsRest until p ls About
+rest_about p vs ls u until e some begins = record {
+  before = ap₂ is_before some (sym (row_levels p vs ls e)) ∙ begins;
+  all = λ h. absurd (h refl);
+}
 
 -- On the way to a row no member from that row on was passed over.
 pub record Reaching (d : Dancing) (ls : Levels) (e : Dancing) (ks : Levels) (from : List ℕ) : Type 0 where
@@ -77,63 +49,25 @@ pub record Reaching (d : Dancing) (ls : Levels) (e : Dancing) (ks : Levels) (fro
 pub record Unreached (d : Dancing) (ls : Levels) (e : Dancing) (ks : Levels) (from : List ℕ) : Type 0 where
   pub still : e ≡ record d { trail = e.trail }
   pub levels : ks ≡ record ls { levels = ks.levels }
-  pub standing : IsStanding e.puzzle e.trail ks.levels false
-  pub led : AreLed e.puzzle [] e.trail ks.levels
+  pub ended : ks.levels ≡ []
   pub none : filter (λ m. not (precedes (row_of m) from)) (coming d.puzzle d.trail ls.levels true) ≡ []
 
-nothing_stands : (e : Dancing) (ks : Levels) → ks.levels ≡ [] → IsStanding e.puzzle e.trail ks.levels false
-nothing_stands e ks h = stands_behind e.puzzle e.trail ks.levels (rw h tt)
-
 module _ {d e : Dancing} {ls ks : Levels} {from : List ℕ} (r : Reaching d ls e ks from) where
-  pub reaches_below : {f : Dancing} {js : Levels} {m n : ℕ} → precedes (row_at e.puzzle ks.levels) from ≡ true
-      → Begins e ks m f js n → Reaching d ls f js from
-  reaches_below before b =
-      let kept = begun_keeps b (λ m. not (precedes (row_of m) from)) (rw before refl) in
-      let led = b.path [] r.led in
-      record {
-        still = grind (arith, r.still, b.still);
-        levels = grind (arith, r.levels, b.still);
-        standing = b.standing;
-        led = led;
-        kept = r.kept ∙ kept;
-      }
+  pub reaches_on : {c : Bool} {f : Dancing} {js : Levels} {m n begun : ℕ}
+      → Stands true c (Some from) e ks m f js n begun → Reaching d ls f js from
+  reaches_on s = record {
+    still = grind (arith, r.still, s.still);
+    levels = grind (arith, r.levels, s.still);
+    standing = s.standing;
+    led = s.led;
+    kept = r.kept ∙ over_keeps s.over;
+  }
 
-  pub ends_below : {f : Dancing} {js : Levels} {m n : ℕ} → precedes (row_at e.puzzle ks.levels) from ≡ true
-      → Ends e ks m f js n → Unreached d ls f js from
-  ends_below {f} {js} before b =
-      let none = end_keeps b (λ m. not (precedes (row_of m) from)) (rw before refl) in
-      record {
-        still = grind (arith, r.still, b.still);
-        levels = grind (arith, r.levels, b.still);
-        standing = nothing_stands f js b.ended;
-        led = b.path [] r.led;
-        none = r.kept ∙ none;
-      }
-
-  pub reaches_behind : {f : Dancing} {js : Levels} {i q : ℕ}
-      → ((x : List ℕ) → precedes (row_at e.puzzle ks.levels ++ x) from ≡ true) → EntersBranch e ks false f js i q
-      → KeepsPath e ks (branched f i q) js →
-      Reaching d ls (branched f i q) js from × (work_left (branched f i q) js true < work_left e ks true)
-  reaches_behind before b path =
-      let kept = skipped e.puzzle e.trail ks.levels from before in (
-        record {
-          still = grind (arith, r.still, b.goes_on);
-          levels = grind (arith, r.levels, b.goes_on);
-          standing = b.goes_on.standing;
-          led = path [] r.led;
-          kept = r.kept ∙ kept ∙ ap (filter (λ m. not (precedes (row_of m) from))) b.goes_on.members;
-        },
-        omega (arith, b.less),
-      )
-
-  pub ends_behind : {f : Dancing} {js : Levels} → ((x : List ℕ) → precedes (row_at e.puzzle ks.levels ++ x) from ≡ true)
-      → IsDone e ks false f js → KeepsPath e ks f js → Unreached d ls f js from
-  ends_behind {f} {js} before b path =
-      let kept = skipped e.puzzle e.trail ks.levels from before in
-      record {
-        still = grind (arith, r.still, b.still);
-        levels = grind (arith, r.levels, b.still);
-        standing = nothing_stands f js b.ended;
-        led = path [] r.led;
-        none = r.kept ∙ kept ∙ ap (filter (λ m. not (precedes (row_of m) from))) b.members;
-      }
+  pub reaches_none : {c : Bool} {f : Dancing} {js : Levels} {m n : ℕ} → Ends c (Some from) e ks m f js n
+      → Unreached d ls f js from
+  reaches_none s = record {
+    still = grind (arith, r.still, s.still);
+    levels = grind (arith, r.levels, s.still);
+    ended = s.ended;
+    none = r.kept ∙ over_keeps s.over;
+  }

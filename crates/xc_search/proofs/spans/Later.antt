@@ -56,7 +56,7 @@ led_leads p t (l ∷ ls) a =
     let number : a.0.branch.choice.k ≡ l.begun = sym (ap (λ (c : Choice). c.k) a.0.choice) in
     let some : 0 < l.begun =
     omega (arith, number, (number_at (residual_of p u) w (l.begun - 1) a.0.branch a.0.at).1) in
-    let next = leads_more _ _ _ _ (led_leads p u ls a.1) w a.0.is_branch_item l.begun a.0.branch a.0.at some in
+    let next = leads_more _ _ _ _ (led_leads p u ls a.1) w a.0.leads l.begun a.0.branch a.0.at some in
     let row : row_of (choices_of p (l ∷ ls)) ≡ row_of (choices_of p ls) ++ l.begun ∷ [] =
     ap row_of (choices_more p l ls) ∙ map-append (λ c. c.k) (choices_of p ls) (chosen p l ∷ []) in
     let more : visits p u ls + suc (cost work (drop l.begun (branches_of (residual_of p u) w))) ≡ visits p t (l ∷ ls) =

@@ -1,6 +1,6 @@
 -- What a node of the search's tree has in the listing before it, below it and behind it.
 use Rattle.std.proofs.lemmas.Grind.{common_steps}
-use Rattle.std.proofs.Common.{ℕ, zero, suc, ◌≡◌, ◌+◌, ◌-◌, ◌<◌, ◌≤◌, true, false, List, [], ◌∷◌, ◌++◌, map, filter}
+use Rattle.std.proofs.Common.{ℕ, zero, suc, ◌≡◌, ◌+◌, ◌-◌, ◌<◌, ◌≤◌, Bool, true, false, List, [], ◌∷◌, ◌++◌, map, filter}
 use Rattle.std.proofs.Common.{take, drop, Some, None, refl, sym, ap, ap₂, ◌∙◌, arith, append_assoc, append-nil}
 use Rattle.std.specs.Prelude.{slice_get, flat_map}
 use Rattle.std.specs.List.{AllByRecursion}
@@ -11,14 +11,14 @@ use Rattle.xc_dance.specs.declared.dance.Move.{Move}
 use Rattle.xc_search.specs.declared.choice.Choice.{Choice}
 use Rattle.xc_search.specs.declared.level.Level.{Level}
 use Rattle.xc_input.specs.Problem.{Puzzle}
-use Rattle.xc_search.specs.Listing.{Wanted, Residual, Branch, whole, branch_item, branches_of, listing}
+use Rattle.xc_search.specs.Listing.{Wanted, Residual, Branch, whole, branches_of, level, listing}
 use Rattle.xc_search.specs.Cover.{members}
 use Rattle.xc_search.specs.Spans.{row_of, precedes, between}
 use Rattle.xc_search.specs.inner.Commits.{oldest}
 use Rattle.xc_search.specs.inner.Residual.{residual_of}
 use Rattle.xc_search.specs.Residuals.{wanted_at}
 use Rattle.xc_search.specs.inner.Levels.{branches_at, members_of, choices_of, to_give}
-use Rattle.xc_search.specs.inner.Paths.{AreLed}
+use Rattle.xc_search.specs.inner.Paths.{AreLedBy, MayLead}
 use Rattle.xc_input.proofs.lists.EachElement.{each-append, each-map, each_weaker, each_of_all}
 use Rattle.xc_input.proofs.lists.Filters.{keep_all, map-same}
 use Rattle.xc_input.proofs.lists.Places.{drop_at}
@@ -116,8 +116,8 @@ members_at path bs j b e =
 
 -- a node one branch further down
 lies_next : (p : Puzzle) (path : List Choice) (r : Residual) (after : List (List Choice)) → LiesAt p path r after
-    → (w : Wanted) → branch_item r ≡ Some w → (k : ℕ) (b : Branch) → slice_get (branches_of r w) (k - 1) ≡ Some b
-    → b.choice.k ≡ k →
+    → (w : Wanted) → listing r ≡ level listing (Some w) r → (k : ℕ) (b : Branch)
+    → slice_get (branches_of r w) (k - 1) ≡ Some b → b.choice.k ≡ k →
     LiesAt p (path ++ b.choice ∷ []) b.next (members_of path (drop k (branches_of r w)) ++ after)
 lies_next p path r after l w e k b at number =
     let bs = branches_of r w in
@@ -126,9 +126,8 @@ lies_next p path r after l w e k b at number =
     λ j x q. omega (arith, (number_at r w j x q).1) in
     let row : row_of (path ++ b.choice ∷ []) ≡ row_of path ++ k ∷ [] =
     branch_row path [] b.choice ∙ ap (λ k. row_of path ++ k ∷ []) number in
-    let below = listing_at r (Some w) e in
     let here : map (λ m. path ++ m) (listing r) ≡ members_of path bs =
-    ap (map (λ m. path ++ m)) below ∙ members_all path bs in
+    ap (map (λ m. path ++ m)) e ∙ members_all path bs in
     let mid = map (λ m. (path ++ b.choice ∷ []) ++ m) (listing b.next) in
     let split : members_of path bs ≡ members_of path (take (k - 1) bs) ++ (mid ++ members_of path (drop k bs)) =
     members_at path bs (k - 1) b at
@@ -150,16 +149,22 @@ lies_next p path r after l w e k b at number =
           (λ m h x. rw (append_assoc (row_of path) (k ∷ []) x) (h (k ∷ x))) l.behind));
     }
 
-pub led_lies : (p : Puzzle) (t : List Move) (ls : List Level) → AreLed p [] t ls
+-- an item that may lead lists what is left
+pub lists_by : (x : Bool) (p : Puzzle) (t : List Move) (i : ℕ) → MayLead x p t i
+    → listing (residual_of p t) ≡ level listing (Some (wanted_at p t i)) (residual_of p t)
+lists_by true p t i leads = listing_at (residual_of p t) (Some (wanted_at p t i)) leads
+lists_by false p t i leads = leads.0
+
+pub led_lies : (x : Bool) (p : Puzzle) (t : List Move) (ls : List Level) → AreLedBy x p [] t ls
     → LiesAt p (choices_of p ls) (residual_of p t) (to_give p t ls)
 unfolding branches_at
-led_lies p t [] a = rw a (rw (no_moves_leave_all p) (lies_first p))
-led_lies p t (l ∷ ls) a =
+led_lies x p t [] a = rw a (rw (no_moves_leave_all p) (lies_first p))
+led_lies x p t (l ∷ ls) a =
     let u = oldest l.mark t in
     let number : a.0.branch.choice.k ≡ l.begun = sym (ap (λ (c : Choice). c.k) a.0.choice) in
-    let next = lies_next p (choices_of p ls) (residual_of p u) (to_give p u ls) (led_lies p u ls a.1)
+    let next = lies_next p (choices_of p ls) (residual_of p u) (to_give p u ls) (led_lies x p u ls a.1)
     (wanted_at p u l.item)
-    a.0.is_branch_item l.begun a.0.branch a.0.at number in
+    (lists_by x p u l.item a.0.leads) l.begun a.0.branch a.0.at number in
     rw (choices_more p l ls, a.0.choice, a.0.next) next
 
 -- ---- spans that begin there

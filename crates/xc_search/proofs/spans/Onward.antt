@@ -1,27 +1,44 @@
 -- The steps of a search of a span.
-use Rattle.std.proofs.lemmas.Grind.{common_steps}
-use Rattle.std.proofs.Common.{ℕ, ◌≡◌, ◌+◌, ◌≤◌, true, false, ◌++◌, replicate, arith}
+use Rattle.std.proofs.Common.{ℕ, ◌<◌, Bool, true, false, List, Option, refl, arith}
 use Rattle.xc_dance.specs.Dancing.{Dancing}
-use Rattle.xc_search.specs.inner.Levels.{Levels, IsStanding, coming, choices_of}
-use Rattle.xc_search.specs.inner.Ahead.{EntersBranch, IsDone, work_left, branched}
-use Rattle.xc_search.specs.inner.Paths.{KeepsPath}
-use Rattle.xc_search.specs.inner.Spanning.{Enters, Ends}
+use Rattle.xc_search.specs.inner.Residual.{residual_of}
+use Rattle.xc_search.specs.inner.Levels.{Levels, IsStanding, coming}
+use Rattle.xc_search.specs.inner.Ahead.{EntersBranch, GoesOn, IsDone, branched, work_left}
+use Rattle.xc_search.specs.inner.Paths.{KeepsBy}
+use Rattle.xc_search.specs.inner.Spanning.{Enters, Ends, Falls, PassesOver}
+use Rattle.xc_search.proofs.stacked.LessWork.{some_work}
+use Rattle.xc_search.proofs.stacked.PassedOver.{stands_behind}
+use Rattle.xc_search.proofs.spans.Passing.{over_none, over_more}
 
--- Nothing is left below, and what it passed over is what the levels ls led to.
-pub record Falls (d : Dancing) (ls : Levels) (m : ℕ) (e : Dancing) (ks : Levels) (n : ℕ) : Type 0 where
-  pub still : (e ≡ record d { trail = e.trail }) × (ks ≡ record ls { levels = ks.levels })
-  pub standing : IsStanding e.puzzle e.trail ks.levels false
-  pub path : KeepsPath d ls e ks
-  pub less : work_left e ks false ≤ work_left d ls true
-  pub over : ℕ
-  pub count : m ≡ over + n
-  pub members : coming d.puzzle d.trail ls.levels true
-      ≡ replicate over (choices_of d.puzzle ls.levels) ++ coming e.puzzle e.trail ks.levels false
+-- what is left below is passed over with no move
+pub falls_over : (x c : Bool) (until : Option (List ℕ)) (d : Dancing) (ls : Levels) (m n : ℕ)
+    → IsStanding d.puzzle d.trail ls.levels true
+    → PassesOver c until m n (coming d.puzzle d.trail ls.levels true) (coming d.puzzle d.trail ls.levels false)
+    → Falls x c until d ls m d ls n
+falls_over x c until d ls m n s over = record {
+  still = (refl, refl);
+  standing = stands_behind d.puzzle d.trail ls.levels s.stacked;
+  path = λ u a. a;
+  less = omega (arith, some_work (residual_of d.puzzle d.trail));
+  over = over;
+}
+
+-- nothing is left below
+pub falls_back : {d e : Dancing} {ls ks : Levels} (x c : Bool) (until : Option (List ℕ)) (m : ℕ)
+    → GoesOn d ls true e ks false → work_left e ks false < work_left d ls true → KeepsBy x d ls e ks
+    → Falls x c until d ls m e ks m
+falls_back x c until m on fewer path = record {
+  still = on.still;
+  standing = on.standing;
+  path = path;
+  less = omega (arith, fewer);
+  over = over_none c until m _ _ on.members;
+}
 
 -- a branch below is entered
-pub enters_below : {d e : Dancing} {ls ks : Levels} (m : ℕ) {i q : ℕ} → EntersBranch d ls true e ks i q
-    → KeepsPath d ls (branched e i q) ks → Enters d ls m e ks m i q
-enters_below m b path = record {
+pub enters_below : {d e : Dancing} {ls ks : Levels} {i q : ℕ} (x c : Bool) (until : Option (List ℕ)) (m : ℕ)
+    → EntersBranch d ls true e ks i q → KeepsBy x d ls (branched e i q) ks → Enters x c until d ls m e ks m i q
+enters_below x c until m b path = record {
   can = b.can;
   place = b.place;
   begins = record {
@@ -29,18 +46,31 @@ enters_below m b path = record {
     standing = b.goes_on.standing;
     path = path;
     less = b.less;
-    over = 0;
-    count = omega arith;
-    members = b.goes_on.members;
+    over = over_none c until m _ _ b.goes_on.members;
   };
 }
 
 -- a branch of a level is entered
-pub enters_back : {d e f : Dancing} {ls ks js : Levels} {m n i q : ℕ} → Falls d ls m e ks n
-    → EntersBranch e ks false f js i q → KeepsPath e ks (branched f i q) js → Enters d ls m f js n i q
-enters_back back b path = grind (arith, back, b, path)
+pub enters_back : {x c : Bool} {until : Option (List ℕ)} {d e f : Dancing} {ls ks js : Levels} {m n i q : ℕ}
+    → Falls x c until d ls m e ks n → EntersBranch e ks false f js i q → KeepsBy x e ks (branched f i q) js
+    → Enters x c until d ls m f js n i q
+enters_back {x} {c} {until} {n = n} back b path = record {
+  can = b.can;
+  place = b.place;
+  begins = record {
+    still = grind (arith, back.still, b.goes_on.still);
+    standing = b.goes_on.standing;
+    path = λ u a. path u (back.path u a);
+    less = omega (arith, back.less, b.less);
+    over = over_more back.over (over_none c until n _ _ b.goes_on.members);
+  };
+}
 
 -- all levels end
-pub ends_back : {d e f : Dancing} {ls ks js : Levels} {m n : ℕ} → Falls d ls m e ks n → IsDone e ks false f js
-    → KeepsPath e ks f js → Ends d ls m f js n
-ends_back back done path = grind (arith, common_steps, back, done, path)
+pub ends_back : {x c : Bool} {until : Option (List ℕ)} {d e f : Dancing} {ls ks js : Levels} {m n : ℕ}
+    → Falls x c until d ls m e ks n → IsDone e ks false f js → Ends c until d ls m f js n
+ends_back {x} {c} {until} {n = n} back done = record {
+  still = grind (arith, back.still, done.still);
+  ended = done.ended;
+  over = over_more back.over (over_none c until n _ _ done.members);
+}

@@ -20,7 +20,7 @@ use Rattle.xc_search.proofs.stacked.BegunComesFirst.{begun_coming}
 use Rattle.xc_search.proofs.stacked.Depth.{shallower}
 use Rattle.xc_search.specs.inner.Levels.{after_branch}
 use Rattle.xc_search.proofs.stacked.NextLevel.{ext_whole, ext_after_spend}
-use Rattle.xc_search.specs.inner.Paths.{KeepsPath, AreLed, IsBranchItem}
+use Rattle.xc_search.specs.inner.Paths.{KeepsBy, AreLedBy, MayLead}
 use Rattle.xc_search.proofs.stacked.Led.{led_begun}
 use Rattle.xc_search.specs.inner.Ahead.{work_left}
 use Rattle.xc_search.specs.inner.Residual.{residual_of}
@@ -83,9 +83,9 @@ pub enters_next : (d f : Dancing) (l : Level) (b : Begun) (vs ks : Levels) → A
     → vs.levels ≡ l ∷ drop 1 vs.levels → f ≡ record d { trail = f.trail }
     → IsEntered d.puzzle (oldest l.base d.trail) l f.trail (begun_level b l)
     → ks ≡ record vs { levels = newest_begun b vs.levels } → EntersBranch d vs false f ks l.item b.place
-    × ((u : List Move) → IsBranchItem d.puzzle (oldest l.mark d.trail) l.item
-    → AreLed d.puzzle u (oldest l.mark d.trail) (drop 1 vs.levels)
-    → AreLed f.puzzle u (branched f l.item b.place).trail ks.levels)
+    × ((x : Bool) (u : List Move) → MayLead x d.puzzle (oldest l.mark d.trail) l.item
+    → AreLedBy x d.puzzle u (oldest l.mark d.trail) (drop 1 vs.levels)
+    → AreLedBy x f.puzzle u (branched f l.item b.place).trail ks.levels)
 enters_next d f l b vs ks stacked top ef entered ek =
     let p = d.puzzle in
     let k = begun_level b l in
@@ -98,10 +98,11 @@ enters_next d f l b vs ks stacked top ef entered ek =
     let under = oldest-oldest l.mark l.base d.trail here.0.within.0 here.0.within.1 in
     let levels : ks ≡ record vs { levels = k ∷ js } = ek ∙ ap (λ ls. record vs { levels = newest_begun b ls }) top in
     rw levels (subst (λ (f : Dancing). EntersBranch d vs false f (record vs { levels = k ∷ js }) l.item b.place
-    × ((u : List Move) → IsBranchItem p (oldest l.mark d.trail) l.item → AreLed p u (oldest l.mark d.trail) js
-    → AreLed f.puzzle u (branched f l.item b.place).trail (k ∷ js))) (sym ef) (
+    × ((x : Bool) (u : List Move) → MayLead x p (oldest l.mark d.trail) l.item
+    → AreLedBy x p u (oldest l.mark d.trail) js → AreLedBy x f.puzzle u (branched f l.item b.place).trail (k ∷ js)))
+    (sym ef) (
       grind (arith, entered, all, back, shallower p s v l k js back.0 entered.begun, top),
-      λ u first a. led_begun p u s v l k js entered.begun (rw under first) (rw under a),
+      λ x u first a. led_begun x p u s v l k js entered.begun (rw under first) (rw under a),
     ))
 
 -- a new level's first branch is entered
@@ -109,7 +110,7 @@ pub enters_first : {d e : Dancing} {ls : Levels} {i n : ℕ} {l : Level} → Ope
     (ks : Levels) (b : Begun) → f ≡ record e { trail = f.trail }
     → IsEntered e.puzzle e.trail l f.trail (begun_level b l) → ks ≡ with_level (begun_level b l) ls
     → EntersBranch d ls true f ks i b.place
-    × (IsBranchItem d.puzzle d.trail i → KeepsPath d ls (branched f i b.place) ks)
+    × ((x : Bool) → MayLead x d.puzzle d.trail i → KeepsBy x d ls (branched f i b.place) ks)
 enters_first {d} {e} {ls} {i} {n} {l} o f ks b ef entered ek =
     let down = deepens o in
     let item : l.item ≡ i = ap (λ (l : Level). l.item) o.level in
@@ -119,7 +120,7 @@ enters_first {d} {e} {ls} {i} {n} {l} o f ks b ef entered ek =
     let work = ap (λ p. visits p e.trail (l ∷ ls.levels)) same in
     let enters = goes_on_to d e f ls (with_level l ls) ks _ _ l.item b.place down.0 (omega (arith, down.1, work))
     next.0 in
-    rw (← item) (enters, λ first u a. next.1 u (rw (down.2, same) first) (rw (down.2, same) a))
+    rw (← item) (enters, λ x first u a. next.1 x u (rw (down.2, same) first) (rw (down.2, same) a))
 
 -- where what is left has no solution
 goes_behind : (d e : Dancing) (ls : Levels) → e ≡ d → IsStanding d.puzzle d.trail ls.levels true
@@ -130,13 +131,13 @@ goes_behind d e ls same s none = grind (arith, stands_behind, some_work)
 -- a level without branches ends at once, in the state before
 pub passes_over : {d e : Dancing} {ls : Levels} {i n : ℕ} {l : Level} → Opens d e ls i n l → (f : Dancing) → n ≡ 0
     → f ≡ record e { trail = oldest l.mark e.trail } → GoesOn d ls true f ls false
-    × (work_left f ls false < work_left d ls true) × KeepsPath d ls f ls
+    × (work_left f ls false < work_left d ls true) × ((x : Bool) → KeepsBy x d ls f ls)
 passes_over {d} {ls = ls} {i = i} {n = n} o f none ef =
     let r = residual_of d.puzzle d.trail in
     let same : f ≡ d = ef ∙ ap₂ (λ (e : Dancing) t. record e { trail = t }) o.spent (deepens o).2 in
     let listed = none_listed r (wanted_at d.puzzle d.trail i) (open_in d.puzzle d.trail i o.next.item o.next.is_open)
     (sym o.next.count ∙ none) in
-    let went = goes_behind d f ls same o.standing listed in (went.0, went.1, λ u a. rw same a)
+    let went = goes_behind d f ls same o.standing listed in (went.0, went.1, λ x u a. rw same a)
 
 -- what is asked back at a level
 pub back_at : (p : Puzzle) (t r : List Move) (l : Level) (ls : List Level) → AreStacked p t (l ∷ ls)

@@ -1,33 +1,52 @@
 -- No public clause cites this module. The paths that the levels of a search stand for.
-use Rattle.std.specs.Prelude.{ℕ, ◌-◌, ◌≡◌, List, [], ◌∷◌, Some, slice_get}
+use Rattle.std.specs.Prelude.{ℕ, ◌-◌, ◌≡◌, ◌≢◌, Bool, true, false, List, [], ◌∷◌, Option, Some, slice_get}
 use Rattle.xc_dance.specs.declared.dance.Move.{Move}
 use Rattle.xc_search.specs.declared.level.Level.{Level}
 use Rattle.xc_input.specs.Problem.{Puzzle}
-use Rattle.xc_search.specs.Listing.{Branch, branch_item}
-use Rattle.xc_search.specs.Residuals.{wanted_at}
+use Rattle.xc_search.specs.Listing.{Branch, branch_item, level, listing}
+use Rattle.xc_search.specs.Residuals.{wanted_at, choice_after}
 use Rattle.xc_dance.specs.Dancing.{Dancing}
 use Rattle.xc_search.specs.inner.Commits.{oldest}
 use Rattle.xc_search.specs.inner.Residual.{residual_of}
-use Rattle.xc_search.specs.inner.Levels.{Levels, branches_at, chosen}
+use Rattle.xc_search.specs.inner.Levels.{Levels, IsEarlyChoice, branches_at, chosen}
 
 -- item i is the branch item of what the moves leave
 abbrev pub IsBranchItem : Puzzle → List Move → ℕ → Type 0
 IsBranchItem p t i = branch_item (residual_of p t) ≡ Some (wanted_at p t i)
 
--- the level's newest branch is one of the branch item, and leaves what the moves t leave
-pub record IsLed (p : Puzzle) (t : List Move) (l : Level) : Type 0 where
-  pub is_branch_item : IsBranchItem p (oldest l.mark t) l.item
+-- exactly: item i is the branch item; else it lists what is left, and is the branch item where that has members
+abbrev pub MayLead : Bool → Puzzle → List Move → ℕ → Type 0
+MayLead true p t i = IsBranchItem p t i
+MayLead false p t i =
+    (listing (residual_of p t) ≡ level listing (Some (wanted_at p t i)) (residual_of p t))
+    × (listing (residual_of p t) ≢ [] → IsBranchItem p t i)
+
+-- the branch item was chosen; or else an early choice was made
+abbrev pub IsChosenBy : Bool → Puzzle → List Move → Option (ℕ × ℕ) → Type 0
+IsChosenBy true p t o = o ≡ choice_after p t
+IsChosenBy false p t o = IsEarlyChoice p t o
+
+-- the level's newest branch is one of an item that may lead, and leaves what the moves t leave
+pub record IsLed (exact : Bool) (p : Puzzle) (t : List Move) (l : Level) : Type 0 where
+  pub leads : MayLead exact p (oldest l.mark t) l.item
   pub branch : Branch
   pub at : slice_get (branches_at p (oldest l.mark t) l.item) (l.begun - 1) ≡ Some branch
   pub choice : chosen p l ≡ branch.choice
   pub next : residual_of p t ≡ branch.next
 
 -- from the moves u the newest branches of the levels lead to the moves t
+abbrev pub AreLedBy : Bool → Puzzle → List Move → List Move → List Level → Type 0
+AreLedBy exact p u t [] = t ≡ u
+AreLedBy exact p u t (l ∷ ls) = IsLed exact p t l × AreLedBy exact p u (oldest l.mark t) ls
+
+-- by the branch items alone
 abbrev pub AreLed : Puzzle → List Move → List Move → List Level → Type 0
-AreLed p u t [] = t ≡ u
-AreLed p u t (l ∷ ls) = IsLed p t l × AreLed p u (oldest l.mark t) ls
+AreLed p u t ls = AreLedBy true p u t ls
 
 -- Where levels ls led to state d, levels ks lead to state e from the same moves.
+abbrev pub KeepsBy : Bool → Dancing → Levels → Dancing → Levels → Type 0
+KeepsBy exact d ls e ks =
+    (u : List Move) → AreLedBy exact d.puzzle u d.trail ls.levels → AreLedBy exact e.puzzle u e.trail ks.levels
+
 abbrev pub KeepsPath : Dancing → Levels → Dancing → Levels → Type 0
-KeepsPath d ls e ks =
-    (u : List Move) → AreLed d.puzzle u d.trail ls.levels → AreLed e.puzzle u e.trail ks.levels
+KeepsPath d ls e ks = KeepsBy true d ls e ks

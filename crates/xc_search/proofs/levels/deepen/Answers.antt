@@ -1,7 +1,7 @@
-use Rattle.std.proofs.Common.{arith, ◌≡◌, ◌∙◌, refl, sym}
+use Rattle.std.proofs.Common.{arith, ◌≡◌, refl}
 use Rattle.xc_search.specs.inner.Levels.{MayBranch}
 use Rattle.xc_search.proofs.stacked.Depth.{depth_at}
-use Rattle.xc_search.proofs.stacked.NextLevel.{chosen_item}
+use Rattle.xc_search.proofs.stacked.EarlyChoice.{chosen_leads}
 use Rattle.xc_search.proofs.stacked.LoopSteps.{Opens, node_at, deepens, may_enter, enters_first}
 use Rattle.xc_search.proofs.stacked.LoopSteps.{passes_over}
 use Rattle.xc_search.proofs.levels.deepen.Goals as goal
@@ -69,9 +69,10 @@ returns-clause-deeper g c b is =
     c.enter-branch.ensures.entered (rw c.begin_level.ensures at c.push.ensures)).0
 
 pub returns-clause-deeper_path : goal.returns-clause-deeper_path
-returns-clause-deeper_path g c b is chose =
+returns-clause-deeper_path g c b is x chose =
     let some = (goal.at.returns-clause-deeper_path g c).In-Some in
-    let first = chosen_item _ _ _ _ (c.requires.standing.searchable refl).legal (sym chose ∙ some.in-Some.is) in
+    let here = c.requires.standing.searchable refl in
+    let first = chosen_leads x _ _ _ _ here.valid here.legal (rw some.in-Some.is at chose) in
     rw (← same_branch _ b is) ((enters_first (opened g (goal.at.returns-clause-deeper_path g c).After-descend-level)
     c.enter-branch.new.self c.push.new.self c.enter-branch.result c.enter-branch.ensures.still
-    c.enter-branch.ensures.entered (rw c.begin_level.ensures at c.push.ensures)).1 first.branch)
+    c.enter-branch.ensures.entered (rw c.begin_level.ensures at c.push.ensures)).1 x first)

@@ -36,12 +36,12 @@ returns-then-level-clause-resumed g c =
     c.enter_next-branch.ensures.still c.enter_next-branch.ensures.entered c.note_branch.ensures).0
 
 pub returns-then-level-clause-resumed_path : goal.returns-then-level-clause-resumed_path
-returns-then-level-clause-resumed_path g c = λ u a.
+returns-then-level-clause-resumed_path g c = λ x u a.
     (enters_next c.loop-level.position c.enter_next-branch.new.position c.in-Some.level.now c.enter_next-branch.result
     c.loop-level.stack c.note_branch.new.self c.loop-level.invariant.goes_on.standing.stacked c.in-Some.ensures.some
-    c.enter_next-branch.ensures.still c.enter_next-branch.ensures.entered c.note_branch.ensures).1 u
-    (rw c.in-Some.ensures.some at (c.loop-level.invariant.path u a)).0.is_branch_item
-    (rw c.in-Some.ensures.some at (c.loop-level.invariant.path u a)).1
+    c.enter_next-branch.ensures.still c.enter_next-branch.ensures.entered c.note_branch.ensures).1 x u
+    (rw c.in-Some.ensures.some at (c.loop-level.invariant.path x u a)).0.leads
+    (rw c.in-Some.ensures.some at (c.loop-level.invariant.path x u a)).1
 
 pub loop-level-smaller : goal.loop-level-smaller
 loop-level-smaller g c = (back g c).1

@@ -1,13 +1,13 @@
-use Rattle.std.proofs.Common.{◌≤◌, false}
+use Rattle.std.proofs.Common.{◌≤◌, Bool, false}
 use Rattle.xc_search.specs.inner.Ahead.{visits, GoesOn}
-use Rattle.xc_search.specs.inner.Paths.{KeepsPath}
+use Rattle.xc_search.specs.inner.Paths.{KeepsBy}
 use Rattle.xc_search.proofs.levels.resume.Given as goal
 
 -- what the levels have still to give is what they had
 abbrev pub invariant-loop-level : goal.invariant-loop-level
 invariant-loop-level g l = record {
   goes_on : GoesOn l.initial.position l.initial.stack false l.position l.stack false;
-  path : KeepsPath l.initial.position l.initial.stack l.position l.stack;
+  path : (x : Bool) → KeepsBy x l.initial.position l.initial.stack l.position l.stack;
   less : visits l.position.puzzle l.position.trail l.stack.levels ≤ visits l.initial.position.puzzle
       l.initial.position.trail l.initial.stack.levels;
 }

@@ -1,47 +1,59 @@
-use Rattle.std.proofs.Common.{ℕ, ◌≡◌, true, List, ◌++◌, refl}
+use Rattle.std.proofs.Common.{ℕ, ◌≡◌, ◌++◌, List, [], map, true, refl, sym, ap, ◌∙◌, arith, append-nil}
+use Rattle.xc_dance.specs.Dancing.{Dancing}
 use Rattle.xc_search.specs.Spans.{precedes}
+use Rattle.xc_search.specs.inner.Levels.{Levels}
+use Rattle.xc_search.specs.inner.MostLevels.{most_levels}
 use Rattle.xc_search.specs.inner.Spanning.{row_at}
-use Rattle.xc_search.proofs.spans.Kept.{row_levels, reaches_below, ends_below, reaches_behind, ends_behind}
+use Rattle.xc_search.specs.declared.level.Level.{Level}
+use Rattle.xc_search.proofs.spans.Runs.{step_less, step_stands}
+use Rattle.xc_search.proofs.spans.Kept.{row_levels, reaches_on, reaches_none}
 use Rattle.xc_search.proofs.spanning.reach.Goals as goal
-use Rattle.xc_search.proofs.spanning.reach.Goals.{In-Begins, In-Before}
+use Rattle.xc_search.proofs.spanning.reach.Goals.{in-Before, in-Begins, Joined-place_of}
 
 pub returns-in-Reached-clause-reached : goal.returns-in-Reached-clause-reached
 returns-in-Reached-clause-reached g c _ =
-    rw (← row_levels c.loop-more.position.puzzle c.levels.result.now c.loop-more.stack.levels c.levels.ensures.levels)
-    (c.in-Reached.ensures.reached refl)
+    rw (← row_levels c.loop-behind.state.position.puzzle c.levels.result.now c.loop-behind.state.stack.levels
+    c.levels.ensures.levels) (c.place_of.ensures.reached c.in-Reached.is)
 
-begins : (g : _) (c : In-Begins g)
-    → precedes (row_at c.loop-more.position.puzzle c.loop-more.stack.levels) c.args.from.now ≡ true
-begins g c = rw (← row_levels c.loop-more.position.puzzle c.levels.result.now c.loop-more.stack.levels
-    c.levels.ensures.levels) (c.in-Begins.ensures.begins refl)
+module _ (g : _) (c : Joined-place_of g) where
+  abbrev row : List ℕ
+  row = row_at c.loop-behind.state.position.puzzle c.loop-behind.state.stack.levels
 
-before : (g : _) (c : In-Before g) (x : List ℕ)
-    → precedes (row_at c.loop-more.position.puzzle c.loop-more.stack.levels ++ x) c.args.from.now ≡ true
-before g c x =
-    rw (← row_levels c.loop-more.position.puzzle c.levels.result.now c.loop-more.stack.levels c.levels.ensures.levels)
-    (c.in-Before.ensures.before refl x)
+  is_row : map (λ (l : Level). l.begun) c.levels.result.now ≡ row
+  is_row = row_levels c.loop-behind.state.position.puzzle c.levels.result.now c.loop-behind.state.stack.levels
+      c.levels.ensures.levels
 
-pub commit_branch-requires-clause-can : goal.commit_branch-requires-clause-can
-commit_branch-requires-clause-can g c = (c.in-Branch.ensures.entered c.in-Branch.entered refl).can
+  before : precedes row c.args.from.now ≡ true
+  before = elim c.match-place_of.branch [
+    | in-Before w ↦
+        ap (λ r. precedes r c.args.from.now)
+        (sym (append-nil (map (λ (l : Level). l.begun) c.levels.result.now) ∙ is_row))
+        ∙ w.in-Before.ensures.before refl []
+    | in-Begins w ↦ rw (← is_row) (w.in-Begins.ensures.begins refl)
+  ]
 
-pub loop-more-preserved-in-Branch : goal.loop-more-preserved-in-Branch
-loop-more-preserved-in-Branch g c =
-    let b = (c.in-Branch.ensures.entered c.in-Branch.entered refl).begins in
-    let here = begins g (goal.at.loop-more-preserved-in-Branch g c).In-Begins in
-    rw c.commit_branch.ensures (reaches_below c.loop-more.invariant here b)
+  behind : c.match-place_of.behind ≡ true → (x : List ℕ) → precedes (row ++ x) c.args.from.now ≡ true
+  behind h = elim c.match-place_of.branch [
+    | in-Before w ↦ λ x. rw (← is_row) (w.in-Before.ensures.before refl x)
+    | in-Begins w ↦ absurd (cc (w.behind-is, h))
+  ]
+
+pub replace_with-requires : goal.replace_with-requires
+replace_with-requires g c =
+    let at = (goal.at.replace_with-requires g c).Joined-place_of in
+    let r = c.loop-behind.invariant in
+    let most = ap (λ (s : Dancing). most_levels s.puzzle) r.still in
+    let room = ap (λ (s : Levels). s.room) r.levels in
+    (r.standing, (omega (arith, c.requires.levels_fit, most, room), (r.led, (before g at, behind g at))))
+
+pub loop-behind-smaller : goal.loop-behind-smaller
+loop-behind-smaller g c =
+    step_less c.replace_with.ensures c.in-Member.is
+    (before g (goal.at.loop-behind-smaller g c).Joined-place_of)
+
+pub loop-behind-preserved : goal.loop-behind-preserved
+loop-behind-preserved g c =
+    reaches_on c.loop-behind.invariant (step_stands c.replace_with.ensures c.in-Member.is)
 
 pub returns-in-Nothing-clause-none : goal.returns-in-Nothing-clause-none
-returns-in-Nothing-clause-none g c _ =
-    let here = begins g (goal.at.returns-in-Nothing-clause-none g c).In-Begins in
-    (ends_below c.loop-more.invariant here (c.in-Nothing.ensures.done refl)).none
-
-pub loop-more-preserved : goal.loop-more-preserved
-loop-more-preserved g c =
-    let here = before g (goal.at.loop-more-preserved g c).In-Before in
-    rw c.commit_branch-in-Some.ensures
-    (reaches_behind c.loop-more.invariant here c.in-Some.ensures.resumed c.in-Some.ensures.resumed_path).0
-
-pub returns-in-None-clause-none : goal.returns-in-None-clause-none
-returns-in-None-clause-none g c _ =
-    let here = before g (goal.at.returns-in-None-clause-none g c).In-Before in
-    (ends_behind c.loop-more.invariant here (c.in-None.ensures.done refl) (c.in-None.ensures.path refl)).none
+returns-in-Nothing-clause-none g c _ = (reaches_none c.loop-behind.invariant (c.replace_with.ensures.ended c.in-Nothing.is)).none

@@ -1,44 +1,117 @@
-use Rattle.std.proofs.Common.{◌≡◌, ◌+◌, ◌-◌, false, refl, sym, ap, ◌∙◌, arith}
+use Rattle.std.proofs.Common.{not, refl, sym, ap, ◌∙◌, arith}
 use Rattle.std.specs.Prelude.{option_map}
-use Rattle.xc_search.specs.Spans.{is_before}
-use Rattle.xc_search.specs.inner.Spanning.{row_at}
-use Rattle.xc_search.proofs.spans.Kept.{row_levels}
-use Rattle.xc_search.proofs.spans.Running.{ends_before, ends_all, stands_more}
+use Rattle.xc_search.specs.inner.Spanning.{Begins}
+use Rattle.xc_search.proofs.spans.Kept.{row_levels, rest_before, rest_about}
+use Rattle.xc_search.proofs.spans.Passing.{rest_of_all}
+use Rattle.xc_search.proofs.spans.Running.{stands_first}
+use Rattle.xc_search.proofs.spans.Runs.{not_true, begins_counted, ends_counted, runs_to_steps, runs_to_member}
+use Rattle.xc_search.proofs.spans.Runs.{runs_to_end, runs_on, runs_to_row}
 use Rattle.xc_search.proofs.spanning.run.Goals as goal
+use Rattle.xc_search.proofs.spanning.run.Goals.{After-commit_branch, After-first_rest-rest, In-Reached, In-Before}
+
+pub first_rest-rest-requires : goal.first_rest-rest-requires
+first_rest-rest-requires g c = record {
+  behind = λ h x. rw (row_levels c.args.position.now.puzzle c.levels-2.result.now c.args.stack.now.levels
+      c.levels-2.ensures.levels) (c.requires.behind h x);
+}
+
+pub loop-steps-init : goal.loop-steps-init
+loop-steps-init g c =
+    let row = row_levels c.args.position.now.puzzle c.levels-2.result.now c.args.stack.now.levels
+    c.levels-2.ensures.levels in
+    record {
+      stands = stands_first (not c.args.task.early) (not c.args.task.behind) _ _ _ _ c.requires.standing c.requires.led
+          _ (omega arith);
+      rest = record {
+        before = c.requires.before;
+        all = λ h x. rw (← row) (c.first_rest-rest.ensures.all h x);
+      };
+      counted = c.first_rest-rest.ensures.counted;
+      same = refl;
+      within = omega arith;
+    }
 
 pub commit_branch-requires-clause-can : goal.commit_branch-requires-clause-can
-commit_branch-requires-clause-can g c = (c.in-Branch.ensures.entered c.in-Branch.entered refl).can
+commit_branch-requires-clause-can g c =
+    (c.enter_branch.ensures.entered c.in-Branch.entered c.in-Branch.is _ c.loop-steps.invariant.rest).can
 
-pub returns-in-Nothing-clause-ended : goal.returns-in-Nothing-clause-ended
-returns-in-Nothing-clause-ended g c _ =
-    let s = c.loop-steps.invariant in
-    ends_all s.stands (c.in-Nothing.ensures.done refl) c.requires.led (option_map (λ u. u.now) c.args.until)
-    c.requires.before s.before
+pub commit_branch-requires-clause-place : goal.commit_branch-requires-clause-place
+commit_branch-requires-clause-place g c =
+    (c.enter_branch.ensures.entered c.in-Branch.entered c.in-Branch.is _ c.loop-steps.invariant.rest).place
 
-pub returns-then-not-is_before-clause-ended : goal.returns-then-not-is_before-clause-ended
-returns-then-not-is_before-clause-ended g c _ =
+-- a branch was begun
+begins : (g : _) (c : After-commit_branch g) → Begins (not c.args.task.early) (not c.args.task.behind)
+    (option_map (λ u. u.now) c.args.task.until) c.loop-steps.position c.loop-steps.stack c.loop-steps.more
+    c.commit_branch.new.self c.enter_branch.new.stack c.enter_branch.new.more
+begins g c =
     let s = c.loop-steps.invariant in
-    let b = (c.in-Branch.ensures.entered c.in-Branch.entered refl).begins in
-    let until = option_map (λ u. u.now) c.args.until in
-    let row = row_levels c.commit_branch.new.self.puzzle c.levels.result.now c.enter_branch.new.stack.levels
-    c.levels.ensures.levels in
-    let past : is_before until (row_at c.commit_branch.new.self.puzzle c.enter_branch.new.stack.levels) ≡ false =
-    ap (is_before until) (sym row) ∙ sym c.is_before.ensures ∙ c.if-not-is_before.true in
-    rw c.commit_branch.ensures (ends_before s.stands b c.requires.led until c.requires.before s.before
-    (rw c.commit_branch.ensures at past))
+    rw c.commit_branch.ensures (begins_counted (λ h. s.counted (not_true c.args.task.behind h))
+    (c.enter_branch.ensures.entered c.in-Branch.entered c.in-Branch.is _ s.rest).begins)
+
+pub returns-in-Solution : goal.returns-in-Solution
+returns-in-Solution g c =
+    let s = c.loop-steps.invariant in
+    let same = c.enter_branch.ensures.same c.in-Solution.is in
+    runs_to_member s.stands s.within same.0 same.1 same.2 same.3 (c.enter_branch.ensures.solved c.in-Solution.is)
+    s.rest.before
+
+pub returns-in-Nothing : goal.returns-in-Nothing
+returns-in-Nothing g c =
+    let s = c.loop-steps.invariant in
+    runs_to_end s.stands s.within (ends_counted (λ h. s.counted (not_true c.args.task.behind h))
+    (c.enter_branch.ensures.done c.in-Nothing.is _ s.rest))
+
+pub returns-in-Reached : goal.returns-in-Reached
+returns-in-Reached g c =
+    let on = (goal.at.returns-in-Reached g c).After-commit_branch in
+    let row = row_levels c.commit_branch.new.self.puzzle c.levels-in-Some.result.now c.enter_branch.new.stack.levels
+    c.levels-in-Some.ensures.levels in
+    let s = c.loop-steps.invariant in
+    runs_to_row s.stands s.within c.loop-steps-test.true (begins g on)
+    (rw (← s.same, c.in-Some.is, ← row) (c.place_of.ensures.reached c.in-Reached.is))
+
+pub loop-steps-preserved-in-Before : goal.loop-steps-preserved-in-Before
+loop-steps-preserved-in-Before g c =
+    let on = (goal.at.loop-steps-preserved-in-Before g c).After-commit_branch in
+    let s = c.loop-steps.invariant in
+    record {
+      stands = runs_on s.stands s.within c.loop-steps-test.true (begins g on);
+      rest = rest_before c.commit_branch.new.self.puzzle c.levels-in-Some.result.now c.enter_branch.new.stack.levels
+          c.in-Some.until.now _ c.levels-in-Some.ensures.levels
+          (ap (option_map (λ u. u.now)) (sym s.same ∙ c.in-Some.is)) (c.place_of.ensures.before c.in-Before.is);
+      counted = λ _. refl;
+      same = s.same;
+      within = omega (arith, s.within);
+    }
+
+pub loop-steps-preserved-in-Begins : goal.loop-steps-preserved-in-Begins
+loop-steps-preserved-in-Begins g c =
+    let on = (goal.at.loop-steps-preserved-in-Begins g c).After-commit_branch in
+    let s = c.loop-steps.invariant in
+    record {
+      stands = runs_on s.stands s.within c.loop-steps-test.true (begins g on);
+      rest = rest_about c.commit_branch.new.self.puzzle c.levels-in-Some.result.now c.enter_branch.new.stack.levels
+          c.in-Some.until.now _ c.levels-in-Some.ensures.levels
+          (ap (option_map (λ u. u.now)) (sym s.same ∙ c.in-Some.is)) (c.place_of.ensures.begins c.in-Begins.is);
+      counted = λ _. refl;
+      same = s.same;
+      within = omega (arith, s.within);
+    }
 
 pub loop-steps-preserved : goal.loop-steps-preserved
 loop-steps-preserved g c =
+    let on = (goal.at.loop-steps-preserved g c).After-commit_branch in
     let s = c.loop-steps.invariant in
-    let b = (c.in-Branch.ensures.entered c.in-Branch.entered refl).begins in
-    let until = option_map (λ u. u.now) c.args.until in
-    let row = row_levels c.commit_branch.new.self.puzzle c.levels.result.now c.enter_branch.new.stack.levels
-    c.levels.ensures.levels in
-    let one : (c.args.most - c.loop-steps.steps) + 1 ≡ c.args.most - (c.loop-steps.steps - 1) =
-    omega (arith, c.loop-steps-test.true, s.within) in
     record {
-      stands = rw (c.commit_branch.ensures, ← one) (stands_more s.stands b);
-      before = ap (is_before until) (sym row) ∙ sym c.is_before.ensures ∙ c.if-not-is_before.false;
-      fewer = omega (arith, s.fewer, b.count);
+      stands = runs_on s.stands s.within c.loop-steps-test.true (begins g on);
+      rest = rw (← s.same, c.in_default.is)
+          (rest_of_all c.commit_branch.new.self.puzzle c.enter_branch.new.stack.levels c.loop-steps.rest);
+      counted = s.counted;
+      same = s.same;
       within = omega (arith, s.within);
     }
+
+pub returns : goal.returns
+returns g c =
+    let s = c.loop-steps.invariant in
+    runs_to_steps s.stands s.within (omega (arith, c.loop-steps-test.false)) s.rest.before

@@ -7,7 +7,7 @@ use Rattle.xc_search.specs.inner.Spanning.{row_at, row_from, Stands, EndsSpan}
 use Rattle.xc_dance.specs.Dancing.{Dancing}
 use Rattle.xc_search.proofs.stacked.ShownLevels.{all_shown}
 use Rattle.xc_search.specs.declared.choice.Choice.{Choice}
-use Rattle.xc_search.specs.declared.span.Halt.TheVariants.{Member, End, Steps}
+use Rattle.xc_search.specs.declared.spanning.Stop.TheVariants.{Member, Steps, Row, Nothing}
 use Rattle.xc_search.specs.Outlook.{shown_after}
 use Rattle.xc_search.specs.inner.Ahead.{IsSolved}
 use Rattle.xc_search.proofs.spans.Advance.{Advances, IsAt, over_first, ran_out, still_more, at_member, shown_there}
@@ -15,7 +15,7 @@ use Rattle.xc_search.proofs.spans.Advance.{at_end}
 use Rattle.xc_search.proofs.spans.Told.{told_passed, told_count, told_later, told_shown, told_same, told_still}
 use Rattle.xc_search.proofs.spans.Told.{told_none, told_end}
 use Rattle.xc_search.proofs.span.Span.go_on.Goals as goal
-use Rattle.xc_search.proofs.span.Span.go_on.Goals.{Else-many-eq0, After-replace_with-ran, In-Member, In-Steps, In-End}
+use Rattle.xc_search.proofs.span.Span.go_on.Goals.{After-go_over-ran}
 use Rattle.xc_search.proofs.span.Span.go_on.Goals.{then-self-2, else-self-2}
 
 pub returns-then-many-eq0-clause-passed : goal.returns-then-many-eq0-clause-passed
@@ -32,157 +32,157 @@ returns-then-steps-eq0-clause-passed g c = told_still c.args.self.now _ _ _ _ _ 
 pub returns-then-steps-eq0-clause-count : goal.returns-then-steps-eq0-clause-count
 returns-then-steps-eq0-clause-count g c = told_none c.args.self.now _ _ _ _ _ _ c.self.view_is c.if-self.false []
 
-at : (g : _) (c : After-replace_with-ran g)
+at : (g : _) (c : After-go_over-ran g)
     → IsAt c.self.inside.state.position.puzzle c.self.inside.state.position.trail
     c.self.inside.state.stack.levels c.self.inside.down
-at g c = record { led = c.self.invariant.led; solved = c.self.invariant.solved c.if-self.false }
+at g c = record { led = c.self.invariant.led c.if-self.false; solved = c.self.invariant.solved c.if-self.false }
 
-over : (g : _) (c : After-replace_with-ran g) → c.if-self-2.over ≡ over_first c.args.many c.self.inside.down
+over : (g : _) (c : After-go_over-ran g) → c.if-self-2.over ≡ over_first c.args.many c.self.inside.down
 over g c = elim c.if-self-2.branch [
   | then-self-2 w ↦ w.over-is ∙ ap (over_first c.args.many) (sym w.if-self-2.true)
   | else-self-2 w ↦ w.over-is ∙ ap (over_first c.args.many) (sym w.if-self-2.false)
 ]
 
-some : (g : _) (c : After-replace_with-ran g) → 0 < c.args.many
+some : (g : _) (c : After-go_over-ran g) → 0 < c.args.many
 some g c = grind (arith)
 
-module _ (g : _) (c : After-replace_with-ran g) where
+module _ (g : _) (c : After-go_over-ran g) where
   abbrev until : Option (List ℕ)
   until = option_map (λ u. u.now) c.self.inside.until
 
   -- where it stands
-  stands : (c.replace_with-ran.result.halt ≡ Member) ⊎ (c.replace_with-ran.result.halt ≡ Steps) →
-      Stands c.self.inside.state.position c.self.inside.state.stack (over_first c.args.many c.self.inside.down)
-      c.replace_with-ran.new.dest.position c.replace_with-ran.new.dest.stack c.replace_with-ran.result.more
-      (c.args.steps - c.replace_with-ran.result.steps)
-  stands h = rw (over g c) at (c.replace_with-ran.ensures.stands h)
+  stands : (c.go_over-ran.result.stop ≡ Member) ⊎ (c.go_over-ran.result.stop ≡ Steps) →
+      Stands true true until c.self.inside.state.position c.self.inside.state.stack (over_first c.args.many c.self.inside.down)
+      c.go_over-ran.new.state.position c.go_over-ran.new.state.stack c.go_over-ran.result.more
+      (c.args.steps - c.go_over-ran.result.steps)
+  stands h = rw (over g c) at (c.go_over-ran.ensures.stands h)
 
-  moved : (c.replace_with-ran.result.halt ≡ Member) ⊎ (c.replace_with-ran.result.halt ≡ Steps) →
-      c.replace_with-ran.new.dest.position.puzzle ≡ c.self.inside.state.position.puzzle
+  moved : (c.go_over-ran.result.stop ≡ Member) ⊎ (c.go_over-ran.result.stop ≡ Steps) →
+      c.go_over-ran.new.state.position.puzzle ≡ c.self.inside.state.position.puzzle
   moved h = ap (λ (s : Dancing). s.puzzle) (stands h).still.0
 
-  before : (h : (c.replace_with-ran.result.halt ≡ Member) ⊎ (c.replace_with-ran.result.halt ≡ Steps)) →
-      is_before until (row_at c.self.inside.state.position.puzzle c.replace_with-ran.new.dest.stack.levels) ≡ true
-  before h = rw (moved h) at (c.replace_with-ran.ensures.before h)
+  before : (h : (c.go_over-ran.result.stop ≡ Member) ⊎ (c.go_over-ran.result.stop ≡ Steps)) →
+      is_before until (row_at c.self.inside.state.position.puzzle c.go_over-ran.new.state.stack.levels) ≡ true
+  before h = rw (moved h) at (c.go_over-ran.ensures.before h)
 
   -- how it went on to a member
-  module _ (h : c.replace_with-ran.result.halt ≡ Member) where
-    solved : IsSolved c.self.inside.state.position.puzzle c.replace_with-ran.new.dest.position.trail
-        c.replace_with-ran.new.dest.stack.levels
-    solved = rw (moved (inl h)) at (c.replace_with-ran.ensures.solved h).1
+  module _ (h : c.go_over-ran.result.stop ≡ Member) where
+    solved : IsSolved c.self.inside.state.position.puzzle c.go_over-ran.new.state.position.trail
+        c.go_over-ran.new.state.stack.levels
+    solved = rw (moved (inl h)) at (c.go_over-ran.ensures.solved h).1
 
     to_member : Advances c.self.inside.state.position.puzzle
         (row_from c.self.inside.state.position.puzzle c.self.inside.state.stack.levels c.self.inside.down) until
-        (row_from c.replace_with-ran.new.dest.position.puzzle c.replace_with-ran.new.dest.stack.levels false)
+        (row_from c.go_over-ran.new.state.position.puzzle c.go_over-ran.new.state.stack.levels false)
         c.args.many
     to_member =
         rw (moved (inl h)) (at_member (at g c) (stands (inl h)) (some g c) until (before (inl h)) solved
-        (c.replace_with-ran.ensures.solved h).0)
+        (c.go_over-ran.ensures.solved h).0)
 
     there : (was : List Choice) → shown_after c.args.many (between c.self.inside.state.position.puzzle
         (row_from c.self.inside.state.position.puzzle c.self.inside.state.stack.levels c.self.inside.down) until) was
-        ≡ choices_of c.replace_with-ran.new.dest.position.puzzle c.replace_with-ran.new.dest.stack.levels
+        ≡ choices_of c.go_over-ran.new.state.position.puzzle c.go_over-ran.new.state.stack.levels
     there was =
         rw (moved (inl h)) (shown_there (at g c) (stands (inl h)) (some g c) until (before (inl h)) solved
-        (c.replace_with-ran.ensures.solved h).0 was)
+        (c.go_over-ran.ensures.solved h).0 was)
 
   -- or until it ran out of steps
-  module _ (h : c.replace_with-ran.result.halt ≡ Steps) (more : 0 < c.args.steps) where
-    taken : 0 < c.args.steps - c.replace_with-ran.result.steps
-    taken = omega (arith, more, c.replace_with-ran.ensures.ran_out h)
+  module _ (h : c.go_over-ran.result.stop ≡ Steps) (more : 0 < c.args.steps) where
+    taken : 0 < c.args.steps - c.go_over-ran.result.steps
+    taken = omega (arith, more, c.go_over-ran.ensures.ran_out h)
 
-    fewer : c.replace_with-ran.result.more < c.args.many
+    fewer : c.go_over-ran.result.more < c.args.many
     fewer = still_more (at g c) (stands (inr h)) (some g c) taken
 
     to_row : Advances c.self.inside.state.position.puzzle
         (row_from c.self.inside.state.position.puzzle c.self.inside.state.stack.levels c.self.inside.down) until
-        (row_from c.replace_with-ran.new.dest.position.puzzle c.replace_with-ran.new.dest.stack.levels true)
-        (c.args.many - 1 - c.replace_with-ran.result.more)
+        (row_from c.go_over-ran.new.state.position.puzzle c.go_over-ran.new.state.stack.levels true)
+        (c.args.many - 1 - c.go_over-ran.result.more)
     to_row = rw (moved (inr h)) (ran_out (at g c) (stands (inr h)) (some g c) until (before (inr h)) taken)
 
   -- or to the end
-  module _ (h : c.replace_with-ran.result.halt ≡ End) where
+  module _ (h : (c.go_over-ran.result.stop ≡ Row) ⊎ (c.go_over-ran.result.stop ≡ Nothing)) where
     ends : EndsSpan c.self.inside.state.position c.self.inside.state.stack
         (over_first c.args.many c.self.inside.down) until
-        c.replace_with-ran.new.dest.position c.replace_with-ran.new.dest.stack c.replace_with-ran.result.more
-    ends = rw (over g c) at (c.replace_with-ran.ensures.ended h)
+        c.go_over-ran.new.state.position c.go_over-ran.new.state.stack c.go_over-ran.result.more
+    ends = rw (over g c) at (c.go_over-ran.ensures.ended h)
 
-    to_end : (c.replace_with-ran.result.more < c.args.many) × (length (between c.self.inside.state.position.puzzle
+    to_end : (c.go_over-ran.result.more < c.args.many) × (length (between c.self.inside.state.position.puzzle
         (row_from c.self.inside.state.position.puzzle c.self.inside.state.stack.levels c.self.inside.down) until)
-        ≡ c.args.many - 1 - c.replace_with-ran.result.more)
+        ≡ c.args.many - 1 - c.go_over-ran.result.more)
     to_end = at_end (at g c) ends (some g c) (c.self.invariant.before c.if-self.false)
 
 pub show-requires-clause-shown : goal.show-requires-clause-shown
 show-requires-clause-shown g c =
-    all_shown c.replace_with-ran.new.dest.position.puzzle c.replace_with-ran.new.dest.position.trail
-    c.replace_with-ran.new.dest.stack.levels
-    (c.replace_with-ran.ensures.stands (inl c.in-Member.is)).standing.stacked
+    all_shown c.go_over-ran.new.state.position.puzzle c.go_over-ran.new.state.position.trail
+    c.go_over-ran.new.state.stack.levels
+    (c.go_over-ran.ensures.stands (inl c.in-Member.is)).standing.stacked
 
-pub overflow_sub-result-in-End : goal.overflow_sub-result-in-End
-overflow_sub-result-in-End g c =
-    omega (arith, to_end g (goal.at.overflow_sub-result-in-End g c).After-replace_with-ran c.in-End.is)
+pub overflow_sub-result-in-Row : goal.overflow_sub-result-in-Row
+overflow_sub-result-in-Row g c =
+    omega (arith, to_end g (goal.at.overflow_sub-result-in-Row g c).After-go_over-ran c.in-Row.is)
 
 pub overflow_sub-result-in-Steps-2 : goal.overflow_sub-result-in-Steps-2
 overflow_sub-result-in-Steps-2 g c =
     omega (
       arith,
-      fewer g (goal.at.overflow_sub-result-in-Steps-2 g c).After-replace_with-ran c.in-Steps.is
+      fewer g (goal.at.overflow_sub-result-in-Steps-2 g c).After-go_over-ran c.in-Steps.is
           (omega arith),
     )
 
 pub returns-in-Member-clause-passed : goal.returns-in-Member-clause-passed
 returns-in-Member-clause-passed g c =
-    let r = (goal.at.returns-in-Member-clause-passed g c).After-replace_with-ran in
-    told_passed c.args.self.now _ _ _ _ _ _ c.self.view_is c.if-self.false c.replace_with-ran.new.dest.position.puzzle
+    let r = (goal.at.returns-in-Member-clause-passed g c).After-go_over-ran in
+    told_passed c.args.self.now _ _ _ _ _ _ c.self.view_is c.if-self.false c.go_over-ran.new.state.position.puzzle
     _ c.args.many
     c.show.new.shown.items (moved g r (inl c.in-Member.is)) (to_member g r c.in-Member.is)
 
 pub returns-in-Member-clause-count : goal.returns-in-Member-clause-count
 returns-in-Member-clause-count g c =
-    let r = (goal.at.returns-in-Member-clause-count g c).After-replace_with-ran in
-    told_count c.args.self.now _ _ _ _ _ _ c.self.view_is c.if-self.false c.replace_with-ran.new.dest.position.puzzle
+    let r = (goal.at.returns-in-Member-clause-count g c).After-go_over-ran in
+    told_count c.args.self.now _ _ _ _ _ _ c.self.view_is c.if-self.false c.go_over-ran.new.state.position.puzzle
     _ c.args.many
     c.show.new.shown.items (moved g r (inl c.in-Member.is)) (to_member g r c.in-Member.is)
 
 pub returns-in-Member-clause-later : goal.returns-in-Member-clause-later
 returns-in-Member-clause-later g c _ _ =
-    let r = (goal.at.returns-in-Member-clause-later g c).After-replace_with-ran in
-    told_later c.args.self.now _ _ _ _ _ _ c.self.view_is c.if-self.false c.replace_with-ran.new.dest.position.puzzle
+    let r = (goal.at.returns-in-Member-clause-later g c).After-go_over-ran in
+    told_later c.args.self.now _ _ _ _ _ _ c.self.view_is c.if-self.false c.go_over-ran.new.state.position.puzzle
     _ c.args.many
     c.show.new.shown.items (moved g r (inl c.in-Member.is)) (to_member g r c.in-Member.is)
 
 pub returns-in-Member-clause-member : goal.returns-in-Member-clause-member
 returns-in-Member-clause-member g c _ =
-    let r = (goal.at.returns-in-Member-clause-member g c).After-replace_with-ran in (
+    let r = (goal.at.returns-in-Member-clause-member g c).After-go_over-ran in (
       refl,
       c.show.ensures.items
           ∙ told_shown c.args.self.now _ _ _ _ _ _ c.self.view_is c.if-self.false c.args.many _
           (there g r c.in-Member.is),
     )
 
-pub returns-in-End-clause-count : goal.returns-in-End-clause-count
-returns-in-End-clause-count g c =
-    let r = (goal.at.returns-in-End-clause-count g c).After-replace_with-ran in
-    told_end c.args.self.now _ _ _ _ _ _ c.self.view_is c.if-self.false c.replace_with-ran.new.dest.position.puzzle
-    c.clear-in-End.new.self.items _ (to_end g r c.in-End.is).1
+pub returns-in-Row-clause-count : goal.returns-in-Row-clause-count
+returns-in-Row-clause-count g c =
+    let r = (goal.at.returns-in-Row-clause-count g c).After-go_over-ran in
+    told_end c.args.self.now _ _ _ _ _ _ c.self.view_is c.if-self.false c.go_over-ran.new.state.position.puzzle
+    c.clear-in-Row.new.self.items _ (to_end g r c.in-Row.is).1
 
 pub returns-in-Steps-clause-passed : goal.returns-in-Steps-clause-passed
 returns-in-Steps-clause-passed g c =
-    let r = (goal.at.returns-in-Steps-clause-passed g c).After-replace_with-ran in
-    told_passed c.args.self.now _ _ _ _ _ _ c.self.view_is c.if-self.false c.replace_with-ran.new.dest.position.puzzle
+    let r = (goal.at.returns-in-Steps-clause-passed g c).After-go_over-ran in
+    told_passed c.args.self.now _ _ _ _ _ _ c.self.view_is c.if-self.false c.go_over-ran.new.state.position.puzzle
     _ _
     c.clear-in-Steps.new.self.items (moved g r (inr c.in-Steps.is)) (to_row g r c.in-Steps.is (omega arith))
 
 pub returns-in-Steps-clause-count : goal.returns-in-Steps-clause-count
 returns-in-Steps-clause-count g c =
-    let r = (goal.at.returns-in-Steps-clause-count g c).After-replace_with-ran in
-    told_count c.args.self.now _ _ _ _ _ _ c.self.view_is c.if-self.false c.replace_with-ran.new.dest.position.puzzle
+    let r = (goal.at.returns-in-Steps-clause-count g c).After-go_over-ran in
+    told_count c.args.self.now _ _ _ _ _ _ c.self.view_is c.if-self.false c.go_over-ran.new.state.position.puzzle
     _ _
     c.clear-in-Steps.new.self.items (moved g r (inr c.in-Steps.is)) (to_row g r c.in-Steps.is (omega arith))
 
 pub returns-in-Steps-clause-later : goal.returns-in-Steps-clause-later
 returns-in-Steps-clause-later g c _ _ =
-    let r = (goal.at.returns-in-Steps-clause-later g c).After-replace_with-ran in
-    told_later c.args.self.now _ _ _ _ _ _ c.self.view_is c.if-self.false c.replace_with-ran.new.dest.position.puzzle
+    let r = (goal.at.returns-in-Steps-clause-later g c).After-go_over-ran in
+    told_later c.args.self.now _ _ _ _ _ _ c.self.view_is c.if-self.false c.go_over-ran.new.state.position.puzzle
     _ _
     c.clear-in-Steps.new.self.items (moved g r (inr c.in-Steps.is)) (to_row g r c.in-Steps.is (omega arith))

@@ -22,7 +22,7 @@ reach-reached-requires-clause-standing g c =
 
 module _ (g : _) (c : Joined-not-reached g) where
   abbrev at : Dancing
-  at = c.reach-reached.new.position
+  at = c.reach-reached.new.state.position
 
   abbrev until : Option (List ℕ)
   until = option_map (λ u. u.now) c.args.until
@@ -39,11 +39,11 @@ module _ (g : _) (c : Joined-not-reached g) where
     | else-not-reached w ↦ grind (arith, nat_tests, w.if-not-reached, w.result-is)
   ]
 
-  within : c.is_before-within.result ≡ is_before until (row_at at.puzzle c.reach-reached.new.stack.levels)
+  within : c.is_before-within.result ≡ is_before until (row_at at.puzzle c.reach-reached.new.state.stack.levels)
   within =
       c.is_before-within.ensures
       ∙ ap (is_before until)
-      (row_levels at.puzzle c.levels.result.now c.reach-reached.new.stack.levels c.levels.ensures.levels)
+      (row_levels at.puzzle c.levels.result.now c.reach-reached.new.state.stack.levels c.levels.ensures.levels)
 
   all : coming c.new-position.result.puzzle c.new-position.result.trail c.in-Ok-new.stack.levels true
       ≡ members at.puzzle
@@ -61,9 +61,9 @@ invariant_of-result g c =
     let room = ap (λ (s : Levels). s.room) reach.levels ∙ ap (λ (s : Levels). s.room) c.in-Ok-new.ensures in
     let most = ap most_levels (puzzle g c) in
     record {
-      stacked = reach.standing.stacked;
-      led = reach.led;
-      standing = λ h. rw (open_at h).0 at reach.standing;
+      stacked = reach.stacked;
+      led = λ h. reach.led (open_at h).0;
+      standing = λ h. reach.standing (open_at h).0;
       solved = λ h i. absurd (cc i);
       before = λ h. sym (within g c) ∙ (open_at h).1;
       levels_fit = omega (arith, c.most_levels-most.ensures.value, room, most);
@@ -73,13 +73,13 @@ invariant_of-result g c =
 pub returns-clause-left : goal.returns-clause-left
 returns-clause-left g c =
     let reach = c.reach-reached.ensures in
-    rw (← puzzle g c) (first_left (at g c).puzzle (at g c).trail c.reach-reached.new.stack.levels c.args.from.now
+    rw (← puzzle g c) (first_left (at g c).puzzle (at g c).trail c.reach-reached.new.state.stack.levels c.args.from.now
     (until g c) _ c.reach-reached.result c.is_before-within.result reach.led (all g c) reach.reached reach.kept
     reach.none (within g c) c.if-not-reached.result (ended g c))
 
 pub returns-clause-row : goal.returns-clause-row
 returns-clause-row g c =
     let reach = c.reach-reached.ensures in
-    rw (← puzzle g c) (first_row (at g c).puzzle (at g c).trail c.reach-reached.new.stack.levels c.args.from.now
+    rw (← puzzle g c) (first_row (at g c).puzzle (at g c).trail c.reach-reached.new.state.stack.levels c.args.from.now
     (until g c) _ c.reach-reached.result c.is_before-within.result reach.led (all g c) reach.reached reach.kept
     reach.none (within g c) c.if-not-reached.result (ended g c))

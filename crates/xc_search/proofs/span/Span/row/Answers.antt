@@ -53,7 +53,7 @@ module _ (g : _) (c : Joined-not-self g) where
   branches =
       told (λ (x : RowNumber). x.n) (λ (l : Level). l.count) refl c.loop-level.invariant.branches
       ∙ branches_told p c.self.inside.state.position.trail ls c.self.inside.down _ c.self.invariant.stacked
-      c.self.invariant.led (c.self.invariant.solved c.if-self.false)
+      (c.self.invariant.led c.if-self.false) (c.self.invariant.solved c.if-self.false)
       (ap (map (λ (l : Level). l.count))
       (sym (reverse-reverse c.levels-levels.result.now) ∙ ap reverse c.levels-levels.ensures.levels))
 
