@@ -113,29 +113,6 @@ pub(crate) fn hide_list(
     count
 }
 
-/// `hide_list` with the test for marks, out of line: callers stay small.
-#[cold]
-#[inline(never)]
-pub(crate) fn hide_among_marks(
-    top: &mut CellsMut<'_>,
-    links: &mut LinksMut<'_>,
-    color: &mut CellsMut<'_>,
-    spans: &Spans,
-    i: u32,
-    keep: Option<u32>,
-) -> u64
-    requires { CanHideList spans.now keep (lent_all top.old links.old color.old) i }
-    ensures done { lent_all top.new links.new color.new ≡ fold (left_node spans.now keep)
-        (lent_all top.old links.old color.old) (list_of (lent_all top.old links.old color.old) i) }
-    ensures cost { result ≡ walk_costs spans.now keep (lent_all top.old links.old color.old)
-        (list_of (lent_all top.old links.old color.old) i) }
-    ensures few_writes { result ≤ 3 * 2 ^ 62 }
-    ensures counted { all_writes top.new links.new color.new ≡ all_writes top.old links.old color.old + result }
-    ensures rows { IsRow top.old top.new × IsLinkRow links.old links.new × IsRow color.old color.new }
-{
-    hide_list(top, links, color, spans, i, keep, true)
-}
-
 /// Undoes `hide_list`, from bottom to top.
 #[inline(always)]
 pub(crate) fn unhide_list(
@@ -165,27 +142,4 @@ pub(crate) fn unhide_list(
         p = links.up(p);
     }
     count
-}
-
-/// `unhide_list` with the test for marks.
-#[cold]
-#[inline(never)]
-pub(crate) fn unhide_among_marks(
-    top: &mut CellsMut<'_>,
-    links: &mut LinksMut<'_>,
-    color: &mut CellsMut<'_>,
-    spans: &Spans,
-    i: u32,
-    keep: Option<u32>,
-) -> u64
-    requires { CanUnhideList spans.now keep (lent_all top.old links.old color.old) i }
-    ensures done { lent_all top.new links.new color.new ≡ fold (back_node spans.now keep)
-        (lent_all top.old links.old color.old) (list_back (lent_all top.old links.old color.old) i) }
-    ensures cost { result ≡ back_costs spans.now keep (lent_all top.old links.old color.old)
-        (list_back (lent_all top.old links.old color.old) i) }
-    ensures few_writes { result ≤ 3 * 2 ^ 62 }
-    ensures counted { all_writes top.new links.new color.new ≡ all_writes top.old links.old color.old + result }
-    ensures rows { IsRow top.old top.new × IsLinkRow links.old links.new × IsRow color.old color.new }
-{
-    unhide_list(top, links, color, spans, i, keep, true)
 }

@@ -2,12 +2,16 @@
 //! 4B.
 ghost use Rattle.std.specs.Prelude.{◌≡◌, ℕ, ◌+◌, ◌-◌, ◌*◌, ◌<◌, ◌≤◌, ◌^◌, length, slice_index, slice_get, fold, None};
 ghost use Rattle.std.specs.Prelude.{Some, false, if◌then◌else◌, IfOk, IsTrue, ◌↔◌};
+ghost use Rattle.xc_dance.specs.inner.Links.Columns.{columns, written};
+ghost use Rattle.xc_dance.specs.inner.Links.Steps.{list_of, list_back};
+ghost use Rattle.xc_dance.specs.inner.Links.ListWalks.{left_node, back_node, walk_costs, back_costs, CanHideList};
+ghost use Rattle.xc_dance.specs.inner.Links.ListWalks.{CanUnhideList};
 
-use crate::links::cells::{CellsMut, Column, LinkColumn, LinksMut};
+use crate::links::cells::{Cell, CellsMut, Column, Link, LinkColumn, LinksMut};
 use crate::links::spans::Spans;
 use crate::links::steps::{relink, unlink};
 use crate::links::tweaks::{bring_back, hide_unless, unhide_unless};
-use crate::links::walks::{hide_among_marks, hide_list, unhide_among_marks, unhide_list};
+use crate::links::walks::{hide_list, unhide_list};
 use std::alloc::{AllocError, Global};
 use std::marker::Model;
 
@@ -169,12 +173,12 @@ impl Nodes {
         let top = self.top.cells.as_mut_slice();
         let links = self.links.links.as_mut_slice();
         let color = self.color.cells.as_mut_slice();
+        if marks {
+            return hide_among_marks(top, links, color, spans, i, None);
+        }
         let mut top = CellsMut { cells: &mut *top };
         let mut links = LinksMut { links: &mut *links };
         let mut color = CellsMut { cells: &mut *color };
-        if marks {
-            return hide_among_marks(&mut top, &mut links, &mut color, spans, i, None);
-        }
         hide_list(&mut top, &mut links, &mut color, spans, i, None, false)
     }
 
@@ -191,12 +195,12 @@ impl Nodes {
         let top = self.top.cells.as_mut_slice();
         let links = self.links.links.as_mut_slice();
         let color = self.color.cells.as_mut_slice();
+        if marks {
+            return unhide_among_marks(top, links, color, spans, i, None);
+        }
         let mut top = CellsMut { cells: &mut *top };
         let mut links = LinksMut { links: &mut *links };
         let mut color = CellsMut { cells: &mut *color };
-        if marks {
-            return unhide_among_marks(&mut top, &mut links, &mut color, spans, i, None);
-        }
         unhide_list(&mut top, &mut links, &mut color, spans, i, None, false)
     }
 
@@ -210,14 +214,11 @@ impl Nodes {
             (list_of self.old.cells i) + 1 }
         ensures counted { self.new.written ≡ self.old.written + result }
     {
+        self.color.set(i, c);
         let top = self.top.cells.as_mut_slice();
         let links = self.links.links.as_mut_slice();
         let color = self.color.cells.as_mut_slice();
-        let mut top = CellsMut { cells: &mut *top };
-        let mut links = LinksMut { links: &mut *links };
-        let mut color = CellsMut { cells: &mut *color };
-        color.set(i, c);
-        hide_among_marks(&mut top, &mut links, &mut color, spans, i, Some(c)) + 1
+        hide_among_marks(top, links, color, spans, i, Some(c)) + 1
     }
 
     /// Undoes `purify`, as unpurify does from bottom to top.
@@ -231,12 +232,9 @@ impl Nodes {
         let top = self.top.cells.as_mut_slice();
         let links = self.links.links.as_mut_slice();
         let color = self.color.cells.as_mut_slice();
-        let mut top = CellsMut { cells: &mut *top };
-        let mut links = LinksMut { links: &mut *links };
-        let mut color = CellsMut { cells: &mut *color };
-        let count = unhide_among_marks(&mut top, &mut links, &mut color, spans, i, Some(c));
+        let count = unhide_among_marks(top, links, color, spans, i, Some(c));
         // 0 again, so that an item is open exactly where it is in its ring and this cell is 0.
-        color.set(i, 0);
+        self.color.set(i, 0);
         count + 1
     }
 
@@ -309,4 +307,55 @@ impl Nodes {
         top.set(i, len + k);
         count + 2
     }
+}
+
+/// `hide_list` with the test for marks, out of line: callers stay small. It takes slices, and not cells that are lent:
+/// then the search's loop holds the lengths of the columns as values, and the compiler spills fewer of the others.
+#[cold]
+#[inline(never)]
+fn hide_among_marks(
+    top: &mut [Cell],
+    links: &mut [Link],
+    color: &mut [Cell],
+    spans: &Spans,
+    i: u32,
+    keep: Option<u32>,
+) -> u64
+    requires { CanHideList spans.now keep (columns top.old links.old color.old) i }
+    ensures done { columns top.new links.new color.new ≡ fold (left_node spans.now keep)
+        (columns top.old links.old color.old) (list_of (columns top.old links.old color.old) i) }
+    ensures cost { result ≡ walk_costs spans.now keep (columns top.old links.old color.old)
+        (list_of (columns top.old links.old color.old) i) }
+    ensures few_writes { result ≤ 3 * 2 ^ 62 }
+    ensures counted { written top.new links.new color.new ≡ written top.old links.old color.old + result }
+{
+    let mut top = CellsMut { cells: &mut *top };
+    let mut links = LinksMut { links: &mut *links };
+    let mut color = CellsMut { cells: &mut *color };
+    hide_list(&mut top, &mut links, &mut color, spans, i, keep, true)
+}
+
+/// Undoes `hide_among_marks`.
+#[cold]
+#[inline(never)]
+fn unhide_among_marks(
+    top: &mut [Cell],
+    links: &mut [Link],
+    color: &mut [Cell],
+    spans: &Spans,
+    i: u32,
+    keep: Option<u32>,
+) -> u64
+    requires { CanUnhideList spans.now keep (columns top.old links.old color.old) i }
+    ensures done { columns top.new links.new color.new ≡ fold (back_node spans.now keep)
+        (columns top.old links.old color.old) (list_back (columns top.old links.old color.old) i) }
+    ensures cost { result ≡ back_costs spans.now keep (columns top.old links.old color.old)
+        (list_back (columns top.old links.old color.old) i) }
+    ensures few_writes { result ≤ 3 * 2 ^ 62 }
+    ensures counted { written top.new links.new color.new ≡ written top.old links.old color.old + result }
+{
+    let mut top = CellsMut { cells: &mut *top };
+    let mut links = LinksMut { links: &mut *links };
+    let mut color = CellsMut { cells: &mut *color };
+    unhide_list(&mut top, &mut links, &mut color, spans, i, keep, true)
 }
