@@ -6,6 +6,7 @@ pub mod NextPrinted
 pub mod Outputs
 pub mod PageLemmas
 pub mod Planned
+pub mod RowTexts
 pub mod TextLemmas
 pub mod Writing
 pub mod WordLemmas

@@ -8,6 +8,8 @@ pub mod PartWords
 pub mod Plans
 pub mod Runs
 pub mod Settings
+pub mod SpanTexts
+pub mod SpanWords
 pub mod Texts
 pub mod Worked
 pub mod inner

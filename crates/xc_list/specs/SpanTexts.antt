@@ -1,0 +1,38 @@
+-- Spans of a listing as text.
+use Rattle.std.specs.Prelude.{ℕ, Bool, List, [], ◌∷◌, ◌++◌, Option, Some, None, length, flat_map, decimal, codes}
+use Rattle.std.specs.Prelude.{if◌then◌else◌}
+use Rattle.std.specs.List.{enumerate_from}
+use Rattle.xc_input.specs.Named.{Named}
+use Rattle.xc_search.specs.declared.choice.Choice.{Choice}
+use Rattle.xc_search.specs.Spans.{between}
+use Rattle.xc_list.specs.Output.{member_text}
+
+-- a row: its numbers with points between, and a dash where it has none
+abbrev pub row_text : List ℕ → List ℕ
+row_text [] = codes "-"
+row_text (n ∷ row) = decimal n ++ flat_map (λ k. codes "." ++ decimal k) row
+
+-- the row before which a span ends; the empty row stands for the listing's end
+abbrev pub end_at : List ℕ → Option (List ℕ)
+end_at [] = None
+end_at (n ∷ row) = Some (n ∷ row)
+
+-- where a search stopped before its span's end: how many branches each level of the row has
+abbrev pub branches_text : Option (List ℕ) → List ℕ
+branches_text None = []
+branches_text (Some branches) = codes " of " ++ row_text branches
+
+-- the record of a span: its first row and the one before which it ends, and how many solutions and steps it took
+abbrev pub record_text : List ℕ → List ℕ → Option (List ℕ) → ℕ → ℕ → List ℕ
+record_text from until branches solutions steps =
+    codes "from " ++ row_text from ++ codes " until " ++ row_text until ++ branches_text branches
+    ++ codes " solutions " ++ decimal solutions ++ codes " steps " ++ decimal steps ++ codes "\n"
+
+-- the line that names where a listed span begins, and the texts of these members, numbered from 1
+abbrev pub listing_text : Named → List ℕ → List (List Choice) → List ℕ
+listing_text a from ms = codes "from " ++ row_text from ++ codes "\n" ++ flat_map (member_text a) (enumerate_from 1 ms)
+
+-- the text of the span between two rows: its listing, if it is listed, and its record
+abbrev pub span_text : Named → Bool → List ℕ → List ℕ → Option (List ℕ) → ℕ → List ℕ
+span_text a listed from until branches steps = let found = between a.puzzle from (end_at until) in
+    (if listed then listing_text a from found else []) ++ record_text from until branches (length found) steps
