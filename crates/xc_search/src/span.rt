@@ -1,6 +1,6 @@
 //! A search of a span: of the members from one row of numbers on and before another.
-ghost use Rattle.std.specs.Prelude.{ℕ, ◌≡◌, ◌-◌, ◌^◌, ◌<◌, ◌≤◌, List, [], ◌∷◌, ◌++◌, length, map, true, false};
-ghost use Rattle.std.specs.Prelude.{if◌then◌else◌, Some, None, IfSome, IsSome, IsSomeAnd, IfOk, IfErr};
+ghost use Rattle.std.specs.Prelude.{ℕ, ◌≡◌, ◌-◌, ◌^◌, ◌<◌, ◌≤◌, ◌⊎◌, List, [], ◌∷◌, ◌++◌, length, map, true};
+ghost use Rattle.std.specs.Prelude.{false, if◌then◌else◌, Some, None, IfSome, IsSome, IsSomeAnd, IfOk, IfErr};
 ghost use Rattle.std.specs.Prelude.{option_map, option_and_then, slice_get};
 ghost use Rattle.xc_search.specs.Outlook.{shown_after};
 ghost use Rattle.xc_search.specs.Room.{room_for};
@@ -188,8 +188,11 @@ impl<'a, D: Dance> Span<'a, D> {
         ensures within { (result.steps ≤ steps) × (result.members ≤ many) }
         ensures ended { self.old.row ≡ None → (result.halt ≡ Halt.End) × (result.members ≡ 0) × (self.new.row ≡ None) }
 
+        ensures fewer { 0 < many → result.halt ≡ Halt.End → result.members < many }
+        ensures stays { steps ≡ 0 → self.new.row ≡ self.old.row }
+
         // The row where it halted isn't behind the span's end, and comes before it where it ran out of steps.
-        ensures stands { result.halt ≡ Halt.Member → IsSomeAnd self.new.row (λ row.
+        ensures stands { (result.halt ≡ Halt.Member) ⊎ (result.halt ≡ Halt.Steps) → IsSomeAnd self.new.row (λ row.
             IfSome self.new.until (λ until. precedes until row ≡ false)) }
         ensures before { 0 < steps → result.halt ≡ Halt.Steps → IfSome self.new.row (λ row.
             is_before self.new.until row ≡ true) }

@@ -201,9 +201,22 @@ returns-then-many-eq0-clause-stands g c _ =
     rw (← c.self.view_is) (rw c.if-self.false (end_not_from (option_map (λ u. u.now) s.until) s.state.position.puzzle
     s.state.stack.levels s.down (c.self.invariant.before c.if-self.false)))
 
+pub returns-then-steps-eq0-clause-stands : goal.returns-then-steps-eq0-clause-stands
+returns-then-steps-eq0-clause-stands g c _ =
+    let s = c.self.inside in
+    rw c.if-self.false (end_not_from (option_map (λ u. u.now) s.until) s.state.position.puzzle s.state.stack.levels
+    s.down (c.self.invariant.before c.if-self.false))
+
 pub returns-in-Member-clause-stands : goal.returns-in-Member-clause-stands
 returns-in-Member-clause-stands g c _ =
     let r = (goal.at.returns-in-Member-clause-stands g c).After-replace_with-ran in
     let p = c.replace_with-ran.new.dest.position.puzzle in
     let ls = c.replace_with-ran.new.dest.stack.levels in
     rw c.if-self.false (end_not_from (until g r) p ls false (c.replace_with-ran.ensures.before (inl c.in-Member.is)))
+
+pub returns-in-Steps-clause-stands : goal.returns-in-Steps-clause-stands
+returns-in-Steps-clause-stands g c _ =
+    let r = (goal.at.returns-in-Steps-clause-stands g c).After-replace_with-ran in
+    let p = c.replace_with-ran.new.dest.position.puzzle in
+    let ls = c.replace_with-ran.new.dest.stack.levels in
+    rw c.if-self.false (end_not_from (until g r) p ls true (c.replace_with-ran.ensures.before (inr c.in-Steps.is)))
