@@ -7,6 +7,9 @@ pub mod Outputs
 pub mod PageLemmas
 pub mod Planned
 pub mod RowTexts
+pub mod SpanGoing
+pub mod SpanLemmas
+pub mod SpanWhole
 pub mod TextLemmas
 pub mod Writing
 pub mod WordLemmas

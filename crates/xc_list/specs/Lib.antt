@@ -8,6 +8,7 @@ pub mod PartWords
 pub mod Plans
 pub mod Runs
 pub mod Settings
+pub mod SpanRuns
 pub mod SpanTexts
 pub mod SpanWords
 pub mod Texts

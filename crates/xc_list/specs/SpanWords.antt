@@ -5,6 +5,7 @@ use Rattle.std.specs.List.{slice_split}
 use Rattle.std.specs.Str.{byte, bytes_eq}
 use Rattle.xc_search.specs.Spans.{precedes}
 use Rattle.xc_list.specs.Settings.{long_number}
+use Rattle.xc_list.specs.declared.span_words.SpanWords.{SpanWords}
 
 -- What is asked of a run: whether solutions are listed, or else counted alone; how many steps it takes at most, with 0
 -- for no bound; the row at which the span begins; and the one before which it ends, with the empty row for the
@@ -14,6 +15,10 @@ pub record AskedSpan : Type 0 where
   pub steps : ℕ
   pub from : List ℕ
   pub until : List ℕ
+
+-- the same as the code holds it
+abbrev pub asked_of : SpanWords → AskedSpan
+asked_of w = record { listed = w.listed; steps = w.steps; from = w.from.items; until = w.until.items }
 
 -- whether a word asks for a listing, or for a count alone
 abbrev pub listing_word : List ℕ → Option Bool
@@ -38,14 +43,18 @@ abbrev pub is_span : List ℕ → List ℕ → Bool
 is_span from [] = true
 is_span from (n ∷ row) = not (precedes (n ∷ row) from)
 
--- a span, if it is one
+-- a span between two rows, if it is one
 abbrev pub asked_rows : Bool → ℕ → List ℕ → List ℕ → Option AskedSpan
 asked_rows listed steps from until =
     if is_span from until then Some (record { listed = listed; steps = steps; from = from; until = until }) else None
 
+-- the span between the rows that two words tell
+abbrev pub asked_words : Bool → ℕ → List ℕ → List ℕ → Option AskedSpan
+asked_words listed steps from until = option_and_then (λ (f : List ℕ).
+    option_and_then (λ (u : List ℕ). asked_rows listed steps f u) (row_word until)) (row_word from)
+
 -- what four words ask for: a listing or a count, the most steps, and the two rows
 abbrev pub read_span_words : List (List ℕ) → Option AskedSpan
-read_span_words (m ∷ s ∷ f ∷ u ∷ []) =
-    option_and_then (λ listed. option_and_then (λ steps. option_and_then (λ from.
-    option_and_then (asked_rows listed steps from) (row_word u)) (row_word f)) (long_number s)) (listing_word m)
+read_span_words (m ∷ n ∷ from ∷ until ∷ []) = option_and_then (λ listed.
+    option_and_then (λ steps. asked_words listed steps from until) (long_number n)) (listing_word m)
 read_span_words _ = None

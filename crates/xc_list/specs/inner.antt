@@ -8,6 +8,7 @@ pub mod OptionIndex
 pub mod Pages
 pub mod PartsBelow
 pub mod SeenLines
+pub mod SpanSteps
 pub mod LineParts
 pub mod Listings
 pub mod Tested
