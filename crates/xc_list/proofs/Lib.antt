@@ -4,6 +4,10 @@ pub mod OutputLemmas
 pub mod NextPrinted
 pub mod Outputs
 pub mod PageLemmas
+pub mod RowTexts
+pub mod SpanGoing
+pub mod SpanLemmas
+pub mod SpanWhole
 pub mod TextLemmas
 pub mod Writing
 pub mod WordLemmas

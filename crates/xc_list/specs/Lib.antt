@@ -5,7 +5,9 @@ pub mod Messages
 pub mod Output
 pub mod Runs
 pub mod Settings
+pub mod SpanRuns
 pub mod SpanTexts
+pub mod SpanWords
 pub mod Texts
 pub mod Worked
 pub mod inner

@@ -32,9 +32,13 @@ record_text from until branches solutions steps =
     codes "from " ++ row_text from ++ codes " until " ++ row_text until ++ branches_text branches
     ++ codes " solutions " ++ decimal solutions ++ codes " steps " ++ decimal steps ++ codes "\n"
 
--- the line that names where a listed span begins, and the texts of these members, numbered from 1
+-- the texts of these members, numbered from 1
+abbrev pub members_text : Named → List (List Choice) → List ℕ
+members_text a ms = flat_map (member_text a) (enumerate_from 1 ms)
+
+-- the line that names where a listed span begins, and its members
 abbrev pub listing_text : Named → List ℕ → List (List Choice) → List ℕ
-listing_text a from ms = codes "from " ++ row_text from ++ codes "\n" ++ flat_map (member_text a) (enumerate_from 1 ms)
+listing_text a from ms = codes "from " ++ row_text from ++ codes "\n" ++ members_text a ms
 
 -- the text of the span between two rows: its listing, if it is listed, and its record
 abbrev pub span_text : Named → Bool → List ℕ → List ℕ → Option (List ℕ) → ℕ → List ℕ

@@ -7,6 +7,7 @@ pub mod Layout
 pub mod OptionIndex
 pub mod Pages
 pub mod SeenLines
+pub mod SpanSteps
 pub mod LineParts
 pub mod Listings
 pub mod Tested

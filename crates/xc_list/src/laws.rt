@@ -1,10 +1,12 @@
 //! What the definitions say of worked problems and words.
-ghost use Rattle.std.specs.Prelude.{◌≡◌, ◌-◌, ◌^◌, [], ◌∷◌, ◌++◌, codes, Ok, Err};
+ghost use Rattle.std.specs.Prelude.{ℕ, ◌≡◌, ◌<◌, ◌-◌, ◌^◌, All, List, [], ◌∷◌, ◌++◌, codes, Ok, Err, Some};
 ghost use Rattle.xc_input.specs.Named.{Named};
 ghost use Rattle.xc_list.specs.Messages.{summary_text};
 ghost use Rattle.xc_list.specs.Output.{output};
 ghost use Rattle.xc_list.specs.Runs.{end_of};
 ghost use Rattle.xc_list.specs.Settings.{read_words};
+ghost use Rattle.xc_list.specs.SpanTexts.{row_text};
+ghost use Rattle.xc_list.specs.SpanWords.{row_word};
 ghost use Rattle.xc_list.specs.Worked.{seven, alike, colours};
 ghost use Rattle.xc_list.specs.declared.runs.End.TheVariants.{Done, Limit};
 ghost use Rattle.xc_list.specs.declared.words.WordFault.TheVariants.{Unknown, BadNumber, ZeroLimit};
@@ -31,4 +33,9 @@ pub fn worked_words()
     ensures zero_limit { read_words (codes "m2" ∷ codes "t00" ∷ codes "x" ∷ []) ≡ Err (ZeroLimit 2) }
     ensures empty { read_words (codes "t18446744073709551615" ∷ [] ∷ []) ≡ Err (Unknown 2) }
     ensures large { read_words (codes "t18446744073709551616" ∷ []) ≡ Err (BadNumber 1) }
+{}
+
+/// A row is told by its text, so two rows that have one text are one row.
+pub fn rows_by_texts()
+    ensures { (row : List ℕ) → All (λ n. n < 2 ^ 32) row → row_word (row_text row) ≡ Some row }
 {}

@@ -1,14 +1,16 @@
 //! A search of a span: of the members from one row of numbers on and before another.
-ghost use Rattle.std.specs.Prelude.{ℕ, ◌≡◌, ◌<◌, ◌≤◌, List, [], ◌++◌, length, map, true, false, Some, None, IfSome};
-ghost use Rattle.std.specs.Prelude.{IsSome, IfOk, IfErr, option_map};
+ghost use Rattle.std.specs.Prelude.{ℕ, ◌≡◌, ◌-◌, ◌^◌, ◌<◌, ◌≤◌, ◌⊎◌, List, [], ◌∷◌, ◌++◌, length, map, true};
+ghost use Rattle.std.specs.Prelude.{false, if◌then◌else◌, Some, None, IfSome, IsSome, IsSomeAnd, IfOk, IfErr};
+ghost use Rattle.std.specs.Prelude.{option_map, option_and_then, slice_get};
 ghost use Rattle.xc_search.specs.Outlook.{shown_after};
 ghost use Rattle.xc_search.specs.Room.{room_for};
 ghost use Rattle.xc_search.specs.Listing.{whole};
-ghost use Rattle.xc_search.specs.Spans.{precedes, between};
+ghost use Rattle.xc_search.specs.Spans.{precedes, is_before, between};
 ghost use Rattle.xc_search.specs.InSpan.{left_of, reached, branches_along};
 
 use crate::choice::Choice;
 use crate::counts::most_levels;
+use crate::level::Level;
 use crate::levels::unwind;
 use crate::position::Position;
 use crate::rows::is_before;
@@ -45,6 +47,24 @@ pub struct Went {
 pub struct RowNumber {
     pub k: u32,
     pub n: u32,
+}
+
+/// The number at this place of the row of these levels, the oldest first, or of the one right behind it.
+fn number_of(levels: &[Level], down: bool, place: usize) -> Option<RowNumber>
+    ensures number { option_map (λ x. x.k) result ≡ slice_get
+        (if down then map (λ l. l.begun) levels.now else map (λ l. l.begun) levels.now ++ 0 ∷ []) place }
+    ensures branches { option_map (λ x. x.n) result ≡ slice_get
+        (if down then map (λ l. l.count) levels.now else map (λ l. l.count) levels.now ++ 0 ∷ []) place }
+    ensures near { IsSome result → place ≤ length levels.now }
+{
+    match levels.get(place) {
+        Some(level) => Some(RowNumber {
+            k: level.begun,
+            n: level.count,
+        }),
+        None if place == levels.len() && !down => Some(RowNumber { k: 0, n: 0 }),
+        None => None,
+    }
 }
 
 /// A search of a span of a problem's listing, over a dance of that problem, whose moves it makes and undoes. It stands
@@ -168,6 +188,15 @@ impl<'a, D: Dance> Span<'a, D> {
             × (result.steps ≡ steps) × (result.members < many) }
         ensures within { (result.steps ≤ steps) × (result.members ≤ many) }
         ensures ended { self.old.row ≡ None → (result.halt ≡ Halt.End) × (result.members ≡ 0) × (self.new.row ≡ None) }
+
+        ensures fewer { 0 < many → result.halt ≡ Halt.End → result.members < many }
+        ensures stays { steps ≡ 0 → self.new.row ≡ self.old.row }
+
+        // The row where it halted isn't behind the span's end, and comes before it where it ran out of steps.
+        ensures stands { (result.halt ≡ Halt.Member) ⊎ (result.halt ≡ Halt.Steps) → IsSomeAnd self.new.row (λ row.
+            IfSome self.new.until (λ until. precedes until row ≡ false)) }
+        ensures before { 0 < steps → result.halt ≡ Halt.Steps → IfSome self.new.row (λ row.
+            is_before self.new.until row ≡ true) }
     {
         if self.ended {
             self.choices.clear();
@@ -252,6 +281,21 @@ impl<'a, D: Dance> Span<'a, D> {
             row.push_reserved(RowNumber { k: 0, n: 0 });
         }
         Ok(row)
+    }
+
+    /// The number at this place of the row at which it stands, from 0 for the first level, with the number of branches
+    /// of its level; none behind the last one, and after `End`.
+    pub fn number_at(&self, place: usize) -> Option<RowNumber>
+        ensures number { option_map (λ x. x.k) result
+            ≡ option_and_then (λ row. slice_get row place) self.now.row }
+        ensures branches { option_map (λ x. x.n) result ≡ option_and_then (λ row.
+            slice_get (branches_along (whole self.now.puzzle) row) place) self.now.row }
+        ensures near { IsSome result → place < 2 ^ 64 - 1 }
+    {
+        if self.ended {
+            return None;
+        }
+        number_of(self.state.stack.levels(), self.down, place)
     }
 
     /// Undoes every move and gives the dance back, after any answer of `go_on`.

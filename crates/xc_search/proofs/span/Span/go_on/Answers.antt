@@ -1,7 +1,7 @@
-use Rattle.std.proofs.Common.{ℕ, ◌≡◌, ◌-◌, ◌<◌, true, false, List, [], Option, refl, sym, ap, ◌∙◌, arith, inl, inr, ◌⊎◌}
-use Rattle.std.proofs.Common.{length}
-use Rattle.std.specs.Prelude.{option_map}
-use Rattle.xc_search.specs.Spans.{is_before, between}
+use Rattle.std.proofs.Common.{ℕ, ◌≡◌, ◌-◌, ◌<◌, ◌⊎◌, Bool, true, false, List, [], Option, length, refl, sym, ap, ◌∙◌}
+use Rattle.std.proofs.Common.{arith, inl, inr}
+use Rattle.std.specs.Prelude.{option_map, IfSome}
+use Rattle.xc_search.specs.Spans.{precedes, is_before, between}
 use Rattle.xc_search.specs.inner.Levels.{choices_of}
 use Rattle.xc_search.specs.inner.Spanning.{row_at, row_from, Stands, EndsSpan}
 use Rattle.xc_dance.specs.Dancing.{Dancing}
@@ -11,9 +11,11 @@ use Rattle.xc_search.specs.declared.spanning.Stop.TheVariants.{Member, Steps, Ro
 use Rattle.xc_search.specs.Outlook.{shown_after}
 use Rattle.xc_search.specs.inner.Ahead.{IsSolved}
 use Rattle.xc_search.proofs.spans.Advance.{Advances, IsAt, over_first, ran_out, still_more, at_member, shown_there}
-use Rattle.xc_search.proofs.spans.Advance.{at_end}
+use Rattle.xc_search.proofs.spans.Advance.{at_end, end_not_before, end_not_right_behind}
 use Rattle.xc_search.proofs.spans.Told.{told_passed, told_count, told_later, told_shown, told_same, told_still}
 use Rattle.xc_search.proofs.spans.Told.{told_none, told_end}
+use Rattle.xc_input.specs.Problem.{Puzzle}
+use Rattle.xc_search.specs.declared.level.Level.{Level}
 use Rattle.xc_search.proofs.span.Span.go_on.Goals as goal
 use Rattle.xc_search.proofs.span.Span.go_on.Goals.{After-go_over-ran}
 use Rattle.xc_search.proofs.span.Span.go_on.Goals.{then-self-2, else-self-2}
@@ -36,6 +38,12 @@ at : (g : _) (c : After-go_over-ran g)
     → IsAt c.self.inside.state.position.puzzle c.self.inside.state.position.trail
     c.self.inside.state.stack.levels c.self.inside.down
 at g c = record { led = c.self.invariant.led c.if-self.false; solved = c.self.invariant.solved c.if-self.false }
+
+-- the end of a span isn't before the row from which on a search goes on
+end_not_from : (until : Option (List ℕ)) (p : Puzzle) (ls : List Level) (down : Bool)
+    → is_before until (row_at p ls) ≡ true → IfSome until (λ u. precedes u (row_from p ls down) ≡ false)
+end_not_from until p ls true h = end_not_before until (row_at p ls) h
+end_not_from until p ls false h = end_not_right_behind until (row_at p ls) h
 
 over : (g : _) (c : After-go_over-ran g) → c.if-self-2.over ≡ over_first c.args.many c.self.inside.down
 over g c = elim c.if-self-2.branch [
@@ -186,3 +194,29 @@ returns-in-Steps-clause-later g c _ _ =
     told_later c.args.self.now _ _ _ _ _ _ c.self.view_is c.if-self.false c.go_over-ran.new.state.position.puzzle
     _ _
     c.clear-in-Steps.new.self.items (moved g r (inr c.in-Steps.is)) (to_row g r c.in-Steps.is (omega arith))
+
+pub returns-then-many-eq0-clause-stands : goal.returns-then-many-eq0-clause-stands
+returns-then-many-eq0-clause-stands g c _ =
+    let s = c.self.inside in
+    rw (← c.self.view_is) (rw c.if-self.false (end_not_from (option_map (λ u. u.now) s.until) s.state.position.puzzle
+    s.state.stack.levels s.down (c.self.invariant.before c.if-self.false)))
+
+pub returns-then-steps-eq0-clause-stands : goal.returns-then-steps-eq0-clause-stands
+returns-then-steps-eq0-clause-stands g c _ =
+    let s = c.self.inside in
+    rw c.if-self.false (end_not_from (option_map (λ u. u.now) s.until) s.state.position.puzzle s.state.stack.levels
+    s.down (c.self.invariant.before c.if-self.false))
+
+pub returns-in-Member-clause-stands : goal.returns-in-Member-clause-stands
+returns-in-Member-clause-stands g c _ =
+    let r = (goal.at.returns-in-Member-clause-stands g c).After-go_over-ran in
+    let p = c.go_over-ran.new.state.position.puzzle in
+    let ls = c.go_over-ran.new.state.stack.levels in
+    rw c.if-self.false (end_not_from (until g r) p ls false (c.go_over-ran.ensures.before (inl c.in-Member.is)))
+
+pub returns-in-Steps-clause-stands : goal.returns-in-Steps-clause-stands
+returns-in-Steps-clause-stands g c _ =
+    let r = (goal.at.returns-in-Steps-clause-stands g c).After-go_over-ran in
+    let p = c.go_over-ran.new.state.position.puzzle in
+    let ls = c.go_over-ran.new.state.stack.levels in
+    rw c.if-self.false (end_not_from (until g r) p ls true (c.go_over-ran.ensures.before (inr c.in-Steps.is)))

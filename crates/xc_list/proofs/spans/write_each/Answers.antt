@@ -1,0 +1,86 @@
+use Rattle.std.proofs.Common.{◌≡◌, ◌-◌, ◌^◌, ◌∷◌, refl, arith, drop, inl, inr}
+use Rattle.std.specs.Prelude.{All}
+use Rattle.xc_search.specs.InSpan.{left_of}
+use Rattle.xc_search.specs.declared.span.Halt.TheVariants.{Member}
+use Rattle.xc_list.specs.Known.{IsKnownChoice}
+use Rattle.xc_list.specs.Output.{member_text}
+use Rattle.xc_list.specs.inner.SpanSteps.{left_at}
+use Rattle.xc_list.proofs.Outputs.{texts_next, holds_next}
+use Rattle.xc_list.proofs.SpanLemmas.{texts_broke_all}
+use Rattle.xc_list.proofs.Writing.{took_nothing, then_took, if_failed}
+use Rattle.xc_list.proofs.SpanGoing.{Called, none_passed, called, called_on, still_on, to_member, to_end, to_steps}
+use Rattle.xc_list.proofs.SpanGoing.{at_most_members, halts}
+use Rattle.xc_list.proofs.spans.write_each.Goals as goal
+use Rattle.xc_list.proofs.spans.write_each.Goals.{After-go_on-went}
+
+went : (g : _) (c : After-go_on-went g)
+    → Called c.args.span.now.puzzle c.args.span.now.until c.loop-members.span.row c.go_on-went.new.self.row
+    c.loop-members.span.shown c.go_on-went.new.self.shown 1 (c.args.most - c.loop-members.steps) c.go_on-went.result
+went g c =
+    let e = c.go_on-went.ensures in
+    called_on c.args.span.now c.loop-members.span c.go_on-went.new.self _ _ _ c.loop-members.invariant.still
+    (called c.loop-members.span c.go_on-went.new.self _ _ _ e.still e.passed e.count e.later e.member e.end e.ran_out
+    e.within e.ended e.fewer e.stays e.stands)
+
+next : (g : _) (c : After-go_on-went g) → c.go_on-went.result.halt ≡ Member → drop c.loop-members.members (left_of c.args.span.now)
+    ≡ c.go_on-went.new.self.shown
+    ∷ left_at c.args.span.now.puzzle c.args.span.now.until c.go_on-went.new.self.row
+next g c is = (to_member _ _ _ _ _ _ _ _ _ _ _ c.loop-members.invariant.ahead (went g c) is).0
+
+pub loop-members-init : goal.loop-members-init
+loop-members-init g c =
+    record { still = refl; ahead = none_passed _ _ _ _; taken = took_nothing _ }
+
+pub write_member-requires : goal.write_member-requires
+write_member-requires g c =
+    rw c.choices.ensures (holds_next _ _ (next g (goal.at.write_member-requires g c).After-go_on-went
+    c.in-Member.is)
+    (All (IsKnownChoice c.args.bodies.now.puzzle)) c.requires.known)
+
+pub returns-in_err-write_member-in-Member-clause-wrote :
+    goal.returns-in_err-write_member-in-Member-clause-wrote
+returns-in_err-write_member-in-Member-clause-wrote g c =
+    let at = next g (goal.at.returns-in_err-write_member-in-Member-clause-wrote g c).After-go_on-went c.in-Member.is in
+    if_failed _ _ c.from_residual.ensures.0
+    (texts_broke_all (member_text c.args.bodies.now) (left_of c.args.span.now) c.loop-members.members at
+    c.loop-members.invariant.taken (rw c.choices.ensures at c.in_err-write_member-in-Member.ensures))
+
+pub returns-in_default : goal.returns-in_default
+returns-in_default g c =
+    let went = went g (goal.at.returns-in_default g c).After-go_on-went in
+    let ahead = c.loop-members.invariant.ahead in
+    record {
+      still = still_on c.args.span.now c.loop-members.span c.go_on-went.new.self c.loop-members.invariant.still
+          c.go_on-went.ensures.still;
+      wrote = (
+        elim (halts c.go_on-went.result.halt c.in_default.not-Member) [
+          | inl is ↦ to_end _ _ _ _ _ _ _ _ _ _ _ ahead went is
+          | inr is ↦ to_steps _ _ _ _ _ _ _ _ _ _ _ c.requires.some ahead went is
+        ],
+        c.loop-members.invariant.taken,
+      );
+    }
+
+pub loop-members-preserved : goal.loop-members-preserved
+loop-members-preserved g c =
+    let at = (goal.at.loop-members-preserved g c).After-go_on-went in
+    let ms = left_of c.args.span.now in
+    let text = rw c.choices.ensures at c.in_ok-write_member-in-Member.ensures in
+    record {
+      still = still_on c.args.span.now c.loop-members.span c.go_on-went.new.self c.loop-members.invariant.still
+          c.go_on-went.ensures.still;
+      ahead = (to_member _ _ _ _ _ _ _ _ _ _ _ c.loop-members.invariant.ahead (went g at)
+          c.in-Member.is).1;
+      taken = rw (texts_next (member_text c.args.bodies.now) ms c.loop-members.members (next g at c.in-Member.is))
+          (then_took
+          c.loop-members.invariant.taken text);
+    }
+
+pub returns-clause-wrote : goal.returns-clause-wrote
+returns-clause-wrote g c =
+    let all : c.loop-members.members ≡ 2 ^ 64 - 1 =
+    omega (arith, c.loop-members.auto.members-end, c.loop-members-test.false) in (
+      at_most_members _ _ _ _ _ _ _ (rw all at c.loop-members.invariant.ahead) refl,
+      rw all at
+          c.loop-members.invariant.taken,
+    )

@@ -1,0 +1,51 @@
+-- How far a run over a span comes, and what it wrote.
+use Rattle.std.specs.Prelude.{ℕ, ◌^◌, ◌-◌, ◌≤◌, ◌≡◌, ◌⊎◌, ◌==◌, false, List, Option, Some, None, IfSome, length}
+use Rattle.std.specs.Prelude.{[], true, Result, Ok, Err, if◌then◌else◌}
+use Rattle.xc_input.specs.Problem.{Puzzle}
+use Rattle.xc_input.specs.Named.{Named}
+use Rattle.xc_search.specs.Listing.{whole}
+use Rattle.xc_search.specs.Spans.{precedes, between}
+use Rattle.xc_search.specs.InSpan.{branches_along}
+use Rattle.xc_search.specs.declared.span.Went.{Went}
+use Rattle.xc_search.specs.declared.span.Halt.TheVariants.{Member, End, Steps}
+use Rattle.xc_list.specs.SpanTexts.{end_at, span_text}
+use Rattle.xc_list.specs.SpanWords.{AskedSpan}
+use Rattle.xc_list.specs.Texts.{SinkState, Took, BrokeOff}
+use Rattle.xc_list.specs.declared.spans.SpanFault.{SpanFault}
+use Rattle.xc_list.specs.declared.spans.SpanFault.TheVariants.{Memory, WriteFailed}
+
+-- how many steps a run takes at most; 0 asks for no bound but the counter's
+abbrev pub most_steps : ℕ → ℕ
+most_steps n = if n == 0 then 2 ^ 64 - 1 else n
+
+-- A search of the span that is asked for stopped at this row, which comes after its first row and not after its end,
+-- since all steps were used or as many members passed as are counted.
+pub record StopsAt (asked : AskedSpan) (row : List ℕ) (went : Went) : Type 0 where
+  pub later : precedes asked.from row ≡ true
+  pub within : IfSome (end_at asked.until) (λ until. precedes until row ≡ false)
+  pub spent : ((went.halt ≡ Steps) × (went.steps ≡ most_steps asked.steps))
+      ⊎ ((went.halt ≡ Member) × (went.members ≡ 2 ^ 64 - 1))
+
+-- It went up to this row: the span's end; or one where it stopped, whose levels have so many branches.
+abbrev pub GoesTo : Puzzle → AskedSpan → List ℕ → Option (List ℕ) → Went → Type 0
+GoesTo p asked row None went = (went.halt ≡ End) × (row ≡ asked.until)
+GoesTo p asked row (Some branches) went = StopsAt asked row went × (branches ≡ branches_along (whole p) row)
+
+-- This is so of a sink and the text of the span up to where a search went, in no more steps than were asked for.
+pub record OfSpan (a : Named) (asked : AskedSpan) (went : Went)
+    (says : SinkState → SinkState → List ℕ → Type 0) (old new : SinkState) : Type 0 where
+  pub row : List ℕ
+  pub branches : Option (List ℕ)
+  pub goes : GoesTo a.puzzle asked row branches went
+  pub few : went.steps ≤ most_steps asked.steps
+  pub members : length (between a.puzzle asked.from (end_at row)) ≡ went.members
+  pub said : says old new (span_text a asked.listed asked.from row branches went.steps)
+
+-- What a run over a span answers: the sink took the text up to where it went; or it broke off in such a text; or, where
+-- there was no memory for the search, nothing was written.
+abbrev pub AnswersSpan : Named → AskedSpan → SinkState → SinkState → Result Went SpanFault → Type 0
+AnswersSpan a asked old new (Ok went) = OfSpan a asked went Took old new
+AnswersSpan a asked old new (Err e) = elim e [
+  | Memory ↦ Took old new []
+  | WriteFailed ↦ (went : Went) × OfSpan a asked went BrokeOff old new
+]

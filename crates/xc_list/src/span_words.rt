@@ -1,0 +1,166 @@
+//! The words of a run over a span.
+ghost use Rattle.std.specs.Prelude.{◌≡◌, ◌==◌, IfOk, map, option_map};
+ghost use Rattle.std.specs.List.{slice_split};
+ghost use Rattle.xc_search.specs.Spans.{precedes};
+ghost use Rattle.xc_list.specs.SpanTexts.{end_at};
+ghost use Rattle.xc_list.specs.SpanWords.{asked_of, listing_word, row_number, row_numbers, row_word, is_span, asked_rows};
+ghost use Rattle.xc_list.specs.SpanWords.{asked_words, read_span_words};
+
+use crate::words::long_number;
+use std::alloc::{AllocError, Global};
+
+/// What is asked of a run over a span. A row is the numbers of a member's branches, from the first level down, or any
+/// other numbers; a row that begins another comes before it.
+#[derive(Drop)]
+pub struct SpanWords {
+    /// Solutions are listed, and else counted alone.
+    pub listed: bool,
+    /// So many steps are taken at most, each a branch that is begun; 0 for no bound.
+    pub steps: u64,
+    /// The row at which the span begins.
+    pub from: Vec<u32>,
+    /// The row before which it ends; the empty row for the listing's end.
+    pub until: Vec<u32>,
+}
+
+/// Whether a word asks for a listing, or for a count alone.
+fn listing_word(word: &[u8]) -> Option<bool>
+    ensures { result ≡ listing_word word.now }
+{
+    match word {
+        b"m0" => Some(false),
+        b"m1" => Some(true),
+        _ => None,
+    }
+}
+
+/// The number of a row that digits tell.
+fn row_number(digits: &[u8]) -> Option<u32>
+    ensures { result ≡ row_number digits.now }
+{
+    u32::try_from(long_number(digits)?).ok()
+}
+
+/// The numbers that texts tell, where each tells one.
+fn row_numbers(alloc: Global, texts: &[&[u8]]) -> Result<Option<Vec<u32>>, AllocError>
+    ensures { IfOk result (λ found. option_map (λ row. row.items) found ≡ row_numbers (map (λ w. w.now) texts.now)) }
+{
+    let mut row = Vec::new(alloc);
+    for digits in texts {
+        let Some(number) = row_number(digits) else {
+            return Ok(None);
+        };
+        row.push(number)?;
+    }
+    Ok(Some(row))
+}
+
+/// What stands between the points of a word.
+fn parts(alloc: Global, word: &[u8]) -> Result<Vec<&[u8]>, AllocError>
+    ensures { IfOk result (λ parts. map (λ w. w.now) parts.items ≡ slice_split (λ b. b == 46) word.now) }
+{
+    word.split(|b| *b == b'.').collect(alloc)
+}
+
+/// The row that a word tells: numbers with points between, or `-` for the empty row.
+fn row_word(alloc: Global, word: &[u8]) -> Result<Option<Vec<u32>>, AllocError>
+    ensures { IfOk result (λ found. option_map (λ row. row.items) found ≡ row_word word.now) }
+{
+    if word == b"-".as_slice() {
+        return Ok(Some(Vec::new(alloc)));
+    }
+    row_numbers(alloc, &parts(alloc, word)?)
+}
+
+/// Whether the one row comes before the other.
+fn precedes(row: &[u32], other: &[u32]) -> bool
+    ensures { result ≡ precedes row.now other.now }
+{
+    let mut left = row;
+    let mut behind = other;
+    while let [n, numbers @ ..] = behind {
+        let [k, rest @ ..] = left else {
+            return true;
+        };
+        if *k != *n {
+            return *k < *n;
+        }
+        left = rest;
+        behind = numbers;
+    }
+    false
+}
+
+/// Whether a span that begins at the one row can end at the other.
+fn is_span(from: &[u32], until: &[u32]) -> bool
+    ensures { result ≡ is_span from.now until.now }
+{
+    until.is_empty() || !precedes(until, from)
+}
+
+/// What is asked of a span between rows, if it is one.
+fn with_rows(listed: bool, steps: u64, from: Vec<u32>, until: Vec<u32>) -> Option<SpanWords>
+    ensures { option_map asked_of result ≡ asked_rows listed steps from.items until.items }
+{
+    if !is_span(&from, &until) {
+        return None;
+    }
+    Some(SpanWords {
+        listed,
+        steps,
+        from,
+        until,
+    })
+}
+
+/// What is asked of the span between the rows that two words tell.
+fn with_words(
+    alloc: Global,
+    listed: bool,
+    steps: u64,
+    from: &[u8],
+    until: &[u8],
+) -> Result<Option<SpanWords>, AllocError>
+    ensures { IfOk result (λ found.
+        option_map asked_of found ≡ asked_words listed steps from.now until.now) }
+{
+    let Some(from) = row_word(alloc, from)? else {
+        return Ok(None);
+    };
+    let Some(until) = row_word(alloc, until)? else {
+        return Ok(None);
+    };
+    Ok(with_rows(listed, steps, from, until))
+}
+
+impl SpanWords {
+    /// What words ask for: `m1` for a listing or `m0` for a count alone, the most steps, 0 for no bound, the row at
+    /// which the span begins, and the one before which it ends. A row is numbers with points between, as `3.1.7`; as
+    /// the first row `-` is the beginning of the listing, as the second its end. None for other words, and where the
+    /// second row comes before the first.
+    pub fn read(alloc: Global, words: &[Vec<u8>]) -> Result<Option<SpanWords>, AllocError>
+        ensures { IfOk result (λ found.
+            option_map asked_of found ≡ read_span_words (map (λ w. w.items) words.now)) }
+    {
+        let [listed, steps, from, until] = words else {
+            return Ok(None);
+        };
+        match (
+            listing_word(listed.as_slice()),
+            long_number(steps.as_slice()),
+        ) {
+            (Some(listed), Some(steps)) => with_words(alloc, listed, steps, from, until),
+            _ => Ok(None),
+        }
+    }
+
+    /// The row before which the span ends, if not at the listing's end.
+    pub fn end(&self) -> Option<&[u32]>
+        ensures { option_map (λ u. u.now) result ≡ end_at self.now.until.items }
+    {
+        if self.until.is_empty() {
+            return None;
+        }
+        Some(&self.until)
+    }
+}

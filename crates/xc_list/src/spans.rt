@@ -1,0 +1,333 @@
+//! A span of a listing, as far as a search of it goes.
+ghost use Rattle.std.specs.Prelude.{◌≡◌, ◌++◌, ◌-◌, ◌^◌, ◌<◌, ◌≤◌, [], All, MatchResult, map, flat_map};
+ghost use Rattle.std.specs.Prelude.{take, codes};
+ghost use Rattle.xc_search.specs.Room.{room_for};
+ghost use Rattle.xc_search.specs.InSpan.{left_of};
+ghost use Rattle.xc_list.specs.Known.{IsKnownChoice};
+ghost use Rattle.xc_list.specs.Texts.{Writes, Took, BrokeOff};
+ghost use Rattle.xc_list.specs.SpanTexts.{row_text, end_at, members_text, listing_text};
+ghost use Rattle.xc_list.specs.SpanWords.{asked_of};
+ghost use Rattle.xc_list.specs.SpanRuns.{most_steps, OfSpan, AnswersSpan};
+ghost use Rattle.xc_list.specs.inner.SpanSteps.{dotted, numbers_text, text_at, row_in, branches_in, until_text};
+ghost use Rattle.xc_list.specs.inner.SpanSteps.{counts_text, told_text, WentOn, IsBegun, written_text, SpanWritten};
+
+use crate::bodies::Bodies;
+use crate::print::write_member;
+use crate::sink::Sink;
+use crate::span_words::SpanWords;
+use crate::write::{SinkFault, write_all, write_number, write_numbered};
+use std::alloc::Global;
+use xc_dance::{Dance, Links};
+use xc_input::Problem;
+use xc_search::{Halt, Span, Went, most_moves};
+
+/// Why a span wasn't told.
+#[derive(Clone, Copy, Debug, PartialEq, Eq)]
+pub enum SpanFault {
+    /// There was no memory for its search.
+    Memory,
+    /// A write of its text failed.
+    WriteFailed,
+}
+
+/// Writes a number of a row behind a point.
+fn write_dotted<S: Sink>(n: u32, sink: &mut S) -> Result<(), SinkFault>
+    ensures { Writes (S.state sink.old) (S.state sink.new) result (dotted n) }
+{
+    write_all(sink, b".")?;
+    write_number(sink, n as u64)
+}
+
+/// Writes the numbers of a row behind its first one.
+fn write_numbers<S: Sink>(numbers: &[u32], sink: &mut S) -> Result<(), SinkFault>
+    ensures { Writes (S.state sink.old) (S.state sink.new) result (flat_map dotted numbers.now) }
+{
+    for n in numbers {
+        write_dotted(*n, sink)?;
+    }
+    Ok(())
+}
+
+/// Writes a row: its numbers with points between, or `-` for the empty row.
+fn write_row<S: Sink>(row: &[u32], sink: &mut S) -> Result<(), SinkFault>
+    ensures { Writes (S.state sink.old) (S.state sink.new) result (row_text row.now) }
+{
+    let [first, numbers @ ..] = row else {
+        return write_all(sink, b"-");
+    };
+    write_number(sink, *first as u64)?;
+    write_numbers(numbers, sink)
+}
+
+/// Writes the number at a place of a row, behind a point where it isn't the first.
+fn write_at<S: Sink>(place: usize, n: u32, sink: &mut S) -> Result<(), SinkFault>
+    ensures { Writes (S.state sink.old) (S.state sink.new) result (text_at place n) }
+{
+    if place == 0 {
+        return write_number(sink, n as u64);
+    }
+    write_dotted(n, sink)
+}
+
+/// Writes the numbers of the row at which a search stands.
+fn write_reached<'a, D: Dance, S: Sink>(span: &Span<'a, D>, sink: &mut S) -> Result<(), SinkFault>
+    ensures { Writes (S.state sink.old) (S.state sink.new) result (numbers_text (row_in span.now)) }
+{
+    let mut place = 0;
+    while let Some(number) = span.number_at(place) {
+        write_at(place, number.k, sink)?;
+        place += 1;
+    }
+    Ok(())
+}
+
+/// Writes how many branches each level has of the row at which a search stands.
+fn write_branches<'a, D: Dance, S: Sink>(span: &Span<'a, D>, sink: &mut S) -> Result<(), SinkFault>
+    ensures { Writes (S.state sink.old) (S.state sink.new) result (numbers_text (branches_in span.now)) }
+{
+    let mut place = 0;
+    while let Some(number) = span.number_at(place) {
+        write_at(place, number.n, sink)?;
+        place += 1;
+    }
+    Ok(())
+}
+
+/// Writes the row at which a search stopped, with the branches of its levels.
+fn write_stop<'a, D: Dance, S: Sink>(span: &Span<'a, D>, sink: &mut S) -> Result<(), SinkFault>
+    ensures { Writes (S.state sink.old) (S.state sink.new) result
+        (numbers_text (row_in span.now) ++ codes " of " ++ numbers_text (branches_in span.now)) }
+{
+    write_reached(span, sink)?;
+    write_all(sink, b" of ")?;
+    write_branches(span, sink)
+}
+
+/// Writes up to where a search of a span went: to the span's end, or to the row at which it stopped.
+fn write_until<'a, D: Dance, S: Sink>(
+    span: &Span<'a, D>,
+    halt: Halt,
+    until: &[u32],
+    sink: &mut S,
+) -> Result<(), SinkFault>
+    ensures { Writes (S.state sink.old) (S.state sink.new) result (until_text span.now until.now halt) }
+{
+    match halt {
+        Halt::End => write_row(until, sink),
+        Halt::Member => write_stop(span, sink),
+        Halt::Steps => write_stop(span, sink),
+    }
+}
+
+/// Writes the counts of a record, to the end of its line.
+fn write_counts<S: Sink>(went: &Went, sink: &mut S) -> Result<(), SinkFault>
+    ensures { Writes (S.state sink.old) (S.state sink.new) result (counts_text went.now) }
+{
+    write_numbered(sink, b" solutions ", went.members, b" steps ")?;
+    write_number(sink, went.steps)?;
+    write_all(sink, b"\n")
+}
+
+/// Writes where a span begins.
+fn write_from<S: Sink>(from: &[u32], sink: &mut S) -> Result<(), SinkFault>
+    ensures { Writes (S.state sink.old) (S.state sink.new) result (codes "from " ++ row_text from.now) }
+{
+    write_all(sink, b"from ")?;
+    write_row(from, sink)
+}
+
+/// Writes the record of a span.
+fn write_record<'a, D: Dance, S: Sink>(
+    span: &Span<'a, D>,
+    went: &Went,
+    from: &[u32],
+    until: &[u32],
+    sink: &mut S,
+) -> Result<(), SinkFault>
+    ensures { Writes (S.state sink.old) (S.state sink.new) result (told_text span.now from.now until.now went.now) }
+{
+    write_from(from, sink)?;
+    write_all(sink, b" until ")?;
+    write_until(span, went.halt, until, sink)?;
+    write_counts(went, sink)
+}
+
+/// Writes the members of a span that its search comes to, numbered from 1, and answers how far it went.
+fn write_each<'a, D: Dance, S: Sink>(
+    span: &mut Span<'a, D>,
+    bodies: &Bodies,
+    most: u64,
+    sink: &mut S,
+) -> Result<Went, SinkFault>
+    requires known { All (All (IsKnownChoice bodies.now.puzzle)) (left_of span.old) }
+    requires some { 0 < most }
+    ensures still { span.new ≡ record span.old { row = span.new.row; shown = span.new.shown } }
+    ensures wrote { MatchResult result
+        (λ went. WentOn span.old.puzzle span.old.until span.old.row span.new.row most went ×
+        Took (S.state sink.old) (S.state sink.new)
+        (members_text bodies.now (take went.members (left_of span.old))))
+        (λ _. BrokeOff (S.state sink.old) (S.state sink.new) (members_text bodies.now (left_of span.old))) }
+{
+    let mut steps = 0;
+    for members in 0..u64::MAX {
+        let went = span.go_on(1, most - steps);
+        steps += went.steps;
+        match went.halt {
+            Halt::Member => write_member(members + 1, span.choices(), bodies, sink)?,
+            halt => {
+                return Ok(Went {
+                    halt,
+                    members,
+                    steps,
+                });
+            }
+        }
+    }
+    Ok(Went {
+        halt: Halt::Member,
+        members: u64::MAX,
+        steps,
+    })
+}
+
+/// Writes where a span begins and the members that its search comes to, and answers how far it went.
+fn write_listing<'a, D: Dance, S: Sink>(
+    span: &mut Span<'a, D>,
+    bodies: &Bodies,
+    from: &[u32],
+    most: u64,
+    sink: &mut S,
+) -> Result<Went, SinkFault>
+    requires known { All (All (IsKnownChoice bodies.now.puzzle)) (left_of span.old) }
+    requires some { 0 < most }
+    ensures still { span.new ≡ record span.old { row = span.new.row; shown = span.new.shown } }
+    ensures wrote { MatchResult result
+        (λ went. WentOn span.old.puzzle span.old.until span.old.row span.new.row most went ×
+        Took (S.state sink.old) (S.state sink.new)
+        (listing_text bodies.now from.now (take went.members (left_of span.old))))
+        (λ _. BrokeOff (S.state sink.old) (S.state sink.new)
+        (listing_text bodies.now from.now (left_of span.old))) }
+{
+    write_from(from, sink)?;
+    write_all(sink, b"\n")?;
+    write_each(span, bodies, most, sink)
+}
+
+/// Passes over the members of a span that its search comes to, and answers how far it went.
+fn count<'a, D: Dance>(span: &mut Span<'a, D>, most: u64) -> Went
+    requires some { 0 < most }
+    ensures still { span.new ≡ record span.old { row = span.new.row; shown = span.new.shown } }
+    ensures went { WentOn span.old.puzzle span.old.until span.old.row span.new.row most result }
+{
+    span.go_on(u64::MAX, most)
+}
+
+/// Goes on as far as the words ask for, writes the listing if it is asked for, and answers how far it went.
+fn write_members<'a, D: Dance, S: Sink>(
+    span: &mut Span<'a, D>,
+    bodies: &Bodies,
+    words: &SpanWords,
+    sink: &mut S,
+) -> Result<Went, SinkFault>
+    requires known { All (All (IsKnownChoice bodies.now.puzzle)) (left_of span.old) }
+    ensures still { span.new ≡ record span.old { row = span.new.row; shown = span.new.shown } }
+    ensures wrote { MatchResult result
+        (λ went. WentOn span.old.puzzle span.old.until span.old.row span.new.row
+        (most_steps words.now.steps) went × Took (S.state sink.old) (S.state sink.new)
+        (written_text bodies.now words.now.listed words.now.from.items (take went.members (left_of span.old))))
+        (λ _. BrokeOff (S.state sink.old) (S.state sink.new)
+        (written_text bodies.now words.now.listed words.now.from.items (left_of span.old))) }
+{
+    let most = most_steps(words.steps);
+    if words.listed {
+        write_listing(span, bodies, &words.from, most, sink)
+    } else {
+        Ok(count(span, most))
+    }
+}
+
+/// How many steps are taken at most.
+fn most_steps(steps: u64) -> u64
+    ensures most { result ≡ most_steps steps }
+    ensures some { 0 < result }
+{
+    if steps == 0 { u64::MAX } else { steps }
+}
+
+/// Writes the text of a span whose search was just begun, up to where it goes.
+fn write_span<'a, D: Dance, S: Sink>(
+    span: &mut Span<'a, D>,
+    bodies: &Bodies,
+    words: &SpanWords,
+    sink: &mut S,
+) -> Result<Went, SinkFault>
+    requires begun { IsBegun bodies.now.puzzle words.now.from.items (end_at words.now.until.items) span.old }
+    ensures still { span.new ≡ record span.old { row = span.new.row; shown = span.new.shown } }
+    ensures wrote { SpanWritten bodies.now (asked_of words.now) (S.state sink.old) (S.state sink.new) result }
+{
+    let went = write_members(span, bodies, words, sink)?;
+    write_record(span, &went, &words.from, &words.until, sink)?;
+    Ok(went)
+}
+
+/// The options of a problem, laid out if solutions are listed.
+fn bodies_for<'a>(alloc: Global, problem: &'a Problem, listed: bool) -> Bodies<'a>
+    ensures { result ≡ problem.now }
+{
+    if listed {
+        return Bodies::laid_out(alloc, problem);
+    }
+    Bodies::plain(problem)
+}
+
+/// Searches the span that the words ask for, over a dance that has no moves and room for `2 * items + 2 * uses` of
+/// them, and writes it: where it begins and its solutions, numbered from 1, if they are listed, and then its record,
+/// which tells where it begins and up to which row the search went, how many solutions stand between these, and how
+/// many steps it took. The search goes to the span's end unless it uses all steps before, or passes 2^64 - 1 solutions;
+/// then the record has the number of branches of each level too. Answers how far it went.
+///
+/// All memory is taken before the first byte is written; where there is none, nothing is. The dance comes back with no
+/// moves, however it ended.
+pub fn list_span_over<D: Dance, S: Sink>(
+    alloc: Global,
+    dance: D,
+    problem: &Problem,
+    words: &SpanWords,
+    sink: &mut S,
+) -> (D, Result<Went, SpanFault>)
+    requires same { (D.state dance).puzzle ≡ problem.now.puzzle }
+    requires none { (D.state dance).trail ≡ [] }
+    requires room { room_for problem.now.puzzle ≤ (D.state dance).room }
+    ensures dance { D.state result.0 ≡ D.state dance }
+    ensures span { AnswersSpan problem.now (asked_of words.now) (S.state sink.old) (S.state sink.new) result.1 }
+{
+    let mut span = match Span::new(alloc, dance, problem, &words.from, words.end()) {
+        Ok(span) => span,
+        Err((dance, _)) => return (dance, Err(SpanFault::Memory)),
+    };
+    let bodies = bodies_for(alloc, problem, words.listed);
+    let wrote = write_span(&mut span, &bodies, words, sink);
+    let dance = span.close();
+    match wrote {
+        Ok(went) => (dance, Ok(went)),
+        Err(_) => (dance, Err(SpanFault::WriteFailed)),
+    }
+}
+
+/// Does what `list_span_over` does over linked tables of its own.
+pub fn list_span<S: Sink>(
+    alloc: Global,
+    problem: &Problem,
+    words: &SpanWords,
+    sink: &mut S,
+) -> Result<Went, SpanFault>
+    ensures { AnswersSpan problem.now (asked_of words.now) (S.state sink.old) (S.state sink.new) result }
+{
+    match Links::new(alloc, problem, most_moves(problem)) {
+        Ok(links) => {
+            let (_, went) = list_span_over(alloc, links, problem, words, sink);
+            went
+        }
+        Err(_) => Err(SpanFault::Memory),
+    }
+}
