@@ -14,4 +14,6 @@ mod parts;
 #[cfg(test)]
 mod plans;
 #[cfg(test)]
+mod spans;
+#[cfg(test)]
 mod written;

@@ -20,6 +20,8 @@ mod cutting;
 #[cfg(test)]
 mod passing;
 #[cfg(test)]
+mod row_numbers;
+#[cfg(test)]
 mod searching;
 #[cfg(test)]
 mod spanning;

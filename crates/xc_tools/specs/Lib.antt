@@ -4,5 +4,6 @@ pub mod Judges
 pub mod Parts
 pub mod Plans
 pub mod Solves
+pub mod SpanRuns
 pub mod Streams
 pub mod inner
