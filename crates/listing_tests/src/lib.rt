@@ -10,4 +10,6 @@ mod callers;
 #[cfg(test)]
 mod lines;
 #[cfg(test)]
+mod spans;
+#[cfg(test)]
 mod written;

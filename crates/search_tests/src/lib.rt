@@ -16,6 +16,8 @@ mod closing;
 #[cfg(test)]
 mod passing;
 #[cfg(test)]
+mod row_numbers;
+#[cfg(test)]
 mod searching;
 #[cfg(test)]
 mod spanning;

@@ -25,6 +25,8 @@ mod refused_listings;
 mod refused_runs;
 #[cfg(test)]
 mod runs;
+#[cfg(test)]
+mod spans;
 
 // Streams.
 #[cfg(test)]

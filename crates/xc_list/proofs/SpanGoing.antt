@@ -1,5 +1,6 @@
 -- How a search of a span goes on, member by member.
-use Rattle.std.proofs.Common.{ℕ, zero, suc, ◌≡◌, ◌+◌, ◌-◌, ◌^◌, ◌<◌, ◌≤◌, ◌⊎◌, true, false, List, [], ◌∷◌, ◌++◌, Option, Some}
+use Rattle.std.proofs.Common.{ℕ, zero, suc, ◌≡◌, ◌+◌, ◌-◌, ◌^◌, ◌<◌, ◌≤◌, ◌⊎◌, true, false, List, [], ◌∷◌, ◌++◌}
+use Rattle.std.proofs.Common.{Option, Some}
 use Rattle.std.proofs.Common.{None, length, take, drop, take_all, refl, sym, ap, ap₂, ◌∙◌, arith, subst, inl, inr}
 use Rattle.std.specs.Prelude.{IfSome, IsSome, IsSomeAnd}
 use Rattle.std.proofs.Common.{length-append, append-nil}
@@ -152,7 +153,9 @@ module _ (p : Puzzle) (until : Option (List ℕ)) (most k steps : ℕ) (was show
   was_later : (b c : List ℕ) → Called p until (Some b) (Some c) was shown 1 (most - steps) w
       → 0 < length (between p b (Some c)) → precedes b c ≡ true
   was_later b c h some = elim (some_or_none (most - steps)) [
-    | inl z ↦ absurd (omega (arith, some, none_there p b, ap (λ (r : Option (List ℕ)). length (between p b r)) (h.stays z)))
+    | inl z ↦
+        let same = ap (λ (r : Option (List ℕ)). length (between p b r)) (h.stays z) in
+        absurd (omega (arith, some, none_there p b, same))
     | inr z ↦ h.later (omega arith) z
   ]
 

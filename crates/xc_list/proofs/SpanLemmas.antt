@@ -1,5 +1,6 @@
 -- The text of a span, piece by piece.
-use Rattle.std.proofs.Common.{ℕ, zero, suc, ◌≡◌, ◌+◌, ◌-◌, ◌<◌, ◌≤◌, List, [], ◌∷◌, ◌++◌, Option, Some, None, length, take, drop}
+use Rattle.std.proofs.Common.{ℕ, zero, suc, ◌≡◌, ◌+◌, ◌-◌, ◌<◌, ◌≤◌, List, [], ◌∷◌, ◌++◌, Option}
+use Rattle.std.proofs.Common.{Some, None, length, take, drop}
 use Rattle.std.proofs.Common.{get_or, refl, sym, ap, ◌∙◌, arith, append_assoc, append-nil, take_all}
 use Rattle.std.specs.Prelude.{slice_get, option_and_then, decimal, flat_map}
 use Rattle.std.proofs.lemmas.Bool.Decides.{nat_tests}
@@ -111,7 +112,8 @@ texts_broke_all f ms k {x = x} {z = z} e so_far broke =
 
 -- a text, and then what a call answers with
 pub then_result : {X E : Type 0} (P : X → Type 0) (t : X → List ℕ) (u : List ℕ) (r : Result X E)
-    (z : SinkState) {x y : SinkState} {s : List ℕ} → Took x y s → MatchResult r (λ w. P w × Took y z (t w)) (λ _. BrokeOff y z u)
+    (z : SinkState) {x y : SinkState} {s : List ℕ} → Took x y s
+    → MatchResult r (λ w. P w × Took y z (t w)) (λ _. BrokeOff y z u)
     → MatchResult r (λ w. P w × Took x z (s ++ t w)) (λ _. BrokeOff x z (s ++ u))
 then_result P t u (Ok w) z took more = (more.0, then_took took more.1)
 then_result P t u (Err e) z took more = then_broke took more

@@ -19,7 +19,8 @@ use Rattle.xc_list.specs.SpanTexts.{row_text, end_at, branches_text, record_text
 use Rattle.xc_list.specs.SpanWords.{AskedSpan}
 use Rattle.xc_list.specs.SpanRuns.{most_steps, StopsAt, OfSpan}
 use Rattle.xc_list.specs.Texts.{SinkState, Took, BrokeOff}
-use Rattle.xc_list.specs.inner.SpanSteps.{numbers_text, row_in, branches_in, until_text, counts_text, told_text, left_at, written_text, WentOn, IsBegun}
+use Rattle.xc_list.specs.inner.SpanSteps.{numbers_text, row_in, branches_in, until_text, counts_text, told_text}
+use Rattle.xc_list.specs.inner.SpanSteps.{left_at, written_text, WentOn, IsBegun}
 use Rattle.xc_list.proofs.OutputLemmas.KnownMembers.{members_known}
 use Rattle.xc_list.proofs.Writing.{broke_before}
 use Rattle.xc_input.proofs.lists.Members.{in-filter, each_in, each_from}
@@ -167,7 +168,8 @@ module _ (a : Named) (asked : AskedSpan) (w : Went) where
       pub of_span : OfSpan a asked w R x z
       of_span = elim (halt_cases w.halt) [
         | inl is ↦
-            let all = text asked.until None (sym begun.left ∙ sym (take_all w.members (left_of s) (omega (arith, o.ended is)))
+            let whole = take_all w.members (left_of s) (omega (arith, o.ended is)) in
+            let all = text asked.until None (sym begun.left ∙ sym whole
             ) (told_end n asked.from asked.until w is) fits in
             record {
               row = asked.until;

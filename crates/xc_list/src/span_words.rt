@@ -3,8 +3,8 @@ ghost use Rattle.std.specs.Prelude.{◌≡◌, ◌==◌, IfOk, map, option_map};
 ghost use Rattle.std.specs.List.{slice_split};
 ghost use Rattle.xc_search.specs.Spans.{precedes};
 ghost use Rattle.xc_list.specs.SpanTexts.{end_at};
-ghost use Rattle.xc_list.specs.SpanWords.{asked_of, listing_word, row_number, row_numbers, row_word, is_span, asked_rows};
-ghost use Rattle.xc_list.specs.SpanWords.{asked_words, read_span_words};
+ghost use Rattle.xc_list.specs.SpanWords.{asked_of, listing_word, row_number, row_numbers, row_word, is_span};
+ghost use Rattle.xc_list.specs.SpanWords.{asked_rows, asked_words, read_span_words};
 
 use crate::words::long_number;
 use std::alloc::{AllocError, Global};

@@ -1,4 +1,5 @@
 pub mod JoinLemmas
 pub mod JudgeLemmas
 pub mod RunLemmas
+pub mod SpanEnds
 pub mod StreamLemmas

@@ -3,5 +3,6 @@ pub mod Given
 pub mod Joins
 pub mod Judges
 pub mod Solves
+pub mod SpanRuns
 pub mod Streams
 pub mod inner

@@ -30,5 +30,6 @@ loop-number-preserved g c =
 
 pub returns : goal.returns
 returns g c =
-    took_all (branches_in c.args.span.now) _ (no_branches c.args.span.now _ (rw c.in_default.is at c.number_at.ensures.branches))
+    let none = no_branches c.args.span.now _ (rw c.in_default.is at c.number_at.ensures.branches) in
+    took_all (branches_in c.args.span.now) _ none
     c.loop-number.invariant.within c.loop-number.invariant.taken

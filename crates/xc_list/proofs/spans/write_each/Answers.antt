@@ -22,7 +22,8 @@ went g c =
     (called c.loop-members.span c.go_on-went.new.self _ _ _ e.still e.passed e.count e.later e.member e.end e.ran_out
     e.within e.ended e.fewer e.stays e.stands)
 
-next : (g : _) (c : After-go_on-went g) → c.go_on-went.result.halt ≡ Member → drop c.loop-members.members (left_of c.args.span.now)
+next : (g : _) (c : After-go_on-went g) → c.go_on-went.result.halt ≡ Member
+    → drop c.loop-members.members (left_of c.args.span.now)
     ≡ c.go_on-went.new.self.shown
     ∷ left_at c.args.span.now.puzzle c.args.span.now.until c.go_on-went.new.self.row
 next g c is = (to_member _ _ _ _ _ _ _ _ _ _ _ c.loop-members.invariant.ahead (went g c) is).0

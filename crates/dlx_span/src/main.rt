@@ -1,0 +1,21 @@
+//! Searches a span of a problem's listing: `dlx-span 1|2|3 m0|m1 STEPS FROM UNTIL < PROBLEM`.
+#![tactic(auto)]
+
+use std::alloc::AllocError;
+use std::io::IsTerminal;
+use std::process::ExitCode;
+use xc_tools::{Direct, Incoming, Outgoing, out_of_memory, random_seed, solve_span, words};
+
+fn main(rt: HostRuntime) -> ExitCode {
+    ExitCode::from(run(&rt).unwrap_or_else(|_| out_of_memory(&mut Direct::new(rt.stderr()))))
+}
+
+/// Writes the span that the words ask for of the problem on standard input, and gives the status.
+fn run(rt: &HostRuntime) -> Result<u8, AllocError> {
+    let words = words(rt)?;
+    let by_line = rt.stdout().is_terminal();
+    let mut input = Incoming::new(Some(rt.stdin()), random_seed(rt));
+    let mut out = Outgoing::new(rt.alloc(), rt.stdout(), by_line)?;
+    let mut err = Direct::new(rt.stderr());
+    Ok(solve_span(rt.alloc(), &words, &mut input, &mut out, &mut err))
+}

@@ -1,0 +1,7 @@
+use Rattle.xc_tools.proofs.SpanEnds.{span_flushed}
+use Rattle.xc_tools.proofs.span_run.search_problem.Goals as goal
+
+pub returns-in-Ok : goal.returns-in-Ok
+returns-in-Ok g c =
+    let flush = c.finish.ensures in
+    record { did = span_flushed _ g.E.Sink.state _ _ c.in-Ok.ensures flush.kept flush.flushed_once flush.did }

@@ -1,0 +1,122 @@
+//! A whole run over a span of a listing.
+ghost use Rattle.std.specs.Prelude.{◌≡◌, ◌⊎◌, ◌+◌, IfOk, IsTrue, map, option_map, codes};
+ghost use Rattle.std.specs.Io.KnownBytes.{Keeps};
+ghost use Rattle.xc_input.specs.Calls.{Rose};
+ghost use Rattle.xc_list.specs.SpanWords.{asked_of};
+ghost use Rattle.xc_list.specs.Texts.{WasTold};
+ghost use Rattle.xc_tools.specs.Solves.{seen, streams};
+ghost use Rattle.xc_tools.specs.SpanRuns.{asked_span, DidSpan, DidSpanAsAsked, DidSpanWords};
+
+use crate::judging::numbered_kind;
+use crate::messages::no_problem;
+use crate::status::{BAD_WORDS, COMPLETE, FAILED, out_of_memory, refuse};
+use std::alloc::{AllocError, Global};
+use xc_input::{Kind, Problem, Source, read_problem};
+use xc_list::{Sink, SpanFault, SpanWords, list_span};
+
+/// Tells which words there are.
+fn refuse_words<E: Sink>(err: &mut E) -> u8
+    ensures status { result ≡ 1 }
+    ensures told { WasTold (E.state err.old) (E.state err.new)
+        (codes "Usage: dlx-span 1|2|3 m0|m1 STEPS FROM UNTIL\n") }
+{
+    refuse(
+        BAD_WORDS,
+        b"Usage: dlx-span 1|2|3 m0|m1 STEPS FROM UNTIL\n",
+        err,
+    )
+}
+
+/// Flushes the text of a span, and tells where that failed.
+fn finish<O: Sink, E: Sink>(out: &mut O, err: &mut E) -> u8
+    ensures kept { Keeps (O.state out.old).taken (O.state out.new).taken }
+    ensures flushed_once { (O.state out.new).flushes ≡ (O.state out.old).flushes + 1 }
+    ensures did { ((result ≡ 0) × ((O.state out.new).failures ≡ (O.state out.old).failures)
+        × IsTrue (O.state out.new).settled × (err.new ≡ err.old))
+        ⊎ ((result ≡ 3) × Rose (O.state out.old).failures (O.state out.new).failures × IsTrue (O.state out.new).failed
+        × WasTold (E.state err.old) (E.state err.new) (codes "Write failed.\n")) }
+{
+    match out.flush() {
+        Ok(()) => COMPLETE,
+        Err(_) => refuse(FAILED, b"Write failed.\n", err),
+    }
+}
+
+/// Searches a span of a problem's listing, and tells how that ended.
+fn search_problem<O: Sink, E: Sink>(
+    alloc: Global,
+    problem: &Problem,
+    words: &SpanWords,
+    out: &mut O,
+    err: &mut E,
+) -> u8
+    ensures did { DidSpan problem.now (asked_of words.now) result (O.state out.old) (O.state out.new)
+        (seen E.state err.old) (seen E.state err.new) }
+{
+    match list_span(alloc, problem, words, out) {
+        Ok(_) => finish(out, err),
+        Err(SpanFault::Memory) => out_of_memory(err),
+        Err(SpanFault::WriteFailed) => refuse(FAILED, b"Write failed.\n", err),
+    }
+}
+
+/// Reads a problem, and searches a span of its listing.
+fn search_read<S: Source, O: Sink, E: Sink>(
+    alloc: Global,
+    kind: Kind,
+    words: &SpanWords,
+    input: &mut S,
+    out: &mut O,
+    err: &mut E,
+) -> u8
+    ensures did { DidSpanAsAsked (kind, asked_of words.now) result
+        (streams S.state O.state E.state input.old out.old err.old)
+        (streams S.state O.state E.state input.new out.new err.new) }
+{
+    match read_problem(alloc, kind, input) {
+        Ok(read) => search_problem(alloc, &read.problem, words, out, err),
+        Err(error) => no_problem(&error, err),
+    }
+}
+
+/// The kind of problem and the span that words ask for, if they are right.
+fn asked_span(alloc: Global, words: &[Vec<u8>]) -> Result<Option<(Kind, SpanWords)>, AllocError>
+    ensures { IfOk result (λ found. option_map (λ asked. (asked.0, asked_of asked.1)) found
+        ≡ asked_span (map (λ w. w.items) words.now)) }
+{
+    let [kind, words @ ..] = words else {
+        return Ok(None);
+    };
+    let Some(kind) = numbered_kind(kind.as_slice()) else {
+        return Ok(None);
+    };
+    let Some(words) = SpanWords::read(alloc, words)? else {
+        return Ok(None);
+    };
+    Ok(Some((kind, words)))
+}
+
+/// A whole run over a span: reads the words, then the problem, searches the span of its listing that
+/// the words name, and writes it to `out` and what is wrong to `err`. The words are `1`, `2` or `3`
+/// for the program that the problem is written for, `m1` for a listing or `m0` for a count alone, the
+/// most steps, 0 for no bound, the row at which the span begins, and the one before which it ends. It
+/// gives the status: 0 where the record was written, whether or not the search went to the span's
+/// end, 1 for other words, 2 for a fault of the problem, 3 where a read or a write failed, 4 where
+/// memory was wanting. Names are hashed by the input's seed.
+pub fn solve_span<S: Source, O: Sink, E: Sink>(
+    alloc: Global,
+    words: &[Vec<u8>],
+    input: &mut S,
+    out: &mut O,
+    err: &mut E,
+) -> u8
+    ensures did { DidSpanWords (map (λ w. w.items) words.now) result
+        (streams S.state O.state E.state input.old out.old err.old)
+        (streams S.state O.state E.state input.new out.new err.new) }
+{
+    match asked_span(alloc, words) {
+        Ok(Some((kind, words))) => search_read(alloc, kind, &words, input, out, err),
+        Ok(None) => refuse_words(err),
+        Err(_) => out_of_memory(err),
+    }
+}
