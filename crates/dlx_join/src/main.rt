@@ -26,11 +26,5 @@ fn run(rt: &HostRuntime) -> Result<u8, AllocError> {
     }
     let names = words.get(1..).unwrap_or(&[]);
     let mut input = span_files(rt.alloc(), rt, names, rt.stdin(), random_seed(rt))?;
-    Ok(join_spans(
-        rt.alloc(),
-        &words,
-        &mut input,
-        &mut out,
-        &mut err,
-    ))
+    Ok(join_spans(rt.alloc(), &words, &mut input, &mut out, &mut err))
 }

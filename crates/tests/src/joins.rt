@@ -7,14 +7,7 @@ use xc_list::Tray;
 use xc_tools::join_spans;
 
 /// Whether `join_spans` tells this of a text.
-fn joins(
-    alloc: Global,
-    words: &[&[u8]],
-    text: &[u8],
-    status: u8,
-    out: &[u8],
-    err: &[u8],
-) -> bool {
+fn joins(alloc: Global, words: &[&[u8]], text: &[u8], status: u8, out: &[u8], err: &[u8]) -> bool {
     let program = |words: &[Vec<u8>], input: &mut Feed, out: &mut Tray, err: &mut Tray| {
         join_spans(alloc, words, input, out, err)
     };
@@ -22,14 +15,20 @@ fn joins(
 }
 
 /// Three equal options in two spans, of which the search of the first stopped.
-const LISTED: &[u8] = b"from -\n1:\n A (1 of 3)\nfrom - until 2 of 3 solutions 1 steps 1\nfrom 2\n1:\n A (2 of 3)\n2:\n A (3 of 3)\nfrom 2 until - solutions 2 steps 2\n";
+const LISTED: &[u8] =
+    b"from -\n1:\n A (1 of 3)\nfrom - until 2 of 3 solutions 1 steps 1\nfrom 2\n1:\n A (2 of 3)\n2:\n A (3 of 3)\nfrom 2 until - solutions 2 steps 2\n";
 
 const COUNTED: &[u8] =
     b"from - until 2 of 3 solutions 1 steps 1\nfrom 2 until - solutions 2 steps 2\n";
 
 /// Words and texts that are joined, and what is listed and told.
 const JOINED: [(&[&[u8]], &[u8], &[u8], &[u8]); 5] = [
-    (&[b"m1"], LISTED, THREE_LISTING, b"Altogether 3 solutions.\n"),
+    (
+        &[b"m1"],
+        LISTED,
+        THREE_LISTING,
+        b"Altogether 3 solutions.\n",
+    ),
     (&[b"m0"], COUNTED, b"", b"Altogether 3 solutions.\n"),
     (
         &[b"m0", b"file"],
@@ -110,9 +109,15 @@ const DAMAGED: [(&[u8], &[u8]); 14] = [
     (b"from -\n A (1 of 3)\n", b"line 2"),
     (b"from -\n2:\n", b"line 2"),
     (b"from -\n1:\n A (1 of 3)\n1:\n", b"line 4"),
-    (b"from -\n1:\n A (1 of 3)\nfrom - until 2 solutions 2 steps 1\n", b"line 4"),
+    (
+        b"from -\n1:\n A (1 of 3)\nfrom - until 2 solutions 2 steps 1\n",
+        b"line 4",
+    ),
     (b"from -\nfrom 1 until 2 solutions 0 steps 1\n", b"line 2"),
-    (b"from -\nfrom - until 2 of solutions 0 steps 1\n", b"line 2"),
+    (
+        b"from -\nfrom - until 2 of solutions 0 steps 1\n",
+        b"line 2",
+    ),
     (b"from -\nfrom - until 2 solutions 0 steps\n", b"line 2"),
     (b"from -\nfrom - until 2 solutions 0 steps 1 \n", b"line 2"),
 ];
@@ -125,7 +130,10 @@ fn is_damaged(alloc: Global, text: &[u8], line: &[u8]) -> bool {
     let Some(mut wanted) = wanted.pop() else {
         return false;
     };
-    if wanted.extend_from_slice(b": not the text of a span.\n").is_err() {
+    if wanted
+        .extend_from_slice(b": not the text of a span.\n")
+        .is_err()
+    {
         return false;
     }
     joins(alloc, &[b"m1"], text, 2, listed_of(text), &wanted)

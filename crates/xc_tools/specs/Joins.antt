@@ -1,5 +1,6 @@
 -- What a whole run that joins spans does.
-use Rattle.std.specs.Prelude.{ℕ, ◌^◌, ◌<◌, ◌≡◌, ◌⊎◌, All, Bool, true, false, List, [], ◌∷◌, ◌++◌, length, Option, Some, None}
+use Rattle.std.specs.Prelude.{ℕ, ◌^◌, ◌<◌, ◌≡◌, ◌⊎◌, All, Bool, true, false, List, [], ◌∷◌, ◌++◌, length, Option, Some}
+use Rattle.std.specs.Prelude.{None}
 use Rattle.std.specs.Prelude.{IfSome, MatchOption, flat_map, codes, decimal, if◌then◌else◌}
 use Rattle.std.specs.Io.KnownBytes.{Appends}
 use Rattle.std.specs.Str.{bytes_eq}
@@ -120,7 +121,8 @@ DidJoin listed status old new =
     ⊎ ((status ≡ 2) × begun (λ _. ⊥) × (file : List ℕ) × (line : ℕ) × told (no_text file line))
     ⊎ ((status ≡ 3) × begun (λ _. Unit {0}) × ToldFailure old.err.state new.err.state)
     ⊎ ((status ≡ 4) × begun (λ _. Unit {0}) × told (codes "Out of memory.\n"))
-    ⊎ ((status ≡ 5) × begun (λ spans. DoMeet [] spans → ⊥) × (met : List ℕ) × (next : List ℕ) × told (gap_text met next))
+    ⊎ ((status ≡ 5) × begun (λ spans. DoMeet [] spans → ⊥) × (met : List ℕ) × (next : List ℕ) × told
+    (gap_text met next))
 
 -- whether texts are listings, by the first word
 abbrev pub asked_join : List (List ℕ) → Option Bool

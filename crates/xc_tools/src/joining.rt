@@ -359,7 +359,12 @@ fn tell_stop<S: Located, O: Sink, E: Sink>(
     match stop {
         Stop::NotText => {
             let place = input.place(lines.begun, lines.taken);
-            tell(BAD_INPUT, fault_text(alloc, place.file, place.line), out, err)
+            tell(
+                BAD_INPUT,
+                fault_text(alloc, place.file, place.line),
+                out,
+                err,
+            )
         }
         Stop::Gap => tell(GAP, gap_text(alloc, &lines.joint), out, err),
         Stop::Device => flush_and_refuse(FAILED, b"Read failed.\n", out, err),

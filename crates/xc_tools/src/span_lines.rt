@@ -206,8 +206,7 @@ fn record_of<'a>(words: &[&'a [u8]]) -> Option<Record<'a>>
             if *a == b"from".as_slice()
                 && *b == b"until".as_slice()
                 && is_row(from)
-                && is_row(until) =>
-        {
+                && is_row(until) => {
             Some(Record {
                 from: *from,
                 until: *until,
@@ -300,7 +299,9 @@ impl Joint {
             return Err(Refusal::NotText);
         };
         self.meet(record.from)?;
-        self.total = self.total.saturating_add(saturating_number(record.solutions));
+        self.total = self
+            .total
+            .saturating_add(saturating_number(record.solutions));
         self.end(record.until)
     }
 

@@ -155,8 +155,5 @@ pub fn span_files<'a, R: Files, I: Read + Drop>(
     stdin: I,
     seed: Seed,
 ) -> Result<Incoming<System<SpanFiles<'a, R, I>>>, AllocError> {
-    Ok(Incoming::new(
-        Some(SpanFiles::new(alloc, rt, names, stdin)?),
-        seed,
-    ))
+    Ok(Incoming::new(Some(SpanFiles::new(alloc, rt, names, stdin)?), seed))
 }

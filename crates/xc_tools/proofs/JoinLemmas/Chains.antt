@@ -1,5 +1,6 @@
 -- What the lines of the texts of spans come to, one text after another.
-use Rattle.std.proofs.Common.{◌≡◌, ℕ, zero, suc, ◌+◌, ◌-◌, ◌^◌, ◌<◌, ◌≤◌, ◌⊎◌, inl, inr, Bool, true, false, List, [], ◌∷◌}
+use Rattle.std.proofs.Common.{◌≡◌, ℕ, zero, suc, ◌+◌, ◌-◌, ◌^◌, ◌<◌, ◌≤◌, ◌⊎◌, inl, inr, Bool, true, false, List, []}
+use Rattle.std.proofs.Common.{◌∷◌}
 use Rattle.std.proofs.Common.{◌++◌, Option, None, Some, length, flat_map, refl, sym, ap, ◌∙◌, arith, append_assoc}
 use Rattle.std.proofs.Common.{append-nil, zero-add, min, nat_lt, subst, take, filter, length-append, not}
 use Rattle.std.specs.Prelude.{All, IfSome, ◌==◌, ◌&&◌, ◌%◌, codes, decimal, if◌then◌else◌}
@@ -23,7 +24,8 @@ use Rattle.xc_list.specs.Output.{is_printed, member_text, output}
 use Rattle.xc_list.specs.ListingLines.{words_in}
 use Rattle.xc_list.specs.SpanTexts.{end_at, row_text}
 use Rattle.xc_tools.specs.Joins.{AreSmall, DoMeet, IsSpan, Span, members_of}
-use Rattle.xc_tools.specs.inner.SpanLines.{Join, Stand, Told, goes, faulty, apart, after, by_heading, by_line, by_record}
+use Rattle.xc_tools.specs.inner.SpanLines.{Join, Stand, Told, goes, faulty, apart, after, by_heading, by_line}
+use Rattle.xc_tools.specs.inner.SpanLines.{by_record}
 use Rattle.xc_tools.specs.inner.SpanLines.{closed, heading_of, meets, record_of, saturating_number, start, step, wrote}
 use Rattle.xc_tools.proofs.JoinLemmas.SpanWords.{AreShort, AreShortIf, dash_or_digits, heading_line, heading-read}
 use Rattle.xc_tools.proofs.JoinLemmas.SpanWords.{record_line, record-read, rows-same, same}
@@ -70,8 +72,10 @@ record-apart s words t e m =
       | None ↦ (faulty, [])
       | Some r ↦
           if meets s r.from
-          then (goes (closed (record s { total = min most_counted (s.total + saturating_number r.solutions) }) r.until),
-          []) else (apart s.met r.from, [])
+          then (
+            goes (closed (record s { total = min most_counted (s.total + saturating_number r.solutions) }) r.until),
+            [],
+          ) else (apart s.met r.from, [])
     ]) e ∙ rw m refl
 
 -- these lines lead to a gap, and nothing is written for them
@@ -157,9 +161,10 @@ all_lines a listed spans = flat_map (span_lines a listed) spans
 
 begun-here : (a : Named) (listed : Bool) (row : List ℕ) → IsBegun a listed row []
 begun-here a listed row =
-    let p = a.puzzle in
-    (listed_part listed a (length (so_far p row)) (between p row None),
-    part-append listed a (so_far p row) (between p row None) ∙ ap (listed_part listed a 0) (so_far-rest p row))
+    let p = a.puzzle in (
+      listed_part listed a (length (so_far p row)) (between p row None),
+      part-append listed a (so_far p row) (between p row None) ∙ ap (listed_part listed a 0) (so_far-rest p row),
+    )
 
 -- spans meet behind one that ends here
 abbrev MeetBehind : List Span → List ℕ → Type 0
@@ -238,7 +243,8 @@ module _ (a : Named) (listed : Bool) where
         (
           tail,
           ap (λ t. listed_part listed a 0 (so_far a.puzzle s.from) ++ t) (append_assoc text more tail)
-              ∙ joined-text a listed (so_far a.puzzle s.from) (members_of a s) (so_far a.puzzle (n ∷ u)) (more ++ tail) e
+              ∙ joined-text a listed (so_far a.puzzle s.from) (members_of a s) (so_far a.puzzle (n ∷ u)) (more
+              ++ tail) e
               ∙ h.2.1,
         ),
       )
@@ -271,7 +277,8 @@ module _ (a : Named) (listed : Bool) where
       → ((n : ℕ) (u : List ℕ) (i : ℕ) → AreShort (n ∷ u) → i ≡ length (so_far a.puzzle (n ∷ u))
       → Outcome a listed (n ∷ u) spans (after (goes (rest_at listed false (n ∷ u) i)) (all_lines a listed spans))
       (wrote (goes (rest_at listed false (n ∷ u) i)) (all_lines a listed spans)))
-      → Outcome a listed s.from (s ∷ spans) (after (goes (rest_at listed (is_last until) until k)) (all_lines a listed spans))
+      → Outcome a listed s.from (s ∷ spans) (after (goes (rest_at listed (is_last until) until k))
+      (all_lines a listed spans))
       (listed_part listed a (length (so_far a.puzzle s.from)) (members_of a s)
       ++ wrote (goes (rest_at listed (is_last until) until k)) (all_lines a listed spans))
   by-end s spans k [] e is each f later =
@@ -301,10 +308,12 @@ module _ (a : Named) (listed : Bool) where
       by_bool (bytes_eq (row_text s.from) (row_text row))
       (λ yes.
       let from = rows-same s.from row is.from short ((bytes_eq-Decides (row_text s.from) (row_text row)).0 yes) in
-      subst (λ r. Outcome a listed r (s ∷ spans) (after (goes (rest_at listed false r j)) (all_lines a listed (s ∷ spans)))
+      subst (λ r. Outcome a listed r (s ∷ spans) (after (goes (rest_at listed false r j)) (all_lines a listed
+      (s ∷ spans)))
       (wrote (goes (rest_at listed false r j)) (all_lines a listed (s ∷ spans)))) from
       (let count : j ≡ length (so_far a.puzzle s.from) = e ∙ ap (λ r. length (so_far a.puzzle r)) (sym from) in
       go-on s spans j (j + length (members_of a s)) is count refl (Outcome a listed s.from (s ∷ spans))
-      (rw count (by-end s spans (length (so_far a.puzzle s.from) + length (members_of a s)) s.until refl each.0 each.1 refl
+      (rw count (by-end s spans (length (so_far a.puzzle s.from) + length
+      (members_of a s)) s.until refl each.0 each.1 refl
       (λ n u i h k. chain spans (n ∷ u) i each.1 h k)))))
       (λ no. apart-first row j s spans is short no)

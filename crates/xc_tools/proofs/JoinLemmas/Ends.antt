@@ -1,5 +1,6 @@
 -- What is known of a text of spans once some of its lines were read.
-use Rattle.std.proofs.Common.{◌≡◌, ℕ, suc, ◌+◌, ◌-◌, ◌^◌, ◌<◌, ◌≤◌, ◌⊎◌, inl, inr, Bool, true, false, List, [], ◌∷◌, ◌++◌}
+use Rattle.std.proofs.Common.{◌≡◌, ℕ, suc, ◌+◌, ◌-◌, ◌^◌, ◌<◌, ◌≤◌, ◌⊎◌, inl, inr, Bool, true, false, List, [], ◌∷◌}
+use Rattle.std.proofs.Common.{◌++◌}
 use Rattle.std.proofs.Common.{Option, None, Some, length, flat_map, refl, sym, ap, ◌∙◌, arith, append_assoc, append-nil}
 use Rattle.std.proofs.Common.{min, nat_lt, subst, take, drop, filter, not, zero, length-append}
 use Rattle.std.specs.Prelude.{All, ◌==◌, ◌&&◌, ◌%◌, if◌then◌else◌}
@@ -124,8 +125,13 @@ module _ (a : Named) (listed : Bool) (sound : IsSound a) (spans : List Span) (te
       let last = lines_of-part (b ∷ rest) free (omega arith) in
       let two : ended ls ++ (b ∷ rest) ≡ ended ls ++ ended ((b ∷ rest) ∷ []) =
       sym e ∙ text-is ∙ ap ended (lines ∙ ap (λ l. ls ++ l) last) ∙ ended-append ls ((b ∷ rest) ∷ []) in
-      absurd (omega (arith, ap length two, length-append (ended ls) (b ∷ rest),
-      length-append (ended ls) (ended ((b ∷ rest) ∷ [])), length-append (b ∷ rest) (10 ∷ [])))
+      absurd (omega (
+        arith,
+        ap length two,
+        length-append (ended ls) (b ∷ rest),
+        length-append (ended ls) (ended ((b ∷ rest) ∷ [])),
+        length-append (b ∷ rest) (10 ∷ []),
+      ))
 
   outcome : (DoMeet [] spans × (after (goes (start listed)) (all_lines a listed spans)
       ≡ goes (rest_at listed true [] (length (members a.puzzle))))
@@ -137,8 +143,21 @@ module _ (a : Named) (listed : Bool) (sound : IsSound a) (spans : List Span) (te
       let front : listed_part listed a 0 (between a.puzzle [] (Some [])) ≡ [] =
       ap (listed_part listed a 0) none ∙ part-none listed a in
       rw (start-is listed) (elim (chain a listed spans [] 0 each tt (ap length (sym none))) [
-        | inl h ↦ inl (h.0, h.1, ap (λ t. t ++ wrote (goes (rest_at listed false [] 0)) (all_lines a listed spans)) (sym front) ∙ h.2 ∙ joined-is a listed)
-        | inr h ↦ inr (h.0, h.1, (h.2.0, ap (λ t. t ++ (wrote (goes (rest_at listed false [] 0)) (all_lines a listed spans) ++ h.2.0)) (sym front) ∙ h.2.1 ∙ joined-is a listed))
+        | inl h ↦ inl (
+          h.0,
+          h.1,
+          ap (λ t. t ++ wrote (goes (rest_at listed false [] 0)) (all_lines a listed spans))
+              (sym front) ∙ h.2 ∙ joined-is a listed,
+        )
+        | inr h ↦ inr (
+          h.0,
+          h.1,
+          (
+            h.2.0,
+            ap (λ t. t ++ (wrote (goes (rest_at listed false [] 0))
+                (all_lines a listed spans) ++ h.2.0)) (sym front) ∙ h.2.1 ∙ joined-is a listed,
+          ),
+        )
       ])
 
   -- ---- behind some of the lines
@@ -169,8 +188,11 @@ module _ (a : Named) (listed : Bool) (sound : IsSound a) (spans : List Span) (te
         ap (wrote (goes (start listed))) first ∙ wrote-append (goes (start listed)) ls more in
         elim outcome [
           | inl h ↦ (tail, sym split ∙ h.2)
-          | inr h ↦ (tail ++ h.2.0, sym (append_assoc (wrote (goes (start listed)) ls) tail h.2.0)
-              ∙ ap (λ t. t ++ h.2.0) (sym split) ∙ h.2.1)
+          | inr h ↦ (
+            tail ++ h.2.0,
+            sym (append_assoc (wrote (goes (start listed)) ls) tail h.2.0)
+                ∙ ap (λ t. t ++ h.2.0) (sym split) ∙ h.2.1,
+          )
         ]
 
   -- behind all lines

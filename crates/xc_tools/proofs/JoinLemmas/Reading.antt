@@ -1,6 +1,8 @@
 -- Lines of spans' texts that are read one after another.
-use Rattle.std.proofs.Common.{◌≡◌, ℕ, ◌+◌, ◌-◌, ◌<◌, ◌≤◌, Bool, true, false, List, [], ◌∷◌, ◌++◌, Result, Ok, Err, Some, None}
-use Rattle.std.proofs.Common.{length, refl, sym, ap, ◌∙◌, arith, append_assoc, append-nil, subst, take, drop, length-append}
+use Rattle.std.proofs.Common.{◌≡◌, ℕ, ◌+◌, ◌-◌, ◌<◌, ◌≤◌, Bool, true, false, List, [], ◌∷◌, ◌++◌, Result, Ok, Err, Some}
+use Rattle.std.proofs.Common.{None}
+use Rattle.std.proofs.Common.{length, refl, sym, ap, ◌∙◌, arith, append_assoc, append-nil, subst, take, drop}
+use Rattle.std.proofs.Common.{length-append}
 use Rattle.std.specs.Prelude.{IfErr, nat_eq}
 use Rattle.std.proofs.lemmas.Bool.Decides.{nat_tests}
 use Rattle.std.proofs.lemmas.Grind.{common_steps}
@@ -14,7 +16,8 @@ use Rattle.xc_tools.specs.declared.joining.Stop.TheVariants.{NotText, Gap, Devic
 use Rattle.xc_tools.specs.declared.span_lines.Joint.{Joint}
 use Rattle.xc_tools.specs.declared.span_lines.Refusal.{Refusal}
 use Rattle.xc_tools.specs.declared.span_lines.Refusal.TheVariants as refusals
-use Rattle.xc_tools.specs.inner.SpanLines.{Join, Stand, goes, faulty, apart, after, by_line, join_of, start, step, wrote}
+use Rattle.xc_tools.specs.inner.SpanLines.{Join, Stand, goes, faulty, apart, after, by_line, join_of, start, step}
+use Rattle.xc_tools.specs.inner.SpanLines.{wrote}
 use Rattle.xc_tools.specs.inner.SpanLines.{Refuses}
 use Rattle.xc_tools.specs.inner.Joining.{Adds, EndsAt, IsLast, StopsIn, StopsReading, reached, says_of, stop_of}
 use Rattle.xc_tools.specs.inner.Joining.{written}
@@ -199,7 +202,8 @@ pub stops-as : {before : List (List ℕ)} {bytes : List ℕ} {new : Joint} {x y 
 stops-as {before = before} {bytes = bytes} {new = new} {x = x} {y = y} {e = e} is h =
     subst (λ b. StopsIn b before bytes new x y e) is h
 
-pub stops-from : {a b : List (List ℕ)} {bytes : List ℕ} {new : Joint} {x y : SinkState} {e : Stop} {listed : Bool} → a ≡ b
+pub stops-from : {a b : List (List ℕ)} {bytes : List ℕ} {new : Joint} {x y : SinkState} {e : Stop} {listed : Bool}
+    → a ≡ b
     → StopsIn listed a bytes new x y e → StopsIn listed b bytes new x y e
 stops-from {bytes = bytes} {new = new} {x = x} {y = y} {e = e} {listed = listed} is h =
     subst (λ b. StopsIn listed b bytes new x y e) is h

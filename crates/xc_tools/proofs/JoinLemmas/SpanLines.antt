@@ -1,5 +1,6 @@
 -- A span's text is made of its lines.
-use Rattle.std.proofs.Common.{◌≡◌, ℕ, ◌+◌, ◌^◌, ◌<◌, ◌≤◌, Bool, true, false, List, [], ◌∷◌, ◌++◌, Option, None, Some, zero, suc}
+use Rattle.std.proofs.Common.{◌≡◌, ℕ, ◌+◌, ◌^◌, ◌<◌, ◌≤◌, Bool, true, false, List, [], ◌∷◌, ◌++◌, Option, None, Some}
+use Rattle.std.proofs.Common.{zero, suc}
 use Rattle.std.proofs.Common.{length, flat_map, refl, sym, ap, ◌∙◌, arith, append_assoc, append-nil, map, subst}
 use Rattle.std.specs.Prelude.{All, MatchOption, codes, decimal, is_some}
 use Rattle.std.specs.List.{AllByRecursion, enumerate_from}
@@ -64,8 +65,11 @@ pub texts-ended : (a : Named) (listed : Bool) (spans : List Span)
     → flat_map (text_of a listed) spans ≡ ended (flat_map (span_lines a listed) spans)
 texts-ended a listed [] = refl
 texts-ended a listed (s ∷ spans) =
-    cc (text-ended a listed s, texts-ended a listed spans,
-    ended-append (span_lines a listed s) (flat_map (span_lines a listed) spans))
+    cc (
+      text-ended a listed s,
+      texts-ended a listed spans,
+      ended-append (span_lines a listed s) (flat_map (span_lines a listed) spans),
+    )
 
 -- ---- no line feeds inside
 
@@ -107,7 +111,8 @@ whole-append [] ms p q = q
 whole-append (l ∷ ls) ms p q = (p.0, whole-append ls ms p.1 q)
 
 module _ (a : Named) (sound : IsSound a) where
-  whole-members : (k : ℕ) (ms : List (List Choice)) → k + length ms ≤ 2 ^ 64 → AllByRecursion (IsIn (members a.puzzle)) ms
+  whole-members : (k : ℕ) (ms : List (List Choice)) → k + length ms ≤ 2 ^ 64 → AllByRecursion (IsIn
+      (members a.puzzle)) ms
       → AreWhole (output_lines a (enumerate_from k ms))
   whole-members k [] h all = tt
   whole-members k (m ∷ ms) h all =

@@ -1,5 +1,6 @@
 -- What the lines of a span's text come to.
-use Rattle.std.proofs.Common.{rules, ◌≡◌, ℕ, suc, ◌+◌, ◌-◌, ◌^◌, ◌<◌, ◌≤◌, ◌⊎◌, inl, inr, Bool, true, false, List, [], ◌∷◌}
+use Rattle.std.proofs.Common.{rules, ◌≡◌, ℕ, suc, ◌+◌, ◌-◌, ◌^◌, ◌<◌, ◌≤◌, ◌⊎◌, inl, inr, Bool, true, false, List, []}
+use Rattle.std.proofs.Common.{◌∷◌}
 use Rattle.std.proofs.Common.{◌++◌, Option, None, Some, length, flat_map, refl, sym, ap, ◌∙◌, arith, append_assoc}
 use Rattle.std.proofs.Common.{append-nil, map, min, nat_lt, subst, cond}
 use Rattle.std.specs.Prelude.{◌==◌, ◌&&◌, codes, decimal, nat_eq, if◌then◌else◌}
@@ -27,7 +28,8 @@ use Rattle.xc_list.proofs.OutputLemmas.ReadLines.{before_last-last, ending_words
 use Rattle.xc_tools.specs.inner.SpanLines.{Join, Stand, goes, faulty, apart, after, begins_with, by_header, by_line}
 use Rattle.xc_tools.specs.inner.SpanLines.{Told, by_heading, by_last, by_record, closed, heading_of, is_header, meets}
 use Rattle.xc_tools.specs.inner.SpanLines.{record_of, saturating_number, step, wrote}
-use Rattle.xc_tools.proofs.JoinLemmas.SpanWords.{AreShort, AreShortIf, digits, digits_read, heading_line, heading-read, record_line}
+use Rattle.xc_tools.proofs.JoinLemmas.SpanWords.{AreShort, AreShortIf, digits, digits_read, heading_line, heading-read}
+use Rattle.xc_tools.proofs.JoinLemmas.SpanWords.{record_line}
 use Rattle.xc_tools.proofs.JoinLemmas.SpanWords.{record-read, same}
 
 -- ---- runs over lines
@@ -59,7 +61,11 @@ runs-append {a = a} {b = b} {c = c} {xs = xs} {ys = ys} {s = s} {t = t} p q = re
 
 pub runs-line : (s : Join) (line : List ℕ) (new : Stand) (text : List ℕ) → by_line s line ≡ (new, text)
     → Runs (goes s) (line ∷ []) new text
-runs-line s line new text e = record { stands = ap (λ r. r.0) e; says = append-nil (by_line s line).1 ∙ ap (λ r. r.1) e }
+runs-line s line new text e = record {
+  stands = ap (λ r. r.0) e;
+  says = append-nil (by_line s line).1 ∙ ap
+      (λ r. r.1) e;
+}
 
 -- ---- lines of solutions
 
@@ -121,19 +127,19 @@ header-yes k h =
 by_header-mid : (row : List ℕ) (k n : ℕ) → by_header (mid row k n) (k + 1)
     ≡ (goes (mid row (k + 1) (n + 1)), shown (n + 1) (decimal (n + 1) ++ codes ":\n"))
 by_header-mid row k n = elim (least n) [
-    | inl h ↦
-        let total : min most_counted n ≡ n = omega (arith, h) in
-        let next : min most_counted (n + 1) ≡ n + 1 = omega (arith, h) in
-        let other : (n == most_counted) ≡ false = grind (arith, nat_tests) in
-        let low : nat_lt most_counted n ≡ false = grind (arith, nat_tests) in
-        let still : nat_lt most_counted (n + 1) ≡ false = grind (arith, nat_tests) in
-        rw (total, next, other, low, still) refl
-    | inr h ↦
-        let total : min most_counted n ≡ most_counted = omega (arith, h) in
-        let next : min most_counted (n + 1) ≡ most_counted = omega (arith, h) in
-        let high : nat_lt most_counted (n + 1) ≡ true = grind (arith, nat_tests) in
-        rw (total, next, high) refl
-  ]
+  | inl h ↦
+      let total : min most_counted n ≡ n = omega (arith, h) in
+      let next : min most_counted (n + 1) ≡ n + 1 = omega (arith, h) in
+      let other : (n == most_counted) ≡ false = grind (arith, nat_tests) in
+      let low : nat_lt most_counted n ≡ false = grind (arith, nat_tests) in
+      let still : nat_lt most_counted (n + 1) ≡ false = grind (arith, nat_tests) in
+      rw (total, next, other, low, still) refl
+  | inr h ↦
+      let total : min most_counted n ≡ most_counted = omega (arith, h) in
+      let next : min most_counted (n + 1) ≡ most_counted = omega (arith, h) in
+      let high : nat_lt most_counted (n + 1) ≡ true = grind (arith, nat_tests) in
+      rw (total, next, high) refl
+]
   where
     least : (n : ℕ) → (n < most_counted) ⊎ (most_counted ≤ n)
     least n = grind (arith, nat_tests)
@@ -215,18 +221,22 @@ record-step s words t e m =
       | None ↦ (faulty, [])
       | Some r ↦
           if meets s r.from
-          then (goes (closed (record s { total = min most_counted (s.total + saturating_number r.solutions) }) r.until),
-          []) else (apart s.met r.from, [])
+          then (
+            goes (closed (record s { total = min most_counted (s.total + saturating_number r.solutions) }) r.until),
+            [],
+          ) else (apart s.met r.from, [])
     ]) e ∙ rw m refl
 
 run-heading : (row : List ℕ) (n : ℕ) → AreShort row
     → Runs (goes (rest_at true false row n)) (heading_line row ∷ []) (goes (mid row 0 n)) []
 run-heading row n short =
     runs-line (rest_at true false row n) (heading_line row) (goes (mid row 0 n)) []
-    (heading-step (rest_at true false row n) (words_in (heading_line row)) (row_text row) (heading-read row short) (same (row_text row)))
+    (heading-step (rest_at true false row n) (words_in (heading_line row)) (row_text row) (heading-read row short)
+    (same (row_text row)))
 
 sat-from : (bs : List ℕ) (v w : ℕ) → w ≡ min most_counted v
-    → fold (λ n b. min most_counted (min most_counted (n * 10) + (b - byte "0"))) w bs ≡ min most_counted (value_from v bs)
+    → fold (λ n b. min most_counted (min most_counted (n * 10) + (b - byte "0"))) w bs ≡ min most_counted
+    (value_from v bs)
 sat-from [] v w e = e
 sat-from (b ∷ bs) v w e =
     sat-from bs (v * 10 + (b - 48)) (min most_counted (min most_counted (w * 10) + (b - 48))) (omega (arith, e))
@@ -240,16 +250,20 @@ module _ (row until : List ℕ) (branches : Option (List ℕ)) (k steps : ℕ) (
       (goes (rest_at true (is_last until) until n)) []
   run-last n =
       runs-line (mid row k n) (record_line row until branches k steps) (goes (rest_at true (is_last until) until n)) []
-      (last-step (mid row k n) k (words_in (record_line row until branches k steps)) _ (record-read row until branches k steps f u b h l) (same (row_text row))
+      (last-step (mid row k n) k (words_in (record_line row until branches k steps)) _
+      (record-read row until branches k steps f u b h l) (same (row_text row))
       (same (decimal k)))
 
-  run-record : (n j : ℕ) → j ≡ n + k → Runs (goes (rest_at false false row n)) (record_line row until branches k steps ∷ [])
+  run-record : (n j : ℕ) → j ≡ n + k → Runs (goes (rest_at false false row n))
+      (record_line row until branches k steps ∷ [])
       (goes (rest_at false (is_last until) until j)) []
   run-record n j e =
       let total : min most_counted (min most_counted n + min most_counted k) ≡ min most_counted j = omega (arith, e) in
-      runs-line (rest_at false false row n) (record_line row until branches k steps) (goes (rest_at false (is_last until)
+      runs-line (rest_at false false row n) (record_line row until branches k steps) (goes (rest_at false
+      (is_last until)
       until j)) []
-      (record-step (rest_at false false row n) (words_in (record_line row until branches k steps)) _ (record-read row until branches k steps f u b h l)
+      (record-step (rest_at false false row n) (words_in (record_line row until branches k steps)) _
+      (record-read row until branches k steps f u b h l)
       (same (row_text row)) ∙ rw (saturated k h, total) refl)
 
 -- the lines of a span's text

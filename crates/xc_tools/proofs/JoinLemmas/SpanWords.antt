@@ -182,7 +182,15 @@ record-read from until (Some row) n steps f u b h k =
     ap (λ ws. codes "from" ∷ ws) (word-then (row_text from) (codes "until "
     ++ (row_text until ++ (branches_text (Some row) ++ 32 ∷ counts_line n steps))) (blank-row from f)
     ∙ ap (λ ws. row_text from ∷ codes "until" ∷ ws) (words-stop until n steps u h k row b)) in
-    rw (words, is_row-row from f, is_row-row until u, is_row-row row b, is_number-decimal n h, is_number-decimal steps k)
+    rw (
+      words,
+      is_row-row from f,
+      is_row-row until u,
+      is_row-row row b,
+      is_number-decimal n h,
+      is_number-decimal steps
+          k,
+    )
     refl
 
 -- ---- no line feed
@@ -215,7 +223,8 @@ feed-record from until branches n steps f u b h k =
 
 pub dash_or_digits : (n : ℕ) (row : List ℕ) → n < 2 ^ 64 → AreShort row → row_text (n ∷ row) ≡ codes "-" → ⊥
 dash_or_digits n row h short e =
-    let parts : map decimal (n ∷ row) ≡ codes "-" ∷ [] = sym (numbers-more n row h short) ∙ ap (slice_split is_point) e in
+    let parts : map decimal (n ∷ row) ≡ codes "-" ∷ [] = sym (numbers-more n row h short) ∙ ap
+    (slice_split is_point) e in
     let first : decimal n ≡ codes "-" = cc parts in
     absurd (cc (sym (digits n h) ∙ ap (list_all is_ascii_digit) first))
 

@@ -1,6 +1,8 @@
 -- What is known of spans where a run stopped.
-use Rattle.std.proofs.Common.{◌≡◌, ◌⊎◌, inl, inr, ℕ, ◌+◌, ◌-◌, ◌<◌, ◌≤◌, Bool, true, false, List, [], ◌∷◌, ◌++◌, Result, Ok, Err}
-use Rattle.std.proofs.Common.{Some, None, length, refl, sym, ap, ◌∙◌, arith, append_assoc, append-nil, subst, take, drop, take-append-drop}
+use Rattle.std.proofs.Common.{◌≡◌, ◌⊎◌, inl, inr, ℕ, ◌+◌, ◌-◌, ◌<◌, ◌≤◌, Bool, true, false, List, [], ◌∷◌, ◌++◌, Result}
+use Rattle.std.proofs.Common.{Ok, Err}
+use Rattle.std.proofs.Common.{Some, None, length, refl, sym, ap, ◌∙◌, arith, append_assoc, append-nil, subst, take}
+use Rattle.std.proofs.Common.{drop, take-append-drop}
 use Rattle.std.specs.Prelude.{◌==◌, IsTrue, codes, if◌then◌else◌}
 use Rattle.std.specs.Io.KnownBytes.{Appends, Keeps}
 use Rattle.std.proofs.lemmas.Bool.Decides.{nat_tests}
@@ -18,7 +20,8 @@ use Rattle.xc_list.specs.declared.runs.End.{End}
 use Rattle.xc_list.specs.declared.runs.End.TheVariants.{Done, Limit}
 use Rattle.xc_list.proofs.TextLemmas.{appends_kept}
 use Rattle.xc_list.proofs.Writing.{took_nothing}
-use Rattle.xc_tools.specs.Joins.{AreTexts, DidJoin, DoMeet, ForTexts, HasBegun, IsBeginning, IsJoined, OfTexts, Span, joined}
+use Rattle.xc_tools.specs.Joins.{AreTexts, DidJoin, DoMeet, ForTexts, HasBegun, IsBeginning, IsJoined, OfTexts, Span}
+use Rattle.xc_tools.specs.Joins.{joined}
 use Rattle.xc_tools.specs.Solves.{Streams, TookAll}
 use Rattle.xc_tools.specs.declared.joining.Stop.{Stop}
 use Rattle.xc_tools.specs.declared.joining.Stop.TheVariants.{NotText, Gap, Device, Memory, WriteFailed}
@@ -26,7 +29,8 @@ use Rattle.xc_tools.specs.declared.span_lines.Joint.{Joint}
 use Rattle.xc_tools.specs.inner.SpanLines.{Join, Stand, goes, faulty, apart, join_of}
 use Rattle.xc_tools.specs.inner.Joining.{EndsAt, IsLast, JoinsAll, StopsIn, StopsReading, ToldStop, reached, written}
 use Rattle.xc_tools.proofs.JoinLemmas.Chains.{all_lines}
-use Rattle.xc_tools.proofs.JoinLemmas.Ends.{begins, end_of-total, finished, first-lines, never-faulty, never-meets, no-rest}
+use Rattle.xc_tools.proofs.JoinLemmas.Ends.{begins, end_of-total, finished, first-lines, never-faulty, never-meets}
+use Rattle.xc_tools.proofs.JoinLemmas.Ends.{no-rest}
 use Rattle.xc_tools.proofs.JoinLemmas.Ends.{none-open, not-finished}
 
 -- what is so of spans at such a stop
@@ -38,9 +42,11 @@ so_at Memory spans = Unit {0}
 so_at WriteFailed spans = Unit {0}
 
 taken-beginning : (text whole : List ℕ) (n : ℕ) → IsBeginning text whole → IsBeginning (take n text) whole
-taken-beginning text whole n h =
-    (drop n text ++ h.0, sym (append_assoc (take n text) (drop n text) h.0)
-    ∙ ap (λ t. t ++ h.0) (take-append-drop n text) ∙ h.1)
+taken-beginning text whole n h = (
+  drop n text ++ h.0,
+  sym (append_assoc (take n text) (drop n text) h.0)
+      ∙ ap (λ t. t ++ h.0) (take-append-drop n text) ∙ h.1,
+)
 
 module _ (a : Named) (listed : Bool) (sound : IsSound a) (spans : List Span) (text : List ℕ)
     (are : AreTexts a listed spans text) (ls : List (List ℕ)) (rest : List ℕ) (w : AreWhole ls)
@@ -95,10 +101,18 @@ module _ (listed : Bool) (new : Joint) (a b : SourceState) (x y z : SinkState) (
   in-lines e bytes g h text took begun = record {
     text = text;
     taken = appends_kept x.taken y.taken z.taken text took kept;
-    of = (bytes, inr (g, λ more p spans sound are.
-        let is = ap (λ t. t ++ more) h.front ∙ append_assoc (ended h.lines) h.rest more in
-        (begun (joined p listed) (begins-so p listed sound spans (bytes ++ more) are h.lines (h.rest ++ more) h.whole is),
-        last-so p listed sound spans (bytes ++ more) are h.lines (h.rest ++ more) h.whole is new e h.last)));
+    of = (
+      bytes,
+      inr (
+        g,
+        λ more p spans sound are.
+            let is = ap (λ t. t ++ more) h.front ∙ append_assoc (ended h.lines) h.rest more in (
+              begun (joined p listed) (begins-so p listed sound spans (bytes ++ more) are h.lines (h.rest
+                  ++ more) h.whole is),
+              last-so p listed sound spans (bytes ++ more) are h.lines (h.rest ++ more) h.whole is new e h.last,
+            ),
+      ),
+    );
   }
 
   -- a text that was added to nothing is all
@@ -118,8 +132,14 @@ module _ (listed : Bool) (new : Joint) (a b : SourceState) (x y z : SinkState) (
   stopped-reading Device (ls, rest, g, w, took) = record {
     text = written listed ls;
     taken = appends_kept x.taken y.taken z.taken (written listed ls) took.whole kept;
-    of = (ended ls ++ rest, inr (g, λ more p spans sound are.
-        (begins-so p listed sound spans _ are ls (rest ++ more) w (append_assoc (ended ls) rest more), tt)));
+    of = (
+      ended ls ++ rest,
+      inr (
+        g,
+        λ more p spans sound are.
+            (begins-so p listed sound spans _ are ls (rest ++ more) w (append_assoc (ended ls) rest more), tt),
+      ),
+    );
   }
 
   pub stopped-ending : (e : Stop) (ls : List (List ℕ)) (rest : List ℕ) (old : Joint) → GaveAll a b (ended ls ++ rest)
@@ -128,9 +148,16 @@ module _ (listed : Bool) (new : Joint) (a b : SourceState) (x y z : SinkState) (
   stopped-ending e ls rest old g w free at ends took = record {
     text = written listed ls;
     taken = appends_kept x.taken y.taken z.taken (written listed ls) took.whole kept;
-    of = (ended ls ++ rest, inl (g, λ p spans sound are.
-        (begins-so p listed sound spans _ are ls rest w refl,
-        ends-so p listed sound spans _ are ls rest w refl free (join_of old) at e old new refl ends)));
+    of = (
+      ended ls ++ rest,
+      inl (
+        g,
+        λ p spans sound are. (
+          begins-so p listed sound spans _ are ls rest w refl,
+          ends-so p listed sound spans _ are ls rest w refl free (join_of old) at e old new refl ends,
+        ),
+      ),
+    );
   }
 
   pub stopped : (e : Stop) → JoinsAll listed new a b x y (Err e) → HasBegun listed (so_at e) a b x z
@@ -160,17 +187,30 @@ any : (stop : Stop) (spans : List Span) → so_at stop spans → Unit {0}
 any stop spans h = tt
 
 -- a run that stopped, by what was told
-pub run-stopped : {S O E : Type 0} (listed : Bool) (new : Joint) (y : SinkState) (status : ℕ) (stop : Stop) (from to : Streams S O E)
+pub run-stopped : {S O E : Type 0} (listed : Bool) (new : Joint) (y : SinkState) (status : ℕ) (stop : Stop)
+    (from to : Streams S O E)
     → JoinsAll listed new from.input.state to.input.state from.out.state y (Err stop) → Keeps y.taken to.out.state.taken
     → ToldStop stop status from.err.state to.err.state → DidJoin listed status from to
 run-stopped listed new y status stop from to h kept (inl t) =
     let begun = stopped listed new from.input.state to.input.state from.out.state y to.out.state kept stop h in
-    inr (inl (t.0, begun-weaker listed (so_at stop) (λ _. ⊥) _ _ _ _
-    (λ spans q. subst (λ s. so_at s spans) t.1 q) begun, t.2, t.3, t.4))
+    inr (inl (
+      t.0,
+      begun-weaker listed (so_at stop) (λ _. ⊥) _ _ _ _
+          (λ spans q. subst (λ s. so_at s spans) t.1 q) begun,
+      t.2,
+      t.3,
+      t.4,
+    ))
 run-stopped listed new y status stop from to h kept (inr (inl t)) =
     let begun = stopped listed new from.input.state to.input.state from.out.state y to.out.state kept stop h in
-    inr (inr (inr (inr (t.0, begun-weaker listed (so_at stop) (λ spans. DoMeet [] spans → ⊥) _ _ _ _
-    (λ spans q. subst (λ s. so_at s spans) t.1 q) begun, t.2, t.3, t.4))))
+    inr (inr (inr (inr (
+      t.0,
+      begun-weaker listed (so_at stop) (λ spans. DoMeet [] spans → ⊥) _ _ _ _
+          (λ spans q. subst (λ s. so_at s spans) t.1 q) begun,
+      t.2,
+      t.3,
+      t.4,
+    ))))
 run-stopped listed new y status stop from to h kept (inr (inr (inl t))) =
     let begun = stopped listed new from.input.state to.input.state from.out.state y to.out.state kept stop h in
     inr (inr (inr (inl (t.0, begun-weaker listed (so_at stop) (λ _. Unit {0}) _ _ _ _ (any stop) begun, t.1))))
@@ -204,26 +244,30 @@ module _ {S O E : Type 0} (listed : Bool) (status : ℕ) (from to : Streams S O 
       × WasTold from.err.state to.err.state (codes "Write failed.\n"))
       ⊎ ((status ≡ 3) × (to.out.state.failures ≡ y.failures) × IsTrue to.out.state.settled
       × BrokeOff from.err.state to.err.state (summary_text end)) → DidJoin listed status from to
-  whole-run (inl h) = inl (h.0, record {
-    bytes = ended ls ++ rest;
-    gave = g;
-    text = written listed ls;
-    taken = record {
-      no_failure = h.1 ∙ took.no_failure;
-      whole = all-kept;
-      settled = h.2;
-      flushed_once = flushed ∙ ap (λ n. n + 1) took.unflushed;
-    };
-    end = end;
-    told = h.3;
-    whole = λ p spans sound are.
-        let so = joined-so p listed sound spans _ are ls rest w refl free (join_of old) at old new refl ends in
-        (so.0, so.1, is ∙ so.2);
-  })
+  whole-run (inl h) = inl (
+    h.0,
+    record {
+      bytes = ended ls ++ rest;
+      gave = g;
+      text = written listed ls;
+      taken = record {
+        no_failure = h.1 ∙ took.no_failure;
+        whole = all-kept;
+        settled = h.2;
+        flushed_once = flushed ∙ ap (λ n. n + 1) took.unflushed;
+      };
+      end = end;
+      told = h.3;
+      whole = λ p spans sound are.
+          let so = joined-so p listed sound spans _ are ls rest w refl free (join_of old) at old new refl ends in
+          (so.0, so.1, is ∙ so.2);
+    },
+  )
   whole-run (inr (inl h)) = inr (inr (inl (h.0, begun-whole, inr (inl h.3))))
   whole-run (inr (inr h)) = inr (inr (inl (h.0, begun-whole, inr (inr (end, h.3)))))
 
-pub run-ended : {S O E : Type 0} (listed : Bool) (new : Joint) (y : SinkState) (status : ℕ) (from to : Streams S O E) (end : End) (u : Unit {0})
+pub run-ended : {S O E : Type 0} (listed : Bool) (new : Joint) (y : SinkState) (status : ℕ)
+    (from to : Streams S O E) (end : End) (u : Unit {0})
     → JoinsAll listed new from.input.state to.input.state from.out.state y (Ok u)
     → end ≡ (if new.total == most_counted then Limit new.total else Done new.total)
     → Keeps y.taken to.out.state.taken → to.out.state.flushes ≡ y.flushes + 1

@@ -94,7 +94,8 @@ JoinsAll listed new old_in new_in out_old out_new r =
 
 -- what was told of a run that stopped, by its status
 abbrev pub ToldStop : Stop → ℕ → SinkState → SinkState → Type 0
-ToldStop stop status old new = ((status ≡ 2) × (stop ≡ NotText) × (file : List ℕ) × (line : ℕ) × WasTold old new (no_text file line))
+ToldStop stop status old new = ((status ≡ 2) × (stop ≡ NotText) × (file : List ℕ) × (line : ℕ) × WasTold old new
+    (no_text file line))
     ⊎ ((status ≡ 5) × (stop ≡ Gap) × (met : List ℕ) × (next : List ℕ) × WasTold old new (gap_text met next))
     ⊎ ((status ≡ 4) × WasTold old new (codes "Out of memory.\n"))
     ⊎ ((status ≡ 3) × WasTold old new (codes "Read failed.\n"))

@@ -4,7 +4,8 @@ use Rattle.xc_input.specs.Pieces.{Gave}
 use Rattle.xc_input.proofs.LineLemmas.Pieces.{gave_more}
 use Rattle.xc_list.specs.Texts.{Took}
 use Rattle.xc_tools.specs.inner.Joining.{Adds, StopsIn, fed}
-use Rattle.xc_tools.proofs.JoinLemmas.Reading.{adds-as, adds-then, gave-as, stops-as, stops-from, stops-reading, stops-then}
+use Rattle.xc_tools.proofs.JoinLemmas.Reading.{adds-as, adds-then, gave-as, stops-as, stops-from, stops-reading}
+use Rattle.xc_tools.proofs.JoinLemmas.Reading.{stops-then}
 use Rattle.xc_tools.proofs.joining.feed_all.Goals as goal
 
 pub returns-in_err-feed-clause-stops : goal.returns-in_err-feed-clause-stops
@@ -17,7 +18,8 @@ returns-in_err-feed-clause-stops g c =
     rw (error.1, error.2) (stops-reading c.args.lines.now.joint.listed _ _ _ _ _ _ e
     (gave_more _ _ _ _ _ i.gave some c.in_ok-n.ensures.bytes.0 c.in_ok-n.ensures.given)
     (stops-from c.requires.none
-    (stops-then c.args.lines.now.joint.listed c.args.lines.now.given.lines c.reading.lines.given.lines _ _ _ _ _ e i.adds
+    (stops-then c.args.lines.now.joint.listed c.args.lines.now.given.lines c.reading.lines.given.lines _ _ _ _ _ e
+    i.adds
     (stops-as i.listed c.in_err-feed.ensures.stops))))
 
 pub reading-preserved : goal.reading-preserved

@@ -6,14 +6,16 @@ use Rattle.xc_tools.proofs.joining.join_all.Goals as goal
 pub returns : goal.returns
 returns g c =
     let read = c.in_ok-feed_all.ensures in
-    record { joins = inr (
-      c.feed_all.new.lines.given.lines,
-      c.feed_all.new.carry.items,
-      c.feed_all.new.lines.joint,
-      read.all,
-      read.after.whole,
-      read.part,
-      ap (λ b. reached b c.feed_all.new.lines.given.lines) (sym read.listed) ∙ read.after.stands,
-      ends-as _ _ _ c.deref.ensures.value c.end_text.ensures.ends,
-      read.adds,
-    ) }
+    record {
+      joins = inr (
+        c.feed_all.new.lines.given.lines,
+        c.feed_all.new.carry.items,
+        c.feed_all.new.lines.joint,
+        read.all,
+        read.after.whole,
+        read.part,
+        ap (λ b. reached b c.feed_all.new.lines.given.lines) (sym read.listed) ∙ read.after.stands,
+        ends-as _ _ _ c.deref.ensures.value c.end_text.ensures.ends,
+        read.adds,
+      );
+    }

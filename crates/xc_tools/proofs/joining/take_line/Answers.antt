@@ -13,7 +13,8 @@ returns-in_err-act-clause-stops g c =
 
 pub returns-in_err-write_act-clause-stops : goal.returns-in_err-write_act-clause-stops
 returns-in_err-write_act-clause-stops g c =
-    let error = err_from_is_err_and c.from_residual-in_err-write_act.result c.from_residual-in_err-write_act.ensures.1 in
+    let error = err_from_is_err_and c.from_residual-in_err-write_act.result c.from_residual-in_err-write_act.ensures.1
+    in
     rw (error.1, error.2) (unwritten c.args.lines.now.joint.listed c.args.lines.now.given.lines c.args.line.now _
     c.requires.after.stands c.requires.after.whole c.requires.free _ _ _ _ _ c.in_ok-act.ensures.step
     (c.in_err-write_act.ensures c.args.line.now c.requires.with_feed))
