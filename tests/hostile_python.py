@@ -508,7 +508,7 @@ class Processes:
         told = {**self.environment, "PATH": f"{self.bin}:{self.environment['PATH']}", **environment}
         how = {"cwd": cwd or self.top, "env": told, "stdin": subprocess.DEVNULL, "capture_output": True}
         # What doesn't end by itself has the status 124.
-        return subprocess.run(["timeout", str(2 * HANG), "/bin/sh", "-c", script], **how)
+        return subprocess.run(["timeout", str(4 * HANG), "/bin/sh", "-c", script], **how)
 
     def file(self, name: str, content: bytes) -> str:
         path = os.path.join(self.top, name)
@@ -645,18 +645,20 @@ class Processes:
             "a piece": f"polyominoes {self.file('piece', (b'A' * 1000 + chr(10).encode()) * 900)} {self.file('region', (b'.' * 1000 + chr(10).encode()) * 90)}",
             "pieces": f"polyominoes {self.file('piece2', (b'A' * 150 + chr(10).encode()) * 150)} {self.file('region2', ((b'.' * 299 + b'#') + chr(10).encode()) * 300)}",
         }.items():
-            start = time.monotonic()
-            done = self.shell(f"ulimit -v {MEMORY >> 10}; helgrothy make {command} >/dev/null")
-            seconds = time.monotonic() - start
+            seconds, done = self.timed(f"ulimit -v {MEMORY >> 10}; helgrothy make {command} >/dev/null")
             is_well = done.returncode in (0, 2) and seconds < HANG and b"Traceback" not in done.stderr and b"memory" not in done.stderr
             self.tell(is_well, f"make, {what}: {seconds:.1f} seconds, {done.returncode}, {done.stderr[-300:]!r}")
 
     def used(self, script: str) -> float:
         """The seconds of a processor that a script takes."""
+        return self.timed(script)[0]
+
+    def timed(self, script: str):
+        """The same, and the run."""
         before = resource.getrusage(resource.RUSAGE_CHILDREN)
-        self.shell(script)
+        done = self.shell(script)
         after = resource.getrusage(resource.RUSAGE_CHILDREN)
-        return after.ru_utime + after.ru_stime - before.ru_utime - before.ru_stime
+        return after.ru_utime + after.ru_stime - before.ru_utime - before.ru_stime, done
 
 
 def large_texts():

@@ -151,7 +151,13 @@ def limited(most: Optional[float]) -> Iterator[None]:
     def end(*_: object) -> None:
         raise OutOfTime(f"it wasn't done in {most:g} seconds")
 
+    def lose(lost: Any) -> None:
+        # One that is lost isn't told: the next one comes.
+        if lost.exc_type is not OutOfTime:
+            tell(lost)
+
     before = signal.signal(signal.SIGALRM, end)
+    tell, sys.unraisablehook = sys.unraisablehook, lose
     try:
         # Should an exception be lost, where Python can't pass it on, the next one comes soon.
         signal.setitimer(signal.ITIMER_REAL, most, 1.0)
@@ -159,6 +165,7 @@ def limited(most: Optional[float]) -> Iterator[None]:
     finally:
         signal.setitimer(signal.ITIMER_REAL, 0)
         signal.signal(signal.SIGALRM, before)
+        sys.unraisablehook = tell
         end_all()
 
 

@@ -1,5 +1,6 @@
 """Time, memory and what is shown: bounded by what a problem has, and nothing in a name steers a terminal or a browser."""
 
+import contextlib
 import os
 import sys
 import time
@@ -254,6 +255,29 @@ class Time(unittest.TestCase):
             for _ in problem.solve():
                 pass
         self.assertEqual(len(__import__("helgrothy.programs").programs._running), 0)
+
+
+    def test_time_is_over_where_an_exception_is_lost(self):
+        class Slow:
+            def __init__(self, fault: type) -> None:
+                self.fault = fault
+
+            def __del__(self) -> None:
+                if self.fault is OutOfTime:
+                    time.sleep(9)
+                raise self.fault("lost")
+
+        told = Pipe()
+        start = time.monotonic()
+        with contextlib.redirect_stderr(told), self.assertRaises(OutOfTime), console.limited(0.1):
+            Slow(OutOfTime)
+            while True:
+                pass
+        self.assertEqual(told.text(), "")
+        with contextlib.redirect_stderr(told), console.limited(9):
+            Slow(KeyError)
+        self.assertIn("KeyError", told.text())
+        self.assertLess(time.monotonic() - start, 5)
 
 
 class Words(unittest.TestCase):
