@@ -81,8 +81,8 @@ class NoPicture(HelgrothyError, LookupError):
     """There is no drawing for the problem, or nothing in it to draw."""
 
 
-class PartsFault(HelgrothyError, ValueError):
-    """A folder of parts, its plan or what is asked of them isn't as it should be."""
+class SearchFault(HelgrothyError, ValueError):
+    """A folder of a search, a row, or what a worker gave isn't as it should be."""
 
 
 def reason_of(error: Exception) -> str:
