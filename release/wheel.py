@@ -10,7 +10,7 @@ import sys
 import time
 import zipfile
 
-PROGRAMS = ("dlx1", "dlx2", "dlx3", "dlxcheck", "dlx-plan", "dlx-below")
+PROGRAMS = ("dlx1", "dlx2", "dlx3", "dlxcheck", "dlx-span", "dlx-join")
 # The programs need glibc 2.34.
 TAG = "py3-none-manylinux_2_34_x86_64"
 
@@ -31,11 +31,7 @@ Description-Content-Type: text/markdown
 
 ENTRY_POINTS = """\
 [console_scripts]
-dlx-join = helgrothy.parts.__main__:join
-dlx-parts = helgrothy.parts.__main__:tell
-dlx-progress = helgrothy.parts.__main__:progress
-dlx-run = helgrothy.parts.__main__:run_parts
-dlx-split = helgrothy.parts.__main__:split
+dlx-progress = helgrothy.spans.commands:run_progress
 helgrothy = helgrothy.__main__:run
 """
 

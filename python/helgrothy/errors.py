@@ -43,7 +43,7 @@ class TableFault(Fault):
 
 
 class ProgramNotFound(HelgrothyError, LookupError):
-    """One of the four programs is in none of the places that are searched for it."""
+    """One of the programs is in none of the places that are searched for it."""
 
 
 class ProgramFailed(HelgrothyError, RuntimeError):

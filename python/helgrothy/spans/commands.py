@@ -294,7 +294,8 @@ def _rows(arguments: argparse.Namespace) -> int:
 # ---- dlx-progress
 
 
-def _progress(words: Optional[Sequence[str]]) -> int:
+def progress_parser() -> argparse.ArgumentParser:
+    """The parser of `dlx-progress`."""
     parser = console.Parser(
         prog="dlx-progress",
         description="Reads a listing as a search prints it, and tells on standard error how far the search is, once a second.",
@@ -302,7 +303,11 @@ def _progress(words: Optional[Sequence[str]]) -> int:
         formatter_class=argparse.RawDescriptionHelpFormatter,
     )
     parser.add_argument("--version", action="version", version=f"dlx-progress {__version__}")
-    parser.parse_args(words)
+    return parser
+
+
+def _progress(words: Optional[Sequence[str]]) -> int:
+    progress_parser().parse_args(words)
     follow(console.input_lines(), console.say)
     return 0
 

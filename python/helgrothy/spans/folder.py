@@ -98,10 +98,7 @@ class Folder:
         self._by_end: Dict[Until, Row] = {}
         self._number = 0
         try:
-            if job is not None:
-                with suppress(FileExistsError):
-                    os.mkdir(path)
-            self._hold(is_read)
+            self._hold(is_read, is_made=job is not None)
             self.about = self._read_about() if job is None else self._open(job)
             self._key = hashlib.sha256(self.about.text()).digest()
             self._read_entries()
@@ -111,18 +108,25 @@ class Folder:
 
     # ---- one command holds it
 
-    def _hold(self, is_read: bool) -> None:
+    def _hold(self, is_read: bool, is_made: bool) -> None:
         lock = self._name(_LOCK)
-        if not os.path.isdir(self.path):
-            raise SearchFault(f"{self.path}: it is no folder" if os.path.lexists(self.path) else f"{self.path}: no such folder")
         for _ in range(_HOLD_TRIES):
+            if is_made:
+                with suppress(FileExistsError):
+                    os.mkdir(self.path)
+            if not os.path.isdir(self.path):
+                is_there = os.path.lexists(self.path)
+                raise SearchFault(f"{self.path}: {'it is no folder' if is_there else 'no such folder'}")
             try:
                 self._lock = os.open(lock, _SAFE | (os.O_RDONLY if is_read else os.O_RDWR | os.O_CREAT), 0o666)
             except OSError as error:
-                if is_read and error.errno == errno.ENOENT:
+                if error.errno != errno.ENOENT:
+                    raise _refused(lock, error) from None
+                if is_read:
                     # Nobody has ever held it.
                     return
-                raise _refused(lock, error) from None
+                # Another command is done, and has taken it away.
+                continue
             try:
                 fcntl.flock(self._lock, (fcntl.LOCK_SH if is_read else fcntl.LOCK_EX) | fcntl.LOCK_NB)
                 if _is_there(self._lock, lock):
@@ -387,7 +391,7 @@ def is_at_work(path: str) -> bool:
 class Look(Folder):
     """A folder that is looked at while another command may be at work there."""
 
-    def _hold(self, is_read: bool) -> None:
+    def _hold(self, is_read: bool, is_made: bool) -> None:
         if not os.path.isdir(self.path):
             raise SearchFault(f"{self.path}: no such folder")
 
