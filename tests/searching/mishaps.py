@@ -173,7 +173,9 @@ def times_of_files(trial):
 
 def problem_changes(trial):
     process = trial.start(trial.words())
-    time.sleep(trial.rng.uniform(0.3, 1))
+    while not os.path.exists(trial.folder) and process.poll() is None:
+        time.sleep(0.02)
+    time.sleep(trial.rng.uniform(0, 1))
     trial.write(trial.text.rpartition(b"\n")[0].rpartition(b"\n")[0] + b"\n")
     time.sleep(trial.rng.uniform(0, 0.5))
     if trial.rng.random() < 0.5:
@@ -219,7 +221,6 @@ def files_are_damaged(trial):
     if status != CANT or trial.folder.encode() not in told:
         raise Wrong(f"status {status}, and no file is named")
     mend(trial)
-    trial.finish()
 
 
 def damage(trial, path):
@@ -281,10 +282,10 @@ def damage(trial, path):
 def mend(trial):
     """What a user does who is told that files aren't as they should be: the named ones go, or all."""
     for _ in range(8):
-        status, _, told = trial.end(trial.start(trial.words("--seconds", "0.01")))
+        status, _, told = trial.end(trial.start(trial.words()))
+        if status == 0:
+            return
         named = [path for path in trial.files() if path.encode() in told] if os.path.isdir(trial.folder) else []
-        if status == 0 or status == NOT_DONE:
-            break
         if named:
             for path in named:
                 trial.say(f"{os.path.basename(path)} is taken away")
@@ -292,6 +293,7 @@ def mend(trial):
         else:
             trial.say("the folder is taken away")
             shutil.rmtree(trial.folder)
+    raise Wrong("it doesn't go on without the files that were named")
 
 
 def looks(trial):
@@ -443,6 +445,7 @@ NAMES = [
     "files_are_damaged",
     "files_are_damaged",
     "looked_at_while_it_runs",
+    "programs_fail",
     "programs_fail",
     "by_hand",
     "workers_of_dask",

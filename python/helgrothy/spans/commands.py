@@ -7,7 +7,6 @@ isn't done and goes on with the same command.
 from __future__ import annotations
 
 import argparse
-import os
 import signal
 import subprocess
 import sys
@@ -17,6 +16,7 @@ from .. import __version__, console
 from ..errors import ProgramFailed, SearchFault
 from . import record as records
 from .folder import Folder, Look, is_at_work
+from .join import PROGRAM as JOIN
 from .join import Ending, Join
 from .join import count as joined
 from .loop import Job, Kept, Loop, percent
@@ -91,8 +91,8 @@ def _search(arguments: argparse.Namespace) -> int:
     except ProgramFailed as error:
         return _failed(error)
     with Folder(path, job) as folder:
-        if not job.listed:
-            folder.check()
+        # What is damaged is told before anything is printed.
+        folder.check()
         for line in ignored(problem, job.kind):
             console.say(f"Option ignored (no primary items): line {line}")
         status = _Searching(folder, job, arguments).run()
@@ -182,11 +182,8 @@ class _Searching:
         return self._end(self._join.end())
 
     def _end(self, ending: Ending) -> int:
-        """Prints what dlx-join said."""
         self._shown.clear()
-        for line in ending.told.splitlines():
-            console.say(line)
-        return ending.status if ending.status >= 0 else 128 - ending.status
+        return _told(ending)
 
     def _tell_stop(self, why: str) -> None:
         self._shown.clear()
@@ -198,10 +195,19 @@ def _failed(error: ProgramFailed) -> int:
     if error.status > 1 and error.message:
         console.say(error.message)
         return error.status
-    if error.program == "dlx-join" and error.status < 0:
+    if error.status == -signal.SIGPIPE:
         # Nobody reads the listing.
-        return 128 - error.status
+        return 128 + signal.SIGPIPE
     raise error
+
+
+def _told(ending: Ending) -> int:
+    """Prints what dlx-join said, and gives its status. Raises `ProgramFailed` where it was killed."""
+    if ending.status < 0:
+        raise ProgramFailed(JOIN, ending.status, ending.told.strip())
+    for line in ending.told.splitlines():
+        console.say(line)
+    return ending.status
 
 
 # ---- status and result
@@ -259,10 +265,10 @@ def _result(arguments: argparse.Namespace) -> int:
         with Join(folder.about.listed, out) as join:
             for text in folder.texts():
                 join.give(text, None)
-            ending = join.end()
-    for told in ending.told.splitlines():
-        console.say(told)
-    return ending.status if ending.status >= 0 else 128 - ending.status
+            try:
+                return _told(join.end())
+            except ProgramFailed as error:
+                return _failed(error)
 
 
 # ---- rows

@@ -457,6 +457,8 @@ def _head(path: str, file: IO[bytes]) -> Entry:
         span = Span(read(start), read_until(until), begins, ends)
         if not 0 <= begins <= ends <= 1 or not 0 <= seconds < math.inf or not precedes(span.start, span.until):
             raise ValueError
+        if line != b"%s%s %s" % (_HEAD, digest.encode(), _fields(span, length, solutions, seconds)):
+            raise ValueError
     except ValueError:
         raise SearchFault(f"{path}: it is damaged; without it the search goes on") from None
     if os.fstat(file.fileno()).st_size != len(line) + length:
@@ -472,7 +474,7 @@ def _number(word: str) -> int:
 
 def _fields(span: Span, length: int, solutions: int, seconds: float) -> bytes:
     rows = f"{word_of(span.start)} {word_of(span.until)}"
-    return f"{rows} {span.begins!r} {span.ends!r} {length} {solutions} {seconds!r}\n".encode()
+    return f"{rows} {float(span.begins)!r} {float(span.ends)!r} {length} {solutions} {seconds!r}\n".encode()
 
 
 def _order(entry: Entry) -> Tuple[Row, bool, Tuple[int, ...]]:

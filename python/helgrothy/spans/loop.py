@@ -237,8 +237,12 @@ class Loop:
 
 
 def submitting(executor: Executor) -> Submit:
-    """Tasks for an executor."""
-    return partial(executor.submit, run)
+    """What hands tasks to an executor. Only the package has to be where the workers are, and the program."""
+
+    def submit(task: Task) -> Future[Ran]:
+        return executor.submit(run, task)
+
+    return submit
 
 
 def percent(share: float) -> str:

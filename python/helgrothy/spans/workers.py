@@ -2,6 +2,8 @@
 
 from __future__ import annotations
 
+import importlib
+import inspect
 import os
 from concurrent.futures import Executor, Future, ThreadPoolExecutor
 from types import TracebackType
@@ -63,11 +65,11 @@ class Dask(Workers):
 
     def __init__(self, address: str) -> None:
         try:
-            from distributed import Client
+            distributed: Any = importlib.import_module("distributed")
         except ImportError:
             raise SearchFault("--dask needs Dask's package distributed (python3-distributed of Debian)") from None
         try:
-            self._client: Any = Client(address)
+            self._client = distributed.Client(address)
         except Exception as error:
             raise SearchFault(f"no scheduler of Dask answers at {address}: {error}") from None
         super().__init__(self._client.get_executor(pure=False), 1)
@@ -80,7 +82,8 @@ class Dask(Workers):
 
     def count(self) -> int:
         known = self._client.scheduler_info(n_workers=-1) if _takes_all(self._client) else self._client.scheduler_info()
-        return max(sum(worker["nthreads"] for worker in known["workers"].values()), 1)
+        threads: int = sum(worker["nthreads"] for worker in known["workers"].values())
+        return max(threads, 1)
 
     def close(self) -> None:
         try:
@@ -92,8 +95,6 @@ class Dask(Workers):
 
 def _takes_all(client: Any) -> bool:
     """Whether Dask names a few workers alone where it isn't asked for all."""
-    import inspect
-
     return "n_workers" in inspect.signature(client.scheduler_info).parameters
 
 
