@@ -388,13 +388,12 @@ def workers_of_dask(trial):
     """A scheduler and some workers, of which some are killed and others come."""
     if not HAS_DASK:
         return False
-    python = [os.environ.get("DASK_PYTHON", "python3")]
     environment = {**os.environ, "HELGROTHY_BIN": trial.bin, "PYTHONPATH": os.path.join(os.path.dirname(__file__), "..", "..", "python")}
     where = os.path.join(trial.top, "scheduler.json")
 
     def begin(*words):
         log = tempfile.TemporaryFile()
-        process = subprocess.Popen([*python, "-m", *words], stdout=log, stderr=log, start_new_session=True, env=environment, cwd=trial.top)
+        process = subprocess.Popen(["python3", "-m", *words], stdout=log, stderr=log, start_new_session=True, env=environment, cwd=trial.top)
         trial.running.append(process)
         return process
 
@@ -423,8 +422,7 @@ def workers_of_dask(trial):
 
 
 def has_dask():
-    python = os.environ.get("DASK_PYTHON", "python3")
-    return subprocess.run([python, "-c", "import distributed"], stderr=subprocess.DEVNULL).returncode == 0
+    return subprocess.run(["python3", "-c", "import distributed"], stderr=subprocess.DEVNULL).returncode == 0
 
 
 HAS_DASK = has_dask()

@@ -4,7 +4,9 @@ from __future__ import annotations
 
 import importlib
 import inspect
+import logging
 import os
+import time
 from concurrent.futures import Executor, Future, ThreadPoolExecutor
 from types import TracebackType
 from typing import Any, Optional, Type
@@ -12,6 +14,10 @@ from typing import Any, Optional, Type
 from ..errors import SearchFault
 from .loop import submitting
 from .span import Ran, Stop, Task, run
+
+# So many seconds a scheduler may take to answer.
+_PATIENCE = 10
+_SELDOM = 2.0
 
 
 def processors() -> int:
@@ -68,10 +74,14 @@ class Dask(Workers):
             distributed: Any = importlib.import_module("distributed")
         except ImportError:
             raise SearchFault("--dask needs Dask's package distributed (python3-distributed of Debian)") from None
+        # What it would tell of lost workers on standard error isn't of the listing's messages.
+        logging.disable(logging.CRITICAL)
         try:
-            self._client = distributed.Client(address)
+            self._client = distributed.Client(address, timeout=_PATIENCE)
         except Exception as error:
             raise SearchFault(f"no scheduler of Dask answers at {address}: {error}") from None
+        self._known = 1
+        self._looked = -_SELDOM
         super().__init__(self._client.get_executor(pure=False), 1)
 
     def submit(self, task: Task) -> Future[Ran]:
@@ -81,9 +91,16 @@ class Dask(Workers):
             raise SearchFault(f"Dask takes no more work: {error}") from None
 
     def count(self) -> int:
-        known = self._client.scheduler_info(n_workers=-1) if _takes_all(self._client) else self._client.scheduler_info()
-        threads: int = sum(worker["nthreads"] for worker in known["workers"].values())
-        return max(threads, 1)
+        # To ask the scheduler takes a while.
+        if time.monotonic() >= self._looked + _SELDOM:
+            all_of_them = {"n_workers": -1} if _takes_number(self._client.scheduler_info) else {}
+            try:
+                workers = self._client.scheduler_info(**all_of_them)["workers"].values()
+                self._known = max(sum(worker["nthreads"] for worker in workers), 1)
+            except Exception:
+                raise SearchFault("the scheduler of Dask is gone; the same command goes on") from None
+            self._looked = time.monotonic()
+        return self._known
 
     def close(self) -> None:
         try:
@@ -93,9 +110,9 @@ class Dask(Workers):
             pass
 
 
-def _takes_all(client: Any) -> bool:
+def _takes_number(scheduler_info: Any) -> bool:
     """Whether Dask names a few workers alone where it isn't asked for all."""
-    return "n_workers" in inspect.signature(client.scheduler_info).parameters
+    return "n_workers" in inspect.signature(scheduler_info).parameters
 
 
 def executor_jobs(executor: Executor) -> int:
