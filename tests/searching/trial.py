@@ -151,7 +151,8 @@ class Trial:
     def judge(self, status, printed, told, may_be_killed):
         lines = [line for line in told.splitlines(True) if not is_progress(line)]
         # Python itself may be interrupted before the command begins.
-        if b"Traceback" in told and b"init_import_site" not in told:
+        is_pythons = may_be_killed and b"KeyboardInterrupt" in told and b"/helgrothy/" not in told
+        if b"Traceback" in told and not is_pythons:
             raise Wrong(f"a traceback: {told.decode(errors='replace')}")
         if status == 0 and (printed, b"".join(lines)) != self.whole:
             raise Wrong(f"status 0, and {len(printed)} bytes for {len(self.whole[0])}, {b''.join(lines)!r}")

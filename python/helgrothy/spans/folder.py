@@ -354,10 +354,13 @@ class Folder:
 
     def remove(self) -> None:
         """Takes the folder away; what else lies in it stays, and the folder with it."""
+        # In an order in which the search goes on, or begins anew, wherever this is broken off.
         for name in os.listdir(self.path):
-            if name in (_SEARCH, _PROBLEM) or _SPAN.match(name) or _LEFT.match(name):
+            if _SPAN.match(name) or _LEFT.match(name):
                 os.remove(self._name(name))
-        os.remove(self._name(_LOCK))
+        for name in (_SEARCH, _PROBLEM, _LOCK):
+            with suppress(FileNotFoundError):
+                os.remove(self._name(name))
         with suppress(OSError):
             os.rmdir(self.path)
 

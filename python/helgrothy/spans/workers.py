@@ -9,7 +9,7 @@ import os
 import time
 from concurrent.futures import Executor, Future, ThreadPoolExecutor
 from types import TracebackType
-from typing import Any, Optional, Type
+from typing import Any, Dict, Optional, Type
 
 from ..errors import SearchFault
 from .loop import submitting
@@ -67,7 +67,10 @@ class Own(Workers):
 
 
 class Dask(Workers):
-    """The workers of a Dask cluster, as many as there are at the time. Raises `SearchFault`."""
+    """The workers of a Dask cluster, as many as there are at the time. Raises `SearchFault`.
+
+    The address is that of the scheduler, or the name of the file that it has written (`--scheduler-file`).
+    """
 
     def __init__(self, address: str) -> None:
         try:
@@ -77,7 +80,9 @@ class Dask(Workers):
         # What it would tell of lost workers on standard error isn't of the listing's messages.
         logging.disable(logging.CRITICAL)
         try:
-            self._client = distributed.Client(address, timeout=_PATIENCE)
+            self._client = distributed.Client(**_address(address), timeout=_PATIENCE)
+        except SearchFault:
+            raise
         except Exception as error:
             raise SearchFault(f"no scheduler of Dask answers at {address}: {error}") from None
         self._known = 1
@@ -108,6 +113,18 @@ class Dask(Workers):
         except Exception:
             # Whoever has stopped the scheduler needs no farewell.
             pass
+
+
+def _address(address: str) -> Dict[str, str]:
+    """How Dask is told of a scheduler. Raises `SearchFault` where its file doesn't come."""
+    if not address.endswith(".json"):
+        return {"address": address}
+    begun = time.monotonic()
+    while not os.path.exists(address):
+        if time.monotonic() - begun > _PATIENCE:
+            raise SearchFault(f"{address}: no such file")
+        time.sleep(0.1)
+    return {"scheduler_file": address}
 
 
 def _takes_number(scheduler_info: Any) -> bool:
