@@ -112,6 +112,7 @@ install: bin install-lib ## install under PREFIX, in DESTDIR
 	    to="$(DESTDIR)$(mandir)/man$${page##*.}/$${page##*/}"; \
 	    sed '1s/ Helgrothy / "Helgrothy $(VERSION)" /' $$page > "$$to" && chmod 644 "$$to" || exit 1; \
 	done
+	ln -sfn helgrothy.1 "$(DESTDIR)$(mandir)/man1/dlx-progress.1"
 	install -m 644 release/completion.bash "$(DESTDIR)$(completiondir)/dlx1"
 	for command in $(COMMANDS:dlx1=); do ln -sfn dlx1 "$(DESTDIR)$(completiondir)/$$command" || exit 1; done
 	install -D -m 644 release/completion.zsh "$(DESTDIR)$(zshdir)/_helgrothy"
