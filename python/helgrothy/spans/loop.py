@@ -35,6 +35,8 @@ _MOST_FACTOR = 1 << 40
 # No text of a run has more bytes, but one of a single step.
 MOST_TEXT = 1 << 24
 _TICK = 0.1
+# Before so much of a search is done nobody knows how long it takes.
+_LEAST_SHARE = 0.001
 
 
 class Kept(NamedTuple):
@@ -154,7 +156,8 @@ class Loop:
         seconds = time.monotonic() - self._begun
         done, left = self.share - self._share_before, max(1 - self.share, 0.0)
         at_work = min(len(self._runs), self._workers())
-        return Progress(min(self.share, 1.0), self.solutions, seconds, seconds * left / done if done > 0 else None, at_work)
+        time_left = seconds * left / done if done >= _LEAST_SHARE else None
+        return Progress(min(self.share, 1.0), self.solutions, seconds, time_left, at_work)
 
     def _put(self, todo: _Todo) -> None:
         # The earliest comes first, so that a listing comes in its order and few spans wait to be joined.
