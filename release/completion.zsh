@@ -114,7 +114,7 @@ _helgrothy_options() {
             options=('--help:show this help message and exit' '--seconds:the time (default: 10)')
             commands=() ;;
         'helgrothy search')
-            options=('--help:show this help message and exit' '--list:list the solutions' '--jobs:so many processors (default: all)' '--dask:the workers of Dask whose scheduler has this address or file' '--seconds:stop after S seconds, with status 6' '--folder:keep what is done here (default: PROBLEM.search, which is removed at the end)' '--for:the program (default: the first that takes such a problem)')
+            options=('--help:show this help message and exit' '--list:list the solutions' '--jobs:so many processors (default: all)' '--dask:the workers of Dask whose scheduler has this address or file' '--seconds:stop after S seconds, with status 6' '--folder:keep what is done here (default: PROBLEM.search, removed at the end)' '--for:the program (default: the first that takes such a text)')
             commands=() ;;
         'helgrothy status')
             options=('--help:show this help message and exit')
@@ -123,7 +123,7 @@ _helgrothy_options() {
             options=('--help:show this help message and exit' '--list:list the solutions, of a search with --list')
             commands=() ;;
         'helgrothy rows')
-            options=('--help:show this help message and exit' '--count:up to N rows (default: 100)' '--for:the program (default: the first that takes such a problem)')
+            options=('--help:show this help message and exit' '--count:up to N rows (default: 100)' '--for:the program (default: the first that takes such a text)')
             commands=() ;;
         'helgrothy sudoku')
             options=('--help:show this help message and exit' '--number:the K-th solution instead of the first' '--limit:the first N solutions' '--all:all solutions' '--svg:a picture as SVG, of one solution' '--json:a line of JSON for each solution: its number, the numbers of its options, their items, and the colours' '--csv:a table as CSV, with a line for each choice' '--seconds:give up after S seconds')

@@ -49,7 +49,8 @@ def texts(kind: int, problem: bytes, listed: bool, edges) -> bytes:
 
 class Rows(unittest.TestCase):
     def test_words(self):
-        for word, row in (("-", ()), ("3.1.7", (3, 1, 7)), ("0", (0,)), ("4294967295", (4294967295,)), ("007.2", (7, 2))):
+        right = (("-", ()), ("3.1.7", (3, 1, 7)), ("0", (0,)), ("4294967295", (4294967295,)), ("007.2", (7, 2)))
+        for word, row in right:
             self.assertEqual(read(word), row)
         self.assertEqual([word_of(()), word_of(None), word_of((3, 1))], ["-", "-", "3.1"])
         self.assertIsNone(rows.read_until("-"))
@@ -212,6 +213,10 @@ class Reversed(Executor):
                 future.set_exception(error)
 
 
+def taken(found, kept: Kept) -> None:
+    found[kept.span.start] = kept
+
+
 class Loops(unittest.TestCase):
     def test_executors(self):
         problem = make.queens.problem(8)
@@ -244,7 +249,8 @@ class Loops(unittest.TestCase):
         shares, solutions = [one.share for one in told], [one.solutions for one in told]
         self.assertEqual((shares, solutions), (sorted(shares), sorted(solutions)))
         self.assertTrue(all(0 <= share <= 1 for share in shares))
-        self.assertRegex(str(told[-1]), r"\A[0-9.]+ %   [0-9,]+ solutions   0:0[0-9](, about 0:0[0-9] left)?   [0-2] at work\Z")
+        line = r"\A[0-9.]+ %   [0-9,]+ solutions   [0-9:]+(, about [0-9:]+ left)?   [0-2] at work\Z"
+        self.assertRegex(str(told[-1]), line)
 
     def test_seconds(self):
         with self.assertRaises(OutOfTime):
@@ -260,7 +266,7 @@ class Loops(unittest.TestCase):
             with mock.patch.object(Pace, "steps", lambda *_: rng.randint(1, 9)):
                 job = Job(problem, kind, listed=True)
                 executor = Reversed(0.05, rng.randint(1, 9))
-                search = Loop(job, loop.submitting(executor), lambda: 3, lambda kept: found.__setitem__(kept.span.start, kept), None)
+                search = Loop(job, loop.submitting(executor), lambda: 3, lambda kept: taken(found, kept), None)
                 self.assertTrue(search.search([WHOLE]))
             listing = b"".join(kept.text for _, kept in sorted(found.items()))
             joined = subprocess.run([programs.find("dlx-join"), "m1"], input=listing, capture_output=True)
@@ -272,7 +278,8 @@ class Loops(unittest.TestCase):
         for changed in ({"MOST_TEXT": 200}, {"_LONGEST_WORD": 3}, {"MOST_TEXT": 200, "_LONGEST_WORD": 3}):
             found = {}
             with mock.patch.multiple(loop, **changed), mock.patch("helgrothy.spans.pace._FIRST", 5):
-                search = Loop(Job(problem, 1, True), loop.submitting(ThreadPoolExecutor(2)), lambda: 2, lambda kept: found.__setitem__(kept.span.start, kept), None)
+                submit = loop.submitting(ThreadPoolExecutor(2))
+                search = Loop(Job(problem, 1, True), submit, lambda: 2, lambda kept: taken(found, kept), None)
                 self.assertTrue(search.search([WHOLE]))
             listing = b"".join(kept.text for _, kept in sorted(found.items()))
             joined = subprocess.run([programs.find("dlx-join"), "m1"], input=listing, capture_output=True)
@@ -283,7 +290,8 @@ class Loops(unittest.TestCase):
             make.queens.problem(6).count(jobs=1)
 
     def test_a_fault_comes_at_once(self):
-        search = Loop(Job(b"A\nB\n", 1, False), loop.submitting(Reversed(0.0, 1)), lambda: 1, lambda _: None, None)
+        job = Job(b"A\nB\n", 1, False)
+        search = Loop(job, loop.submitting(Reversed(0.0, 1)), lambda: 1, lambda _: None, None)
         with self.assertRaises(ProgramFailed) as raised:
             search.search([WHOLE])
         self.assertEqual((raised.exception.status, raised.exception.message), (2, "Line 2: unknown item."))
@@ -344,7 +352,8 @@ class Folders(unittest.TestCase):
         ):
             with self.assertRaisesRegex(SearchFault, f"{self.path}: it is of {what}"):
                 Folder(self.path, job)
-        with mock.patch.object(folders, "__version__", "0.0.9"), self.assertRaisesRegex(SearchFault, "of version 0.1.0"):
+        told = "of version 0.1.0"
+        with mock.patch.object(folders, "__version__", "0.0.9"), self.assertRaisesRegex(SearchFault, told):
             Folder(self.path, self.job)
 
     def test_one_command_holds_it(self):
@@ -359,7 +368,8 @@ class Folders(unittest.TestCase):
         with Folder(self.path, is_read=True), Folder(self.path, is_read=True):
             pass
         error = OSError(37, "No locks available")
-        with mock.patch("fcntl.flock", side_effect=error), self.assertRaisesRegex(SearchFault, "No locks available.*--folder"):
+        told = "No locks available.*--folder"
+        with mock.patch("fcntl.flock", side_effect=error), self.assertRaisesRegex(SearchFault, told):
             Folder(self.path, self.job)
 
     def test_strange_folders(self):
@@ -390,7 +400,8 @@ class Folders(unittest.TestCase):
         with open(name, "rb") as file:
             right = file.read()
         for at in range(len(right)):
-            for changed in (right[:at], right[:at] + bytes([right[at] ^ 1]) + right[at + 1 :], right[:at] + b"0" + right[at:]):
+            before, after = right[:at], right[at:]
+            for changed in (before, before + bytes([right[at] ^ 1]) + after[1:], before + b"0" + after):
                 with open(name, "wb") as file:
                     file.write(changed)
                 with self.assertRaisesRegex(SearchFault, name), Folder(self.path, self.job) as folder:
@@ -467,21 +478,35 @@ class Commands(unittest.TestCase):
         folder = f"{self.path}.search"
         status, _, told = self.run_it("search", self.path, "--seconds", "0.5")
         self.assertEqual(status, NOT_DONE)
-        self.assertRegex(told, r"\Ahelgrothy: not done in 0.5 seconds: [0-9.]+ %; the same command goes on \(.*q.dlx.search\)\n\Z")
+        line = r"\Ahelgrothy: not done in 0.5 seconds: [0-9.]+ %; the same command goes on \(.*q.dlx.search\)\n\Z"
+        self.assertRegex(told, line)
         self.assertEqual(self.run_it("result", folder)[:2], (NOT_DONE, b""))
         self.assertEqual(self.run_it("result", folder, "--list")[:2], (NOT_DONE, b""))
-        self.assertRegex(self.run_it("status", folder)[1].decode(), r"\A[0-9.]+ % done: [0-9,]+ solutions, .*\nleft: about .*\n\Z")
+        line = r"\A[0-9.]+ % done: [0-9,]+ solutions, .*\nleft: about .*\n\Z"
+        self.assertRegex(self.run_it("status", folder)[1].decode(), line)
 
     def test_faults(self):
-        for given, kind, message in ((b"A\nB\n", "dlx1", "Line 2: unknown item.\n"), (b"A | x\nA x:y\n", "dlx1", "Line 2: colour not allowed here.\n"), (b"", "dlx3", "Line 1: no items.\n")):
+        for given, kind, message in (
+            (b"A\nB\n", "dlx1", "Line 2: unknown item.\n"),
+            (b"A | x\nA x:y\n", "dlx1", "Line 2: colour not allowed here.\n"),
+            (b"", "dlx3", "Line 1: no items.\n"),
+        ):
             with open(self.path, "wb") as file:
                 file.write(given)
             self.assertEqual(self.run_it("search", self.path, "--for", kind), (2, b"", message))
             self.assertEqual(self.run_it("rows", self.path, "--for", kind), (2, b"", message))
             self.assertEqual(os.listdir(os.path.dirname(self.path)), ["q.dlx"])
-        for words in (["search", "-"], ["search", f"{self.path}.no"], ["status", self.path], ["result", self.path], ["search"],
-                      ["search", self.path, "--jobs", "0"], ["search", self.path, "--seconds", "0"],
-                      ["search", self.path, "--jobs", "2", "--dask", "x"], ["rows", self.path, "--count", "0"]):
+        for words in (
+            ["search", "-"],
+            ["search", f"{self.path}.no"],
+            ["status", self.path],
+            ["result", self.path],
+            ["search"],
+            ["search", self.path, "--jobs", "0"],
+            ["search", self.path, "--seconds", "0"],
+            ["search", self.path, "--jobs", "2", "--dask", "x"],
+            ["rows", self.path, "--count", "0"],
+        ):
             with self.subTest(words=words):
                 status, printed, told = self.run_it(*words)
                 self.assertEqual((status, printed), (2, b""))
@@ -498,8 +523,8 @@ class Commands(unittest.TestCase):
 
 class Progress(unittest.TestCase):
     def test_progress(self):
-        listing = [b"1:\n", b"2:\n", b" a (1 of 2)\n", b" b (2 of 2)\n", b"4:\n", b" a (2 of 2)\n", b" b (2 of 2)\n", b" c (2 of 2)\n"]
-        del listing[0]
+        choices = [b" %s (2 of 2)\n" % name for name in (b"a", b"b", b"c")]
+        listing = [b"2:\n", b" a (1 of 2)\n", b" b (2 of 2)\n", b"4:\n", *choices]
         self.assertEqual(list(progress.shares(listing)), [(2, 0.25), (4, 0.875)])
         told = []
         progress.follow(listing, told.append, 0)

@@ -6,10 +6,9 @@ import signal
 import socket
 import subprocess
 import tempfile
-import threading
 import time
 
-from .trial import CANT, NOT_DONE, STOPPED, Trial, Wrong
+from .trial import CANT, NOT_DONE, TOP, Wrong
 
 KILLS = [signal.SIGKILL, signal.SIGTERM, signal.SIGINT, signal.SIGHUP]
 
@@ -361,7 +360,8 @@ def by_hand(trial):
     """Between rows, each by a program, and joined: as a queue does it that runs programs alone."""
     with open(trial.path, "rb") as given:
         count = str(trial.rng.choice([1, 5, 40]))
-        told = subprocess.run(["helgrothy", "rows", "--count", count, "--for", f"dlx{trial.kind}"], stdin=given, capture_output=True)
+        words = ["helgrothy", "rows", "--count", count, "--for", f"dlx{trial.kind}"]
+        told = subprocess.run(words, stdin=given, capture_output=True)
     if told.returncode != 0 or told.stderr:
         raise Wrong(f"helgrothy rows: {told}")
     rows = told.stdout.decode().split()
@@ -372,7 +372,8 @@ def by_hand(trial):
     for number, (start, until) in enumerate(zip(["-", *rows], [*rows, "-"])):
         files.append(os.path.join(trial.top, f"{number}.span"))
         with open(files[-1], "wb") as file:
-            subprocess.run(["dlx-span", str(trial.kind), words, "0", start, until], input=trial.text, stdout=file, check=True)
+            command = ["dlx-span", str(trial.kind), words, "0", start, until]
+            subprocess.run(command, input=trial.text, stdout=file, check=True)
     done = subprocess.run(["dlx-join", words, *files], capture_output=True)
     last = trial.whole[1].splitlines(True)[-1]
     if (done.returncode, done.stdout, done.stderr) != (0, trial.whole[0], last):
@@ -388,31 +389,29 @@ def workers_of_dask(trial):
     """A scheduler and some workers, of which some are killed and others come."""
     if not HAS_DASK:
         return False
-    environment = {**os.environ, "HELGROTHY_BIN": trial.bin, "PYTHONPATH": os.path.join(os.path.dirname(__file__), "..", "..", "python")}
+    environment = {**os.environ, "HELGROTHY_BIN": trial.bin, "PYTHONPATH": os.path.join(TOP, "python")}
     where = os.path.join(trial.top, "scheduler.json")
 
     def begin(*words):
         log = tempfile.TemporaryFile()
-        process = subprocess.Popen(["python3", "-m", *words], stdout=log, stderr=log, start_new_session=True, env=environment, cwd=trial.top)
+        how = {"stdout": log, "stderr": log, "start_new_session": True, "env": environment, "cwd": trial.top}
+        process = subprocess.Popen(["python3", "-m", *words], **how)
         trial.running.append(process)
         return process
 
-    begin("distributed.cli.dask_scheduler", "--host", "127.0.0.1", "--port", "0", "--no-dashboard", "--scheduler-file", where)
-    for _ in range(200):
+    file = ["--no-dashboard", "--scheduler-file", where]
+    begin("distributed.cli.dask_scheduler", "--host", "127.0.0.1", "--port", "0", *file)
+    for _ in range(1200):
         if os.path.exists(where):
             break
         time.sleep(0.1)
 
     def worker():
-        return begin("distributed.cli.dask_worker", "--scheduler-file", where, "--nthreads", "1", "--no-dashboard")
+        return begin("distributed.cli.dask_worker", "--nthreads", "1", *file)
 
     workers = [worker() for _ in range(2)]
-    with open(where) as file:
-        import json
-
-        address = json.load(file)["address"]
     words = [word for word in trial.words() if not word.isdigit() and word != "--jobs"]
-    process = trial.start([*words, "--dask", address])
+    process = trial.start([*words, "--dask", where])
     for _ in range(2):
         time.sleep(trial.rng.uniform(0.5, 3))
         os.killpg(workers.pop(0).pid, signal.SIGKILL)

@@ -65,7 +65,7 @@ def _add_search(commands: Any) -> None:
         "--seconds", dest="most", type=console.seconds, metavar="S", help="stop after S seconds, with status 6"
     )
     parser.add_argument(
-        "--folder", metavar="FOLDER", help="keep what is done here (default: PROBLEM.search, which is removed at the end)"
+        "--folder", metavar="FOLDER", help="keep what is done here (default: PROBLEM.search, removed at the end)"
     )
     _add_program(parser)
     parser.set_defaults(command=_search)
@@ -73,7 +73,7 @@ def _add_search(commands: Any) -> None:
 
 def _add_program(parser: argparse.ArgumentParser) -> None:
     parser.add_argument(
-        "--for", dest="program", choices=_PROGRAMS, help="the program (default: the first that takes such a problem)"
+        "--for", dest="program", choices=_PROGRAMS, help="the program (default: the first that takes such a text)"
     )
 
 
@@ -239,8 +239,8 @@ def _add_result(commands: Any) -> None:
     parser = commands.add_parser(
         "result",
         help="print what a search that is done has found",
-        description="Prints the number of solutions of a search that is done, or lists them. Nothing is printed, and the "
-        "status is 6, where something is left.",
+        description="Prints the number of solutions of a search that is done, or lists them. Nothing is printed, and "
+        "the status is 6, where something is left.",
     )
     parser.add_argument("folder", metavar="FOLDER", help="the folder of a search")
     parser.add_argument("--list", action="store_true", help="list the solutions, of a search with --list")
@@ -304,7 +304,8 @@ def progress_parser() -> argparse.ArgumentParser:
     """The parser of `dlx-progress`."""
     parser = console.Parser(
         prog="dlx-progress",
-        description="Reads a listing as a search prints it, and tells on standard error how far the search is, once a second.",
+        description="Reads a listing as a search prints it, and tells on standard error how far the search is, once a "
+        "second.",
         epilog="example:\n  dlx1 m1000 < queens.dlx | dlx-progress",
         formatter_class=argparse.RawDescriptionHelpFormatter,
     )

@@ -64,7 +64,8 @@ class Progress:
 
     def __str__(self) -> str:
         left = "" if self.left is None else f", about {clock(self.left)} left"
-        return f"{percent(self.share)}   {self.solutions:,} solutions   {clock(self.seconds)}{left}   {self.at_work} at work"
+        done = f"{percent(self.share)}   {self.solutions:,} solutions"
+        return f"{done}   {clock(self.seconds)}{left}   {self.at_work} at work"
 
 
 class Job(NamedTuple):

@@ -9,7 +9,9 @@ from ..errors import SearchFault
 from .rows import Row, Span, Until, precedes, read, read_until, word_of
 
 _ROW = rb"(-|[0-9]+(?:\.[0-9]+)*)"
-_RECORD = re.compile(rb"from %s until %s(?: of %s)? solutions ([0-9]{1,40}) steps ([0-9]{1,40})\n\Z" % (_ROW, _ROW, _ROW))
+_NUMBER = rb"([0-9]{1,40})"
+_LINE = rb"from %s until %s(?: of %s)? solutions %s steps %s\n\Z" % (_ROW, _ROW, _ROW, _NUMBER, _NUMBER)
+_RECORD = re.compile(_LINE)
 
 
 class Record(NamedTuple):
@@ -48,5 +50,6 @@ def of_text(text: bytes, span: Span, listed: bool) -> Record:
         stop = record.until or ()
         is_right = is_right and span.start < stop and precedes(stop, span.until) and len(record.branches) == len(stop)
     if not is_right:
-        raise SearchFault(f"dlx-span gave a text that isn't of the span from {word_of(span.start)} until {word_of(span.until)}")
+        asked = f"from {word_of(span.start)} until {word_of(span.until)}"
+        raise SearchFault(f"dlx-span gave a text that isn't of the span {asked}")
     return record

@@ -1,4 +1,4 @@
-"""How far a search is, on standard error: one line that is written anew on a terminal, elsewhere a line now and then."""
+"""How far a search is, on standard error: one line that is written anew on a terminal, elsewhere one now and then."""
 
 from __future__ import annotations
 
