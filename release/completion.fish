@@ -189,7 +189,7 @@ complete -c helgrothy -n '__helgrothy_is \'helgrothy why\'' -l seconds -r -f -d 
 complete -c helgrothy -n '__helgrothy_is \'helgrothy search\'' -s h -l help -d 'show this help message and exit'
 complete -c helgrothy -n '__helgrothy_is \'helgrothy search\'' -l list -d 'list the solutions'
 complete -c helgrothy -n '__helgrothy_is \'helgrothy search\'' -l jobs -r -f -d 'so many processors (default: all)'
-complete -c helgrothy -n '__helgrothy_is \'helgrothy search\'' -l dask -r -f -d 'the workers of Dask whose scheduler has this address or file'
+complete -c helgrothy -n '__helgrothy_is \'helgrothy search\'' -l dask -r -f -d 'the workers of Dask, by its address or file'
 complete -c helgrothy -n '__helgrothy_is \'helgrothy search\'' -l seconds -r -f -d 'stop after S seconds, with status 6'
 complete -c helgrothy -n '__helgrothy_is \'helgrothy search\'' -l folder -r -f -a '(__fish_complete_directories)' -d 'keep what is done here (default: PROBLEM.search, removed at the end)'
 complete -c helgrothy -n '__helgrothy_is \'helgrothy search\'' -l for -r -f -a 'dlx1 dlx2 dlx3' -d 'the program (default: the first that takes such a text)'

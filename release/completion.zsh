@@ -114,7 +114,7 @@ _helgrothy_options() {
             options=('--help:show this help message and exit' '--seconds:the time (default: 10)')
             commands=() ;;
         'helgrothy search')
-            options=('--help:show this help message and exit' '--list:list the solutions' '--jobs:so many processors (default: all)' '--dask:the workers of Dask whose scheduler has this address or file' '--seconds:stop after S seconds, with status 6' '--folder:keep what is done here (default: PROBLEM.search, removed at the end)' '--for:the program (default: the first that takes such a text)')
+            options=('--help:show this help message and exit' '--list:list the solutions' '--jobs:so many processors (default: all)' '--dask:the workers of Dask, by its address or file' '--seconds:stop after S seconds, with status 6' '--folder:keep what is done here (default: PROBLEM.search, removed at the end)' '--for:the program (default: the first that takes such a text)')
             commands=() ;;
         'helgrothy status')
             options=('--help:show this help message and exit')

@@ -17,7 +17,7 @@ from unittest import mock
 from helgrothy import ListingFault, OutOfTime, Problem, ProgramFailed, ProgramNotFound, SearchFault, make, programs
 from helgrothy.__main__ import main
 from helgrothy.spans import folder as folders
-from helgrothy.spans import loop, progress, record, rows, span, text, ways
+from helgrothy.spans import loop, progress, record, rows, show, span, text, ways
 from helgrothy.spans.commands import NOT_DONE, progress_main
 from helgrothy.spans.folder import Folder
 from helgrothy.spans.loop import Job, Kept, Loop
@@ -511,6 +511,15 @@ class Commands(unittest.TestCase):
                 status, printed, told = self.run_it(*words)
                 self.assertEqual((status, printed), (2, b""))
                 self.assertNotIn("Traceback", told)
+
+    def test_nobody_sees_the_progress(self):
+        with open("/dev/full", "w") as full, mock.patch.object(sys, "stderr", full):
+            shown = show.Shown(False)
+            shown._last = -100.0
+            shown.tell(loop.Progress(0.5, 7, 1.0, 1.0, 4))
+            self.assertTrue(shown._is_silent)
+            with contextlib.suppress(OSError):
+                full.close()
 
     def test_rows(self):
         out = io.TextIOWrapper(io.BytesIO(), write_through=True)

@@ -60,7 +60,7 @@ def _add_search(commands: Any) -> None:
     parser.add_argument("--list", action="store_true", help="list the solutions")
     workers = parser.add_mutually_exclusive_group()
     workers.add_argument("--jobs", type=console.positive, metavar="N", help="so many processors (default: all)")
-    workers.add_argument("--dask", metavar="ADDRESS", help="the workers of Dask whose scheduler has this address or file")
+    workers.add_argument("--dask", metavar="ADDRESS", help="the workers of Dask, by its address or file")
     parser.add_argument(
         "--seconds", dest="most", type=console.seconds, metavar="S", help="stop after S seconds, with status 6"
     )

@@ -26,11 +26,17 @@ class Shown:
             return
         self._last = now
         self._is_shown = self._is_terminal
-        sys.stderr.write(f"\r\033[K{progress}" if self._is_terminal else f"{progress}\n")
-        sys.stderr.flush()
+        self._write(f"\r\033[K{progress}" if self._is_terminal else f"{progress}\n")
 
     def clear(self) -> None:
         if self._is_shown:
-            sys.stderr.write("\r\033[K")
-            sys.stderr.flush()
+            self._write("\r\033[K")
             self._is_shown = False
+
+    def _write(self, text: str) -> None:
+        try:
+            sys.stderr.write(text)
+            sys.stderr.flush()
+        except OSError:
+            # The search goes on. That nobody could be told how it ended is told by its status.
+            self._is_silent = True
