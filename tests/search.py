@@ -13,6 +13,7 @@ printed. The last lines are the tries of each mishap, and `N passed, M failed`.
 import concurrent.futures
 import os
 import random
+import shutil
 import sys
 import time
 import traceback
@@ -20,6 +21,8 @@ from collections import Counter
 
 from searching import mishaps
 from searching.trial import Trial, Wrong
+
+PROGRAMS = ("dlx1", "dlx2", "dlx3", "dlx-span", "dlx-join", "helgrothy")
 
 
 def one(seed, number):
@@ -35,6 +38,10 @@ def one(seed, number):
 
 
 def main():
+    missing = [name for name in PROGRAMS if shutil.which(name) is None]
+    if missing:
+        print(f"not on the path: {' '.join(missing)}")
+        return 2
     tries, seed = int(sys.argv[1]), sys.argv[2]
     jobs = int(sys.argv[3]) if len(sys.argv) > 3 else min(3, os.cpu_count() or 1)
     begun = time.monotonic()
