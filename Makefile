@@ -1,10 +1,8 @@
 VERSION := $(shell cat VERSION)
 PROGRAMS = dlx1 dlx2 dlx3 dlxcheck
-# The planner's crate is dlx_parts; dlx-parts is another command.
-PLANNER = dlx-plan
-# The crate of the one that searches parts in one process is dlx_below.
-BELOW = dlx-below
-SCRIPTS = split run join parts progress
+# The crates of these are dlx_span and dlx_join.
+SPANS = span join
+SPAN_CRATES = $(SPANS:%=dlx_%)
 
 # Where things are installed.
 PREFIX = /usr/local
@@ -22,7 +20,8 @@ LIBRARY = $(wildcard bindings/out/libhelgrothy.so)
 # The number rises where a program that was linked with an earlier library couldn't run with this one.
 SONAME = libhelgrothy.so.0
 
-.PHONY: help run bin all $(PROGRAMS) dlx_parts dlx_below test test-mutants test-hostile test-hostile-python test-python test-parts test-docs
+.PHONY: help run bin all $(PROGRAMS) $(SPAN_CRATES) test test-mutants test-hostile test-hostile-python test-python
+.PHONY: test-search test-docs
 .PHONY: pictures completion believed bench bench-forms test-bench test-build
 .PHONY: lib install install-lib uninstall uninstall-lib dist deb wheel version release
 .PHONY: test-bindings test-install test-dist test-deb test-wheel
@@ -46,8 +45,8 @@ test-python: ## the Python package, and 2,000 random problems
 	@sh tests/python.sh && python3 python/tests/trial.py 2000 1
 test-hostile-python: ## the Python commands on what is made to hurt
 	@python3 tests/hostile_python.py 5000 1
-test-parts: bin ## 300 random problems in parts
-	@PATH=$$PWD/bin:$$PATH python3 tests/parts.py 300 1
+test-search: bin ## 500 searches by helgrothy search, with mishaps
+	@PATH=$$PWD/bin:$$PATH python3 tests/search.py 500 1
 test-docs: bin ## the commands, pictures and tables of the pages
 	@sh tests/pages.sh . man/*.[15]
 	@scripts/pictures/pictures compare
@@ -80,18 +79,16 @@ test-bench: ## test the scripts that measure
 
 # What was built of these sources, here or by the gate, is taken as it is.
 all: bin ## build all programs, from nothing about a quarter of an hour
-	@scripts/build $(PROGRAMS) dlx_parts dlx_below
-$(PROGRAMS) dlx_parts dlx_below: bin
+	@scripts/build $(PROGRAMS) $(SPAN_CRATES)
+$(PROGRAMS) $(SPAN_CRATES): bin
 	@scripts/build $@
 
 # `bin` leads to the programs and scripts by the names that they have once they are installed.
 bin: ## lead to the programs and scripts that there are
 	@mkdir -p bin
 	@for program in $(PROGRAMS); do ln -sfn ../crates/$$program/out/$$program bin/$$program || exit 1; done
-	@ln -sfn ../crates/dlx_parts/out/dlx_parts bin/$(PLANNER)
-	@ln -sfn ../crates/dlx_below/out/dlx_below bin/$(BELOW)
-	@for script in $(SCRIPTS); do ln -sfn ../scripts/helgrothy bin/dlx-$$script || exit 1; done
-	@ln -sfn ../scripts/helgrothy bin/helgrothy
+	@for name in $(SPANS); do ln -sfn ../crates/dlx_$$name/out/dlx_$$name bin/dlx-$$name || exit 1; done
+	@for script in dlx-progress helgrothy; do ln -sfn ../scripts/helgrothy bin/$$script || exit 1; done
 
 # The library for C is the crate with the toolchain's three calls of malloc, in one object that tells no other names, as
 # an archive and as a shared library.
@@ -104,7 +101,7 @@ lib: ## build the library for C
 	    gcc -shared -Wl,-soname,$(SONAME),-z,defs,-z,text,-z,relro,-z,now helgrothy.o -o libhelgrothy.so && rm *.o
 
 # What follows takes the programs as `make all` built them, and needs no toolchain.
-COMMANDS = $(PROGRAMS) $(PLANNER) $(BELOW) $(SCRIPTS:%=dlx-%) helgrothy
+COMMANDS = $(PROGRAMS) $(SPANS:%=dlx-%) dlx-progress helgrothy
 # The files of a folder or two into another, whatever the umask.
 copy = find -L $(1) -type f ! -name '*.pyc' -exec sh -c \
     'for file; do install -D -m 644 "$$file" "$(2)/$$file" || exit 1; done' copy {} +
@@ -116,7 +113,7 @@ install: bin install-lib ## install under PREFIX, in DESTDIR
 	    to="$(DESTDIR)$(mandir)/man$${page##*.}/$${page##*/}"; \
 	    sed '1s/ Helgrothy / "Helgrothy $(VERSION)" /' $$page > "$$to" && chmod 644 "$$to" || exit 1; \
 	done
-	for script in $(SCRIPTS:split=) plan below; do ln -sfn dlx-split.1 "$(DESTDIR)$(mandir)/man1/dlx-$$script.1" || exit 1; done
+	ln -sfn helgrothy.1 "$(DESTDIR)$(mandir)/man1/dlx-progress.1"
 	install -m 644 release/completion.bash "$(DESTDIR)$(completiondir)/dlx1"
 	for command in $(COMMANDS:dlx1=); do ln -sfn dlx1 "$(DESTDIR)$(completiondir)/$$command" || exit 1; done
 	install -D -m 644 release/completion.zsh "$(DESTDIR)$(zshdir)/_helgrothy"

@@ -55,15 +55,11 @@ _dlx() {
 _dlx_options() {
     options=
     case $1 in
-        'dlx1' | 'dlx2' | 'dlx3' | 'dlxcheck' | 'dlx-plan' | 'dlx-below')
+        'dlx1' | 'dlx2' | 'dlx3' | 'dlxcheck' | 'dlx-span' | 'dlx-join')
             options='' ;;
-        'dlx-split')
-            options='--help --version --parts --seconds' ;;
-        'dlx-run' | 'dlx-join' | 'dlx-progress' | 'helgrothy')
+        'dlx-progress' | 'helgrothy')
             options='--help --version' ;;
-        'dlx-parts')
-            options='--help --version --undone' ;;
-        'helgrothy make' | 'helgrothy make sudoku' | 'helgrothy make queens' | 'helgrothy make langford' | 'helgrothy make words' | 'helgrothy export')
+        'helgrothy make' | 'helgrothy make sudoku' | 'helgrothy make queens' | 'helgrothy make langford' | 'helgrothy make words' | 'helgrothy export' | 'helgrothy status')
             options='--help' ;;
         'helgrothy make polyominoes')
             options='--help --no-turns --no-mirrors' ;;
@@ -79,6 +75,12 @@ _dlx_options() {
             options='--help --for' ;;
         'helgrothy why')
             options='--help --seconds' ;;
+        'helgrothy search')
+            options='--help --list --jobs --dask --seconds --folder --for' ;;
+        'helgrothy result')
+            options='--help --list' ;;
+        'helgrothy rows')
+            options='--help --count --for' ;;
         'helgrothy sudoku' | 'helgrothy queens' | 'helgrothy langford' | 'helgrothy words')
             options='--help --number --limit --all --svg --json --csv --seconds' ;;
         'helgrothy polyominoes')
@@ -95,10 +97,12 @@ _dlx_options() {
 _dlx_value() {
     value=
     case $1 in
-        'dlx-split --parts' | 'dlx-split --seconds' | 'helgrothy solve --number' | 'helgrothy solve --limit' | 'helgrothy solve --seconds' | 'helgrothy solve --cell' | 'helgrothy solve --row' | 'helgrothy solve --column' | 'helgrothy solve --label' | 'helgrothy draw --number' | 'helgrothy draw --cell' | 'helgrothy draw --row' | 'helgrothy draw --column' | 'helgrothy draw --label' | 'helgrothy why --seconds' | 'helgrothy sudoku --number' | 'helgrothy sudoku --limit' | 'helgrothy sudoku --seconds' | 'helgrothy queens --number' | 'helgrothy queens --limit' | 'helgrothy queens --seconds' | 'helgrothy langford --number' | 'helgrothy langford --limit' | 'helgrothy langford --seconds' | 'helgrothy polyominoes --number' | 'helgrothy polyominoes --limit' | 'helgrothy polyominoes --seconds' | 'helgrothy words --number' | 'helgrothy words --limit' | 'helgrothy words --seconds' | 'helgrothy roster --number' | 'helgrothy roster --limit' | 'helgrothy roster --seconds' | 'helgrothy roundrobin --number' | 'helgrothy roundrobin --limit' | 'helgrothy roundrobin --seconds')
+        'helgrothy solve --number' | 'helgrothy solve --limit' | 'helgrothy solve --seconds' | 'helgrothy solve --cell' | 'helgrothy solve --row' | 'helgrothy solve --column' | 'helgrothy solve --label' | 'helgrothy draw --number' | 'helgrothy draw --cell' | 'helgrothy draw --row' | 'helgrothy draw --column' | 'helgrothy draw --label' | 'helgrothy why --seconds' | 'helgrothy search --jobs' | 'helgrothy search --dask' | 'helgrothy search --seconds' | 'helgrothy rows --count' | 'helgrothy sudoku --number' | 'helgrothy sudoku --limit' | 'helgrothy sudoku --seconds' | 'helgrothy queens --number' | 'helgrothy queens --limit' | 'helgrothy queens --seconds' | 'helgrothy langford --number' | 'helgrothy langford --limit' | 'helgrothy langford --seconds' | 'helgrothy polyominoes --number' | 'helgrothy polyominoes --limit' | 'helgrothy polyominoes --seconds' | 'helgrothy words --number' | 'helgrothy words --limit' | 'helgrothy words --seconds' | 'helgrothy roster --number' | 'helgrothy roster --limit' | 'helgrothy roster --seconds' | 'helgrothy roundrobin --number' | 'helgrothy roundrobin --limit' | 'helgrothy roundrobin --seconds')
             value='words' ;;
-        'helgrothy lint --for')
+        'helgrothy lint --for' | 'helgrothy search --for' | 'helgrothy rows --for')
             value='words dlx1 dlx2 dlx3' ;;
+        'helgrothy search --folder')
+            value='folder' ;;
         *) return 1 ;;
     esac
 }
@@ -107,33 +111,27 @@ _dlx_value() {
 _dlx_place() {
     value=
     case $1:$2 in
-        'dlxcheck:1' | 'dlx-split:2' | 'helgrothy solve:1' | 'helgrothy draw:1' | 'helgrothy lint:1' | 'helgrothy export:2' | 'helgrothy why:1')
+        'dlxcheck:1' | 'helgrothy solve:1' | 'helgrothy draw:1' | 'helgrothy lint:1' | 'helgrothy export:2' | 'helgrothy why:1' | 'helgrothy search:1' | 'helgrothy rows:1')
             value='problem' ;;
-        'dlxcheck:2' | 'dlx-plan:1' | 'dlx-below:1')
+        'dlxcheck:2' | 'dlx-span:1')
             value='words 1 2 3' ;;
-        'dlx-below:2')
+        'dlx-span:2' | 'dlx-join:1')
             value='words m0 m1' ;;
-        'dlx-split:1')
-            value='words dlx1 dlx2 dlx3' ;;
-        'dlx-split:3' | 'dlx-run:1' | 'dlx-join:1' | 'dlx-parts:1')
-            value='folder' ;;
-        'dlx-run:2')
-            value='words all' ;;
         'helgrothy:1')
-            value='words make solve draw lint export why sudoku queens langford polyominoes words roster roundrobin' ;;
+            value='words make solve draw lint export why search status result rows sudoku queens langford polyominoes words roster roundrobin' ;;
         'helgrothy make:1')
             value='words sudoku queens langford polyominoes words roster roundrobin' ;;
-        'helgrothy make sudoku:1' | 'helgrothy make queens:1' | 'helgrothy make polyominoes:2' | 'helgrothy make words:1' | 'helgrothy make words:2' | 'helgrothy make roster:1' | 'helgrothy make roundrobin:1' | 'helgrothy sudoku:1' | 'helgrothy queens:1' | 'helgrothy polyominoes:2' | 'helgrothy words:1' | 'helgrothy words:2' | 'helgrothy roster:1' | 'helgrothy roundrobin:1')
-            value='file' ;;
         'helgrothy make polyominoes:1' | 'helgrothy polyominoes:1')
             value='file pentominoes tetrominoes' ;;
         'helgrothy export:1')
             value='words asp cnf opb' ;;
+        'helgrothy status:1' | 'helgrothy result:1')
+            value='folder' ;;
         'dlx1:'* | 'dlx2:'* | 'dlx3:'*)
             value='words m1 m1000 t1 t2' ;;
-        'dlx-run:'*)
-            value='words m1' ;;
+        'dlx-join:'* | 'helgrothy make sudoku:1' | 'helgrothy make queens:1' | 'helgrothy make polyominoes:2' | 'helgrothy make words:1' | 'helgrothy make words:2' | 'helgrothy make roster:1' | 'helgrothy make roundrobin:1' | 'helgrothy sudoku:1' | 'helgrothy queens:1' | 'helgrothy polyominoes:2' | 'helgrothy words:1' | 'helgrothy words:2' | 'helgrothy roster:1' | 'helgrothy roundrobin:1')
+            value='file' ;;
     esac
 }
 
-complete -F _dlx dlx1 dlx2 dlx3 dlxcheck dlx-plan dlx-below dlx-split dlx-run dlx-join dlx-parts dlx-progress helgrothy
+complete -F _dlx dlx1 dlx2 dlx3 dlxcheck dlx-span dlx-join dlx-progress helgrothy

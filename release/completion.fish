@@ -39,12 +39,8 @@ set -g __helgrothy_commands \
     'dlx2' \
     'dlx3' \
     'dlxcheck' \
-    'dlx-plan' \
-    'dlx-below' \
-    'dlx-split' \
-    'dlx-run' \
+    'dlx-span' \
     'dlx-join' \
-    'dlx-parts' \
     'dlx-progress' \
     'helgrothy' \
     'helgrothy make' \
@@ -60,6 +56,10 @@ set -g __helgrothy_commands \
     'helgrothy lint' \
     'helgrothy export' \
     'helgrothy why' \
+    'helgrothy search' \
+    'helgrothy status' \
+    'helgrothy result' \
+    'helgrothy rows' \
     'helgrothy sudoku' \
     'helgrothy queens' \
     'helgrothy langford' \
@@ -69,8 +69,6 @@ set -g __helgrothy_commands \
     'helgrothy roundrobin'
 
 set -g __helgrothy_valued \
-    'dlx-split --parts' \
-    'dlx-split --seconds' \
     'helgrothy solve --number' \
     'helgrothy solve --limit' \
     'helgrothy solve --seconds' \
@@ -85,6 +83,13 @@ set -g __helgrothy_valued \
     'helgrothy draw --label' \
     'helgrothy lint --for' \
     'helgrothy why --seconds' \
+    'helgrothy search --jobs' \
+    'helgrothy search --dask' \
+    'helgrothy search --seconds' \
+    'helgrothy search --folder' \
+    'helgrothy search --for' \
+    'helgrothy rows --count' \
+    'helgrothy rows --for' \
     'helgrothy sudoku --number' \
     'helgrothy sudoku --limit' \
     'helgrothy sudoku --seconds' \
@@ -111,25 +116,10 @@ complete -c dlx1 -f
 complete -c dlx2 -f
 complete -c dlx3 -f
 complete -c dlxcheck -f
-complete -c dlx-plan -f
-complete -c dlx-below -f
-complete -c dlx-split -f
-complete -c dlx-run -f
+complete -c dlx-span -f
 complete -c dlx-join -f
-complete -c dlx-parts -f
 complete -c dlx-progress -f
 complete -c helgrothy -f
-complete -c dlx-split -n '__helgrothy_is \'dlx-split\'' -s h -l help -d 'show this help message and exit'
-complete -c dlx-split -n '__helgrothy_is \'dlx-split\'' -l version -d 'show program\'s version number and exit'
-complete -c dlx-split -n '__helgrothy_is \'dlx-split\'' -l parts -r -f -d 'at least N parts (default: 100)'
-complete -c dlx-split -n '__helgrothy_is \'dlx-split\'' -l seconds -r -f -d 'until no part is judged to take longer'
-complete -c dlx-run -n '__helgrothy_is \'dlx-run\'' -s h -l help -d 'show this help message and exit'
-complete -c dlx-run -n '__helgrothy_is \'dlx-run\'' -l version -d 'show program\'s version number and exit'
-complete -c dlx-join -n '__helgrothy_is \'dlx-join\'' -s h -l help -d 'show this help message and exit'
-complete -c dlx-join -n '__helgrothy_is \'dlx-join\'' -l version -d 'show program\'s version number and exit'
-complete -c dlx-parts -n '__helgrothy_is \'dlx-parts\'' -s h -l help -d 'show this help message and exit'
-complete -c dlx-parts -n '__helgrothy_is \'dlx-parts\'' -l version -d 'show program\'s version number and exit'
-complete -c dlx-parts -n '__helgrothy_is \'dlx-parts\'' -l undone -d 'the undone parts alone, as sbatch --array= takes them'
 complete -c dlx-progress -n '__helgrothy_is \'dlx-progress\'' -s h -l help -d 'show this help message and exit'
 complete -c dlx-progress -n '__helgrothy_is \'dlx-progress\'' -l version -d 'show program\'s version number and exit'
 complete -c helgrothy -n '__helgrothy_is \'helgrothy\'' -s h -l help -d 'show this help message and exit'
@@ -140,6 +130,10 @@ complete -c helgrothy -n '__helgrothy_is \'helgrothy\' 1' -a draw -d 'draw a lis
 complete -c helgrothy -n '__helgrothy_is \'helgrothy\' 1' -a lint -d 'tell all faults and slips of a problem'
 complete -c helgrothy -n '__helgrothy_is \'helgrothy\' 1' -a export -d 'write a problem for another solver'
 complete -c helgrothy -n '__helgrothy_is \'helgrothy\' 1' -a why -d 'tell which items conflict where there is no solution'
+complete -c helgrothy -n '__helgrothy_is \'helgrothy\' 1' -a search -d 'count or list all solutions, by all processors or many machines'
+complete -c helgrothy -n '__helgrothy_is \'helgrothy\' 1' -a status -d 'tell how far a search is'
+complete -c helgrothy -n '__helgrothy_is \'helgrothy\' 1' -a result -d 'print what a search that is done has found'
+complete -c helgrothy -n '__helgrothy_is \'helgrothy\' 1' -a rows -d 'print rows at which a search may be cut'
 complete -c helgrothy -n '__helgrothy_is \'helgrothy\' 1' -a sudoku -d 'make and solve a Sudoku from its clues'
 complete -c helgrothy -n '__helgrothy_is \'helgrothy\' 1' -a queens -d 'make and solve queens on a board, or in coloured regions'
 complete -c helgrothy -n '__helgrothy_is \'helgrothy\' 1' -a langford -d 'make and solve Langford\'s pairs'
@@ -192,6 +186,19 @@ complete -c helgrothy -n '__helgrothy_is \'helgrothy lint\'' -l for -r -f -a 'dl
 complete -c helgrothy -n '__helgrothy_is \'helgrothy export\'' -s h -l help -d 'show this help message and exit'
 complete -c helgrothy -n '__helgrothy_is \'helgrothy why\'' -s h -l help -d 'show this help message and exit'
 complete -c helgrothy -n '__helgrothy_is \'helgrothy why\'' -l seconds -r -f -d 'the time (default: 10)'
+complete -c helgrothy -n '__helgrothy_is \'helgrothy search\'' -s h -l help -d 'show this help message and exit'
+complete -c helgrothy -n '__helgrothy_is \'helgrothy search\'' -l list -d 'list the solutions'
+complete -c helgrothy -n '__helgrothy_is \'helgrothy search\'' -l jobs -r -f -d 'so many processors (default: all)'
+complete -c helgrothy -n '__helgrothy_is \'helgrothy search\'' -l dask -r -f -d 'the workers of Dask, by its address or file'
+complete -c helgrothy -n '__helgrothy_is \'helgrothy search\'' -l seconds -r -f -d 'stop after S seconds, with status 6'
+complete -c helgrothy -n '__helgrothy_is \'helgrothy search\'' -l folder -r -f -a '(__fish_complete_directories)' -d 'keep what is done here (default: PROBLEM.search, removed at the end)'
+complete -c helgrothy -n '__helgrothy_is \'helgrothy search\'' -l for -r -f -a 'dlx1 dlx2 dlx3' -d 'the program (default: the first that takes such a text)'
+complete -c helgrothy -n '__helgrothy_is \'helgrothy status\'' -s h -l help -d 'show this help message and exit'
+complete -c helgrothy -n '__helgrothy_is \'helgrothy result\'' -s h -l help -d 'show this help message and exit'
+complete -c helgrothy -n '__helgrothy_is \'helgrothy result\'' -l list -d 'list the solutions, of a search with --list'
+complete -c helgrothy -n '__helgrothy_is \'helgrothy rows\'' -s h -l help -d 'show this help message and exit'
+complete -c helgrothy -n '__helgrothy_is \'helgrothy rows\'' -l count -r -f -d 'up to N rows (default: 100)'
+complete -c helgrothy -n '__helgrothy_is \'helgrothy rows\'' -l for -r -f -a 'dlx1 dlx2 dlx3' -d 'the program (default: the first that takes such a text)'
 complete -c helgrothy -n '__helgrothy_is \'helgrothy sudoku\'' -s h -l help -d 'show this help message and exit'
 complete -c helgrothy -n '__helgrothy_is \'helgrothy sudoku\'' -l number -r -f -d 'the K-th solution instead of the first'
 complete -c helgrothy -n '__helgrothy_is \'helgrothy sudoku\'' -l limit -r -f -d 'the first N solutions'
@@ -257,17 +264,10 @@ complete -c dlx2 -n '__helgrothy_is \'dlx2\' 1+' -f -a 'm1 m1000 t1 t2'
 complete -c dlx3 -n '__helgrothy_is \'dlx3\' 1+' -f -a 'm1 m1000 t1 t2'
 complete -c dlxcheck -n '__helgrothy_is \'dlxcheck\' 1' -f -a '(__fish_complete_suffix .dlx)'
 complete -c dlxcheck -n '__helgrothy_is \'dlxcheck\' 2' -f -a '1 2 3'
-complete -c dlx-plan -n '__helgrothy_is \'dlx-plan\' 1' -f -a '1 2 3'
-complete -c dlx-below -n '__helgrothy_is \'dlx-below\' 1' -f -a '1 2 3'
-complete -c dlx-below -n '__helgrothy_is \'dlx-below\' 2' -f -a 'm0 m1'
-complete -c dlx-split -n '__helgrothy_is \'dlx-split\' 1' -f -a 'dlx1 dlx2 dlx3'
-complete -c dlx-split -n '__helgrothy_is \'dlx-split\' 2' -f -a '(__fish_complete_suffix .dlx)'
-complete -c dlx-split -n '__helgrothy_is \'dlx-split\' 3' -f -a '(__fish_complete_directories)'
-complete -c dlx-run -n '__helgrothy_is \'dlx-run\' 1' -f -a '(__fish_complete_directories)'
-complete -c dlx-run -n '__helgrothy_is \'dlx-run\' 2' -f -a 'all'
-complete -c dlx-run -n '__helgrothy_is \'dlx-run\' 3+' -f -a 'm1'
-complete -c dlx-join -n '__helgrothy_is \'dlx-join\' 1' -f -a '(__fish_complete_directories)'
-complete -c dlx-parts -n '__helgrothy_is \'dlx-parts\' 1' -f -a '(__fish_complete_directories)'
+complete -c dlx-span -n '__helgrothy_is \'dlx-span\' 1' -f -a '1 2 3'
+complete -c dlx-span -n '__helgrothy_is \'dlx-span\' 2' -f -a 'm0 m1'
+complete -c dlx-join -n '__helgrothy_is \'dlx-join\' 1' -f -a 'm0 m1'
+complete -c dlx-join -n '__helgrothy_is \'dlx-join\' 2+' -F
 complete -c helgrothy -n '__helgrothy_is \'helgrothy make sudoku\' 1' -F
 complete -c helgrothy -n '__helgrothy_is \'helgrothy make queens\' 1' -F
 complete -c helgrothy -n '__helgrothy_is \'helgrothy make polyominoes\' 1' -F -a 'pentominoes tetrominoes'
@@ -282,6 +282,10 @@ complete -c helgrothy -n '__helgrothy_is \'helgrothy lint\' 1' -f -a '(__fish_co
 complete -c helgrothy -n '__helgrothy_is \'helgrothy export\' 1' -f -a 'asp cnf opb'
 complete -c helgrothy -n '__helgrothy_is \'helgrothy export\' 2' -f -a '(__fish_complete_suffix .dlx)'
 complete -c helgrothy -n '__helgrothy_is \'helgrothy why\' 1' -f -a '(__fish_complete_suffix .dlx)'
+complete -c helgrothy -n '__helgrothy_is \'helgrothy search\' 1' -f -a '(__fish_complete_suffix .dlx)'
+complete -c helgrothy -n '__helgrothy_is \'helgrothy status\' 1' -f -a '(__fish_complete_directories)'
+complete -c helgrothy -n '__helgrothy_is \'helgrothy result\' 1' -f -a '(__fish_complete_directories)'
+complete -c helgrothy -n '__helgrothy_is \'helgrothy rows\' 1' -f -a '(__fish_complete_suffix .dlx)'
 complete -c helgrothy -n '__helgrothy_is \'helgrothy sudoku\' 1' -F
 complete -c helgrothy -n '__helgrothy_is \'helgrothy queens\' 1' -F
 complete -c helgrothy -n '__helgrothy_is \'helgrothy polyominoes\' 1' -F -a 'pentominoes tetrominoes'

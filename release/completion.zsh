@@ -1,4 +1,4 @@
-#compdef dlx1 dlx2 dlx3 dlxcheck dlx-plan dlx-below dlx-split dlx-run dlx-join dlx-parts dlx-progress helgrothy
+#compdef dlx1 dlx2 dlx3 dlxcheck dlx-span dlx-join dlx-progress helgrothy
 # Completion of the words of programs and commands in zsh. Made by scripts/completion: changes belong there.
 
 # Completes a word as what it may be: words, behind `file` those or a file, `problem` or `folder`.
@@ -62,30 +62,18 @@ _helgrothy_options() {
         'dlxcheck')
             options=()
             commands=() ;;
-        'dlx-plan')
+        'dlx-span')
             options=()
-            commands=() ;;
-        'dlx-below')
-            options=()
-            commands=() ;;
-        'dlx-split')
-            options=('--help:show this help message and exit' '--version:show program'\''s version number and exit' '--parts:at least N parts (default: 100)' '--seconds:until no part is judged to take longer')
-            commands=() ;;
-        'dlx-run')
-            options=('--help:show this help message and exit' '--version:show program'\''s version number and exit')
             commands=() ;;
         'dlx-join')
-            options=('--help:show this help message and exit' '--version:show program'\''s version number and exit')
-            commands=() ;;
-        'dlx-parts')
-            options=('--help:show this help message and exit' '--version:show program'\''s version number and exit' '--undone:the undone parts alone, as sbatch --array= takes them')
+            options=()
             commands=() ;;
         'dlx-progress')
             options=('--help:show this help message and exit' '--version:show program'\''s version number and exit')
             commands=() ;;
         'helgrothy')
             options=('--help:show this help message and exit' '--version:show program'\''s version number and exit')
-            commands=('make:write a problem' 'solve:solve a problem and draw what is found' 'draw:draw a listing' 'lint:tell all faults and slips of a problem' 'export:write a problem for another solver' 'why:tell which items conflict where there is no solution' 'sudoku:make and solve a Sudoku from its clues' 'queens:make and solve queens on a board, or in coloured regions' 'langford:make and solve Langford'\''s pairs' 'polyominoes:make and solve pieces of squares that fill a region' 'words:make and solve words across and down in a grid' 'roster:make and solve shifts of people on days' 'roundrobin:make and solve a round robin at home and away') ;;
+            commands=('make:write a problem' 'solve:solve a problem and draw what is found' 'draw:draw a listing' 'lint:tell all faults and slips of a problem' 'export:write a problem for another solver' 'why:tell which items conflict where there is no solution' 'search:count or list all solutions, by all processors or many machines' 'status:tell how far a search is' 'result:print what a search that is done has found' 'rows:print rows at which a search may be cut' 'sudoku:make and solve a Sudoku from its clues' 'queens:make and solve queens on a board, or in coloured regions' 'langford:make and solve Langford'\''s pairs' 'polyominoes:make and solve pieces of squares that fill a region' 'words:make and solve words across and down in a grid' 'roster:make and solve shifts of people on days' 'roundrobin:make and solve a round robin at home and away') ;;
         'helgrothy make')
             options=('--help:show this help message and exit')
             commands=('sudoku:a Sudoku from its clues' 'queens:queens on a board, or in coloured regions' 'langford:Langford'\''s pairs' 'polyominoes:pieces of squares that fill a region' 'words:words across and down in a grid' 'roster:shifts of people on days' 'roundrobin:a round robin at home and away') ;;
@@ -125,6 +113,18 @@ _helgrothy_options() {
         'helgrothy why')
             options=('--help:show this help message and exit' '--seconds:the time (default: 10)')
             commands=() ;;
+        'helgrothy search')
+            options=('--help:show this help message and exit' '--list:list the solutions' '--jobs:so many processors (default: all)' '--dask:the workers of Dask, by its address or file' '--seconds:stop after S seconds, with status 6' '--folder:keep what is done here (default: PROBLEM.search, removed at the end)' '--for:the program (default: the first that takes such a text)')
+            commands=() ;;
+        'helgrothy status')
+            options=('--help:show this help message and exit')
+            commands=() ;;
+        'helgrothy result')
+            options=('--help:show this help message and exit' '--list:list the solutions, of a search with --list')
+            commands=() ;;
+        'helgrothy rows')
+            options=('--help:show this help message and exit' '--count:up to N rows (default: 100)' '--for:the program (default: the first that takes such a text)')
+            commands=() ;;
         'helgrothy sudoku')
             options=('--help:show this help message and exit' '--number:the K-th solution instead of the first' '--limit:the first N solutions' '--all:all solutions' '--svg:a picture as SVG, of one solution' '--json:a line of JSON for each solution: its number, the numbers of its options, their items, and the colours' '--csv:a table as CSV, with a line for each choice' '--seconds:give up after S seconds')
             commands=() ;;
@@ -154,10 +154,12 @@ _helgrothy_options() {
 _helgrothy_value() {
     value=
     case $1 in
-        'dlx-split --parts' | 'dlx-split --seconds' | 'helgrothy solve --number' | 'helgrothy solve --limit' | 'helgrothy solve --seconds' | 'helgrothy solve --cell' | 'helgrothy solve --row' | 'helgrothy solve --column' | 'helgrothy solve --label' | 'helgrothy draw --number' | 'helgrothy draw --cell' | 'helgrothy draw --row' | 'helgrothy draw --column' | 'helgrothy draw --label' | 'helgrothy why --seconds' | 'helgrothy sudoku --number' | 'helgrothy sudoku --limit' | 'helgrothy sudoku --seconds' | 'helgrothy queens --number' | 'helgrothy queens --limit' | 'helgrothy queens --seconds' | 'helgrothy langford --number' | 'helgrothy langford --limit' | 'helgrothy langford --seconds' | 'helgrothy polyominoes --number' | 'helgrothy polyominoes --limit' | 'helgrothy polyominoes --seconds' | 'helgrothy words --number' | 'helgrothy words --limit' | 'helgrothy words --seconds' | 'helgrothy roster --number' | 'helgrothy roster --limit' | 'helgrothy roster --seconds' | 'helgrothy roundrobin --number' | 'helgrothy roundrobin --limit' | 'helgrothy roundrobin --seconds')
+        'helgrothy solve --number' | 'helgrothy solve --limit' | 'helgrothy solve --seconds' | 'helgrothy solve --cell' | 'helgrothy solve --row' | 'helgrothy solve --column' | 'helgrothy solve --label' | 'helgrothy draw --number' | 'helgrothy draw --cell' | 'helgrothy draw --row' | 'helgrothy draw --column' | 'helgrothy draw --label' | 'helgrothy why --seconds' | 'helgrothy search --jobs' | 'helgrothy search --dask' | 'helgrothy search --seconds' | 'helgrothy rows --count' | 'helgrothy sudoku --number' | 'helgrothy sudoku --limit' | 'helgrothy sudoku --seconds' | 'helgrothy queens --number' | 'helgrothy queens --limit' | 'helgrothy queens --seconds' | 'helgrothy langford --number' | 'helgrothy langford --limit' | 'helgrothy langford --seconds' | 'helgrothy polyominoes --number' | 'helgrothy polyominoes --limit' | 'helgrothy polyominoes --seconds' | 'helgrothy words --number' | 'helgrothy words --limit' | 'helgrothy words --seconds' | 'helgrothy roster --number' | 'helgrothy roster --limit' | 'helgrothy roster --seconds' | 'helgrothy roundrobin --number' | 'helgrothy roundrobin --limit' | 'helgrothy roundrobin --seconds')
             value='words' ;;
-        'helgrothy lint --for')
+        'helgrothy lint --for' | 'helgrothy search --for' | 'helgrothy rows --for')
             value='words dlx1 dlx2 dlx3' ;;
+        'helgrothy search --folder')
+            value='folder' ;;
         *) return 1 ;;
     esac
 }
@@ -166,32 +168,26 @@ _helgrothy_value() {
 _helgrothy_place() {
     value=
     case $1:$2 in
-        'dlxcheck:1' | 'dlx-split:2' | 'helgrothy solve:1' | 'helgrothy draw:1' | 'helgrothy lint:1' | 'helgrothy export:2' | 'helgrothy why:1')
+        'dlxcheck:1' | 'helgrothy solve:1' | 'helgrothy draw:1' | 'helgrothy lint:1' | 'helgrothy export:2' | 'helgrothy why:1' | 'helgrothy search:1' | 'helgrothy rows:1')
             value='problem' ;;
-        'dlxcheck:2' | 'dlx-plan:1' | 'dlx-below:1')
+        'dlxcheck:2' | 'dlx-span:1')
             value='words 1 2 3' ;;
-        'dlx-below:2')
+        'dlx-span:2' | 'dlx-join:1')
             value='words m0 m1' ;;
-        'dlx-split:1')
-            value='words dlx1 dlx2 dlx3' ;;
-        'dlx-split:3' | 'dlx-run:1' | 'dlx-join:1' | 'dlx-parts:1')
-            value='folder' ;;
-        'dlx-run:2')
-            value='words all' ;;
         'helgrothy:1')
-            value='words make solve draw lint export why sudoku queens langford polyominoes words roster roundrobin' ;;
+            value='words make solve draw lint export why search status result rows sudoku queens langford polyominoes words roster roundrobin' ;;
         'helgrothy make:1')
             value='words sudoku queens langford polyominoes words roster roundrobin' ;;
-        'helgrothy make sudoku:1' | 'helgrothy make queens:1' | 'helgrothy make polyominoes:2' | 'helgrothy make words:1' | 'helgrothy make words:2' | 'helgrothy make roster:1' | 'helgrothy make roundrobin:1' | 'helgrothy sudoku:1' | 'helgrothy queens:1' | 'helgrothy polyominoes:2' | 'helgrothy words:1' | 'helgrothy words:2' | 'helgrothy roster:1' | 'helgrothy roundrobin:1')
-            value='file' ;;
         'helgrothy make polyominoes:1' | 'helgrothy polyominoes:1')
             value='file pentominoes tetrominoes' ;;
         'helgrothy export:1')
             value='words asp cnf opb' ;;
+        'helgrothy status:1' | 'helgrothy result:1')
+            value='folder' ;;
         'dlx1:'* | 'dlx2:'* | 'dlx3:'*)
             value='words m1 m1000 t1 t2' ;;
-        'dlx-run:'*)
-            value='words m1' ;;
+        'dlx-join:'* | 'helgrothy make sudoku:1' | 'helgrothy make queens:1' | 'helgrothy make polyominoes:2' | 'helgrothy make words:1' | 'helgrothy make words:2' | 'helgrothy make roster:1' | 'helgrothy make roundrobin:1' | 'helgrothy sudoku:1' | 'helgrothy queens:1' | 'helgrothy polyominoes:2' | 'helgrothy words:1' | 'helgrothy words:2' | 'helgrothy roster:1' | 'helgrothy roundrobin:1')
+            value='file' ;;
     esac
 }
 

@@ -16,12 +16,10 @@ chmod 755 "$root"
 MAKEFLAGS= make -s install LIBRARY= VERSION="$version" DESTDIR="$root" PREFIX=/usr pythondir=/usr/lib/python3/dist-packages \
     zshdir=/usr/share/zsh/vendor-completions
 find "$root/usr/share/man" -type f -exec gzip -9n {} +
-for script in run join parts progress plan below; do
-    rm "$root/usr/share/man/man1/dlx-$script.1"
-    ln -s dlx-split.1.gz "$root/usr/share/man/man1/dlx-$script.1.gz"
-done
+rm "$root/usr/share/man/man1/dlx-progress.1"
+ln -s helgrothy.1.gz "$root/usr/share/man/man1/dlx-progress.1.gz"
 # The symbols of a program say nothing to its users.
-for program in dlx1 dlx2 dlx3 dlxcheck dlx-plan dlx-below; do strip --strip-unneeded "$root/usr/bin/$program"; done
+for program in dlx1 dlx2 dlx3 dlxcheck dlx-span dlx-join; do strip --strip-unneeded "$root/usr/bin/$program"; done
 doc=$root/usr/share/doc/helgrothy
 cp release/copyright "$doc/copyright"
 {
@@ -48,7 +46,7 @@ Description: exact cover solvers by dancing links, as proved software
  secondary items, dlx3 bounds on primary items. dlxcheck judges a listing of
  solutions, wherever it is from. People use such solvers for puzzles, tilings,
  timetables and test designs. The Python package helgrothy makes problems and
- draws their solutions, and searches long problems in parts.
+ draws their solutions, and searches by all processors or many machines.
 END
 mkdir -p dist
 dpkg-deb --root-owner-group -Zxz -b "$root" "dist/helgrothy_${version}_amd64.deb" >/dev/null

@@ -10,10 +10,10 @@ import sys
 import time
 import zipfile
 
-PROGRAMS = ("dlx1", "dlx2", "dlx3", "dlxcheck", "dlx-plan", "dlx-below")
+PROGRAMS = ("dlx1", "dlx2", "dlx3", "dlxcheck", "dlx-span", "dlx-join")
 # What pip writes for an entry point can't keep Python from the current folder and PYTHONPATH, so the commands are the
 # repository's script under each name.
-COMMANDS = ("helgrothy", "dlx-split", "dlx-run", "dlx-join", "dlx-parts", "dlx-progress")
+COMMANDS = ("helgrothy", "dlx-progress")
 # The programs need glibc 2.34.
 TAG = "py3-none-manylinux_2_34_x86_64"
 

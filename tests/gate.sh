@@ -23,5 +23,5 @@ whole=$!
 wait $whole
 status=$?
 # `make all` takes the programs that this built.
-[ $status != 0 ] || scripts/build --note dlx1 dlx2 dlx3 dlxcheck dlx_parts dlx_below
+[ $status != 0 ] || scripts/build --note dlx1 dlx2 dlx3 dlxcheck dlx_span dlx_join
 exit $status

@@ -1,7 +1,7 @@
 #!/usr/bin/env python3
 """hostile_python.py [TRIES [SEED]]: tries the commands of the Python package on what is made to hurt them.
 
-Texts, listings, tables, patterns, words and folders of parts of all kinds, by a seed, so that the same tries come
+Texts, listings, tables, patterns, words and folders of searches of all kinds, by a seed, so that the same tries come
 again. Of each try: no traceback, no end by want of memory, an answer in time, a status that the manual has, no byte on
 a terminal that steers it, and an SVG that is well formed and holds nothing active. Most call `main` in a process that
 does many; texts of 1 MB, closed streams, terminals and folders with Python files and programs of others in them are
@@ -31,8 +31,8 @@ TOP = os.path.dirname(os.path.dirname(os.path.abspath(__file__)))
 sys.path.insert(0, os.path.join(TOP, "python"))
 
 from helgrothy import __main__ as commands  # noqa: E402
-from helgrothy import make, parts  # noqa: E402
-from helgrothy.parts import __main__ as part_commands  # noqa: E402
+from helgrothy import make  # noqa: E402
+from helgrothy.spans import commands as span_commands  # noqa: E402
 
 SCRIPT = os.path.join(TOP, "scripts", "helgrothy")
 # A try may take so many seconds on a machine that does other things too, and so much memory.
@@ -229,7 +229,7 @@ class Try:
         self.given = b""
         self.is_terminal = rng.random() < 0.5
         make_words = rng.choices(
-            [self.solve, self.draw, self.lint, self.export, self.why, self.kind, self.make, self.odd, self.parts, self.progress],
+            [self.solve, self.draw, self.lint, self.export, self.why, self.kind, self.make, self.odd, self.search, self.progress],
             [20, 16, 12, 6, 6, 14, 8, 6, 10, 6],
         )[0]
         self.name, self.words = make_words()
@@ -320,7 +320,7 @@ class Try:
         rng = self.rng
         known = ["solve", "make", "draw", "lint", "why", "export", "queens", "--svg", "--seconds", "--help", "--version", "--number"]
         self.given = text(rng)
-        name = rng.choice(["helgrothy", "helgrothy", "dlx-split", "dlx-run", "dlx-join", "dlx-parts", "dlx-progress", "dlx-none"])
+        name = rng.choice(["helgrothy", "helgrothy", "helgrothy", "dlx-progress"])
         # No run of a search without an end.
         return name, [rng.choice([*known, *WORDS]) for _ in range(rng.randint(0, 4))]
 
@@ -328,18 +328,20 @@ class Try:
         self.given = listing(self.rng, self.rng.choice(MADE))
         return "dlx-progress", []
 
-    def parts(self):
-        """A folder of parts, damaged, and a command for it."""
+    def search(self):
+        """A folder of a search, damaged, and a command for it."""
         rng = self.rng
-        folder = os.path.join(self.folder, "parts")
-        shutil.copytree(os.path.join(os.path.dirname(self.folder), f"parts{rng.randrange(4)}"), folder)
+        top = os.path.dirname(self.folder)
+        folder = os.path.join(self.folder, "found")
+        shutil.copytree(os.path.join(top, f"found{rng.randrange(4)}"), folder)
         for _ in range(rng.randint(0, 3)):
             self.damage(folder)
-        words = rng.choice([["dlx-parts"], ["dlx-parts", "--undone"], ["dlx-join"], ["dlx-join"], ["dlx-run"], ["dlx-run"]])
-        if words[0] != "dlx-run":
-            return words[0], [*words[1:], folder]
-        which = rng.choice(["all", "1", *WORDS]) if rng.random() < 0.5 else "all"
-        return "dlx-run", [folder, which, *rng.choice([["m1"], ["m1"], [], [rng.choice(WORDS)]])]
+        if rng.random() < 0.5:
+            return "helgrothy", [rng.choice(["status", "result"]), folder]
+        problem = os.path.join(top, "q.dlx") if rng.random() < 0.8 else self.file(changed(rng, QUEENS))
+        more = rng.choice([[], ["--for", "dlx3"], ["--jobs", rng.choice(["1", "3", *WORDS])], ["--folder", rng.choice(WORDS)]])
+        # No word is a file that is there but those of this try.
+        return "helgrothy", ["search", problem, "--seconds", "5", "--folder", folder, *(more if "/" not in more else [])]
 
     def damage(self, folder: str) -> None:
         rng = self.rng
@@ -349,9 +351,9 @@ class Try:
             os.remove(path)
             rng.choice([os.mkdir, os.mkfifo, lambda to: os.symlink("/dev/zero", to), lambda to: os.symlink(to, to)])(path)
         elif what == 1:
-            names = ["\u00b2.tmp", "00001.tmp", "00001.a.1.ff.tmp", "9" * 60 + ".a.1.ff.tmp", "00001.failed", "\udcff", "00002.done"]
+            names = ["\u00b2.tmp", "00000001.tmp", "9" * 60 + ".span", "00000099.span", "\u0661" * 8 + ".span", "\udcff", "search.tmp"]
             with contextlib.suppress(OSError), open(os.path.join(folder, rng.choice(names)), "xb") as file:
-                file.write(rng.choice([b"", b"[" * 100_000, b"{}", b"5", b"\xff", b'{"part": 1, "words": [], "reason": "\\u001b[2J", "host": "x"}']))
+                file.write(rng.choice([b"", b"span " * 100_000, b"span x - - 0 1 0 0 0\n", b"5", b"\xff", b"span \x1b[2J - - nan inf 1e5 -1 x\n"]))
         elif what == 2 and os.path.isfile(path):
             self.forge(path)
         elif os.path.isfile(path) and not os.path.islink(path):
@@ -361,18 +363,14 @@ class Try:
                 file.write(changed(rng, content))
 
     def forge(self, path: str) -> None:
-        """A record with right digests, of another form."""
+        """A file of spans whose first line has another word."""
         with open(path, "rb") as file:
-            before, _, record = file.read().rpartition(b"| ")
-        try:
-            told = json.loads(record.rpartition(b" ")[0])
-        except ValueError:
-            return
-        field = self.rng.choice(list(told))
-        told[field] = self.rng.choice([None, -1, "x", [], {}, 1.5, 10**400, float("nan"), ["m1"], True, "\x1b[2J"])
-        raw = json.dumps(told).encode()
+            line, end, text = file.read().partition(b"\n")
+        words = line.split(b" ")
+        odd = [b"-", b"", b"x", b"nan", b"inf", b"-1", b"9" * 400, b"1." * 50_000 + b"1", b"\x1b[2J", b"1e999", b"0x1", b"4294967296"]
+        words[self.rng.randrange(len(words))] = self.rng.choice(odd)
         with open(path, "wb") as file:
-            file.write(b"%s| %s %s\n" % (before, raw, parts.plan.digest(raw).encode()))
+            file.write(b" ".join(words) + end + text)
 
     def run(self) -> str:
         """What is wrong, if anything."""
@@ -384,7 +382,7 @@ class Try:
                     if self.name == "helgrothy":
                         status = commands.main(self.words)
                     else:
-                        status = part_commands.main(self.name, self.words)
+                        status = span_commands.progress_main(self.words)
                 except SystemExit as ended:
                     status = ended.code
                 except BaseException:
@@ -392,7 +390,7 @@ class Try:
         return self.judge(status, out.told(), error.told())
 
     def judge(self, status, out: bytes, error: bytes) -> str:
-        if status not in (0, 1, 2):
+        if status not in ((0, 2, 3, 6) if self.words[:1] in (["search"], ["result"]) else (0, 1, 2)):
             return f"status {status}"
         if b"Traceback" in error or b"Exception ignored" in error:
             return f"traceback: {error!r}"
@@ -409,14 +407,22 @@ class Try:
         return ""
 
 
+QUEENS = make.queens.problem(10).text.encode()
+
+
 def prepare(top: str) -> None:
-    """Folders of parts, done and half done."""
+    """Folders of searches, done and half done."""
+    path = os.path.join(top, "q.dlx")
+    with open(path, "wb") as file:
+        file.write(QUEENS)
     for number in range(4):
-        folder = os.path.join(top, f"parts{number}")
-        with mock.patch("helgrothy.parts.planner.find", side_effect=parts.ProgramNotFound):
-            made = parts.split("dlx1", make.queens.problem(5).text.encode(), folder, parts=4)
-        for part in made.plan.parts[: None if number < 3 else 2]:
-            parts.run(made, part.number, ["m1"])
+        folder = os.path.join(top, f"found{number}")
+        words = ["search", path, "--folder", folder, *(["--list"] if number % 2 else [])]
+        environment = {**os.environ, "PATH": f"{os.path.dirname(sys.executable)}:/usr/bin:/bin"}
+        subprocess.run([SCRIPT, *words], check=True, env=environment, stdout=subprocess.DEVNULL, stderr=subprocess.DEVNULL)
+        found = sorted(name for name in os.listdir(folder) if name.endswith(".span"))
+        if number > 1:
+            os.remove(os.path.join(folder, found[-1]))
 
 
 def try_all(tries: int, seed: int, top: str) -> int:
@@ -491,7 +497,7 @@ class Processes:
         self.top = top
         self.bin = os.path.join(top, "bin")
         os.mkdir(self.bin)
-        for one in ("helgrothy", "dlx-split", "dlx-run", "dlx-join", "dlx-parts", "dlx-progress"):
+        for one in ("helgrothy", "dlx-progress"):
             os.symlink(SCRIPT, os.path.join(self.bin, one))
         self.passed = self.failed = 0
         # The Python that runs this file.
@@ -519,15 +525,16 @@ class Processes:
     def closed_streams(self) -> None:
         """Standard streams in all combinations: messages never reach the listing, and what couldn't be said is told."""
         self.file("p.dlx", b"A | x\nx\nA x\nA\n")
-        self.shell("dlx-split dlx1 p.dlx f && dlx-run f all m1")
+        self.shell("helgrothy search p.dlx --list --folder f")
         for command, printed in (
-            ("dlx-join f", b"1:\n A x (1 of 2)\n2:\n A (2 of 2)\n"),
+            ("helgrothy result f --list", b"1:\n A x (1 of 2)\n2:\n A (2 of 2)\n"),
+            ("helgrothy search p.dlx --list", b"1:\n A x (1 of 2)\n2:\n A (2 of 2)\n"),
             ("helgrothy solve p.dlx --all", b"A x\n\nA\n"),
             ("helgrothy solve --all", b"A x\n\nA\n"),
             ("helgrothy lint p.dlx", b"line 2: an option without a primary item is ignored\n"),
             ("helgrothy why p.dlx", b""),
             ("helgrothy make langford 1", None),
-            ("dlx-parts f", None),
+            ("helgrothy status f", None),
             ("dlx-progress", b""),
         ):
             for streams in itertools.product(("<p.dlx", "<&-"), (">listing", ">&-", ">/dev/full"), ("2>told", "2>&-", "2>/dev/full")):
@@ -536,20 +543,20 @@ class Processes:
                 told, listed = (self.shell(f"cat {one} 2>/dev/null").stdout for one in ("told", "listing"))
                 is_right = printed is None or listed in (b"", printed)
                 is_said = int(self.shell("cat status").stdout) != 0 or streams[1:] == (">listing", "2>told")
-                is_said = is_said or command in ("helgrothy make langford 1", "dlx-parts f") and streams[1] == ">listing"
+                is_said = is_said or command in ("helgrothy make langford 1", "helgrothy status f") and streams[1] == ">listing"
                 is_well = is_right and is_said and b"Traceback" not in told + done.stderr
                 self.tell(is_well, f"{command} {streams}: {done.stderr!r} {told!r} {listed!r}")
 
     def strangers(self) -> None:
         """A folder of another user's: Python files and programs that the commands must not run."""
         folder = os.path.join(self.top, "strangers")
-        os.makedirs(os.path.join(folder, "helgrothy", "parts"))
+        os.makedirs(os.path.join(folder, "helgrothy", "spans"))
         modules = [one for one in sorted(sys.stdlib_module_names) if not one.startswith("_")] if hasattr(sys, "stdlib_module_names") else ["re", "random", "difflib", "colorsys", "argparse"]
         for module in modules:
             self.file(f"strangers/{module}.py", b"import os; os.write(2, b'HIJACKED')\n")
-        for module in ("__init__", "__main__", "parts/__init__", "parts/__main__"):
+        for module in ("__init__", "__main__", "spans/__init__", "spans/commands"):
             self.file(f"strangers/helgrothy/{module}.py", b"print('HIJACKED')\n")
-        for program in ("dlx1", "dlx2", "dlx3", "dlxcheck", "dlx-plan", "dlx-below", "cadical", "clasp"):
+        for program in ("dlx1", "dlx2", "dlx3", "dlxcheck", "dlx-span", "dlx-join", "cadical", "clasp"):
             os.chmod(self.file(f"strangers/{program}", b"#!/bin/sh\necho HIJACKED >&2\n"), 0o755)
         self.file("strangers/p.dlx", b"tuesday B\ntuesday\nB\n")
         self.file("strangers/q.dlx", b"tuesday B\ntusday\n")
@@ -558,7 +565,8 @@ class Processes:
             self.shell("rm -rf f", folder)
             for command in (
                 "helgrothy lint q.dlx", "helgrothy solve p.dlx --all", "helgrothy queens 5 --svg", "helgrothy why r.dlx",
-                "helgrothy export cnf p.dlx", "dlx-split --parts 2 dlx1 p.dlx f", "dlx-run f all m1", "dlx-join f", "dlx-parts f",
+                "helgrothy export cnf p.dlx", "helgrothy search p.dlx --list", "helgrothy search p.dlx --folder f", "helgrothy status f",
+                "helgrothy result f", "helgrothy rows p.dlx",
             ):  # fmt: skip
                 done = self.shell(command, folder, **path)
                 is_well = b"HIJACKED" not in done.stdout + done.stderr and b"Traceback" not in done.stderr and done.returncode in (0, 1)

@@ -41,4 +41,17 @@ folder=$(mktemp -d) && mkfifo "$folder/fifo" || exit 1
 expect 1 dlxcheck "$folder/fifo" 4 </dev/null
 expect 3 dlxcheck "$folder/fifo" <&-
 rm -r "$folder"
+expect 2 dlx_span 1 m0 0 - - <<'END'
+A | x
+A x:1
+END
+expect 1 dlx_span 1 m0 0 - </dev/null
+expect 1 dlx_span 1 m0 0 2 1 </dev/null
+expect 3 dlx_span 1 m0 0 - - <&-
+expect 2 dlx_join m0 <<'END'
+from - until - solutions x steps 1
+END
+expect 5 dlx_join m0 </dev/null
+expect 1 dlx_join m2 </dev/null
+expect 3 dlx_join m0 missing.span </dev/null
 exit $differ

@@ -8,7 +8,7 @@
 
 `helgrothy.make` makes problems that people know, `helgrothy.draw` and `helgrothy.table` draw solutions,
 `helgrothy.data` writes them as JSON and CSV, `helgrothy.lint` looks for slips, `helgrothy.why` for conflicts,
-`helgrothy.export` writes problems for other solvers, and `helgrothy.parts` searches in parts.
+and `helgrothy.export` writes problems for other solvers. `Problem.count(jobs=..)` searches by many processors.
 `python3 -m helgrothy --help` has the same as commands.
 """
 
@@ -23,6 +23,7 @@ from .errors import (
     ProblemFault,
     ProgramFailed,
     ProgramNotFound,
+    SearchFault,
     TableFault,
 )
 from .listing import Listed, Null
@@ -44,6 +45,7 @@ __all__ = [
     "ProblemFault",
     "ProgramFailed",
     "ProgramNotFound",
+    "SearchFault",
     "Solution",
     "Solutions",
     "TableFault",

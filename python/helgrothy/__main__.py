@@ -23,6 +23,7 @@ from .lint import lint
 from .make import KINDS
 from .make.kind import Kind
 from .problem import Problem
+from .spans import commands as spans
 from .table import Table
 from .watch import Watch
 
@@ -81,6 +82,7 @@ def _parser() -> argparse.ArgumentParser:
     _add_lint(commands)
     _add_export(commands)
     _add_why(commands)
+    spans.add(commands)
     for kind in KINDS.values():
         _add_kind(commands, kind)
     return parser

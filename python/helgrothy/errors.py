@@ -43,7 +43,7 @@ class TableFault(Fault):
 
 
 class ProgramNotFound(HelgrothyError, LookupError):
-    """One of the four programs is in none of the places that are searched for it."""
+    """One of the programs is in none of the places that are searched for it."""
 
 
 class ProgramFailed(HelgrothyError, RuntimeError):
@@ -81,8 +81,8 @@ class NoPicture(HelgrothyError, LookupError):
     """There is no drawing for the problem, or nothing in it to draw."""
 
 
-class PartsFault(HelgrothyError, ValueError):
-    """A folder of parts, its plan or what is asked of them isn't as it should be."""
+class SearchFault(HelgrothyError, ValueError):
+    """A folder of a search, a row, or what a worker gave isn't as it should be."""
 
 
 def reason_of(error: Exception) -> str:

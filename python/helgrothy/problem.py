@@ -38,7 +38,10 @@ from .solution import Solution
 from .syntax import MOST_ITEMS, MOST_USES, ONCE, Bounds, Sheet, bounds_fault, bytes_of, read, text_of
 
 if TYPE_CHECKING:
+    from concurrent.futures import Executor
+
     from .draw import Drawing, Pattern, Picture
+    from .spans import Progress
     from .table import Table
 
     Drawn = Union[Pattern, Table]
@@ -348,12 +351,26 @@ class Problem(Generic[Option]):
         items = {bytes_of(self._names[item]): item for item in self.items}
         return listings.solutions(lines, Decoder(options, items))
 
-    def count(self, limit: Optional[int] = None, *, seconds: Optional[float] = None) -> int:
+    def count(
+        self,
+        limit: Optional[int] = None,
+        *,
+        seconds: Optional[float] = None,
+        jobs: Optional[int] = None,
+        executor: Optional[Executor] = None,
+        progress: Optional[Callable[[Progress], object]] = None,
+    ) -> int:
         """How many solutions there are, or `limit` where there are as many or more.
 
+        jobs: search by so many processors at once. executor: search by the workers of an executor of
+        `concurrent.futures`, such as Dask's, of which there are `jobs`. progress: is told now and then how far the
+        search is. With any of these it is cut into spans, and there is no limit.
+
         Raises `ProgramNotFound`, `ProgramFailed` and, where it takes longer than `seconds`, `OutOfTime`, whose `found`
-        is then a number that was reached at least.
+        is then a number that was reached at least; with an executor also `SearchFault`.
         """
+        if jobs is not None or executor is not None or progress is not None:
+            return self._count_spans(limit, seconds, jobs, executor, progress)
         # Where the time may end first, a few solutions are printed for their numbers.
         words = _words(limit, 0 if seconds is None else _NUMBERED)
         found = 0
@@ -367,6 +384,22 @@ class Problem(Generic[Option]):
             except OutOfTime as error:
                 error.found = found
                 raise
+
+    def _count_spans(
+        self,
+        limit: Optional[int],
+        seconds: Optional[float],
+        jobs: Optional[int],
+        executor: Optional[Executor],
+        progress: Optional[Callable[[Progress], object]],
+    ) -> int:
+        from . import spans
+
+        if limit is not None:
+            raise ValueError("a search by jobs or an executor has no limit")
+        if jobs is not None and jobs < 1:
+            raise ValueError("jobs must be at least 1")
+        return spans.count(b"".join(_ended(self.lines())), self.kind, jobs, executor, progress, seconds)
 
     def check(self, listing: Union[str, bytes, IO[str], IO[bytes], Iterable[Iterable[Any]]]) -> List[bool]:
         """Of each solution whether it is one, as dlxcheck judges it, which holds all of them in memory.

@@ -19,7 +19,7 @@ from typing import IO, Iterable, Iterator, List, Optional, Sequence, Set, Type
 
 from .errors import OutOfTime, ProgramFailed, ProgramNotFound
 
-PROGRAMS = ("dlx1", "dlx2", "dlx3", "dlxcheck")
+PROGRAMS = ("dlx1", "dlx2", "dlx3", "dlxcheck", "dlx-span", "dlx-join")
 VARIABLE = "HELGROTHY_BIN"
 _CHUNK = 1 << 18
 # The system takes no longer times.

@@ -45,9 +45,9 @@ class Isolated(unittest.TestCase):
     def strangers_folder(self) -> None:
         for module in MODULES:
             self.file(f"{module}.py", "print('HIJACKED')\n")
-        for name in ("__init__", "__main__", "parts/__init__", "parts/__main__"):
+        for name in ("__init__", "__main__", "spans/__init__", "spans/commands"):
             self.file(f"helgrothy/{name}.py", "print('HIJACKED')\n")
-        for program in ("dlx1", "dlx-plan", "dlx-below", "sh", "python3", "readlink", "dirname"):
+        for program in ("dlx1", "dlx-span", "dlx-join", "sh", "python3", "readlink", "dirname"):
             self.file(program, "#!/bin/sh\necho HIJACKED\n", 0o755)
         self.file("p.dlx", "A B\nA\nB\nA B\n")
 
@@ -60,12 +60,10 @@ class Isolated(unittest.TestCase):
             # Of two unknown names, so that names are compared.
             self.file("q.dlx", "tuesday\ntusday\n")
             self.assertIn("is it tuesday?", command("helgrothy", "lint", "q.dlx", **how).stdout)
-            split = command("dlx-split", "--parts", "2", "dlx1", "p.dlx", "folder", **how)
-            self.assertEqual((split.returncode, split.stdout), (0, ""), split.stderr)
-            self.assertEqual(command("dlx-run", "folder", "all", "m1", **how).returncode, 0)
-            self.assertNotIn("HIJACKED", (joined := command("dlx-join", "folder", **how)).stdout)
-            self.assertEqual(joined.stderr, "Altogether 2 solutions.\n")
-            subprocess.run(["rm", "-r", os.path.join(self.folder, "folder")], check=True)
+            searched = command("helgrothy", "search", "p.dlx", "--list", **how)
+            self.assertNotIn("HIJACKED", searched.stdout)
+            self.assertEqual((searched.returncode, searched.stderr), (0, "Altogether 2 solutions.\n"))
+            self.assertNotIn("HIJACKED", command("dlx-progress", stdin=subprocess.DEVNULL, **how).stdout)
 
     def test_run_by_m_the_package_loads_nothing_of_the_current_folder(self):
         """Python looks there first, and did so for what it loaded before the package."""
@@ -170,23 +168,21 @@ class ClosedStreams(unittest.TestCase):
         self.folder = folder.name
         with open(os.path.join(self.folder, "p.dlx"), "w") as file:
             file.write("A | x\nx\nA x\nA\n")
-        command("dlx-split", "--parts", "2", "dlx1", "p.dlx", "folder", cwd=self.folder)
-        command("dlx-run", "folder", "all", "m1", cwd=self.folder)
+        command("helgrothy", "search", "p.dlx", "--list", "--folder", "folder", cwd=self.folder)
 
     def test_all_combinations(self):
         listing = "1:\n A x (1 of 2)\n2:\n A (2 of 2)\n"
         one = [(True, False, False), (False, True, False), (False, False, True)]
         for name, words, given, printed, message in (
-            ("dlx-join", ["folder"], False, listing, "Option ignored (no primary items): line 2\nAltogether 2 solutions.\n"),
             ("helgrothy", ["solve", "-", "--all"], True, "A x\n\nA\n", "Altogether 2 solutions.\n"),
             ("helgrothy", ["lint"], True, "line 2: an option without a primary item is ignored\n", ""),
             ("helgrothy", ["queens", "4"], False, BOARD, "Altogether 1 solution (limit).\n"),
             ("helgrothy", ["make", "langford", "1"], False, None, ""),
             ("helgrothy", ["--help"], False, None, ""),
-            ("dlx-parts", ["folder"], False, None, ""),
+            ("helgrothy", ["status", "folder"], False, None, ""),
             ("dlx-progress", [], True, "", "0.0 seconds: solution 2, 50.00% of the tree, about 0.0 seconds left\n"),
         ):
-            has_all = name == "dlx-join" or words == ["solve", "-", "--all"]
+            has_all = words == ["solve", "-", "--all"]
             for closed in itertools.product((False, True), repeat=3) if has_all else one:
                 with self.subTest(name=name, words=words, closed=closed):
                     self.try_one(name, words, given, printed, message, closed)
@@ -208,6 +204,19 @@ class ClosedStreams(unittest.TestCase):
             self.assertEqual((done.returncode, done.stderr), (2, f"{name}: {stream}: Bad file descriptor\n"))
         elif not is_well:
             self.assertEqual((done.returncode, done.stderr), (2, ""))
+
+    def test_a_listing(self):
+        """As the programs in one, but that its warnings come first: where they can't be told nothing is listed."""
+        listing, warning = "1:\n A x (1 of 2)\n2:\n A (2 of 2)\n", "Option ignored (no primary items): line 2\n"
+        for words in (["search", "p.dlx", "--list"], ["result", "folder", "--list"]):
+            for closed in itertools.product((False, True), repeat=3):
+                with self.subTest(words=words, closed=closed):
+                    redirected = " ".join(text for is_closed, text in zip(closed, ("<&-", ">&-", "2>&-")) if is_closed)
+                    done = command("helgrothy", *words, redirected=redirected, cwd=self.folder)
+                    told = "" if closed[2] else warning + ("Write failed.\n" if closed[1] else "Altogether 2 solutions.\n")
+                    self.assertEqual(done.stderr, told)
+                    self.assertEqual(done.stdout, "" if closed[1] or closed[2] else listing)
+                    self.assertEqual(done.returncode, 2 if closed[2] else 3 if closed[1] else 0)
 
     def test_a_folder_as_standard_input(self):
         done = command("helgrothy", "lint", redirected="<.", cwd=self.folder)

@@ -4,12 +4,11 @@ from __future__ import annotations
 
 import argparse
 from dataclasses import dataclass, field
-from typing import Any, Dict, Iterator, List, NoReturn, Optional, Tuple
-from unittest import mock
+from typing import Dict, Iterator, List, Optional, Tuple
 
 from helgrothy.__main__ import _parser
 from helgrothy.make.polyominoes import SETS
-from helgrothy.parts.__main__ import _COMMANDS
+from helgrothy.spans.commands import progress_parser
 
 # What a word may be: any of some words, a file, a folder, a problem (a file that ends with .dlx), or something that
 # nobody can guess.
@@ -17,7 +16,7 @@ FILE, FOLDER, PROBLEM = "file", "folder", "problem"
 _BY_NAME = {"PROBLEM": PROBLEM, "FOLDER": FOLDER, "LISTING": FILE}
 # Those whose help says that they are files, or may be.
 _FILES = ("CLUES", "N|REGIONS", "PIECES", "REGION", "GRID", "LIST", "TABLE", "TEAMS")
-_WORDS = {"PIECES": sorted(SETS), "PARTS": ["all"], "m1": ["m1"]}
+_WORDS = {"PIECES": sorted(SETS)}
 
 
 @dataclass(frozen=True)
@@ -60,30 +59,11 @@ def all_commands() -> Iterator[Command]:
     for program in ("dlx1", "dlx2", "dlx3"):
         yield Command(program, places=[Value(("m1", "m1000", "t1", "t2"))], goes_on=True)
     yield Command("dlxcheck", places=[Value(files=PROBLEM), kinds])
-    yield Command("dlx-plan", places=[kinds])
-    yield Command("dlx-below", places=[kinds, Value(("m0", "m1"))])
-    for name in _COMMANDS:
-        yield from _of(name, _parser_of(name))
+    words = Value(("m0", "m1"))
+    yield Command("dlx-span", places=[kinds, words])
+    yield Command("dlx-join", places=[words, Value(files=FILE)], goes_on=True)
+    yield from _of("dlx-progress", progress_parser())
     yield from _of("helgrothy", _parser())
-
-
-class _Seen(Exception):
-    """The parser that a command has made."""
-
-
-def _parser_of(command: str) -> argparse.ArgumentParser:
-    """The parser of a command, which makes it where it runs."""
-
-    def see(parser: argparse.ArgumentParser, *_: Any, **__: Any) -> NoReturn:
-        raise _Seen(parser)
-
-    with mock.patch.object(argparse.ArgumentParser, "parse_args", see):
-        try:
-            _COMMANDS[command]([])
-        except _Seen as seen:
-            parser: argparse.ArgumentParser = seen.args[0]
-            return parser
-    raise ValueError(f"{command} has no parser")
 
 
 def _of(path: str, parser: argparse.ArgumentParser) -> Iterator[Command]:

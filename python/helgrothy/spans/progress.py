@@ -1,18 +1,14 @@
-"""How far a search is, from the branches of the solutions that pass.
-
-Branch k of n on each level says which share of the tree lies before a solution, if all branches of a level are taken
-to be equally large: the sum of (k - 1) / (n of this level and of those above it).
-"""
+"""How far a search is, from the rows of the solutions that pass."""
 
 from __future__ import annotations
 
 import re
 import time
-from typing import Callable, Iterable, Iterator, Tuple
+from typing import Callable, Iterable, Iterator, List, Tuple
 
 from ..errors import ListingFault
 from ..syntax import text_of
-from .states import duration
+from .rows import place
 
 _HEADER = re.compile(rb"([0-9]{1,20}):\n?\Z")
 _CHOICE = re.compile(rb"\A .* \(([0-9]{1,10}) of ([0-9]{1,10})\)\n?\Z")
@@ -21,22 +17,24 @@ _LONGEST = 40
 
 
 def shares(listing: Iterable[bytes]) -> Iterator[Tuple[int, float]]:
-    """Of each solution of a listing its number, and the share of the tree before it. Raises `ListingFault`."""
-    number, before, branch = 0, 0.0, 1.0
+    """Of each solution of a listing its number, and the share of the tree before its row. Raises `ListingFault`."""
+    number = 0
+    row: List[int] = []
+    branches: List[int] = []
     for at, line in enumerate(listing, 1):
         choice = _CHOICE.search(line)
         header = None if choice else _HEADER.match(line)
         if choice is not None and number and 1 <= int(choice.group(1)) <= int(choice.group(2)):
-            branch /= int(choice.group(2))
-            before += (int(choice.group(1)) - 1) * branch
+            row.append(int(choice.group(1)))
+            branches.append(int(choice.group(2)))
         elif header is not None and int(header.group(1)):
             if number:
-                yield number, before
-            number, before, branch = int(header.group(1)), 0.0, 1.0
+                yield number, place(tuple(row), tuple(branches))
+            number, row, branches = int(header.group(1)), [], []
         else:
             raise ListingFault(at, text_of(line.rstrip(b"\n")[:_LONGEST]), "bad line")
     if number:
-        yield number, before
+        yield number, place(tuple(row), tuple(branches))
 
 
 def follow(listing: Iterable[bytes], tell: Callable[[str], object], every: float = 1.0) -> None:
@@ -51,6 +49,14 @@ def follow(listing: Iterable[bytes], tell: Callable[[str], object], every: float
             last = now
     if not has_told:
         tell(_told(number, share, time.monotonic() - start))
+
+
+def duration(seconds: float) -> str:
+    """A time as 0.5 seconds or 3.2 hours."""
+    for length, name in ((86_400, "days"), (3_600, "hours"), (60, "minutes")):
+        if seconds >= 2 * length:
+            return f"{seconds / length:.1f} {name}"
+    return f"{seconds:.1f} seconds"
 
 
 def _told(number: int, share: float, seconds: float) -> str:

@@ -1,0 +1,53 @@
+"""A long search on all processors or many machines, cut into spans between two rows of branch numbers.
+
+`Problem.count(jobs=..)` and the command `helgrothy search` are over this.
+"""
+
+from __future__ import annotations
+
+import time
+from concurrent.futures import Executor
+from typing import Dict, List, Optional
+
+from ..errors import OutOfTime
+from .join import count as joined
+from .join import number_of
+from .loop import Job, Kept, Loop, Progress, Tell
+from .rows import WHOLE, Row, Until
+from .workers import Own, Workers, executor_jobs, processors
+
+__all__ = ["Progress", "count"]
+
+
+def count(
+    problem: bytes,
+    kind: int,
+    jobs: Optional[int] = None,
+    executor: Optional[Executor] = None,
+    progress: Optional[Tell] = None,
+    seconds: Optional[float] = None,
+) -> int:
+    """How many solutions a problem has, by so many processors or by an executor.
+
+    Raises `ProgramNotFound`, `ProgramFailed`, `SearchFault`, and `OutOfTime`, whose `found` is what was found by then.
+    """
+    found: Dict[Row, Kept] = {}
+
+    def keep(kept: Kept) -> None:
+        found[kept.span.start] = kept
+
+    workers = Own(jobs or processors()) if executor is None else Workers(executor, jobs or executor_jobs(executor))
+    begun = time.monotonic()
+    with workers:
+        loop = Loop(Job(problem, kind, listed=False), workers.submit, workers.count, keep, progress)
+        is_done = loop.search([WHOLE], seconds)
+    if not is_done:
+        error = OutOfTime(f"the search took longer than {time.monotonic() - begun:.3g} seconds")
+        error.found = loop.solutions
+        raise error
+    texts: List[bytes] = []
+    at: Until = ()
+    while at is not None:
+        texts.append(found[at].text)
+        at = found[at].span.until
+    return number_of(joined([lambda: b"".join(texts)]))

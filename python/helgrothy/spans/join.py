@@ -1,0 +1,142 @@
+"""Texts of spans put together by the program dlx-join, which looks that their ends meet."""
+
+from __future__ import annotations
+
+import queue
+import re
+import signal
+import subprocess
+import threading
+from contextlib import suppress
+from types import TracebackType
+from typing import Callable, Iterable, List, NamedTuple, Optional, Type
+
+from .. import console
+from ..errors import ProgramFailed
+from ..guard import let_go, start
+from ..programs import find
+from .rows import Until
+
+PROGRAM = "dlx-join"
+_CHUNK = 1 << 18
+_LAST_LINE = re.compile(r"Altogether (\d+) solutions?\.\n?\Z")
+
+
+class Ending(NamedTuple):
+    """How dlx-join ended, and what it said on standard error."""
+
+    status: int
+    told: str
+
+
+class Join:
+    """A run of dlx-join that is given texts in their order. As a context manager it leaves no process behind.
+
+    The solutions go to standard output, or nowhere with `out` as `subprocess.DEVNULL`. Texts are read by a thread of
+    its own, so that nothing waits for who reads the listing. `wake` is called by that thread where it can't go on.
+    """
+
+    def __init__(self, listed: bool, out: Optional[int] = None, wake: Callable[[], None] = lambda: None) -> None:
+        self._wake = wake
+        self._error: Optional[BaseException] = None
+        self._texts: queue.SimpleQueue[Optional[Callable[[], bytes]]] = queue.SimpleQueue()
+        # The row until which texts were given.
+        self.at: Until = ()
+        self._process = start(
+            [find(PROGRAM), "m1" if listed else "m0"], stdin=subprocess.PIPE, stdout=out, stderr=subprocess.PIPE
+        )
+        self._threads: List[threading.Thread] = []
+        self._begin(self._feed)
+        if out == subprocess.PIPE:
+            self._begin(self._print)
+
+    def _begin(self, act: Callable[[], None]) -> None:
+        thread = threading.Thread(target=self._try, args=(act,), daemon=True)
+        self._threads.append(thread)
+        thread.start()
+
+    def give(self, text: Callable[[], bytes], until: Until) -> None:
+        """The next text, which is read when it is its turn."""
+        self._texts.put(text)
+        self.at = until
+
+    def check(self) -> None:
+        """Raises what reading a text or printing has raised, and `ProgramFailed` where the program ended early."""
+        if self._error is not None:
+            raise self._error
+
+    def end(self) -> Ending:
+        """Waits for the end of all texts. Raises what `check` raises, but for an end with a status of its own."""
+        self._texts.put(None)
+        assert self._process.stderr
+        told = self._process.stderr.read().decode("utf-8", "replace")
+        for thread in self._threads:
+            thread.join()
+        status = self._process.wait()
+        if isinstance(self._error, ProgramFailed) or self._error is None:
+            return Ending(status, told)
+        raise self._error
+
+    def __enter__(self) -> Join:
+        return self
+
+    def __exit__(
+        self, kind: Optional[Type[BaseException]], error: Optional[BaseException], trace: Optional[TracebackType]
+    ) -> None:
+        self._texts.put(None)
+        self._process.kill()
+        self._process.wait()
+        for thread in self._threads:
+            thread.join()
+        for pipe in (self._process.stdout, self._process.stderr):
+            if pipe is not None:
+                pipe.close()
+        let_go(self._process.pid)
+
+    def _try(self, act: Callable[[], None]) -> None:
+        try:
+            act()
+        except BaseException as error:
+            if self._error is None:
+                self._error = error
+            # What is written so far is a beginning, and no last line may follow.
+            self._process.send_signal(signal.SIGKILL)
+        self._wake()
+
+    def _feed(self) -> None:
+        assert self._process.stdin
+        try:
+            with self._process.stdin as into:
+                while True:
+                    text = self._texts.get()
+                    if text is None:
+                        return
+                    into.write(text())
+        except BrokenPipeError:
+            self._error = self._error or ProgramFailed(PROGRAM, self._process.wait(), "")
+
+    def _print(self) -> None:
+        assert self._process.stdout
+        out = self._process.stdout
+
+        def pieces() -> Iterable[bytes]:
+            while piece := out.read(_CHUNK):
+                yield piece
+
+        console.write_bytes(pieces())
+
+
+def number_of(ending: Ending) -> int:
+    """The number of solutions that the last line tells. Raises `ProgramFailed`."""
+    found = _LAST_LINE.search(ending.told) if ending.status == 0 else None
+    if found is None:
+        raise ProgramFailed(PROGRAM, ending.status, ending.told.strip())
+    return int(found.group(1))
+
+
+def count(texts: Iterable[Callable[[], bytes]], listed: bool = False) -> Ending:
+    """Texts that are counted, as many as there are."""
+    with Join(listed, subprocess.DEVNULL) as join:
+        for text in texts:
+            join.give(text, None)
+        return join.end()

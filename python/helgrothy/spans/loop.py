@@ -1,0 +1,268 @@
+"""The loop of a search: it hands out spans, waits for the first that comes back, keeps what it found, and cuts and
+hands out what it left.
+
+It needs an executor of `concurrent.futures`, this machine's processors or another one. Which machine searched a span,
+and how often one was searched in vain, is nothing to the result: any chain of spans whose ends meet is the listing.
+"""
+
+from __future__ import annotations
+
+import heapq
+import itertools
+import queue
+import time
+from concurrent.futures import CancelledError, Executor, Future
+from dataclasses import dataclass, replace
+from functools import partial
+from typing import Callable, Dict, List, NamedTuple, Optional, Tuple
+
+from .. import __version__
+from ..errors import HelgrothyError, ProgramFailed, ProgramNotFound, SearchFault, reason_of
+from . import record as records
+from .pace import Pace
+from .rows import Span, cut, place, word_of
+from .span import Ran, Task, run
+
+# Spans on their way for each worker, so that none waits for its next.
+_AHEAD = 2
+# A span is given up after so many runs that failed.
+_TRIES = 5
+# The system takes no longer words than 131,071 bytes.
+_LONGEST_WORD = 100_000
+# Where a row is too long a run is given so many times the steps, and at last no bound.
+_MORE = 16
+_MOST_FACTOR = 1 << 40
+# No text of a run has more bytes, but one of a single step.
+MOST_TEXT = 1 << 24
+_TICK = 0.1
+# Before so much of a search is done nobody knows how long it takes.
+_LEAST_SHARE = 0.001
+
+
+class Kept(NamedTuple):
+    """A span that is done: its text or some texts one after another, and what that took of a processor."""
+
+    span: Span
+    text: bytes
+    solutions: int
+    seconds: float
+
+
+@dataclass(frozen=True)
+class Progress:
+    """How far a search is.
+
+    share: of the tree, if all branches of a level are taken to be equally large. seconds: since it began or went on.
+    left: about how many seconds it takes yet, None where nothing is known. at_work: the spans that are searched.
+    """
+
+    share: float
+    solutions: int
+    seconds: float
+    left: Optional[float]
+    at_work: int
+
+    def __str__(self) -> str:
+        left = "" if self.left is None else f", about {clock(self.left)} left"
+        done = f"{percent(self.share)}   {self.solutions:,} solutions"
+        return f"{done}   {clock(self.seconds)}{left}   {self.at_work} at work"
+
+
+class Job(NamedTuple):
+    """What is searched: a problem's text, the program for it, and whether the solutions are listed."""
+
+    problem: bytes
+    kind: int
+    listed: bool
+
+
+@dataclass(frozen=True)
+class _Todo:
+    """A span to be searched; how often that failed, and by how much more steps it is tried.
+
+    is_deep: the row at which a run stopped was too long for a word, so that no bound is put to the text.
+    """
+
+    span: Span
+    failed: int = 0
+    factor: int = 1
+
+
+Keep = Callable[[Kept], None]
+Tell = Callable[[Progress], object]
+Submit = Callable[[Task], "Future[Ran]"]
+
+
+class Loop:
+    """A search of spans.
+
+    submit: hands a task to a worker. workers: how many there are. keep: takes each span that is done. tell: is told
+    how far the search is, some times a second.
+    """
+
+    def __init__(self, job: Job, submit: Submit, workers: Callable[[], int], keep: Keep, tell: Optional[Tell]) -> None:
+        self._job = job
+        self._submit = submit
+        self._workers = workers
+        self._keep = keep
+        self._tell = tell
+        self._pace = Pace(MOST_TEXT if job.listed else 0)
+        self._ready: List[Tuple[Tuple[int, ...], int, _Todo]] = []
+        self._number = itertools.count()
+        self._came: queue.SimpleQueue[Optional[Tuple[Future[Ran], _Todo, int]]] = queue.SimpleQueue()
+        self._runs: Dict[Future[Ran], _Todo] = {}
+        self._begun = time.monotonic()
+        self._deadline = float("inf")
+        self._share_before = 0.0
+        self.share = 0.0
+        self.solutions = 0
+
+    def done_before(self, share: float, solutions: int) -> None:
+        """What was done when the search goes on."""
+        self._share_before = self.share = share
+        self.solutions = solutions
+
+    def wake(self) -> None:
+        """Has `search` call `tell` at once; any thread may ask for that."""
+        self._came.put(None)
+
+    def search(self, todo: List[Span], seconds: Optional[float] = None) -> bool:
+        """Searches these spans, for so many seconds at most; whether all was done.
+
+        Raises `ProgramNotFound`, `ProgramFailed` and `SearchFault`, and what `keep`, `tell` and `submit` raise. Spans
+        may then be on their way still; nothing of them is kept.
+        """
+        if seconds is not None:
+            self._deadline = self._begun + seconds
+        for span in todo:
+            self._put(_Todo(span))
+        told = 0.0
+        try:
+            while self._ready or self._runs:
+                self._hand_out()
+                left = self._deadline - time.monotonic()
+                if left <= 0:
+                    return False
+                self._take(min(left, _TICK))
+                now = time.monotonic()
+                if self._tell is not None and now >= told + _TICK:
+                    told = now
+                    self._tell(self.progress())
+            return True
+        finally:
+            for run in list(self._runs):
+                run.cancel()
+
+    def progress(self) -> Progress:
+        seconds = time.monotonic() - self._begun
+        done, left = self.share - self._share_before, max(1 - self.share, 0.0)
+        at_work = min(len(self._runs), self._workers())
+        time_left = seconds * left / done if done >= _LEAST_SHARE else None
+        return Progress(min(self.share, 1.0), self.solutions, seconds, time_left, at_work)
+
+    def _put(self, todo: _Todo) -> None:
+        # The earliest comes first, so that a listing comes in its order and few spans wait to be joined.
+        heapq.heappush(self._ready, (todo.span.start, next(self._number), todo))
+
+    def _hand_out(self) -> None:
+        most = _AHEAD * self._workers()
+        while self._ready and len(self._runs) < most:
+            todo = heapq.heappop(self._ready)[2]
+            now = time.monotonic()
+            steps = self._pace.steps(now - self._begun, self._deadline - now) * todo.factor
+            is_deep = todo.factor > 1
+            task = Task(
+                kind=self._job.kind,
+                listed=self._job.listed,
+                problem=self._job.problem,
+                start=word_of(todo.span.start),
+                until=word_of(todo.span.until),
+                steps=0 if todo.factor > _MOST_FACTOR else steps,
+                most=MOST_TEXT if self._job.listed and steps > 1 and not is_deep else 0,
+            )
+            future = self._submit(task)
+            self._runs[future] = todo
+            future.add_done_callback(partial(self._come, todo=todo, steps=steps))
+
+    def _come(self, future: Future[Ran], todo: _Todo, steps: int) -> None:
+        self._came.put((future, todo, steps))
+
+    def _take(self, seconds: float) -> None:
+        """Takes what has come back, or waits so long for the first."""
+        try:
+            came = self._came.get(timeout=seconds)
+            while True:
+                if came is not None and self._runs.pop(came[0], None) is not None:
+                    self._take_one(*came)
+                came = self._came.get_nowait()
+        except queue.Empty:
+            pass
+
+    def _take_one(self, future: Future[Ran], todo: _Todo, steps: int) -> None:
+        try:
+            ran = future.result()
+            if ran.version != __version__:
+                raise SearchFault(f"a worker has version {ran.version} of this package, and here is {__version__}")
+        except (ProgramNotFound, SearchFault):
+            raise
+        except (Exception, CancelledError) as error:
+            if isinstance(error, ProgramFailed) and error.status in (1, 2) or todo.failed + 1 == _TRIES:
+                raise error if isinstance(error, HelgrothyError) else _fault(error) from None
+            self._put(replace(todo, failed=todo.failed + 1))
+            return
+        if ran.is_too_long:
+            self._pace.was_too_long(steps)
+            self._put(todo)
+            return
+        self._take_text(todo, ran)
+
+    def _take_text(self, todo: _Todo, ran: Ran) -> None:
+        span = todo.span
+        record = records.of_text(ran.text, span, self._job.listed)
+        self._pace.took(record.steps, ran.seconds, len(ran.text))
+        if not record.branches:
+            self._done(Kept(span, ran.text, record.solutions, ran.seconds))
+            return
+        if len(word_of(record.until)) > _LONGEST_WORD:
+            self._put(replace(todo, factor=todo.factor * _MORE))
+            return
+        stop = record.until or ()
+        at = min(max(place(stop, record.branches), span.begins), span.ends)
+        self._done(Kept(Span(span.start, stop, span.begins, at), ran.text, record.solutions, ran.seconds))
+        rest = Span(stop, span.until, at, span.ends)
+        missing = _AHEAD * self._workers() - len(self._runs) - len(self._ready)
+        for piece in cut(rest, record.branches, max(missing, 1)):
+            self._put(_Todo(piece))
+
+    def _done(self, kept: Kept) -> None:
+        self.share += kept.span.ends - kept.span.begins
+        self.solutions += kept.solutions
+        self._keep(kept)
+
+
+def submitting(executor: Executor) -> Submit:
+    """What hands tasks to an executor. Only the package has to be where the workers are, and the program."""
+
+    def submit(task: Task) -> Future[Ran]:
+        return executor.submit(run, task)
+
+    return submit
+
+
+def percent(share: float) -> str:
+    # What isn't done isn't 100 %.
+    return f"{min(int(share * 1000) / 10, 99.9) if share < 1 else 100:g} %"
+
+
+def clock(seconds: float) -> str:
+    """A time as 0:05, 1:02:03 or 3 days 4 h."""
+    whole = int(seconds)
+    if whole >= 86_400:
+        return f"{whole // 86_400} days {whole % 86_400 // 3600} h"
+    hours, minutes = whole // 3600, whole % 3600 // 60
+    return f"{hours}:{minutes:02d}:{whole % 60:02d}" if hours else f"{minutes}:{whole % 60:02d}"
+
+
+def _fault(error: BaseException) -> SearchFault:
+    told = reason_of(error) if isinstance(error, OSError) else f"{type(error).__name__}: {error}"
+    return SearchFault(f"the workers: {told}")

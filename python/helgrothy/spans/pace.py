@@ -1,0 +1,51 @@
+"""How many steps a run is given: by the speed of those before it, and by how long the search has gone on."""
+
+from __future__ import annotations
+
+# The first run takes so many, and tells the numbers of branches by which the rest is cut.
+_FIRST = 2_000
+# Before anything was measured, steps of a second.
+_GUESS = 1_000_000.0
+_MOST_STEPS = 1 << 62
+# A run takes this share of the time that the search has taken, within these bounds. So the last ones to end keep the
+# others waiting for a small share of the whole, and there are never too many.
+_SHARE = 1 / 16
+_SHORTEST, _LONGEST = 0.04, 10.0
+# To start a program and to read the problem takes at most about this share of a run.
+_START = 1 / 25
+# What was measured counts for less with each run.
+_FADES = 0.8
+
+
+class Pace:
+    """Steps of runs, such that no text is likely to be longer than `most` bytes (0 for no bound)."""
+
+    def __init__(self, most: int) -> None:
+        self._most = most
+        self._steps = 0.0
+        self._seconds = 0.0
+        self._start = float("inf")
+        self._bytes_a_step = 0.0
+
+    def steps(self, elapsed: float, left: float) -> int:
+        """The steps of a run that begins now, where the search may take so many seconds more."""
+        if self._start == float("inf"):
+            return _FIRST
+        rate = self._steps / self._seconds if self._seconds > 0 and self._steps > 0 else _GUESS
+        wanted = min(max(elapsed * _SHARE, _SHORTEST), _LONGEST)
+        steps = rate * max(min(max(wanted, self._start / _START), left), 0.0)
+        if self._most and self._bytes_a_step > 0:
+            steps = min(steps, self._most / 2 / self._bytes_a_step)
+        return int(min(max(steps, 1), _MOST_STEPS))
+
+    def took(self, steps: int, seconds: float, size: int) -> None:
+        """A run took so many steps and seconds of a processor, and printed so many bytes."""
+        self._start = min(self._start, seconds)
+        self._steps = _FADES * self._steps + steps
+        self._seconds = _FADES * self._seconds + max(seconds - self._start, seconds / 10)
+        if steps:
+            self._bytes_a_step = max(_FADES * self._bytes_a_step, size / steps)
+
+    def was_too_long(self, steps: int) -> None:
+        """A run of so many steps had more than `most` bytes."""
+        self._bytes_a_step = max(self._bytes_a_step, 4 * self._most / steps)

@@ -1,0 +1,55 @@
+"""The text of a span, as dlx-span writes it: the solutions, if they are listed, and a line that tells what it did."""
+
+from __future__ import annotations
+
+import re
+from typing import NamedTuple
+
+from ..errors import SearchFault
+from .rows import Row, Span, Until, precedes, read, read_until, word_of
+
+_ROW = rb"(-|[0-9]+(?:\.[0-9]+)*)"
+_NUMBER = rb"([0-9]{1,40})"
+_LINE = rb"from %s until %s(?: of %s)? solutions %s steps %s\n\Z" % (_ROW, _ROW, _ROW, _NUMBER, _NUMBER)
+_RECORD = re.compile(_LINE)
+
+
+class Record(NamedTuple):
+    """What a run did: it searched from a row until another one.
+
+    `branches` are those of each level of the row where it stopped for want of steps; none where it did the whole.
+    """
+
+    start: Row
+    until: Until
+    branches: Row
+    solutions: int
+    steps: int
+
+
+def of_text(text: bytes, span: Span, listed: bool) -> Record:
+    """The record of a text that a run over this span gave. Raises `SearchFault`."""
+    line = text[text.rfind(b"\n", 0, max(len(text) - 1, 0)) + 1 :]
+    found = _RECORD.match(line)
+    if found is None:
+        raise SearchFault("dlx-span gave a text without a record")
+    start, until = found.group(1).decode(), found.group(2).decode()
+    branches = found.group(3)
+    record = Record(
+        read(start),
+        read_until(until),
+        () if branches is None else read(branches.decode()),
+        int(found.group(4)),
+        int(found.group(5)),
+    )
+    head = f"from {word_of(span.start)}\n".encode()
+    is_right = record.start == span.start and (text.startswith(head) if listed else len(line) == len(text))
+    if branches is None:
+        is_right = is_right and record.until == span.until
+    else:
+        stop = record.until or ()
+        is_right = is_right and span.start < stop and precedes(stop, span.until) and len(record.branches) == len(stop)
+    if not is_right:
+        asked = f"from {word_of(span.start)} until {word_of(span.until)}"
+        raise SearchFault(f"dlx-span gave a text that isn't of the span {asked}")
+    return record

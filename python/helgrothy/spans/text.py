@@ -1,0 +1,37 @@
+"""What a search needs to know of a problem's text, in one pass: which program it is for, and which lines are ignored.
+
+The programs judge the text; what is told here of a text with a fault is nothing.
+"""
+
+from __future__ import annotations
+
+from typing import Iterator, List, Tuple
+
+from ..syntax import read
+
+
+def kind_of(problem: bytes) -> int:
+    """The program for a problem: 3 where an item has bounds, else 2 where an option has a colour, else 1."""
+    items, options = _lines(problem)
+    if any(b"|" in token.lstrip(b"|") for token in items.split()):
+        return 3
+    return 2 if any(b":" in line for _, line in options) else 1
+
+
+def ignored(problem: bytes, kind: int) -> List[int]:
+    """The lines of options without a primary item. Asks that the text has no fault for the program dlx`kind`."""
+    items, options = _lines(problem)
+    if b"|" not in items:
+        return []
+    primary = {name.encode("utf-8", "surrogateescape") for name, item in read(items, kind).items.items() if item.bounds}
+    return [number for number, line in options if primary.isdisjoint(line.split())]
+
+
+def _lines(problem: bytes) -> Tuple[bytes, Iterator[Tuple[int, bytes]]]:
+    """The item line, and the lines of options with their numbers."""
+    lines = (
+        (number, line)
+        for number, line in enumerate(problem.split(b"\n"), 1)
+        if line.strip() and not line.lstrip().startswith(b"|")
+    )
+    return next(lines, (0, b""))[1], lines

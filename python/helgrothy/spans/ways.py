@@ -1,0 +1,61 @@
+"""Rows at which a search may be cut, for queues that run programs and nothing else."""
+
+from __future__ import annotations
+
+import heapq
+import time
+from typing import Dict, List, Tuple
+
+from . import record as records
+from .rows import Row, Span, place, word_of
+from .span import Task, run
+
+_SECONDS = 1.0
+_Node = Tuple[float, Row, Row]
+
+
+def rows(problem: bytes, kind: int, count: int, seconds: float = _SECONDS) -> List[Row]:
+    """Up to so many rows, rising, that cut the tree into shares as equal as can be told within that time.
+
+    The node of the largest share is looked at first: a run of one step tells the number of its branches. Raises
+    `ProgramFailed`, `ProgramNotFound` and `SearchFault`.
+    """
+    deadline = time.monotonic() + seconds
+    # Nodes that may be looked at, the largest first: the share, the row, and the branches of its levels.
+    open_nodes: List[_Node] = [(-1.0, (), ())]
+    leaves: Dict[Row, Row] = {(): ()}
+    while open_nodes and len(leaves) <= _ENOUGH * count and time.monotonic() < deadline:
+        share, row, branches = heapq.heappop(open_nodes)
+        below = _branches(problem, kind, row, len(row))
+        if below < 1:
+            continue
+        del leaves[row]
+        for k in range(1, below + 1):
+            leaves[(*row, k)] = (*branches, below)
+            heapq.heappush(open_nodes, (share / below, (*row, k), (*branches, below)))
+    edges = sorted((row, place(row, branches)) for row, branches in leaves.items())[1:]
+    return _even(edges, count)
+
+
+# Of so many nodes for each row that is wanted the best are taken.
+_ENOUGH = 4
+
+
+def _branches(problem: bytes, kind: int, row: Row, level: int) -> int:
+    """The branches of the node at a row, or 0 where there is none or it is a solution."""
+    task = Task(kind=kind, listed=False, problem=problem, start=word_of(row), until="-", steps=1, most=0)
+    record = records.of_text(run(task).text, Span(row, None, 0.0, 1.0), listed=False)
+    stop = record.until or ()
+    return record.branches[level] if len(stop) > level and stop[:level] == row else 0
+
+
+def _even(edges: List[Tuple[Row, float]], count: int) -> List[Row]:
+    """So many of the rows, whose places are as even as can be."""
+    if len(edges) <= count:
+        return [row for row, _ in edges]
+    taken: List[Row] = []
+    for number, (row, at) in enumerate(edges):
+        is_due = at >= (len(taken) + 1) / (count + 1)
+        if len(taken) < count and (is_due or len(edges) - number <= count - len(taken)):
+            taken.append(row)
+    return taken

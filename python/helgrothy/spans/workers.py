@@ -1,0 +1,138 @@
+"""Workers: this machine's processors, another executor of `concurrent.futures`, or those of Dask."""
+
+from __future__ import annotations
+
+import importlib
+import inspect
+import logging
+import os
+import time
+from concurrent.futures import Executor, Future, ThreadPoolExecutor
+from types import TracebackType
+from typing import Any, Dict, Optional, Type
+
+from ..errors import SearchFault
+from .loop import submitting
+from .span import Ran, Stop, Task, run
+
+# So many seconds a scheduler may take to answer.
+_PATIENCE = 10
+_SELDOM = 2.0
+
+
+def processors() -> int:
+    """How many processors this process may use."""
+    return len(os.sched_getaffinity(0)) if hasattr(os, "sched_getaffinity") else os.cpu_count() or 1
+
+
+class Workers:
+    """Those of an executor. As a context manager it lets nothing go on that it began here."""
+
+    def __init__(self, executor: Executor, jobs: int) -> None:
+        self._submit = submitting(executor)
+        self._jobs = jobs
+
+    def submit(self, task: Task) -> Future[Ran]:
+        return self._submit(task)
+
+    def count(self) -> int:
+        return self._jobs
+
+    def __enter__(self) -> Workers:
+        return self
+
+    def __exit__(
+        self, kind: Optional[Type[BaseException]], error: Optional[BaseException], trace: Optional[TracebackType]
+    ) -> None:
+        self.close()
+
+    def close(self) -> None:
+        """The executor is its owner's."""
+
+
+class Own(Workers):
+    """So many processors of this machine: a thread for each, which waits for its program."""
+
+    def __init__(self, jobs: int) -> None:
+        self._stop = Stop()
+        self._executor = ThreadPoolExecutor(jobs)
+        super().__init__(self._executor, jobs)
+
+    def submit(self, task: Task) -> Future[Ran]:
+        return self._executor.submit(run, task, self._stop)
+
+    def close(self) -> None:
+        self._stop.set()
+        self._executor.shutdown(wait=True, cancel_futures=True)
+
+
+class Dask(Workers):
+    """The workers of a Dask cluster, as many as there are at the time. Raises `SearchFault`.
+
+    The address is that of the scheduler, or the name of the file that it has written (`--scheduler-file`).
+    """
+
+    def __init__(self, address: str) -> None:
+        try:
+            distributed: Any = importlib.import_module("distributed")
+        except ImportError:
+            raise SearchFault("--dask needs Dask's package distributed (python3-distributed of Debian)") from None
+        # What it would tell of lost workers on standard error isn't of the listing's messages.
+        logging.disable(logging.CRITICAL)
+        try:
+            self._client = distributed.Client(**_address(address), timeout=_PATIENCE)
+        except SearchFault:
+            raise
+        except Exception as error:
+            raise SearchFault(f"no scheduler of Dask answers at {address}: {error}") from None
+        self._known = 1
+        self._looked = -_SELDOM
+        super().__init__(self._client.get_executor(pure=False), 1)
+
+    def submit(self, task: Task) -> Future[Ran]:
+        try:
+            return super().submit(task)
+        except Exception as error:
+            raise SearchFault(f"Dask takes no more work: {error}") from None
+
+    def count(self) -> int:
+        # To ask the scheduler takes a while.
+        if time.monotonic() >= self._looked + _SELDOM:
+            all_of_them = {"n_workers": -1} if _takes_number(self._client.scheduler_info) else {}
+            try:
+                workers = self._client.scheduler_info(**all_of_them)["workers"].values()
+                self._known = max(sum(worker["nthreads"] for worker in workers), 1)
+            except Exception:
+                raise SearchFault("the scheduler of Dask is gone; the same command goes on") from None
+            self._looked = time.monotonic()
+        return self._known
+
+    def close(self) -> None:
+        try:
+            self._client.close(timeout=2)
+        except Exception:
+            # Whoever has stopped the scheduler needs no farewell.
+            pass
+
+
+def _address(address: str) -> Dict[str, str]:
+    """How Dask is told of a scheduler. Raises `SearchFault` where its file doesn't come."""
+    if not address.endswith(".json"):
+        return {"address": address}
+    begun = time.monotonic()
+    while not os.path.exists(address):
+        if time.monotonic() - begun > _PATIENCE:
+            raise SearchFault(f"{address}: no such file")
+        time.sleep(0.1)
+    return {"scheduler_file": address}
+
+
+def _takes_number(scheduler_info: Any) -> bool:
+    """Whether Dask names a few workers alone where it isn't asked for all."""
+    return "n_workers" in inspect.signature(scheduler_info).parameters
+
+
+def executor_jobs(executor: Executor) -> int:
+    """How many workers an executor says that it has, or else as many as this machine has processors."""
+    known = getattr(executor, "_max_workers", None)
+    return known if isinstance(known, int) and known > 0 else processors()

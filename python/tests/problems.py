@@ -1,0 +1,32 @@
+"""Random problems of all kinds, as texts."""
+
+import random
+
+COLOURS = ["a", "b", "red", "x:y", "|"]
+
+
+def problem_of(rng: random.Random, kind: int, items: int = 7, options: int = 18, share: float = 0.3) -> bytes:
+    """A problem's text, with at most so many primary items and options, which hold this share of the items."""
+    primary = [f"i{n}" for n in range(rng.randint(1, items))]
+    secondary = [f"s{n}" for n in range(rng.randint(0, 4))]
+    tokens = []
+    for name in primary:
+        if kind < 3 or rng.random() < 0.5:
+            tokens.append(rng.choice([name, "1|" + name, "1:1|" + name]) if kind == 3 else name)
+        else:
+            low = rng.randint(0, 2)
+            tokens.append(f"{low}:{rng.randint(max(low, 1), 3)}|{name}")
+    bar = rng.choice([" | ", " |"]) + " ".join(secondary) if secondary else ""
+    lines = ["| a comment"] if rng.random() < 0.3 else []
+    lines.append("\t".join(tokens) + bar)
+    for _ in range(rng.randint(0, options)):
+        uses = [name for name in primary if rng.random() < share]
+        for name in secondary:
+            if rng.random() < share:
+                is_coloured = kind > 1 and rng.random() < 0.7
+                uses.append(name + (":" + rng.choice(COLOURS) if is_coloured else ""))
+        rng.shuffle(uses)
+        lines.append(rng.choice(["", " "]) + " ".join(uses) + rng.choice(["", "", "\r"]))
+        if rng.random() < 0.05:
+            lines.append(rng.choice(["", "| i0 is a comment"]))
+    return ("\n".join(lines) + rng.choice(["\n", "\n", ""])).encode()

@@ -1,0 +1,554 @@
+"""Searches in spans: rows, cuts, what a folder refuses, the loop over executors, and the commands."""
+
+import contextlib
+import io
+import itertools
+import os
+import random
+import shutil
+import subprocess
+import sys
+import tempfile
+import threading
+import unittest
+from concurrent.futures import Executor, Future, ProcessPoolExecutor, ThreadPoolExecutor
+from unittest import mock
+
+from helgrothy import ListingFault, OutOfTime, Problem, ProgramFailed, ProgramNotFound, SearchFault, make, programs
+from helgrothy.__main__ import main
+from helgrothy.spans import folder as folders
+from helgrothy.spans import loop, progress, record, rows, show, span, text, ways
+from helgrothy.spans.commands import NOT_DONE, progress_main
+from helgrothy.spans.folder import Folder
+from helgrothy.spans.loop import Job, Kept, Loop
+from helgrothy.spans.pace import Pace
+from helgrothy.spans.rows import WHOLE, Span, cut, read, word_of
+from tests.problems import problem_of
+
+QUEENS = make.queens.problem(7).text.encode()
+
+
+def whole(kind: int, problem: bytes, *words: str):
+    """The listing and the messages of a search in one."""
+    run = subprocess.run([programs.find(f"dlx{kind}"), *words], input=problem, capture_output=True)
+    assert run.returncode == 0, run.stderr
+    return run.stdout, run.stderr.decode()
+
+
+def texts(kind: int, problem: bytes, listed: bool, edges) -> bytes:
+    """The texts of spans between rows, joined: what dlx-join prints and says."""
+    found = [
+        span.run(span.Task(kind, listed, problem, word_of(start), word_of(until), 0, 0)).text
+        for start, until in zip([(), *edges], [*edges, None])
+    ]
+    words = [programs.find("dlx-join"), "m1" if listed else "m0"]
+    joined = subprocess.run(words, input=b"".join(found), capture_output=True)
+    assert joined.returncode == 0, joined.stderr
+    return joined.stdout, joined.stderr.decode()
+
+
+class Rows(unittest.TestCase):
+    def test_words(self):
+        right = (("-", ()), ("3.1.7", (3, 1, 7)), ("0", (0,)), ("4294967295", (4294967295,)), ("007.2", (7, 2)))
+        for word, row in right:
+            self.assertEqual(read(word), row)
+        self.assertEqual([word_of(()), word_of(None), word_of((3, 1))], ["-", "-", "3.1"])
+        self.assertIsNone(rows.read_until("-"))
+        for word in ("", ".", "3.", ".3", "3..1", "-1", "4294967296", "9" * 5000, "3 1", "3\n", "\u0663", "1_0"):
+            with self.subTest(word=word), self.assertRaises(SearchFault):
+                read(word)
+
+    def test_places_rise(self):
+        rng = random.Random(1)
+        branches = (3, 4, 2, 5)
+        found = sorted(tuple(rng.randint(1, n) for n in branches[: rng.randint(0, 4)]) for _ in range(200))
+        places = [rows.place(row, branches) for row in found]
+        self.assertEqual(places, sorted(places))
+        self.assertEqual((places[0], max(places) < 1), (0.0, True))
+
+    def test_cut(self):
+        """Pieces meet, rise and are as many as can be."""
+        rng = random.Random(2)
+        for _ in range(2000):
+            branches = tuple(rng.randint(1, 6) for _ in range(rng.randint(1, 5)))
+            start = tuple(rng.randint(1, n) for n in branches)
+            until = rng.choice([None, tuple(rng.randint(1, 6) for _ in range(rng.randint(1, 5)))])
+            if until is not None and until <= start:
+                continue
+            wanted = rng.randint(1, 20)
+            pieces = cut(Span(start, until, 0.0, 0.1), branches, wanted)
+            self.assertLessEqual(len(pieces), wanted)
+            self.assertEqual((pieces[0].start, pieces[-1].until), (start, until))
+            for one, other in zip(pieces, pieces[1:]):
+                self.assertEqual((one.until, one.ends), (other.start, other.begins))
+                self.assertLess(one.start, other.start)
+            self.assertTrue(until is None or pieces[-1].start < until)
+        self.assertEqual([piece.start for piece in cut(WHOLE._replace(start=(1,)), (8,), 4)], [(1,), (3,), (5,), (7,)])
+        self.assertEqual(len(cut(WHOLE._replace(start=(1, 1)), (2, 3), 9)), 4)
+        self.assertEqual(len(cut(WHOLE._replace(start=(1,)), (1,), 9)), 1)
+
+    def test_gaps(self):
+        self.assertEqual(folders.gaps([]), [WHOLE])
+        done = [Span((), (2,), 0, 0.5), Span((3,), (4,), 0.6, 0.7)]
+        self.assertEqual(folders.gaps(done), [Span((2,), (3,), 0.5, 0.6), Span((4,), None, 0.7, 1.0)])
+        self.assertEqual(folders.gaps([*done, Span((4,), None, 0.7, 1.0)]), [Span((2,), (3,), 0.5, 0.6)])
+
+    def test_rows_that_cut(self):
+        rng = random.Random(3)
+        for kind in (1, 2, 3):
+            for _ in range(8):
+                problem = problem_of(rng, kind)
+                edges = ways.rows(problem, kind, rng.randint(1, 12))
+                self.assertEqual(edges, sorted(set(edges)))
+                self.assertEqual(texts(kind, problem, True, edges)[0], whole(kind, problem, "m1")[0])
+        self.assertEqual(len(ways.rows(make.queens.problem(9).text.encode(), 1, 50, 60)), 50)
+
+
+class Records(unittest.TestCase):
+    def test_what_is_refused(self):
+        part = Span((3,), (4, 1), 0.0, 1.0)
+        right = [
+            (b"from 3 until 4.1 solutions 7 steps 9\n", False, ((4, 1), (), 7)),
+            (b"from 3 until 3.2.1 of 8.9.2 solutions 0 steps 9\n", False, ((3, 2, 1), (8, 9, 2), 0)),
+            (b"from 3\n1:\n a (1 of 1)\nfrom 3 until 4.1 solutions 1 steps 9\n", True, ((4, 1), (), 1)),
+        ]
+        for given, listed, wanted in right:
+            found = record.of_text(given, part, listed)
+            self.assertEqual((found.until, found.branches, found.solutions), wanted)
+            for at in range(len(given)):
+                with self.assertRaises(SearchFault):
+                    record.of_text(given[:at], part, listed)
+        for given in (
+            b"from 3 until 4 solutions 7 steps 9\n",
+            b"from 2 until 4.1 solutions 7 steps 9\n",
+            b"from 3 until 4.1 of 8.8 solutions 7 steps 9\n",
+            b"from 3 until 3 of 8 solutions 7 steps 9\n",
+            b"from 3 until 5 of 8 solutions 7 steps 9\n",
+            b"from 3 until 3.1 of 8 solutions 7 steps 9\n",
+            b"from 3 until 4.1 solutions -7 steps 9\n",
+            b"from 3\nfrom 3 until 4.1 solutions 7 steps 9\n",
+            b"\n",
+        ):
+            with self.subTest(given=given), self.assertRaises(SearchFault):
+                record.of_text(given, part, False)
+
+
+class Paces(unittest.TestCase):
+    def test_steps_follow_the_speed(self):
+        pace = Pace(0)
+        few = pace.steps(0.0, float("inf"))
+        pace.took(few, 0.004, 50)
+        for _ in range(30):
+            steps = pace.steps(1.0, float("inf"))
+            pace.took(steps, 0.004 + steps / 500_000, 50)
+        self.assertAlmostEqual(pace.steps(1.0, float("inf")) / 500_000, 0.1, delta=0.02)
+        self.assertAlmostEqual(pace.steps(16.0, float("inf")) / 500_000, 1.0, delta=0.1)
+        self.assertAlmostEqual(pace.steps(1e6, float("inf")) / 500_000, 10, delta=1)
+        self.assertLessEqual(pace.steps(1e6, 0.5) / 500_000, 0.6)
+        self.assertEqual(pace.steps(1e6, -1.0), 1)
+
+    def test_a_slow_start(self):
+        pace = Pace(0)
+        for _ in range(30):
+            steps = pace.steps(0.1, float("inf"))
+            pace.took(steps, 2.0 + steps / 500_000, 50)
+        self.assertGreater(pace.steps(0.1, float("inf")) / 500_000, 20)
+
+    def test_texts_that_are_too_long(self):
+        pace = Pace(1000)
+        pace.took(100, 0.001, 100)
+        self.assertLessEqual(pace.steps(1.0, 1.0), 500)
+        pace.was_too_long(400)
+        self.assertLessEqual(pace.steps(1.0, 1.0), 50)
+
+
+class Texts(unittest.TestCase):
+    def test_kinds_and_ignored_lines(self):
+        for given, kind in (
+            (b"A B | x\nA x\n", 1),
+            (b"| 1:2\n\nA B |x\nA x:r\n", 2),
+            (b"A 2|B\nA\n", 3),
+            (b"1|A\nA x:r\n", 3),
+            (b"", 1),
+            (b"| alone", 1),
+        ):
+            self.assertEqual(text.kind_of(given), kind, given)
+        rng = random.Random(4)
+        for kind in (1, 2, 3):
+            for _ in range(20):
+                problem = problem_of(rng, kind)
+                told = whole(kind, problem)[1].splitlines()[:-1]
+                found = [f"Option ignored (no primary items): line {line}" for line in text.ignored(problem, kind)]
+                self.assertEqual(found, told)
+
+
+class Reversed(Executor):
+    """Runs tasks when it is asked for more of them, the last first; some fail at first."""
+
+    def __init__(self, fails: float = 0.0, most: int = 6):
+        self._waiting = []
+        self._rng = random.Random(5)
+        self._fails, self._most = fails, most
+
+    def submit(self, act, *given, **named):
+        future: Future = Future()
+        self._waiting.append((future, act, given))
+        if len(self._waiting) >= self._most:
+            self._go()
+        else:
+            threading.Timer(0.02, self._go).start()
+        return future
+
+    def _go(self):
+        while self._waiting:
+            try:
+                future, act, given = self._waiting.pop()
+            except IndexError:
+                return
+            try:
+                if self._rng.random() < self._fails:
+                    raise RuntimeError("a worker was lost")
+                future.set_result(act(*given))
+            except BaseException as error:
+                future.set_exception(error)
+
+
+def taken(found, kept: Kept) -> None:
+    found[kept.span.start] = kept
+
+
+class Loops(unittest.TestCase):
+    def test_executors(self):
+        problem = make.queens.problem(8)
+        self.assertEqual(problem.count(jobs=1), 92)
+        self.assertEqual(problem.count(jobs=3), 92)
+        with ThreadPoolExecutor(2) as executor:
+            self.assertEqual(problem.count(executor=executor), 92)
+        with ProcessPoolExecutor(2) as executor:
+            self.assertEqual(problem.count(executor=executor, jobs=2), 92)
+        self.assertEqual(problem.count(executor=Reversed(), jobs=3), 92)
+        self.assertEqual(problem.count(executor=Reversed(0.2), jobs=3), 92)
+        with self.assertRaisesRegex(SearchFault, "a worker was lost"):
+            problem.count(executor=Reversed(1.0), jobs=3)
+        for given in ({"limit": 3, "jobs": 2}, {"jobs": 0}):
+            with self.assertRaises(ValueError):
+                problem.count(**given)
+
+    def test_kinds_and_names(self):
+        rng = random.Random(6)
+        for kind in (1, 2, 3):
+            for _ in range(5):
+                problem = Problem.parse(problem_of(rng, kind))
+                self.assertEqual(problem.count(jobs=2), problem.count())
+
+    def test_progress(self):
+        told = []
+        with mock.patch.object(loop, "_TICK", 0.0):
+            self.assertEqual(make.queens.problem(9).count(jobs=2, progress=told.append), 352)
+        self.assertTrue(told)
+        shares, solutions = [one.share for one in told], [one.solutions for one in told]
+        self.assertEqual((shares, solutions), (sorted(shares), sorted(solutions)))
+        self.assertTrue(all(0 <= share <= 1 for share in shares))
+        line = r"\A[0-9.]+ %   [0-9,]+ solutions   [0-9:]+(, about [0-9:]+ left)?   [0-2] at work\Z"
+        self.assertRegex(str(told[-1]), line)
+
+    def test_seconds(self):
+        with self.assertRaises(OutOfTime):
+            make.queens.problem(17).count(jobs=2, seconds=0.3)
+        self.assertEqual(make.queens.problem(6).count(jobs=2, seconds=60), 4)
+
+    def test_random_cuts_give_the_listing(self):
+        """Any number of steps, and any order in which spans come back."""
+        rng = random.Random(7)
+        for kind, _ in itertools.product((1, 2, 3), range(6)):
+            problem = problem_of(rng, kind)
+            found = {}
+            with mock.patch.object(Pace, "steps", lambda *_: rng.randint(1, 9)):
+                job = Job(problem, kind, listed=True)
+                executor = Reversed(0.05, rng.randint(1, 9))
+                search = Loop(job, loop.submitting(executor), lambda: 3, lambda kept: taken(found, kept), None)
+                self.assertTrue(search.search([WHOLE]))
+            listing = b"".join(kept.text for _, kept in sorted(found.items()))
+            joined = subprocess.run([programs.find("dlx-join"), "m1"], input=listing, capture_output=True)
+            self.assertEqual((joined.returncode, joined.stdout), (0, whole(kind, problem, "m1")[0]), joined.stderr)
+            self.assertAlmostEqual(search.share, 1.0)
+
+    def test_long_texts_and_long_rows(self):
+        problem = make.queens.problem(6).text.encode()
+        for changed in ({"MOST_TEXT": 200}, {"_LONGEST_WORD": 3}, {"MOST_TEXT": 200, "_LONGEST_WORD": 3}):
+            found = {}
+            with mock.patch.multiple(loop, **changed), mock.patch("helgrothy.spans.pace._FIRST", 5):
+                submit = loop.submitting(ThreadPoolExecutor(2))
+                search = Loop(Job(problem, 1, True), submit, lambda: 2, lambda kept: taken(found, kept), None)
+                self.assertTrue(search.search([WHOLE]))
+            listing = b"".join(kept.text for _, kept in sorted(found.items()))
+            joined = subprocess.run([programs.find("dlx-join"), "m1"], input=listing, capture_output=True)
+            self.assertEqual(joined.stdout, whole(1, problem, "m1")[0])
+
+    def test_workers_of_another_version(self):
+        with mock.patch.object(loop, "__version__", "0.0.9"), self.assertRaisesRegex(SearchFault, "version"):
+            make.queens.problem(6).count(jobs=1)
+
+    def test_a_fault_comes_at_once(self):
+        job = Job(b"A\nB\n", 1, False)
+        search = Loop(job, loop.submitting(Reversed(0.0, 1)), lambda: 1, lambda _: None, None)
+        with self.assertRaises(ProgramFailed) as raised:
+            search.search([WHOLE])
+        self.assertEqual((raised.exception.status, raised.exception.message), (2, "Line 2: unknown item."))
+
+    def test_no_program(self):
+        with mock.patch.object(span, "find", side_effect=ProgramNotFound("dlx-span")), self.assertRaises(ProgramNotFound):
+            make.queens.problem(6).count(jobs=1)
+
+
+class Folders(unittest.TestCase):
+    def setUp(self) -> None:
+        top = tempfile.TemporaryDirectory()
+        self.addCleanup(top.cleanup)
+        self.path = os.path.join(top.name, "q.search")
+        self.job = Job(QUEENS, 1, listed=False)
+
+    def fill(self, job=None, flushes=1):
+        """Some spans that are done, of which the second is left."""
+        job = job or self.job
+        with Folder(self.path, job) as folder:
+            for start, until, begins, ends in (((), (2,), 0, 0.2), ((3,), (4,), 0.4, 0.6), ((4,), None, 0.6, 1)):
+                task = span.Task(1, job.listed, QUEENS, word_of(start), word_of(until), 0, 0)
+                ran = span.run(task)
+                told = record.of_text(ran.text, Span(start, until, begins, ends), job.listed)
+                folder.keep(Kept(Span(start, until, begins, ends), ran.text, told.solutions, 0.5))
+                if flushes > 1:
+                    folder.flush()
+            folder.flush()
+        return sorted(name for name in os.listdir(self.path) if name.endswith(".span"))
+
+    def test_files_follow_one_another(self):
+        self.assertEqual(len(self.fill()), 2)
+        with Folder(self.path, self.job) as folder:
+            self.assertEqual(folder.todo(), [Span((2,), (3,), 0.2, 0.4)])
+            self.assertAlmostEqual(folder.share, 0.8)
+            self.assertEqual(folder.seconds, 1.5)
+            folder.check()
+            gap = folder.todo()[0]
+            ran = span.run(span.Task(1, False, QUEENS, "2", "3", 0, 0))
+            folder.keep(Kept(gap, ran.text, record.of_text(ran.text, gap, False).solutions, 0.5))
+            folder.flush()
+            self.assertEqual((folder.todo(), folder.solutions), ([], 40))
+            # What is counted is put together.
+            self.assertEqual(len([name for name in os.listdir(self.path) if name.endswith(".span")]), 1)
+            self.assertEqual(len(list(folder.chain())), 1)
+            folder.remove()
+        self.assertFalse(os.path.exists(self.path))
+
+    def test_a_listing_stays_in_files(self):
+        self.assertEqual(len(self.fill(Job(QUEENS, 1, True), flushes=3)), 3)
+
+    def test_another_search_is_refused(self):
+        self.fill()
+        for job, what in (
+            (Job(QUEENS + b"\n", 1, False), "another problem"),
+            (Job(QUEENS, 2, False), "the program dlx1, not dlx2"),
+            (Job(QUEENS, 1, True), "a search that counts solutions"),
+        ):
+            with self.assertRaisesRegex(SearchFault, f"{self.path}: it is of {what}"):
+                Folder(self.path, job)
+        told = "of version 0.1.0"
+        with mock.patch.object(folders, "__version__", "0.0.9"), self.assertRaisesRegex(SearchFault, told):
+            Folder(self.path, self.job)
+
+    def test_one_command_holds_it(self):
+        with Folder(self.path, self.job):
+            with self.assertRaisesRegex(SearchFault, "another command is at work"):
+                Folder(self.path, self.job)
+            with self.assertRaisesRegex(SearchFault, "another command is at work"):
+                Folder(self.path, is_read=True)
+            self.assertTrue(folders.is_at_work(self.path))
+            self.assertEqual(folders.Look(self.path).todo(), [WHOLE])
+        self.assertFalse(folders.is_at_work(self.path))
+        with Folder(self.path, is_read=True), Folder(self.path, is_read=True):
+            pass
+        error = OSError(37, "No locks available")
+        told = "No locks available.*--folder"
+        with mock.patch("fcntl.flock", side_effect=error), self.assertRaisesRegex(SearchFault, told):
+            Folder(self.path, self.job)
+
+    def test_strange_folders(self):
+        with self.assertRaisesRegex(SearchFault, "no such folder"):
+            Folder(self.path, is_read=True)
+        os.mkdir(self.path)
+        with self.assertRaisesRegex(SearchFault, "no folder of a search"):
+            Folder(self.path, is_read=True)
+        with open(os.path.join(self.path, "mine.txt"), "w"):
+            pass
+        with self.assertRaisesRegex(SearchFault, "it is no folder of a search, and isn't empty"):
+            Folder(self.path, self.job)
+        os.remove(os.path.join(self.path, "mine.txt"))
+        with Folder(self.path, self.job) as folder:
+            with open(os.path.join(self.path, "mine.txt"), "w"):
+                pass
+            folder.remove()
+        self.assertEqual(os.listdir(self.path), ["mine.txt"])
+        shutil.rmtree(self.path)
+        with open(self.path, "w"):
+            pass
+        with self.assertRaisesRegex(SearchFault, "it is no folder"):
+            Folder(self.path, self.job)
+
+    def test_each_changed_byte_is_told(self):
+        """Of a file of spans: by the file's name, or, where the digest alone tells, when it is read."""
+        name = os.path.join(self.path, self.fill()[0])
+        with open(name, "rb") as file:
+            right = file.read()
+        for at in range(len(right)):
+            before, after = right[:at], right[at:]
+            for changed in (before, before + bytes([right[at] ^ 1]) + after[1:], before + b"0" + after):
+                with open(name, "wb") as file:
+                    file.write(changed)
+                with self.assertRaisesRegex(SearchFault, name), Folder(self.path, self.job) as folder:
+                    folder.check()
+                    if changed == right:
+                        raise SearchFault(name)
+
+    def test_a_file_of_another_search_is_told(self):
+        name = self.fill()[0]
+        other = f"{self.path}.other"
+        shutil.move(self.path, other)
+        with Folder(self.path, Job(QUEENS + b"| the same\n", 1, False)):
+            pass
+        shutil.copy(os.path.join(other, name), self.path)
+        with self.assertRaisesRegex(SearchFault, f"{name}: it is damaged, or of another search"):
+            with Folder(self.path, is_read=True) as folder:
+                folder.check()
+
+    def test_a_file_twice(self):
+        name = self.fill()[0]
+        shutil.copy(os.path.join(self.path, name), os.path.join(self.path, "00000077.span"))
+        with Folder(self.path, self.job) as folder:
+            self.assertAlmostEqual(folder.share, 0.8)
+
+    def test_what_is_no_file(self):
+        name = os.path.join(self.path, self.fill()[0])
+        os.remove(name)
+        for make_it, what in (
+            (lambda: os.symlink("/dev/zero", name), "it is a link"),
+            (lambda: os.symlink(name, name), "it is a link"),
+            (lambda: os.mkfifo(name), "it is no file"),
+            (lambda: os.mkdir(name), "it is no file"),
+        ):
+            make_it()
+            with self.assertRaisesRegex(SearchFault, f"{name}: {what}"):
+                Folder(self.path, self.job)
+            os.rmdir(name) if os.path.isdir(name) and not os.path.islink(name) else os.remove(name)
+
+
+class Commands(unittest.TestCase):
+    def setUp(self) -> None:
+        top = tempfile.TemporaryDirectory()
+        self.addCleanup(top.cleanup)
+        self.path = os.path.join(top.name, "q.dlx")
+        with open(self.path, "wb") as file:
+            file.write(QUEENS)
+
+    def run_it(self, *words):
+        """A command as a process: its status, standard output and standard error."""
+        package = os.path.dirname(os.path.dirname(os.path.abspath(__file__)))
+        done = subprocess.run([sys.executable, "-m", "helgrothy", *words], capture_output=True, cwd=package)
+        return done.returncode, done.stdout, done.stderr.decode()
+
+    def test_search(self):
+        listing, told = whole(1, QUEENS, "m1")
+        self.assertEqual(self.run_it("search", self.path), (0, b"", told))
+        self.assertEqual(self.run_it("search", self.path, "--list", "--jobs", "2"), (0, listing, told))
+        self.assertEqual(os.listdir(os.path.dirname(self.path)), ["q.dlx"])
+        folder = f"{self.path}.found"
+        for _ in range(2):
+            self.assertEqual(self.run_it("search", self.path, "--list", "--folder", folder), (0, listing, told))
+        self.assertEqual(self.run_it("result", folder, "--list"), (0, listing, told))
+        self.assertEqual(self.run_it("result", folder), (0, b"", told))
+        status, printed, message = self.run_it("status", folder)
+        self.assertEqual((status, message), (0, ""))
+        self.assertRegex(printed.decode(), r"\A100 % done: 40 solutions, [0-9.]+ seconds of a processor\n\Z")
+        status, printed, message = self.run_it("search", self.path, "--folder", folder)
+        self.assertEqual((status, printed), (2, b""))
+        self.assertIn("a search that lists solutions", message)
+
+    def test_not_done(self):
+        with open(self.path, "wb") as file:
+            file.write(make.queens.problem(17).text.encode())
+        folder = f"{self.path}.search"
+        status, _, told = self.run_it("search", self.path, "--seconds", "0.5")
+        self.assertEqual(status, NOT_DONE)
+        line = r"\Ahelgrothy: not done in 0.5 seconds: [0-9.]+ %; the same command goes on \(.*q.dlx.search\)\n\Z"
+        self.assertRegex(told, line)
+        self.assertEqual(self.run_it("result", folder)[:2], (NOT_DONE, b""))
+        self.assertEqual(self.run_it("result", folder, "--list")[:2], (NOT_DONE, b""))
+        line = r"\A[0-9.]+ % done: [0-9,]+ solutions, .*\nleft: about .*\n\Z"
+        self.assertRegex(self.run_it("status", folder)[1].decode(), line)
+
+    def test_faults(self):
+        for given, kind, message in (
+            (b"A\nB\n", "dlx1", "Line 2: unknown item.\n"),
+            (b"A | x\nA x:y\n", "dlx1", "Line 2: colour not allowed here.\n"),
+            (b"", "dlx3", "Line 1: no items.\n"),
+        ):
+            with open(self.path, "wb") as file:
+                file.write(given)
+            self.assertEqual(self.run_it("search", self.path, "--for", kind), (2, b"", message))
+            self.assertEqual(self.run_it("rows", self.path, "--for", kind), (2, b"", message))
+            self.assertEqual(os.listdir(os.path.dirname(self.path)), ["q.dlx"])
+        for words in (
+            ["search", "-"],
+            ["search", f"{self.path}.no"],
+            ["status", self.path],
+            ["result", self.path],
+            ["search"],
+            ["search", self.path, "--jobs", "0"],
+            ["search", self.path, "--seconds", "0"],
+            ["search", self.path, "--jobs", "2", "--dask", "x"],
+            ["rows", self.path, "--count", "0"],
+        ):
+            with self.subTest(words=words):
+                status, printed, told = self.run_it(*words)
+                self.assertEqual((status, printed), (2, b""))
+                self.assertNotIn("Traceback", told)
+
+    def test_nobody_sees_the_progress(self):
+        with open("/dev/full", "w") as full, mock.patch.object(sys, "stderr", full):
+            shown = show.Shown(False)
+            shown._last = -100.0
+            shown.tell(loop.Progress(0.5, 7, 1.0, 1.0, 4))
+            self.assertTrue(shown._is_silent)
+            with contextlib.suppress(OSError):
+                full.close()
+
+    def test_rows(self):
+        out = io.TextIOWrapper(io.BytesIO(), write_through=True)
+        with mock.patch.object(sys, "stdout", out):
+            self.assertEqual(main(["rows", self.path, "--count", "5"]), 0)
+        edges = [read(word) for word in out.buffer.getvalue().decode().split()]
+        self.assertEqual(len(edges), 5)
+        self.assertEqual(texts(1, QUEENS, True, edges), whole(1, QUEENS, "m1"))
+
+
+class Progress(unittest.TestCase):
+    def test_progress(self):
+        choices = [b" %s (2 of 2)\n" % name for name in (b"a", b"b", b"c")]
+        listing = [b"2:\n", b" a (1 of 2)\n", b" b (2 of 2)\n", b"4:\n", *choices]
+        self.assertEqual(list(progress.shares(listing)), [(2, 0.25), (4, 0.875)])
+        told = []
+        progress.follow(listing, told.append, 0)
+        self.assertEqual(len(told), 2)
+        for line in (b"x\n", b" a (0 of 2)\n", b" a (3 of 2)\n", b"0:\n", b" a (1 of 0)\n"):
+            with self.assertRaises(ListingFault):
+                list(progress.shares([b"1:\n", line]))
+
+    def test_command(self):
+        error = io.StringIO()
+        given = io.TextIOWrapper(io.BytesIO(b"3:\n a (2 of 2)\n"))
+        with mock.patch.object(sys, "stdin", given), contextlib.redirect_stderr(error):
+            self.assertEqual(progress_main([]), 0)
+        self.assertRegex(error.getvalue(), r"\A0.0 seconds: solution 3, 50.00% of the tree")
+
+
+if __name__ == "__main__":
+    unittest.main()

@@ -1,0 +1,130 @@
+#!/usr/bin/env python3
+"""search.py [--rounds K] [--only NAME,..] [--dask] [--page PAGE]: what `helgrothy search` takes beside a program alone.
+
+For each problem the program, and the command by one, two and four workers, take turns K times (5). Printed is a row:
+the elapsed seconds of the program, the median; of each number of workers the elapsed seconds and, in brackets, their
+share of the program's, both medians; and last the processor seconds of four workers, the command's included, as a
+share of the program's. With --dask a column more has four workers of Dask on this machine, which are begun before.
+The numbers of solutions have to agree. With --page the rows take the place of those of the table with the same head in
+a page. Times are worth something only where the machine has nothing else to do.
+"""
+
+from __future__ import annotations
+
+import argparse
+import os
+import statistics
+import subprocess
+import sys
+import tempfile
+import time
+from pathlib import Path
+from typing import Iterator, List, NamedTuple, Optional
+
+from page import put
+
+TOP = Path(__file__).resolve().parent.parent.parent
+BIN = TOP / "bin"
+PROBLEMS = {
+    "12 queens": ["queens", "12"],
+    "14 queens": ["queens", "14"],
+    "pentominoes 6x10": ["polyominoes", "pentominoes", "6x10"],
+    "16 queens": ["queens", "16"],
+}
+WORKERS = (1, 2, 4)
+
+
+class Took(NamedTuple):
+    """Elapsed and processor seconds of a run, and its last line."""
+
+    elapsed: float
+    used: float
+    told: str
+
+
+def timed(command: List[str], given: Path) -> Took:
+    """A run that has to succeed."""
+    begun = time.monotonic()
+    with open(given) as file:
+        process = subprocess.Popen(command, stdin=file, stdout=subprocess.DEVNULL, stderr=subprocess.PIPE, text=True)
+    assert process.stderr
+    with process.stderr as told:
+        last = told.read().splitlines()[-1]
+    _, status, used = os.wait4(process.pid, 0)
+    process.returncode = status
+    if status != 0:
+        raise SystemExit(f"{' '.join(command)}: {last}")
+    return Took(time.monotonic() - begun, used.ru_utime + used.ru_stime, last)
+
+
+def searching(problem: Path, *words: str) -> List[str]:
+    return [str(BIN / "helgrothy"), "search", str(problem), *words]
+
+
+def measure(name: str, problem: Path, rounds: int, address: Optional[str]) -> str:
+    commands = [[str(BIN / "dlx1")], *(searching(problem, "--jobs", str(jobs)) for jobs in WORKERS)]
+    if address is not None:
+        commands.append(searching(problem, "--dask", address))
+    runs = [[timed(command, problem) for command in commands] for _ in range(rounds)]
+    if len({run.told for turn in runs for run in turn}) != 1:
+        raise SystemExit(f"{name}: the numbers of solutions differ: {runs}")
+    alone, *others = [statistics.median(turn[k].elapsed for turn in runs) for k in range(len(commands))]
+    used, by_four = [statistics.median(turn[k].used for turn in runs) for k in (0, len(WORKERS))]
+    cells = [f"{elapsed:.2f} ({elapsed / alone:.2f})" for elapsed in others]
+    cells.insert(len(WORKERS), f"{by_four / used:.2f}")
+    return f"| {name}, {runs[0][0].told.split()[1]} solutions | {alone:.2f} | {' | '.join(cells)} |"
+
+
+def cluster(count: int) -> Iterator[str]:
+    """The address of a scheduler of Dask with so many workers on this machine, while it is asked for."""
+    environment = {**os.environ, "PYTHONPATH": str(TOP / "python"), "HELGROTHY_BIN": str(BIN)}
+    with tempfile.TemporaryDirectory() as folder:
+        where = os.path.join(folder, "scheduler.json")
+        begun = []
+        for words in (
+            ["dask-scheduler", "--host", "127.0.0.1", "--port", "0", "--no-dashboard"],
+            ["dask-worker", "--nthreads", "1", "--nworkers", str(count), "--no-dashboard"],
+        ):
+            command = [*words, "--scheduler-file", where]
+            log = subprocess.DEVNULL
+            begun.append(subprocess.Popen(command, env=environment, cwd=folder, stdout=log, stderr=log))
+            while not os.path.exists(where):
+                time.sleep(0.1)
+        # The workers come soon.
+        time.sleep(10)
+        try:
+            yield where
+        finally:
+            for process in reversed(begun):
+                process.terminate()
+                process.wait()
+
+
+def main() -> None:
+    parser = argparse.ArgumentParser(description=__doc__, formatter_class=argparse.RawDescriptionHelpFormatter)
+    parser.add_argument("--rounds", type=int, default=5)
+    parser.add_argument("--only", default=",".join(PROBLEMS))
+    parser.add_argument("--dask", action="store_true")
+    parser.add_argument("--page")
+    given = parser.parse_args()
+    heads = ["Search", "`dlx1`", *(f"{n} worker{'s' if n > 1 else ''}" for n in WORKERS), "Processor time of four"]
+    if given.dask:
+        heads.append("4 of Dask")
+    lines = [f"| {' | '.join(heads)} |", "|---" * len(heads) + "|"]
+    print("\n".join(lines), flush=True)
+    with tempfile.TemporaryDirectory() as folder:
+        addresses = cluster(4) if given.dask else iter([None])
+        address = next(addresses)
+        for name in given.only.split(","):
+            problem = Path(folder) / f"{name.replace(' ', '-')}.dlx"
+            with open(problem, "w") as file:
+                subprocess.run([BIN / "helgrothy", "make", *PROBLEMS[name]], stdout=file, check=True)
+            lines.append(measure(name, problem, given.rounds, address))
+            print(lines[-1], flush=True)
+        next(addresses, None)
+    if given.page:
+        put(given.page, lines)
+
+
+if __name__ == "__main__":
+    sys.exit(main())

@@ -1,0 +1,449 @@
+"""What may befall a search. Each takes a try; it answers False where it was left out."""
+
+import os
+import shutil
+import signal
+import socket
+import subprocess
+import tempfile
+import time
+
+from .trial import CANT, NOT_DONE, TOP, Wrong
+
+KILLS = [signal.SIGKILL, signal.SIGTERM, signal.SIGINT, signal.SIGHUP]
+
+
+def nothing(trial):
+    trial.finish()
+
+
+def seconds(trial):
+    for _ in range(20):
+        status = trial.run("--seconds", str(trial.rng.choice([0.01, 0.2, 0.5, 1])))[0]
+        if status == 0:
+            return
+        if status != NOT_DONE:
+            raise Wrong(f"status {status}")
+        looks(trial)
+    trial.finish()
+
+
+def command_is_killed(trial):
+    for _ in range(trial.rng.randint(1, 4)):
+        process = trial.start(trial.words())
+        time.sleep(trial.rng.choice([trial.rng.uniform(0, 0.4), trial.rng.uniform(0.3, 2)]))
+        trial.kill(process, trial.rng.choice(KILLS))
+        if trial.end(process, may_be_killed=True)[0] == 0:
+            return
+        trial.leaves_none()
+    trial.finish()
+
+
+def group_is_interrupted(trial):
+    """As by ^C in a terminal."""
+    process = trial.start(trial.words())
+    time.sleep(trial.rng.uniform(0.2, 1.5))
+    if process.poll() is None:
+        os.killpg(process.pid, signal.SIGINT)
+    begun = time.monotonic()
+    if trial.end(process, may_be_killed=True)[0] != 0:
+        if time.monotonic() - begun > 20:
+            raise Wrong("it didn't stop at once")
+        trial.finish()
+
+
+def workers_are_killed(trial):
+    process = trial.start(trial.words())
+    until = time.monotonic() + trial.rng.uniform(0.3, 2)
+    killed = 0
+    while process.poll() is None and time.monotonic() < until:
+        for number in trial.programs(trial.rng.choice([b"dlx-span", b"dlx-span", b"dlx-"])):
+            if trial.rng.random() < 0.3:
+                try:
+                    os.kill(number, trial.rng.choice([signal.SIGKILL, signal.SIGTERM]))
+                    killed += 1
+                except OSError:
+                    pass
+        time.sleep(trial.rng.uniform(0.01, 0.2))
+    trial.say(f"{killed} programs killed")
+    if trial.end(process, may_be_killed=True)[0] != 0:
+        trial.finish()
+
+
+def stopped_and_continued(trial):
+    process = trial.start(trial.words())
+    for _ in range(4):
+        time.sleep(trial.rng.uniform(0.05, 0.5))
+        stopped = [n for n in [process.pid, *trial.programs()] if trial.rng.random() < 0.5]
+        for signals in (signal.SIGSTOP, signal.SIGCONT):
+            for number in stopped:
+                try:
+                    os.kill(number, signals)
+                except OSError:
+                    pass
+            time.sleep(trial.rng.uniform(0, 0.3))
+    if trial.end(process)[0] != 0:
+        raise Wrong("it isn't done")
+
+
+def two_commands(trial):
+    both = []
+    for _ in range(2):
+        both.append(trial.start(trial.words()))
+        time.sleep(trial.rng.choice([0, 0, 0.1, 0.8]))
+    ended = [trial.end(process) for process in both]
+    if all(status != 0 for status, _, _ in ended):
+        raise Wrong("both were refused")
+    for status, printed, told in ended:
+        if status not in (0, CANT) or status == CANT and (printed or b"another command is at work" not in told):
+            raise Wrong(f"status {status}")
+    trial.finish()
+
+
+def full_disk(trial):
+    """Files of a size, or a disk of a size where one may be mounted."""
+    small = os.path.join(trial.top, "small")
+    os.mkdir(small)
+    size = trial.rng.choice([0, 100, 300, 5_000, 20_000, 100_000])
+    is_mounted = trial.rng.random() < 0.5 and mount(small, max(size, 8192))
+    words = trial.words("--folder", os.path.join(small, "found"))
+    try:
+        status = trial.end(trial.start(words, size=None if is_mounted else size))[0]
+        if status not in (0, 2, 3):
+            raise Wrong(f"status {status}")
+        if is_mounted:
+            subprocess.run(["mount", "-o", "remount,size=200m", small], check=True)
+        if status != 0 and trial.end(trial.start(words))[0] != 0:
+            raise Wrong("it doesn't go on where there is room")
+        result(trial, os.path.join(small, "found"), must_be_done=True)
+    finally:
+        if is_mounted:
+            subprocess.run(["umount", small], check=True)
+
+
+def mount(folder, size):
+    how = ["mount", "-t", "tmpfs", "-o", f"size={size}", "tmpfs", folder]
+    return os.geteuid() == 0 and subprocess.run(how, stderr=subprocess.DEVNULL).returncode == 0
+
+
+def full_output(trial):
+    with open("/dev/full", "wb") as full:
+        process = trial.start(trial.words(), stdout=full)
+        status = trial.end(process)[0] if not trial.listed else ended(trial, process)
+    if trial.listed and (status == 0) != (not trial.whole[0]):
+        raise Wrong(f"status {status} with a full disk for the listing")
+    if status != 0:
+        trial.finish()
+
+
+def ended(trial, process):
+    """The status of a command whose output isn't seen."""
+    told = process.communicate()[1]
+    trial.say(f"status {process.returncode}: {told!r}")
+    if b"Traceback" in told:
+        raise Wrong(told.decode())
+    return process.returncode
+
+
+def nobody_reads(trial):
+    reader, writer = os.pipe()
+    process = trial.start(trial.words(), stdout=writer)
+    os.close(writer)
+    if trial.rng.random() < 0.5:
+        os.read(reader, 100)
+    os.close(reader)
+    status = ended(trial, process)
+    if len(trial.whole[0]) > 1 << 16 and status == 0:
+        raise Wrong("status 0, and nobody has read the listing")
+    if status != 0:
+        trial.finish()
+
+
+def times_of_files(trial):
+    """As after a clock has jumped."""
+    if trial.some_way() == 0:
+        return
+    if os.path.isdir(trial.folder):
+        for name in os.listdir(trial.folder):
+            then = trial.rng.choice([0, 1, 4_000_000_000, time.time()])
+            os.utime(os.path.join(trial.folder, name), (then, then))
+    trial.finish()
+
+
+def problem_changes(trial):
+    process = trial.start(trial.words())
+    while not os.path.exists(trial.folder) and process.poll() is None:
+        time.sleep(0.02)
+    time.sleep(trial.rng.uniform(0, 1))
+    trial.write(trial.text.rpartition(b"\n")[0].rpartition(b"\n")[0] + b"\n")
+    time.sleep(trial.rng.uniform(0, 0.5))
+    if trial.rng.random() < 0.5:
+        trial.kill(process, trial.rng.choice(KILLS))
+    is_put_back = trial.rng.random() < 0.5
+    if is_put_back:
+        trial.write(trial.text)
+    status = trial.end(process, may_be_killed=True)[0]
+    if status != 0 and not is_put_back:
+        there = os.path.exists(os.path.join(trial.folder, "search"))
+        status, printed, told = trial.end(trial.start(trial.words())) if there else (CANT, b"", b"another problem")
+        if there and (status != CANT or printed or b"another problem" not in told):
+            raise Wrong("a changed problem goes on")
+    trial.write(trial.text)
+    if status != 0:
+        trial.finish()
+
+
+def other_words(trial):
+    if trial.some_way() == 0 or not os.path.exists(os.path.join(trial.folder, "search")):
+        return
+    trial.listed = not trial.listed
+    status, printed, told = trial.end(trial.start(trial.words()))
+    if status != CANT or printed or trial.folder.encode() not in told:
+        raise Wrong("another search goes on in the folder")
+    trial.listed = not trial.listed
+    trial.finish()
+
+
+def files_are_damaged(trial):
+    if trial.some_way() == 0 or not os.path.isdir(trial.folder):
+        return
+    names = [os.path.join(trial.folder, name) for name in os.listdir(trial.folder) if name != "lock"]
+    if not names:
+        return trial.finish()
+    for path in trial.rng.sample(names, min(len(names), trial.rng.choice([1, 1, 2]))):
+        damage(trial, path)
+    for act in trial.rng.sample([looks, lambda t: result(t, t.folder)], 2):
+        act(trial)
+    status, printed, told = trial.end(trial.start(trial.words()))
+    if status == 0:
+        return
+    if status != CANT or trial.folder.encode() not in told:
+        raise Wrong(f"status {status}, and no file is named")
+    mend(trial)
+
+
+def damage(trial, path):
+    """Changes a file in one of many ways."""
+    rng = trial.rng
+    how = rng.choice(["bit", "bit", "cut", "more", "empty", "exchange", "copy", "link", "folder", "pipe", "socket",
+                      "huge", "zero", "line", "digits", "gone"])
+    trial.say(f"{os.path.basename(path)}: {how}")
+    with open(path, "rb") as file:
+        text = file.read()
+    if how in ("bit", "cut", "more", "empty", "line", "digits"):
+        at = rng.randrange(max(len(text), 1))
+        if how == "bit" and text:
+            text = text[:at] + bytes([text[at] ^ 1 << rng.randrange(8)]) + text[at + 1 :]
+        elif how == "cut":
+            text = text[:at]
+        elif how == "more":
+            text += rng.choice([b"\n", b"x", text])
+        elif how == "line":
+            lines = text.splitlines(True)
+            rng.shuffle(lines)
+            text = b"".join(lines)
+        elif how == "digits":
+            text = text.replace(*rng.sample([b"1", b"2", b"3", b"7", b"9"], 2))
+        else:
+            text = b""
+        with open(path, "wb") as file:
+            file.write(text)
+        return
+    others = trial.files()
+    if how == "exchange" and len(others) > 1:
+        one, other = rng.sample(others, 2)
+        os.rename(one, f"{one}.x")
+        os.rename(other, one)
+        os.rename(f"{one}.x", other)
+        return
+    if how == "copy":
+        shutil.copy(path, os.path.join(trial.folder, "00099999.span"))
+        return
+    os.remove(path)
+    if how == "link":
+        os.symlink(rng.choice(["/dev/zero", "/nowhere", path, "/etc/passwd"]), path)
+    elif how == "folder":
+        os.mkdir(path)
+    elif how == "pipe":
+        os.mkfifo(path)
+    elif how == "socket":
+        with socket.socket(socket.AF_UNIX) as made:
+            made.bind(path)
+    elif how == "huge":
+        with open(path, "wb") as file:
+            file.write(text)
+            file.truncate(1 << 43)
+    elif how == "zero":
+        with open(path, "wb") as file:
+            file.write(b"\0" * len(text))
+
+
+def mend(trial):
+    """What a user does who is told that files aren't as they should be: the named ones go, or all."""
+    for _ in range(8):
+        status, _, told = trial.end(trial.start(trial.words()))
+        if status == 0:
+            return
+        named = [path for path in trial.files() if path.encode() in told] if os.path.isdir(trial.folder) else []
+        if named:
+            for path in named:
+                trial.say(f"{os.path.basename(path)} is taken away")
+                shutil.rmtree(path) if os.path.isdir(path) and not os.path.islink(path) else os.remove(path)
+        else:
+            trial.say("the folder is taken away")
+            shutil.rmtree(trial.folder)
+    raise Wrong("it doesn't go on without the files that were named")
+
+
+def looks(trial):
+    """`status` tells something at any time."""
+    if not os.path.isdir(trial.folder):
+        return
+    done = subprocess.run(["helgrothy", "status", trial.folder], capture_output=True, timeout=60)
+    trial.say(f"status {done.returncode} of helgrothy status: {done.stdout!r} {done.stderr!r}")
+    if b"Traceback" in done.stderr or done.returncode not in (0, 2) or (done.returncode == 0) != (done.stderr == b""):
+        raise Wrong(f"helgrothy status: {done}")
+
+
+def result(trial, folder, must_be_done=False):
+    if not os.path.isdir(folder):
+        return
+    words = ["result", folder, *(["--list"] if trial.listed else [])]
+    status, printed, _ = trial.end(trial.start(words))
+    if status != 0 and (printed or must_be_done):
+        raise Wrong(f"helgrothy result: {status}, {len(printed)} bytes")
+
+
+def looked_at_while_it_runs(trial):
+    process = trial.start(trial.words())
+    while process.poll() is None:
+        looks(trial)
+        if trial.rng.random() < 0.3:
+            result(trial, trial.folder)
+    trial.end(process)
+    trial.finish()
+
+
+FAILING = """\
+#!/bin/sh
+read -r random _ </proc/sys/kernel/random/uuid
+case $random in
+[0-{often}]*) {what} ;;
+*) exec {program} "$@" ;;
+esac
+"""
+FAILURES = [
+    "exit 3",
+    "exit 4",
+    "kill -9 $$",
+    "exit 0",
+    '{program} "$@" | head -c 40',
+    '{program} "$@"; kill -11 $$',
+    '{program} "$1" "$2" "$3" 1 "$5"',
+    '{program} "$1" m0 "$3" "$4" -',
+    '{program} "$@" | sed "\\$s/solutions [0-9]*/solutions x/"',
+]
+
+
+def programs_fail(trial):
+    """Now and then or often; what gives a wrong text isn't the proved program, and is told by its record."""
+    program = shutil.which("dlx-span")
+    what = trial.rng.choice(FAILURES).format(program=program)
+    trial.say(f"dlx-span: {what}")
+    trial.stand_in(FAILING.format(often=trial.rng.choice([0, 2, 8]), what=what, program=program))
+    if trial.end(trial.start(trial.words()), may_be_killed=True)[0] != 0:
+        trial.stand_in(f'#!/bin/sh\nexec {program} "$@"\n')
+        trial.finish()
+
+
+def by_hand(trial):
+    """Between rows, each by a program, and joined: as a queue does it that runs programs alone."""
+    with open(trial.path, "rb") as given:
+        count = str(trial.rng.choice([1, 5, 40]))
+        words = ["helgrothy", "rows", "--count", count, "--for", f"dlx{trial.kind}"]
+        told = subprocess.run(words, stdin=given, capture_output=True)
+    if told.returncode != 0 or told.stderr:
+        raise Wrong(f"helgrothy rows: {told}")
+    rows = told.stdout.decode().split()
+    if [tuple(map(int, row.split("."))) for row in rows] != sorted({tuple(map(int, row.split("."))) for row in rows}):
+        raise Wrong(f"rows don't rise: {rows}")
+    words = "m1" if trial.listed else "m0"
+    files = []
+    for number, (start, until) in enumerate(zip(["-", *rows], [*rows, "-"])):
+        files.append(os.path.join(trial.top, f"{number}.span"))
+        with open(files[-1], "wb") as file:
+            command = ["dlx-span", str(trial.kind), words, "0", start, until]
+            subprocess.run(command, input=trial.text, stdout=file, check=True)
+    done = subprocess.run(["dlx-join", words, *files], capture_output=True)
+    last = trial.whole[1].splitlines(True)[-1]
+    if (done.returncode, done.stdout, done.stderr) != (0, trial.whole[0], last):
+        raise Wrong(f"dlx-join: {done.returncode} {done.stderr!r}")
+    if len(files) > 1:
+        left = trial.rng.choice(files)
+        done = subprocess.run(["dlx-join", words, *(file for file in files if file != left)], capture_output=True)
+        if done.returncode != 5 or not trial.whole[0].startswith(done.stdout):
+            raise Wrong(f"dlx-join without a text: {done.returncode} {done.stderr!r}")
+
+
+def workers_of_dask(trial):
+    """A scheduler and some workers, of which some are killed and others come."""
+    if not HAS_DASK:
+        return False
+    environment = {**os.environ, "HELGROTHY_BIN": trial.bin, "PYTHONPATH": os.path.join(TOP, "python")}
+    where = os.path.join(trial.top, "scheduler.json")
+
+    def begin(*words):
+        log = tempfile.TemporaryFile()
+        how = {"stdout": log, "stderr": log, "start_new_session": True, "env": environment, "cwd": trial.top}
+        process = subprocess.Popen(["python3", "-m", *words], **how)
+        trial.running.append(process)
+        return process
+
+    file = ["--no-dashboard", "--scheduler-file", where]
+    begin("distributed.cli.dask_scheduler", "--host", "127.0.0.1", "--port", "0", *file)
+    for _ in range(1200):
+        if os.path.exists(where):
+            break
+        time.sleep(0.1)
+
+    def worker():
+        return begin("distributed.cli.dask_worker", "--nthreads", "1", *file)
+
+    workers = [worker() for _ in range(2)]
+    words = [word for word in trial.words() if not word.isdigit() and word != "--jobs"]
+    process = trial.start([*words, "--dask", where])
+    for _ in range(2):
+        time.sleep(trial.rng.uniform(0.5, 3))
+        os.killpg(workers.pop(0).pid, signal.SIGKILL)
+        workers.append(worker())
+    if trial.end(process)[0] != 0:
+        raise Wrong("it isn't done by Dask")
+
+
+def has_dask():
+    return subprocess.run(["python3", "-c", "import distributed"], stderr=subprocess.DEVNULL).returncode == 0
+
+
+HAS_DASK = has_dask()
+NAMES = [
+    "nothing",
+    "seconds",
+    "command_is_killed",
+    "group_is_interrupted",
+    "workers_are_killed",
+    "stopped_and_continued",
+    "two_commands",
+    "full_disk",
+    "full_output",
+    "nobody_reads",
+    "times_of_files",
+    "problem_changes",
+    "other_words",
+    "files_are_damaged",
+    "files_are_damaged",
+    "looked_at_while_it_runs",
+    "programs_fail",
+    "programs_fail",
+    "by_hand",
+    "workers_of_dask",
+]
