@@ -22,32 +22,38 @@ pub span_flushed : {E : Type 0} {a : Named} {asked : AskedSpan} {went : Went} {o
     → DidSpan a asked status old new (seen state err) (seen state err_new)
 span_flushed {went = went} {old = old} {mid = mid} new state err err_new of kept flushed (inl h) =
     let said = of.said in
-    inl (h.0, record {
-      went = went;
-      taken = record {
-        row = of.row;
-        branches = of.branches;
-        goes = of.goes;
-        few = of.few;
-        members = of.members;
-        said = record {
-          no_failure = h.1 ∙ said.no_failure;
-          whole = appends_kept old.taken mid.taken new.taken _ said.whole kept;
-          settled = h.2;
-          flushed_once = flushed ∙ ap (λ n. n + 1) said.unflushed;
+    inl (
+      h.0,
+      record {
+        went = went;
+        taken = record {
+          row = of.row;
+          branches = of.branches;
+          goes = of.goes;
+          few = of.few;
+          members = of.members;
+          said = record {
+            no_failure = h.1 ∙ said.no_failure;
+            whole = appends_kept old.taken mid.taken new.taken _ said.whole kept;
+            settled = h.2;
+            flushed_once = flushed ∙ ap (λ n. n + 1) said.unflushed;
+          };
         };
-      };
-      quiet = ap (seen state) h.3;
-    })
-span_flushed {went = went} new state err err_new of kept flushed (inr h) = inr (inl (h.0, record {
-  went = went;
-  failed = inr (record {
-    row = of.row;
-    branches = of.branches;
-    goes = of.goes;
-    few = of.few;
-    members = of.members;
-    said = failed_behind new of.said kept flushed h.1 h.2;
-  });
-  told = h.3;
-}))
+        quiet = ap (seen state) h.3;
+      },
+    )
+span_flushed {went = went} new state err err_new of kept flushed (inr h) = inr (inl (
+  h.0,
+  record {
+    went = went;
+    failed = inr (record {
+      row = of.row;
+      branches = of.branches;
+      goes = of.goes;
+      few = of.few;
+      members = of.members;
+      said = failed_behind new of.said kept flushed h.1 h.2;
+    });
+    told = h.3;
+  },
+))
