@@ -17,7 +17,7 @@ from unittest import mock
 from helgrothy import ListingFault, OutOfTime, Problem, ProgramFailed, ProgramNotFound, SearchFault, make, programs
 from helgrothy.__main__ import main
 from helgrothy.spans import folder as folders
-from helgrothy.spans import loop, progress, record, rows, show, span, text, ways
+from helgrothy.spans import cuts, loop, progress, record, rows, show, span, text
 from helgrothy.spans.commands import NOT_DONE, progress_main
 from helgrothy.spans.folder import Folder
 from helgrothy.spans.loop import Job, Kept, Loop
@@ -98,10 +98,10 @@ class Rows(unittest.TestCase):
         for kind in (1, 2, 3):
             for _ in range(8):
                 problem = problem_of(rng, kind)
-                edges = ways.rows(problem, kind, rng.randint(1, 12))
+                edges = cuts.rows(problem, kind, rng.randint(1, 12))
                 self.assertEqual(edges, sorted(set(edges)))
                 self.assertEqual(texts(kind, problem, True, edges)[0], whole(kind, problem, "m1")[0])
-        self.assertEqual(len(ways.rows(make.queens.problem(9).text.encode(), 1, 50, 60)), 50)
+        self.assertEqual(len(cuts.rows(make.queens.problem(9).text.encode(), 1, 50, 60)), 50)
 
 
 class Records(unittest.TestCase):

@@ -15,6 +15,7 @@ from typing import Any, NoReturn, Optional, Sequence
 from .. import __version__, console
 from ..errors import ProgramFailed, SearchFault
 from . import record as records
+from .cuts import rows
 from .folder import Folder, Look, is_at_work
 from .join import PROGRAM as JOIN
 from .join import Ending, Join
@@ -25,7 +26,6 @@ from .rows import WHOLE, Span, word_of
 from .show import Shown
 from .span import Task, run
 from .text import ignored, kind_of
-from .ways import rows
 from .workers import Dask, Own, Workers, processors
 
 NOT_DONE = 6
