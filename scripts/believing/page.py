@@ -1,17 +1,17 @@
-"""The page of what has to be believed of four calls."""
+"""The page of what has to be believed of six calls."""
 from typing import Iterable, Iterator, List, Sequence, Set
 
 from believing.entries import Entry, Key, figures
 from believing.repository import Repository
 from believing.told import counted
 
-CALLS = ["solve", "judge", "run_over_links", "check"]
+CALLS = ["solve", "judge", "run_over_links", "check", "solve_span", "join_spans"]
 
 HEAD = """# What has to be believed
 
-This page has what the promises of four public calls rest on: `solve`, a whole run of a solver; `judge`, a whole run
-of the judge; `run_over_links`, a run that hands its tables back; `check`, the verdicts on a listing. A function
-builds only with a proof that its body keeps its contract, so the code need not be read, nor the proofs. The contract
+This page has what the promises of six public calls rest on: `solve`, a whole run of a solver; `judge`, a whole run
+of the judge; `run_over_links`, a run that returns its tables; `check`, the verdicts on a listing; `solve_span`, a
+whole run over a span of a listing; `join_spans`, a whole run that joins spans. A function builds only with a proof that its body keeps its contract, so the code need not be read, nor the proofs. The contract
 says what is proved, and it says it in the words of the definitions below it. Whoever has read these and finds that
 they say what is meant has left to trust what README names under "What it stands on". What no contract says is not
 proved.
