@@ -1,5 +1,6 @@
 //! The steps of a search of a span.
-ghost use Rattle.std.specs.Prelude.{◌≡◌, ◌+◌, ◌-◌, ◌<◌, ◌≤◌, ◌^◌, ◌++◌, Bool, List, ℕ, Option, Some, [], true, false, not};
+ghost use Rattle.std.specs.Prelude.{◌≡◌, ◌+◌, ◌-◌, ◌<◌, ◌≤◌, ◌^◌, ◌++◌, Bool, List, ℕ, Option, Some, [], true};
+ghost use Rattle.std.specs.Prelude.{false, not};
 ghost use Rattle.std.specs.Prelude.{length, filter, map, option_map, ◌≢◌, IfSome};
 ghost use Rattle.xc_search.specs.Listing.{listing};
 ghost use Rattle.xc_search.specs.Spans.{precedes, row_of, is_before};

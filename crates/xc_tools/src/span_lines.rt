@@ -1,10 +1,12 @@
 //! The lines of the texts of spans, one by one.
-ghost use Rattle.std.specs.Prelude.{IsTrue, ℕ, List, ◌==◌, ◌&&◌, ◌≡◌, ◌+◌, ◌≤◌, IfOk, MatchResult, OnOk, codes, decimal, map, None, option_map};
+ghost use Rattle.std.specs.Prelude.{IsTrue, ℕ, List, ◌==◌, ◌&&◌, ◌≡◌, ◌+◌, ◌≤◌, IfOk, MatchResult, OnOk, codes};
+ghost use Rattle.std.specs.Prelude.{decimal, map, None, option_map};
 ghost use Rattle.std.specs.Char.{is_ascii_digit};
 ghost use Rattle.std.specs.List.{list_all, slice_split};
 ghost use Rattle.std.specs.Str.{byte, bytes_eq};
 ghost use Rattle.xc_list.specs.ListingLines.{before_last, words_in};
-ghost use Rattle.xc_tools.specs.inner.SpanLines.{act_text, begins_with, by_header, by_heading, by_last, by_line, by_record, closed};
+ghost use Rattle.xc_tools.specs.inner.SpanLines.{act_text, begins_with, by_header, by_heading, by_last, by_line};
+ghost use Rattle.xc_tools.specs.inner.SpanLines.{by_record, closed};
 ghost use Rattle.xc_tools.specs.inner.SpanLines.{counts_of, goes, heading_of, inside, is_header, is_number, is_row};
 ghost use Rattle.xc_tools.specs.inner.SpanLines.{join_of, meets, record_of, saturating_number, solutions_of};
 ghost use Rattle.xc_tools.specs.inner.SpanLines.{start, Takes, told_of, Unmet};

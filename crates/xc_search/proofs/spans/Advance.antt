@@ -59,7 +59,8 @@ pub record IsAt (p : Puzzle) (t : List Move) (ls : List Level) (down : Bool) : T
   pub led : AreLed p [] t ls
   pub solved : down ≡ false → IsSolved p t ls
 
-pub solved_alone : (p : Puzzle) (t : List Move) (ls : List Level) → IsSolved p t ls → listing (residual_of p t) ≡ [] ∷ []
+pub solved_alone : (p : Puzzle) (t : List Move) (ls : List Level) → IsSolved p t ls → listing (residual_of p t)
+    ≡ [] ∷ []
 solved_alone p t ls s =
     let legal = (s.standing.searchable refl).legal in
     listing_at (residual_of p t) None (grind (arith, mapped_none, choice_is_branch_item p t legal, s.none))
@@ -329,7 +330,8 @@ none_from p from all until is none =
 
 -- What a search that begins at a row stands for: whether it reached one, and that before its span's end.
 module _ (p : Puzzle) (t : List Move) (ls : List Level) (from : List ℕ) (until : Option (List ℕ))
-    (all : List (List Choice)) (reaches within : Bool) (led : reaches ≡ true → AreLed p [] t ls) (start : all ≡ members p)
+    (all : List (List Choice)) (reaches within : Bool) (led : reaches ≡ true → AreLed p [] t ls) (start : all ≡
+    members p)
     (at : reaches ≡ true → precedes (row_at p ls) from ≡ false)
     (kept : reaches ≡ true → filter (λ m. not (precedes (row_of m) from)) all
     ≡ filter (λ m. not (precedes (row_of m) from)) (coming p t ls true))

@@ -1,5 +1,6 @@
 -- On the way to a row.
-use Rattle.std.proofs.Common.{ℕ, ◌≡◌, Bool, true, not, List, [], map, filter, reverse, refl, sym, ap, ◌∙◌, arith, Option, Some, ◌++◌, append-nil, ap₂}
+use Rattle.std.proofs.Common.{ℕ, ◌≡◌, Bool, true, not, List, [], map, filter, reverse, refl, sym, ap, ◌∙◌, arith}
+use Rattle.std.proofs.Common.{Option, Some, ◌++◌, append-nil, ap₂}
 use Rattle.std.proofs.lemmas.List.{reverse-reverse}
 use Rattle.xc_dance.specs.Dancing.{Dancing}
 use Rattle.xc_search.specs.declared.level.Level.{Level}

@@ -151,7 +151,8 @@ module _ {d e : Dancing} {ls ks : Levels} {m n : ℕ} {until : Option (List ℕ)
         record {
           still = s.still;
           stacked = s.standing.stacked;
-          count = over_within s.over none ∙ ap (λ ms. n + length ms) (sym (span_here d.puzzle d.trail ls.levels until led));
+          count = over_within s.over none ∙ ap (λ ms. n + length ms) (sym (span_here d.puzzle d.trail ls.levels
+              until led));
         }
 
     -- or where all levels ended

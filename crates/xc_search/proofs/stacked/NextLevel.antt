@@ -125,7 +125,8 @@ chosen_item p t i n l e =
 -- ---- what is left is searched
 
 -- the branch item may be branched on
-pub may_choose : (p : Puzzle) (t : List Move) (i n : ℕ) → AreLegal p t → choice_after p t ≡ Some (i, n) → MayBranch p t i n
+pub may_choose : (p : Puzzle) (t : List Move) (i n : ℕ) → AreLegal p t → choice_after p t ≡ Some (i, n) →
+    MayBranch p t i n
 may_choose p t i n l e =
     let c = chosen_item p t i n l e in
     record {

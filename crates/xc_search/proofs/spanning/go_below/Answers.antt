@@ -44,5 +44,6 @@ returns-else-more-eq0-clause-back g c _ until is =
     let none = c.deepen.ensures.solved c.in-Solution.is in
     let one = solution d.puzzle d.trail c.args.stack.now.levels (c.requires.standing.searchable refl).legal none in
     rw (here.0, here.1) (falls_over (not c.args.early) (is_counted c.args.rest) until d c.args.stack.now _ _
-    c.requires.standing (over_one (is_counted c.args.rest) until d.puzzle d.trail c.args.stack.now.levels c.args.rest _ _
+    c.requires.standing (over_one (is_counted c.args.rest) until d.puzzle d.trail c.args.stack.now.levels
+    c.args.rest _ _
     is one (omega (arith, same, c.if-more-eq0.false))))

@@ -56,4 +56,5 @@ loop-behind-preserved g c =
     reaches_on c.loop-behind.invariant (step_stands c.replace_with.ensures c.in-Member.is)
 
 pub returns-in-Nothing-clause-none : goal.returns-in-Nothing-clause-none
-returns-in-Nothing-clause-none g c _ = (reaches_none c.loop-behind.invariant (c.replace_with.ensures.ended c.in-Nothing.is)).none
+returns-in-Nothing-clause-none g c _ =
+    (reaches_none c.loop-behind.invariant (c.replace_with.ensures.ended c.in-Nothing.is)).none

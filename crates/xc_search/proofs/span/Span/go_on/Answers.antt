@@ -60,7 +60,8 @@ module _ (g : _) (c : After-go_over-ran g) where
 
   -- where it stands
   stands : (c.go_over-ran.result.stop ≡ Member) ⊎ (c.go_over-ran.result.stop ≡ Steps) →
-      Stands true true until c.self.inside.state.position c.self.inside.state.stack (over_first c.args.many c.self.inside.down)
+      Stands true true until c.self.inside.state.position c.self.inside.state.stack (over_first c.args.many
+      c.self.inside.down)
       c.go_over-ran.new.state.position c.go_over-ran.new.state.stack c.go_over-ran.result.more
       (c.args.steps - c.go_over-ran.result.steps)
   stands h = rw (over g c) at (c.go_over-ran.ensures.stands h)
