@@ -51,6 +51,7 @@ set -g __helgrothy_commands \
     'helgrothy make words' \
     'helgrothy make roster' \
     'helgrothy make roundrobin' \
+    'helgrothy make tests' \
     'helgrothy solve' \
     'helgrothy draw' \
     'helgrothy lint' \
@@ -66,9 +67,12 @@ set -g __helgrothy_commands \
     'helgrothy polyominoes' \
     'helgrothy words' \
     'helgrothy roster' \
-    'helgrothy roundrobin'
+    'helgrothy roundrobin' \
+    'helgrothy tests'
 
 set -g __helgrothy_valued \
+    'helgrothy make tests --tests' \
+    'helgrothy make tests --strength' \
     'helgrothy solve --number' \
     'helgrothy solve --limit' \
     'helgrothy solve --seconds' \
@@ -110,7 +114,12 @@ set -g __helgrothy_valued \
     'helgrothy roster --seconds' \
     'helgrothy roundrobin --number' \
     'helgrothy roundrobin --limit' \
-    'helgrothy roundrobin --seconds'
+    'helgrothy roundrobin --seconds' \
+    'helgrothy tests --tests' \
+    'helgrothy tests --strength' \
+    'helgrothy tests --number' \
+    'helgrothy tests --limit' \
+    'helgrothy tests --seconds'
 
 complete -c dlx1 -f
 complete -c dlx2 -f
@@ -141,6 +150,7 @@ complete -c helgrothy -n '__helgrothy_is \'helgrothy\' 1' -a polyominoes -d 'mak
 complete -c helgrothy -n '__helgrothy_is \'helgrothy\' 1' -a words -d 'make and solve words across and down in a grid'
 complete -c helgrothy -n '__helgrothy_is \'helgrothy\' 1' -a roster -d 'make and solve shifts of people on days'
 complete -c helgrothy -n '__helgrothy_is \'helgrothy\' 1' -a roundrobin -d 'make and solve a round robin at home and away'
+complete -c helgrothy -n '__helgrothy_is \'helgrothy\' 1' -a tests -d 'make and solve tests in which values of factors come together'
 complete -c helgrothy -n '__helgrothy_is \'helgrothy make\'' -s h -l help -d 'show this help message and exit'
 complete -c helgrothy -n '__helgrothy_is \'helgrothy make\' 1' -a sudoku -d 'a Sudoku from its clues'
 complete -c helgrothy -n '__helgrothy_is \'helgrothy make\' 1' -a queens -d 'queens on a board, or in coloured regions'
@@ -149,6 +159,7 @@ complete -c helgrothy -n '__helgrothy_is \'helgrothy make\' 1' -a polyominoes -d
 complete -c helgrothy -n '__helgrothy_is \'helgrothy make\' 1' -a words -d 'words across and down in a grid'
 complete -c helgrothy -n '__helgrothy_is \'helgrothy make\' 1' -a roster -d 'shifts of people on days'
 complete -c helgrothy -n '__helgrothy_is \'helgrothy make\' 1' -a roundrobin -d 'a round robin at home and away'
+complete -c helgrothy -n '__helgrothy_is \'helgrothy make\' 1' -a tests -d 'tests in which values of factors come together'
 complete -c helgrothy -n '__helgrothy_is \'helgrothy make sudoku\'' -s h -l help -d 'show this help message and exit'
 complete -c helgrothy -n '__helgrothy_is \'helgrothy make queens\'' -s h -l help -d 'show this help message and exit'
 complete -c helgrothy -n '__helgrothy_is \'helgrothy make langford\'' -s h -l help -d 'show this help message and exit'
@@ -160,6 +171,9 @@ complete -c helgrothy -n '__helgrothy_is \'helgrothy make roster\'' -s h -l help
 complete -c helgrothy -n '__helgrothy_is \'helgrothy make roster\'' -l rest -d 'no shift on the next day that stands higher in the table'
 complete -c helgrothy -n '__helgrothy_is \'helgrothy make roundrobin\'' -s h -l help -d 'show this help message and exit'
 complete -c helgrothy -n '__helgrothy_is \'helgrothy make roundrobin\'' -l double -d 'each two teams meet twice, once at each one\'s home'
+complete -c helgrothy -n '__helgrothy_is \'helgrothy make tests\'' -s h -l help -d 'show this help message and exit'
+complete -c helgrothy -n '__helgrothy_is \'helgrothy make tests\'' -l tests -r -f -d 'so many tests'
+complete -c helgrothy -n '__helgrothy_is \'helgrothy make tests\'' -l strength -r -f -d 'the values of any T factors come together (default: 2)'
 complete -c helgrothy -n '__helgrothy_is \'helgrothy solve\'' -s h -l help -d 'show this help message and exit'
 complete -c helgrothy -n '__helgrothy_is \'helgrothy solve\'' -l number -r -f -d 'the K-th solution instead of the first'
 complete -c helgrothy -n '__helgrothy_is \'helgrothy solve\'' -l limit -r -f -d 'the first N solutions'
@@ -259,6 +273,17 @@ complete -c helgrothy -n '__helgrothy_is \'helgrothy roundrobin\'' -l svg -d 'a 
 complete -c helgrothy -n '__helgrothy_is \'helgrothy roundrobin\'' -l json -d 'a line of JSON for each solution: its number, the numbers of its options, their items, and the colours'
 complete -c helgrothy -n '__helgrothy_is \'helgrothy roundrobin\'' -l csv -d 'a table as CSV, with a line for each choice'
 complete -c helgrothy -n '__helgrothy_is \'helgrothy roundrobin\'' -l seconds -r -f -d 'give up after S seconds'
+complete -c helgrothy -n '__helgrothy_is \'helgrothy tests\'' -s h -l help -d 'show this help message and exit'
+complete -c helgrothy -n '__helgrothy_is \'helgrothy tests\'' -l tests -r -f -d 'so many tests'
+complete -c helgrothy -n '__helgrothy_is \'helgrothy tests\'' -l strength -r -f -d 'the values of any T factors come together (default: 2)'
+complete -c helgrothy -n '__helgrothy_is \'helgrothy tests\'' -l least -d 'as few tests as are found in the time of --seconds (default: 10)'
+complete -c helgrothy -n '__helgrothy_is \'helgrothy tests\'' -l number -r -f -d 'the K-th solution instead of the first'
+complete -c helgrothy -n '__helgrothy_is \'helgrothy tests\'' -l limit -r -f -d 'the first N solutions'
+complete -c helgrothy -n '__helgrothy_is \'helgrothy tests\'' -l all -d 'all solutions'
+complete -c helgrothy -n '__helgrothy_is \'helgrothy tests\'' -l svg -d 'a picture as SVG, of one solution'
+complete -c helgrothy -n '__helgrothy_is \'helgrothy tests\'' -l json -d 'a line of JSON for each solution: its number, the numbers of its options, their items, and the colours'
+complete -c helgrothy -n '__helgrothy_is \'helgrothy tests\'' -l csv -d 'a table as CSV, with a line for each choice'
+complete -c helgrothy -n '__helgrothy_is \'helgrothy tests\'' -l seconds -r -f -d 'give up after S seconds'
 complete -c dlx1 -n '__helgrothy_is \'dlx1\' 1+' -f -a 'm1 m1000 t1 t2'
 complete -c dlx2 -n '__helgrothy_is \'dlx2\' 1+' -f -a 'm1 m1000 t1 t2'
 complete -c dlx3 -n '__helgrothy_is \'dlx3\' 1+' -f -a 'm1 m1000 t1 t2'
@@ -276,6 +301,7 @@ complete -c helgrothy -n '__helgrothy_is \'helgrothy make words\' 1' -F
 complete -c helgrothy -n '__helgrothy_is \'helgrothy make words\' 2' -F
 complete -c helgrothy -n '__helgrothy_is \'helgrothy make roster\' 1' -F
 complete -c helgrothy -n '__helgrothy_is \'helgrothy make roundrobin\' 1' -F
+complete -c helgrothy -n '__helgrothy_is \'helgrothy make tests\' 1' -F
 complete -c helgrothy -n '__helgrothy_is \'helgrothy solve\' 1' -f -a '(__fish_complete_suffix .dlx)'
 complete -c helgrothy -n '__helgrothy_is \'helgrothy draw\' 1' -f -a '(__fish_complete_suffix .dlx)'
 complete -c helgrothy -n '__helgrothy_is \'helgrothy lint\' 1' -f -a '(__fish_complete_suffix .dlx)'
@@ -294,3 +320,4 @@ complete -c helgrothy -n '__helgrothy_is \'helgrothy words\' 1' -F
 complete -c helgrothy -n '__helgrothy_is \'helgrothy words\' 2' -F
 complete -c helgrothy -n '__helgrothy_is \'helgrothy roster\' 1' -F
 complete -c helgrothy -n '__helgrothy_is \'helgrothy roundrobin\' 1' -F
+complete -c helgrothy -n '__helgrothy_is \'helgrothy tests\' 1' -F

@@ -200,7 +200,8 @@ PIECES = b"LL\nL\n\nII\n\nO\n"
 REGION = b"...\n.#.\n...\n"
 REGIONS = b"aabb\naabb\nccdd\nccdd\n"
 CLUES = b"1234\n3412\n2143\n43..\n"
-TABLES = [ROSTER, TEAMS, GRID, LIST, PIECES, REGION, REGIONS, CLUES]
+FACTORS = b"system linux mac\nbrowser firefox chrome\nsize 1 2 3\n"
+TABLES = [ROSTER, TEAMS, GRID, LIST, PIECES, REGION, REGIONS, CLUES, FACTORS]
 MADE = [
     problem.text.encode()
     for problem in (
@@ -212,6 +213,7 @@ MADE = [
         make.roundrobin.problem(TEAMS.decode().splitlines()),
         make.words.problem(GRID.decode(), LIST.decode().split()),
         make.polyominoes.problem("LL\nL\n\nII\n\nO\n", "...\n...\n"),
+        make.tests.problem(FACTORS.decode(), 6),
     )
 ]
 
@@ -298,6 +300,9 @@ class Try:
             return kind, [rng.choice([CLUES.decode().replace("\n", ""), self.input(changed(rng, CLUES)), *WORDS])]
         if kind == "queens":
             return kind, [rng.choice(["5", "6", self.input(changed(rng, rng.choice([REGIONS, *TABLES]))), *WORDS])]
+        if kind == "tests":
+            count = rng.choice([["--tests", "6"], ["--tests", "7", "--strength", rng.choice(["1", "3", *WORDS])], ["--tests", rng.choice(WORDS)]])
+            return kind, [rng.choice([self.input(changed(rng, FACTORS)), self.input(changed(rng, FACTORS)), "3,2^2", *WORDS]), *count]
         given = {"words": [GRID, LIST], "polyominoes": [PIECES, REGION], "roster": [ROSTER], "roundrobin": [TEAMS]}[kind]
         tables = [self.file(changed(rng, table if rng.random() < 0.9 else rng.choice(TABLES))) for table in given]
         if rng.random() < 0.1:
@@ -307,6 +312,8 @@ class Try:
 
     def kind(self):
         kind, words = self.kind_words()
+        if kind == "tests" and self.rng.random() < 0.3:
+            words = [words[0], "--least"]
         if self.rng.random() < 0.3:
             return "helgrothy", [kind, *words, "--svg", "--seconds", "5"]
         return "helgrothy", [kind, *words, *self.choice(), *self.rng.choice([[], ["--json"], ["--csv"]])]
@@ -649,6 +656,10 @@ class Processes:
             "roundrobin": f"roundrobin {self.file('teams', b''.join(b't%d' % n + chr(10).encode() for n in range(100_000)))}",
             "roundrobin, 250": f"roundrobin {self.file('teams2', b''.join(b't%d' % n + chr(10).encode() for n in range(250)))}",
             "words": f"words {self.file('grid', (b'.' * 1000 + chr(10).encode()) * 900)} {self.file('list', b' '.join(b'%c' % (97 + n % 26) * 1000 for n in range(900)))}",
+            "tests": "tests 300,300,2 --tests 90000",
+            "tests, levels": "tests 99999999^99999999,2 --tests 9",
+            "tests, strength": "tests 1^90000 --tests 1 --strength 10",
+            "tests, factors": f"tests {self.file('factors', b''.join(b'f%d x%d' % (n, n) + chr(10).encode() for n in range(90_000)))} --tests 9",
             "words, given": f"words {self.file('grid2', b'ab#' * 300_000)} {self.file('list2', ' '.join('a' + chr(0x4E00 + n) for n in range(20_000)).encode())}",
             "a piece": f"polyominoes {self.file('piece', (b'A' * 1000 + chr(10).encode()) * 900)} {self.file('region', (b'.' * 1000 + chr(10).encode()) * 90)}",
             "pieces": f"polyominoes {self.file('piece2', (b'A' * 150 + chr(10).encode()) * 150)} {self.file('region2', ((b'.' * 299 + b'#') + chr(10).encode()) * 300)}",

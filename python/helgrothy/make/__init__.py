@@ -2,7 +2,7 @@
 
 from typing import Dict
 
-from . import langford, polyominoes, queens, roster, roundrobin, sudoku, words
+from . import langford, polyominoes, queens, roster, roundrobin, sudoku, tests, words
 from .kind import Kind, kind_of
 
 KINDS: Dict[str, Kind] = {
@@ -15,6 +15,7 @@ KINDS: Dict[str, Kind] = {
         words.KIND,
         roster.KIND,
         roundrobin.KIND,
+        tests.KIND,
     )
 }
 __all__ = [
@@ -27,5 +28,6 @@ __all__ = [
     "roster",
     "roundrobin",
     "sudoku",
+    "tests",
     "words",
 ]
