@@ -48,6 +48,7 @@ set -g __helgrothy_commands \
     'helgrothy make queens' \
     'helgrothy make langford' \
     'helgrothy make polyominoes' \
+    'helgrothy make polycubes' \
     'helgrothy make words' \
     'helgrothy make roster' \
     'helgrothy make roundrobin' \
@@ -65,6 +66,7 @@ set -g __helgrothy_commands \
     'helgrothy queens' \
     'helgrothy langford' \
     'helgrothy polyominoes' \
+    'helgrothy polycubes' \
     'helgrothy words' \
     'helgrothy roster' \
     'helgrothy roundrobin' \
@@ -106,6 +108,9 @@ set -g __helgrothy_valued \
     'helgrothy polyominoes --number' \
     'helgrothy polyominoes --limit' \
     'helgrothy polyominoes --seconds' \
+    'helgrothy polycubes --number' \
+    'helgrothy polycubes --limit' \
+    'helgrothy polycubes --seconds' \
     'helgrothy words --number' \
     'helgrothy words --limit' \
     'helgrothy words --seconds' \
@@ -147,6 +152,7 @@ complete -c helgrothy -n '__helgrothy_is \'helgrothy\' 1' -a sudoku -d 'make and
 complete -c helgrothy -n '__helgrothy_is \'helgrothy\' 1' -a queens -d 'make and solve queens on a board, or in coloured regions'
 complete -c helgrothy -n '__helgrothy_is \'helgrothy\' 1' -a langford -d 'make and solve Langford\'s pairs'
 complete -c helgrothy -n '__helgrothy_is \'helgrothy\' 1' -a polyominoes -d 'make and solve pieces of squares that fill a region'
+complete -c helgrothy -n '__helgrothy_is \'helgrothy\' 1' -a polycubes -d 'make and solve pieces of cubes that fill a box'
 complete -c helgrothy -n '__helgrothy_is \'helgrothy\' 1' -a words -d 'make and solve words across and down in a grid'
 complete -c helgrothy -n '__helgrothy_is \'helgrothy\' 1' -a roster -d 'make and solve shifts of people on days'
 complete -c helgrothy -n '__helgrothy_is \'helgrothy\' 1' -a roundrobin -d 'make and solve a round robin at home and away'
@@ -156,6 +162,7 @@ complete -c helgrothy -n '__helgrothy_is \'helgrothy make\' 1' -a sudoku -d 'a S
 complete -c helgrothy -n '__helgrothy_is \'helgrothy make\' 1' -a queens -d 'queens on a board, or in coloured regions'
 complete -c helgrothy -n '__helgrothy_is \'helgrothy make\' 1' -a langford -d 'Langford\'s pairs'
 complete -c helgrothy -n '__helgrothy_is \'helgrothy make\' 1' -a polyominoes -d 'pieces of squares that fill a region'
+complete -c helgrothy -n '__helgrothy_is \'helgrothy make\' 1' -a polycubes -d 'pieces of cubes that fill a box'
 complete -c helgrothy -n '__helgrothy_is \'helgrothy make\' 1' -a words -d 'words across and down in a grid'
 complete -c helgrothy -n '__helgrothy_is \'helgrothy make\' 1' -a roster -d 'shifts of people on days'
 complete -c helgrothy -n '__helgrothy_is \'helgrothy make\' 1' -a roundrobin -d 'a round robin at home and away'
@@ -166,6 +173,9 @@ complete -c helgrothy -n '__helgrothy_is \'helgrothy make langford\'' -s h -l he
 complete -c helgrothy -n '__helgrothy_is \'helgrothy make polyominoes\'' -s h -l help -d 'show this help message and exit'
 complete -c helgrothy -n '__helgrothy_is \'helgrothy make polyominoes\'' -l no-turns -d 'pieces may not be turned'
 complete -c helgrothy -n '__helgrothy_is \'helgrothy make polyominoes\'' -l no-mirrors -d 'pieces may not be mirrored'
+complete -c helgrothy -n '__helgrothy_is \'helgrothy make polycubes\'' -s h -l help -d 'show this help message and exit'
+complete -c helgrothy -n '__helgrothy_is \'helgrothy make polycubes\'' -l mirrors -d 'mirror images of pieces may be used too'
+complete -c helgrothy -n '__helgrothy_is \'helgrothy make polycubes\'' -l some -d 'pieces may be left over'
 complete -c helgrothy -n '__helgrothy_is \'helgrothy make words\'' -s h -l help -d 'show this help message and exit'
 complete -c helgrothy -n '__helgrothy_is \'helgrothy make roster\'' -s h -l help -d 'show this help message and exit'
 complete -c helgrothy -n '__helgrothy_is \'helgrothy make roster\'' -l rest -d 'no shift on the next day that stands higher in the table'
@@ -247,6 +257,16 @@ complete -c helgrothy -n '__helgrothy_is \'helgrothy polyominoes\'' -l svg -d 'a
 complete -c helgrothy -n '__helgrothy_is \'helgrothy polyominoes\'' -l json -d 'a line of JSON for each solution: its number, the numbers of its options, their items, and the colours'
 complete -c helgrothy -n '__helgrothy_is \'helgrothy polyominoes\'' -l csv -d 'a table as CSV, with a line for each choice'
 complete -c helgrothy -n '__helgrothy_is \'helgrothy polyominoes\'' -l seconds -r -f -d 'give up after S seconds'
+complete -c helgrothy -n '__helgrothy_is \'helgrothy polycubes\'' -s h -l help -d 'show this help message and exit'
+complete -c helgrothy -n '__helgrothy_is \'helgrothy polycubes\'' -l mirrors -d 'mirror images of pieces may be used too'
+complete -c helgrothy -n '__helgrothy_is \'helgrothy polycubes\'' -l some -d 'pieces may be left over'
+complete -c helgrothy -n '__helgrothy_is \'helgrothy polycubes\'' -l number -r -f -d 'the K-th solution instead of the first'
+complete -c helgrothy -n '__helgrothy_is \'helgrothy polycubes\'' -l limit -r -f -d 'the first N solutions'
+complete -c helgrothy -n '__helgrothy_is \'helgrothy polycubes\'' -l all -d 'all solutions'
+complete -c helgrothy -n '__helgrothy_is \'helgrothy polycubes\'' -l svg -d 'a picture as SVG, of one solution'
+complete -c helgrothy -n '__helgrothy_is \'helgrothy polycubes\'' -l json -d 'a line of JSON for each solution: its number, the numbers of its options, their items, and the colours'
+complete -c helgrothy -n '__helgrothy_is \'helgrothy polycubes\'' -l csv -d 'a table as CSV, with a line for each choice'
+complete -c helgrothy -n '__helgrothy_is \'helgrothy polycubes\'' -l seconds -r -f -d 'give up after S seconds'
 complete -c helgrothy -n '__helgrothy_is \'helgrothy words\'' -s h -l help -d 'show this help message and exit'
 complete -c helgrothy -n '__helgrothy_is \'helgrothy words\'' -l number -r -f -d 'the K-th solution instead of the first'
 complete -c helgrothy -n '__helgrothy_is \'helgrothy words\'' -l limit -r -f -d 'the first N solutions'
@@ -297,6 +317,8 @@ complete -c helgrothy -n '__helgrothy_is \'helgrothy make sudoku\' 1' -F
 complete -c helgrothy -n '__helgrothy_is \'helgrothy make queens\' 1' -F
 complete -c helgrothy -n '__helgrothy_is \'helgrothy make polyominoes\' 1' -F -a 'pentominoes tetrominoes'
 complete -c helgrothy -n '__helgrothy_is \'helgrothy make polyominoes\' 2' -F
+complete -c helgrothy -n '__helgrothy_is \'helgrothy make polycubes\' 1' -F -a 'pentacubes pentominoes soma tetracubes tetrominoes'
+complete -c helgrothy -n '__helgrothy_is \'helgrothy make polycubes\' 2' -F
 complete -c helgrothy -n '__helgrothy_is \'helgrothy make words\' 1' -F
 complete -c helgrothy -n '__helgrothy_is \'helgrothy make words\' 2' -F
 complete -c helgrothy -n '__helgrothy_is \'helgrothy make roster\' 1' -F
@@ -316,6 +338,8 @@ complete -c helgrothy -n '__helgrothy_is \'helgrothy sudoku\' 1' -F
 complete -c helgrothy -n '__helgrothy_is \'helgrothy queens\' 1' -F
 complete -c helgrothy -n '__helgrothy_is \'helgrothy polyominoes\' 1' -F -a 'pentominoes tetrominoes'
 complete -c helgrothy -n '__helgrothy_is \'helgrothy polyominoes\' 2' -F
+complete -c helgrothy -n '__helgrothy_is \'helgrothy polycubes\' 1' -F -a 'pentacubes pentominoes soma tetracubes tetrominoes'
+complete -c helgrothy -n '__helgrothy_is \'helgrothy polycubes\' 2' -F
 complete -c helgrothy -n '__helgrothy_is \'helgrothy words\' 1' -F
 complete -c helgrothy -n '__helgrothy_is \'helgrothy words\' 2' -F
 complete -c helgrothy -n '__helgrothy_is \'helgrothy roster\' 1' -F

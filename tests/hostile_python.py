@@ -201,7 +201,9 @@ REGION = b"...\n.#.\n...\n"
 REGIONS = b"aabb\naabb\nccdd\nccdd\n"
 CLUES = b"1234\n3412\n2143\n43..\n"
 FACTORS = b"system linux mac\nbrowser firefox chrome\nsize 1 2 3\n"
-TABLES = [ROSTER, TEAMS, GRID, LIST, PIECES, REGION, REGIONS, CLUES, FACTORS]
+CUBES = b"AA .A\nA. ..\n\nBB\nB.\n\nC\n"
+BOX = b".. ..\n.. ..\n"
+TABLES = [ROSTER, TEAMS, GRID, LIST, PIECES, REGION, REGIONS, CLUES, FACTORS, CUBES, BOX]
 MADE = [
     problem.text.encode()
     for problem in (
@@ -214,6 +216,7 @@ MADE = [
         make.words.problem(GRID.decode(), LIST.decode().split()),
         make.polyominoes.problem("LL\nL\n\nII\n\nO\n", "...\n...\n"),
         make.tests.problem(FACTORS.decode(), 6),
+        make.polycubes.problem(CUBES.decode(), BOX.decode()),
     )
 ]
 
@@ -303,11 +306,11 @@ class Try:
         if kind == "tests":
             count = rng.choice([["--tests", "6"], ["--tests", "7", "--strength", rng.choice(["1", "3", *WORDS])], ["--tests", rng.choice(WORDS)]])
             return kind, [rng.choice([self.input(changed(rng, FACTORS)), self.input(changed(rng, FACTORS)), "3,2^2", *WORDS]), *count]
-        given = {"words": [GRID, LIST], "polyominoes": [PIECES, REGION], "roster": [ROSTER], "roundrobin": [TEAMS]}[kind]
+        given = {"words": [GRID, LIST], "polyominoes": [PIECES, REGION], "polycubes": [CUBES, BOX], "roster": [ROSTER], "roundrobin": [TEAMS]}[kind]
         tables = [self.file(changed(rng, table if rng.random() < 0.9 else rng.choice(TABLES))) for table in given]
         if rng.random() < 0.1:
             tables[-1] = rng.choice(WORDS)
-        more = {"roster": ["--rest"], "roundrobin": ["--double"], "polyominoes": ["--no-turns"]}.get(kind, [])
+        more = {"roster": ["--rest"], "roundrobin": ["--double"], "polyominoes": ["--no-turns"], "polycubes": ["--some", "--mirrors"]}.get(kind, [])
         return kind, [*tables, *(more if rng.random() < 0.3 else [])]
 
     def kind(self):
@@ -656,6 +659,10 @@ class Processes:
             "roundrobin": f"roundrobin {self.file('teams', b''.join(b't%d' % n + chr(10).encode() for n in range(100_000)))}",
             "roundrobin, 250": f"roundrobin {self.file('teams2', b''.join(b't%d' % n + chr(10).encode() for n in range(250)))}",
             "words": f"words {self.file('grid', (b'.' * 1000 + chr(10).encode()) * 900)} {self.file('list', b' '.join(b'%c' % (97 + n % 26) * 1000 for n in range(900)))}",
+            "a box of cubes": "polycubes pentacubes 45x45x45 --some",
+            "a box, more": "polycubes soma 999999999x999999999x999999999",
+            "a piece of cubes": f"polycubes {self.file('piece3', (b'A' * 300 + b' ') * 3 + chr(10).encode())} {self.file('region3', (b'.' * 300 + chr(10).encode()) * 300)}",
+            "a large piece of cubes": f"polycubes {self.file('piece4', (b'A' * 300 + chr(10).encode()) * 300)} {self.file('region4', (b'.' * 300 + chr(10).encode()) * 300)}",
             "tests": "tests 300,300,2 --tests 90000",
             "tests, levels": "tests 99999999^99999999,2 --tests 9",
             "tests, strength": "tests 1^90000 --tests 1 --strength 10",

@@ -2,7 +2,7 @@
 
 from typing import Dict
 
-from . import langford, polyominoes, queens, roster, roundrobin, sudoku, tests, words
+from . import langford, polycubes, polyominoes, queens, roster, roundrobin, sudoku, tests, words
 from .kind import Kind, kind_of
 
 KINDS: Dict[str, Kind] = {
@@ -12,6 +12,7 @@ KINDS: Dict[str, Kind] = {
         queens.KIND,
         langford.KIND,
         polyominoes.KIND,
+        polycubes.KIND,
         words.KIND,
         roster.KIND,
         roundrobin.KIND,
@@ -23,6 +24,7 @@ __all__ = [
     "Kind",
     "kind_of",
     "langford",
+    "polycubes",
     "polyominoes",
     "queens",
     "roster",
