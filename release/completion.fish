@@ -53,6 +53,7 @@ set -g __helgrothy_commands \
     'helgrothy make roster' \
     'helgrothy make roundrobin' \
     'helgrothy make tests' \
+    'helgrothy make timetable' \
     'helgrothy solve' \
     'helgrothy draw' \
     'helgrothy lint' \
@@ -70,11 +71,13 @@ set -g __helgrothy_commands \
     'helgrothy words' \
     'helgrothy roster' \
     'helgrothy roundrobin' \
-    'helgrothy tests'
+    'helgrothy tests' \
+    'helgrothy timetable'
 
 set -g __helgrothy_valued \
     'helgrothy make tests --tests' \
     'helgrothy make tests --strength' \
+    'helgrothy make timetable --daily' \
     'helgrothy solve --number' \
     'helgrothy solve --limit' \
     'helgrothy solve --seconds' \
@@ -124,7 +127,11 @@ set -g __helgrothy_valued \
     'helgrothy tests --strength' \
     'helgrothy tests --number' \
     'helgrothy tests --limit' \
-    'helgrothy tests --seconds'
+    'helgrothy tests --seconds' \
+    'helgrothy timetable --daily' \
+    'helgrothy timetable --number' \
+    'helgrothy timetable --limit' \
+    'helgrothy timetable --seconds'
 
 complete -c dlx1 -f
 complete -c dlx2 -f
@@ -157,6 +164,7 @@ complete -c helgrothy -n '__helgrothy_is \'helgrothy\' 1' -a words -d 'make and 
 complete -c helgrothy -n '__helgrothy_is \'helgrothy\' 1' -a roster -d 'make and solve shifts of people on days'
 complete -c helgrothy -n '__helgrothy_is \'helgrothy\' 1' -a roundrobin -d 'make and solve a round robin at home and away'
 complete -c helgrothy -n '__helgrothy_is \'helgrothy\' 1' -a tests -d 'make and solve tests in which values of factors come together'
+complete -c helgrothy -n '__helgrothy_is \'helgrothy\' 1' -a timetable -d 'make and solve lessons or exams in slots and rooms'
 complete -c helgrothy -n '__helgrothy_is \'helgrothy make\'' -s h -l help -d 'show this help message and exit'
 complete -c helgrothy -n '__helgrothy_is \'helgrothy make\' 1' -a sudoku -d 'a Sudoku from its clues'
 complete -c helgrothy -n '__helgrothy_is \'helgrothy make\' 1' -a queens -d 'queens on a board, or in coloured regions'
@@ -167,6 +175,7 @@ complete -c helgrothy -n '__helgrothy_is \'helgrothy make\' 1' -a words -d 'word
 complete -c helgrothy -n '__helgrothy_is \'helgrothy make\' 1' -a roster -d 'shifts of people on days'
 complete -c helgrothy -n '__helgrothy_is \'helgrothy make\' 1' -a roundrobin -d 'a round robin at home and away'
 complete -c helgrothy -n '__helgrothy_is \'helgrothy make\' 1' -a tests -d 'tests in which values of factors come together'
+complete -c helgrothy -n '__helgrothy_is \'helgrothy make\' 1' -a timetable -d 'lessons or exams in slots and rooms'
 complete -c helgrothy -n '__helgrothy_is \'helgrothy make sudoku\'' -s h -l help -d 'show this help message and exit'
 complete -c helgrothy -n '__helgrothy_is \'helgrothy make queens\'' -s h -l help -d 'show this help message and exit'
 complete -c helgrothy -n '__helgrothy_is \'helgrothy make langford\'' -s h -l help -d 'show this help message and exit'
@@ -184,6 +193,8 @@ complete -c helgrothy -n '__helgrothy_is \'helgrothy make roundrobin\'' -l doubl
 complete -c helgrothy -n '__helgrothy_is \'helgrothy make tests\'' -s h -l help -d 'show this help message and exit'
 complete -c helgrothy -n '__helgrothy_is \'helgrothy make tests\'' -l tests -r -f -d 'so many tests'
 complete -c helgrothy -n '__helgrothy_is \'helgrothy make tests\'' -l strength -r -f -d 'the values of any T factors come together (default: 2)'
+complete -c helgrothy -n '__helgrothy_is \'helgrothy make timetable\'' -s h -l help -d 'show this help message and exit'
+complete -c helgrothy -n '__helgrothy_is \'helgrothy make timetable\'' -l daily -r -f -d 'nobody has more than N lessons a day'
 complete -c helgrothy -n '__helgrothy_is \'helgrothy solve\'' -s h -l help -d 'show this help message and exit'
 complete -c helgrothy -n '__helgrothy_is \'helgrothy solve\'' -l number -r -f -d 'the K-th solution instead of the first'
 complete -c helgrothy -n '__helgrothy_is \'helgrothy solve\'' -l limit -r -f -d 'the first N solutions'
@@ -304,6 +315,15 @@ complete -c helgrothy -n '__helgrothy_is \'helgrothy tests\'' -l svg -d 'a pictu
 complete -c helgrothy -n '__helgrothy_is \'helgrothy tests\'' -l json -d 'a line of JSON for each solution: its number, the numbers of its options, their items, and the colours'
 complete -c helgrothy -n '__helgrothy_is \'helgrothy tests\'' -l csv -d 'a table as CSV, with a line for each choice'
 complete -c helgrothy -n '__helgrothy_is \'helgrothy tests\'' -l seconds -r -f -d 'give up after S seconds'
+complete -c helgrothy -n '__helgrothy_is \'helgrothy timetable\'' -s h -l help -d 'show this help message and exit'
+complete -c helgrothy -n '__helgrothy_is \'helgrothy timetable\'' -l daily -r -f -d 'nobody has more than N lessons a day'
+complete -c helgrothy -n '__helgrothy_is \'helgrothy timetable\'' -l number -r -f -d 'the K-th solution instead of the first'
+complete -c helgrothy -n '__helgrothy_is \'helgrothy timetable\'' -l limit -r -f -d 'the first N solutions'
+complete -c helgrothy -n '__helgrothy_is \'helgrothy timetable\'' -l all -d 'all solutions'
+complete -c helgrothy -n '__helgrothy_is \'helgrothy timetable\'' -l svg -d 'a picture as SVG, of one solution'
+complete -c helgrothy -n '__helgrothy_is \'helgrothy timetable\'' -l json -d 'a line of JSON for each solution: its number, the numbers of its options, their items, and the colours'
+complete -c helgrothy -n '__helgrothy_is \'helgrothy timetable\'' -l csv -d 'a table as CSV, with a line for each choice'
+complete -c helgrothy -n '__helgrothy_is \'helgrothy timetable\'' -l seconds -r -f -d 'give up after S seconds'
 complete -c dlx1 -n '__helgrothy_is \'dlx1\' 1+' -f -a 'm1 m1000 t1 t2'
 complete -c dlx2 -n '__helgrothy_is \'dlx2\' 1+' -f -a 'm1 m1000 t1 t2'
 complete -c dlx3 -n '__helgrothy_is \'dlx3\' 1+' -f -a 'm1 m1000 t1 t2'
@@ -324,6 +344,7 @@ complete -c helgrothy -n '__helgrothy_is \'helgrothy make words\' 2' -F
 complete -c helgrothy -n '__helgrothy_is \'helgrothy make roster\' 1' -F
 complete -c helgrothy -n '__helgrothy_is \'helgrothy make roundrobin\' 1' -F
 complete -c helgrothy -n '__helgrothy_is \'helgrothy make tests\' 1' -F
+complete -c helgrothy -n '__helgrothy_is \'helgrothy make timetable\' 1' -F
 complete -c helgrothy -n '__helgrothy_is \'helgrothy solve\' 1' -f -a '(__fish_complete_suffix .dlx)'
 complete -c helgrothy -n '__helgrothy_is \'helgrothy draw\' 1' -f -a '(__fish_complete_suffix .dlx)'
 complete -c helgrothy -n '__helgrothy_is \'helgrothy lint\' 1' -f -a '(__fish_complete_suffix .dlx)'
@@ -345,3 +366,4 @@ complete -c helgrothy -n '__helgrothy_is \'helgrothy words\' 2' -F
 complete -c helgrothy -n '__helgrothy_is \'helgrothy roster\' 1' -F
 complete -c helgrothy -n '__helgrothy_is \'helgrothy roundrobin\' 1' -F
 complete -c helgrothy -n '__helgrothy_is \'helgrothy tests\' 1' -F
+complete -c helgrothy -n '__helgrothy_is \'helgrothy timetable\' 1' -F

@@ -2,7 +2,7 @@
 
 from typing import Dict
 
-from . import langford, polycubes, polyominoes, queens, roster, roundrobin, sudoku, tests, words
+from . import langford, polycubes, polyominoes, queens, roster, roundrobin, sudoku, tests, timetable, words
 from .kind import Kind, kind_of
 
 KINDS: Dict[str, Kind] = {
@@ -17,6 +17,7 @@ KINDS: Dict[str, Kind] = {
         roster.KIND,
         roundrobin.KIND,
         tests.KIND,
+        timetable.KIND,
     )
 }
 __all__ = [
@@ -31,5 +32,6 @@ __all__ = [
     "roundrobin",
     "sudoku",
     "tests",
+    "timetable",
     "words",
 ]
