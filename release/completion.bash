@@ -63,10 +63,16 @@ _dlx_options() {
             options='--help' ;;
         'helgrothy make polyominoes')
             options='--help --no-turns --no-mirrors' ;;
+        'helgrothy make polycubes')
+            options='--help --mirrors --some' ;;
         'helgrothy make roster')
             options='--help --rest' ;;
         'helgrothy make roundrobin')
             options='--help --double' ;;
+        'helgrothy make tests')
+            options='--help --tests --strength' ;;
+        'helgrothy make timetable')
+            options='--help --daily' ;;
         'helgrothy solve')
             options='--help --number --limit --all --svg --json --csv --seconds --cell --row --column --label' ;;
         'helgrothy draw')
@@ -85,10 +91,16 @@ _dlx_options() {
             options='--help --number --limit --all --svg --json --csv --seconds' ;;
         'helgrothy polyominoes')
             options='--help --no-turns --no-mirrors --number --limit --all --svg --json --csv --seconds' ;;
+        'helgrothy polycubes')
+            options='--help --mirrors --some --number --limit --all --svg --json --csv --seconds' ;;
         'helgrothy roster')
             options='--help --rest --number --limit --all --svg --json --csv --seconds' ;;
         'helgrothy roundrobin')
             options='--help --double --number --limit --all --svg --json --csv --seconds' ;;
+        'helgrothy tests')
+            options='--help --tests --strength --least --number --limit --all --svg --json --csv --seconds' ;;
+        'helgrothy timetable')
+            options='--help --daily --number --limit --all --svg --json --csv --seconds' ;;
         *) return 1 ;;
     esac
 }
@@ -97,7 +109,7 @@ _dlx_options() {
 _dlx_value() {
     value=
     case $1 in
-        'helgrothy solve --number' | 'helgrothy solve --limit' | 'helgrothy solve --seconds' | 'helgrothy solve --cell' | 'helgrothy solve --row' | 'helgrothy solve --column' | 'helgrothy solve --label' | 'helgrothy draw --number' | 'helgrothy draw --cell' | 'helgrothy draw --row' | 'helgrothy draw --column' | 'helgrothy draw --label' | 'helgrothy why --seconds' | 'helgrothy search --jobs' | 'helgrothy search --dask' | 'helgrothy search --seconds' | 'helgrothy rows --count' | 'helgrothy sudoku --number' | 'helgrothy sudoku --limit' | 'helgrothy sudoku --seconds' | 'helgrothy queens --number' | 'helgrothy queens --limit' | 'helgrothy queens --seconds' | 'helgrothy langford --number' | 'helgrothy langford --limit' | 'helgrothy langford --seconds' | 'helgrothy polyominoes --number' | 'helgrothy polyominoes --limit' | 'helgrothy polyominoes --seconds' | 'helgrothy words --number' | 'helgrothy words --limit' | 'helgrothy words --seconds' | 'helgrothy roster --number' | 'helgrothy roster --limit' | 'helgrothy roster --seconds' | 'helgrothy roundrobin --number' | 'helgrothy roundrobin --limit' | 'helgrothy roundrobin --seconds')
+        'helgrothy make tests --tests' | 'helgrothy make tests --strength' | 'helgrothy make timetable --daily' | 'helgrothy solve --number' | 'helgrothy solve --limit' | 'helgrothy solve --seconds' | 'helgrothy solve --cell' | 'helgrothy solve --row' | 'helgrothy solve --column' | 'helgrothy solve --label' | 'helgrothy draw --number' | 'helgrothy draw --cell' | 'helgrothy draw --row' | 'helgrothy draw --column' | 'helgrothy draw --label' | 'helgrothy why --seconds' | 'helgrothy search --jobs' | 'helgrothy search --dask' | 'helgrothy search --seconds' | 'helgrothy rows --count' | 'helgrothy sudoku --number' | 'helgrothy sudoku --limit' | 'helgrothy sudoku --seconds' | 'helgrothy queens --number' | 'helgrothy queens --limit' | 'helgrothy queens --seconds' | 'helgrothy langford --number' | 'helgrothy langford --limit' | 'helgrothy langford --seconds' | 'helgrothy polyominoes --number' | 'helgrothy polyominoes --limit' | 'helgrothy polyominoes --seconds' | 'helgrothy polycubes --number' | 'helgrothy polycubes --limit' | 'helgrothy polycubes --seconds' | 'helgrothy words --number' | 'helgrothy words --limit' | 'helgrothy words --seconds' | 'helgrothy roster --number' | 'helgrothy roster --limit' | 'helgrothy roster --seconds' | 'helgrothy roundrobin --number' | 'helgrothy roundrobin --limit' | 'helgrothy roundrobin --seconds' | 'helgrothy tests --tests' | 'helgrothy tests --strength' | 'helgrothy tests --number' | 'helgrothy tests --limit' | 'helgrothy tests --seconds' | 'helgrothy timetable --daily' | 'helgrothy timetable --number' | 'helgrothy timetable --limit' | 'helgrothy timetable --seconds')
             value='words' ;;
         'helgrothy lint --for' | 'helgrothy search --for' | 'helgrothy rows --for')
             value='words dlx1 dlx2 dlx3' ;;
@@ -118,18 +130,20 @@ _dlx_place() {
         'dlx-span:2' | 'dlx-join:1')
             value='words m0 m1' ;;
         'helgrothy:1')
-            value='words make solve draw lint export why search status result rows sudoku queens langford polyominoes words roster roundrobin' ;;
+            value='words make solve draw lint export why search status result rows sudoku queens langford polyominoes polycubes words roster roundrobin tests timetable' ;;
         'helgrothy make:1')
-            value='words sudoku queens langford polyominoes words roster roundrobin' ;;
+            value='words sudoku queens langford polyominoes polycubes words roster roundrobin tests timetable' ;;
         'helgrothy make polyominoes:1' | 'helgrothy polyominoes:1')
             value='file pentominoes tetrominoes' ;;
+        'helgrothy make polycubes:1' | 'helgrothy polycubes:1')
+            value='file pentacubes pentominoes soma tetracubes tetrominoes' ;;
         'helgrothy export:1')
             value='words asp cnf opb' ;;
         'helgrothy status:1' | 'helgrothy result:1')
             value='folder' ;;
         'dlx1:'* | 'dlx2:'* | 'dlx3:'*)
             value='words m1 m1000 t1 t2' ;;
-        'dlx-join:'* | 'helgrothy make sudoku:1' | 'helgrothy make queens:1' | 'helgrothy make polyominoes:2' | 'helgrothy make words:1' | 'helgrothy make words:2' | 'helgrothy make roster:1' | 'helgrothy make roundrobin:1' | 'helgrothy sudoku:1' | 'helgrothy queens:1' | 'helgrothy polyominoes:2' | 'helgrothy words:1' | 'helgrothy words:2' | 'helgrothy roster:1' | 'helgrothy roundrobin:1')
+        'dlx-join:'* | 'helgrothy make sudoku:1' | 'helgrothy make queens:1' | 'helgrothy make polyominoes:2' | 'helgrothy make polycubes:2' | 'helgrothy make words:1' | 'helgrothy make words:2' | 'helgrothy make roster:1' | 'helgrothy make roundrobin:1' | 'helgrothy make tests:1' | 'helgrothy make timetable:1' | 'helgrothy sudoku:1' | 'helgrothy queens:1' | 'helgrothy polyominoes:2' | 'helgrothy polycubes:2' | 'helgrothy words:1' | 'helgrothy words:2' | 'helgrothy roster:1' | 'helgrothy roundrobin:1' | 'helgrothy tests:1' | 'helgrothy timetable:1')
             value='file' ;;
     esac
 }

@@ -21,7 +21,7 @@ from .errors import HelgrothyError, NoPicture, OutOfTime
 from .export import FORMATS
 from .lint import lint
 from .make import KINDS
-from .make.kind import Kind
+from .make.kind import Found, Kind
 from .problem import Problem
 from .spans import commands as spans
 from .table import Table
@@ -126,6 +126,7 @@ def _add_kind(commands: Any, kind: Kind) -> None:
         kind.name, help=f"make and solve {kind.help}", description=f"Makes, solves and draws {kind.help}."
     )
     kind.add_arguments(parser)
+    kind.add_search_arguments(parser)
     _add_solving(parser)
     parser.set_defaults(command=_make_and_solve, kind=kind, cell=None, row=None, column=None, label=None)
 
@@ -159,7 +160,20 @@ def _solve(arguments: argparse.Namespace) -> int:
 
 
 def _make_and_solve(arguments: argparse.Namespace) -> int:
-    return _show(arguments.kind.make(arguments), arguments)
+    kind: Kind = arguments.kind
+    found = kind.search(arguments, None if arguments.seconds is None else arguments.seconds * _SHARE)
+    return _show(kind.make(arguments), arguments) if found is None else _show_found(found, arguments)
+
+
+def _show_found(found: Found, arguments: argparse.Namespace) -> int:
+    """Shows the one solution that a kind's own search found."""
+    if arguments.all or arguments.limit or arguments.number:
+        raise ValueError("this search finds one solution: without --all, --limit and --number")
+    options = found.problem.options
+    show = _showing(found.problem, arguments, _listed_options)
+    show(1, [options[number] for number in found.numbers], lambda _: found.numbers)
+    console.say(found.remark)
+    return 0
 
 
 def _show(problem: Problem[Any], arguments: argparse.Namespace) -> int:

@@ -2,7 +2,7 @@
 
 from typing import Dict
 
-from . import langford, polyominoes, queens, roster, roundrobin, sudoku, words
+from . import langford, polycubes, polyominoes, queens, roster, roundrobin, sudoku, tests, timetable, words
 from .kind import Kind, kind_of
 
 KINDS: Dict[str, Kind] = {
@@ -12,9 +12,12 @@ KINDS: Dict[str, Kind] = {
         queens.KIND,
         langford.KIND,
         polyominoes.KIND,
+        polycubes.KIND,
         words.KIND,
         roster.KIND,
         roundrobin.KIND,
+        tests.KIND,
+        timetable.KIND,
     )
 }
 __all__ = [
@@ -22,10 +25,13 @@ __all__ = [
     "Kind",
     "kind_of",
     "langford",
+    "polycubes",
     "polyominoes",
     "queens",
     "roster",
     "roundrobin",
     "sudoku",
+    "tests",
+    "timetable",
     "words",
 ]
