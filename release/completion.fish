@@ -49,6 +49,8 @@ set -g __helgrothy_commands \
     'helgrothy make langford' \
     'helgrothy make polyominoes' \
     'helgrothy make words' \
+    'helgrothy make nonogram' \
+    'helgrothy make kakuro' \
     'helgrothy make roster' \
     'helgrothy make roundrobin' \
     'helgrothy solve' \
@@ -65,10 +67,14 @@ set -g __helgrothy_commands \
     'helgrothy langford' \
     'helgrothy polyominoes' \
     'helgrothy words' \
+    'helgrothy nonogram' \
+    'helgrothy kakuro' \
     'helgrothy roster' \
     'helgrothy roundrobin'
 
 set -g __helgrothy_valued \
+    'helgrothy make sudoku --regions' \
+    'helgrothy make sudoku --cages' \
     'helgrothy solve --number' \
     'helgrothy solve --limit' \
     'helgrothy solve --seconds' \
@@ -90,6 +96,8 @@ set -g __helgrothy_valued \
     'helgrothy search --for' \
     'helgrothy rows --count' \
     'helgrothy rows --for' \
+    'helgrothy sudoku --regions' \
+    'helgrothy sudoku --cages' \
     'helgrothy sudoku --number' \
     'helgrothy sudoku --limit' \
     'helgrothy sudoku --seconds' \
@@ -105,6 +113,12 @@ set -g __helgrothy_valued \
     'helgrothy words --number' \
     'helgrothy words --limit' \
     'helgrothy words --seconds' \
+    'helgrothy nonogram --number' \
+    'helgrothy nonogram --limit' \
+    'helgrothy nonogram --seconds' \
+    'helgrothy kakuro --number' \
+    'helgrothy kakuro --limit' \
+    'helgrothy kakuro --seconds' \
     'helgrothy roster --number' \
     'helgrothy roster --limit' \
     'helgrothy roster --seconds' \
@@ -139,6 +153,8 @@ complete -c helgrothy -n '__helgrothy_is \'helgrothy\' 1' -a queens -d 'make and
 complete -c helgrothy -n '__helgrothy_is \'helgrothy\' 1' -a langford -d 'make and solve Langford\'s pairs'
 complete -c helgrothy -n '__helgrothy_is \'helgrothy\' 1' -a polyominoes -d 'make and solve pieces of squares that fill a region'
 complete -c helgrothy -n '__helgrothy_is \'helgrothy\' 1' -a words -d 'make and solve words across and down in a grid'
+complete -c helgrothy -n '__helgrothy_is \'helgrothy\' 1' -a nonogram -d 'make and solve a nonogram from its clues'
+complete -c helgrothy -n '__helgrothy_is \'helgrothy\' 1' -a kakuro -d 'make and solve a Kakuro from its grid'
 complete -c helgrothy -n '__helgrothy_is \'helgrothy\' 1' -a roster -d 'make and solve shifts of people on days'
 complete -c helgrothy -n '__helgrothy_is \'helgrothy\' 1' -a roundrobin -d 'make and solve a round robin at home and away'
 complete -c helgrothy -n '__helgrothy_is \'helgrothy make\'' -s h -l help -d 'show this help message and exit'
@@ -147,15 +163,21 @@ complete -c helgrothy -n '__helgrothy_is \'helgrothy make\' 1' -a queens -d 'que
 complete -c helgrothy -n '__helgrothy_is \'helgrothy make\' 1' -a langford -d 'Langford\'s pairs'
 complete -c helgrothy -n '__helgrothy_is \'helgrothy make\' 1' -a polyominoes -d 'pieces of squares that fill a region'
 complete -c helgrothy -n '__helgrothy_is \'helgrothy make\' 1' -a words -d 'words across and down in a grid'
+complete -c helgrothy -n '__helgrothy_is \'helgrothy make\' 1' -a nonogram -d 'a nonogram from its clues'
+complete -c helgrothy -n '__helgrothy_is \'helgrothy make\' 1' -a kakuro -d 'a Kakuro from its grid'
 complete -c helgrothy -n '__helgrothy_is \'helgrothy make\' 1' -a roster -d 'shifts of people on days'
 complete -c helgrothy -n '__helgrothy_is \'helgrothy make\' 1' -a roundrobin -d 'a round robin at home and away'
 complete -c helgrothy -n '__helgrothy_is \'helgrothy make sudoku\'' -s h -l help -d 'show this help message and exit'
+complete -c helgrothy -n '__helgrothy_is \'helgrothy make sudoku\'' -l regions -r -F -d 'a file with a picture of the regions, a letter for each place'
+complete -c helgrothy -n '__helgrothy_is \'helgrothy make sudoku\'' -l cages -r -F -d 'a file with a line for each cage, its sum and its places (12 r1c1 r1c2); or with a picture, a letter for each place, and behind a blank line the sums (a=12 b=7)'
 complete -c helgrothy -n '__helgrothy_is \'helgrothy make queens\'' -s h -l help -d 'show this help message and exit'
 complete -c helgrothy -n '__helgrothy_is \'helgrothy make langford\'' -s h -l help -d 'show this help message and exit'
 complete -c helgrothy -n '__helgrothy_is \'helgrothy make polyominoes\'' -s h -l help -d 'show this help message and exit'
 complete -c helgrothy -n '__helgrothy_is \'helgrothy make polyominoes\'' -l no-turns -d 'pieces may not be turned'
 complete -c helgrothy -n '__helgrothy_is \'helgrothy make polyominoes\'' -l no-mirrors -d 'pieces may not be mirrored'
 complete -c helgrothy -n '__helgrothy_is \'helgrothy make words\'' -s h -l help -d 'show this help message and exit'
+complete -c helgrothy -n '__helgrothy_is \'helgrothy make nonogram\'' -s h -l help -d 'show this help message and exit'
+complete -c helgrothy -n '__helgrothy_is \'helgrothy make kakuro\'' -s h -l help -d 'show this help message and exit'
 complete -c helgrothy -n '__helgrothy_is \'helgrothy make roster\'' -s h -l help -d 'show this help message and exit'
 complete -c helgrothy -n '__helgrothy_is \'helgrothy make roster\'' -l rest -d 'no shift on the next day that stands higher in the table'
 complete -c helgrothy -n '__helgrothy_is \'helgrothy make roundrobin\'' -s h -l help -d 'show this help message and exit'
@@ -200,6 +222,8 @@ complete -c helgrothy -n '__helgrothy_is \'helgrothy rows\'' -s h -l help -d 'sh
 complete -c helgrothy -n '__helgrothy_is \'helgrothy rows\'' -l count -r -f -d 'up to N rows (default: 100)'
 complete -c helgrothy -n '__helgrothy_is \'helgrothy rows\'' -l for -r -f -a 'dlx1 dlx2 dlx3' -d 'the program (default: the first that takes such a text)'
 complete -c helgrothy -n '__helgrothy_is \'helgrothy sudoku\'' -s h -l help -d 'show this help message and exit'
+complete -c helgrothy -n '__helgrothy_is \'helgrothy sudoku\'' -l regions -r -F -d 'a file with a picture of the regions, a letter for each place'
+complete -c helgrothy -n '__helgrothy_is \'helgrothy sudoku\'' -l cages -r -F -d 'a file with a line for each cage, its sum and its places (12 r1c1 r1c2); or with a picture, a letter for each place, and behind a blank line the sums (a=12 b=7)'
 complete -c helgrothy -n '__helgrothy_is \'helgrothy sudoku\'' -l number -r -f -d 'the K-th solution instead of the first'
 complete -c helgrothy -n '__helgrothy_is \'helgrothy sudoku\'' -l limit -r -f -d 'the first N solutions'
 complete -c helgrothy -n '__helgrothy_is \'helgrothy sudoku\'' -l all -d 'all solutions'
@@ -241,6 +265,22 @@ complete -c helgrothy -n '__helgrothy_is \'helgrothy words\'' -l svg -d 'a pictu
 complete -c helgrothy -n '__helgrothy_is \'helgrothy words\'' -l json -d 'a line of JSON for each solution: its number, the numbers of its options, their items, and the colours'
 complete -c helgrothy -n '__helgrothy_is \'helgrothy words\'' -l csv -d 'a table as CSV, with a line for each choice'
 complete -c helgrothy -n '__helgrothy_is \'helgrothy words\'' -l seconds -r -f -d 'give up after S seconds'
+complete -c helgrothy -n '__helgrothy_is \'helgrothy nonogram\'' -s h -l help -d 'show this help message and exit'
+complete -c helgrothy -n '__helgrothy_is \'helgrothy nonogram\'' -l number -r -f -d 'the K-th solution instead of the first'
+complete -c helgrothy -n '__helgrothy_is \'helgrothy nonogram\'' -l limit -r -f -d 'the first N solutions'
+complete -c helgrothy -n '__helgrothy_is \'helgrothy nonogram\'' -l all -d 'all solutions'
+complete -c helgrothy -n '__helgrothy_is \'helgrothy nonogram\'' -l svg -d 'a picture as SVG, of one solution'
+complete -c helgrothy -n '__helgrothy_is \'helgrothy nonogram\'' -l json -d 'a line of JSON for each solution: its number, the numbers of its options, their items, and the colours'
+complete -c helgrothy -n '__helgrothy_is \'helgrothy nonogram\'' -l csv -d 'a table as CSV, with a line for each choice'
+complete -c helgrothy -n '__helgrothy_is \'helgrothy nonogram\'' -l seconds -r -f -d 'give up after S seconds'
+complete -c helgrothy -n '__helgrothy_is \'helgrothy kakuro\'' -s h -l help -d 'show this help message and exit'
+complete -c helgrothy -n '__helgrothy_is \'helgrothy kakuro\'' -l number -r -f -d 'the K-th solution instead of the first'
+complete -c helgrothy -n '__helgrothy_is \'helgrothy kakuro\'' -l limit -r -f -d 'the first N solutions'
+complete -c helgrothy -n '__helgrothy_is \'helgrothy kakuro\'' -l all -d 'all solutions'
+complete -c helgrothy -n '__helgrothy_is \'helgrothy kakuro\'' -l svg -d 'a picture as SVG, of one solution'
+complete -c helgrothy -n '__helgrothy_is \'helgrothy kakuro\'' -l json -d 'a line of JSON for each solution: its number, the numbers of its options, their items, and the colours'
+complete -c helgrothy -n '__helgrothy_is \'helgrothy kakuro\'' -l csv -d 'a table as CSV, with a line for each choice'
+complete -c helgrothy -n '__helgrothy_is \'helgrothy kakuro\'' -l seconds -r -f -d 'give up after S seconds'
 complete -c helgrothy -n '__helgrothy_is \'helgrothy roster\'' -s h -l help -d 'show this help message and exit'
 complete -c helgrothy -n '__helgrothy_is \'helgrothy roster\'' -l rest -d 'no shift on the next day that stands higher in the table'
 complete -c helgrothy -n '__helgrothy_is \'helgrothy roster\'' -l number -r -f -d 'the K-th solution instead of the first'
@@ -274,6 +314,8 @@ complete -c helgrothy -n '__helgrothy_is \'helgrothy make polyominoes\' 1' -F -a
 complete -c helgrothy -n '__helgrothy_is \'helgrothy make polyominoes\' 2' -F
 complete -c helgrothy -n '__helgrothy_is \'helgrothy make words\' 1' -F
 complete -c helgrothy -n '__helgrothy_is \'helgrothy make words\' 2' -F
+complete -c helgrothy -n '__helgrothy_is \'helgrothy make nonogram\' 1' -F
+complete -c helgrothy -n '__helgrothy_is \'helgrothy make kakuro\' 1' -F
 complete -c helgrothy -n '__helgrothy_is \'helgrothy make roster\' 1' -F
 complete -c helgrothy -n '__helgrothy_is \'helgrothy make roundrobin\' 1' -F
 complete -c helgrothy -n '__helgrothy_is \'helgrothy solve\' 1' -f -a '(__fish_complete_suffix .dlx)'
@@ -292,5 +334,7 @@ complete -c helgrothy -n '__helgrothy_is \'helgrothy polyominoes\' 1' -F -a 'pen
 complete -c helgrothy -n '__helgrothy_is \'helgrothy polyominoes\' 2' -F
 complete -c helgrothy -n '__helgrothy_is \'helgrothy words\' 1' -F
 complete -c helgrothy -n '__helgrothy_is \'helgrothy words\' 2' -F
+complete -c helgrothy -n '__helgrothy_is \'helgrothy nonogram\' 1' -F
+complete -c helgrothy -n '__helgrothy_is \'helgrothy kakuro\' 1' -F
 complete -c helgrothy -n '__helgrothy_is \'helgrothy roster\' 1' -F
 complete -c helgrothy -n '__helgrothy_is \'helgrothy roundrobin\' 1' -F

@@ -42,7 +42,7 @@ TIMES, MORE = 3, 0.3
 ELEMENTS = {"svg", "title", "rect", "path", "text", "g"}
 ATTRIBUTES = {
     "width", "height", "viewBox", "font-family", "font-size", "font-weight", "text-anchor", "x", "y", "fill", "d",
-    "stroke", "stroke-width", "stroke-linecap", "transform",
+    "stroke", "stroke-width", "stroke-linecap", "stroke-dasharray", "transform",
 }  # fmt: skip
 
 # Bytes that have a meaning to terminals, browsers, shells, Python or the texts of problems.
@@ -200,7 +200,11 @@ PIECES = b"LL\nL\n\nII\n\nO\n"
 REGION = b"...\n.#.\n...\n"
 REGIONS = b"aabb\naabb\nccdd\nccdd\n"
 CLUES = b"1234\n3412\n2143\n43..\n"
-TABLES = [ROSTER, TEAMS, GRID, LIST, PIECES, REGION, REGIONS, CLUES]
+JIGSAW = b"aaab\naccb\ndccb\ndddb\n"
+CAGES = [b"5 r1c1 r1c2\n10 r2c1 r2c2 r3c1 r3c2\n", b"aabb\naabb\nccdd\nccdd\n\na=10 b=10\nc=10 d=10\n"]
+NONOGRAM = [b"2\n1 1\n3\n\n3\n1 1\n2\n", b"width 2\nheight 1\nrows\n1\ncolumns\n1\n0\n"]
+KAKURO = b"# 4\\ 3\\\n\\4 . .\n\\3 . 1\n"
+TABLES = [ROSTER, TEAMS, GRID, LIST, PIECES, REGION, REGIONS, CLUES, JIGSAW, *CAGES, *NONOGRAM, KAKURO]
 MADE = [
     problem.text.encode()
     for problem in (
@@ -208,6 +212,9 @@ MADE = [
         make.queens.problem(regions="abbb\naabc\ndacc\nddcc\n"),
         make.langford.problem(3),
         make.sudoku.problem(CLUES.decode()),
+        make.sudoku.problem(regions=JIGSAW.decode(), cages=CAGES[0].decode()),
+        make.nonogram.problem(NONOGRAM[0].decode()),
+        make.kakuro.problem(KAKURO.decode()),
         make.roster.problem(ROSTER.decode()),
         make.roundrobin.problem(TEAMS.decode().splitlines()),
         make.words.problem(GRID.decode(), LIST.decode().split()),
@@ -295,10 +302,17 @@ class Try:
         if kind == "langford":
             return kind, [rng.choice(["3", "4", *WORDS])]
         if kind == "sudoku":
-            return kind, [rng.choice([CLUES.decode().replace("\n", ""), self.input(changed(rng, CLUES)), *WORDS])]
+            words = [rng.choice([CLUES.decode().replace("\n", ""), self.input(changed(rng, CLUES)), *WORDS])]
+            if rng.random() < 0.5:
+                words = rng.choice([[], words, ["." * 16]])
+                for name, table in (("--regions", JIGSAW), ("--cages", rng.choice(CAGES))):
+                    content = changed(rng, table if rng.random() < 0.9 else rng.choice(TABLES))
+                    words += rng.choice([[], [f"{name}={self.file(content)}"]])
+            return kind, words
         if kind == "queens":
             return kind, [rng.choice(["5", "6", self.input(changed(rng, rng.choice([REGIONS, *TABLES]))), *WORDS])]
-        given = {"words": [GRID, LIST], "polyominoes": [PIECES, REGION], "roster": [ROSTER], "roundrobin": [TEAMS]}[kind]
+        given = {"words": [GRID, LIST], "polyominoes": [PIECES, REGION], "roster": [ROSTER], "roundrobin": [TEAMS],
+                 "nonogram": [rng.choice(NONOGRAM)], "kakuro": [KAKURO]}[kind]  # fmt: skip
         tables = [self.file(changed(rng, table if rng.random() < 0.9 else rng.choice(TABLES))) for table in given]
         if rng.random() < 0.1:
             tables[-1] = rng.choice(WORDS)
@@ -652,6 +666,17 @@ class Processes:
             "words, given": f"words {self.file('grid2', b'ab#' * 300_000)} {self.file('list2', ' '.join('a' + chr(0x4E00 + n) for n in range(20_000)).encode())}",
             "a piece": f"polyominoes {self.file('piece', (b'A' * 1000 + chr(10).encode()) * 900)} {self.file('region', (b'.' * 1000 + chr(10).encode()) * 90)}",
             "pieces": f"polyominoes {self.file('piece2', (b'A' * 150 + chr(10).encode()) * 150)} {self.file('region2', ((b'.' * 299 + b'#') + chr(10).encode()) * 300)}",
+            "nonogram": f"nonogram {self.file('nono', (b'1 1 1 1 1 1' + chr(10).encode()) * 100 + chr(10).encode() + b'6' + chr(10).encode() + (b'6' + chr(10).encode()) * 99)}",
+            "nonogram, many": f"nonogram {self.file('nono2', (b'1 1 1 1 1 1' + chr(10).encode()) * 60 + chr(10).encode() + (b'2 2 2' + chr(10).encode()) * 60)}",
+            "nonogram, lines": f"nonogram {self.file('nono3', (b'1' + chr(10).encode()) * 500_000)}",
+            "nonogram, one line": f"nonogram {self.file('nono4', b'1 ' * 500_000 + chr(10).encode() * 2 + b'1')}",
+            "kakuro": f"kakuro {self.file('kakuro', (b'. ' * 1000 + chr(10).encode()) * 500)}",
+            "kakuro, sums": f"kakuro {self.file('kakuro2', (bytes([92]) + b'45 ' + b'. ' * 9) * 50_000)}",
+            "kakuro, black": f"kakuro {self.file('kakuro3', (b'# ' * 1000 + chr(10).encode()) * 500)}",
+            "sudoku": f"sudoku {self.file('clues', b'.' * 1_000_000)}",
+            "sudoku, regions": f"sudoku --regions {self.file('regions', (b'a' * 1000 + chr(10).encode()) * 1000)}",
+            "sudoku, cages": f"sudoku --cages {self.file('cages', b'5 r1c1 r1c2' + chr(10).encode() + b'9 r9c9' * 100_000)}",
+            "sudoku, large cages": f"sudoku {'.' * 625} --cages {self.file('cages2', chr(10).join('160 ' + ' '.join(f'r{r}c{c}' for c in range(1, 13)) for r in range(1, 26)).encode())}",
         }.items():
             seconds, done = self.timed(f"ulimit -v {MEMORY >> 10}; helgrothy make {command} >/dev/null")
             is_well = done.returncode in (0, 2) and seconds < HANG and b"Traceback" not in done.stderr and b"memory" not in done.stderr

@@ -2,7 +2,7 @@
 
 from typing import Dict
 
-from . import langford, polyominoes, queens, roster, roundrobin, sudoku, words
+from . import kakuro, langford, nonogram, polyominoes, queens, roster, roundrobin, sudoku, words
 from .kind import Kind, kind_of
 
 KINDS: Dict[str, Kind] = {
@@ -13,6 +13,8 @@ KINDS: Dict[str, Kind] = {
         langford.KIND,
         polyominoes.KIND,
         words.KIND,
+        nonogram.KIND,
+        kakuro.KIND,
         roster.KIND,
         roundrobin.KIND,
     )
@@ -21,7 +23,9 @@ __all__ = [
     "KINDS",
     "Kind",
     "kind_of",
+    "kakuro",
     "langford",
+    "nonogram",
     "polyominoes",
     "queens",
     "roster",
