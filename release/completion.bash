@@ -59,7 +59,7 @@ _dlx_options() {
             options='' ;;
         'dlx-progress' | 'helgrothy')
             options='--help --version' ;;
-        'helgrothy make' | 'helgrothy make queens' | 'helgrothy make langford' | 'helgrothy make words' | 'helgrothy make nonogram' | 'helgrothy make kakuro' | 'helgrothy export' | 'helgrothy status')
+        'helgrothy make' | 'helgrothy make queens' | 'helgrothy make langford' | 'helgrothy make words' | 'helgrothy make nonogram' | 'helgrothy make kakuro' | 'helgrothy export' | 'helgrothy import' | 'helgrothy status')
             options='--help' ;;
         'helgrothy make sudoku')
             options='--help --regions --cages' ;;
@@ -117,20 +117,22 @@ _dlx_value() {
 _dlx_place() {
     value=
     case $1:$2 in
-        'dlxcheck:1' | 'helgrothy solve:1' | 'helgrothy draw:1' | 'helgrothy lint:1' | 'helgrothy export:2' | 'helgrothy why:1' | 'helgrothy search:1' | 'helgrothy rows:1')
+        'dlxcheck:1' | 'helgrothy solve:1' | 'helgrothy draw:1' | 'helgrothy lint:1' | 'helgrothy export:2' | 'helgrothy import:2' | 'helgrothy why:1' | 'helgrothy search:1' | 'helgrothy rows:1')
             value='problem' ;;
         'dlxcheck:2' | 'dlx-span:1')
             value='words 1 2 3' ;;
         'dlx-span:2' | 'dlx-join:1')
             value='words m0 m1' ;;
         'helgrothy:1')
-            value='words make solve draw lint export why search status result rows sudoku queens langford polyominoes words nonogram kakuro roster roundrobin' ;;
+            value='words make solve draw lint export import why search status result rows sudoku queens langford polyominoes words nonogram kakuro roster roundrobin' ;;
         'helgrothy make:1')
             value='words sudoku queens langford polyominoes words nonogram kakuro roster roundrobin' ;;
         'helgrothy make polyominoes:1' | 'helgrothy polyominoes:1')
             value='file pentominoes tetrominoes' ;;
         'helgrothy export:1')
             value='words asp cnf opb' ;;
+        'helgrothy import:1')
+            value='words cadical clasp' ;;
         'helgrothy status:1' | 'helgrothy result:1')
             value='folder' ;;
         'dlx1:'* | 'dlx2:'* | 'dlx3:'*)

@@ -57,6 +57,7 @@ set -g __helgrothy_commands \
     'helgrothy draw' \
     'helgrothy lint' \
     'helgrothy export' \
+    'helgrothy import' \
     'helgrothy why' \
     'helgrothy search' \
     'helgrothy status' \
@@ -143,6 +144,7 @@ complete -c helgrothy -n '__helgrothy_is \'helgrothy\' 1' -a solve -d 'solve a p
 complete -c helgrothy -n '__helgrothy_is \'helgrothy\' 1' -a draw -d 'draw a listing'
 complete -c helgrothy -n '__helgrothy_is \'helgrothy\' 1' -a lint -d 'tell all faults and slips of a problem'
 complete -c helgrothy -n '__helgrothy_is \'helgrothy\' 1' -a export -d 'write a problem for another solver'
+complete -c helgrothy -n '__helgrothy_is \'helgrothy\' 1' -a import -d 'read another solver\'s answer as a listing'
 complete -c helgrothy -n '__helgrothy_is \'helgrothy\' 1' -a why -d 'tell which items conflict where there is no solution'
 complete -c helgrothy -n '__helgrothy_is \'helgrothy\' 1' -a search -d 'count or list all solutions, by all processors or many machines'
 complete -c helgrothy -n '__helgrothy_is \'helgrothy\' 1' -a status -d 'tell how far a search is'
@@ -206,6 +208,7 @@ complete -c helgrothy -n '__helgrothy_is \'helgrothy draw\'' -l label -r -f -d '
 complete -c helgrothy -n '__helgrothy_is \'helgrothy lint\'' -s h -l help -d 'show this help message and exit'
 complete -c helgrothy -n '__helgrothy_is \'helgrothy lint\'' -l for -r -f -a 'dlx1 dlx2 dlx3' -d 'default: dlx3'
 complete -c helgrothy -n '__helgrothy_is \'helgrothy export\'' -s h -l help -d 'show this help message and exit'
+complete -c helgrothy -n '__helgrothy_is \'helgrothy import\'' -s h -l help -d 'show this help message and exit'
 complete -c helgrothy -n '__helgrothy_is \'helgrothy why\'' -s h -l help -d 'show this help message and exit'
 complete -c helgrothy -n '__helgrothy_is \'helgrothy why\'' -l seconds -r -f -d 'the time (default: 10)'
 complete -c helgrothy -n '__helgrothy_is \'helgrothy search\'' -s h -l help -d 'show this help message and exit'
@@ -323,6 +326,8 @@ complete -c helgrothy -n '__helgrothy_is \'helgrothy draw\' 1' -f -a '(__fish_co
 complete -c helgrothy -n '__helgrothy_is \'helgrothy lint\' 1' -f -a '(__fish_complete_suffix .dlx)'
 complete -c helgrothy -n '__helgrothy_is \'helgrothy export\' 1' -f -a 'asp cnf opb'
 complete -c helgrothy -n '__helgrothy_is \'helgrothy export\' 2' -f -a '(__fish_complete_suffix .dlx)'
+complete -c helgrothy -n '__helgrothy_is \'helgrothy import\' 1' -f -a 'cadical clasp'
+complete -c helgrothy -n '__helgrothy_is \'helgrothy import\' 2' -f -a '(__fish_complete_suffix .dlx)'
 complete -c helgrothy -n '__helgrothy_is \'helgrothy why\' 1' -f -a '(__fish_complete_suffix .dlx)'
 complete -c helgrothy -n '__helgrothy_is \'helgrothy search\' 1' -f -a '(__fish_complete_suffix .dlx)'
 complete -c helgrothy -n '__helgrothy_is \'helgrothy status\' 1' -f -a '(__fish_complete_directories)'

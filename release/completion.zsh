@@ -73,7 +73,7 @@ _helgrothy_options() {
             commands=() ;;
         'helgrothy')
             options=('--help:show this help message and exit' '--version:show program'\''s version number and exit')
-            commands=('make:write a problem' 'solve:solve a problem and draw what is found' 'draw:draw a listing' 'lint:tell all faults and slips of a problem' 'export:write a problem for another solver' 'why:tell which items conflict where there is no solution' 'search:count or list all solutions, by all processors or many machines' 'status:tell how far a search is' 'result:print what a search that is done has found' 'rows:print rows at which a search may be cut' 'sudoku:make and solve a Sudoku from its clues' 'queens:make and solve queens on a board, or in coloured regions' 'langford:make and solve Langford'\''s pairs' 'polyominoes:make and solve pieces of squares that fill a region' 'words:make and solve words across and down in a grid' 'nonogram:make and solve a nonogram from its clues' 'kakuro:make and solve a Kakuro from its grid' 'roster:make and solve shifts of people on days' 'roundrobin:make and solve a round robin at home and away') ;;
+            commands=('make:write a problem' 'solve:solve a problem and draw what is found' 'draw:draw a listing' 'lint:tell all faults and slips of a problem' 'export:write a problem for another solver' 'import:read another solver'\''s answer as a listing' 'why:tell which items conflict where there is no solution' 'search:count or list all solutions, by all processors or many machines' 'status:tell how far a search is' 'result:print what a search that is done has found' 'rows:print rows at which a search may be cut' 'sudoku:make and solve a Sudoku from its clues' 'queens:make and solve queens on a board, or in coloured regions' 'langford:make and solve Langford'\''s pairs' 'polyominoes:make and solve pieces of squares that fill a region' 'words:make and solve words across and down in a grid' 'nonogram:make and solve a nonogram from its clues' 'kakuro:make and solve a Kakuro from its grid' 'roster:make and solve shifts of people on days' 'roundrobin:make and solve a round robin at home and away') ;;
         'helgrothy make')
             options=('--help:show this help message and exit')
             commands=('sudoku:a Sudoku from its clues' 'queens:queens on a board, or in coloured regions' 'langford:Langford'\''s pairs' 'polyominoes:pieces of squares that fill a region' 'words:words across and down in a grid' 'nonogram:a nonogram from its clues' 'kakuro:a Kakuro from its grid' 'roster:shifts of people on days' 'roundrobin:a round robin at home and away') ;;
@@ -114,6 +114,9 @@ _helgrothy_options() {
             options=('--help:show this help message and exit' '--for:default: dlx3')
             commands=() ;;
         'helgrothy export')
+            options=('--help:show this help message and exit')
+            commands=() ;;
+        'helgrothy import')
             options=('--help:show this help message and exit')
             commands=() ;;
         'helgrothy why')
@@ -182,20 +185,22 @@ _helgrothy_value() {
 _helgrothy_place() {
     value=
     case $1:$2 in
-        'dlxcheck:1' | 'helgrothy solve:1' | 'helgrothy draw:1' | 'helgrothy lint:1' | 'helgrothy export:2' | 'helgrothy why:1' | 'helgrothy search:1' | 'helgrothy rows:1')
+        'dlxcheck:1' | 'helgrothy solve:1' | 'helgrothy draw:1' | 'helgrothy lint:1' | 'helgrothy export:2' | 'helgrothy import:2' | 'helgrothy why:1' | 'helgrothy search:1' | 'helgrothy rows:1')
             value='problem' ;;
         'dlxcheck:2' | 'dlx-span:1')
             value='words 1 2 3' ;;
         'dlx-span:2' | 'dlx-join:1')
             value='words m0 m1' ;;
         'helgrothy:1')
-            value='words make solve draw lint export why search status result rows sudoku queens langford polyominoes words nonogram kakuro roster roundrobin' ;;
+            value='words make solve draw lint export import why search status result rows sudoku queens langford polyominoes words nonogram kakuro roster roundrobin' ;;
         'helgrothy make:1')
             value='words sudoku queens langford polyominoes words nonogram kakuro roster roundrobin' ;;
         'helgrothy make polyominoes:1' | 'helgrothy polyominoes:1')
             value='file pentominoes tetrominoes' ;;
         'helgrothy export:1')
             value='words asp cnf opb' ;;
+        'helgrothy import:1')
+            value='words cadical clasp' ;;
         'helgrothy status:1' | 'helgrothy result:1')
             value='folder' ;;
         'dlx1:'* | 'dlx2:'* | 'dlx3:'*)

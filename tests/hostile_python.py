@@ -236,8 +236,8 @@ class Try:
         self.given = b""
         self.is_terminal = rng.random() < 0.5
         make_words = rng.choices(
-            [self.solve, self.draw, self.lint, self.export, self.why, self.kind, self.make, self.odd, self.search, self.progress],
-            [20, 16, 12, 6, 6, 14, 8, 6, 10, 6],
+            [self.solve, self.draw, self.lint, self.export, self.answer, self.why, self.kind, self.make, self.odd, self.search, self.progress],
+            [20, 16, 12, 6, 6, 6, 14, 8, 6, 10, 6],
         )[0]
         self.name, self.words = make_words()
 
@@ -292,6 +292,18 @@ class Try:
 
     def export(self):
         return "helgrothy", ["export", self.rng.choice(["asp", "opb", "cnf"]), self.input(text(self.rng))]
+
+    def answer(self):
+        """An answer of another solver, or of none."""
+        rng = self.rng
+        problem = text(rng)
+        literals = [b"%d" % (number * rng.choice([1, -1])) for number in range(1, rng.randint(1, 20))]
+        atoms = [b"x(%d)" % rng.randint(0, 12) for _ in range(rng.randint(0, 4))]
+        odd = [b"0", b"x3", b"-0", b"--1", b"9" * 30, b"x(1)", b"", *EVIL]
+        literals += [rng.choice(odd)] * rng.choice([0, 0, 1])
+        told = rng.choice([b"v " + b" ".join(literals) + b" 0", b"v " + b" ".join(b"x" + one for one in literals), b"Answer: 1\n" + b" ".join(atoms)])
+        self.given = changed(rng, b"\n".join([told, rng.choice([b"s SATISFIABLE", b"UNSATISFIABLE", b"s UNKNOWN", b"c", *EVIL]), b""]))
+        return "helgrothy", ["import", rng.choice(["cadical", "clasp"]), self.file(problem)]
 
     def why(self):
         return "helgrothy", ["why", self.input(text(self.rng)), "--seconds", "0.5"]
@@ -671,7 +683,7 @@ class Processes:
             "nonogram, lines": f"nonogram {self.file('nono3', (b'1' + chr(10).encode()) * 500_000)}",
             "nonogram, one line": f"nonogram {self.file('nono4', b'1 ' * 500_000 + chr(10).encode() * 2 + b'1')}",
             "kakuro": f"kakuro {self.file('kakuro', (b'. ' * 1000 + chr(10).encode()) * 500)}",
-            "kakuro, sums": f"kakuro {self.file('kakuro2', (bytes([92]) + b'45 ' + b'. ' * 9) * 50_000)}",
+            "kakuro, sums": f"kakuro {self.file('kakuro2', (bytes([92]) + b'45 ' + b'. ' * 9) * 20_000)}",
             "kakuro, black": f"kakuro {self.file('kakuro3', (b'# ' * 1000 + chr(10).encode()) * 500)}",
             "sudoku": f"sudoku {self.file('clues', b'.' * 1_000_000)}",
             "sudoku, regions": f"sudoku --regions {self.file('regions', (b'a' * 1000 + chr(10).encode()) * 1000)}",

@@ -143,7 +143,7 @@ class Nonograms(Puzzles):
                 "1\n2 1\n\n1\n1\n2\n": "line 2: 2 1: it takes 4 squares, and a row has 3",
                 "1\n\n2\n": "line 3: 2: it takes 2 squares, and a column has 1",
                 "1\n1\n\n1\n0\n": "line 4: the rows have 2 filled squares in all, and the columns 1",
-                "1\n\n1\n" + "0\n" * 100: "line 103: there are 101 columns, and may be 100",
+                "1\n\n1\n" + "0\n" * 100: "line 103: more than 100 columns",
                 "columns\n1\n\nrows\n1\n": "line 1: columns: the headings are rows and then columns, each in a line of its own",
                 "rows\n1\nrows\n1\n": "line 3: rows: the headings are rows and then columns, each in a line of its own",
                 "width 3\nrows\n1\ncolumns\n1\n": "line 1: 3: width is 3, and there are clues for 1",

@@ -8,7 +8,7 @@ from dataclasses import dataclass
 from typing import Dict, Iterator, List, Sequence, Set, Tuple
 
 from ..errors import TableFault
-from .kind import numbered, picture
+from .kind import cut, numbered, picture
 
 Square = Tuple[int, int]
 Numbered = Tuple[int, str]
@@ -63,7 +63,7 @@ def _square(lines: Sequence[Numbered]) -> List[Numbered]:
     check_size(rows[0][0], len(rows), "rows")
     for number, row in rows:
         if len(row) != len(rows):
-            raise TableFault(number, row, f"{len(row)} cells, where the picture has {len(rows)} rows")
+            raise TableFault(number, cut(row), f"{len(row)} cells, where the picture has {len(rows)} rows")
     return rows
 
 
@@ -93,19 +93,19 @@ def _listed(lines: Sequence[Numbered]) -> Iterator[Cage]:
     for place, (number, line) in enumerate(lines, 1):
         total, *words = re.split(r"[\s=:,]+", line.strip())
         if not _NUMBER.match(total):
-            raise TableFault(number, total, "a cage begins with its sum, such as 12 r1c1 r1c2")
+            raise TableFault(number, cut(total), "a cage begins with its sum, such as 12 r1c1 r1c2")
         if not words:
-            raise TableFault(number, total, "a sum without cells, such as 12 r1c1 r1c2")
+            raise TableFault(number, cut(total), "a sum without cells, such as 12 r1c1 r1c2")
         yield Cage(str(place), number, int(total), tuple(_cell(number, word) for word in words))
 
 
 def _cell(number: int, word: str) -> Square:
     found = _CELL.match(word)
     if found is None:
-        raise TableFault(number, word, "no cell; one is named as r1c2")
+        raise TableFault(number, cut(word), "no cell; one is named as r1c2")
     r, c = int(found.group(1)) - 1, int(found.group(2)) - 1
     if min(r, c) < 0:
-        raise TableFault(number, word, "rows and columns are counted from 1 on")
+        raise TableFault(number, cut(word), "rows and columns are counted from 1 on")
     return r, c
 
 
@@ -127,11 +127,11 @@ def _drawn(text: str, size: int) -> Tuple[List[Cage], int]:
         for word in line.split():
             name, sign, total = word.rpartition("=")
             if not sign or not _NUMBER.match(total):
-                raise TableFault(number, word, "no sum of a cage, such as a=12")
+                raise TableFault(number, cut(word), "no sum of a cage, such as a=12")
             if name not in cells:
-                raise TableFault(number, word, "no cell of the picture has this letter")
+                raise TableFault(number, cut(word), "no cell of the picture has this letter")
             if name in totals:
-                raise TableFault(number, word, f"the cage has its sum in line {totals[name][0]} already")
+                raise TableFault(number, cut(word), f"the cage has its sum in line {totals[name][0]} already")
             totals[name] = number, int(total)
     for name, number in first.items():
         if name not in totals:

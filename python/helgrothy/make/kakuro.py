@@ -12,7 +12,7 @@ from typing import Any, Dict, FrozenSet, Iterator, List, Optional, Sequence, Set
 from ..draw import Cell, Drawing, Picture, check_size
 from ..errors import TableFault
 from ..problem import Problem
-from .kind import Counted, Kind, check_items, picture, read_text
+from .kind import Counted, Kind, check_items, cut, picture, read_text
 
 Square = Tuple[int, int]
 
@@ -21,6 +21,7 @@ _ACROSS, _DOWN = "across", "down"
 _STEPS = {_ACROSS: (0, 1), _DOWN: (1, 0)}
 _WHITE, _BLACK = "._", "#"
 _SUMS = re.compile(r"([0-9]{0,4})[\\/]([0-9]{0,4})\Z")
+_SUM = re.compile(r"[0-9]{2,4}\Z")
 _RUN = re.compile(r"(across|down)-r([0-9]+)c([0-9]+)\Z")
 _HELD = re.compile(r"(?:across|down)-r[0-9]+c[0-9]+=([1-9])\Z")
 _CELL = re.compile(r"r([0-9]+)c([0-9]+)\Z")
@@ -50,15 +51,16 @@ def problem(grid: str) -> Problem[List[str]]:
     """
     rows = [(number, line.split()) for number, line in picture(grid)]
     marks = _marks(rows)
-    runs = list(_runs(rows, marks))
-    if not any(mark in _WHITE or mark.isdigit() for mark in marks.values()):
+    white = [at for at, mark in marks.items() if mark in _WHITE or mark.isdigit()]
+    if not white:
         raise TableFault(rows[0][0], "", "there is no white cell")
+    check_items(len(white))
+    runs = list(_runs(rows, marks))
     _check_totals(rows, runs)
     own: Dict[Square, List[_Run]] = {}
     for run in runs:
         for at in run.cells:
             own.setdefault(at, []).append(run)
-    white = [at for at, mark in marks.items() if mark in _WHITE or mark.isdigit()]
     _check_given(rows, runs, marks)
     check_items(len(white) + 10 * len(runs))
     options: Counted[List[str]] = Counted()
@@ -97,12 +99,12 @@ def _marks(rows: Sequence[Tuple[int, List[str]]]) -> Dict[Square, str]:
     marks = {}
     for r, (number, words) in enumerate(rows, 1):
         if len(words) != wide:
-            raise TableFault(number, " ".join(words), f"{len(words)} cells, where other rows have {wide}")
+            raise TableFault(number, cut(" ".join(words)), f"{len(words)} cells, where other rows have {wide}")
         for c, word in enumerate(words, 1):
             is_digit = word in {str(digit) for digit in DIGITS}
             if not (word in (*_WHITE, _BLACK) or is_digit or _SUMS.match(word)):
-                hint = f" (a sum has \\ before it, \\{word}, or behind it, {word}\\)" if word.isdigit() else ""
-                raise TableFault(number, word, f"neither a dot, a digit, # nor sums such as 17\\24{hint}")
+                hint = f" (a sum has \\ before it, \\{word}, or behind it, {word}\\)" if _SUM.match(word) else ""
+                raise TableFault(number, cut(word), f"neither a dot, a digit, # nor sums such as 17\\24{hint}")
             marks[r, c] = word
     return marks
 

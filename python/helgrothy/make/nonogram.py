@@ -12,7 +12,7 @@ from ..draw import Cell, Drawing, Picture, check_size
 from ..errors import TableFault
 from ..problem import Problem
 from ..syntax import MOST_USES
-from .kind import Counted, Kind, numbered, read_text
+from .kind import Counted, Kind, cut, numbered, read_text
 
 Option = Dict[str, Optional[str]]
 Clue = Tuple[int, ...]
@@ -93,15 +93,17 @@ def _read(text: str) -> Tuple[List[_Line], List[_Line]]:
             if parts[-1]:
                 parts.append([])
             if words and (len(parts) > len(_HEADS) or words != [_HEADS[len(parts) - 1]]):
-                raise TableFault(number, line, "the headings are rows and then columns, each in a line of its own")
+                raise TableFault(number, cut(line), "the headings are rows and then columns, each in a line of its own")
         elif words[0] in _OTHERS:
             if words[0] in ("width", "height"):
                 sides[words[0]] = number, _number(number, " ".join(words[1:]))
         else:
             parts[-1].append(_Line(number, _clue(number, words)))
             last = number
+            if len(parts[-1]) > _MOST_SIDE:
+                raise TableFault(number, "", f"more than {_MOST_SIDE} {_HEADS[len(parts) > 1]}")
         if len(parts) > 2 and parts[2]:
-            raise TableFault(number, line, "a third part; there are rows, a blank line, and columns")
+            raise TableFault(number, cut(line), "a third part; there are rows, a blank line, and columns")
     rows, columns = (parts + [[]])[:2]
     if not rows:
         raise TableFault(1, "", "no clues: a line for each row, a blank line, a line for each column")
@@ -116,7 +118,7 @@ def _read(text: str) -> Tuple[List[_Line], List[_Line]]:
 
 def _number(number: int, word: str) -> int:
     if not _NUMBER.match(word):
-        raise TableFault(number, word, "no number; a clue has the lengths of the runs, such as 3 1 2")
+        raise TableFault(number, cut(word), "no number; a clue has the lengths of the runs, such as 3 1 2")
     return int(word)
 
 
@@ -132,12 +134,10 @@ def _clue(number: int, words: Sequence[str]) -> Clue:
 def _check(rows: Sequence[_Line], columns: Sequence[_Line]) -> None:
     """Raises `TableFault` where clues take more room than there is, or differ in how much is filled."""
     for lines, across, what in ((rows, columns, "row"), (columns, rows, "column")):
-        if len(lines) > _MOST_SIDE:
-            raise TableFault(lines[_MOST_SIDE].number, "", f"there are {len(lines)} {what}s, and may be {_MOST_SIDE}")
         for line in lines:
             if line.need > len(across):
                 reason = f"it takes {line.need} squares, and a {what} has {len(across)}"
-                raise TableFault(line.number, str(line), reason)
+                raise TableFault(line.number, cut(str(line)), reason)
     filled = [sum(sum(line.clue) for line in lines) for lines in (rows, columns)]
     if filled[0] != filled[1]:
         told = f"the rows have {filled[0]} filled squares in all, and the columns {filled[1]}"
@@ -258,7 +258,7 @@ class _Board:
             if known is None:
                 kind, crossing = ("row", "columns") if number < len(self._rows) else ("column", "rows")
                 reason = f"no arrangement of this {kind} fits what the clues of the {crossing} leave"
-                raise TableFault(line.number, str(line), reason)
+                raise TableFault(line.number, cut(str(line)), reason)
             for at, before, now in zip(squares, marks, known):
                 if before != now:
                     self.marks[at] = now

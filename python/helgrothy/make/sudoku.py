@@ -15,7 +15,7 @@ from ..problem import Problem
 from ..syntax import MOST_USES
 from . import areas
 from .areas import Cage, Square
-from .kind import Counted, Kind, numbered, read_text
+from .kind import Counted, Kind, cut, numbered, read_text
 
 _DIGITS = "123456789ABCDEFGHIJKLMNOP"
 _EMPTY = ".0_*"
@@ -139,7 +139,7 @@ def _check_rows(clues: str) -> None:
     lengths = Counter(len(row) for _, row in rows)
     for number, row in rows:
         if len(row) != len(rows) and lengths[len(rows)] > len(rows) // 2:
-            raise TableFault(number, row, f"{len(row)} places, where there are {len(rows)} rows")
+            raise TableFault(number, cut(row), f"{len(row)} places, where there are {len(rows)} rows")
 
 
 def _check(clues: str, digits: str) -> None:
