@@ -73,12 +73,12 @@ _helgrothy_options() {
             commands=() ;;
         'helgrothy')
             options=('--help:show this help message and exit' '--version:show program'\''s version number and exit')
-            commands=('make:write a problem' 'solve:solve a problem and draw what is found' 'draw:draw a listing' 'lint:tell all faults and slips of a problem' 'export:write a problem for another solver' 'why:tell which items conflict where there is no solution' 'search:count or list all solutions, by all processors or many machines' 'status:tell how far a search is' 'result:print what a search that is done has found' 'rows:print rows at which a search may be cut' 'sudoku:make and solve a Sudoku from its clues' 'queens:make and solve queens on a board, or in coloured regions' 'langford:make and solve Langford'\''s pairs' 'polyominoes:make and solve pieces of squares that fill a region' 'polycubes:make and solve pieces of cubes that fill a box' 'words:make and solve words across and down in a grid' 'roster:make and solve shifts of people on days' 'roundrobin:make and solve a round robin at home and away' 'tests:make and solve tests in which values of factors come together' 'timetable:make and solve lessons or exams in slots and rooms') ;;
+            commands=('make:write a problem' 'solve:solve a problem and draw what is found' 'draw:draw a listing' 'lint:tell all faults and slips of a problem' 'export:write a problem for another solver' 'import:read another solver'\''s answer as a listing' 'why:tell which items conflict where there is no solution' 'search:count or list all solutions, by all processors or many machines' 'status:tell how far a search is' 'result:print what a search that is done has found' 'rows:print rows at which a search may be cut' 'sudoku:make and solve a Sudoku from its clues' 'queens:make and solve queens on a board, or in coloured regions' 'langford:make and solve Langford'\''s pairs' 'polyominoes:make and solve pieces of squares that fill a region' 'polycubes:make and solve pieces of cubes that fill a box' 'words:make and solve words across and down in a grid' 'nonogram:make and solve a nonogram from its clues' 'kakuro:make and solve a Kakuro from its grid' 'roster:make and solve shifts of people on days' 'roundrobin:make and solve a round robin at home and away' 'tests:make and solve tests in which values of factors come together' 'timetable:make and solve lessons or exams in slots and rooms') ;;
         'helgrothy make')
             options=('--help:show this help message and exit')
-            commands=('sudoku:a Sudoku from its clues' 'queens:queens on a board, or in coloured regions' 'langford:Langford'\''s pairs' 'polyominoes:pieces of squares that fill a region' 'polycubes:pieces of cubes that fill a box' 'words:words across and down in a grid' 'roster:shifts of people on days' 'roundrobin:a round robin at home and away' 'tests:tests in which values of factors come together' 'timetable:lessons or exams in slots and rooms') ;;
+            commands=('sudoku:a Sudoku from its clues' 'queens:queens on a board, or in coloured regions' 'langford:Langford'\''s pairs' 'polyominoes:pieces of squares that fill a region' 'polycubes:pieces of cubes that fill a box' 'words:words across and down in a grid' 'nonogram:a nonogram from its clues' 'kakuro:a Kakuro from its grid' 'roster:shifts of people on days' 'roundrobin:a round robin at home and away' 'tests:tests in which values of factors come together' 'timetable:lessons or exams in slots and rooms') ;;
         'helgrothy make sudoku')
-            options=('--help:show this help message and exit')
+            options=('--help:show this help message and exit' '--regions:a file with a picture of the regions, a letter for each place' '--cages:a file with a line for each cage, its sum and its places (12 r1c1 r1c2); or with a picture, a letter for each place, and behind a blank line the sums (a=12 b=7)')
             commands=() ;;
         'helgrothy make queens')
             options=('--help:show this help message and exit')
@@ -93,6 +93,12 @@ _helgrothy_options() {
             options=('--help:show this help message and exit' '--mirrors:mirror images of pieces may be used too' '--some:pieces may be left over')
             commands=() ;;
         'helgrothy make words')
+            options=('--help:show this help message and exit')
+            commands=() ;;
+        'helgrothy make nonogram')
+            options=('--help:show this help message and exit')
+            commands=() ;;
+        'helgrothy make kakuro')
             options=('--help:show this help message and exit')
             commands=() ;;
         'helgrothy make roster')
@@ -119,6 +125,9 @@ _helgrothy_options() {
         'helgrothy export')
             options=('--help:show this help message and exit')
             commands=() ;;
+        'helgrothy import')
+            options=('--help:show this help message and exit')
+            commands=() ;;
         'helgrothy why')
             options=('--help:show this help message and exit' '--seconds:the time (default: 10)')
             commands=() ;;
@@ -135,7 +144,7 @@ _helgrothy_options() {
             options=('--help:show this help message and exit' '--count:up to N rows (default: 100)' '--for:the program (default: the first that takes such a text)')
             commands=() ;;
         'helgrothy sudoku')
-            options=('--help:show this help message and exit' '--number:the K-th solution instead of the first' '--limit:the first N solutions' '--all:all solutions' '--svg:a picture as SVG, of one solution' '--json:a line of JSON for each solution: its number, the numbers of its options, their items, and the colours' '--csv:a table as CSV, with a line for each choice' '--seconds:give up after S seconds')
+            options=('--help:show this help message and exit' '--regions:a file with a picture of the regions, a letter for each place' '--cages:a file with a line for each cage, its sum and its places (12 r1c1 r1c2); or with a picture, a letter for each place, and behind a blank line the sums (a=12 b=7)' '--number:the K-th solution instead of the first' '--limit:the first N solutions' '--all:all solutions' '--svg:a picture as SVG, of one solution' '--json:a line of JSON for each solution: its number, the numbers of its options, their items, and the colours' '--csv:a table as CSV, with a line for each choice' '--seconds:give up after S seconds')
             commands=() ;;
         'helgrothy queens')
             options=('--help:show this help message and exit' '--number:the K-th solution instead of the first' '--limit:the first N solutions' '--all:all solutions' '--svg:a picture as SVG, of one solution' '--json:a line of JSON for each solution: its number, the numbers of its options, their items, and the colours' '--csv:a table as CSV, with a line for each choice' '--seconds:give up after S seconds')
@@ -150,6 +159,12 @@ _helgrothy_options() {
             options=('--help:show this help message and exit' '--mirrors:mirror images of pieces may be used too' '--some:pieces may be left over' '--number:the K-th solution instead of the first' '--limit:the first N solutions' '--all:all solutions' '--svg:a picture as SVG, of one solution' '--json:a line of JSON for each solution: its number, the numbers of its options, their items, and the colours' '--csv:a table as CSV, with a line for each choice' '--seconds:give up after S seconds')
             commands=() ;;
         'helgrothy words')
+            options=('--help:show this help message and exit' '--number:the K-th solution instead of the first' '--limit:the first N solutions' '--all:all solutions' '--svg:a picture as SVG, of one solution' '--json:a line of JSON for each solution: its number, the numbers of its options, their items, and the colours' '--csv:a table as CSV, with a line for each choice' '--seconds:give up after S seconds')
+            commands=() ;;
+        'helgrothy nonogram')
+            options=('--help:show this help message and exit' '--number:the K-th solution instead of the first' '--limit:the first N solutions' '--all:all solutions' '--svg:a picture as SVG, of one solution' '--json:a line of JSON for each solution: its number, the numbers of its options, their items, and the colours' '--csv:a table as CSV, with a line for each choice' '--seconds:give up after S seconds')
+            commands=() ;;
+        'helgrothy kakuro')
             options=('--help:show this help message and exit' '--number:the K-th solution instead of the first' '--limit:the first N solutions' '--all:all solutions' '--svg:a picture as SVG, of one solution' '--json:a line of JSON for each solution: its number, the numbers of its options, their items, and the colours' '--csv:a table as CSV, with a line for each choice' '--seconds:give up after S seconds')
             commands=() ;;
         'helgrothy roster')
@@ -172,7 +187,9 @@ _helgrothy_options() {
 _helgrothy_value() {
     value=
     case $1 in
-        'helgrothy make tests --tests' | 'helgrothy make tests --strength' | 'helgrothy make timetable --daily' | 'helgrothy solve --number' | 'helgrothy solve --limit' | 'helgrothy solve --seconds' | 'helgrothy solve --cell' | 'helgrothy solve --row' | 'helgrothy solve --column' | 'helgrothy solve --label' | 'helgrothy draw --number' | 'helgrothy draw --cell' | 'helgrothy draw --row' | 'helgrothy draw --column' | 'helgrothy draw --label' | 'helgrothy why --seconds' | 'helgrothy search --jobs' | 'helgrothy search --dask' | 'helgrothy search --seconds' | 'helgrothy rows --count' | 'helgrothy sudoku --number' | 'helgrothy sudoku --limit' | 'helgrothy sudoku --seconds' | 'helgrothy queens --number' | 'helgrothy queens --limit' | 'helgrothy queens --seconds' | 'helgrothy langford --number' | 'helgrothy langford --limit' | 'helgrothy langford --seconds' | 'helgrothy polyominoes --number' | 'helgrothy polyominoes --limit' | 'helgrothy polyominoes --seconds' | 'helgrothy polycubes --number' | 'helgrothy polycubes --limit' | 'helgrothy polycubes --seconds' | 'helgrothy words --number' | 'helgrothy words --limit' | 'helgrothy words --seconds' | 'helgrothy roster --number' | 'helgrothy roster --limit' | 'helgrothy roster --seconds' | 'helgrothy roundrobin --number' | 'helgrothy roundrobin --limit' | 'helgrothy roundrobin --seconds' | 'helgrothy tests --tests' | 'helgrothy tests --strength' | 'helgrothy tests --number' | 'helgrothy tests --limit' | 'helgrothy tests --seconds' | 'helgrothy timetable --daily' | 'helgrothy timetable --number' | 'helgrothy timetable --limit' | 'helgrothy timetable --seconds')
+        'helgrothy make sudoku --regions' | 'helgrothy make sudoku --cages' | 'helgrothy sudoku --regions' | 'helgrothy sudoku --cages')
+            value='file' ;;
+        'helgrothy make tests --tests' | 'helgrothy make tests --strength' | 'helgrothy make timetable --daily' | 'helgrothy solve --number' | 'helgrothy solve --limit' | 'helgrothy solve --seconds' | 'helgrothy solve --cell' | 'helgrothy solve --row' | 'helgrothy solve --column' | 'helgrothy solve --label' | 'helgrothy draw --number' | 'helgrothy draw --cell' | 'helgrothy draw --row' | 'helgrothy draw --column' | 'helgrothy draw --label' | 'helgrothy why --seconds' | 'helgrothy search --jobs' | 'helgrothy search --dask' | 'helgrothy search --seconds' | 'helgrothy rows --count' | 'helgrothy sudoku --number' | 'helgrothy sudoku --limit' | 'helgrothy sudoku --seconds' | 'helgrothy queens --number' | 'helgrothy queens --limit' | 'helgrothy queens --seconds' | 'helgrothy langford --number' | 'helgrothy langford --limit' | 'helgrothy langford --seconds' | 'helgrothy polyominoes --number' | 'helgrothy polyominoes --limit' | 'helgrothy polyominoes --seconds' | 'helgrothy polycubes --number' | 'helgrothy polycubes --limit' | 'helgrothy polycubes --seconds' | 'helgrothy words --number' | 'helgrothy words --limit' | 'helgrothy words --seconds' | 'helgrothy nonogram --number' | 'helgrothy nonogram --limit' | 'helgrothy nonogram --seconds' | 'helgrothy kakuro --number' | 'helgrothy kakuro --limit' | 'helgrothy kakuro --seconds' | 'helgrothy roster --number' | 'helgrothy roster --limit' | 'helgrothy roster --seconds' | 'helgrothy roundrobin --number' | 'helgrothy roundrobin --limit' | 'helgrothy roundrobin --seconds' | 'helgrothy tests --tests' | 'helgrothy tests --strength' | 'helgrothy tests --number' | 'helgrothy tests --limit' | 'helgrothy tests --seconds' | 'helgrothy timetable --daily' | 'helgrothy timetable --number' | 'helgrothy timetable --limit' | 'helgrothy timetable --seconds')
             value='words' ;;
         'helgrothy lint --for' | 'helgrothy search --for' | 'helgrothy rows --for')
             value='words dlx1 dlx2 dlx3' ;;
@@ -186,27 +203,29 @@ _helgrothy_value() {
 _helgrothy_place() {
     value=
     case $1:$2 in
-        'dlxcheck:1' | 'helgrothy solve:1' | 'helgrothy draw:1' | 'helgrothy lint:1' | 'helgrothy export:2' | 'helgrothy why:1' | 'helgrothy search:1' | 'helgrothy rows:1')
+        'dlxcheck:1' | 'helgrothy solve:1' | 'helgrothy draw:1' | 'helgrothy lint:1' | 'helgrothy export:2' | 'helgrothy import:2' | 'helgrothy why:1' | 'helgrothy search:1' | 'helgrothy rows:1')
             value='problem' ;;
         'dlxcheck:2' | 'dlx-span:1')
             value='words 1 2 3' ;;
         'dlx-span:2' | 'dlx-join:1')
             value='words m0 m1' ;;
         'helgrothy:1')
-            value='words make solve draw lint export why search status result rows sudoku queens langford polyominoes polycubes words roster roundrobin tests timetable' ;;
+            value='words make solve draw lint export import why search status result rows sudoku queens langford polyominoes polycubes words nonogram kakuro roster roundrobin tests timetable' ;;
         'helgrothy make:1')
-            value='words sudoku queens langford polyominoes polycubes words roster roundrobin tests timetable' ;;
+            value='words sudoku queens langford polyominoes polycubes words nonogram kakuro roster roundrobin tests timetable' ;;
         'helgrothy make polyominoes:1' | 'helgrothy polyominoes:1')
             value='file pentominoes tetrominoes' ;;
         'helgrothy make polycubes:1' | 'helgrothy polycubes:1')
             value='file pentacubes pentominoes soma tetracubes tetrominoes' ;;
         'helgrothy export:1')
             value='words asp cnf opb' ;;
+        'helgrothy import:1')
+            value='words cadical clasp' ;;
         'helgrothy status:1' | 'helgrothy result:1')
             value='folder' ;;
         'dlx1:'* | 'dlx2:'* | 'dlx3:'*)
             value='words m1 m1000 t1 t2' ;;
-        'dlx-join:'* | 'helgrothy make sudoku:1' | 'helgrothy make queens:1' | 'helgrothy make polyominoes:2' | 'helgrothy make polycubes:2' | 'helgrothy make words:1' | 'helgrothy make words:2' | 'helgrothy make roster:1' | 'helgrothy make roundrobin:1' | 'helgrothy make tests:1' | 'helgrothy make timetable:1' | 'helgrothy sudoku:1' | 'helgrothy queens:1' | 'helgrothy polyominoes:2' | 'helgrothy polycubes:2' | 'helgrothy words:1' | 'helgrothy words:2' | 'helgrothy roster:1' | 'helgrothy roundrobin:1' | 'helgrothy tests:1' | 'helgrothy timetable:1')
+        'dlx-join:'* | 'helgrothy make sudoku:1' | 'helgrothy make queens:1' | 'helgrothy make polyominoes:2' | 'helgrothy make polycubes:2' | 'helgrothy make words:1' | 'helgrothy make words:2' | 'helgrothy make nonogram:1' | 'helgrothy make kakuro:1' | 'helgrothy make roster:1' | 'helgrothy make roundrobin:1' | 'helgrothy make tests:1' | 'helgrothy make timetable:1' | 'helgrothy sudoku:1' | 'helgrothy queens:1' | 'helgrothy polyominoes:2' | 'helgrothy polycubes:2' | 'helgrothy words:1' | 'helgrothy words:2' | 'helgrothy nonogram:1' | 'helgrothy kakuro:1' | 'helgrothy roster:1' | 'helgrothy roundrobin:1' | 'helgrothy tests:1' | 'helgrothy timetable:1')
             value='file' ;;
     esac
 }

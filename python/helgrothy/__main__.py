@@ -12,7 +12,7 @@ import sys
 import time
 from typing import Any, Callable, List, Optional, Sequence
 
-from . import __version__, console, why
+from . import __version__, answers, console, why
 from .console import Parser, limited, positive, seconds, write
 from .data import FORMATS as FORMS
 from .data import places_of
@@ -42,6 +42,7 @@ examples:
   helgrothy lint mine.dlx
   helgrothy why mine.dlx
   helgrothy export asp mine.dlx | gringo | clasp 0
+  helgrothy export cnf mine.dlx | cadical | helgrothy import cadical mine.dlx | dlxcheck mine.dlx
 """
 
 # A reason is looked for so long where a problem turns out to have no solution.
@@ -81,6 +82,7 @@ def _parser() -> argparse.ArgumentParser:
     _add_draw(commands)
     _add_lint(commands)
     _add_export(commands)
+    _add_import(commands)
     _add_why(commands)
     spans.add(commands)
     for kind in KINDS.values():
@@ -368,6 +370,31 @@ def _add_export(commands: Any) -> None:
 def _export(arguments: argparse.Namespace) -> int:
     write(f"{line}\n" for line in FORMATS[arguments.format](_problem(arguments.problem)))
     return 0
+
+
+def _add_import(commands: Any) -> None:
+    parser = commands.add_parser(
+        "import",
+        help="read another solver's answer as a listing",
+        description="Reads what another solver answered to an exported problem, from standard input, and writes it as "
+        "a listing, which dlxcheck judges and draw draws. Status 1 says that the solver found no solution.",
+        epilog="example:\n  helgrothy export cnf mine.dlx | cadical | helgrothy import cadical mine.dlx | "
+        "helgrothy draw mine.dlx",
+        formatter_class=argparse.RawDescriptionHelpFormatter,
+    )
+    parser.add_argument("solver", choices=answers.SOLVERS, help="the solver")
+    parser.add_argument("problem", metavar="PROBLEM", help="the file of the problem that was exported")
+    parser.set_defaults(command=_import)
+
+
+def _import(arguments: argparse.Namespace) -> int:
+    if arguments.problem == "-":
+        raise ValueError("the problem is a file; the answer comes from standard input")
+    problem = _problem(arguments.problem)
+    shown = 0
+    for shown, taken in enumerate(answers.solutions(arguments.solver, problem, console.input_lines()), 1):
+        console.write_bytes(answers.listing(problem, taken, shown))
+    return 0 if shown else _fail(f"{arguments.solver} says that there is no solution", 1)
 
 
 def _add_why(commands: Any) -> None:

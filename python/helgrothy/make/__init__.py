@@ -2,7 +2,20 @@
 
 from typing import Dict
 
-from . import langford, polycubes, polyominoes, queens, roster, roundrobin, sudoku, tests, timetable, words
+from . import (
+    kakuro,
+    langford,
+    nonogram,
+    polycubes,
+    polyominoes,
+    queens,
+    roster,
+    roundrobin,
+    sudoku,
+    tests,
+    timetable,
+    words,
+)
 from .kind import Kind, kind_of
 
 KINDS: Dict[str, Kind] = {
@@ -14,6 +27,8 @@ KINDS: Dict[str, Kind] = {
         polyominoes.KIND,
         polycubes.KIND,
         words.KIND,
+        nonogram.KIND,
+        kakuro.KIND,
         roster.KIND,
         roundrobin.KIND,
         tests.KIND,
@@ -24,7 +39,9 @@ __all__ = [
     "KINDS",
     "Kind",
     "kind_of",
+    "kakuro",
     "langford",
+    "nonogram",
     "polycubes",
     "polyominoes",
     "queens",

@@ -15,6 +15,7 @@ from ..syntax import MOST_ITEMS, MOST_USES
 
 T = TypeVar("T", bound=Sized)
 
+_MOST_TOLD = 60
 _MADE = re.compile(r"helgrothy make ([a-z]+)(?: |\Z)")
 
 
@@ -75,6 +76,11 @@ def check_items(items: int) -> None:
     """Raises `ValueError` for more items than a problem may have."""
     if items > MOST_ITEMS:
         raise ValueError(f"the problem would have {items} items, and may have {MOST_ITEMS}")
+
+
+def cut(text: str) -> str:
+    """The beginning of a text, for a message."""
+    return text if len(text) <= _MOST_TOLD else f"{text[:_MOST_TOLD]} .."
 
 
 def numbered(text: str) -> List[Tuple[int, str]]:
