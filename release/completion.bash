@@ -68,9 +68,9 @@ _dlx_options() {
         'helgrothy make roundrobin')
             options='--help --double' ;;
         'helgrothy solve')
-            options='--help --number --limit --all --svg --json --csv --seconds --cell --row --column --label' ;;
+            options='--help --number --limit --all --svg --html --json --csv --seconds --cell --row --column --label' ;;
         'helgrothy draw')
-            options='--help --number --svg --json --csv --cell --row --column --label' ;;
+            options='--help --number --svg --html --json --csv --cell --row --column --label' ;;
         'helgrothy lint')
             options='--help --for' ;;
         'helgrothy why')
@@ -82,13 +82,13 @@ _dlx_options() {
         'helgrothy rows')
             options='--help --count --for' ;;
         'helgrothy sudoku' | 'helgrothy queens' | 'helgrothy langford' | 'helgrothy words')
-            options='--help --number --limit --all --svg --json --csv --seconds' ;;
+            options='--help --number --limit --all --svg --html --json --csv --seconds' ;;
         'helgrothy polyominoes')
-            options='--help --no-turns --no-mirrors --number --limit --all --svg --json --csv --seconds' ;;
+            options='--help --no-turns --no-mirrors --number --limit --all --svg --html --json --csv --seconds' ;;
         'helgrothy roster')
-            options='--help --rest --number --limit --all --svg --json --csv --seconds' ;;
+            options='--help --rest --number --limit --all --svg --html --json --csv --seconds' ;;
         'helgrothy roundrobin')
-            options='--help --double --number --limit --all --svg --json --csv --seconds' ;;
+            options='--help --double --number --limit --all --svg --html --json --csv --seconds' ;;
         *) return 1 ;;
     esac
 }

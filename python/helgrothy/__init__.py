@@ -26,7 +26,7 @@ from .errors import (
     SearchFault,
     TableFault,
 )
-from .listing import Listed, Null
+from .listing import Listed, Null, Step
 from .problem import Problem, Solutions
 from .solution import Solution
 from .syntax import Bounds
@@ -48,5 +48,6 @@ __all__ = [
     "SearchFault",
     "Solution",
     "Solutions",
+    "Step",
     "TableFault",
 ]
