@@ -76,9 +76,9 @@ _dlx_options() {
         'helgrothy make timetable')
             options='--help --daily' ;;
         'helgrothy solve')
-            options='--help --number --limit --all --svg --json --csv --seconds --cell --row --column --label' ;;
+            options='--help --number --limit --all --svg --html --json --csv --seconds --cell --row --column --label' ;;
         'helgrothy draw')
-            options='--help --number --svg --json --csv --cell --row --column --label' ;;
+            options='--help --number --svg --html --json --csv --cell --row --column --label' ;;
         'helgrothy lint')
             options='--help --for' ;;
         'helgrothy why')
@@ -90,21 +90,21 @@ _dlx_options() {
         'helgrothy rows')
             options='--help --count --for' ;;
         'helgrothy sudoku')
-            options='--help --regions --cages --number --limit --all --svg --json --csv --seconds' ;;
+            options='--help --regions --cages --number --limit --all --svg --html --json --csv --seconds' ;;
         'helgrothy queens' | 'helgrothy langford' | 'helgrothy words' | 'helgrothy nonogram' | 'helgrothy kakuro')
-            options='--help --number --limit --all --svg --json --csv --seconds' ;;
+            options='--help --number --limit --all --svg --html --json --csv --seconds' ;;
         'helgrothy polyominoes')
-            options='--help --no-turns --no-mirrors --number --limit --all --svg --json --csv --seconds' ;;
+            options='--help --no-turns --no-mirrors --number --limit --all --svg --html --json --csv --seconds' ;;
         'helgrothy polycubes')
-            options='--help --mirrors --some --number --limit --all --svg --json --csv --seconds' ;;
+            options='--help --mirrors --some --number --limit --all --svg --html --json --csv --seconds' ;;
         'helgrothy roster')
-            options='--help --rest --number --limit --all --svg --json --csv --seconds' ;;
+            options='--help --rest --number --limit --all --svg --html --json --csv --seconds' ;;
         'helgrothy roundrobin')
-            options='--help --double --number --limit --all --svg --json --csv --seconds' ;;
+            options='--help --double --number --limit --all --svg --html --json --csv --seconds' ;;
         'helgrothy tests')
-            options='--help --tests --strength --least --number --limit --all --svg --json --csv --seconds' ;;
+            options='--help --tests --strength --least --number --limit --all --svg --html --json --csv --seconds' ;;
         'helgrothy timetable')
-            options='--help --daily --number --limit --all --svg --json --csv --seconds' ;;
+            options='--help --daily --number --limit --all --svg --html --json --csv --seconds' ;;
         *) return 1 ;;
     esac
 }

@@ -8,7 +8,9 @@ does many; texts of 1 MB, closed streams, terminals and folders with Python file
 processes of their own. A try that goes wrong is told in a line. The last line is `N passed, M failed`.
 """
 
+import collections
 import contextlib
+import html.parser
 import io
 import itertools
 import json
@@ -32,6 +34,7 @@ sys.path.insert(0, os.path.join(TOP, "python"))
 
 from helgrothy import __main__ as commands  # noqa: E402
 from helgrothy import make  # noqa: E402
+from helgrothy.page.document import document  # noqa: E402
 from helgrothy.spans import commands as span_commands  # noqa: E402
 
 SCRIPT = os.path.join(TOP, "scripts", "helgrothy")
@@ -105,6 +108,42 @@ def wrong_with_svg(raw: bytes) -> str:
         if any("(" in value for key, value in element.attrib.items() if key != "transform"):
             return "an attribute that calls something"
     return ""
+
+
+class Elements(html.parser.HTMLParser):
+    """How often a document has each element, and what its script of data says."""
+
+    def __init__(self, text: str) -> None:
+        super().__init__()
+        self.counts = collections.Counter()
+        self.data = ""
+        self.is_data = False
+        self.feed(text)
+
+    def handle_starttag(self, tag, attributes):
+        self.counts[tag] += 1
+        self.is_data = dict(attributes).get("id") == "data"
+
+    def handle_endtag(self, tag):
+        self.is_data = False
+
+    def handle_data(self, text):
+        if self.is_data:
+            self.data += text
+
+
+USUAL = Elements(document(["viewer.html"], "", ["viewer.js"], [])).counts
+
+
+def wrong_with_html(raw: bytes) -> str:
+    """What is wrong with a page, if anything: it has the elements of one without data, and its data is text."""
+    found = Elements(raw.decode())
+    if found.counts != USUAL:
+        return f"elements {found.counts - USUAL}"
+    if "<" in found.data or steers(found.data.encode()):
+        return "data that isn't text"
+    told = json.loads(found.data)
+    return "" if "problem" in told[0] and "end" in told[-1] else "a page without an end"
 
 
 # ---- what is made to hurt
@@ -267,7 +306,7 @@ class Try:
 
     def forms(self):
         rng = self.rng
-        words = rng.choice([[], ["--svg"], ["--svg"], ["--json"], ["--csv"]])
+        words = rng.choice([[], ["--svg"], ["--svg"], ["--html"], ["--json"], ["--csv"]])
         if rng.random() < 0.35:
             words += [f"--cell={self.pattern()}"]
         elif rng.random() < 0.3:
@@ -442,6 +481,8 @@ class Try:
             return "status 2 without a reason"
         if status == 0 and "--svg" in self.words and self.words[0] not in ("make", "lint", "export", "why") and out.startswith(b"<"):
             return wrong_with_svg(out)
+        if out.startswith(b"<!doctype"):
+            return wrong_with_html(out)
         return ""
 
 

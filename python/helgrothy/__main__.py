@@ -10,6 +10,7 @@ import argparse
 import re
 import sys
 import time
+from functools import partial
 from typing import Any, Callable, List, Optional, Sequence
 
 from . import __version__, answers, console, why
@@ -20,8 +21,10 @@ from .draw import Drawing, Pattern, drawing_of
 from .errors import HelgrothyError, NoPicture, OutOfTime
 from .export import FORMATS
 from .lint import lint
+from .listing import Step
 from .make import KINDS
 from .make.kind import Found, Kind
+from .page.file import MOST_SOLUTIONS, File
 from .problem import Problem
 from .spans import commands as spans
 from .table import Table
@@ -47,8 +50,9 @@ examples:
 
 # A reason is looked for so long where a problem turns out to have no solution.
 _REASON_SECONDS = 2.0
-# Of the time that a command is given, so that what was found by then can be told.
+# Of the time that a command is given, so that what was found by then can be told; a page is put together at the end.
 _SHARE = 0.9
+_SHARE_OF_PAGE = 0.7
 
 
 def main(words: Optional[Sequence[str]] = None) -> int:
@@ -146,6 +150,9 @@ def _add_forms(parser: argparse.ArgumentParser, svg: str) -> None:
     form = parser.add_mutually_exclusive_group()
     form.add_argument("--svg", action="store_true", help=svg)
     form.add_argument(
+        "--html", action="store_true", help="a page for a browser: the solutions, their pictures, and the search's way"
+    )
+    form.add_argument(
         "--json",
         dest="data",
         action="store_const",
@@ -171,9 +178,11 @@ def _show_found(found: Found, arguments: argparse.Namespace) -> int:
     """Shows the one solution that a kind's own search found."""
     if arguments.all or arguments.limit or arguments.number:
         raise ValueError("this search finds one solution: without --all, --limit and --number")
+    if arguments.html:
+        raise ValueError("a page shows how dlx1 to dlx3 went to each solution, and this is a search of another kind")
     options = found.problem.options
-    show = _showing(found.problem, arguments, _listed_options)
-    show(1, [options[number] for number in found.numbers], lambda _: found.numbers)
+    show = _showing(found.problem, arguments, _listed_options, page=None)
+    show(1, [options[number] for number in found.numbers], lambda _: found.numbers, lambda: [])
     console.say(found.remark)
     return 0
 
@@ -183,21 +192,40 @@ def _show(problem: Problem[Any], arguments: argparse.Namespace) -> int:
     limit = None if arguments.all else arguments.limit or number
     if arguments.svg and limit != number:
         raise ValueError("an SVG is of one solution: --number says which")
-    show = _showing(problem, arguments, _listed_options)
+    page = _page(problem, arguments)
+    if page is not None and arguments.number is None:
+        limit = min(limit or MOST_SOLUTIONS, MOST_SOLUTIONS)
+    show = _showing(problem, arguments, _listed_options, page)
     deadline = None if arguments.seconds is None else time.monotonic() + arguments.seconds
+    most = arguments.seconds
+    if page is not None and most is not None:
+        most *= _SHARE_OF_PAGE
+    last = float("inf") if most is None else time.monotonic() + most
     shown = 0
     try:
-        solutions = problem.solve(limit, number, seconds=arguments.seconds)
+        solutions = problem.solve(limit, number, seconds=most)
         with Watch(problem, console.say) as watch, solutions:
             for solution in solutions:
                 watch.end()
-                show(arguments.number or shown + 1, solution, lambda _: solution.numbers)
+                show(arguments.number or shown + 1, solution, lambda _: solution.numbers, lambda: solution.steps)
                 shown += 1
+                if page is not None and page.is_full:
+                    break
+                if page is not None and time.monotonic() > last:
+                    raise OutOfTime(f"it wasn't done in {arguments.seconds:g} seconds")
     except OutOfTime as error:
-        return _fail(f"{error}; {_counted(max(error.found * (arguments.number or 1), shown))} till then")
-    console.say(f"Altogether {_counted(solutions.total or 0)}{'.' if solutions.complete else ' (limit).'}")
-    if solutions.total == 0 and not watch.has_told:
-        _tell_why(problem, deadline)
+        found = max(error.found * (arguments.number or 1), shown)
+        if page is not None:
+            write([page.text(found, False, [f"{error}"])])
+        return _fail(f"{error}; {_counted(found)} till then")
+    # None where the page was full before.
+    total = shown if solutions.total is None else solutions.total
+    console.say(f"Altogether {_counted(total)}{'.' if solutions.complete else ' (limit).'}")
+    reasons = [] if total or watch.has_told else _reasons(problem, deadline)
+    for line in reasons:
+        console.say(line)
+    if page is not None:
+        write([page.text(total, bool(solutions.complete), reasons)])
     return 0 if shown else 1
 
 
@@ -205,40 +233,57 @@ def _counted(total: int) -> str:
     return f"{total} solution{'' if total == 1 else 's'}"
 
 
-def _tell_why(problem: Problem[Any], deadline: Optional[float]) -> None:
-    """Says on standard error why there is no solution, where a short while tells."""
+def _reasons(problem: Problem[Any], deadline: Optional[float]) -> List[str]:
+    """Why there is no solution, where a short while tells."""
     left = _REASON_SECONDS if deadline is None else min(_REASON_SECONDS, deadline - time.monotonic())
     try:
         conflict = why.find(problem, left * _SHARE) if left > 0 else None
     except OutOfTime:
         conflict = None
     if conflict is None:
-        console.say(f"no reason was found in {max(left, 0):.2g} seconds; `helgrothy why` may look longer")
-        return
-    for line in conflict.lines(problem):
-        console.say(line)
+        return [f"no reason was found in {max(left, 0):.2g} seconds; `helgrothy why` may look longer"]
+    return list(conflict.lines(problem))
 
 
-# Shows a solution: its number, its options, and what gives the places of these among the problem's.
-_Show = Callable[[int, Sequence[Any], Callable[[Sequence[Any]], List[int]]], None]
+# Shows a solution: its number, its options, what gives the places of these among the problem's, and what gives the
+# steps of the search.
+_Show = Callable[[int, Sequence[Any], Callable[[Sequence[Any]], List[int]], Callable[[], List[Step]]], None]
 
 
 def _showing(
-    problem: Problem[Any], arguments: argparse.Namespace, otherwise: Optional[Callable[[Sequence[str]], Any]]
+    problem: Problem[Any],
+    arguments: argparse.Namespace,
+    otherwise: Optional[Callable[[Sequence[str]], Any]],
+    page: Optional[File],
 ) -> _Show:
-    """What shows solutions one after another: as data, or drawn."""
+    """What shows solutions one after another: on a page, as data, or drawn."""
+    if page is not None:
+        onto = page
+        return lambda number, options, places, steps: onto.add(number, steps())
     if arguments.data is not None:
         data = FORMS[arguments.data](problem)
         write([data.head()])
-        return lambda number, options, places: write([data.solution(number, places(options))])
+        return lambda number, options, places, steps: write([data.solution(number, places(options))])
     draw = _drawing(problem, arguments, otherwise)
     between = iter([""])
 
-    def show(number: int, options: Sequence[Any], places: object) -> None:
+    def show(number: int, options: Sequence[Any], places: object, steps: object) -> None:
         picture = draw([problem.line(option) for option in options])
         write([next(between, "\n"), picture.svg() if arguments.svg else str(picture)])
 
     return show
+
+
+def _page(problem: Problem[Any], arguments: argparse.Namespace) -> Optional[File]:
+    """The page that is asked for, if one is."""
+    if not arguments.html:
+        return None
+    try:
+        return File(problem, _drawing(problem, arguments, None))
+    except NoPicture:
+        if (arguments.cell, arguments.row, arguments.column) != (None, None, None):
+            raise
+        return File(problem, None)
 
 
 def _listed_options(lines: Sequence[str]) -> str:
@@ -288,15 +333,18 @@ def _draw(arguments: argparse.Namespace) -> int:
     if arguments.problem == "-":
         raise ValueError("the problem is a file; the listing comes from standard input")
     problem = _problem(arguments.problem)
-    show = _showing(problem, arguments, None)
+    page = _page(problem, arguments)
+    show = _showing(problem, arguments, None, page)
     places = places_of(problem)
     shown = 0
     for listed in problem.listed(console.input_lines()):
         if arguments.number in (None, listed.number):
-            show(listed.number, listed.options(), places)
+            show(listed.number, listed.options(), places, partial(listed.steps, places))
             shown += 1
-            if arguments.svg or arguments.number:
+            if arguments.svg or arguments.number or page is not None and page.is_full:
                 break
+    if page is not None and shown:
+        write([page.text(shown, False)])
     return 0 if shown else _fail("the listing has no solution to draw", 1)
 
 

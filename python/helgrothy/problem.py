@@ -31,7 +31,7 @@ from typing import (
 from . import listing as listings
 from .alike import Alike, Branches
 from .errors import ListingFault, NoPicture, OutOfTime, ProblemFault, ProgramFailed
-from .listing import Decoder, Listed, Null
+from .listing import Decoder, Listed, Null, Step, branch_of
 from .names import codes, colour_names, item_names
 from .programs import Ending, Run
 from .solution import Solution
@@ -520,6 +520,15 @@ class _Wire(Generic[Option]):
         ]
         return self._branches.told_apart(parts, items, found)
 
+    def steps(self, lines: bytes, name: Callable[[Hashable], str]) -> List[Step]:
+        """The steps of lines, by the names of items. Raises `UnknownChoice`."""
+        steps = []
+        for line, choice in zip(lines.split(b"\n"), self.numbers(lines)):
+            word, branch, branches = branch_of(line, isinstance(choice, Null))
+            place = None if isinstance(choice, Null) else choice
+            steps.append(Step(name(self._items[word]), place, branch, branches))
+        return steps
+
     def read(self, lines: bytes) -> List[Union[Option, Null]]:
         """The choices of lines. Raises `UnknownChoice`."""
         numbers: Any = self.numbers(lines)
@@ -550,6 +559,9 @@ class _Source(Generic[Option]):
 
     def numbers(self, lines: bytes) -> List[int]:
         return [number for number in self._wire.numbers(lines) if not isinstance(number, Null)]
+
+    def steps(self, lines: bytes) -> List[Step]:
+        return self._wire.steps(lines, self._problem.name)
 
     def svg(self, options: Sequence[Any]) -> Optional[str]:
         try:
