@@ -178,9 +178,9 @@ impl<'a, D: Dance> Span<'a, D> {
     }
 
     /// Goes on by so many members and at most so many steps, each a branch that is begun. It may run out of steps
-    /// between any two branches, and not at members alone. Some of the branches that it begins lead to no member and are
-    /// none of the search's tree: where it stands at one of these and has no more steps, it goes on to the next row of
-    /// the tree. After `End` it answers `End` again.
+    /// between any two branches, and not at members alone. Some branches that it begins lead to no member and are none
+    /// of the search's tree: where it stands at one of these and has no more steps, it goes on to the tree's next row.
+    /// After `End` it answers `End` again.
     pub fn go_on(&mut self, many: u64, steps: u64) -> Went
         ensures still { self.new ≡ record self.old { row = self.new.row; shown = self.new.shown } }
         ensures passed { IfSome self.old.row (λ from. left_of self.old

@@ -37,7 +37,8 @@ falls_back x c until m same on fewer path = record {
 
 -- a branch below is entered
 pub enters_below : {d e : Dancing} {ls ks : Levels} {i q : ℕ} (x c : Bool) (until : Option (List ℕ)) (m : ℕ)
-    → EntersBranch d ls true e ks i q → KeepsBy x d ls (branched e i q) ks → Rises ls ks → Enters x c until d ls m e ks m i q
+    → EntersBranch d ls true e ks i q → KeepsBy x d ls (branched e i q) ks → Rises ls ks
+    → Enters x c until d ls m e ks m i q
 enters_below x c until m b path rises = record {
   can = b.can;
   place = b.place;

@@ -181,7 +181,8 @@ module _ {until : Option (List ℕ)} {d b : Dancing} {ls js : Levels} {m n most 
         pub settled_behind : found ≡ true → is_before until (row_at e.puzzle ks.levels) ≡ false
             → RanTo d ls m most until Row e ks n steps
         settled_behind h past =
-            ended (ends_span led still s.stacked stands.over (ap (filter (λ m. is_before until (row_of m))) (s.members h)
+            ended (ends_span led still s.stacked stands.over
+            (ap (filter (λ m. is_before until (row_of m))) (s.members h)
             ∙ none_before true e.puzzle e.trail ks.levels until (s.led h) past)) Row (λ i. cc i) (λ i. cc i)
 
         pub settled_nowhere : found ≡ false → RanTo d ls m most until Nothing e ks n steps
