@@ -728,7 +728,7 @@ class Processes:
             "roundrobin": f"roundrobin {self.file('teams', b''.join(b't%d' % n + chr(10).encode() for n in range(100_000)))}",
             "roundrobin, 250": f"roundrobin {self.file('teams2', b''.join(b't%d' % n + chr(10).encode() for n in range(250)))}",
             "words": f"words {self.file('grid', (b'.' * 1000 + chr(10).encode()) * 900)} {self.file('list', b' '.join(b'%c' % (97 + n % 26) * 1000 for n in range(900)))}",
-            "a box of cubes": "polycubes pentacubes 45x45x45 --some",
+            "a box of dominoes": f"polycubes {self.file('piece5', (b'AA' + chr(10).encode() * 2) * 48_000)} 40x60x40",
             "a box, more": "polycubes soma 999999999x999999999x999999999",
             "a piece of cubes": f"polycubes {self.file('piece3', (b'A' * 300 + b' ') * 3 + chr(10).encode())} {self.file('region3', (b'.' * 300 + chr(10).encode()) * 300)}",
             "a large piece of cubes": f"polycubes {self.file('piece4', (b'A' * 300 + chr(10).encode()) * 300)} {self.file('region4', (b'.' * 300 + chr(10).encode()) * 300)}",

@@ -113,6 +113,6 @@ KIND = Kind(
     _add_arguments,
     _make,
     drawing,
-    _add_search_arguments,
-    _search,
+    add_search_arguments=_add_search_arguments,
+    search=_search,
 )
