@@ -70,7 +70,7 @@ _dlx_options() {
         'helgrothy make roundrobin')
             options='--help --double' ;;
         'helgrothy solve')
-            options='--help --number --limit --all --svg --json --csv --seconds --cell --row --column --label' ;;
+            options='--help --number --limit --all --svg --json --csv --seconds --shuffle --up-to-symmetry --cost --cell --row --column --label' ;;
         'helgrothy draw')
             options='--help --number --svg --json --csv --cell --row --column --label' ;;
         'helgrothy lint')
@@ -84,15 +84,15 @@ _dlx_options() {
         'helgrothy rows')
             options='--help --count --for' ;;
         'helgrothy sudoku')
-            options='--help --regions --cages --number --limit --all --svg --json --csv --seconds' ;;
+            options='--help --regions --cages --number --limit --all --svg --json --csv --seconds --shuffle --up-to-symmetry' ;;
         'helgrothy queens' | 'helgrothy langford' | 'helgrothy words' | 'helgrothy nonogram' | 'helgrothy kakuro')
-            options='--help --number --limit --all --svg --json --csv --seconds' ;;
+            options='--help --number --limit --all --svg --json --csv --seconds --shuffle --up-to-symmetry' ;;
         'helgrothy polyominoes')
-            options='--help --no-turns --no-mirrors --number --limit --all --svg --json --csv --seconds' ;;
+            options='--help --no-turns --no-mirrors --number --limit --all --svg --json --csv --seconds --shuffle --up-to-symmetry' ;;
         'helgrothy roster')
-            options='--help --rest --number --limit --all --svg --json --csv --seconds' ;;
+            options='--help --rest --number --limit --all --svg --json --csv --seconds --shuffle --up-to-symmetry' ;;
         'helgrothy roundrobin')
-            options='--help --double --number --limit --all --svg --json --csv --seconds' ;;
+            options='--help --double --number --limit --all --svg --json --csv --seconds --shuffle --up-to-symmetry' ;;
         *) return 1 ;;
     esac
 }
@@ -101,9 +101,9 @@ _dlx_options() {
 _dlx_value() {
     value=
     case $1 in
-        'helgrothy make sudoku --regions' | 'helgrothy make sudoku --cages' | 'helgrothy sudoku --regions' | 'helgrothy sudoku --cages')
+        'helgrothy make sudoku --regions' | 'helgrothy make sudoku --cages' | 'helgrothy solve --cost' | 'helgrothy sudoku --regions' | 'helgrothy sudoku --cages')
             value='file' ;;
-        'helgrothy solve --number' | 'helgrothy solve --limit' | 'helgrothy solve --seconds' | 'helgrothy solve --cell' | 'helgrothy solve --row' | 'helgrothy solve --column' | 'helgrothy solve --label' | 'helgrothy draw --number' | 'helgrothy draw --cell' | 'helgrothy draw --row' | 'helgrothy draw --column' | 'helgrothy draw --label' | 'helgrothy why --seconds' | 'helgrothy search --jobs' | 'helgrothy search --dask' | 'helgrothy search --seconds' | 'helgrothy rows --count' | 'helgrothy sudoku --number' | 'helgrothy sudoku --limit' | 'helgrothy sudoku --seconds' | 'helgrothy queens --number' | 'helgrothy queens --limit' | 'helgrothy queens --seconds' | 'helgrothy langford --number' | 'helgrothy langford --limit' | 'helgrothy langford --seconds' | 'helgrothy polyominoes --number' | 'helgrothy polyominoes --limit' | 'helgrothy polyominoes --seconds' | 'helgrothy words --number' | 'helgrothy words --limit' | 'helgrothy words --seconds' | 'helgrothy nonogram --number' | 'helgrothy nonogram --limit' | 'helgrothy nonogram --seconds' | 'helgrothy kakuro --number' | 'helgrothy kakuro --limit' | 'helgrothy kakuro --seconds' | 'helgrothy roster --number' | 'helgrothy roster --limit' | 'helgrothy roster --seconds' | 'helgrothy roundrobin --number' | 'helgrothy roundrobin --limit' | 'helgrothy roundrobin --seconds')
+        'helgrothy solve --number' | 'helgrothy solve --limit' | 'helgrothy solve --seconds' | 'helgrothy solve --shuffle' | 'helgrothy solve --cell' | 'helgrothy solve --row' | 'helgrothy solve --column' | 'helgrothy solve --label' | 'helgrothy draw --number' | 'helgrothy draw --cell' | 'helgrothy draw --row' | 'helgrothy draw --column' | 'helgrothy draw --label' | 'helgrothy why --seconds' | 'helgrothy search --jobs' | 'helgrothy search --dask' | 'helgrothy search --seconds' | 'helgrothy rows --count' | 'helgrothy sudoku --number' | 'helgrothy sudoku --limit' | 'helgrothy sudoku --seconds' | 'helgrothy sudoku --shuffle' | 'helgrothy queens --number' | 'helgrothy queens --limit' | 'helgrothy queens --seconds' | 'helgrothy queens --shuffle' | 'helgrothy langford --number' | 'helgrothy langford --limit' | 'helgrothy langford --seconds' | 'helgrothy langford --shuffle' | 'helgrothy polyominoes --number' | 'helgrothy polyominoes --limit' | 'helgrothy polyominoes --seconds' | 'helgrothy polyominoes --shuffle' | 'helgrothy words --number' | 'helgrothy words --limit' | 'helgrothy words --seconds' | 'helgrothy words --shuffle' | 'helgrothy nonogram --number' | 'helgrothy nonogram --limit' | 'helgrothy nonogram --seconds' | 'helgrothy nonogram --shuffle' | 'helgrothy kakuro --number' | 'helgrothy kakuro --limit' | 'helgrothy kakuro --seconds' | 'helgrothy kakuro --shuffle' | 'helgrothy roster --number' | 'helgrothy roster --limit' | 'helgrothy roster --seconds' | 'helgrothy roster --shuffle' | 'helgrothy roundrobin --number' | 'helgrothy roundrobin --limit' | 'helgrothy roundrobin --seconds' | 'helgrothy roundrobin --shuffle')
             value='words' ;;
         'helgrothy lint --for' | 'helgrothy search --for' | 'helgrothy rows --for')
             value='words dlx1 dlx2 dlx3' ;;

@@ -10,20 +10,23 @@ import argparse
 import re
 import sys
 import time
-from typing import Any, Callable, List, Optional, Sequence
+from decimal import Decimal
+from fractions import Fraction
+from typing import Any, Callable, List, Optional, Sequence, Tuple, Union
 
-from . import __version__, answers, console, why
-from .console import Parser, limited, positive, seconds, write
+from . import __version__, answers, console, cost, shuffle, symmetry, why
+from .console import Parser, limited, number, positive, seconds, write
 from .data import FORMATS as FORMS
 from .data import places_of
 from .draw import Drawing, Pattern, drawing_of
-from .errors import HelgrothyError, NoPicture, OutOfTime
+from .errors import HelgrothyError, NoPicture, OutOfTime, TableFault
 from .export import FORMATS
 from .lint import lint
-from .make import KINDS
-from .make.kind import Kind
-from .problem import Problem
+from .make import KINDS, kind_of
+from .make.kind import Kind, read_text
+from .problem import Problem, Solutions
 from .spans import commands as spans
+from .stream import Found, Stream
 from .table import Table
 from .watch import Watch
 
@@ -118,7 +121,12 @@ def _add_solve(commands: Any) -> None:
         "The last line, on standard error, says how many solutions there were.",
     )
     parser.add_argument("problem", nargs="?", default="-", metavar="PROBLEM", help="a file (default: standard input)")
-    _add_solving(parser)
+    _add_solving(parser).add_argument(
+        "--cost",
+        metavar="COSTS",
+        help="the solution of least cost, from a file with a number for each option: by clasp where the path has it, "
+        "else by dlx3",
+    )
     _add_patterns(parser)
     parser.set_defaults(command=_solve)
 
@@ -129,16 +137,30 @@ def _add_kind(commands: Any, kind: Kind) -> None:
     )
     kind.add_arguments(parser)
     _add_solving(parser)
-    parser.set_defaults(command=_make_and_solve, kind=kind, cell=None, row=None, column=None, label=None)
+    parser.set_defaults(command=_make_and_solve, kind=kind, cost=None, cell=None, row=None, column=None, label=None)
 
 
-def _add_solving(parser: argparse.ArgumentParser) -> None:
+def _add_solving(parser: argparse.ArgumentParser) -> Any:
+    """The options of solving; returns the group of those that say in which way."""
     which = parser.add_mutually_exclusive_group()
     which.add_argument("--number", type=positive, metavar="K", help="the K-th solution instead of the first")
     which.add_argument("--limit", type=positive, metavar="N", help="the first N solutions")
     which.add_argument("--all", action="store_true", help="all solutions")
     _add_forms(parser, "a picture as SVG, of one solution")
     parser.add_argument("--seconds", type=seconds, metavar="S", help="give up after S seconds")
+    way = parser.add_mutually_exclusive_group()
+    way.add_argument(
+        "--shuffle",
+        type=number,
+        metavar="SEED",
+        help="solutions in a random order of the options, the same for the same number",
+    )
+    way.add_argument(
+        "--up-to-symmetry",
+        action="store_true",
+        help="one solution of those that are images of each other by turns and mirrors of the board or box",
+    )
+    return way
 
 
 def _add_forms(parser: argparse.ArgumentParser, svg: str) -> None:
@@ -165,6 +187,8 @@ def _make_and_solve(arguments: argparse.Namespace) -> int:
 
 
 def _show(problem: Problem[Any], arguments: argparse.Namespace) -> int:
+    if arguments.cost is not None:
+        return _show_least(problem, arguments)
     number = arguments.number or 1
     limit = None if arguments.all else arguments.limit or number
     if arguments.svg and limit != number:
@@ -172,19 +196,80 @@ def _show(problem: Problem[Any], arguments: argparse.Namespace) -> int:
     show = _showing(problem, arguments, _listed_options)
     deadline = None if arguments.seconds is None else time.monotonic() + arguments.seconds
     shown = 0
+    solutions, among = _search(problem, arguments, limit, number)
     try:
-        solutions = problem.solve(limit, number, seconds=arguments.seconds)
         with Watch(problem, console.say) as watch, solutions:
-            for solution in solutions:
+            for found in solutions:
                 watch.end()
-                show(arguments.number or shown + 1, solution, lambda _: solution.numbers)
+                options = found.options if isinstance(found, Found) else found
+                show(arguments.number or shown + 1, options, lambda _: found.numbers)
                 shown += 1
     except OutOfTime as error:
-        return _fail(f"{error}; {_counted(max(error.found * (arguments.number or 1), shown))} till then")
-    console.say(f"Altogether {_counted(solutions.total or 0)}{'.' if solutions.complete else ' (limit).'}")
+        most = error.found if isinstance(solutions, Stream) else error.found * number
+        return _fail(f"{error}; {_counted(max(most, shown))} till then")
+    console.say(f"Altogether {_counted(solutions.total or 0)}{among}{'.' if solutions.complete else ' (limit).'}")
     if solutions.total == 0 and not watch.has_told:
         _tell_why(problem, deadline)
     return 0 if shown else 1
+
+
+def _search(
+    problem: Problem[Any], arguments: argparse.Namespace, limit: Optional[int], spacing: int
+) -> Tuple[Union[Solutions[Any], Stream[Any]], str]:
+    """The solutions that are asked for, and among what they are counted."""
+    seconds: Optional[float] = arguments.seconds
+    if arguments.shuffle is not None:
+        return shuffle.solve(problem, arguments.shuffle, limit, spacing, seconds=seconds), ""
+    if not arguments.up_to_symmetry:
+        return problem.solve(limit, spacing, seconds=seconds), ""
+    kind = KINDS.get(kind_of(problem.comments) or "")
+    cell = arguments.cell or (kind.cell if kind else None)
+    if cell is None:
+        raise ValueError("which cells an option has isn't known: --cell says it, of a board or a box")
+    try:
+        plan = symmetry.plan(problem, symmetry.motions(problem, cell))
+    except (re.error, OverflowError, RecursionError) as error:
+        raise ValueError(f"a pattern is wrong: {error}") from None
+    count = len(plan.motions)
+    told = f" up to {count} symmetries" if count > 1 else ", and no symmetry of its cells but that of no change"
+    return symmetry.solve(problem, plan, limit, spacing, seconds=seconds), told
+
+
+def _show_least(problem: Problem[Any], arguments: argparse.Namespace) -> int:
+    if arguments.all or arguments.limit or arguments.number:
+        raise ValueError("--cost gives one solution, without --all, --limit and --number")
+    if arguments.problem == arguments.cost == "-":
+        raise ValueError("the problem and the costs can't both come from standard input")
+    try:
+        costs = cost.read(read_text(arguments.cost), len(problem.options))
+    except TableFault as fault:
+        raise ValueError(f"{'standard input' if arguments.cost == '-' else arguments.cost}: {fault}") from None
+    show = _showing(problem, arguments, _listed_options)
+    deadline = None if arguments.seconds is None else time.monotonic() + arguments.seconds
+    try:
+        least = cost.least(problem, costs, None if arguments.seconds is None else arguments.seconds * _SHARE)
+    except cost.NotLeast as error:
+        if error.best is None:
+            return _fail(f"no solution was found in {arguments.seconds:g} seconds")
+        _show_one(show, error.best)
+        told = f"{_number(error.best.cost)} is the least cost that was found"
+        return _fail(f"{told}; in {arguments.seconds:g} seconds it wasn't proved that there is no less")
+    if least is None:
+        console.say("Altogether 0 solutions.")
+        _tell_why(problem, deadline)
+        return 1
+    _show_one(show, least)
+    console.say(f"The least cost is {_number(least.cost)}, by {least.by}.")
+    return 0
+
+
+def _show_one(show: _Show, found: cost.Least[Any]) -> None:
+    show(1, found.options, lambda _: found.numbers)
+
+
+def _number(value: Fraction) -> str:
+    """A number that was a decimal one, as such."""
+    return str(value) if value.denominator == 1 else f"{Decimal(value.numerator) / Decimal(value.denominator):f}"
 
 
 def _counted(total: int) -> str:
@@ -294,6 +379,8 @@ def _drawing(
         raise ValueError("--cell is for a board, --row and --column are for a table: not both")
     if (arguments.cell, arguments.row, arguments.column) != (None, None, None):
         try:
+            if arguments.cell is not None and "(?P<layer>" in arguments.cell and otherwise is not None:
+                return otherwise
             if arguments.cell is None:
                 return Table(arguments.row, arguments.column, arguments.label).of(problem)
             return Pattern(arguments.cell, arguments.label or r"(?!)").of(problem)

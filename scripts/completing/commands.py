@@ -15,7 +15,7 @@ from helgrothy.spans.commands import progress_parser
 FILE, FOLDER, PROBLEM = "file", "folder", "problem"
 _BY_NAME = {"PROBLEM": PROBLEM, "FOLDER": FOLDER, "LISTING": FILE}
 # Those whose help says that they are files, or may be.
-_FILES = ("CLUES", "N|REGIONS", "PIECES", "REGION", "REGIONS", "CAGES", "GRID", "LIST", "TABLE", "TEAMS")
+_FILES = ("CLUES", "N|REGIONS", "PIECES", "REGION", "REGIONS", "CAGES", "COSTS", "GRID", "LIST", "TABLE", "TEAMS")
 _WORDS = {"PIECES": sorted(SETS)}
 
 

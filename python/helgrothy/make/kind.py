@@ -21,13 +21,17 @@ _MADE = re.compile(r"helgrothy make ([a-z]+)(?: |\Z)")
 
 @dataclass(frozen=True)
 class Kind:
-    """A kind of problem: its name and help on the command line, its arguments, how it is made and drawn."""
+    """A kind of problem: its name and help on the command line, its arguments, how it is made and drawn.
+
+    cell: of a board or a box the pattern that finds the cells of an option, as `symmetry.motions` takes it.
+    """
 
     name: str
     help: str
     add_arguments: Callable[[argparse.ArgumentParser], None]
     make: Callable[[argparse.Namespace], Problem[Any]]
     drawing: Callable[[Problem[Any]], Drawing]
+    cell: Optional[str] = None
 
 
 def kind_of(comments: Sequence[str]) -> Optional[str]:
