@@ -88,6 +88,8 @@ set -g __helgrothy_valued \
     'helgrothy solve --number' \
     'helgrothy solve --limit' \
     'helgrothy solve --seconds' \
+    'helgrothy solve --shuffle' \
+    'helgrothy solve --cost' \
     'helgrothy solve --cell' \
     'helgrothy solve --row' \
     'helgrothy solve --column' \
@@ -111,42 +113,54 @@ set -g __helgrothy_valued \
     'helgrothy sudoku --number' \
     'helgrothy sudoku --limit' \
     'helgrothy sudoku --seconds' \
+    'helgrothy sudoku --shuffle' \
     'helgrothy queens --number' \
     'helgrothy queens --limit' \
     'helgrothy queens --seconds' \
+    'helgrothy queens --shuffle' \
     'helgrothy langford --number' \
     'helgrothy langford --limit' \
     'helgrothy langford --seconds' \
+    'helgrothy langford --shuffle' \
     'helgrothy polyominoes --number' \
     'helgrothy polyominoes --limit' \
     'helgrothy polyominoes --seconds' \
+    'helgrothy polyominoes --shuffle' \
     'helgrothy polycubes --number' \
     'helgrothy polycubes --limit' \
     'helgrothy polycubes --seconds' \
+    'helgrothy polycubes --shuffle' \
     'helgrothy words --number' \
     'helgrothy words --limit' \
     'helgrothy words --seconds' \
+    'helgrothy words --shuffle' \
     'helgrothy nonogram --number' \
     'helgrothy nonogram --limit' \
     'helgrothy nonogram --seconds' \
+    'helgrothy nonogram --shuffle' \
     'helgrothy kakuro --number' \
     'helgrothy kakuro --limit' \
     'helgrothy kakuro --seconds' \
+    'helgrothy kakuro --shuffle' \
     'helgrothy roster --number' \
     'helgrothy roster --limit' \
     'helgrothy roster --seconds' \
+    'helgrothy roster --shuffle' \
     'helgrothy roundrobin --number' \
     'helgrothy roundrobin --limit' \
     'helgrothy roundrobin --seconds' \
+    'helgrothy roundrobin --shuffle' \
     'helgrothy tests --tests' \
     'helgrothy tests --strength' \
     'helgrothy tests --number' \
     'helgrothy tests --limit' \
     'helgrothy tests --seconds' \
+    'helgrothy tests --shuffle' \
     'helgrothy timetable --daily' \
     'helgrothy timetable --number' \
     'helgrothy timetable --limit' \
-    'helgrothy timetable --seconds'
+    'helgrothy timetable --seconds' \
+    'helgrothy timetable --shuffle'
 
 complete -c dlx1 -f
 complete -c dlx2 -f
@@ -228,6 +242,9 @@ complete -c helgrothy -n '__helgrothy_is \'helgrothy solve\'' -l html -d 'a page
 complete -c helgrothy -n '__helgrothy_is \'helgrothy solve\'' -l json -d 'a line of JSON for each solution: its number, the numbers of its options, their items, and the colours'
 complete -c helgrothy -n '__helgrothy_is \'helgrothy solve\'' -l csv -d 'a table as CSV, with a line for each choice'
 complete -c helgrothy -n '__helgrothy_is \'helgrothy solve\'' -l seconds -r -f -d 'give up after S seconds'
+complete -c helgrothy -n '__helgrothy_is \'helgrothy solve\'' -l shuffle -r -f -d 'solutions in a random order of the options, the same for the same number'
+complete -c helgrothy -n '__helgrothy_is \'helgrothy solve\'' -l up-to-symmetry -d 'one solution of those that are images of each other by turns and mirrors of the board or box'
+complete -c helgrothy -n '__helgrothy_is \'helgrothy solve\'' -l cost -r -F -d 'the solution of least cost, from a file with a number for each option: by clasp where the path has it, else by dlx3'
 complete -c helgrothy -n '__helgrothy_is \'helgrothy solve\'' -l cell -r -f -d 'a regular expression that finds the cells, as whole words, in an option\'s line; its first two groups (or those named row and column) are row and column, a number or a single letter, and a third one its label'
 complete -c helgrothy -n '__helgrothy_is \'helgrothy solve\'' -l row -r -f -d 'a regular expression that finds the name of a row in the words of an option: the picture is a table of these names, in the order of the file'
 complete -c helgrothy -n '__helgrothy_is \'helgrothy solve\'' -l column -r -f -d 'a regular expression that finds the name of a column in the words of an option: the picture is a table of these names, in the order of the file'
@@ -272,6 +289,8 @@ complete -c helgrothy -n '__helgrothy_is \'helgrothy sudoku\'' -l html -d 'a pag
 complete -c helgrothy -n '__helgrothy_is \'helgrothy sudoku\'' -l json -d 'a line of JSON for each solution: its number, the numbers of its options, their items, and the colours'
 complete -c helgrothy -n '__helgrothy_is \'helgrothy sudoku\'' -l csv -d 'a table as CSV, with a line for each choice'
 complete -c helgrothy -n '__helgrothy_is \'helgrothy sudoku\'' -l seconds -r -f -d 'give up after S seconds'
+complete -c helgrothy -n '__helgrothy_is \'helgrothy sudoku\'' -l shuffle -r -f -d 'solutions in a random order of the options, the same for the same number'
+complete -c helgrothy -n '__helgrothy_is \'helgrothy sudoku\'' -l up-to-symmetry -d 'one solution of those that are images of each other by turns and mirrors of the board or box'
 complete -c helgrothy -n '__helgrothy_is \'helgrothy queens\'' -s h -l help -d 'show this help message and exit'
 complete -c helgrothy -n '__helgrothy_is \'helgrothy queens\'' -l number -r -f -d 'the K-th solution instead of the first'
 complete -c helgrothy -n '__helgrothy_is \'helgrothy queens\'' -l limit -r -f -d 'the first N solutions'
@@ -281,6 +300,8 @@ complete -c helgrothy -n '__helgrothy_is \'helgrothy queens\'' -l html -d 'a pag
 complete -c helgrothy -n '__helgrothy_is \'helgrothy queens\'' -l json -d 'a line of JSON for each solution: its number, the numbers of its options, their items, and the colours'
 complete -c helgrothy -n '__helgrothy_is \'helgrothy queens\'' -l csv -d 'a table as CSV, with a line for each choice'
 complete -c helgrothy -n '__helgrothy_is \'helgrothy queens\'' -l seconds -r -f -d 'give up after S seconds'
+complete -c helgrothy -n '__helgrothy_is \'helgrothy queens\'' -l shuffle -r -f -d 'solutions in a random order of the options, the same for the same number'
+complete -c helgrothy -n '__helgrothy_is \'helgrothy queens\'' -l up-to-symmetry -d 'one solution of those that are images of each other by turns and mirrors of the board or box'
 complete -c helgrothy -n '__helgrothy_is \'helgrothy langford\'' -s h -l help -d 'show this help message and exit'
 complete -c helgrothy -n '__helgrothy_is \'helgrothy langford\'' -l number -r -f -d 'the K-th solution instead of the first'
 complete -c helgrothy -n '__helgrothy_is \'helgrothy langford\'' -l limit -r -f -d 'the first N solutions'
@@ -290,6 +311,8 @@ complete -c helgrothy -n '__helgrothy_is \'helgrothy langford\'' -l html -d 'a p
 complete -c helgrothy -n '__helgrothy_is \'helgrothy langford\'' -l json -d 'a line of JSON for each solution: its number, the numbers of its options, their items, and the colours'
 complete -c helgrothy -n '__helgrothy_is \'helgrothy langford\'' -l csv -d 'a table as CSV, with a line for each choice'
 complete -c helgrothy -n '__helgrothy_is \'helgrothy langford\'' -l seconds -r -f -d 'give up after S seconds'
+complete -c helgrothy -n '__helgrothy_is \'helgrothy langford\'' -l shuffle -r -f -d 'solutions in a random order of the options, the same for the same number'
+complete -c helgrothy -n '__helgrothy_is \'helgrothy langford\'' -l up-to-symmetry -d 'one solution of those that are images of each other by turns and mirrors of the board or box'
 complete -c helgrothy -n '__helgrothy_is \'helgrothy polyominoes\'' -s h -l help -d 'show this help message and exit'
 complete -c helgrothy -n '__helgrothy_is \'helgrothy polyominoes\'' -l no-turns -d 'pieces may not be turned'
 complete -c helgrothy -n '__helgrothy_is \'helgrothy polyominoes\'' -l no-mirrors -d 'pieces may not be mirrored'
@@ -301,6 +324,8 @@ complete -c helgrothy -n '__helgrothy_is \'helgrothy polyominoes\'' -l html -d '
 complete -c helgrothy -n '__helgrothy_is \'helgrothy polyominoes\'' -l json -d 'a line of JSON for each solution: its number, the numbers of its options, their items, and the colours'
 complete -c helgrothy -n '__helgrothy_is \'helgrothy polyominoes\'' -l csv -d 'a table as CSV, with a line for each choice'
 complete -c helgrothy -n '__helgrothy_is \'helgrothy polyominoes\'' -l seconds -r -f -d 'give up after S seconds'
+complete -c helgrothy -n '__helgrothy_is \'helgrothy polyominoes\'' -l shuffle -r -f -d 'solutions in a random order of the options, the same for the same number'
+complete -c helgrothy -n '__helgrothy_is \'helgrothy polyominoes\'' -l up-to-symmetry -d 'one solution of those that are images of each other by turns and mirrors of the board or box'
 complete -c helgrothy -n '__helgrothy_is \'helgrothy polycubes\'' -s h -l help -d 'show this help message and exit'
 complete -c helgrothy -n '__helgrothy_is \'helgrothy polycubes\'' -l mirrors -d 'mirror images of pieces may be used too'
 complete -c helgrothy -n '__helgrothy_is \'helgrothy polycubes\'' -l some -d 'pieces may be left over'
@@ -312,6 +337,8 @@ complete -c helgrothy -n '__helgrothy_is \'helgrothy polycubes\'' -l html -d 'a 
 complete -c helgrothy -n '__helgrothy_is \'helgrothy polycubes\'' -l json -d 'a line of JSON for each solution: its number, the numbers of its options, their items, and the colours'
 complete -c helgrothy -n '__helgrothy_is \'helgrothy polycubes\'' -l csv -d 'a table as CSV, with a line for each choice'
 complete -c helgrothy -n '__helgrothy_is \'helgrothy polycubes\'' -l seconds -r -f -d 'give up after S seconds'
+complete -c helgrothy -n '__helgrothy_is \'helgrothy polycubes\'' -l shuffle -r -f -d 'solutions in a random order of the options, the same for the same number'
+complete -c helgrothy -n '__helgrothy_is \'helgrothy polycubes\'' -l up-to-symmetry -d 'one solution of those that are images of each other by turns and mirrors of the board or box'
 complete -c helgrothy -n '__helgrothy_is \'helgrothy words\'' -s h -l help -d 'show this help message and exit'
 complete -c helgrothy -n '__helgrothy_is \'helgrothy words\'' -l number -r -f -d 'the K-th solution instead of the first'
 complete -c helgrothy -n '__helgrothy_is \'helgrothy words\'' -l limit -r -f -d 'the first N solutions'
@@ -321,6 +348,8 @@ complete -c helgrothy -n '__helgrothy_is \'helgrothy words\'' -l html -d 'a page
 complete -c helgrothy -n '__helgrothy_is \'helgrothy words\'' -l json -d 'a line of JSON for each solution: its number, the numbers of its options, their items, and the colours'
 complete -c helgrothy -n '__helgrothy_is \'helgrothy words\'' -l csv -d 'a table as CSV, with a line for each choice'
 complete -c helgrothy -n '__helgrothy_is \'helgrothy words\'' -l seconds -r -f -d 'give up after S seconds'
+complete -c helgrothy -n '__helgrothy_is \'helgrothy words\'' -l shuffle -r -f -d 'solutions in a random order of the options, the same for the same number'
+complete -c helgrothy -n '__helgrothy_is \'helgrothy words\'' -l up-to-symmetry -d 'one solution of those that are images of each other by turns and mirrors of the board or box'
 complete -c helgrothy -n '__helgrothy_is \'helgrothy nonogram\'' -s h -l help -d 'show this help message and exit'
 complete -c helgrothy -n '__helgrothy_is \'helgrothy nonogram\'' -l number -r -f -d 'the K-th solution instead of the first'
 complete -c helgrothy -n '__helgrothy_is \'helgrothy nonogram\'' -l limit -r -f -d 'the first N solutions'
@@ -330,6 +359,8 @@ complete -c helgrothy -n '__helgrothy_is \'helgrothy nonogram\'' -l html -d 'a p
 complete -c helgrothy -n '__helgrothy_is \'helgrothy nonogram\'' -l json -d 'a line of JSON for each solution: its number, the numbers of its options, their items, and the colours'
 complete -c helgrothy -n '__helgrothy_is \'helgrothy nonogram\'' -l csv -d 'a table as CSV, with a line for each choice'
 complete -c helgrothy -n '__helgrothy_is \'helgrothy nonogram\'' -l seconds -r -f -d 'give up after S seconds'
+complete -c helgrothy -n '__helgrothy_is \'helgrothy nonogram\'' -l shuffle -r -f -d 'solutions in a random order of the options, the same for the same number'
+complete -c helgrothy -n '__helgrothy_is \'helgrothy nonogram\'' -l up-to-symmetry -d 'one solution of those that are images of each other by turns and mirrors of the board or box'
 complete -c helgrothy -n '__helgrothy_is \'helgrothy kakuro\'' -s h -l help -d 'show this help message and exit'
 complete -c helgrothy -n '__helgrothy_is \'helgrothy kakuro\'' -l number -r -f -d 'the K-th solution instead of the first'
 complete -c helgrothy -n '__helgrothy_is \'helgrothy kakuro\'' -l limit -r -f -d 'the first N solutions'
@@ -339,6 +370,8 @@ complete -c helgrothy -n '__helgrothy_is \'helgrothy kakuro\'' -l html -d 'a pag
 complete -c helgrothy -n '__helgrothy_is \'helgrothy kakuro\'' -l json -d 'a line of JSON for each solution: its number, the numbers of its options, their items, and the colours'
 complete -c helgrothy -n '__helgrothy_is \'helgrothy kakuro\'' -l csv -d 'a table as CSV, with a line for each choice'
 complete -c helgrothy -n '__helgrothy_is \'helgrothy kakuro\'' -l seconds -r -f -d 'give up after S seconds'
+complete -c helgrothy -n '__helgrothy_is \'helgrothy kakuro\'' -l shuffle -r -f -d 'solutions in a random order of the options, the same for the same number'
+complete -c helgrothy -n '__helgrothy_is \'helgrothy kakuro\'' -l up-to-symmetry -d 'one solution of those that are images of each other by turns and mirrors of the board or box'
 complete -c helgrothy -n '__helgrothy_is \'helgrothy roster\'' -s h -l help -d 'show this help message and exit'
 complete -c helgrothy -n '__helgrothy_is \'helgrothy roster\'' -l rest -d 'no shift on the next day that stands higher in the table'
 complete -c helgrothy -n '__helgrothy_is \'helgrothy roster\'' -l number -r -f -d 'the K-th solution instead of the first'
@@ -349,6 +382,8 @@ complete -c helgrothy -n '__helgrothy_is \'helgrothy roster\'' -l html -d 'a pag
 complete -c helgrothy -n '__helgrothy_is \'helgrothy roster\'' -l json -d 'a line of JSON for each solution: its number, the numbers of its options, their items, and the colours'
 complete -c helgrothy -n '__helgrothy_is \'helgrothy roster\'' -l csv -d 'a table as CSV, with a line for each choice'
 complete -c helgrothy -n '__helgrothy_is \'helgrothy roster\'' -l seconds -r -f -d 'give up after S seconds'
+complete -c helgrothy -n '__helgrothy_is \'helgrothy roster\'' -l shuffle -r -f -d 'solutions in a random order of the options, the same for the same number'
+complete -c helgrothy -n '__helgrothy_is \'helgrothy roster\'' -l up-to-symmetry -d 'one solution of those that are images of each other by turns and mirrors of the board or box'
 complete -c helgrothy -n '__helgrothy_is \'helgrothy roundrobin\'' -s h -l help -d 'show this help message and exit'
 complete -c helgrothy -n '__helgrothy_is \'helgrothy roundrobin\'' -l double -d 'each two teams meet twice, once at each one\'s home'
 complete -c helgrothy -n '__helgrothy_is \'helgrothy roundrobin\'' -l number -r -f -d 'the K-th solution instead of the first'
@@ -359,6 +394,8 @@ complete -c helgrothy -n '__helgrothy_is \'helgrothy roundrobin\'' -l html -d 'a
 complete -c helgrothy -n '__helgrothy_is \'helgrothy roundrobin\'' -l json -d 'a line of JSON for each solution: its number, the numbers of its options, their items, and the colours'
 complete -c helgrothy -n '__helgrothy_is \'helgrothy roundrobin\'' -l csv -d 'a table as CSV, with a line for each choice'
 complete -c helgrothy -n '__helgrothy_is \'helgrothy roundrobin\'' -l seconds -r -f -d 'give up after S seconds'
+complete -c helgrothy -n '__helgrothy_is \'helgrothy roundrobin\'' -l shuffle -r -f -d 'solutions in a random order of the options, the same for the same number'
+complete -c helgrothy -n '__helgrothy_is \'helgrothy roundrobin\'' -l up-to-symmetry -d 'one solution of those that are images of each other by turns and mirrors of the board or box'
 complete -c helgrothy -n '__helgrothy_is \'helgrothy tests\'' -s h -l help -d 'show this help message and exit'
 complete -c helgrothy -n '__helgrothy_is \'helgrothy tests\'' -l tests -r -f -d 'so many tests'
 complete -c helgrothy -n '__helgrothy_is \'helgrothy tests\'' -l strength -r -f -d 'the values of any T factors come together (default: 2)'
@@ -371,6 +408,8 @@ complete -c helgrothy -n '__helgrothy_is \'helgrothy tests\'' -l html -d 'a page
 complete -c helgrothy -n '__helgrothy_is \'helgrothy tests\'' -l json -d 'a line of JSON for each solution: its number, the numbers of its options, their items, and the colours'
 complete -c helgrothy -n '__helgrothy_is \'helgrothy tests\'' -l csv -d 'a table as CSV, with a line for each choice'
 complete -c helgrothy -n '__helgrothy_is \'helgrothy tests\'' -l seconds -r -f -d 'give up after S seconds'
+complete -c helgrothy -n '__helgrothy_is \'helgrothy tests\'' -l shuffle -r -f -d 'solutions in a random order of the options, the same for the same number'
+complete -c helgrothy -n '__helgrothy_is \'helgrothy tests\'' -l up-to-symmetry -d 'one solution of those that are images of each other by turns and mirrors of the board or box'
 complete -c helgrothy -n '__helgrothy_is \'helgrothy timetable\'' -s h -l help -d 'show this help message and exit'
 complete -c helgrothy -n '__helgrothy_is \'helgrothy timetable\'' -l daily -r -f -d 'nobody has more than N lessons a day'
 complete -c helgrothy -n '__helgrothy_is \'helgrothy timetable\'' -l number -r -f -d 'the K-th solution instead of the first'
@@ -381,6 +420,8 @@ complete -c helgrothy -n '__helgrothy_is \'helgrothy timetable\'' -l html -d 'a 
 complete -c helgrothy -n '__helgrothy_is \'helgrothy timetable\'' -l json -d 'a line of JSON for each solution: its number, the numbers of its options, their items, and the colours'
 complete -c helgrothy -n '__helgrothy_is \'helgrothy timetable\'' -l csv -d 'a table as CSV, with a line for each choice'
 complete -c helgrothy -n '__helgrothy_is \'helgrothy timetable\'' -l seconds -r -f -d 'give up after S seconds'
+complete -c helgrothy -n '__helgrothy_is \'helgrothy timetable\'' -l shuffle -r -f -d 'solutions in a random order of the options, the same for the same number'
+complete -c helgrothy -n '__helgrothy_is \'helgrothy timetable\'' -l up-to-symmetry -d 'one solution of those that are images of each other by turns and mirrors of the board or box'
 complete -c dlx1 -n '__helgrothy_is \'dlx1\' 1+' -f -a 'm1 m1000 t1 t2'
 complete -c dlx2 -n '__helgrothy_is \'dlx2\' 1+' -f -a 'm1 m1000 t1 t2'
 complete -c dlx3 -n '__helgrothy_is \'dlx3\' 1+' -f -a 'm1 m1000 t1 t2'

@@ -319,13 +319,20 @@ class Try:
         rng = self.rng
         words = rng.choice([[], ["--all"], ["--limit", "3"], ["--number", "2"]])
         if rng.random() < 0.1:
-            words = [rng.choice(["--number", "--limit", "--seconds"]), rng.choice(WORDS)]
+            words = [rng.choice(["--number", "--limit", "--seconds", "--shuffle"]), rng.choice(WORDS)]
+        if rng.random() < 0.2:
+            words = [*words, *rng.choice([["--shuffle", "7"], ["--up-to-symmetry"]])]
         return [*words, *([] if "--seconds" in words else ["--seconds", "5"])]
 
     def solve(self):
         forms = self.forms()
         choice = ["--seconds", "5"] if "--svg" in forms and self.rng.random() < 0.9 else self.choice()
-        return "helgrothy", ["solve", self.input(text(self.rng)), *choice, *forms]
+        problem = text(self.rng)
+        if self.rng.random() < 0.15:
+            count = max(0, len([line for line in problem.split(b"\n") if line.strip()]) - self.rng.choice([1, 1, 2, 3]))
+            costs = b" ".join(self.rng.choice([b"1", b"2", b"-3", b"0.5", b"9" * 15]) for _ in range(count))
+            choice = ["--seconds", "5", "--cost", self.file(changed(self.rng, costs))]
+        return "helgrothy", ["solve", self.input(problem), *choice, *forms]
 
     def draw(self):
         problem = text(self.rng)

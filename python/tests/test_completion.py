@@ -24,7 +24,7 @@ class Completion(unittest.TestCase):
         for kind in KINDS:
             self.assertIn(f"helgrothy make {kind}", commands)
             names = {name for option in commands[f"helgrothy {kind}"].options for name in option.names}
-            self.assertLessEqual({"--svg", "--json", "--csv", "--all", "--number", "--limit", "--seconds"}, names)
+            self.assertLessEqual({"--svg", "--json", "--all", "--number", "--limit", "--seconds", "--shuffle", "--up-to-symmetry"}, names)
         self.assertEqual([str(place) for place in commands["dlx-span"].places], ["words 1 2 3", "words m0 m1"])
         search = commands["helgrothy search"]
         self.assertEqual([str(place) for place in search.places], ["problem"])

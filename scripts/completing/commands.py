@@ -22,6 +22,7 @@ _FILES = (
     "REGION",
     "REGIONS",
     "CAGES",
+    "COSTS",
     "GRID",
     "LIST",
     "TABLE",

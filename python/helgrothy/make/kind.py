@@ -20,7 +20,7 @@ _MADE = re.compile(r"helgrothy make ([a-z]+)(?: |\Z)")
 
 
 @dataclass(frozen=True)
-class Found:
+class OwnFound:
     """A solution that a kind's own search found: the problem, the places of the options, and what is known of it."""
 
     problem: Problem[Any]
@@ -30,7 +30,10 @@ class Found:
 
 @dataclass(frozen=True)
 class Kind:
-    """A kind of problem: its name and help on the command line, its arguments, how it is made and drawn."""
+    """A kind of problem: its name and help on the command line, its arguments, how it is made and drawn.
+
+    cell: of a board or a box the pattern that finds the cells of an option, as `symmetry.motions` takes it.
+    """
 
     name: str
     help: str
@@ -40,7 +43,8 @@ class Kind:
     # Of a kind with a search of its own: that search's arguments, and what it finds in so many seconds, or None where
     # the arguments don't ask for it.
     add_search_arguments: Callable[[argparse.ArgumentParser], None] = lambda parser: None
-    search: Callable[[argparse.Namespace, Optional[float]], Optional[Found]] = lambda arguments, seconds: None
+    search: Callable[[argparse.Namespace, Optional[float]], Optional[OwnFound]] = lambda arguments, seconds: None
+    cell: Optional[str] = None
 
 
 def kind_of(comments: Sequence[str]) -> Optional[str]:

@@ -250,4 +250,6 @@ def _make(arguments: argparse.Namespace) -> Problem[List[str]]:
     return problem(pieces, box, mirrors=arguments.mirrors, some=arguments.some)
 
 
-KIND = Kind("polycubes", "pieces of cubes that fill a box", _add_arguments, _make, drawing)
+KIND = Kind(
+    "polycubes", "pieces of cubes that fill a box", _add_arguments, _make, drawing, cell=r"l(\d+)r(\d+)c(\d+)"
+)
