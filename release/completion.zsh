@@ -73,7 +73,7 @@ _helgrothy_options() {
             commands=() ;;
         'helgrothy')
             options=('--help:show this help message and exit' '--version:show program'\''s version number and exit')
-            commands=('make:write a problem' 'solve:solve a problem and draw what is found' 'draw:draw a listing' 'lint:tell all faults and slips of a problem' 'export:write a problem for another solver' 'why:tell which items conflict where there is no solution' 'search:count or list all solutions, by all processors or many machines' 'status:tell how far a search is' 'result:print what a search that is done has found' 'rows:print rows at which a search may be cut' 'sudoku:make and solve a Sudoku from its clues' 'queens:make and solve queens on a board, or in coloured regions' 'langford:make and solve Langford'\''s pairs' 'polyominoes:make and solve pieces of squares that fill a region' 'words:make and solve words across and down in a grid' 'roster:make and solve shifts of people on days' 'roundrobin:make and solve a round robin at home and away') ;;
+            commands=('make:write a problem' 'solve:solve a problem and draw what is found' 'draw:draw a listing' 'lint:tell all faults and slips of a problem' 'export:write a problem for another solver' 'why:tell which items conflict where there is no solution' 'search:count or list all solutions, by all processors or many machines' 'status:tell how far a search is' 'result:print what a search that is done has found' 'rows:print rows at which a search may be cut' 'page:a local page to type a problem in' 'sudoku:make and solve a Sudoku from its clues' 'queens:make and solve queens on a board, or in coloured regions' 'langford:make and solve Langford'\''s pairs' 'polyominoes:make and solve pieces of squares that fill a region' 'words:make and solve words across and down in a grid' 'roster:make and solve shifts of people on days' 'roundrobin:make and solve a round robin at home and away') ;;
         'helgrothy make')
             options=('--help:show this help message and exit')
             commands=('sudoku:a Sudoku from its clues' 'queens:queens on a board, or in coloured regions' 'langford:Langford'\''s pairs' 'polyominoes:pieces of squares that fill a region' 'words:words across and down in a grid' 'roster:shifts of people on days' 'roundrobin:a round robin at home and away') ;;
@@ -125,6 +125,9 @@ _helgrothy_options() {
         'helgrothy rows')
             options=('--help:show this help message and exit' '--count:up to N rows (default: 100)' '--for:the program (default: the first that takes such a text)')
             commands=() ;;
+        'helgrothy page')
+            options=('--help:show this help message and exit' '--port:the port (default: one that is free)')
+            commands=() ;;
         'helgrothy sudoku')
             options=('--help:show this help message and exit' '--number:the K-th solution instead of the first' '--limit:the first N solutions' '--all:all solutions' '--svg:a picture as SVG, of one solution' '--html:a page for a browser: the solutions, their pictures, and the search'\''s way' '--json:a line of JSON for each solution: its number, the numbers of its options, their items, and the colours' '--csv:a table as CSV, with a line for each choice' '--seconds:give up after S seconds')
             commands=() ;;
@@ -154,7 +157,7 @@ _helgrothy_options() {
 _helgrothy_value() {
     value=
     case $1 in
-        'helgrothy solve --number' | 'helgrothy solve --limit' | 'helgrothy solve --seconds' | 'helgrothy solve --cell' | 'helgrothy solve --row' | 'helgrothy solve --column' | 'helgrothy solve --label' | 'helgrothy draw --number' | 'helgrothy draw --cell' | 'helgrothy draw --row' | 'helgrothy draw --column' | 'helgrothy draw --label' | 'helgrothy why --seconds' | 'helgrothy search --jobs' | 'helgrothy search --dask' | 'helgrothy search --seconds' | 'helgrothy rows --count' | 'helgrothy sudoku --number' | 'helgrothy sudoku --limit' | 'helgrothy sudoku --seconds' | 'helgrothy queens --number' | 'helgrothy queens --limit' | 'helgrothy queens --seconds' | 'helgrothy langford --number' | 'helgrothy langford --limit' | 'helgrothy langford --seconds' | 'helgrothy polyominoes --number' | 'helgrothy polyominoes --limit' | 'helgrothy polyominoes --seconds' | 'helgrothy words --number' | 'helgrothy words --limit' | 'helgrothy words --seconds' | 'helgrothy roster --number' | 'helgrothy roster --limit' | 'helgrothy roster --seconds' | 'helgrothy roundrobin --number' | 'helgrothy roundrobin --limit' | 'helgrothy roundrobin --seconds')
+        'helgrothy solve --number' | 'helgrothy solve --limit' | 'helgrothy solve --seconds' | 'helgrothy solve --cell' | 'helgrothy solve --row' | 'helgrothy solve --column' | 'helgrothy solve --label' | 'helgrothy draw --number' | 'helgrothy draw --cell' | 'helgrothy draw --row' | 'helgrothy draw --column' | 'helgrothy draw --label' | 'helgrothy why --seconds' | 'helgrothy search --jobs' | 'helgrothy search --dask' | 'helgrothy search --seconds' | 'helgrothy rows --count' | 'helgrothy page --port' | 'helgrothy sudoku --number' | 'helgrothy sudoku --limit' | 'helgrothy sudoku --seconds' | 'helgrothy queens --number' | 'helgrothy queens --limit' | 'helgrothy queens --seconds' | 'helgrothy langford --number' | 'helgrothy langford --limit' | 'helgrothy langford --seconds' | 'helgrothy polyominoes --number' | 'helgrothy polyominoes --limit' | 'helgrothy polyominoes --seconds' | 'helgrothy words --number' | 'helgrothy words --limit' | 'helgrothy words --seconds' | 'helgrothy roster --number' | 'helgrothy roster --limit' | 'helgrothy roster --seconds' | 'helgrothy roundrobin --number' | 'helgrothy roundrobin --limit' | 'helgrothy roundrobin --seconds')
             value='words' ;;
         'helgrothy lint --for' | 'helgrothy search --for' | 'helgrothy rows --for')
             value='words dlx1 dlx2 dlx3' ;;
@@ -175,7 +178,7 @@ _helgrothy_place() {
         'dlx-span:2' | 'dlx-join:1')
             value='words m0 m1' ;;
         'helgrothy:1')
-            value='words make solve draw lint export why search status result rows sudoku queens langford polyominoes words roster roundrobin' ;;
+            value='words make solve draw lint export why search status result rows page sudoku queens langford polyominoes words roster roundrobin' ;;
         'helgrothy make:1')
             value='words sudoku queens langford polyominoes words roster roundrobin' ;;
         'helgrothy make polyominoes:1' | 'helgrothy polyominoes:1')

@@ -7,7 +7,6 @@ command could not be done, with one line on standard error that says why.
 from __future__ import annotations
 
 import argparse
-import re
 import sys
 import time
 from functools import partial
@@ -17,17 +16,18 @@ from . import __version__, console, why
 from .console import Parser, limited, positive, seconds, write
 from .data import FORMATS as FORMS
 from .data import places_of
-from .draw import Drawing, Pattern, drawing_of
+from .draw import Drawing, drawing_of
 from .errors import HelgrothyError, NoPicture, OutOfTime
 from .export import FORMATS
 from .lint import lint
 from .listing import Step
 from .make import KINDS
 from .make.kind import Kind
+from .page import commands as pages
 from .page.file import MOST_SOLUTIONS, File
 from .problem import Problem
 from .spans import commands as spans
-from .table import Table
+from .table import by_patterns
 from .watch import Watch
 
 _EXAMPLES = """\
@@ -87,6 +87,7 @@ def _parser() -> argparse.ArgumentParser:
     _add_export(commands)
     _add_why(commands)
     spans.add(commands)
+    pages.add(commands)
     for kind in KINDS.values():
         _add_kind(commands, kind)
     return parser
@@ -334,15 +335,9 @@ def _drawing(
     problem: Problem[Any], arguments: argparse.Namespace, otherwise: Optional[Callable[[Sequence[str]], Any]]
 ) -> Callable[[Sequence[str]], Any]:
     """What draws solutions: by the patterns that are given, else as the problem was made, else otherwise."""
-    if arguments.cell is not None and (arguments.row is not None or arguments.column is not None):
-        raise ValueError("--cell is for a board, --row and --column are for a table: not both")
-    if (arguments.cell, arguments.row, arguments.column) != (None, None, None):
-        try:
-            if arguments.cell is None:
-                return Table(arguments.row, arguments.column, arguments.label).of(problem)
-            return Pattern(arguments.cell, arguments.label or r"(?!)").of(problem)
-        except (re.error, OverflowError, RecursionError) as error:
-            raise ValueError(f"a pattern is wrong: {error}") from None
+    by_them = by_patterns(problem, arguments.cell, arguments.row, arguments.column, arguments.label)
+    if by_them is not None:
+        return by_them
     try:
         drawing: Drawing = drawing_of(problem)
     except NoPicture:
