@@ -66,6 +66,7 @@ set -g __helgrothy_commands \
     'helgrothy status' \
     'helgrothy result' \
     'helgrothy rows' \
+    'helgrothy page' \
     'helgrothy sudoku' \
     'helgrothy queens' \
     'helgrothy langford' \
@@ -108,6 +109,7 @@ set -g __helgrothy_valued \
     'helgrothy search --for' \
     'helgrothy rows --count' \
     'helgrothy rows --for' \
+    'helgrothy page --port' \
     'helgrothy sudoku --regions' \
     'helgrothy sudoku --cages' \
     'helgrothy sudoku --number' \
@@ -185,6 +187,7 @@ complete -c helgrothy -n '__helgrothy_is \'helgrothy\' 1' -a search -d 'count or
 complete -c helgrothy -n '__helgrothy_is \'helgrothy\' 1' -a status -d 'tell how far a search is'
 complete -c helgrothy -n '__helgrothy_is \'helgrothy\' 1' -a result -d 'print what a search that is done has found'
 complete -c helgrothy -n '__helgrothy_is \'helgrothy\' 1' -a rows -d 'print rows at which a search may be cut'
+complete -c helgrothy -n '__helgrothy_is \'helgrothy\' 1' -a page -d 'a local page to type a problem in'
 complete -c helgrothy -n '__helgrothy_is \'helgrothy\' 1' -a sudoku -d 'make and solve a Sudoku from its clues'
 complete -c helgrothy -n '__helgrothy_is \'helgrothy\' 1' -a queens -d 'make and solve queens on a board, or in coloured regions'
 complete -c helgrothy -n '__helgrothy_is \'helgrothy\' 1' -a langford -d 'make and solve Langford\'s pairs'
@@ -278,6 +281,8 @@ complete -c helgrothy -n '__helgrothy_is \'helgrothy result\'' -l list -d 'list 
 complete -c helgrothy -n '__helgrothy_is \'helgrothy rows\'' -s h -l help -d 'show this help message and exit'
 complete -c helgrothy -n '__helgrothy_is \'helgrothy rows\'' -l count -r -f -d 'up to N rows (default: 100)'
 complete -c helgrothy -n '__helgrothy_is \'helgrothy rows\'' -l for -r -f -a 'dlx1 dlx2 dlx3' -d 'the program (default: the first that takes such a text)'
+complete -c helgrothy -n '__helgrothy_is \'helgrothy page\'' -s h -l help -d 'show this help message and exit'
+complete -c helgrothy -n '__helgrothy_is \'helgrothy page\'' -l port -r -f -d 'the port (default: one that is free)'
 complete -c helgrothy -n '__helgrothy_is \'helgrothy sudoku\'' -s h -l help -d 'show this help message and exit'
 complete -c helgrothy -n '__helgrothy_is \'helgrothy sudoku\'' -l regions -r -F -d 'a file with a picture of the regions, a letter for each place'
 complete -c helgrothy -n '__helgrothy_is \'helgrothy sudoku\'' -l cages -r -F -d 'a file with a line for each cage, its sum and its places (12 r1c1 r1c2); or with a picture, a letter for each place, and behind a blank line the sums (a=12 b=7)'

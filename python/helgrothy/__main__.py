@@ -19,18 +19,19 @@ from . import __version__, answers, console, cost, shuffle, symmetry, why
 from .console import Parser, limited, number, positive, seconds, write
 from .data import FORMATS as FORMS
 from .data import places_of
-from .draw import Drawing, Pattern, drawing_of
+from .draw import Drawing, drawing_of
 from .errors import HelgrothyError, NoPicture, OutOfTime, TableFault
 from .export import FORMATS
 from .lint import lint
 from .listing import Step
 from .make import KINDS, kind_of
 from .make.kind import Kind, OwnFound, read_text
+from .page import commands as pages
 from .page.file import MOST_SOLUTIONS, File
 from .problem import Problem, Solutions
 from .spans import commands as spans
 from .stream import Found, Stream
-from .table import Table
+from .table import by_patterns
 from .watch import Watch
 
 _EXAMPLES = """\
@@ -92,6 +93,7 @@ def _parser() -> argparse.ArgumentParser:
     _add_import(commands)
     _add_why(commands)
     spans.add(commands)
+    pages.add(commands)
     for kind in KINDS.values():
         _add_kind(commands, kind)
     return parser
@@ -450,17 +452,12 @@ def _drawing(
     problem: Problem[Any], arguments: argparse.Namespace, otherwise: Optional[Callable[[Sequence[str]], Any]]
 ) -> Callable[[Sequence[str]], Any]:
     """What draws solutions: by the patterns that are given, else as the problem was made, else otherwise."""
-    if arguments.cell is not None and (arguments.row is not None or arguments.column is not None):
-        raise ValueError("--cell is for a board, --row and --column are for a table: not both")
-    if (arguments.cell, arguments.row, arguments.column) != (None, None, None):
-        try:
-            if arguments.cell is not None and "(?P<layer>" in arguments.cell and otherwise is not None:
-                return otherwise
-            if arguments.cell is None:
-                return Table(arguments.row, arguments.column, arguments.label).of(problem)
-            return Pattern(arguments.cell, arguments.label or r"(?!)").of(problem)
-        except (re.error, OverflowError, RecursionError) as error:
-            raise ValueError(f"a pattern is wrong: {error}") from None
+    if arguments.cell is not None and "(?P<layer>" in arguments.cell and otherwise is not None:
+        # The cells of a box are for its symmetries; they have no picture by a pattern.
+        return otherwise
+    by_them = by_patterns(problem, arguments.cell, arguments.row, arguments.column, arguments.label)
+    if by_them is not None:
+        return by_them
     try:
         drawing: Drawing = drawing_of(problem)
     except NoPicture:

@@ -24,7 +24,9 @@ function made(name, words = {}, ...within) {
 }
 
 class Viewer {
-  constructor() {
+  // idle: what is said where there is nothing yet.
+  constructor(idle = "") {
+    this.idle = idle;
     this.bind();
     this.clear();
   }
@@ -41,6 +43,7 @@ class Viewer {
     this.found = [];
     this.at = 0;
     this.cards = 0;
+    get("filter").value = "";
     get("cards").replaceChildren();
     get("problem").hidden = true;
     get("title").textContent = "Solutions";
@@ -164,7 +167,9 @@ class Viewer {
       const unknown = words.find((word) => ![...this.held.values()].some((held) => held.has(word)));
       return unknown ? `No option of these solutions has ${unknown}.` : "None of these solutions has that.";
     }
-    return this.ended ? ["There is no solution.", ...this.ended.notes].join("\n") : "";
+    if (!this.ended) return this.idle;
+    const first = this.ended.complete ? "There is no solution." : "No solution was found.";
+    return [first, ...this.ended.notes].join("\n");
   }
 
   refreshCount() {
@@ -223,8 +228,11 @@ class Viewer {
       before += (branch - 1) * share;
     }
     const choices = solution.steps.filter(([, , , branches]) => branches > 1).length;
-    const told = [`${counted(solution.steps.length, "step")}, ${counted(choices, "choice")} among branches`];
-    told.push(`by its branches about ${(100 * before).toFixed(before < 0.1 ? 2 : 1)} % of the search lies before it`);
+    const chosen = choices ? `${counted(choices, "choice")} among branches` : "each one forced";
+    const told = [`${counted(solution.steps.length, "step")}, ${chosen}`];
+    if (before > 0) {
+      told.push(`by its branches about ${(100 * before).toFixed(before < 0.1 ? 2 : 1)} % of the search lies before it`);
+    }
     if (same) told.push(`the first ${counted(same, "step")} as in solution ${solution.number - 1}`);
     return `Solution ${solution.number.toLocaleString("en")}: ${told.join("; ")}.`;
   }
