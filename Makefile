@@ -21,7 +21,7 @@ LIBRARY = $(wildcard bindings/out/libhelgrothy.so)
 SONAME = libhelgrothy.so.0
 
 .PHONY: help run bin all $(PROGRAMS) $(SPAN_CRATES) test test-mutants test-hostile test-hostile-python test-python
-.PHONY: test-search test-docs
+.PHONY: test-search test-page test-docs
 .PHONY: pictures completion believed bench bench-forms test-bench test-build
 .PHONY: lib install install-lib uninstall uninstall-lib dist deb wheel version release
 .PHONY: test-bindings test-install test-dist test-deb test-wheel
@@ -47,6 +47,8 @@ test-hostile-python: ## the Python commands on what is made to hurt
 	@python3 tests/hostile_python.py 5000 1
 test-search: bin ## 500 searches by helgrothy search, with mishaps
 	@PATH=$$PWD/bin:$$PATH python3 tests/search.py 500 1
+test-page: bin ## the pages in a headless Chromium
+	@PATH=$$PWD/bin:$$PATH python3 tests/page.py
 test-docs: bin ## the commands, pictures and tables of the pages
 	@sh tests/pages.sh . man/*.[15]
 	@scripts/pictures/pictures compare

@@ -8,7 +8,9 @@ does many; texts of 1 MB, closed streams, terminals and folders with Python file
 processes of their own. A try that goes wrong is told in a line. The last line is `N passed, M failed`.
 """
 
+import collections
 import contextlib
+import html.parser
 import io
 import itertools
 import json
@@ -32,6 +34,7 @@ sys.path.insert(0, os.path.join(TOP, "python"))
 
 from helgrothy import __main__ as commands  # noqa: E402
 from helgrothy import make  # noqa: E402
+from helgrothy.page.document import document  # noqa: E402
 from helgrothy.spans import commands as span_commands  # noqa: E402
 
 SCRIPT = os.path.join(TOP, "scripts", "helgrothy")
@@ -105,6 +108,42 @@ def wrong_with_svg(raw: bytes) -> str:
         if any("(" in value for key, value in element.attrib.items() if key != "transform"):
             return "an attribute that calls something"
     return ""
+
+
+class Elements(html.parser.HTMLParser):
+    """How often a document has each element, and what its script of data says."""
+
+    def __init__(self, text: str) -> None:
+        super().__init__()
+        self.counts = collections.Counter()
+        self.data = ""
+        self.is_data = False
+        self.feed(text)
+
+    def handle_starttag(self, tag, attributes):
+        self.counts[tag] += 1
+        self.is_data = dict(attributes).get("id") == "data"
+
+    def handle_endtag(self, tag):
+        self.is_data = False
+
+    def handle_data(self, text):
+        if self.is_data:
+            self.data += text
+
+
+USUAL = Elements(document(["viewer.html"], "", ["viewer.js"], [])).counts
+
+
+def wrong_with_html(raw: bytes) -> str:
+    """What is wrong with a page, if anything: it has the elements of one without data, and its data is text."""
+    found = Elements(raw.decode())
+    if found.counts != USUAL:
+        return f"elements {found.counts - USUAL}"
+    if "<" in found.data or steers(found.data.encode()):
+        return "data that isn't text"
+    told = json.loads(found.data)
+    return "" if "problem" in told[0] and "end" in told[-1] else "a page without an end"
 
 
 # ---- what is made to hurt
@@ -204,7 +243,11 @@ JIGSAW = b"aaab\naccb\ndccb\ndddb\n"
 CAGES = [b"5 r1c1 r1c2\n10 r2c1 r2c2 r3c1 r3c2\n", b"aabb\naabb\nccdd\nccdd\n\na=10 b=10\nc=10 d=10\n"]
 NONOGRAM = [b"2\n1 1\n3\n\n3\n1 1\n2\n", b"width 2\nheight 1\nrows\n1\ncolumns\n1\n0\n"]
 KAKURO = b"# 4\\ 3\\\n\\4 . .\n\\3 . 1\n"
-TABLES = [ROSTER, TEAMS, GRID, LIST, PIECES, REGION, REGIONS, CLUES, JIGSAW, *CAGES, *NONOGRAM, KAKURO]
+FACTORS = b"system linux mac\nbrowser firefox chrome\nsize 1 2 3\n"
+CUBES = b"AA .A\nA. ..\n\nBB\nB.\n\nC\n"
+BOX = b".. ..\n.. ..\n"
+LESSONS = b"day,mon,1 2\nday,tue,1\nroom,hall,,-mon-2,3\nroom,lab\nlesson,x,ann bob,lab,,2\nexam,y,cat,-tue\nperson,cat,x,,2\n"
+TABLES = [ROSTER, TEAMS, GRID, LIST, PIECES, REGION, REGIONS, CLUES, JIGSAW, *CAGES, *NONOGRAM, KAKURO, FACTORS, CUBES, BOX, LESSONS]
 MADE = [
     problem.text.encode()
     for problem in (
@@ -219,6 +262,9 @@ MADE = [
         make.roundrobin.problem(TEAMS.decode().splitlines()),
         make.words.problem(GRID.decode(), LIST.decode().split()),
         make.polyominoes.problem("LL\nL\n\nII\n\nO\n", "...\n...\n"),
+        make.tests.problem(FACTORS.decode(), 6),
+        make.polycubes.problem(CUBES.decode(), BOX.decode()),
+        make.timetable.problem(LESSONS.decode(), daily=2),
     )
 ]
 
@@ -260,7 +306,7 @@ class Try:
 
     def forms(self):
         rng = self.rng
-        words = rng.choice([[], ["--svg"], ["--svg"], ["--json"], ["--csv"]])
+        words = rng.choice([[], ["--svg"], ["--svg"], ["--html"], ["--json"], ["--csv"]])
         if rng.random() < 0.35:
             words += [f"--cell={self.pattern()}"]
         elif rng.random() < 0.3:
@@ -330,16 +376,21 @@ class Try:
             return kind, words
         if kind == "queens":
             return kind, [rng.choice(["5", "6", self.input(changed(rng, rng.choice([REGIONS, *TABLES]))), *WORDS])]
-        given = {"words": [GRID, LIST], "polyominoes": [PIECES, REGION], "roster": [ROSTER], "roundrobin": [TEAMS],
-                 "nonogram": [rng.choice(NONOGRAM)], "kakuro": [KAKURO]}[kind]  # fmt: skip
+        if kind == "tests":
+            count = rng.choice([["--tests", "6"], ["--tests", "7", "--strength", rng.choice(["1", "3", *WORDS])], ["--tests", rng.choice(WORDS)]])
+            return kind, [rng.choice([self.input(changed(rng, FACTORS)), self.input(changed(rng, FACTORS)), "3,2^2", *WORDS]), *count]
+        given = {"words": [GRID, LIST], "polyominoes": [PIECES, REGION], "polycubes": [CUBES, BOX, LESSONS], "roster": [ROSTER],
+                 "roundrobin": [TEAMS], "timetable": [LESSONS], "nonogram": [rng.choice(NONOGRAM)], "kakuro": [KAKURO]}[kind]  # fmt: skip
         tables = [self.file(changed(rng, table if rng.random() < 0.9 else rng.choice(TABLES))) for table in given]
         if rng.random() < 0.1:
             tables[-1] = rng.choice(WORDS)
-        more = {"roster": ["--rest"], "roundrobin": ["--double"], "polyominoes": ["--no-turns"]}.get(kind, [])
+        more = {"roster": ["--rest"], "roundrobin": ["--double"], "polyominoes": ["--no-turns"], "polycubes": ["--some", "--mirrors"], "timetable": ["--daily", "2"]}.get(kind, [])
         return kind, [*tables, *(more if rng.random() < 0.3 else [])]
 
     def kind(self):
         kind, words = self.kind_words()
+        if kind == "tests" and self.rng.random() < 0.3:
+            words = [words[0], "--least"]
         if self.rng.random() < 0.3:
             return "helgrothy", [kind, *words, "--svg", "--seconds", "5"]
         return "helgrothy", [kind, *words, *self.choice(), *self.rng.choice([[], ["--json"], ["--csv"]])]
@@ -437,6 +488,8 @@ class Try:
             return "status 2 without a reason"
         if status == 0 and "--svg" in self.words and self.words[0] not in ("make", "lint", "export", "why") and out.startswith(b"<"):
             return wrong_with_svg(out)
+        if out.startswith(b"<!doctype"):
+            return wrong_with_html(out)
         return ""
 
 
@@ -682,6 +735,18 @@ class Processes:
             "roundrobin": f"roundrobin {self.file('teams', b''.join(b't%d' % n + chr(10).encode() for n in range(100_000)))}",
             "roundrobin, 250": f"roundrobin {self.file('teams2', b''.join(b't%d' % n + chr(10).encode() for n in range(250)))}",
             "words": f"words {self.file('grid', (b'.' * 1000 + chr(10).encode()) * 900)} {self.file('list', b' '.join(b'%c' % (97 + n % 26) * 1000 for n in range(900)))}",
+            "a box of cubes": "polycubes pentacubes 45x45x45 --some",
+            "a box, more": "polycubes soma 999999999x999999999x999999999",
+            "a piece of cubes": f"polycubes {self.file('piece3', (b'A' * 300 + b' ') * 3 + chr(10).encode())} {self.file('region3', (b'.' * 300 + chr(10).encode()) * 300)}",
+            "a large piece of cubes": f"polycubes {self.file('piece4', (b'A' * 300 + chr(10).encode()) * 300)} {self.file('region4', (b'.' * 300 + chr(10).encode()) * 300)}",
+            "timetable": f"timetable {self.file('lessons', b'day,mon,' + b' '.join(b'%d' % n for n in range(20_000)) + b''.join(chr(10).encode() + b'lesson,x%d,p%d' % (n, n) for n in range(20_000)))}",
+            "timetable, people": f"timetable {self.file('lessons2', b'day,mon,1 2' + chr(10).encode() + b'lesson,x,' + b' '.join(b'p%d' % n for n in range(18_000)) + b''.join(chr(10).encode() + b'person,p%d,x' % n for n in range(18_000)))}",
+            "timetable, one cell": f"timetable {self.file('lessons3', b'day,mon,' + b'1 ' * 400_000)}",
+            "timetable, quotes": f"timetable {self.file('lessons4', b'day,mon,' + chr(34).encode() * 400_001)}",
+            "tests": "tests 300,300,2 --tests 90000",
+            "tests, levels": "tests 99999999^99999999,2 --tests 9",
+            "tests, strength": "tests 1^90000 --tests 1 --strength 10",
+            "tests, factors": f"tests {self.file('factors', b''.join(b'f%d x%d' % (n, n) + chr(10).encode() for n in range(90_000)))} --tests 9",
             "words, given": f"words {self.file('grid2', b'ab#' * 300_000)} {self.file('list2', ' '.join('a' + chr(0x4E00 + n) for n in range(20_000)).encode())}",
             "a piece": f"polyominoes {self.file('piece', (b'A' * 1000 + chr(10).encode()) * 900)} {self.file('region', (b'.' * 1000 + chr(10).encode()) * 90)}",
             "pieces": f"polyominoes {self.file('piece2', (b'A' * 150 + chr(10).encode()) * 150)} {self.file('region2', ((b'.' * 299 + b'#') + chr(10).encode()) * 300)}",

@@ -28,7 +28,7 @@ from .errors import (
     SearchFault,
     TableFault,
 )
-from .listing import Listed, Null
+from .listing import Listed, Null, Step
 from .problem import Problem, Solutions
 from .solution import Solution
 from .syntax import Bounds
@@ -51,5 +51,6 @@ __all__ = [
     "SearchFault",
     "Solution",
     "Solutions",
+    "Step",
     "TableFault",
 ]

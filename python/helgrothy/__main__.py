@@ -12,6 +12,7 @@ import sys
 import time
 from decimal import Decimal
 from fractions import Fraction
+from functools import partial
 from typing import Any, Callable, List, Optional, Sequence, Tuple, Union
 
 from . import __version__, answers, console, cost, shuffle, symmetry, why
@@ -22,11 +23,13 @@ from .draw import Drawing, Pattern, drawing_of
 from .errors import HelgrothyError, NoPicture, OutOfTime, TableFault
 from .export import FORMATS
 from .lint import lint
+from .listing import Step
 from .make import KINDS, kind_of
-from .make.kind import Kind, read_text
+from .make.kind import Found, Kind, read_text
+from .page.file import MOST_SOLUTIONS, File
 from .problem import Problem, Solutions
 from .spans import commands as spans
-from .stream import Found, Stream
+from .stream import Chosen, Stream
 from .table import Table
 from .watch import Watch
 
@@ -50,8 +53,9 @@ examples:
 
 # A reason is looked for so long where a problem turns out to have no solution.
 _REASON_SECONDS = 2.0
-# Of the time that a command is given, so that what was found by then can be told.
+# Of the time that a command is given, so that what was found by then can be told; a page is put together at the end.
 _SHARE = 0.9
+_SHARE_OF_PAGE = 0.7
 
 
 def main(words: Optional[Sequence[str]] = None) -> int:
@@ -136,6 +140,7 @@ def _add_kind(commands: Any, kind: Kind) -> None:
         kind.name, help=f"make and solve {kind.help}", description=f"Makes, solves and draws {kind.help}."
     )
     kind.add_arguments(parser)
+    kind.add_search_arguments(parser)
     _add_solving(parser)
     parser.set_defaults(command=_make_and_solve, kind=kind, cost=None, cell=None, row=None, column=None, label=None)
 
@@ -167,6 +172,9 @@ def _add_forms(parser: argparse.ArgumentParser, svg: str) -> None:
     form = parser.add_mutually_exclusive_group()
     form.add_argument("--svg", action="store_true", help=svg)
     form.add_argument(
+        "--html", action="store_true", help="a page for a browser: the solutions, their pictures, and the search's way"
+    )
+    form.add_argument(
         "--json",
         dest="data",
         action="store_const",
@@ -183,7 +191,27 @@ def _solve(arguments: argparse.Namespace) -> int:
 
 
 def _make_and_solve(arguments: argparse.Namespace) -> int:
-    return _show(arguments.kind.make(arguments), arguments)
+    kind: Kind = arguments.kind
+    found = kind.search(arguments, None if arguments.seconds is None else arguments.seconds * _SHARE)
+    return _show(kind.make(arguments), arguments) if found is None else _show_found(found, arguments)
+
+
+def _show_found(found: Found, arguments: argparse.Namespace) -> int:
+    """Shows the one solution that a search of another kind found."""
+    _check_one(arguments)
+    options = found.problem.options
+    show = _showing(found.problem, arguments, _listed_options, page=None)
+    show(1, [options[number] for number in found.numbers], lambda _: found.numbers, lambda: [])
+    console.say(found.remark)
+    return 0
+
+
+def _check_one(arguments: argparse.Namespace) -> None:
+    """Raises `ValueError` where more is asked for than a search of another kind finds."""
+    if arguments.all or arguments.limit or arguments.number:
+        raise ValueError("this search finds one solution: without --all, --limit and --number")
+    if arguments.html:
+        raise ValueError("a page shows how dlx1 to dlx3 went to each solution, and this is a search of another kind")
 
 
 def _show(problem: Problem[Any], arguments: argparse.Namespace) -> int:
@@ -193,31 +221,52 @@ def _show(problem: Problem[Any], arguments: argparse.Namespace) -> int:
     limit = None if arguments.all else arguments.limit or number
     if arguments.svg and limit != number:
         raise ValueError("an SVG is of one solution: --number says which")
-    show = _showing(problem, arguments, _listed_options)
+    page = _page(problem, arguments)
+    if page is not None and arguments.number is None:
+        limit = min(limit or MOST_SOLUTIONS, MOST_SOLUTIONS)
+    show = _showing(problem, arguments, _listed_options, page)
     deadline = None if arguments.seconds is None else time.monotonic() + arguments.seconds
+    most = arguments.seconds
+    if page is not None and most is not None:
+        most *= _SHARE_OF_PAGE
+    last = float("inf") if most is None else time.monotonic() + most
     shown = 0
-    solutions, among = _search(problem, arguments, limit, number)
+    solutions, among = _search(problem, arguments, limit, number, most)
     try:
         with Watch(problem, console.say) as watch, solutions:
             for found in solutions:
                 watch.end()
-                options = found.options if isinstance(found, Found) else found
-                show(arguments.number or shown + 1, options, lambda _: found.numbers)
+                options = found.options if isinstance(found, Chosen) else found
+                show(arguments.number or shown + 1, options, lambda _: found.numbers, lambda: found.steps)
                 shown += 1
+                if page is not None and page.is_full:
+                    break
+                if page is not None and time.monotonic() > last:
+                    raise OutOfTime(f"it wasn't done in {arguments.seconds:g} seconds")
     except OutOfTime as error:
-        most = error.found if isinstance(solutions, Stream) else error.found * number
-        return _fail(f"{error}; {_counted(max(most, shown))} till then")
-    console.say(f"Altogether {_counted(solutions.total or 0)}{among}{'.' if solutions.complete else ' (limit).'}")
-    if solutions.total == 0 and not watch.has_told:
-        _tell_why(problem, deadline)
+        reached = max(error.found if isinstance(solutions, Stream) else error.found * number, shown)
+        if page is not None:
+            write([page.text(reached, False, [f"{error}"])])
+        return _fail(f"{error}; {_counted(reached)} till then")
+    # None where the page was full before.
+    total = shown if solutions.total is None else solutions.total
+    console.say(f"Altogether {_counted(total)}{among}{'.' if solutions.complete else ' (limit).'}")
+    reasons = [] if total or watch.has_told else _reasons(problem, deadline)
+    for line in reasons:
+        console.say(line)
+    if page is not None:
+        write([page.text(total, bool(solutions.complete), reasons)])
     return 0 if shown else 1
 
 
 def _search(
-    problem: Problem[Any], arguments: argparse.Namespace, limit: Optional[int], spacing: int
+    problem: Problem[Any],
+    arguments: argparse.Namespace,
+    limit: Optional[int],
+    spacing: int,
+    seconds: Optional[float],
 ) -> Tuple[Union[Solutions[Any], Stream[Any]], str]:
     """The solutions that are asked for, and among what they are counted."""
-    seconds: Optional[float] = arguments.seconds
     if arguments.shuffle is not None:
         return shuffle.solve(problem, arguments.shuffle, limit, spacing, seconds=seconds), ""
     if not arguments.up_to_symmetry:
@@ -236,35 +285,29 @@ def _search(
 
 
 def _show_least(problem: Problem[Any], arguments: argparse.Namespace) -> int:
-    if arguments.all or arguments.limit or arguments.number:
-        raise ValueError("--cost gives one solution, without --all, --limit and --number")
+    _check_one(arguments)
     if arguments.problem == arguments.cost == "-":
         raise ValueError("the problem and the costs can't both come from standard input")
     try:
         costs = cost.read(read_text(arguments.cost), len(problem.options))
     except TableFault as fault:
         raise ValueError(f"{'standard input' if arguments.cost == '-' else arguments.cost}: {fault}") from None
-    show = _showing(problem, arguments, _listed_options)
     deadline = None if arguments.seconds is None else time.monotonic() + arguments.seconds
     try:
         least = cost.least(problem, costs, None if arguments.seconds is None else arguments.seconds * _SHARE)
     except cost.NotLeast as error:
         if error.best is None:
             return _fail(f"no solution was found in {arguments.seconds:g} seconds")
-        _show_one(show, error.best)
         told = f"{_number(error.best.cost)} is the least cost that was found"
-        return _fail(f"{told}; in {arguments.seconds:g} seconds it wasn't proved that there is no less")
+        proof = f"in {arguments.seconds:g} seconds it wasn't proved that there is no less"
+        _show_found(Found(problem, error.best.numbers, f"helgrothy: {told}; {proof}"), arguments)
+        return 2
     if least is None:
-        console.say("Altogether 0 solutions.")
-        _tell_why(problem, deadline)
+        for line in ["Altogether 0 solutions.", *_reasons(problem, deadline)]:
+            console.say(line)
         return 1
-    _show_one(show, least)
-    console.say(f"The least cost is {_number(least.cost)}, by {least.by}.")
-    return 0
-
-
-def _show_one(show: _Show, found: cost.Least[Any]) -> None:
-    show(1, found.options, lambda _: found.numbers)
+    told = f"The least cost is {_number(least.cost)}, by {least.by}."
+    return _show_found(Found(problem, least.numbers, told), arguments)
 
 
 def _number(value: Fraction) -> str:
@@ -276,40 +319,57 @@ def _counted(total: int) -> str:
     return f"{total} solution{'' if total == 1 else 's'}"
 
 
-def _tell_why(problem: Problem[Any], deadline: Optional[float]) -> None:
-    """Says on standard error why there is no solution, where a short while tells."""
+def _reasons(problem: Problem[Any], deadline: Optional[float]) -> List[str]:
+    """Why there is no solution, where a short while tells."""
     left = _REASON_SECONDS if deadline is None else min(_REASON_SECONDS, deadline - time.monotonic())
     try:
         conflict = why.find(problem, left * _SHARE) if left > 0 else None
     except OutOfTime:
         conflict = None
     if conflict is None:
-        console.say(f"no reason was found in {max(left, 0):.2g} seconds; `helgrothy why` may look longer")
-        return
-    for line in conflict.lines(problem):
-        console.say(line)
+        return [f"no reason was found in {max(left, 0):.2g} seconds; `helgrothy why` may look longer"]
+    return list(conflict.lines(problem))
 
 
-# Shows a solution: its number, its options, and what gives the places of these among the problem's.
-_Show = Callable[[int, Sequence[Any], Callable[[Sequence[Any]], List[int]]], None]
+# Shows a solution: its number, its options, what gives the places of these among the problem's, and what gives the
+# steps of the search.
+_Show = Callable[[int, Sequence[Any], Callable[[Sequence[Any]], List[int]], Callable[[], List[Step]]], None]
 
 
 def _showing(
-    problem: Problem[Any], arguments: argparse.Namespace, otherwise: Optional[Callable[[Sequence[str]], Any]]
+    problem: Problem[Any],
+    arguments: argparse.Namespace,
+    otherwise: Optional[Callable[[Sequence[str]], Any]],
+    page: Optional[File],
 ) -> _Show:
-    """What shows solutions one after another: as data, or drawn."""
+    """What shows solutions one after another: on a page, as data, or drawn."""
+    if page is not None:
+        onto = page
+        return lambda number, options, places, steps: onto.add(number, steps())
     if arguments.data is not None:
         data = FORMS[arguments.data](problem)
         write([data.head()])
-        return lambda number, options, places: write([data.solution(number, places(options))])
+        return lambda number, options, places, steps: write([data.solution(number, places(options))])
     draw = _drawing(problem, arguments, otherwise)
     between = iter([""])
 
-    def show(number: int, options: Sequence[Any], places: object) -> None:
+    def show(number: int, options: Sequence[Any], places: object, steps: object) -> None:
         picture = draw([problem.line(option) for option in options])
         write([next(between, "\n"), picture.svg() if arguments.svg else str(picture)])
 
     return show
+
+
+def _page(problem: Problem[Any], arguments: argparse.Namespace) -> Optional[File]:
+    """The page that is asked for, if one is."""
+    if not arguments.html:
+        return None
+    try:
+        return File(problem, _drawing(problem, arguments, None))
+    except NoPicture:
+        if (arguments.cell, arguments.row, arguments.column) != (None, None, None):
+            raise
+        return File(problem, None)
 
 
 def _listed_options(lines: Sequence[str]) -> str:
@@ -359,15 +419,18 @@ def _draw(arguments: argparse.Namespace) -> int:
     if arguments.problem == "-":
         raise ValueError("the problem is a file; the listing comes from standard input")
     problem = _problem(arguments.problem)
-    show = _showing(problem, arguments, None)
+    page = _page(problem, arguments)
+    show = _showing(problem, arguments, None, page)
     places = places_of(problem)
     shown = 0
     for listed in problem.listed(console.input_lines()):
         if arguments.number in (None, listed.number):
-            show(listed.number, listed.options(), places)
+            show(listed.number, listed.options(), places, partial(listed.steps, places))
             shown += 1
-            if arguments.svg or arguments.number:
+            if arguments.svg or arguments.number or page is not None and page.is_full:
                 break
+    if page is not None and shown:
+        write([page.text(shown, False)])
     return 0 if shown else _fail("the listing has no solution to draw", 1)
 
 

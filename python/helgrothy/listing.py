@@ -8,7 +8,7 @@ word.
 from __future__ import annotations
 
 import re
-from dataclasses import dataclass
+from dataclasses import dataclass, field
 from typing import (
     Callable,
     Dict,
@@ -19,7 +19,9 @@ from typing import (
     Iterator,
     List,
     Mapping,
+    NamedTuple,
     Optional,
+    Tuple,
     TypeVar,
     Union,
 )
@@ -42,6 +44,23 @@ class Null:
     """The choice of none: the primary item gets no further option. It is a step of the search and adds nothing."""
 
     item: Hashable
+
+
+class Step(NamedTuple):
+    """A step of the search: the name of the item at which it chose; the option's place in the problem, from 0 on, or
+    None where the item gets no further option; and that this was branch `branch` of `branches`.
+    """
+
+    item: str
+    option: Optional[int]
+    branch: int
+    branches: int
+
+
+def branch_of(line: bytes, is_null: bool) -> Tuple[bytes, int, int]:
+    """The item at which a choice line chose, and which branch of how many it was."""
+    words = line.split(b" ")
+    return words[2 if is_null else 1], int(words[-3][1:]), int(words[-1][:-1])
 
 
 def turned(body: bytes) -> bytes:
@@ -131,14 +150,24 @@ def last_number(text: bytes) -> Optional[int]:
 
 @dataclass
 class Listed(Generic[O]):
-    """A solution of a listing: the number in its header, and its choices."""
+    """A solution of a listing: the number in its header, its choices, and the line of each."""
 
     number: int
     choices: List[Union[O, Null]]
+    lines: List[bytes] = field(default_factory=list)
 
     def options(self) -> List[O]:
         """The options, without the choices of none."""
         return [choice for choice in self.choices if not isinstance(choice, Null)]
+
+    def steps(self, places: Callable[[Iterable[O]], List[int]]) -> List[Step]:
+        """The steps of the search, by what gives the places of the problem's options."""
+        steps = []
+        for line, choice in zip(self.lines, self.choices):
+            item, branch, branches = branch_of(line, isinstance(choice, Null))
+            place = None if isinstance(choice, Null) else places([choice])[0]
+            steps.append(Step(text_of(item), place, branch, branches))
+        return steps
 
 
 def solutions(lines: Iterable[bytes], decode: Decoder[O]) -> Iterator[Listed[O]]:
@@ -156,6 +185,7 @@ def solutions(lines: Iterable[bytes], decode: Decoder[O]) -> Iterator[Listed[O]]
         else:
             try:
                 listed.choices.append(decode[line])
+                listed.lines.append(line)
             except UnknownChoice:
                 raise ListingFault(number, text_of(line.strip()), "unknown option") from None
     if listed is not None:

@@ -31,7 +31,7 @@ from typing import (
 from . import listing as listings
 from .alike import Alike, Branches
 from .errors import ListingFault, NoPicture, OutOfTime, ProblemFault, ProgramFailed
-from .listing import Decoder, Listed, Null
+from .listing import Decoder, Listed, Null, Step, branch_of
 from .names import codes, colour_names, item_names
 from .programs import Ending, Run
 from .solution import Solution
@@ -344,17 +344,10 @@ class Problem(Generic[Option]):
                 raise run.failure()
             outcome.ending = ending
 
-    def wire(self) -> Tuple[Iterator[bytes], Callable[[bytes], List[int]]]:
-        """The problem for a program with names as short as can be, and what reads the options of its solutions' lines.
-
-        The options are numbered from 0 on. Choices of none are left out. The reader raises `UnknownChoice`.
-        """
+    def wire(self) -> Tuple[Iterator[bytes], Callable[[bytes], Solution[Any]]]:
+        """The problem for a program, with names as short as can be, and what makes solutions of the lines it prints."""
         wire = _Wire(self)
-
-        def read(lines: bytes) -> List[int]:
-            return [number for number in wire.numbers(lines) if not isinstance(number, Null)]
-
-        return _ended(wire.lines), read
+        return _ended(wire.lines), partial(Solution, _Source(self, wire, False))
 
     def _is_whole(self, choices: Iterable[Union[Option, Null]]) -> bool:
         """Whether choices are all of a solution: no primary item is left."""
@@ -544,6 +537,15 @@ class _Wire(Generic[Option]):
         ]
         return self._branches.told_apart(parts, items, found)
 
+    def steps(self, lines: bytes, name: Callable[[Hashable], str]) -> List[Step]:
+        """The steps of lines, by the names of items. Raises `UnknownChoice`."""
+        steps = []
+        for line, choice in zip(lines.split(b"\n"), self.numbers(lines)):
+            word, branch, branches = branch_of(line, isinstance(choice, Null))
+            place = None if isinstance(choice, Null) else choice
+            steps.append(Step(name(self._items[word]), place, branch, branches))
+        return steps
+
     def read(self, lines: bytes) -> List[Union[Option, Null]]:
         """The choices of lines. Raises `UnknownChoice`."""
         numbers: Any = self.numbers(lines)
@@ -574,6 +576,9 @@ class _Source(Generic[Option]):
 
     def numbers(self, lines: bytes) -> List[int]:
         return [number for number in self._wire.numbers(lines) if not isinstance(number, Null)]
+
+    def steps(self, lines: bytes) -> List[Step]:
+        return self._wire.steps(lines, self._problem.name)
 
     def svg(self, options: Sequence[Any]) -> Optional[str]:
         try:

@@ -5,7 +5,7 @@ from __future__ import annotations
 from functools import total_ordering
 from typing import Any, Generic, Iterator, List, Optional, Protocol, Sequence, Tuple, TypeVar, Union, overload
 
-from .listing import Null
+from .listing import Null, Step
 
 O = TypeVar("O")
 
@@ -18,6 +18,9 @@ class Source(Protocol):
 
     def numbers(self, lines: bytes) -> List[int]:
         """The numbers of the options that lines say."""
+
+    def steps(self, lines: bytes) -> List[Step]:
+        """The steps of the search that lines say."""
 
     def svg(self, options: Sequence[Any]) -> Optional[str]:
         """A picture of options; None where there is no drawing."""
@@ -48,6 +51,11 @@ class Solution(Sequence[O], Generic[O]):
     def numbers(self) -> List[int]:
         """The places of the options in the problem's `options`, from 0 on; choices of none have none."""
         return self._source.numbers(self._lines)
+
+    @property
+    def steps(self) -> List[Step]:
+        """How the search went to it: at which item it chose which option, and which branch of how many that was."""
+        return self._source.steps(self._lines)
 
     def __len__(self) -> int:
         return len(self._options())

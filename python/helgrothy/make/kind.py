@@ -20,6 +20,15 @@ _MADE = re.compile(r"helgrothy make ([a-z]+)(?: |\Z)")
 
 
 @dataclass(frozen=True)
+class Found:
+    """A solution that a kind's own search found: the problem, the places of the options, and what is known of it."""
+
+    problem: Problem[Any]
+    numbers: List[int]
+    remark: str
+
+
+@dataclass(frozen=True)
 class Kind:
     """A kind of problem: its name and help on the command line, its arguments, how it is made and drawn.
 
@@ -31,6 +40,10 @@ class Kind:
     add_arguments: Callable[[argparse.ArgumentParser], None]
     make: Callable[[argparse.Namespace], Problem[Any]]
     drawing: Callable[[Problem[Any]], Drawing]
+    # Of a kind with a search of its own: that search's arguments, and what it finds in so many seconds, or None where
+    # the arguments don't ask for it.
+    add_search_arguments: Callable[[argparse.ArgumentParser], None] = lambda parser: None
+    search: Callable[[argparse.Namespace, Optional[float]], Optional[Found]] = lambda arguments, seconds: None
     cell: Optional[str] = None
 
 

@@ -1,0 +1,66 @@
+"""Documents of HTML that stand alone: style, script and data are in them, and nothing else is loaded or run.
+
+A policy in the document allows its own script and style, by what they are, and nothing else.
+"""
+
+from __future__ import annotations
+
+import base64
+import hashlib
+import os
+import re
+from html import escape
+from typing import Iterable
+
+from ..shown import shown
+
+_PARTS = os.path.join(os.path.dirname(os.path.abspath(__file__)), "parts")
+_MARK = re.compile(r"\{\{(\w+)\}\}")
+_LESS = {"<": "\\u003c", ">": "\\u003e", "&": "\\u0026"}
+
+
+def document(
+    bodies: Iterable[str], title: str, scripts: Iterable[str], data: Iterable[str], connects: bool = False
+) -> str:
+    """A document: files of parts as its body and its script, and lines of JSON as its data.
+
+    connects: whether it may ask the server that it came from.
+    """
+    style = _part("look.css")
+    script = "\n".join(map(_part, scripts))
+    policy = "; ".join(
+        [
+            "default-src 'none'",
+            f"script-src '{_hash(script)}'",
+            f"style-src '{_hash(style)}'",
+            *(["connect-src 'self'"] if connects else []),
+            "base-uri 'none'",
+            "form-action 'none'",
+            "require-trusted-types-for 'script'",
+            "trusted-types 'none'",
+        ]
+    )
+    given = {
+        "policy": escape(policy),
+        "title": escape(shown(title)),
+        "style": style,
+        "body": "".join(map(_part, bodies)),
+        "data": _in_script(f"[{','.join(data)}]"),
+        "script": script,
+    }
+    # What is put in is never looked at for marks.
+    return _MARK.sub(lambda mark: given[mark.group(1)], _part("frame.html"))
+
+
+def _in_script(data: str) -> str:
+    """JSON for an element of a script: nothing in it begins or ends an element or a comment."""
+    return re.sub("[<>&]", lambda sign: _LESS[sign.group()], data)
+
+
+def _hash(text: str) -> str:
+    return f"sha256-{base64.b64encode(hashlib.sha256(text.encode()).digest()).decode()}"
+
+
+def _part(name: str) -> str:
+    with open(os.path.join(_PARTS, name), encoding="utf-8") as file:
+        return file.read()

@@ -1,0 +1,433 @@
+"use strict";
+
+// Shows a problem and its solutions as a record tells them. Names come from a problem, whoever wrote it: they are put
+// into the page as text, and pictures are made of the elements and attributes that are listed here.
+
+const ELEMENTS = new Set("svg g rect path text tspan line circle ellipse polygon polyline".split(" "));
+const ATTRIBUTES = new Set(
+  ("width height viewBox x y x1 y1 x2 y2 dx dy cx cy r rx ry d points transform fill fill-opacity fill-rule opacity " +
+    "stroke stroke-width stroke-linecap stroke-linejoin stroke-opacity stroke-dasharray font-family font-size " +
+    "font-weight font-style text-anchor dominant-baseline").split(" "));
+const MOST_STEPS = 2000;
+const MOST_WORDS = 200;
+const MOST_NAMES = 40;
+const CARDS_AT_ONCE = 60;
+
+const get = (id) => document.getElementById(id);
+const counted = (count, one, more = `${one}s`) => `${count.toLocaleString("en")} ${count === 1 ? one : more}`;
+
+function made(name, words = {}, ...within) {
+  const element = document.createElement(name);
+  Object.assign(element, words);
+  element.append(...within);
+  return element;
+}
+
+class Viewer {
+  constructor() {
+    this.bind();
+    this.clear();
+  }
+
+  // ---- what the record tells
+
+  clear() {
+    this.problem = null;
+    this.solutions = [];
+    this.options = new Map();
+    this.held = new Map();
+    this.elements = [];
+    this.ended = null;
+    this.found = [];
+    this.at = 0;
+    this.cards = 0;
+    get("cards").replaceChildren();
+    get("problem").hidden = true;
+    get("title").textContent = "Solutions";
+    this.refresh();
+  }
+
+  // Takes what is told; what is seen is made once for all of it.
+  take(lines) {
+    const had = this.found.length;
+    for (const told of lines) {
+      if (told.problem) this.takeProblem(told.problem);
+      if (told.solution) this.takeSolution(told.solution);
+      if (told.end) this.ended = told.end;
+    }
+    if (!had || this.ended) this.refresh();
+    else if (this.isAll) this.addCards();
+    this.refreshCount();
+  }
+
+  takeProblem(problem) {
+    this.problem = problem;
+    const secondary = problem.secondary ? `, ${counted(problem.secondary, "secondary one")}` : "";
+    get("size").textContent =
+      `${counted(problem.primary, "primary item")}${secondary}, ${counted(problem.options, "option")}, for ${problem.program}`;
+    const more = problem.more ? "\n.. and more, which isn't shown here" : "";
+    get("given").textContent = problem.text.join("\n") + more;
+    get("problem").hidden = false;
+  }
+
+  takeSolution(solution) {
+    for (const element of solution.elements || []) this.elements.push(element);
+    for (const [number, line] of Object.entries(solution.options || {})) {
+      this.options.set(Number(number), line);
+      // A word with a colour is found without it, too.
+      const words = line.split(" ");
+      this.held.set(Number(number), new Set([...words, ...words.map((word) => word.split(":")[0])]));
+    }
+    solution.place = this.solutions.length;
+    this.solutions.push(solution);
+    if (solution.picture && get("title").textContent === "Solutions") this.name(solution);
+    if (this.matches(solution)) this.found.push(solution.place);
+  }
+
+  name(solution) {
+    const title = this.titleOf(solution);
+    if (!title) return;
+    get("title").textContent = title[0].toUpperCase() + title.slice(1);
+    document.title = get("title").textContent;
+  }
+
+  titleOf(solution) {
+    const title = solution.picture.map((number) => this.elements[number]).find((element) => element[0] === "title");
+    return title ? title[2] : "";
+  }
+
+  // ---- which are shown
+
+  wanted() {
+    const parts = get("filter").value.split("|").map((part) => part.split(" ").filter(Boolean));
+    return parts.filter((words) => words.length);
+  }
+
+  matches(solution) {
+    return this.wanted().every((words) =>
+      solution.steps.some(([, option]) => option && words.every((word) => this.held.get(option).has(word))));
+  }
+
+  filter() {
+    const now = this.found[this.at];
+    this.found = this.solutions.filter((solution) => this.matches(solution)).map((solution) => solution.place);
+    const next = this.found.findIndex((place) => place >= now);
+    this.at = next < 0 ? Math.max(this.found.length - 1, 0) : next;
+    this.offer();
+    get("cards").replaceChildren();
+    this.cards = 0;
+    this.refresh();
+  }
+
+  // Offers names that begin like the last word of the filter.
+  offer() {
+    const text = get("filter").value;
+    const start = text.search(/[^ |]*$/);
+    const begun = text.slice(start);
+    const names = new Set();
+    if (begun) {
+      for (const words of this.held.values()) {
+        for (const word of words) if (word.startsWith(begun)) names.add(word);
+        if (names.size > MOST_NAMES) break;
+      }
+    }
+    const offered = [...names].slice(0, MOST_NAMES).map((name) => made("option", { value: text.slice(0, start) + name }));
+    get("names").replaceChildren(...offered);
+  }
+
+  // Adds an item or an option to the filter, or takes it away.
+  want(line) {
+    const parts = get("filter").value.split("|").map((part) => part.trim()).filter(Boolean);
+    const left = parts.filter((part) => part !== line);
+    get("filter").value = (left.length === parts.length ? [...parts, line] : left).join(" | ");
+    this.filter();
+  }
+
+  // ---- what is seen
+
+  refresh() {
+    const any = this.found.length > 0;
+    this.isAll = get("all").getAttribute("aria-pressed") === "true";
+    get("single").hidden = !any || this.isAll;
+    get("glance").hidden = !any || !this.isAll;
+    get("bar").hidden = this.solutions.length === 0;
+    get("none").hidden = any;
+    get("none").textContent = any ? "" : this.reason();
+    if (any && this.isAll) this.showAll();
+    else if (any) this.showOne();
+    this.refreshCount();
+  }
+
+  reason() {
+    if (this.solutions.length) {
+      const words = this.wanted().flat();
+      const unknown = words.find((word) => ![...this.held.values()].some((held) => held.has(word)));
+      return unknown ? `No option of these solutions has ${unknown}.` : "None of these solutions has that.";
+    }
+    return this.ended ? ["There is no solution.", ...this.ended.notes].join("\n") : "";
+  }
+
+  refreshCount() {
+    get("count").textContent = this.found.length.toLocaleString("en");
+    get("place").value = this.found.length ? this.at + 1 : 0;
+    get("back").disabled = this.at <= 0;
+    get("on").disabled = this.at >= this.found.length - 1;
+    get("summary").textContent = this.summary();
+  }
+
+  summary() {
+    const all = this.solutions.length;
+    if (!all) return "";
+    const told = [counted(this.ended ? this.ended.total : all, "solution")];
+    if (!this.ended) told.push("and it searches on");
+    else if (all < this.ended.total) told.push(`${all.toLocaleString("en")} of them here`);
+    if (this.ended) told.push(this.ended.complete ? "all that there are" : "there may be more", ...this.ended.notes);
+    const wanted = this.wanted().map((words) => words.join(" ")).join(" and ");
+    if (wanted) told.push(`${this.found.length.toLocaleString("en")} with ${wanted}`);
+    return `${told.join("; ")}.`;
+  }
+
+  showOne() {
+    const solution = this.solutions[this.found[this.at]];
+    const picture = this.picture(solution);
+    get("single").classList.toggle("plain", !picture);
+    get("picture").replaceChildren(...(picture ? [picture] : []));
+    if (picture) {
+      const [wide, high] = this.sizeOf(solution);
+      picture.style.width = `min(100%, ${2 * wide}px, ${Math.round((70 * wide) / high)}vh)`;
+    }
+    this.showSteps(solution);
+  }
+
+  showSteps(solution) {
+    const steps = solution.steps;
+    const before = solution.place ? this.solutions[solution.place - 1] : null;
+    let same = 0;
+    if (before && before.number === solution.number - 1) {
+      while (same < steps.length && before.steps[same] && String(steps[same]) === String(before.steps[same])) same++;
+    }
+    const wanted = new Set(this.wanted().map((words) => words.join(" ")));
+    const rows = steps.slice(0, MOST_STEPS).map((step, place) => this.row(step, place, same, wanted));
+    if (steps.length > MOST_STEPS) {
+      rows.push(made("tr", {}, made("td"), made("td", { colSpan: 3, textContent: `and ${counted(steps.length - MOST_STEPS, "step")} more` })));
+    }
+    get("steps").replaceChildren(...rows);
+    get("told").textContent = this.way(solution, same);
+  }
+
+  way(solution, same) {
+    let before = 0;
+    let share = 1;
+    for (const [, , branch, branches] of solution.steps) {
+      share /= branches || 1;
+      before += (branch - 1) * share;
+    }
+    const choices = solution.steps.filter(([, , , branches]) => branches > 1).length;
+    const told = [`${counted(solution.steps.length, "step")}, ${counted(choices, "choice")} among branches`];
+    told.push(`by its branches about ${(100 * before).toFixed(before < 0.1 ? 2 : 1)} % of the search lies before it`);
+    if (same) told.push(`the first ${counted(same, "step")} as in solution ${solution.number - 1}`);
+    return `Solution ${solution.number.toLocaleString("en")}: ${told.join("; ")}.`;
+  }
+
+  row([item, option, branch, branches], place, same, wanted) {
+    const row = made("tr", { className: place < same ? "same" : place === same && same ? "parting" : "" });
+    row.append(made("td", { textContent: place + 1 }), this.branch(branch, branches));
+    if (!option) {
+      row.append(made("td"), made("td", { className: "items forced", textContent: `${item}: no further option` }));
+      return row;
+    }
+    const line = this.options.get(option);
+    const number = this.button(`${option}`, line, "number", wanted.has(line), "only solutions with this option");
+    const words = line.split(" ");
+    const start = Math.max(words.indexOf(item), 0);
+    const turned = [...words.slice(start), ...words.slice(0, start)];
+    const items = made("td", { className: "items" });
+    for (const word of turned.slice(0, MOST_WORDS)) {
+      items.append(this.button(word, word, "", wanted.has(word), "only solutions with this item"), " ");
+    }
+    if (turned.length > MOST_WORDS) items.append(`and ${turned.length - MOST_WORDS} more`);
+    row.append(made("td", {}, number), items);
+    return row;
+  }
+
+  button(text, line, className, isHeld, title) {
+    const button = made("button", { type: "button", className, title, textContent: text });
+    button.classList.toggle("held", isHeld);
+    button.addEventListener("click", () => this.want(line));
+    return button;
+  }
+
+  branch(branch, branches) {
+    const mark = made("b");
+    mark.style.left = `${(100 * (branch - 1)) / branches}%`;
+    mark.style.width = `${100 / branches}%`;
+    const className = branches > 1 ? "branch" : "branch forced";
+    return made("td", { className }, made("i", { ariaHidden: "true" }, mark), `${branch} of ${branches}`);
+  }
+
+  showAll() {
+    this.addCards(this.at + 1);
+    this.mark();
+  }
+
+  // Adds cards: up to a number, or as long as their end is in sight.
+  addCards(least = 0) {
+    if (this.cards === 0 && this.found.length) {
+      const first = this.solutions[this.found[0]];
+      const wide = first.picture ? this.sizeOf(first)[0] : 400;
+      get("cards").style.setProperty("--thumb", `${Math.min(Math.max(wide / 2, 130), 420)}px`);
+    }
+    const isNear = () => get("rest").getBoundingClientRect().top < 2 * innerHeight;
+    while (this.cards < this.found.length && (this.cards < least || isNear())) {
+      const some = this.found.slice(this.cards, this.cards + CARDS_AT_ONCE);
+      get("cards").append(...some.map((place, number) => this.card(this.solutions[place], this.cards + number)));
+      this.cards += some.length;
+    }
+  }
+
+  card(solution, place) {
+    const name = made("span", { className: "name", textContent: solution.number.toLocaleString("en") });
+    const card = made("button", { type: "button", className: "card" }, name);
+    const lines = () => solution.steps.filter(([, option]) => option).map(([, option]) => this.options.get(option));
+    card.append(this.picture(solution) || made("pre", { textContent: lines().slice(0, 30).join("\n") }));
+    card.addEventListener("click", () => {
+      this.at = place;
+      this.see(false);
+    });
+    return card;
+  }
+
+  mark() {
+    const cards = get("cards").children;
+    for (const card of get("cards").querySelectorAll("[aria-current]")) card.removeAttribute("aria-current");
+    if (cards[this.at]) cards[this.at].setAttribute("aria-current", "true");
+  }
+
+  sizeOf(solution) {
+    const { width, height } = this.elements[solution.picture[0]][1];
+    return [Number(width) || 300, Number(height) || 300];
+  }
+
+  picture(solution) {
+    if (!solution.picture) return null;
+    const [whole, ...parts] = solution.picture.map((number) => this.elements[number]);
+    const picture = this.drawn(whole);
+    picture.setAttribute("role", "img");
+    picture.setAttribute("aria-label", `${this.titleOf(solution)}, solution ${solution.number}`);
+    for (const part of parts) {
+      const element = this.drawn(part);
+      if (element) picture.append(element);
+    }
+    return picture;
+  }
+
+  drawn([name, attributes, within]) {
+    if (!ELEMENTS.has(name)) return null;
+    const element = document.createElementNS("http://www.w3.org/2000/svg", name);
+    for (const [key, value] of Object.entries(attributes)) {
+      if (ATTRIBUTES.has(key) && !String(value).includes("url")) element.setAttribute(key, value);
+    }
+    if (typeof within === "string") element.textContent = within;
+    else element.append(...within.map((part) => this.drawn(part)).filter(Boolean));
+    return element;
+  }
+
+  // ---- what people do
+
+  go(place) {
+    this.at = Math.min(Math.max(place, 0), Math.max(this.found.length - 1, 0));
+    if (this.isAll) {
+      this.addCards(this.at + 1);
+      this.mark();
+      const card = get("cards").children[this.at];
+      if (card) card.scrollIntoView({ block: "nearest" });
+    } else if (this.found.length) {
+      this.showOne();
+    }
+    this.refreshCount();
+  }
+
+  see(isAll) {
+    get("all").setAttribute("aria-pressed", isAll);
+    get("one").setAttribute("aria-pressed", !isAll);
+    this.refresh();
+    this.go(this.at);
+  }
+
+  bind() {
+    get("back").addEventListener("click", () => this.go(this.at - 1));
+    get("on").addEventListener("click", () => this.go(this.at + 1));
+    get("one").addEventListener("click", () => this.see(false));
+    get("all").addEventListener("click", () => this.see(true));
+    get("place").addEventListener("change", () => this.go((parseInt(get("place").value, 10) || 1) - 1));
+    get("place").addEventListener("focus", () => get("place").select());
+    get("filter").addEventListener("input", () => this.filter());
+    get("help").addEventListener("click", () => get("keys").showModal());
+    get("theme").addEventListener("click", turnTheme);
+    addEventListener("keydown", (event) => this.press(event));
+    addEventListener("scroll", () => this.isAll && this.addCards(), { passive: true });
+    addEventListener("resize", () => this.isAll && this.addCards());
+    addEventListener("beforeprint", () => this.isAll && this.addCards(this.found.length));
+  }
+
+  press(event) {
+    const isTyped = event.target.closest("input, textarea, select");
+    if (event.key === "Escape" && event.target === get("filter")) {
+      get("filter").value = "";
+      this.filter();
+      get("filter").blur();
+    }
+    if (event.key === "Enter" && ["place", "filter"].includes(event.target.id)) event.target.blur();
+    if (isTyped || event.ctrlKey || event.altKey || event.metaKey || get("keys").open) return;
+    const isOnButton = event.target.closest("button, summary, a");
+    const acts = {
+      ArrowLeft: () => this.go(this.at - 1),
+      ArrowRight: () => this.go(this.at + 1),
+      k: () => this.go(this.at - 1),
+      j: () => this.go(this.at + 1),
+      Home: () => this.go(0),
+      End: () => this.go(this.found.length - 1),
+      g: () => this.see(!this.isAll),
+      Enter: isOnButton ? null : () => this.see(false),
+      "/": () => this.solutions.length && get("filter").focus(),
+      p: () => (get("problem").open = !get("problem").open),
+      d: turnTheme,
+      "?": () => get("keys").showModal(),
+    };
+    if (!acts[event.key] || !Object.hasOwn(acts, event.key)) return;
+    event.preventDefault();
+    acts[event.key]();
+  }
+}
+
+// ---- light and dark
+
+const isSystemDark = matchMedia("(prefers-color-scheme: dark)");
+
+function kept(value) {
+  try {
+    if (value) localStorage.setItem("helgrothy-theme", value);
+    return localStorage.getItem("helgrothy-theme");
+  } catch {
+    return null;
+  }
+}
+
+function isDark() {
+  const chosen = document.documentElement.dataset.theme;
+  return chosen ? chosen === "dark" : isSystemDark.matches;
+}
+
+function turnTheme() {
+  document.documentElement.dataset.theme = isDark() ? "light" : "dark";
+  kept(document.documentElement.dataset.theme);
+  nameTheme();
+}
+
+function nameTheme() {
+  get("theme").textContent = isDark() ? "Light" : "Dark";
+}
+
+if (["dark", "light"].includes(kept())) document.documentElement.dataset.theme = kept();
+isSystemDark.addEventListener("change", nameTheme);
+nameTheme();

@@ -1,0 +1,134 @@
+"""What a page is told of a problem and its solutions: lines of JSON, one for each thing that happens.
+
+The first has the problem, each further one a solution with the steps of the search and its picture, the last one how it
+ended. A picture is a list of numbers: equal parts of pictures are told once, as elements with their attributes, and so
+is each option.
+"""
+
+from __future__ import annotations
+
+import json
+from itertools import islice
+from typing import Any, Callable, Dict, Iterable, List, NamedTuple, Optional, Sequence, Set, Tuple
+from xml.etree import ElementTree
+
+from ..errors import NoPicture
+from ..listing import Step
+from ..problem import Problem
+from ..shown import shown
+
+# What draws the lines of a solution's options.
+Draw = Callable[[Sequence[str]], Any]
+
+# Of a problem's text so many characters are shown.
+_MOST_TEXT = 1 << 18
+_NO_TITLE = "An exact cover problem"
+
+
+class Element(NamedTuple):
+    """An element of a picture."""
+
+    name: str
+    attributes: Tuple[Tuple[str, str], ...]
+    text: str
+    within: Tuple[Element, ...]
+
+
+class Record:
+    """A record of a problem's solutions. What it tells has no byte that steers a terminal, and no markup.
+
+    title: what the pictures show, once there is one.
+    """
+
+    def __init__(self, problem: Problem[Any], draw: Optional[Draw]) -> None:
+        self._problem = problem
+        self._draw = draw
+        self._elements: Dict[Element, int] = {}
+        self._options: Set[int] = set()
+        self.title = _NO_TITLE
+
+    def problem(self) -> str:
+        """The problem: its comments, its text as far as it is shown, and how large it is."""
+        problem = self._problem
+        lines: List[str] = []
+        left = _MOST_TEXT
+        more = False
+        for line in problem.lines():
+            left -= len(line) + 1
+            if left < 0:
+                more = True
+                break
+            lines.append(shown(line))
+        return _line(
+            {
+                "problem": {
+                    "comments": list(map(shown, problem.comments)),
+                    "text": lines,
+                    "more": more,
+                    "primary": len(problem.items),
+                    "secondary": len(problem.secondary),
+                    "options": len(problem.options),
+                    "program": f"dlx{problem.kind}",
+                }
+            }
+        )
+
+    def solution(self, number: int, steps: Sequence[Step]) -> str:
+        """A solution of this number."""
+        chosen = [step.option for step in steps if step.option is not None]
+        lines = [self._problem.line(self._problem.options[place]) for place in chosen]
+        fresh = {place + 1: shown(line) for place, line in zip(chosen, lines) if place not in self._options}
+        self._options.update(chosen)
+        known = len(self._elements)
+        picture = self._picture(lines)
+        told: Dict[str, Any] = {
+            "number": number,
+            "steps": [
+                [shown(step.item), 0 if step.option is None else step.option + 1, step.branch, step.branches]
+                for step in steps
+            ],
+        }
+        if picture:
+            told["picture"] = picture
+        if fresh:
+            told["options"] = fresh
+        if len(self._elements) > known:
+            told["elements"] = [_told(element) for element in islice(self._elements, known, None)]
+        return _line({"solution": told})
+
+    def _picture(self, lines: Sequence[str]) -> List[int]:
+        """The numbers of a picture's elements, the first one that of the whole; none where there is no picture."""
+        if self._draw is None:
+            return []
+        try:
+            root = ElementTree.fromstring(self._draw(lines).svg())
+        except (NoPicture, ElementTree.ParseError):
+            return []
+        title = root.find("{http://www.w3.org/2000/svg}title")
+        if title is not None and title.text:
+            self.title = title.text[:1].upper() + title.text[1:]
+        whole = Element(_name(root), tuple(root.items()), "", ())
+        numbers = self._elements
+        return [numbers.setdefault(part, len(numbers)) for part in (whole, *map(_element, root))]
+
+    @staticmethod
+    def end(total: int, is_complete: bool, notes: Iterable[str] = ()) -> str:
+        """The end: how many solutions there were, whether these are all, and what else is to be said."""
+        return _line({"end": {"total": total, "complete": is_complete, "notes": list(map(shown, notes))}})
+
+
+def _element(element: ElementTree.Element) -> Element:
+    return Element(_name(element), tuple(element.items()), element.text or "", tuple(map(_element, element)))
+
+
+def _told(element: Element) -> List[Any]:
+    """An element as the page is told it: its name, its attributes, and its text or the elements in it."""
+    return [element.name, dict(element.attributes), list(map(_told, element.within)) or element.text]
+
+
+def _name(element: ElementTree.Element) -> str:
+    return element.tag.rpartition("}")[2]
+
+
+def _line(told: Dict[str, Any]) -> str:
+    return json.dumps(told, separators=(",", ":"))

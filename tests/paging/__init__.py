@@ -1,0 +1,1 @@
+"""What the test of pages is made of."""
