@@ -306,7 +306,7 @@ def _show_least(problem: Problem[Any], arguments: argparse.Namespace) -> int:
         for line in ["Altogether 0 solutions.", *_reasons(problem, deadline)]:
             console.say(line)
         return 1
-    told = f"The least cost is {_number(least.cost)}, by {least.by}."
+    told = f"The least cost is {_number(least.cost)}."
     return _show_found(Found(problem, least.numbers, told), arguments)
 
 

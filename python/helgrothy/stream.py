@@ -38,7 +38,7 @@ def chosen(problem: Problem[Option], places: Sequence[int], solution: Solution[A
 
 
 class Stream(Generic[Option]):
-    """Solutions one by one. As a context manager, or by `close`, it ends the program behind it.
+    """Solutions one by one. As a context manager, or by `close`, it ends the program that finds them.
 
     total: how many there were. complete: whether these are all, or a limit was met. Both are None until the end.
     """

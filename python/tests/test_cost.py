@@ -109,7 +109,7 @@ class Cost(unittest.TestCase):
                 with mock.patch.object(sat, "path_of", lambda name: None):
                     return run("solve", "--cost", path, *words, given=given)
 
-            self.assertEqual(solve("5 1.5 7 3.25"), (0, "B\nA\n", "The least cost is 4.75, by dlx3.\n"))
+            self.assertEqual(solve("5 1.5 7 3.25"), (0, "B\nA\n", "The least cost is 4.75.\n"))
             self.assertEqual(solve("5 1 0 3", "--csv")[1].splitlines()[1:], ["1,3,A,B"])
             status, _, told = solve("5", given="A B\nA\n")
             self.assertEqual((status, told.splitlines()[0]), (1, "Altogether 0 solutions."))
