@@ -59,16 +59,24 @@ _dlx_options() {
             options='' ;;
         'dlx-progress' | 'helgrothy')
             options='--help --version' ;;
-        'helgrothy make' | 'helgrothy make sudoku' | 'helgrothy make queens' | 'helgrothy make langford' | 'helgrothy make words' | 'helgrothy export' | 'helgrothy status')
+        'helgrothy make' | 'helgrothy make queens' | 'helgrothy make langford' | 'helgrothy make words' | 'helgrothy make nonogram' | 'helgrothy make kakuro' | 'helgrothy export' | 'helgrothy import' | 'helgrothy status')
             options='--help' ;;
+        'helgrothy make sudoku')
+            options='--help --regions --cages' ;;
         'helgrothy make polyominoes')
             options='--help --no-turns --no-mirrors' ;;
+        'helgrothy make polycubes')
+            options='--help --mirrors --some' ;;
         'helgrothy make roster')
             options='--help --rest' ;;
         'helgrothy make roundrobin')
             options='--help --double' ;;
+        'helgrothy make tests')
+            options='--help --tests --strength' ;;
+        'helgrothy make timetable')
+            options='--help --daily' ;;
         'helgrothy solve')
-            options='--help --number --limit --all --svg --html --json --csv --seconds --cell --row --column --label' ;;
+            options='--help --number --limit --all --svg --html --json --csv --seconds --shuffle --up-to-symmetry --cost --cell --row --column --label' ;;
         'helgrothy draw')
             options='--help --number --svg --html --json --csv --cell --row --column --label' ;;
         'helgrothy lint')
@@ -83,14 +91,22 @@ _dlx_options() {
             options='--help --count --for' ;;
         'helgrothy page')
             options='--help --port' ;;
-        'helgrothy sudoku' | 'helgrothy queens' | 'helgrothy langford' | 'helgrothy words')
-            options='--help --number --limit --all --svg --html --json --csv --seconds' ;;
+        'helgrothy sudoku')
+            options='--help --regions --cages --number --limit --all --svg --html --json --csv --seconds --shuffle --up-to-symmetry' ;;
+        'helgrothy queens' | 'helgrothy langford' | 'helgrothy words' | 'helgrothy nonogram' | 'helgrothy kakuro')
+            options='--help --number --limit --all --svg --html --json --csv --seconds --shuffle --up-to-symmetry' ;;
         'helgrothy polyominoes')
-            options='--help --no-turns --no-mirrors --number --limit --all --svg --html --json --csv --seconds' ;;
+            options='--help --no-turns --no-mirrors --number --limit --all --svg --html --json --csv --seconds --shuffle --up-to-symmetry' ;;
+        'helgrothy polycubes')
+            options='--help --mirrors --some --number --limit --all --svg --html --json --csv --seconds --shuffle --up-to-symmetry' ;;
         'helgrothy roster')
-            options='--help --rest --number --limit --all --svg --html --json --csv --seconds' ;;
+            options='--help --rest --number --limit --all --svg --html --json --csv --seconds --shuffle --up-to-symmetry' ;;
         'helgrothy roundrobin')
-            options='--help --double --number --limit --all --svg --html --json --csv --seconds' ;;
+            options='--help --double --number --limit --all --svg --html --json --csv --seconds --shuffle --up-to-symmetry' ;;
+        'helgrothy tests')
+            options='--help --tests --strength --least --number --limit --all --svg --html --json --csv --seconds --shuffle --up-to-symmetry' ;;
+        'helgrothy timetable')
+            options='--help --daily --number --limit --all --svg --html --json --csv --seconds --shuffle --up-to-symmetry' ;;
         *) return 1 ;;
     esac
 }
@@ -99,7 +115,9 @@ _dlx_options() {
 _dlx_value() {
     value=
     case $1 in
-        'helgrothy solve --number' | 'helgrothy solve --limit' | 'helgrothy solve --seconds' | 'helgrothy solve --cell' | 'helgrothy solve --row' | 'helgrothy solve --column' | 'helgrothy solve --label' | 'helgrothy draw --number' | 'helgrothy draw --cell' | 'helgrothy draw --row' | 'helgrothy draw --column' | 'helgrothy draw --label' | 'helgrothy why --seconds' | 'helgrothy search --jobs' | 'helgrothy search --dask' | 'helgrothy search --seconds' | 'helgrothy rows --count' | 'helgrothy page --port' | 'helgrothy sudoku --number' | 'helgrothy sudoku --limit' | 'helgrothy sudoku --seconds' | 'helgrothy queens --number' | 'helgrothy queens --limit' | 'helgrothy queens --seconds' | 'helgrothy langford --number' | 'helgrothy langford --limit' | 'helgrothy langford --seconds' | 'helgrothy polyominoes --number' | 'helgrothy polyominoes --limit' | 'helgrothy polyominoes --seconds' | 'helgrothy words --number' | 'helgrothy words --limit' | 'helgrothy words --seconds' | 'helgrothy roster --number' | 'helgrothy roster --limit' | 'helgrothy roster --seconds' | 'helgrothy roundrobin --number' | 'helgrothy roundrobin --limit' | 'helgrothy roundrobin --seconds')
+        'helgrothy make sudoku --regions' | 'helgrothy make sudoku --cages' | 'helgrothy solve --cost' | 'helgrothy sudoku --regions' | 'helgrothy sudoku --cages')
+            value='file' ;;
+        'helgrothy make tests --tests' | 'helgrothy make tests --strength' | 'helgrothy make timetable --daily' | 'helgrothy solve --number' | 'helgrothy solve --limit' | 'helgrothy solve --seconds' | 'helgrothy solve --shuffle' | 'helgrothy solve --cell' | 'helgrothy solve --row' | 'helgrothy solve --column' | 'helgrothy solve --label' | 'helgrothy draw --number' | 'helgrothy draw --cell' | 'helgrothy draw --row' | 'helgrothy draw --column' | 'helgrothy draw --label' | 'helgrothy why --seconds' | 'helgrothy search --jobs' | 'helgrothy search --dask' | 'helgrothy search --seconds' | 'helgrothy rows --count' | 'helgrothy page --port' | 'helgrothy sudoku --number' | 'helgrothy sudoku --limit' | 'helgrothy sudoku --seconds' | 'helgrothy sudoku --shuffle' | 'helgrothy queens --number' | 'helgrothy queens --limit' | 'helgrothy queens --seconds' | 'helgrothy queens --shuffle' | 'helgrothy langford --number' | 'helgrothy langford --limit' | 'helgrothy langford --seconds' | 'helgrothy langford --shuffle' | 'helgrothy polyominoes --number' | 'helgrothy polyominoes --limit' | 'helgrothy polyominoes --seconds' | 'helgrothy polyominoes --shuffle' | 'helgrothy polycubes --number' | 'helgrothy polycubes --limit' | 'helgrothy polycubes --seconds' | 'helgrothy polycubes --shuffle' | 'helgrothy words --number' | 'helgrothy words --limit' | 'helgrothy words --seconds' | 'helgrothy words --shuffle' | 'helgrothy nonogram --number' | 'helgrothy nonogram --limit' | 'helgrothy nonogram --seconds' | 'helgrothy nonogram --shuffle' | 'helgrothy kakuro --number' | 'helgrothy kakuro --limit' | 'helgrothy kakuro --seconds' | 'helgrothy kakuro --shuffle' | 'helgrothy roster --number' | 'helgrothy roster --limit' | 'helgrothy roster --seconds' | 'helgrothy roster --shuffle' | 'helgrothy roundrobin --number' | 'helgrothy roundrobin --limit' | 'helgrothy roundrobin --seconds' | 'helgrothy roundrobin --shuffle' | 'helgrothy tests --tests' | 'helgrothy tests --strength' | 'helgrothy tests --number' | 'helgrothy tests --limit' | 'helgrothy tests --seconds' | 'helgrothy tests --shuffle' | 'helgrothy timetable --daily' | 'helgrothy timetable --number' | 'helgrothy timetable --limit' | 'helgrothy timetable --seconds' | 'helgrothy timetable --shuffle')
             value='words' ;;
         'helgrothy lint --for' | 'helgrothy search --for' | 'helgrothy rows --for')
             value='words dlx1 dlx2 dlx3' ;;
@@ -113,25 +131,29 @@ _dlx_value() {
 _dlx_place() {
     value=
     case $1:$2 in
-        'dlxcheck:1' | 'helgrothy solve:1' | 'helgrothy draw:1' | 'helgrothy lint:1' | 'helgrothy export:2' | 'helgrothy why:1' | 'helgrothy search:1' | 'helgrothy rows:1')
+        'dlxcheck:1' | 'helgrothy solve:1' | 'helgrothy draw:1' | 'helgrothy lint:1' | 'helgrothy export:2' | 'helgrothy import:2' | 'helgrothy why:1' | 'helgrothy search:1' | 'helgrothy rows:1')
             value='problem' ;;
         'dlxcheck:2' | 'dlx-span:1')
             value='words 1 2 3' ;;
         'dlx-span:2' | 'dlx-join:1')
             value='words m0 m1' ;;
         'helgrothy:1')
-            value='words make solve draw lint export why search status result rows page sudoku queens langford polyominoes words roster roundrobin' ;;
+            value='words make solve draw lint export import why search status result rows page sudoku queens langford polyominoes polycubes words nonogram kakuro roster roundrobin tests timetable' ;;
         'helgrothy make:1')
-            value='words sudoku queens langford polyominoes words roster roundrobin' ;;
+            value='words sudoku queens langford polyominoes polycubes words nonogram kakuro roster roundrobin tests timetable' ;;
         'helgrothy make polyominoes:1' | 'helgrothy polyominoes:1')
             value='file pentominoes tetrominoes' ;;
+        'helgrothy make polycubes:1' | 'helgrothy polycubes:1')
+            value='file pentacubes pentominoes soma tetracubes tetrominoes' ;;
         'helgrothy export:1')
             value='words asp cnf opb' ;;
+        'helgrothy import:1')
+            value='words cadical clasp' ;;
         'helgrothy status:1' | 'helgrothy result:1')
             value='folder' ;;
         'dlx1:'* | 'dlx2:'* | 'dlx3:'*)
             value='words m1 m1000 t1 t2' ;;
-        'dlx-join:'* | 'helgrothy make sudoku:1' | 'helgrothy make queens:1' | 'helgrothy make polyominoes:2' | 'helgrothy make words:1' | 'helgrothy make words:2' | 'helgrothy make roster:1' | 'helgrothy make roundrobin:1' | 'helgrothy sudoku:1' | 'helgrothy queens:1' | 'helgrothy polyominoes:2' | 'helgrothy words:1' | 'helgrothy words:2' | 'helgrothy roster:1' | 'helgrothy roundrobin:1')
+        'dlx-join:'* | 'helgrothy make sudoku:1' | 'helgrothy make queens:1' | 'helgrothy make polyominoes:2' | 'helgrothy make polycubes:2' | 'helgrothy make words:1' | 'helgrothy make words:2' | 'helgrothy make nonogram:1' | 'helgrothy make kakuro:1' | 'helgrothy make roster:1' | 'helgrothy make roundrobin:1' | 'helgrothy make tests:1' | 'helgrothy make timetable:1' | 'helgrothy sudoku:1' | 'helgrothy queens:1' | 'helgrothy polyominoes:2' | 'helgrothy polycubes:2' | 'helgrothy words:1' | 'helgrothy words:2' | 'helgrothy nonogram:1' | 'helgrothy kakuro:1' | 'helgrothy roster:1' | 'helgrothy roundrobin:1' | 'helgrothy tests:1' | 'helgrothy timetable:1')
             value='file' ;;
     esac
 }

@@ -48,13 +48,19 @@ set -g __helgrothy_commands \
     'helgrothy make queens' \
     'helgrothy make langford' \
     'helgrothy make polyominoes' \
+    'helgrothy make polycubes' \
     'helgrothy make words' \
+    'helgrothy make nonogram' \
+    'helgrothy make kakuro' \
     'helgrothy make roster' \
     'helgrothy make roundrobin' \
+    'helgrothy make tests' \
+    'helgrothy make timetable' \
     'helgrothy solve' \
     'helgrothy draw' \
     'helgrothy lint' \
     'helgrothy export' \
+    'helgrothy import' \
     'helgrothy why' \
     'helgrothy search' \
     'helgrothy status' \
@@ -65,14 +71,26 @@ set -g __helgrothy_commands \
     'helgrothy queens' \
     'helgrothy langford' \
     'helgrothy polyominoes' \
+    'helgrothy polycubes' \
     'helgrothy words' \
+    'helgrothy nonogram' \
+    'helgrothy kakuro' \
     'helgrothy roster' \
-    'helgrothy roundrobin'
+    'helgrothy roundrobin' \
+    'helgrothy tests' \
+    'helgrothy timetable'
 
 set -g __helgrothy_valued \
+    'helgrothy make sudoku --regions' \
+    'helgrothy make sudoku --cages' \
+    'helgrothy make tests --tests' \
+    'helgrothy make tests --strength' \
+    'helgrothy make timetable --daily' \
     'helgrothy solve --number' \
     'helgrothy solve --limit' \
     'helgrothy solve --seconds' \
+    'helgrothy solve --shuffle' \
+    'helgrothy solve --cost' \
     'helgrothy solve --cell' \
     'helgrothy solve --row' \
     'helgrothy solve --column' \
@@ -92,27 +110,59 @@ set -g __helgrothy_valued \
     'helgrothy rows --count' \
     'helgrothy rows --for' \
     'helgrothy page --port' \
+    'helgrothy sudoku --regions' \
+    'helgrothy sudoku --cages' \
     'helgrothy sudoku --number' \
     'helgrothy sudoku --limit' \
     'helgrothy sudoku --seconds' \
+    'helgrothy sudoku --shuffle' \
     'helgrothy queens --number' \
     'helgrothy queens --limit' \
     'helgrothy queens --seconds' \
+    'helgrothy queens --shuffle' \
     'helgrothy langford --number' \
     'helgrothy langford --limit' \
     'helgrothy langford --seconds' \
+    'helgrothy langford --shuffle' \
     'helgrothy polyominoes --number' \
     'helgrothy polyominoes --limit' \
     'helgrothy polyominoes --seconds' \
+    'helgrothy polyominoes --shuffle' \
+    'helgrothy polycubes --number' \
+    'helgrothy polycubes --limit' \
+    'helgrothy polycubes --seconds' \
+    'helgrothy polycubes --shuffle' \
     'helgrothy words --number' \
     'helgrothy words --limit' \
     'helgrothy words --seconds' \
+    'helgrothy words --shuffle' \
+    'helgrothy nonogram --number' \
+    'helgrothy nonogram --limit' \
+    'helgrothy nonogram --seconds' \
+    'helgrothy nonogram --shuffle' \
+    'helgrothy kakuro --number' \
+    'helgrothy kakuro --limit' \
+    'helgrothy kakuro --seconds' \
+    'helgrothy kakuro --shuffle' \
     'helgrothy roster --number' \
     'helgrothy roster --limit' \
     'helgrothy roster --seconds' \
+    'helgrothy roster --shuffle' \
     'helgrothy roundrobin --number' \
     'helgrothy roundrobin --limit' \
-    'helgrothy roundrobin --seconds'
+    'helgrothy roundrobin --seconds' \
+    'helgrothy roundrobin --shuffle' \
+    'helgrothy tests --tests' \
+    'helgrothy tests --strength' \
+    'helgrothy tests --number' \
+    'helgrothy tests --limit' \
+    'helgrothy tests --seconds' \
+    'helgrothy tests --shuffle' \
+    'helgrothy timetable --daily' \
+    'helgrothy timetable --number' \
+    'helgrothy timetable --limit' \
+    'helgrothy timetable --seconds' \
+    'helgrothy timetable --shuffle'
 
 complete -c dlx1 -f
 complete -c dlx2 -f
@@ -131,6 +181,7 @@ complete -c helgrothy -n '__helgrothy_is \'helgrothy\' 1' -a solve -d 'solve a p
 complete -c helgrothy -n '__helgrothy_is \'helgrothy\' 1' -a draw -d 'draw a listing'
 complete -c helgrothy -n '__helgrothy_is \'helgrothy\' 1' -a lint -d 'tell all faults and slips of a problem'
 complete -c helgrothy -n '__helgrothy_is \'helgrothy\' 1' -a export -d 'write a problem for another solver'
+complete -c helgrothy -n '__helgrothy_is \'helgrothy\' 1' -a import -d 'read another solver\'s answer as a listing'
 complete -c helgrothy -n '__helgrothy_is \'helgrothy\' 1' -a why -d 'tell which items conflict where there is no solution'
 complete -c helgrothy -n '__helgrothy_is \'helgrothy\' 1' -a search -d 'count or list all solutions, by all processors or many machines'
 complete -c helgrothy -n '__helgrothy_is \'helgrothy\' 1' -a status -d 'tell how far a search is'
@@ -141,28 +192,50 @@ complete -c helgrothy -n '__helgrothy_is \'helgrothy\' 1' -a sudoku -d 'make and
 complete -c helgrothy -n '__helgrothy_is \'helgrothy\' 1' -a queens -d 'make and solve queens on a board, or in coloured regions'
 complete -c helgrothy -n '__helgrothy_is \'helgrothy\' 1' -a langford -d 'make and solve Langford\'s pairs'
 complete -c helgrothy -n '__helgrothy_is \'helgrothy\' 1' -a polyominoes -d 'make and solve pieces of squares that fill a region'
+complete -c helgrothy -n '__helgrothy_is \'helgrothy\' 1' -a polycubes -d 'make and solve pieces of cubes that fill a box'
 complete -c helgrothy -n '__helgrothy_is \'helgrothy\' 1' -a words -d 'make and solve words across and down in a grid'
+complete -c helgrothy -n '__helgrothy_is \'helgrothy\' 1' -a nonogram -d 'make and solve a nonogram from its clues'
+complete -c helgrothy -n '__helgrothy_is \'helgrothy\' 1' -a kakuro -d 'make and solve a Kakuro from its grid'
 complete -c helgrothy -n '__helgrothy_is \'helgrothy\' 1' -a roster -d 'make and solve shifts of people on days'
 complete -c helgrothy -n '__helgrothy_is \'helgrothy\' 1' -a roundrobin -d 'make and solve a round robin at home and away'
+complete -c helgrothy -n '__helgrothy_is \'helgrothy\' 1' -a tests -d 'make and solve tests in which values of factors come together'
+complete -c helgrothy -n '__helgrothy_is \'helgrothy\' 1' -a timetable -d 'make and solve lessons or exams in slots and rooms'
 complete -c helgrothy -n '__helgrothy_is \'helgrothy make\'' -s h -l help -d 'show this help message and exit'
 complete -c helgrothy -n '__helgrothy_is \'helgrothy make\' 1' -a sudoku -d 'a Sudoku from its clues'
 complete -c helgrothy -n '__helgrothy_is \'helgrothy make\' 1' -a queens -d 'queens on a board, or in coloured regions'
 complete -c helgrothy -n '__helgrothy_is \'helgrothy make\' 1' -a langford -d 'Langford\'s pairs'
 complete -c helgrothy -n '__helgrothy_is \'helgrothy make\' 1' -a polyominoes -d 'pieces of squares that fill a region'
+complete -c helgrothy -n '__helgrothy_is \'helgrothy make\' 1' -a polycubes -d 'pieces of cubes that fill a box'
 complete -c helgrothy -n '__helgrothy_is \'helgrothy make\' 1' -a words -d 'words across and down in a grid'
+complete -c helgrothy -n '__helgrothy_is \'helgrothy make\' 1' -a nonogram -d 'a nonogram from its clues'
+complete -c helgrothy -n '__helgrothy_is \'helgrothy make\' 1' -a kakuro -d 'a Kakuro from its grid'
 complete -c helgrothy -n '__helgrothy_is \'helgrothy make\' 1' -a roster -d 'shifts of people on days'
 complete -c helgrothy -n '__helgrothy_is \'helgrothy make\' 1' -a roundrobin -d 'a round robin at home and away'
+complete -c helgrothy -n '__helgrothy_is \'helgrothy make\' 1' -a tests -d 'tests in which values of factors come together'
+complete -c helgrothy -n '__helgrothy_is \'helgrothy make\' 1' -a timetable -d 'lessons or exams in slots and rooms'
 complete -c helgrothy -n '__helgrothy_is \'helgrothy make sudoku\'' -s h -l help -d 'show this help message and exit'
+complete -c helgrothy -n '__helgrothy_is \'helgrothy make sudoku\'' -l regions -r -F -d 'a file with a picture of the regions, a letter for each place'
+complete -c helgrothy -n '__helgrothy_is \'helgrothy make sudoku\'' -l cages -r -F -d 'a file with a line for each cage, its sum and its places (12 r1c1 r1c2); or with a picture, a letter for each place, and behind a blank line the sums (a=12 b=7)'
 complete -c helgrothy -n '__helgrothy_is \'helgrothy make queens\'' -s h -l help -d 'show this help message and exit'
 complete -c helgrothy -n '__helgrothy_is \'helgrothy make langford\'' -s h -l help -d 'show this help message and exit'
 complete -c helgrothy -n '__helgrothy_is \'helgrothy make polyominoes\'' -s h -l help -d 'show this help message and exit'
 complete -c helgrothy -n '__helgrothy_is \'helgrothy make polyominoes\'' -l no-turns -d 'pieces may not be turned'
 complete -c helgrothy -n '__helgrothy_is \'helgrothy make polyominoes\'' -l no-mirrors -d 'pieces may not be mirrored'
+complete -c helgrothy -n '__helgrothy_is \'helgrothy make polycubes\'' -s h -l help -d 'show this help message and exit'
+complete -c helgrothy -n '__helgrothy_is \'helgrothy make polycubes\'' -l mirrors -d 'mirror images of pieces may be used too'
+complete -c helgrothy -n '__helgrothy_is \'helgrothy make polycubes\'' -l some -d 'pieces may be left over'
 complete -c helgrothy -n '__helgrothy_is \'helgrothy make words\'' -s h -l help -d 'show this help message and exit'
+complete -c helgrothy -n '__helgrothy_is \'helgrothy make nonogram\'' -s h -l help -d 'show this help message and exit'
+complete -c helgrothy -n '__helgrothy_is \'helgrothy make kakuro\'' -s h -l help -d 'show this help message and exit'
 complete -c helgrothy -n '__helgrothy_is \'helgrothy make roster\'' -s h -l help -d 'show this help message and exit'
 complete -c helgrothy -n '__helgrothy_is \'helgrothy make roster\'' -l rest -d 'no shift on the next day that stands higher in the table'
 complete -c helgrothy -n '__helgrothy_is \'helgrothy make roundrobin\'' -s h -l help -d 'show this help message and exit'
 complete -c helgrothy -n '__helgrothy_is \'helgrothy make roundrobin\'' -l double -d 'each two teams meet twice, once at each one\'s home'
+complete -c helgrothy -n '__helgrothy_is \'helgrothy make tests\'' -s h -l help -d 'show this help message and exit'
+complete -c helgrothy -n '__helgrothy_is \'helgrothy make tests\'' -l tests -r -f -d 'so many tests'
+complete -c helgrothy -n '__helgrothy_is \'helgrothy make tests\'' -l strength -r -f -d 'the values of any T factors come together (default: 2)'
+complete -c helgrothy -n '__helgrothy_is \'helgrothy make timetable\'' -s h -l help -d 'show this help message and exit'
+complete -c helgrothy -n '__helgrothy_is \'helgrothy make timetable\'' -l daily -r -f -d 'nobody has more than N lessons a day'
 complete -c helgrothy -n '__helgrothy_is \'helgrothy solve\'' -s h -l help -d 'show this help message and exit'
 complete -c helgrothy -n '__helgrothy_is \'helgrothy solve\'' -l number -r -f -d 'the K-th solution instead of the first'
 complete -c helgrothy -n '__helgrothy_is \'helgrothy solve\'' -l limit -r -f -d 'the first N solutions'
@@ -172,6 +245,9 @@ complete -c helgrothy -n '__helgrothy_is \'helgrothy solve\'' -l html -d 'a page
 complete -c helgrothy -n '__helgrothy_is \'helgrothy solve\'' -l json -d 'a line of JSON for each solution: its number, the numbers of its options, their items, and the colours'
 complete -c helgrothy -n '__helgrothy_is \'helgrothy solve\'' -l csv -d 'a table as CSV, with a line for each choice'
 complete -c helgrothy -n '__helgrothy_is \'helgrothy solve\'' -l seconds -r -f -d 'give up after S seconds'
+complete -c helgrothy -n '__helgrothy_is \'helgrothy solve\'' -l shuffle -r -f -d 'solutions in a random order of the options, the same for the same number'
+complete -c helgrothy -n '__helgrothy_is \'helgrothy solve\'' -l up-to-symmetry -d 'one solution of those that are images of each other by turns and mirrors of the board or box'
+complete -c helgrothy -n '__helgrothy_is \'helgrothy solve\'' -l cost -r -F -d 'the solution of least cost, from a file with a number for each option: by clasp where the path has it, else by dlx3'
 complete -c helgrothy -n '__helgrothy_is \'helgrothy solve\'' -l cell -r -f -d 'a regular expression that finds the cells, as whole words, in an option\'s line; its first two groups (or those named row and column) are row and column, a number or a single letter, and a third one its label'
 complete -c helgrothy -n '__helgrothy_is \'helgrothy solve\'' -l row -r -f -d 'a regular expression that finds the name of a row in the words of an option: the picture is a table of these names, in the order of the file'
 complete -c helgrothy -n '__helgrothy_is \'helgrothy solve\'' -l column -r -f -d 'a regular expression that finds the name of a column in the words of an option: the picture is a table of these names, in the order of the file'
@@ -189,6 +265,7 @@ complete -c helgrothy -n '__helgrothy_is \'helgrothy draw\'' -l label -r -f -d '
 complete -c helgrothy -n '__helgrothy_is \'helgrothy lint\'' -s h -l help -d 'show this help message and exit'
 complete -c helgrothy -n '__helgrothy_is \'helgrothy lint\'' -l for -r -f -a 'dlx1 dlx2 dlx3' -d 'default: dlx3'
 complete -c helgrothy -n '__helgrothy_is \'helgrothy export\'' -s h -l help -d 'show this help message and exit'
+complete -c helgrothy -n '__helgrothy_is \'helgrothy import\'' -s h -l help -d 'show this help message and exit'
 complete -c helgrothy -n '__helgrothy_is \'helgrothy why\'' -s h -l help -d 'show this help message and exit'
 complete -c helgrothy -n '__helgrothy_is \'helgrothy why\'' -l seconds -r -f -d 'the time (default: 10)'
 complete -c helgrothy -n '__helgrothy_is \'helgrothy search\'' -s h -l help -d 'show this help message and exit'
@@ -207,6 +284,8 @@ complete -c helgrothy -n '__helgrothy_is \'helgrothy rows\'' -l for -r -f -a 'dl
 complete -c helgrothy -n '__helgrothy_is \'helgrothy page\'' -s h -l help -d 'show this help message and exit'
 complete -c helgrothy -n '__helgrothy_is \'helgrothy page\'' -l port -r -f -d 'the port (default: one that is free)'
 complete -c helgrothy -n '__helgrothy_is \'helgrothy sudoku\'' -s h -l help -d 'show this help message and exit'
+complete -c helgrothy -n '__helgrothy_is \'helgrothy sudoku\'' -l regions -r -F -d 'a file with a picture of the regions, a letter for each place'
+complete -c helgrothy -n '__helgrothy_is \'helgrothy sudoku\'' -l cages -r -F -d 'a file with a line for each cage, its sum and its places (12 r1c1 r1c2); or with a picture, a letter for each place, and behind a blank line the sums (a=12 b=7)'
 complete -c helgrothy -n '__helgrothy_is \'helgrothy sudoku\'' -l number -r -f -d 'the K-th solution instead of the first'
 complete -c helgrothy -n '__helgrothy_is \'helgrothy sudoku\'' -l limit -r -f -d 'the first N solutions'
 complete -c helgrothy -n '__helgrothy_is \'helgrothy sudoku\'' -l all -d 'all solutions'
@@ -215,6 +294,8 @@ complete -c helgrothy -n '__helgrothy_is \'helgrothy sudoku\'' -l html -d 'a pag
 complete -c helgrothy -n '__helgrothy_is \'helgrothy sudoku\'' -l json -d 'a line of JSON for each solution: its number, the numbers of its options, their items, and the colours'
 complete -c helgrothy -n '__helgrothy_is \'helgrothy sudoku\'' -l csv -d 'a table as CSV, with a line for each choice'
 complete -c helgrothy -n '__helgrothy_is \'helgrothy sudoku\'' -l seconds -r -f -d 'give up after S seconds'
+complete -c helgrothy -n '__helgrothy_is \'helgrothy sudoku\'' -l shuffle -r -f -d 'solutions in a random order of the options, the same for the same number'
+complete -c helgrothy -n '__helgrothy_is \'helgrothy sudoku\'' -l up-to-symmetry -d 'one solution of those that are images of each other by turns and mirrors of the board or box'
 complete -c helgrothy -n '__helgrothy_is \'helgrothy queens\'' -s h -l help -d 'show this help message and exit'
 complete -c helgrothy -n '__helgrothy_is \'helgrothy queens\'' -l number -r -f -d 'the K-th solution instead of the first'
 complete -c helgrothy -n '__helgrothy_is \'helgrothy queens\'' -l limit -r -f -d 'the first N solutions'
@@ -224,6 +305,8 @@ complete -c helgrothy -n '__helgrothy_is \'helgrothy queens\'' -l html -d 'a pag
 complete -c helgrothy -n '__helgrothy_is \'helgrothy queens\'' -l json -d 'a line of JSON for each solution: its number, the numbers of its options, their items, and the colours'
 complete -c helgrothy -n '__helgrothy_is \'helgrothy queens\'' -l csv -d 'a table as CSV, with a line for each choice'
 complete -c helgrothy -n '__helgrothy_is \'helgrothy queens\'' -l seconds -r -f -d 'give up after S seconds'
+complete -c helgrothy -n '__helgrothy_is \'helgrothy queens\'' -l shuffle -r -f -d 'solutions in a random order of the options, the same for the same number'
+complete -c helgrothy -n '__helgrothy_is \'helgrothy queens\'' -l up-to-symmetry -d 'one solution of those that are images of each other by turns and mirrors of the board or box'
 complete -c helgrothy -n '__helgrothy_is \'helgrothy langford\'' -s h -l help -d 'show this help message and exit'
 complete -c helgrothy -n '__helgrothy_is \'helgrothy langford\'' -l number -r -f -d 'the K-th solution instead of the first'
 complete -c helgrothy -n '__helgrothy_is \'helgrothy langford\'' -l limit -r -f -d 'the first N solutions'
@@ -233,6 +316,8 @@ complete -c helgrothy -n '__helgrothy_is \'helgrothy langford\'' -l html -d 'a p
 complete -c helgrothy -n '__helgrothy_is \'helgrothy langford\'' -l json -d 'a line of JSON for each solution: its number, the numbers of its options, their items, and the colours'
 complete -c helgrothy -n '__helgrothy_is \'helgrothy langford\'' -l csv -d 'a table as CSV, with a line for each choice'
 complete -c helgrothy -n '__helgrothy_is \'helgrothy langford\'' -l seconds -r -f -d 'give up after S seconds'
+complete -c helgrothy -n '__helgrothy_is \'helgrothy langford\'' -l shuffle -r -f -d 'solutions in a random order of the options, the same for the same number'
+complete -c helgrothy -n '__helgrothy_is \'helgrothy langford\'' -l up-to-symmetry -d 'one solution of those that are images of each other by turns and mirrors of the board or box'
 complete -c helgrothy -n '__helgrothy_is \'helgrothy polyominoes\'' -s h -l help -d 'show this help message and exit'
 complete -c helgrothy -n '__helgrothy_is \'helgrothy polyominoes\'' -l no-turns -d 'pieces may not be turned'
 complete -c helgrothy -n '__helgrothy_is \'helgrothy polyominoes\'' -l no-mirrors -d 'pieces may not be mirrored'
@@ -244,6 +329,21 @@ complete -c helgrothy -n '__helgrothy_is \'helgrothy polyominoes\'' -l html -d '
 complete -c helgrothy -n '__helgrothy_is \'helgrothy polyominoes\'' -l json -d 'a line of JSON for each solution: its number, the numbers of its options, their items, and the colours'
 complete -c helgrothy -n '__helgrothy_is \'helgrothy polyominoes\'' -l csv -d 'a table as CSV, with a line for each choice'
 complete -c helgrothy -n '__helgrothy_is \'helgrothy polyominoes\'' -l seconds -r -f -d 'give up after S seconds'
+complete -c helgrothy -n '__helgrothy_is \'helgrothy polyominoes\'' -l shuffle -r -f -d 'solutions in a random order of the options, the same for the same number'
+complete -c helgrothy -n '__helgrothy_is \'helgrothy polyominoes\'' -l up-to-symmetry -d 'one solution of those that are images of each other by turns and mirrors of the board or box'
+complete -c helgrothy -n '__helgrothy_is \'helgrothy polycubes\'' -s h -l help -d 'show this help message and exit'
+complete -c helgrothy -n '__helgrothy_is \'helgrothy polycubes\'' -l mirrors -d 'mirror images of pieces may be used too'
+complete -c helgrothy -n '__helgrothy_is \'helgrothy polycubes\'' -l some -d 'pieces may be left over'
+complete -c helgrothy -n '__helgrothy_is \'helgrothy polycubes\'' -l number -r -f -d 'the K-th solution instead of the first'
+complete -c helgrothy -n '__helgrothy_is \'helgrothy polycubes\'' -l limit -r -f -d 'the first N solutions'
+complete -c helgrothy -n '__helgrothy_is \'helgrothy polycubes\'' -l all -d 'all solutions'
+complete -c helgrothy -n '__helgrothy_is \'helgrothy polycubes\'' -l svg -d 'a picture as SVG, of one solution'
+complete -c helgrothy -n '__helgrothy_is \'helgrothy polycubes\'' -l html -d 'a page for a browser: the solutions, their pictures, and the search\'s way'
+complete -c helgrothy -n '__helgrothy_is \'helgrothy polycubes\'' -l json -d 'a line of JSON for each solution: its number, the numbers of its options, their items, and the colours'
+complete -c helgrothy -n '__helgrothy_is \'helgrothy polycubes\'' -l csv -d 'a table as CSV, with a line for each choice'
+complete -c helgrothy -n '__helgrothy_is \'helgrothy polycubes\'' -l seconds -r -f -d 'give up after S seconds'
+complete -c helgrothy -n '__helgrothy_is \'helgrothy polycubes\'' -l shuffle -r -f -d 'solutions in a random order of the options, the same for the same number'
+complete -c helgrothy -n '__helgrothy_is \'helgrothy polycubes\'' -l up-to-symmetry -d 'one solution of those that are images of each other by turns and mirrors of the board or box'
 complete -c helgrothy -n '__helgrothy_is \'helgrothy words\'' -s h -l help -d 'show this help message and exit'
 complete -c helgrothy -n '__helgrothy_is \'helgrothy words\'' -l number -r -f -d 'the K-th solution instead of the first'
 complete -c helgrothy -n '__helgrothy_is \'helgrothy words\'' -l limit -r -f -d 'the first N solutions'
@@ -253,6 +353,30 @@ complete -c helgrothy -n '__helgrothy_is \'helgrothy words\'' -l html -d 'a page
 complete -c helgrothy -n '__helgrothy_is \'helgrothy words\'' -l json -d 'a line of JSON for each solution: its number, the numbers of its options, their items, and the colours'
 complete -c helgrothy -n '__helgrothy_is \'helgrothy words\'' -l csv -d 'a table as CSV, with a line for each choice'
 complete -c helgrothy -n '__helgrothy_is \'helgrothy words\'' -l seconds -r -f -d 'give up after S seconds'
+complete -c helgrothy -n '__helgrothy_is \'helgrothy words\'' -l shuffle -r -f -d 'solutions in a random order of the options, the same for the same number'
+complete -c helgrothy -n '__helgrothy_is \'helgrothy words\'' -l up-to-symmetry -d 'one solution of those that are images of each other by turns and mirrors of the board or box'
+complete -c helgrothy -n '__helgrothy_is \'helgrothy nonogram\'' -s h -l help -d 'show this help message and exit'
+complete -c helgrothy -n '__helgrothy_is \'helgrothy nonogram\'' -l number -r -f -d 'the K-th solution instead of the first'
+complete -c helgrothy -n '__helgrothy_is \'helgrothy nonogram\'' -l limit -r -f -d 'the first N solutions'
+complete -c helgrothy -n '__helgrothy_is \'helgrothy nonogram\'' -l all -d 'all solutions'
+complete -c helgrothy -n '__helgrothy_is \'helgrothy nonogram\'' -l svg -d 'a picture as SVG, of one solution'
+complete -c helgrothy -n '__helgrothy_is \'helgrothy nonogram\'' -l html -d 'a page for a browser: the solutions, their pictures, and the search\'s way'
+complete -c helgrothy -n '__helgrothy_is \'helgrothy nonogram\'' -l json -d 'a line of JSON for each solution: its number, the numbers of its options, their items, and the colours'
+complete -c helgrothy -n '__helgrothy_is \'helgrothy nonogram\'' -l csv -d 'a table as CSV, with a line for each choice'
+complete -c helgrothy -n '__helgrothy_is \'helgrothy nonogram\'' -l seconds -r -f -d 'give up after S seconds'
+complete -c helgrothy -n '__helgrothy_is \'helgrothy nonogram\'' -l shuffle -r -f -d 'solutions in a random order of the options, the same for the same number'
+complete -c helgrothy -n '__helgrothy_is \'helgrothy nonogram\'' -l up-to-symmetry -d 'one solution of those that are images of each other by turns and mirrors of the board or box'
+complete -c helgrothy -n '__helgrothy_is \'helgrothy kakuro\'' -s h -l help -d 'show this help message and exit'
+complete -c helgrothy -n '__helgrothy_is \'helgrothy kakuro\'' -l number -r -f -d 'the K-th solution instead of the first'
+complete -c helgrothy -n '__helgrothy_is \'helgrothy kakuro\'' -l limit -r -f -d 'the first N solutions'
+complete -c helgrothy -n '__helgrothy_is \'helgrothy kakuro\'' -l all -d 'all solutions'
+complete -c helgrothy -n '__helgrothy_is \'helgrothy kakuro\'' -l svg -d 'a picture as SVG, of one solution'
+complete -c helgrothy -n '__helgrothy_is \'helgrothy kakuro\'' -l html -d 'a page for a browser: the solutions, their pictures, and the search\'s way'
+complete -c helgrothy -n '__helgrothy_is \'helgrothy kakuro\'' -l json -d 'a line of JSON for each solution: its number, the numbers of its options, their items, and the colours'
+complete -c helgrothy -n '__helgrothy_is \'helgrothy kakuro\'' -l csv -d 'a table as CSV, with a line for each choice'
+complete -c helgrothy -n '__helgrothy_is \'helgrothy kakuro\'' -l seconds -r -f -d 'give up after S seconds'
+complete -c helgrothy -n '__helgrothy_is \'helgrothy kakuro\'' -l shuffle -r -f -d 'solutions in a random order of the options, the same for the same number'
+complete -c helgrothy -n '__helgrothy_is \'helgrothy kakuro\'' -l up-to-symmetry -d 'one solution of those that are images of each other by turns and mirrors of the board or box'
 complete -c helgrothy -n '__helgrothy_is \'helgrothy roster\'' -s h -l help -d 'show this help message and exit'
 complete -c helgrothy -n '__helgrothy_is \'helgrothy roster\'' -l rest -d 'no shift on the next day that stands higher in the table'
 complete -c helgrothy -n '__helgrothy_is \'helgrothy roster\'' -l number -r -f -d 'the K-th solution instead of the first'
@@ -263,6 +387,8 @@ complete -c helgrothy -n '__helgrothy_is \'helgrothy roster\'' -l html -d 'a pag
 complete -c helgrothy -n '__helgrothy_is \'helgrothy roster\'' -l json -d 'a line of JSON for each solution: its number, the numbers of its options, their items, and the colours'
 complete -c helgrothy -n '__helgrothy_is \'helgrothy roster\'' -l csv -d 'a table as CSV, with a line for each choice'
 complete -c helgrothy -n '__helgrothy_is \'helgrothy roster\'' -l seconds -r -f -d 'give up after S seconds'
+complete -c helgrothy -n '__helgrothy_is \'helgrothy roster\'' -l shuffle -r -f -d 'solutions in a random order of the options, the same for the same number'
+complete -c helgrothy -n '__helgrothy_is \'helgrothy roster\'' -l up-to-symmetry -d 'one solution of those that are images of each other by turns and mirrors of the board or box'
 complete -c helgrothy -n '__helgrothy_is \'helgrothy roundrobin\'' -s h -l help -d 'show this help message and exit'
 complete -c helgrothy -n '__helgrothy_is \'helgrothy roundrobin\'' -l double -d 'each two teams meet twice, once at each one\'s home'
 complete -c helgrothy -n '__helgrothy_is \'helgrothy roundrobin\'' -l number -r -f -d 'the K-th solution instead of the first'
@@ -273,6 +399,34 @@ complete -c helgrothy -n '__helgrothy_is \'helgrothy roundrobin\'' -l html -d 'a
 complete -c helgrothy -n '__helgrothy_is \'helgrothy roundrobin\'' -l json -d 'a line of JSON for each solution: its number, the numbers of its options, their items, and the colours'
 complete -c helgrothy -n '__helgrothy_is \'helgrothy roundrobin\'' -l csv -d 'a table as CSV, with a line for each choice'
 complete -c helgrothy -n '__helgrothy_is \'helgrothy roundrobin\'' -l seconds -r -f -d 'give up after S seconds'
+complete -c helgrothy -n '__helgrothy_is \'helgrothy roundrobin\'' -l shuffle -r -f -d 'solutions in a random order of the options, the same for the same number'
+complete -c helgrothy -n '__helgrothy_is \'helgrothy roundrobin\'' -l up-to-symmetry -d 'one solution of those that are images of each other by turns and mirrors of the board or box'
+complete -c helgrothy -n '__helgrothy_is \'helgrothy tests\'' -s h -l help -d 'show this help message and exit'
+complete -c helgrothy -n '__helgrothy_is \'helgrothy tests\'' -l tests -r -f -d 'so many tests'
+complete -c helgrothy -n '__helgrothy_is \'helgrothy tests\'' -l strength -r -f -d 'the values of any T factors come together (default: 2)'
+complete -c helgrothy -n '__helgrothy_is \'helgrothy tests\'' -l least -d 'as few tests as are found in the time of --seconds (default: 10)'
+complete -c helgrothy -n '__helgrothy_is \'helgrothy tests\'' -l number -r -f -d 'the K-th solution instead of the first'
+complete -c helgrothy -n '__helgrothy_is \'helgrothy tests\'' -l limit -r -f -d 'the first N solutions'
+complete -c helgrothy -n '__helgrothy_is \'helgrothy tests\'' -l all -d 'all solutions'
+complete -c helgrothy -n '__helgrothy_is \'helgrothy tests\'' -l svg -d 'a picture as SVG, of one solution'
+complete -c helgrothy -n '__helgrothy_is \'helgrothy tests\'' -l html -d 'a page for a browser: the solutions, their pictures, and the search\'s way'
+complete -c helgrothy -n '__helgrothy_is \'helgrothy tests\'' -l json -d 'a line of JSON for each solution: its number, the numbers of its options, their items, and the colours'
+complete -c helgrothy -n '__helgrothy_is \'helgrothy tests\'' -l csv -d 'a table as CSV, with a line for each choice'
+complete -c helgrothy -n '__helgrothy_is \'helgrothy tests\'' -l seconds -r -f -d 'give up after S seconds'
+complete -c helgrothy -n '__helgrothy_is \'helgrothy tests\'' -l shuffle -r -f -d 'solutions in a random order of the options, the same for the same number'
+complete -c helgrothy -n '__helgrothy_is \'helgrothy tests\'' -l up-to-symmetry -d 'one solution of those that are images of each other by turns and mirrors of the board or box'
+complete -c helgrothy -n '__helgrothy_is \'helgrothy timetable\'' -s h -l help -d 'show this help message and exit'
+complete -c helgrothy -n '__helgrothy_is \'helgrothy timetable\'' -l daily -r -f -d 'nobody has more than N lessons a day'
+complete -c helgrothy -n '__helgrothy_is \'helgrothy timetable\'' -l number -r -f -d 'the K-th solution instead of the first'
+complete -c helgrothy -n '__helgrothy_is \'helgrothy timetable\'' -l limit -r -f -d 'the first N solutions'
+complete -c helgrothy -n '__helgrothy_is \'helgrothy timetable\'' -l all -d 'all solutions'
+complete -c helgrothy -n '__helgrothy_is \'helgrothy timetable\'' -l svg -d 'a picture as SVG, of one solution'
+complete -c helgrothy -n '__helgrothy_is \'helgrothy timetable\'' -l html -d 'a page for a browser: the solutions, their pictures, and the search\'s way'
+complete -c helgrothy -n '__helgrothy_is \'helgrothy timetable\'' -l json -d 'a line of JSON for each solution: its number, the numbers of its options, their items, and the colours'
+complete -c helgrothy -n '__helgrothy_is \'helgrothy timetable\'' -l csv -d 'a table as CSV, with a line for each choice'
+complete -c helgrothy -n '__helgrothy_is \'helgrothy timetable\'' -l seconds -r -f -d 'give up after S seconds'
+complete -c helgrothy -n '__helgrothy_is \'helgrothy timetable\'' -l shuffle -r -f -d 'solutions in a random order of the options, the same for the same number'
+complete -c helgrothy -n '__helgrothy_is \'helgrothy timetable\'' -l up-to-symmetry -d 'one solution of those that are images of each other by turns and mirrors of the board or box'
 complete -c dlx1 -n '__helgrothy_is \'dlx1\' 1+' -f -a 'm1 m1000 t1 t2'
 complete -c dlx2 -n '__helgrothy_is \'dlx2\' 1+' -f -a 'm1 m1000 t1 t2'
 complete -c dlx3 -n '__helgrothy_is \'dlx3\' 1+' -f -a 'm1 m1000 t1 t2'
@@ -286,15 +440,23 @@ complete -c helgrothy -n '__helgrothy_is \'helgrothy make sudoku\' 1' -F
 complete -c helgrothy -n '__helgrothy_is \'helgrothy make queens\' 1' -F
 complete -c helgrothy -n '__helgrothy_is \'helgrothy make polyominoes\' 1' -F -a 'pentominoes tetrominoes'
 complete -c helgrothy -n '__helgrothy_is \'helgrothy make polyominoes\' 2' -F
+complete -c helgrothy -n '__helgrothy_is \'helgrothy make polycubes\' 1' -F -a 'pentacubes pentominoes soma tetracubes tetrominoes'
+complete -c helgrothy -n '__helgrothy_is \'helgrothy make polycubes\' 2' -F
 complete -c helgrothy -n '__helgrothy_is \'helgrothy make words\' 1' -F
 complete -c helgrothy -n '__helgrothy_is \'helgrothy make words\' 2' -F
+complete -c helgrothy -n '__helgrothy_is \'helgrothy make nonogram\' 1' -F
+complete -c helgrothy -n '__helgrothy_is \'helgrothy make kakuro\' 1' -F
 complete -c helgrothy -n '__helgrothy_is \'helgrothy make roster\' 1' -F
 complete -c helgrothy -n '__helgrothy_is \'helgrothy make roundrobin\' 1' -F
+complete -c helgrothy -n '__helgrothy_is \'helgrothy make tests\' 1' -F
+complete -c helgrothy -n '__helgrothy_is \'helgrothy make timetable\' 1' -F
 complete -c helgrothy -n '__helgrothy_is \'helgrothy solve\' 1' -f -a '(__fish_complete_suffix .dlx)'
 complete -c helgrothy -n '__helgrothy_is \'helgrothy draw\' 1' -f -a '(__fish_complete_suffix .dlx)'
 complete -c helgrothy -n '__helgrothy_is \'helgrothy lint\' 1' -f -a '(__fish_complete_suffix .dlx)'
 complete -c helgrothy -n '__helgrothy_is \'helgrothy export\' 1' -f -a 'asp cnf opb'
 complete -c helgrothy -n '__helgrothy_is \'helgrothy export\' 2' -f -a '(__fish_complete_suffix .dlx)'
+complete -c helgrothy -n '__helgrothy_is \'helgrothy import\' 1' -f -a 'cadical clasp'
+complete -c helgrothy -n '__helgrothy_is \'helgrothy import\' 2' -f -a '(__fish_complete_suffix .dlx)'
 complete -c helgrothy -n '__helgrothy_is \'helgrothy why\' 1' -f -a '(__fish_complete_suffix .dlx)'
 complete -c helgrothy -n '__helgrothy_is \'helgrothy search\' 1' -f -a '(__fish_complete_suffix .dlx)'
 complete -c helgrothy -n '__helgrothy_is \'helgrothy status\' 1' -f -a '(__fish_complete_directories)'
@@ -304,7 +466,13 @@ complete -c helgrothy -n '__helgrothy_is \'helgrothy sudoku\' 1' -F
 complete -c helgrothy -n '__helgrothy_is \'helgrothy queens\' 1' -F
 complete -c helgrothy -n '__helgrothy_is \'helgrothy polyominoes\' 1' -F -a 'pentominoes tetrominoes'
 complete -c helgrothy -n '__helgrothy_is \'helgrothy polyominoes\' 2' -F
+complete -c helgrothy -n '__helgrothy_is \'helgrothy polycubes\' 1' -F -a 'pentacubes pentominoes soma tetracubes tetrominoes'
+complete -c helgrothy -n '__helgrothy_is \'helgrothy polycubes\' 2' -F
 complete -c helgrothy -n '__helgrothy_is \'helgrothy words\' 1' -F
 complete -c helgrothy -n '__helgrothy_is \'helgrothy words\' 2' -F
+complete -c helgrothy -n '__helgrothy_is \'helgrothy nonogram\' 1' -F
+complete -c helgrothy -n '__helgrothy_is \'helgrothy kakuro\' 1' -F
 complete -c helgrothy -n '__helgrothy_is \'helgrothy roster\' 1' -F
 complete -c helgrothy -n '__helgrothy_is \'helgrothy roundrobin\' 1' -F
+complete -c helgrothy -n '__helgrothy_is \'helgrothy tests\' 1' -F
+complete -c helgrothy -n '__helgrothy_is \'helgrothy timetable\' 1' -F

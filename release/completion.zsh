@@ -73,12 +73,12 @@ _helgrothy_options() {
             commands=() ;;
         'helgrothy')
             options=('--help:show this help message and exit' '--version:show program'\''s version number and exit')
-            commands=('make:write a problem' 'solve:solve a problem and draw what is found' 'draw:draw a listing' 'lint:tell all faults and slips of a problem' 'export:write a problem for another solver' 'why:tell which items conflict where there is no solution' 'search:count or list all solutions, by all processors or many machines' 'status:tell how far a search is' 'result:print what a search that is done has found' 'rows:print rows at which a search may be cut' 'page:a local page to type a problem in' 'sudoku:make and solve a Sudoku from its clues' 'queens:make and solve queens on a board, or in coloured regions' 'langford:make and solve Langford'\''s pairs' 'polyominoes:make and solve pieces of squares that fill a region' 'words:make and solve words across and down in a grid' 'roster:make and solve shifts of people on days' 'roundrobin:make and solve a round robin at home and away') ;;
+            commands=('make:write a problem' 'solve:solve a problem and draw what is found' 'draw:draw a listing' 'lint:tell all faults and slips of a problem' 'export:write a problem for another solver' 'import:read another solver'\''s answer as a listing' 'why:tell which items conflict where there is no solution' 'search:count or list all solutions, by all processors or many machines' 'status:tell how far a search is' 'result:print what a search that is done has found' 'rows:print rows at which a search may be cut' 'page:a local page to type a problem in' 'sudoku:make and solve a Sudoku from its clues' 'queens:make and solve queens on a board, or in coloured regions' 'langford:make and solve Langford'\''s pairs' 'polyominoes:make and solve pieces of squares that fill a region' 'polycubes:make and solve pieces of cubes that fill a box' 'words:make and solve words across and down in a grid' 'nonogram:make and solve a nonogram from its clues' 'kakuro:make and solve a Kakuro from its grid' 'roster:make and solve shifts of people on days' 'roundrobin:make and solve a round robin at home and away' 'tests:make and solve tests in which values of factors come together' 'timetable:make and solve lessons or exams in slots and rooms') ;;
         'helgrothy make')
             options=('--help:show this help message and exit')
-            commands=('sudoku:a Sudoku from its clues' 'queens:queens on a board, or in coloured regions' 'langford:Langford'\''s pairs' 'polyominoes:pieces of squares that fill a region' 'words:words across and down in a grid' 'roster:shifts of people on days' 'roundrobin:a round robin at home and away') ;;
+            commands=('sudoku:a Sudoku from its clues' 'queens:queens on a board, or in coloured regions' 'langford:Langford'\''s pairs' 'polyominoes:pieces of squares that fill a region' 'polycubes:pieces of cubes that fill a box' 'words:words across and down in a grid' 'nonogram:a nonogram from its clues' 'kakuro:a Kakuro from its grid' 'roster:shifts of people on days' 'roundrobin:a round robin at home and away' 'tests:tests in which values of factors come together' 'timetable:lessons or exams in slots and rooms') ;;
         'helgrothy make sudoku')
-            options=('--help:show this help message and exit')
+            options=('--help:show this help message and exit' '--regions:a file with a picture of the regions, a letter for each place' '--cages:a file with a line for each cage, its sum and its places (12 r1c1 r1c2); or with a picture, a letter for each place, and behind a blank line the sums (a=12 b=7)')
             commands=() ;;
         'helgrothy make queens')
             options=('--help:show this help message and exit')
@@ -89,7 +89,16 @@ _helgrothy_options() {
         'helgrothy make polyominoes')
             options=('--help:show this help message and exit' '--no-turns:pieces may not be turned' '--no-mirrors:pieces may not be mirrored')
             commands=() ;;
+        'helgrothy make polycubes')
+            options=('--help:show this help message and exit' '--mirrors:mirror images of pieces may be used too' '--some:pieces may be left over')
+            commands=() ;;
         'helgrothy make words')
+            options=('--help:show this help message and exit')
+            commands=() ;;
+        'helgrothy make nonogram')
+            options=('--help:show this help message and exit')
+            commands=() ;;
+        'helgrothy make kakuro')
             options=('--help:show this help message and exit')
             commands=() ;;
         'helgrothy make roster')
@@ -98,8 +107,14 @@ _helgrothy_options() {
         'helgrothy make roundrobin')
             options=('--help:show this help message and exit' '--double:each two teams meet twice, once at each one'\''s home')
             commands=() ;;
+        'helgrothy make tests')
+            options=('--help:show this help message and exit' '--tests:so many tests' '--strength:the values of any T factors come together (default: 2)')
+            commands=() ;;
+        'helgrothy make timetable')
+            options=('--help:show this help message and exit' '--daily:nobody has more than N lessons a day')
+            commands=() ;;
         'helgrothy solve')
-            options=('--help:show this help message and exit' '--number:the K-th solution instead of the first' '--limit:the first N solutions' '--all:all solutions' '--svg:a picture as SVG, of one solution' '--html:a page for a browser: the solutions, their pictures, and the search'\''s way' '--json:a line of JSON for each solution: its number, the numbers of its options, their items, and the colours' '--csv:a table as CSV, with a line for each choice' '--seconds:give up after S seconds' '--cell:a regular expression that finds the cells, as whole words, in an option'\''s line; its first two groups (or those named row and column) are row and column, a number or a single letter, and a third one its label' '--row:a regular expression that finds the name of a row in the words of an option: the picture is a table of these names, in the order of the file' '--column:a regular expression that finds the name of a column in the words of an option: the picture is a table of these names, in the order of the file' '--label:a regular expression that finds the label in an option'\''s line')
+            options=('--help:show this help message and exit' '--number:the K-th solution instead of the first' '--limit:the first N solutions' '--all:all solutions' '--svg:a picture as SVG, of one solution' '--html:a page for a browser: the solutions, their pictures, and the search'\''s way' '--json:a line of JSON for each solution: its number, the numbers of its options, their items, and the colours' '--csv:a table as CSV, with a line for each choice' '--seconds:give up after S seconds' '--shuffle:solutions in a random order of the options, the same for the same number' '--up-to-symmetry:one solution of those that are images of each other by turns and mirrors of the board or box' '--cost:the solution of least cost, from a file with a number for each option: by clasp where the path has it, else by dlx3' '--cell:a regular expression that finds the cells, as whole words, in an option'\''s line; its first two groups (or those named row and column) are row and column, a number or a single letter, and a third one its label' '--row:a regular expression that finds the name of a row in the words of an option: the picture is a table of these names, in the order of the file' '--column:a regular expression that finds the name of a column in the words of an option: the picture is a table of these names, in the order of the file' '--label:a regular expression that finds the label in an option'\''s line')
             commands=() ;;
         'helgrothy draw')
             options=('--help:show this help message and exit' '--number:the solution of this number alone' '--svg:a picture as SVG, of the first solution or that of --number' '--html:a page for a browser: the solutions, their pictures, and the search'\''s way' '--json:a line of JSON for each solution: its number, the numbers of its options, their items, and the colours' '--csv:a table as CSV, with a line for each choice' '--cell:a regular expression that finds the cells, as whole words, in an option'\''s line; its first two groups (or those named row and column) are row and column, a number or a single letter, and a third one its label' '--row:a regular expression that finds the name of a row in the words of an option: the picture is a table of these names, in the order of the file' '--column:a regular expression that finds the name of a column in the words of an option: the picture is a table of these names, in the order of the file' '--label:a regular expression that finds the label in an option'\''s line')
@@ -108,6 +123,9 @@ _helgrothy_options() {
             options=('--help:show this help message and exit' '--for:default: dlx3')
             commands=() ;;
         'helgrothy export')
+            options=('--help:show this help message and exit')
+            commands=() ;;
+        'helgrothy import')
             options=('--help:show this help message and exit')
             commands=() ;;
         'helgrothy why')
@@ -129,25 +147,40 @@ _helgrothy_options() {
             options=('--help:show this help message and exit' '--port:the port (default: one that is free)')
             commands=() ;;
         'helgrothy sudoku')
-            options=('--help:show this help message and exit' '--number:the K-th solution instead of the first' '--limit:the first N solutions' '--all:all solutions' '--svg:a picture as SVG, of one solution' '--html:a page for a browser: the solutions, their pictures, and the search'\''s way' '--json:a line of JSON for each solution: its number, the numbers of its options, their items, and the colours' '--csv:a table as CSV, with a line for each choice' '--seconds:give up after S seconds')
+            options=('--help:show this help message and exit' '--regions:a file with a picture of the regions, a letter for each place' '--cages:a file with a line for each cage, its sum and its places (12 r1c1 r1c2); or with a picture, a letter for each place, and behind a blank line the sums (a=12 b=7)' '--number:the K-th solution instead of the first' '--limit:the first N solutions' '--all:all solutions' '--svg:a picture as SVG, of one solution' '--html:a page for a browser: the solutions, their pictures, and the search'\''s way' '--json:a line of JSON for each solution: its number, the numbers of its options, their items, and the colours' '--csv:a table as CSV, with a line for each choice' '--seconds:give up after S seconds' '--shuffle:solutions in a random order of the options, the same for the same number' '--up-to-symmetry:one solution of those that are images of each other by turns and mirrors of the board or box')
             commands=() ;;
         'helgrothy queens')
-            options=('--help:show this help message and exit' '--number:the K-th solution instead of the first' '--limit:the first N solutions' '--all:all solutions' '--svg:a picture as SVG, of one solution' '--html:a page for a browser: the solutions, their pictures, and the search'\''s way' '--json:a line of JSON for each solution: its number, the numbers of its options, their items, and the colours' '--csv:a table as CSV, with a line for each choice' '--seconds:give up after S seconds')
+            options=('--help:show this help message and exit' '--number:the K-th solution instead of the first' '--limit:the first N solutions' '--all:all solutions' '--svg:a picture as SVG, of one solution' '--html:a page for a browser: the solutions, their pictures, and the search'\''s way' '--json:a line of JSON for each solution: its number, the numbers of its options, their items, and the colours' '--csv:a table as CSV, with a line for each choice' '--seconds:give up after S seconds' '--shuffle:solutions in a random order of the options, the same for the same number' '--up-to-symmetry:one solution of those that are images of each other by turns and mirrors of the board or box')
             commands=() ;;
         'helgrothy langford')
-            options=('--help:show this help message and exit' '--number:the K-th solution instead of the first' '--limit:the first N solutions' '--all:all solutions' '--svg:a picture as SVG, of one solution' '--html:a page for a browser: the solutions, their pictures, and the search'\''s way' '--json:a line of JSON for each solution: its number, the numbers of its options, their items, and the colours' '--csv:a table as CSV, with a line for each choice' '--seconds:give up after S seconds')
+            options=('--help:show this help message and exit' '--number:the K-th solution instead of the first' '--limit:the first N solutions' '--all:all solutions' '--svg:a picture as SVG, of one solution' '--html:a page for a browser: the solutions, their pictures, and the search'\''s way' '--json:a line of JSON for each solution: its number, the numbers of its options, their items, and the colours' '--csv:a table as CSV, with a line for each choice' '--seconds:give up after S seconds' '--shuffle:solutions in a random order of the options, the same for the same number' '--up-to-symmetry:one solution of those that are images of each other by turns and mirrors of the board or box')
             commands=() ;;
         'helgrothy polyominoes')
-            options=('--help:show this help message and exit' '--no-turns:pieces may not be turned' '--no-mirrors:pieces may not be mirrored' '--number:the K-th solution instead of the first' '--limit:the first N solutions' '--all:all solutions' '--svg:a picture as SVG, of one solution' '--html:a page for a browser: the solutions, their pictures, and the search'\''s way' '--json:a line of JSON for each solution: its number, the numbers of its options, their items, and the colours' '--csv:a table as CSV, with a line for each choice' '--seconds:give up after S seconds')
+            options=('--help:show this help message and exit' '--no-turns:pieces may not be turned' '--no-mirrors:pieces may not be mirrored' '--number:the K-th solution instead of the first' '--limit:the first N solutions' '--all:all solutions' '--svg:a picture as SVG, of one solution' '--html:a page for a browser: the solutions, their pictures, and the search'\''s way' '--json:a line of JSON for each solution: its number, the numbers of its options, their items, and the colours' '--csv:a table as CSV, with a line for each choice' '--seconds:give up after S seconds' '--shuffle:solutions in a random order of the options, the same for the same number' '--up-to-symmetry:one solution of those that are images of each other by turns and mirrors of the board or box')
+            commands=() ;;
+        'helgrothy polycubes')
+            options=('--help:show this help message and exit' '--mirrors:mirror images of pieces may be used too' '--some:pieces may be left over' '--number:the K-th solution instead of the first' '--limit:the first N solutions' '--all:all solutions' '--svg:a picture as SVG, of one solution' '--html:a page for a browser: the solutions, their pictures, and the search'\''s way' '--json:a line of JSON for each solution: its number, the numbers of its options, their items, and the colours' '--csv:a table as CSV, with a line for each choice' '--seconds:give up after S seconds' '--shuffle:solutions in a random order of the options, the same for the same number' '--up-to-symmetry:one solution of those that are images of each other by turns and mirrors of the board or box')
             commands=() ;;
         'helgrothy words')
-            options=('--help:show this help message and exit' '--number:the K-th solution instead of the first' '--limit:the first N solutions' '--all:all solutions' '--svg:a picture as SVG, of one solution' '--html:a page for a browser: the solutions, their pictures, and the search'\''s way' '--json:a line of JSON for each solution: its number, the numbers of its options, their items, and the colours' '--csv:a table as CSV, with a line for each choice' '--seconds:give up after S seconds')
+            options=('--help:show this help message and exit' '--number:the K-th solution instead of the first' '--limit:the first N solutions' '--all:all solutions' '--svg:a picture as SVG, of one solution' '--html:a page for a browser: the solutions, their pictures, and the search'\''s way' '--json:a line of JSON for each solution: its number, the numbers of its options, their items, and the colours' '--csv:a table as CSV, with a line for each choice' '--seconds:give up after S seconds' '--shuffle:solutions in a random order of the options, the same for the same number' '--up-to-symmetry:one solution of those that are images of each other by turns and mirrors of the board or box')
+            commands=() ;;
+        'helgrothy nonogram')
+            options=('--help:show this help message and exit' '--number:the K-th solution instead of the first' '--limit:the first N solutions' '--all:all solutions' '--svg:a picture as SVG, of one solution' '--html:a page for a browser: the solutions, their pictures, and the search'\''s way' '--json:a line of JSON for each solution: its number, the numbers of its options, their items, and the colours' '--csv:a table as CSV, with a line for each choice' '--seconds:give up after S seconds' '--shuffle:solutions in a random order of the options, the same for the same number' '--up-to-symmetry:one solution of those that are images of each other by turns and mirrors of the board or box')
+            commands=() ;;
+        'helgrothy kakuro')
+            options=('--help:show this help message and exit' '--number:the K-th solution instead of the first' '--limit:the first N solutions' '--all:all solutions' '--svg:a picture as SVG, of one solution' '--html:a page for a browser: the solutions, their pictures, and the search'\''s way' '--json:a line of JSON for each solution: its number, the numbers of its options, their items, and the colours' '--csv:a table as CSV, with a line for each choice' '--seconds:give up after S seconds' '--shuffle:solutions in a random order of the options, the same for the same number' '--up-to-symmetry:one solution of those that are images of each other by turns and mirrors of the board or box')
             commands=() ;;
         'helgrothy roster')
-            options=('--help:show this help message and exit' '--rest:no shift on the next day that stands higher in the table' '--number:the K-th solution instead of the first' '--limit:the first N solutions' '--all:all solutions' '--svg:a picture as SVG, of one solution' '--html:a page for a browser: the solutions, their pictures, and the search'\''s way' '--json:a line of JSON for each solution: its number, the numbers of its options, their items, and the colours' '--csv:a table as CSV, with a line for each choice' '--seconds:give up after S seconds')
+            options=('--help:show this help message and exit' '--rest:no shift on the next day that stands higher in the table' '--number:the K-th solution instead of the first' '--limit:the first N solutions' '--all:all solutions' '--svg:a picture as SVG, of one solution' '--html:a page for a browser: the solutions, their pictures, and the search'\''s way' '--json:a line of JSON for each solution: its number, the numbers of its options, their items, and the colours' '--csv:a table as CSV, with a line for each choice' '--seconds:give up after S seconds' '--shuffle:solutions in a random order of the options, the same for the same number' '--up-to-symmetry:one solution of those that are images of each other by turns and mirrors of the board or box')
             commands=() ;;
         'helgrothy roundrobin')
-            options=('--help:show this help message and exit' '--double:each two teams meet twice, once at each one'\''s home' '--number:the K-th solution instead of the first' '--limit:the first N solutions' '--all:all solutions' '--svg:a picture as SVG, of one solution' '--html:a page for a browser: the solutions, their pictures, and the search'\''s way' '--json:a line of JSON for each solution: its number, the numbers of its options, their items, and the colours' '--csv:a table as CSV, with a line for each choice' '--seconds:give up after S seconds')
+            options=('--help:show this help message and exit' '--double:each two teams meet twice, once at each one'\''s home' '--number:the K-th solution instead of the first' '--limit:the first N solutions' '--all:all solutions' '--svg:a picture as SVG, of one solution' '--html:a page for a browser: the solutions, their pictures, and the search'\''s way' '--json:a line of JSON for each solution: its number, the numbers of its options, their items, and the colours' '--csv:a table as CSV, with a line for each choice' '--seconds:give up after S seconds' '--shuffle:solutions in a random order of the options, the same for the same number' '--up-to-symmetry:one solution of those that are images of each other by turns and mirrors of the board or box')
+            commands=() ;;
+        'helgrothy tests')
+            options=('--help:show this help message and exit' '--tests:so many tests' '--strength:the values of any T factors come together (default: 2)' '--least:as few tests as are found in the time of --seconds (default: 10)' '--number:the K-th solution instead of the first' '--limit:the first N solutions' '--all:all solutions' '--svg:a picture as SVG, of one solution' '--html:a page for a browser: the solutions, their pictures, and the search'\''s way' '--json:a line of JSON for each solution: its number, the numbers of its options, their items, and the colours' '--csv:a table as CSV, with a line for each choice' '--seconds:give up after S seconds' '--shuffle:solutions in a random order of the options, the same for the same number' '--up-to-symmetry:one solution of those that are images of each other by turns and mirrors of the board or box')
+            commands=() ;;
+        'helgrothy timetable')
+            options=('--help:show this help message and exit' '--daily:nobody has more than N lessons a day' '--number:the K-th solution instead of the first' '--limit:the first N solutions' '--all:all solutions' '--svg:a picture as SVG, of one solution' '--html:a page for a browser: the solutions, their pictures, and the search'\''s way' '--json:a line of JSON for each solution: its number, the numbers of its options, their items, and the colours' '--csv:a table as CSV, with a line for each choice' '--seconds:give up after S seconds' '--shuffle:solutions in a random order of the options, the same for the same number' '--up-to-symmetry:one solution of those that are images of each other by turns and mirrors of the board or box')
             commands=() ;;
         *) return 1 ;;
     esac
@@ -157,7 +190,9 @@ _helgrothy_options() {
 _helgrothy_value() {
     value=
     case $1 in
-        'helgrothy solve --number' | 'helgrothy solve --limit' | 'helgrothy solve --seconds' | 'helgrothy solve --cell' | 'helgrothy solve --row' | 'helgrothy solve --column' | 'helgrothy solve --label' | 'helgrothy draw --number' | 'helgrothy draw --cell' | 'helgrothy draw --row' | 'helgrothy draw --column' | 'helgrothy draw --label' | 'helgrothy why --seconds' | 'helgrothy search --jobs' | 'helgrothy search --dask' | 'helgrothy search --seconds' | 'helgrothy rows --count' | 'helgrothy page --port' | 'helgrothy sudoku --number' | 'helgrothy sudoku --limit' | 'helgrothy sudoku --seconds' | 'helgrothy queens --number' | 'helgrothy queens --limit' | 'helgrothy queens --seconds' | 'helgrothy langford --number' | 'helgrothy langford --limit' | 'helgrothy langford --seconds' | 'helgrothy polyominoes --number' | 'helgrothy polyominoes --limit' | 'helgrothy polyominoes --seconds' | 'helgrothy words --number' | 'helgrothy words --limit' | 'helgrothy words --seconds' | 'helgrothy roster --number' | 'helgrothy roster --limit' | 'helgrothy roster --seconds' | 'helgrothy roundrobin --number' | 'helgrothy roundrobin --limit' | 'helgrothy roundrobin --seconds')
+        'helgrothy make sudoku --regions' | 'helgrothy make sudoku --cages' | 'helgrothy solve --cost' | 'helgrothy sudoku --regions' | 'helgrothy sudoku --cages')
+            value='file' ;;
+        'helgrothy make tests --tests' | 'helgrothy make tests --strength' | 'helgrothy make timetable --daily' | 'helgrothy solve --number' | 'helgrothy solve --limit' | 'helgrothy solve --seconds' | 'helgrothy solve --shuffle' | 'helgrothy solve --cell' | 'helgrothy solve --row' | 'helgrothy solve --column' | 'helgrothy solve --label' | 'helgrothy draw --number' | 'helgrothy draw --cell' | 'helgrothy draw --row' | 'helgrothy draw --column' | 'helgrothy draw --label' | 'helgrothy why --seconds' | 'helgrothy search --jobs' | 'helgrothy search --dask' | 'helgrothy search --seconds' | 'helgrothy rows --count' | 'helgrothy page --port' | 'helgrothy sudoku --number' | 'helgrothy sudoku --limit' | 'helgrothy sudoku --seconds' | 'helgrothy sudoku --shuffle' | 'helgrothy queens --number' | 'helgrothy queens --limit' | 'helgrothy queens --seconds' | 'helgrothy queens --shuffle' | 'helgrothy langford --number' | 'helgrothy langford --limit' | 'helgrothy langford --seconds' | 'helgrothy langford --shuffle' | 'helgrothy polyominoes --number' | 'helgrothy polyominoes --limit' | 'helgrothy polyominoes --seconds' | 'helgrothy polyominoes --shuffle' | 'helgrothy polycubes --number' | 'helgrothy polycubes --limit' | 'helgrothy polycubes --seconds' | 'helgrothy polycubes --shuffle' | 'helgrothy words --number' | 'helgrothy words --limit' | 'helgrothy words --seconds' | 'helgrothy words --shuffle' | 'helgrothy nonogram --number' | 'helgrothy nonogram --limit' | 'helgrothy nonogram --seconds' | 'helgrothy nonogram --shuffle' | 'helgrothy kakuro --number' | 'helgrothy kakuro --limit' | 'helgrothy kakuro --seconds' | 'helgrothy kakuro --shuffle' | 'helgrothy roster --number' | 'helgrothy roster --limit' | 'helgrothy roster --seconds' | 'helgrothy roster --shuffle' | 'helgrothy roundrobin --number' | 'helgrothy roundrobin --limit' | 'helgrothy roundrobin --seconds' | 'helgrothy roundrobin --shuffle' | 'helgrothy tests --tests' | 'helgrothy tests --strength' | 'helgrothy tests --number' | 'helgrothy tests --limit' | 'helgrothy tests --seconds' | 'helgrothy tests --shuffle' | 'helgrothy timetable --daily' | 'helgrothy timetable --number' | 'helgrothy timetable --limit' | 'helgrothy timetable --seconds' | 'helgrothy timetable --shuffle')
             value='words' ;;
         'helgrothy lint --for' | 'helgrothy search --for' | 'helgrothy rows --for')
             value='words dlx1 dlx2 dlx3' ;;
@@ -171,25 +206,29 @@ _helgrothy_value() {
 _helgrothy_place() {
     value=
     case $1:$2 in
-        'dlxcheck:1' | 'helgrothy solve:1' | 'helgrothy draw:1' | 'helgrothy lint:1' | 'helgrothy export:2' | 'helgrothy why:1' | 'helgrothy search:1' | 'helgrothy rows:1')
+        'dlxcheck:1' | 'helgrothy solve:1' | 'helgrothy draw:1' | 'helgrothy lint:1' | 'helgrothy export:2' | 'helgrothy import:2' | 'helgrothy why:1' | 'helgrothy search:1' | 'helgrothy rows:1')
             value='problem' ;;
         'dlxcheck:2' | 'dlx-span:1')
             value='words 1 2 3' ;;
         'dlx-span:2' | 'dlx-join:1')
             value='words m0 m1' ;;
         'helgrothy:1')
-            value='words make solve draw lint export why search status result rows page sudoku queens langford polyominoes words roster roundrobin' ;;
+            value='words make solve draw lint export import why search status result rows page sudoku queens langford polyominoes polycubes words nonogram kakuro roster roundrobin tests timetable' ;;
         'helgrothy make:1')
-            value='words sudoku queens langford polyominoes words roster roundrobin' ;;
+            value='words sudoku queens langford polyominoes polycubes words nonogram kakuro roster roundrobin tests timetable' ;;
         'helgrothy make polyominoes:1' | 'helgrothy polyominoes:1')
             value='file pentominoes tetrominoes' ;;
+        'helgrothy make polycubes:1' | 'helgrothy polycubes:1')
+            value='file pentacubes pentominoes soma tetracubes tetrominoes' ;;
         'helgrothy export:1')
             value='words asp cnf opb' ;;
+        'helgrothy import:1')
+            value='words cadical clasp' ;;
         'helgrothy status:1' | 'helgrothy result:1')
             value='folder' ;;
         'dlx1:'* | 'dlx2:'* | 'dlx3:'*)
             value='words m1 m1000 t1 t2' ;;
-        'dlx-join:'* | 'helgrothy make sudoku:1' | 'helgrothy make queens:1' | 'helgrothy make polyominoes:2' | 'helgrothy make words:1' | 'helgrothy make words:2' | 'helgrothy make roster:1' | 'helgrothy make roundrobin:1' | 'helgrothy sudoku:1' | 'helgrothy queens:1' | 'helgrothy polyominoes:2' | 'helgrothy words:1' | 'helgrothy words:2' | 'helgrothy roster:1' | 'helgrothy roundrobin:1')
+        'dlx-join:'* | 'helgrothy make sudoku:1' | 'helgrothy make queens:1' | 'helgrothy make polyominoes:2' | 'helgrothy make polycubes:2' | 'helgrothy make words:1' | 'helgrothy make words:2' | 'helgrothy make nonogram:1' | 'helgrothy make kakuro:1' | 'helgrothy make roster:1' | 'helgrothy make roundrobin:1' | 'helgrothy make tests:1' | 'helgrothy make timetable:1' | 'helgrothy sudoku:1' | 'helgrothy queens:1' | 'helgrothy polyominoes:2' | 'helgrothy polycubes:2' | 'helgrothy words:1' | 'helgrothy words:2' | 'helgrothy nonogram:1' | 'helgrothy kakuro:1' | 'helgrothy roster:1' | 'helgrothy roundrobin:1' | 'helgrothy tests:1' | 'helgrothy timetable:1')
             value='file' ;;
     esac
 }

@@ -48,7 +48,7 @@ TIMES, MORE = 3, 0.3
 ELEMENTS = {"svg", "title", "rect", "path", "text", "g"}
 ATTRIBUTES = {
     "width", "height", "viewBox", "font-family", "font-size", "font-weight", "text-anchor", "x", "y", "fill", "d",
-    "stroke", "stroke-width", "stroke-linecap", "transform",
+    "stroke", "stroke-width", "stroke-linecap", "stroke-dasharray", "transform",
 }  # fmt: skip
 
 # Bytes that have a meaning to terminals, browsers, shells, Python or the texts of problems.
@@ -242,7 +242,15 @@ PIECES = b"LL\nL\n\nII\n\nO\n"
 REGION = b"...\n.#.\n...\n"
 REGIONS = b"aabb\naabb\nccdd\nccdd\n"
 CLUES = b"1234\n3412\n2143\n43..\n"
-TABLES = [ROSTER, TEAMS, GRID, LIST, PIECES, REGION, REGIONS, CLUES]
+JIGSAW = b"aaab\naccb\ndccb\ndddb\n"
+CAGES = [b"5 r1c1 r1c2\n10 r2c1 r2c2 r3c1 r3c2\n", b"aabb\naabb\nccdd\nccdd\n\na=10 b=10\nc=10 d=10\n"]
+NONOGRAM = [b"2\n1 1\n3\n\n3\n1 1\n2\n", b"width 2\nheight 1\nrows\n1\ncolumns\n1\n0\n"]
+KAKURO = b"# 4\\ 3\\\n\\4 . .\n\\3 . 1\n"
+FACTORS = b"system linux mac\nbrowser firefox chrome\nsize 1 2 3\n"
+CUBES = b"AA .A\nA. ..\n\nBB\nB.\n\nC\n"
+BOX = b".. ..\n.. ..\n"
+LESSONS = b"day,mon,1 2\nday,tue,1\nroom,hall,,-mon-2,3\nroom,lab\nlesson,x,ann bob,lab,,2\nexam,y,cat,-tue\nperson,cat,x,,2\n"
+TABLES = [ROSTER, TEAMS, GRID, LIST, PIECES, REGION, REGIONS, CLUES, JIGSAW, *CAGES, *NONOGRAM, KAKURO, FACTORS, CUBES, BOX, LESSONS]
 MADE = [
     problem.text.encode()
     for problem in (
@@ -250,10 +258,16 @@ MADE = [
         make.queens.problem(regions="abbb\naabc\ndacc\nddcc\n"),
         make.langford.problem(3),
         make.sudoku.problem(CLUES.decode()),
+        make.sudoku.problem(regions=JIGSAW.decode(), cages=CAGES[0].decode()),
+        make.nonogram.problem(NONOGRAM[0].decode()),
+        make.kakuro.problem(KAKURO.decode()),
         make.roster.problem(ROSTER.decode()),
         make.roundrobin.problem(TEAMS.decode().splitlines()),
         make.words.problem(GRID.decode(), LIST.decode().split()),
         make.polyominoes.problem("LL\nL\n\nII\n\nO\n", "...\n...\n"),
+        make.tests.problem(FACTORS.decode(), 6),
+        make.polycubes.problem(CUBES.decode(), BOX.decode()),
+        make.timetable.problem(LESSONS.decode(), daily=2),
     )
 ]
 
@@ -271,8 +285,8 @@ class Try:
         self.given = b""
         self.is_terminal = rng.random() < 0.5
         make_words = rng.choices(
-            [self.solve, self.draw, self.lint, self.export, self.why, self.kind, self.make, self.odd, self.search, self.progress],
-            [20, 16, 12, 6, 6, 14, 8, 6, 10, 6],
+            [self.solve, self.draw, self.lint, self.export, self.answer, self.why, self.kind, self.make, self.odd, self.search, self.progress],
+            [20, 16, 12, 6, 6, 6, 14, 8, 6, 10, 6],
         )[0]
         self.name, self.words = make_words()
 
@@ -308,13 +322,20 @@ class Try:
         rng = self.rng
         words = rng.choice([[], ["--all"], ["--limit", "3"], ["--number", "2"]])
         if rng.random() < 0.1:
-            words = [rng.choice(["--number", "--limit", "--seconds"]), rng.choice(WORDS)]
+            words = [rng.choice(["--number", "--limit", "--seconds", "--shuffle"]), rng.choice(WORDS)]
+        if rng.random() < 0.2:
+            words = [*words, *rng.choice([["--shuffle", "7"], ["--up-to-symmetry"]])]
         return [*words, *([] if "--seconds" in words else ["--seconds", "5"])]
 
     def solve(self):
         forms = self.forms()
         choice = ["--seconds", "5"] if "--svg" in forms and self.rng.random() < 0.9 else self.choice()
-        return "helgrothy", ["solve", self.input(text(self.rng)), *choice, *forms]
+        problem = text(self.rng)
+        if self.rng.random() < 0.15:
+            count = max(0, len([line for line in problem.split(b"\n") if line.strip()]) - self.rng.choice([1, 1, 2, 3]))
+            costs = b" ".join(self.rng.choice([b"1", b"2", b"-3", b"0.5", b"9" * 15]) for _ in range(count))
+            choice = ["--seconds", "5", "--cost", self.file(changed(self.rng, costs))]
+        return "helgrothy", ["solve", self.input(problem), *choice, *forms]
 
     def draw(self):
         problem = text(self.rng)
@@ -328,6 +349,18 @@ class Try:
     def export(self):
         return "helgrothy", ["export", self.rng.choice(["asp", "opb", "cnf"]), self.input(text(self.rng))]
 
+    def answer(self):
+        """An answer of another solver, or of none."""
+        rng = self.rng
+        problem = text(rng)
+        literals = [b"%d" % (number * rng.choice([1, -1])) for number in range(1, rng.randint(1, 20))]
+        atoms = [b"x(%d)" % rng.randint(0, 12) for _ in range(rng.randint(0, 4))]
+        odd = [b"0", b"x3", b"-0", b"--1", b"9" * 30, b"x(1)", b"", *EVIL]
+        literals += [rng.choice(odd)] * rng.choice([0, 0, 1])
+        told = rng.choice([b"v " + b" ".join(literals) + b" 0", b"v " + b" ".join(b"x" + one for one in literals), b"Answer: 1\n" + b" ".join(atoms)])
+        self.given = changed(rng, b"\n".join([told, rng.choice([b"s SATISFIABLE", b"UNSATISFIABLE", b"s UNKNOWN", b"c", *EVIL]), b""]))
+        return "helgrothy", ["import", rng.choice(["cadical", "clasp"]), self.file(problem)]
+
     def why(self):
         return "helgrothy", ["why", self.input(text(self.rng)), "--seconds", "0.5"]
 
@@ -337,18 +370,30 @@ class Try:
         if kind == "langford":
             return kind, [rng.choice(["3", "4", *WORDS])]
         if kind == "sudoku":
-            return kind, [rng.choice([CLUES.decode().replace("\n", ""), self.input(changed(rng, CLUES)), *WORDS])]
+            words = [rng.choice([CLUES.decode().replace("\n", ""), self.input(changed(rng, CLUES)), *WORDS])]
+            if rng.random() < 0.5:
+                words = rng.choice([[], words, ["." * 16]])
+                for name, table in (("--regions", JIGSAW), ("--cages", rng.choice(CAGES))):
+                    content = changed(rng, table if rng.random() < 0.9 else rng.choice(TABLES))
+                    words += rng.choice([[], [f"{name}={self.file(content)}"]])
+            return kind, words
         if kind == "queens":
             return kind, [rng.choice(["5", "6", self.input(changed(rng, rng.choice([REGIONS, *TABLES]))), *WORDS])]
-        given = {"words": [GRID, LIST], "polyominoes": [PIECES, REGION], "roster": [ROSTER], "roundrobin": [TEAMS]}[kind]
+        if kind == "tests":
+            count = rng.choice([["--tests", "6"], ["--tests", "7", "--strength", rng.choice(["1", "3", *WORDS])], ["--tests", rng.choice(WORDS)]])
+            return kind, [rng.choice([self.input(changed(rng, FACTORS)), self.input(changed(rng, FACTORS)), "3,2^2", *WORDS]), *count]
+        given = {"words": [GRID, LIST], "polyominoes": [PIECES, REGION], "polycubes": [CUBES, BOX, LESSONS], "roster": [ROSTER],
+                 "roundrobin": [TEAMS], "timetable": [LESSONS], "nonogram": [rng.choice(NONOGRAM)], "kakuro": [KAKURO]}[kind]  # fmt: skip
         tables = [self.file(changed(rng, table if rng.random() < 0.9 else rng.choice(TABLES))) for table in given]
         if rng.random() < 0.1:
             tables[-1] = rng.choice(WORDS)
-        more = {"roster": ["--rest"], "roundrobin": ["--double"], "polyominoes": ["--no-turns"]}.get(kind, [])
+        more = {"roster": ["--rest"], "roundrobin": ["--double"], "polyominoes": ["--no-turns"], "polycubes": ["--some", "--mirrors"], "timetable": ["--daily", "2"]}.get(kind, [])
         return kind, [*tables, *(more if rng.random() < 0.3 else [])]
 
     def kind(self):
         kind, words = self.kind_words()
+        if kind == "tests" and self.rng.random() < 0.3:
+            words = [words[0], "--least"]
         if self.rng.random() < 0.3:
             return "helgrothy", [kind, *words, "--svg", "--seconds", "5"]
         return "helgrothy", [kind, *words, *self.choice(), *self.rng.choice([[], ["--json"], ["--csv"]])]
@@ -693,9 +738,32 @@ class Processes:
             "roundrobin": f"roundrobin {self.file('teams', b''.join(b't%d' % n + chr(10).encode() for n in range(100_000)))}",
             "roundrobin, 250": f"roundrobin {self.file('teams2', b''.join(b't%d' % n + chr(10).encode() for n in range(250)))}",
             "words": f"words {self.file('grid', (b'.' * 1000 + chr(10).encode()) * 900)} {self.file('list', b' '.join(b'%c' % (97 + n % 26) * 1000 for n in range(900)))}",
+            "a box of dominoes": f"polycubes {self.file('piece5', (b'AA' + chr(10).encode() * 2) * 48_000)} 40x60x40",
+            "a box, more": "polycubes soma 999999999x999999999x999999999",
+            "a piece of cubes": f"polycubes {self.file('piece3', (b'A' * 300 + b' ') * 3 + chr(10).encode())} {self.file('region3', (b'.' * 300 + chr(10).encode()) * 300)}",
+            "a large piece of cubes": f"polycubes {self.file('piece4', (b'A' * 300 + chr(10).encode()) * 300)} {self.file('region4', (b'.' * 300 + chr(10).encode()) * 300)}",
+            "timetable": f"timetable {self.file('lessons', b'day,mon,' + b' '.join(b'%d' % n for n in range(20_000)) + b''.join(chr(10).encode() + b'lesson,x%d,p%d' % (n, n) for n in range(20_000)))}",
+            "timetable, people": f"timetable {self.file('lessons2', b'day,mon,1 2' + chr(10).encode() + b'lesson,x,' + b' '.join(b'p%d' % n for n in range(18_000)) + b''.join(chr(10).encode() + b'person,p%d,x' % n for n in range(18_000)))}",
+            "timetable, one cell": f"timetable {self.file('lessons3', b'day,mon,' + b'1 ' * 400_000)}",
+            "timetable, quotes": f"timetable {self.file('lessons4', b'day,mon,' + chr(34).encode() * 400_001)}",
+            "tests": "tests 300,300,2 --tests 90000",
+            "tests, levels": "tests 99999999^99999999,2 --tests 9",
+            "tests, strength": "tests 1^90000 --tests 1 --strength 10",
+            "tests, factors": f"tests {self.file('factors', b''.join(b'f%d x%d' % (n, n) + chr(10).encode() for n in range(90_000)))} --tests 9",
             "words, given": f"words {self.file('grid2', b'ab#' * 300_000)} {self.file('list2', ' '.join('a' + chr(0x4E00 + n) for n in range(20_000)).encode())}",
             "a piece": f"polyominoes {self.file('piece', (b'A' * 1000 + chr(10).encode()) * 900)} {self.file('region', (b'.' * 1000 + chr(10).encode()) * 90)}",
             "pieces": f"polyominoes {self.file('piece2', (b'A' * 150 + chr(10).encode()) * 150)} {self.file('region2', ((b'.' * 299 + b'#') + chr(10).encode()) * 300)}",
+            "nonogram": f"nonogram {self.file('nono', (b'1 1 1 1 1 1' + chr(10).encode()) * 100 + chr(10).encode() + b'6' + chr(10).encode() + (b'6' + chr(10).encode()) * 99)}",
+            "nonogram, many": f"nonogram {self.file('nono2', (b'1 1 1 1 1 1' + chr(10).encode()) * 60 + chr(10).encode() + (b'2 2 2' + chr(10).encode()) * 60)}",
+            "nonogram, lines": f"nonogram {self.file('nono3', (b'1' + chr(10).encode()) * 500_000)}",
+            "nonogram, one line": f"nonogram {self.file('nono4', b'1 ' * 500_000 + chr(10).encode() * 2 + b'1')}",
+            "kakuro": f"kakuro {self.file('kakuro', (b'. ' * 1000 + chr(10).encode()) * 500)}",
+            "kakuro, sums": f"kakuro {self.file('kakuro2', (bytes([92]) + b'45 ' + b'. ' * 9) * 20_000)}",
+            "kakuro, black": f"kakuro {self.file('kakuro3', (b'# ' * 1000 + chr(10).encode()) * 500)}",
+            "sudoku": f"sudoku {self.file('clues', b'.' * 1_000_000)}",
+            "sudoku, regions": f"sudoku --regions {self.file('regions', (b'a' * 1000 + chr(10).encode()) * 1000)}",
+            "sudoku, cages": f"sudoku --cages {self.file('cages', b'5 r1c1 r1c2' + chr(10).encode() + b'9 r9c9' * 100_000)}",
+            "sudoku, large cages": f"sudoku {'.' * 625} --cages {self.file('cages2', chr(10).join('160 ' + ' '.join(f'r{r}c{c}' for c in range(1, 13)) for r in range(1, 26)).encode())}",
         }.items():
             seconds, done = self.timed(f"ulimit -v {MEMORY >> 10}; helgrothy make {command} >/dev/null")
             is_well = done.returncode in (0, 2) and seconds < HANG and b"Traceback" not in done.stderr and b"memory" not in done.stderr

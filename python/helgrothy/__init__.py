@@ -8,13 +8,15 @@
 
 `helgrothy.make` makes problems that people know, `helgrothy.draw` and `helgrothy.table` draw solutions,
 `helgrothy.data` writes them as JSON and CSV, `helgrothy.lint` looks for slips, `helgrothy.why` for conflicts,
-and `helgrothy.export` writes problems for other solvers. `Problem.count(jobs=..)` searches by many processors.
+`helgrothy.export` writes problems for other solvers,
+and `helgrothy.answers` reads what they answer. `Problem.count(jobs=..)` searches by many processors.
 `python3 -m helgrothy --help` has the same as commands.
 """
 
 # First, since it says where the modules of all that follows may come from.
 from . import alone  # noqa: F401
 from .errors import (
+    AnswerFault,
     Fault,
     HelgrothyError,
     ListingFault,
@@ -33,6 +35,7 @@ from .syntax import Bounds
 
 __version__ = "0.1.0"
 __all__ = [
+    "AnswerFault",
     "Bounds",
     "Fault",
     "HelgrothyError",

@@ -7,26 +7,30 @@ command could not be done, with one line on standard error that says why.
 from __future__ import annotations
 
 import argparse
+import re
 import sys
 import time
+from decimal import Decimal
+from fractions import Fraction
 from functools import partial
-from typing import Any, Callable, List, Optional, Sequence
+from typing import Any, Callable, List, Optional, Sequence, Tuple, Union
 
-from . import __version__, console, why
-from .console import Parser, limited, positive, seconds, write
+from . import __version__, answers, console, cost, shuffle, symmetry, why
+from .console import Parser, limited, number, positive, seconds, write
 from .data import FORMATS as FORMS
 from .data import places_of
 from .draw import Drawing, drawing_of
-from .errors import HelgrothyError, NoPicture, OutOfTime
+from .errors import HelgrothyError, NoPicture, OutOfTime, TableFault
 from .export import FORMATS
 from .lint import lint
 from .listing import Step
-from .make import KINDS
-from .make.kind import Kind
+from .make import KINDS, kind_of
+from .make.kind import Kind, OwnFound, read_text
 from .page import commands as pages
 from .page.file import MOST_SOLUTIONS, File
-from .problem import Problem
+from .problem import Problem, Solutions
 from .spans import commands as spans
+from .stream import Found, Stream
 from .table import by_patterns
 from .watch import Watch
 
@@ -45,6 +49,7 @@ examples:
   helgrothy lint mine.dlx
   helgrothy why mine.dlx
   helgrothy export asp mine.dlx | gringo | clasp 0
+  helgrothy export cnf mine.dlx | cadical | helgrothy import cadical mine.dlx | dlxcheck mine.dlx
 """
 
 # A reason is looked for so long where a problem turns out to have no solution.
@@ -85,6 +90,7 @@ def _parser() -> argparse.ArgumentParser:
     _add_draw(commands)
     _add_lint(commands)
     _add_export(commands)
+    _add_import(commands)
     _add_why(commands)
     spans.add(commands)
     pages.add(commands)
@@ -121,7 +127,12 @@ def _add_solve(commands: Any) -> None:
         "The last line, on standard error, says how many solutions there were.",
     )
     parser.add_argument("problem", nargs="?", default="-", metavar="PROBLEM", help="a file (default: standard input)")
-    _add_solving(parser)
+    _add_solving(parser).add_argument(
+        "--cost",
+        metavar="COSTS",
+        help="the solution of least cost, from a file with a number for each option: by clasp where the path has it, "
+        "else by dlx3",
+    )
     _add_patterns(parser)
     parser.set_defaults(command=_solve)
 
@@ -131,17 +142,32 @@ def _add_kind(commands: Any, kind: Kind) -> None:
         kind.name, help=f"make and solve {kind.help}", description=f"Makes, solves and draws {kind.help}."
     )
     kind.add_arguments(parser)
+    kind.add_search_arguments(parser)
     _add_solving(parser)
-    parser.set_defaults(command=_make_and_solve, kind=kind, cell=None, row=None, column=None, label=None)
+    parser.set_defaults(command=_make_and_solve, kind=kind, cost=None, cell=None, row=None, column=None, label=None)
 
 
-def _add_solving(parser: argparse.ArgumentParser) -> None:
+def _add_solving(parser: argparse.ArgumentParser) -> Any:
+    """The options of solving; returns the group of those that say in which way."""
     which = parser.add_mutually_exclusive_group()
     which.add_argument("--number", type=positive, metavar="K", help="the K-th solution instead of the first")
     which.add_argument("--limit", type=positive, metavar="N", help="the first N solutions")
     which.add_argument("--all", action="store_true", help="all solutions")
     _add_forms(parser, "a picture as SVG, of one solution")
     parser.add_argument("--seconds", type=seconds, metavar="S", help="give up after S seconds")
+    way = parser.add_mutually_exclusive_group()
+    way.add_argument(
+        "--shuffle",
+        type=number,
+        metavar="SEED",
+        help="solutions in a random order of the options, the same for the same number",
+    )
+    way.add_argument(
+        "--up-to-symmetry",
+        action="store_true",
+        help="one solution of those that are images of each other by turns and mirrors of the board or box",
+    )
+    return way
 
 
 def _add_forms(parser: argparse.ArgumentParser, svg: str) -> None:
@@ -167,10 +193,30 @@ def _solve(arguments: argparse.Namespace) -> int:
 
 
 def _make_and_solve(arguments: argparse.Namespace) -> int:
-    return _show(arguments.kind.make(arguments), arguments)
+    kind: Kind = arguments.kind
+    found = kind.search(arguments, None if arguments.seconds is None else arguments.seconds * _SHARE)
+    return _show(kind.make(arguments), arguments) if found is None else _show_found(found, arguments)
+
+
+def _show_found(found: OwnFound, arguments: argparse.Namespace) -> int:
+    """Shows the one solution that a kind's own search found."""
+    if arguments.all or arguments.limit or arguments.number:
+        raise ValueError("this search finds one solution: without --all, --limit and --number")
+    if arguments.shuffle is not None or arguments.up_to_symmetry:
+        raise ValueError("this search has a way of its own: without --shuffle and --up-to-symmetry")
+    if arguments.html:
+        raise ValueError("a page shows how the search went, and this is a search of another kind: without --html")
+    options = found.problem.options
+    show = _showing(found.problem, arguments, _listed_options, page=None)
+    show(1, [options[number] for number in found.numbers], lambda _: found.numbers, lambda: [])
+    console.say(found.remark)
+    return 0
 
 
 def _show(problem: Problem[Any], arguments: argparse.Namespace) -> int:
+    _check_page(arguments)
+    if arguments.cost is not None:
+        return _show_least(problem, arguments)
     number = arguments.number or 1
     limit = None if arguments.all else arguments.limit or number
     if arguments.svg and limit != number:
@@ -185,31 +231,102 @@ def _show(problem: Problem[Any], arguments: argparse.Namespace) -> int:
         most *= _SHARE_OF_PAGE
     last = float("inf") if most is None else time.monotonic() + most
     shown = 0
+    solutions, among = _search(problem, arguments, limit, number, most)
     try:
-        solutions = problem.solve(limit, number, seconds=most)
         with Watch(problem, console.say) as watch, solutions:
-            for solution in solutions:
+            for found in solutions:
                 watch.end()
-                show(arguments.number or shown + 1, solution, lambda _: solution.numbers, lambda: solution.steps)
+                options = found.options if isinstance(found, Found) else found
+                steps = partial(_steps, found)
+                show(arguments.number or shown + 1, options, lambda _: found.numbers, steps)
                 shown += 1
                 if page is not None and page.is_full:
                     break
                 if page is not None and time.monotonic() > last:
                     raise OutOfTime(f"it wasn't done in {arguments.seconds:g} seconds")
     except OutOfTime as error:
-        found = max(error.found * (arguments.number or 1), shown)
+        told = max(error.found if isinstance(solutions, Stream) else error.found * number, shown)
         if page is not None:
-            write([page.text(found, False, [f"{error}"])])
-        return _fail(f"{error}; {_counted(found)} till then")
+            write([page.text(told, False, [f"{error}"])])
+        return _fail(f"{error}; {_counted(told)} till then")
     # None where the page was full before.
     total = shown if solutions.total is None else solutions.total
-    console.say(f"Altogether {_counted(total)}{'.' if solutions.complete else ' (limit).'}")
+    console.say(f"Altogether {_counted(total)}{among}{'.' if solutions.complete else ' (limit).'}")
     reasons = [] if total or watch.has_told else _reasons(problem, deadline)
     for line in reasons:
         console.say(line)
     if page is not None:
         write([page.text(total, bool(solutions.complete), reasons)])
     return 0 if shown else 1
+
+
+def _search(
+    problem: Problem[Any], arguments: argparse.Namespace, limit: Optional[int], spacing: int, seconds: Optional[float]
+) -> Tuple[Union[Solutions[Any], Stream[Any]], str]:
+    """The solutions that are asked for, and among what they are counted."""
+    if arguments.shuffle is not None:
+        return shuffle.solve(problem, arguments.shuffle, limit, spacing, seconds=seconds), ""
+    if not arguments.up_to_symmetry:
+        return problem.solve(limit, spacing, seconds=seconds), ""
+    kind = KINDS.get(kind_of(problem.comments) or "")
+    cell = arguments.cell or (kind.cell if kind else None)
+    if cell is None:
+        raise ValueError("which cells an option has isn't known: --cell says it, of a board or a box")
+    try:
+        plan = symmetry.plan(problem, symmetry.motions(problem, cell))
+    except (re.error, OverflowError, RecursionError) as error:
+        raise ValueError(f"a pattern is wrong: {error}") from None
+    count = len(plan.motions)
+    told = f" up to {count} symmetries" if count > 1 else ", and no symmetry of its cells but that of no change"
+    return symmetry.solve(problem, plan, limit, spacing, seconds=seconds), told
+
+
+def _steps(found: Any) -> List[Step]:
+    """The steps of the search to a solution; none of a search that isn't that of the problem itself."""
+    return [] if isinstance(found, Found) else list(found.steps)
+
+
+def _check_page(arguments: argparse.Namespace) -> None:
+    if arguments.html and (arguments.cost is not None or arguments.shuffle is not None or arguments.up_to_symmetry):
+        raise ValueError("a page shows how the search went: --html goes without --shuffle, --up-to-symmetry and --cost")
+
+
+def _show_least(problem: Problem[Any], arguments: argparse.Namespace) -> int:
+    if arguments.all or arguments.limit or arguments.number:
+        raise ValueError("--cost gives one solution, without --all, --limit and --number")
+    if arguments.problem == arguments.cost == "-":
+        raise ValueError("the problem and the costs can't both come from standard input")
+    try:
+        costs = cost.read(read_text(arguments.cost), len(problem.options))
+    except TableFault as fault:
+        raise ValueError(f"{'standard input' if arguments.cost == '-' else arguments.cost}: {fault}") from None
+    show = _showing(problem, arguments, _listed_options, page=None)
+    deadline = None if arguments.seconds is None else time.monotonic() + arguments.seconds
+    try:
+        least = cost.least(problem, costs, None if arguments.seconds is None else arguments.seconds * _SHARE)
+    except cost.NotLeast as error:
+        if error.best is None:
+            return _fail(f"no solution was found in {arguments.seconds:g} seconds")
+        _show_one(show, error.best)
+        told = f"{_number(error.best.cost)} is the least cost that was found"
+        return _fail(f"{told}; in {arguments.seconds:g} seconds it wasn't proved that there is no less")
+    if least is None:
+        console.say("Altogether 0 solutions.")
+        for line in _reasons(problem, deadline):
+            console.say(line)
+        return 1
+    _show_one(show, least)
+    console.say(f"The least cost is {_number(least.cost)}, by {least.by}.")
+    return 0
+
+
+def _show_one(show: _Show, found: cost.Least[Any]) -> None:
+    show(1, found.options, lambda _: found.numbers, lambda: [])
+
+
+def _number(value: Fraction) -> str:
+    """A number that was a decimal one, as such."""
+    return str(value) if value.denominator == 1 else f"{Decimal(value.numerator) / Decimal(value.denominator):f}"
 
 
 def _counted(total: int) -> str:
@@ -335,6 +452,9 @@ def _drawing(
     problem: Problem[Any], arguments: argparse.Namespace, otherwise: Optional[Callable[[Sequence[str]], Any]]
 ) -> Callable[[Sequence[str]], Any]:
     """What draws solutions: by the patterns that are given, else as the problem was made, else otherwise."""
+    if arguments.cell is not None and "(?P<layer>" in arguments.cell and otherwise is not None:
+        # The cells of a box are for its symmetries; they have no picture by a pattern.
+        return otherwise
     by_them = by_patterns(problem, arguments.cell, arguments.row, arguments.column, arguments.label)
     if by_them is not None:
         return by_them
@@ -395,6 +515,31 @@ def _add_export(commands: Any) -> None:
 def _export(arguments: argparse.Namespace) -> int:
     write(f"{line}\n" for line in FORMATS[arguments.format](_problem(arguments.problem)))
     return 0
+
+
+def _add_import(commands: Any) -> None:
+    parser = commands.add_parser(
+        "import",
+        help="read another solver's answer as a listing",
+        description="Reads what another solver answered to an exported problem, from standard input, and writes it as "
+        "a listing, which dlxcheck judges and draw draws. Status 1 says that the solver found no solution.",
+        epilog="example:\n  helgrothy export cnf mine.dlx | cadical | helgrothy import cadical mine.dlx | "
+        "helgrothy draw mine.dlx",
+        formatter_class=argparse.RawDescriptionHelpFormatter,
+    )
+    parser.add_argument("solver", choices=answers.SOLVERS, help="the solver")
+    parser.add_argument("problem", metavar="PROBLEM", help="the file of the problem that was exported")
+    parser.set_defaults(command=_import)
+
+
+def _import(arguments: argparse.Namespace) -> int:
+    if arguments.problem == "-":
+        raise ValueError("the problem is a file; the answer comes from standard input")
+    problem = _problem(arguments.problem)
+    shown = 0
+    for shown, taken in enumerate(answers.solutions(arguments.solver, problem, console.input_lines()), 1):
+        console.write_bytes(answers.listing(problem, taken, shown))
+    return 0 if shown else _fail(f"{arguments.solver} says that there is no solution", 1)
 
 
 def _add_why(commands: Any) -> None:

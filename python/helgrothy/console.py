@@ -130,6 +130,13 @@ def positive(word: str) -> int:
     return int(word)
 
 
+def number(word: str) -> int:
+    """A number of at least 0, for a parser."""
+    if not re.match(r"[0-9]+\Z", word) or len(word) > 20 or int(word) > _MOST_NUMBER:
+        raise argparse.ArgumentTypeError(f"{word}: it has to be a number from 0 to {_MOST_NUMBER}")
+    return int(word)
+
+
 def seconds(word: str) -> float:
     """A time, for a parser."""
     try:

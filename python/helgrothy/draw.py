@@ -22,6 +22,8 @@ Place = Tuple[int, int]
 
 _SIDE = 36
 _FONT = 16
+# How far the line of a cage lies within its cells.
+_INSET = 3
 # A queen in a square of side 36.
 _QUEEN = "M8 12l5 9 5-12 5 12 5-9-3 15H11zM11 29h14v2H11z"
 # A picture has so many places at most, or so many for each cell that isn't a hole: it doesn't grow with the numbers
@@ -35,7 +37,11 @@ _DECIMAL = re.compile(r"[0-9]+\Z")
 
 @dataclass
 class Cell:
-    """A cell of a picture. No thick line parts cells of one group; a quiet label is only in the text."""
+    """A cell of a picture. No thick line parts cells of one group; a quiet label is only in the text.
+
+    corner: a small label in the SVG alone. sums: instead of a label, those of the cells below and to the right. cage:
+    cells of one cage are in one dashed line, in the SVG alone.
+    """
 
     label: str = ""
     group: Hashable = None
@@ -43,6 +49,9 @@ class Cell:
     is_strong: bool = False
     is_queen: bool = False
     is_quiet: bool = False
+    corner: str = ""
+    sums: Optional[Tuple[str, str]] = None
+    cage: Hashable = None
 
 
 @dataclass(repr=False)
@@ -132,9 +141,13 @@ class _Text:
         cell = self.picture.cells.get(at)
         if cell is None:
             return " "
+        if cell.sums is not None:
+            return "\\".join(cell.sums)
         return shown(cell.label) or ("Q" if cell.is_queen else ".")
 
     def text(self) -> str:
+        if self.picture.has_boxes and not self.is_straight():
+            return self.walled()
         lines = []
         if self.picture.columns:
             lines.append(self.line("", list(map(shown, self.picture.columns))))
@@ -158,6 +171,48 @@ class _Text:
             ("+-" if self.is_bar(c) else "") + "-" * (self.widths[c] + 1) for c in range(self.columns)
         )
         return marks[:-1]
+
+    def is_straight(self) -> bool:
+        """Whether all lines between groups run through the whole picture."""
+        return all(
+            self.is_cut((r - 1, 0), (r, 0), (0, 1), self.columns) == self.picture.is_parted((r - 1, c), (r, c))
+            for r in range(1, self.rows)
+            for c in range(self.columns)
+        ) and all(
+            self.is_cut((0, c - 1), (0, c), (1, 0), self.rows) == self.picture.is_parted((r, c - 1), (r, c))
+            for c in range(1, self.columns)
+            for r in range(self.rows)
+        )
+
+    def walled(self) -> str:
+        """The picture with a line round each group."""
+        lines = []
+        for r in range(self.rows + 1):
+            lines.append("".join(self.corner(r, c) + self.wall(r, c) for c in range(self.columns + 1)))
+            if r < self.rows:
+                lines.append("".join(self.fence(r, c) + self.inside(r, c) for c in range(self.columns + 1)))
+        return "".join(f"{line.rstrip()}\n" for line in lines)
+
+    def wall(self, r: int, c: int) -> str:
+        """What is between the cells above and below."""
+        if c == self.columns:
+            return ""
+        return ("-" if self.picture.is_parted((r - 1, c), (r, c)) else " ") * (self.widths[c] + 2)
+
+    def fence(self, r: int, c: int) -> str:
+        """What is between the cells at the left and the right."""
+        return "|" if self.picture.is_parted((r, c - 1), (r, c)) else " "
+
+    def inside(self, r: int, c: int) -> str:
+        return "" if c == self.columns else f" {self.labels[r][c].ljust(self.widths[c])} "
+
+    def corner(self, r: int, c: int) -> str:
+        """What is where four cells meet."""
+        up, down = self.fence(r - 1, c) == "|", self.fence(r, c) == "|"
+        left, right = self.picture.is_parted((r - 1, c - 1), (r, c - 1)), self.picture.is_parted((r - 1, c), (r, c))
+        if (up or down) and (left or right):
+            return "+"
+        return "|" if up or down else "-" if left or right else " "
 
     def is_bar(self, c: int) -> bool:
         return self.picture.has_boxes and c > 0 and self.is_cut((0, c - 1), (0, c), (1, 0), self.rows)
@@ -189,6 +244,7 @@ class _Svg:
             f'<rect width="{width}" height="{height}" fill="#fff"/>',
             *self.fills(),
             *self.lines(),
+            *self.cages(),
             *self.labels(),
             *self.heads(),
             "</svg>",
@@ -235,10 +291,49 @@ class _Svg:
                 steps.append(f"M{x} {y}v{length * _SIDE}")
         return "".join(steps)
 
+    def cages(self) -> Iterator[str]:
+        """A dashed line within each cage, along its sides."""
+        steps = []
+        for (r, c), cell in sorted(self.picture.cells.items()):
+            if cell.cage is not None:
+                x, y = self.at(r, c)
+                # Each side with the way along it.
+                for (down, right), (x, y), way, length in (
+                    ((-1, 0), (x, y + _INSET), (0, 1), self.wide),
+                    ((1, 0), (x, y + _SIDE - _INSET), (0, 1), self.wide),
+                    ((0, -1), (x + _INSET, y), (1, 0), _SIDE),
+                    ((0, 1), (x + self.wide - _INSET, y), (1, 0), _SIDE),
+                ):
+                    if not self.is_caged((r + down, c + right), cell.cage):
+                        begin = self.corner((r, c), (down, right), (-way[0], -way[1]))
+                        end = self.corner((r, c), (down, right), way)
+                        x, y = x - begin * way[1], y - begin * way[0]
+                        steps.append(f"M{x} {y}{'h' if way[1] else 'v'}{length + begin + end}")
+        if steps:
+            yield f'<path d="{"".join(steps)}" stroke="#666" stroke-dasharray="3 2" fill="none"/>'
+
+    def is_caged(self, at: Place, cage: Hashable) -> bool:
+        cell = self.picture.cells.get(at)
+        return cell is not None and cell.cage == cage
+
+    def corner(self, at: Place, side: Place, way: Place) -> int:
+        """How far the line along a side goes beyond its cell: less at a corner of the cage, more where it turns in."""
+        (r, c), (down, right), (on, by) = at, side, way
+        cage = self.picture.cells[at].cage
+        if not self.is_caged((r + on, c + by), cage):
+            return -_INSET
+        return _INSET if self.is_caged((r + on + down, c + by + right), cage) else 0
+
     def labels(self) -> Iterator[str]:
         for (r, c), cell in sorted(self.picture.cells.items()):
             x, y = self.at(r, c)
-            if cell.is_queen:
+            if cell.corner:
+                yield self.small(x + 5, y + 13, cell.corner, "start")
+            if cell.sums is not None:
+                yield f'<path d="M{x} {y}l{self.wide} {_SIDE}" stroke="#222"/>'
+                yield self.small(x + 4, y + _SIDE - 5, cell.sums[0], "start")
+                yield self.small(x + self.wide - 4, y + 14, cell.sums[1], "end")
+            elif cell.is_queen:
                 yield f'<path d="{_QUEEN}" transform="translate({x + (self.wide - _SIDE) // 2} {y})" fill="#222"/>'
             elif cell.label and not cell.is_quiet:
                 weight = ' font-weight="bold"' if cell.is_strong else ""
@@ -249,6 +344,9 @@ class _Svg:
             yield self.word(self.left + (c + 0.5) * self.wide, 2, name, ' fill="#555"')
         for r, name in enumerate(self.picture.rows):
             yield self.word(self.left - 10, self.top + r * _SIDE, name, ' fill="#555" text-anchor="end"')
+
+    def small(self, x: float, y: float, text: str, anchor: str) -> str:
+        return f'<text x="{x:g}" y="{y:g}" font-size="11" text-anchor="{anchor}">{escape(shown(text))}</text>'
 
     def word(self, x: float, y: float, text: str, more: str) -> str:
         return f'<text x="{x:g}" y="{y + _SIDE / 2 + 5.5:g}"{more}>{escape(shown(text))}</text>'

@@ -38,6 +38,10 @@ class ListingFault(Fault):
     """A fault of a listing: a bad line, or an unknown option."""
 
 
+class AnswerFault(Fault):
+    """A fault of what another solver printed."""
+
+
 class TableFault(Fault):
     """A fault of a picture or a table that a problem is to be made from."""
 

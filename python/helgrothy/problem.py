@@ -223,6 +223,18 @@ class Problem(Generic[Option]):
             problem._colours.update((colour, None) for colour in option.uses.values() if colour is not None)
         return problem
 
+    def of_options(self, places: Iterable[int]) -> Problem[Option]:
+        """The problem with the options of these places alone, in this order."""
+        problem: Problem[Option] = Problem(self.items, list(self.secondary), comments=self.comments)
+        for place in places:
+            option = self.options[place]
+            list.append(problem.options, option)
+            for _, colour in self.pairs(option):
+                problem._uses += 1
+                if colour is not None:
+                    problem._colours[colour] = None
+        return problem
+
     @property
     def kind(self) -> int:
         """Which program the problem is for: 3 where an item has bounds, else 2 where an option has a colour, else 1."""
@@ -331,6 +343,18 @@ class Problem(Generic[Option]):
             if is_cut:
                 raise run.failure()
             outcome.ending = ending
+
+    def wire(self) -> Tuple[Iterator[bytes], Callable[[bytes], List[int]]]:
+        """The problem for a program with names as short as can be, and what reads the options of its solutions' lines.
+
+        The options are numbered from 0 on. Choices of none are left out. The reader raises `UnknownChoice`.
+        """
+        wire = _Wire(self)
+
+        def read(lines: bytes) -> List[int]:
+            return [number for number in wire.numbers(lines) if not isinstance(number, Null)]
+
+        return _ended(wire.lines), read
 
     def _is_whole(self, choices: Iterable[Union[Option, Null]]) -> bool:
         """Whether choices are all of a solution: no primary item is left."""

@@ -78,13 +78,18 @@ class Run:
     """A run of a program over a text. As a context manager it leaves no process behind, however it is left.
 
     The text goes through a file without a name, so that neither side waits for the other. `seconds` bounds the
-    time of the whole run.
+    time of the whole run. `path` is where a program is that isn't one of these.
     """
 
     def __init__(
-        self, program: str, words: Sequence[str], text: Iterable[bytes], seconds: Optional[float] = None
+        self,
+        program: str,
+        words: Sequence[str],
+        text: Iterable[bytes],
+        seconds: Optional[float] = None,
+        path: Optional[str] = None,
     ) -> None:
-        path = find(program)
+        path = find(program) if path is None else path
         self.program = program
         self._deadline = None if seconds is None else time.monotonic() + min(seconds, _LONGEST)
         with tempfile.TemporaryFile() as given:

@@ -27,13 +27,18 @@ _WRITING_SECONDS = 1.3e-5
 
 def solver() -> Optional[Tuple[str, List[str]]]:
     """The name of the first solver that the path has, and its command."""
-    # A folder without a full name would be whatever lies where the command is called.
-    folders = os.pathsep.join(filter(os.path.isabs, os.environ.get("PATH", os.defpath).split(os.pathsep)))
     for name, words in SOLVERS.items():
-        path = shutil.which(name, path=folders)
+        path = path_of(name)
         if path is not None:
             return name, [path, *words]
     return None
+
+
+def path_of(name: str) -> Optional[str]:
+    """Where the path has a solver, if it does."""
+    # A folder without a full name would be whatever lies where the command is called.
+    folders = os.pathsep.join(filter(os.path.isabs, os.environ.get("PATH", os.defpath).split(os.pathsep)))
+    return shutil.which(name, path=folders)
 
 
 def writing_seconds(problem: Problem[Any]) -> float:

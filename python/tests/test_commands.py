@@ -102,7 +102,7 @@ class Commands(unittest.TestCase):
     def test_failures(self):
         for words, wanted in (
             (("solve", "missing.dlx"), "helgrothy: missing.dlx: No such file or directory\n"),
-            (("sudoku", "12"), "helgrothy: line 1: 2 places; a Sudoku has 81, or 16, 36 or 256\n"),
+            (("sudoku", "12"), "helgrothy: line 1: 2 places; a Sudoku of 9 rows has 81, one of 4 to 25 rows as many as its square\n"),
             (("draw", "-"), "helgrothy: the problem is a file; the listing comes from standard input\n"),
             (("solve",), "helgrothy: standard input: line 1: no items\n"),
             (("queens", "4", "--svg", "--all"), "helgrothy: an SVG is of one solution: --number says which\n"),

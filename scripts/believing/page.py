@@ -9,21 +9,21 @@ CALLS = ["solve", "judge", "run_over_links", "check", "solve_span", "join_spans"
 
 HEAD = """# What has to be believed
 
-This page has what the promises of six public calls rest on: `solve`, a whole run of a solver; `judge`, a whole run
+This page has what the promises of six public calls depend on: `solve`, a whole run of a solver; `judge`, a whole run
 of the judge; `run_over_links`, a run that returns its tables; `check`, the verdicts on a listing; `solve_span`, a
-whole run over a span of a listing; `join_spans`, a whole run that joins spans. A function builds only with a proof that its body keeps its contract, so the code need not be read, nor the proofs. The contract
-says what is proved, and it says it in the words of the definitions below it. Whoever has read these and finds that
-they say what is meant has left to trust what README names under "What it stands on". What no contract says is not
-proved.
+whole run over a span of a listing; `join_spans`, a whole run that joins spans. A function builds only with a proof
+that its body keeps its contract, so you need not read the code or the proofs. The contract says what is proved, in
+the words of the definitions below it. If you have read these and they say what is meant, what is left to trust is
+what README lists under "What is trusted". What no contract says is not proved.
 
-A definition comes behind those that it cites, and each stands once: a call further down lists what it needs from
-above. What gives a `Type 0` is a statement: `×` joins two that hold, of `⊎` one does, `(x : A) × ..` says that there
-is such an x, `(x : A) → ..` that it is so for each, `≡` that two values are equal. `λ x. ..` is a function. `x.old`
-and `x.new` are a value before and after the call, `x.now` one that it leaves alone, `xs.items` the members of a
-vector. Other words that are told nowhere here are those of the toolchain's standard library.
+A definition comes after those that it cites, and each comes once: a call further down lists what it needs from
+above. A word whose type ends in `Type 0` makes a statement: `×` joins two that hold, of `⊎` one does, `(x : A) × ..`
+says that there is such an x, `(x : A) → ..` that it is so for each, `≡` that two values are equal. `λ x. ..` is a
+function. `x.old` and `x.new` are a value before and after the call, `x.now` one that it doesn't change, `xs.items`
+the members of a vector. Words that are not on this page are those of the toolchain's standard library.
 
-The page is made in the repository by `make believed`, and `make test-docs` fails where it isn't what the sources say.
-`scripts/believed NAME` tells the same of any public call, and `scripts/believed` counts."""
+`make believed` makes the page from the sources, and `make test-docs` fails if it differs from them.
+`scripts/believed NAME` prints the same of any public call, and `scripts/believed` counts."""
 
 
 def page(repository: Repository) -> Iterator[str]:
@@ -39,12 +39,12 @@ def page(repository: Repository) -> Iterator[str]:
 
 
 def part(repository: Repository, call: Entry, above: Set[Key]) -> Iterator[str]:
-    """A call's part of the page. `above` has what the parts before it told."""
+    """A call's part of the page. `above` has what the parts before it show."""
     reached = repository.reached([call])
     new = [one for one in reached if one.key not in above]
     yield f"## `{call.name}`\n"
     old = [one for one in reached if one.key in above]
-    of_old = f", of which {figures(old).many} are told above" if old else ""
+    of_old = f"; {figures(old).many} of them are above" if old else ""
     yield f"`{inside(call.path)}`. It reaches {counted(figures(reached))}{of_old}.\n"
     yield from fenced("rust", call.text)
     yield from from_above(repository, old, above)
@@ -64,19 +64,19 @@ def declarations(title: str, entries: Iterable[Entry]) -> Iterator[str]:
 
 
 def in_turn(texts: Iterable[Sequence[str]]) -> List[str]:
-    """Texts one behind another, with an empty line between."""
+    """Texts one after another, with an empty line between."""
     return [line for text in texts for line in ["", *text]][1:]
 
 
 def from_above(repository: Repository, entries: Sequence[Entry], above: Set[Key]) -> Iterator[str]:
-    """What a call reaches of what was told: all that was told of a file, or which of it."""
+    """What a call reaches of what is above: all that is shown of a file, or which of it."""
     if not entries:
         return
     yield "### What it needs from above\n"
     yield f"- of the code: {listed(repository.code_in_order(entries))}"
     for module, definitions in repository.definitions_in_order(entries):
         is_all = len(definitions) == sum(one.key in above for one in module.definitions)
-        what = "all that is told of it" if is_all and len(definitions) > 3 else listed(definitions)
+        what = "all that is shown of it" if is_all and len(definitions) > 3 else listed(definitions)
         yield f"- `{inside(module.path)}`: {what}"
     yield ""
 

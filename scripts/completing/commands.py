@@ -7,7 +7,7 @@ from dataclasses import dataclass, field
 from typing import Dict, Iterator, List, Optional, Tuple
 
 from helgrothy.__main__ import _parser
-from helgrothy.make.polyominoes import SETS
+from helgrothy.make import cubes, polyominoes
 from helgrothy.spans.commands import progress_parser
 
 # What a word may be: any of some words, a file, a folder, a problem (a file that ends with .dlx), or something that
@@ -15,8 +15,23 @@ from helgrothy.spans.commands import progress_parser
 FILE, FOLDER, PROBLEM = "file", "folder", "problem"
 _BY_NAME = {"PROBLEM": PROBLEM, "FOLDER": FOLDER, "LISTING": FILE}
 # Those whose help says that they are files, or may be.
-_FILES = ("CLUES", "N|REGIONS", "PIECES", "REGION", "GRID", "LIST", "TABLE", "TEAMS")
-_WORDS = {"PIECES": sorted(SETS)}
+_FILES = (
+    "CLUES",
+    "N|REGIONS",
+    "PIECES",
+    "REGION",
+    "REGIONS",
+    "CAGES",
+    "COSTS",
+    "GRID",
+    "LIST",
+    "TABLE",
+    "TEAMS",
+    "FACTORS",
+    "CUBES",
+    "BOX",
+)
+_WORDS = {"PIECES": sorted(polyominoes.SETS), "CUBES": sorted(cubes.SETS)}
 
 
 @dataclass(frozen=True)

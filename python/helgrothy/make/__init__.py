@@ -2,7 +2,20 @@
 
 from typing import Dict
 
-from . import langford, polyominoes, queens, roster, roundrobin, sudoku, words
+from . import (
+    kakuro,
+    langford,
+    nonogram,
+    polycubes,
+    polyominoes,
+    queens,
+    roster,
+    roundrobin,
+    sudoku,
+    tests,
+    timetable,
+    words,
+)
 from .kind import Kind, kind_of
 
 KINDS: Dict[str, Kind] = {
@@ -12,20 +25,30 @@ KINDS: Dict[str, Kind] = {
         queens.KIND,
         langford.KIND,
         polyominoes.KIND,
+        polycubes.KIND,
         words.KIND,
+        nonogram.KIND,
+        kakuro.KIND,
         roster.KIND,
         roundrobin.KIND,
+        tests.KIND,
+        timetable.KIND,
     )
 }
 __all__ = [
     "KINDS",
     "Kind",
     "kind_of",
+    "kakuro",
     "langford",
+    "nonogram",
+    "polycubes",
     "polyominoes",
     "queens",
     "roster",
     "roundrobin",
     "sudoku",
+    "tests",
+    "timetable",
     "words",
 ]

@@ -15,18 +15,36 @@ from ..syntax import MOST_ITEMS, MOST_USES
 
 T = TypeVar("T", bound=Sized)
 
+_MOST_TOLD = 60
 _MADE = re.compile(r"helgrothy make ([a-z]+)(?: |\Z)")
 
 
 @dataclass(frozen=True)
+class OwnFound:
+    """A solution that a kind's own search found: the problem, the places of the options, and what is known of it."""
+
+    problem: Problem[Any]
+    numbers: List[int]
+    remark: str
+
+
+@dataclass(frozen=True)
 class Kind:
-    """A kind of problem: its name and help on the command line, its arguments, how it is made and drawn."""
+    """A kind of problem: its name and help on the command line, its arguments, how it is made and drawn.
+
+    cell: of a board or a box the pattern that finds the cells of an option, as `symmetry.motions` takes it.
+    """
 
     name: str
     help: str
     add_arguments: Callable[[argparse.ArgumentParser], None]
     make: Callable[[argparse.Namespace], Problem[Any]]
     drawing: Callable[[Problem[Any]], Drawing]
+    # Of a kind with a search of its own: that search's arguments, and what it finds in so many seconds, or None where
+    # the arguments don't ask for it.
+    add_search_arguments: Callable[[argparse.ArgumentParser], None] = lambda parser: None
+    search: Callable[[argparse.Namespace, Optional[float]], Optional[OwnFound]] = lambda arguments, seconds: None
+    cell: Optional[str] = None
 
 
 def kind_of(comments: Sequence[str]) -> Optional[str]:
@@ -62,6 +80,11 @@ def check_items(items: int) -> None:
     """Raises `ValueError` for more items than a problem may have."""
     if items > MOST_ITEMS:
         raise ValueError(f"the problem would have {items} items, and may have {MOST_ITEMS}")
+
+
+def cut(text: str) -> str:
+    """The beginning of a text, for a message."""
+    return text if len(text) <= _MOST_TOLD else f"{text[:_MOST_TOLD]} .."
 
 
 def numbered(text: str) -> List[Tuple[int, str]]:

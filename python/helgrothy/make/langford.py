@@ -63,4 +63,5 @@ KIND = Kind(
     _add_arguments,
     lambda arguments: problem(arguments.pairs),
     drawing,
+    cell=r"s(\d+)",
 )

@@ -185,4 +185,4 @@ def _make(arguments: argparse.Namespace) -> Problem[List[str]]:
     return problem(pieces, region, turns=not arguments.no_turns, mirrors=not arguments.no_mirrors)
 
 
-KIND = Kind("polyominoes", "pieces of squares that fill a region", _add_arguments, _make, drawing)
+KIND = Kind("polyominoes", "pieces of squares that fill a region", _add_arguments, _make, drawing, cell=r"r(\d+)c(\d+)")

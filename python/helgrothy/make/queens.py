@@ -134,4 +134,11 @@ def _make(arguments: argparse.Namespace) -> Problem[List[str]]:
     return problem(regions=read_text(arguments.board))
 
 
-KIND = Kind("queens", "queens on a board, or in coloured regions", _add_arguments, _make, drawing)
+KIND = Kind(
+    "queens",
+    "queens on a board, or in coloured regions",
+    _add_arguments,
+    _make,
+    drawing,
+    cell=r"r(\d+) c(\d+)",
+)

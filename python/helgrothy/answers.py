@@ -1,0 +1,127 @@
+"""Answers of other solvers to what `export` wrote, read as solutions.
+
+Cadical answers a CNF by lines `v 1 -2 .. 0`. Clasp does so too; it answers an OPB by lines `v x1 -x2 ..`, and an answer
+set program by a line of atoms, `x(1) x(5)`, for each answer. What else they say is left out.
+"""
+
+from __future__ import annotations
+
+import re
+from typing import Any, Dict, Iterable, Iterator, List, Optional, Sequence
+
+from .errors import AnswerFault
+from .problem import Problem
+from .syntax import bytes_of, text_of
+
+_LITERAL = re.compile(r"(-?)x?([0-9]{1,18})\Z")
+_ATOM = re.compile(r"x\(([0-9]{1,18})\)\.?\Z")
+_ANSWER = re.compile(r"(?:[c%] )?Answer: [0-9]+\Z|ANSWER\Z")
+_STATUS = re.compile(r"(?:s )?((?:UN)?SATISFIABLE|OPTIMUM FOUND|UNKNOWN|INCONSISTENT)\Z")
+_NONE = ("UNSATISFIABLE", "INCONSISTENT")
+# How the lines begin that say nothing of an answer.
+_TOLD = {
+    "cadical": re.compile(r"c(?: |\Z)"),
+    "clasp": re.compile(
+        r"[c%o](?: |\Z)|clasp version |Reading from |Solving\.\.\.|Optimization\b|COST |Progression\b|Bounds\b|"
+        r"(?:  )?(?:Models|Calls|Time|CPU Time|Threads|Optimum|Bounds|Optimal|Consequences|Enumerated|Projection) *:|"
+        r"\*\*\* (?:Info|Warn) |SIGINT|TIME LIMIT|INTERRUPTED"
+    ),
+}
+SOLVERS = tuple(_TOLD)
+
+
+def solutions(solver: str, problem: Problem[Any], lines: Iterable[bytes]) -> Iterator[List[int]]:
+    """The answers in what a solver printed: the places of the options that each takes, from 0 on.
+
+    None comes where the solver says that there is none. Whether they are solutions isn't judged; `Problem.check` does.
+    Raises `AnswerFault`.
+    """
+    reader = _Reader(solver, problem)
+    for number, line in enumerate(lines, 1):
+        yield from reader.read(number, text_of(line).rstrip())
+    yield from reader.end()
+
+
+class _Reader:
+    def __init__(self, solver: str, problem: Problem[Any]) -> None:
+        self._solver = solver
+        self._told = _TOLD[solver]
+        self._options = len(problem.options)
+        self._status: Optional[str] = None
+        self._has_answer = False
+        # The variables of an answer that isn't at its end, and whether the line before said that one follows.
+        self._values: Dict[int, bool] = {}
+        self._is_open = False
+        self._follows = False
+        self._number = 0
+
+    def read(self, number: int, line: str) -> Iterator[List[int]]:
+        self._number = number
+        follows, self._follows = self._follows, False
+        words = line.split()
+        if words[:1] == ["v"]:
+            yield from self._literals(words[1:])
+            return
+        if self._is_open:
+            yield self._answer()
+        status = _STATUS.match(line)
+        if status is not None:
+            self._status = status.group(1)
+        elif self._solver == "clasp" and _ANSWER.match(line):
+            self._follows = True
+        elif self._solver == "clasp" and (words and all(map(_ATOM.match, words)) or follows and not words):
+            yield self._atoms(words)
+        elif words and not self._told.match(line):
+            raise AnswerFault(number, line[:60], f"no line of an answer of {self._solver}")
+
+    def end(self) -> Iterator[List[int]]:
+        self._number += 1
+        if self._is_open:
+            yield self._answer()
+        if self._has_answer or self._status in _NONE:
+            return
+        if self._status is None:
+            raise AnswerFault(self._number, "", f"there is no answer: {self._solver} says whether there is a solution")
+        hint = "without -n it prints the values" if self._solver == "cadical" else "without -q it prints the answers"
+        reason = "it found none in its time" if self._status == "UNKNOWN" else f"no values; {hint}"
+        raise AnswerFault(self._number, self._status, reason)
+
+    def _literals(self, words: Sequence[str]) -> Iterator[List[int]]:
+        for word in words:
+            found = _LITERAL.match(word)
+            if found is None:
+                raise AnswerFault(self._number, word[:60], "no variable such as 3, -3, x3 or -x3")
+            variable, is_taken = int(found.group(2)), not found.group(1)
+            if not variable:
+                yield self._answer()
+                continue
+            self._is_open = True
+            if variable <= self._options and self._values.setdefault(variable, is_taken) != is_taken:
+                raise AnswerFault(self._number, word[:60], "the variable is both true and false")
+
+    def _answer(self) -> List[int]:
+        values, self._values, self._is_open = self._values, {}, False
+        missing = next((number for number in range(1, self._options + 1) if number not in values), None)
+        if missing is not None:
+            reason = f"the answer has no value of variable {missing}, and the problem has {self._options} options"
+            raise AnswerFault(self._number, "", reason)
+        self._has_answer = True
+        return [number - 1 for number in range(1, self._options + 1) if values[number]]
+
+    def _atoms(self, words: Sequence[str]) -> List[int]:
+        taken = []
+        for word in words:
+            found = _ATOM.match(word)
+            number = int(found.group(1)) if found else 0
+            if not 1 <= number <= self._options:
+                raise AnswerFault(self._number, word[:60], f"the problem has {self._options} options")
+            taken.append(number - 1)
+        self._has_answer = True
+        return sorted(set(taken))
+
+
+def listing(problem: Problem[Any], places: Iterable[int], number: int = 1) -> Iterator[bytes]:
+    """The options of these places as a solution of a listing; its branches, (1 of 1), say nothing."""
+    yield b"%d:\n" % number
+    for place in places:
+        yield bytes_of(f" {problem.line(problem.options[place])} (1 of 1)\n")

@@ -1,0 +1,218 @@
+"""The solution whose options cost least in all, proved to be the one by clasp or, where the path hasn't it, by dlx3.
+
+dlx3 has bounds and no sums. So each item gets a price such that no option costs less than the prices of its items. What
+an option costs beyond these is its surplus; a solution costs the prices and the surpluses. If it is to cost less than
+the best one so far, the surpluses leave so much room, and at most m of its options have a surplus of more than the room
+divided by m + 1. These are bounds. Each solution that costs less narrows them; when none is left the last one is least.
+"""
+
+from __future__ import annotations
+
+import math
+import re
+import time
+from dataclasses import dataclass
+from fractions import Fraction
+from typing import Any, Dict, Generic, Hashable, Iterator, List, Optional, Sequence, Tuple, TypeVar, Union
+
+from . import answers, export, sat
+from .errors import AnswerFault, OutOfTime, ProgramFailed, TableFault
+from .problem import Problem
+from .programs import Run
+from .syntax import bytes_of
+
+Option = TypeVar("Option", bound=Any)
+Cost = Union[int, float, Fraction]
+
+_NUMBER = re.compile(r"[+-]?(?:[0-9]{1,15}(?:\.[0-9]{0,9})?|\.[0-9]{1,9})\Z")
+# Clasp reckons with numbers of 32 bits.
+_MOST_SUM = (1 << 31) - 1
+# Prices are reckoned in such parts of the costs' unit, and shared among items so often.
+_PARTS, _ROUNDS = 60, 8
+_MOST_BOUNDS = 30
+
+
+@dataclass(frozen=True)
+class Least(Generic[Option]):
+    """A solution: the places of its options, from 0 on, its options, what they cost, and who says that it is least."""
+
+    numbers: List[int]
+    options: List[Option]
+    cost: Fraction
+    by: str = ""
+
+
+class NotLeast(OutOfTime):
+    """The time was over before a solution was proved to be least. `best` is the cheapest one that was found."""
+
+    def __init__(self, best: Optional[Least[Any]]) -> None:
+        super().__init__("the time was over before a proof that no solution costs less")
+        self.best = best
+        self.found = 0 if best is None else 1
+
+
+def read(text: str, options: int) -> List[Fraction]:
+    """The costs of so many options: a number for each, in their order, with white space between; a line that begins
+    with a bar is a comment. Raises `TableFault`."""
+    costs: List[Fraction] = []
+    number = 0
+    for number, line in enumerate(text.split("\n"), 1):
+        for word in [] if line.lstrip().startswith("|") else line.split():
+            if not _NUMBER.match(word):
+                raise TableFault(number, word[:60], "no cost; one is a number such as 3, -2 or 0.5")
+            costs.append(Fraction(word))
+            if len(costs) > options:
+                raise TableFault(number, word, f"a cost too many: the problem has {options} options")
+    if len(costs) < options:
+        raise TableFault(number, "", f"{len(costs)} costs, and the problem has {options} options")
+    return costs
+
+
+def least(problem: Problem[Option], costs: Sequence[Cost], seconds: Optional[float] = None) -> Optional[Least[Option]]:
+    """The solution of least cost, as dlxcheck judges it to be one; None where there is no solution.
+
+    costs: of each option in their order. Raises `NotLeast`, `ValueError` for another number of costs.
+    """
+    if len(costs) != len(problem.options):
+        raise ValueError(f"{len(costs)} costs, and the problem has {len(problem.options)} options")
+    exact = [Fraction(str(cost)) if isinstance(cost, float) else Fraction(cost) for cost in costs]
+    unit = math.lcm(1, *(cost.denominator for cost in exact))
+    whole = [int(cost * unit) for cost in exact]
+    path = sat.path_of("clasp")
+    if path is not None and sum(abs(cost) for cost in whole) <= _MOST_SUM and problem.options:
+        search: Iterator[Tuple[int, List[int]]] = _by_clasp(problem, whole, path, seconds)
+        by = "clasp"
+    else:
+        search, by = _by_bounds(problem, whole, seconds), "dlx3"
+    best: Optional[Least[Option]] = None
+    try:
+        for _, numbers in search:
+            options = [problem.options[number] for number in numbers]
+            best = Least(numbers, options, sum((exact[number] for number in numbers), Fraction(0)), by)
+    except OutOfTime:
+        raise NotLeast(None if best is None else _judged(problem, best)) from None
+    return None if best is None else _judged(problem, best)
+
+
+def _judged(problem: Problem[Option], found: Least[Option]) -> Least[Option]:
+    """The solution, which dlxcheck has to take."""
+    if problem.check([found.options]) != [True]:
+        raise ProgramFailed(found.by, 0, "its answer is no solution, as dlxcheck judges it")
+    return found
+
+
+# ---- by clasp
+
+
+def _by_clasp(
+    problem: Problem[Any], costs: Sequence[int], path: str, seconds: Optional[float]
+) -> Iterator[Tuple[int, List[int]]]:
+    """Solutions that cost less and less; the last one is least. Raises `OutOfTime`."""
+    deadline = None if seconds is None else time.monotonic() + seconds
+    lines = export.opb(problem)
+    text = [next(lines), next(lines), " ".join(["min:", *(f"{cost:+d} x{x}" for x, cost in enumerate(costs, 1)), ";"])]
+    text += lines
+    left = None if deadline is None else max(deadline - time.monotonic(), 0.0)
+    is_over = False
+    with Run("clasp", ["-q0"], (bytes_of(f"{line}\n") for line in text), left, path) as run:
+
+        def told() -> Iterator[bytes]:
+            nonlocal is_over
+            rest = b""
+            for chunk in run.chunks():
+                *whole, rest = (rest + chunk).split(b"\n")
+                for line in whole:
+                    is_over = is_over or line in (b"s OPTIMUM FOUND", b"s UNSATISFIABLE")
+                    yield line
+
+        try:
+            for numbers in answers.solutions("clasp", problem, told()):
+                yield sum(costs[number] for number in numbers), numbers
+        except AnswerFault:
+            raise run.failure() from None
+        if not is_over:
+            raise run.failure()
+
+
+# ---- by dlx3
+
+
+def _by_bounds(
+    problem: Problem[Any], costs: Sequence[int], seconds: Optional[float]
+) -> Iterator[Tuple[int, List[int]]]:
+    """The same, by bounds that are narrowed."""
+    deadline = None if seconds is None else time.monotonic() + seconds
+    surplus, least = _surpluses(problem, [cost * _PARTS for cost in costs])
+    best: Optional[int] = None
+    # Options of small surplus come first, so that a cheap solution comes early. One without a primary item is in none.
+    is_used = [any(item in problem.items for item, _ in problem.pairs(option)) for option in problem.options]
+    order = sorted((place for place, used in enumerate(is_used) if used), key=lambda place: surplus[place])
+    while best is None or best * _PARTS > least:
+        room = None if best is None else (best - 1) * _PARTS - least
+        places = [place for place in order if room is None or surplus[place] <= room]
+        narrowed = problem.of_options(places) if room is None else _narrowed(problem, places, surplus, room)
+        left = None if deadline is None else max(deadline - time.monotonic(), 0.0)
+        with narrowed.solve(seconds=left) as solutions:
+            for solution in solutions:
+                numbers = [places[number] for number in solution.numbers]
+                cost = sum(costs[number] for number in numbers)
+                if best is None or cost < best:
+                    best = cost
+                    yield best, numbers
+                    break
+            else:
+                return
+
+
+def _surpluses(problem: Problem[Any], costs: Sequence[int]) -> Tuple[List[int], int]:
+    """What each option costs beyond the prices of its items, none less than 0, and what a solution costs at least."""
+    rows = [[item for item, _ in problem.pairs(option) if item in problem.items] for option in problem.options]
+    holders: Dict[Hashable, List[int]] = {item: [] for item in problem.items}
+    for place, row in enumerate(rows):
+        for item in row:
+            holders[item].append(place)
+    surplus = list(costs)
+    prices = dict.fromkeys(problem.items, 0)
+
+    def raise_price(item: Hashable, by: int) -> None:
+        prices[item] += by
+        for place in holders[item]:
+            surplus[place] -= by
+
+    for place, row in enumerate(rows):
+        if row and surplus[place] < 0:
+            raise_price(row[0], surplus[place])
+    # First all items of an option share in its surplus, then the first ones take what is left.
+    for turn in range(_ROUNDS + 1):
+        for item in sorted(problem.items, key=lambda item: len(holders[item])):
+            if holders[item]:
+                share = min(surplus[at] if turn == _ROUNDS else surplus[at] // len(rows[at]) for at in holders[item])
+                raise_price(item, share)
+    least = sum(min(price * low for low in problem.items[item]) for item, price in prices.items())
+    return surplus, least
+
+
+def _narrowed(problem: Problem[Any], places: Sequence[int], surplus: Sequence[int], room: int) -> Problem[Any]:
+    """The problem of these options, with bounds on how many of them may have a large surplus."""
+    bounds: Dict[Hashable, Tuple[int, int]] = dict(problem.items)
+    marks: List[Tuple[int, Hashable]] = []
+    for most in range(1, min(len(places), _MOST_BOUNDS + 1)):
+        # So many and one more with a surplus of at least this are too much.
+        large = room // (most + 1) + 1
+        if sum(surplus[place] >= large for place in places) > most and (not marks or large < marks[-1][0]):
+            mark = _Mark(most)
+            bounds[mark] = (0, most)
+            marks.append((large, mark))
+    narrowed: Problem[Any] = Problem(bounds, list(problem.secondary))
+    for place in places:
+        uses: Dict[Any, Any] = dict(problem.pairs(problem.options[place]))
+        uses.update((mark, None) for large, mark in marks if surplus[place] >= large)
+        narrowed.add_option(uses)
+    return narrowed
+
+
+class _Mark:
+    """An item of which so many options with a large surplus are."""
+
+    def __init__(self, most: int) -> None:
+        self.most = most

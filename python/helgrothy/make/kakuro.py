@@ -1,0 +1,260 @@
+"""Kakuro: digits in the white cells, of which each run has its sum and no digit twice."""
+
+from __future__ import annotations
+
+import argparse
+import itertools
+import re
+from collections import Counter
+from dataclasses import dataclass, field
+from typing import Any, Dict, FrozenSet, Iterator, List, Optional, Sequence, Set, Tuple
+
+from ..draw import Cell, Drawing, Picture, check_size
+from ..errors import TableFault
+from ..problem import Problem
+from .kind import Counted, Kind, check_items, cut, picture, read_text
+
+Square = Tuple[int, int]
+
+DIGITS = range(1, 10)
+_ACROSS, _DOWN = "across", "down"
+_STEPS = {_ACROSS: (0, 1), _DOWN: (1, 0)}
+_WHITE, _BLACK = "._", "#"
+_SUMS = re.compile(r"([0-9]{0,4})[\\/]([0-9]{0,4})\Z")
+_SUM = re.compile(r"[0-9]{2,4}\Z")
+_RUN = re.compile(r"(across|down)-r([0-9]+)c([0-9]+)\Z")
+_HELD = re.compile(r"(?:across|down)-r[0-9]+c[0-9]+=([1-9])\Z")
+_CELL = re.compile(r"r([0-9]+)c([0-9]+)\Z")
+
+
+@dataclass
+class _Run:
+    """White cells in a row or a column, the sum that is asked of them, and the digits that they may have for it."""
+
+    name: str
+    way: str
+    line: int
+    total: int
+    cells: List[Square]
+    sets: List[FrozenSet[int]] = field(default_factory=list)
+
+
+def problem(grid: str) -> Problem[List[str]]:
+    """The Kakuro of this picture: cells with blanks between them, a row in each line.
+
+    A dot is a white cell, a digit one that is given, # a black one. `17\\24` is a black cell with the sum 17 below it
+    and 24 to its right; either may be missing. Each run of two cells or more has a sum.
+
+    To write digit 5 in a cell is the option `r2c2 across-r2c2=5 down-r1c2=5`; a run takes the digits that it doesn't
+    have, `across-r2c2 across-r2c2=1 ..`. So each digit of a run is taken once, and its cells have the sum. Raises
+    `TableFault`.
+    """
+    rows = [(number, line.split()) for number, line in picture(grid)]
+    marks = _marks(rows)
+    white = [at for at, mark in marks.items() if mark in _WHITE or mark.isdigit()]
+    if not white:
+        raise TableFault(rows[0][0], "", "there is no white cell")
+    check_items(len(white))
+    runs = list(_runs(rows, marks))
+    _check_totals(rows, runs)
+    own: Dict[Square, List[_Run]] = {}
+    for run in runs:
+        for at in run.cells:
+            own.setdefault(at, []).append(run)
+    _check_given(rows, runs, marks)
+    check_items(len(white) + 10 * len(runs))
+    options: Counted[List[str]] = Counted()
+    for at in white:
+        for digit in DIGITS if marks[at] in _WHITE else [int(marks[at])]:
+            if all(any(digit in digits for digits in run.sets) for run in own.get(at, ())):
+                options.add([_name(at), *(f"{run.name}={digit}" for run in own.get(at, ()))])
+    for run in runs:
+        for digits in run.sets:
+            options.add([run.name, *(f"{run.name}={digit}" for digit in DIGITS if digit not in digits)])
+    return Problem(
+        [
+            *map(_name, white),
+            *(run.name for run in runs),
+            *(f"{run.name}={digit}" for run in runs for digit in DIGITS),
+        ],
+        options=options,
+        comments=[
+            "helgrothy make kakuro GRID",
+            "A digit in each cell rRcC; a run takes the digits that its cells don't have. The grid:",
+            *(" ".join(words) for _, words in rows),
+        ],
+    )
+
+
+def _name(at: Square) -> str:
+    return f"r{at[0]}c{at[1]}"
+
+
+# ---- the picture
+
+
+def _marks(rows: Sequence[Tuple[int, List[str]]]) -> Dict[Square, str]:
+    """What stands in each cell."""
+    wide = Counter(len(words) for _, words in rows if words).most_common(1)[0][0]
+    marks = {}
+    for r, (number, words) in enumerate(rows, 1):
+        if len(words) != wide:
+            raise TableFault(number, cut(" ".join(words)), f"{len(words)} cells, where other rows have {wide}")
+        for c, word in enumerate(words, 1):
+            is_digit = word in {str(digit) for digit in DIGITS}
+            if not (word in (*_WHITE, _BLACK) or is_digit or _SUMS.match(word)):
+                hint = f" (a sum has \\ before it, \\{word}, or behind it, {word}\\)" if _SUM.match(word) else ""
+                raise TableFault(number, cut(word), f"neither a dot, a digit, # nor sums such as 17\\24{hint}")
+            marks[r, c] = word
+    return marks
+
+
+def _runs(rows: Sequence[Tuple[int, List[str]]], marks: Dict[Square, str]) -> Iterator[_Run]:
+    """The runs that have a sum. Raises `TableFault` for one that hasn't, or can't have it."""
+    for way, (down, right) in _STEPS.items():
+        for (r, c), mark in marks.items():
+            number = rows[r - 1][0]
+            if mark in _WHITE or mark.isdigit():
+                if _is_white(marks, (r + down, c + right)) and (r - down, c - right) not in marks:
+                    raise TableFault(number, "", f"the cells {_where(way)} from {_name((r, c))} on have no sum")
+                continue
+            cells = []
+            at = r + down, c + right
+            while _is_white(marks, at):
+                cells.append(at)
+                at = at[0] + down, at[1] + right
+            found = _SUMS.match(mark)
+            total = found.group(1 if way == _DOWN else 2) if found else ""
+            if not total and len(cells) > 1:
+                told = f"no sum for the {len(cells)} cells {_where(way)} from {_name(cells[0])} on"
+                raise TableFault(number, mark, told)
+            if total:
+                run = _Run(f"{way}-{_name(cells[0])}" if cells else "", way, number, int(total), cells)
+                run.sets = list(_sets(run, mark))
+                yield run
+
+
+def _is_white(marks: Dict[Square, str], at: Square) -> bool:
+    mark = marks.get(at)
+    return mark is not None and (mark in _WHITE or mark.isdigit())
+
+
+def _where(way: str) -> str:
+    return "to the right" if way == _ACROSS else "downwards"
+
+
+def _sets(run: _Run, mark: str) -> Iterator[FrozenSet[int]]:
+    """The digits that a run may have. Raises `TableFault` where there are none."""
+    count, beside = len(run.cells), "to its right" if run.way == _ACROSS else "below it"
+    if not count:
+        raise TableFault(run.line, mark, f"there is no white cell {beside} that would have the sum {run.total}")
+    if count > len(DIGITS):
+        raise TableFault(run.line, mark, f"{count} cells {beside}, and there are nine digits")
+    least, most = sum(DIGITS[:count]), sum(DIGITS[-count:])
+    if not least <= run.total <= most:
+        what = "digit" if count == 1 else "digits that differ"
+        bounds = f"{least} at least and {most} at most"
+        raise TableFault(run.line, mark, f"the sum {run.total} is asked of {count} {what} {beside}: {bounds}")
+    for digits in itertools.combinations(DIGITS, count):
+        if sum(digits) == run.total:
+            yield frozenset(digits)
+
+
+def _check_totals(rows: Sequence[Tuple[int, List[str]]], runs: Sequence[_Run]) -> None:
+    """Raises `TableFault` where cells that hang together sum to one number across and to another one down."""
+    across = {at: run for run in runs if run.way == _ACROSS for at in run.cells}
+    down = {at: run for run in runs if run.way == _DOWN for at in run.cells}
+    left = set(across) | set(down)
+    while left:
+        first = min(left)
+        joined: Set[Square] = set()
+        waiting = [first]
+        while waiting:
+            at = waiting.pop()
+            if at in left:
+                left.discard(at)
+                joined.add(at)
+                waiting += [other for own in (across, down) if at in own for other in own[at].cells]
+        if joined <= set(across) and joined <= set(down):
+            totals = [sum({id(own[at]): own[at].total for at in joined}.values()) for own in (across, down)]
+            if totals[0] != totals[1]:
+                told = f"the sums across are {totals[0]} in all and those down {totals[1]}"
+                which = f"of the cells that hang together with {_name(first)}"
+                raise TableFault(rows[first[0] - 1][0], "", f"{told}, {which}")
+
+
+def _check_given(
+    rows: Sequence[Tuple[int, List[str]]], runs: Sequence[_Run], marks: Dict[Square, str]
+) -> None:
+    """Raises `TableFault` where the digits that are given don't fit the sum of their run."""
+    for run in runs:
+        given = [int(marks[at]) for at in run.cells if marks[at] not in _WHITE]
+        at = next((at for at in run.cells if marks[at] not in _WHITE), run.cells[0])
+        line = rows[at[0] - 1][0]
+        told = f"the run {_where(run.way)} from {_name(run.cells[0])} on"
+        twice = next((digit for digit, times in Counter(given).items() if times > 1), None)
+        if twice is not None:
+            raise TableFault(line, str(twice), f"given twice in {told}")
+        if given and not any(digits.issuperset(given) for digits in run.sets):
+            reason = f"given in {told}, whose sum can't be {run.total} with it"
+            raise TableFault(line, " ".join(map(str, given)), reason)
+
+
+# ---- pictures
+
+
+def drawing(problem: Problem[Any]) -> Drawing:
+    """The grid with its digits, as it is written."""
+    board = [(int(found.group(1)), int(found.group(2))) for found in map(_CELL.match, problem.item_names) if found]
+    sums: Dict[Square, List[str]] = {}
+    for option in problem.options:
+        name, *words = problem.line(option).split()
+        run = _RUN.match(name)
+        if run is not None:
+            way, r, c = run.group(1), int(run.group(2)), int(run.group(3))
+            missing = sum(int(found.group(1)) for found in map(_HELD.match, words) if found)
+            head = (r, c - 1) if way == _ACROSS else (r - 1, c)
+            sums.setdefault(head, ["", ""])[way == _ACROSS] = str(sum(DIGITS) - missing)
+    rows, columns = max(r for r, _ in board), max(c for _, c in board)
+    check_size(rows, columns, len(board))
+
+    def black(at: Square) -> Cell:
+        below, right = sums.get(at, ("", ""))
+        own = (below, right) if below or right else None
+        return Cell("" if own else _BLACK, "black", "#d4d0c8", is_quiet=True, sums=own)
+
+    def draw(lines: Sequence[str]) -> Picture:
+        cells = {(r - 1, c - 1): black((r, c)) for r in range(1, rows + 1) for c in range(1, columns + 1)}
+        for r, c in board:
+            cells[r - 1, c - 1] = Cell(group="white")
+        for line in lines:
+            at, digit = _cut(line)
+            if at is not None and digit is not None:
+                cells[at[0] - 1, at[1] - 1].label = digit
+        return Picture("a Kakuro", cells)
+
+    return draw
+
+
+def _cut(line: str) -> Tuple[Optional[Square], Optional[str]]:
+    """The cell and the digit of an option, if it is that of a cell."""
+    words = line.split()
+    cell = next((found for found in map(_CELL.match, words) if found), None)
+    digit = next((found.group(1) for found in map(_HELD.match, words) if found), None)
+    return None if cell is None else (int(cell.group(1)), int(cell.group(2))), digit
+
+
+def _add_arguments(parser: argparse.ArgumentParser) -> None:
+    parser.add_argument(
+        "grid",
+        metavar="GRID",
+        help="a file with a picture, blanks between its cells: a dot a white cell, a digit a given one, # a black one, "
+        "17\\24 a black one with the sum 17 below it and 24 to its right (- for standard input)",
+    )
+
+
+def _make(arguments: argparse.Namespace) -> Problem[List[str]]:
+    return problem(read_text(arguments.grid))
+
+
+KIND = Kind("kakuro", "a Kakuro from its grid", _add_arguments, _make, drawing)

@@ -1,0 +1,255 @@
+"""Pieces of cubes that fill a box or another region, each in any of its turns in space."""
+
+from __future__ import annotations
+
+import argparse
+import re
+from collections import Counter
+from typing import Any, Dict, FrozenSet, Iterator, List, Sequence, Tuple
+
+from ..draw import Cell, Drawing, Shades
+from ..errors import TableFault
+from ..problem import Problem
+from ..solid import Cube, Solid, check_box
+from ..syntax import MOST_USES
+from ..turns import images
+from .cubes import SETS
+from .kind import Counted, Kind, check_items, numbered, read_text
+
+Form = FrozenSet[Tuple[int, ...]]
+Lines = List[Tuple[int, str]]
+
+_BOX = re.compile(r"([0-9]{1,9})x([0-9]{1,9})x([0-9]{1,9})\Z")
+_SIZES = re.compile(r"[0-9]+(x[0-9]+)*x?\Z")
+_CELL = re.compile(r"l([0-9]+)r([0-9]+)c([0-9]+)\Z")
+# It is looked so often at most whether a cube of a piece lies on a cell.
+_MOST_LOOKS = 10 * MOST_USES
+
+
+def problem(
+    pieces: str = "soma", box: str = "3x3x3", *, mirrors: bool = False, some: bool = False
+) -> Problem[List[str]]:
+    """A box or another region to be filled by pieces of cubes, each used as often as it is given.
+
+    pieces: `soma`, `tetracubes`, `pentacubes`, `tetrominoes`, `pentominoes`, or pictures with blank lines between.
+        The layers of a piece are drawn side by side, with a blank between two; its cubes are a letter, which is its
+        name, and dots are no part of it. A piece given k times is used k times.
+    box: `3x3x3`, its layers, rows and columns; or a picture of the layers side by side, in which # is a hole and
+        anything else is a cell.
+    mirrors: whether mirror images of pieces may be used too. some: whether pieces may be left over.
+
+    An option is a piece with the cells lLrRcC that it fills. Raises `TableFault`.
+    """
+    cells = _region(box)
+    copies: Counter[str] = Counter()
+    forms: Dict[str, Form] = {}
+    lines: Dict[str, int] = {}
+    for number, name, form in _pieces(SETS.get(pieces, pieces)):
+        if forms.setdefault(name, form) != form:
+            raise TableFault(number, name, f"the piece of line {lines[name]} has this letter, and is another one")
+        lines.setdefault(name, number)
+        copies[name] += 1
+    if not forms:
+        raise TableFault(1, "", "no piece")
+    _check_volume(sum(len(form) * copies[name] for name, form in forms.items()), len(cells), some)
+    check_items(len(forms) + len(cells))
+    options: Counted[List[str]] = Counted()
+    looks = 0
+    for name, form in forms.items():
+        before = len(options)
+        # A piece of more cubes than there are cells can't be laid.
+        if len(form) <= len(cells):
+            _check_looks(looks, form, cells)
+            for turned in images(form, mirrors):
+                looks = _check_looks(looks, form, cells)
+                for held in _laid(turned, cells):
+                    options.add([name, *map(_name, held)])
+        if len(options) == before and not some:
+            raise TableFault(lines[name], name, "this piece fits nowhere")
+    used = {name: (0 if some else count, count) for name, count in copies.items()}
+    # What may be left out once is a secondary item.
+    spare = [name for name, bounds in used.items() if bounds == (0, 1)]
+    return Problem(
+        {**{name: bounds for name, bounds in used.items() if bounds != (0, 1)}, **{_name(at): (1, 1) for at in cells}},
+        spare,
+        options,
+        comments=[
+            f"helgrothy make polycubes {pieces if pieces in SETS else 'PIECES'} BOX",
+            "Each piece is laid as often as its bound says, each cell lLrRcC is filled once. The layers of the box:",
+            *Solid("", {(layer - 1, r - 1, c - 1): Cell() for layer, r, c in cells}).text().splitlines(),
+        ],
+    )
+
+
+def _check_looks(looks: int, form: Form, cells: Sequence[Cube]) -> int:
+    """How often it was looked whether a cube lies on a cell, once a form more is laid. Raises `ValueError`."""
+    looks += len(form) * len(cells)
+    if looks > _MOST_LOOKS:
+        raise ValueError("the pieces and the region are too large to be laid")
+    return looks
+
+
+def _name(at: Sequence[int]) -> str:
+    layer, r, c = at
+    return f"l{layer}r{r}c{c}"
+
+
+def _check_volume(cubes: int, cells: int, some: bool) -> None:
+    if cubes < cells or cubes > cells and not some:
+        hint = "; --some lets pieces be left over" if cubes > cells else ""
+        raise ValueError(f"the pieces have {cubes} cubes, and there are {cells} cells to be filled{hint}")
+
+
+# ---- reading
+
+
+def _region(box: str) -> List[Cube]:
+    found = _BOX.match(box)
+    if found is not None:
+        layers, high, wide = map(int, found.groups())
+        if not layers or not high or not wide:
+            raise TableFault(1, box, "an empty box")
+        check_items(layers * high * wide)
+        return [
+            (layer, r, c)
+            for layer in range(1, layers + 1)
+            for r in range(1, high + 1)
+            for c in range(1, wide + 1)
+        ]
+    if _SIZES.match(box):
+        raise TableFault(1, box, "a box has three numbers: LAYERSxROWSxCOLUMNS")
+    rows = [(number, line) for number, line in numbered(box) if line.strip()]
+    if not rows:
+        raise TableFault(1, "", "an empty picture")
+    cells = [(layer, r, c) for layer, r, c, mark in _cubes(rows) if mark != "#"]
+    if not cells:
+        raise TableFault(rows[0][0], "", "the region has no cell")
+    return sorted(cells)
+
+
+def _pieces(text: str) -> Iterator[Tuple[int, str, Form]]:
+    """Each piece's first line, letter and cubes."""
+    block: Lines = []
+    for number, line in [*numbered(text), (0, "")]:
+        if line.strip():
+            block.append((number, line))
+        elif block:
+            yield _piece(block)
+            block = []
+
+
+def _piece(block: Lines) -> Tuple[int, str, Form]:
+    first = block[0][0]
+    marks = {(layer, r, c): mark for layer, r, c, mark in _cubes(block) if mark != "."}
+    letters = sorted(set(marks.values()))
+    if len(letters) != 1:
+        raise TableFault(first, " ".join(letters), "a piece is drawn by one letter")
+    if not _is_one(list(marks)):
+        raise TableFault(first, letters[0], "a piece whose cubes don't hang together")
+    least = [min(axis) for axis in zip(*marks)]
+    return first, letters[0], frozenset(tuple(at - low for at, low in zip(cube, least)) for cube in marks)
+
+
+def _cubes(block: Lines) -> Iterator[Tuple[int, int, int, str]]:
+    """The marks of a picture by layer, row and column, from 1 on: each word of a line is a row of a layer."""
+    layers = len(block[0][1].split())
+    for r, (number, line) in enumerate(block, 1):
+        words = line.split()
+        if len(words) != layers:
+            count = f"{len(words)} layer{'' if len(words) == 1 else 's'}"
+            raise TableFault(number, line.strip(), f"{count}, where line {block[0][0]} has {layers}")
+        for layer, word in enumerate(words, 1):
+            for c, mark in enumerate(word, 1):
+                yield layer, r, c, mark
+
+
+def _is_one(cubes: Sequence[Cube]) -> bool:
+    """Whether one can go from each cube to each other one through their sides."""
+    left = set(cubes)
+    reached = [left.pop()]
+    while reached:
+        layer, r, c = reached.pop()
+        for beside in (
+            (layer - 1, r, c),
+            (layer + 1, r, c),
+            (layer, r - 1, c),
+            (layer, r + 1, c),
+            (layer, r, c - 1),
+            (layer, r, c + 1),
+        ):
+            if beside in left:
+                left.remove(beside)
+                reached.append(beside)
+    return not left
+
+
+def _laid(form: Form, cells: Sequence[Cube]) -> Iterator[List[Cube]]:
+    """The places of a form in the region: each lays its first cube on a cell."""
+    held = set(cells)
+    first, *_ = cubes = sorted(form)
+    for layer, r, c in cells:
+        laid = [(layer + at[0] - first[0], r + at[1] - first[1], c + at[2] - first[2]) for at in cubes]
+        if held.issuperset(laid):
+            yield laid
+
+
+# ---- drawing
+
+
+def drawing(problem: Problem[Any]) -> Drawing:
+    """Pieces in their colours, each with its letter."""
+    found = [match for match in map(_CELL.match, problem.item_names) if match]
+    cells = [(int(at.group(1)), int(at.group(2)), int(at.group(3))) for at in found]
+    least = [min(axis) for axis in zip(*cells)]
+    check_box({_added(at, least): Cell() for at in cells})
+    shades = Shades()
+    for item in [*problem.item_names, *problem.secondary_names]:
+        if not _CELL.match(item):
+            shades[item]
+
+    def draw(lines: Sequence[str]) -> Solid:
+        cubes = {_added(at, least): Cell() for at in cells}
+        for number, line in enumerate(lines):
+            name, *words = line.split()
+            for at in filter(None, map(_CELL.match, words)):
+                place = (int(at.group(1)), int(at.group(2)), int(at.group(3)))
+                cubes[_added(place, least)] = Cell(name, number, shades[name])
+        return Solid("a box of polycubes", cubes)
+
+    return draw
+
+
+def _added(at: Cube, least: Sequence[int]) -> Cube:
+    """A place, counted from the least of each axis."""
+    return at[0] - least[0], at[1] - least[1], at[2] - least[2]
+
+
+# ---- the command
+
+
+def _add_arguments(parser: argparse.ArgumentParser) -> None:
+    *names, last = sorted(SETS)
+    parser.add_argument(
+        "pieces",
+        metavar="CUBES",
+        help=f"{', '.join(names)} or {last}; or a file of pictures parted by blank lines, each drawn by its letter, "
+        "with its layers side by side and dots where it has no cube",
+    )
+    parser.add_argument(
+        "box",
+        metavar="BOX",
+        help="LAYERSxROWSxCOLUMNS, or a file with a picture of the layers side by side, in which # is a hole",
+    )
+    parser.add_argument("--mirrors", action="store_true", help="mirror images of pieces may be used too")
+    parser.add_argument("--some", action="store_true", help="pieces may be left over")
+
+
+def _make(arguments: argparse.Namespace) -> Problem[List[str]]:
+    pieces = arguments.pieces if arguments.pieces in SETS else read_text(arguments.pieces)
+    box = arguments.box if _SIZES.match(arguments.box) else read_text(arguments.box)
+    return problem(pieces, box, mirrors=arguments.mirrors, some=arguments.some)
+
+
+KIND = Kind(
+    "polycubes", "pieces of cubes that fill a box", _add_arguments, _make, drawing, cell=r"l(\d+)r(\d+)c(\d+)"
+)

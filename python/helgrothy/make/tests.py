@@ -1,0 +1,118 @@
+"""Few tests in which the values of any two factors, or of more, come together."""
+
+from __future__ import annotations
+
+import argparse
+import re
+from typing import Any, Optional, Sequence
+
+from ..console import positive
+from ..draw import Cell, Drawing, Picture, check_size, shade
+from ..problem import Problem
+from .designs import LEVELS, Design, Option, read_factors
+from .fewest import Few, fewest
+from .kind import OwnFound, Kind, read_text
+
+_ITEM = re.compile(r"t([0-9]+)/([^:]+)(?::(.+))?\Z")
+# Where the table begins in the comments of a problem.
+_TABLE_AT = 2
+# The time for as few tests as can be, where none is given.
+_SECONDS = 10.0
+
+
+def problem(factors: str, tests: int, strength: int = 2) -> Problem[Option]:
+    """So many tests in which all values of any `strength` factors come together at least once.
+
+    factors: a line for each factor, its name and its values, and lines that begin with # are skipped; or numbers of
+        values, such as `3,3,2` or `3^2,2`.
+
+    What has to come together is a primary item. An option holds it in a test, `t3/system:linux t3/browser:firefox`:
+    a test's factor has its value as a colour. The first tests have, in order, all values of those factors that have
+    the most, so that a design isn't found again with these in another order. A factor that has no value in a test may
+    have any there.
+
+    Raises `TableFault`, or `ValueError` for fewer tests than these.
+    """
+    return Design(read_factors(factors), tests, strength).problem()
+
+
+def few(factors: str, strength: int = 2, seconds: float = _SECONDS) -> Few:
+    """The design of the fewest tests that is found in the time.
+
+    Raises `TableFault`, `ValueError`, or `OutOfTime` where the time isn't enough for any.
+    """
+    return fewest(read_factors(factors), strength, seconds)
+
+
+def drawing(problem: Problem[Any]) -> Drawing:
+    """A table with a line for each test and a column for each factor."""
+    factors = {factor.name: factor for factor in read_factors("\n".join(problem.comments[_TABLE_AT:]))}
+    columns = {name: place for place, name in enumerate(factors)}
+    found = [match for match in map(_ITEM.match, problem.secondary_names) if match]
+    tests = max(int(match.group(1)) for match in found)
+    check_size(tests, len(columns), len(found))
+
+    def draw(lines: Sequence[str]) -> Picture:
+        cells = {(test, place): Cell() for test in range(tests) for place in range(len(columns))}
+        for line in lines:
+            for match in filter(None, map(_ITEM.match, line.split())):
+                test, name, colour = match.groups()
+                value = factors[name].colours.index(colour)
+                cells[int(test) - 1, columns[name]] = Cell(factors[name].values[value], fill=shade(value))
+        return Picture("a test design", cells, [str(test) for test in range(1, tests + 1)], list(columns))
+
+    return draw
+
+
+def _add_arguments(parser: argparse.ArgumentParser) -> None:
+    parser.add_argument(
+        "factors",
+        metavar="FACTORS",
+        help="a file with a line for each factor, its name and its values; or numbers of values, such as 3,3,2 or "
+        "3^2,2",
+    )
+    parser.add_argument("--tests", type=positive, metavar="N", help="so many tests")
+    parser.add_argument(
+        "--strength",
+        type=positive,
+        default=2,
+        metavar="T",
+        help="the values of any T factors come together (default: 2)",
+    )
+
+
+def _table(arguments: argparse.Namespace) -> str:
+    return str(arguments.factors) if LEVELS.match(arguments.factors) else read_text(arguments.factors)
+
+
+def _make(arguments: argparse.Namespace) -> Problem[Option]:
+    if arguments.tests is None:
+        raise ValueError("--tests N says how many; `helgrothy tests FACTORS --least` looks for as few as can be")
+    return problem(_table(arguments), arguments.tests, arguments.strength)
+
+
+def _add_search_arguments(parser: argparse.ArgumentParser) -> None:
+    parser.add_argument(
+        "--least",
+        action="store_true",
+        help=f"as few tests as are found in the time of --seconds (default: {_SECONDS:g})",
+    )
+
+
+def _search(arguments: argparse.Namespace, seconds: Optional[float]) -> Optional[OwnFound]:
+    if not arguments.least:
+        return None
+    if arguments.tests is not None:
+        raise ValueError("either --tests or --least")
+    return few(_table(arguments), arguments.strength, _SECONDS if seconds is None else seconds).found()
+
+
+KIND = Kind(
+    "tests",
+    "tests in which values of factors come together",
+    _add_arguments,
+    _make,
+    drawing,
+    add_search_arguments=_add_search_arguments,
+    search=_search,
+)

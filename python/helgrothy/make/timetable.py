@@ -1,0 +1,140 @@
+"""Lessons or exams in slots and rooms, from a table as CSV."""
+
+from __future__ import annotations
+
+import argparse
+from typing import Any, Dict, List, Optional, Sequence, Tuple
+
+from ..console import positive
+from ..draw import Cell, Drawing, Picture, Shades, check_size
+from ..problem import Problem
+from .kind import Counted, Kind, check_items, numbered, read_text
+from .lessons import Lesson, Plan, Slot
+
+# Where the table begins in the comments of a problem.
+_TABLE_AT = 2
+
+
+def problem(table: str, *, daily: Optional[int] = None) -> Problem[List[str]]:
+    """A timetable from a table.
+
+        day,mon,1 2
+        day,tue,1 2
+        room,hall,,,30
+        room,lab,,-mon-1,20
+        lesson,maths,ann 1a,,24
+        lesson,physics,bob 1a,lab,,2
+        person,bob,,-tue
+
+    A line is `day,NAME,HOURS`, or `room,NAME,,PLACES,SEATS`, or `lesson,NAME,PEOPLE,PLACES,SEATS,TIMES`, or the same
+    with `exam`, or `person,NAME,LESSONS,PLACES,LIMIT`. Lines that begin with # are skipped.
+
+    PLACES are words: days, hours, slots such as mon-1, and rooms. Of the words of one kind any will do, and what a
+        minus bars is left out. SEATS are those of a room, or those that a lesson needs, without a number one for each
+        of its people. TIMES is how often a lesson is held, once without a number. LIMIT is how many lessons a person
+        has a day at most. LESSONS are further ones of a person, beside those whose PEOPLE name him or her.
+    daily: the limit of people without one of their own.
+
+    An option is a lesson in a slot and a room, `maths mon-1/hall ann@mon-1 1a@mon-1`. Raises `TableFault`.
+    """
+    plan = Plan(table, daily)
+    limits = _Limits(plan)
+    options: Counted[List[str]] = Counted()
+    for lesson in plan.lessons.values():
+        for slot, room in plan.places_of(lesson):
+            place = [f"{slot.name}/{room.name}"] if plan.has_rooms else []
+            # Where neither a room nor a person is twice in a slot, a lesson is.
+            if not place or lesson.times > 1 and not lesson.people:
+                place.append(f"{lesson.name}@{slot.name}")
+            people = [f"{name}@{slot.name}" for name in lesson.people]
+            options.add([lesson.name, *place, *people, *limits.items(lesson, slot)])
+    primary = {
+        **{name: (lesson.times, lesson.times) for name, lesson in plan.lessons.items()},
+        **{name: (0, most) for name, most in limits.bounds.items() if most > 1},
+    }
+    secondary = [name for name in dict.fromkeys(name for option in options for name in option) if name not in primary]
+    check_items(len(primary) + len(secondary))
+    return Problem(
+        primary,
+        secondary,
+        options,
+        comments=[
+            f"helgrothy make timetable{'' if daily is None else f' --daily {daily}'} TABLE",
+            "A lesson in a slot and a room, SLOT/ROOM, with its people in the slot, PERSON@SLOT. The table:",
+            *(line for _, line in numbered(table)),
+        ],
+    )
+
+
+class _Limits:
+    """How many lessons a day people have at most, where they might have more: an item for a person on a day."""
+
+    def __init__(self, plan: Plan) -> None:
+        days: Dict[str, int] = {}
+        for slot in plan.slots:
+            days[slot.day] = days.get(slot.day, 0) + 1
+        self.bounds: Dict[str, int] = {}
+        for person in plan.people.values():
+            for day, slots in days.items():
+                if person.daily is not None and person.daily < min(person.asked, slots):
+                    self.bounds[f"{person.name}@{day}"] = person.daily
+
+    def items(self, lesson: Lesson, slot: Slot) -> List[str]:
+        names = [f"{name}@{slot.day}" for name in lesson.people]
+        return [name for name in names if name in self.bounds]
+
+
+def drawing(problem: Problem[Any]) -> Drawing:
+    """A table of slots and rooms; without rooms one of hours and days."""
+    plan = Plan("\n".join(problem.comments[_TABLE_AT:]))
+    if plan.has_rooms:
+        heads, columns = [slot.name for slot in plan.slots], [room.name for room in plan.rooms]
+    else:
+        heads = list(dict.fromkeys(slot.hour for slot in plan.slots))
+        columns = list(dict.fromkeys(slot.day for slot in plan.slots))
+    check_size(len(heads), len(columns), len(problem.options))
+    row, column = ({name: place for place, name in enumerate(names)} for names in (heads, columns))
+    slots = {slot.name: slot for slot in plan.slots}
+    shades = Shades()
+
+    def place(word: str) -> Tuple[int, int]:
+        name, sign, room = word.partition("/")
+        if sign:
+            return row[name], column[room]
+        slot = slots[name.rpartition("@")[2]]
+        return row[slot.hour], column[slot.day]
+
+    empty = (
+        [(r, c) for r in row.values() for c in column.values()]
+        if plan.has_rooms
+        else [(row[slot.hour], column[slot.day]) for slot in plan.slots]
+    )
+
+    def draw(lines: Sequence[str]) -> Picture:
+        cells = {at: Cell() for at in empty}
+        for line in lines:
+            name, word, *_ = line.split()
+            cell = cells[place(word)]
+            cell.label = f"{cell.label} {name}" if cell.label else name
+            cell.fill = shades[name]
+        return Picture("a timetable", cells, heads if any(heads) else (), columns)
+
+    return draw
+
+
+def _add_arguments(parser: argparse.ArgumentParser) -> None:
+    parser.add_argument(
+        "table",
+        metavar="TABLE",
+        help="a file of CSV, with lines day,NAME,HOURS and room,NAME,,PLACES,SEATS and "
+        "lesson,NAME,PEOPLE,PLACES,SEATS,TIMES and person,NAME,LESSONS,PLACES,LIMIT; a place is a day, an hour, a "
+        "slot DAY-HOUR or a room, and a minus bars one",
+    )
+    parser.add_argument("--daily", type=positive, metavar="N", help="nobody has more than N lessons a day")
+
+
+def _make(arguments: argparse.Namespace) -> Problem[List[str]]:
+    return problem(read_text(arguments.table), daily=arguments.daily)
+
+
+KIND = Kind("timetable", "lessons or exams in slots and rooms", _add_arguments, _make, drawing)

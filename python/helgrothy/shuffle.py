@@ -1,0 +1,108 @@
+"""Solutions in a random order, the same for the same seed on every machine and in every Python.
+
+The options are put into a random order and searched for a while; if that wasn't enough, they are put into another order
+and searched for twice as long. The while is counted in steps of the search and not in seconds.
+"""
+
+from __future__ import annotations
+
+import random
+import re
+import time
+from typing import Any, Generator, List, Optional, Tuple, TypeVar
+
+from .errors import OutOfTime
+from .problem import Problem
+from .programs import Run
+from .stream import Found, Stream
+
+Option = TypeVar("Option", bound=Any)
+
+_FIRST_STEPS = 1_000
+_MOST_STEPS = 1 << 60
+_HEADER = re.compile(rb"^[0-9]+:\n", re.MULTILINE)
+_RECORD = re.compile(rb"^from [0-9.-]+ until [0-9.-]+ (of [0-9.-]+ )?solutions [0-9]+ steps [0-9]+\n\Z", re.MULTILINE)
+
+
+def order(count: int, rng: random.Random) -> List[int]:
+    """The numbers below `count` in a random order.
+
+    It takes nothing of the generator but `random`, which Python promises to keep for a seed.
+    """
+    places = list(range(count))
+    for last in range(count - 1, 0, -1):
+        other = int(rng.random() * (last + 1))
+        places[last], places[other] = places[other], places[last]
+    return places
+
+
+def solve(
+    problem: Problem[Option],
+    seed: int,
+    limit: Optional[int] = None,
+    spacing: int = 1,
+    *,
+    seconds: Optional[float] = None,
+) -> Stream[Option]:
+    """Solutions in a random order. limit, spacing and seconds are those of `Problem.solve`.
+
+    With a limit the search begins anew, ever longer, until so many are found in one order; without one all solutions
+    come, in one order. Solutions one after another have most of their options in common; those of other seeds have not.
+    """
+    rng = random.Random(seed)
+    deadline = None if seconds is None else time.monotonic() + seconds
+
+    def left() -> Optional[float]:
+        return None if deadline is None else max(deadline - time.monotonic(), 0.0)
+
+    def found(places: List[int], numbers: List[int]) -> Found[Option]:
+        own = [places[number] for number in numbers]
+        return Found(own, [problem.options[number] for number in own])
+
+    def all_of_one(stream: Stream[Option]) -> Generator[Found[Option], None, None]:
+        places = order(len(problem.options), rng)
+        with problem.of_options(places).solve(spacing=spacing, seconds=left()) as solutions:
+            for solution in solutions:
+                yield found(places, solution.numbers)
+        stream.end(solutions.total or 0, True)
+
+    def begin(stream: Stream[Option]) -> Generator[Found[Option], None, None]:
+        assert limit is not None
+        steps, most = _FIRST_STEPS, 0
+        while True:
+            places = order(len(problem.options), rng)
+            try:
+                chosen, is_whole = _try(problem.of_options(places), steps, limit, left())
+            except OutOfTime as error:
+                error.found = most
+                raise
+            most = max(most, len(chosen))
+            if is_whole or len(chosen) == limit:
+                for number, numbers in enumerate(chosen, 1):
+                    if number % spacing == 0:
+                        yield found(places, numbers)
+                stream.end(len(chosen), is_whole and len(chosen) < limit)
+                return
+            steps = min(2 * steps, _MOST_STEPS)
+
+    return Stream(all_of_one if limit is None else begin)
+
+
+def _try(problem: Problem[Any], steps: int, limit: int, seconds: Optional[float]) -> Tuple[List[List[int]], bool]:
+    """The options of the first solutions in so many steps, and whether these are all there are."""
+    lines, read = problem.wire()
+    text = b""
+    with Run("dlx-span", [str(problem.kind), "m1", str(steps), "-", "-"], lines, seconds) as run:
+        for chunk in run.chunks():
+            text += chunk
+            if len(_HEADER.findall(text)) > limit:
+                break
+        else:
+            if run.status() != 0:
+                raise run.failure()
+    record = _RECORD.search(text)
+    body = text if record is None else text[: record.start()]
+    solutions = _HEADER.split(body)[1:]
+    if record is None and len(solutions) <= limit:
+        raise run.failure()
+    return [read(lines) for lines in solutions[:limit]], record is not None and record.group(1) is None

@@ -1,0 +1,128 @@
+"""The solution of least cost is the least of all, with clasp and without it."""
+
+import os
+import random
+import shutil
+import tempfile
+import unittest
+from decimal import Decimal
+from fractions import Fraction
+from unittest import mock
+
+from problems import problem_of
+from test_commands import run
+
+from helgrothy import Problem, TableFault, cost, make, sat
+
+SOLVERS = ["clasp", "dlx3"] if shutil.which("clasp") else ["dlx3"]
+
+
+def least(problem, costs, by, seconds=None):
+    """The least by one of the ways."""
+    with mock.patch.object(sat, "path_of", lambda name: shutil.which(name) if by == "clasp" else None):
+        return cost.least(problem, costs, seconds)
+
+
+class Cost(unittest.TestCase):
+    def test_random_problems(self):
+        rng = random.Random(6)
+        solved = 0
+        number = 0
+        while solved < 50:
+            problem = Problem.parse(problem_of(rng, number % 3 + 1))
+            number += 1
+            kinds = [lambda: rng.randint(-4, 9), lambda: rng.randint(0, 1), lambda: Fraction(rng.randint(0, 40), 4)]
+            costs = [rng.choice(kinds)() for _ in problem.options]
+            wanted = min((sum(costs[place] for place in one.numbers) for one in problem.solve()), default=None)
+            solved += wanted is not None
+            for by in SOLVERS:
+                found = least(problem, costs, by)
+                self.assertEqual(None if found is None else found.cost, wanted, (by, problem.text, costs))
+                if found is not None and problem.options:
+                    self.assertEqual(found.by, by)
+                    self.assertEqual(found.cost, sum(costs[place] for place in found.numbers))
+                    self.assertEqual(found.options, [problem.options[place] for place in found.numbers])
+
+    def test_board(self):
+        rng = random.Random(7)
+        problem = make.queens.problem(8)
+        costs = [rng.randint(1, 64) for _ in problem.options]
+        wanted = min(sum(costs[place] for place in one.numbers) for one in problem.solve())
+        for by in SOLVERS:
+            self.assertEqual(least(problem, costs, by).cost, wanted)
+
+    def test_kinds_of_numbers(self):
+        problem = Problem("ab", options=["a", "b", "ab"])
+        for by in SOLVERS:
+            for costs, wanted in (
+                ([0.1, 0.2, 0.4], Fraction(3, 10)), ([Decimal("1e-9"), 0, 1], Fraction(1, 10**9)), ([-1, -1, -3], -3),
+                ([10**30, 10**30, 10**31], 2 * 10**30), ([0, 0, 0], 0),
+            ):  # fmt: skip
+                self.assertEqual(least(problem, costs, by).cost, wanted)
+        for costs in ([1, 2], [1, 2, 3, 4], [1, 2, float("nan")]):
+            with self.assertRaises(ValueError):
+                cost.least(problem, costs)
+
+    def test_alike_and_ignored(self):
+        with self.assertWarns(UserWarning):
+            problem = Problem("ab", "x", ["a", "a", "b", "x", "b"])
+        for by in SOLVERS:
+            found = least(problem, [5, 3, 2, -9, 4], by)
+            self.assertEqual((found.cost, sorted(found.numbers)), (5, [1, 2]))
+
+    def test_out_of_time(self):
+        rng = random.Random(8)
+        problem = make.queens.problem(20)
+        costs = [rng.randint(1, 10**5) for _ in problem.options]
+        for by in SOLVERS:
+            with self.assertRaises(cost.NotLeast) as raised:
+                least(problem, costs, by, 1.0)
+            best = raised.exception.best
+            if best is not None:
+                self.assertEqual(problem.check([best.options]), [True])
+
+    def test_costs(self):
+        self.assertEqual(cost.read("| a comment\n1 -2.5\n\t+0.25 .5 7.\n", 5), [1, Fraction(-5, 2), Fraction(1, 4), Fraction(1, 2), 7])
+        for text, wanted in (
+            ("1 2", "line 1: 2 costs, and the problem has 3 options"),
+            ("", "line 1: 0 costs, and the problem has 3 options"),
+            ("1\n2 3\n4", "line 3: 4: a cost too many: the problem has 3 options"),
+            ("1 x 3", "line 1: x: no cost; one is a number such as 3, -2 or 0.5"),
+            ("1 nan 3", "line 1: nan: no cost; one is a number such as 3, -2 or 0.5"),
+            ("1\n1e5 3", "line 2: 1e5: no cost; one is a number such as 3, -2 or 0.5"),
+            ("1 \u0663 3", "line 1: \u0663: no cost; one is a number such as 3, -2 or 0.5"),
+            ("1/2 1 3", "line 1: 1/2: no cost; one is a number such as 3, -2 or 0.5"),
+            ("1_0 1 3", "line 1: 1_0: no cost; one is a number such as 3, -2 or 0.5"),
+            ("9" * 16 + " 1 3", "line 1: " + "9" * 16 + ": no cost; one is a number such as 3, -2 or 0.5"),
+        ):
+            with self.subTest(text=text), self.assertRaises(TableFault) as raised:
+                cost.read(text, 3)
+            self.assertEqual(str(raised.exception), wanted)
+
+    def test_command(self):
+        with tempfile.TemporaryDirectory() as folder:
+            path = os.path.join(folder, "costs")
+
+            def solve(costs, *words, given="A B\nA\nB\nA B\nA\n"):
+                with open(path, "w") as file:
+                    file.write(costs)
+                with mock.patch.object(sat, "path_of", lambda name: None):
+                    return run("solve", "--cost", path, *words, given=given)
+
+            self.assertEqual(solve("5 1.5 7 3.25"), (0, "B\nA\n", "The least cost is 4.75, by dlx3.\n"))
+            self.assertEqual(solve("5 1 0 3", "--csv")[1].splitlines()[1:], ["1,3,A,B"])
+            status, _, told = solve("5", given="A B\nA\n")
+            self.assertEqual((status, told.splitlines()[0]), (1, "Altogether 0 solutions."))
+            self.assertEqual(solve("5", "--all")[2], "helgrothy: --cost gives one solution, without --all, --limit and --number\n")
+            told = f"helgrothy: {path}: line 1: 1 costs, and the problem has 4 options\n"
+            self.assertEqual(solve("5"), (2, "", told))
+            self.assertEqual(run("solve", "--cost", "-")[0], 2)
+            rng = random.Random(9)
+            costs = " ".join(str(rng.randint(1, 10**5)) for _ in range(400))
+            status, text, told = solve(costs, "--seconds", "2", given=make.queens.problem(20).text)
+            self.assertEqual((status, text.count("Q") in (0, 20)), (2, True))
+            self.assertRegex(told, "is the least cost that was found; in 2 seconds it wasn't proved that there is no less|no solution|done")
+
+
+if __name__ == "__main__":
+    unittest.main()
