@@ -11,7 +11,7 @@ const ATTRIBUTES = new Set(
 const MOST_STEPS = 2000;
 const MOST_WORDS = 200;
 const MOST_NAMES = 40;
-const CARDS_AT_ONCE = 60;
+const MOST_LINES = 30;
 
 const get = (id) => document.getElementById(id);
 const counted = (count, one, more = `${one}s`) => `${count.toLocaleString("en")} ${count === 1 ? one : more}`;
@@ -27,6 +27,8 @@ class Viewer {
   // idle: what is said where there is nothing yet.
   constructor(idle = "") {
     this.idle = idle;
+    // Of all cards those near what is seen have their pictures.
+    this.near = new IntersectionObserver((cards) => this.fill(cards), { rootMargin: "100% 0px" });
     this.bind();
     this.clear();
   }
@@ -42,9 +44,8 @@ class Viewer {
     this.ended = null;
     this.found = [];
     this.at = 0;
-    this.cards = 0;
     get("filter").value = "";
-    get("cards").replaceChildren();
+    this.dropCards();
     get("problem").hidden = true;
     get("title").textContent = "Solutions";
     this.refresh();
@@ -117,9 +118,14 @@ class Viewer {
     const next = this.found.findIndex((place) => place >= now);
     this.at = next < 0 ? Math.max(this.found.length - 1, 0) : next;
     this.offer();
-    get("cards").replaceChildren();
-    this.cards = 0;
+    this.dropCards();
     this.refresh();
+  }
+
+  dropCards() {
+    this.near.disconnect();
+    this.cards = 0;
+    get("cards").replaceChildren();
   }
 
   // Offers names that begin like the last word of the filter.
@@ -274,35 +280,50 @@ class Viewer {
   }
 
   showAll() {
-    this.addCards(this.at + 1);
+    this.addCards();
     this.mark();
   }
 
-  // Adds cards: up to a number, or as long as their end is in sight.
-  addCards(least = 0) {
+  // A card for each solution that has none yet.
+  addCards() {
     if (this.cards === 0 && this.found.length) {
       const first = this.solutions[this.found[0]];
       const wide = first.picture ? this.sizeOf(first)[0] : 400;
       get("cards").style.setProperty("--thumb", `${Math.min(Math.max(wide / 2, 130), 420)}px`);
     }
-    const isNear = () => get("rest").getBoundingClientRect().top < 2 * innerHeight;
-    while (this.cards < this.found.length && (this.cards < least || isNear())) {
-      const some = this.found.slice(this.cards, this.cards + CARDS_AT_ONCE);
-      get("cards").append(...some.map((place, number) => this.card(this.solutions[place], this.cards + number)));
-      this.cards += some.length;
-    }
+    const fresh = document.createDocumentFragment();
+    for (; this.cards < this.found.length; this.cards++) fresh.append(this.card(this.cards));
+    get("cards").append(fresh);
   }
 
-  card(solution, place) {
+  card(place) {
+    const solution = this.solutions[this.found[place]];
     const name = made("span", { className: "name", textContent: solution.number.toLocaleString("en") });
     const card = made("button", { type: "button", className: "card" }, name);
-    const lines = () => solution.steps.filter(([, option]) => option).map(([, option]) => this.options.get(option));
-    card.append(this.picture(solution) || made("pre", { textContent: lines().slice(0, 30).join("\n") }));
+    if (solution.picture) {
+      const room = made("span", { className: "room" });
+      room.style.aspectRatio = this.sizeOf(solution).join(" / ");
+      card.append(room);
+      this.near.observe(card);
+    } else {
+      const options = solution.steps.map(([, option]) => option).filter(Boolean).slice(0, MOST_LINES);
+      card.append(made("pre", { textContent: options.map((option) => this.options.get(option)).join("\n") }));
+    }
+    card.dataset.place = solution.place;
     card.addEventListener("click", () => {
       this.at = place;
       this.see(false);
     });
     return card;
+  }
+
+  // Draws the pictures of cards that come near, and drops those of cards that go.
+  fill(cards) {
+    for (const { target, isIntersecting } of cards) {
+      const room = target.querySelector(".room");
+      if (!isIntersecting) room.replaceChildren();
+      else if (!room.hasChildNodes()) room.append(this.picture(this.solutions[target.dataset.place]));
+    }
   }
 
   mark() {
@@ -345,7 +366,6 @@ class Viewer {
   go(place) {
     this.at = Math.min(Math.max(place, 0), Math.max(this.found.length - 1, 0));
     if (this.isAll) {
-      this.addCards(this.at + 1);
       this.mark();
       const card = get("cards").children[this.at];
       if (card) card.scrollIntoView({ block: "nearest" });
@@ -373,9 +393,10 @@ class Viewer {
     get("help").addEventListener("click", () => get("keys").showModal());
     get("theme").addEventListener("click", turnTheme);
     addEventListener("keydown", (event) => this.press(event));
-    addEventListener("scroll", () => this.isAll && this.addCards(), { passive: true });
-    addEventListener("resize", () => this.isAll && this.addCards());
-    addEventListener("beforeprint", () => this.isAll && this.addCards(this.found.length));
+    addEventListener("beforeprint", () => {
+      const rooms = this.isAll ? [...get("cards").querySelectorAll(".room")] : [];
+      this.fill(rooms.map((room) => ({ target: room.parentElement, isIntersecting: true })));
+    });
   }
 
   press(event) {
