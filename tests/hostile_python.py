@@ -382,7 +382,7 @@ class Try:
         if kind == "tests":
             count = rng.choice([["--tests", "6"], ["--tests", "7", "--strength", rng.choice(["1", "3", *WORDS])], ["--tests", rng.choice(WORDS)]])
             return kind, [rng.choice([self.input(changed(rng, FACTORS)), self.input(changed(rng, FACTORS)), "3,2^2", *WORDS]), *count]
-        given = {"words": [GRID, LIST], "polyominoes": [PIECES, REGION], "polycubes": [CUBES, BOX, LESSONS], "roster": [ROSTER],
+        given = {"words": [GRID, LIST], "polyominoes": [PIECES, REGION], "polycubes": [CUBES, BOX], "roster": [ROSTER],
                  "roundrobin": [TEAMS], "timetable": [LESSONS], "nonogram": [rng.choice(NONOGRAM)], "kakuro": [KAKURO]}[kind]  # fmt: skip
         tables = [self.file(changed(rng, table if rng.random() < 0.9 else rng.choice(TABLES))) for table in given]
         if rng.random() < 0.1:

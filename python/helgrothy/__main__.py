@@ -194,13 +194,15 @@ def _solve(arguments: argparse.Namespace) -> int:
 
 def _make_and_solve(arguments: argparse.Namespace) -> int:
     kind: Kind = arguments.kind
-    found = kind.search(arguments, None if arguments.seconds is None else arguments.seconds * _SHARE)
-    return _show(kind.make(arguments), arguments) if found is None else _show_found(found, arguments)
+    search = kind.search(arguments)
+    if search is None:
+        return _show(kind.make(arguments), arguments)
+    _check_one(arguments)
+    return _show_found(search(None if arguments.seconds is None else arguments.seconds * _SHARE), arguments)
 
 
 def _show_found(found: Found, arguments: argparse.Namespace) -> int:
     """Shows the one solution that a search of another kind found."""
-    _check_one(arguments)
     options = found.problem.options
     show = _showing(found.problem, arguments, _listed_options, page=None)
     show(1, [options[number] for number in found.numbers], lambda _: found.numbers, lambda: [])
@@ -212,6 +214,8 @@ def _check_one(arguments: argparse.Namespace) -> None:
     """Raises `ValueError` where more is asked for than a search of another kind finds."""
     if arguments.all or arguments.limit or arguments.number:
         raise ValueError("this search finds one solution: without --all, --limit and --number")
+    if arguments.shuffle is not None or arguments.up_to_symmetry:
+        raise ValueError("this search has an order of its own: without --shuffle and --up-to-symmetry")
     if arguments.html:
         raise ValueError("a page shows how dlx1 to dlx3 went to each solution, and this is a search of another kind")
 
