@@ -32,6 +32,16 @@ EXAMPLES: Dict[str, Dict[str, str]] = {
         "ann    2:3\nbob    2    -tue\ncat    1:2  -late"
     },
     "roundrobin": {"teams": "ann home:1\nbob\ncat\ndan\neve\nfay away:5"},
+    "polycubes": {"pieces": "soma", "box": "3x3x3"},
+    "tests": {
+        "factors": "system linux mac\nbrowser firefox chrome\ndatabase postgresql mysql\nnetwork v4 v6",
+        "tests": "5",
+    },
+    "timetable": {
+        "table": "day,mon,9 14\nday,tue,9 14\nroom,hall,,,30\nroom,lab,,-mon,2\nexam,maths\nexam,physics,,lab\n"
+        "exam,latin,,-14\nexam,music,,mon\nperson,ann,maths latin music\nperson,bob,maths physics\n"
+        "person,cat,latin physics,-tue-9\nperson,dan,maths music"
+    },
 }
 
 
