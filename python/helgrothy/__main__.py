@@ -23,7 +23,7 @@ from .draw import Drawing, drawing_of
 from .errors import HelgrothyError, NoPicture, OutOfTime, TableFault
 from .export import FORMATS
 from .lint import lint
-from .listing import Step
+from .listing import Step, untold
 from .make import KINDS, kind_of
 from .make.kind import Kind, OwnFound, read_text
 from .page import commands as pages
@@ -204,17 +204,21 @@ def _show_found(found: OwnFound, arguments: argparse.Namespace) -> int:
         raise ValueError("this search finds one solution: without --all, --limit and --number")
     if arguments.shuffle is not None or arguments.up_to_symmetry:
         raise ValueError("this search has a way of its own: without --shuffle and --up-to-symmetry")
-    if arguments.html:
-        raise ValueError("a page shows how the search went, and this is a search of another kind: without --html")
     options = found.problem.options
-    show = _showing(found.problem, arguments, _listed_options, page=None)
-    show(1, [options[number] for number in found.numbers], lambda _: found.numbers, lambda: [])
+    page = _page(found.problem, arguments)
+    show = _showing(found.problem, arguments, _listed_options, page)
+    _show_one(show, [options[number] for number in found.numbers], found.numbers)
     console.say(found.remark)
+    if page is not None:
+        write([page.text(1, False, [found.remark])])
     return 0
 
 
+def _show_one(show: _Show, options: Sequence[Any], numbers: List[int]) -> None:
+    show(1, options, lambda _: numbers, lambda: untold(numbers))
+
+
 def _show(problem: Problem[Any], arguments: argparse.Namespace) -> int:
-    _check_page(arguments)
     if arguments.cost is not None:
         return _show_least(problem, arguments)
     number = arguments.number or 1
@@ -282,13 +286,8 @@ def _search(
 
 
 def _steps(found: Any) -> List[Step]:
-    """The steps of the search to a solution; none of a search that isn't that of the problem itself."""
-    return [] if isinstance(found, Found) else list(found.steps)
-
-
-def _check_page(arguments: argparse.Namespace) -> None:
-    if arguments.html and (arguments.cost is not None or arguments.shuffle is not None or arguments.up_to_symmetry):
-        raise ValueError("a page shows how the search went: --html goes without --shuffle, --up-to-symmetry and --cost")
+    """The steps of the search to a solution; of a search that isn't that of the problem itself only its options."""
+    return untold(found.numbers) if isinstance(found, Found) else list(found.steps)
 
 
 def _show_least(problem: Problem[Any], arguments: argparse.Namespace) -> int:
@@ -300,28 +299,30 @@ def _show_least(problem: Problem[Any], arguments: argparse.Namespace) -> int:
         costs = cost.read(read_text(arguments.cost), len(problem.options))
     except TableFault as fault:
         raise ValueError(f"{'standard input' if arguments.cost == '-' else arguments.cost}: {fault}") from None
-    show = _showing(problem, arguments, _listed_options, page=None)
+    page = _page(problem, arguments)
+    show = _showing(problem, arguments, _listed_options, page)
     deadline = None if arguments.seconds is None else time.monotonic() + arguments.seconds
     try:
         least = cost.least(problem, costs, None if arguments.seconds is None else arguments.seconds * _SHARE)
     except cost.NotLeast as error:
         if error.best is None:
             return _fail(f"no solution was found in {arguments.seconds:g} seconds")
-        _show_one(show, error.best)
+        _show_one(show, error.best.options, error.best.numbers)
         told = f"{_number(error.best.cost)} is the least cost that was found"
+        if page is not None:
+            write([page.text(1, False, [told])])
         return _fail(f"{told}; in {arguments.seconds:g} seconds it wasn't proved that there is no less")
     if least is None:
         console.say("Altogether 0 solutions.")
         for line in _reasons(problem, deadline):
             console.say(line)
         return 1
-    _show_one(show, least)
-    console.say(f"The least cost is {_number(least.cost)}, by {least.by}.")
+    _show_one(show, least.options, least.numbers)
+    told = f"The least cost is {_number(least.cost)}, by {least.by}."
+    console.say(told)
+    if page is not None:
+        write([page.text(1, False, [told])])
     return 0
-
-
-def _show_one(show: _Show, found: cost.Least[Any]) -> None:
-    show(1, found.options, lambda _: found.numbers, lambda: [])
 
 
 def _number(value: Fraction) -> str:
