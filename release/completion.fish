@@ -62,11 +62,11 @@ set -g __helgrothy_commands \
     'helgrothy export' \
     'helgrothy import' \
     'helgrothy why' \
+    'helgrothy page' \
     'helgrothy search' \
     'helgrothy status' \
     'helgrothy result' \
     'helgrothy rows' \
-    'helgrothy page' \
     'helgrothy sudoku' \
     'helgrothy queens' \
     'helgrothy langford' \
@@ -102,6 +102,7 @@ set -g __helgrothy_valued \
     'helgrothy draw --label' \
     'helgrothy lint --for' \
     'helgrothy why --seconds' \
+    'helgrothy page --port' \
     'helgrothy search --jobs' \
     'helgrothy search --dask' \
     'helgrothy search --seconds' \
@@ -109,7 +110,6 @@ set -g __helgrothy_valued \
     'helgrothy search --for' \
     'helgrothy rows --count' \
     'helgrothy rows --for' \
-    'helgrothy page --port' \
     'helgrothy sudoku --regions' \
     'helgrothy sudoku --cages' \
     'helgrothy sudoku --number' \
@@ -183,11 +183,11 @@ complete -c helgrothy -n '__helgrothy_is \'helgrothy\' 1' -a lint -d 'tell all f
 complete -c helgrothy -n '__helgrothy_is \'helgrothy\' 1' -a export -d 'write a problem for another solver'
 complete -c helgrothy -n '__helgrothy_is \'helgrothy\' 1' -a import -d 'read another solver\'s answer as a listing'
 complete -c helgrothy -n '__helgrothy_is \'helgrothy\' 1' -a why -d 'tell which items conflict where there is no solution'
+complete -c helgrothy -n '__helgrothy_is \'helgrothy\' 1' -a page -d 'a local page to type a problem in'
 complete -c helgrothy -n '__helgrothy_is \'helgrothy\' 1' -a search -d 'count or list all solutions, by all processors or many machines'
 complete -c helgrothy -n '__helgrothy_is \'helgrothy\' 1' -a status -d 'tell how far a search is'
 complete -c helgrothy -n '__helgrothy_is \'helgrothy\' 1' -a result -d 'print what a search that is done has found'
 complete -c helgrothy -n '__helgrothy_is \'helgrothy\' 1' -a rows -d 'print rows at which a search may be cut'
-complete -c helgrothy -n '__helgrothy_is \'helgrothy\' 1' -a page -d 'a local page to type a problem in'
 complete -c helgrothy -n '__helgrothy_is \'helgrothy\' 1' -a sudoku -d 'make and solve a Sudoku from its clues'
 complete -c helgrothy -n '__helgrothy_is \'helgrothy\' 1' -a queens -d 'make and solve queens on a board, or in coloured regions'
 complete -c helgrothy -n '__helgrothy_is \'helgrothy\' 1' -a langford -d 'make and solve Langford\'s pairs'
@@ -215,7 +215,7 @@ complete -c helgrothy -n '__helgrothy_is \'helgrothy make\' 1' -a tests -d 'test
 complete -c helgrothy -n '__helgrothy_is \'helgrothy make\' 1' -a timetable -d 'lessons or exams in slots and rooms'
 complete -c helgrothy -n '__helgrothy_is \'helgrothy make sudoku\'' -s h -l help -d 'show this help message and exit'
 complete -c helgrothy -n '__helgrothy_is \'helgrothy make sudoku\'' -l regions -r -F -d 'a file with a picture of the regions, a letter for each place'
-complete -c helgrothy -n '__helgrothy_is \'helgrothy make sudoku\'' -l cages -r -F -d 'a file with a line for each cage, its sum and its places (12 r1c1 r1c2); or with a picture, a letter for each place, and behind a blank line the sums (a=12 b=7)'
+complete -c helgrothy -n '__helgrothy_is \'helgrothy make sudoku\'' -l cages -r -F -d 'a file with a line for each cage, its sum and its places (12 r1c1 r1c2); or with a picture, a letter for each place, and after a blank line the sums (a=12 b=7)'
 complete -c helgrothy -n '__helgrothy_is \'helgrothy make queens\'' -s h -l help -d 'show this help message and exit'
 complete -c helgrothy -n '__helgrothy_is \'helgrothy make langford\'' -s h -l help -d 'show this help message and exit'
 complete -c helgrothy -n '__helgrothy_is \'helgrothy make polyominoes\'' -s h -l help -d 'show this help message and exit'
@@ -268,6 +268,8 @@ complete -c helgrothy -n '__helgrothy_is \'helgrothy export\'' -s h -l help -d '
 complete -c helgrothy -n '__helgrothy_is \'helgrothy import\'' -s h -l help -d 'show this help message and exit'
 complete -c helgrothy -n '__helgrothy_is \'helgrothy why\'' -s h -l help -d 'show this help message and exit'
 complete -c helgrothy -n '__helgrothy_is \'helgrothy why\'' -l seconds -r -f -d 'the time (default: 10)'
+complete -c helgrothy -n '__helgrothy_is \'helgrothy page\'' -s h -l help -d 'show this help message and exit'
+complete -c helgrothy -n '__helgrothy_is \'helgrothy page\'' -l port -r -f -d 'the port (default: one that is free)'
 complete -c helgrothy -n '__helgrothy_is \'helgrothy search\'' -s h -l help -d 'show this help message and exit'
 complete -c helgrothy -n '__helgrothy_is \'helgrothy search\'' -l list -d 'list the solutions'
 complete -c helgrothy -n '__helgrothy_is \'helgrothy search\'' -l jobs -r -f -d 'so many processors (default: all)'
@@ -281,11 +283,9 @@ complete -c helgrothy -n '__helgrothy_is \'helgrothy result\'' -l list -d 'list 
 complete -c helgrothy -n '__helgrothy_is \'helgrothy rows\'' -s h -l help -d 'show this help message and exit'
 complete -c helgrothy -n '__helgrothy_is \'helgrothy rows\'' -l count -r -f -d 'up to N rows (default: 100)'
 complete -c helgrothy -n '__helgrothy_is \'helgrothy rows\'' -l for -r -f -a 'dlx1 dlx2 dlx3' -d 'the program (default: the first that takes such a text)'
-complete -c helgrothy -n '__helgrothy_is \'helgrothy page\'' -s h -l help -d 'show this help message and exit'
-complete -c helgrothy -n '__helgrothy_is \'helgrothy page\'' -l port -r -f -d 'the port (default: one that is free)'
 complete -c helgrothy -n '__helgrothy_is \'helgrothy sudoku\'' -s h -l help -d 'show this help message and exit'
 complete -c helgrothy -n '__helgrothy_is \'helgrothy sudoku\'' -l regions -r -F -d 'a file with a picture of the regions, a letter for each place'
-complete -c helgrothy -n '__helgrothy_is \'helgrothy sudoku\'' -l cages -r -F -d 'a file with a line for each cage, its sum and its places (12 r1c1 r1c2); or with a picture, a letter for each place, and behind a blank line the sums (a=12 b=7)'
+complete -c helgrothy -n '__helgrothy_is \'helgrothy sudoku\'' -l cages -r -F -d 'a file with a line for each cage, its sum and its places (12 r1c1 r1c2); or with a picture, a letter for each place, and after a blank line the sums (a=12 b=7)'
 complete -c helgrothy -n '__helgrothy_is \'helgrothy sudoku\'' -l number -r -f -d 'the K-th solution instead of the first'
 complete -c helgrothy -n '__helgrothy_is \'helgrothy sudoku\'' -l limit -r -f -d 'the first N solutions'
 complete -c helgrothy -n '__helgrothy_is \'helgrothy sudoku\'' -l all -d 'all solutions'

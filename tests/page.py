@@ -252,9 +252,10 @@ class File(Pages):
         self.is_quiet()
 
     def test_solutions_without_steps(self):
-        """Those of a search that isn't the problem's own."""
-        self.open(helgrothy("queens", "6", "--all", "--up-to-symmetry", "--html"))
-        self.assertEqual(self.tab.text("#summary"), "1 solution; all that there are.")
+        """Those of a search of another kind."""
+        costs = self.file("costs", "".join(f"{place}\n" for place in range(36)).encode())
+        self.open(helgrothy("solve", "--cost", costs, "--html", given=make.queens.problem(6).text))
+        self.assertEqual(self.tab.text("#summary"), "1 solution; there may be more. The least cost is 105.")
         self.assertEqual((self.tab.text("#went"), self.tab.text("#told")), ("Its options", "Solution 1: 6 options."))
         self.assertFalse(self.tab.is_shown("#steps .branch"))
         self.assertTrue(self.tab.is_shown("#picture svg"))

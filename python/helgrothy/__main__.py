@@ -25,12 +25,12 @@ from .export import FORMATS
 from .lint import lint
 from .listing import Step, untold
 from .make import KINDS, kind_of
-from .make.kind import Kind, OwnFound, read_text
+from .make.kind import Found, Kind, read_text
 from .page import commands as pages
 from .page.file import MOST_SOLUTIONS, File
 from .problem import Problem, Solutions
 from .spans import commands as spans
-from .stream import Found, Stream
+from .stream import Chosen, Stream
 from .table import by_patterns
 from .watch import Watch
 
@@ -92,8 +92,8 @@ def _parser() -> argparse.ArgumentParser:
     _add_export(commands)
     _add_import(commands)
     _add_why(commands)
-    spans.add(commands)
     pages.add(commands)
+    spans.add(commands)
     for kind in KINDS.values():
         _add_kind(commands, kind)
     return parser
@@ -198,24 +198,23 @@ def _make_and_solve(arguments: argparse.Namespace) -> int:
     return _show(kind.make(arguments), arguments) if found is None else _show_found(found, arguments)
 
 
-def _show_found(found: OwnFound, arguments: argparse.Namespace) -> int:
-    """Shows the one solution that a kind's own search found."""
-    if arguments.all or arguments.limit or arguments.number:
-        raise ValueError("this search finds one solution: without --all, --limit and --number")
-    if arguments.shuffle is not None or arguments.up_to_symmetry:
-        raise ValueError("this search has a way of its own: without --shuffle and --up-to-symmetry")
+def _show_found(found: Found, arguments: argparse.Namespace) -> int:
+    """Shows the one solution that a search of another kind found."""
+    _check_one(arguments)
     options = found.problem.options
     page = _page(found.problem, arguments)
     show = _showing(found.problem, arguments, _listed_options, page)
-    _show_one(show, [options[number] for number in found.numbers], found.numbers)
+    show(1, [options[number] for number in found.numbers], lambda _: found.numbers, lambda: untold(found.numbers))
     console.say(found.remark)
     if page is not None:
         write([page.text(1, False, [found.remark])])
     return 0
 
 
-def _show_one(show: _Show, options: Sequence[Any], numbers: List[int]) -> None:
-    show(1, options, lambda _: numbers, lambda: untold(numbers))
+def _check_one(arguments: argparse.Namespace) -> None:
+    """Raises `ValueError` where more is asked for than a search of another kind finds."""
+    if arguments.all or arguments.limit or arguments.number:
+        raise ValueError("this search finds one solution: without --all, --limit and --number")
 
 
 def _show(problem: Problem[Any], arguments: argparse.Namespace) -> int:
@@ -240,19 +239,18 @@ def _show(problem: Problem[Any], arguments: argparse.Namespace) -> int:
         with Watch(problem, console.say) as watch, solutions:
             for found in solutions:
                 watch.end()
-                options = found.options if isinstance(found, Found) else found
-                steps = partial(_steps, found)
-                show(arguments.number or shown + 1, options, lambda _: found.numbers, steps)
+                options = found.options if isinstance(found, Chosen) else found
+                show(arguments.number or shown + 1, options, lambda _: found.numbers, lambda: found.steps)
                 shown += 1
                 if page is not None and page.is_full:
                     break
                 if page is not None and time.monotonic() > last:
                     raise OutOfTime(f"it wasn't done in {arguments.seconds:g} seconds")
     except OutOfTime as error:
-        told = max(error.found if isinstance(solutions, Stream) else error.found * number, shown)
+        reached = max(error.found if isinstance(solutions, Stream) else error.found * number, shown)
         if page is not None:
-            write([page.text(told, False, [f"{error}"])])
-        return _fail(f"{error}; {_counted(told)} till then")
+            write([page.text(reached, False, [f"{error}"])])
+        return _fail(f"{error}; {_counted(reached)} till then")
     # None where the page was full before.
     total = shown if solutions.total is None else solutions.total
     console.say(f"Altogether {_counted(total)}{among}{'.' if solutions.complete else ' (limit).'}")
@@ -265,7 +263,11 @@ def _show(problem: Problem[Any], arguments: argparse.Namespace) -> int:
 
 
 def _search(
-    problem: Problem[Any], arguments: argparse.Namespace, limit: Optional[int], spacing: int, seconds: Optional[float]
+    problem: Problem[Any],
+    arguments: argparse.Namespace,
+    limit: Optional[int],
+    spacing: int,
+    seconds: Optional[float],
 ) -> Tuple[Union[Solutions[Any], Stream[Any]], str]:
     """The solutions that are asked for, and among what they are counted."""
     if arguments.shuffle is not None:
@@ -285,44 +287,30 @@ def _search(
     return symmetry.solve(problem, plan, limit, spacing, seconds=seconds), told
 
 
-def _steps(found: Any) -> List[Step]:
-    """The steps of the search to a solution; of a search that isn't that of the problem itself only its options."""
-    return untold(found.numbers) if isinstance(found, Found) else list(found.steps)
-
-
 def _show_least(problem: Problem[Any], arguments: argparse.Namespace) -> int:
-    if arguments.all or arguments.limit or arguments.number:
-        raise ValueError("--cost gives one solution, without --all, --limit and --number")
+    _check_one(arguments)
     if arguments.problem == arguments.cost == "-":
         raise ValueError("the problem and the costs can't both come from standard input")
     try:
         costs = cost.read(read_text(arguments.cost), len(problem.options))
     except TableFault as fault:
         raise ValueError(f"{'standard input' if arguments.cost == '-' else arguments.cost}: {fault}") from None
-    page = _page(problem, arguments)
-    show = _showing(problem, arguments, _listed_options, page)
     deadline = None if arguments.seconds is None else time.monotonic() + arguments.seconds
     try:
         least = cost.least(problem, costs, None if arguments.seconds is None else arguments.seconds * _SHARE)
     except cost.NotLeast as error:
         if error.best is None:
             return _fail(f"no solution was found in {arguments.seconds:g} seconds")
-        _show_one(show, error.best.options, error.best.numbers)
         told = f"{_number(error.best.cost)} is the least cost that was found"
-        if page is not None:
-            write([page.text(1, False, [told])])
-        return _fail(f"{told}; in {arguments.seconds:g} seconds it wasn't proved that there is no less")
+        proof = f"in {arguments.seconds:g} seconds it wasn't proved that there is no less"
+        _show_found(Found(problem, error.best.numbers, f"helgrothy: {told}; {proof}"), arguments)
+        return 2
     if least is None:
-        console.say("Altogether 0 solutions.")
-        for line in _reasons(problem, deadline):
+        for line in ["Altogether 0 solutions.", *_reasons(problem, deadline)]:
             console.say(line)
         return 1
-    _show_one(show, least.options, least.numbers)
-    told = f"The least cost is {_number(least.cost)}, by {least.by}."
-    console.say(told)
-    if page is not None:
-        write([page.text(1, False, [told])])
-    return 0
+    told = f"The least cost is {_number(least.cost)}."
+    return _show_found(Found(problem, least.numbers, told), arguments)
 
 
 def _number(value: Fraction) -> str:

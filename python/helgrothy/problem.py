@@ -344,17 +344,10 @@ class Problem(Generic[Option]):
                 raise run.failure()
             outcome.ending = ending
 
-    def wire(self) -> Tuple[Iterator[bytes], Callable[[bytes], List[int]]]:
-        """The problem for a program with names as short as can be, and what reads the options of its solutions' lines.
-
-        The options are numbered from 0 on. Choices of none are left out. The reader raises `UnknownChoice`.
-        """
+    def wire(self) -> Tuple[Iterator[bytes], Callable[[bytes], Solution[Any]]]:
+        """The problem for a program, with names as short as can be, and what makes solutions of the lines it prints."""
         wire = _Wire(self)
-
-        def read(lines: bytes) -> List[int]:
-            return [number for number in wire.numbers(lines) if not isinstance(number, Null)]
-
-        return _ended(wire.lines), read
+        return _ended(wire.lines), partial(Solution, _Source(self, wire, False))
 
     def _is_whole(self, choices: Iterable[Union[Option, Null]]) -> bool:
         """Whether choices are all of a solution: no primary item is left."""

@@ -14,7 +14,8 @@ from typing import Any, Generator, List, Optional, Tuple, TypeVar
 from .errors import OutOfTime
 from .problem import Problem
 from .programs import Run
-from .stream import Found, Stream
+from .solution import Solution
+from .stream import Chosen, Stream, chosen
 
 Option = TypeVar("Option", bound=Any)
 
@@ -55,42 +56,40 @@ def solve(
     def left() -> Optional[float]:
         return None if deadline is None else max(deadline - time.monotonic(), 0.0)
 
-    def found(places: List[int], numbers: List[int]) -> Found[Option]:
-        own = [places[number] for number in numbers]
-        return Found(own, [problem.options[number] for number in own])
-
-    def all_of_one(stream: Stream[Option]) -> Generator[Found[Option], None, None]:
+    def all_of_one(stream: Stream[Option]) -> Generator[Chosen[Option], None, None]:
         places = order(len(problem.options), rng)
         with problem.of_options(places).solve(spacing=spacing, seconds=left()) as solutions:
             for solution in solutions:
-                yield found(places, solution.numbers)
+                yield chosen(problem, places, solution)
         stream.end(solutions.total or 0, True)
 
-    def begin(stream: Stream[Option]) -> Generator[Found[Option], None, None]:
+    def begin(stream: Stream[Option]) -> Generator[Chosen[Option], None, None]:
         assert limit is not None
         steps, most = _FIRST_STEPS, 0
         while True:
             places = order(len(problem.options), rng)
             try:
-                chosen, is_whole = _try(problem.of_options(places), steps, limit, left())
+                found, is_whole = _try(problem.of_options(places), steps, limit, left())
             except OutOfTime as error:
                 error.found = most
                 raise
-            most = max(most, len(chosen))
-            if is_whole or len(chosen) == limit:
-                for number, numbers in enumerate(chosen, 1):
+            most = max(most, len(found))
+            if is_whole or len(found) == limit:
+                for number, solution in enumerate(found, 1):
                     if number % spacing == 0:
-                        yield found(places, numbers)
-                stream.end(len(chosen), is_whole and len(chosen) < limit)
+                        yield chosen(problem, places, solution)
+                stream.end(len(found), is_whole and len(found) < limit)
                 return
             steps = min(2 * steps, _MOST_STEPS)
 
     return Stream(all_of_one if limit is None else begin)
 
 
-def _try(problem: Problem[Any], steps: int, limit: int, seconds: Optional[float]) -> Tuple[List[List[int]], bool]:
-    """The options of the first solutions in so many steps, and whether these are all there are."""
-    lines, read = problem.wire()
+def _try(
+    problem: Problem[Any], steps: int, limit: int, seconds: Optional[float]
+) -> Tuple[List[Solution[Any]], bool]:
+    """The first solutions in so many steps, and whether these are all there are."""
+    lines, give = problem.wire()
     text = b""
     with Run("dlx-span", [str(problem.kind), "m1", str(steps), "-", "-"], lines, seconds) as run:
         for chunk in run.chunks():
@@ -105,4 +104,4 @@ def _try(problem: Problem[Any], steps: int, limit: int, seconds: Optional[float]
     solutions = _HEADER.split(body)[1:]
     if record is None and len(solutions) <= limit:
         raise run.failure()
-    return [read(lines) for lines in solutions[:limit]], record is not None and record.group(1) is None
+    return [give(lines) for lines in solutions[:limit]], record is not None and record.group(1) is None

@@ -4,34 +4,54 @@ from __future__ import annotations
 
 from dataclasses import dataclass
 from types import TracebackType
-from typing import Callable, Generator, Generic, Iterator, List, Optional, Type, TypeVar
+from typing import Any, Callable, Generator, Generic, Iterator, List, Optional, Sequence, Type, TypeVar
 
-Option = TypeVar("Option")
+from .listing import Step
+from .problem import Problem
+from .solution import Solution
+
+Option = TypeVar("Option", bound=Any)
 
 
 @dataclass(frozen=True)
-class Found(Generic[Option]):
+class Chosen(Generic[Option]):
     """A solution: the places of its options in the problem's `options`, from 0 on, and the options."""
 
     numbers: List[int]
     options: List[Option]
+    _places: Sequence[int]
+    _solution: Solution[Any]
+
+    @property
+    def steps(self) -> List[Step]:
+        """The steps of the search that found it, among the options that were left and in their order there."""
+        return [
+            step if step.option is None else step._replace(option=self._places[step.option])
+            for step in self._solution.steps
+        ]
+
+
+def chosen(problem: Problem[Option], places: Sequence[int], solution: Solution[Any]) -> Chosen[Option]:
+    """The solution of a problem that was found in the problem of its options of these places."""
+    numbers = [places[number] for number in solution.numbers]
+    return Chosen(numbers, [problem.options[number] for number in numbers], places, solution)
 
 
 class Stream(Generic[Option]):
-    """Solutions one by one. As a context manager, or by `close`, it ends the program behind it.
+    """Solutions one by one. As a context manager, or by `close`, it ends the program that finds them.
 
     total: how many there were. complete: whether these are all, or a limit was met. Both are None until the end.
     """
 
-    def __init__(self, begin: Callable[[Stream[Option]], Generator[Found[Option], None, None]]) -> None:
+    def __init__(self, begin: Callable[[Stream[Option]], Generator[Chosen[Option], None, None]]) -> None:
         self.total: Optional[int] = None
         self.complete: Optional[bool] = None
         self._stream = begin(self)
 
-    def __iter__(self) -> Iterator[Found[Option]]:
+    def __iter__(self) -> Iterator[Chosen[Option]]:
         return self._stream
 
-    def __next__(self) -> Found[Option]:
+    def __next__(self) -> Chosen[Option]:
         return next(self._stream)
 
     def end(self, total: int, complete: bool) -> None:

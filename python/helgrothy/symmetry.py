@@ -15,7 +15,7 @@ from typing import Any, Dict, FrozenSet, Generator, Hashable, List, NamedTuple, 
 
 from .errors import NoPicture, OutOfTime
 from .problem import Problem
-from .stream import Found, Stream
+from .stream import Chosen, Stream, chosen
 from .syntax import ONCE
 from .turns import Cell, symmetries
 
@@ -152,7 +152,7 @@ def solve(
 ) -> Stream[Option]:
     """The solutions up to the symmetries of a plan. limit, spacing and seconds are those of `Problem.solve`."""
 
-    def begin(stream: Stream[Option]) -> Generator[Found[Option], None, None]:
+    def begin(stream: Stream[Option]) -> Generator[Chosen[Option], None, None]:
         count = 0
         with problem.of_options(plan.places).solve(seconds=seconds) as solutions:
             try:
@@ -162,7 +162,7 @@ def solve(
                         continue
                     count += 1
                     if count % spacing == 0:
-                        yield Found(numbers, [problem.options[number] for number in numbers])
+                        yield chosen(problem, plan.places, solution)
                     if count == limit:
                         stream.end(count, False)
                         return

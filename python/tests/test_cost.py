@@ -109,11 +109,13 @@ class Cost(unittest.TestCase):
                 with mock.patch.object(sat, "path_of", lambda name: None):
                     return run("solve", "--cost", path, *words, given=given)
 
-            self.assertEqual(solve("5 1.5 7 3.25"), (0, "B\nA\n", "The least cost is 4.75, by dlx3.\n"))
+            self.assertEqual(solve("5 1.5 7 3.25"), (0, "B\nA\n", "The least cost is 4.75.\n"))
             self.assertEqual(solve("5 1 0 3", "--csv")[1].splitlines()[1:], ["1,3,A,B"])
             status, _, told = solve("5", given="A B\nA\n")
             self.assertEqual((status, told.splitlines()[0]), (1, "Altogether 0 solutions."))
-            self.assertEqual(solve("5", "--all")[2], "helgrothy: --cost gives one solution, without --all, --limit and --number\n")
+            told = "helgrothy: this search finds one solution: without --all, --limit and --number\n"
+            self.assertEqual(solve("5", "--all")[2], told)
+            self.assertEqual(solve("5", "--html")[0], 2)
             told = f"helgrothy: {path}: line 1: 1 costs, and the problem has 4 options\n"
             self.assertEqual(solve("5"), (2, "", told))
             self.assertEqual(run("solve", "--cost", "-")[0], 2)

@@ -273,7 +273,7 @@ class Requests(unittest.TestCase):
         self.assertEqual(len(self.told(what="solve", text=make.queens.problem(8).text, limit=3)), 5)
         self.assertEqual(len(self.told(what="solve", text=make.queens.problem(8).text, way="symmetry")), 14)
         shuffled = self.told(what="solve", text=make.queens.problem(6).text, way="random")[1]["solution"]["steps"]
-        self.assertEqual([step[2:] for step in shuffled], [[0, 0]] * 6)
+        self.assertEqual(len(shuffled), 6)
         self.assertIn("takes a board", self.told(what="solve", text="a\na\n", way="symmetry")[-1]["error"])
         self.assertEqual(self.told(what="solve", text="a\na\n", cell="(")[0]["error"][:19], "a pattern is wrong:")
         ended = self.told(what="solve", text="a b\na\n")[-1]["end"]

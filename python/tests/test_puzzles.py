@@ -199,7 +199,7 @@ class Kakuro(Puzzles):
                 top + "\\4 . x\n\\3 . .\n": "line 2: x: neither a dot, a digit, # nor sums such as 17\\24",
                 top + "4 . .\n\\3 . .\n": "line 2: the cells to the right from r2c1 on have no sum",
                 top + "14 . .\n\\3 . .\n": "line 2: 14: neither a dot, a digit, # nor sums such as 17\\24 (a sum has \\ before it, "
-                "\\14, or behind it, 14\\)",
+                "\\14, or after it, 14\\)",
                 top + "# . .\n\\3 . .\n": "line 2: #: no sum for the 2 cells to the right from r2c2 on",
                 "# 4\\ #\n\\4 . .\n\\3 . .\n": "line 1: #: no sum for the 2 cells downwards from r2c3 on",
                 ". .\n": "line 1: the cells to the right from r1c1 on have no sum",
@@ -212,7 +212,7 @@ class Kakuro(Puzzles):
                 "at most",
                 "\\12 .\n": "line 1: \\12: the sum 12 is asked of 1 digit to its right: 1 at least and 9 at most",
                 "\\45 . . . . . . . . . .\n": "line 1: \\45: 10 cells to its right, and there are nine digits",
-                top + "\\4 . .\n\\4 . .\n": "line 1: the sums across are 8 in all and those down 7, of the cells that hang together "
+                top + "\\4 . .\n\\4 . .\n": "line 1: the sums across are 8 in all and those down 7, of the cells that are connected "
                 "with r2c2".replace("line 1", "line 2"),
                 top + "\\4 . .\n\\3 . .\n# # 5\\\n": "line 4: 5\\: there is no white cell below it that would have the sum 5",
                 "\\9 4 4 .\n": "line 1: 4: given twice in the run to the right from r1c2 on",
@@ -344,7 +344,7 @@ class Sudokus(Puzzles):
                 "2 r1c1 r1c2\n": "line 1: 2: 2 digits that differ are 3 at least and 7 at most",
                 "5 r1c1\n": "line 1: 5: 1 digit is 1 at least and 4 at most",
                 "15 r1c1 r1c2 r1c3 r1c4 r2c1\n": "line 1: a cage of 5 cells; its digits differ, and there are 4",
-                drawn + "a=10 b=10 c=10\n": "line 3: d: the cage has no sum; behind the picture it would be d=12",
+                drawn + "a=10 b=10 c=10\n": "line 3: d: the cage has no sum; after the picture it would be d=12",
                 drawn + "a=10 b=10 c=10\nd=10 a=9\n": "line 7: a=9: the cage has its sum in line 6 already",
                 drawn + "a=10 b=10 c=10 e=10\n": "line 6: e=10: no cell of the picture has this letter",
                 drawn + "a=10 b=10 c=10 d 10\n": "line 6: d: no sum of a cage, such as a=12",

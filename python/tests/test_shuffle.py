@@ -56,6 +56,7 @@ class Shuffle(unittest.TestCase):
         self.assertEqual((status, text.splitlines()[0], told), (0, ". Q . . . .", "Altogether 1 solution (limit).\n"))
         self.assertEqual(run("queens", "6", "--shuffle", "4", "--all")[2], "Altogether 4 solutions.\n")
         self.assertEqual(run("queens", "3", "--shuffle", "4")[0], 1)
+        self.assertIn("<title>", run("queens", "6", "--shuffle", "4", "--all", "--html")[1])
         for seed in ("-1", "x", "1" * 21, "\u0663"):
             self.assertEqual(run("queens", "6", "--shuffle", seed)[0], 2)
 

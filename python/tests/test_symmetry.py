@@ -41,6 +41,7 @@ class Symmetry(unittest.TestCase):
         with open(os.path.join(EXAMPLES, "soma.dlx")) as file:
             soma = Problem.parse(file.read())
         self.assertEqual(count(soma, r"(\d)(\d)(\d)"), 240)
+        self.assertEqual(count(make.polycubes.problem("soma", "3x3x3"), make.KINDS["polycubes"].cell), 240)
 
     def test_langford(self):
         # OEIS, A014552.
@@ -112,6 +113,7 @@ class Symmetry(unittest.TestCase):
         wanted = "helgrothy: which cells an option has isn't known: --cell says it, of a board or a box\n"
         self.assertEqual(told, (2, "", wanted))
         self.assertEqual(run("solve", "--up-to-symmetry", "--cell", "(", given="s1\ns1\n")[0], 2)
+        self.assertIn("<title>", run("queens", "6", "--up-to-symmetry", "--all", "--html")[1])
         layered = r"(?P<layer>\d)(?P<row>\d)(?P<column>\d)"
         status, text, told = run("solve", os.path.join(EXAMPLES, "soma.dlx"), "--cell", layered, "--up-to-symmetry")
         self.assertEqual((status, text.count("\n"), told), (0, 7, "Altogether 1 solution up to 48 symmetries (limit).\n"))

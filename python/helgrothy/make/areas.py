@@ -74,7 +74,7 @@ def cages(text: str, size: int) -> Tuple[List[Cage], int]:
     """The cages of a Sudoku of so many rows, and this number, which the text says where it is 0. Raises `TableFault`.
 
     The text has a line for each cage, its sum and its cells, `12 r1c1 r1c2`. Or it is a picture with a letter for each
-    cell, a dot for a cell in no cage, and behind a blank line the sums, `a=12 b=7`.
+    cell, a dot for a cell in no cage, and after a blank line the sums, `a=12 b=7`.
     """
     lines = [(number, line) for number, line in numbered(text) if line]
     if not lines:
@@ -135,12 +135,12 @@ def _drawn(text: str, size: int) -> Tuple[List[Cage], int]:
             totals[name] = number, int(total)
     for name, number in first.items():
         if name not in totals:
-            raise TableFault(number, name, f"the cage has no sum; behind the picture it would be {name}=12")
+            raise TableFault(number, name, f"the cage has no sum; after the picture it would be {name}=12")
     return [Cage(name, *totals[name], tuple(own)) for name, own in cells.items()], len(rows)
 
 
 def _parts(lines: Sequence[Numbered]) -> Tuple[List[Numbered], List[Numbered]]:
-    """A picture, and what stands behind the first blank line."""
+    """A picture, and what follows the first blank line."""
     end = next((place for place, (_, line) in enumerate(lines) if not line), len(lines))
     return list(lines[:end]), list(lines[end:])
 

@@ -15,7 +15,7 @@ from typing import Dict, Iterator, List, Optional, Sequence, Set, Tuple
 from ..errors import OutOfTime
 from ..problem import Problem
 from .designs import Design, Factor, Meeting, Option
-from .kind import OwnFound
+from .kind import Found
 
 # A test: the values that it has, by the number of the factor.
 Test = Dict[int, int]
@@ -38,9 +38,9 @@ class Few:
     tests: int
     reason: str
 
-    def found(self) -> OwnFound:
+    def found(self) -> Found:
         told = f"no fewer are enough: {self.reason}" if self.reason else f"{self.tests - 1} weren't found in the time"
-        return OwnFound(self.problem, self.numbers, f"{self.tests} test{'' if self.tests == 1 else 's'}; {told}.")
+        return Found(self.problem, self.numbers, f"{self.tests} test{'' if self.tests == 1 else 's'}; {told}.")
 
 
 def fewest(factors: Sequence[Factor], strength: int, seconds: float) -> Few:

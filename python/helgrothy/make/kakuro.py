@@ -103,7 +103,7 @@ def _marks(rows: Sequence[Tuple[int, List[str]]]) -> Dict[Square, str]:
         for c, word in enumerate(words, 1):
             is_digit = word in {str(digit) for digit in DIGITS}
             if not (word in (*_WHITE, _BLACK) or is_digit or _SUMS.match(word)):
-                hint = f" (a sum has \\ before it, \\{word}, or behind it, {word}\\)" if _SUM.match(word) else ""
+                hint = f" (a sum has \\ before it, \\{word}, or after it, {word}\\)" if _SUM.match(word) else ""
                 raise TableFault(number, cut(word), f"neither a dot, a digit, # nor sums such as 17\\24{hint}")
             marks[r, c] = word
     return marks
@@ -161,7 +161,7 @@ def _sets(run: _Run, mark: str) -> Iterator[FrozenSet[int]]:
 
 
 def _check_totals(rows: Sequence[Tuple[int, List[str]]], runs: Sequence[_Run]) -> None:
-    """Raises `TableFault` where cells that hang together sum to one number across and to another one down."""
+    """Raises `TableFault` where cells that are connected sum to one number across and to another one down."""
     across = {at: run for run in runs if run.way == _ACROSS for at in run.cells}
     down = {at: run for run in runs if run.way == _DOWN for at in run.cells}
     left = set(across) | set(down)
@@ -179,7 +179,7 @@ def _check_totals(rows: Sequence[Tuple[int, List[str]]], runs: Sequence[_Run]) -
             totals = [sum({id(own[at]): own[at].total for at in joined}.values()) for own in (across, down)]
             if totals[0] != totals[1]:
                 told = f"the sums across are {totals[0]} in all and those down {totals[1]}"
-                which = f"of the cells that hang together with {_name(first)}"
+                which = f"of the cells that are connected with {_name(first)}"
                 raise TableFault(rows[first[0] - 1][0], "", f"{told}, {which}")
 
 

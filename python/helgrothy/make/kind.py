@@ -20,7 +20,7 @@ _MADE = re.compile(r"helgrothy make ([a-z]+)(?: |\Z)")
 
 
 @dataclass(frozen=True)
-class OwnFound:
+class Found:
     """A solution that a kind's own search found: the problem, the places of the options, and what is known of it."""
 
     problem: Problem[Any]
@@ -43,7 +43,7 @@ class Kind:
     # Of a kind with a search of its own: that search's arguments, and what it finds in so many seconds, or None where
     # the arguments don't ask for it.
     add_search_arguments: Callable[[argparse.ArgumentParser], None] = lambda parser: None
-    search: Callable[[argparse.Namespace, Optional[float]], Optional[OwnFound]] = lambda arguments, seconds: None
+    search: Callable[[argparse.Namespace, Optional[float]], Optional[Found]] = lambda arguments, seconds: None
     cell: Optional[str] = None
 
 

@@ -170,7 +170,7 @@ def _lies(length: int, marks: Sequence[str], at: int) -> bool:
 def _arrangements(clue: Clue, marks: Sequence[str]) -> Iterator[str]:
     """All arrangements of a line that keep to its marks."""
     may, size = _ends(clue, marks), len(marks)
-    # What is still to be tried: the runs that are laid, the square behind them, and the text up to there.
+    # What is still to be tried: the runs that are laid, the square after them, and the text up to there.
     left = [(0, 0, "")] if may[0][0] else []
     while left:
         k, i, text = left.pop()

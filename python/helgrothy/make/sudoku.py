@@ -52,6 +52,7 @@ def problem(clues: str = "", *, regions: Optional[str] = None, cages: Optional[s
     digits = _DIGITS[:size]
     _check(clues, digits)
     caged = {cell: number for number, cage in enumerate(own_cages, 1) for cell in cage.cells}
+    _check_sets(own_cages, size)
     sets = [list(_sets(cage, digits)) for cage in own_cages]
     may: List[FrozenSet[str]] = [frozenset(digit for one in found for digit in one) for found in sets]
     places = [(r, c) for r in range(size) for c in range(size)]
@@ -153,20 +154,26 @@ def _check(clues: str, digits: str) -> None:
                 raise TableFault(number, mark, told)
 
 
+def _check_sets(cages: Sequence[Cage], size: int) -> None:
+    """Raises `ValueError` where there are too many sets of digits."""
+    # Of the digits up to one: how many sets have so many digits and this sum.
+    ways: Counter[Tuple[int, int]] = Counter({(0, 0): 1})
+    for digit in range(1, size + 1):
+        ways.update({(count + 1, total + digit): times for (count, total), times in ways.items()})
+    uses = sum(ways[len(cage.cells), cage.total] * (1 + size - len(cage.cells)) for cage in cages)
+    if uses > MOST_USES:
+        raise ValueError(f"the problem would have more than {MOST_USES} uses of items")
+
+
 def _sets(cage: Cage, digits: str) -> Iterator[FrozenSet[str]]:
-    """The sets of digits with the sum of a cage. Raises `ValueError` where these are too many."""
-    uses = 0
+    """The sets of digits with the sum of a cage."""
     # Digits from the largest down: what is left of the sum has to be within reach of those that are left.
     waiting: List[Tuple[int, int, int, FrozenSet[str]]] = [(len(digits), len(cage.cells), cage.total, frozenset())]
     while waiting:
         most, count, total, held = waiting.pop()
-        if not count:
-            if not total:
-                uses += len(digits)
-                if uses > MOST_USES:
-                    raise ValueError(f"the problem would have more than {MOST_USES} uses of items")
-                yield held
-        elif most >= count and count * (count + 1) // 2 <= total <= count * (2 * most + 1 - count) // 2:
+        if not count and not total:
+            yield held
+        elif 0 < count <= most and count * (count + 1) // 2 <= total <= count * (2 * most + 1 - count) // 2:
             waiting.append((most - 1, count, total, held))
             waiting.append((most - 1, count - 1, total - most, held | {digits[most - 1]}))
 
@@ -243,7 +250,7 @@ def _add_arguments(parser: argparse.ArgumentParser) -> None:
         "--cages",
         metavar="CAGES",
         help="a file with a line for each cage, its sum and its places (12 r1c1 r1c2); or with a picture, a letter for "
-        "each place, and behind a blank line the sums (a=12 b=7)",
+        "each place, and after a blank line the sums (a=12 b=7)",
     )
 
 

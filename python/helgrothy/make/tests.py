@@ -11,7 +11,7 @@ from ..draw import Cell, Drawing, Picture, check_size, shade
 from ..problem import Problem
 from .designs import LEVELS, Design, Option, read_factors
 from .fewest import Few, fewest
-from .kind import OwnFound, Kind, read_text
+from .kind import Found, Kind, read_text
 
 _ITEM = re.compile(r"t([0-9]+)/([^:]+)(?::(.+))?\Z")
 # Where the table begins in the comments of a problem.
@@ -99,7 +99,7 @@ def _add_search_arguments(parser: argparse.ArgumentParser) -> None:
     )
 
 
-def _search(arguments: argparse.Namespace, seconds: Optional[float]) -> Optional[OwnFound]:
+def _search(arguments: argparse.Namespace, seconds: Optional[float]) -> Optional[Found]:
     if not arguments.least:
         return None
     if arguments.tests is not None:

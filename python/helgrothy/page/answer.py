@@ -25,11 +25,10 @@ from ..console import limited
 from ..draw import drawing_of
 from ..errors import HelgrothyError, NoPicture, OutOfTime, reason_of
 from ..lint import Remark, lint
-from ..listing import untold
 from ..make import KINDS, kind_of
 from ..problem import Problem, Solutions
 from ..shown import shown
-from ..stream import Found, Stream
+from ..stream import Stream
 from ..table import by_patterns
 from . import forms
 from .record import Draw, Record
@@ -164,8 +163,7 @@ class _Solving:
             with self._found(problem) as solutions:
                 for found in solutions:
                     shown += 1
-                    steps = untold(found.numbers) if isinstance(found, Found) else found.steps
-                    line = record.solution(shown, steps)
+                    line = record.solution(shown, found.steps)
                     length += len(line)
                     yield line
                     if length > _MOST_TOLD:
