@@ -808,6 +808,7 @@ class Processes:
 def asked(rng: random.Random):
     """A request of a page, mostly a good one."""
     request = {"what": rng.choice(["solve", "solve", "lint"]), "seconds": 5, "limit": 5}
+    request["way"] = rng.choice(["", "", "", "random", "symmetry"])
     some = [*(table.decode() for table in TABLES), *WORDS, *(one.decode("utf-8", "replace") for one in EVIL)]
     if rng.random() < 0.4:
         request["kind"] = rng.choice([*make.KINDS, "nothing"])

@@ -232,6 +232,9 @@ class File(Pages):
             ["sudoku", "53..7....6..195....98....6.8...6...34..8.3..17...2...6.6....28....419..5....8..79"],
             ["queens", "8", "--all"],
             ["langford", "4"],
+            ["polycubes", "soma", "3x3x3"],
+            ["kakuro", self.file("kakuro.txt", forms.EXAMPLES["kakuro"]["grid"].encode())],
+            ["timetable", self.file("exams.csv", forms.EXAMPLES["timetable"]["table"].encode())],
         ):
             self.open(helgrothy(*words, "--html"))
             self.assertTrue(self.tab.is_shown("#picture svg"))
@@ -246,6 +249,18 @@ class File(Pages):
             wanted = plain.value(f"[...{parsed}.querySelectorAll(':not(title)')].map({drawn})")
             plain.close()
             self.assertEqual(self.tab.value(f"[...document.querySelectorAll('#picture svg *')].map({drawn})"), wanted)
+        self.is_quiet()
+
+    def test_solutions_without_steps(self):
+        """Those of a search of another kind."""
+        costs = self.file("costs", "".join(f"{place}\n" for place in range(36)).encode())
+        self.open(helgrothy("solve", "--cost", costs, "--html", given=make.queens.problem(6).text))
+        self.assertEqual(self.tab.text("#summary"), "1 solution; there may be more. The least cost is 105.")
+        self.assertEqual((self.tab.text("#went"), self.tab.text("#told")), ("Its options", "Solution 1: 6 options."))
+        self.assertFalse(self.tab.is_shown("#steps .branch"))
+        self.assertTrue(self.tab.is_shown("#picture svg"))
+        self.tab.click("#steps .items button")
+        self.assertEqual(self.tab.text("#count"), "1")
         self.is_quiet()
 
     def test_without_a_picture_and_without_a_solution(self):
@@ -434,6 +449,11 @@ class Page(Pages):
             if forms.EXAMPLES.get(kind):
                 self.solve()
                 self.assertTrue(self.tab.is_shown("#picture svg"), kind)
+        self.choose("queens", board="8")
+        self.tab.value("document.querySelector('#order').value = 'symmetry'")
+        self.solve()
+        self.assertEqual(self.tab.text("#summary"), "12 solutions; all that there are.")
+        self.tab.value("document.querySelector('#order').value = ''")
         self.choose("queens", board="/etc/passwd")
         self.solve()
         self.assertIn("line 1: /etc/passwd:", self.tab.text("#state"))

@@ -23,7 +23,7 @@ from .draw import Drawing, drawing_of
 from .errors import HelgrothyError, NoPicture, OutOfTime, TableFault
 from .export import FORMATS
 from .lint import lint
-from .listing import Step
+from .listing import Step, untold
 from .make import KINDS, kind_of
 from .make.kind import Found, Kind, read_text
 from .page import commands as pages
@@ -204,9 +204,12 @@ def _make_and_solve(arguments: argparse.Namespace) -> int:
 def _show_found(found: Found, arguments: argparse.Namespace) -> int:
     """Shows the one solution that a search of another kind found."""
     options = found.problem.options
-    show = _showing(found.problem, arguments, _listed_options, page=None)
-    show(1, [options[number] for number in found.numbers], lambda _: found.numbers, lambda: [])
+    page = _page(found.problem, arguments)
+    show = _showing(found.problem, arguments, _listed_options, page)
+    show(1, [options[number] for number in found.numbers], lambda _: found.numbers, lambda: untold(found.numbers))
     console.say(found.remark)
+    if page is not None:
+        write([page.text(1, False, [found.remark])])
     return 0
 
 
@@ -216,8 +219,6 @@ def _check_one(arguments: argparse.Namespace) -> None:
         raise ValueError("this search finds one solution: without --all, --limit and --number")
     if arguments.shuffle is not None or arguments.up_to_symmetry:
         raise ValueError("this search has an order of its own: without --shuffle and --up-to-symmetry")
-    if arguments.html:
-        raise ValueError("a page shows how dlx1 to dlx3 went to each solution, and this is a search of another kind")
 
 
 def _show(problem: Problem[Any], arguments: argparse.Namespace) -> int:

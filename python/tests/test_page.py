@@ -186,14 +186,19 @@ class Forms(unittest.TestCase):
     def setUp(self):
         folder = tempfile.TemporaryDirectory()
         self.addCleanup(folder.cleanup)
-        before = os.getcwd()
-        self.addCleanup(os.chdir, before)
-        os.chdir(folder.name)
+        self.folder = folder.name
+        self.addCleanup(os.chdir, os.getcwd())
+        self.leave()
+
+    def leave(self):
+        """Goes to a folder that is empty."""
+        os.chdir(tempfile.mkdtemp(dir=self.folder))
 
     def test_examples_of_all_kinds_are_problems(self):
         for kind in make.KINDS:
             if kind in forms.EXAMPLES:
                 with self.subTest(kind=kind):
+                    self.leave()
                     problem = forms.problem(kind, forms.EXAMPLES[kind])
                     self.assertTrue(problem.comments[0].startswith(f"helgrothy make {kind}"))
         told = {form["name"]: form for form in forms.forms()}
@@ -205,7 +210,11 @@ class Forms(unittest.TestCase):
     def test_options_and_texts(self):
         region = forms.problem("polyominoes", {"pieces": "L\nLL\n\nII", "region": "...\n.#.\n", "no_turns": True})
         self.assertIn("...", region.comments)
+        with self.assertRaises(FileExistsError):
+            forms.problem("polyominoes", {"pieces": "L\nLL", "region": "..."})
+        self.leave()
         self.assertEqual(forms.problem("queens", {"board": "5"}).text, make.queens.problem(5).text)
+        self.leave()
         clues = forms.EXAMPLES["sudoku"]["clues"]
         rows = "\n".join(clues[start : start + 9] for start in range(0, 81, 9))
         self.assertEqual(forms.problem("sudoku", {"clues": rows}).text, forms.problem("sudoku", {"clues": clues}).text)
@@ -216,12 +225,16 @@ class Forms(unittest.TestCase):
             file.flush()
             name = os.path.basename(file.name)
             os.symlink(file.name, "link")
+            with self.assertRaises(FileExistsError):
+                forms.problem("queens", {"board": "link"})
             for word in (file.name, f"../{name}", f"/{file.name}", "/dev/stdin", "/proc/self/environ", ".."):
+                self.leave()
                 with self.subTest(word=word), self.assertRaises((ValueError, HelgrothyError)) as caught:
                     forms.problem("queens", {"board": word})
                 # It is taken for a picture of one row.
                 self.assertIn("line 1", str(caught.exception))
         for word in ("-", ".", "~"):
+            self.leave()
             self.assertEqual(len(forms.problem("queens", {"board": word}).options), 1)
 
     def test_faults(self):
@@ -230,6 +243,7 @@ class Forms(unittest.TestCase):
             ("langford", {"pairs": "x"}), ("polyominoes", {"pieces": "pentominoes"}), ("sudoku", {"clues": "\udcff\0"}),
             ("roster", {"table": "a" * 5000}), ("words", {"grid": "..", "list": "\x1b[2J"}),
         ):  # fmt: skip
+            self.leave()
             with self.subTest(kind=kind, values=values), self.assertRaises((ValueError, HelgrothyError)):
                 problem = forms.problem(kind, values)
                 raise ValueError(f"{len(problem.options)} options") if kind == "words" else AssertionError
@@ -238,7 +252,7 @@ class Forms(unittest.TestCase):
 class Requests(unittest.TestCase):
     def test_what_is_no_request(self):
         for raw in (
-            b"", b"[]", b"null", b"{", b"\xff", b'{"what":"read"}', b'{"text":1}', b'{"limit":0}', b'{"limit":1001}', b'{"limit":true}',
+            b"", b"[]", b"null", b"{", b"\xff", b'{"what":"read"}', b'{"way":"x"}', b'{"text":1}', b'{"limit":0}', b'{"limit":1001}', b'{"limit":true}',
             b'{"limit":1.5}', b'{"seconds":0}', b'{"seconds":1e9}', b'{"seconds":NaN}', b'{"values":[]}', b'{"file":"x"}',
             b'{"limit":' + b"9" * 5000 + b"}",
         ):  # fmt: skip
@@ -257,6 +271,10 @@ class Requests(unittest.TestCase):
         self.assertEqual(last, {"end": {"total": 4, "complete": True, "notes": []}})
         self.assertEqual(self.told(what="solve", text="a\nb\n")[0]["error"], "the text has faults")
         self.assertEqual(len(self.told(what="solve", text=make.queens.problem(8).text, limit=3)), 5)
+        self.assertEqual(len(self.told(what="solve", text=make.queens.problem(8).text, way="symmetry")), 14)
+        shuffled = self.told(what="solve", text=make.queens.problem(6).text, way="random")[1]["solution"]["steps"]
+        self.assertEqual(len(shuffled), 6)
+        self.assertIn("takes a board", self.told(what="solve", text="a\na\n", way="symmetry")[-1]["error"])
         self.assertEqual(self.told(what="solve", text="a\na\n", cell="(")[0]["error"][:19], "a pattern is wrong:")
         ended = self.told(what="solve", text="a b\na\n")[-1]["end"]
         self.assertEqual(ended["notes"], ["can't all be held: b", "it is in no option"])

@@ -9,6 +9,8 @@ from __future__ import annotations
 
 import json
 import os
+import random
+import re
 import resource
 import signal
 import sys
@@ -16,15 +18,17 @@ import threading
 import time
 from contextlib import suppress
 from dataclasses import dataclass, field, fields
-from typing import Any, Dict, Iterator, List, Mapping, Optional
+from typing import Any, Dict, Iterator, List, Mapping, Optional, Union
 
-from .. import why
+from .. import shuffle, symmetry, why
 from ..console import limited
 from ..draw import drawing_of
 from ..errors import HelgrothyError, NoPicture, OutOfTime, reason_of
 from ..lint import Remark, lint
-from ..problem import Problem
+from ..make import KINDS, kind_of
+from ..problem import Problem, Solutions
 from ..shown import shown
+from ..stream import Stream
 from ..table import by_patterns
 from . import forms
 from .record import Draw, Record
@@ -44,12 +48,16 @@ _MORE_SECONDS = 10
 
 @dataclass(frozen=True)
 class Request:
-    """What a page asks: to `lint` or to `solve` a text, or to solve a kind with values for its fields."""
+    """What a page asks: to `lint` or to `solve` a text, or to solve a kind with values for its fields.
+
+    way: "" for the order of the search, `random` for a random one, `symmetry` for one of each set of images.
+    """
 
     what: str = "lint"
     text: str = ""
     kind: str = ""
     values: Mapping[str, object] = field(default_factory=dict)
+    way: str = ""
     limit: int = 20
     seconds: float = 10.0
     cell: str = ""
@@ -70,6 +78,8 @@ class Request:
         request = cls(**told)
         if request.what not in ("lint", "solve"):
             raise ValueError("a page asks to lint or to solve")
+        if request.way not in ("", "random", "symmetry"):
+            raise ValueError("a page asks for solutions in order, at random or up to symmetry")
         if not 1 <= request.limit <= MOST_LIMIT:
             raise ValueError(f"from 1 to {MOST_LIMIT} solutions are shown")
         if not 0 < request.seconds <= MOST_SECONDS:
@@ -84,6 +94,8 @@ def answer(request: Request) -> Iterator[str]:
             yield from _lint(request) if request.what == "lint" else _Solving(request).lines()
     except (MemoryError, RecursionError):
         yield _line({"error": "it took more memory than it may"})
+    except (re.error, OverflowError) as error:
+        yield _line({"error": f"a pattern is wrong: {error}"})
     except (HelgrothyError, ValueError, OSError) as error:
         yield _line({"error": shown(reason_of(error))})
 
@@ -148,10 +160,10 @@ class _Solving:
     def _search(self, problem: Problem[Any], record: Record) -> Iterator[str]:
         shown, length = 0, 0
         try:
-            with problem.solve(self._request.limit, seconds=self._left()) as solutions:
-                for solution in solutions:
+            with self._found(problem) as solutions:
+                for found in solutions:
                     shown += 1
-                    line = record.solution(shown, solution.steps)
+                    line = record.solution(shown, found.steps)
                     length += len(line)
                     yield line
                     if length > _MOST_TOLD:
@@ -163,6 +175,19 @@ class _Solving:
         # None where so much was told that it was left.
         total = shown if solutions.total is None else solutions.total
         yield record.end(total, bool(solutions.complete), [] if total else self._reasons(problem))
+
+    def _found(self, problem: Problem[Any]) -> Union[Solutions[Any], Stream[Any]]:
+        limit, seconds = self._request.limit, self._left()
+        if self._request.way == "random":
+            return shuffle.solve(problem, random.SystemRandom().getrandbits(32), limit, seconds=seconds)
+        if self._request.way == "symmetry":
+            kind = KINDS.get(kind_of(problem.comments) or "")
+            cell = self._request.cell or (kind.cell if kind else None)
+            if cell is None:
+                raise ValueError("up to symmetry: that takes a board or a box, or the pattern of its cells")
+            plan = symmetry.plan(problem, symmetry.motions(problem, cell))
+            return symmetry.solve(problem, plan, limit, seconds=seconds)
+        return problem.solve(limit, seconds=seconds)
 
     def _left(self) -> float:
         return max(self._deadline - time.monotonic(), 0.01)

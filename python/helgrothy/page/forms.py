@@ -7,7 +7,7 @@ from __future__ import annotations
 
 import argparse
 from dataclasses import dataclass
-from typing import Any, Dict, Iterator, List, Mapping, NoReturn, Tuple
+from typing import Any, Dict, Iterator, List, Mapping, NoReturn, Set, Tuple
 
 from ..make import KINDS
 from ..make.kind import Kind
@@ -33,6 +33,8 @@ EXAMPLES: Dict[str, Dict[str, str]] = {
     },
     "roundrobin": {"teams": "ann home:1\nbob\ncat\ndan\neve\nfay away:5"},
     "polycubes": {"pieces": "soma", "box": "3x3x3"},
+    "nonogram": {"clues": "1 1\n5\n5\n3\n1\n\n2\n4\n4\n4\n2"},
+    "kakuro": {"grid": "#   4\\  16\\ #\n\\8  .   .   13\\\n\\17 .   .   .\n#   \\8  .   ."},
     "tests": {
         "factors": "system linux mac\nbrowser firefox chrome\ndatabase postgresql mysql\nnetwork v4 v6",
         "tests": "5",
@@ -93,7 +95,7 @@ def forms() -> List[Dict[str, Any]]:
 def problem(name: str, values: Mapping[str, object]) -> Problem[Any]:
     """The problem of a kind with these values: texts, and True for what is set.
 
-    Writes files into the current folder, which is its own. Raises `ValueError`, `HelgrothyError` and `OSError`.
+    Writes files into the current folder, which is empty before. Raises `ValueError`, `HelgrothyError` and `OSError`.
     """
     if name not in KINDS:
         raise ValueError("no such kind")
@@ -106,12 +108,13 @@ def problem(name: str, values: Mapping[str, object]) -> Problem[Any]:
 
 def _words(kind: Kind, values: Mapping[str, object]) -> Iterator[str]:
     places = []
+    files: Set[str] = set()
     for number, field in enumerate(fields(kind), 1):
         value = values.get(field.name)
         if field.is_flag and value is True:
             yield field.option
         elif not field.is_flag and isinstance(value, str) and value.strip():
-            word = _word(value, number)
+            word = _word(value, number, files)
             if field.option:
                 yield f"{field.option}={word}"
             else:
@@ -120,16 +123,18 @@ def _words(kind: Kind, values: Mapping[str, object]) -> Iterator[str]:
     yield from places
 
 
-def _word(value: str, number: int) -> str:
+def _word(value: str, number: int, files: Set[str]) -> str:
     """A word for what was typed: itself, which is then also the name of a file with that text, or such a name.
 
-    So a command takes it as a word or as a file, and whichever file it names is this one.
+    So a command takes it as a word or as a file, and whichever file it names is this one, which is among `files` then.
     """
     text = value.replace("\r", "").strip("\n")
     line = text.strip()
     raw = line.encode("utf-8", "replace")
     is_name = line.isprintable() and "/" not in line and len(raw) <= _LONGEST_NAME and line not in (".", "..", "-")
     name = raw.decode() if is_name else f"field{number}"
-    with open(name, "wb") as file:
-        file.write(f"{text}\n".encode("utf-8", "replace"))
+    if name not in files:
+        with open(name, "xb") as file:
+            file.write(f"{text}\n".encode("utf-8", "replace"))
+        files.add(name)
     return name

@@ -187,7 +187,7 @@ class Search {
   request() {
     const limit = Math.min(Math.max(parseInt(get("limit").value, 10) || 1, 1), 1000);
     get("limit").value = limit;
-    const asked = { what: "solve", limit, seconds: Number(get("seconds").value) };
+    const asked = { what: "solve", limit, way: get("order").value, seconds: Number(get("seconds").value) };
     if (!get("kinds").hidden) return { ...asked, ...kinds.request() };
     const patterns = Object.fromEntries(["cell", "row", "column", "label"].map((name) => [name, get(name).value]));
     return { ...asked, text: get("text").value, ...patterns };

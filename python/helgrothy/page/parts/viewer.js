@@ -13,6 +13,7 @@ const MOST_WORDS = 200;
 const MOST_NAMES = 40;
 const MOST_LINES = 30;
 
+const sentence = (text) => `${text[0].toUpperCase()}${text.slice(1).replace(/\.$/, "")}.`;
 const get = (id) => document.getElementById(id);
 const counted = (count, one, more = `${one}s`) => `${count.toLocaleString("en")} ${count === 1 ? one : more}`;
 
@@ -192,10 +193,10 @@ class Viewer {
     const told = [counted(this.ended ? this.ended.total : all, "solution")];
     if (!this.ended) told.push("and it searches on");
     else if (all < this.ended.total) told.push(`${all.toLocaleString("en")} of them here`);
-    if (this.ended) told.push(this.ended.complete ? "all that there are" : "there may be more", ...this.ended.notes);
+    if (this.ended) told.push(this.ended.complete ? "all that there are" : "there may be more");
     const wanted = this.wanted().map((words) => words.join(" ")).join(" and ");
     if (wanted) told.push(`${this.found.length.toLocaleString("en")} with ${wanted}`);
-    return `${told.join("; ")}.`;
+    return [told.join("; "), ...(this.ended ? this.ended.notes : [])].filter(Boolean).map(sentence).join(" ");
   }
 
   showOne() {
@@ -223,7 +224,12 @@ class Viewer {
       rows.push(made("tr", {}, made("td"), made("td", { colSpan: 3, textContent: `and ${counted(steps.length - MOST_STEPS, "step")} more` })));
     }
     get("steps").replaceChildren(...rows);
-    get("told").textContent = this.way(solution, same);
+    const isKnown = steps.some(([, , , branches]) => branches);
+    get("way").classList.toggle("unknown", !isKnown);
+    get("went").textContent = isKnown ? "How the search went to it" : "Its options";
+    get("items").textContent = isKnown ? "Items, from the one at which it chose" : "Items";
+    const way = isKnown ? this.way(solution, same) : `${counted(steps.length, "option")}.`;
+    get("told").textContent = `Solution ${solution.number.toLocaleString("en")}: ${way}`;
   }
 
   way(solution, same) {
@@ -240,7 +246,7 @@ class Viewer {
       told.push(`by its branches about ${(100 * before).toFixed(before < 0.1 ? 2 : 1)} % of the search lies before it`);
     }
     if (same) told.push(`the first ${counted(same, "step")} as in solution ${solution.number - 1}`);
-    return `Solution ${solution.number.toLocaleString("en")}: ${told.join("; ")}.`;
+    return `${told.join("; ")}.`;
   }
 
   row([item, option, branch, branches], place, same, wanted) {
