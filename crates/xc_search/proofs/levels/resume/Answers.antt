@@ -1,15 +1,21 @@
 use Rattle.xc_search.proofs.stacked.BackAtLevel.{finished}
-use Rattle.std.proofs.Common.{◌<◌, ◌∷◌, drop, false, arith}
+use Rattle.std.proofs.Common.{◌<◌, ◌≤◌, ◌∷◌, drop, false, arith}
 use Rattle.xc_search.specs.inner.Levels.{AreStacked}
 use Rattle.xc_search.specs.inner.Ahead.{GoesOn, visits}
 use Rattle.xc_search.proofs.stacked.Led.{keeps_back}
 use Rattle.xc_search.proofs.stacked.LoopSteps.{GoesOn-trans, goes_on_to}
+use Rattle.xc_search.proofs.ends.Steps.{Pays-trans, Pays-refl, pays_next, pays_back}
 use Rattle.xc_search.proofs.levels.resume.Goals as goal
 use Rattle.xc_search.proofs.levels.resume.Goals.{In-Some, After-pop}
 use Rattle.xc_search.proofs.stacked.LoopSteps.{enters_next}
 
 pub loop-level-init : goal.loop-level-init
-loop-level-init g c = grind (arith)
+loop-level-init g c = record {
+  goes_on = grind (arith);
+  path = λ x u a. a;
+  pays = λ m. Pays-refl;
+  less = omega arith;
+}
 
 stacked : (g : _) (c : In-Some g) → AreStacked c.loop-level.position.puzzle c.loop-level.position.trail
     (c.in-Some.level.now ∷ drop 1 c.loop-level.stack.levels)
@@ -47,4 +53,22 @@ pub loop-level-smaller : goal.loop-level-smaller
 loop-level-smaller g c = (back g c).1
 
 pub loop-level-preserved : goal.loop-level-preserved
-loop-level-preserved g c = grind (arith, GoesOn-trans, back g c, keeps_back)
+loop-level-preserved g c =
+    let is = c.loop-level.invariant in
+    let ended : c.in-Some.level.now.count ≤ c.in-Some.level.now.begun = omega (arith, c.if-level.false) in
+    record {
+      goes_on = GoesOn-trans _ _ _ _ _ _ _ _ _ is.goes_on (back g c).0;
+      path = λ x u a. keeps_back x c.loop-level.position c.end_level.new.position c.in-Some.level.now c.loop-level.stack
+          c.pop.new.self c.in-Some.ensures.some c.end_level.ensures c.pop.ensures u (is.path x u a);
+      pays = λ m. Pays-trans (is.pays m) (pays_back c.loop-level.position c.end_level.new.position
+          c.in-Some.level.now c.loop-level.stack c.pop.new.self is.goes_on.standing.stacked c.in-Some.ensures.some
+          ended c.end_level.ensures c.pop.ensures m);
+      less = omega (arith, is.less, (back g c).1);
+    }
+
+pub returns-then-level-clause-resumed_pays : goal.returns-then-level-clause-resumed_pays
+returns-then-level-clause-resumed_pays g c = λ m.
+    Pays-trans (c.loop-level.invariant.pays m) (pays_next c.loop-level.position c.enter_next-branch.new.position
+    c.in-Some.level.now c.enter_next-branch.result c.loop-level.stack c.note_branch.new.self
+    c.loop-level.invariant.goes_on.standing.stacked c.in-Some.ensures.some c.enter_next-branch.ensures.still
+    c.enter_next-branch.ensures.undone c.enter_next-branch.ensures.entered c.note_branch.ensures m)
