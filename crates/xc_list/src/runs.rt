@@ -1,7 +1,7 @@
 //! A run over a search.
 ghost use Rattle.std.specs.Prelude.{◌≡◌, ℕ, ◌+◌, ◌-◌, ◌<◌, ◌≤◌, false, [], All, IfOk, IsTrue, MatchResult};
 ghost use Rattle.std.specs.Prelude.{OnErr, length};
-ghost use Rattle.xc_list.specs.Texts.{Writes, Took};
+ghost use Rattle.xc_list.specs.Texts.{seen, Writes};
 ghost use Rattle.xc_search.specs.Cover.{members, EachMemberCovers, EachCoverIsListedOnce};
 ghost use Rattle.xc_search.specs.Room.{room_for};
 ghost use Rattle.xc_list.specs.Output.{is_printed};
@@ -153,7 +153,7 @@ pub fn run_over<D: Dance, S: Sink>(
     requires room { room_for problem.now.puzzle ≤ (D.state dance).room }
     ensures dance { D.state result.0 ≡ D.state dance }
     ensures run { AnswersRun problem.now words.spacing words.limit
-        (S.state sink.old) (S.state sink.new) result.1 }
+        (seen S.state sink.old) (seen S.state sink.new) result.1 }
     ensures right { EachMemberCovers problem.now.puzzle }
     ensures complete { EachCoverIsListedOnce problem.now.puzzle }
 {
@@ -179,7 +179,7 @@ pub fn run_over_links<S: Sink>(
 ) -> Result<(Links, Result<End, Memory>), Memory>
     ensures built { IfOk result (λ back. IsSame back.0.puzzle back.0.trail problem.now.puzzle []) }
     ensures run { MatchResult result (λ back. AnswersRun problem.now words.spacing words.limit
-        (S.state sink.old) (S.state sink.new) back.1) (λ _. Took (S.state sink.old) (S.state sink.new) []) }
+        (seen S.state sink.old) (seen S.state sink.new) back.1) (λ _. sink.new ≡ sink.old) }
     ensures right { EachMemberCovers problem.now.puzzle }
     ensures complete { EachCoverIsListedOnce problem.now.puzzle }
 {
@@ -196,7 +196,7 @@ pub fn run<S: Sink>(
     sink: &mut S,
 ) -> Result<End, Memory>
     ensures run { AnswersRun problem.now words.spacing words.limit
-        (S.state sink.old) (S.state sink.new) result }
+        (seen S.state sink.old) (seen S.state sink.new) result }
     ensures right { EachMemberCovers problem.now.puzzle }
     ensures complete { EachCoverIsListedOnce problem.now.puzzle }
 {
