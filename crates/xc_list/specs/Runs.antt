@@ -1,7 +1,7 @@
 -- What a run writes, and its end.
 use Rattle.std.specs.Prelude.{ℕ, ◌+◌, ◌-◌, ◌*◌, ◌≤◌, ◌≡◌, Bool, true, List, [], length, Some, Result, MatchResult, if◌then◌else◌}
 use Rattle.std.specs.Prelude.{nat_lt}
-use Rattle.xc_list.specs.Texts.{SinkState, Took, BrokeOff, Behind}
+use Rattle.xc_list.specs.Texts.{Seen, SinkState, Took, BrokeOff, Behind}
 use Rattle.xc_dance.specs.declared.dance.Memory.{Memory}
 use Rattle.xc_search.specs.declared.choice.Choice.{Choice}
 use Rattle.xc_input.specs.Problem.{Puzzle, numbered_get}
@@ -31,10 +31,10 @@ abbrev pub IsRun : Named → ℕ → ℕ → SinkState → SinkState → End →
 IsRun a spacing limit old new (WriteFailed t) = StoppedAt a spacing limit t old new
 IsRun a spacing limit old new end = (end ≡ end_of a limit) × Took old new (output a spacing limit)
 
--- What a run answers: its end, with what was written up to it; or, where there was no memory for the search, nothing
--- was written.
-abbrev pub AnswersRun : Named → ℕ → ℕ → SinkState → SinkState → Result End Memory → Type 0
-AnswersRun a spacing limit old new r = MatchResult r (IsRun a spacing limit old new) (λ _. Took old new [])
+-- What a run answers: its end, with what was written up to it; or, where there was no memory for the search, the sink
+-- wasn't touched.
+abbrev pub AnswersRun : {S : Type 0} → Named → ℕ → ℕ → Seen S SinkState → Seen S SinkState → Result End Memory → Type 0
+AnswersRun a spacing limit old new r = MatchResult r (IsRun a spacing limit old.state new.state) (λ _. new ≡ old)
 
 -- how many members a run had reached when it ended
 abbrev pub solutions_found : End → ℕ

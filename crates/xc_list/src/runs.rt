@@ -1,7 +1,7 @@
 //! A run over a search.
 ghost use Rattle.std.specs.Prelude.{◌≡◌, ℕ, ◌+◌, ◌-◌, ◌<◌, ◌≤◌, false, [], All, IfOk, IsTrue, MatchResult};
 ghost use Rattle.std.specs.Prelude.{OnErr, length};
-ghost use Rattle.xc_list.specs.Texts.{Writes, Took};
+ghost use Rattle.xc_list.specs.Texts.{seen, Writes};
 ghost use Rattle.xc_search.specs.Cover.{members, EachMemberCovers, EachCoverIsListedOnce};
 ghost use Rattle.xc_search.specs.Room.{room_for};
 ghost use Rattle.xc_search.specs.Listing.{whole};
@@ -167,7 +167,7 @@ pub fn run_over<D: Dance, S: Sink>(
         (MakesFew problem.now.puzzle (moves_made (D.state dance)) (moves_made (D.state result.0))) }
     ensures back { OnErr result.1 (D.state result.0 ≡ D.state dance) }
     ensures run { AnswersRun problem.now words.spacing words.limit
-        (S.state sink.old) (S.state sink.new) result.1 }
+        (seen S.state sink.old) (seen S.state sink.new) result.1 }
     ensures right { EachMemberCovers problem.now.puzzle }
     ensures complete { EachCoverIsListedOnce problem.now.puzzle }
 {
@@ -195,7 +195,7 @@ pub fn run_over_links<S: Sink>(
     ensures moves { IfOk result (λ back. IfOk back.1
         (MakesFew problem.now.puzzle 0 (moves_made (dancing_of back.0)))) }
     ensures run { MatchResult result (λ back. AnswersRun problem.now words.spacing words.limit
-        (S.state sink.old) (S.state sink.new) back.1) (λ _. Took (S.state sink.old) (S.state sink.new) []) }
+        (seen S.state sink.old) (seen S.state sink.new) back.1) (λ _. sink.new ≡ sink.old) }
     ensures right { EachMemberCovers problem.now.puzzle }
     ensures complete { EachCoverIsListedOnce problem.now.puzzle }
 {
@@ -212,7 +212,7 @@ pub fn run<S: Sink>(
     sink: &mut S,
 ) -> Result<End, Memory>
     ensures run { AnswersRun problem.now words.spacing words.limit
-        (S.state sink.old) (S.state sink.new) result }
+        (seen S.state sink.old) (seen S.state sink.new) result }
     ensures right { EachMemberCovers problem.now.puzzle }
     ensures complete { EachCoverIsListedOnce problem.now.puzzle }
 {

@@ -4,7 +4,7 @@ ghost use Rattle.std.specs.Prelude.{take, codes};
 ghost use Rattle.xc_search.specs.Room.{room_for};
 ghost use Rattle.xc_search.specs.InSpan.{left_of};
 ghost use Rattle.xc_list.specs.Known.{IsKnownChoice};
-ghost use Rattle.xc_list.specs.Texts.{Writes, Took, BrokeOff};
+ghost use Rattle.xc_list.specs.Texts.{seen, Writes, Took, BrokeOff};
 ghost use Rattle.xc_list.specs.SpanTexts.{row_text, end_at, members_text, listing_text};
 ghost use Rattle.xc_list.specs.SpanWords.{asked_of};
 ghost use Rattle.xc_list.specs.SpanRuns.{most_steps, OfSpan, AnswersSpan};
@@ -319,7 +319,8 @@ pub fn list_span_over<D: Dance, S: Sink>(
     requires none { (D.state dance).trail ≡ [] }
     requires room { room_for problem.now.puzzle ≤ (D.state dance).room }
     ensures dance { D.state result.0 ≡ record (D.state dance) { undone = (D.state result.0).undone } }
-    ensures span { AnswersSpan problem.now (asked_of words.now) (S.state sink.old) (S.state sink.new) result.1 }
+    ensures span { AnswersSpan problem.now (asked_of words.now)
+        (seen S.state sink.old) (seen S.state sink.new) result.1 }
 {
     let mut span = match Span::new(alloc, dance, problem, &words.from, words.end()) {
         Ok(span) => span,
@@ -341,7 +342,8 @@ pub fn list_span<S: Sink>(
     words: &SpanWords,
     sink: &mut S,
 ) -> Result<Went, SpanFault>
-    ensures { AnswersSpan problem.now (asked_of words.now) (S.state sink.old) (S.state sink.new) result }
+    ensures { AnswersSpan problem.now (asked_of words.now)
+        (seen S.state sink.old) (seen S.state sink.new) result }
 {
     match Links::new(alloc, problem, most_moves(problem)) {
         Ok(links) => {
