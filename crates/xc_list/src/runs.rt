@@ -51,7 +51,8 @@ impl End {
 fn is_printed(spacing: u64, number: u64) -> bool
     ensures { result ≡ is_printed spacing number }
 {
-    spacing != 0 && number % spacing == 0
+    // The first test spares a division where each solution is printed.
+    spacing == 1 || spacing != 0 && number % spacing == 0
 }
 
 /// Writes the solution at which a walk stands if its number is one to print.
@@ -87,6 +88,8 @@ fn steps_to_printed(spacing: u64, found: u64, limit: u64) -> u64
     let left = limit - found;
     if spacing == 0 {
         left
+    } else if spacing == 1 {
+        1
     } else {
         left.min(spacing - found % spacing)
     }
