@@ -69,7 +69,7 @@ fn listings(rt: HostRuntime) {
     let all = u64::MAX;
     assert!(rt; lists(alloc, SEVEN, all, 60, 0, SEVEN_LISTING));
     assert!(rt; lists(alloc, SEVEN, all, SEVEN_LISTING.len(), 0, SEVEN_LISTING));
-    assert!(rt; lists(alloc, SEVEN, all, 9, 2, &SEVEN_LISTING[..9]));
+    assert!(rt; lists(alloc, SEVEN, all, 9, 2, b"1:\n a d f"));
     assert!(rt; lists(alloc, THREE_ALIKE, 3, 100, 1, THREE_LISTING));
     assert!(rt; lists(alloc, SEVEN, all, 0, 2, b""));
     assert!(rt; lists(alloc, SEVEN, 0, 0, 1, b""));
