@@ -127,6 +127,13 @@ fn calls_of_steps(alloc: Global, problem: &Problem, steps: usize) -> Option<Call
     Some(search.close().calls)
 }
 
+/// The calls of a search that passes over all solutions at once, and is closed.
+fn calls_of_pass(alloc: Global, problem: &Problem) -> Option<Calls> {
+    let mut search = counted_search(alloc, problem)?;
+    let _ = search.pass(u64::MAX);
+    Some(search.close().calls)
+}
+
 /// Whether a run over the colours makes at least the moves of its solution, and the tables come back as built.
 fn moves_enough(alloc: Global, problem: &Problem, tray: &mut Tray) -> bool {
     on_one(run_counted(alloc, problem, ALL, tray), |back| {
@@ -270,6 +277,55 @@ fn a_level_undoes_its_tweaks_at_once(rt: HostRuntime) {
         assert!(rt;
             on_problem(alloc, Kind::Bounds, ALONE, |problem| {
                 is_tweaked(alloc, problem, steps, *calls)
+            })
+        );
+    }
+}
+
+/// An option for each two of four items, and of six. The first level is that of `a`, and each choice leaves two items
+/// fewer, each two of them in an option.
+const PAIRS_OF_4: &[u8] = b"a b c d\na b\na c\na d\nb c\nb d\nc d\n";
+
+const PAIRS_OF_6: &[u8] =
+    b"a b c d e f\na b\na c\na d\na e\na f\nb c\nb d\nb e\nb f\nc d\nc e\nc f\nd e\nd f\ne f\n";
+
+/// These problems with their solutions, the moves of a search that stops at each, and of one that passes over all.
+/// A level spends and covers its item, and each branch the other item of its option: 2 + 3 * (2 + 2 + 2) moves for
+/// four items, and 2 + 5 * (2 + 2 + 3 * (2 + 2 + 2)) for six. Where solutions are passed over, the last level and its
+/// branch are left out, but below the first solution, which is reached: 4 moves of each of the others.
+const PAIRS: [(&[u8], usize, u64, u64); 2] = [
+    (PAIRS_OF_4, 3, 20, 20 - 2 * 4),
+    (PAIRS_OF_6, 15, 112, 112 - 14 * 4),
+];
+
+/// So many moves, each undone by itself.
+fn each_undone(made: u64) -> Calls {
+    Calls {
+        made,
+        undone: made,
+        at_once: 0,
+    }
+}
+
+#[test]
+fn a_search_that_stops_at_each_solution_makes_all_moves(rt: HostRuntime) {
+    let alloc = rt.alloc();
+    for (text, solutions, moves, _passing) in &PAIRS {
+        assert!(rt;
+            on_problem(alloc, Kind::Plain, *text, |problem| {
+                calls_of_steps(alloc, problem, *solutions + 1) == Some(each_undone(*moves))
+            })
+        );
+    }
+}
+
+#[test]
+fn a_search_that_passes_over_solutions_leaves_out_their_last_choices(rt: HostRuntime) {
+    let alloc = rt.alloc();
+    for (text, _solutions, _moves, passing) in &PAIRS {
+        assert!(rt;
+            on_problem(alloc, Kind::Plain, *text, |problem| {
+                calls_of_pass(alloc, problem) == Some(each_undone(*passing))
             })
         );
     }

@@ -12,6 +12,8 @@ ghost use Rattle.xc_c.specs.Answers.{Counts, Lists, Searches, TellsFault};
 ghost use Rattle.xc_c.specs.Numbers.{version_number};
 
 mod numbers;
+#[cfg(test)]
+mod tests;
 mod texts;
 
 use crate::numbers::{

@@ -13,6 +13,7 @@ use Rattle.xc_dance.proofs.LinkedTables.Along.{IsAlong, IsNext, top_at, MayCommi
 pub record IsCommitting (Held : ℕ → Type 0) (off : ℕ → ℕ) (vs : ℕ → List Use) (s now : Linked) (q : ℕ) : Type 0 where
   pub puzzle : now.puzzle ≡ s.puzzle
   pub room : now.room ≡ s.room
+  pub undone : now.undone ≡ s.undone
   pub written : HasWritten s now
   pub along : (x : ℕ) → Held x → IsAlong s.puzzle (off x) (vs x) s.trail now.trail q
 

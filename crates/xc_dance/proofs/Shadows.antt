@@ -8,7 +8,7 @@ pub use types.Kit.{‵, raw, ◌⊛◌, ◌$◌, ◌∵◌, !, qed, keep, drop, 
 pub use types.Run.{enter, no_more, returns}
 pub use types.ByLocal.{alloc_all, pass_all, free_all, look_at, sets}
 pub use types.Part.{agg}
-pub use denote.Builtin.{RefOf}
+pub use denote.Builtin.{RefOf, usize}
 pub use denote.Exit.{yes}
 pub use denote.RattleType.{owns}
 pub use denote.Ref.{shr_vals, shr_Tells}

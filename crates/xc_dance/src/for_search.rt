@@ -22,6 +22,7 @@ impl Links {
           puzzle = problem.now.puzzle;
           trail = [];
           room = 2 * item_count problem.now.puzzle + 2 * use_count problem.now.puzzle.options;
+          undone = 0;
         }) }
     {
         Links::new(alloc, problem, room_for_search(problem))
@@ -36,6 +37,7 @@ impl Lists {
           puzzle = problem.now.puzzle;
           trail = [];
           room = 2 * item_count problem.now.puzzle + 2 * use_count problem.now.puzzle.options;
+          undone = 0;
         }) }
     {
         Lists::new(alloc, problem, room_for_search(problem))

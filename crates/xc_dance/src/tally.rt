@@ -29,4 +29,12 @@ impl Tally {
     {
         Tally {}
     }
+
+    /// So many times more.
+    #[inline(always)]
+    pub fn more(_before: &Tally, _times: &usize) -> Tally
+        ensures { result.count ≡ _before.now.count + _times.now }
+    {
+        Tally {}
+    }
 }

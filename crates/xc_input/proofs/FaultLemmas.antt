@@ -2,4 +2,5 @@
 pub mod FirstChecks
 pub mod Checks
 pub mod FirstFaults
+pub mod AgreeingTokens
 pub mod BooleanTests

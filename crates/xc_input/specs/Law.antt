@@ -1,9 +1,11 @@
--- Each list of lines has a first fault or stands for one problem.
+-- Each list of lines has a first fault or stands for one problem, and a token at fault has the fault of its line.
 -- What stands for one stands for it as each kind that allows more.
-use Rattle.std.specs.Prelude.{◌≡◌, ◌↔◌, ℕ, List, None}
+use Rattle.std.specs.Prelude.{◌≡◌, ◌↔◌, ◌+◌, ℕ, List, [], ◌∷◌, ◌++◌, None, Some, length, slice_get}
 use Rattle.xc_input.specs.declared.kind.Kind.{Kind}
 use Rattle.xc_input.specs.Named.{Named}
-use Rattle.xc_input.specs.FirstFault.{first_fault}
+use Rattle.xc_input.specs.declared.faulty.FaultyToken.{FaultyToken}
+use Rattle.xc_input.specs.FaultyTokens.{IsFaultyToken}
+use Rattle.xc_input.specs.FirstFault.{line_number, content, line_fault, first_fault}
 use Rattle.xc_input.specs.Text.{StandsFor}
 
 -- lines have no fault exactly where they stand for a problem
@@ -20,3 +22,9 @@ StandForOne = (kind : Kind) (lines : List (List ℕ)) (a b : Named) (is js : Lis
 abbrev pub StandAlso : Kind → Kind → Type 0
 StandAlso kind other = (lines : List (List ℕ)) (named : Named) (ignored : List ℕ)
     → StandsFor kind lines named ignored → StandsFor other lines named ignored
+
+-- where lines have no fault, and a token of the next one is at fault, that is this line's fault
+abbrev pub TokensAgree : Type 0
+TokensAgree = (kind : Kind) (lines : List (List ℕ)) (line : List ℕ) (t : FaultyToken) → line_fault kind lines ≡ None
+    → IsFaultyToken kind (slice_get (content lines) 0) line t
+    → line_fault kind (lines ++ line ∷ []) ≡ Some (line_number (length lines + 1), t.kind)

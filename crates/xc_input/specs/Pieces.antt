@@ -1,5 +1,5 @@
 -- What a source gave, in the pieces that its reads gave it in, and what reading a problem from it promises.
-use Rattle.std.specs.Prelude.{◌≡◌, ◌≢◌, ◌⊎◌, ℕ, ◌<◌, List, [], ◌∷◌, ◌++◌, false, Option, None, IfSome, length, All}
+use Rattle.std.specs.Prelude.{◌≡◌, ◌≢◌, ◌⊎◌, ℕ, ◌<◌, ◌≤◌, List, [], ◌∷◌, ◌++◌, false, Option, None, IfSome, length, All}
 use Rattle.std.specs.Prelude.{flat_map}
 use Prim.Native.Char.{code}
 use Rattle.std.specs.Io.KnownBytes.{Consumes}
@@ -47,14 +47,22 @@ pub record IsWhole (kind : Kind) (old new : SourceState) (named : Named) (ignore
 abbrev pub IsOpen : List ℕ → Type 0
 IsOpen bytes = (front : List ℕ) × (last : ℕ) × (bytes ≡ front ++ last ∷ []) × (last ≢ code "\n")
 
+-- What reads gave was whole lines without a fault, and a part of one more.
+pub record GaveFaultless (kind : Kind) (old new : SourceState) : Type 0 where
+  pub front : List ℕ
+  pub part : List ℕ
+  pub gave : Gave old new (front ++ part)
+  pub no_fault : line_fault kind (lines_of front) ≡ None
+  pub partial : has (code "\n") part ≡ false
+
 -- Why a source gave no problem: a text with this first fault, and its end, or a part after which each text has it; a
--- read that failed behind lines without a fault and a part of one more; or want of memory, before the end or behind a
--- last line that no line feed ends.
+-- read that failed; or want of memory, before the end or behind a last line that no line feed ends, and at most one
+-- read behind lines without a fault.
 abbrev pub IsPart : Kind → SourceState → SourceState → InputError → Type 0
 IsPart kind old new (Fault line fault) = (bytes : List ℕ) × ((GaveAll old new bytes
     × IsFirstFault kind bytes line fault) ⊎ (Gave old new bytes × (new.failures ≡ old.failures)
     × ((more : List ℕ) → IsFirstFault kind (bytes ++ more) line fault)))
-IsPart kind old new Device = (front : List ℕ) × (part : List ℕ) × Gave old new (front ++ part)
-    × Rose old.failures new.failures × (line_fault kind (lines_of front) ≡ None) × (has (code "\n") part ≡ false)
-IsPart kind old new Memory = (bytes : List ℕ) × (new.failures ≡ old.failures)
-    × (Gave old new bytes ⊎ (GaveAll old new bytes × IsOpen bytes))
+IsPart kind old new Device = GaveFaultless kind old new × Rose old.failures new.failures
+IsPart kind old new Memory = (bytes : List ℕ) × (before : SourceState) × (last : List (List ℕ))
+    × (Gave old new bytes ⊎ (GaveAll old new bytes × IsOpen bytes)) × (new.failures ≡ old.failures)
+    × GaveFaultless kind old before × (new.given ≡ before.given ++ last) × (length last ≤ 1)

@@ -1,6 +1,6 @@
 //! What holds of every text.
 
-ghost use Rattle.xc_input.specs.Law.{FaultlessStand, StandForOne, StandAlso};
+ghost use Rattle.xc_input.specs.Law.{FaultlessStand, StandForOne, StandAlso, TokensAgree};
 ghost use Rattle.xc_input.specs.declared.kind.Kind.TheVariants.{Plain, Colours, Bounds};
 
 /// A text has a first fault or stands for one problem, and never both. It ties the checks to the grammar, so that a
@@ -16,4 +16,10 @@ pub fn kinds_that_allow_more()
     ensures plain_as_colours { StandAlso Plain Colours }
     ensures plain_as_bounds { StandAlso Plain Bounds }
     ensures colours_as_bounds { StandAlso Colours Bounds }
+{}
+
+/// The token that `faulty_token` finds in a line has the fault that a reader tells of the line, behind lines without a
+/// fault.
+pub fn tokens_agree()
+    ensures { TokensAgree }
 {}

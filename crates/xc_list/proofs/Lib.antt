@@ -1,6 +1,7 @@
 pub mod CheckLemmas
 pub mod Digits
 pub mod OutputLemmas
+mod FewMoves
 pub mod NextPrinted
 pub mod Outputs
 pub mod PageLemmas

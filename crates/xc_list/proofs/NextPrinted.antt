@@ -14,6 +14,7 @@ use Rattle.std.proofs.Common.{drop, get_or}
 use Rattle.std.proofs.Common.{ap, append-nil, arith, length-drop}
 use Rattle.std.proofs.lemmas.List.{drop-drop, drop_more}
 use Rattle.xc_search.specs.Outlook.{Outlook, shown_after}
+use Rattle.xc_search.specs.Ends.{ends_after}
 use Rattle.xc_search.specs.Cover.{members}
 use Rattle.xc_search.proofs.stacked.PassedOver.{drop_past, shown_next, shown_past}
 use Rattle.xc_input.specs.Named.{Named}
@@ -48,7 +49,12 @@ pub record Reaches (a : Named) (spacing k t : ℕ) (o : Outlook) : Type 0 where
   pub same : output a spacing last ≡ output a spacing k
 
 pub reaches : (a : Named) (spacing k n : ℕ) (o p : Outlook) → o.to_come ≡ drop k (members a.puzzle)
-    → p ≡ record o { to_come = drop n o.to_come; shown = shown_after n o.to_come o.shown } → 0 < n
+    → p ≡ record o {
+      to_come = drop n o.to_come;
+      shown = shown_after n o.to_come o.shown;
+      ahead = ends_after n o.ahead;
+      made = p.made;
+    } → 0 < n
     → n ≤ length o.to_come → AreSilent spacing k (k + n) → Reaches a spacing k (k + n) p
 reaches a spacing k n o p come went some enough silent =
     let ms = members a.puzzle in
@@ -96,6 +102,11 @@ module _ {a : Named} {spacing k t : ℕ} {o : Outlook} (to : Reaches a spacing k
 
 -- where there were no more, none is shown and none is to come
 pub none_left : (n : ℕ) (o p : Outlook)
-    → p ≡ record o { to_come = drop n o.to_come; shown = shown_after n o.to_come o.shown } → length o.to_come < n
+    → p ≡ record o {
+      to_come = drop n o.to_come;
+      shown = shown_after n o.to_come o.shown;
+      ahead = ends_after n o.ahead;
+      made = p.made;
+    } → length o.to_come < n
     → (p.shown ≡ []) × (p.to_come ≡ [])
 none_left n o p w h = grind (arith, nat_tests, shown_past n o.to_come o.shown h, drop_past n o.to_come)

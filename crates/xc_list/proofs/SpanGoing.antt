@@ -36,7 +36,7 @@ pub record Called (p : Puzzle) (until r q : Option (List ℕ)) (was shown : List
       → IsSomeAnd q (λ b. IfSome until (λ u. precedes u b ≡ false))
 
 -- what a call of a search promises
-pub called : (o n : InSpan) (many steps : ℕ) (w : Went) → n ≡ record o { row = n.row; shown = n.shown }
+pub called : (o n : InSpan) (many steps : ℕ) (w : Went) → n ≡ record o { row = n.row; shown = n.shown; made = n.made }
     → IfSome o.row (λ a. left_of o ≡ between o.puzzle a (reached n) ++ left_of n)
     → IfSome o.row (λ a. length (between o.puzzle a (reached n)) ≡ w.members)
     → (0 < many → 0 < steps → IfSome o.row (λ a. IfSome n.row (λ b. precedes a b ≡ true)))
@@ -310,11 +310,11 @@ halts End e = inl refl
 halts Steps e = inr refl
 
 -- of a search that went on from another's row
-pub still_on : (f o n : InSpan) → o ≡ record f { row = o.row; shown = o.shown }
-    → n ≡ record o { row = n.row; shown = n.shown } → n ≡ record f { row = n.row; shown = n.shown }
-still_on f o n e h = h ∙ ap (λ (s : InSpan). record s { row = n.row; shown = n.shown }) e
+pub still_on : (f o n : InSpan) → o ≡ record f { row = o.row; shown = o.shown; made = o.made }
+    → n ≡ record o { row = n.row; shown = n.shown; made = n.made } → n ≡ record f { row = n.row; shown = n.shown; made = n.made }
+still_on f o n e h = h ∙ ap (λ (s : InSpan). record s { row = n.row; shown = n.shown; made = n.made }) e
 
-pub called_on : (f o n : InSpan) (many steps : ℕ) (w : Went) → o ≡ record f { row = o.row; shown = o.shown }
+pub called_on : (f o n : InSpan) (many steps : ℕ) (w : Went) → o ≡ record f { row = o.row; shown = o.shown; made = o.made }
     → Called o.puzzle o.until o.row n.row o.shown n.shown many steps w
     → Called f.puzzle f.until o.row n.row o.shown n.shown many steps w
 called_on f o n many steps w e c =

@@ -1,11 +1,14 @@
 -- What a run writes, and its end.
-use Rattle.std.specs.Prelude.{ℕ, ◌-◌, ◌≤◌, ◌≡◌, true, List, [], length, Some, Result, MatchResult, if◌then◌else◌}
+use Rattle.std.specs.Prelude.{ℕ, ◌+◌, ◌-◌, ◌*◌, ◌≤◌, ◌≡◌, Bool, true, List, [], length, Some, Result, MatchResult, if◌then◌else◌}
 use Rattle.std.specs.Prelude.{nat_lt}
-use Rattle.xc_list.specs.Texts.{SinkState, Took, BrokeOff, Behind}
+use Rattle.xc_list.specs.Texts.{Seen, SinkState, Took, BrokeOff, Behind}
 use Rattle.xc_dance.specs.declared.dance.Memory.{Memory}
 use Rattle.xc_search.specs.declared.choice.Choice.{Choice}
-use Rattle.xc_input.specs.Problem.{numbered_get}
+use Rattle.xc_input.specs.Problem.{Puzzle, numbered_get}
 use Rattle.xc_search.specs.Cover.{members}
+use Rattle.xc_search.specs.Ends.{ends, ends_after}
+use Rattle.xc_search.specs.Listing.{whole}
+use Rattle.xc_search.specs.Room.{room_for}
 use Rattle.xc_input.specs.Named.{Named}
 use Rattle.xc_list.specs.Output.{member_text, is_printed, output}
 use Rattle.xc_list.specs.declared.runs.End.{End}
@@ -28,13 +31,25 @@ abbrev pub IsRun : Named → ℕ → ℕ → SinkState → SinkState → End →
 IsRun a spacing limit old new (WriteFailed t) = StoppedAt a spacing limit t old new
 IsRun a spacing limit old new end = (end ≡ end_of a limit) × Took old new (output a spacing limit)
 
--- What a run answers: its end, with what was written up to it; or, where there was no memory for the search, nothing
--- was written.
-abbrev pub AnswersRun : Named → ℕ → ℕ → SinkState → SinkState → Result End Memory → Type 0
-AnswersRun a spacing limit old new r = MatchResult r (IsRun a spacing limit old new) (λ _. Took old new [])
+-- What a run answers: its end, with what was written up to it; or, where there was no memory for the search, the sink
+-- wasn't touched.
+abbrev pub AnswersRun : {S : Type 0} → Named → ℕ → ℕ → Seen S SinkState → Seen S SinkState → Result End Memory → Type 0
+AnswersRun a spacing limit old new r = MatchResult r (IsRun a spacing limit old.state new.state) (λ _. new ≡ old)
 
 -- how many members a run had reached when it ended
 abbrev pub solutions_found : End → ℕ
 solutions_found (Done n) = n
 solutions_found (Limit n) = n
 solutions_found (WriteFailed n) = n
+
+-- the ends of the search's tree that are left where a run ended: those behind the member that it had reached
+abbrev pub ends_left : Puzzle → End → List Bool
+ends_left p (Done n) = []
+ends_left p (Limit n) = ends_after n (ends (whole p))
+ends_left p (WriteFailed n) = ends_after n (ends (whole p))
+
+-- A run that ended so took its dance from so many moves ever made to so many: no more, for each end of the search's
+-- tree up to that member, than may stand at once.
+abbrev pub MakesFew : Puzzle → ℕ → ℕ → End → Type 0
+MakesFew p old new end =
+    new + room_for p * length (ends_left p end) ≤ old + room_for p * length (ends (whole p))

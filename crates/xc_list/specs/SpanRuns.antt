@@ -10,7 +10,7 @@ use Rattle.xc_search.specs.declared.span.Went.{Went}
 use Rattle.xc_search.specs.declared.span.Halt.TheVariants.{Member, End, Steps}
 use Rattle.xc_list.specs.SpanTexts.{end_at, span_text}
 use Rattle.xc_list.specs.SpanWords.{AskedSpan}
-use Rattle.xc_list.specs.Texts.{SinkState, Took, BrokeOff}
+use Rattle.xc_list.specs.Texts.{Seen, SinkState, Took, BrokeOff}
 use Rattle.xc_list.specs.declared.spans.SpanFault.{SpanFault}
 use Rattle.xc_list.specs.declared.spans.SpanFault.TheVariants.{Memory, WriteFailed}
 
@@ -42,10 +42,11 @@ pub record OfSpan (a : Named) (asked : AskedSpan) (went : Went)
   pub said : says old new (span_text a asked.listed asked.from row branches went.steps)
 
 -- What a run over a span answers: the sink took the text up to where it went; or it broke off in such a text; or, where
--- there was no memory for the search, nothing was written.
-abbrev pub AnswersSpan : Named → AskedSpan → SinkState → SinkState → Result Went SpanFault → Type 0
-AnswersSpan a asked old new (Ok went) = OfSpan a asked went Took old new
+-- there was no memory for the search, the sink wasn't touched.
+abbrev pub AnswersSpan : {S : Type 0} → Named → AskedSpan → Seen S SinkState → Seen S SinkState
+    → Result Went SpanFault → Type 0
+AnswersSpan a asked old new (Ok went) = OfSpan a asked went Took old.state new.state
 AnswersSpan a asked old new (Err e) = elim e [
-  | Memory ↦ Took old new []
-  | WriteFailed ↦ (went : Went) × OfSpan a asked went BrokeOff old new
+  | Memory ↦ new ≡ old
+  | WriteFailed ↦ (went : Went) × OfSpan a asked went BrokeOff old.state new.state
 ]

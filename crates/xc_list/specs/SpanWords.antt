@@ -1,6 +1,6 @@
 -- What the words of a run over a span ask for.
 use Rattle.std.specs.Prelude.{ℕ, ◌^◌, ◌==◌, Bool, true, false, not, List, [], ◌∷◌, Option, Some, None, codes}
-use Rattle.std.specs.Prelude.{nat_lt, option_map, option_and_then, if◌then◌else◌}
+use Rattle.std.specs.Prelude.{nat_lt, option_map, option_and_then, if◌then◌else◌, ◌&&◌, is_some}
 use Rattle.std.specs.List.{slice_split}
 use Rattle.std.specs.Str.{byte, bytes_eq}
 use Rattle.xc_search.specs.Spans.{precedes}
@@ -52,6 +52,11 @@ asked_rows listed steps from until =
 abbrev pub asked_words : Bool → ℕ → List ℕ → List ℕ → Option AskedSpan
 asked_words listed steps from until = option_and_then (λ (f : List ℕ).
     option_and_then (λ (u : List ℕ). asked_rows listed steps f u) (row_word until)) (row_word from)
+
+-- whether reading words takes memory: four are right but for their rows, which may be
+abbrev pub take_memory : List (List ℕ) → Bool
+take_memory (m ∷ n ∷ from ∷ until ∷ []) = is_some (listing_word m) && is_some (long_number n)
+take_memory _ = false
 
 -- what four words ask for: a listing or a count, the most steps, and the two rows
 abbrev pub read_span_words : List (List ℕ) → Option AskedSpan

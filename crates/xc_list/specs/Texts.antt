@@ -3,6 +3,15 @@ use Rattle.std.specs.Prelude.{◌≡◌, ◌⊎◌, ℕ, ◌<◌, Bool, IsTrue, 
 use Rattle.std.specs.Io.KnownBytes.{Appends}
 use Rattle.xc_input.specs.Calls.{Rose}
 
+-- A source or a sink, and what is known of it.
+pub record Seen (T Known : Type 0) : Type 0 where
+  pub value : T
+  pub state : Known
+
+-- a value, and what is known of it
+abbrev pub seen : {T Known : Type 0} → (T → Known) → T → Seen T Known
+seen state x = record { value = x; state = state x }
+
 -- A sink: how many of its writes and flushes failed, up to the counter's last value; whether its last call did; the
 -- bytes that it took, where it tells them; whether it holds none of them back; and how often it was flushed.
 pub record SinkState : Type 0 where

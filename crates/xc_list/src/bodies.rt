@@ -21,8 +21,6 @@ use xc_input::{Problem, Use};
 
 /// The texts of options one behind another, with the places where they start and at last the length of
 /// all, and behind them a few bytes more.
-/// With ends of lines that are made at once, a listing took between a fourth and two fifths of the time of one in
-/// pieces.
 #[derive(Drop)]
 struct Layout {
     texts: Vec<u8>,

@@ -347,8 +347,7 @@ fn write_in_pieces<'a, D: Dance, S: Sink>(
 }
 
 /// Writes the solution at which a walk stands as `write_member` does, but where options are laid out puts its lines
-/// together on a page and lets the sink take them at once. With three writes a line these took two fifths of what
-/// printing takes.
+/// together on a page and lets the sink take them at once.
 // Out of line: among the search's values too few would be left in registers. It takes the walk and not a `Solution`,
 // which holds its address: the compiler would then copy the walk once more at each call of `pass`.
 #[inline(never)]

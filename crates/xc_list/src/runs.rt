@@ -1,12 +1,16 @@
 //! A run over a search.
 ghost use Rattle.std.specs.Prelude.{◌≡◌, ℕ, ◌+◌, ◌-◌, ◌<◌, ◌≤◌, false, [], All, IfOk, IsTrue, MatchResult};
 ghost use Rattle.std.specs.Prelude.{OnErr, length};
-ghost use Rattle.xc_list.specs.Texts.{Writes, Took};
+ghost use Rattle.xc_list.specs.Texts.{seen, Writes};
 ghost use Rattle.xc_search.specs.Cover.{members, EachMemberCovers, EachCoverIsListedOnce};
 ghost use Rattle.xc_search.specs.Room.{room_for};
+ghost use Rattle.xc_search.specs.Listing.{whole};
+ghost use Rattle.xc_search.specs.Ends.{ends};
+ghost use Rattle.xc_dance.specs.Dancing.{moves_made};
+ghost use Rattle.xc_dance.specs.Linked.{dancing_of};
 ghost use Rattle.xc_list.specs.Output.{is_printed};
 ghost use Rattle.xc_list.specs.Known.{IsKnownChoice};
-ghost use Rattle.xc_list.specs.Runs.{IsRun, AnswersRun, solutions_found};
+ghost use Rattle.xc_list.specs.Runs.{IsRun, AnswersRun, MakesFew, solutions_found};
 ghost use Rattle.xc_list.specs.inner.Ends.{printed_text, WentTo};
 ghost use Rattle.xc_dance.specs.Same.{IsSame};
 
@@ -47,7 +51,8 @@ impl End {
 fn is_printed(spacing: u64, number: u64) -> bool
     ensures { result ≡ is_printed spacing number }
 {
-    spacing != 0 && number % spacing == 0
+    // The first test spares a division where each solution is printed.
+    spacing == 1 || spacing != 0 && number % spacing == 0
 }
 
 /// Writes the solution at which a walk stands if its number is one to print.
@@ -83,6 +88,8 @@ fn steps_to_printed(spacing: u64, found: u64, limit: u64) -> u64
     let left = limit - found;
     if spacing == 0 {
         left
+    } else if spacing == 1 {
+        1
     } else {
         left.min(spacing - found % spacing)
     }
@@ -97,7 +104,14 @@ fn write_members<'a, D: Dance, S: Sink>(
 ) -> End
     requires puzzle { walk.old.puzzle ≡ bodies.now.puzzle }
     requires all { walk.old.to_come ≡ members bodies.now.puzzle }
-    ensures still { walk.new ≡ record walk.old { to_come = walk.new.to_come; shown = walk.new.shown } }
+    requires ends { walk.old.ahead ≡ ends (whole bodies.now.puzzle) }
+    ensures still { walk.new ≡ record walk.old {
+      to_come = walk.new.to_come;
+      shown = walk.new.shown;
+      ahead = walk.new.ahead;
+      made = walk.new.made;
+    } }
+    ensures moves { MakesFew bodies.now.puzzle walk.old.made walk.new.made result }
     ensures went { WentTo (members bodies.now.puzzle) walk.new result }
     ensures run { IsRun bodies.now words.now.spacing words.now.limit
         (S.state sink.old) (S.state sink.new) result }
@@ -151,9 +165,12 @@ pub fn run_over<D: Dance, S: Sink>(
     requires same { (D.state dance).puzzle ≡ problem.now.puzzle }
     requires none { (D.state dance).trail ≡ [] }
     requires room { room_for problem.now.puzzle ≤ (D.state dance).room }
-    ensures dance { D.state result.0 ≡ D.state dance }
+    ensures dance { D.state result.0 ≡ record (D.state dance) { undone = (D.state result.0).undone } }
+    ensures moves { IfOk result.1
+        (MakesFew problem.now.puzzle (moves_made (D.state dance)) (moves_made (D.state result.0))) }
+    ensures back { OnErr result.1 (D.state result.0 ≡ D.state dance) }
     ensures run { AnswersRun problem.now words.spacing words.limit
-        (S.state sink.old) (S.state sink.new) result.1 }
+        (seen S.state sink.old) (seen S.state sink.new) result.1 }
     ensures right { EachMemberCovers problem.now.puzzle }
     ensures complete { EachCoverIsListedOnce problem.now.puzzle }
 {
@@ -178,8 +195,10 @@ pub fn run_over_links<S: Sink>(
     sink: &mut S,
 ) -> Result<(Links, Result<End, Memory>), Memory>
     ensures built { IfOk result (λ back. IsSame back.0.puzzle back.0.trail problem.now.puzzle []) }
+    ensures moves { IfOk result (λ back. IfOk back.1
+        (MakesFew problem.now.puzzle 0 (moves_made (dancing_of back.0)))) }
     ensures run { MatchResult result (λ back. AnswersRun problem.now words.spacing words.limit
-        (S.state sink.old) (S.state sink.new) back.1) (λ _. Took (S.state sink.old) (S.state sink.new) []) }
+        (seen S.state sink.old) (seen S.state sink.new) back.1) (λ _. sink.new ≡ sink.old) }
     ensures right { EachMemberCovers problem.now.puzzle }
     ensures complete { EachCoverIsListedOnce problem.now.puzzle }
 {
@@ -196,7 +215,7 @@ pub fn run<S: Sink>(
     sink: &mut S,
 ) -> Result<End, Memory>
     ensures run { AnswersRun problem.now words.spacing words.limit
-        (S.state sink.old) (S.state sink.new) result }
+        (seen S.state sink.old) (seen S.state sink.new) result }
     ensures right { EachMemberCovers problem.now.puzzle }
     ensures complete { EachCoverIsListedOnce problem.now.puzzle }
 {

@@ -1,10 +1,10 @@
 //! The words of a run over a span.
-ghost use Rattle.std.specs.Prelude.{◌≡◌, ◌==◌, IfOk, map, option_map};
+ghost use Rattle.std.specs.Prelude.{◌≡◌, ◌==◌, IfOk, IsTrue, OnErr, map, option_map};
 ghost use Rattle.std.specs.List.{slice_split};
 ghost use Rattle.xc_search.specs.Spans.{precedes};
 ghost use Rattle.xc_list.specs.SpanTexts.{end_at};
 ghost use Rattle.xc_list.specs.SpanWords.{asked_of, listing_word, row_number, row_numbers, row_word, is_span};
-ghost use Rattle.xc_list.specs.SpanWords.{asked_rows, asked_words, read_span_words};
+ghost use Rattle.xc_list.specs.SpanWords.{asked_rows, asked_words, read_span_words, take_memory};
 
 use crate::words::long_number;
 use std::alloc::{AllocError, Global};
@@ -139,8 +139,9 @@ impl SpanWords {
     /// the first row `-` is the beginning of the listing, as the second its end. None for other words, and where the
     /// second row comes before the first.
     pub fn read(alloc: Global, words: &[Vec<u8>]) -> Result<Option<SpanWords>, AllocError>
-        ensures { IfOk result (λ found.
+        ensures asked { IfOk result (λ found.
             option_map asked_of found ≡ read_span_words (map (λ w. w.items) words.now)) }
+        ensures memory { OnErr result (IsTrue (take_memory (map (λ w. w.items) words.now))) }
     {
         let [listed, steps, from, until] = words else {
             return Ok(None);

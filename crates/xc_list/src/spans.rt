@@ -4,7 +4,7 @@ ghost use Rattle.std.specs.Prelude.{take, codes};
 ghost use Rattle.xc_search.specs.Room.{room_for};
 ghost use Rattle.xc_search.specs.InSpan.{left_of};
 ghost use Rattle.xc_list.specs.Known.{IsKnownChoice};
-ghost use Rattle.xc_list.specs.Texts.{Writes, Took, BrokeOff};
+ghost use Rattle.xc_list.specs.Texts.{seen, Writes, Took, BrokeOff};
 ghost use Rattle.xc_list.specs.SpanTexts.{row_text, end_at, members_text, listing_text};
 ghost use Rattle.xc_list.specs.SpanWords.{asked_of};
 ghost use Rattle.xc_list.specs.SpanRuns.{most_steps, OfSpan, AnswersSpan};
@@ -161,7 +161,11 @@ fn write_each<'a, D: Dance, S: Sink>(
 ) -> Result<Went, SinkFault>
     requires known { All (All (IsKnownChoice bodies.now.puzzle)) (left_of span.old) }
     requires some { 0 < most }
-    ensures still { span.new ≡ record span.old { row = span.new.row; shown = span.new.shown } }
+    ensures still { span.new ≡ record span.old {
+      row = span.new.row;
+      shown = span.new.shown;
+      made = span.new.made;
+    } }
     ensures wrote { MatchResult result
         (λ went. WentOn span.old.puzzle span.old.until span.old.row span.new.row most went ×
         Took (S.state sink.old) (S.state sink.new)
@@ -200,7 +204,11 @@ fn write_listing<'a, D: Dance, S: Sink>(
 ) -> Result<Went, SinkFault>
     requires known { All (All (IsKnownChoice bodies.now.puzzle)) (left_of span.old) }
     requires some { 0 < most }
-    ensures still { span.new ≡ record span.old { row = span.new.row; shown = span.new.shown } }
+    ensures still { span.new ≡ record span.old {
+      row = span.new.row;
+      shown = span.new.shown;
+      made = span.new.made;
+    } }
     ensures wrote { MatchResult result
         (λ went. WentOn span.old.puzzle span.old.until span.old.row span.new.row most went ×
         Took (S.state sink.old) (S.state sink.new)
@@ -216,7 +224,11 @@ fn write_listing<'a, D: Dance, S: Sink>(
 /// Passes over the members of a span that its search comes to, and answers how far it went.
 fn count<'a, D: Dance>(span: &mut Span<'a, D>, most: u64) -> Went
     requires some { 0 < most }
-    ensures still { span.new ≡ record span.old { row = span.new.row; shown = span.new.shown } }
+    ensures still { span.new ≡ record span.old {
+      row = span.new.row;
+      shown = span.new.shown;
+      made = span.new.made;
+    } }
     ensures went { WentOn span.old.puzzle span.old.until span.old.row span.new.row most result }
 {
     span.go_on(u64::MAX, most)
@@ -230,7 +242,11 @@ fn write_members<'a, D: Dance, S: Sink>(
     sink: &mut S,
 ) -> Result<Went, SinkFault>
     requires known { All (All (IsKnownChoice bodies.now.puzzle)) (left_of span.old) }
-    ensures still { span.new ≡ record span.old { row = span.new.row; shown = span.new.shown } }
+    ensures still { span.new ≡ record span.old {
+      row = span.new.row;
+      shown = span.new.shown;
+      made = span.new.made;
+    } }
     ensures wrote { MatchResult result
         (λ went. WentOn span.old.puzzle span.old.until span.old.row span.new.row
         (most_steps words.now.steps) went × Took (S.state sink.old) (S.state sink.new)
@@ -262,7 +278,11 @@ fn write_span<'a, D: Dance, S: Sink>(
     sink: &mut S,
 ) -> Result<Went, SinkFault>
     requires begun { IsBegun bodies.now.puzzle words.now.from.items (end_at words.now.until.items) span.old }
-    ensures still { span.new ≡ record span.old { row = span.new.row; shown = span.new.shown } }
+    ensures still { span.new ≡ record span.old {
+      row = span.new.row;
+      shown = span.new.shown;
+      made = span.new.made;
+    } }
     ensures wrote { SpanWritten bodies.now (asked_of words.now) (S.state sink.old) (S.state sink.new) result }
 {
     let went = write_members(span, bodies, words, sink)?;
@@ -298,8 +318,9 @@ pub fn list_span_over<D: Dance, S: Sink>(
     requires same { (D.state dance).puzzle ≡ problem.now.puzzle }
     requires none { (D.state dance).trail ≡ [] }
     requires room { room_for problem.now.puzzle ≤ (D.state dance).room }
-    ensures dance { D.state result.0 ≡ D.state dance }
-    ensures span { AnswersSpan problem.now (asked_of words.now) (S.state sink.old) (S.state sink.new) result.1 }
+    ensures dance { D.state result.0 ≡ record (D.state dance) { undone = (D.state result.0).undone } }
+    ensures span { AnswersSpan problem.now (asked_of words.now)
+        (seen S.state sink.old) (seen S.state sink.new) result.1 }
 {
     let mut span = match Span::new(alloc, dance, problem, &words.from, words.end()) {
         Ok(span) => span,
@@ -321,7 +342,8 @@ pub fn list_span<S: Sink>(
     words: &SpanWords,
     sink: &mut S,
 ) -> Result<Went, SpanFault>
-    ensures { AnswersSpan problem.now (asked_of words.now) (S.state sink.old) (S.state sink.new) result }
+    ensures { AnswersSpan problem.now (asked_of words.now)
+        (seen S.state sink.old) (seen S.state sink.new) result }
 {
     match Links::new(alloc, problem, most_moves(problem)) {
         Ok(links) => {

@@ -1,5 +1,6 @@
 pub mod Cases
 pub mod completeness
+pub mod ends
 pub mod listing
 pub mod moves
 pub mod residual

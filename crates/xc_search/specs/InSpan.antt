@@ -6,14 +6,15 @@ use Rattle.xc_search.specs.Listing.{Residual, Branch, branch_item, branches_of}
 use Rattle.xc_search.specs.Spans.{between}
 
 -- A search of a span of this problem's listing: the row from which on its members are left, if any are, the row before
--- which it ends, if not at the listing's end, the member at which it stands, as long as it does, and how many moves the
--- trail has room for.
+-- which it ends, if not at the listing's end, the member at which it stands, as long as it does, how many moves the
+-- trail has room for, and how many were ever made on its dance.
 pub record InSpan : Type 0 where
   pub puzzle : Puzzle
   pub row : Option (List ℕ)
   pub until : Option (List ℕ)
   pub shown : List Choice
   pub room : ℕ
+  pub made : ℕ
 
 -- the members that are left
 abbrev pub left_of : InSpan → List (List Choice)

@@ -1,4 +1,5 @@
 pub mod Listing
+pub mod Ends
 pub mod Cover
 pub mod Residuals
 pub mod Room

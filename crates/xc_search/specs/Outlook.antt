@@ -1,15 +1,22 @@
 -- What a search stands for.
-use Rattle.std.specs.Prelude.{ℕ, zero, suc, List, [], ◌∷◌}
+use Rattle.std.specs.Prelude.{ℕ, zero, suc, ◌+◌, ◌*◌, ◌≤◌, Bool, List, [], ◌∷◌, length}
 use Rattle.xc_search.specs.declared.choice.Choice.{Choice}
 use Rattle.xc_input.specs.Problem.{Puzzle}
+use Rattle.xc_search.specs.Room.{room_for}
 
--- A search of this problem: the members still to come, the one that was reached last, as long as it stands, and how
--- many moves the trail has room for.
+-- A search of this problem: the members still to come, the one that was reached last, as long as it stands, the ends of
+-- its tree still to come, how many moves the trail has room for, and how many were ever made on its dance.
 pub record Outlook : Type 0 where
   pub puzzle : Puzzle
   pub to_come : List (List Choice)
   pub shown : List Choice
+  pub ahead : List Bool
   pub room : ℕ
+  pub made : ℕ
+
+-- From s to n it made at most so many moves for each end that it went over as may stand at once.
+abbrev pub MakesFew : Outlook → Outlook → Type 0
+MakesFew s n = n.made + room_for s.puzzle * length n.ahead ≤ s.made + room_for s.puzzle * length s.ahead
 
 -- what is shown after n more of these members: the last of them, or none where there are fewer
 abbrev pub shown_after : ℕ → List (List Choice) → List Choice → List Choice

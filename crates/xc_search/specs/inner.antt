@@ -1,5 +1,6 @@
 pub mod Ahead
 pub mod Commits
+pub mod Due
 pub mod Levels
 pub mod MostLevels
 pub mod Paths

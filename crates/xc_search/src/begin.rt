@@ -1,5 +1,8 @@
 //! Beginning a search, with an error of its own.
 ghost use Rattle.std.specs.Prelude.{◌≡◌, ◌≤◌, [], IfOk, IfErr};
+ghost use Rattle.xc_dance.specs.Dancing.{moves_made};
+ghost use Rattle.xc_search.specs.Listing.{whole};
+ghost use Rattle.xc_search.specs.Ends.{ends};
 ghost use Rattle.xc_search.specs.Room.{room_for};
 ghost use Rattle.xc_search.specs.Cover.{members, EachMemberCovers, EachCoverIsListedOnce};
 
@@ -60,7 +63,9 @@ impl<'a, D: Dance> Search<'a, D> {
           puzzle = problem.now.puzzle;
           to_come = members problem.now.puzzle;
           shown = [];
+          ahead = ends (whole problem.now.puzzle);
           room = (D.state dance).room;
+          made = moves_made (D.state dance);
         }) }
         ensures right { EachMemberCovers problem.now.puzzle }
         ensures complete { EachCoverIsListedOnce problem.now.puzzle }

@@ -1,9 +1,12 @@
 //! The levels of the search.
-ghost use Rattle.std.specs.Prelude.{◌≡◌, ◌+◌, ◌<◌, ◌≤◌, ◌^◌, List, [], ◌∷◌, length, true, false, None, Bool};
+ghost use Rattle.std.specs.Prelude.{◌≡◌, ◌+◌, ◌-◌, ◌<◌, ◌≤◌, ◌^◌, List, [], ◌∷◌, length, true, false, None, Bool, ℕ};
 ghost use Rattle.std.specs.Prelude.{IfSome, IsNone};
 ghost use Rattle.xc_input.specs.Problem.{Puzzle};
+ghost use Rattle.xc_dance.specs.Dancing.{moves_made};
 ghost use Rattle.xc_search.specs.inner.MostLevels.{most_levels};
 ghost use Rattle.xc_search.specs.inner.Levels.{AreStacked, IsNext, IsSearchable, IsStanding, IsEntered, begun_level};
+ghost use Rattle.xc_search.specs.inner.Levels.{IsEarlyChoice};
+ghost use Rattle.xc_search.specs.inner.Due.{Pays};
 ghost use Rattle.xc_search.specs.inner.Commits.{oldest};
 ghost use Rattle.xc_search.specs.inner.Ahead.{work_left, GoesOn, EntersBranch, IsDone, branched};
 ghost use Rattle.xc_search.specs.inner.Ahead.{EntersOver, StandsOver, EndsOver, FallsBack};
@@ -56,6 +59,9 @@ pub fn deepen<D: Dance>(
     ensures deeper_path { (b : Entered) → result ≡ Below.Branch b → (exact : Bool) →
         IsChosenBy exact position.old.puzzle position.old.trail next →
         KeepsBy exact position.old stack.old (branched position.new b.item b.place) stack.new }
+    ensures deeper_pays { (b : Entered) → result ≡ Below.Branch b →
+        IsEarlyChoice position.old.puzzle position.old.trail next → (m : ℕ) →
+        Pays position.old stack.old true m (branched position.new b.item b.place) stack.new true m }
     ensures near { (b : Entered) → result ≡ Below.Branch b → b.place < 2 ^ 32 }
     ensures deeper_row { (b : Entered) → result ≡ Below.Branch b → Rises stack.old stack.new }
     ensures nothing { result ≡ Below.Nothing → GoesOn position.old stack.old true position.new stack.new false }
@@ -64,6 +70,8 @@ pub fn deepen<D: Dance>(
         work_left position.new stack.new false < work_left position.old stack.old true }
     ensures path { result ≡ Below.Nothing → (exact : Bool) →
         KeepsBy exact position.old stack.old position.new stack.new }
+    ensures nothing_pays { result ≡ Below.Nothing → (m : ℕ) →
+        Pays position.old stack.old true m position.new stack.new false m }
 {
     let Some((item, count)) = next else {
         return Below::Solution;
@@ -86,7 +94,10 @@ pub fn deepen<D: Dance>(
 /// Ends a level, the newest one.
 fn end_level<D: Dance>(position: &mut Position<D>, level: &Level)
     requires stacked { (p : Puzzle) × (ls : List Level) × AreStacked p position.old.trail (level.now ∷ ls) }
-    ensures { position.new ≡ record position.old { trail = oldest level.now.mark position.old.trail } }
+    ensures { position.new ≡ record position.old {
+      trail = oldest level.now.mark position.old.trail;
+      undone = position.old.undone + (length position.old.trail - level.now.mark);
+    } }
 {
     if level.tweaks > 0 {
         // Not set apart, though rare, as by a call that takes the state by value and gives it back.
@@ -109,7 +120,8 @@ fn behind(k: u32, many: u32) -> u32
 fn enter_next<D: Dance>(position: &mut Position<D>, level: &Level) -> Begun
     requires stacked { (ls : List Level) × AreStacked position.old.puzzle position.old.trail (level.now ∷ ls) }
     requires more { level.now.begun < level.now.count }
-    ensures still { position.new ≡ record position.old { trail = position.new.trail } }
+    ensures still { position.new ≡ record position.old { trail = position.new.trail; undone = position.new.undone } }
+    ensures undone { position.new.undone ≡ position.old.undone + (length position.old.trail - level.now.base) }
     ensures entered { IsEntered position.old.puzzle (oldest level.now.base position.old.trail) level.now
         position.new.trail (begun_level result level.now) }
 {
@@ -128,9 +140,13 @@ pub fn resume<D: Dance>(position: &mut Position<D>, stack: &mut Stack) -> Option
         KeepsBy exact position.old stack.old (branched position.new b.item b.place) stack.new) }
     ensures resumed_row { IfSome result (λ _. Rises stack.old stack.new) }
     ensures near { IfSome result (λ b. b.place < 2 ^ 32) }
+    ensures resumed_pays { IfSome result (λ b. (m : ℕ) →
+        Pays position.old stack.old false m (branched position.new b.item b.place) stack.new true m) }
     ensures done { IsNone result → IsDone position.old stack.old false position.new stack.new }
     ensures path { IsNone result → (exact : Bool) →
         KeepsBy exact position.old stack.old position.new stack.new }
+    ensures done_pays { IsNone result → (m : ℕ) →
+        Pays position.old stack.old false m position.new stack.new false m }
 {
     // A level that goes on and a level that ends are two paths.
     while let Some(level) = stack.top() {
@@ -198,6 +214,12 @@ fn go_below<D: Dance>(
         StandsOver position.old stack.old more.old position.new stack.new more.new }
     ensures back { result ≡ Below.Nothing →
         FallsBack position.old stack.old more.old position.new stack.new more.new }
+    ensures entered_pays { (b : Entered) → result ≡ Below.Branch b →
+        Pays position.old stack.old true more.old (branched position.new b.item b.place) stack.new true more.new }
+    ensures stands_pays { result ≡ Below.Solution →
+        Pays position.old stack.old true more.old position.new stack.new true more.new }
+    ensures back_pays { result ≡ Below.Nothing →
+        Pays position.old stack.old true more.old position.new stack.new false more.new }
 {
     if stack.levels().len() == *last && pass_last(position, more) {
         return Below::Nothing;
@@ -219,7 +241,6 @@ fn go_below<D: Dance>(
 
 /// Enters the next branch, a first one where what is left has any. A solution is passed over where `more` are to be,
 /// and is one of them.
-#[inline(always)]
 fn go_on<D: Dance>(
     position: &mut Position<D>,
     stack: &mut Stack,
@@ -235,6 +256,12 @@ fn go_on<D: Dance>(
         StandsOver position.old stack.old more.old position.new stack.new more.new }
     ensures done { result ≡ Next.Nothing →
         EndsOver position.old stack.old more.old position.new stack.new more.new }
+    ensures entered_pays { (b : Entered) → result ≡ Next.Branch b →
+        Pays position.old stack.old true more.old (branched position.new b.item b.place) stack.new true more.new }
+    ensures stands_pays { result ≡ Next.Solution →
+        Pays position.old stack.old true more.old position.new stack.new true more.new }
+    ensures done_pays { result ≡ Next.Nothing →
+        Pays position.old stack.old true more.old position.new stack.new false more.new }
 {
     match go_below(position, stack, more, last) {
         Below::Branch(entered) => return Next::Branch(entered),
@@ -257,6 +284,9 @@ pub fn advance<D: Dance>(position: &mut Position<D>, stack: &mut Stack, many: u6
     requires levels_fit { most_levels position.old.puzzle ≤ stack.old.room }
     ensures stands { IsNone result → StandsOver position.old stack.old many position.new stack.new 0 }
     ensures ended { IfSome result (λ more. EndsOver position.old stack.old many position.new stack.new more) }
+    ensures stands_pays { IsNone result → Pays position.old stack.old true many position.new stack.new true 0 }
+    ensures ended_pays { IfSome result (λ more.
+        Pays position.old stack.old true many position.new stack.new false more) }
 {
     let mut more = many;
     let mut last = usize::MAX;
@@ -274,7 +304,7 @@ pub fn advance<D: Dance>(position: &mut Position<D>, stack: &mut Stack, many: u6
 #[inline(never)]
 pub fn unwind<D: Dance>(position: &mut Position<D>, stack: &mut Stack)
     requires stacked { AreStacked position.old.puzzle position.old.trail stack.old.levels }
-    ensures position { position.new ≡ record position.old { trail = [] } }
+    ensures position { position.new ≡ record position.old { trail = []; undone = moves_made position.old } }
     ensures stack { stack.new ≡ record stack.old { levels = [] } }
 {
     while let Some(level) = stack.top() {

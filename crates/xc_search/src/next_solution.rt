@@ -4,6 +4,7 @@ ghost use mathlib.Core.Option.{none};
 ghost use mir.Syntax.{named};
 ghost use Rattle.std.specs.Borrow.{sem, follows_so};
 ghost use Rattle.xc_search.specs.Outlook.{shown_after};
+ghost use Rattle.xc_search.specs.Ends.{ends_after};
 ghost use Rattle.xc_search.specs.contracts.search.Search.{the_row};
 
 use crate::choice::Choice;
@@ -21,6 +22,8 @@ impl<'a, D: Dance> Search<'a, D> {
             (λ s. s ≡ record self.old {
               to_come = drop 1 self.old.to_come;
               shown = shown_after 1 self.old.to_come self.old.shown;
+              ahead = ends_after 1 self.old.ahead;
+              made = s.made;
             })) }
     {
         match self.next() {

@@ -1,5 +1,5 @@
 //! A dance of a problem, as the search goes over it.
-ghost use Rattle.std.specs.Prelude.{ℕ, ◌≡◌, ◌<◌, ◌≤◌, ◌∷◌, length, drop, true, IfSome, ◌^◌};
+ghost use Rattle.std.specs.Prelude.{ℕ, ◌≡◌, ◌+◌, ◌<◌, ◌≤◌, ◌∷◌, length, drop, true, IfSome, ◌^◌};
 ghost use Rattle.xc_input.specs.Problem.{IsItem};
 ghost use Rattle.xc_dance.specs.Fields.{link_place, first_above};
 ghost use Rattle.xc_dance.specs.Commits.{IsListedAt, IsUseAt, after_option, option_at};
@@ -159,7 +159,7 @@ impl<'a, D: Dance> Position<'a, D> {
     #[inline(always)]
     pub fn undo(&mut self)
         requires { 0 < length self.old.trail }
-        ensures { self.new ≡ record self.old { trail = drop 1 self.old.trail } }
+        ensures { self.new ≡ record self.old { trail = drop 1 self.old.trail; undone = self.old.undone + 1 } }
     {
         self.dance.undo();
     }
@@ -203,7 +203,7 @@ impl<'a, D: Dance> Position<'a, D> {
     #[inline(always)]
     pub fn undo_tweaks(&mut self, k: usize)
         requires { AreTweaks k self.old.trail }
-        ensures { self.new ≡ record self.old { trail = drop k self.old.trail } }
+        ensures { self.new ≡ record self.old { trail = drop k self.old.trail; undone = self.old.undone + k } }
     {
         self.dance.undo_tweaks(k);
     }

@@ -1,7 +1,10 @@
 //! The search: a walk whose choices are kept.
 ghost use Rattle.std.specs.Prelude.{◌≡◌, ◌≤◌, [], ◌∷◌, drop, length, min};
 ghost use Rattle.std.specs.Prelude.{IfOk, IfErr};
-ghost use Rattle.xc_search.specs.Outlook.{shown_after};
+ghost use Rattle.xc_dance.specs.Dancing.{moves_made};
+ghost use Rattle.xc_search.specs.Outlook.{shown_after, MakesFew};
+ghost use Rattle.xc_search.specs.Listing.{whole};
+ghost use Rattle.xc_search.specs.Ends.{ends, ends_after};
 ghost use Rattle.xc_search.specs.Room.{room_for};
 ghost use Rattle.xc_search.specs.Cover.{members, EachMemberCovers, EachCoverIsListedOnce};
 
@@ -56,7 +59,9 @@ impl<'a, D: Dance> Search<'a, D> {
           puzzle = problem.now.puzzle;
           to_come = members problem.now.puzzle;
           shown = [];
+          ahead = ends (whole problem.now.puzzle);
           room = (D.state dance).room;
+          made = moves_made (D.state dance);
         }) }
         ensures right { EachMemberCovers problem.now.puzzle }
         ensures complete { EachCoverIsListedOnce problem.now.puzzle }
@@ -81,9 +86,12 @@ impl<'a, D: Dance> Search<'a, D> {
     /// Goes on to the next solution, which `choices` then gives. After `Done` it answers `Done`
     /// again.
     pub fn next(&mut self) -> Step
-        ensures still { self.new ≡ record self.old { to_come = self.new.to_come; shown = self.new.shown } }
+        ensures still { self.new ≡ record self.old
+            { to_come = self.new.to_come; shown = self.new.shown; ahead = ends_after 1 self.old.ahead; made = self.new.made } }
+        ensures moves { MakesFew self.old self.new }
         ensures solution { result ≡ Step.Solution → self.old.to_come ≡ self.new.shown ∷ self.new.to_come }
-        ensures done { result ≡ Step.Done → (self.old.to_come ≡ []) × (self.new ≡ record self.old { shown = [] }) }
+        ensures done { result ≡ Step.Done → (self.old.to_come ≡ []) × (self.new ≡ record self.old
+            { shown = []; ahead = self.new.ahead; made = self.new.made }) }
     {
         match self.pass(1) {
             0 => Step::Done,
@@ -97,7 +105,10 @@ impl<'a, D: Dance> Search<'a, D> {
         ensures went { self.new ≡ record self.old {
           to_come = drop many self.old.to_come;
           shown = shown_after many self.old.to_come self.old.shown;
+          ahead = ends_after many self.old.ahead;
+          made = self.new.made;
         } }
+        ensures moves { MakesFew self.old self.new }
         ensures count { result ≡ min many (length self.old.to_come) }
     {
         let passed = self.walk.pass(many);
@@ -109,9 +120,14 @@ impl<'a, D: Dance> Search<'a, D> {
         passed
     }
 
-    /// Undoes every move and gives the dance back, after any answer of `next`.
+    /// Undoes every move, makes none, and gives the dance back, after any answer of `next`.
     pub fn close(self) -> D
-        ensures { D.state result ≡ record { puzzle = self.entry.puzzle; trail = []; room = self.entry.room } }
+        ensures { D.state result ≡ record {
+          puzzle = self.entry.puzzle;
+          trail = [];
+          room = self.entry.room;
+          undone = self.entry.made;
+        } }
     {
         let Search { walk, choices: _ } = self;
         walk.close()

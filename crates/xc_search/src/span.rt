@@ -86,6 +86,7 @@ pub struct Span<'a, D: Dance> {
 impl<'a, D: Dance> Model for Span<'a, D> {
     ghost use Rattle.std.specs.Prelude.{◌≡◌, ◌≤◌, [], true, false, Some, None, option_map, vec_capacity, if◌then◌else◌};
     ghost use Rattle.xc_search.specs.InSpan.{InSpan};
+    ghost use Rattle.xc_dance.specs.Dancing.{moves_made};
     ghost use Rattle.xc_search.specs.Spans.{is_before};
     ghost use Rattle.xc_search.specs.inner.Ahead.{IsSolved};
     ghost use Rattle.xc_search.specs.inner.MostLevels.{most_levels};
@@ -101,6 +102,7 @@ impl<'a, D: Dance> Model for Span<'a, D> {
       until = option_map (λ u. u.now) s.until;
       shown = s.choices.items;
       room = s.state.position.room;
+      made = moves_made s.state.position;
     } };
 
     ghost invariant = { λ s. record {
@@ -140,6 +142,7 @@ impl<'a, D: Dance> Span<'a, D> {
           until = option_map (λ u. u.now) until.entry;
           shown = [];
           room = (D.state dance).room;
+          made = s.made;
         }) }
         ensures left { IfOk result (λ s. left_of s ≡ between problem.now.puzzle from.now s.until) }
         ensures row { IfOk result (λ s. IfSome s.row (λ row.
@@ -182,7 +185,8 @@ impl<'a, D: Dance> Span<'a, D> {
     /// of the search's tree: where it stands at one of these and has no more steps, it goes on to the tree's next row.
     /// After `End` it answers `End` again.
     pub fn go_on(&mut self, many: u64, steps: u64) -> Went
-        ensures still { self.new ≡ record self.old { row = self.new.row; shown = self.new.shown } }
+        ensures still { self.new ≡ record self.old
+            { row = self.new.row; shown = self.new.shown; made = self.new.made } }
         ensures passed { IfSome self.old.row (λ from. left_of self.old
             ≡ between self.old.puzzle from (reached self.new) ++ left_of self.new) }
         ensures count { IfSome self.old.row (λ from.
@@ -306,9 +310,14 @@ impl<'a, D: Dance> Span<'a, D> {
         number_of(self.state.stack.levels(), self.down, place)
     }
 
-    /// Undoes every move and gives the dance back, after any answer of `go_on`.
+    /// Undoes every move, makes none, and gives the dance back, after any answer of `go_on`.
     pub fn close(self) -> D
-        ensures { D.state result ≡ record { puzzle = self.entry.puzzle; trail = []; room = self.entry.room } }
+        ensures { D.state result ≡ record {
+          puzzle = self.entry.puzzle;
+          trail = [];
+          room = self.entry.room;
+          undone = self.entry.made;
+        } }
     {
         let Span {
             state,

@@ -264,7 +264,8 @@ pub fn reach<'a, D: Dance>(state: &mut State<'a, D>, from: &[u32]) -> bool
     requires standing { IsStanding state.old.position.puzzle state.old.position.trail state.old.stack.levels true }
     requires levels_fit { most_levels state.old.position.puzzle ≤ state.old.stack.room }
     requires led { AreLed state.old.position.puzzle [] state.old.position.trail state.old.stack.levels }
-    ensures still { state.new.position ≡ record state.old.position { trail = state.new.position.trail } }
+    ensures still { state.new.position ≡ record state.old.position
+        { trail = state.new.position.trail; undone = state.new.position.undone } }
     ensures levels { state.new.stack ≡ record state.old.stack { levels = state.new.stack.levels } }
     ensures stacked { AreStacked state.new.position.puzzle state.new.position.trail state.new.stack.levels }
     ensures standing { result ≡ true →

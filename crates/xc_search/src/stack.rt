@@ -104,7 +104,7 @@ impl Stack {
 
 /// Choices, and behind them the levels', in the place of those that stand.
 // They come and go by value, so that their length is stored once, and the levels are taken off the front of a slice, so
-// that none is sought by its number: together that took 0.92 of what laying them out takes.
+// that none is sought by its number.
 fn put_choices<'s, 'a, D: Dance>(
     mut choices: Vec<Choice>,
     shown: (&'s [Choice], &'s [Level], &'s Position<'a, D>),

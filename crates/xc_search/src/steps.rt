@@ -1,5 +1,5 @@
 //! Steps of the search on its position.
-ghost use Rattle.std.specs.Prelude.{◌≡◌, ◌<◌, ◌≤◌, ◌∷◌, length, true, false, All};
+ghost use Rattle.std.specs.Prelude.{◌≡◌, ◌+◌, ◌-◌, ◌<◌, ◌≤◌, ◌∷◌, length, true, false, All};
 ghost use Rattle.xc_input.specs.Problem.{IsItem, uses_of, IsOption};
 ghost use Rattle.xc_search.specs.Room.{room_for};
 ghost use Rattle.xc_dance.specs.Commits.{after_spend, after_use, after_uses, others};
@@ -15,7 +15,10 @@ impl<'a, D: Dance> Position<'a, D> {
     #[inline(always)]
     pub fn undo_to(&mut self, mark: usize)
         requires { mark ≤ length self.old.trail }
-        ensures { self.new ≡ record self.old { trail = oldest mark self.old.trail } }
+        ensures { self.new ≡ record self.old {
+          trail = oldest mark self.old.trail;
+          undone = self.old.undone + (length self.old.trail - mark);
+        } }
     {
         while self.height() > mark {
             self.undo();

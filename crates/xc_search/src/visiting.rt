@@ -1,6 +1,7 @@
 //! A call with each solution.
 ghost use Rattle.std.specs.Prelude.{◌≡◌, List};
 ghost use Rattle.std.specs.Fn.{CalledAt};
+ghost use Rattle.xc_search.specs.Outlook.{MakesFew};
 ghost use Rattle.xc_search.specs.Visited.{Visits};
 
 use crate::choice::Choice;
@@ -14,7 +15,9 @@ impl<'a, D: Dance> Search<'a, D> {
     // by `Visits`.
     pub fn for_each<F: FnMut(&[Choice]) -> bool>(&mut self, mut visit: F) -> bool
         requires { F.IsAlwaysCallable visit }
-        ensures still { self.new ≡ record self.old { to_come = self.new.to_come; shown = self.new.shown } }
+        ensures still { self.new ≡ record self.old
+            { to_come = self.new.to_come; shown = self.new.shown; ahead = self.new.ahead; made = self.new.made } }
+        ensures moves { MakesFew self.old self.new }
         ensures visits { Visits (λ f m more g. CalledAt F.FnMut f m more g) visit self.old.to_come
             result self.new.to_come self.new.shown }
     {

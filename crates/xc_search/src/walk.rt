@@ -1,7 +1,10 @@
 //! A walk over a problem's solutions.
 ghost use Rattle.std.specs.Prelude.{◌≡◌, ◌≢◌, ◌+◌, ◌<◌, ◌≤◌, [], ◌∷◌, drop, length, min, true, false};
 ghost use Rattle.std.specs.Prelude.{IfOk, IfErr, IfSome, IsNone, vec_capacity};
-ghost use Rattle.xc_search.specs.Outlook.{shown_after};
+ghost use Rattle.xc_dance.specs.Dancing.{moves_made};
+ghost use Rattle.xc_search.specs.Outlook.{shown_after, MakesFew};
+ghost use Rattle.xc_search.specs.Listing.{whole};
+ghost use Rattle.xc_search.specs.Ends.{ends, ends_after};
 ghost use Rattle.xc_search.specs.Room.{room_for};
 ghost use Rattle.xc_search.specs.Cover.{members, EachMemberCovers, EachCoverIsListedOnce};
 ghost use Rattle.xc_search.specs.inner.MostLevels.{most_levels};
@@ -44,7 +47,9 @@ struct Standing<'a, D: Dance> {
 impl<'a, D: Dance> Model for Walk<'a, D> {
     ghost use Rattle.std.specs.Prelude.{◌≡◌, ◌≢◌, [], false};
     ghost use Rattle.xc_search.specs.Outlook.{Outlook};
+    ghost use Rattle.xc_dance.specs.Dancing.{moves_made};
     ghost use Rattle.xc_search.specs.inner.Ahead.{IsSolved};
+    ghost use Rattle.xc_search.specs.inner.Due.{ends_ahead};
     ghost use Rattle.xc_search.specs.inner.MostLevels.{most_levels};
     ghost use Rattle.xc_search.specs.inner.Levels.{choices_of, coming, IsStanding};
 
@@ -54,7 +59,9 @@ impl<'a, D: Dance> Model for Walk<'a, D> {
       puzzle = at.position.puzzle;
       to_come = coming at.position.puzzle at.position.trail at.stack.levels at.down;
       shown = choices_of at.position.puzzle at.stack.levels;
+      ahead = ends_ahead at.position.puzzle at.position.trail at.stack.levels at.down;
       room = at.position.room;
+      made = moves_made at.position;
     } };
 
     ghost invariant = { λ s. let at = s.standing in record {
@@ -76,7 +83,9 @@ impl<'a, D: Dance> Walk<'a, D> {
           puzzle = problem.now.puzzle;
           to_come = members problem.now.puzzle;
           shown = [];
+          ahead = ends (whole problem.now.puzzle);
           room = (D.state dance).room;
+          made = moves_made (D.state dance);
         }) }
         ensures right { EachMemberCovers problem.now.puzzle }
         ensures complete { EachCoverIsListedOnce problem.now.puzzle }
@@ -122,7 +131,10 @@ impl<'a, D: Dance> Walk<'a, D> {
         ensures went { self.new ≡ record self.old {
           to_come = drop many self.old.to_come;
           shown = shown_after many self.old.to_come self.old.shown;
+          ahead = ends_after many self.old.ahead;
+          made = self.new.made;
         } }
+        ensures moves { MakesFew self.old self.new }
         ensures count { result ≡ min many (length self.old.to_come) }
     {
         // Told apart here, and not in the loop's function.
@@ -137,9 +149,14 @@ impl<'a, D: Dance> Walk<'a, D> {
         standing.passed
     }
 
-    /// Undoes every move and gives the dance back, after any answer of `pass`.
+    /// Undoes every move, makes none, and gives the dance back, after any answer of `pass`.
     pub fn close(self) -> D
-        ensures { D.state result ≡ record { puzzle = self.entry.puzzle; trail = []; room = self.entry.room } }
+        ensures { D.state result ≡ record {
+          puzzle = self.entry.puzzle;
+          trail = [];
+          room = self.entry.room;
+          undone = self.entry.made;
+        } }
     {
         let Standing {
             mut position,
@@ -172,8 +189,8 @@ impl<'w, 'a, D: Dance> Model for Solution<'w, 'a, D> {
 }
 
 impl<'w, 'a, D: Dance> Solution<'w, 'a, D> {
-    /// The next choice; None behind the last. So none is stored, which with what a search of its own choices stores
-    /// took 0.88 of what it takes to print a short solution.
+    /// The next choice; None behind the last.
+    // One at a time, so that none is stored to be printed.
     #[inline(always)]
     pub fn next(&mut self) -> Option<Choice>
         ensures some { IfSome result (λ c. self.old ≡ c ∷ self.new) }
@@ -191,6 +208,7 @@ impl<'w, 'a, D: Dance> Solution<'w, 'a, D> {
 
 impl<'a, D: Dance> Standing<'a, D> {
     ghost use Rattle.xc_search.specs.inner.Ahead.{Passed, IsSolved};
+    ghost use Rattle.xc_search.specs.inner.Due.{PaysFor};
     ghost use Rattle.xc_search.specs.inner.Levels.{IsStanding};
     ghost use Rattle.xc_search.specs.inner.MostLevels.{most_levels};
 
@@ -214,8 +232,10 @@ impl<'a, D: Dance> Standing<'a, D> {
         requires standing { IsStanding self.position.puzzle self.position.trail self.stack.levels true }
         requires solved { self.down ≡ false → IsSolved self.position.puzzle self.position.trail self.stack.levels }
         requires levels_fit { most_levels self.position.puzzle ≤ self.stack.room }
-        ensures { Passed self.entry.position self.entry.stack self.entry.down many result.0.passed
+        ensures passed { Passed self.entry.position self.entry.stack self.entry.down many result.0.passed
             result.0.position result.0.stack result.0.down }
+        ensures pays { PaysFor self.entry.position self.entry.stack self.entry.down many
+            result.0.position result.0.stack }
     {
         let Standing {
             mut position,
@@ -227,7 +247,7 @@ impl<'a, D: Dance> Standing<'a, D> {
         let more = if down { many - 1 } else { many };
         let passed = match advance(&mut position, &mut stack, more) {
             None => many,
-            Some(more) => fewer(many, more),
+            Some(more) => many - 1 - more,
         };
         (
             Standing {
@@ -239,15 +259,4 @@ impl<'a, D: Dance> Standing<'a, D> {
             (),
         )
     }
-}
-
-/// How many solutions were passed over of `many`, where the search then ended and `more` lacked beside the last.
-// A call for its coldness alone: else the compiler takes a search's end for as likely as a step of its loop.
-#[cold]
-#[inline(never)]
-fn fewer(many: u64, more: u64) -> u64
-    requires { more < many }
-    ensures { result + 1 + more ≡ many }
-{
-    many - 1 - more
 }

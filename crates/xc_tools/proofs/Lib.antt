@@ -3,3 +3,4 @@ pub mod JudgeLemmas
 pub mod RunLemmas
 pub mod SpanEnds
 pub mod StreamLemmas
+pub mod WordLemmas

@@ -9,18 +9,18 @@ use Rattle.xc_list.proofs.TextLemmas.{appends_kept}
 use Rattle.xc_list.specs.SpanRuns.{OfSpan}
 use Rattle.xc_list.specs.SpanWords.{AskedSpan}
 use Rattle.xc_list.specs.Texts.{SinkState, Took, WasTold}
-use Rattle.xc_tools.specs.Solves.{seen}
+use Rattle.xc_tools.specs.Solves.{Sinks}
 use Rattle.xc_tools.specs.SpanRuns.{DidSpan}
 use Rattle.xc_tools.proofs.RunLemmas.{failed_behind}
 
-pub span_flushed : {E : Type 0} {a : Named} {asked : AskedSpan} {went : Went} {old mid : SinkState} (new : SinkState)
-    {status : ℕ} (state : E → SinkState) (err err_new : E) → OfSpan a asked went Took old mid
-    → Keeps mid.taken new.taken → new.flushes ≡ mid.flushes + 1
-    → ((status ≡ 0) × (new.failures ≡ mid.failures) × IsTrue new.settled × (err_new ≡ err))
-    ⊎ ((status ≡ 3) × Rose mid.failures new.failures × IsTrue new.failed
-    × WasTold (state err) (state err_new) (codes "Write failed.\n"))
-    → DidSpan a asked status old new (seen state err) (seen state err_new)
-span_flushed {went = went} {old = old} {mid = mid} new state err err_new of kept flushed (inl h) =
+pub span_flushed : {O E : Type 0} {a : Named} {asked : AskedSpan} {went : Went} {old : Sinks O E} {mid : SinkState}
+    (new : Sinks O E) {status : ℕ} → OfSpan a asked went Took old.out.state mid
+    → Keeps mid.taken new.out.state.taken → new.out.state.flushes ≡ mid.flushes + 1
+    → ((status ≡ 0) × (new.out.state.failures ≡ mid.failures) × IsTrue new.out.state.settled × (new.err ≡ old.err))
+    ⊎ ((status ≡ 3) × Rose mid.failures new.out.state.failures × IsTrue new.out.state.failed
+    × WasTold old.err.state new.err.state (codes "Write failed.\n"))
+    → DidSpan a asked status old new
+span_flushed {went = went} {old = old} {mid = mid} new of kept flushed (inl h) =
     let said = of.said in
     inl (
       h.0,
@@ -34,15 +34,15 @@ span_flushed {went = went} {old = old} {mid = mid} new state err err_new of kept
           members = of.members;
           said = record {
             no_failure = h.1 ∙ said.no_failure;
-            whole = appends_kept old.taken mid.taken new.taken _ said.whole kept;
+            whole = appends_kept old.out.state.taken mid.taken new.out.state.taken _ said.whole kept;
             settled = h.2;
             flushed_once = flushed ∙ ap (λ n. n + 1) said.unflushed;
           };
         };
-        quiet = ap (seen state) h.3;
+        quiet = h.3;
       },
     )
-span_flushed {went = went} new state err err_new of kept flushed (inr h) = inr (inl (
+span_flushed {went = went} new of kept flushed (inr h) = inr (inl (
   h.0,
   record {
     went = went;
@@ -52,7 +52,7 @@ span_flushed {went = went} new state err err_new of kept flushed (inr h) = inr (
       goes = of.goes;
       few = of.few;
       members = of.members;
-      said = failed_behind new of.said kept flushed h.1 h.2;
+      said = failed_behind new.out.state of.said kept flushed h.1 h.2;
     });
     told = h.3;
   },

@@ -13,9 +13,9 @@ use Rattle.xc_list.specs.Messages.{summary_text}
 use Rattle.xc_list.specs.Output.{output}
 use Rattle.xc_list.specs.Runs.{end_of}
 use Rattle.xc_list.specs.SpanTexts.{end_at, span_text}
-use Rattle.xc_list.specs.Texts.{SinkState, Took, BrokeOff, WasTold}
+use Rattle.xc_list.specs.Texts.{Seen, SinkState, Took, BrokeOff, WasTold}
 use Rattle.xc_list.specs.declared.runs.End.{End}
-use Rattle.xc_tools.specs.Solves.{Streams, TookAll, IsRefused}
+use Rattle.xc_tools.specs.Solves.{Sinks, TookAll, IsRefused}
 
 -- A span as it was searched: its first row; the one before which it ends, where the empty row stands for the listing's
 -- end; the branches of the row where the search stopped before that, if it did; and how many steps it took.
@@ -80,9 +80,9 @@ OfTexts listed says old new = (bytes : List ℕ) × ((GaveAll old new bytes × F
 -- 0: The source gave its end, the output took a text, and how many solutions there are was told. Where the input is the
 -- texts of spans, these meet from the listing's beginning to its end, the text is the whole listing, if it is listed,
 -- and the number is that of its members.
-pub record IsJoined {S O E : Type 0} (listed : Bool) (old new : Streams S O E) : Type 0 where
+pub record IsJoined {O E : Type 0} (listed : Bool) (from to : SourceState) (old new : Sinks O E) : Type 0 where
   pub bytes : List ℕ
-  pub gave : GaveAll old.input.state new.input.state bytes
+  pub gave : GaveAll from to bytes
   pub text : List ℕ
   pub taken : TookAll old.out.state new.out.state text
   pub end : End
@@ -112,12 +112,11 @@ ToldFailure old new = WasTold old new (codes "Read failed.\n") ⊎ WasTold old n
     ⊎ ((end : End) × BrokeOff old new (summary_text end))
 
 -- What a run did that was asked for this, by its status. At 5 the spans don't meet, and at 2 the input is no texts.
-abbrev pub DidJoin : {S O E : Type 0} → Bool → ℕ → Streams S O E → Streams S O E → Type 0
-DidJoin listed status old new =
-    let begun = λ (says : List Span → Type 0).
-    HasBegun listed says old.input.state new.input.state old.out.state new.out.state in
+abbrev pub DidJoin : {O E : Type 0} → Bool → ℕ → SourceState → SourceState → Sinks O E → Sinks O E → Type 0
+DidJoin listed status from to old new =
+    let begun = λ (says : List Span → Type 0). HasBegun listed says from to old.out.state new.out.state in
     let told = WasTold old.err.state new.err.state in
-    ((status ≡ 0) × IsJoined listed old new)
+    ((status ≡ 0) × IsJoined listed from to old new)
     ⊎ ((status ≡ 2) × begun (λ _. ⊥) × (file : List ℕ) × (line : ℕ) × told (no_text file line))
     ⊎ ((status ≡ 3) × begun (λ _. Unit {0}) × ToldFailure old.err.state new.err.state)
     ⊎ ((status ≡ 4) × begun (λ _. Unit {0}) × told (codes "Out of memory.\n"))
@@ -131,7 +130,8 @@ asked_join (word ∷ files) =
     if bytes_eq word (codes "m0") then Some false else if bytes_eq word (codes "m1") then Some true else None
 
 -- What a run did, by its words and its status, which is 1 exactly where the first word is none of the two.
-abbrev pub DidJoinWords : {S O E : Type 0} → List (List ℕ) → ℕ → Streams S O E → Streams S O E → Type 0
-DidJoinWords words status old new = MatchOption (asked_join words)
-    ((status ≡ 1) × IsRefused (codes "Usage: dlx-join m0|m1 [FILE..]\n") old new)
-    (λ listed. DidJoin listed status old new)
+abbrev pub DidJoinWords : {S O E : Type 0} → List (List ℕ) → ℕ → Seen S SourceState → Seen S SourceState
+    → Sinks O E → Sinks O E → Type 0
+DidJoinWords words status from to old new = MatchOption (asked_join words)
+    ((status ≡ 1) × IsRefused (codes "Usage: dlx-join m0|m1 [FILE..]\n") from to old new)
+    (λ listed. DidJoin listed status from.state to.state old new)

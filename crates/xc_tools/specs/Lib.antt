@@ -1,3 +1,4 @@
+pub mod Arguments
 pub mod Errors
 pub mod Given
 pub mod Joins

@@ -6,11 +6,12 @@ use Rattle.xc_input.specs.Calls.{one_more, counted, Rose}
 use Rattle.xc_tools.specs.declared.system.Answer.{Answer}
 use Rattle.xc_tools.specs.declared.system.Answer.TheVariants.{Whole, Part, Flushed, Failed}
 
--- Calls of the system: how many were made and how many of them failed, up to the counter's last value, and the last
--- one's answer.
+-- Calls of the system: how many were made, how many of them failed and how many were flushes, up to the counters' last
+-- value, and the last one's answer.
 pub record Asked : Type 0 where
   pub calls : ℕ
   pub failures : ℕ
+  pub flushes : ℕ
   pub last : Answer
 
 -- whether a call failed
@@ -23,9 +24,14 @@ abbrev pub is_flushed : Answer → Bool
 is_flushed Flushed = true
 is_flushed _ = false
 
--- after one call more, with this answer
+-- after a read or a write more, with this answer
 abbrev pub answered : Answer → Asked → Asked
-answered a old = record { calls = one_more old.calls; failures = counted (is_failure a) old.failures; last = a }
+answered a old =
+    record old { calls = one_more old.calls; failures = counted (is_failure a) old.failures; last = a }
+
+-- after a flush more, with this answer
+abbrev pub flushed : Answer → Asked → Asked
+flushed a old = record (answered a old) { flushes = one_more old.flushes }
 
 -- what a write came to: to take none of at least one byte is a failure
 abbrev pub write_answer : {E : Type 0} → Result ℕ E → List ℕ → Answer
@@ -37,17 +43,19 @@ abbrev pub answer_of : {T E : Type 0} → Answer → Result T E → Answer
 answer_of success (Ok x) = success
 answer_of success (Err e) = Failed
 
--- No call was made, or one, and that didn't fail.
+-- No call was made, or one, which was no flush and didn't fail.
 abbrev pub AskedAtMostOnce : Asked → Asked → Type 0
 AskedAtMostOnce old new = (new ≡ old) ⊎ ((a : Answer) × (is_failure a ≡ false) × (new ≡ answered a old))
 
--- Calls were made; the last one was a flush, and none failed.
+-- Calls were made; the last one was a flush, the only one, and none failed.
 abbrev pub FlushedLast : Asked → Asked → Type 0
-FlushedLast old new = (new.failures ≡ old.failures) × (new.last ≡ Flushed)
+FlushedLast old new =
+    (new.failures ≡ old.failures) × (new.last ≡ Flushed) × (new.flushes ≡ one_more old.flushes)
 
--- Calls were made; the last one failed, and no other.
+-- Calls were made; the last one failed, and no other; at most one was a flush.
 abbrev pub BrokeLast : Asked → Asked → Type 0
 BrokeLast old new = Rose old.failures new.failures × (new.last ≡ Failed)
+    × ((new.flushes ≡ old.flushes) ⊎ (new.flushes ≡ one_more old.flushes))
 
 -- whether a text ends behind a line feed
 abbrev pub ends_line : List ℕ → Bool

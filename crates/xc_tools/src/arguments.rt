@@ -1,11 +1,13 @@
 //! What the programs take from the command line.
-ghost use Rattle.std.specs.Prelude.{◌≡◌, [], None, IfSome, IsSomeAnd, slice_get};
+ghost use Rattle.std.specs.Prelude.{◌≡◌, ◌≤◌, ℕ, List, [], Option, None, All, IfOk, IfSome, IsSomeAnd, slice_get};
+ghost use Rattle.std.specs.Prelude.{drop, length, map, option_map};
 ghost use Rattle.std.specs.Str.{IsUtf8};
+ghost use Rattle.xc_tools.specs.Arguments.{IsWordAt};
 
 use crate::incoming::Incoming;
 use crate::lazy_file::NamedFile;
 use crate::system::System;
-use std::alloc::{AllocError, AllocGlobal};
+use std::alloc::{AllocError, AllocGlobal, Global};
 use std::env::{Env, FillError};
 use std::fs::Files;
 use std::str;
@@ -14,12 +16,45 @@ use xc_input::Seed;
 /// How many bytes most words have at most.
 const USUAL: usize = 256;
 
+/// The words of a command line.
+// In place of `Env`, whose contract doesn't say which word a call puts there.
+pub trait Arguments {
+    /// The words, the program's name first, where they are told.
+    ghost told: { Self → Option (List (List ℕ)) };
+
+    /// Puts the word at this place into the front of a buffer, and says how long it is.
+    fn fill(&self, place: usize, buf: &mut [u8]) -> Result<usize, FillError>
+        ensures bound { IfOk result (λ n. n ≤ length buf.new) }
+        ensures word { IfSome (told self.now) (λ words. IsWordAt words place buf.new result) };
+}
+
+/// Those of the system, which tells contracts no words.
+#[derive(Drop)]
+pub struct CommandLine<'a, R: Env> {
+    rt: &'a R,
+}
+
+impl<'a, R: Env> Arguments for CommandLine<'a, R> {
+    ghost told = { λ _. None };
+
+    fn fill(&self, place: usize, buf: &mut [u8]) -> Result<usize, FillError> {
+        self.rt.arg(place, buf)
+    }
+}
+
 /// The word at this place, by its bytes, or none where there are fewer words.
-fn word<R: Env + AllocGlobal>(rt: &R, place: usize) -> Result<Option<Vec<u8>>, AllocError> {
+fn word<A: Arguments>(
+    alloc: Global,
+    arguments: &A,
+    place: usize,
+) -> Result<Option<Vec<u8>>, AllocError>
+    ensures { IfOk result (λ found. IfSome (A.told arguments.now)
+        (λ words. option_map (λ w. w.items) found ≡ slice_get words place)) }
+{
     let mut size = USUAL;
     for _ in 0..usize::BITS {
-        let mut word = vec![in rt.alloc(); 0; size]?;
-        match rt.arg(place, &mut word) {
+        let mut word = vec![in alloc; 0; size]?;
+        match arguments.fill(place, &mut word) {
             Ok(len) => {
                 word.truncate(len);
                 return Ok(Some(word));
@@ -31,21 +66,32 @@ fn word<R: Env + AllocGlobal>(rt: &R, place: usize) -> Result<Option<Vec<u8>>, A
     Err(AllocError)
 }
 
-/// The words behind the program's name, by their bytes; the name isn't looked at. One that isn't UTF-8 is
-/// answered as want of memory. They are asked for one by one: `env::args` would fail as a whole where the program's
-/// name isn't UTF-8.
-pub fn words<R: Env + AllocGlobal>(rt: &R) -> Result<Vec<Vec<u8>>, AllocError> {
-    let mut words = Vec::new(rt.alloc());
+/// The words behind the first one, which is the program's name, in order and each whole. One that isn't UTF-8 is
+/// answered as want of memory.
+pub fn read_words<A: Arguments>(alloc: Global, arguments: &A) -> Result<Vec<Vec<u8>>, AllocError>
+    ensures all { IfOk result (λ read. IfSome (A.told arguments.now)
+        (λ words. map (λ w. w.items) read.items ≡ drop 1 words)) }
+    ensures utf8 { IfOk result (λ read. All (λ w. IsUtf8 w.items) read.items) }
+{
+    let mut words = Vec::new(alloc);
     for place in 1..usize::MAX {
-        let Some(word) = word(rt, place)? else {
-            break;
+        let Some(word) = word(alloc, arguments, place)? else {
+            return Ok(words);
         };
         if str::from_utf8(&word).is_err() {
             return Err(AllocError);
         }
         words.push(word)?;
     }
-    Ok(words)
+    Err(AllocError)
+}
+
+/// The words behind the program's name, by their bytes: `read_words` of the system's. They are asked for one by one:
+/// `env::args` would fail as a whole where the program's name isn't UTF-8.
+pub fn words<R: Env + AllocGlobal>(rt: &R) -> Result<Vec<Vec<u8>>, AllocError>
+    ensures utf8 { IfOk result (λ read. All (λ w. IsUtf8 w.items) read.items) }
+{
+    read_words(rt.alloc(), &CommandLine { rt })
 }
 
 /// The file that the first word names, as a source whose names are hashed by this seed. It is opened at

@@ -2,7 +2,7 @@
 ghost use Rattle.std.specs.Prelude.{◌≡◌, ◌+◌, ◌<◌, ◌≤◌, true, false, length, is_err, IfOk, IsErr, IsTrue};
 ghost use Rattle.std.specs.Io.KnownBytes.{Keeps, WriteAppends};
 ghost use Rattle.xc_input.specs.Calls.{counted, is_failed_write};
-ghost use Rattle.xc_tools.specs.Streams.{answered, write_answer, answer_of};
+ghost use Rattle.xc_tools.specs.Streams.{answered, flushed, write_answer, answer_of};
 ghost use Rattle.xc_tools.specs.declared.system.Answer.TheVariants.{Flushed};
 
 use crate::system::{System, SystemWriter};
@@ -100,7 +100,7 @@ impl<W: SystemWriter + Drop> Sink for Direct<W> {
         ensures settled { IsTrue true }
         ensures flushes { self.new.flushes.count ≡ self.old.flushes.count + 1 }
         ensures asked { self.old.failures ≡ 0 →
-            W.asked self.new.writer ≡ answered (answer_of Flushed result) (W.asked self.old.writer) }
+            W.asked self.new.writer ≡ flushed (answer_of Flushed result) (W.asked self.old.writer) }
         ensures closed { 0 < self.old.failures → IsErr result × (self.new.writer ≡ self.old.writer) }
     {
         self.flushes = Flushes::one_more(&self.flushes);

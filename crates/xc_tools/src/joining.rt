@@ -7,9 +7,9 @@ ghost use Rattle.xc_list.specs.declared.runs.End.TheVariants.{Done, Limit};
 ghost use Rattle.xc_input.specs.Pieces.{GaveAll};
 ghost use Rattle.xc_input.specs.Words.{has};
 ghost use Rattle.xc_input.specs.inner.EndedLines.{ended};
-ghost use Rattle.xc_list.specs.Texts.{Took, WasTold, Writes};
+ghost use Rattle.xc_list.specs.Texts.{seen, Took, WasTold, Writes};
 ghost use Rattle.xc_tools.specs.Joins.{asked_join, gap_text, no_text, DidJoin, DidJoinWords};
-ghost use Rattle.xc_tools.specs.Solves.{streams};
+ghost use Rattle.xc_tools.specs.Solves.{sinks};
 ghost use Rattle.xc_tools.specs.declared.joining.Stop.TheVariants.{Device, Memory, WriteFailed};
 ghost use Rattle.xc_tools.specs.inner.Joining.{written, fed, stop_of, Adds, EndsAt, IsAfter, JoinsAll, StopsIn};
 ghost use Rattle.xc_tools.specs.inner.Joining.{StopsReading, ToldStop};
@@ -394,9 +394,8 @@ fn join_input<S: Located, O: Sink, E: Sink>(
     out: &mut O,
     err: &mut E,
 ) -> u8
-    ensures did { DidJoin listed result
-        (streams S.Source.state O.state E.state input.old out.old err.old)
-        (streams S.Source.state O.state E.state input.new out.new err.new) }
+    ensures did { DidJoin listed result (S.Source.state input.old) (S.Source.state input.new)
+        (sinks O.state E.state out.old err.old) (sinks O.state E.state out.new err.new) }
 {
     let Ok(joint) = Joint::new(alloc, listed) else {
         return out_of_memory(err);
@@ -433,8 +432,8 @@ pub fn join_spans<S: Located, O: Sink, E: Sink>(
     err: &mut E,
 ) -> u8
     ensures did { DidJoinWords (map (λ w. w.items) words.now) result
-        (streams S.Source.state O.state E.state input.old out.old err.old)
-        (streams S.Source.state O.state E.state input.new out.new err.new) }
+        (seen S.Source.state input.old) (seen S.Source.state input.new)
+        (sinks O.state E.state out.old err.old) (sinks O.state E.state out.new err.new) }
 {
     match asked_join(words) {
         Some(listed) => join_input(alloc, listed, input, out, err),

@@ -3,12 +3,12 @@
 ghost use Rattle.std.specs.Prelude.{◌≡◌, ◌⊎◌, IsSomeAnd, map, List, codes, flat_map, if◌then◌else◌};
 ghost use Rattle.std.specs.List.{list_all};
 ghost use Rattle.std.specs.Io.KnownBytes.{Keeps};
-ghost use Rattle.xc_list.specs.Texts.{BrokeOff, WasTold, Writes, Begins};
+ghost use Rattle.xc_list.specs.Texts.{seen, BrokeOff, WasTold, Writes, Begins};
 ghost use Rattle.xc_list.specs.declared.checker.Verdict.{Verdict};
 ghost use Rattle.xc_tools.specs.Given.{GaveProblem};
-ghost use Rattle.xc_tools.specs.Solves.{seen, streams, TookAll, FailedBehind};
+ghost use Rattle.xc_tools.specs.Solves.{sinks, TookAll, FailedBehind, HasNoProblem};
 ghost use Rattle.xc_tools.specs.Judges.{asked_kind, numbered_kind, verdict_text, HasVerdicts};
-ghost use Rattle.xc_tools.specs.Judges.{DidJudgeListing, DidAsAsked, DidJudge};
+ghost use Rattle.xc_tools.specs.Judges.{DidJudgeListing, DidJudge};
 
 use crate::messages::{listing_fault, no_problem};
 use crate::status::{
@@ -101,9 +101,8 @@ fn judge_listing<L: Source, O: Sink, E: Sink>(
     out: &mut O,
     err: &mut E,
 ) -> u8
-    ensures did { DidJudgeListing problem.now result
-        (streams L.state O.state E.state listing.old out.old err.old)
-        (streams L.state O.state E.state listing.new out.new err.new) }
+    ensures did { DidJudgeListing problem.now result (L.state listing.old) (L.state listing.new)
+        (sinks O.state E.state out.old err.old) (sinks O.state E.state out.new err.new) }
 {
     // Held in memory whole, since all of it has to be without fault before the first verdict is written.
     let text = match read_text(alloc, listing) {
@@ -132,10 +131,12 @@ fn judge_kind<P: Source, L: Source, O: Sink, E: Sink>(
     out: &mut O,
     err: &mut E,
 ) -> u8
-    ensures did { DidAsAsked kind result
-        (P.state problem.old) (P.state problem.new)
-        (streams L.state O.state E.state listing.old out.old err.old)
-        (streams L.state O.state E.state listing.new out.new err.new) }
+    ensures did { (HasNoProblem kind result (P.state problem.old) (P.state problem.new)
+        (sinks O.state E.state out.old err.old) (sinks O.state E.state out.new err.new)
+        × (listing.new ≡ listing.old))
+        ⊎ GaveProblem kind (λ a _. DidJudgeListing a result (L.state listing.old) (L.state listing.new)
+        (sinks O.state E.state out.old err.old) (sinks O.state E.state out.new err.new))
+        (P.state problem.old) (P.state problem.new) }
 {
     match read_problem(alloc, kind, problem) {
         Ok(read) => judge_listing(alloc, &read.problem, listing, out, err),
@@ -158,10 +159,9 @@ pub fn judge<P: Source, L: Source, O: Sink, E: Sink>(
     err: &mut E,
 ) -> u8
     ensures did { DidJudge (map (λ w. w.items) words.now) result
-        (seen P.state problem.old)
-        (seen P.state problem.new)
-        (streams L.state O.state E.state listing.old out.old err.old)
-        (streams L.state O.state E.state listing.new out.new err.new) }
+        (seen P.state problem.old) (seen P.state problem.new)
+        (seen L.state listing.old) (seen L.state listing.new)
+        (sinks O.state E.state out.old err.old) (sinks O.state E.state out.new err.new) }
 
     // Whatever the status, the output is a beginning of the verdicts.
     ensures begins { Keeps (O.state out.old).taken (O.state out.new).taken

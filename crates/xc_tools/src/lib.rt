@@ -27,7 +27,7 @@ mod status;
 mod system;
 mod whole_text;
 
-pub use arguments::{named_file, words};
+pub use arguments::{Arguments, CommandLine, named_file, read_words, words};
 pub use closed_streams::closed_stream;
 pub use direct::Direct;
 pub use incoming::Incoming;

@@ -46,6 +46,7 @@ fn pass_on<W: SystemWriter>(writer: &mut W, bytes: &[u8]) -> usize
     ensures passed { Appends (W.contents writer.old) (W.contents writer.new) (take result bytes.now) }
     ensures whole { result ≡ length bytes.now → (W.asked writer.new).failures ≡ (W.asked writer.old).failures }
     ensures broke { result < length bytes.now → BrokeLast (W.asked writer.old) (W.asked writer.new) }
+    ensures unflushed { (W.asked writer.new).flushes ≡ (W.asked writer.old).flushes }
 {
     let mut place = 0;
     while place < bytes.len() {
@@ -132,6 +133,7 @@ impl<W: SystemWriter + Drop> Outgoing<W> {
         ensures asked { cond result
             ((W.asked self.new.writer).failures ≡ (W.asked self.old.writer).failures)
             (BrokeLast (W.asked self.old.writer) (W.asked self.new.writer)) }
+        ensures unflushed { (W.asked self.new.writer).flushes ≡ (W.asked self.old.writer).flushes }
         ensures by_line { self.new.by_line ≡ self.old.by_line }
         ensures passed { self.new.passed ≡ passed_of self.old.passed (length self.old.held) (length self.new.held) }
         ensures failures { self.new.failures ≡ self.old.failures }

@@ -6,10 +6,10 @@ ghost use Rattle.xc_list.specs.Messages.{summary_text};
 ghost use Rattle.xc_list.specs.Output.{output};
 ghost use Rattle.xc_list.specs.declared.runs.End.TheVariants.{WriteFailed};
 ghost use Rattle.xc_list.specs.Settings.{read_words};
-ghost use Rattle.xc_list.specs.Texts.{Took, BrokeOff, WasTold, Begins};
+ghost use Rattle.xc_list.specs.Texts.{seen, Took, BrokeOff, WasTold, Begins};
 ghost use Rattle.xc_input.specs.Calls.{Rose};
 ghost use Rattle.xc_tools.specs.Given.{GaveProblem};
-ghost use Rattle.xc_tools.specs.Solves.{seen, streams, DidSearch, DidAsAsked, DidSolve};
+ghost use Rattle.xc_tools.specs.Solves.{sinks, DidSearch, HasNoProblem, DidSolve};
 
 use crate::messages::no_problem;
 use crate::status::{BAD_WORDS, COMPLETE, FAILED, out_of_memory, refuse};
@@ -58,8 +58,8 @@ fn solve_problem<O: Sink, E: Sink>(
     out: &mut O,
     err: &mut E,
 ) -> u8
-    ensures did { DidSearch words result (O.state out.old) (O.state out.new) (E.state err.old) (E.state err.new)
-        problem.now [] }
+    ensures did { DidSearch problem.now [] words result
+        (sinks O.state E.state out.old err.old) (sinks O.state E.state out.new err.new) }
 {
     match run(alloc, problem, words, out) {
         Err(Memory) => out_of_memory(err),
@@ -77,8 +77,8 @@ fn solve_read<O: Sink, E: Sink>(
     out: &mut O,
     err: &mut E,
 ) -> u8
-    ensures did { DidSearch words result (O.state out.old) (O.state out.new) (E.state err.old) (E.state err.new)
-        read.now.problem read.now.ignored.items }
+    ensures did { DidSearch read.now.problem read.now.ignored.items words result
+        (sinks O.state E.state out.old err.old) (sinks O.state E.state out.new err.new) }
 {
     match warnings(read, err) {
         Ok(()) => solve_problem(alloc, &read.problem, words, out, err),
@@ -95,9 +95,11 @@ fn solve_words<S: Source, O: Sink, E: Sink>(
     out: &mut O,
     err: &mut E,
 ) -> u8
-    ensures did { DidAsAsked kind words result
-        (S.state input.old) (S.state input.new)
-        (seen O.state out.old) (seen O.state out.new) (E.state err.old) (E.state err.new) }
+    ensures did { HasNoProblem kind result (S.state input.old) (S.state input.new)
+        (sinks O.state E.state out.old err.old) (sinks O.state E.state out.new err.new)
+        ⊎ GaveProblem kind (λ a ignored. DidSearch a ignored words result
+        (sinks O.state E.state out.old err.old) (sinks O.state E.state out.new err.new))
+        (S.state input.old) (S.state input.new) }
 {
     match read_problem(alloc, kind, input) {
         Ok(read) => solve_read(alloc, &read, words, out, err),
@@ -118,8 +120,8 @@ pub fn solve<S: Source, O: Sink, E: Sink>(
     err: &mut E,
 ) -> u8
     ensures did { DidSolve kind (map (λ w. w.items) words.now) result
-        (streams S.state O.state E.state input.old out.old err.old)
-        (streams S.state O.state E.state input.new out.new err.new) }
+        (seen S.state input.old) (seen S.state input.new)
+        (sinks O.state E.state out.old err.old) (sinks O.state E.state out.new err.new) }
 
     // Whatever the status, the output is a beginning of the problem's.
     ensures begins { Keeps (O.state out.old).taken (O.state out.new).taken

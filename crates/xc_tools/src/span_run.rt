@@ -1,11 +1,12 @@
 //! A whole run over a span of a listing.
-ghost use Rattle.std.specs.Prelude.{◌≡◌, ◌⊎◌, ◌+◌, IfOk, IsTrue, map, option_map, codes};
+ghost use Rattle.std.specs.Prelude.{◌≡◌, ◌⊎◌, ◌+◌, IfOk, IsTrue, OnErr, map, option_map, codes};
 ghost use Rattle.std.specs.Io.KnownBytes.{Keeps};
 ghost use Rattle.xc_input.specs.Calls.{Rose};
 ghost use Rattle.xc_list.specs.SpanWords.{asked_of};
-ghost use Rattle.xc_list.specs.Texts.{WasTold};
-ghost use Rattle.xc_tools.specs.Solves.{seen, streams};
-ghost use Rattle.xc_tools.specs.SpanRuns.{asked_span, DidSpan, DidSpanAsAsked, DidSpanWords};
+ghost use Rattle.xc_list.specs.Texts.{seen, WasTold};
+ghost use Rattle.xc_tools.specs.Given.{GaveProblem};
+ghost use Rattle.xc_tools.specs.Solves.{sinks, HasNoProblem};
+ghost use Rattle.xc_tools.specs.SpanRuns.{asked_span, take_memory_of, DidSpan, DidSpanWords};
 
 use crate::judging::numbered_kind;
 use crate::messages::no_problem;
@@ -32,7 +33,7 @@ fn finish<O: Sink, E: Sink>(out: &mut O, err: &mut E) -> u8
     ensures kept { Keeps (O.state out.old).taken (O.state out.new).taken }
     ensures flushed_once { (O.state out.new).flushes ≡ (O.state out.old).flushes + 1 }
     ensures did { ((result ≡ 0) × ((O.state out.new).failures ≡ (O.state out.old).failures)
-        × IsTrue (O.state out.new).settled × (err.new ≡ err.old))
+        × IsTrue (O.state out.new).settled × (seen E.state err.new ≡ seen E.state err.old))
         ⊎ ((result ≡ 3) × Rose (O.state out.old).failures (O.state out.new).failures × IsTrue (O.state out.new).failed
         × WasTold (E.state err.old) (E.state err.new) (codes "Write failed.\n")) }
 {
@@ -50,8 +51,8 @@ fn search_problem<O: Sink, E: Sink>(
     out: &mut O,
     err: &mut E,
 ) -> u8
-    ensures did { DidSpan problem.now (asked_of words.now) result (O.state out.old) (O.state out.new)
-        (seen E.state err.old) (seen E.state err.new) }
+    ensures did { DidSpan problem.now (asked_of words.now) result
+        (sinks O.state E.state out.old err.old) (sinks O.state E.state out.new err.new) }
 {
     match list_span(alloc, problem, words, out) {
         Ok(_) => finish(out, err),
@@ -69,9 +70,11 @@ fn search_read<S: Source, O: Sink, E: Sink>(
     out: &mut O,
     err: &mut E,
 ) -> u8
-    ensures did { DidSpanAsAsked (kind, asked_of words.now) result
-        (streams S.state O.state E.state input.old out.old err.old)
-        (streams S.state O.state E.state input.new out.new err.new) }
+    ensures did { HasNoProblem kind result (S.state input.old) (S.state input.new)
+        (sinks O.state E.state out.old err.old) (sinks O.state E.state out.new err.new)
+        ⊎ GaveProblem kind (λ a _. DidSpan a (asked_of words.now) result
+        (sinks O.state E.state out.old err.old) (sinks O.state E.state out.new err.new))
+        (S.state input.old) (S.state input.new) }
 {
     match read_problem(alloc, kind, input) {
         Ok(read) => search_problem(alloc, &read.problem, words, out, err),
@@ -81,8 +84,9 @@ fn search_read<S: Source, O: Sink, E: Sink>(
 
 /// The kind of problem and the span that words ask for, if they are right.
 fn asked_span(alloc: Global, words: &[Vec<u8>]) -> Result<Option<(Kind, SpanWords)>, AllocError>
-    ensures { IfOk result (λ found. option_map (λ asked. (asked.0, asked_of asked.1)) found
+    ensures asked { IfOk result (λ found. option_map (λ asked. (asked.0, asked_of asked.1)) found
         ≡ asked_span (map (λ w. w.items) words.now)) }
+    ensures memory { OnErr result (IsTrue (take_memory_of (map (λ w. w.items) words.now))) }
 {
     let [kind, words @ ..] = words else {
         return Ok(None);
@@ -111,8 +115,8 @@ pub fn solve_span<S: Source, O: Sink, E: Sink>(
     err: &mut E,
 ) -> u8
     ensures did { DidSpanWords (map (λ w. w.items) words.now) result
-        (streams S.state O.state E.state input.old out.old err.old)
-        (streams S.state O.state E.state input.new out.new err.new) }
+        (seen S.state input.old) (seen S.state input.new)
+        (sinks O.state E.state out.old err.old) (sinks O.state E.state out.new err.new) }
 {
     match asked_span(alloc, words) {
         Ok(Some((kind, words))) => search_read(alloc, kind, &words, input, out, err),

@@ -1,7 +1,7 @@
 //! What the system is asked for its streams, and what it answers.
 ghost use Rattle.std.specs.Prelude.{◌≡◌, ◌≤◌, ℕ, List, Option, length, IfOk};
 ghost use Rattle.std.specs.Io.KnownBytes.{Keeps, ReadConsumes, WriteAppends};
-ghost use Rattle.xc_tools.specs.Streams.{Asked, answered, write_answer, answer_of};
+ghost use Rattle.xc_tools.specs.Streams.{Asked, answered, flushed, write_answer, answer_of};
 ghost use Rattle.xc_tools.specs.inner.TakenAnswers.{taken_answer};
 ghost use Rattle.xc_tools.specs.declared.system.Answer.{Answer};
 ghost use Rattle.xc_tools.specs.declared.system.Answer.TheVariants.{Whole, Flushed};
@@ -56,7 +56,7 @@ pub trait SystemWriter {
     /// Asks to flush what was written, once.
     fn flush(&mut self) -> Result<(), WriteFailed>
         ensures bytes { Keeps (contents self.old) (contents self.new) }
-        ensures asked { asked self.new ≡ answered (answer_of Flushed result) (asked self.old) };
+        ensures asked { asked self.new ≡ flushed (answer_of Flushed result) (asked self.old) };
 }
 
 /// A reader or writer of std, whose calls are counted. That each makes one call of std's, and no other, is read below.
@@ -65,6 +65,7 @@ pub struct System<T: Drop> {
     stream: T,
     calls: u64,
     failures: u64,
+    flushes: u64,
     last: Answer,
 }
 
@@ -74,12 +75,14 @@ impl<T: Drop> System<T> {
         ensures stream { result.stream ≡ stream }
         ensures calls { result.calls ≡ 0 }
         ensures failures { result.failures ≡ 0 }
+        ensures flushes { result.flushes ≡ 0 }
         ensures last { result.last ≡ Flushed }
     {
         System {
             stream,
             calls: 0,
             failures: 0,
+            flushes: 0,
             last: Answer::Flushed,
         }
     }
@@ -89,11 +92,21 @@ impl<T: Drop> System<T> {
         &self.stream
     }
 
-    /// Counts a call.
+    /// Counts a read or a write.
     fn count(&mut self, answer: Answer)
         ensures stream { self.new.stream ≡ self.old.stream }
-        ensures asked { record { calls = self.new.calls; failures = self.new.failures; last = self.new.last }
-            ≡ answered answer (record { calls = self.old.calls; failures = self.old.failures; last = self.old.last }) }
+        ensures asked { record {
+          calls = self.new.calls;
+          failures = self.new.failures;
+          flushes = self.new.flushes;
+          last = self.new.last;
+        }
+            ≡ answered answer (record {
+              calls = self.old.calls;
+              failures = self.old.failures;
+              flushes = self.old.flushes;
+              last = self.old.last;
+            }) }
     {
         self.calls = self.calls.saturating_add(1);
         if answer == Answer::Failed {
@@ -101,12 +114,32 @@ impl<T: Drop> System<T> {
         }
         self.last = answer;
     }
+
+    /// Counts a flush.
+    fn count_flush(&mut self, answer: Answer)
+        ensures stream { self.new.stream ≡ self.old.stream }
+        ensures asked { record {
+          calls = self.new.calls;
+          failures = self.new.failures;
+          flushes = self.new.flushes;
+          last = self.new.last;
+        }
+            ≡ flushed answer (record {
+              calls = self.old.calls;
+              failures = self.old.failures;
+              flushes = self.old.flushes;
+              last = self.old.last;
+            }) }
+    {
+        self.count(answer);
+        self.flushes = self.flushes.saturating_add(1);
+    }
 }
 
 impl<R: Read + Drop> SystemReader for System<R> {
     ghost remaining = { λ s. R.remaining s.stream };
 
-    ghost asked = { λ s. record { calls = s.calls; failures = s.failures; last = s.last } };
+    ghost asked = { λ s. record { calls = s.calls; failures = s.failures; flushes = s.flushes; last = s.last } };
 
     fn read(&mut self, buf: &mut [u8]) -> Result<usize, ReadFailed> {
         match self.stream.read(buf) {
@@ -138,7 +171,7 @@ fn taken_answer(taken: usize, given: usize) -> Answer
 impl<W: Write + Drop> SystemWriter for System<W> {
     ghost contents = { λ s. W.contents s.stream };
 
-    ghost asked = { λ s. record { calls = s.calls; failures = s.failures; last = s.last } };
+    ghost asked = { λ s. record { calls = s.calls; failures = s.failures; flushes = s.flushes; last = s.last } };
 
     fn write(&mut self, bytes: &[u8]) -> Result<usize, WriteFailed> {
         match self.stream.write(bytes) {
@@ -156,11 +189,11 @@ impl<W: Write + Drop> SystemWriter for System<W> {
     fn flush(&mut self) -> Result<(), WriteFailed> {
         match self.stream.flush() {
             Ok(()) => {
-                self.count(Answer::Flushed);
+                self.count_flush(Answer::Flushed);
                 Ok(())
             }
             Err(_) => {
-                self.count(Answer::Failed);
+                self.count_flush(Answer::Failed);
                 Err(WriteFailed)
             }
         }

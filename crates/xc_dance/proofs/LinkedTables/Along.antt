@@ -129,6 +129,6 @@ Commits now q j new =
     dancing_of new ≡ record (dancing_of now) { trail = after_use now.puzzle u now.trail }
 
 -- at the end
-pub whole : (p : Puzzle) (room : ℕ) (now : Linked) {t : List Move} → now.puzzle ≡ p → now.room ≡ room →
-    now.trail ≡ t → dancing_of now ≡ record { puzzle = p; trail = t; room = room }
-whole p room now e r h = grind arith
+pub whole : (p : Puzzle) (room undone : ℕ) (now : Linked) {t : List Move} → now.puzzle ≡ p → now.room ≡ room →
+    now.undone ≡ undone → now.trail ≡ t → dancing_of now ≡ record { puzzle = p; trail = t; room = room; undone = undone }
+whole p room undone now e r u h = grind arith

@@ -6,6 +6,7 @@ ghost use Rattle.xc_dance.specs.Moves.{IsLegal, is_open, purified, spends, next_
 use crate::Move;
 use crate::lists::item_states::{ItemState, open_states, whole_bounds};
 use crate::lists::table::Table;
+use crate::tally::Tally;
 use std::alloc::{AllocError, Global};
 use std::marker::Model;
 use xc_input::Problem;
@@ -21,6 +22,8 @@ pub(crate) struct Trail {
     /// The moves, the oldest first.
     moves: Vec<Move>,
     room: usize,
+    /// How many moves were taken off.
+    undone: Tally,
 }
 
 impl Model for Trail {
@@ -36,6 +39,7 @@ impl Model for Trail {
       puzzle = a.table;
       trail = reverse a.moves.items;
       room = a.room;
+      undone = a.undone.count;
     } };
 
     ghost invariant = { λ a. record {
@@ -51,7 +55,12 @@ impl Model for Trail {
 impl Trail {
     /// No moves, and room for `room` of them. No later call takes memory.
     pub(crate) fn new(alloc: Global, problem: &Problem, room: usize) -> Result<Trail, AllocError>
-        ensures { IfOk result (λ s. s ≡ record { puzzle = problem.now.puzzle; trail = []; room = room }) }
+        ensures { IfOk result (λ s. s ≡ record {
+          puzzle = problem.now.puzzle;
+          trail = [];
+          room = room;
+          undone = 0;
+        }) }
     {
         let table = Table::new(alloc, problem)?;
         let states = open_states(alloc, &table)?;
@@ -63,6 +72,7 @@ impl Trail {
             left,
             moves,
             room,
+            undone: Tally::new(),
         })
     }
 
@@ -145,9 +155,11 @@ impl Trail {
     /// Takes off the newest move.
     pub(crate) fn pop(&mut self)
         requires { 0 < length self.old.trail }
-        ensures { self.new ≡ record self.old { trail = drop 1 self.old.trail } }
+        ensures { self.new ≡ record self.old
+            { trail = drop 1 self.old.trail; undone = self.old.undone + 1 } }
     {
         if let Some(m) = self.moves.pop() {
+            self.undone = Tally::one_more(&self.undone);
             match m {
                 Move::Cover(item) => self.states[item as usize - 1] = ItemState::Open,
                 Move::Purify(item, _) => self.states[item as usize - 1] = ItemState::Open,

@@ -20,7 +20,7 @@ abbrev pub best : (Wanted → ℕ) → Wanted → List Wanted → Wanted
 best count w ws = best_of (λ x b. nat_lt (count x) (count b)) w ws
 
 -- no other has fewer
-best_least : (count : Wanted → ℕ) (w : Wanted) (ws : List Wanted) (v : Wanted) → IsIn (w ∷ ws) v
+pub best_least : (count : Wanted → ℕ) (w : Wanted) (ws : List Wanted) (v : Wanted) → IsIn (w ∷ ws) v
     → count (best count w ws) ≤ count v
 best_least count w [] v (inl q) = omega (arith, ap count q)
 best_least count w [] v (inr q) = absurd q
@@ -38,7 +38,7 @@ flat_map_none : {X Y : Type 0} (f : X → List Y) (xs : List X) → AllByRecursi
 flat_map_none f [] a = refl
 flat_map_none f (x ∷ xs) a = rw (a.0, flat_map_none f xs a.1) refl
 
-no_branches : (r : Residual) (v : Wanted) → branch_count r v ≡ 0 → branches_of r v ≡ []
+pub no_branches : (r : Residual) (v : Wanted) → branch_count r v ≡ 0 → branches_of r v ≡ []
 no_branches r v e = grind (arith, ne_eqb)
 
 -- ends the listing
@@ -50,7 +50,7 @@ none_listed r v h e = listing_unrolled r ∙ by_items r.items refl h
     by_items (w ∷ ws) q k = grind (arith, best_least, no_branches)
 
 -- It stays without where an option is taken.
-still_short : (r : Residual) (i : ℕ) (x : Numbered) (v : Wanted) → IsIn (holding i r.options) x → IsIn r.items v
+pub still_short : (r : Residual) (i : ℕ) (x : Numbered) (v : Wanted) → IsIn (holding i r.options) x → IsIn r.items v
     → v.low ≤ v.high → branch_count r v ≡ 0 →
     IsIn (pick r i x).items (spend_one x v) × (branch_count (pick r i x) (spend_one x v) ≡ 0)
 still_short r i x v h k sound e =
@@ -70,7 +70,7 @@ still_short r i x v h k sound e =
         (filter-in (λ o. holds o i) hs x (filter-in (λ o. holds o v.item) r.options x found.0 at) found.1)
 
 -- and where none is, of another item
-still_without : (r : Residual) (i : ℕ) (v : Wanted) → IsIn r.items v → v.item ≢ i → branch_count r v ≡ 0 →
+pub still_without : (r : Residual) (i : ℕ) (v : Wanted) → IsIn r.items v → v.item ≢ i → branch_count r v ≡ 0 →
     IsIn (none r i).items v × (branch_count (none r i) v ≡ 0)
 still_without r i v k other e =
     let few = length-filter-le (λ o. not (holds o i)) (holding v.item r.options) in

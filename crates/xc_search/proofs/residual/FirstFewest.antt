@@ -92,6 +92,7 @@ dead_end_there p t i count n at few z least less =
       is = refl;
       is_open = at.best_open;
       counted = at.counted;
+      few = few;
       short = found.0;
       short_open = (omega (arith, within), one.1);
       without = ap (branches_after p t) found.2 ∙ (omega (arith, less, few, at.counted));

@@ -39,7 +39,7 @@ rest_about p vs ls u until last e some begins few = record {
 
 -- On the way to a row no member from that row on was passed over.
 pub record Reaching (d : Dancing) (ls : Levels) (e : Dancing) (ks : Levels) (from : List ℕ) : Type 0 where
-  pub still : e ≡ record d { trail = e.trail }
+  pub still : e ≡ record d { trail = e.trail; undone = e.undone }
   pub levels : ks ≡ record ls { levels = ks.levels }
   pub standing : IsStanding e.puzzle e.trail ks.levels true
   pub led : AreLed e.puzzle [] e.trail ks.levels
@@ -48,7 +48,7 @@ pub record Reaching (d : Dancing) (ls : Levels) (e : Dancing) (ks : Levels) (fro
 
 -- All levels ended, and no member from the row on is left.
 pub record Unreached (d : Dancing) (ls : Levels) (e : Dancing) (ks : Levels) (from : List ℕ) : Type 0 where
-  pub still : e ≡ record d { trail = e.trail }
+  pub still : e ≡ record d { trail = e.trail; undone = e.undone }
   pub levels : ks ≡ record ls { levels = ks.levels }
   pub ended : ks.levels ≡ []
   pub none : filter (λ m. not (precedes (row_of m) from)) (coming d.puzzle d.trail ls.levels true) ≡ []

@@ -128,10 +128,8 @@ module _ {d e : Dancing} {ls ks : Levels} {m n : ℕ} {until : Option (List ℕ)
     (led : AreLed d.puzzle [] d.trail ls.levels)
   where
     -- it passed over all members of its span
-    pub ends_span : {ns : List (List Choice)} → (e ≡ record d { trail = e.trail }) × (ks ≡ record ls {
-      levels =
-          ks.levels;
-    }) → AreStacked e.puzzle e.trail ks.levels
+    pub ends_span : {ns : List (List Choice)} → (e ≡ record d { trail = e.trail; undone = e.undone })
+        × (ks ≡ record ls { levels = ks.levels }) → AreStacked e.puzzle e.trail ks.levels
         → PassesOver true until m n (coming d.puzzle d.trail ls.levels true) ns
         → filter (λ m. is_before until (row_of m)) ns ≡ [] → EndsSpan d ls m until e ks n
     ends_span still stacked over none = record {

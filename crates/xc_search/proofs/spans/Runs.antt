@@ -132,7 +132,7 @@ module _ {until : Option (List ℕ)} {d b : Dancing} {ls js : Levels} {m n most 
         begun : 0 < most - steps
         begun = omega (arith, some, r.ran_out is)
 
-        still : (e ≡ record d { trail = e.trail }) × (ks ≡ record ls { levels = ks.levels })
+        still : (e ≡ record d { trail = e.trail; undone = e.undone }) × (ks ≡ record ls { levels = ks.levels })
         still = grind (arith, stands.still, s.still)
 
         halts : found ≡ true → Halts until d ls m e ks n (most - steps)

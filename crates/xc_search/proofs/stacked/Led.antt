@@ -1,5 +1,5 @@
 -- The levels of a search lead to where it stands.
-use Rattle.std.proofs.Common.{◌≡◌, Bool, List, ◌∷◌, drop, arith}
+use Rattle.std.proofs.Common.{◌≡◌, ◌+◌, ◌-◌, Bool, List, ◌∷◌, drop, length, arith}
 use Rattle.xc_dance.specs.declared.dance.Move.{Move}
 use Rattle.xc_search.specs.declared.level.Level.{Level}
 use Rattle.xc_input.specs.Problem.{Puzzle}
@@ -15,5 +15,5 @@ led_begun x p u t s l k ls b first a = grind (arith)
 
 -- the newest level ended
 pub keeps_back : (x : Bool) (d e : Dancing) (l : Level) (vs ks : Levels) → vs.levels ≡ l ∷ drop 1 vs.levels →
-    e ≡ record d { trail = oldest l.mark d.trail } → ks ≡ record vs { levels = drop 1 vs.levels } → KeepsBy x d vs e ks
+    e ≡ record d { trail = oldest l.mark d.trail; undone = d.undone + (length d.trail - l.mark) } → ks ≡ record vs { levels = drop 1 vs.levels } → KeepsBy x d vs e ks
 keeps_back x d e l vs ks top ed ek = grind arith

@@ -5,7 +5,7 @@ use Rattle.xc_dance.specs.declared.dance.Move.{Move}
 use Rattle.xc_search.specs.declared.level.Level.{Level}
 use Rattle.xc_search.specs.declared.level.Begun.{Begun}
 use Rattle.xc_input.specs.Problem.{Puzzle}
-use Rattle.xc_dance.specs.Dancing.{Dancing}
+use Rattle.xc_dance.specs.Dancing.{Dancing, moves_made}
 use Rattle.xc_dance.specs.Moves.{AreTweaks}
 use Rattle.xc_dance.specs.Commits.{option_at, after_spend}
 use Rattle.xc_search.specs.inner.Commits.{oldest}
@@ -14,7 +14,7 @@ use Rattle.xc_search.specs.inner.Levels.{IsEntered, first_level}
 use Rattle.xc_search.specs.inner.Levels.{begun_level, newest_begun}
 use Rattle.xc_search.specs.inner.Ahead.{visits, ahead, GoesOn, EntersBranch, branched}
 use Rattle.xc_search.proofs.moves.OldestMoves.{oldest_all}
-use Rattle.xc_search.proofs.stacked.NextLevel.{descended, open_in, oldest-oldest}
+use Rattle.xc_search.proofs.stacked.NextLevel.{descended, open_in, oldest-oldest, length-oldest}
 use Rattle.xc_search.proofs.stacked.BackAtLevel.{returned, closing}
 use Rattle.xc_search.proofs.stacked.BegunComesFirst.{begun_coming}
 use Rattle.xc_search.proofs.stacked.Depth.{shallower}
@@ -80,7 +80,7 @@ goes_on_to d e f ls ks js x y i q on less enters = grind (arith)
 
 -- the next branch of the newest level is entered, and goes on with the path below the level
 pub enters_next : (d f : Dancing) (l : Level) (b : Begun) (vs ks : Levels) → AreStacked d.puzzle d.trail vs.levels
-    → vs.levels ≡ l ∷ drop 1 vs.levels → f ≡ record d { trail = f.trail }
+    → vs.levels ≡ l ∷ drop 1 vs.levels → f ≡ record d { trail = f.trail; undone = f.undone }
     → IsEntered d.puzzle (oldest l.base d.trail) l f.trail (begun_level b l)
     → ks ≡ record vs { levels = newest_begun b vs.levels } → EntersBranch d vs false f ks l.item b.place
     × ((x : Bool) (u : List Move) → MayLead x d.puzzle (oldest l.mark d.trail) l.item
@@ -116,25 +116,32 @@ enters_first {d} {e} {ls} {i} {n} {l} o f ks b ef entered ek =
     let item : l.item ≡ i = ap (λ (l : Level). l.item) o.level in
     let same : e.puzzle ≡ d.puzzle = ap (λ (e : Dancing). e.puzzle) o.spent in
     let base : oldest l.base e.trail ≡ e.trail = rw (down.3, oldest_all e.trail) refl in
-    let next = enters_next e f l b (with_level l ls) ks down.0.standing.stacked refl ef (rw base entered) ek in
+    let kept : f.undone ≡ e.undone = ap (λ (f : Dancing). f.undone) ef in
+    let still : f ≡ record e { trail = f.trail; undone = f.undone } =
+    ef ∙ ap (λ n. record e { trail = f.trail; undone = n }) (sym kept) in
+    let next = enters_next e f l b (with_level l ls) ks down.0.standing.stacked refl still (rw base entered) ek in
     let work = ap (λ p. visits p e.trail (l ∷ ls.levels)) same in
     let enters = goes_on_to d e f ls (with_level l ls) ks _ _ l.item b.place down.0 (omega (arith, down.1, work))
     next.0 in
     rw (← item) (enters, λ x first u a. next.1 x u (rw (down.2, same) first) (rw (down.2, same) a))
 
 -- where what is left has no solution
-goes_behind : (d e : Dancing) (ls : Levels) → e ≡ d → IsStanding d.puzzle d.trail ls.levels true
+goes_behind : (d e : Dancing) (ls : Levels) → e ≡ record d { undone = e.undone } → IsStanding d.puzzle d.trail ls.levels true
     → listing (residual_of d.puzzle d.trail) ≡ [] →
     GoesOn d ls true e ls false × (visits e.puzzle e.trail ls.levels < ahead d.puzzle d.trail ls.levels true)
 goes_behind d e ls same s none = grind (arith, stands_behind, some_work)
 
 -- a level without branches ends at once, in the state before
 pub passes_over : {d e : Dancing} {ls : Levels} {i n : ℕ} {l : Level} → Opens d e ls i n l → (f : Dancing) → n ≡ 0
-    → f ≡ record e { trail = oldest l.mark e.trail } → GoesOn d ls true f ls false
+    → f ≡ record e { trail = oldest l.mark e.trail; undone = e.undone + (length e.trail - l.mark) }
+    → GoesOn d ls true f ls false
     × (work_left f ls false < work_left d ls true) × ((x : Bool) → KeepsBy x d ls f ls)
-passes_over {d} {ls = ls} {i = i} {n = n} o f none ef =
+passes_over {d} {e} {ls} {i} {n} {l} o f none ef =
     let r = residual_of d.puzzle d.trail in
-    let same : f ≡ d = ef ∙ ap₂ (λ (e : Dancing) t. record e { trail = t }) o.spent (deepens o).2 in
+    let took : ℕ = e.undone + (length e.trail - l.mark) in
+    let same : f ≡ record d { undone = f.undone } =
+    ef ∙ ap₂ (λ (e : Dancing) t. record e { trail = t; undone = took }) o.spent (deepens o).2
+    ∙ ap (λ n. record d { undone = n }) (sym (ap (λ (f : Dancing). f.undone) ef)) in
     let listed = none_listed r (wanted_at d.puzzle d.trail i) (open_in d.puzzle d.trail i o.next.item o.next.is_open)
     (sym o.next.count ∙ none) in
     let went = goes_behind d f ls same o.standing listed in (went.0, went.1, λ x u a. rw same a)
@@ -156,3 +163,39 @@ under_tweaks p t l ls stacked =
     let fewer : l.tweaks + (length (drop l.tweaks u) - l.mark) ≡ length u - l.mark =
     omega (arith, length-drop l.tweaks u, back.3) in
     rw (drop-drop _ _ u, fewer) (oldest-oldest l.mark l.base t stacked.0.within.0 stacked.0.within.1)
+
+-- and in all, the moves above it were undone
+undone_all : (p : Puzzle) (t : List Move) (l : Level) (ls : List Level) → AreStacked p t (l ∷ ls) → (u : ℕ)
+    → u + (length t - l.base) + l.tweaks + (length (drop l.tweaks (oldest l.base t)) - l.mark)
+    ≡ u + (length t - l.mark)
+undone_all p t l ls stacked u =
+    let r = oldest l.base t in
+    let back = back_at p t r l ls stacked refl in
+    omega (arith, length-drop l.tweaks r, back.1, back.3, stacked.0.within)
+
+pub ended_level : (p : Puzzle) (d : Dancing) (l : Level) (ls : List Level) → AreStacked p d.trail (l ∷ ls) → record d {
+  trail = oldest l.mark (drop l.tweaks (oldest l.base d.trail));
+  undone = d.undone + (length d.trail - l.base) + l.tweaks
+      + (length (drop l.tweaks (oldest l.base d.trail)) - l.mark);
+} ≡ record d { trail = oldest l.mark d.trail; undone = d.undone + (length d.trail - l.mark) }
+ended_level p d l ls stacked =
+    rw (under_tweaks p d.trail l ls stacked, undone_all p d.trail l ls stacked d.undone) refl
+
+-- one level after another ends, and no move is made
+pub unwound : (d e n : Dancing) (l : Level) (vs ks : Levels) → e ≡ record d { trail = e.trail; undone = e.undone }
+    → moves_made e ≡ moves_made d → AreStacked e.puzzle e.trail vs.levels → vs.levels ≡ l ∷ drop 1 vs.levels
+    → n ≡ record e { trail = oldest l.mark e.trail; undone = e.undone + (length e.trail - l.mark) }
+    → ks ≡ record vs { levels = drop 1 vs.levels } → (n ≡ record d { trail = n.trail; undone = n.undone })
+    × (moves_made n ≡ moves_made d) × AreStacked n.puzzle n.trail ks.levels
+unwound d e n l vs ks still made stacked top en ek =
+    let here = rw top at stacked in
+    let t = oldest l.mark e.trail in
+    let u : ℕ = e.undone + (length e.trail - l.mark) in
+    let mark = length-oldest l.mark e.trail (omega (arith, here.0.within)) in
+    let back : (record e { trail = t; undone = u } ≡ record d { trail = t; undone = u })
+    × (u + length t ≡ moves_made d) × AreStacked e.puzzle t (drop 1 vs.levels) = (
+      ap (λ (e : Dancing). record e { trail = t; undone = u }) still,
+      omega (arith, mark, made, here.0.within),
+      here.2,
+    ) in
+    rw (en, ek) back

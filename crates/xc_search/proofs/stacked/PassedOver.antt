@@ -3,8 +3,10 @@ use Rattle.std.proofs.Common.{ℕ, zero, suc, ◌≡◌, ◌+◌, ◌<◌, ◌�
 use Rattle.std.proofs.Common.{min, refl, sym, ap, ◌∙◌, arith, subst, ltb-true, ltb-false, ◌≢◌}
 use Rattle.std.proofs.lemmas.Grind.{common_steps}
 use Rattle.xc_search.specs.declared.choice.Choice.{Choice}
-use Rattle.xc_dance.specs.Dancing.{Dancing}
-use Rattle.xc_search.specs.Outlook.{Outlook, shown_after}
+use Rattle.xc_dance.specs.Dancing.{Dancing, moves_made}
+use Rattle.xc_search.specs.Outlook.{Outlook, shown_after, MakesFew}
+use Rattle.xc_search.specs.Ends.{ends_after}
+use Rattle.xc_search.specs.inner.Due.{ends_ahead, PaysFor}
 use Rattle.xc_input.specs.Problem.{Puzzle}
 use Rattle.xc_dance.specs.declared.dance.Move.{Move}
 use Rattle.xc_search.specs.declared.level.Level.{Level}
@@ -43,7 +45,7 @@ pub stands_behind : (p : Puzzle) (t : List Move) (ls : List Level) → AreStacke
 stands_behind p t ls a = record { stacked = a; searchable = λ e. cc; shallow = λ e. cc }
 
 -- it stands at the member behind the first n
-pub went_to : (d e : Dancing) (ls ks : Levels) (down : Bool) (n : ℕ) → (e ≡ record d { trail = e.trail })
+pub went_to : (d e : Dancing) (ls ks : Levels) (down : Bool) (n : ℕ) → (e ≡ record d { trail = e.trail; undone = e.undone })
     × (ks ≡ record ls { levels = ks.levels }) → IsSolved e.puzzle e.trail ks.levels →
     drop n (coming d.puzzle d.trail ls.levels down) ≡ coming e.puzzle e.trail ks.levels true
     → WentOver d ls down (n + 1) e ks
@@ -87,18 +89,29 @@ outlook d ls down = record {
   puzzle = d.puzzle;
   to_come = coming d.puzzle d.trail ls.levels down;
   shown = choices_of d.puzzle ls.levels;
+  ahead = ends_ahead d.puzzle d.trail ls.levels down;
   room = d.room;
+  made = moves_made d;
 }
 
 -- what this stands for after many more of its members
-abbrev past : ℕ → Outlook → Outlook
-past many o = record o { to_come = drop many o.to_come; shown = shown_after many o.to_come o.shown }
+abbrev past : ℕ → ℕ → Outlook → Outlook
+past many made o = record o {
+  to_come = drop many o.to_come;
+  shown = shown_after many o.to_come o.shown;
+  ahead = ends_after many o.ahead;
+  made = made;
+}
 
 module _ {d e : Dancing} {ls ks : Levels} {down below : Bool} {many n : ℕ} (p : Passed d ls down many n e ks below)
+    (q : PaysFor d ls down many e ks)
   where
     pub outlook_passed : (o : Outlook) → outlook d ls down ≡ o
-        → (outlook e ks below ≡ past many o) × (n ≡ min many (length o.to_come))
-    outlook_passed o is = grind (arith, drop_past, shown_past, p.past, p.over, p.within, p.searched)
+        → (outlook e ks below ≡ past many (moves_made e) o) × (n ≡ min many (length o.to_come))
+    outlook_passed o is = grind (arith, drop_past, shown_past, p.past, p.over, p.within, p.searched, q.ends)
+
+    pub few_made : (o : Outlook) → outlook d ls down ≡ o → MakesFew o (outlook e ks below)
+    few_made o is = rw (← is, p.searched) q.made
 
     -- and where it stands
     pub stands_there : IsStanding e.puzzle e.trail ks.levels below
@@ -110,5 +123,5 @@ module _ {d e : Dancing} {ls ks : Levels} {down below : Bool} {many n : ℕ} (p 
 
 -- what a search stands for after many more members, all of which were there
 pub search_over : (w v o : Outlook) (shown : List Choice) (many : ℕ) → 0 < many → many ≤ length w.to_come
-    → v ≡ past many w → record w { shown = shown } ≡ o → record v { shown = v.shown } ≡ past many o
+    → v ≡ past many v.made w → record w { shown = shown } ≡ o → record v { shown = v.shown } ≡ past many v.made o
 search_over w v o shown many some there was is = grind (arith, shown_anyway)

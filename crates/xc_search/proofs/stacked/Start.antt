@@ -8,7 +8,9 @@ use Rattle.std.specs.List.{AllByRecursion}
 use Rattle.xc_dance.specs.declared.dance.Move.{Move}
 use Rattle.xc_search.specs.declared.level.Level.{Level}
 use Rattle.xc_input.specs.Problem.{Puzzle, AreSoundBounds, IsValid}
-use Rattle.xc_search.specs.Listing.{wanted_from, listing}
+use Rattle.xc_search.specs.Listing.{wanted_from, listing, whole}
+use Rattle.xc_search.specs.Ends.{ends}
+use Rattle.xc_search.specs.inner.Due.{ends_ahead}
 use Rattle.xc_search.specs.inner.Residual.{residual_of}
 use Rattle.xc_search.specs.Cover.{members}
 use Rattle.xc_search.specs.inner.Levels.{AreAllWanted, IsStanding, coming}
@@ -32,3 +34,7 @@ comes_alone p t ls e = grind (arith, common_steps, map-id (listing (residual_of 
 
 pub starts_coming : (p : Puzzle) (t : List Move) (ls : List Level) → t ≡ [] → ls ≡ [] → coming p t ls true ≡ members p
 starts_coming p t ls et el = grind (arith, comes_alone, no_moves_leave_all p)
+
+pub starts_ends : (p : Puzzle) (t : List Move) (ls : List Level) → t ≡ [] → ls ≡ []
+    → ends_ahead p t ls true ≡ ends (whole p)
+starts_ends p t ls et el = grind (arith, common_steps, no_moves_leave_all p)

@@ -52,7 +52,7 @@ work_left d ls down = ahead d.puzzle d.trail ls.levels down
 -- From levels ls in state d a search goes on at levels ks in state e, with nothing lost.
 pub record GoesOn (d : Dancing) (ls : Levels) (down : Bool) (e : Dancing) (ks : Levels) (below : Bool) : Type 0 where
   -- only the moves and the levels changed
-  pub still : (e ≡ record d { trail = e.trail }) × (ks ≡ record ls { levels = ks.levels })
+  pub still : (e ≡ record d { trail = e.trail; undone = e.undone }) × (ks ≡ record ls { levels = ks.levels })
   pub standing : IsStanding e.puzzle e.trail ks.levels below
   pub members : coming d.puzzle d.trail ls.levels down ≡ coming e.puzzle e.trail ks.levels below
 
@@ -69,7 +69,7 @@ pub record EntersBranch (d : Dancing) (ls : Levels) (down : Bool) (e : Dancing) 
 
 -- It reached its end: nothing was left.
 pub record IsDone (d : Dancing) (ls : Levels) (down : Bool) (e : Dancing) (ks : Levels) : Type 0 where
-  pub still : (e ≡ record d { trail = e.trail }) × (ks ≡ record ls { levels = ks.levels })
+  pub still : (e ≡ record d { trail = e.trail; undone = e.undone }) × (ks ≡ record ls { levels = ks.levels })
   pub ended : ks.levels ≡ []
   pub members : coming d.puzzle d.trail ls.levels down ≡ []
 
@@ -80,7 +80,7 @@ pub record IsSolved (p : Puzzle) (t : List Move) (ls : List Level) : Type 0 wher
 
 -- It was to pass over m members, what is left first, and is still to pass over n of them.
 pub record GoesOver (d : Dancing) (ls : Levels) (m : ℕ) (e : Dancing) (ks : Levels) (n : ℕ) : Type 0 where
-  pub still : (e ≡ record d { trail = e.trail }) × (ks ≡ record ls { levels = ks.levels })
+  pub still : (e ≡ record d { trail = e.trail; undone = e.undone }) × (ks ≡ record ls { levels = ks.levels })
   pub standing : IsStanding e.puzzle e.trail ks.levels true
   pub members : drop m (coming d.puzzle d.trail ls.levels true) ≡ drop n (coming e.puzzle e.trail ks.levels true)
   pub count : m + length (coming e.puzzle e.trail ks.levels true) ≡ n + length (coming d.puzzle d.trail ls.levels true)
@@ -100,13 +100,13 @@ pub record StandsOver (d : Dancing) (ls : Levels) (m : ℕ) (e : Dancing) (ks : 
 
 -- It reached its end: so many were not there.
 pub record EndsOver (d : Dancing) (ls : Levels) (m : ℕ) (e : Dancing) (ks : Levels) (n : ℕ) : Type 0 where
-  pub still : (e ≡ record d { trail = e.trail }) × (ks ≡ record ls { levels = ks.levels })
+  pub still : (e ≡ record d { trail = e.trail; undone = e.undone }) × (ks ≡ record ls { levels = ks.levels })
   pub ended : ks.levels ≡ []
   pub count : m ≡ n + length (coming d.puzzle d.trail ls.levels true)
 
 -- Nothing is left below, and members are still to be passed over.
 pub record FallsBack (d : Dancing) (ls : Levels) (m : ℕ) (e : Dancing) (ks : Levels) (n : ℕ) : Type 0 where
-  pub still : (e ≡ record d { trail = e.trail }) × (ks ≡ record ls { levels = ks.levels })
+  pub still : (e ≡ record d { trail = e.trail; undone = e.undone }) × (ks ≡ record ls { levels = ks.levels })
   pub standing : IsStanding e.puzzle e.trail ks.levels false
   pub members : drop m (coming d.puzzle d.trail ls.levels true) ≡ drop n (coming e.puzzle e.trail ks.levels false)
   pub count : m + length (coming e.puzzle e.trail ks.levels false) ≡ n + length (coming d.puzzle d.trail ls.levels true)
@@ -114,7 +114,7 @@ pub record FallsBack (d : Dancing) (ls : Levels) (m : ℕ) (e : Dancing) (ks : L
 
 -- It went over n members: the choices of ks are the last of them.
 pub record WentOver (d : Dancing) (ls : Levels) (down : Bool) (n : ℕ) (e : Dancing) (ks : Levels) : Type 0 where
-  pub still : (e ≡ record d { trail = e.trail }) × (ks ≡ record ls { levels = ks.levels })
+  pub still : (e ≡ record d { trail = e.trail; undone = e.undone }) × (ks ≡ record ls { levels = ks.levels })
   pub solved : IsSolved e.puzzle e.trail ks.levels
   pub come : coming e.puzzle e.trail ks.levels false ≡ drop n (coming d.puzzle d.trail ls.levels down)
   pub shown : choices_of e.puzzle ks.levels ≡ shown_after n (coming d.puzzle d.trail ls.levels down)
@@ -123,7 +123,7 @@ pub record WentOver (d : Dancing) (ls : Levels) (down : Bool) (n : ℕ) (e : Dan
 
 -- It went over n members, and reached its end.
 pub record WentPast (d : Dancing) (ls : Levels) (down : Bool) (n : ℕ) (e : Dancing) (ks : Levels) : Type 0 where
-  pub still : (e ≡ record d { trail = e.trail }) × (ks ≡ record ls { levels = ks.levels })
+  pub still : (e ≡ record d { trail = e.trail; undone = e.undone }) × (ks ≡ record ls { levels = ks.levels })
   pub ended : ks.levels ≡ []
   pub count : n ≡ length (coming d.puzzle d.trail ls.levels down)
 

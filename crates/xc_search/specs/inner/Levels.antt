@@ -60,13 +60,14 @@ pub record IsNext (p : Puzzle) (t : List Move) (o : Option (ℕ × ℕ)) : Type 
   pub some : IfSome o (λ c. MayBranch p t c.0 c.1)
   pub none : o ≡ None → choice_after p t ≡ None
 
--- another open item is taken, with so many branches, where some item has none
+-- another open item is taken, with so many branches, one at most, where some item has none
 pub record IsDeadEnd (p : Puzzle) (t : List Move) (o : Option (ℕ × ℕ)) : Type 0 where
   pub item : ℕ
   pub count : ℕ
   pub is : o ≡ Some (item, count)
   pub is_open : IsOpenPrimary p t item
   pub counted : count ≡ branches_after p t (wanted_at p t item)
+  pub few : count ≤ 1
   pub short : ℕ
   pub short_open : IsOpenPrimary p t short
   pub without : branches_after p t (wanted_at p t short) ≡ 0

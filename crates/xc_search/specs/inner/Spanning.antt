@@ -40,7 +40,7 @@ pub record PassesOver (counts : Bool) (until : Option (List ℕ)) (m n : ℕ) (m
 -- Nothing is left below the levels ls in state d, and the search stands at them, as levels ks, in state e.
 pub record Falls (exact counts : Bool) (until : Option (List ℕ)) (d : Dancing) (ls : Levels) (m : ℕ) (e : Dancing)
     (ks : Levels) (n : ℕ) : Type 0 where
-  pub still : (e ≡ record d { trail = e.trail }) × (ks ≡ ls)
+  pub still : (e ≡ record d { trail = e.trail; undone = e.undone }) × (ks ≡ ls)
   pub standing : IsStanding e.puzzle e.trail ks.levels false
   pub path : KeepsBy exact d ls e ks
   pub less : work_left e ks false ≤ work_left d ls true
@@ -50,7 +50,7 @@ pub record Falls (exact counts : Bool) (until : Option (List ℕ)) (d : Dancing)
 -- From levels ls in state d it began a branch.
 pub record Begins (exact counts : Bool) (until : Option (List ℕ)) (d : Dancing) (ls : Levels) (m : ℕ) (e : Dancing)
     (ks : Levels) (n : ℕ) : Type 0 where
-  pub still : (e ≡ record d { trail = e.trail }) × (ks ≡ record ls { levels = ks.levels })
+  pub still : (e ≡ record d { trail = e.trail; undone = e.undone }) × (ks ≡ record ls { levels = ks.levels })
   pub standing : IsStanding e.puzzle e.trail ks.levels true
   pub path : KeepsBy exact d ls e ks
   pub rises : Rises ls ks
@@ -68,7 +68,7 @@ pub record Enters (exact counts : Bool) (until : Option (List ℕ)) (d : Dancing
 -- All levels ended.
 pub record Ends (counts : Bool) (until : Option (List ℕ)) (d : Dancing) (ls : Levels) (m : ℕ) (e : Dancing)
     (ks : Levels) (n : ℕ) : Type 0 where
-  pub still : (e ≡ record d { trail = e.trail }) × (ks ≡ record ls { levels = ks.levels })
+  pub still : (e ≡ record d { trail = e.trail; undone = e.undone }) × (ks ≡ record ls { levels = ks.levels })
   pub ended : ks.levels ≡ []
   pub over : PassesOver counts until m n (coming d.puzzle d.trail ls.levels true) []
 
@@ -76,7 +76,7 @@ pub record Ends (counts : Bool) (until : Option (List ℕ)) (d : Dancing) (ls : 
 -- looked at yet.
 pub record Stands (exact counts : Bool) (until : Option (List ℕ)) (d : Dancing) (ls : Levels) (m : ℕ) (e : Dancing)
     (ks : Levels) (n begun : ℕ) : Type 0 where
-  pub still : (e ≡ record d { trail = e.trail }) × (ks ≡ record ls { levels = ks.levels })
+  pub still : (e ≡ record d { trail = e.trail; undone = e.undone }) × (ks ≡ record ls { levels = ks.levels })
   pub standing : IsStanding e.puzzle e.trail ks.levels true
   pub led : AreLedBy exact e.puzzle [] e.trail ks.levels
   pub over : PassesOver counts until m n (coming d.puzzle d.trail ls.levels true)
@@ -99,7 +99,7 @@ pub record RunsTo (exact counts : Bool) (until : Option (List ℕ)) (d : Dancing
 -- From the row of levels ls in state d it went back to the first level, and stands at that row or at the next one of
 -- the search's tree, with no member between. Or no such row was found, and no member was to come.
 pub record Settles (d : Dancing) (ls : Levels) (e : Dancing) (ks : Levels) (found : Bool) : Type 0 where
-  pub still : (e ≡ record d { trail = e.trail }) × (ks ≡ record ls { levels = ks.levels })
+  pub still : (e ≡ record d { trail = e.trail; undone = e.undone }) × (ks ≡ record ls { levels = ks.levels })
   pub stacked : AreStacked e.puzzle e.trail ks.levels
   pub standing : found ≡ true → IsStanding e.puzzle e.trail ks.levels true
   pub led : found ≡ true → AreLed e.puzzle [] e.trail ks.levels
@@ -111,7 +111,7 @@ pub record Settles (d : Dancing) (ls : Levels) (e : Dancing) (ks : Levels) (foun
 -- tree.
 pub record Halts (until : Option (List ℕ)) (d : Dancing) (ls : Levels) (m : ℕ) (e : Dancing) (ks : Levels)
     (n begun : ℕ) : Type 0 where
-  pub still : (e ≡ record d { trail = e.trail }) × (ks ≡ record ls { levels = ks.levels })
+  pub still : (e ≡ record d { trail = e.trail; undone = e.undone }) × (ks ≡ record ls { levels = ks.levels })
   pub standing : IsStanding e.puzzle e.trail ks.levels true
   pub led : AreLed e.puzzle [] e.trail ks.levels
   pub over : PassesOver true until m n (coming d.puzzle d.trail ls.levels true)
@@ -122,7 +122,7 @@ pub record Halts (until : Option (List ℕ)) (d : Dancing) (ls : Levels) (m : �
 -- It came to the end of its span: of m members n weren't there.
 pub record EndsSpan (d : Dancing) (ls : Levels) (m : ℕ) (until : Option (List ℕ)) (e : Dancing) (ks : Levels) (n : ℕ) :
     Type 0 where
-  pub still : (e ≡ record d { trail = e.trail }) × (ks ≡ record ls { levels = ks.levels })
+  pub still : (e ≡ record d { trail = e.trail; undone = e.undone }) × (ks ≡ record ls { levels = ks.levels })
   pub stacked : AreStacked e.puzzle e.trail ks.levels
   pub count : m ≡ n + length (between d.puzzle (row_at d.puzzle ls.levels) until)
 

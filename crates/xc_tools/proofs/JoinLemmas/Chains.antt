@@ -1,13 +1,11 @@
 -- What the lines of the texts of spans come to, one text after another.
-use Rattle.std.proofs.Common.{◌≡◌, ℕ, zero, suc, ◌+◌, ◌-◌, ◌^◌, ◌<◌, ◌≤◌, ◌⊎◌, inl, inr, Bool, true, false, List, []}
+use Rattle.std.proofs.Common.{◌≡◌, ℕ, suc, ◌+◌, ◌^◌, ◌<◌, ◌⊎◌, inl, inr, Bool, true, false, List, []}
 use Rattle.std.proofs.Common.{◌∷◌}
 use Rattle.std.proofs.Common.{◌++◌, Option, None, Some, length, flat_map, refl, sym, ap, ◌∙◌, arith, append_assoc}
-use Rattle.std.proofs.Common.{append-nil, zero-add, min, nat_lt, subst, take, filter, length-append, not}
-use Rattle.std.specs.Prelude.{All, IfSome, ◌==◌, ◌&&◌, ◌%◌, codes, decimal, if◌then◌else◌}
-use Rattle.std.specs.List.{AllByRecursion, enumerate_from}
+use Rattle.std.proofs.Common.{append-nil, zero-add, min, subst, length-append}
+use Rattle.std.specs.Prelude.{IfSome, codes, if◌then◌else◌}
+use Rattle.std.specs.List.{AllByRecursion}
 use Rattle.std.specs.Str.{bytes_eq}
-use Rattle.std.proofs.lemmas.Bool.Decides.{nat_tests}
-use Rattle.std.proofs.lemmas.Grind.{common_steps}
 use Rattle.std.proofs.lemmas.Slice.Eq.{bytes_eq-Decides}
 use Rattle.std.proofs.lemmas.List.Elements.{recursion_from_All}
 use Rattle.xc_input.proofs.TokenLemmas.Bytes.{not_false}
@@ -16,21 +14,21 @@ use Rattle.xc_input.specs.Named.{Named}
 use Rattle.xc_input.specs.Problem.{Puzzle}
 use Rattle.xc_search.specs.declared.choice.Choice.{Choice}
 use Rattle.xc_search.specs.Cover.{members}
-use Rattle.xc_search.specs.Spans.{between, precedes}
+use Rattle.xc_search.specs.Spans.{between}
 use Rattle.xc_search.proofs.Cases.{by_bool}
 use Rattle.xc_search.proofs.spans.Rising.{all_between, keep_none, spans_meet}
 use Rattle.xc_list.specs.SpanTexts.{most_counted}
-use Rattle.xc_list.specs.Output.{is_printed, member_text, output}
+use Rattle.xc_list.specs.Output.{member_text}
 use Rattle.xc_list.specs.ListingLines.{words_in}
 use Rattle.xc_list.specs.SpanTexts.{end_at, row_text}
 use Rattle.xc_tools.specs.Joins.{AreSmall, DoMeet, IsSpan, Span, members_of}
 use Rattle.xc_tools.specs.inner.SpanLines.{Join, Stand, Told, goes, faulty, apart, after, by_heading, by_line}
 use Rattle.xc_tools.specs.inner.SpanLines.{by_record}
-use Rattle.xc_tools.specs.inner.SpanLines.{closed, heading_of, meets, record_of, saturating_number, start, step, wrote}
+use Rattle.xc_tools.specs.inner.SpanLines.{closed, heading_of, meets, record_of, saturating_number, wrote}
 use Rattle.xc_tools.proofs.JoinLemmas.SpanWords.{AreShort, AreShortIf, dash_or_digits, heading_line, heading-read}
 use Rattle.xc_tools.proofs.JoinLemmas.SpanWords.{record_line, record-read, rows-same, same}
-use Rattle.xc_tools.proofs.JoinLemmas.SpanRuns.{IsShort, Runs, after-append, is_last, listed_from, listed_part}
-use Rattle.xc_tools.proofs.JoinLemmas.SpanRuns.{listing_lines, rest_at, run-span, shown, span_lines, wrote-append}
+use Rattle.xc_tools.proofs.JoinLemmas.SpanRuns.{IsShort, after-append, is_last, listed_from, listed_part}
+use Rattle.xc_tools.proofs.JoinLemmas.SpanRuns.{rest_at, run-span, shown, span_lines, wrote-append}
 
 -- ---- spans with small numbers
 

@@ -1,14 +1,13 @@
 -- What is known of a text of spans once some of its lines were read.
-use Rattle.std.proofs.Common.{◌≡◌, ℕ, suc, ◌+◌, ◌-◌, ◌^◌, ◌<◌, ◌≤◌, ◌⊎◌, inl, inr, Bool, true, false, List, [], ◌∷◌}
+use Rattle.std.proofs.Common.{◌≡◌, ℕ, suc, ◌+◌, ◌≤◌, ◌⊎◌, inl, inr, Bool, true, false, List, [], ◌∷◌}
 use Rattle.std.proofs.Common.{◌++◌}
-use Rattle.std.proofs.Common.{Option, None, Some, length, flat_map, refl, sym, ap, ◌∙◌, arith, append_assoc, append-nil}
-use Rattle.std.proofs.Common.{min, nat_lt, subst, take, drop, filter, not, zero, length-append}
-use Rattle.std.specs.Prelude.{All, ◌==◌, ◌&&◌, ◌%◌, if◌then◌else◌}
+use Rattle.std.proofs.Common.{Option, None, Some, length, flat_map, refl, sym, ap, ◌∙◌, arith, append_assoc}
+use Rattle.std.proofs.Common.{min, nat_lt, subst, take, filter, zero, length-append}
+use Rattle.std.specs.Prelude.{◌==◌, if◌then◌else◌}
 use Rattle.std.specs.List.{AllByRecursion, enumerate_from}
 use Rattle.std.proofs.lemmas.Bool.Decides.{nat_tests}
-use Rattle.std.proofs.lemmas.Grind.{common_steps}
 use Rattle.std.proofs.lemmas.List.Elements.{recursion_from_All}
-use Rattle.xc_input.proofs.lists.Members.{IsIn, each_from, in-filter}
+use Rattle.xc_input.proofs.lists.Members.{each_from, in-filter}
 use Rattle.xc_input.specs.Named.{Named, IsSound}
 use Rattle.xc_input.specs.Words.{has}
 use Rattle.xc_input.specs.Lines.{lines_of}
@@ -18,13 +17,12 @@ use Rattle.xc_search.specs.declared.choice.Choice.{Choice}
 use Rattle.xc_search.specs.Cover.{members}
 use Rattle.xc_search.specs.Spans.{between}
 use Rattle.xc_list.specs.SpanTexts.{most_counted}
-use Rattle.xc_list.specs.Output.{is_printed, member_text, output}
+use Rattle.xc_list.specs.Output.{is_printed, member_text}
 use Rattle.xc_list.specs.Runs.{end_of}
-use Rattle.xc_list.specs.declared.runs.End.{End}
 use Rattle.xc_list.specs.declared.runs.End.TheVariants.{Done, Limit}
-use Rattle.xc_tools.specs.Joins.{AreTexts, DoMeet, IsBeginning, IsSpan, Span, joined, members_of, text_of}
-use Rattle.xc_tools.specs.inner.SpanLines.{Join, Stand, goes, faulty, apart, after, start, step, wrote}
-use Rattle.xc_tools.proofs.JoinLemmas.SpanRuns.{after-append, listed_from, listed_part, rest_at, shown, span_lines}
+use Rattle.xc_tools.specs.Joins.{AreTexts, DoMeet, IsBeginning, IsSpan, Span, joined}
+use Rattle.xc_tools.specs.inner.SpanLines.{Join, Stand, goes, faulty, apart, after, start, wrote}
+use Rattle.xc_tools.proofs.JoinLemmas.SpanRuns.{after-append, listed_from, listed_part, rest_at, span_lines}
 use Rattle.xc_tools.proofs.JoinLemmas.SpanRuns.{wrote-append}
 use Rattle.xc_tools.proofs.JoinLemmas.SpanLines.{ended-append, texts-ended, whole-append, whole-span}
 use Rattle.xc_tools.proofs.JoinLemmas.Chains.{IsEarly, all_lines, after-apart, chain, short-span, so_far-none}

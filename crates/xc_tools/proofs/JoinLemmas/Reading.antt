@@ -1,10 +1,7 @@
 -- Lines of spans' texts that are read one after another.
-use Rattle.std.proofs.Common.{◌≡◌, ℕ, ◌+◌, ◌-◌, ◌<◌, ◌≤◌, Bool, true, false, List, [], ◌∷◌, ◌++◌, Result, Ok, Err, Some}
-use Rattle.std.proofs.Common.{None}
-use Rattle.std.proofs.Common.{length, refl, sym, ap, ◌∙◌, arith, append_assoc, append-nil, subst, take, drop}
+use Rattle.std.proofs.Common.{◌≡◌, ℕ, ◌+◌, ◌-◌, ◌<◌, Bool, false, List, [], ◌∷◌, ◌++◌, Result}
+use Rattle.std.proofs.Common.{length, refl, sym, ap, ◌∙◌, arith, append_assoc, append-nil, subst, take}
 use Rattle.std.proofs.Common.{length-append}
-use Rattle.std.specs.Prelude.{IfErr, nat_eq}
-use Rattle.std.proofs.lemmas.Bool.Decides.{nat_tests}
 use Rattle.std.proofs.lemmas.Grind.{common_steps}
 use Rattle.xc_input.specs.Words.{has}
 use Rattle.xc_input.specs.inner.EndedLines.{ended, AreWhole}
@@ -16,10 +13,9 @@ use Rattle.xc_tools.specs.declared.joining.Stop.TheVariants.{NotText, Gap, Devic
 use Rattle.xc_tools.specs.declared.span_lines.Joint.{Joint}
 use Rattle.xc_tools.specs.declared.span_lines.Refusal.{Refusal}
 use Rattle.xc_tools.specs.declared.span_lines.Refusal.TheVariants as refusals
-use Rattle.xc_tools.specs.inner.SpanLines.{Join, Stand, goes, faulty, apart, after, by_line, join_of, start, step}
-use Rattle.xc_tools.specs.inner.SpanLines.{wrote}
+use Rattle.xc_tools.specs.inner.SpanLines.{Join, Stand, goes, faulty, apart, by_line, start, step}
 use Rattle.xc_tools.specs.inner.SpanLines.{Refuses}
-use Rattle.xc_tools.specs.inner.Joining.{Adds, EndsAt, IsLast, StopsIn, StopsReading, reached, says_of, stop_of}
+use Rattle.xc_tools.specs.inner.Joining.{Adds, EndsAt, StopsIn, StopsReading, reached, says_of, stop_of}
 use Rattle.xc_tools.specs.inner.Joining.{written}
 use Rattle.xc_input.specs.Pieces.{SourceState, Gave}
 use Rattle.std.proofs.Math.Seq.{take-append-add}

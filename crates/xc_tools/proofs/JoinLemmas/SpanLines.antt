@@ -1,12 +1,10 @@
 -- A span's text is made of its lines.
 use Rattle.std.proofs.Common.{◌≡◌, ℕ, ◌+◌, ◌^◌, ◌<◌, ◌≤◌, Bool, true, false, List, [], ◌∷◌, ◌++◌, Option, None, Some}
 use Rattle.std.proofs.Common.{zero, suc}
-use Rattle.std.proofs.Common.{length, flat_map, refl, sym, ap, ◌∙◌, arith, append_assoc, append-nil, map, subst}
-use Rattle.std.specs.Prelude.{All, MatchOption, codes, decimal, is_some}
+use Rattle.std.proofs.Common.{length, flat_map, refl, arith, append_assoc, map}
+use Rattle.std.specs.Prelude.{MatchOption, codes, decimal, is_some}
 use Rattle.std.specs.List.{AllByRecursion, enumerate_from}
-use Rattle.std.proofs.lemmas.Grind.{common_steps}
 use Rattle.std.proofs.lemmas.List.Elements.{recursion_from_All}
-use Rattle.std.proofs.lemmas.List.Concat.{flat_map-append}
 use Rattle.xc_input.specs.Named.{Named, IsKnownUse, IsSound}
 use Rattle.xc_input.specs.Problem.{IsOption, IsPrimary, colour_in, uses_of}
 use Rattle.xc_input.specs.UsePlaces.{place_in}
@@ -19,16 +17,16 @@ use Rattle.xc_input.proofs.lists.Members.{IsIn}
 use Rattle.xc_search.specs.declared.choice.Choice.{Choice}
 use Rattle.xc_search.specs.Cover.{members}
 use Rattle.xc_list.specs.Output.{member_text}
-use Rattle.xc_list.specs.SpanTexts.{record_text, row_text, branches_text}
+use Rattle.xc_list.specs.SpanTexts.{record_text, row_text}
 use Rattle.xc_list.proofs.CheckLemmas.BodiesOfClasses.{All-turned}
 use Rattle.xc_list.proofs.CheckLemmas.ListedNumbers.{numbered_some}
 use Rattle.xc_list.proofs.OutputLemmas.ChoiceBodies.{body_words, plain-name, plain-use}
 use Rattle.xc_list.proofs.OutputLemmas.KnownMembers.{AreCounted, IsCounted, member_counted}
-use Rattle.xc_list.proofs.OutputLemmas.OutputLines.{IsNumberedMember, choice_line, choice_words, member-ended}
+use Rattle.xc_list.proofs.OutputLemmas.OutputLines.{choice_line, choice_words, member-ended}
 use Rattle.xc_list.proofs.OutputLemmas.OutputLines.{member_lines, output_lines}
 use Rattle.xc_list.proofs.OutputLemmas.ReadLines.{ending_words, no_feed-header, spaced}
 use Rattle.xc_tools.specs.Joins.{Span, members_of, text_of}
-use Rattle.xc_tools.proofs.JoinLemmas.SpanWords.{AreShort, AreShortIf, feed-decimal, feed-heading, feed-record}
+use Rattle.xc_tools.proofs.JoinLemmas.SpanWords.{feed-decimal, feed-heading, feed-record}
 use Rattle.xc_tools.proofs.JoinLemmas.SpanWords.{heading_line, record_line}
 use Rattle.xc_tools.proofs.JoinLemmas.SpanRuns.{IsShort, listing_lines, span_lines}
 

@@ -1,14 +1,13 @@
 -- What the lines of a span's text come to.
-use Rattle.std.proofs.Common.{rules, ◌≡◌, ℕ, suc, ◌+◌, ◌-◌, ◌^◌, ◌<◌, ◌≤◌, ◌⊎◌, inl, inr, Bool, true, false, List, []}
+use Rattle.std.proofs.Common.{◌≡◌, ℕ, ◌+◌, ◌-◌, ◌^◌, ◌<◌, ◌≤◌, ◌⊎◌, inl, inr, Bool, true, false, List, []}
 use Rattle.std.proofs.Common.{◌∷◌}
 use Rattle.std.proofs.Common.{◌++◌, Option, None, Some, length, flat_map, refl, sym, ap, ◌∙◌, arith, append_assoc}
-use Rattle.std.proofs.Common.{append-nil, map, min, nat_lt, subst, cond}
-use Rattle.std.specs.Prelude.{◌==◌, ◌&&◌, codes, decimal, nat_eq, if◌then◌else◌}
+use Rattle.std.proofs.Common.{append-nil, map, min, nat_lt}
+use Rattle.std.specs.Prelude.{◌==◌, ◌&&◌, codes, decimal, if◌then◌else◌}
 use Rattle.std.specs.Char.{is_ascii_digit}
-use Rattle.std.specs.List.{AllByRecursion, enumerate_from, list_all}
+use Rattle.std.specs.List.{enumerate_from, list_all}
 use Rattle.std.specs.Str.{bytes_eq}
 use Rattle.std.proofs.lemmas.Bool.Decides.{nat_tests}
-use Rattle.std.proofs.lemmas.Grind.{common_steps}
 use Rattle.std.proofs.lemmas.Fmt.{decimal_nonempty}
 use Rattle.std.proofs.lemmas.Fmt.{digits_value-decimal}
 use Rattle.std.specs.Prelude.{fold, ◌*◌}
@@ -21,7 +20,6 @@ use Rattle.xc_list.specs.SpanTexts.{most_counted}
 use Rattle.xc_list.specs.Output.{choice_text, member_text}
 use Rattle.xc_list.specs.ListingLines.{words_in}
 use Rattle.xc_list.specs.SpanTexts.{row_text}
-use Rattle.xc_list.proofs.OutputLemmas.ChoiceBodies.{body_words}
 use Rattle.xc_list.proofs.OutputLemmas.OutputLines.{choice-ended, choice_line, choice_words, header_line}
 use Rattle.xc_list.proofs.OutputLemmas.OutputLines.{member_lines, output_lines}
 use Rattle.xc_list.proofs.OutputLemmas.ReadLines.{before_last-last, ending_words, spaced}

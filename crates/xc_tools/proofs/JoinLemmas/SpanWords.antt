@@ -1,6 +1,6 @@
 -- The words of headings and records.
 use Rattle.std.proofs.Common.{rules, ◌≡◌, ℕ, ◌^◌, ◌<◌, Bool, true, false, List, [], ◌∷◌, ◌++◌, Option, None, Some}
-use Rattle.std.proofs.Common.{length, flat_map, refl, sym, ap, ◌∙◌, arith, append_assoc, ◌||◌, map}
+use Rattle.std.proofs.Common.{flat_map, refl, sym, ap, ◌∙◌, arith, map}
 use Rattle.std.specs.Prelude.{◌==◌, codes, decimal, nat_eq}
 use Rattle.xc_input.specs.Words.{has}
 use Rattle.xc_input.proofs.LineLemmas.TextLines.{lacks-append}
@@ -8,8 +8,7 @@ use Rattle.std.specs.Char.{is_ascii_digit}
 use Rattle.std.specs.List.{AllByRecursion, list_all, list_any, slice_split}
 use Rattle.std.specs.Str.{byte, bytes_eq}
 use Rattle.std.proofs.lemmas.Bool.Decides.{nat_tests}
-use Rattle.std.proofs.lemmas.Bool.{or_parts, or_from}
-use Rattle.std.proofs.lemmas.Grind.{common_steps}
+use Rattle.std.proofs.lemmas.Bool.{or_from}
 use Rattle.std.proofs.lemmas.Fmt.{decimal_injective, decimal_nonempty, digits_decimal}
 use Rattle.std.proofs.lemmas.List.Folds.{list_any-append}
 use Rattle.std.proofs.lemmas.Slice.Eq.{bytes_eq-Decides}
@@ -17,7 +16,7 @@ use Rattle.std.proofs.lemmas.Str.Parse.{IsNumeralModel, numerals_by_fold}
 use Rattle.xc_input.proofs.TokenLemmas.DecimalValues.{value_from}
 use Rattle.xc_list.specs.ListingLines.{words_in}
 use Rattle.xc_list.specs.SpanTexts.{row_text, branches_text}
-use Rattle.xc_tools.specs.inner.SpanLines.{Told, heading_of, is_number, is_row, record_of, solutions_of}
+use Rattle.xc_tools.specs.inner.SpanLines.{heading_of, is_number, is_row, record_of, solutions_of}
 
 -- ---- digits
 

@@ -1,11 +1,10 @@
 -- What is known of spans where a run stopped.
-use Rattle.std.proofs.Common.{◌≡◌, ◌⊎◌, inl, inr, ℕ, ◌+◌, ◌-◌, ◌<◌, ◌≤◌, Bool, true, false, List, [], ◌∷◌, ◌++◌, Result}
+use Rattle.std.proofs.Common.{◌≡◌, ◌⊎◌, inl, inr, ℕ, ◌+◌, Bool, false, List, [], ◌++◌, Result}
 use Rattle.std.proofs.Common.{Ok, Err}
-use Rattle.std.proofs.Common.{Some, None, length, refl, sym, ap, ◌∙◌, arith, append_assoc, append-nil, subst, take}
+use Rattle.std.proofs.Common.{refl, sym, ap, ◌∙◌, append_assoc, append-nil, subst, take}
 use Rattle.std.proofs.Common.{drop, take-append-drop}
 use Rattle.std.specs.Prelude.{◌==◌, IsTrue, codes, if◌then◌else◌}
 use Rattle.std.specs.Io.KnownBytes.{Appends, Keeps}
-use Rattle.std.proofs.lemmas.Bool.Decides.{nat_tests}
 use Rattle.xc_input.specs.Calls.{Rose}
 use Rattle.xc_input.specs.Named.{Named, IsSound}
 use Rattle.xc_input.specs.Pieces.{SourceState, Gave, GaveAll}
@@ -19,14 +18,13 @@ use Rattle.xc_list.specs.Texts.{SinkState, Took, BrokeOff, WasTold}
 use Rattle.xc_list.specs.declared.runs.End.{End}
 use Rattle.xc_list.specs.declared.runs.End.TheVariants.{Done, Limit}
 use Rattle.xc_list.proofs.TextLemmas.{appends_kept}
-use Rattle.xc_list.proofs.Writing.{took_nothing}
-use Rattle.xc_tools.specs.Joins.{AreTexts, DidJoin, DoMeet, ForTexts, HasBegun, IsBeginning, IsJoined, OfTexts, Span}
+use Rattle.xc_tools.specs.Joins.{AreTexts, DidJoin, DoMeet, HasBegun, IsBeginning, Span}
 use Rattle.xc_tools.specs.Joins.{joined}
-use Rattle.xc_tools.specs.Solves.{Streams, TookAll}
+use Rattle.xc_tools.specs.Solves.{Sinks}
 use Rattle.xc_tools.specs.declared.joining.Stop.{Stop}
 use Rattle.xc_tools.specs.declared.joining.Stop.TheVariants.{NotText, Gap, Device, Memory, WriteFailed}
 use Rattle.xc_tools.specs.declared.span_lines.Joint.{Joint}
-use Rattle.xc_tools.specs.inner.SpanLines.{Join, Stand, goes, faulty, apart, join_of}
+use Rattle.xc_tools.specs.inner.SpanLines.{Join, goes, join_of}
 use Rattle.xc_tools.specs.inner.Joining.{EndsAt, IsLast, JoinsAll, StopsIn, StopsReading, ToldStop, reached, written}
 use Rattle.xc_tools.proofs.JoinLemmas.Chains.{all_lines}
 use Rattle.xc_tools.proofs.JoinLemmas.Ends.{begins, end_of-total, finished, first-lines, never-faulty, never-meets}
@@ -187,12 +185,12 @@ any : (stop : Stop) (spans : List Span) → so_at stop spans → Unit {0}
 any stop spans h = tt
 
 -- a run that stopped, by what was told
-pub run-stopped : {S O E : Type 0} (listed : Bool) (new : Joint) (y : SinkState) (status : ℕ) (stop : Stop)
-    (from to : Streams S O E)
-    → JoinsAll listed new from.input.state to.input.state from.out.state y (Err stop) → Keeps y.taken to.out.state.taken
-    → ToldStop stop status from.err.state to.err.state → DidJoin listed status from to
-run-stopped listed new y status stop from to h kept (inl t) =
-    let begun = stopped listed new from.input.state to.input.state from.out.state y to.out.state kept stop h in
+pub run-stopped : {O E : Type 0} (listed : Bool) (new : Joint) (y : SinkState) (status : ℕ) (stop : Stop)
+    (i j : SourceState) (from to : Sinks O E)
+    → JoinsAll listed new i j from.out.state y (Err stop) → Keeps y.taken to.out.state.taken
+    → ToldStop stop status from.err.state to.err.state → DidJoin listed status i j from to
+run-stopped listed new y status stop i j from to h kept (inl t) =
+    let begun = stopped listed new i j from.out.state y to.out.state kept stop h in
     inr (inl (
       t.0,
       begun-weaker listed (so_at stop) (λ _. ⊥) _ _ _ _
@@ -201,8 +199,8 @@ run-stopped listed new y status stop from to h kept (inl t) =
       t.3,
       t.4,
     ))
-run-stopped listed new y status stop from to h kept (inr (inl t)) =
-    let begun = stopped listed new from.input.state to.input.state from.out.state y to.out.state kept stop h in
+run-stopped listed new y status stop i j from to h kept (inr (inl t)) =
+    let begun = stopped listed new i j from.out.state y to.out.state kept stop h in
     inr (inr (inr (inr (
       t.0,
       begun-weaker listed (so_at stop) (λ spans. DoMeet [] spans → ⊥) _ _ _ _
@@ -211,19 +209,19 @@ run-stopped listed new y status stop from to h kept (inr (inl t)) =
       t.3,
       t.4,
     ))))
-run-stopped listed new y status stop from to h kept (inr (inr (inl t))) =
-    let begun = stopped listed new from.input.state to.input.state from.out.state y to.out.state kept stop h in
+run-stopped listed new y status stop i j from to h kept (inr (inr (inl t))) =
+    let begun = stopped listed new i j from.out.state y to.out.state kept stop h in
     inr (inr (inr (inl (t.0, begun-weaker listed (so_at stop) (λ _. Unit {0}) _ _ _ _ (any stop) begun, t.1))))
-run-stopped listed new y status stop from to h kept (inr (inr (inr (inl t)))) =
-    let begun = stopped listed new from.input.state to.input.state from.out.state y to.out.state kept stop h in
+run-stopped listed new y status stop i j from to h kept (inr (inr (inr (inl t)))) =
+    let begun = stopped listed new i j from.out.state y to.out.state kept stop h in
     inr (inr (inl (t.0, begun-weaker listed (so_at stop) (λ _. Unit {0}) _ _ _ _ (any stop) begun, inl t.1)))
-run-stopped listed new y status stop from to h kept (inr (inr (inr (inr t)))) =
-    let begun = stopped listed new from.input.state to.input.state from.out.state y to.out.state kept stop h in
+run-stopped listed new y status stop i j from to h kept (inr (inr (inr (inr t)))) =
+    let begun = stopped listed new i j from.out.state y to.out.state kept stop h in
     inr (inr (inl (t.0, begun-weaker listed (so_at stop) (λ _. Unit {0}) _ _ _ _ (any stop) begun, inr (inl t.1))))
 
 -- a run that came to the end of the input
-module _ {S O E : Type 0} (listed : Bool) (status : ℕ) (from to : Streams S O E) (y : SinkState) (ls : List (List ℕ))
-    (rest : List ℕ) (old new : Joint) (g : GaveAll from.input.state to.input.state (ended ls ++ rest)) (w : AreWhole ls)
+module _ {O E : Type 0} (listed : Bool) (status : ℕ) (i j : SourceState) (from to : Sinks O E) (y : SinkState)
+    (ls : List (List ℕ)) (rest : List ℕ) (old new : Joint) (g : GaveAll i j (ended ls ++ rest)) (w : AreWhole ls)
     (free : has 10 rest ≡ false) (at : reached listed ls ≡ goes (join_of old)) (ends : EndsAt rest old new (Ok tt))
     (took : Took from.out.state y (written listed ls)) (kept : Keeps y.taken to.out.state.taken)
     (flushed : to.out.state.flushes ≡ y.flushes + 1) (end : End)
@@ -231,7 +229,7 @@ module _ {S O E : Type 0} (listed : Bool) (status : ℕ) (from to : Streams S O 
   all-kept : Appends from.out.state.taken to.out.state.taken (written listed ls)
   all-kept = appends_kept from.out.state.taken y.taken to.out.state.taken (written listed ls) took.whole kept
 
-  begun-whole : HasBegun listed (λ _. Unit {0}) from.input.state to.input.state from.out.state to.out.state
+  begun-whole : HasBegun listed (λ _. Unit {0}) i j from.out.state to.out.state
   begun-whole = record {
     text = written listed ls;
     taken = all-kept;
@@ -243,7 +241,7 @@ module _ {S O E : Type 0} (listed : Bool) (status : ℕ) (from to : Streams S O 
       ⊎ ((status ≡ 3) × Rose y.failures to.out.state.failures × IsTrue to.out.state.failed
       × WasTold from.err.state to.err.state (codes "Write failed.\n"))
       ⊎ ((status ≡ 3) × (to.out.state.failures ≡ y.failures) × IsTrue to.out.state.settled
-      × BrokeOff from.err.state to.err.state (summary_text end)) → DidJoin listed status from to
+      × BrokeOff from.err.state to.err.state (summary_text end)) → DidJoin listed status i j from to
   whole-run (inl h) = inl (
     h.0,
     record {
@@ -266,9 +264,9 @@ module _ {S O E : Type 0} (listed : Bool) (status : ℕ) (from to : Streams S O 
   whole-run (inr (inl h)) = inr (inr (inl (h.0, begun-whole, inr (inl h.3))))
   whole-run (inr (inr h)) = inr (inr (inl (h.0, begun-whole, inr (inr (end, h.3)))))
 
-pub run-ended : {S O E : Type 0} (listed : Bool) (new : Joint) (y : SinkState) (status : ℕ)
-    (from to : Streams S O E) (end : End) (u : Unit {0})
-    → JoinsAll listed new from.input.state to.input.state from.out.state y (Ok u)
+pub run-ended : {O E : Type 0} (listed : Bool) (new : Joint) (y : SinkState) (status : ℕ)
+    (i j : SourceState) (from to : Sinks O E) (end : End) (u : Unit {0})
+    → JoinsAll listed new i j from.out.state y (Ok u)
     → end ≡ (if new.total == most_counted then Limit new.total else Done new.total)
     → Keeps y.taken to.out.state.taken → to.out.state.flushes ≡ y.flushes + 1
     → ((status ≡ 0) × (to.out.state.failures ≡ y.failures) × IsTrue to.out.state.settled
@@ -276,7 +274,7 @@ pub run-ended : {S O E : Type 0} (listed : Bool) (new : Joint) (y : SinkState) (
     ⊎ ((status ≡ 3) × Rose y.failures to.out.state.failures × IsTrue to.out.state.failed
     × WasTold from.err.state to.err.state (codes "Write failed.\n"))
     ⊎ ((status ≡ 3) × (to.out.state.failures ≡ y.failures) × IsTrue to.out.state.settled
-    × BrokeOff from.err.state to.err.state (summary_text end)) → DidJoin listed status from to
-run-ended listed new y status from to end u (inl h) is kept flushed did = absurd (cc h.1)
-run-ended listed new y status from to end u (inr h) is kept flushed did =
-    whole-run listed status from to y h.0 h.1 h.2 new h.3 h.4 h.5 h.6 h.7 h.8 kept flushed end is did
+    × BrokeOff from.err.state to.err.state (summary_text end)) → DidJoin listed status i j from to
+run-ended listed new y status i j from to end u (inl h) is kept flushed did = absurd (cc h.1)
+run-ended listed new y status i j from to end u (inr h) is kept flushed did =
+    whole-run listed status i j from to y h.0 h.1 h.2 new h.3 h.4 h.5 h.6 h.7 h.8 kept flushed end is did

@@ -1,8 +1,7 @@
 -- No public clause cites this module. How far a run that joins spans came.
-use Rattle.std.specs.Prelude.{ℕ, ◌≡◌, ◌⊎◌, Bool, true, false, List, [], ◌∷◌, ◌++◌, None, Result, Ok, Err, min}
+use Rattle.std.specs.Prelude.{ℕ, ◌≡◌, ◌⊎◌, Bool, true, false, List, [], ◌++◌, None, Result, Ok, Err}
 use Rattle.xc_input.specs.Words.{has}
 use Rattle.xc_input.specs.inner.EndedLines.{ended, AreWhole}
-use Rattle.xc_input.specs.Calls.{Rose}
 use Rattle.xc_input.specs.Pieces.{SourceState, Gave, GaveAll}
 use Rattle.xc_list.specs.Texts.{SinkState, Took, BrokeOff, WasTold}
 use Rattle.xc_tools.specs.Joins.{gap_text, no_text}

@@ -23,7 +23,7 @@ pub(crate) const SPACER: u32 = 0x8000_0000;
 
 /// The nodes, of sixteen bytes each: four cells of 32 bits, so that more of them stay near the processor. Their links
 /// lie in pairs, since each step reads both; TOP and COLOR lie apart, since a walk down a list reads neither. Contracts
-/// see four columns. In a model in C four columns took 1.05 of the time, and nodes of four cells side by side 1.14.
+/// see four columns.
 #[derive(Drop)]
 pub(crate) struct Nodes {
     top: Column,

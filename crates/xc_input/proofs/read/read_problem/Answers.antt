@@ -1,8 +1,8 @@
-use Rattle.std.proofs.Common.{append-nil}
 use Rattle.std.proofs.lemmas.Bool.Decides.{nat_tests}
 use Rattle.std.proofs.Common.{arith}
 use Rattle.std.proofs.lemmas.Result.{err_from_is_err_and}
 use Rattle.xc_input.specs.inner.EndedLines.{ended}
+use Rattle.xc_input.proofs.LineLemmas.Pieces.{part-none}
 use Rattle.xc_input.proofs.read.read_problem.Goals as goal
 
 pub read_through-requires-clause-state : goal.read_through-requires-clause-state
@@ -12,7 +12,7 @@ pub read_through-requires-clause-nothing : goal.read_through-requires-clause-not
 read_through-requires-clause-nothing g c = grind (arith, ended)
 
 pub returns-in_err-store-clause-part : goal.returns-in_err-store-clause-part
-returns-in_err-store-clause-part g c = grind (arith, err_from_is_err_and, append-nil, nat_tests)
+returns-in_err-store-clause-part g c = grind (arith, err_from_is_err_and, part-none)
 
 pub returns-clause-part : goal.returns-clause-part
 returns-clause-part g c = rw c.with_seed-reader.ensures.kind at c.read_through.ensures.part

@@ -4,8 +4,11 @@ use Rattle.xc_list.specs.Known.{IsKnownChoice}
 use Rattle.std.specs.Prelude.{All}
 use Rattle.xc_list.proofs.Outputs.{holds_next}
 use Rattle.xc_list.proofs.OutputLemmas.KnownMembers.{members_known}
-use Rattle.std.proofs.Common.{arith, ◌+◌, ◌≤◌, length, ap}
+use Rattle.std.proofs.Common.{arith, ◌+◌, ◌≤◌, ◌∙◌, length, ap}
+use Rattle.xc_list.proofs.FewMoves.{few_on}
 use Rattle.xc_list.proofs.NextPrinted.{Reaches, reaches, ends, takes, stops, stands, within, none_left}
+use Rattle.xc_search.proofs.ends.Whole.{ends_on}
+use Rattle.xc_search.specs.Outlook.{Outlook}
 use Rattle.xc_list.proofs.runs.write_members.Goals as goal
 use Rattle.xc_list.proofs.runs.write_members.Goals.{After-pass-passed}
 
@@ -24,6 +27,14 @@ returns-in-Err-clause-run g c =
     let to = at g (goal.at.returns-in-Err-clause-run g c).After-pass-passed c.if-passed-steps.false in
     stops to c.args.words.now.limit c.steps_to_printed-steps.ensures.within c.loop-found.invariant.taken
     c.in-Err.ensures.written
+
+pub returns-in-Err-clause-moves : goal.returns-in-Err-clause-moves
+returns-in-Err-clause-moves g c =
+    few_on c.args.bodies.now.puzzle c.loop-found.walk c.pass-passed.new.self c.args.walk.now.made c.loop-found.found
+    c.steps_to_printed-steps.result
+    (ap (λ (o : Outlook). o.puzzle) c.loop-found.invariant.still ∙ c.requires.puzzle) c.loop-found.invariant.ahead
+    c.loop-found.invariant.moves c.pass-passed.ensures.moves
+    (ap (λ (o : Outlook). o.ahead) c.pass-passed.ensures.went)
 
 pub returns-in-Err-clause-went : goal.returns-in-Err-clause-went
 returns-in-Err-clause-went g c =
@@ -47,6 +58,9 @@ loop-found-preserved g c =
     let to = at g (goal.at.loop-found-preserved g c).After-pass-passed c.if-passed-steps.false in
     record {
       still = rw (c.pass-passed.ensures.went, c.loop-found.invariant.still);
+      ahead = rw (c.pass-passed.ensures.went, c.loop-found.invariant.ahead)
+          (ends_on c.loop-found.found c.steps_to_printed-steps.result _);
+      moves = grind (arith, c.pass-passed.ensures.moves, c.loop-found.invariant.moves, c.loop-found.invariant.still);
       shown = (stands to).0;
       come = (stands to).1;
       within = within to;

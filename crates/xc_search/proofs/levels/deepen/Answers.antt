@@ -5,6 +5,7 @@ use Rattle.xc_search.proofs.stacked.EarlyChoice.{chosen_leads}
 use Rattle.xc_search.proofs.stacked.LoopSteps.{Opens, node_at, deepens, may_enter, enters_first}
 use Rattle.xc_search.proofs.stacked.LoopSteps.{passes_over}
 use Rattle.xc_search.proofs.spans.Numbers.{rises_below}
+use Rattle.xc_search.proofs.ends.Steps.{pays_first, pays_nothing}
 use Rattle.xc_search.proofs.levels.deepen.Goals as goal
 use Rattle.xc_search.proofs.levels.deepen.Goals.{In-Some, After-descend-level}
 use Rattle.xc_search.specs.declared.levels.Entered.{Entered}
@@ -81,3 +82,15 @@ returns-clause-deeper_path g c b is x chose =
     rw (← same_branch _ b is) ((enters_first (opened g (goal.at.returns-clause-deeper_path g c).After-descend-level)
     c.enter-branch.new.self c.push.new.self c.enter-branch.result c.enter-branch.ensures.still
     c.enter-branch.ensures.entered (rw c.begin_level.ensures at c.push.ensures)).1 x first)
+
+pub returns-clause-deeper_pays : goal.returns-clause-deeper_pays
+returns-clause-deeper_pays g c b is early m =
+    let some = (goal.at.returns-clause-deeper_pays g c).In-Some in
+    rw (← same_branch _ b is) (pays_first (opened g (goal.at.returns-clause-deeper_pays g c).After-descend-level)
+    (rw some.in-Some.is at early) c.enter-branch.new.self c.push.new.self c.enter-branch.result
+    c.enter-branch.ensures.still c.enter-branch.ensures.entered (rw c.begin_level.ensures at c.push.ensures) m)
+
+pub returns-then-count-eq0-clause-nothing_pays : goal.returns-then-count-eq0-clause-nothing_pays
+returns-then-count-eq0-clause-nothing_pays g c _ m =
+    pays_nothing (opened g (goal.at.returns-then-count-eq0-clause-nothing_pays g c).After-descend-level)
+    c.if-count-eq0.true c.undo_to.new.self c.undo_to.ensures m

@@ -1,6 +1,19 @@
-use Rattle.std.proofs.Common.{arith}
-use Rattle.xc_search.proofs.stacked.LoopSteps.{under_tweaks}
+use Rattle.std.proofs.Common.{◌+◌, ◌-◌, length, drop, refl, ap, ◌∙◌}
+use Rattle.xc_dance.specs.Dancing.{Dancing}
+use Rattle.xc_search.specs.inner.Commits.{oldest}
+use Rattle.xc_search.proofs.stacked.LoopSteps.{ended_level}
 use Rattle.xc_search.proofs.levels.end_level.Goals as goal
+use Rattle.xc_search.proofs.levels.end_level.Goals.{then-level-gt0, else-level-gt0}
 
 pub returns : goal.returns
-returns g c = grind (arith, under_tweaks)
+returns g c =
+    let l = c.args.level.now in
+    let back = λ (s : Dancing). record s
+    { trail = oldest l.mark s.trail; undone = s.undone + (length s.trail - l.mark) } in
+    let freed = λ (s : Dancing). record s { trail = drop l.tweaks s.trail; undone = s.undone + l.tweaks } in
+    elim c.if-level-gt0.branch [
+      | then-level-gt0 w ↦
+          c.undo_to-2.ensures ∙ ap back (w.position-is ∙ w.undo_tweaks.ensures ∙ ap freed w.undo_to.ensures)
+          ∙ ended_level c.requires.stacked.0 c.args.position.now l c.requires.stacked.1 c.requires.stacked.2
+      | else-level-gt0 w ↦ c.undo_to-2.ensures ∙ ap back w.position-is
+    ]

@@ -2,6 +2,7 @@ use Rattle.std.proofs.Common.{arith, ◌≡◌, ◌∙◌, refl}
 use Rattle.xc_search.proofs.stacked.CountedOver.{enters_below, falls_over, passes_one}
 use Rattle.xc_search.proofs.stacked.EarlyChoice.{early_next}
 use Rattle.xc_search.proofs.stacked.NextLevel.{solution}
+use Rattle.xc_search.proofs.ends.Steps.{Pays-refl, pays_over, pays_one}
 use Rattle.xc_search.proofs.levels.go_below.Goals as goal
 use Rattle.xc_search.proofs.levels.go_below.Goals.{After-choose_early-next}
 use Rattle.xc_search.proofs.levels.go_below.Goals.{else-levels-last-via-then-levels-last+else-pass_last}
@@ -38,3 +39,30 @@ returns-else-more-eq0-clause-back g c _ =
     let one = solution d.puzzle d.trail c.args.stack.now.levels (c.requires.standing.searchable refl).legal none in
     rw (here.0, here.1) (passes_one d c.args.stack.now _ _ c.requires.standing one
     (omega (arith, same, c.if-more-eq0.false)))
+
+pub returns-then-pass_last-clause-back_pays : goal.returns-then-pass_last-clause-back_pays
+returns-then-pass_last-clause-back_pays g c _ =
+    pays_over _ _ _ _ (c.requires.standing.searchable refl) (c.pass_last.ensures.passed c.if-pass_last.true)
+
+pub returns-in-Branch-clause-entered_pays : goal.returns-in-Branch-clause-entered_pays
+returns-in-Branch-clause-entered_pays g c b is =
+    rw (as_many g (goal.at.returns-in-Branch-clause-entered_pays g c).After-choose_early-next)
+    (c.deepen.ensures.deeper_pays b (c.in-Branch.is ∙ is) c.choose_early-next.ensures.choice c.args.more.now)
+
+pub returns-in-Nothing-clause-back_pays : goal.returns-in-Nothing-clause-back_pays
+returns-in-Nothing-clause-back_pays g c _ =
+    rw (as_many g (goal.at.returns-in-Nothing-clause-back_pays g c).After-choose_early-next)
+    (c.deepen.ensures.nothing_pays c.in-Nothing.is c.args.more.now)
+
+pub returns-then-more-eq0-clause-stands_pays : goal.returns-then-more-eq0-clause-stands_pays
+returns-then-more-eq0-clause-stands_pays g c _ =
+    let here = c.deepen.ensures.same c.in-Solution.is in
+    rw (here.0, here.1, as_many g (goal.at.returns-then-more-eq0-clause-stands_pays g c).After-choose_early-next)
+    Pays-refl
+
+pub returns-else-more-eq0-clause-back_pays : goal.returns-else-more-eq0-clause-back_pays
+returns-else-more-eq0-clause-back_pays g c _ =
+    let same = as_many g (goal.at.returns-else-more-eq0-clause-back_pays g c).After-choose_early-next in
+    let here = c.deepen.ensures.same c.in-Solution.is in
+    rw (here.0, here.1) (pays_one c.args.position.now c.args.stack.now _ _ (c.requires.standing.searchable refl)
+    (c.deepen.ensures.solved c.in-Solution.is) (omega (arith, same, c.if-more-eq0.false)))

@@ -3,6 +3,7 @@ use Rattle.xc_search.specs.declared.levels.Entered.{Entered}
 use Rattle.xc_search.specs.declared.levels.Below.TheVariants.{Branch}
 use Rattle.xc_search.specs.declared.levels.Next.TheVariants as next
 use Rattle.xc_search.proofs.stacked.CountedOver.{enters_back, ends_back}
+use Rattle.xc_search.proofs.ends.Steps.{Pays-trans}
 use Rattle.xc_search.proofs.levels.go_on.Goals as goal
 
 same_entered : (a b : Entered) → next.Branch a ≡ next.Branch b → a ≡ b
@@ -19,3 +20,16 @@ returns-in-Some-clause-entered g c b is =
 pub returns-in-None-clause-done : goal.returns-in-None-clause-done
 returns-in-None-clause-done g c _ =
     ends_back (c.go_below.ensures.back c.in-Nothing.is) (c.resume.ensures.done (rw c.in-None.is refl))
+
+pub returns-in-Branch-clause-entered_pays : goal.returns-in-Branch-clause-entered_pays
+returns-in-Branch-clause-entered_pays g c b is =
+    c.go_below.ensures.entered_pays b (c.in-Branch.is ∙ ap Branch (same_entered _ b is))
+
+pub returns-in-Some-clause-entered_pays : goal.returns-in-Some-clause-entered_pays
+returns-in-Some-clause-entered_pays g c b is =
+    rw (← same_entered _ b is) (Pays-trans (c.go_below.ensures.back_pays c.in-Nothing.is)
+    (c.in-Some.ensures.resumed_pays _))
+
+pub returns-in-None-clause-done_pays : goal.returns-in-None-clause-done_pays
+returns-in-None-clause-done_pays g c _ =
+    Pays-trans (c.go_below.ensures.back_pays c.in-Nothing.is) (c.resume.ensures.done_pays (rw c.in-None.is refl) _)

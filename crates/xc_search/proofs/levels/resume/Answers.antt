@@ -1,19 +1,21 @@
 use Rattle.xc_search.proofs.stacked.BackAtLevel.{finished}
-use Rattle.std.proofs.Common.{◌<◌, ◌∷◌, drop, false, refl, ap, arith}
+use Rattle.std.proofs.Common.{◌<◌, ◌≤◌, ◌∷◌, drop, false, refl, ap, arith}
 use Rattle.xc_search.specs.inner.Levels.{Levels, AreStacked}
 use Rattle.xc_search.specs.inner.Ahead.{GoesOn, visits}
 use Rattle.xc_search.proofs.stacked.Led.{keeps_back}
 use Rattle.xc_search.proofs.stacked.LoopSteps.{GoesOn-trans, goes_on_to}
 use Rattle.xc_search.proofs.spans.Numbers.{oldest_all, oldest_fewer, rises_next}
+use Rattle.xc_search.proofs.ends.Steps.{Pays-trans, Pays-refl, pays_next, pays_back}
 use Rattle.xc_search.proofs.levels.resume.Goals as goal
 use Rattle.xc_search.proofs.levels.resume.Goals.{In-Some, After-pop}
 use Rattle.xc_search.proofs.stacked.LoopSteps.{enters_next}
 
 pub loop-level-init : goal.loop-level-init
 loop-level-init g c = record {
-  goes_on = record { still = (refl, refl); standing = c.requires.standing; members = refl };
+  goes_on = grind (arith);
   path = λ x u a. a;
   oldest = oldest_all _ _ refl;
+  pays = λ m. Pays-refl;
   less = omega arith;
 }
 
@@ -61,11 +63,23 @@ loop-level-smaller g c = (back g c).1
 
 pub loop-level-preserved : goal.loop-level-preserved
 loop-level-preserved g c =
-    let s = c.loop-level.invariant in
+    let is = c.loop-level.invariant in
+    let ended : c.in-Some.level.now.count ≤ c.in-Some.level.now.begun = omega (arith, c.if-level.false) in
     record {
-      goes_on = GoesOn-trans _ _ _ _ _ _ false false false s.goes_on (back g c).0;
-      path = λ x. grind (arith, s.path, keeps_back);
+      goes_on = GoesOn-trans _ _ _ _ _ _ _ _ _ is.goes_on (back g c).0;
+      path = λ x u a. keeps_back x c.loop-level.position c.end_level.new.position c.in-Some.level.now c.loop-level.stack
+          c.pop.new.self c.in-Some.ensures.some c.end_level.ensures c.pop.ensures u (is.path x u a);
       oldest = oldest_fewer c.in-Some.level.now _ _ _ c.in-Some.ensures.some
-          (ap (λ (s : Levels). s.levels) c.pop.ensures) s.oldest;
-      less = omega (arith, s.less, (back g c).1);
+          (ap (λ (s : Levels). s.levels) c.pop.ensures) is.oldest;
+      pays = λ m. Pays-trans (is.pays m) (pays_back c.loop-level.position c.end_level.new.position
+          c.in-Some.level.now c.loop-level.stack c.pop.new.self is.goes_on.standing.stacked c.in-Some.ensures.some
+          ended c.end_level.ensures c.pop.ensures m);
+      less = omega (arith, is.less, (back g c).1);
     }
+
+pub returns-then-level-clause-resumed_pays : goal.returns-then-level-clause-resumed_pays
+returns-then-level-clause-resumed_pays g c = λ m.
+    Pays-trans (c.loop-level.invariant.pays m) (pays_next c.loop-level.position c.enter_next-branch.new.position
+    c.in-Some.level.now c.enter_next-branch.result c.loop-level.stack c.note_branch.new.self
+    c.loop-level.invariant.goes_on.standing.stacked c.in-Some.ensures.some c.enter_next-branch.ensures.still
+    c.enter_next-branch.ensures.undone c.enter_next-branch.ensures.entered c.note_branch.ensures m)

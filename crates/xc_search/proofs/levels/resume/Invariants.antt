@@ -1,7 +1,8 @@
-use Rattle.std.proofs.Common.{◌≤◌, Bool, false}
+use Rattle.std.proofs.Common.{ℕ, ◌≤◌, Bool, false}
 use Rattle.xc_search.specs.inner.Ahead.{visits, GoesOn}
 use Rattle.xc_search.specs.inner.Paths.{KeepsBy}
 use Rattle.xc_search.proofs.spans.Numbers.{IsOldest}
+use Rattle.xc_search.specs.inner.Due.{Pays}
 use Rattle.xc_search.proofs.levels.resume.Given as goal
 
 -- what the levels have still to give is what they had
@@ -10,6 +11,7 @@ invariant-loop-level g l = record {
   goes_on : GoesOn l.initial.position l.initial.stack false l.position l.stack false;
   path : (x : Bool) → KeepsBy x l.initial.position l.initial.stack l.position l.stack;
   oldest : IsOldest l.initial.stack l.stack;
+  pays : (m : ℕ) → Pays l.initial.position l.initial.stack false m l.position l.stack false m;
   less : visits l.position.puzzle l.position.trail l.stack.levels ≤ visits l.initial.position.puzzle
       l.initial.position.trail l.initial.stack.levels;
 }

@@ -1,10 +1,35 @@
 use Rattle.std.proofs.lemmas.Grind.{common_steps}
-use Rattle.std.proofs.Common.{arith}
-use Rattle.xc_search.proofs.stacked.LoopSteps.{under_tweaks}
+use Rattle.std.proofs.Common.{◌≡◌, ◌+◌, ◌-◌, length, drop, ap, ◌∙◌, arith}
+use Rattle.xc_dance.specs.Dancing.{Dancing}
+use Rattle.xc_search.specs.inner.Commits.{oldest}
+use Rattle.xc_search.proofs.stacked.LoopSteps.{ended_level, unwound}
 use Rattle.xc_search.proofs.levels.unwind.Goals as goal
+use Rattle.xc_search.proofs.levels.unwind.Goals.{After-undo_to-in-Some, then-level-gt0, else-level-gt0}
+
+ended : (g : _) (c : After-undo_to-in-Some g) → c.undo_to-in-Some.new.self ≡ record c.loop-level.position {
+  trail = oldest c.in-Some.level.now.mark c.loop-level.position.trail;
+  undone = c.loop-level.position.undone + (length c.loop-level.position.trail - c.in-Some.level.now.mark);
+}
+ended g c =
+    let l = c.in-Some.level.now in
+    let back = λ (s : Dancing). record s
+    { trail = oldest l.mark s.trail; undone = s.undone + (length s.trail - l.mark) } in
+    let freed = λ (s : Dancing). record s { trail = drop l.tweaks s.trail; undone = s.undone + l.tweaks } in
+    let stacked = rw c.in-Some.ensures.some at c.loop-level.invariant.stacked in
+    elim c.if-level-gt0.branch [
+      | then-level-gt0 w ↦
+          c.undo_to-in-Some.ensures ∙ ap back (w.position-is ∙ w.undo_tweaks.ensures ∙ ap freed w.undo_to.ensures)
+          ∙ ended_level c.loop-level.position.puzzle c.loop-level.position l (drop 1 c.loop-level.stack.levels) stacked
+      | else-level-gt0 w ↦ c.undo_to-in-Some.ensures ∙ ap back w.position-is
+    ]
 
 pub loop-level-preserved : goal.loop-level-preserved
-loop-level-preserved g c = grind (arith, under_tweaks)
+loop-level-preserved g c =
+    let on = unwound c.args.position.now c.loop-level.position c.undo_to-in-Some.new.self c.in-Some.level.now
+    c.loop-level.stack c.pop.new.self c.loop-level.invariant.still c.loop-level.invariant.made
+    c.loop-level.invariant.stacked c.in-Some.ensures.some
+    (ended g (goal.at.loop-level-preserved g c).After-undo_to-in-Some) c.pop.ensures in
+    record { still = on.0; made = on.1; stacked = on.2; stack = grind (arith, c.loop-level.invariant.stack, c.pop.ensures) }
 
 pub undo_tweaks-requires : goal.undo_tweaks-requires
 undo_tweaks-requires g c = grind (arith, common_steps)

@@ -1,4 +1,4 @@
-use Rattle.std.proofs.Common.{◌≡◌, ◌++◌, ◌∷◌, [], ◌∙◌, ap, sym, subst, append_assoc}
+use Rattle.std.proofs.Common.{◌≡◌, ◌++◌, ◌∙◌, ap, sym, subst, append_assoc}
 use Rattle.std.specs.Prelude.{IfErr}
 use Rattle.xc_input.specs.inner.EndedLines.{ended}
 use Rattle.xc_tools.specs.inner.Joining.{StopsIn}

@@ -1,9 +1,7 @@
-use Rattle.std.proofs.Common.{◌≡◌, ◌++◌, ◌∷◌, [], ◌∙◌, ap, sym, subst, append_assoc, append-nil}
+use Rattle.std.proofs.Common.{◌++◌, ◌∙◌, ap, sym, append_assoc}
 use Rattle.std.proofs.lemmas.Result.{err_from_is_err_and}
 use Rattle.xc_input.specs.Words.{has}
-use Rattle.xc_input.specs.inner.EndedLines.{ended}
-use Rattle.xc_list.specs.Texts.{Took}
-use Rattle.xc_tools.specs.inner.Joining.{Adds, StopsIn, fed}
+use Rattle.xc_tools.specs.inner.Joining.{fed}
 use Rattle.xc_tools.proofs.JoinLemmas.Reading.{adds-as, adds-then, fed-line, stops-as, stops-more, stops-then}
 use Rattle.xc_tools.proofs.joining.feed.Goals as goal
 

@@ -1,9 +1,6 @@
-use Rattle.std.proofs.Common.{◌≡◌, ◌++◌, ◌<◌, ◌∷◌, [], ◌∙◌, ap, sym, subst, take, length, arith}
+use Rattle.std.proofs.Common.{◌<◌, ◌∙◌, sym, take, length, arith}
 use Rattle.std.proofs.lemmas.Result.{err_from_is_err_and}
-use Rattle.xc_input.specs.Pieces.{Gave}
 use Rattle.xc_input.proofs.LineLemmas.Pieces.{gave_more}
-use Rattle.xc_list.specs.Texts.{Took}
-use Rattle.xc_tools.specs.inner.Joining.{Adds, StopsIn, fed}
 use Rattle.xc_tools.proofs.JoinLemmas.Reading.{adds-as, adds-then, gave-as, stops-as, stops-from, stops-reading}
 use Rattle.xc_tools.proofs.JoinLemmas.Reading.{stops-then}
 use Rattle.xc_tools.proofs.joining.feed_all.Goals as goal

@@ -1,5 +1,5 @@
 use Rattle.std.proofs.Common.{◌∙◌, ap}
-use Rattle.xc_tools.specs.Solves.{streams}
+use Rattle.xc_tools.specs.Solves.{sinks}
 use Rattle.xc_tools.specs.inner.SpanLines.{Join}
 use Rattle.xc_tools.proofs.JoinLemmas.Stopped.{joins-as, run-ended, run-stopped}
 use Rattle.xc_tools.proofs.joining.join_input.Goals as goal
@@ -7,9 +7,8 @@ use Rattle.xc_tools.proofs.joining.join_input.Goals as goal
 pub returns-in-Ok-join_all : goal.returns-in-Ok-join_all
 returns-in-Ok-join_all g c = record {
   did = run-ended c.args.listed c.join_all.new.lines.joint (g.O.Sink.state c.join_all.new.out) c.finish.result
-      (streams g.S.Source.state g.O.Sink.state g.E.Sink.state c.args.input.now c.args.out.now c.args.err.now)
-      (streams g.S.Source.state g.O.Sink.state g.E.Sink.state c.join_all.new.input c.finish.new.out c.finish.new.err)
-      _ _
+      _ _ (sinks g.O.Sink.state g.E.Sink.state c.args.out.now c.args.err.now)
+      (sinks g.O.Sink.state g.E.Sink.state c.finish.new.out c.finish.new.err) _ _
       (joins-as _ (ap (λ j. j.listed) c.first_lines-lines.ensures.joint ∙ ap (λ (j : Join). j.listed) c.in-Ok.ensures)
       c.in-Ok-join_all.ensures.joins) c.end_of_total.ensures c.finish.ensures.kept c.finish.ensures.flushed_once
       c.finish.ensures.did;
@@ -19,9 +18,8 @@ pub returns : goal.returns
 returns g c = record {
   did = run-stopped c.args.listed c.join_all.new.lines.joint (g.O.Sink.state c.join_all.new.out) c.tell_stop.result
       c.in-Err.stop
-      (streams g.S.Source.state g.O.Sink.state g.E.Sink.state c.args.input.now c.args.out.now c.args.err.now)
-      (streams g.S.Source.state g.O.Sink.state g.E.Sink.state c.join_all.new.input c.tell_stop.new.out
-      c.tell_stop.new.err)
+      _ _ (sinks g.O.Sink.state g.E.Sink.state c.args.out.now c.args.err.now)
+      (sinks g.O.Sink.state g.E.Sink.state c.tell_stop.new.out c.tell_stop.new.err)
       (joins-as _ (ap (λ j. j.listed) c.first_lines-lines.ensures.joint ∙ ap (λ (j : Join). j.listed) c.in-Ok.ensures)
       c.in-Err.ensures.joins) c.tell_stop.ensures.kept c.tell_stop.ensures.did;
 }

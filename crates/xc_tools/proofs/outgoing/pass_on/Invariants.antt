@@ -8,6 +8,7 @@ invariant-loop-place g l = record {
   within : l.place ≤ length l.bytes;
   passed : Appends (g.W.SystemWriter.contents l.fn.writer) (g.W.SystemWriter.contents l.writer) (take l.place l.bytes);
   well : (g.W.SystemWriter.asked l.writer).failures ≡ (g.W.SystemWriter.asked l.fn.writer).failures;
+  unflushed : (g.W.SystemWriter.asked l.writer).flushes ≡ (g.W.SystemWriter.asked l.fn.writer).flushes;
 }
 
 abbrev pub decreases-loop-place : goal.decreases-loop-place

@@ -28,7 +28,7 @@ pub loop-q-init : goal.loop-q-init
 loop-q-init c =
     let s = (goal.at.loop-q-init c).After-self in
     let to = c.ulink-first.ensures ∙ ap (λ (n : Nodes). get_or n.ulink c.args.end 0) (first_nodes s) in
-    record { puzzle = refl; room = refl; written = refl; along = λ x h. along_first _ _ _ _ _ (to ∙ (led s x h).first) }
+    record { puzzle = refl; room = refl; undone = refl; written = refl; along = λ x h. along_first _ _ _ _ _ (to ∙ (led s x h).first) }
 
 nodes_is : (c : After-self-in-loop-q) → c.self-in-loop-q.inside.nodes.cells
     ≡ nodes_after c.args.self.now.puzzle c.loop-q.self.trail
@@ -60,5 +60,5 @@ loop-q-preserved c =
     c.commit_node.ensures.written
 
 pub returns-clause-committed : goal.returns-clause-committed
-returns-clause-committed c = λ x held. whole _ _ c.loop-q.self c.loop-q.invariant.puzzle c.loop-q.invariant.room
-    ((before_at held (c.loop-q.invariant.along x held)).end c.loop-q-test.false)
+returns-clause-committed c = λ x held. whole _ _ _ c.loop-q.self c.loop-q.invariant.puzzle c.loop-q.invariant.room
+    c.loop-q.invariant.undone ((before_at held (c.loop-q.invariant.along x held)).end c.loop-q-test.false)

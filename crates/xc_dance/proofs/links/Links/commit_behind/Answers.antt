@@ -85,5 +85,8 @@ pub returns-clause-committed : goal.returns-clause-committed
 returns-clause-committed c = λ x held.
     let here = (goal.at.returns-clause-committed c).After-self-in-loop-self in
     let is = top_is here in
-    let end = (found here x held).end (omega (arith, is, c.top.ensures, c.loop-self-test.false)) in
-    (whole _ _ c.loop-self.self c.loop-self.invariant.puzzle c.loop-self.invariant.room end.0, end.1)
+    let end = (found here x held).end (omega (arith, is, c.top.ensures, c.loop-self-test.false)) in (
+      whole _ _ _ c.loop-self.self c.loop-self.invariant.puzzle c.loop-self.invariant.room
+          c.loop-self.invariant.undone end.0,
+      end.1,
+    )

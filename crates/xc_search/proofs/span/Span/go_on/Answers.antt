@@ -22,17 +22,17 @@ use Rattle.xc_search.proofs.span.Span.go_on.Goals.{then-self-2, else-self-2}
 
 pub returns-then-many-eq0-clause-passed : goal.returns-then-many-eq0-clause-passed
 returns-then-many-eq0-clause-passed g c =
-    (told_same c.args.self.now _ _ _ _ _ _ c.self.view_is c.if-self.false).0
+    (told_same c.args.self.now _ _ _ _ _ _ _ c.self.view_is c.if-self.false).0
 
 pub returns-then-many-eq0-clause-count : goal.returns-then-many-eq0-clause-count
 returns-then-many-eq0-clause-count g c =
-    (told_same c.args.self.now _ _ _ _ _ _ c.self.view_is c.if-self.false).1
+    (told_same c.args.self.now _ _ _ _ _ _ _ c.self.view_is c.if-self.false).1
 
 pub returns-then-steps-eq0-clause-passed : goal.returns-then-steps-eq0-clause-passed
-returns-then-steps-eq0-clause-passed g c = told_still c.args.self.now _ _ _ _ _ _ c.self.view_is c.if-self.false []
+returns-then-steps-eq0-clause-passed g c = told_still c.args.self.now _ _ _ _ _ _ _ c.self.view_is c.if-self.false []
 
 pub returns-then-steps-eq0-clause-count : goal.returns-then-steps-eq0-clause-count
-returns-then-steps-eq0-clause-count g c = told_none c.args.self.now _ _ _ _ _ _ c.self.view_is c.if-self.false []
+returns-then-steps-eq0-clause-count g c = told_none c.args.self.now _ _ _ _ _ _ _ c.self.view_is c.if-self.false []
 
 at : (g : _) (c : After-go_over-ran g)
     → IsAt c.self.inside.state.position.puzzle c.self.inside.state.position.trail
@@ -142,21 +142,21 @@ overflow_sub-result-in-Steps-2 g c =
 pub returns-in-Member-clause-passed : goal.returns-in-Member-clause-passed
 returns-in-Member-clause-passed g c =
     let r = (goal.at.returns-in-Member-clause-passed g c).After-go_over-ran in
-    told_passed c.args.self.now _ _ _ _ _ _ c.self.view_is c.if-self.false c.go_over-ran.new.state.position.puzzle
+    told_passed c.args.self.now _ _ _ _ _ _ _ c.self.view_is c.if-self.false c.go_over-ran.new.state.position.puzzle
     _ c.args.many
     c.show.new.shown.items (moved g r (inl c.in-Member.is)) (to_member g r c.in-Member.is)
 
 pub returns-in-Member-clause-count : goal.returns-in-Member-clause-count
 returns-in-Member-clause-count g c =
     let r = (goal.at.returns-in-Member-clause-count g c).After-go_over-ran in
-    told_count c.args.self.now _ _ _ _ _ _ c.self.view_is c.if-self.false c.go_over-ran.new.state.position.puzzle
+    told_count c.args.self.now _ _ _ _ _ _ _ c.self.view_is c.if-self.false c.go_over-ran.new.state.position.puzzle
     _ c.args.many
     c.show.new.shown.items (moved g r (inl c.in-Member.is)) (to_member g r c.in-Member.is)
 
 pub returns-in-Member-clause-later : goal.returns-in-Member-clause-later
 returns-in-Member-clause-later g c _ _ =
     let r = (goal.at.returns-in-Member-clause-later g c).After-go_over-ran in
-    told_later c.args.self.now _ _ _ _ _ _ c.self.view_is c.if-self.false c.go_over-ran.new.state.position.puzzle
+    told_later c.args.self.now _ _ _ _ _ _ _ c.self.view_is c.if-self.false c.go_over-ran.new.state.position.puzzle
     _ c.args.many
     c.show.new.shown.items (moved g r (inl c.in-Member.is)) (to_member g r c.in-Member.is)
 
@@ -165,34 +165,34 @@ returns-in-Member-clause-member g c _ =
     let r = (goal.at.returns-in-Member-clause-member g c).After-go_over-ran in (
       refl,
       c.show.ensures.items
-          ∙ told_shown c.args.self.now _ _ _ _ _ _ c.self.view_is c.if-self.false c.args.many _
+          ∙ told_shown c.args.self.now _ _ _ _ _ _ _ c.self.view_is c.if-self.false c.args.many _
           (there g r c.in-Member.is),
     )
 
 pub returns-in-Row-clause-count : goal.returns-in-Row-clause-count
 returns-in-Row-clause-count g c =
     let r = (goal.at.returns-in-Row-clause-count g c).After-go_over-ran in
-    told_end c.args.self.now _ _ _ _ _ _ c.self.view_is c.if-self.false c.go_over-ran.new.state.position.puzzle
+    told_end c.args.self.now _ _ _ _ _ _ _ c.self.view_is c.if-self.false c.go_over-ran.new.state.position.puzzle
     c.clear-in-Row.new.self.items _ (to_end g r c.in-Row.is).1
 
 pub returns-in-Steps-clause-passed : goal.returns-in-Steps-clause-passed
 returns-in-Steps-clause-passed g c =
     let r = (goal.at.returns-in-Steps-clause-passed g c).After-go_over-ran in
-    told_passed c.args.self.now _ _ _ _ _ _ c.self.view_is c.if-self.false c.go_over-ran.new.state.position.puzzle
+    told_passed c.args.self.now _ _ _ _ _ _ _ c.self.view_is c.if-self.false c.go_over-ran.new.state.position.puzzle
     _ _
     c.clear-in-Steps.new.self.items (moved g r (inr c.in-Steps.is)) (to_row g r c.in-Steps.is (omega arith))
 
 pub returns-in-Steps-clause-count : goal.returns-in-Steps-clause-count
 returns-in-Steps-clause-count g c =
     let r = (goal.at.returns-in-Steps-clause-count g c).After-go_over-ran in
-    told_count c.args.self.now _ _ _ _ _ _ c.self.view_is c.if-self.false c.go_over-ran.new.state.position.puzzle
+    told_count c.args.self.now _ _ _ _ _ _ _ c.self.view_is c.if-self.false c.go_over-ran.new.state.position.puzzle
     _ _
     c.clear-in-Steps.new.self.items (moved g r (inr c.in-Steps.is)) (to_row g r c.in-Steps.is (omega arith))
 
 pub returns-in-Steps-clause-later : goal.returns-in-Steps-clause-later
 returns-in-Steps-clause-later g c _ _ =
     let r = (goal.at.returns-in-Steps-clause-later g c).After-go_over-ran in
-    told_later c.args.self.now _ _ _ _ _ _ c.self.view_is c.if-self.false c.go_over-ran.new.state.position.puzzle
+    told_later c.args.self.now _ _ _ _ _ _ _ c.self.view_is c.if-self.false c.go_over-ran.new.state.position.puzzle
     _ _
     c.clear-in-Steps.new.self.items (moved g r (inr c.in-Steps.is)) (to_row g r c.in-Steps.is (omega arith))
 

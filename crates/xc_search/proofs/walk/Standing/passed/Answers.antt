@@ -1,5 +1,7 @@
-use Rattle.std.proofs.Common.{arith, refl}
+use Rattle.std.proofs.Common.{arith, refl, ap}
 use Rattle.xc_search.proofs.stacked.PassedOver.{HasToPass, went_over, went_past}
+use Rattle.xc_search.proofs.ends.Whole.{pays_stands, pays_ends}
+use Rattle.xc_dance.specs.Dancing.{Dancing}
 use Rattle.xc_search.proofs.walk.Standing.passed.Goals as goal
 use Rattle.xc_search.proofs.walk.Standing.passed.Goals.{in-None, in-Some, Joined-down}
 
@@ -7,18 +9,34 @@ has : (g : _) (c : Joined-down g) → HasToPass c.args.self.position.puzzle c.ar
     c.args.self.stack.levels c.args.self.down c.args.many c.if-down.more
 has g c = grind arith
 
-pub fewer-passed-requires : goal.fewer-passed-requires
-fewer-passed-requires g c =
-    (went_past c.args.self.down 0 (has g (goal.at.fewer-passed-requires g c).Joined-down) c.in-Some.ensures.ended).0
+pub overflow_sub-passed-in-Some : goal.overflow_sub-passed-in-Some
+overflow_sub-passed-in-Some g c =
+    let has = has g (goal.at.overflow_sub-passed-in-Some g c).Joined-down in
+    omega (arith, (went_past c.args.self.down 0 has c.in-Some.ensures.ended).0)
 
-pub returns : goal.returns
-returns g c =
-    let has = has g (goal.at.returns g c).Joined-down in
+pub returns-clause-passed : goal.returns-clause-passed
+returns-clause-passed g c =
+    let has = has g (goal.at.returns-clause-passed g c).Joined-down in
     elim c.match-advance.branch [
       | in-None w ↦
           let over = went_over c.args.self.down c.requires.some has (w.in-None.ensures.stands refl) in
           grind (arith, over, w.passed-is)
       | in-Some w ↦
           let past = went_past c.args.self.down c.match-advance.passed has w.in-Some.ensures.ended in
-          grind (arith, past, w.passed-is, w.fewer-passed.ensures)
+          grind (arith, past, w.passed-is)
+    ]
+
+pub returns-clause-pays : goal.returns-clause-pays
+returns-clause-pays g c =
+    let has = has g (goal.at.returns-clause-pays g c).Joined-down in
+    let here = c.requires.standing.searchable refl in
+    elim c.match-advance.branch [
+      | in-None w ↦
+          let at = w.in-None.ensures.stands refl in
+          pays_stands c.args.self.down here has (ap (λ (d : Dancing). d.puzzle) at.over.still.0) at.solved
+          (w.in-None.ensures.stands_pays refl)
+      | in-Some w ↦
+          let end = w.in-Some.ensures.ended in
+          pays_ends c.args.self.down here has (ap (λ (d : Dancing). d.puzzle) end.still.0) end.ended
+          w.in-Some.ensures.ended_pays
     ]

@@ -1,7 +1,7 @@
 use Rattle.std.proofs.Common.{arith, ap, ◌∙◌}
-use Rattle.xc_dance.specs.Dancing.{Dancing}
+use Rattle.xc_dance.specs.Dancing.{Dancing, moves_made}
 use Rattle.xc_search.specs.inner.Levels.{Levels}
-use Rattle.xc_search.proofs.stacked.Start.{starts_standing, starts_coming}
+use Rattle.xc_search.proofs.stacked.Start.{starts_standing, starts_coming, starts_ends}
 use Rattle.xc_search.proofs.completeness.Covering.{each_member_covers}
 use Rattle.xc_search.proofs.completeness.Exactly.{each_cover_is_listed_once}
 use Rattle.xc_search.proofs.walk.Walk.new.Goals as goal
@@ -15,7 +15,14 @@ invariant_of-result g c =
     grind (arith, standing)
 
 pub returns-clause-begun : goal.returns-clause-begun
-returns-clause-begun g c = grind (arith, starts_coming)
+returns-clause-begun g c =
+    let none = ap (λ (s : Dancing). s.trail) c.new-2.ensures ∙ c.requires.none in
+    let levels = ap (λ (s : Levels). s.levels) c.in-Ok.ensures in
+    let same = ap (λ (s : Dancing). s.puzzle) c.new-2.ensures ∙ c.requires.same in
+    let come = starts_coming c.new-2.result.puzzle c.new-2.result.trail c.in-Ok.stack.levels none levels in
+    let ahead = starts_ends c.new-2.result.puzzle c.new-2.result.trail c.in-Ok.stack.levels none levels in
+    let made = ap moves_made c.new-2.ensures in
+    grind (arith, come, ahead, made, same, none, levels)
 
 pub returns-clause-right : goal.returns-clause-right
 returns-clause-right g c = each_member_covers c.args.problem.now.puzzle c.most_levels.ensures.valid

@@ -1,0 +1,77 @@
+//! Tests of the calls for C. They stand here, since no crate may depend on a static library.
+use crate::{helgrothy_count, helgrothy_fault, helgrothy_list, helgrothy_version};
+use std::alloc::Global;
+
+const SEVEN: &[u8] = b"a b c d e f g\nc e\na d g\nb c f\na d f\nb g\nd e g\n";
+
+const SEVEN_LISTING: &[u8] = b"1:\n a d f (2 of 2)\n b g (1 of 1)\n c e (1 of 1)\n";
+
+const THREE_ALIKE: &[u8] = b"A\nA\nA\nA\n";
+
+const THREE_LISTING: &[u8] = b"1:\n A (1 of 3)\n2:\n A (2 of 3)\n3:\n A (3 of 3)\n";
+
+#[test]
+fn the_version(rt: HostRuntime) {
+    assert!(rt; helgrothy_version() == 100);
+}
+
+/// The status, the line and the number of the first fault.
+fn fault_of(alloc: Global, kind: u32, text: &[u8]) -> (u32, u64, u32) {
+    let mut line = 9;
+    let mut fault = 9;
+    let status = helgrothy_fault(alloc, kind, text, &mut line, &mut fault);
+    (status, line, fault)
+}
+
+#[test]
+fn first_faults(rt: HostRuntime) {
+    let alloc = rt.alloc();
+    assert!(rt; fault_of(alloc, 1, SEVEN) == (0, 0, 0));
+    assert!(rt; fault_of(alloc, 2, b"a | b\na b:c\n") == (0, 0, 0));
+    assert!(rt; fault_of(alloc, 1, b"") == (3, 1, 1));
+    assert!(rt; fault_of(alloc, 1, b"a b\nc\n") == (3, 2, 11));
+    assert!(rt; fault_of(alloc, 0, SEVEN) == (5, 0, 0));
+}
+
+/// The status and the count.
+fn count_of(alloc: Global, kind: u32, text: &[u8], limit: u64) -> (u32, u64) {
+    let mut count = 9;
+    let status = helgrothy_count(alloc, kind, text, limit, &mut count);
+    (status, count)
+}
+
+#[test]
+fn counts(rt: HostRuntime) {
+    let alloc = rt.alloc();
+    assert!(rt; count_of(alloc, 1, SEVEN, 2) == (0, 1));
+    assert!(rt; count_of(alloc, 1, THREE_ALIKE, u64::MAX) == (0, 3));
+    assert!(rt; count_of(alloc, 1, THREE_ALIKE, 3) == (1, 3));
+    assert!(rt; count_of(alloc, 1, b"a b\nc\n", 1) == (3, 0));
+    assert!(rt; count_of(alloc, 4, SEVEN, 1) == (5, 0));
+}
+
+/// Whether a listing into a buffer of zeros of this length has this status and these bytes, and leaves the rest.
+fn lists(alloc: Global, text: &[u8], limit: u64, room: usize, status: u32, listing: &[u8]) -> bool {
+    let Ok(mut buffer) = vec![in alloc; 0u8; room] else {
+        return false;
+    };
+    let mut used = 9;
+    let told = helgrothy_list(alloc, 1, text, 1, limit, buffer.as_mut_slice(), &mut used);
+    told == status
+        && used == listing.len()
+        && buffer.starts_with(listing)
+        && buffer.iter().skip(used).all(|b| *b == 0)
+}
+
+#[test]
+fn listings(rt: HostRuntime) {
+    let alloc = rt.alloc();
+    let all = u64::MAX;
+    assert!(rt; lists(alloc, SEVEN, all, 60, 0, SEVEN_LISTING));
+    assert!(rt; lists(alloc, SEVEN, all, SEVEN_LISTING.len(), 0, SEVEN_LISTING));
+    assert!(rt; lists(alloc, SEVEN, all, 9, 2, b"1:\n a d f"));
+    assert!(rt; lists(alloc, THREE_ALIKE, 3, 100, 1, THREE_LISTING));
+    assert!(rt; lists(alloc, SEVEN, all, 0, 2, b""));
+    assert!(rt; lists(alloc, SEVEN, 0, 0, 1, b""));
+    assert!(rt; lists(alloc, b"a\nb\n", all, 10, 3, b""));
+}

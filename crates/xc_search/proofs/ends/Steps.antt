@@ -1,0 +1,293 @@
+-- What the steps of a search pay for.
+use Rattle.std.proofs.lemmas.Grind.{common_steps}
+use Rattle.std.proofs.lemmas.Option.{slice_get_within}
+use Rattle.std.proofs.Math.Nat.{mul-add, le-mul_of_pos_right}
+use Rattle.std.proofs.Common.{ℕ, suc, ◌≡◌, ◌+◌, ◌-◌, ◌*◌, ◌<◌, ◌≤◌, Bool, true, false, List, [], ◌∷◌, ◌++◌, length}
+use Rattle.std.proofs.Common.{drop, Option, Some, None, refl, sym, ap, ◌∙◌, arith, subst, length-append, append_assoc}
+use Rattle.std.proofs.Common.{inl, inr}
+use Rattle.xc_dance.specs.declared.dance.Move.{Move}
+use Rattle.xc_search.specs.declared.level.Level.{Level}
+use Rattle.xc_search.specs.declared.level.Begun.{Begun}
+use Rattle.xc_input.specs.Problem.{Puzzle}
+use Rattle.xc_input.proofs.lists.Members.{IsIn, each_in}
+use Rattle.xc_input.proofs.lists.Places.{drop_at}
+use Rattle.xc_dance.specs.Dancing.{Dancing, moves_made}
+use Rattle.xc_dance.specs.Commits.{option_at, after_spend}
+use Rattle.xc_dance.specs.Moves.{AreLegal}
+use Rattle.xc_dance.proofs.LinkedTables.FirstTables.{low_most}
+use Rattle.xc_search.specs.Listing.{Wanted, Branch, branch_item, branch_count, branches_of, listing}
+use Rattle.xc_search.specs.Room.{room_for}
+use Rattle.xc_search.specs.Ends.{ends, ends_after}
+use Rattle.xc_search.specs.Residuals.{wanted_at, choice_after}
+use Rattle.xc_search.specs.inner.Commits.{oldest}
+use Rattle.xc_search.specs.inner.Residual.{residual_of}
+use Rattle.xc_search.specs.inner.Levels.{Levels, IsSearchable, IsNode, IsStanding, AreStacked, IsBegun, IsEntered}
+use Rattle.xc_search.specs.inner.Levels.{IsDeadEnd, IsEarlyChoice, branches_at, after_branch, begun_level, newest_begun}
+use Rattle.xc_search.specs.inner.Ahead.{branched}
+use Rattle.xc_search.specs.inner.Due.{ends_of, ends_behind, ends_ahead, here, due, Pays}
+use Rattle.xc_search.proofs.Cases.{mapped_none}
+use Rattle.xc_search.proofs.ends.Tree.{some_end, ends_dead, ends_branches, ends_early, solutions, as_many_solutions}
+use Rattle.xc_search.proofs.ends.Tree.{after_all}
+use Rattle.xc_search.proofs.listing.BranchLists.{branches_end}
+use Rattle.xc_search.proofs.listing.EachBranch.{no_items_left}
+use Rattle.xc_search.proofs.listing.Unrolled.{listing_at}
+use Rattle.xc_search.proofs.moves.LegalTweaks.{legal_branch}
+use Rattle.xc_search.proofs.residual.BranchItemLeft.{counts_same, choice_is_branch_item}
+use Rattle.xc_search.proofs.room.FewMoves.{has_room}
+use Rattle.xc_search.proofs.room.SparingMoves.{sparing_after_spend}
+use Rattle.xc_search.proofs.stacked.LoopSteps.{Opens, deepens, with_level}
+use Rattle.xc_search.proofs.stacked.NextLevel.{open_in, chosen_item, oldest-oldest, length-oldest}
+use Rattle.std.proofs.Common.{length-drop}
+
+-- ---- room
+
+times_append : (c : ℕ) (xs ys : List Bool) → c * length (xs ++ ys) ≡ c * length xs + c * length ys
+times_append c xs ys = ap (λ n. c * n) (length-append xs ys) ∙ mul-add c (length xs) (length ys)
+
+-- as many moves as may stand, for each end
+abbrev pub may : Puzzle → List Bool → ℕ
+may p es = room_for p * length es
+
+pub room_in : (p : Puzzle) (t : List Move) → IsSearchable p t → length t ≤ room_for p
+room_in p t s = has_room p t s.legal (omega (arith, s.sparing))
+
+-- what an item's own moves come to
+room_spent : (p : Puzzle) (t : List Move) (i : ℕ) → IsNode p t i → length (after_spend p i t) ≤ room_for p
+room_spent p t i n =
+    let known = open_in p t i n.item n.is_open in
+    has_room p (after_spend p i t) (legal_branch p 0 i t n (omega arith))
+    (sparing_after_spend p t i n.searchable.sparing known)
+
+-- what is left may take
+abbrev pub here_at : Puzzle → List Move → ℕ
+here_at p t = here (branch_item (residual_of p t)) (length t) (may p (ends (residual_of p t)))
+
+enough_for : (p : Puzzle) (t : List Move) → length t ≤ room_for p → length t ≤ may p (ends (residual_of p t))
+enough_for p t h =
+    let one = le-mul_of_pos_right {m = length (ends (residual_of p t))} (room_for p) (some_end (residual_of p t)) in
+    omega (arith, h, one)
+
+pub leaf_pays : (p : Puzzle) (t : List Move) → length t ≤ room_for p → length t ≤ here_at p t
+leaf_pays p t h = by_item (branch_item (residual_of p t))
+  where
+    by_item : (o : Option Wanted) → length t ≤ here o (length t) (may p (ends (residual_of p t)))
+    by_item None = omega arith
+    by_item (Some w) = enough_for p t h
+
+pub leaf_within : (p : Puzzle) (t : List Move) → length t ≤ room_for p → here_at p t ≤ may p (ends (residual_of p t))
+leaf_within p t h = by_item (branch_item (residual_of p t))
+  where
+    by_item : (o : Option Wanted) → here o (length t) (may p (ends (residual_of p t))) ≤ may p (ends (residual_of p t))
+    by_item None = enough_for p t h
+    by_item (Some w) = omega arith
+
+pub due_within : (p : Puzzle) (t : List Move) (ls : List Level) → length t ≤ room_for p
+    → here_at p t + may p (ends_behind p t ls) ≤ may p (ends_ahead p t ls true)
+due_within p t ls h =
+    omega (arith, leaf_within p t h, times_append (room_for p) (ends (residual_of p t)) (ends_behind p t ls))
+
+-- an open item is left: it is no solution
+here_open : (p : Puzzle) (t : List Move) (i : ℕ) → IsNode p t i → here_at p t ≡ may p (ends (residual_of p t))
+here_open p t i n =
+    by_item (branch_item (residual_of p t)) (λ e. subst (λ ws. IsIn ws (wanted_at p t i)) (no_items_left _ _ e)
+    (open_in p t i n.item n.is_open))
+  where
+    by_item : (o : Option Wanted) → (o ≡ None → IsIn [] (wanted_at p t i))
+        → here o (length t) (may p (ends (residual_of p t))) ≡ may p (ends (residual_of p t))
+    by_item None h = absurd (h refl)
+    by_item (Some w) h = refl
+
+-- ---- one step behind another
+
+pub Pays-trans : {d e f : Dancing} {ls ks js : Levels} {x y z : Bool} {m n q : ℕ} → Pays d ls x m e ks y n
+    → Pays e ks y n f js z q → Pays d ls x m f js z q
+Pays-trans a b = record { ends = a.ends ∙ b.ends; due = omega (arith, a.due, b.due) }
+
+pub Pays-refl : {d : Dancing} {ls : Levels} {x : Bool} {m : ℕ} → Pays d ls x m d ls x m
+Pays-refl = record { ends = refl; due = omega arith }
+
+-- ---- a branch is begun
+
+begun_ends : (p : Puzzle) (t s : List Move) (l k : Level) (ls : List Level) → IsBegun p t l s k
+    → ends_ahead p s (k ∷ ls) true ≡ ends_behind p t (l ∷ ls)
+begun_ends p t s l k ls b =
+    let u = oldest l.mark t in
+    let first = drop_at (branches_at p u l.item) l.begun b.branch b.at in
+    grind (arith, common_steps, first, append_assoc)
+
+returned_ends : (p : Puzzle) (t : List Move) (l : Level) (ls : List Level) → AreStacked p t (l ∷ ls)
+    → ends_behind p (oldest l.base t) (l ∷ ls) ≡ ends_behind p t (l ∷ ls)
+returned_ends p t l ls stacked =
+    let same = oldest-oldest l.mark l.base t stacked.0.within.0 stacked.0.within.1 in
+    ap (λ u. ends_of (drop l.begun (branches_at p u l.item)) ++ ends_behind p u ls) same
+
+-- the next one of the newest level
+pub pays_next : (d f : Dancing) (l : Level) (b : Begun) (vs ks : Levels) → AreStacked d.puzzle d.trail vs.levels
+    → vs.levels ≡ l ∷ drop 1 vs.levels → f ≡ record d { trail = f.trail; undone = f.undone }
+    → f.undone ≡ d.undone + (length d.trail - l.base)
+    → IsEntered d.puzzle (oldest l.base d.trail) l f.trail (begun_level b l)
+    → ks ≡ record vs { levels = newest_begun b vs.levels } → (m : ℕ)
+    → Pays d vs false m (branched f l.item b.place) ks true m
+pays_next d f l b vs ks stacked top ef undone entered ek m =
+    let p = d.puzzle in
+    let k = begun_level b l in
+    let js = drop 1 vs.levels in
+    let s = oldest l.base d.trail in
+    let v = after_branch p l.item (option_at p l.item b.place) f.trail in
+    let all : ends_ahead p v (k ∷ js) true ≡ ends_behind p d.trail (l ∷ js) =
+    begun_ends p s v l k js entered.begun ∙ returned_ends p d.trail l js (rw top at stacked) in
+    let was : ends_behind p d.trail vs.levels ≡ ends_behind p d.trail (l ∷ js) = ap (ends_behind p d.trail) top in
+    let within = due_within p v (k ∷ js) (room_in p v entered.begun.searchable) in
+    let levels : ks ≡ record vs { levels = k ∷ js } = ek ∙ ap (λ ls. record vs { levels = newest_begun b ls }) top in
+    let begun : Pays d vs false m (record d { trail = v; undone = f.undone }) (record vs { levels = k ∷ js }) true m =
+    record {
+      ends = ap (ends_after (suc m)) (was ∙ sym all);
+      due = omega (arith, undone, within, ap (may p) all, ap (may p) was);
+    } in
+    rw levels (subst (λ (f : Dancing). Pays d vs false m (branched f l.item b.place) (record vs { levels = k ∷ js }) true
+    m) (sym ef) begun)
+
+-- ---- a level is begun
+
+-- the branches of an item that is taken early end as what is left does
+early_ends : (p : Puzzle) (t : List Move) (i n : ℕ) → IsSearchable p t → IsEarlyChoice p t (Some (i, n))
+    → 0 < length (branches_at p t i) → ends (residual_of p t) ≡ ends_of (branches_at p t i)
+unfolding branches_at
+early_ends p t i n here (inl e) some =
+    ends_branches (residual_of p t) (wanted_at p t i) (chosen_item p t i n here.legal (sym e)).branch some
+early_ends p t i n here (inr d) some =
+    let is : Some (i, n) ≡ Some (d.item, d.count) = d.is in
+    let r = residual_of p t in
+    let same = counts_same p t here.legal in
+    let both : (i, n) ≡ (d.item, d.count) = cc in
+    let item : d.item ≡ i = sym (ap (λ (c : ℕ × ℕ). c.0) both) in
+    let known = open_in p t d.item d.is_open.0 d.is_open.1 in
+    let short = open_in p t d.short d.short_open.0 d.short_open.1 in
+    let few : branch_count r (wanted_at p t d.item) ≤ 1 = omega (arith, d.few, d.counted, each_in _ _ _ same known) in
+    let all : length (branches_of r (wanted_at p t d.item)) ≤ 1 = omega (
+      arith,
+      few,
+      length-drop (branch_count r (wanted_at p t d.item)) (branches_of r (wanted_at p t d.item)),
+      ap length (branches_end r (wanted_at p t d.item)),
+    ) in
+    let there : 0 < length (branches_of r (wanted_at p t d.item)) =
+    subst (λ i. 0 < length (branches_of r (wanted_at p t i))) (sym item) some in
+    subst (λ i. ends r ≡ ends_of (branches_of r (wanted_at p t i))) item
+    (ends_early r (wanted_at p t d.item) (wanted_at p t d.short) short (omega (arith, low_most d.short here.valid))
+    (sym (each_in _ _ _ same short) ∙ d.without) (ap (wanted_at p t)) (omega (arith, all, there)))
+
+-- and its first branch
+pub pays_first : {d e : Dancing} {ls : Levels} {i n : ℕ} {l : Level} → Opens d e ls i n l
+    → IsEarlyChoice d.puzzle d.trail (Some (i, n)) → (f : Dancing) (ks : Levels) (b : Begun)
+    → f ≡ record e { trail = f.trail } → IsEntered e.puzzle e.trail l f.trail (begun_level b l)
+    → ks ≡ with_level (begun_level b l) ls → (m : ℕ) → Pays d ls true m (branched f i b.place) ks true m
+pays_first {d} {e} {ls} {i} {n} {l} o early f ks b ef entered ek m =
+    let p = d.puzzle in
+    let t = d.trail in
+    let r = residual_of p t in
+    let k = begun_level b l in
+    let item : l.item ≡ i = ap (λ (l : Level). l.item) o.level in
+    let none : l.begun ≡ 0 = ap (λ (l : Level). l.begun) o.level in
+    let same : e.puzzle ≡ p = ap (λ (e : Dancing). e.puzzle) o.spent in
+    let under : oldest l.mark e.trail ≡ t = (deepens o).2 in
+    let here : IsSearchable p t = o.standing.searchable refl in
+    let node : IsNode p t i = record { searchable = here; item = o.next.item; is_open = o.next.is_open } in
+    let start : IsEntered p e.trail l f.trail k = rw same at entered in
+    let v = after_branch p l.item (option_at p l.item b.place) f.trail in
+    let at = rw (under, item, none) at start.begun.at in
+    let some = slice_get_within (branches_at p t i) 0 start.begun.branch at in
+    let first = early_ends p t i n here early some in
+    let opened : ends_behind p e.trail (l ∷ ls.levels) ≡ ends_ahead p t ls.levels true =
+    rw (under, item, none, first) refl in
+    let all : ends_ahead p v (k ∷ ls.levels) true ≡ ends_ahead p t ls.levels true =
+    begun_ends p e.trail v l k ls.levels start.begun ∙ opened in
+    let within = due_within p v (k ∷ ls.levels) (room_in p v start.begun.searchable) in
+    let was = here_open p t i node in
+    let two = times_append (room_for p) (ends r) (ends_behind p t ls.levels) in
+    let begun : Pays d ls true m (record d { trail = v }) (with_level k ls) true m = record {
+      ends = ap (ends_after (suc m)) (sym all);
+      due = omega (arith, within, was, two, ap (may p) all);
+    } in
+    let to : f ≡ record d { trail = f.trail } = ef ∙ ap (λ (e : Dancing). record e { trail = f.trail }) o.spent in
+    rw (ek, ← item) (subst (λ (f : Dancing). Pays d ls true m (branched f l.item b.place) (with_level k ls) true m)
+    (sym to) begun)
+
+-- a level without branches ends at once
+pub pays_nothing : {d e : Dancing} {ls : Levels} {i n : ℕ} {l : Level} → Opens d e ls i n l → n ≡ 0 → (f : Dancing)
+    → f ≡ record e { trail = oldest l.mark e.trail; undone = e.undone + (length e.trail - l.mark) } → (m : ℕ)
+    → Pays d ls true m f ls false m
+pays_nothing {d} {e} {ls} {i} {n} {l} o no_branch f ef m =
+    let p = d.puzzle in
+    let t = d.trail in
+    let r = residual_of p t in
+    let here : IsSearchable p t = o.standing.searchable refl in
+    let node : IsNode p t i = record { searchable = here; item = o.next.item; is_open = o.next.is_open } in
+    let dead = ends_dead r (wanted_at p t i) (open_in p t i node.item node.is_open) (sym o.next.count ∙ no_branch) in
+    let spent : e ≡ record d { trail = after_spend p i t } = o.spent in
+    let mark : l.mark ≡ length t = ap (λ (l : Level). l.mark) o.level in
+    let took : e.undone + (length e.trail - l.mark) ≡ d.undone + (length (after_spend p i t) - length t) =
+    rw (spent, mark) refl in
+    let back : record e { trail = oldest l.mark e.trail; undone = e.undone + (length e.trail - l.mark) }
+    ≡ record d { trail = t; undone = d.undone + (length (after_spend p i t) - length t) } =
+    rw ((deepens o).2, took, spent) refl in
+    let was = here_open p t i node in
+    let enough = enough_for p t (room_in p t here) in
+    let room = room_spent p t i node in
+    let one = le-mul_of_pos_right {m = length (ends r)} (room_for p) (some_end r) in
+    let ended : Pays d ls true m (record d
+    { trail = t; undone = d.undone + (length (after_spend p i t) - length t) }) ls false m = record {
+      ends = rw dead refl;
+      due = omega (arith, was, enough, room, one);
+    } in
+    rw (ef, back) ended
+
+-- ---- what is left is passed over
+
+pub pays_over : (d : Dancing) (ls : Levels) (m n : ℕ) → IsSearchable d.puzzle d.trail
+    → m ≡ n + length (listing (residual_of d.puzzle d.trail)) → Pays d ls true m d ls false n
+pays_over d ls m n here passed =
+    let p = d.puzzle in
+    let r = residual_of p d.trail in
+    let many : suc m ≡ suc n + solutions (ends r) = omega (arith, passed, as_many_solutions r) in
+    record {
+      ends = rw many (after_all n (ends r) (ends_behind p d.trail ls.levels));
+      due = omega (arith, leaf_pays p d.trail (room_in p d.trail here));
+    }
+
+-- a solution is one end
+pub pays_one : (d : Dancing) (ls : Levels) (m n : ℕ) → IsSearchable d.puzzle d.trail
+    → choice_after d.puzzle d.trail ≡ None → m ≡ suc n → Pays d ls true m d ls false n
+pays_one d ls m n here none is =
+    let r = residual_of d.puzzle d.trail in
+    let last : branch_item r ≡ None =
+    mapped_none _ _ (sym (choice_is_branch_item d.puzzle d.trail here.legal) ∙ none) in
+    pays_over d ls m n here (omega (arith, is, ap length (listing_at r None last)))
+
+-- ---- a level ends
+
+finished_ends : (p : Puzzle) (t : List Move) (l : Level) (ls : List Level) → AreStacked p t (l ∷ ls)
+    → l.count ≤ l.begun → ends_behind p t (l ∷ ls) ≡ ends_behind p (oldest l.mark t) ls
+unfolding branches_at
+finished_ends p t l ls stacked h =
+    let u = oldest l.mark t in
+    let w = wanted_at p u l.item in
+    grind (arith, branches_end (residual_of p u) w)
+
+pub pays_back : (d e : Dancing) (l : Level) (vs ks : Levels) → AreStacked d.puzzle d.trail vs.levels
+    → vs.levels ≡ l ∷ drop 1 vs.levels → l.count ≤ l.begun
+    → e ≡ record d { trail = oldest l.mark d.trail; undone = d.undone + (length d.trail - l.mark) }
+    → ks ≡ record vs { levels = drop 1 vs.levels } → (m : ℕ) → Pays d vs false m e ks false m
+pays_back d e l vs ks stacked top done ed ek m =
+    let p = d.puzzle in
+    let js = drop 1 vs.levels in
+    let here = rw top at stacked in
+    let all : ends_behind p d.trail vs.levels ≡ ends_behind p (oldest l.mark d.trail) js =
+    ap (ends_behind p d.trail) top ∙ finished_ends p d.trail l js here done in
+    let mark = length-oldest l.mark d.trail (omega (arith, here.0.within)) in
+    let back : Pays d vs false m (record d
+    { trail = oldest l.mark d.trail; undone = d.undone + (length d.trail - l.mark) })
+    (record vs { levels = js }) false m = record {
+      ends = ap (ends_after (suc m)) all;
+      due = omega (arith, mark, here.0.within, ap (may p) all);
+    } in
+    rw (ed, ek) back
