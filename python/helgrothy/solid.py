@@ -15,7 +15,7 @@ Point = Tuple[float, float]
 
 _SIDE = 30
 # How far a row is to the right of the next one, and above it.
-_DEPTH = 13
+_DEPTH = 15
 _GAP = 16
 
 
@@ -71,7 +71,7 @@ class Solid(Picture):
         height = max(whole, apart) + 2 * _GAP
         lines = [
             f'<svg xmlns="http://www.w3.org/2000/svg" width="{width}" height="{height}" '
-            f'viewBox="0 0 {width} {height}" font-family="sans-serif" font-size="13" text-anchor="middle">',
+            f'viewBox="0 0 {width} {height}" font-family="sans-serif" font-size="12" text-anchor="middle">',
             f"<title>{escape(shown(self.title))}</title>",
             f'<rect width="{width}" height="{height}" fill="#fff"/>',
         ]
@@ -149,7 +149,7 @@ class _View:
             at = _middle(held)
             (x, y), (to_x, to_y) = self.point(at), self.point(_added(at, (0, 1, 1)))
             label = escape(shown(self.cubes[at].label))
-            yield f'<text x="{(x + to_x) / 2:g}" y="{(y + to_y) / 2 + 4.5:g}">{label}</text>'
+            yield f'<text x="{(x + to_x) / 2:g}" y="{(y + to_y) / 2 + 4.3:g}">{label}</text>'
 
 
 def _added(at: Cube, step: Cube) -> Cube:
