@@ -62,6 +62,7 @@ set -g __helgrothy_commands \
     'helgrothy export' \
     'helgrothy import' \
     'helgrothy why' \
+    'helgrothy page' \
     'helgrothy search' \
     'helgrothy status' \
     'helgrothy result' \
@@ -101,6 +102,7 @@ set -g __helgrothy_valued \
     'helgrothy draw --label' \
     'helgrothy lint --for' \
     'helgrothy why --seconds' \
+    'helgrothy page --port' \
     'helgrothy search --jobs' \
     'helgrothy search --dask' \
     'helgrothy search --seconds' \
@@ -181,6 +183,7 @@ complete -c helgrothy -n '__helgrothy_is \'helgrothy\' 1' -a lint -d 'tell all f
 complete -c helgrothy -n '__helgrothy_is \'helgrothy\' 1' -a export -d 'write a problem for another solver'
 complete -c helgrothy -n '__helgrothy_is \'helgrothy\' 1' -a import -d 'read another solver\'s answer as a listing'
 complete -c helgrothy -n '__helgrothy_is \'helgrothy\' 1' -a why -d 'tell which items conflict where there is no solution'
+complete -c helgrothy -n '__helgrothy_is \'helgrothy\' 1' -a page -d 'a local page to type a problem in'
 complete -c helgrothy -n '__helgrothy_is \'helgrothy\' 1' -a search -d 'count or list all solutions, by all processors or many machines'
 complete -c helgrothy -n '__helgrothy_is \'helgrothy\' 1' -a status -d 'tell how far a search is'
 complete -c helgrothy -n '__helgrothy_is \'helgrothy\' 1' -a result -d 'print what a search that is done has found'
@@ -265,6 +268,8 @@ complete -c helgrothy -n '__helgrothy_is \'helgrothy export\'' -s h -l help -d '
 complete -c helgrothy -n '__helgrothy_is \'helgrothy import\'' -s h -l help -d 'show this help message and exit'
 complete -c helgrothy -n '__helgrothy_is \'helgrothy why\'' -s h -l help -d 'show this help message and exit'
 complete -c helgrothy -n '__helgrothy_is \'helgrothy why\'' -l seconds -r -f -d 'the time (default: 10)'
+complete -c helgrothy -n '__helgrothy_is \'helgrothy page\'' -s h -l help -d 'show this help message and exit'
+complete -c helgrothy -n '__helgrothy_is \'helgrothy page\'' -l port -r -f -d 'the port (default: one that is free)'
 complete -c helgrothy -n '__helgrothy_is \'helgrothy search\'' -s h -l help -d 'show this help message and exit'
 complete -c helgrothy -n '__helgrothy_is \'helgrothy search\'' -l list -d 'list the solutions'
 complete -c helgrothy -n '__helgrothy_is \'helgrothy search\'' -l jobs -r -f -d 'so many processors (default: all)'

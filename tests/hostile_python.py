@@ -3,9 +3,10 @@
 
 Texts, listings, tables, patterns, words and folders of searches of all kinds, by a seed, so that the same tries come
 again. Of each try: no traceback, no end by want of memory, an answer in time, a status that the manual has, no byte on
-a terminal that steers it, and an SVG that is well formed and holds nothing active. Most call `main` in a process that
-does many; texts of 1 MB, closed streams, terminals and folders with Python files and programs of others in them are
-processes of their own. A try that goes wrong is told in a line. The last line is `N passed, M failed`.
+a terminal that steers it, and an SVG or a page that is well formed and holds nothing active. Most call `main` in a
+process that does many; texts of 1 MB, closed streams, terminals, folders with Python files and programs of others in
+them, and the local page are processes of their own. A try that goes wrong is told in a line. The last line is
+`N passed, M failed`.
 """
 
 import collections
@@ -21,11 +22,13 @@ import resource
 import select
 import shutil
 import signal
+import socket
 import subprocess
 import sys
 import tempfile
 import time
 import traceback
+import urllib.parse
 import xml.etree.ElementTree
 from unittest import mock
 
@@ -379,7 +382,7 @@ class Try:
         if kind == "tests":
             count = rng.choice([["--tests", "6"], ["--tests", "7", "--strength", rng.choice(["1", "3", *WORDS])], ["--tests", rng.choice(WORDS)]])
             return kind, [rng.choice([self.input(changed(rng, FACTORS)), self.input(changed(rng, FACTORS)), "3,2^2", *WORDS]), *count]
-        given = {"words": [GRID, LIST], "polyominoes": [PIECES, REGION], "polycubes": [CUBES, BOX, LESSONS], "roster": [ROSTER],
+        given = {"words": [GRID, LIST], "polyominoes": [PIECES, REGION], "polycubes": [CUBES, BOX], "roster": [ROSTER],
                  "roundrobin": [TEAMS], "timetable": [LESSONS], "nonogram": [rng.choice(NONOGRAM)], "kakuro": [KAKURO]}[kind]  # fmt: skip
         tables = [self.file(changed(rng, table if rng.random() < 0.9 else rng.choice(TABLES))) for table in given]
         if rng.random() < 0.1:
@@ -735,7 +738,7 @@ class Processes:
             "roundrobin": f"roundrobin {self.file('teams', b''.join(b't%d' % n + chr(10).encode() for n in range(100_000)))}",
             "roundrobin, 250": f"roundrobin {self.file('teams2', b''.join(b't%d' % n + chr(10).encode() for n in range(250)))}",
             "words": f"words {self.file('grid', (b'.' * 1000 + chr(10).encode()) * 900)} {self.file('list', b' '.join(b'%c' % (97 + n % 26) * 1000 for n in range(900)))}",
-            "a box of cubes": "polycubes pentacubes 45x45x45 --some",
+            "a box of dominoes": f"polycubes {self.file('piece5', (b'AA' + chr(10).encode() * 2) * 48_000)} 40x60x40",
             "a box, more": "polycubes soma 999999999x999999999x999999999",
             "a piece of cubes": f"polycubes {self.file('piece3', (b'A' * 300 + b' ') * 3 + chr(10).encode())} {self.file('region3', (b'.' * 300 + chr(10).encode()) * 300)}",
             "a large piece of cubes": f"polycubes {self.file('piece4', (b'A' * 300 + chr(10).encode()) * 300)} {self.file('region4', (b'.' * 300 + chr(10).encode()) * 300)}",
@@ -766,6 +769,30 @@ class Processes:
             is_well = done.returncode in (0, 2) and seconds < HANG and b"Traceback" not in done.stderr and b"memory" not in done.stderr
             self.tell(is_well, f"make, {what}: {seconds:.1f} seconds, {done.returncode}, {done.stderr[-300:]!r}")
 
+    def page(self) -> None:
+        """The local page: whatever it is asked it answers in lines of JSON, and nothing of it is left behind."""
+        command = {"stdout": subprocess.PIPE, "stderr": subprocess.PIPE, "text": True, "env": self.environment}
+        with subprocess.Popen([SCRIPT, "page"], **command) as server:
+            address = urllib.parse.urlsplit(server.stdout.readline().strip())
+            for number in range(60):
+                request = asked(random.Random(f"page {number}"))
+                raw = json.dumps(request).encode()
+                head = f"POST {address.path}answer HTTP/1.1\r\nHost: {address.netloc}\r\nOrigin: http://{address.netloc}\r\n"
+                head += f"Content-Type: application/json\r\nContent-Length: {len(raw)}\r\n\r\n"
+                status, told = said(address.port, head.encode() + raw)
+                self.tell(status == 200 and not wrong_with_answer(told), f"page, {request}: {status} {told[-300:]!r}")
+            for raw in (
+                b"\0" * 5_000 + b"\r\n\r\n", b"A" * 100_000 + b"\r\n\r\n", b"GET / HTTP/9.9\r\n\r\n", b"GET\r\n\r\n", b"\xff\xfe \x1b[2J\r\n\r\n",
+                b"GET / HTTP/1.1\r\n" + b"A: b\r\n" * 1_000 + b"\r\n", b"GET / HTTP/1.1\r\nHost: " + b"x" * 100_000 + b"\r\n\r\n",
+                b"POST / HTTP/1.1\r\nContent-Length: 99999999999999999999\r\n\r\n", b"<script> / HTTP/1.1\r\n\r\n",
+            ):  # fmt: skip
+                status, told = said(address.port, raw)
+                self.tell(status in (0, 400, 404, 414, 431, 501, 505) and told in (b"", b"nothing is here"), f"page, {raw[:30]!r}: {status} {told[:200]!r}")
+            left = subprocess.run(["ps", "--ppid", str(server.pid)], capture_output=True, text=True).stdout.splitlines()[1:]
+            server.terminate()
+            error = server.communicate()[1]
+            self.tell(not left and server.returncode == 143 and "Traceback" not in error, f"page at its end: {left} {server.returncode} {error}")
+
     def used(self, script: str) -> float:
         """The seconds of a processor that a script takes."""
         return self.timed(script)[0]
@@ -776,6 +803,46 @@ class Processes:
         done = self.shell(script)
         after = resource.getrusage(resource.RUSAGE_CHILDREN)
         return after.ru_utime + after.ru_stime - before.ru_utime - before.ru_stime, done
+
+
+def asked(rng: random.Random):
+    """A request of a page, mostly a good one."""
+    request = {"what": rng.choice(["solve", "solve", "lint"]), "seconds": 5, "limit": 5}
+    request["way"] = rng.choice(["", "", "", "random", "symmetry"])
+    some = [*(table.decode() for table in TABLES), *WORDS, *(one.decode("utf-8", "replace") for one in EVIL)]
+    if rng.random() < 0.4:
+        request["kind"] = rng.choice([*make.KINDS, "nothing"])
+        names = ["clues", "board", "pairs", "pieces", "region", "grid", "list", "table", "teams", "no_turns", "double", "__class__"]
+        request["values"] = {name: rng.choice([*some, True, 1, None, []]) for name in names}
+    else:
+        request["text"] = rng.choice([text(rng).decode("utf-8", "replace"), rng.choice(some)])
+        for name in ("cell", "row", "column", "label"):
+            request[name] = rng.choice(["", "", "", rng.choice(PATTERNS)])
+    if rng.random() < 0.1:
+        request[rng.choice([*request, "more"])] = rng.choice([None, -1, 1e308, 10**30, "x" * 100_000, {"a": []}, [[]], "\udcff"])
+    return request
+
+
+def said(port: int, raw: bytes):
+    """What a server says to bytes: the status, 0 where there is none, and what follows the head."""
+    told = b""
+    with contextlib.suppress(ConnectionError), socket.create_connection(("127.0.0.1", port), HANG) as connection:
+        connection.sendall(raw)
+        while chunk := connection.recv(1 << 16):
+            told += chunk
+    head, _, rest = told.partition(b"\r\n\r\n")
+    words = head.split(b" ", 2)
+    return int(words[1]) if len(words) > 1 and words[1].isdigit() else 0, rest
+
+
+def wrong_with_answer(raw: bytes) -> str:
+    """What is wrong with an answer of the page, if anything."""
+    try:
+        lines = [json.loads(line) for line in raw.split(b"\n")[:-1]]
+    except ValueError:
+        return "no JSON"
+    known = {"problem", "solution", "end", "remarks", "error"}
+    return "" if lines and raw.endswith(b"\n") and all(set(line) <= known for line in lines) else "no answer"
 
 
 def large_texts():
@@ -824,7 +891,7 @@ def main() -> int:
         failed = try_all(tries, seed, top)
         passed = tries - failed
         processes = Processes(top)
-        for part in (processes.closed_streams, processes.strangers, processes.terminals, processes.makers, processes.large):
+        for part in (processes.closed_streams, processes.strangers, processes.terminals, processes.makers, processes.page, processes.large):
             part()
     print(f"{passed + processes.passed} passed, {failed + processes.failed} failed")
     return 1 if failed + processes.failed else 0

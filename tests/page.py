@@ -4,11 +4,14 @@
 Without a browser it says so, and nothing is tested. The programs are found as the Python package finds them.
 """
 
+import contextlib
 import json
 import os
+import signal
 import subprocess
 import sys
 import tempfile
+import time
 import unittest
 
 TOP = os.path.dirname(os.path.dirname(os.path.abspath(__file__)))
@@ -18,7 +21,9 @@ sys.dont_write_bytecode = True
 from paging.browser import Browser, program  # noqa: E402
 
 from helgrothy import Problem, make  # noqa: E402
+from helgrothy.page import forms  # noqa: E402
 
+OWNED = "window.owned = () => { owned.times++; }; owned.times = 0;"
 SCRIPT = os.path.join(TOP, "scripts", "helgrothy")
 # What names may try: each runs `owned` where it is taken for more than text.
 EVIL = [
@@ -39,6 +44,10 @@ def helgrothy(*words, given=""):
     if done.returncode not in (0, 1):
         raise RuntimeError(f"{words}: {done.stderr.decode()}")
     return done.stdout
+
+
+def legal(name):
+    return name.replace(":", ".").replace("|", ".")[:32]
 
 
 class Pages(unittest.TestCase):
@@ -148,12 +157,14 @@ class File(Pages):
         self.open()
         self.tab.press("g")
         self.assertFalse(self.tab.is_shown("#single"))
-        self.assertGreater(self.tab.value("document.querySelectorAll('.card svg').length"), 30)
+        self.assertEqual(self.tab.value("document.querySelectorAll('.card').length"), 200)
+        self.tab.wait("document.querySelectorAll('.card svg').length > 30")
         self.tab.press("ArrowRight")
         self.assertEqual(self.tab.text("[aria-current] .name"), "2")
         self.tab.press("End")
         self.assertEqual(self.tab.text("[aria-current] .name"), "200")
-        self.assertEqual(self.tab.value("document.querySelectorAll('.card svg').length"), 200)
+        # What is far from there has no picture.
+        self.tab.wait("document.querySelector('.card:last-child svg') && !document.querySelector('.card:first-child svg')")
         self.tab.press("Enter")
         self.assertIn("Solution 200:", self.tab.text("#told"))
         self.tab.click("#all")
@@ -221,6 +232,9 @@ class File(Pages):
             ["sudoku", "53..7....6..195....98....6.8...6...34..8.3..17...2...6.6....28....419..5....8..79"],
             ["queens", "8", "--all"],
             ["langford", "4"],
+            ["polycubes", "soma", "3x3x3"],
+            ["kakuro", self.file("kakuro.txt", forms.EXAMPLES["kakuro"]["grid"].encode())],
+            ["timetable", self.file("exams.csv", forms.EXAMPLES["timetable"]["table"].encode())],
         ):
             self.open(helgrothy(*words, "--html"))
             self.assertTrue(self.tab.is_shown("#picture svg"))
@@ -235,6 +249,18 @@ class File(Pages):
             wanted = plain.value(f"[...{parsed}.querySelectorAll(':not(title)')].map({drawn})")
             plain.close()
             self.assertEqual(self.tab.value(f"[...document.querySelectorAll('#picture svg *')].map({drawn})"), wanted)
+        self.is_quiet()
+
+    def test_solutions_without_steps(self):
+        """Those of a search of another kind."""
+        costs = self.file("costs", "".join(f"{place}\n" for place in range(36)).encode())
+        self.open(helgrothy("solve", "--cost", costs, "--html", given=make.queens.problem(6).text))
+        self.assertEqual(self.tab.text("#summary"), "1 solution; there may be more. The least cost is 105.")
+        self.assertEqual((self.tab.text("#went"), self.tab.text("#told")), ("Its options", "Solution 1: 6 options."))
+        self.assertFalse(self.tab.is_shown("#steps .branch"))
+        self.assertTrue(self.tab.is_shown("#picture svg"))
+        self.tab.click("#steps .items button")
+        self.assertEqual(self.tab.text("#count"), "1")
         self.is_quiet()
 
     def test_without_a_picture_and_without_a_solution(self):
@@ -252,13 +278,11 @@ class File(Pages):
         self.is_quiet()
 
     def test_hostile_names_run_nothing(self):
-        names = [name[:32].replace(":", ".") for name in EVIL]
+        names = list(map(legal, EVIL))
         problem = Problem(names, True, [{name: None, f"at{place}": name[:8]} for place, name in enumerate(names)])
         problem = Problem(names, True, problem.options, comments=[*EVIL, "helgrothy make </script>"])
         for more in ([], ["--cell", r"at(\d+)"], ["--row", r"at\d+", "--label", r"\S+"], ["--column", ".+"]):
-            self.tab.call(
-                "Page.addScriptToEvaluateOnNewDocument", source="window.owned = () => { owned.times++; }; owned.times = 0;"
-            )
+            self.tab.call("Page.addScriptToEvaluateOnNewDocument", source=OWNED)
             self.open(helgrothy("solve", "--html", "--all", *more, given=problem.text))
             self.tab.press("p")
             for name in ("</script><script>owned()//", "<svg/onload=owned()>", r"\x1b[2J", "__proto__"):
@@ -289,7 +313,7 @@ class File(Pages):
         start, _, rest = self.boxes.partition(b'id="data">')
         end = rest.partition(b"</script>")[2]
         data = json.dumps(told).replace("<", "\\u003c").encode()
-        self.tab.call("Page.addScriptToEvaluateOnNewDocument", source="window.owned = () => { owned.times++; }; owned.times = 0;")
+        self.tab.call("Page.addScriptToEvaluateOnNewDocument", source=OWNED)
         self.open(b'%sid="data">%s</script>%s' % (start, data, end))
         names = self.tab.value("[...document.querySelectorAll('#picture svg *')].map((it) => it.tagName)")
         self.assertEqual(names, ["rect", "g", "text"])
@@ -298,6 +322,213 @@ class File(Pages):
         # A script that is put into it isn't the one that the policy names.
         self.open(self.boxes.replace(b"</body>", b"<script>owned()</script><img src=x onerror=owned()></body>"))
         self.assertEqual(self.tab.value("owned.times"), 0)
+
+
+class Page(Pages):
+    """The page of `helgrothy page`."""
+
+    def setUp(self):
+        super().setUp()
+        environment = {**os.environ, "PATH": f"{os.path.dirname(sys.executable)}:{os.environ['PATH']}"}
+        self.server = subprocess.Popen(
+            [SCRIPT, "page"], stdout=subprocess.PIPE, stderr=subprocess.DEVNULL, text=True, env=environment
+        )
+        self.addCleanup(self.end)
+        self.address = self.server.stdout.readline().strip()
+        self.tab.call("Page.addScriptToEvaluateOnNewDocument", source=OWNED)
+        self.tab.go(self.address)
+
+    def end(self):
+        self.server.send_signal(signal.SIGINT)
+        status = self.server.wait(30)
+        self.server.stdout.close()
+        self.assertEqual(status, 130)
+
+    def is_quiet(self):
+        super().is_quiet()
+        self.assertLessEqual(set(self.tab.asked()), {self.address, f"{self.address}answer"})
+
+    def type_problem(self, text):
+        self.tab.click("#text")
+        self.tab.press("a", ctrl=True)
+        self.tab.type(text)
+        self.assertEqual(self.tab.value("document.querySelector('#text').value"), text)
+
+    def choose(self, kind, **values):
+        self.tab.click("#as-kind")
+        self.tab.value(f"document.querySelector('#kind').value = {json.dumps(kind)}")
+        self.tab.value("document.querySelector('#kind').dispatchEvent(new Event('change'))")
+        for name, value in values.items():
+            self.tab.click(f"#value-{name}")
+            self.tab.press("a", ctrl=True)
+            self.tab.type(value)
+
+    def solve(self):
+        self.tab.press("Enter", ctrl=True)
+        self.tab.wait("document.querySelector('#stop').disabled")
+
+    def running(self):
+        """The processes of the answers, and the programs that these run."""
+        told = {}
+        for name in filter(str.isdigit, os.listdir("/proc")):
+            with contextlib.suppress(OSError), open(f"/proc/{name}/stat") as file:
+                state, parent = file.read().rpartition(") ")[2].split()[:2]
+                if state != "Z":
+                    told.setdefault(int(parent), []).append(int(name))
+        answers = told.get(self.server.pid, [])
+        return answers, [program for answer in answers for program in told.get(answer, [])]
+
+    def wait(self, holds):
+        deadline = time.monotonic() + 30
+        while not holds():
+            self.assertLess(time.monotonic(), deadline, "it never came to it")
+            time.sleep(0.05)
+
+    def test_a_problem_is_typed_and_solved(self):
+        self.type_problem("ann bob | door\nann door:red\nbob door:green\nbob door:red\n")
+        self.solve()
+        self.assertEqual(self.tab.text("#summary"), "1 solution; all that there are.")
+        self.assertEqual(self.tab.text("#steps").split(), "1 1 of 1 1 ann door:red 2 1 of 1 3 bob door:red".split())
+        self.type_problem("a b\na\n")
+        self.solve()
+        self.assertEqual(self.tab.text("#none"), "There is no solution.\ncan't all be held: b\nit is in no option")
+        self.type_problem("r1c1 r1c2 r2c1 r2c2 | A B C D\nA r1c1 r1c2\nB r2c1 r2c2\nC r1c1 r2c1\nD r1c2 r2c2\n")
+        self.tab.click("#patterns summary")
+        self.tab.click("#cell")
+        self.tab.type(r"r(\d)c(\d)")
+        self.tab.click("#label")
+        self.tab.type("[A-D]")
+        self.tab.click("#solve")
+        self.tab.wait("document.querySelector('#stop').disabled")
+        self.assertEqual(self.tab.text("#summary"), "2 solutions; all that there are.")
+        letters = "[...document.querySelectorAll('#picture text')].map((it) => it.textContent).join('')"
+        self.assertEqual(self.tab.value(letters), "AABB")
+        self.tab.press("ArrowRight")
+        self.assertEqual(self.tab.value(letters), "CDCD")
+        self.is_quiet()
+
+    def test_faults_are_at_their_tokens(self):
+        self.type_problem("ann bob | room key\nann room\nbob room room\nann kay\nbob\nbob\n")
+        self.tab.wait("document.querySelectorAll('#remarks li').length === 4")
+        remarks = self.tab.value("[...document.querySelectorAll('#remarks li')].map((it) => it.innerText)")
+        wanted = ["line 1 key: in no option", "line 3 room: item repeated in option",
+                  "line 4 kay: unknown item (is it key?)", "line 6 bob: the same option as that of line 5"]  # fmt: skip
+        self.assertEqual(remarks, wanted)
+        lint = helgrothy("lint", given=self.tab.value("document.querySelector('#text').value")).decode().splitlines()
+        self.assertEqual([line.replace(": ", " ", 1) for line in lint], wanted)
+        marks = self.tab.value("[...document.querySelectorAll('#marks mark')].map((it) => [it.className, it.textContent])")
+        self.assertEqual(marks, [["odd", "key"], ["wrong", "room"], ["wrong", "kay"], ["odd", "bob"]])
+        # Marks stand where the tokens are seen: the layer of marks has the text, in the same place.
+        text = "document.querySelector('#text')"
+        self.assertEqual(self.tab.value(f"document.querySelector('#marks').textContent.trim() === {text}.value.trim()"), True)
+        for one in ("font", "letterSpacing", "paddingLeft", "paddingTop", "whiteSpace", "tabSize"):
+            styles = [f"getComputedStyle(document.querySelector('{it}')).{one}" for it in ("#text", "#marks")]
+            self.assertEqual(*map(self.tab.value, styles), one)
+        self.tab.click("#remarks li:nth-child(2) button")
+        selected = self.tab.value(f"{text}.value.slice({text}.selectionStart, {text}.selectionEnd)")
+        self.assertEqual(selected, "room")
+        self.assertEqual(self.tab.value(f"{text}.value.slice(0, {text}.selectionStart).split('\\n').length"), 3)
+        self.tab.press("Enter", ctrl=True)
+        self.tab.wait("document.querySelector('#state').innerText === 'the text has faults'")
+        self.type_problem("ann\nann\n")
+        self.tab.wait("document.querySelectorAll('#remarks li').length === 0")
+        self.is_quiet()
+
+    def test_kinds(self):
+        self.choose("polyominoes")
+        self.solve()
+        self.assertEqual(self.tab.text("#title"), "A tiling by polyominoes")
+        self.assertEqual(self.tab.text("#summary"), "20 solutions; there may be more.")
+        self.choose("queens", board="BCAAAA\nBCCCAA\nBCCCFF\nDDCCFF\nFFFFFE\nFFFFEE")
+        self.solve()
+        self.assertEqual(self.tab.text("#summary"), "1 solution; all that there are.")
+        self.assertEqual(self.tab.value("document.querySelectorAll('#picture path[transform]').length"), 6)
+        for kind in self.tab.value("[...document.querySelector('#kind').options].map((it) => it.value)"):
+            self.choose(kind)
+            self.assertTrue(self.tab.is_shown("#values label"), kind)
+            if forms.EXAMPLES.get(kind):
+                self.solve()
+                self.assertTrue(self.tab.is_shown("#picture svg"), kind)
+        self.choose("queens", board="8")
+        self.tab.value("document.querySelector('#order').value = 'symmetry'")
+        self.solve()
+        self.assertEqual(self.tab.text("#summary"), "12 solutions; all that there are.")
+        self.tab.value("document.querySelector('#order').value = ''")
+        self.choose("queens", board="/etc/passwd")
+        self.solve()
+        self.assertIn("line 1: /etc/passwd:", self.tab.text("#state"))
+        self.is_quiet()
+
+    def test_solutions_come_as_they_are_found_and_it_stops(self):
+        # Its first option is a solution; for others it searches long, and there are none.
+        items, *options = make.langford.problem(14).text.splitlines()[2:]
+        self.type_problem("\n".join([items, items, *options, ""]))
+        self.tab.value("document.querySelector('#seconds').value = 600")
+        self.tab.press("Enter", ctrl=True)
+        self.tab.wait("document.querySelector('#count').innerText === '1'")
+        self.assertEqual(self.tab.text("#summary"), "1 solution; and it searches on.")
+        self.assertEqual(sorted(self.tab.text("#steps .items").split()), sorted(items.split()))
+        self.wait(lambda: [len(it) for it in self.running()] == [1, 1])
+        self.tab.press(".", ctrl=True)
+        self.assertEqual(self.tab.text("#state"), "Stopped.")
+        self.wait(lambda: self.running() == ([], []))
+        self.assertTrue(self.tab.is_shown("#steps"))
+        # Another one ends the one before; a page that goes ends its own.
+        self.choose("langford", pairs="14")
+        self.tab.press("Enter", ctrl=True)
+        self.wait(lambda: [len(it) for it in self.running()] == [1, 1])
+        before = self.running()
+        self.tab.press("Enter", ctrl=True)
+        self.wait(lambda: [len(it) for it in self.running()] == [1, 1] and self.running() != before)
+        self.is_quiet()
+        self.tab.call("Page.navigate", url="data:text/html,gone")
+        self.wait(lambda: self.running() == ([], []))
+
+    def test_hostile_names_run_nothing(self):
+        names = [name for name in map(legal, EVIL) if name.isprintable()]
+        lines = [" ".join(names) + " | " + " ".join(f"at{place}" for place in range(len(names)))]
+        lines += [f"{name} at{place}:{name[:8]}" for place, name in enumerate(names)]
+        self.type_problem("\n".join([*(f"| {name}" for name in EVIL if name.isprintable()), *lines, "<img/src=x/onerror=owned()>x", ""]))
+        self.tab.wait("document.querySelectorAll('#remarks li').length > 0")
+        self.assertIn("<img/src=x/onerror=owned()>x", self.tab.text("#remarks"))
+        self.tab.value("document.querySelector('#text').setSelectionRange(1e9, 1e9)")
+        self.type_problem("\n".join(lines))
+        self.tab.click("#patterns summary")
+        self.tab.click("#cell")
+        self.tab.type(r"at(\d+)")
+        self.solve()
+        self.assertEqual(self.tab.text("#summary"), "1 solution; all that there are.")
+        self.assertIn("<svg/onload=owned()>", self.tab.text("#steps"))
+        for element, count in (("script", 2), ("img", 0), ("iframe", 0), ("main", 1)):
+            self.assertEqual(self.tab.value(f"document.querySelectorAll('{element}').length"), count, element)
+        self.is_quiet()
+
+    def test_other_pages_get_nothing(self):
+        """One that even knows the address: it can't ask, and it can't put the page into itself."""
+        self.wait(lambda: self.running() == ([], []))
+        other = self.browser.tab()
+        self.addCleanup(other.close)
+        other.go(f"file://{self.file('other.html', b'<!doctype html><p>other')}")
+        ask = f"fetch({json.dumps(self.address + 'answer')}, {{method: 'POST', body: '{{}}', HOW}})"
+        for how in ("mode: 'cors', headers: {'Content-Type': 'application/json'}", "mode: 'cors'"):
+            got = other.value(f"{ask.replace('HOW', how)}.then((it) => it.text(), () => 'refused')")
+            self.assertEqual(got, "refused", how)
+        other.value(f"{ask.replace('HOW', 'mode: `no-cors`')}.then(() => 0, () => 0)")
+        self.assertEqual(self.running(), ([], []))
+        other.value(
+            f"new Promise((done) => {{ const it = document.createElement('iframe'); it.src = {json.dumps(self.address)};"
+            " it.onload = done; document.body.append(it); })"
+        )
+        self.assertTrue(any("frame-ancestors" in it for it in other.complaints()), other.complaints())
+
+    def test_a_server_that_has_ended(self):
+        other = subprocess.Popen([SCRIPT, "page"], stdout=subprocess.PIPE, stderr=subprocess.DEVNULL, text=True)
+        with other:
+            self.tab.go(other.stdout.readline().strip())
+            other.send_signal(signal.SIGTERM)
+            self.assertEqual(other.wait(30), 143)
+        self.tab.press("Enter", ctrl=True)
+        self.tab.wait("document.querySelector('#state').innerText.startsWith('The page\\'s server has ended')")
 
 
 if __name__ == "__main__":

@@ -27,6 +27,8 @@ END
 said=$(cd "$empty" && env -i HOME="$empty" PATH="$empty/venv/bin:/usr/bin:/bin" sh -eu -c '
     printf "A B\nA\nB\nA B\n" | dlx1 2>&1
     helgrothy queens 4 2>&1
+    # A page has the files that are no modules.
+    helgrothy queens 4 --html 2>/dev/null | tail -n 1
     python use.py "$1"
     # Without the environment on the path the package finds its own programs.
     env PATH=/nowhere "$2/venv/bin/python" use.py "$1"
@@ -44,6 +46,7 @@ Q . . .
 . . . Q
 . Q . .
 Altogether 1 solution (limit).
+</html>
 2
 2
 Q

@@ -19,18 +19,19 @@ from . import __version__, answers, console, cost, shuffle, symmetry, why
 from .console import Parser, limited, number, positive, seconds, write
 from .data import FORMATS as FORMS
 from .data import places_of
-from .draw import Drawing, Pattern, drawing_of
+from .draw import Drawing, drawing_of
 from .errors import HelgrothyError, NoPicture, OutOfTime, TableFault
 from .export import FORMATS
 from .lint import lint
-from .listing import Step
+from .listing import Step, untold
 from .make import KINDS, kind_of
 from .make.kind import Found, Kind, read_text
+from .page import commands as pages
 from .page.file import MOST_SOLUTIONS, File
 from .problem import Problem, Solutions
 from .spans import commands as spans
 from .stream import Chosen, Stream
-from .table import Table
+from .table import by_patterns
 from .watch import Watch
 
 _EXAMPLES = """\
@@ -91,6 +92,7 @@ def _parser() -> argparse.ArgumentParser:
     _add_export(commands)
     _add_import(commands)
     _add_why(commands)
+    pages.add(commands)
     spans.add(commands)
     for kind in KINDS.values():
         _add_kind(commands, kind)
@@ -192,17 +194,22 @@ def _solve(arguments: argparse.Namespace) -> int:
 
 def _make_and_solve(arguments: argparse.Namespace) -> int:
     kind: Kind = arguments.kind
-    found = kind.search(arguments, None if arguments.seconds is None else arguments.seconds * _SHARE)
-    return _show(kind.make(arguments), arguments) if found is None else _show_found(found, arguments)
+    search = kind.search(arguments)
+    if search is None:
+        return _show(kind.make(arguments), arguments)
+    _check_one(arguments)
+    return _show_found(search(None if arguments.seconds is None else arguments.seconds * _SHARE), arguments)
 
 
 def _show_found(found: Found, arguments: argparse.Namespace) -> int:
     """Shows the one solution that a search of another kind found."""
-    _check_one(arguments)
     options = found.problem.options
-    show = _showing(found.problem, arguments, _listed_options, page=None)
-    show(1, [options[number] for number in found.numbers], lambda _: found.numbers, lambda: [])
+    page = _page(found.problem, arguments)
+    show = _showing(found.problem, arguments, _listed_options, page)
+    show(1, [options[number] for number in found.numbers], lambda _: found.numbers, lambda: untold(found.numbers))
     console.say(found.remark)
+    if page is not None:
+        write([page.text(1, False, [found.remark])])
     return 0
 
 
@@ -210,8 +217,8 @@ def _check_one(arguments: argparse.Namespace) -> None:
     """Raises `ValueError` where more is asked for than a search of another kind finds."""
     if arguments.all or arguments.limit or arguments.number:
         raise ValueError("this search finds one solution: without --all, --limit and --number")
-    if arguments.html:
-        raise ValueError("a page shows how dlx1 to dlx3 went to each solution, and this is a search of another kind")
+    if arguments.shuffle is not None or arguments.up_to_symmetry:
+        raise ValueError("this search has an order of its own: without --shuffle and --up-to-symmetry")
 
 
 def _show(problem: Problem[Any], arguments: argparse.Namespace) -> int:
@@ -438,17 +445,12 @@ def _drawing(
     problem: Problem[Any], arguments: argparse.Namespace, otherwise: Optional[Callable[[Sequence[str]], Any]]
 ) -> Callable[[Sequence[str]], Any]:
     """What draws solutions: by the patterns that are given, else as the problem was made, else otherwise."""
-    if arguments.cell is not None and (arguments.row is not None or arguments.column is not None):
-        raise ValueError("--cell is for a board, --row and --column are for a table: not both")
-    if (arguments.cell, arguments.row, arguments.column) != (None, None, None):
-        try:
-            if arguments.cell is not None and "(?P<layer>" in arguments.cell and otherwise is not None:
-                return otherwise
-            if arguments.cell is None:
-                return Table(arguments.row, arguments.column, arguments.label).of(problem)
-            return Pattern(arguments.cell, arguments.label or r"(?!)").of(problem)
-        except (re.error, OverflowError, RecursionError) as error:
-            raise ValueError(f"a pattern is wrong: {error}") from None
+    if arguments.cell is not None and "(?P<layer>" in arguments.cell and otherwise is not None:
+        # The cells of a box are for its symmetries; they have no picture by a pattern.
+        return otherwise
+    by_them = by_patterns(problem, arguments.cell, arguments.row, arguments.column, arguments.label)
+    if by_them is not None:
+        return by_them
     try:
         drawing: Drawing = drawing_of(problem)
     except NoPicture:

@@ -57,6 +57,11 @@ class Step(NamedTuple):
     branches: int
 
 
+def untold(options: Iterable[int]) -> List[Step]:
+    """Options of a solution as steps of which nothing else is known: each is branch 0 of 0."""
+    return [Step("", option, 0, 0) for option in options]
+
+
 def branch_of(line: bytes, is_null: bool) -> Tuple[bytes, int, int]:
     """The item at which a choice line chose, and which branch of how many it was."""
     words = line.split(b" ")

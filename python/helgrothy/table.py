@@ -10,7 +10,7 @@ import re
 from dataclasses import dataclass
 from typing import TYPE_CHECKING, Any, Dict, Iterable, List, Optional, Sequence, Set, Tuple
 
-from .draw import Cell, Drawing, Picture, Shades, check_size, no_match
+from .draw import Cell, Drawing, Pattern, Picture, Shades, check_size, no_match
 
 if TYPE_CHECKING:
     from .problem import Problem
@@ -57,6 +57,20 @@ class Table:
             return Picture("a table", cells, rows.heads(), columns.heads())
 
         return draw
+
+
+def by_patterns(
+    problem: Problem[Any], cell: Optional[str], row: Optional[str], column: Optional[str], label: Optional[str]
+) -> Optional[Drawing]:
+    """The drawing by patterns for a board or a table; None where there are none. Raises `ValueError`, `NoPicture`."""
+    if cell is not None and (row is not None or column is not None):
+        raise ValueError("--cell is for a board, --row and --column are for a table: not both")
+    try:
+        if cell is not None:
+            return Pattern(cell, label or r"(?!)").of(problem)
+        return None if row is None and column is None else Table(row, column, label).of(problem)
+    except (re.error, OverflowError, RecursionError) as error:
+        raise ValueError(f"a pattern is wrong: {error}") from None
 
 
 class _Names:

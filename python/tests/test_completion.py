@@ -24,13 +24,14 @@ class Completion(unittest.TestCase):
         for kind in KINDS:
             self.assertIn(f"helgrothy make {kind}", commands)
             names = {name for option in commands[f"helgrothy {kind}"].options for name in option.names}
-            self.assertLessEqual({"--svg", "--json", "--all", "--number", "--limit", "--seconds", "--shuffle", "--up-to-symmetry"}, names)
+            wanted = {"--svg", "--html", "--json", "--csv", "--all", "--number", "--limit", "--seconds"}
+            self.assertLessEqual(wanted | {"--shuffle", "--up-to-symmetry"}, names)
         self.assertEqual([str(place) for place in commands["dlx-span"].places], ["words 1 2 3", "words m0 m1"])
         search = commands["helgrothy search"]
         self.assertEqual([str(place) for place in search.places], ["problem"])
         names = ["--list", "--jobs", "--dask", "--seconds", "--folder", "--for"]
         self.assertEqual([option.names for option in search.options][1:], [(name,) for name in names])
-        others = {"make", "solve", "draw", "lint", "export", "import", "why", "search", "status", "result", "rows"}
+        others = {"make", "solve", "draw", "lint", "export", "import", "why", "page", "search", "status", "result", "rows"}
         self.assertEqual(set(commands["helgrothy"].commands), {*others, *KINDS})
         values = {option.names[-1]: option.value for option in commands["helgrothy lint"].options}
         self.assertEqual(str(values["--for"]), "words dlx1 dlx2 dlx3")

@@ -36,6 +36,7 @@ BAD = (
     ("a x y\nb p q\n", [], "--tests N says how many; `helgrothy tests FACTORS --least` looks for as few as can be"),
     ("a x y\nb p q\n", ["--tests", "4", "--least"], "either --tests or --least"),
     ("a x y\nb p q\n", ["--least", "--all"], "this search finds one solution: without --all, --limit and --number"),
+    ("a x y\nb p q\n", ["--least", "--shuffle", "7"], "this search has an order of its own: without --shuffle and --up-to-symmetry"),
     ("3,0,2", ["--tests", "9"], "line 1: 0: neither a number of values nor one with ^ and a number of factors"),
     ("3,2^0", ["--tests", "9"], "line 1: 2^0: neither a number of values nor one with ^ and a number of factors"),
     ("3^999999999", ["--least"], "the problem would have 2999999997 items, and may have 100000"),
@@ -131,7 +132,7 @@ class Designs(unittest.TestCase):
         self.assertTrue(run("tests", path, "--least", "--svg")[1].startswith("<svg"))
         self.assertEqual(run("tests", path, "--least", "--json")[1].count('"t1/system": "linux"'), 1)
         self.assertEqual(run("make", "tests", path, "--tests", "5")[1], make.tests.problem(FACTORS, 5).text)
-        self.assertRegex(run("tests", "6^9", "--least", "--seconds", "2")[2], r"\A[0-9]+ tests; [0-9]+ weren't found in the time\.\n\Z")
+        self.assertRegex(run("tests", "4^7", "--least", "--seconds", "5")[2], r"\A[0-9]+ tests; [0-9]+ weren't found in the time\.\n\Z")
 
     def test_bad_tables(self):
         for number, (table, words, sentence) in enumerate(BAD):

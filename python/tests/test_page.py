@@ -1,14 +1,28 @@
 """Pages of solutions: what stands in them, whatever the names are, and how the search went to each."""
 
 import base64
+import contextlib
+import glob
 import hashlib
 import html.parser
+import http.client
 import json
+import os
 import re
+import shutil
+import signal
+import socket
+import subprocess
+import sys
+import tempfile
+import threading
+import time
 import unittest
+import urllib.parse
 
-from helgrothy import Problem, make
+from helgrothy import HelgrothyError, Problem, make
 from helgrothy.listing import branch_of
+from helgrothy.page import answer, forms, server
 from helgrothy.page.record import Record
 from helgrothy.programs import Run
 from test_commands import run
@@ -153,8 +167,6 @@ class File(unittest.TestCase):
         self.assertEqual(run("solve", "--html", "--cell", "(z)(z)", given="A\nA\n")[:2], (2, ""))
 
     def test_of_a_listing(self):
-        import tempfile
-
         problem = make.queens.problem(4)
         with tempfile.NamedTemporaryFile("w", suffix=".dlx") as file:
             file.write(problem.text)
@@ -168,6 +180,261 @@ class File(unittest.TestCase):
         told = json.loads(Record(problem, None).problem())["problem"]
         self.assertTrue(told["more"])
         self.assertLess(len("".join(told["text"])), 300_000)
+
+
+class Forms(unittest.TestCase):
+    def setUp(self):
+        folder = tempfile.TemporaryDirectory()
+        self.addCleanup(folder.cleanup)
+        self.folder = folder.name
+        self.addCleanup(os.chdir, os.getcwd())
+        self.leave()
+
+    def leave(self):
+        """Goes to a folder that is empty."""
+        os.chdir(tempfile.mkdtemp(dir=self.folder))
+
+    def test_examples_of_all_kinds_are_problems(self):
+        for kind in make.KINDS:
+            if kind in forms.EXAMPLES:
+                with self.subTest(kind=kind):
+                    self.leave()
+                    problem = forms.problem(kind, forms.EXAMPLES[kind])
+                    self.assertTrue(problem.comments[0].startswith(f"helgrothy make {kind}"))
+        told = {form["name"]: form for form in forms.forms()}
+        self.assertEqual(set(told), set(make.KINDS))
+        for name, example in forms.EXAMPLES.items():
+            self.assertLessEqual(set(example), {field["name"] for field in told[name]["fields"]})
+        json.dumps(forms.forms())
+
+    def test_options_and_texts(self):
+        region = forms.problem("polyominoes", {"pieces": "L\nLL\n\nII", "region": "...\n.#.\n", "no_turns": True})
+        self.assertIn("...", region.comments)
+        with self.assertRaises(FileExistsError):
+            forms.problem("polyominoes", {"pieces": "L\nLL", "region": "..."})
+        self.leave()
+        self.assertEqual(forms.problem("queens", {"board": "5"}).text, make.queens.problem(5).text)
+        self.leave()
+        clues = forms.EXAMPLES["sudoku"]["clues"]
+        rows = "\n".join(clues[start : start + 9] for start in range(0, 81, 9))
+        self.assertEqual(forms.problem("sudoku", {"clues": rows}).text, forms.problem("sudoku", {"clues": clues}).text)
+
+    def test_no_other_file_is_read(self):
+        with tempfile.NamedTemporaryFile("w", suffix=".txt") as file:
+            file.write("aabb\naabb\nccdd\nccdd\n")
+            file.flush()
+            name = os.path.basename(file.name)
+            os.symlink(file.name, "link")
+            with self.assertRaises(FileExistsError):
+                forms.problem("queens", {"board": "link"})
+            for word in (file.name, f"../{name}", f"/{file.name}", "/dev/stdin", "/proc/self/environ", ".."):
+                self.leave()
+                with self.subTest(word=word), self.assertRaises((ValueError, HelgrothyError)) as caught:
+                    forms.problem("queens", {"board": word})
+                # It is taken for a picture of one row.
+                self.assertIn("line 1", str(caught.exception))
+        for word in ("-", ".", "~"):
+            self.leave()
+            self.assertEqual(len(forms.problem("queens", {"board": word}).options), 1)
+
+    def test_faults(self):
+        for kind, values in (
+            ("nothing", {}), ("queens", {}), ("queens", {"board": "-3"}), ("queens", {"board": "--help"}), ("queens", {"board": 8}),
+            ("langford", {"pairs": "x"}), ("polyominoes", {"pieces": "pentominoes"}), ("sudoku", {"clues": "\udcff\0"}),
+            ("roster", {"table": "a" * 5000}), ("words", {"grid": "..", "list": "\x1b[2J"}),
+        ):  # fmt: skip
+            self.leave()
+            with self.subTest(kind=kind, values=values), self.assertRaises((ValueError, HelgrothyError)):
+                problem = forms.problem(kind, values)
+                raise ValueError(f"{len(problem.options)} options") if kind == "words" else AssertionError
+
+
+class Requests(unittest.TestCase):
+    def test_what_is_no_request(self):
+        for raw in (
+            b"", b"[]", b"null", b"{", b"\xff", b'{"what":"read"}', b'{"way":"x"}', b'{"text":1}', b'{"limit":0}', b'{"limit":1001}', b'{"limit":true}',
+            b'{"limit":1.5}', b'{"seconds":0}', b'{"seconds":1e9}', b'{"seconds":NaN}', b'{"values":[]}', b'{"file":"x"}',
+            b'{"limit":' + b"9" * 5000 + b"}",
+        ):  # fmt: skip
+            with self.subTest(raw=raw[:30]), self.assertRaises(ValueError):
+                answer.Request.of(raw)
+        self.assertEqual(answer.Request.of(b'{"text":"a","limit":7}'), answer.Request(text="a", limit=7))
+
+    def told(self, **request):
+        return [json.loads(line) for line in answer.answer(answer.Request(**request))]
+
+    def test_answers(self):
+        remarks = self.told(what="lint", text="a b\na\nb\nc\n")
+        self.assertEqual(remarks, [{"remarks": [{"line": 4, "token": "c", "name": "c", "text": "unknown item", "fault": True}]}])
+        first, *solutions, last = self.told(what="solve", text=make.queens.problem(6).text)
+        self.assertEqual((first["problem"]["options"], len(solutions)), (36, 4))
+        self.assertEqual(last, {"end": {"total": 4, "complete": True, "notes": []}})
+        self.assertEqual(self.told(what="solve", text="a\nb\n")[0]["error"], "the text has faults")
+        self.assertEqual(len(self.told(what="solve", text=make.queens.problem(8).text, limit=3)), 5)
+        self.assertEqual(len(self.told(what="solve", text=make.queens.problem(8).text, way="symmetry")), 14)
+        shuffled = self.told(what="solve", text=make.queens.problem(6).text, way="random")[1]["solution"]["steps"]
+        self.assertEqual(len(shuffled), 6)
+        self.assertIn("takes a board", self.told(what="solve", text="a\na\n", way="symmetry")[-1]["error"])
+        self.assertEqual(self.told(what="solve", text="a\na\n", cell="(")[0]["error"][:19], "a pattern is wrong:")
+        ended = self.told(what="solve", text="a b\na\n")[-1]["end"]
+        self.assertEqual(ended["notes"], ["can't all be held: b", "it is in no option"])
+        ended = self.told(what="solve", text=make.langford.problem(14).text, seconds=4.0)[-1]["end"]
+        self.assertEqual(ended, {"total": 0, "complete": False, "notes": ["4 seconds are over"]})
+
+
+class Served(unittest.TestCase):
+    """The server, asked by someone who isn't a browser."""
+
+    @classmethod
+    def setUpClass(cls):
+        cls.server = server.Server(0, "[]")
+        cls.thread = threading.Thread(target=cls.server.serve_forever, args=[0.05])
+        cls.thread.start()
+
+    @classmethod
+    def tearDownClass(cls):
+        cls.server.shutdown()
+        cls.thread.join()
+        cls.server.close()
+
+    def ask(self, method="POST", path="/{word}/answer", body=b'{"what":"lint","text":"a\\na\\n"}', leave_out=(), **headers):
+        port = self.server.port
+        usual = {"Host": f"127.0.0.1:{port}", "Origin": f"http://127.0.0.1:{port}", "Content-Type": "application/json"}
+        told = {**usual, "Content-Length": str(len(body)), **{name.replace("_", "-"): value for name, value in headers.items()}}
+        connection = http.client.HTTPConnection("127.0.0.1", port, timeout=60)
+        connection.putrequest(method, path.format(word=self.server.word), skip_host=True, skip_accept_encoding=True)
+        for name, value in told.items():
+            if name not in leave_out:
+                connection.putheader(name, value.format(port=port))
+        connection.endheaders(body)
+        try:
+            response = connection.getresponse()
+            return response.status, response.read().decode(), response.headers
+        except (http.client.BadStatusLine, ConnectionResetError):
+            return 0, "", {}
+        finally:
+            connection.close()
+
+    def test_who_is_welcome(self):
+        status, text, headers = self.ask("GET", "/{word}/", b"")
+        self.assertEqual(status, 200)
+        self.assertEqual(Document(text).told(), [[]])
+        self.assertIn("frame-ancestors 'none'", headers["Content-Security-Policy"])
+        self.assertTrue(headers["Content-Security-Policy"].startswith(Document(text).policy))
+        self.assertEqual((headers["Cache-Control"], headers["Referrer-Policy"]), ("no-store", "no-referrer"))
+        status, text, headers = self.ask()
+        self.assertEqual((status, text), (200, '{"remarks":[]}\n'))
+        self.assertEqual(headers["Content-Security-Policy"], "default-src 'none'")
+
+    def test_who_is_not(self):
+        for how in (
+            {"path": "/answer"}, {"path": "//answer"}, {"path": "/{word}x/answer"}, {"path": "/{word}"}, {"path": "/{word}/../answer"},
+            {"path": "/{word}/solve"}, {"path": "/{word}/answer?x"}, {"path": "http://127.0.0.1/{word}/answer"},
+            {"Host": "evil.example"}, {"Host": "127.0.0.1"}, {"Host": "127.0.0.1:{port}.evil.example"}, {"leave_out": ["Host"]},
+            {"Origin": "http://evil.example"}, {"Origin": "null"}, {"Origin": "http://127.0.0.1:1"}, {"leave_out": ["Origin"]},
+            {"Sec_Fetch_Site": "cross-site"}, {"Sec_Fetch_Site": "none"}, {"Content_Type": "text/plain"},
+            {"Content_Type": "application/x-www-form-urlencoded"}, {"leave_out": ["Content-Type"]},
+        ):  # fmt: skip
+            with self.subTest(how=how):
+                status, text, headers = self.ask(**how)
+                self.assertEqual((status, text), (404, "nothing is here"))
+                self.assertNotIn(self.server.word, str(headers))
+        for path in ("/", "/{word}", "/{word}/answer", "/{word}/etc/passwd", "/{word}/../../etc/passwd", "/{word}//etc/passwd", "/favicon.ico"):
+            with self.subTest(path=path):
+                self.assertEqual(self.ask("GET", path, b"")[:2], (404, "nothing is here"))
+        for method in ("PUT", "OPTIONS", "HEAD", "DELETE", "<script>"):
+            with self.subTest(method=method):
+                status, text, _ = self.ask(method)
+                self.assertEqual((status, text), (501, ""))
+
+    def test_sizes(self):
+        self.assertEqual(self.ask(leave_out=["Content-Length"])[0], 411)
+        for length in ("-1", "x", "+5", "", "1" * 30):
+            self.assertEqual(self.ask(Content_Length=length)[0], 411)
+        self.assertEqual(self.ask(Content_Length="99999999")[0], 413)
+        self.assertEqual(self.ask(Transfer_Encoding="chunked")[0], 411)
+        self.assertEqual(json.loads(self.ask(body=b"[]")[1]), {"error": "a request that isn't one"})
+        self.assertIn("error", json.loads(self.ask(body=b"[" * 100_000)[1]))
+
+    def asked(self, request, port=0, word=""):
+        """A connection on which this is asked."""
+        port, word = port or self.server.port, word or self.server.word
+        body = json.dumps(request)
+        head = f"POST /{word}/answer HTTP/1.1\r\nHost: 127.0.0.1:{port}\r\nOrigin: http://127.0.0.1:{port}\r\n"
+        head += f"Content-Type: application/json\r\nContent-Length: {len(body)}\r\n\r\n"
+        connection = socket.create_connection(("127.0.0.1", port), 60)
+        connection.sendall(f"{head}{body}".encode())
+        return connection
+
+    def test_a_search_ends_when_nobody_waits(self):
+        request = {"what": "solve", "text": make.langford.problem(14).text, "seconds": 600}
+        for end in ("close", "shutdown"):
+            connection = self.asked(request)
+            self.wait(lambda: self.server._answers)
+            (going,) = self.server._answers
+            group = going._process.pid
+            self.wait(lambda: len(members(group)) == 2)
+            connection.shutdown(socket.SHUT_WR) if end == "shutdown" else connection.close()
+            self.wait(lambda: not self.server._answers and not members(group))
+            self.assertFalse(os.path.exists(going._folder))
+            connection.close()
+
+    def test_a_search_ends_with_the_server(self):
+        """Whichever way it ends: by ^C, by a signal, or at once."""
+        for number, status in ((signal.SIGINT, 130), (signal.SIGTERM, 143), (signal.SIGKILL, -9)):
+            command = [sys.executable, "-m", "helgrothy", "page"]
+            how = {"stdout": subprocess.PIPE, "stderr": subprocess.DEVNULL, "text": True}
+            with subprocess.Popen(command, cwd=os.path.dirname(os.path.dirname(os.path.abspath(__file__))), **how) as process:
+                address = urllib.parse.urlsplit(process.stdout.readline().strip())
+                word = address.path.strip("/")
+                self.assertRegex(word, r"[\w-]{43}\Z")
+                request = {"what": "solve", "text": make.langford.problem(14).text, "seconds": 600}
+                connection = self.asked(request, address.port, word)
+                self.wait(lambda: children(process.pid))
+                (group,) = children(process.pid)
+                # The process that answers, and the program.
+                self.wait(lambda: len(members(group)) == 2)
+                folder = os.readlink(f"/proc/{group}/cwd")
+                process.send_signal(number)
+                self.assertEqual(process.wait(30), status)
+                self.wait(lambda: not members(group))
+                self.assertEqual(os.path.exists(folder), number == signal.SIGKILL)
+                shutil.rmtree(folder, ignore_errors=True)
+                connection.close()
+
+    def test_a_pattern_without_an_end(self):
+        """One that keeps Python from everything else is ended all the same."""
+        text = f"{'a' * 30}\n{'a' * 30}\n"
+        connection = self.asked({"what": "solve", "text": text, "cell": "(a+)+b(x)", "seconds": 600})
+        self.wait(lambda: self.server._answers)
+        (going,) = self.server._answers
+        time.sleep(1)
+        connection.close()
+        self.wait(lambda: not self.server._answers and not members(going._process.pid))
+
+    def wait(self, holds):
+        deadline = time.monotonic() + 30
+        while not holds():
+            self.assertLess(time.monotonic(), deadline, "it never came to it")
+            time.sleep(0.05)
+
+
+def processes():
+    """Each process: its number, its parent's and its group's."""
+    for path in glob.glob("/proc/[0-9]*/stat"):
+        with contextlib.suppress(OSError), open(path) as file:
+            number, rest = file.read().split(" (", 1)
+            state, parent, group = rest.rpartition(") ")[2].split()[:3]
+            if state != "Z":
+                yield int(number), int(parent), int(group)
+
+
+def members(group):
+    return [number for number, _, its in processes() if its == group]
+
+
+def children(parent):
+    return [number for number, its, _ in processes() if its == parent]
 
 
 if __name__ == "__main__":

@@ -81,6 +81,18 @@ class Polycubes(unittest.TestCase):
         # Some of them: ten dominoes are as good as six.
         self.assertEqual(make.polycubes.problem("\n\n".join(["DD"] * 10), "2x2x3", some=True).count(), 32)
 
+    def test_up_to_symmetry(self):
+        """The numbers of the literature themselves, and one solution of Slothouber and Graatsma's puzzle."""
+        graatsma = self.file("graatsma", "\n\n".join(["AA\nAA"] * 6 + ["B"] * 3))
+        for pieces, box, known in (
+            ("soma", "3x3x3", "240 solutions up to 48 symmetries"),
+            ("pentominoes", "2x3x10", "12 solutions up to 8 symmetries"),
+            (graatsma, "3x3x3", "1 solution up to 48 symmetries"),
+        ):
+            with self.subTest(pieces=pieces):
+                status, _, told = run("polycubes", pieces, box, "--up-to-symmetry", "--all")
+                self.assertEqual((status, told), (0, f"Altogether {known}.\n"))
+
     def test_some_and_mirrors(self):
         # Any 2 of the 8 tetracubes fill 2x2x2: counted by trying all pairs.
         pieces = SETS["tetracubes"].split("\n\n")

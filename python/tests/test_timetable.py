@@ -29,7 +29,7 @@ BAD = (
     ("", "line 1: no line `day,NAME,HOURS`"),
     (DAYS, "line 1: no line `lesson,NAME,PEOPLE` or `exam,NAME,PEOPLE`"),
     (DAYS + "lessons,maths,ann\n", "line 3: lessons: a line begins with day, room, lesson, exam or person"),
-    (DAYS + "\n# no name\nlesson,,ann\n", "line 5: lesson: a name is missing behind this"),
+    (DAYS + "\n# no name\nlesson,,ann\n", "line 5: lesson: a name is missing after this"),
     (DAYS + "lesson,maths 1a,ann\n", "line 3: maths 1a: a name has no blank and no : | / @, and begins with no minus"),
     (DAYS + "lesson,maths,ann/bob\n", "line 3: ann/bob: a name has no blank and no : | / @, and begins with no minus"),
     (DAYS + "room,-lab\n", "line 3: -lab: a name has no blank and no : | / @, and begins with no minus"),
@@ -46,6 +46,7 @@ BAD = (
     (DAYS + "lesson,maths,ann,-3\n", "line 3: -3: no day, hour, slot or room"),
     (DAYS + "room,lab,,,many\nlesson,maths,ann\n", "line 3: many: the seats of lab: not a number from 1 on"),
     (DAYS + "lesson,maths,ann,,,0\n", "line 3: 0: the times of maths: not a number from 1 on"),
+    (DAYS + "lesson,maths,ann\nperson,ann,,,few\n", "line 4: few: the limit of ann: not a number from 1 on"),
     (DAYS + "room,lab,20\n", "line 3: 20: in cell 3, and a line of a room has nothing there"),
     (DAYS + "lesson,maths,ann,,20,1,lab\n", "line 3: lab: in cell 7, and a line of a lesson has nothing there"),
     (DAYS + "lesson,maths,ann\nperson,ann\nperson,ann\n", "line 5: ann: the person of line 4 has this name"),
@@ -56,7 +57,7 @@ BAD = (
     (DAYS + "lesson,maths,ann,mon -1 -2\n", "line 3: maths: its seats, its places and those of its people leave it no slot and room"),
     (DAYS + "lesson,maths,ann,,,4\n", "line 3: maths: 4 times in 3 slots"),
     (DAYS + "lesson,a,ann\nlesson,b,ann\nlesson,c,ann,,,2\n", "line 3: ann: 4 lessons in 3 slots"),
-    (DAYS + "lesson,a,ann,,,3\nperson,ann,,,1\n", "line 4: ann: 3 lessons in 3 slots, of which 1 a day at most"),
+    (DAYS + "lesson,a,ann,,,3\nperson,ann,,,1\n", "line 4: ann: 3 lessons in 3 slots, and at most 1 a day"),
     (DAYS + "room,lab,,-tue\nlesson,a\nlesson,b\nlesson,c\n", "line 6: 3 lessons up to here, and 2 slots of rooms"),
 )
 

@@ -27,12 +27,12 @@ class Browser:
     """A browser without a window. As a context manager it leaves no process and no file behind."""
 
     def __init__(self, *words):
-        self._folder = tempfile.TemporaryDirectory(prefix="helgrothy-chromium-", ignore_cleanup_errors=True)
+        self._folder = tempfile.mkdtemp(prefix="helgrothy-chromium-")
         asked, self._asks = os.pipe()
         self._told, telling = os.pipe()
         # The protocol goes through the files 3 and 4, and a browser as root has no sandbox.
         shell = f"exec 3<&{asked} 4>&{telling}; exec \"$@\""
-        command = [program(), "--headless=new", "--remote-debugging-pipe", f"--user-data-dir={self._folder.name}",
+        command = [program(), "--headless=new", "--remote-debugging-pipe", f"--user-data-dir={self._folder}",
                    "--disable-gpu", "--no-first-run", "--disable-background-networking", "--force-color-profile=srgb",
                    *(["--no-sandbox"] if os.getuid() == 0 else []), *words]  # fmt: skip
         self._process = subprocess.Popen(
@@ -55,7 +55,7 @@ class Browser:
         except subprocess.TimeoutExpired:
             os.killpg(self._process.pid, 9)
             self._process.wait()
-        self._folder.cleanup()
+        shutil.rmtree(self._folder, ignore_errors=True)
 
     def tab(self):
         """A new tab."""

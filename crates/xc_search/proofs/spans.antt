@@ -2,6 +2,7 @@ pub mod Rows
 pub mod Rising
 pub mod Lies
 pub mod Later
+pub mod Numbers
 pub mod Onward
 pub mod Exact
 pub mod Passing

@@ -10,7 +10,7 @@ ghost use Rattle.xc_search.specs.inner.Ahead.{EntersOver, StandsOver, EndsOver, 
 ghost use Rattle.xc_search.specs.Listing.{listing};
 ghost use Rattle.xc_search.specs.inner.Residual.{residual_of};
 ghost use Rattle.xc_search.specs.Residuals.{choice_after};
-ghost use Rattle.xc_search.specs.inner.Paths.{KeepsBy, IsChosenBy};
+ghost use Rattle.xc_search.specs.inner.Paths.{KeepsBy, IsChosenBy, Rises};
 
 use crate::level::{Begun, Level, begin_level};
 use crate::position::Position;
@@ -57,7 +57,9 @@ pub fn deepen<D: Dance>(
         IsChosenBy exact position.old.puzzle position.old.trail next →
         KeepsBy exact position.old stack.old (branched position.new b.item b.place) stack.new }
     ensures near { (b : Entered) → result ≡ Below.Branch b → b.place < 2 ^ 32 }
+    ensures deeper_row { (b : Entered) → result ≡ Below.Branch b → Rises stack.old stack.new }
     ensures nothing { result ≡ Below.Nothing → GoesOn position.old stack.old true position.new stack.new false }
+    ensures nothing_row { result ≡ Below.Nothing → stack.new ≡ stack.old }
     ensures fewer { result ≡ Below.Nothing →
         work_left position.new stack.new false < work_left position.old stack.old true }
     ensures path { result ≡ Below.Nothing → (exact : Bool) →
@@ -124,6 +126,7 @@ pub fn resume<D: Dance>(position: &mut Position<D>, stack: &mut Stack) -> Option
         EntersBranch position.old stack.old false position.new stack.new b.item b.place) }
     ensures resumed_path { IfSome result (λ b. (exact : Bool) →
         KeepsBy exact position.old stack.old (branched position.new b.item b.place) stack.new) }
+    ensures resumed_row { IfSome result (λ _. Rises stack.old stack.new) }
     ensures near { IfSome result (λ b. b.place < 2 ^ 32) }
     ensures done { IsNone result → IsDone position.old stack.old false position.new stack.new }
     ensures path { IsNone result → (exact : Bool) →
@@ -269,9 +272,10 @@ pub fn advance<D: Dance>(position: &mut Position<D>, stack: &mut Stack, many: u6
 /// Ends every level, the newest first, and undoes what still stands.
 // A level ends as in `end_level`: written out here, so that the search's loop has the one call of that and takes it in.
 #[inline(never)]
-pub fn unwind<D: Dance>(position: &mut Position<D>, mut stack: Stack)
-    requires stacked { AreStacked position.old.puzzle position.old.trail stack.levels }
-    ensures { position.new ≡ record position.old { trail = [] } }
+pub fn unwind<D: Dance>(position: &mut Position<D>, stack: &mut Stack)
+    requires stacked { AreStacked position.old.puzzle position.old.trail stack.old.levels }
+    ensures position { position.new ≡ record position.old { trail = [] } }
+    ensures stack { stack.new ≡ record stack.old { levels = [] } }
 {
     while let Some(level) = stack.top() {
         if level.tweaks > 0 {

@@ -79,6 +79,8 @@ pub struct Span<'a, D: Dance> {
     ended: bool,
     until: Option<&'a [u32]>,
     choices: Vec<Choice>,
+    /// Memory for a row of the levels.
+    numbers: Vec<u32>,
 }
 
 impl<'a, D: Dance> Model for Span<'a, D> {
@@ -111,6 +113,7 @@ impl<'a, D: Dance> Model for Span<'a, D> {
           is_before (option_map (λ u. u.now) s.until) (row_at s.state.position.puzzle s.state.stack.levels) ≡ true;
       levels_fit : s.state.stack.room ≡ most_levels s.state.position.puzzle;
       choices_fit : most_levels s.state.position.puzzle ≤ vec_capacity s.choices;
+      numbers_fit : most_levels s.state.position.puzzle ≤ vec_capacity s.numbers;
     } };
 }
 
@@ -147,6 +150,9 @@ impl<'a, D: Dance> Span<'a, D> {
         let Ok(choices) = Vec::with_capacity(alloc, most) else {
             return Err((dance, Memory));
         };
+        let Ok(numbers) = Vec::with_capacity(alloc, most) else {
+            return Err((dance, Memory));
+        };
         let Ok(stack) = Stack::new(alloc, most) else {
             return Err((dance, Memory));
         };
@@ -160,6 +166,7 @@ impl<'a, D: Dance> Span<'a, D> {
             ended: !reached || !within,
             until,
             choices,
+            numbers,
         })
     }
 
@@ -171,8 +178,9 @@ impl<'a, D: Dance> Span<'a, D> {
     }
 
     /// Goes on by so many members and at most so many steps, each a branch that is begun. It may run out of steps
-    /// between any two branches, and not at members alone; with `u64::MAX` steps it doesn't, and may begin branches that
-    /// lead to no member and are none of the search's tree. After `End` it answers `End` again.
+    /// between any two branches, and not at members alone. Some branches that it begins lead to no member and are none
+    /// of the search's tree: where it stands at one of these and has no more steps, it goes on to the tree's next row.
+    /// After `End` it answers `End` again.
     pub fn go_on(&mut self, many: u64, steps: u64) -> Went
         ensures still { self.new ≡ record self.old { row = self.new.row; shown = self.new.shown } }
         ensures passed { IfSome self.old.row (λ from. left_of self.old
@@ -223,7 +231,7 @@ impl<'a, D: Dance> Span<'a, D> {
         }
         // Where it stands at a solution, it finds that one again.
         let over = if self.down { many - 1 } else { many };
-        let ran = go_over(&mut self.state, self.until, over, steps);
+        let ran = go_over(&mut self.state, &mut self.numbers, self.until, over, steps);
         let taken = steps - ran.steps;
         match ran.stop {
             Stop::Member => {
@@ -308,12 +316,13 @@ impl<'a, D: Dance> Span<'a, D> {
             ended: _,
             until: _,
             choices: _,
+            numbers: _,
         } = self;
         let State {
             mut position,
-            stack,
+            mut stack,
         } = state;
-        unwind(&mut position, stack);
+        unwind(&mut position, &mut stack);
         position.into_dance()
     }
 }

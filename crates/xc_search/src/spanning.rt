@@ -1,7 +1,7 @@
 //! The steps of a search of a span.
 ghost use Rattle.std.specs.Prelude.{◌≡◌, ◌+◌, ◌-◌, ◌<◌, ◌≤◌, ◌^◌, ◌++◌, Bool, List, ℕ, Option, Some, [], true};
 ghost use Rattle.std.specs.Prelude.{false, not};
-ghost use Rattle.std.specs.Prelude.{length, filter, map, option_map, ◌≢◌, IfSome};
+ghost use Rattle.std.specs.Prelude.{length, filter, map, option_map, IfSome, vec_capacity};
 ghost use Rattle.xc_search.specs.Listing.{listing};
 ghost use Rattle.xc_search.specs.Spans.{precedes, row_of, is_before};
 ghost use Rattle.xc_search.specs.inner.Residual.{residual_of};
@@ -10,64 +10,27 @@ ghost use Rattle.xc_search.specs.inner.Levels.{AreStacked, IsSearchable, IsStand
 ghost use Rattle.xc_search.specs.Residuals.{wanted_after};
 ghost use Rattle.xc_search.specs.inner.Ahead.{IsSolved};
 ghost use Rattle.xc_search.specs.inner.Paths.{AreLed, AreLedBy, IsChosenBy};
-ghost use Rattle.xc_search.specs.inner.Spanning.{Enters, Ends, Falls, IsRest, RunsTo, RanTo, is_counted, row_at};
+ghost use Rattle.xc_search.specs.inner.Spanning.{Enters, Ends, Falls, IsRest, RunsTo, RanTo, Settles, row_at};
 ghost use Rattle.xc_search.specs.declared.levels.Entered.{Entered};
 
 use crate::level::Level;
-use crate::levels::{Below, Next, deepen, pass_last, resume};
+use crate::levels::{Below, Next, deepen, pass_last, resume, unwind};
 use crate::position::Position;
-use crate::rows::{Place, place_of};
+use crate::rows::{Place, is_before, place_of};
 use crate::stack::Stack;
 use core::mem::replace_with;
 use xc_dance::Dance;
 
-/// What is left below the levels.
-#[derive(Clone, Copy)]
-pub enum Rest {
-    /// The run begins behind it. All of it comes before the row `until`.
-    Behind,
-    /// All of it comes before the row `until`.
-    Before,
-    /// The row of the levels begins `until`, or may begin it.
-    About,
-}
-
-/// What is left below the levels where a run begins.
-#[inline(always)]
-fn first_rest(levels: &[Level], until: Option<&[u32]>, behind: bool) -> Rest
-    requires behind { behind ≡ true → (x : List ℕ) →
-        is_before (option_map (λ u. u.now) until) (map (λ l. l.begun) levels.now ++ x) ≡ true }
-    ensures all { result ≢ Rest.About → (x : List ℕ) →
-        is_before (option_map (λ u. u.now) until.entry) (map (λ l. l.begun) levels.now ++ x) ≡ true }
-    ensures counted { behind ≡ false → is_counted result ≡ true }
-{
-    if behind {
-        return Rest::Behind;
-    }
-    let Some(until) = until else {
-        return Rest::Before;
-    };
-    match place_of(levels, until) {
-        Place::Before => Rest::Before,
-        Place::Begins | Place::Reached => Rest::About,
-    }
-}
-
 /// Passes over all that is left below the levels, with no move: where the run begins behind it, or where it is known to
-/// be no more than is to be passed over, and comes before the span's end.
+/// be no more than is to be passed over.
 #[inline(always)]
-fn pass_below<D: Dance>(position: &Position<D>, rest: Rest, more: &mut u64) -> bool
+fn pass_below<D: Dance>(position: &Position<D>, behind: bool, more: &mut u64) -> bool
     requires { IsSearchable position.now.puzzle position.now.trail }
-    ensures aside { result ≡ true → rest ≢ Rest.About }
-    ensures passed { result ≡ true → is_counted rest ≡ true →
+    ensures passed { result ≡ true → not behind ≡ true →
         more.old ≡ more.new + length (listing (residual_of position.now.puzzle position.now.trail)) }
     ensures not_passed { result ≡ false → more.new ≡ more.old }
 {
-    match rest {
-        Rest::Behind => true,
-        Rest::Before => pass_last(position, more),
-        Rest::About => false,
-    }
+    behind || pass_last(position, more)
 }
 
 /// An item to branch on: the branch item, unless an early choice is to be made.
@@ -86,12 +49,12 @@ fn choose_by<D: Dance>(position: &Position<D>, early: bool) -> Option<(u32, usiz
 
 /// Goes below the levels: enters a first branch where what is left has any. A solution is passed over where `more` are
 /// to be, and is one of them. `last` is how many levels stood where the last choice led to a solution: where as many
-/// stand again, the solutions may be counted at once.
+/// stand again, and all that is left comes before the row `until`, the solutions may be counted at once.
 #[inline(always)]
 fn go_below<D: Dance>(
     position: &mut Position<D>,
     stack: &mut Stack,
-    rest: Rest,
+    behind: bool,
     early: bool,
     more: &mut u64,
     last: &mut usize,
@@ -99,17 +62,17 @@ fn go_below<D: Dance>(
     requires standing { IsStanding position.old.puzzle position.old.trail stack.old.levels true }
     requires levels_fit { most_levels position.old.puzzle ≤ stack.old.room }
     ensures entered { (b : Entered) → result ≡ Below.Branch b → (until : Option (List ℕ)) →
-        IsRest until position.old.puzzle stack.old.levels rest → Enters (not early) (is_counted rest) until
+        IsRest until position.old.puzzle stack.old.levels last.old → Enters (not early) (not behind) until
         position.old stack.old more.old position.new stack.new more.new b.item b.place }
     ensures near { (b : Entered) → result ≡ Below.Branch b → b.place < 2 ^ 32 }
     ensures same { result ≡ Below.Solution →
         (position.new ≡ position.old) × (stack.new ≡ stack.old) × (more.old ≡ 0) × (more.new ≡ 0) }
     ensures solved { result ≡ Below.Solution → IsSolved position.old.puzzle position.old.trail stack.old.levels }
     ensures back { result ≡ Below.Nothing → (until : Option (List ℕ)) →
-        IsRest until position.old.puzzle stack.old.levels rest → Falls (not early) (is_counted rest) until
+        IsRest until position.old.puzzle stack.old.levels last.old → Falls (not early) (not behind) until
         position.old stack.old more.old position.new stack.new more.new }
 {
-    if stack.levels().len() == *last && pass_below(position, rest, more) {
+    if stack.levels().len() == *last && pass_below(position, behind, more) {
         return Below::Nothing;
     }
     let next = choose_by(position, early);
@@ -132,7 +95,7 @@ fn go_below<D: Dance>(
 fn enter_branch<D: Dance>(
     position: &mut Position<D>,
     stack: &mut Stack,
-    rest: Rest,
+    behind: bool,
     early: bool,
     more: &mut u64,
     last: &mut usize,
@@ -140,17 +103,17 @@ fn enter_branch<D: Dance>(
     requires standing { IsStanding position.old.puzzle position.old.trail stack.old.levels true }
     requires levels_fit { most_levels position.old.puzzle ≤ stack.old.room }
     ensures entered { (b : Entered) → result ≡ Next.Branch b → (until : Option (List ℕ)) →
-        IsRest until position.old.puzzle stack.old.levels rest → Enters (not early) (is_counted rest) until
+        IsRest until position.old.puzzle stack.old.levels last.old → Enters (not early) (not behind) until
         position.old stack.old more.old position.new stack.new more.new b.item b.place }
     ensures near { (b : Entered) → result ≡ Next.Branch b → b.place < 2 ^ 32 }
     ensures same { result ≡ Next.Solution →
         (position.new ≡ position.old) × (stack.new ≡ stack.old) × (more.old ≡ 0) × (more.new ≡ 0) }
     ensures solved { result ≡ Next.Solution → IsSolved position.old.puzzle position.old.trail stack.old.levels }
     ensures done { result ≡ Next.Nothing → (until : Option (List ℕ)) →
-        IsRest until position.old.puzzle stack.old.levels rest → Ends (is_counted rest) until
+        IsRest until position.old.puzzle stack.old.levels last.old → Ends (not behind) until
         position.old stack.old more.old position.new stack.new more.new }
 {
-    match go_below(position, stack, rest, early, more, last) {
+    match go_below(position, stack, behind, early, more, last) {
         Below::Branch(entered) => return Next::Branch(entered),
         Below::Solution => return Next::Solution,
         Below::Nothing => {}
@@ -252,14 +215,10 @@ fn run<'u, D: Dance>(position: &mut Position<D>, stack: &mut Stack, task: Task<'
     let mut more = over;
     let mut steps = steps;
     // Where it begins behind what is left, that is asked at once.
-    let mut last = if behind {
-        stack.levels().len()
-    } else {
-        usize::MAX
-    };
-    let mut rest = first_rest(stack.levels(), until, behind);
+    let levels = stack.levels();
+    let mut last = if behind { levels.len() } else { usize::MAX };
     while steps > 0 {
-        match enter_branch(position, stack, rest, early, &mut more, &mut last) {
+        match enter_branch(position, stack, behind, early, &mut more, &mut last) {
             Next::Branch(entered) => position.commit_branch(entered.item, entered.place as u32),
             Next::Solution => {
                 return Ran {
@@ -278,9 +237,10 @@ fn run<'u, D: Dance>(position: &mut Position<D>, stack: &mut Stack, task: Task<'
         }
         steps -= 1;
         if let Some(until) = until {
-            rest = match place_of(stack.levels(), until) {
-                Place::Before => Rest::Before,
-                Place::Begins => Rest::About,
+            match place_of(stack.levels(), until) {
+                Place::Before => {}
+                // What is left below may reach the row, so it isn't counted at once.
+                Place::Begins => last = usize::MAX,
                 Place::Reached => {
                     return Ran {
                         stop: Stop::Row,
@@ -288,7 +248,7 @@ fn run<'u, D: Dance>(position: &mut Position<D>, stack: &mut Stack, task: Task<'
                         steps,
                     };
                 }
-            };
+            }
         }
     }
     Ran {
@@ -343,45 +303,76 @@ pub fn reach<'a, D: Dance>(state: &mut State<'a, D>, from: &[u32]) -> bool
     }
 }
 
+/// Puts the numbers of the levels' row in the place of those that stand in `row`.
+fn note_row(levels: &[Level], row: &mut Vec<u32>)
+    requires { length levels.now ≤ vec_capacity row.old }
+    ensures items { row.new.items ≡ map (λ l. l.begun) levels.now }
+    ensures capacity { vec_capacity row.new ≡ vec_capacity row.old }
+{
+    row.clear();
+    for level in levels {
+        row.push_reserved(level.begun);
+    }
+}
+
+/// Goes back to the first level, and from there to the row of the levels by branch items alone, or to the next one that
+/// the search's tree has. No member stands between. False where it has none. `row` is memory for that row.
+fn settle<'a, D: Dance>(state: &mut State<'a, D>, row: &mut Vec<u32>) -> bool
+    requires standing { IsStanding state.old.position.puzzle state.old.position.trail state.old.stack.levels true }
+    requires levels_fit { most_levels state.old.position.puzzle ≤ state.old.stack.room }
+    requires row_fits { state.old.stack.room ≤ vec_capacity row.old }
+    requires led { AreLedBy false state.old.position.puzzle [] state.old.position.trail state.old.stack.levels }
+    ensures settles { Settles state.old.position state.old.stack state.new.position state.new.stack result }
+    ensures capacity { vec_capacity row.new ≡ vec_capacity row.old }
+{
+    note_row(state.stack.levels(), row);
+    unwind(&mut state.position, &mut state.stack);
+    reach(state, row)
+}
+
 /// Passes over so many members of a span that ends before `until`, and stands at the next, unless that takes more than
-/// so many branches to begin; as many as it takes, where `u64::MAX` are allowed.
+/// so many branches to begin. `row` is memory for a row of the levels.
+// A branch that an early choice led to is none of the search's tree, so where it runs out of steps it goes back.
 pub fn go_over<'a, 'u, D: Dance>(
     state: &mut State<'a, D>,
+    row: &mut Vec<u32>,
     until: Option<&'u [u32]>,
     over: u64,
     steps: u64,
 ) -> Ran
     requires standing { IsStanding state.old.position.puzzle state.old.position.trail state.old.stack.levels true }
     requires levels_fit { most_levels state.old.position.puzzle ≤ state.old.stack.room }
+    requires row_fits { state.old.stack.room ≤ vec_capacity row.old }
     requires led { AreLed state.old.position.puzzle [] state.old.position.trail state.old.stack.levels }
     requires before { is_before (option_map (λ u. u.now) until)
         (row_at state.old.position.puzzle state.old.stack.levels) ≡ true }
     requires some { 0 < steps }
-    ensures { RanTo state.old.position state.old.stack over steps (option_map (λ u. u.now) until.entry)
+    ensures ran { RanTo state.old.position state.old.stack over steps (option_map (λ u. u.now) until.entry)
         result.stop state.new.position state.new.stack result.more result.steps }
+    ensures capacity { vec_capacity row.new ≡ vec_capacity row.old }
 {
-    let early = steps == u64::MAX;
-    let mut more = over;
-    let mut left = steps;
-    loop {
-        let task = Task {
-            until,
-            behind: false,
-            early,
-            over: more,
-            steps: left,
-        };
-        let ran = replace_with(state, task, run_on);
-        match ran.stop {
-            Stop::Steps => {
-                if !early {
-                    return ran;
-                }
-                // No row is told of a branch that an early choice led to, so it goes on.
-                more = ran.more;
-                left = 1;
-            }
-            Stop::Member | Stop::Row | Stop::Nothing => return ran,
-        }
+    let task = Task {
+        until,
+        behind: false,
+        early: true,
+        over,
+        steps,
+    };
+    let ran = replace_with(state, task, run_on);
+    match ran.stop {
+        Stop::Steps => {}
+        Stop::Member | Stop::Row | Stop::Nothing => return ran,
+    }
+    let stop = if !settle(state, row) {
+        Stop::Nothing
+    } else if is_before(state.stack.levels(), until) {
+        Stop::Steps
+    } else {
+        Stop::Row
+    };
+    Ran {
+        stop,
+        more: ran.more,
+        steps: ran.steps,
     }
 }

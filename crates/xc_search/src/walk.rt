@@ -143,11 +143,11 @@ impl<'a, D: Dance> Walk<'a, D> {
     {
         let Standing {
             mut position,
-            stack,
+            mut stack,
             down: _,
             passed: _,
         } = self.standing;
-        unwind(&mut position, stack);
+        unwind(&mut position, &mut stack);
         position.into_dance()
     }
 }

@@ -33,6 +33,8 @@ class Kind:
     """A kind of problem: its name and help on the command line, its arguments, how it is made and drawn.
 
     cell: of a board or a box the pattern that finds the cells of an option, as `symmetry.motions` takes it.
+    add_search_arguments, search: of a kind that has a search of its own the arguments of that search, and what searches
+    for so many seconds, or for its own time without a number; None where the arguments don't ask for it.
     """
 
     name: str
@@ -40,10 +42,8 @@ class Kind:
     add_arguments: Callable[[argparse.ArgumentParser], None]
     make: Callable[[argparse.Namespace], Problem[Any]]
     drawing: Callable[[Problem[Any]], Drawing]
-    # Of a kind with a search of its own: that search's arguments, and what it finds in so many seconds, or None where
-    # the arguments don't ask for it.
     add_search_arguments: Callable[[argparse.ArgumentParser], None] = lambda parser: None
-    search: Callable[[argparse.Namespace, Optional[float]], Optional[Found]] = lambda arguments, seconds: None
+    search: Callable[[argparse.Namespace], Optional[Callable[[Optional[float]], Found]]] = lambda arguments: None
     cell: Optional[str] = None
 
 

@@ -1,4 +1,12 @@
-"""A table of days, rooms, lessons and people, read from CSV and checked."""
+"""A table of days, rooms, lessons and people, read from CSV and checked.
+
+Its lines; last cells that are empty may be left out:
+
+    day,NAME,HOURS
+    room,NAME,,PLACES,SEATS
+    lesson,NAME,PEOPLE,PLACES,SEATS,TIMES        or exam
+    person,NAME,LESSONS,PLACES,LIMIT
+"""
 
 from __future__ import annotations
 
@@ -18,7 +26,7 @@ _CELLS = {
     "room": ("name", "", "places", "seats"),
     "lesson": ("name", "people", "places", "seats", "times"),
     "exam": ("name", "people", "places", "seats", "times"),
-    "person": ("name", "lessons", "places", "a day"),
+    "person": ("name", "lessons", "places", "limit"),
 }
 _ARTICLES = {"day": "a day", "hour": "an hour", "slot": "a slot", "room": "a room"}
 _NOT_IN_NAME = re.compile(r"[\s:|/@\0]")
@@ -202,7 +210,7 @@ class Plan:
         _check_name(line, line.name)
         if line.name in self.people:
             line.refuse(line.name, f"the {self.people[line.name].line} has this name")
-        own = line.count("a day")
+        own = line.count("limit")
         self.people[line.name] = Person(line, line.name, self._places(line), self._daily if own is None else own)
 
     def _take_lesson(self, line: _Line) -> None:
@@ -284,7 +292,7 @@ def _check_person(plan: Plan, person: Person) -> None:
         days[slot.day] += any(person.places.allow(slot, room.name) for room in plan.rooms)
     free = sum(slots if person.daily is None else min(slots, person.daily) for slots in days.values())
     if person.asked > free:
-        limit = "" if person.daily is None else f", of which {person.daily} a day at most"
+        limit = "" if person.daily is None else f", and at most {person.daily} a day"
         slots = _counted(sum(days.values()), "slot")
         person.line.refuse(person.name, f"{_counted(person.asked, person.lessons[0].line.kind)} in {slots}{limit}")
 
@@ -295,7 +303,7 @@ def _counted(count: int, what: str) -> str:
 
 def _check_name(line: _Line, name: str) -> None:
     if not name:
-        line.refuse(line.kind, "a name is missing behind this")
+        line.refuse(line.kind, "a name is missing after this")
     if name.startswith("-") or _NOT_IN_NAME.search(name):
         line.refuse(name, "a name has no blank and no : | / @, and begins with no minus")
     _check_length(line, name)

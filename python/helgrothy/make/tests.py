@@ -4,7 +4,7 @@ from __future__ import annotations
 
 import argparse
 import re
-from typing import Any, Optional, Sequence
+from typing import Any, Callable, Optional, Sequence
 
 from ..console import positive
 from ..draw import Cell, Drawing, Picture, check_size, shade
@@ -99,12 +99,13 @@ def _add_search_arguments(parser: argparse.ArgumentParser) -> None:
     )
 
 
-def _search(arguments: argparse.Namespace, seconds: Optional[float]) -> Optional[Found]:
+def _search(arguments: argparse.Namespace) -> Optional[Callable[[Optional[float]], Found]]:
     if not arguments.least:
         return None
     if arguments.tests is not None:
         raise ValueError("either --tests or --least")
-    return few(_table(arguments), arguments.strength, _SECONDS if seconds is None else seconds).found()
+    table = _table(arguments)
+    return lambda seconds: few(table, arguments.strength, _SECONDS if seconds is None else seconds).found()
 
 
 KIND = Kind(
@@ -113,6 +114,6 @@ KIND = Kind(
     _add_arguments,
     _make,
     drawing,
-    _add_search_arguments,
-    _search,
+    add_search_arguments=_add_search_arguments,
+    search=_search,
 )

@@ -26,19 +26,19 @@ def problem(table: str, *, daily: Optional[int] = None) -> Problem[List[str]]:
         lesson,physics,bob 1a,lab,,2
         person,bob,,-tue
 
-    Each line begins with what it is of, and its name. Behind them stand, of a day its hours; of a lesson or exam its
-    people, its places, the seats that it needs (without them one for each of its people) and how many times it is
-    held; of a room an empty cell, its places and its seats; of a person further lessons, his or her places, and how
-    many lessons there may be a day. A place is a day, an hour, a slot such as mon-1 or a room; of those of one kind
-    any will do, and a minus bars one. Lines that begin with # are skipped.
+    A line is `day,NAME,HOURS`, or `room,NAME,,PLACES,SEATS`, or `lesson,NAME,PEOPLE,PLACES,SEATS,TIMES`, or the same
+    with `exam`, or `person,NAME,LESSONS,PLACES,LIMIT`. Lines that begin with # are skipped.
 
-    daily: how many lessons a day are at most for people who have no number of their own.
+    PLACES are words: days, hours, slots such as mon-1, and rooms. Of the words of one kind any will do, and what a
+        minus bars is left out. SEATS are those of a room, or those that a lesson needs, without a number one for each
+        of its people. TIMES is how often a lesson is held, once without a number. LIMIT is how many lessons a person
+        has a day at most. LESSONS are further ones of a person, beside those whose PEOPLE name him or her.
+    daily: the limit of people without one of their own.
 
     An option is a lesson in a slot and a room, `maths mon-1/hall ann@mon-1 1a@mon-1`. Raises `TableFault`.
     """
     plan = Plan(table, daily)
     limits = _Limits(plan)
-    check_items(len(plan.lessons) + len(plan.slots) * (len(plan.rooms) + len(plan.people)))
     options: Counted[List[str]] = Counted()
     for lesson in plan.lessons.values():
         for slot, room in plan.places_of(lesson):
@@ -52,9 +52,11 @@ def problem(table: str, *, daily: Optional[int] = None) -> Problem[List[str]]:
         **{name: (lesson.times, lesson.times) for name, lesson in plan.lessons.items()},
         **{name: (0, most) for name, most in limits.bounds.items() if most > 1},
     }
+    secondary = [name for name in dict.fromkeys(name for option in options for name in option) if name not in primary]
+    check_items(len(primary) + len(secondary))
     return Problem(
         primary,
-        [name for name in dict.fromkeys(name for option in options for name in option) if name not in primary],
+        secondary,
         options,
         comments=[
             f"helgrothy make timetable{'' if daily is None else f' --daily {daily}'} TABLE",
@@ -125,8 +127,8 @@ def _add_arguments(parser: argparse.ArgumentParser) -> None:
         "table",
         metavar="TABLE",
         help="a file of CSV, with lines day,NAME,HOURS and room,NAME,,PLACES,SEATS and "
-        "lesson,NAME,PEOPLE,PLACES,SEATS,TIMES and person,NAME,LESSONS,PLACES,DAILY; a place is a day, an hour, a "
-        "slot DAY-HOUR or a room, or -PLACE for one that is barred",
+        "lesson,NAME,PEOPLE,PLACES,SEATS,TIMES and person,NAME,LESSONS,PLACES,LIMIT; a place is a day, an hour, a "
+        "slot DAY-HOUR or a room, and a minus bars one",
     )
     parser.add_argument("--daily", type=positive, metavar="N", help="nobody has more than N lessons a day")
 

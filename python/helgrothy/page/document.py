@@ -15,6 +15,7 @@ from typing import Iterable
 from ..shown import shown
 
 _PARTS = os.path.join(os.path.dirname(os.path.abspath(__file__)), "parts")
+_STYLE = "look.css"
 _MARK = re.compile(r"\{\{(\w+)\}\}")
 _LESS = {"<": "\\u003c", ">": "\\u003e", "&": "\\u0026"}
 
@@ -26,13 +27,26 @@ def document(
 
     connects: whether it may ask the server that it came from.
     """
-    style = _part("look.css")
-    script = "\n".join(map(_part, scripts))
-    policy = "; ".join(
+    scripts = list(scripts)
+    given = {
+        "policy": escape(policy(scripts, connects)),
+        "title": escape(shown(title)),
+        "style": _part(_STYLE),
+        "body": "".join(map(_part, bodies)),
+        "data": _in_script(f"[{','.join(data)}]"),
+        "script": _script(scripts),
+    }
+    # What is put in is never looked at for marks.
+    return _MARK.sub(lambda mark: given[mark.group(1)], _part("frame.html"))
+
+
+def policy(scripts: Iterable[str], connects: bool = False) -> str:
+    """What a document with these scripts may do: run them, by what they are, and nothing else."""
+    return "; ".join(
         [
             "default-src 'none'",
-            f"script-src '{_hash(script)}'",
-            f"style-src '{_hash(style)}'",
+            f"script-src '{_hash(_script(scripts))}'",
+            f"style-src '{_hash(_part(_STYLE))}'",
             *(["connect-src 'self'"] if connects else []),
             "base-uri 'none'",
             "form-action 'none'",
@@ -40,16 +54,10 @@ def document(
             "trusted-types 'none'",
         ]
     )
-    given = {
-        "policy": escape(policy),
-        "title": escape(shown(title)),
-        "style": style,
-        "body": "".join(map(_part, bodies)),
-        "data": _in_script(f"[{','.join(data)}]"),
-        "script": script,
-    }
-    # What is put in is never looked at for marks.
-    return _MARK.sub(lambda mark: given[mark.group(1)], _part("frame.html"))
+
+
+def _script(names: Iterable[str]) -> str:
+    return "\n".join(map(_part, names))
 
 
 def _in_script(data: str) -> str:

@@ -7,7 +7,6 @@ import re
 import signal
 import subprocess
 import threading
-from contextlib import suppress
 from types import TracebackType
 from typing import Callable, Iterable, List, NamedTuple, Optional, Type
 

@@ -1,8 +1,8 @@
 -- A search of a span went on from one row to another.
 use Rattle.std.proofs.lemmas.Bool.Decides.{nat_tests}
 use Rattle.std.proofs.Common.{ℕ, suc, ◌≡◌, ◌+◌, ◌-◌, ◌<◌, Bool, true, false, not, List, [], ◌∷◌, ◌++◌, filter}
-use Rattle.std.proofs.Common.{length, cond, Option, Some, None, refl, sym, ap, ◌∙◌, arith, subst, length-append, ◌⊎◌}
-use Rattle.std.proofs.Common.{inl, inr}
+use Rattle.std.proofs.Common.{length, cond, Option, Some, None, refl, sym, ap, ap₂, ◌∙◌, arith, subst, length-append}
+use Rattle.std.proofs.Common.{inl, inr, ◌⊎◌}
 use Rattle.std.proofs.lemmas.List.Elements.{filter_agree}
 use Rattle.std.specs.Prelude.{IfSome, unwrap_or, option_map, ◌||◌}
 use Rattle.xc_dance.specs.declared.dance.Move.{Move}
@@ -18,7 +18,7 @@ use Rattle.xc_search.specs.inner.Residual.{residual_of}
 use Rattle.xc_search.specs.inner.Levels.{Levels, choices_of, coming, to_give}
 use Rattle.xc_search.specs.inner.Ahead.{IsSolved}
 use Rattle.xc_search.specs.inner.Paths.{AreLed}
-use Rattle.xc_search.specs.inner.Spanning.{row_at, row_from, Stands, EndsSpan}
+use Rattle.xc_search.specs.inner.Spanning.{row_at, row_from, Halts, EndsSpan}
 use Rattle.xc_search.proofs.Cases.{by_bool, by_number, mapped_none}
 use Rattle.xc_search.proofs.residual.BranchItemLeft.{choice_is_branch_item}
 use Rattle.xc_search.proofs.listing.Unrolled.{listing_at}
@@ -26,8 +26,9 @@ use Rattle.xc_search.proofs.stacked.NextLevel.{solution}
 use Rattle.xc_search.proofs.spans.Rows.{before_not_before, before_either_way, not_itself}
 use Rattle.xc_search.proofs.spans.Rising.{spans_meet}
 use Rattle.xc_search.proofs.spans.Lies.{lies_behind, led_lies}
-use Rattle.xc_search.proofs.spans.Later.{led_later, led_after}
-use Rattle.xc_search.proofs.spans.Running.{led_from, between_kept, within_span, none_within, came_to}
+use Rattle.xc_search.proofs.spans.Later.{led_after}
+use Rattle.xc_search.proofs.spans.Running.{led_from, between_kept, within_span, none_within}
+use Rattle.xc_search.proofs.spans.Numbers.{numbers_row}
 
 -- ---- rows
 
@@ -121,7 +122,7 @@ over_first many false = many
 
 -- it ran out of steps
 module _ {d e : Dancing} {ls ks : Levels} {down : Bool} {many n begun : ℕ} {end : Option (List ℕ)}
-    (a : IsAt d.puzzle d.trail ls.levels down) (s : Stands true true end d ls (over_first many down) e ks n begun)
+    (a : IsAt d.puzzle d.trail ls.levels down) (s : Halts end d ls (over_first many down) e ks n begun)
     (some : 0 < many)
   where
     -- the row from which it went on, and the one at which it stands
@@ -137,16 +138,25 @@ module _ {d e : Dancing} {ls ks : Levels} {down : Bool} {many n begun : ℕ} {en
     rows_from : 0 < begun → precedes (row_from d.puzzle ls.levels down) (row_at d.puzzle ks.levels) ≡ true
     rows_from h =
         let led : AreLed d.puzzle [] e.trail ks.levels = rw same_puzzle at s.led in
-        let less = rw same_puzzle at (s.less h) in
-        from_before d.puzzle d.trail e.trail ls.levels ks.levels down a.led led
-        (led_later d.puzzle d.trail e.trail ls.levels ks.levels a.led led less)
+        let later : precedes (row_at d.puzzle ls.levels) (row_at d.puzzle ks.levels) ≡ true =
+        ap₂ precedes (sym (numbers_row d.puzzle ls.levels)) (sym (numbers_row d.puzzle ks.levels)) ∙ s.later h in
+        from_before d.puzzle d.trail e.trail ls.levels ks.levels down a.led led later
 
     led_here : AreLed d.puzzle [] e.trail ks.levels
     led_here = rw same_puzzle at s.led
 
     counted : over_first many down + length (coming d.puzzle e.trail ks.levels true)
         ≡ n + length (coming d.puzzle d.trail ls.levels true)
-    counted = rw same_puzzle at (came_to s refl)
+    counted =
+        let all : over_first many down + length (coming e.puzzle e.trail ks.levels true)
+        ≡ n + length (coming d.puzzle d.trail ls.levels true) =
+        omega (
+          arith,
+          s.over.count refl,
+          ap length s.over.members,
+          length-append s.over.passed (coming e.puzzle e.trail ks.levels true),
+        ) in
+        rw same_puzzle at all
 
     -- fewer than it was to go on by
     pub still_more : 0 < begun → n < many

@@ -41,13 +41,13 @@ length-branches r w =
 left_here : (r : Residual) (w : Wanted) → branch_item r ≡ Some w → branches_left r ≡ branches_of r w
 left_here r w e = rw e refl
 
-along_more : (r : Residual) (x : List ℕ) (v : ℕ) (s : Residual) (k : ℕ) → Leads r x v s
+along_more : (r : Residual) (x : List ℕ) (s : Residual) (k : ℕ) → Leads r x s
     → branches_along r (x ++ k ∷ []) ≡ branches_along r x ++ length (branches_left s) ∷ []
-along_more r [] v s k l = ap (λ r. length (branches_left r) ∷ []) (sym l.1)
-along_more r (j ∷ x) v s k l =
-    let next : left_by_number j r ≡ l.1.next = rw (left_here r l.0 l.3, l.4) refl in
+along_more r [] s k l = ap (λ r. length (branches_left r) ∷ []) (sym l)
+along_more r (j ∷ x) s k l =
+    let next : left_by_number j r ≡ l.1.next = rw (left_here r l.0 l.2, l.3) refl in
     ap (λ xs. length (branches_left r) ∷ xs)
-    (ap (λ r. branches_along r (x ++ k ∷ [])) next ∙ along_more l.1.next x l.2 s k l.7
+    (ap (λ r. branches_along r (x ++ k ∷ [])) next ∙ along_more l.1.next x s k l.5
     ∙ ap (λ r. branches_along r x ++ length (branches_left s) ∷ []) (sym next))
 
 led_along : (p : Puzzle) (t : List Move) (ls : List Level) → AreStacked p t ls → AreLed p [] t ls
@@ -60,7 +60,7 @@ led_along p t (l ∷ ls) s a =
     let count : length (branches_left (residual_of p u)) ≡ l.count =
     ap length (left_here (residual_of p u) (wanted_at p u l.item) a.0.leads)
     ∙ length-branches (residual_of p u) (wanted_at p u l.item) ∙ sym s.0.count in
-    ap (branches_along (whole p)) row ∙ along_more (whole p) (row_at p ls) _ _ l.begun (led_leads p u ls a.1)
+    ap (branches_along (whole p)) row ∙ along_more (whole p) (row_at p ls) _ l.begun (led_leads p u ls a.1)
     ∙ ap₂ (λ xs n. xs ++ n ∷ []) (led_along p u ls s.2 a.1) count
     ∙ sym (ap (map (λ (l : Level). l.count)) (reverse-append (l ∷ []) ls)
     ∙ map-append (λ (l : Level). l.count) (reverse ls) (l ∷ []))
@@ -74,7 +74,7 @@ solved_along p t ls s a solved =
     let none : branch_item (residual_of p t) ≡ None =
     grind (arith, mapped_none, choice_is_branch_item p t legal, solved.none) in
     let count : length (branches_left (residual_of p t)) ≡ 0 = rw none refl in
-    along_more (whole p) (row_at p ls) _ _ 0 (led_leads p t ls a)
+    along_more (whole p) (row_at p ls) _ 0 (led_leads p t ls a)
     ∙ ap₂ (λ xs n. xs ++ n ∷ []) (led_along p t ls s a) count
 
 -- with a last number where it stands at a solution

@@ -1,7 +1,7 @@
 -- On the way to a row.
-use Rattle.std.proofs.Common.{ℕ, ◌≡◌, Bool, true, not, List, [], map, filter, reverse, refl, sym, ap, ◌∙◌, arith}
+use Rattle.std.proofs.Common.{ℕ, ◌≡◌, ◌<◌, length, Bool, true, not, List, [], map, filter, reverse, sym, ap, ◌∙◌, arith}
 use Rattle.std.proofs.Common.{Option, Some, ◌++◌, append-nil, ap₂}
-use Rattle.std.proofs.lemmas.List.{reverse-reverse}
+use Rattle.std.proofs.lemmas.List.{reverse-reverse, length-reverse}
 use Rattle.xc_dance.specs.Dancing.{Dancing}
 use Rattle.xc_search.specs.declared.level.Level.{Level}
 use Rattle.xc_input.specs.Problem.{Puzzle}
@@ -9,7 +9,6 @@ use Rattle.xc_search.specs.Spans.{row_of, precedes, is_before}
 use Rattle.xc_search.specs.inner.Levels.{Levels, IsStanding, chosen, coming}
 use Rattle.xc_search.specs.inner.Paths.{AreLed}
 use Rattle.xc_search.specs.inner.Spanning.{row_at, Ends, IsRest, Stands}
-use Rattle.xc_search.specs.declared.spanning.Rest.TheVariants.{Before, About}
 use Rattle.xc_input.proofs.lists.Filters.{map-map}
 use Rattle.xc_search.proofs.spans.Passing.{over_keeps}
 
@@ -20,21 +19,22 @@ row_levels p vs ls e =
     ∙ ap (λ vs. row_of (map (chosen p) vs)) (reverse-reverse vs) ∙ map-map (chosen p) (λ c. c.k) vs)
 
 -- what a row tells of the levels'
-pub rest_before : (p : Puzzle) (vs ls : List Level) (u : List ℕ) (until : Option (List ℕ)) → reverse vs ≡ ls
-    → until ≡ Some u → ((x : List ℕ) → precedes (map (λ (l : Level). l.begun) vs ++ x) u ≡ true)
-    → IsRest until p ls Before
-rest_before p vs ls u until e some before =
+pub rest_before : (p : Puzzle) (vs ls : List Level) (u : List ℕ) (until : Option (List ℕ)) (last : ℕ)
+    → reverse vs ≡ ls → until ≡ Some u → ((x : List ℕ) → precedes (map (λ (l : Level). l.begun) vs ++ x) u ≡ true)
+    → IsRest until p ls last
+rest_before p vs ls u until last e some before =
     let row : row_at p ls ≡ map (λ (l : Level). l.begun) vs = sym (row_levels p vs ls e) in
     record {
       before = ap₂ is_before some (row ∙ sym (append-nil (map (λ (l : Level). l.begun) vs))) ∙ before [];
       all = λ _ x. ap₂ is_before some (ap (λ r. r ++ x) row) ∙ before x;
     }
 
-pub rest_about : (p : Puzzle) (vs ls : List Level) (u : List ℕ) (until : Option (List ℕ)) → reverse vs ≡ ls
-    → until ≡ Some u → precedes (map (λ (l : Level). l.begun) vs) u ≡ true → IsRest until p ls About
-rest_about p vs ls u until e some begins = record {
+pub rest_about : (p : Puzzle) (vs ls : List Level) (u : List ℕ) (until : Option (List ℕ)) (last : ℕ)
+    → reverse vs ≡ ls → until ≡ Some u → precedes (map (λ (l : Level). l.begun) vs) u ≡ true → length vs < last
+    → IsRest until p ls last
+rest_about p vs ls u until last e some begins few = record {
   before = ap₂ is_before some (sym (row_levels p vs ls e)) ∙ begins;
-  all = λ h. absurd (h refl);
+  all = λ h. absurd (omega (arith, h, few, ap length e, length-reverse vs));
 }
 
 -- On the way to a row no member from that row on was passed over.

@@ -1,10 +1,10 @@
 -- The steps of a search of a span.
-use Rattle.std.proofs.Common.{ℕ, ◌<◌, Bool, true, false, List, Option, refl, arith}
+use Rattle.std.proofs.Common.{ℕ, ◌≡◌, ◌<◌, Bool, true, false, List, Option, refl, arith}
 use Rattle.xc_dance.specs.Dancing.{Dancing}
 use Rattle.xc_search.specs.inner.Residual.{residual_of}
 use Rattle.xc_search.specs.inner.Levels.{Levels, IsStanding, coming}
 use Rattle.xc_search.specs.inner.Ahead.{EntersBranch, GoesOn, IsDone, branched, work_left}
-use Rattle.xc_search.specs.inner.Paths.{KeepsBy}
+use Rattle.xc_search.specs.inner.Paths.{KeepsBy, Rises}
 use Rattle.xc_search.specs.inner.Spanning.{Enters, Ends, Falls, PassesOver}
 use Rattle.xc_search.proofs.stacked.LessWork.{some_work}
 use Rattle.xc_search.proofs.stacked.PassedOver.{stands_behind}
@@ -25,10 +25,10 @@ falls_over x c until d ls m n s over = record {
 
 -- nothing is left below
 pub falls_back : {d e : Dancing} {ls ks : Levels} (x c : Bool) (until : Option (List ℕ)) (m : ℕ)
-    → GoesOn d ls true e ks false → work_left e ks false < work_left d ls true → KeepsBy x d ls e ks
+    → ks ≡ ls → GoesOn d ls true e ks false → work_left e ks false < work_left d ls true → KeepsBy x d ls e ks
     → Falls x c until d ls m e ks m
-falls_back x c until m on fewer path = record {
-  still = on.still;
+falls_back x c until m same on fewer path = record {
+  still = (on.still.0, same);
   standing = on.standing;
   path = path;
   less = omega (arith, fewer);
@@ -37,14 +37,16 @@ falls_back x c until m on fewer path = record {
 
 -- a branch below is entered
 pub enters_below : {d e : Dancing} {ls ks : Levels} {i q : ℕ} (x c : Bool) (until : Option (List ℕ)) (m : ℕ)
-    → EntersBranch d ls true e ks i q → KeepsBy x d ls (branched e i q) ks → Enters x c until d ls m e ks m i q
-enters_below x c until m b path = record {
+    → EntersBranch d ls true e ks i q → KeepsBy x d ls (branched e i q) ks → Rises ls ks
+    → Enters x c until d ls m e ks m i q
+enters_below x c until m b path rises = record {
   can = b.can;
   place = b.place;
   begins = record {
     still = b.goes_on.still;
     standing = b.goes_on.standing;
     path = path;
+    rises = rises;
     less = b.less;
     over = over_none c until m _ _ b.goes_on.members;
   };
@@ -53,14 +55,16 @@ enters_below x c until m b path = record {
 -- a branch of a level is entered
 pub enters_back : {x c : Bool} {until : Option (List ℕ)} {d e f : Dancing} {ls ks js : Levels} {m n i q : ℕ}
     → Falls x c until d ls m e ks n → EntersBranch e ks false f js i q → KeepsBy x e ks (branched f i q) js
+    → Rises ks js
     → Enters x c until d ls m f js n i q
-enters_back {x} {c} {until} {n = n} back b path = record {
+enters_back {x} {c} {until} {n = n} back b path rises = record {
   can = b.can;
   place = b.place;
   begins = record {
     still = grind (arith, back.still, b.goes_on.still);
     standing = b.goes_on.standing;
     path = λ u a. path u (back.path u a);
+    rises = rw (← back.still.1) rises;
     less = omega (arith, back.less, b.less);
     over = over_more back.over (over_none c until n _ _ b.goes_on.members);
   };

@@ -1,5 +1,5 @@
 -- Members that a search of a span passes over.
-use Rattle.std.proofs.Common.{ℕ, suc, ◌≡◌, ◌≢◌, ◌+◌, Bool, true, false, List, [], ◌∷◌, ◌++◌, map, filter, length}
+use Rattle.std.proofs.Common.{ℕ, suc, ◌≡◌, ◌+◌, Bool, true, false, List, [], ◌∷◌, ◌++◌, map, filter, length}
 use Rattle.std.proofs.Common.{Option, Some, None, refl, sym, ap, ◌∙◌, arith, append_assoc, append-nil, length-append}
 use Rattle.std.specs.Prelude.{not}
 use Rattle.std.proofs.lemmas.List.{map-append, length-map}
@@ -7,14 +7,12 @@ use Rattle.std.proofs.lemmas.List.Elements.{filter-append}
 use Rattle.xc_dance.specs.declared.dance.Move.{Move}
 use Rattle.xc_search.specs.declared.choice.Choice.{Choice}
 use Rattle.xc_search.specs.declared.level.Level.{Level}
-use Rattle.xc_search.specs.declared.spanning.Rest.{Rest}
-use Rattle.xc_search.specs.declared.spanning.Rest.TheVariants.{About}
 use Rattle.xc_input.specs.Problem.{Puzzle}
 use Rattle.xc_search.specs.Listing.{listing}
 use Rattle.xc_search.specs.Spans.{row_of, precedes, is_before}
 use Rattle.xc_search.specs.inner.Residual.{residual_of}
 use Rattle.xc_search.specs.inner.Levels.{choices_of, coming, to_give}
-use Rattle.xc_search.specs.inner.Spanning.{IsRest, PassesOver, is_counted}
+use Rattle.xc_search.specs.inner.Spanning.{IsRest, PassesOver}
 use Rattle.xc_input.proofs.lists.EachElement.{each-append, each-map, each_weaker, each_of_all}
 use Rattle.xc_input.proofs.lists.Filters.{keep_all}
 use Rattle.xc_search.proofs.spans.Rising.{keep_none}
@@ -33,22 +31,17 @@ over_more {os = os} a b = record {
   count = λ h. omega (arith, a.count h, b.count h, length-append a.passed b.passed);
 }
 
--- and fewer are counted
-pub over_counted : {c b : Bool} {until : Option (List ℕ)} {m n : ℕ} {ms ns : List (List Choice)}
-    → (b ≡ true → c ≡ true) → PassesOver c until m n ms ns → PassesOver b until m n ms ns
-over_counted h a = record { passed = a.passed; members = a.members; before = a.before; count = λ e. a.count (h e) }
-
 -- all that is left below the levels
-pub over_below : (until : Option (List ℕ)) (p : Puzzle) (t : List Move) (ls : List Level) (rest : Rest) (m n : ℕ)
-    → IsRest until p ls rest → rest ≢ About
-    → (is_counted rest ≡ true → m ≡ n + length (listing (residual_of p t)))
-    → PassesOver (is_counted rest) until m n (coming p t ls true) (coming p t ls false)
-over_below until p t ls rest m n is aside count = record {
+pub over_below : (until : Option (List ℕ)) (p : Puzzle) (t : List Move) (ls : List Level) (last : ℕ) (c : Bool)
+    (m n : ℕ) → IsRest until p ls last → length ls ≡ last
+    → (c ≡ true → m ≡ n + length (listing (residual_of p t)))
+    → PassesOver c until m n (coming p t ls true) (coming p t ls false)
+over_below until p t ls last c m n is as_many count = record {
   passed = map (λ x. choices_of p ls ++ x) (listing (residual_of p t));
   members = refl;
   before = each-map _ (λ x. choices_of p ls ++ x) (listing (residual_of p t))
       (each_of_all _ (listing (residual_of p t)) (λ x.
-      ap (is_before until) (map-append (λ c. c.k) (choices_of p ls) x) ∙ is.all aside (row_of x)));
+      ap (is_before until) (map-append (λ c. c.k) (choices_of p ls) x) ∙ is.all as_many (row_of x)));
   count = λ h. omega (
     arith,
     count h,
@@ -57,10 +50,10 @@ over_below until p t ls rest m n is aside count = record {
 }
 
 -- the solution where they stand
-pub over_one : (c : Bool) (until : Option (List ℕ)) (p : Puzzle) (t : List Move) (ls : List Level) (rest : Rest)
-    (m n : ℕ) → IsRest until p ls rest → coming p t ls true ≡ choices_of p ls ∷ to_give p t ls → m ≡ suc n
+pub over_one : (c : Bool) (until : Option (List ℕ)) (p : Puzzle) (t : List Move) (ls : List Level) (last : ℕ)
+    (m n : ℕ) → IsRest until p ls last → coming p t ls true ≡ choices_of p ls ∷ to_give p t ls → m ≡ suc n
     → PassesOver c until m n (coming p t ls true) (coming p t ls false)
-over_one c until p t ls rest m n is one count = record {
+over_one c until p t ls last m n is one count = record {
   passed = choices_of p ls ∷ [];
   members = one;
   before = (is.before, tt);
@@ -87,5 +80,5 @@ over_keeps {u = u} {ns = ns} a =
     (keep_none q a.passed (each_weaker _ _ a.passed (λ x e. ap not e) a.before))
 
 -- what is known where there is no end
-pub rest_of_all : (p : Puzzle) (ls : List Level) (rest : Rest) → IsRest None p ls rest
-rest_of_all p ls rest = record { before = refl; all = λ _ _. refl }
+pub rest_of_all : (p : Puzzle) (ls : List Level) (last : ℕ) → IsRest None p ls last
+rest_of_all p ls last = record { before = refl; all = λ _ _. refl }

@@ -1,24 +1,26 @@
 -- A search of a span runs on.
 use Rattle.std.proofs.lemmas.Bool.Decides.{nat_tests}
-use Rattle.std.proofs.Common.{ℕ, ◌≡◌, ◌+◌, ◌<◌, ◌≤◌, Bool, true, false, not, ◌&&◌, List, [], filter, length}
-use Rattle.std.proofs.Common.{Option, Some, None, refl, sym, ap, ◌∙◌, arith, length-append}
+use Rattle.std.proofs.Common.{ℕ, ◌≡◌, ◌+◌, ◌≤◌, Bool, true, false, not, ◌&&◌, List, [], filter, length}
+use Rattle.std.proofs.Common.{Option, Some, None, refl, sym, ap, ◌∙◌, arith}
 use Rattle.std.proofs.lemmas.List.Elements.{filter_agree}
 use Rattle.xc_dance.specs.declared.dance.Move.{Move}
 use Rattle.xc_dance.specs.Dancing.{Dancing}
+use Rattle.xc_search.specs.declared.choice.Choice.{Choice}
 use Rattle.xc_search.specs.declared.level.Level.{Level}
 use Rattle.xc_input.specs.Problem.{Puzzle}
 use Rattle.xc_search.specs.Cover.{members}
 use Rattle.xc_search.specs.Spans.{row_of, precedes, is_before, between}
-use Rattle.xc_search.specs.inner.Levels.{Levels, IsStanding, coming}
+use Rattle.xc_search.specs.inner.Levels.{Levels, AreStacked, IsStanding, coming}
 use Rattle.xc_search.specs.inner.Ahead.{work_left}
-use Rattle.xc_search.specs.inner.Paths.{AreLed, AreLedBy}
-use Rattle.xc_search.specs.inner.Spanning.{row_at, Begins, Ends, Stands, EndsSpan}
+use Rattle.xc_search.specs.inner.Paths.{AreLed, AreLedBy, Rises}
+use Rattle.xc_search.specs.inner.Spanning.{row_at, Begins, Ends, PassesOver, Stands, EndsSpan}
 use Rattle.xc_input.proofs.lists.EachElement.{each_of_all}
 use Rattle.xc_input.proofs.lists.Filters.{filter_both}
 use Rattle.xc_search.proofs.Cases.{by_bool, by_number}
 use Rattle.xc_search.proofs.spans.Rows.{not_before}
 use Rattle.xc_search.proofs.spans.Rising.{is_within, keep_none}
 use Rattle.xc_search.proofs.spans.Lies.{lies_from, led_lies}
+use Rattle.xc_search.proofs.spans.Numbers.{rises_on}
 use Rattle.xc_search.proofs.spans.Passing.{over_none, over_more, over_within}
 
 -- from the row of levels on stands what comes there
@@ -39,6 +41,7 @@ stands_first x c until d ls m s a none zero = record {
   led = a;
   over = over_none c until m _ _ refl;
   same = λ _. (refl, refl, refl);
+  later = λ h. absurd (omega (arith, h, zero));
   less = λ h. absurd (omega (arith, h, zero));
 }
 
@@ -51,6 +54,12 @@ module _ {x c : Bool} {until : Option (List ℕ)} {d e : Dancing} {ls ks : Level
         (λ h. let here = s.same h in grind (arith, here))
         (λ k h. let less = s.less (omega (arith, h)) in omega (arith, less))
 
+    -- where it goes on to a later row, that is later than where it began
+    later_than : (js : Levels) → Rises ks js → Rises ls js
+    later_than js b = by_number begun
+        (λ h. rw (← (s.same h).1) b)
+        (λ k h. rises_on ls ks js (s.later (omega (arith, h))) b)
+
     pub stands_more : {f : Dancing} {js : Levels} {o : ℕ} → Begins x c until e ks n f js o
         → (more : ℕ) → more ≡ begun + 1 → Stands x c until d ls m f js o more
     stands_more {f} {js} {o} b more one = record {
@@ -59,29 +68,9 @@ module _ {x c : Bool} {until : Option (List ℕ)} {d e : Dancing} {ls ks : Level
       led = b.path [] s.led;
       over = over_more s.over b.over;
       same = λ h. absurd (omega (arith, h, one));
+      later = λ _. later_than js b.rises;
       less = λ _. omega (arith, b.less, no_more_ahead);
     }
-
-    -- and one run behind another
-    pub stands_on : {f : Dancing} {js : Levels} {o next all : ℕ} → Stands x c until e ks n f js o next
-        → (all ≡ 0 → (begun ≡ 0) × (next ≡ 0)) → (0 < all → begun ≡ 0 → 0 < next)
-        → Stands x c until d ls m f js o all
-    stands_on {f} {js} {o} {next} {all} r none some = record {
-      still = grind (arith, s.still, r.still);
-      standing = r.standing;
-      led = r.led;
-      over = over_more s.over r.over;
-      same = λ h. let a = s.same (none h).0 in let b = r.same (none h).1 in grind (arith, a, b);
-      less = λ h. by_number begun
-          (λ e. let less = r.less (some h e) in omega (arith, less, no_more_ahead))
-          (λ k e. let less = s.less (omega (arith, e)) in omega (arith, less, further r));
-    }
-      where
-        further : {f : Dancing} {js : Levels} {o next : ℕ} → Stands x c until e ks n f js o next
-            → work_left f js true ≤ work_left e ks true
-        further {next = next} r = by_number next
-            (λ h. let here = r.same h in grind (arith, here))
-            (λ k h. let less = r.less (omega (arith, h)) in omega (arith, less))
 
     pub ends_on : {f : Dancing} {js : Levels} {o : ℕ} → Ends c until e ks n f js o → Ends c until d ls m f js o
     ends_on r = record {
@@ -89,16 +78,6 @@ module _ {x c : Bool} {until : Option (List ℕ)} {d e : Dancing} {ls ks : Level
       ended = r.ended;
       over = over_more s.over r.over;
     }
-
-    -- members and what is left are counted
-    pub came_to : c ≡ true → m + length (coming e.puzzle e.trail ks.levels true)
-        ≡ n + length (coming d.puzzle d.trail ls.levels true)
-    came_to h = omega (
-      arith,
-      s.over.count h,
-      ap length s.over.members,
-      length-append s.over.passed (coming e.puzzle e.trail ks.levels true),
-    )
 
 -- from a later row on all that stands from a row on and isn't before it
 pub between_kept : (p : Puzzle) (r u : List ℕ) → precedes r u ≡ false
@@ -137,28 +116,36 @@ span_here : (p : Puzzle) (t : List Move) (ls : List Level) (until : Option (List
 span_here p t ls until led =
     within_span p (row_at p ls) until ∙ ap (filter (λ m. is_before until (row_of m))) (led_from p t ls led)
 
+-- no member is left before the end of a span that doesn't come behind the row of the levels
+pub none_before : (x : Bool) (p : Puzzle) (t : List Move) (ls : List Level) (until : Option (List ℕ))
+    → AreLedBy x p [] t ls → is_before until (row_at p ls) ≡ false
+    → filter (λ m. is_before until (row_of m)) (coming p t ls true) ≡ []
+none_before x p t ls until led past =
+    ap (filter (λ m. is_before until (row_of m))) (sym (led_from_by x p t ls led))
+    ∙ sym (within_span p (row_at p ls) until) ∙ none_within p (row_at p ls) until past
+
 module _ {d e : Dancing} {ls ks : Levels} {m n : ℕ} {until : Option (List ℕ)}
     (led : AreLed d.puzzle [] d.trail ls.levels)
   where
+    -- it passed over all members of its span
+    pub ends_span : {ns : List (List Choice)} → (e ≡ record d { trail = e.trail }) × (ks ≡ record ls {
+      levels =
+          ks.levels;
+    }) → AreStacked e.puzzle e.trail ks.levels
+        → PassesOver true until m n (coming d.puzzle d.trail ls.levels true) ns
+        → filter (λ m. is_before until (row_of m)) ns ≡ [] → EndsSpan d ls m until e ks n
+    ends_span still stacked over none = record {
+      still = still;
+      stacked = stacked;
+      count = over_within over none ∙ ap (λ ms. n + length ms) (sym (span_here d.puzzle d.trail ls.levels until led));
+    }
+
     -- it ends at a row that doesn't come before its end
     pub ends_at_row : {x : Bool} {begun : ℕ} → Stands x true until d ls m e ks n begun
         → is_before until (row_at e.puzzle ks.levels) ≡ false → EndsSpan d ls m until e ks n
     ends_at_row {x} s past =
-        let none : filter (λ m. is_before until (row_of m)) (coming e.puzzle e.trail ks.levels true) ≡ [] =
-        ap (filter (λ m. is_before until (row_of m))) (sym (led_from_by x e.puzzle e.trail ks.levels s.led))
-        ∙ sym (within_span e.puzzle (row_at e.puzzle ks.levels) until)
-        ∙ none_within e.puzzle (row_at e.puzzle ks.levels) until past in
-        record {
-          still = s.still;
-          stacked = s.standing.stacked;
-          count = over_within s.over none ∙ ap (λ ms. n + length ms) (sym (span_here d.puzzle d.trail ls.levels
-              until led));
-        }
+        ends_span s.still s.standing.stacked s.over (none_before x e.puzzle e.trail ks.levels until s.led past)
 
     -- or where all levels ended
     pub ends_all : Ends true until d ls m e ks n → EndsSpan d ls m until e ks n
-    ends_all s = record {
-      still = s.still;
-      stacked = rw s.ended tt;
-      count = over_within s.over refl ∙ ap (λ ms. n + length ms) (sym (span_here d.puzzle d.trail ls.levels until led));
-    }
+    ends_all s = ends_span s.still (rw s.ended tt) s.over refl

@@ -1,41 +1,23 @@
 -- How a run of a search of a span goes.
-use Rattle.std.proofs.Common.{ℕ, ◌≡◌, ◌≢◌, ◌-◌, ◌<◌, ◌≤◌, Bool, true, false, not, List, [], Option, subst, refl}
+use Rattle.std.proofs.Common.{ℕ, ◌≡◌, ◌≢◌, ◌-◌, ◌<◌, ◌≤◌, Bool, true, false, List, [], Option, subst, refl, filter}
 use Rattle.std.proofs.Common.{sym, ap, ap₂, ◌∙◌}
 use Rattle.std.proofs.Common.{arith, inl, inr, ◌⊎◌}
 use Rattle.xc_dance.specs.Dancing.{Dancing}
 use Rattle.xc_search.specs.declared.spanning.Stop.{Stop}
 use Rattle.xc_search.specs.declared.spanning.Stop.TheVariants.{Member, Steps, Row, Nothing}
 use Rattle.xc_search.specs.Listing.{listing}
-use Rattle.xc_search.specs.Spans.{is_before}
+use Rattle.xc_search.specs.Spans.{row_of, is_before}
 use Rattle.xc_search.specs.inner.Residual.{residual_of}
-use Rattle.xc_search.specs.inner.Levels.{Levels}
+use Rattle.xc_search.specs.inner.Levels.{Levels, coming}
 use Rattle.xc_search.specs.inner.Ahead.{IsSolved, work_left}
-use Rattle.xc_search.specs.inner.Paths.{AreLed}
-use Rattle.xc_search.specs.inner.Spanning.{row_at, Begins, Ends, Stands, RunsTo, RanTo}
+use Rattle.xc_search.specs.inner.Paths.{AreLed, numbers}
+use Rattle.xc_search.specs.inner.Spanning.{row_at, Begins, Ends, PassesOver, Stands, RunsTo, RanTo, Halts, EndsSpan}
+use Rattle.xc_search.specs.inner.Spanning.{Settles}
 use Rattle.xc_search.proofs.Cases.{by_number}
-use Rattle.xc_search.proofs.spans.Passing.{over_counted}
-use Rattle.xc_search.proofs.spans.Running.{stands_more, stands_on, ends_on, ends_at_row, ends_all}
+use Rattle.xc_search.proofs.spans.Rows.{before_not_before}
+use Rattle.xc_search.proofs.spans.Running.{stands_more, ends_on, ends_span, ends_at_row, ends_all, none_before}
 use Rattle.xc_search.proofs.spans.Advance.{solved_alone}
 use Rattle.xc_search.proofs.spans.Exact.{led_exact}
-
-pub not_true : (b : Bool) → not b ≡ true → b ≡ false
-not_true true e = absurd (cc e)
-not_true false e = refl
-
--- what is counted in a step is counted in the run
-pub begins_counted : {x b c : Bool} {until : Option (List ℕ)} {d e : Dancing} {ls ks : Levels} {m n : ℕ}
-    → (b ≡ true → c ≡ true) → Begins x c until d ls m e ks n → Begins x b until d ls m e ks n
-begins_counted h a = record {
-  still = a.still;
-  standing = a.standing;
-  path = a.path;
-  less = a.less;
-  over = over_counted h a.over;
-}
-
-pub ends_counted : {b c : Bool} {until : Option (List ℕ)} {d e : Dancing} {ls ks : Levels} {m n : ℕ}
-    → (b ≡ true → c ≡ true) → Ends c until d ls m e ks n → Ends b until d ls m e ks n
-ends_counted h a = record { still = a.still; ended = a.ended; over = over_counted h a.over }
 
 module _ {x c : Bool} {until : Option (List ℕ)} {d e : Dancing} {ls ks : Levels} {m most n steps : ℕ}
     (s : Stands x c until d ls m e ks n (most - steps)) (within : steps ≤ most)
@@ -102,48 +84,111 @@ module _ {x c : Bool} {until : Option (List ℕ)} {d e : Dancing} {ls ks : Level
       within = omega (arith, within);
     }
 
--- a search stands there by branch items alone
-stands_by : {x c : Bool} {until : Option (List ℕ)} {d e : Dancing} {ls ks : Levels} {m n begun : ℕ}
-    → Stands x c until d ls m e ks n begun → AreLed e.puzzle [] e.trail ks.levels
-    → Stands true c until d ls m e ks n begun
-stands_by s led = record {
+-- a search halts there by branch items alone
+halts_by : {x : Bool} {until : Option (List ℕ)} {d e : Dancing} {ls ks : Levels} {m n begun : ℕ}
+    → Stands x true until d ls m e ks n begun → AreLed e.puzzle [] e.trail ks.levels
+    → Halts until d ls m e ks n begun
+halts_by s led = record {
   still = s.still;
   standing = s.standing;
   led = led;
   over = s.over;
   same = s.same;
-  less = s.less;
+  later = s.later;
 }
 
--- one run behind others, of a search that branches on other items only where it stands at no branch
-pub ran_to : {x : Bool} {until : Option (List ℕ)} {d e f : Dancing} {ls ks js : Levels} {m n o most left steps : ℕ}
-    {stop : Stop} → AreLed d.puzzle [] d.trail ls.levels → Stands x true until d ls m e ks n (most - left)
-    → left ≤ most → RunsTo x true until e ks n left stop f js o steps → (stop ≡ Steps → x ≡ true)
-    → RanTo d ls m most until stop f js o steps
-ran_to {x} {until} {d} {e} {f} {ls} {ks} {js} {m} {n} {o} {most} {left} {steps} {stop} led s within r exact = record {
-  stands = λ h. elim h [
-    | inl i ↦
-        let at = (r.solved i).1 in
-        let some : listing (residual_of f.puzzle f.trail) ≢ [] = λ none.
-        cc (solved_alone f.puzzle f.trail js.levels at, none) in
-        let both = on (λ e. absurd (cc (i, e))) in
-        stands_by both (led_exact x f.puzzle [] f.trail js.levels both.led some)
-    | inr i ↦ subst (λ x. Stands x true until d ls m f js o (most - steps)) (exact i) (on (λ e. absurd (cc (i, e))))
-  ];
-  before = r.before;
-  solved = r.solved;
-  ran_out = r.ran_out;
-  ended = λ h. elim h [
-    | inl i ↦ ends_at_row led (on (λ e. absurd (cc (i, e)))) (r.past i)
-    | inr i ↦ ends_all led (ends_on s (r.ended i))
-  ];
-  within = omega (arith, within, r.within);
-}
+module _ {until : Option (List ℕ)} {d b : Dancing} {ls js : Levels} {m n most steps : ℕ} {stop : Stop}
+    (led : AreLed d.puzzle [] d.trail ls.levels) (r : RunsTo false true until d ls m most stop b js n steps)
   where
-    on : stop ≢ Nothing → Stands x true until d ls m f js o (most - steps)
-    on h = stands_on s (r.stands h)
-        (λ e. (omega (arith, e, within, r.within), omega (arith, e, within, r.within)))
-        (λ a b. omega (arith, a, b, within, r.within))
+    -- a run halts at a member, or comes to the end
+    pub ran_to : stop ≢ Steps → RanTo d ls m most until stop b js n steps
+    ran_to aside = record {
+      halts = λ h. elim h [
+        | inl i ↦
+            let at = (r.solved i).1 in
+            let some : listing (residual_of b.puzzle b.trail) ≢ [] = λ none.
+            cc (solved_alone b.puzzle b.trail js.levels at, none) in
+            let stands = r.stands (λ e. absurd (cc (i, e))) in
+            halts_by stands (led_exact false b.puzzle [] b.trail js.levels stands.led some)
+        | inr i ↦ absurd (aside i)
+      ];
+      before = r.before;
+      solved = r.solved;
+      ran_out = r.ran_out;
+      ended = λ h. elim h [
+        | inl i ↦ ends_at_row led (r.stands (λ e. absurd (cc (i, e)))) (r.past i)
+        | inr i ↦ ends_all led (r.ended i)
+      ];
+      within = r.within;
+    }
+
+    -- or it has no more steps, and goes back to a row of the search's tree
+    module _ {e : Dancing} {ks : Levels} {found : Bool} (is : stop ≡ Steps) (some : 0 < most)
+        (s : Settles b js e ks found)
+      where
+        stands : Stands false true until d ls m b js n (most - steps)
+        stands = r.stands (λ e. absurd (cc (is, e)))
+
+        begun : 0 < most - steps
+        begun = omega (arith, some, r.ran_out is)
+
+        still : (e ≡ record d { trail = e.trail }) × (ks ≡ record ls { levels = ks.levels })
+        still = grind (arith, stands.still, s.still)
+
+        halts : found ≡ true → Halts until d ls m e ks n (most - steps)
+        halts h = record {
+          still = still;
+          standing = s.standing h;
+          led = s.led h;
+          over = subst (PassesOver true until m n (coming d.puzzle d.trail ls.levels true)) (s.members h) stands.over;
+          same = λ z. absurd (omega (arith, z, begun));
+          later = λ _. before_not_before (numbers ls.levels) (numbers js.levels) (numbers ks.levels)
+              (stands.later begun) (s.row h);
+        }
+
+        pub settled : found ≡ true → is_before until (row_at e.puzzle ks.levels) ≡ true
+            → RanTo d ls m most until Steps e ks n steps
+        settled h before = record {
+          halts = λ _. halts h;
+          before = λ _. before;
+          solved = λ i. absurd (cc i);
+          ran_out = λ _. r.ran_out is;
+          ended = λ i. elim i [
+            | inl j ↦ absurd (cc j)
+            | inr j ↦ absurd (cc j)
+          ];
+          within = r.within;
+        }
+
+        -- which may be none of its span
+        ended : EndsSpan d ls m until e ks n → (end : Stop) → end ≢ Member → end ≢ Steps
+            → RanTo d ls m most until end e ks n steps
+        ended ends end a c = record {
+          halts = λ i. elim i [
+            | inl j ↦ absurd (a j)
+            | inr j ↦ absurd (c j)
+          ];
+          before = λ i. elim i [
+            | inl j ↦ absurd (a j)
+            | inr j ↦ absurd (c j)
+          ];
+          solved = λ i. absurd (a i);
+          ran_out = λ i. absurd (c i);
+          ended = λ _. ends;
+          within = r.within;
+        }
+
+        pub settled_behind : found ≡ true → is_before until (row_at e.puzzle ks.levels) ≡ false
+            → RanTo d ls m most until Row e ks n steps
+        settled_behind h past =
+            ended (ends_span led still s.stacked stands.over
+            (ap (filter (λ m. is_before until (row_of m))) (s.members h)
+            ∙ none_before true e.puzzle e.trail ks.levels until (s.led h) past)) Row (λ i. cc i) (λ i. cc i)
+
+        pub settled_nowhere : found ≡ false → RanTo d ls m most until Nothing e ks n steps
+        settled_nowhere h =
+            ended (ends_span led still s.stacked stands.over
+            (ap (filter (λ m. is_before until (row_of m))) (s.none h))) Nothing (λ i. cc i) (λ i. cc i)
 
 -- one step
 module _ {x c : Bool} {until : Option (List ℕ)} {d e : Dancing} {ls ks : Levels} {n steps : ℕ} {stop : Stop}

@@ -1,10 +1,11 @@
 -- No public clause cites this module. The paths that the levels of a search stand for.
-use Rattle.std.specs.Prelude.{ℕ, ◌-◌, ◌≡◌, ◌≢◌, Bool, true, false, List, [], ◌∷◌, Option, Some, slice_get}
+use Rattle.std.specs.Prelude.{ℕ, ◌-◌, ◌≡◌, ◌≢◌, Bool, true, false, List, [], ◌∷◌, Option, Some, slice_get, map, reverse}
 use Rattle.xc_dance.specs.declared.dance.Move.{Move}
 use Rattle.xc_search.specs.declared.level.Level.{Level}
 use Rattle.xc_input.specs.Problem.{Puzzle}
 use Rattle.xc_search.specs.Listing.{Branch, branch_item, level, listing}
 use Rattle.xc_search.specs.Residuals.{wanted_at, choice_after}
+use Rattle.xc_search.specs.Spans.{precedes}
 use Rattle.xc_dance.specs.Dancing.{Dancing}
 use Rattle.xc_search.specs.inner.Commits.{oldest}
 use Rattle.xc_search.specs.inner.Residual.{residual_of}
@@ -50,3 +51,11 @@ KeepsBy exact d ls e ks =
 
 abbrev pub KeepsPath : Dancing → Levels → Dancing → Levels → Type 0
 KeepsPath d ls e ks = KeepsBy true d ls e ks
+
+-- the numbers of the levels' branches, from the first level down
+abbrev pub numbers : List Level → List ℕ
+numbers ls = map (λ l. l.begun) (reverse ls)
+
+-- levels ks stand at a later row than levels ls
+abbrev pub Rises : Levels → Levels → Type 0
+Rises ls ks = precedes (numbers ls.levels) (numbers ks.levels) ≡ true

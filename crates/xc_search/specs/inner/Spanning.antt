@@ -4,17 +4,15 @@ use Rattle.std.specs.Prelude.{◌≤◌, ◌⊎◌}
 use Rattle.std.specs.List.{AllByRecursion}
 use Rattle.xc_search.specs.declared.choice.Choice.{Choice}
 use Rattle.xc_search.specs.declared.level.Level.{Level}
-use Rattle.xc_search.specs.declared.spanning.Rest.{Rest}
-use Rattle.xc_search.specs.declared.spanning.Rest.TheVariants.{Behind, Before, About}
 use Rattle.xc_search.specs.declared.spanning.Stop.{Stop}
 use Rattle.xc_search.specs.declared.spanning.Stop.TheVariants.{Member, Steps, Row, Nothing}
 use Rattle.xc_input.specs.Problem.{Puzzle}
 use Rattle.xc_dance.specs.Dancing.{Dancing}
 use Rattle.xc_dance.specs.Commits.{option_at}
-use Rattle.xc_search.specs.Spans.{row_of, is_before, between}
+use Rattle.xc_search.specs.Spans.{row_of, precedes, is_before, between}
 use Rattle.xc_search.specs.inner.Levels.{Levels, IsStanding, AreStacked, IsPlace, CanBranch, choices_of, coming}
 use Rattle.xc_search.specs.inner.Ahead.{IsSolved, work_left, branched}
-use Rattle.xc_search.specs.inner.Paths.{AreLedBy, KeepsBy}
+use Rattle.xc_search.specs.inner.Paths.{AreLed, AreLedBy, KeepsBy, Rises, numbers}
 
 -- the row of the levels
 abbrev pub row_at : Puzzle → List Level → List ℕ
@@ -26,16 +24,10 @@ abbrev pub row_from : Puzzle → List Level → Bool → List ℕ
 row_from p ls true = row_at p ls
 row_from p ls false = row_at p ls ++ 0 ∷ []
 
--- what is passed over below the levels is counted, unless the run begins behind it
-abbrev pub is_counted : Rest → Bool
-is_counted Behind = false
-is_counted Before = true
-is_counted About = true
-
--- The row of the levels comes before the end of a span, and so does all below them, unless it begins the end's.
-pub record IsRest (until : Option (List ℕ)) (p : Puzzle) (ls : List Level) (rest : Rest) : Type 0 where
+-- The row of the levels comes before the end of a span, and so does all below them where so many levels stand.
+pub record IsRest (until : Option (List ℕ)) (p : Puzzle) (ls : List Level) (last : ℕ) : Type 0 where
   pub before : is_before until (row_at p ls) ≡ true
-  pub all : rest ≢ About → (x : List ℕ) → is_before until (row_at p ls ++ x) ≡ true
+  pub all : length ls ≡ last → (x : List ℕ) → is_before until (row_at p ls ++ x) ≡ true
 
 -- Of the members ms that were to come it passed over the first, which come before the end of the span, and ns are left.
 -- Where it counts them, of m that it was to pass over n are still to be.
@@ -45,10 +37,10 @@ pub record PassesOver (counts : Bool) (until : Option (List ℕ)) (m n : ℕ) (m
   pub before : AllByRecursion (λ x. is_before until (row_of x) ≡ true) passed
   pub count : counts ≡ true → m ≡ length passed + n
 
--- Nothing is left below the levels ls in state d, and the search stands at levels ks in state e.
+-- Nothing is left below the levels ls in state d, and the search stands at them, as levels ks, in state e.
 pub record Falls (exact counts : Bool) (until : Option (List ℕ)) (d : Dancing) (ls : Levels) (m : ℕ) (e : Dancing)
     (ks : Levels) (n : ℕ) : Type 0 where
-  pub still : (e ≡ record d { trail = e.trail }) × (ks ≡ record ls { levels = ks.levels })
+  pub still : (e ≡ record d { trail = e.trail }) × (ks ≡ ls)
   pub standing : IsStanding e.puzzle e.trail ks.levels false
   pub path : KeepsBy exact d ls e ks
   pub less : work_left e ks false ≤ work_left d ls true
@@ -61,6 +53,7 @@ pub record Begins (exact counts : Bool) (until : Option (List ℕ)) (d : Dancing
   pub still : (e ≡ record d { trail = e.trail }) × (ks ≡ record ls { levels = ks.levels })
   pub standing : IsStanding e.puzzle e.trail ks.levels true
   pub path : KeepsBy exact d ls e ks
+  pub rises : Rises ls ks
   pub less : work_left e ks true < work_left d ls true
   pub over : PassesOver counts until m n (coming d.puzzle d.trail ls.levels true)
       (coming e.puzzle e.trail ks.levels true)
@@ -89,6 +82,7 @@ pub record Stands (exact counts : Bool) (until : Option (List ℕ)) (d : Dancing
   pub over : PassesOver counts until m n (coming d.puzzle d.trail ls.levels true)
       (coming e.puzzle e.trail ks.levels true)
   pub same : begun ≡ 0 → (e ≡ d) × (ks ≡ ls) × (n ≡ m)
+  pub later : 0 < begun → Rises ls ks
   pub less : 0 < begun → work_left e ks true < work_left d ls true
 
 -- One run came so far.
@@ -102,6 +96,29 @@ pub record RunsTo (exact counts : Bool) (until : Option (List ℕ)) (d : Dancing
   pub ended : stop ≡ Nothing → Ends counts until d ls m e ks n
   pub within : steps ≤ most
 
+-- From the row of levels ls in state d it went back to the first level, and stands at that row or at the next one of
+-- the search's tree, with no member between. Or no such row was found, and no member was to come.
+pub record Settles (d : Dancing) (ls : Levels) (e : Dancing) (ks : Levels) (found : Bool) : Type 0 where
+  pub still : (e ≡ record d { trail = e.trail }) × (ks ≡ record ls { levels = ks.levels })
+  pub stacked : AreStacked e.puzzle e.trail ks.levels
+  pub standing : found ≡ true → IsStanding e.puzzle e.trail ks.levels true
+  pub led : found ≡ true → AreLed e.puzzle [] e.trail ks.levels
+  pub row : found ≡ true → precedes (numbers ks.levels) (numbers ls.levels) ≡ false
+  pub members : found ≡ true → coming d.puzzle d.trail ls.levels true ≡ coming e.puzzle e.trail ks.levels true
+  pub none : found ≡ false → coming d.puzzle d.trail ls.levels true ≡ []
+
+-- From levels ls in state d it began so many branches, and halts at levels ks in state e, at a row of the search's
+-- tree.
+pub record Halts (until : Option (List ℕ)) (d : Dancing) (ls : Levels) (m : ℕ) (e : Dancing) (ks : Levels)
+    (n begun : ℕ) : Type 0 where
+  pub still : (e ≡ record d { trail = e.trail }) × (ks ≡ record ls { levels = ks.levels })
+  pub standing : IsStanding e.puzzle e.trail ks.levels true
+  pub led : AreLed e.puzzle [] e.trail ks.levels
+  pub over : PassesOver true until m n (coming d.puzzle d.trail ls.levels true)
+      (coming e.puzzle e.trail ks.levels true)
+  pub same : begun ≡ 0 → (e ≡ d) × (ks ≡ ls) × (n ≡ m)
+  pub later : 0 < begun → Rises ls ks
+
 -- It came to the end of its span: of m members n weren't there.
 pub record EndsSpan (d : Dancing) (ls : Levels) (m : ℕ) (until : Option (List ℕ)) (e : Dancing) (ks : Levels) (n : ℕ) :
     Type 0 where
@@ -112,7 +129,7 @@ pub record EndsSpan (d : Dancing) (ls : Levels) (m : ℕ) (until : Option (List 
 -- It went on so: it stands at a member, ran out of steps, or came to the end.
 pub record RanTo (d : Dancing) (ls : Levels) (m most : ℕ) (until : Option (List ℕ)) (stop : Stop) (e : Dancing)
     (ks : Levels) (n steps : ℕ) : Type 0 where
-  pub stands : (stop ≡ Member) ⊎ (stop ≡ Steps) → Stands true true until d ls m e ks n (most - steps)
+  pub halts : (stop ≡ Member) ⊎ (stop ≡ Steps) → Halts until d ls m e ks n (most - steps)
   pub before : (stop ≡ Member) ⊎ (stop ≡ Steps) → is_before until (row_at e.puzzle ks.levels) ≡ true
   pub solved : stop ≡ Member → (n ≡ 0) × IsSolved e.puzzle e.trail ks.levels
   pub ran_out : stop ≡ Steps → steps ≡ 0

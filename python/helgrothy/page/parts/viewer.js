@@ -11,8 +11,9 @@ const ATTRIBUTES = new Set(
 const MOST_STEPS = 2000;
 const MOST_WORDS = 200;
 const MOST_NAMES = 40;
-const CARDS_AT_ONCE = 60;
+const MOST_LINES = 30;
 
+const sentence = (text) => `${text[0].toUpperCase()}${text.slice(1).replace(/\.$/, "")}.`;
 const get = (id) => document.getElementById(id);
 const counted = (count, one, more = `${one}s`) => `${count.toLocaleString("en")} ${count === 1 ? one : more}`;
 
@@ -24,7 +25,11 @@ function made(name, words = {}, ...within) {
 }
 
 class Viewer {
-  constructor() {
+  // idle: what is said where there is nothing yet.
+  constructor(idle = "") {
+    this.idle = idle;
+    // Of all cards those near what is seen have their pictures.
+    this.near = new IntersectionObserver((cards) => this.fill(cards), { rootMargin: "100% 0px" });
     this.bind();
     this.clear();
   }
@@ -40,8 +45,8 @@ class Viewer {
     this.ended = null;
     this.found = [];
     this.at = 0;
-    this.cards = 0;
-    get("cards").replaceChildren();
+    get("filter").value = "";
+    this.dropCards();
     get("problem").hidden = true;
     get("title").textContent = "Solutions";
     this.refresh();
@@ -114,9 +119,14 @@ class Viewer {
     const next = this.found.findIndex((place) => place >= now);
     this.at = next < 0 ? Math.max(this.found.length - 1, 0) : next;
     this.offer();
-    get("cards").replaceChildren();
-    this.cards = 0;
+    this.dropCards();
     this.refresh();
+  }
+
+  dropCards() {
+    this.near.disconnect();
+    this.cards = 0;
+    get("cards").replaceChildren();
   }
 
   // Offers names that begin like the last word of the filter.
@@ -164,7 +174,9 @@ class Viewer {
       const unknown = words.find((word) => ![...this.held.values()].some((held) => held.has(word)));
       return unknown ? `No option of these solutions has ${unknown}.` : "None of these solutions has that.";
     }
-    return this.ended ? ["There is no solution.", ...this.ended.notes].join("\n") : "";
+    if (!this.ended) return this.idle;
+    const first = this.ended.complete ? "There is no solution." : "No solution was found.";
+    return [first, ...this.ended.notes].join("\n");
   }
 
   refreshCount() {
@@ -181,10 +193,10 @@ class Viewer {
     const told = [counted(this.ended ? this.ended.total : all, "solution")];
     if (!this.ended) told.push("and it searches on");
     else if (all < this.ended.total) told.push(`${all.toLocaleString("en")} of them here`);
-    if (this.ended) told.push(this.ended.complete ? "all that there are" : "there may be more", ...this.ended.notes);
+    if (this.ended) told.push(this.ended.complete ? "all that there are" : "there may be more");
     const wanted = this.wanted().map((words) => words.join(" ")).join(" and ");
     if (wanted) told.push(`${this.found.length.toLocaleString("en")} with ${wanted}`);
-    return `${told.join("; ")}.`;
+    return [told.join("; "), ...(this.ended ? this.ended.notes : [])].filter(Boolean).map(sentence).join(" ");
   }
 
   showOne() {
@@ -212,7 +224,12 @@ class Viewer {
       rows.push(made("tr", {}, made("td"), made("td", { colSpan: 3, textContent: `and ${counted(steps.length - MOST_STEPS, "step")} more` })));
     }
     get("steps").replaceChildren(...rows);
-    get("told").textContent = this.way(solution, same);
+    const isKnown = steps.some(([, , , branches]) => branches);
+    get("way").classList.toggle("unknown", !isKnown);
+    get("went").textContent = isKnown ? "How the search went to it" : "Its options";
+    get("items").textContent = isKnown ? "Items, from the one at which it chose" : "Items";
+    const way = isKnown ? this.way(solution, same) : `${counted(steps.length, "option")}.`;
+    get("told").textContent = `Solution ${solution.number.toLocaleString("en")}: ${way}`;
   }
 
   way(solution, same) {
@@ -223,10 +240,13 @@ class Viewer {
       before += (branch - 1) * share;
     }
     const choices = solution.steps.filter(([, , , branches]) => branches > 1).length;
-    const told = [`${counted(solution.steps.length, "step")}, ${counted(choices, "choice")} among branches`];
-    told.push(`by its branches about ${(100 * before).toFixed(before < 0.1 ? 2 : 1)} % of the search lies before it`);
+    const chosen = choices ? `${counted(choices, "choice")} among branches` : "each one forced";
+    const told = [`${counted(solution.steps.length, "step")}, ${chosen}`];
+    if (before > 0) {
+      told.push(`by its branches about ${(100 * before).toFixed(before < 0.1 ? 2 : 1)} % of the search lies before it`);
+    }
     if (same) told.push(`the first ${counted(same, "step")} as in solution ${solution.number - 1}`);
-    return `Solution ${solution.number.toLocaleString("en")}: ${told.join("; ")}.`;
+    return `${told.join("; ")}.`;
   }
 
   row([item, option, branch, branches], place, same, wanted) {
@@ -266,35 +286,50 @@ class Viewer {
   }
 
   showAll() {
-    this.addCards(this.at + 1);
+    this.addCards();
     this.mark();
   }
 
-  // Adds cards: up to a number, or as long as their end is in sight.
-  addCards(least = 0) {
+  // A card for each solution that has none yet.
+  addCards() {
     if (this.cards === 0 && this.found.length) {
       const first = this.solutions[this.found[0]];
       const wide = first.picture ? this.sizeOf(first)[0] : 400;
       get("cards").style.setProperty("--thumb", `${Math.min(Math.max(wide / 2, 130), 420)}px`);
     }
-    const isNear = () => get("rest").getBoundingClientRect().top < 2 * innerHeight;
-    while (this.cards < this.found.length && (this.cards < least || isNear())) {
-      const some = this.found.slice(this.cards, this.cards + CARDS_AT_ONCE);
-      get("cards").append(...some.map((place, number) => this.card(this.solutions[place], this.cards + number)));
-      this.cards += some.length;
-    }
+    const fresh = document.createDocumentFragment();
+    for (; this.cards < this.found.length; this.cards++) fresh.append(this.card(this.cards));
+    get("cards").append(fresh);
   }
 
-  card(solution, place) {
+  card(place) {
+    const solution = this.solutions[this.found[place]];
     const name = made("span", { className: "name", textContent: solution.number.toLocaleString("en") });
     const card = made("button", { type: "button", className: "card" }, name);
-    const lines = () => solution.steps.filter(([, option]) => option).map(([, option]) => this.options.get(option));
-    card.append(this.picture(solution) || made("pre", { textContent: lines().slice(0, 30).join("\n") }));
+    if (solution.picture) {
+      const room = made("span", { className: "room" });
+      room.style.aspectRatio = this.sizeOf(solution).join(" / ");
+      card.append(room);
+      this.near.observe(card);
+    } else {
+      const options = solution.steps.map(([, option]) => option).filter(Boolean).slice(0, MOST_LINES);
+      card.append(made("pre", { textContent: options.map((option) => this.options.get(option)).join("\n") }));
+    }
+    card.dataset.place = solution.place;
     card.addEventListener("click", () => {
       this.at = place;
       this.see(false);
     });
     return card;
+  }
+
+  // Draws the pictures of cards that come near, and drops those of cards that go.
+  fill(cards) {
+    for (const { target, isIntersecting } of cards) {
+      const room = target.querySelector(".room");
+      if (!isIntersecting) room.replaceChildren();
+      else if (!room.hasChildNodes()) room.append(this.picture(this.solutions[target.dataset.place]));
+    }
   }
 
   mark() {
@@ -337,7 +372,6 @@ class Viewer {
   go(place) {
     this.at = Math.min(Math.max(place, 0), Math.max(this.found.length - 1, 0));
     if (this.isAll) {
-      this.addCards(this.at + 1);
       this.mark();
       const card = get("cards").children[this.at];
       if (card) card.scrollIntoView({ block: "nearest" });
@@ -365,9 +399,10 @@ class Viewer {
     get("help").addEventListener("click", () => get("keys").showModal());
     get("theme").addEventListener("click", turnTheme);
     addEventListener("keydown", (event) => this.press(event));
-    addEventListener("scroll", () => this.isAll && this.addCards(), { passive: true });
-    addEventListener("resize", () => this.isAll && this.addCards());
-    addEventListener("beforeprint", () => this.isAll && this.addCards(this.found.length));
+    addEventListener("beforeprint", () => {
+      const rooms = this.isAll ? [...get("cards").querySelectorAll(".room")] : [];
+      this.fill(rooms.map((room) => ({ target: room.parentElement, isIntersecting: true })));
+    });
   }
 
   press(event) {

@@ -1,9 +1,10 @@
-use Rattle.std.proofs.Common.{arith, ◌≡◌, refl}
-use Rattle.xc_search.specs.inner.Levels.{MayBranch}
+use Rattle.std.proofs.Common.{arith, ap, ◌≡◌, refl}
+use Rattle.xc_search.specs.inner.Levels.{Levels, MayBranch}
 use Rattle.xc_search.proofs.stacked.Depth.{depth_at}
 use Rattle.xc_search.proofs.stacked.EarlyChoice.{chosen_leads}
 use Rattle.xc_search.proofs.stacked.LoopSteps.{Opens, node_at, deepens, may_enter, enters_first}
 use Rattle.xc_search.proofs.stacked.LoopSteps.{passes_over}
+use Rattle.xc_search.proofs.spans.Numbers.{rises_below}
 use Rattle.xc_search.proofs.levels.deepen.Goals as goal
 use Rattle.xc_search.proofs.levels.deepen.Goals.{In-Some, After-descend-level}
 use Rattle.xc_search.specs.declared.levels.Entered.{Entered}
@@ -67,6 +68,10 @@ returns-clause-deeper g c b is =
     rw (← same_branch _ b is) (enters_first (opened g (goal.at.returns-clause-deeper g c).After-descend-level)
     c.enter-branch.new.self c.push.new.self c.enter-branch.result c.enter-branch.ensures.still
     c.enter-branch.ensures.entered (rw c.begin_level.ensures at c.push.ensures)).0
+
+pub returns-clause-deeper_row : goal.returns-clause-deeper_row
+returns-clause-deeper_row g c _ _ =
+    rises_below _ c.args.stack.now c.push.new.self (ap (λ (s : Levels). s.levels) c.push.ensures)
 
 pub returns-clause-deeper_path : goal.returns-clause-deeper_path
 returns-clause-deeper_path g c b is x chose =

@@ -1,15 +1,21 @@
 use Rattle.xc_search.proofs.stacked.BackAtLevel.{finished}
-use Rattle.std.proofs.Common.{◌<◌, ◌∷◌, drop, false, arith}
-use Rattle.xc_search.specs.inner.Levels.{AreStacked}
+use Rattle.std.proofs.Common.{◌<◌, ◌∷◌, drop, false, refl, ap, arith}
+use Rattle.xc_search.specs.inner.Levels.{Levels, AreStacked}
 use Rattle.xc_search.specs.inner.Ahead.{GoesOn, visits}
 use Rattle.xc_search.proofs.stacked.Led.{keeps_back}
 use Rattle.xc_search.proofs.stacked.LoopSteps.{GoesOn-trans, goes_on_to}
+use Rattle.xc_search.proofs.spans.Numbers.{oldest_all, oldest_fewer, rises_next}
 use Rattle.xc_search.proofs.levels.resume.Goals as goal
 use Rattle.xc_search.proofs.levels.resume.Goals.{In-Some, After-pop}
 use Rattle.xc_search.proofs.stacked.LoopSteps.{enters_next}
 
 pub loop-level-init : goal.loop-level-init
-loop-level-init g c = grind (arith)
+loop-level-init g c = record {
+  goes_on = record { still = (refl, refl); standing = c.requires.standing; members = refl };
+  path = λ x u a. a;
+  oldest = oldest_all _ _ refl;
+  less = omega arith;
+}
 
 stacked : (g : _) (c : In-Some g) → AreStacked c.loop-level.position.puzzle c.loop-level.position.trail
     (c.in-Some.level.now ∷ drop 1 c.loop-level.stack.levels)
@@ -43,8 +49,23 @@ returns-then-level-clause-resumed_path g c = λ x u a.
     (rw c.in-Some.ensures.some at (c.loop-level.invariant.path x u a)).0.leads
     (rw c.in-Some.ensures.some at (c.loop-level.invariant.path x u a)).1
 
+pub returns-then-level-clause-resumed_row : goal.returns-then-level-clause-resumed_row
+returns-then-level-clause-resumed_row g c =
+    rises_next c.in-Some.level.now c.enter_next-branch.result c.args.stack.now c.loop-level.stack
+    c.note_branch.new.self c.in-Some.ensures.some
+    (ap (λ (s : Levels). s.levels) c.note_branch.ensures)
+    (omega (arith, c.enter_next-branch.ensures.entered.begun.begun)) c.loop-level.invariant.oldest
+
 pub loop-level-smaller : goal.loop-level-smaller
 loop-level-smaller g c = (back g c).1
 
 pub loop-level-preserved : goal.loop-level-preserved
-loop-level-preserved g c = grind (arith, GoesOn-trans, back g c, keeps_back)
+loop-level-preserved g c =
+    let s = c.loop-level.invariant in
+    record {
+      goes_on = GoesOn-trans _ _ _ _ _ _ false false false s.goes_on (back g c).0;
+      path = λ x. grind (arith, s.path, keeps_back);
+      oldest = oldest_fewer c.in-Some.level.now _ _ _ c.in-Some.ensures.some
+          (ap (λ (s : Levels). s.levels) c.pop.ensures) s.oldest;
+      less = omega (arith, s.less, (back g c).1);
+    }

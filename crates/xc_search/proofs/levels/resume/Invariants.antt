@@ -1,6 +1,7 @@
 use Rattle.std.proofs.Common.{◌≤◌, Bool, false}
 use Rattle.xc_search.specs.inner.Ahead.{visits, GoesOn}
 use Rattle.xc_search.specs.inner.Paths.{KeepsBy}
+use Rattle.xc_search.proofs.spans.Numbers.{IsOldest}
 use Rattle.xc_search.proofs.levels.resume.Given as goal
 
 -- what the levels have still to give is what they had
@@ -8,6 +9,7 @@ abbrev pub invariant-loop-level : goal.invariant-loop-level
 invariant-loop-level g l = record {
   goes_on : GoesOn l.initial.position l.initial.stack false l.position l.stack false;
   path : (x : Bool) → KeepsBy x l.initial.position l.initial.stack l.position l.stack;
+  oldest : IsOldest l.initial.stack l.stack;
   less : visits l.position.puzzle l.position.trail l.stack.levels ≤ visits l.initial.position.puzzle
       l.initial.position.trail l.initial.stack.levels;
 }

@@ -6,6 +6,7 @@ abbrev pub invariant-loop-level : goal.invariant-loop-level
 invariant-loop-level g l = record {
   still : l.position ≡ record l.initial.position { trail = l.position.trail };
   stacked : AreStacked l.position.puzzle l.position.trail l.stack.levels;
+  stack : l.stack ≡ record l.initial.stack { levels = l.stack.levels };
 }
 
 abbrev pub decreases-loop-level : goal.decreases-loop-level

@@ -16,13 +16,13 @@ returns-in-Branch-clause-entered g c b is =
 pub resume-requires : goal.resume-requires
 resume-requires g c = record {
   standing = (c.go_below.ensures.back c.in-Nothing.is None
-      (rest_of_all c.args.position.now.puzzle c.args.stack.now.levels c.args.rest)).standing;
+      (rest_of_all c.args.position.now.puzzle c.args.stack.now.levels c.args.last.now)).standing;
 }
 
 pub returns-in-Some-clause-entered : goal.returns-in-Some-clause-entered
 returns-in-Some-clause-entered g c b is until rest =
     rw (← same_entered _ b is) (enters_back (c.go_below.ensures.back c.in-Nothing.is until rest)
-    c.in-Some.ensures.resumed (c.in-Some.ensures.resumed_path _))
+    c.in-Some.ensures.resumed (c.in-Some.ensures.resumed_path _) c.in-Some.ensures.resumed_row)
 
 pub returns-in-None-clause-done : goal.returns-in-None-clause-done
 returns-in-None-clause-done g c _ until rest =

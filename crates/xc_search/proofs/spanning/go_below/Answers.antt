@@ -1,5 +1,5 @@
 use Rattle.std.proofs.Common.{arith, ◌≡◌, ◌∙◌, not, refl}
-use Rattle.xc_search.specs.inner.Spanning.{is_counted}
+use Rattle.std.proofs.lemmas.List.{length-reverse}
 use Rattle.xc_search.proofs.stacked.EarlyChoice.{chosen_next}
 use Rattle.xc_search.proofs.stacked.NextLevel.{solution}
 use Rattle.xc_search.proofs.spans.Onward.{falls_over, enters_below}
@@ -12,9 +12,10 @@ use Rattle.xc_search.proofs.spanning.go_below.Goals.{else-levels-last-via-else-l
 pub returns-then-pass_below-clause-back : goal.returns-then-pass_below-clause-back
 returns-then-pass_below-clause-back g c _ until is =
     let d = c.args.position.now in
-    falls_over (not c.args.early) (is_counted c.args.rest) until d c.args.stack.now _ _ c.requires.standing
-    (over_below until d.puzzle d.trail c.args.stack.now.levels c.args.rest _ _ is
-    (c.pass_below.ensures.aside c.if-pass_below.true) (c.pass_below.ensures.passed c.if-pass_below.true))
+    falls_over (not c.args.early) (not c.args.behind) until d c.args.stack.now _ _ c.requires.standing
+    (over_below until d.puzzle d.trail c.args.stack.now.levels c.args.last.now (not c.args.behind) _ _ is
+    (grind (arith, length-reverse))
+    (c.pass_below.ensures.passed c.if-pass_below.true))
 
 pub deepen-requires-clause-next : goal.deepen-requires-clause-next
 deepen-requires-clause-next g c =
@@ -32,9 +33,10 @@ as_many g c = elim c.else-levels-last.branch [
 pub returns-in-Branch-clause-entered : goal.returns-in-Branch-clause-entered
 returns-in-Branch-clause-entered g c b is until _ =
     rw (as_many g (goal.at.returns-in-Branch-clause-entered g c).After-choose_by-next)
-    (enters_below (not c.args.early) (is_counted c.args.rest) until c.args.more.now
+    (enters_below (not c.args.early) (not c.args.behind) until c.args.more.now
     (c.deepen.ensures.deeper b (c.in-Branch.is ∙ is))
-    (c.deepen.ensures.deeper_path b (c.in-Branch.is ∙ is) (not c.args.early) c.choose_by-next.ensures.choice))
+    (c.deepen.ensures.deeper_path b (c.in-Branch.is ∙ is) (not c.args.early) c.choose_by-next.ensures.choice)
+    (c.deepen.ensures.deeper_row b (c.in-Branch.is ∙ is)))
 
 pub returns-else-more-eq0-clause-back : goal.returns-else-more-eq0-clause-back
 returns-else-more-eq0-clause-back g c _ until is =
@@ -43,7 +45,7 @@ returns-else-more-eq0-clause-back g c _ until is =
     let here = c.deepen.ensures.same c.in-Solution.is in
     let none = c.deepen.ensures.solved c.in-Solution.is in
     let one = solution d.puzzle d.trail c.args.stack.now.levels (c.requires.standing.searchable refl).legal none in
-    rw (here.0, here.1) (falls_over (not c.args.early) (is_counted c.args.rest) until d c.args.stack.now _ _
-    c.requires.standing (over_one (is_counted c.args.rest) until d.puzzle d.trail c.args.stack.now.levels
-    c.args.rest _ _
+    rw (here.0, here.1) (falls_over (not c.args.early) (not c.args.behind) until d c.args.stack.now _ _
+    c.requires.standing (over_one (not c.args.behind) until d.puzzle d.trail c.args.stack.now.levels
+    c.args.last.now _ _
     is one (omega (arith, same, c.if-more-eq0.false))))

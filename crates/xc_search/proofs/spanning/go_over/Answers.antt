@@ -1,44 +1,47 @@
-use Rattle.std.proofs.Common.{true, arith, inl, inr}
-use Rattle.std.proofs.lemmas.Bool.Decides.{nat_tests}
+use Rattle.std.proofs.Common.{◌∙◌, sym, ap, inl, inr}
+use Rattle.std.specs.Prelude.{option_map}
+use Rattle.xc_search.specs.Spans.{is_before}
+use Rattle.xc_search.proofs.spans.Kept.{row_levels}
 use Rattle.xc_search.proofs.spans.Exact.{led_by}
-use Rattle.xc_search.proofs.spans.Running.{stands_first, stands_on}
-use Rattle.xc_search.proofs.spans.Runs.{ran_to}
+use Rattle.xc_search.proofs.spans.Runs.{ran_to, settled, settled_behind, settled_nowhere}
 use Rattle.xc_search.proofs.spanning.go_over.Goals as goal
 
-pub loop-ran-init : goal.loop-ran-init
-loop-ran-init g c = record {
-  stands = stands_first _ true _ _ _ _ c.requires.standing (led_by _ _ _ _ _ c.requires.led) _ (omega arith);
-  before = c.requires.before;
-  some = c.requires.some;
-  within = omega arith;
-}
+pub replace_with-ran-requires : goal.replace_with-ran-requires
+replace_with-ran-requires g c = (
+  c.requires.standing,
+  (
+    c.requires.levels_fit,
+    (led_by _ _ _ _ _ c.requires.led, (c.requires.before, λ h. absurd (cc h))),
+  ),
+)
 
-pub loop-ran-preserved : goal.loop-ran-preserved
-loop-ran-preserved g c =
-    let s = c.loop-ran.invariant in
-    let r = c.replace_with-ran.ensures in
-    record {
-      stands = stands_on s.stands (r.stands (λ e. absurd (cc (c.in-Steps.is, e))))
-          (λ e. absurd (omega (arith, e, c.if-not-early.false)))
-          (λ a b. omega (arith, s.some, r.ran_out c.in-Steps.is));
-      before = r.before (inr c.in-Steps.is);
-      some = omega arith;
-      within = omega (arith, s.some, s.within);
-    }
-
-pub returns-then-not-early : goal.returns-then-not-early
-returns-then-not-early g c =
-    let s = c.loop-ran.invariant in
-    ran_to c.requires.led s.stands s.within c.replace_with-ran.ensures
-    (λ _. grind (arith, nat_tests, c.if-not-early.true))
-
-pub returns-in-Member : goal.returns-in-Member
-returns-in-Member g c =
-    let s = c.loop-ran.invariant in
-    ran_to c.requires.led s.stands s.within c.replace_with-ran.ensures (λ e. elim c.in-Member.is [
+pub returns-in-Member-clause-ran : goal.returns-in-Member-clause-ran
+returns-in-Member-clause-ran g c =
+    ran_to c.requires.led c.replace_with-ran.ensures (λ e. elim c.in-Member.is [
       | inl i ↦ absurd (cc (i, e))
       | inr j ↦ elim j [
         | inl i ↦ absurd (cc (i, e))
         | inr i ↦ absurd (cc (i, e))
       ]
     ])
+
+pub returns-then-not-settle-clause-ran : goal.returns-then-not-settle-clause-ran
+returns-then-not-settle-clause-ran g c =
+    settled_nowhere c.requires.led c.replace_with-ran.ensures c.in-Steps.is c.requires.some c.settle.ensures.settles
+    c.if-not-settle.true
+
+pub returns-then-is_before-clause-ran : goal.returns-then-is_before-clause-ran
+returns-then-is_before-clause-ran g c =
+    let row = row_levels c.settle.new.state.position.puzzle c.levels.result.now c.settle.new.state.stack.levels
+    c.levels.ensures.levels in
+    settled c.requires.led c.replace_with-ran.ensures c.in-Steps.is c.requires.some c.settle.ensures.settles
+    c.if-not-settle.false
+    (ap (is_before (option_map (λ u. u.now) c.args.until)) (sym row) ∙ sym c.is_before.ensures ∙ c.if-is_before.true)
+
+pub returns-else-is_before-clause-ran : goal.returns-else-is_before-clause-ran
+returns-else-is_before-clause-ran g c =
+    let row = row_levels c.settle.new.state.position.puzzle c.levels.result.now c.settle.new.state.stack.levels
+    c.levels.ensures.levels in
+    settled_behind c.requires.led c.replace_with-ran.ensures c.in-Steps.is c.requires.some c.settle.ensures.settles
+    c.if-not-settle.false
+    (ap (is_before (option_map (λ u. u.now) c.args.until)) (sym row) ∙ sym c.is_before.ensures ∙ c.if-is_before.false)

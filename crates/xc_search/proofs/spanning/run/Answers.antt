@@ -1,35 +1,39 @@
-use Rattle.std.proofs.Common.{not, refl, sym, ap, ◌∙◌, arith}
+use Rattle.std.proofs.Common.{not, refl, sym, ap, ◌∙◌, arith, length}
 use Rattle.std.specs.Prelude.{option_map}
-use Rattle.xc_search.specs.inner.Spanning.{Begins}
+use Rattle.std.proofs.lemmas.List.{length-reverse}
+use Rattle.xc_search.specs.inner.Spanning.{Begins, IsRest}
 use Rattle.xc_search.proofs.spans.Kept.{row_levels, rest_before, rest_about}
 use Rattle.xc_search.proofs.spans.Passing.{rest_of_all}
 use Rattle.xc_search.proofs.spans.Running.{stands_first}
-use Rattle.xc_search.proofs.spans.Runs.{not_true, begins_counted, ends_counted, runs_to_steps, runs_to_member}
-use Rattle.xc_search.proofs.spans.Runs.{runs_to_end, runs_on, runs_to_row}
+use Rattle.xc_search.proofs.spans.Runs.{runs_to_steps, runs_to_member, runs_to_end, runs_on, runs_to_row}
 use Rattle.xc_search.proofs.spanning.run.Goals as goal
-use Rattle.xc_search.proofs.spanning.run.Goals.{After-commit_branch, After-first_rest-rest, In-Reached, In-Before}
+use Rattle.xc_search.proofs.spanning.run.Goals.{After-commit_branch, Joined-behind, then-behind, else-behind}
 
-pub first_rest-rest-requires : goal.first_rest-rest-requires
-first_rest-rest-requires g c = record {
-  behind = λ h x. rw (row_levels c.args.position.now.puzzle c.levels-2.result.now c.args.stack.now.levels
-      c.levels-2.ensures.levels) (c.requires.behind h x);
+-- where it begins
+first_rest : (g : _) (c : Joined-behind g) → IsRest (option_map (λ u. u.now) c.args.task.until)
+    c.args.position.now.puzzle c.args.stack.now.levels c.if-behind.last
+first_rest g c = record {
+  before = c.requires.before;
+  all = elim c.if-behind.branch [
+    | then-behind w ↦ λ _ x. c.requires.behind w.if-behind.true x
+    | else-behind w ↦ λ h x. absurd (omega (
+      arith,
+      h,
+      w.last-is,
+      ap length c.levels-levels.ensures.levels,
+      length-reverse c.levels-levels.result.now,
+    ))
+  ];
 }
 
 pub loop-steps-init : goal.loop-steps-init
-loop-steps-init g c =
-    let row = row_levels c.args.position.now.puzzle c.levels-2.result.now c.args.stack.now.levels
-    c.levels-2.ensures.levels in
-    record {
-      stands = stands_first (not c.args.task.early) (not c.args.task.behind) _ _ _ _ c.requires.standing c.requires.led
-          _ (omega arith);
-      rest = record {
-        before = c.requires.before;
-        all = λ h x. rw (← row) (c.first_rest-rest.ensures.all h x);
-      };
-      counted = c.first_rest-rest.ensures.counted;
-      same = refl;
-      within = omega arith;
-    }
+loop-steps-init g c = record {
+  stands = stands_first (not c.args.task.early) (not c.args.task.behind) _ _ _ _ c.requires.standing c.requires.led
+      _ (omega arith);
+  rest = first_rest g (goal.at.loop-steps-init g c).Joined-behind;
+  same = refl;
+  within = omega arith;
+}
 
 pub commit_branch-requires-clause-can : goal.commit_branch-requires-clause-can
 commit_branch-requires-clause-can g c =
@@ -45,8 +49,7 @@ begins : (g : _) (c : After-commit_branch g) → Begins (not c.args.task.early) 
     c.commit_branch.new.self c.enter_branch.new.stack c.enter_branch.new.more
 begins g c =
     let s = c.loop-steps.invariant in
-    rw c.commit_branch.ensures (begins_counted (λ h. s.counted (not_true c.args.task.behind h))
-    (c.enter_branch.ensures.entered c.in-Branch.entered c.in-Branch.is _ s.rest).begins)
+    rw c.commit_branch.ensures (c.enter_branch.ensures.entered c.in-Branch.entered c.in-Branch.is _ s.rest).begins
 
 pub returns-in-Solution : goal.returns-in-Solution
 returns-in-Solution g c =
@@ -58,14 +61,13 @@ returns-in-Solution g c =
 pub returns-in-Nothing : goal.returns-in-Nothing
 returns-in-Nothing g c =
     let s = c.loop-steps.invariant in
-    runs_to_end s.stands s.within (ends_counted (λ h. s.counted (not_true c.args.task.behind h))
-    (c.enter_branch.ensures.done c.in-Nothing.is _ s.rest))
+    runs_to_end s.stands s.within (c.enter_branch.ensures.done c.in-Nothing.is _ s.rest)
 
 pub returns-in-Reached : goal.returns-in-Reached
 returns-in-Reached g c =
     let on = (goal.at.returns-in-Reached g c).After-commit_branch in
-    let row = row_levels c.commit_branch.new.self.puzzle c.levels-in-Some.result.now c.enter_branch.new.stack.levels
-    c.levels-in-Some.ensures.levels in
+    let row = row_levels c.commit_branch.new.self.puzzle c.levels.result.now c.enter_branch.new.stack.levels
+    c.levels.ensures.levels in
     let s = c.loop-steps.invariant in
     runs_to_row s.stands s.within c.loop-steps-test.true (begins g on)
     (rw (← s.same, c.in-Some.is, ← row) (c.place_of.ensures.reached c.in-Reached.is))
@@ -76,10 +78,9 @@ loop-steps-preserved-in-Before g c =
     let s = c.loop-steps.invariant in
     record {
       stands = runs_on s.stands s.within c.loop-steps-test.true (begins g on);
-      rest = rest_before c.commit_branch.new.self.puzzle c.levels-in-Some.result.now c.enter_branch.new.stack.levels
-          c.in-Some.until.now _ c.levels-in-Some.ensures.levels
+      rest = rest_before c.commit_branch.new.self.puzzle c.levels.result.now c.enter_branch.new.stack.levels
+          c.in-Some.until.now _ _ c.levels.ensures.levels
           (ap (option_map (λ u. u.now)) (sym s.same ∙ c.in-Some.is)) (c.place_of.ensures.before c.in-Before.is);
-      counted = λ _. refl;
       same = s.same;
       within = omega (arith, s.within);
     }
@@ -90,10 +91,10 @@ loop-steps-preserved-in-Begins g c =
     let s = c.loop-steps.invariant in
     record {
       stands = runs_on s.stands s.within c.loop-steps-test.true (begins g on);
-      rest = rest_about c.commit_branch.new.self.puzzle c.levels-in-Some.result.now c.enter_branch.new.stack.levels
-          c.in-Some.until.now _ c.levels-in-Some.ensures.levels
-          (ap (option_map (λ u. u.now)) (sym s.same ∙ c.in-Some.is)) (c.place_of.ensures.begins c.in-Begins.is);
-      counted = λ _. refl;
+      rest = rest_about c.commit_branch.new.self.puzzle c.levels.result.now c.enter_branch.new.stack.levels
+          c.in-Some.until.now _ _ c.levels.ensures.levels
+          (ap (option_map (λ u. u.now)) (sym s.same ∙ c.in-Some.is)) (c.place_of.ensures.begins c.in-Begins.is)
+          (omega arith);
       same = s.same;
       within = omega (arith, s.within);
     }
@@ -105,8 +106,7 @@ loop-steps-preserved g c =
     record {
       stands = runs_on s.stands s.within c.loop-steps-test.true (begins g on);
       rest = rw (← s.same, c.in_default.is)
-          (rest_of_all c.commit_branch.new.self.puzzle c.enter_branch.new.stack.levels c.loop-steps.rest);
-      counted = s.counted;
+          (rest_of_all c.commit_branch.new.self.puzzle c.enter_branch.new.stack.levels _);
       same = s.same;
       within = omega (arith, s.within);
     }

@@ -1,6 +1,6 @@
-use Rattle.std.proofs.Common.{◌≡◌, ◌-◌, ◌≤◌, true, false, not}
+use Rattle.std.proofs.Common.{◌≡◌, ◌-◌, ◌≤◌, not}
 use Rattle.std.specs.Prelude.{option_map}
-use Rattle.xc_search.specs.inner.Spanning.{Stands, IsRest, is_counted}
+use Rattle.xc_search.specs.inner.Spanning.{Stands, IsRest}
 use Rattle.xc_search.proofs.spanning.run.Given as goal
 
 abbrev pub invariant-loop-steps : goal.invariant-loop-steps
@@ -8,8 +8,7 @@ invariant-loop-steps g l = record {
   stands : Stands (not l.early) (not l.behind) (option_map (λ u. u.now) l.initial.until) l.initial.position
       l.initial.stack
       l.initial.more l.position l.stack l.more (l.initial.steps - l.steps);
-  rest : IsRest (option_map (λ u. u.now) l.initial.until) l.position.puzzle l.stack.levels l.rest;
-  counted : l.behind ≡ false → is_counted l.rest ≡ true;
+  rest : IsRest (option_map (λ u. u.now) l.initial.until) l.position.puzzle l.stack.levels l.last;
   same : l.until ≡ l.initial.until;
   within : l.steps ≤ l.initial.steps;
 }

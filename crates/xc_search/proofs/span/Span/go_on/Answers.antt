@@ -3,7 +3,7 @@ use Rattle.std.proofs.Common.{arith, inl, inr}
 use Rattle.std.specs.Prelude.{option_map, IfSome}
 use Rattle.xc_search.specs.Spans.{precedes, is_before, between}
 use Rattle.xc_search.specs.inner.Levels.{choices_of}
-use Rattle.xc_search.specs.inner.Spanning.{row_at, row_from, Stands, EndsSpan}
+use Rattle.xc_search.specs.inner.Spanning.{row_at, row_from, Halts, EndsSpan}
 use Rattle.xc_dance.specs.Dancing.{Dancing}
 use Rattle.xc_search.proofs.stacked.ShownLevels.{all_shown}
 use Rattle.xc_search.specs.declared.choice.Choice.{Choice}
@@ -60,11 +60,11 @@ module _ (g : _) (c : After-go_over-ran g) where
 
   -- where it stands
   stands : (c.go_over-ran.result.stop ≡ Member) ⊎ (c.go_over-ran.result.stop ≡ Steps) →
-      Stands true true until c.self.inside.state.position c.self.inside.state.stack (over_first c.args.many
+      Halts until c.self.inside.state.position c.self.inside.state.stack (over_first c.args.many
       c.self.inside.down)
       c.go_over-ran.new.state.position c.go_over-ran.new.state.stack c.go_over-ran.result.more
       (c.args.steps - c.go_over-ran.result.steps)
-  stands h = rw (over g c) at (c.go_over-ran.ensures.stands h)
+  stands h = rw (over g c) at (c.go_over-ran.ensures.ran.halts h)
 
   moved : (c.go_over-ran.result.stop ≡ Member) ⊎ (c.go_over-ran.result.stop ≡ Steps) →
       c.go_over-ran.new.state.position.puzzle ≡ c.self.inside.state.position.puzzle
@@ -72,13 +72,13 @@ module _ (g : _) (c : After-go_over-ran g) where
 
   before : (h : (c.go_over-ran.result.stop ≡ Member) ⊎ (c.go_over-ran.result.stop ≡ Steps)) →
       is_before until (row_at c.self.inside.state.position.puzzle c.go_over-ran.new.state.stack.levels) ≡ true
-  before h = rw (moved h) at (c.go_over-ran.ensures.before h)
+  before h = rw (moved h) at (c.go_over-ran.ensures.ran.before h)
 
   -- how it went on to a member
   module _ (h : c.go_over-ran.result.stop ≡ Member) where
     solved : IsSolved c.self.inside.state.position.puzzle c.go_over-ran.new.state.position.trail
         c.go_over-ran.new.state.stack.levels
-    solved = rw (moved (inl h)) at (c.go_over-ran.ensures.solved h).1
+    solved = rw (moved (inl h)) at (c.go_over-ran.ensures.ran.solved h).1
 
     to_member : Advances c.self.inside.state.position.puzzle
         (row_from c.self.inside.state.position.puzzle c.self.inside.state.stack.levels c.self.inside.down) until
@@ -86,19 +86,19 @@ module _ (g : _) (c : After-go_over-ran g) where
         c.args.many
     to_member =
         rw (moved (inl h)) (at_member (at g c) (stands (inl h)) (some g c) until (before (inl h)) solved
-        (c.go_over-ran.ensures.solved h).0)
+        (c.go_over-ran.ensures.ran.solved h).0)
 
     there : (was : List Choice) → shown_after c.args.many (between c.self.inside.state.position.puzzle
         (row_from c.self.inside.state.position.puzzle c.self.inside.state.stack.levels c.self.inside.down) until) was
         ≡ choices_of c.go_over-ran.new.state.position.puzzle c.go_over-ran.new.state.stack.levels
     there was =
         rw (moved (inl h)) (shown_there (at g c) (stands (inl h)) (some g c) until (before (inl h)) solved
-        (c.go_over-ran.ensures.solved h).0 was)
+        (c.go_over-ran.ensures.ran.solved h).0 was)
 
   -- or until it ran out of steps
   module _ (h : c.go_over-ran.result.stop ≡ Steps) (more : 0 < c.args.steps) where
     taken : 0 < c.args.steps - c.go_over-ran.result.steps
-    taken = omega (arith, more, c.go_over-ran.ensures.ran_out h)
+    taken = omega (arith, more, c.go_over-ran.ensures.ran.ran_out h)
 
     fewer : c.go_over-ran.result.more < c.args.many
     fewer = still_more (at g c) (stands (inr h)) (some g c) taken
@@ -114,7 +114,7 @@ module _ (g : _) (c : After-go_over-ran g) where
     ends : EndsSpan c.self.inside.state.position c.self.inside.state.stack
         (over_first c.args.many c.self.inside.down) until
         c.go_over-ran.new.state.position c.go_over-ran.new.state.stack c.go_over-ran.result.more
-    ends = rw (over g c) at (c.go_over-ran.ensures.ended h)
+    ends = rw (over g c) at (c.go_over-ran.ensures.ran.ended h)
 
     to_end : (c.go_over-ran.result.more < c.args.many) × (length (between c.self.inside.state.position.puzzle
         (row_from c.self.inside.state.position.puzzle c.self.inside.state.stack.levels c.self.inside.down) until)
@@ -125,7 +125,7 @@ pub show-requires-clause-shown : goal.show-requires-clause-shown
 show-requires-clause-shown g c =
     all_shown c.go_over-ran.new.state.position.puzzle c.go_over-ran.new.state.position.trail
     c.go_over-ran.new.state.stack.levels
-    (c.go_over-ran.ensures.stands (inl c.in-Member.is)).standing.stacked
+    (c.go_over-ran.ensures.ran.halts (inl c.in-Member.is)).standing.stacked
 
 pub overflow_sub-result-in-Row : goal.overflow_sub-result-in-Row
 overflow_sub-result-in-Row g c =
@@ -213,11 +213,11 @@ returns-in-Member-clause-stands g c _ =
     let r = (goal.at.returns-in-Member-clause-stands g c).After-go_over-ran in
     let p = c.go_over-ran.new.state.position.puzzle in
     let ls = c.go_over-ran.new.state.stack.levels in
-    rw c.if-self.false (end_not_from (until g r) p ls false (c.go_over-ran.ensures.before (inl c.in-Member.is)))
+    rw c.if-self.false (end_not_from (until g r) p ls false (c.go_over-ran.ensures.ran.before (inl c.in-Member.is)))
 
 pub returns-in-Steps-clause-stands : goal.returns-in-Steps-clause-stands
 returns-in-Steps-clause-stands g c _ =
     let r = (goal.at.returns-in-Steps-clause-stands g c).After-go_over-ran in
     let p = c.go_over-ran.new.state.position.puzzle in
     let ls = c.go_over-ran.new.state.stack.levels in
-    rw c.if-self.false (end_not_from (until g r) p ls true (c.go_over-ran.ensures.before (inr c.in-Steps.is)))
+    rw c.if-self.false (end_not_from (until g r) p ls true (c.go_over-ran.ensures.ran.before (inr c.in-Steps.is)))

@@ -1,0 +1,56 @@
+use Rattle.std.proofs.Common.{ℕ, ◌≡◌, true, List, None, refl, sym, ap, ap₂, ◌∙◌, arith}
+use Rattle.xc_dance.specs.Dancing.{Dancing}
+use Rattle.xc_search.specs.Cover.{members}
+use Rattle.xc_search.specs.Spans.{precedes, between}
+use Rattle.xc_search.specs.inner.Levels.{Levels, coming}
+use Rattle.xc_search.specs.inner.Spanning.{row_at}
+use Rattle.xc_search.proofs.stacked.Start.{starts_standing, starts_coming}
+use Rattle.xc_search.proofs.spans.Kept.{row_levels}
+use Rattle.xc_search.proofs.spans.Numbers.{numbers_row}
+use Rattle.xc_search.proofs.spans.Running.{led_from, led_from_by}
+use Rattle.xc_search.proofs.spans.Advance.{begins_from, none_from}
+use Rattle.xc_search.proofs.spanning.settle.Goals as goal
+
+pub reach-requires-clause-standing : goal.reach-requires-clause-standing
+reach-requires-clause-standing g c =
+    starts_standing c.args.state.now.position.puzzle (c.requires.standing.searchable refl).valid _ _ _
+    (ap (λ (d : Dancing). d.puzzle) c.unwind.ensures.position)
+    (ap (λ (d : Dancing). d.trail) c.unwind.ensures.position)
+    (ap (λ (s : Levels). s.levels) c.unwind.ensures.stack)
+
+pub returns-clause-settles : goal.returns-clause-settles
+returns-clause-settles g c =
+    let d = c.args.state.now.position in
+    let ls = c.args.state.now.stack.levels in
+    let f = c.unwind.new.position in
+    let e = c.reach.new.state.position in
+    let ks = c.reach.new.state.stack.levels in
+    let from = c.deref.result.now in
+    let reach = c.reach.ensures in
+    let is : from ≡ row_at d.puzzle ls =
+    c.deref.ensures.value ∙ c.note_row.ensures.items ∙ row_levels d.puzzle c.levels.result.now ls
+    c.levels.ensures.levels in
+    let moved : e.puzzle ≡ f.puzzle = ap (λ (d : Dancing). d.puzzle) reach.still in
+    let puzzle : e.puzzle ≡ d.puzzle = moved ∙ ap (λ (d : Dancing). d.puzzle) c.unwind.ensures.position in
+    let all : coming f.puzzle f.trail c.unwind.new.stack.levels true ≡ members e.puzzle =
+    starts_coming _ _ _ (ap (λ (d : Dancing). d.trail) c.unwind.ensures.position)
+    (ap (λ (s : Levels). s.levels) c.unwind.ensures.stack) ∙ ap members (sym moved) in
+    let here : coming d.puzzle d.trail ls true ≡ between e.puzzle from None =
+    sym (led_from_by _ d.puzzle d.trail ls c.requires.led)
+    ∙ ap₂ (λ p (r : List ℕ). between p r None) (sym puzzle) (sym is) in
+    record {
+      still = grind (
+        arith,
+        reach.still,
+        reach.levels,
+        c.unwind.ensures.position,
+        c.unwind.ensures.stack,
+      );
+      stacked = reach.stacked;
+      standing = reach.standing;
+      led = reach.led;
+      row = λ h. ap₂ precedes (numbers_row e.puzzle ks) (numbers_row d.puzzle ls ∙ sym is) ∙ reach.reached h;
+      members = λ h. here ∙ begins_from e.puzzle e.trail ks from _ (reach.led h) (reach.reached h) all (reach.kept h)
+          ∙ led_from e.puzzle e.trail ks (reach.led h);
+      none = λ h. here ∙ none_from e.puzzle from _ None all (reach.none h);
+    }

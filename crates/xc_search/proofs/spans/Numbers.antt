@@ -1,0 +1,68 @@
+-- The numbers of levels rise from branch to branch.
+use Rattle.std.proofs.Common.{ℕ, ◌≡◌, ◌<◌, List, [], ◌∷◌, ◌++◌, map, reverse, drop, sym, ap, ◌∙◌}
+use Rattle.std.proofs.Common.{append_assoc, append-nil}
+use Rattle.std.proofs.lemmas.List.{map-append, reverse-append, reverse-reverse}
+use Rattle.xc_search.specs.declared.level.Level.{Level}
+use Rattle.xc_search.specs.declared.level.Begun.{Begun}
+use Rattle.xc_input.specs.Problem.{Puzzle}
+use Rattle.xc_search.specs.Spans.{precedes}
+use Rattle.xc_search.specs.inner.Levels.{Levels, newest_begun}
+use Rattle.xc_search.specs.inner.Paths.{Rises, numbers}
+use Rattle.xc_search.specs.inner.Spanning.{row_at}
+use Rattle.xc_search.proofs.spans.Kept.{row_levels}
+use Rattle.xc_search.proofs.spans.Rows.{less_before, same_beginning, not_before_before, before_either_way}
+
+-- they are the levels' row
+pub numbers_row : (p : Puzzle) (ls : List Level) → numbers ls ≡ row_at p ls
+numbers_row p ls = row_levels p (reverse ls) ls (reverse-reverse ls)
+
+numbers_more : (l : Level) (ls : List Level) → numbers (l ∷ ls) ≡ numbers ls ++ l.begun ∷ []
+numbers_more l ls =
+    ap (map (λ (l : Level). l.begun)) (reverse-append (l ∷ []) ls)
+    ∙ map-append (λ (l : Level). l.begun) (reverse ls) (l ∷ [])
+
+-- a level more
+pub rises_below : (l : Level) (ls ks : Levels) → ks.levels ≡ l ∷ ls.levels → Rises ls ks
+rises_below l ls ks e =
+    let row = numbers ls.levels in
+    ap (precedes row) (ap numbers e ∙ numbers_more l ls.levels)
+    ∙ ap (λ r. precedes r (row ++ l.begun ∷ [])) (sym (append-nil row)) ∙ same_beginning row [] (l.begun ∷ [])
+
+-- these levels are the oldest of the others
+pub record IsOldest (ls ks : Levels) : Type 0 where
+  pub behind : List ℕ
+  pub numbers : numbers ls.levels ≡ numbers ks.levels ++ behind
+
+pub oldest_all : (ls ks : Levels) → ks ≡ ls → IsOldest ls ks
+oldest_all ls ks e = record {
+  behind = [];
+  numbers = sym (append-nil (numbers ls.levels)) ∙ ap (λ (k : Levels). numbers k.levels ++ []) (sym e);
+}
+
+pub oldest_fewer : (l : Level) (ls ks js : Levels) → ks.levels ≡ l ∷ drop 1 ks.levels → js.levels ≡ drop 1 ks.levels
+    → IsOldest ls ks → IsOldest ls js
+oldest_fewer l ls ks js top e o = record {
+  behind = l.begun ∷ o.behind;
+  numbers = o.numbers
+      ∙ ap (λ r. r ++ o.behind) (ap numbers (top ∙ ap (λ ls. l ∷ ls) (sym e)) ∙ numbers_more l js.levels)
+      ∙ append_assoc (numbers js.levels) (l.begun ∷ []) o.behind;
+}
+
+-- the next branch of the newest of these
+pub rises_next : (l : Level) (b : Begun) (ls ks js : Levels) → ks.levels ≡ l ∷ drop 1 ks.levels
+    → js.levels ≡ newest_begun b ks.levels → l.begun < b.begun → IsOldest ls ks → Rises ls js
+rises_next l b ls ks js top e more o =
+    let rest = drop 1 ks.levels in
+    let row = numbers rest in
+    let was : numbers ls.levels ≡ row ++ l.begun ∷ o.behind =
+    o.numbers ∙ ap (λ r. r ++ o.behind) (ap numbers top ∙ numbers_more l rest)
+    ∙ append_assoc row (l.begun ∷ []) o.behind in
+    let is : numbers js.levels ≡ row ++ b.begun ∷ [] =
+    ap numbers (e ∙ ap (newest_begun b) top) ∙ numbers_more _ rest in
+    rw (was, is) (same_beginning row (l.begun ∷ o.behind) (b.begun ∷ [])
+    ∙ less_before l.begun b.begun o.behind [] more)
+
+-- one behind another
+pub rises_on : (ls ks js : Levels) → Rises ls ks → Rises ks js → Rises ls js
+rises_on ls ks js a b = not_before_before (numbers ls.levels) (numbers ks.levels) (numbers js.levels)
+    (before_either_way (numbers ls.levels) (numbers ks.levels) a) b

@@ -1,0 +1,262 @@
+"""What the local page is answered, by a process of its own for each request.
+
+The process reads the request from its standard input, which stays open as long as the page wants the answer: where it
+ends, the process and the programs that it runs are killed. So nothing goes on for nobody, whatever becomes of the
+server. Time, memory and files are limited, and the folder that it is in is its own.
+"""
+
+from __future__ import annotations
+
+import json
+import os
+import random
+import re
+import resource
+import signal
+import sys
+import threading
+import time
+from contextlib import suppress
+from dataclasses import dataclass, field, fields
+from typing import Any, Dict, Iterator, List, Mapping, Optional, Union
+
+from .. import shuffle, symmetry, why
+from ..console import limited
+from ..draw import drawing_of
+from ..errors import HelgrothyError, NoPicture, OutOfTime, reason_of
+from ..lint import Remark, lint
+from ..make import KINDS, kind_of
+from ..problem import Problem, Solutions
+from ..shown import shown
+from ..stream import Stream
+from ..table import by_patterns
+from . import forms
+from .record import Draw, Record
+
+MOST_LIMIT = 1_000
+MOST_SECONDS = 600.0
+# A page is told so much of solutions, and so many remarks.
+_MOST_TOLD = 1 << 25
+_MOST_REMARKS = 200
+# For the reason why there is no solution.
+_REASON_SECONDS = 2.0
+# Of the process, and of each program that it runs.
+_MEMORY = 2 << 30
+_FILES = 1 << 30
+_MORE_SECONDS = 10
+
+
+@dataclass(frozen=True)
+class Request:
+    """What a page asks: to `lint` or to `solve` a text, or to solve a kind with values for its fields.
+
+    way: "" for the order of the search, `random` for a random one, `symmetry` for one of each set of images.
+    """
+
+    what: str = "lint"
+    text: str = ""
+    kind: str = ""
+    values: Mapping[str, object] = field(default_factory=dict)
+    way: str = ""
+    limit: int = 20
+    seconds: float = 10.0
+    cell: str = ""
+    row: str = ""
+    column: str = ""
+    label: str = ""
+
+    @classmethod
+    def of(cls, raw: bytes) -> Request:
+        """The request of a text of JSON. Raises `ValueError`."""
+        told: Any = json.loads(raw)
+        if not isinstance(told, dict) or not set(told) <= {it.name for it in fields(cls)}:
+            raise ValueError("a request that isn't one")
+        for name, value in told.items():
+            kind: Any = {"values": dict, "limit": int, "seconds": (int, float)}.get(name, str)
+            if not isinstance(value, kind) or isinstance(value, bool):
+                raise ValueError(f"a request with a bad {name}")
+        request = cls(**told)
+        if request.what not in ("lint", "solve"):
+            raise ValueError("a page asks to lint or to solve")
+        if request.way not in ("", "random", "symmetry"):
+            raise ValueError("a page asks for solutions in order, at random or up to symmetry")
+        if not 1 <= request.limit <= MOST_LIMIT:
+            raise ValueError(f"from 1 to {MOST_LIMIT} solutions are shown")
+        if not 0 < request.seconds <= MOST_SECONDS:
+            raise ValueError(f"a search takes up to {MOST_SECONDS:g} seconds")
+        return request
+
+
+def answer(request: Request) -> Iterator[str]:
+    """The lines of an answer. One with `error` is the last."""
+    try:
+        with limited(request.seconds):
+            yield from _lint(request) if request.what == "lint" else _Solving(request).lines()
+    except (MemoryError, RecursionError):
+        yield _line({"error": "it took more memory than it may"})
+    except (re.error, OverflowError) as error:
+        yield _line({"error": f"a pattern is wrong: {error}"})
+    except (HelgrothyError, ValueError, OSError) as error:
+        yield _line({"error": shown(reason_of(error))})
+
+
+def _line(told: Dict[str, Any]) -> str:
+    return json.dumps(told, separators=(",", ":"))
+
+
+def _lint(request: Request) -> Iterator[str]:
+    yield _line({"remarks": _remarks(lint(_raw(request)))})
+
+
+def _raw(request: Request) -> bytes:
+    return request.text.encode("utf-8", "replace")
+
+
+def _remarks(remarks: List[Remark]) -> List[Dict[str, Any]]:
+    """Remarks with the tokens as they stand in the text, by which the page finds them."""
+    told = [
+        {"line": it.line, "token": it.token, "name": shown(it.token), "text": shown(it.text), "fault": it.is_fault}
+        for it in remarks[:_MOST_REMARKS]
+    ]
+    if len(remarks) > _MOST_REMARKS:
+        more = f"{len(remarks) - _MOST_REMARKS} more remarks"
+        told.append({"line": remarks[-1].line, "token": "", "name": "", "text": more, "fault": False})
+    return told
+
+
+class _Solving:
+    """A search and what is found, as it is found."""
+
+    def __init__(self, request: Request) -> None:
+        self._request = request
+        self._deadline = time.monotonic() + request.seconds
+
+    def lines(self) -> Iterator[str]:
+        request = self._request
+        if request.kind:
+            problem: Problem[Any] = forms.problem(request.kind, request.values)
+        else:
+            remarks = lint(_raw(request))
+            if any(remark.is_fault for remark in remarks):
+                yield _line({"remarks": _remarks(remarks), "error": "the text has faults"})
+                return
+            problem = Problem.parse(_raw(request))
+        record = Record(problem, self._drawing(problem))
+        yield record.problem()
+        yield from self._search(problem, record)
+
+    def _drawing(self, problem: Problem[Any]) -> Optional[Draw]:
+        cell, row, column, label = (
+            getattr(self._request, name) or None for name in ("cell", "row", "column", "label")
+        )
+        by_them = by_patterns(problem, cell, row, column, label)
+        if by_them is not None:
+            return by_them
+        try:
+            return drawing_of(problem)
+        except NoPicture:
+            return None
+
+    def _search(self, problem: Problem[Any], record: Record) -> Iterator[str]:
+        shown, length = 0, 0
+        try:
+            with self._found(problem) as solutions:
+                for found in solutions:
+                    shown += 1
+                    line = record.solution(shown, found.steps)
+                    length += len(line)
+                    yield line
+                    if length > _MOST_TOLD:
+                        break
+        except OutOfTime as error:
+            notes = [f"{self._request.seconds:g} seconds are over"]
+            yield record.end(max(error.found, shown), False, notes)
+            return
+        # None where so much was told that it was left.
+        total = shown if solutions.total is None else solutions.total
+        yield record.end(total, bool(solutions.complete), [] if total else self._reasons(problem))
+
+    def _found(self, problem: Problem[Any]) -> Union[Solutions[Any], Stream[Any]]:
+        limit, seconds = self._request.limit, self._left()
+        if self._request.way == "random":
+            return shuffle.solve(problem, random.SystemRandom().getrandbits(32), limit, seconds=seconds)
+        if self._request.way == "symmetry":
+            kind = KINDS.get(kind_of(problem.comments) or "")
+            cell = self._request.cell or (kind.cell if kind else None)
+            if cell is None:
+                raise ValueError("up to symmetry: that takes a board or a box, or the pattern of its cells")
+            plan = symmetry.plan(problem, symmetry.motions(problem, cell))
+            return symmetry.solve(problem, plan, limit, seconds=seconds)
+        return problem.solve(limit, seconds=seconds)
+
+    def _left(self) -> float:
+        return max(self._deadline - time.monotonic(), 0.01)
+
+    def _reasons(self, problem: Problem[Any]) -> List[str]:
+        """Why there is no solution, where a short while tells."""
+        with suppress(OutOfTime):
+            conflict = why.find(problem, min(self._left() * 0.9, _REASON_SECONDS))
+            if conflict is not None:
+                return list(conflict.lines(problem))
+        return []
+
+
+# ---- the process
+
+
+def run() -> None:
+    """Answers the request on standard input, on standard output. The process is the first of a group of its own."""
+    asked, telling = os.dup(0), os.dup(1)
+    nowhere = os.open(os.devnull, os.O_RDWR)
+    for stream in (0, 1, 2):
+        os.dup2(nowhere, stream)
+    raw = _read(asked)
+    threading.Thread(target=_end_with, args=[asked], daemon=True).start()
+    try:
+        request = Request.of(raw)
+    except (ValueError, RecursionError) as error:
+        _tell(telling, _line({"error": shown(str(error))}))
+        os._exit(0)
+    _limit(request)
+    for line in answer(request):
+        _tell(telling, line)
+    os._exit(0)
+
+
+def _read(asked: int) -> bytes:
+    """The request: a line with its length, and as many bytes."""
+    head = b""
+    while not head.endswith(b"\n"):
+        head += os.read(asked, 1) or sys.exit(0)
+    raw = b""
+    while len(raw) < int(head):
+        raw += os.read(asked, int(head) - len(raw)) or sys.exit(0)
+    return raw
+
+
+def _end_with(asked: int) -> None:
+    """Ends the process and its programs where nobody wants them any longer."""
+    while os.read(asked, 1 << 10):
+        pass
+    if os.getpgrp() == os.getpid():
+        os.killpg(0, signal.SIGKILL)
+    os._exit(0)
+
+
+def _limit(request: Request) -> None:
+    seconds = int(request.seconds) + _MORE_SECONDS
+    for what, most in (
+        (resource.RLIMIT_AS, _MEMORY),
+        (resource.RLIMIT_FSIZE, _FILES),
+        (resource.RLIMIT_CPU, seconds),
+        (resource.RLIMIT_CORE, 0),
+    ):
+        _, hard = resource.getrlimit(what)
+        most = most if hard == resource.RLIM_INFINITY else min(most, hard)
+        resource.setrlimit(what, (most, most))
+
+
+def _tell(telling: int, line: str) -> None:
+    raw = f"{line}\n".encode()
+    while raw:
+        raw = raw[os.write(telling, raw) :]

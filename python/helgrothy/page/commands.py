@@ -1,0 +1,56 @@
+"""The command `helgrothy page`: a local page where a problem is typed and its solutions come as they are found."""
+
+from __future__ import annotations
+
+import argparse
+import json
+import signal
+import sys
+from typing import Any, NoReturn
+
+from ..console import say, write
+from ..programs import find
+from .forms import forms
+
+_MOST_PORT = 65535
+
+
+def add(commands: Any) -> None:
+    """The command, for the parser of `helgrothy`."""
+    parser = commands.add_parser(
+        "page",
+        help="a local page to type a problem in",
+        description="Serves a page on this machine alone, and prints its address, which has a word that nobody "
+        "guesses. A problem or a kind is typed there; faults are shown where they are, and solutions as they are "
+        "found. ^C ends it, with all that it runs.",
+    )
+    parser.add_argument("--port", type=_port, default=0, metavar="N", help="the port (default: one that is free)")
+    parser.set_defaults(command=_page)
+
+
+def _port(word: str) -> int:
+    if not (word.isascii() and word.isdigit() and len(word) <= 5 and 1 <= int(word) <= _MOST_PORT):
+        raise argparse.ArgumentTypeError(f"{word}: it has to be a number from 1 to {_MOST_PORT}")
+    return int(word)
+
+
+def _page(arguments: argparse.Namespace) -> int:
+    # Other commands need no server.
+    from .server import Server
+
+    find("dlx1")
+    for number in (signal.SIGTERM, signal.SIGHUP):
+        if signal.getsignal(number) is signal.SIG_DFL:
+            signal.signal(number, _end)
+    server = Server(arguments.port, json.dumps(forms()))
+    try:
+        write([f"{server.address}\n"])
+        say("The page is for whoever has this address. ^C ends it.")
+        server.serve_forever(poll_interval=0.2)
+    finally:
+        server.close()
+    return 0
+
+
+def _end(number: int, _: object) -> NoReturn:
+    sys.exit(128 + number)
