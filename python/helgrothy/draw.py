@@ -7,6 +7,7 @@ A `Picture` is a grid of cells, with headers or without. A drawing makes one fro
 from __future__ import annotations
 
 import colorsys
+import itertools
 import re
 from dataclasses import dataclass, field
 from html import escape
@@ -174,15 +175,9 @@ class _Text:
 
     def is_straight(self) -> bool:
         """Whether all lines between groups run through the whole picture."""
-        return all(
-            self.is_cut((r - 1, 0), (r, 0), (0, 1), self.columns) == self.picture.is_parted((r - 1, c), (r, c))
-            for r in range(1, self.rows)
-            for c in range(self.columns)
-        ) and all(
-            self.is_cut((0, c - 1), (0, c), (1, 0), self.rows) == self.picture.is_parted((r, c - 1), (r, c))
-            for c in range(1, self.columns)
-            for r in range(self.rows)
-        )
+        rows = (self.parted((r - 1, 0), (r, 0), (0, 1), self.columns) for r in range(1, self.rows))
+        columns = (self.parted((0, c - 1), (0, c), (1, 0), self.rows) for c in range(1, self.columns))
+        return all(len(set(marks)) == 1 for marks in itertools.chain(rows, columns))
 
     def walled(self) -> str:
         """The picture with a line round each group."""
@@ -219,8 +214,12 @@ class _Text:
 
     def is_cut(self, a: Place, b: Place, step: Place, count: int) -> bool:
         """Whether a line runs through the whole picture between two of its rows or columns."""
+        return all(self.parted(a, b, step, count))
+
+    def parted(self, a: Place, b: Place, step: Place, count: int) -> Iterator[bool]:
+        """Whether each place of a row or column is parted from that beside it."""
         (ar, ac), (br, bc), (dr, dc) = a, b, step
-        return all(
+        return (
             self.picture.is_parted((ar + k * dr, ac + k * dc), (br + k * dr, bc + k * dc)) for k in range(count)
         )
 
@@ -234,6 +233,8 @@ class _Svg:
         self.wide = max(_SIDE, *(_width(label) for label in [*labels, *picture.columns]))
         self.left = max((_width(name) for name in picture.rows), default=4)
         self.top = _SIDE if picture.columns else 4
+        # Labels make room for those in the corners.
+        self.down = 4 if any(cell.corner for cell in picture.cells.values()) else 0
 
     def text(self) -> str:
         width, height = self.left + self.columns * self.wide + 4, self.top + self.rows * _SIDE + 4
@@ -337,7 +338,7 @@ class _Svg:
                 yield f'<path d="{_QUEEN}" transform="translate({x + (self.wide - _SIDE) // 2} {y})" fill="#222"/>'
             elif cell.label and not cell.is_quiet:
                 weight = ' font-weight="bold"' if cell.is_strong else ""
-                yield self.word(x + self.wide / 2, y, cell.label, weight)
+                yield self.word(x + self.wide / 2, y + self.down, cell.label, weight)
 
     def heads(self) -> Iterator[str]:
         for c, name in enumerate(self.picture.columns):

@@ -6,7 +6,8 @@ import random
 import unittest
 import xml.etree.ElementTree as ElementTree
 
-from helgrothy import Problem, TableFault, make
+from helgrothy import NoPicture, Problem, TableFault, make
+from helgrothy.draw import Cell, Picture
 
 # Problem 98 of W. Hett's "Ninety-Nine Prolog Problems", with the solution that he prints.
 HETT = "3\n2 1\n3 2\n2 2\n6\n1 5\n6\n1\n2\n\n1 2\n3 1\n1 5\n7 1\n5\n3\n4\n3\n"
@@ -87,6 +88,43 @@ class Puzzles(unittest.TestCase):
                 with self.assertRaises(TableFault) as raised:
                     make_one(text)
                 self.assertEqual(str(raised.exception), wanted)
+
+
+class Pictures(unittest.TestCase):
+    def test_numbers_in_names(self):
+        """No picture grows with the numbers in names, or is drawn of what a maker didn't make."""
+        for text in (
+            "nonogram\nrow1 col1 col99999999 | r1c1 r1c99999999\nrow1 r1c1:#\ncol1 r1c1:#\ncol99999999 r1c99999999:#\n",
+            "nonogram\nrow1 col1 x | r1c1\nrow1 r1c1:#\ncol1 r1c1:#\nx\n",
+            "nonogram\nrow1 col1 | r1c1 r99999c1\nrow1 r1c1:# r99999c1:#\ncol1 r1c1:#\n",
+            "kakuro\nr1c1 r1c99999999\nr1c1\nr1c99999999\n",
+            "kakuro\nacross-r1c1 across-r1c1=1\nacross-r1c1 across-r1c1=1\n",
+            "sudoku\nr1c1 r1=1 b1=1 k1 k1=1\nr1c1 r1=1 b1=1 k1=1\nk1\n",
+            "sudoku\nk1 k1=1\nk1 k1=1\n",
+        ):
+            with self.subTest(text=text):
+                problem = Problem.parse(f"| helgrothy make {text}")
+                solution = next(problem.solve())
+                if text.startswith("sudoku\nr1c1"):
+                    self.assertEqual(str(problem.draw(solution)), "1\n")
+                else:
+                    with self.assertRaises(NoPicture):
+                        problem.draw(solution)
+
+    def test_walls(self):
+        """Groups that no straight lines part are drawn with a line round each."""
+        groups = ["aab", "abb", "ccc"]
+        cells = {(r, c): Cell("x", groups[r][c]) for r in range(3) for c in range(3) if (r, c) != (2, 2)}
+        wanted = "+-------+---+\n| x   x | x |\n|   +---+   |\n| x | x   x |\n+---+---+---+\n| x   x |\n+-------+\n"
+        self.assertEqual(Picture("walls", cells, has_boxes=True).text(), wanted)
+
+    def test_cages(self):
+        """The dashed line of a cage goes round it, inside of its cells."""
+        cells = {(r, c): Cell(cage=None if (r, c) == (0, 1) else "k") for r in range(2) for c in range(2)}
+        svg = Picture("an L", cells).svg()
+        (path,) = [line for line in svg.splitlines() if "dasharray" in line]
+        self.assertEqual(path.split('"')[1].count("M"), 8)
+        self.assertIn("M7 7h30", path)
 
 
 class Nonograms(Puzzles):
