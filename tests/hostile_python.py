@@ -643,7 +643,7 @@ class Processes:
         modules = [one for one in sorted(sys.stdlib_module_names) if not one.startswith("_")] if hasattr(sys, "stdlib_module_names") else ["re", "random", "difflib", "colorsys", "argparse"]
         for module in modules:
             self.file(f"strangers/{module}.py", b"import os; os.write(2, b'HIJACKED')\n")
-        for module in ("__init__", "__main__", "spans/__init__", "spans/commands"):
+        for module in ("__init__", "__main__", "commands", "spans/__init__", "spans/commands"):
             self.file(f"strangers/helgrothy/{module}.py", b"print('HIJACKED')\n")
         for program in ("dlx1", "dlx2", "dlx3", "dlxcheck", "dlx-span", "dlx-join", "cadical", "clasp"):
             os.chmod(self.file(f"strangers/{program}", b"#!/bin/sh\necho HIJACKED >&2\n"), 0o755)

@@ -45,7 +45,7 @@ class Isolated(unittest.TestCase):
     def strangers_folder(self) -> None:
         for module in MODULES:
             self.file(f"{module}.py", "print('HIJACKED')\n")
-        for name in ("__init__", "__main__", "spans/__init__", "spans/commands"):
+        for name in ("__init__", "__main__", "commands", "spans/__init__", "spans/commands"):
             self.file(f"helgrothy/{name}.py", "print('HIJACKED')\n")
         for program in ("dlx1", "dlx-span", "dlx-join", "sh", "python3", "readlink", "dirname"):
             self.file(program, "#!/bin/sh\necho HIJACKED\n", 0o755)
@@ -67,7 +67,7 @@ class Isolated(unittest.TestCase):
 
     def test_run_by_m_the_package_loads_nothing_of_the_current_folder(self):
         """Python looks there first, and did so for what it loaded before the package."""
-        before, after = (self.modules_of(more) for more in ("", "import helgrothy.__main__; "))
+        before, after = (self.modules_of(more) for more in ("", "import helgrothy.commands; "))
         for module in [it for it in after if it not in before and it not in sys.builtin_module_names]:
             self.file(f"{module}.py", "print('HIJACKED')\n")
         self.assertLessEqual({"colorsys.py", "difflib.py", "fractions.py"}, set(os.listdir(self.folder)))

@@ -6,7 +6,7 @@ import argparse
 from dataclasses import dataclass, field
 from typing import Dict, Iterator, List, Optional, Tuple
 
-from helgrothy.__main__ import _parser
+from helgrothy.commands import parser_of_all
 from helgrothy.make import cubes, polyominoes
 from helgrothy.spans.commands import progress_parser
 
@@ -78,7 +78,7 @@ def all_commands() -> Iterator[Command]:
     yield Command("dlx-span", places=[kinds, words])
     yield Command("dlx-join", places=[words, Value(files=FILE)], goes_on=True)
     yield from _of("dlx-progress", progress_parser())
-    yield from _of("helgrothy", _parser())
+    yield from _of("helgrothy", parser_of_all())
 
 
 def _of(path: str, parser: argparse.ArgumentParser) -> Iterator[Command]:

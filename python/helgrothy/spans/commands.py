@@ -29,10 +29,25 @@ from .text import ignored, kind_of
 from .workers import Dask, Own, Workers, processors
 
 NOT_DONE = 6
+# The commands that `add` adds.
+NAMES = ("search", "status", "result", "rows")
 _PROGRAMS = ("dlx1", "dlx2", "dlx3")
 _SEARCH = "helgrothy search"
 # The fault of a problem.
 _BAD_PROBLEM = 2
+
+
+def main(words: Sequence[str]) -> int:
+    """Does what the words of one of these commands say, and gives its status."""
+    return console.run("helgrothy", lambda: _act(words), unread=0)
+
+
+def _act(words: Sequence[str]) -> int:
+    parser = console.Parser(prog="helgrothy")
+    add(parser.add_subparsers(metavar="COMMAND", required=True))
+    arguments = parser.parse_args(words)
+    status: int = arguments.command(arguments)
+    return status
 
 
 def add(commands: Any) -> None:
