@@ -281,7 +281,8 @@ def _search(
     kind = KINDS.get(kind_of(problem.comments) or "")
     cell = arguments.cell or (kind.cell if kind else None)
     if cell is None:
-        raise ValueError("which cells an option has isn't known: --cell says it, of a board or a box")
+        told = "of a problem of your own, --cell says which cells an option has"
+        raise ValueError(f"--up-to-symmetry is for boards and boxes; {told}")
     try:
         plan = symmetry.plan(problem, symmetry.motions(problem, cell))
     except (re.error, OverflowError, RecursionError) as error:

@@ -90,15 +90,20 @@ def _try(
 ) -> Tuple[List[Solution[Any]], bool]:
     """The first solutions in so many steps, and whether these are all there are."""
     lines, give = problem.wire()
-    text = b""
+    chunks: List[bytes] = []
+    count, last = 0, b""
     with Run("dlx-span", [str(problem.kind), "m1", str(steps), "-", "-"], lines, seconds) as run:
         for chunk in run.chunks():
-            text += chunk
-            if len(_HEADER.findall(text)) > limit:
+            # No line but that of a solution's number ends with a colon.
+            count += (last + chunk).count(b":\n")
+            last = chunk[-1:]
+            chunks.append(chunk)
+            if count > limit:
                 break
         else:
             if run.status() != 0:
                 raise run.failure()
+    text = b"".join(chunks)
     record = _RECORD.search(text)
     body = text if record is None else text[: record.start()]
     solutions = _HEADER.split(body)[1:]

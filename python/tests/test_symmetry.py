@@ -110,7 +110,8 @@ class Symmetry(unittest.TestCase):
         told = run("solve", "--cell", r"s(\d)", "--up-to-symmetry", "--json", given="s1 s2 s3\ns1\ns2 s3\n")[2]
         self.assertEqual(told, "Altogether 1 solution, and no symmetry of its cells but that of no change (limit).\n")
         told = run("solve", "--up-to-symmetry", given="s1\ns1\n")
-        wanted = "helgrothy: which cells an option has isn't known: --cell says it, of a board or a box\n"
+        own = "of a problem of your own, --cell says which cells an option has"
+        wanted = f"helgrothy: --up-to-symmetry is for boards and boxes; {own}\n"
         self.assertEqual(told, (2, "", wanted))
         self.assertEqual(run("solve", "--up-to-symmetry", "--cell", "(", given="s1\ns1\n")[0], 2)
         self.assertIn("<title>", run("queens", "6", "--up-to-symmetry", "--all", "--html")[1])
