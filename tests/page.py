@@ -339,10 +339,10 @@ class Page(Pages):
         self.tab.go(self.address)
 
     def end(self):
-        self.server.send_signal(signal.SIGINT)
+        self.server.terminate()
         status = self.server.wait(30)
         self.server.stdout.close()
-        self.assertEqual(status, 130)
+        self.assertEqual(status, 143)
 
     def is_quiet(self):
         super().is_quiet()
@@ -523,7 +523,9 @@ class Page(Pages):
 
     def test_a_server_that_has_ended(self):
         other = subprocess.Popen([SCRIPT, "page"], stdout=subprocess.PIPE, stderr=subprocess.DEVNULL, text=True)
-        with other:
+        with other, contextlib.ExitStack() as stack:
+            # It is waited for, whatever goes wrong here.
+            stack.callback(other.kill)
             self.tab.go(other.stdout.readline().strip())
             other.send_signal(signal.SIGTERM)
             self.assertEqual(other.wait(30), 143)

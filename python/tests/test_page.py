@@ -383,8 +383,11 @@ class Served(unittest.TestCase):
         """Whichever way it ends: by ^C, by a signal, or at once."""
         for number, status in ((signal.SIGINT, 130), (signal.SIGTERM, 143), (signal.SIGKILL, -9)):
             command = [sys.executable, "-m", "helgrothy", "page"]
-            how = {"stdout": subprocess.PIPE, "stderr": subprocess.DEVNULL, "text": True}
-            with subprocess.Popen(command, cwd=os.path.dirname(os.path.dirname(os.path.abspath(__file__))), **how) as process:
+            how = {"stdout": subprocess.PIPE, "stderr": subprocess.DEVNULL, "text": True, "preexec_fn": heed_interrupt}
+            top = os.path.dirname(os.path.dirname(os.path.abspath(__file__)))
+            with subprocess.Popen(command, cwd=top, **how) as process, contextlib.ExitStack() as stack:
+                # It is waited for, whatever goes wrong here.
+                stack.callback(process.kill)
                 address = urllib.parse.urlsplit(process.stdout.readline().strip())
                 word = address.path.strip("/")
                 self.assertRegex(word, r"[\w-]{43}\Z")
@@ -417,6 +420,11 @@ class Served(unittest.TestCase):
         while not holds():
             self.assertLess(time.monotonic(), deadline, "it never came to it")
             time.sleep(0.05)
+
+
+def heed_interrupt():
+    """What a shell starts in the background ignores ^C, and so does all that this starts."""
+    signal.signal(signal.SIGINT, signal.SIG_DFL)
 
 
 def processes():

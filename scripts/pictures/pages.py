@@ -55,7 +55,7 @@ def page(tab, path):
             tab.wait("document.querySelectorAll('#remarks li').length > 1")
             tab.screenshot(path)
         finally:
-            server.terminate()
+            server.kill()
 
 
 def fill(tab, text):
