@@ -31,9 +31,9 @@ def problem(
 ) -> Problem[List[str]]:
     """A box or another region to be filled by pieces of cubes, each used as often as it is given.
 
-    pieces: `soma`, `tetracubes`, `pentacubes`, `tetrominoes`, `pentominoes`, or pictures parted by blank lines. In
-        each the layers of a piece stand side by side with a blank between; its cubes are a letter, which is its name,
-        and dots are no part of it. A piece given k times is used k times.
+    pieces: `soma`, `tetracubes`, `pentacubes`, `tetrominoes`, `pentominoes`, or pictures with blank lines between.
+        The layers of a piece are drawn side by side, with a blank between two; its cubes are a letter, which is its
+        name, and dots are no part of it. A piece given k times is used k times.
     box: `3x3x3`, its layers, rows and columns; or a picture of the layers side by side, in which # is a hole and
         anything else is a cell.
     mirrors: whether mirror images of pieces may be used too. some: whether pieces may be left over.
@@ -58,12 +58,12 @@ def problem(
     for name, form in forms.items():
         before = len(options)
         # A piece of more cubes than there are cells can't be laid.
-        for turned in images(form, mirrors) if len(form) <= len(cells) else ():
-            looks += len(form) * len(cells)
-            if looks > _MOST_LOOKS:
-                raise ValueError("the pieces and the region are too large to be laid")
-            for held in _laid(turned, cells):
-                options.add([name, *map(_name, held)])
+        if len(form) <= len(cells):
+            _check_looks(looks, form, cells)
+            for turned in images(form, mirrors):
+                looks = _check_looks(looks, form, cells)
+                for held in _laid(turned, cells):
+                    options.add([name, *map(_name, held)])
         if len(options) == before and not some:
             raise TableFault(lines[name], name, "this piece fits nowhere")
     used = {name: (0 if some else count, count) for name, count in copies.items()}
@@ -79,6 +79,14 @@ def problem(
             *Solid("", {(layer - 1, r - 1, c - 1): Cell() for layer, r, c in cells}).text().splitlines(),
         ],
     )
+
+
+def _check_looks(looks: int, form: Form, cells: Sequence[Cube]) -> int:
+    """How often it was looked whether a cube lies on a cell, once a form more is laid. Raises `ValueError`."""
+    looks += len(form) * len(cells)
+    if looks > _MOST_LOOKS:
+        raise ValueError("the pieces and the region are too large to be laid")
+    return looks
 
 
 def _name(at: Sequence[int]) -> str:
