@@ -887,6 +887,8 @@ def large_texts():
 def main() -> int:
     tries, seed = map(int, [*sys.argv[1:], *["5000", "1"][len(sys.argv) - 1 :]])
     with tempfile.TemporaryDirectory() as top:
+        # Words of tries name folders too, which are made where the tries are.
+        os.chdir(top)
         prepare(top)
         failed = try_all(tries, seed, top)
         passed = tries - failed
