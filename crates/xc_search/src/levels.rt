@@ -241,6 +241,7 @@ fn go_below<D: Dance>(
 
 /// Enters the next branch, a first one where what is left has any. A solution is passed over where `more` are to be,
 /// and is one of them.
+#[inline(always)]
 fn go_on<D: Dance>(
     position: &mut Position<D>,
     stack: &mut Stack,
