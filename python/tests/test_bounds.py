@@ -16,6 +16,9 @@ from helgrothy.shown import shown
 from helgrothy.syntax import read
 from test_commands import Pipe, run
 
+# What would go on for ever is ended long before; a machine that does other things too takes a while.
+HANG = 30
+
 ESCAPES = "\x1b]0;pwn\x07"
 
 
@@ -101,7 +104,7 @@ class Pictures(unittest.TestCase):
             self.assertEqual((status, out), (0, "\n".join(text.split("\n")[2 : -1 if "D@" in text or "sudoku" in text else 3]) + "\n"))
             status, _, error = run("solve", "--seconds", "5", "--svg", given=text)
             self.assertEqual((status, error.count("\n")), (2, 1))
-        self.assertLess(time.monotonic() - start, 5)
+        self.assertLess(time.monotonic() - start, HANG)
 
     def test_a_piece_without_cells(self):
         text = "| helgrothy make polyominoes\nA r1c1 | x\nA x\nr1c1\n"
@@ -132,7 +135,7 @@ class Pictures(unittest.TestCase):
         status, _, error = run("solve", "--cell", r"(\w+)-(\d)", "--label", "maths|art", given=days)
         self.assertEqual(status, 2)
         self.assertIn("mon is no row or column: neither a number nor a single letter", error)
-        self.assertLess(time.monotonic() - start, 5)
+        self.assertLess(time.monotonic() - start, HANG)
 
     def test_patterns_that_match_in_part(self):
         for cell in (r"r(\d+)(c(\d+))?", r"(?P<row>\d)?(?P<column>\d)?x?", "(a{99999999999})(b)", "(" * 200, r"(x)|(y)", "()()"):
@@ -160,7 +163,7 @@ class Time(unittest.TestCase):
         for words in (("solve", "--all", "--seconds", "0.3"), ("why", "--seconds", "0.3")):
             start = time.monotonic()
             self.assertEqual(run(*words, given=hard)[0], 2)
-            self.assertLess(time.monotonic() - start, 3)
+            self.assertLess(time.monotonic() - start, HANG)
 
         def slow(*_: object) -> None:
             while True:
@@ -242,7 +245,7 @@ class Time(unittest.TestCase):
         start = time.monotonic()
         options = [[k] for k in range(4_000) for _ in range(3)]
         self.assertEqual(next(Problem(range(4_000), options=options).solve()), options[::3])
-        self.assertLess(time.monotonic() - start, 8)
+        self.assertLess(time.monotonic() - start, HANG)
 
     def test_one_long_option_makes_no_other_long(self):
         names = [f"{k:x}" for k in range(3_000)]
@@ -277,7 +280,7 @@ class Time(unittest.TestCase):
         with contextlib.redirect_stderr(told), console.limited(9):
             Slow(KeyError)
         self.assertIn("KeyError", told.text())
-        self.assertLess(time.monotonic() - start, 5)
+        self.assertLess(time.monotonic() - start, HANG)
 
 
 class Words(unittest.TestCase):

@@ -157,7 +157,9 @@ class Conflicts(unittest.TestCase):
     def test_a_search_that_shows_nothing_is_counted(self):
         told = []
         with mock.patch.object(watch, "_QUIET_SECONDS", 0.2), watch.Watch(jigsaw(JIGSAWS[0]), told.append):
-            time.sleep(2)
+            deadline = time.monotonic() + 30
+            while not told and time.monotonic() < deadline:
+                time.sleep(0.1)
         self.assertEqual(len(told), 1)
         self.assertTrue(told[0].endswith("there is no solution"), told)
         with mock.patch.object(watch, "_QUIET_SECONDS", 0.2), watch.Watch(jigsaw(JIGSAWS[0]), told.append) as beside:
@@ -194,7 +196,7 @@ class Solvers(unittest.TestCase):
     def test_where_the_programs_come_to_no_end(self):
         problem = jigsaw(JIGSAWS[0])
         with mock.patch.multiple(Count, by_matching=lambda *_: None, by_climbing=lambda *_: None):
-            conflict = why.find(problem, 4)
+            conflict = why.find(problem, 30)
         self.assertIn(conflict.by, SOLVERS + ["dlx1"])
         self.assertIsNone(conflict.sums)
         self.assertLess(len(conflict.items), 324)
