@@ -45,6 +45,8 @@ SCRIPT = os.path.join(TOP, "scripts", "helgrothy")
 HANG, MEMORY = 30, 3 << 30
 # A text of 1 MB that is made to hurt takes so many times what an ordinary one takes, and a little more, at most.
 TIMES, MORE = 3, 0.3
+# A search that takes a while rewrites a line of its own on a terminal.
+REWRITTEN = b"\r\x1b[K"
 ELEMENTS = {"svg", "title", "rect", "path", "text", "g"}
 ATTRIBUTES = {
     "width", "height", "viewBox", "font-family", "font-size", "font-weight", "text-anchor", "x", "y", "fill", "d",
@@ -483,7 +485,7 @@ class Try:
             return f"traceback: {error!r}"
         if b"out of memory" in error:
             return "out of memory"
-        if steers(error):
+        if steers(error.replace(REWRITTEN, b"") if self.words[:1] == ["search"] else error):
             return f"bytes that steer a terminal in {error!r}"
         if self.is_terminal and steers(out):
             return f"bytes that steer a terminal in {out[:300]!r}"
