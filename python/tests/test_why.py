@@ -156,7 +156,8 @@ class Conflicts(unittest.TestCase):
 
     def test_a_search_that_shows_nothing_is_counted(self):
         told = []
-        with mock.patch.object(watch, "_QUIET_SECONDS", 0.2), watch.Watch(jigsaw(JIGSAWS[0]), told.append):
+        # The count takes as long as the search was quiet.
+        with mock.patch.object(watch, "_QUIET_SECONDS", 2), watch.Watch(jigsaw(JIGSAWS[0]), told.append):
             deadline = time.monotonic() + 30
             while not told and time.monotonic() < deadline:
                 time.sleep(0.1)
