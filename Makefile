@@ -22,7 +22,7 @@ SONAME = libhelgrothy.so.0
 
 .PHONY: help run bin all $(PROGRAMS) $(SPAN_CRATES) test test-mutants test-hostile test-hostile-python test-python
 .PHONY: test-search test-page test-docs
-.PHONY: pictures completion believed bench bench-forms test-bench test-build
+.PHONY: pictures completion believed names bench bench-forms test-bench test-build
 .PHONY: lib install install-lib uninstall uninstall-lib dist deb wheel version release
 .PHONY: test-bindings test-install test-dist test-deb test-wheel
 # Without a target: what there is.
@@ -67,6 +67,9 @@ completion: ## write completion for shells anew
 # The page of what has to be believed, made anew.
 believed: ## write docs/BELIEVED.md anew
 	@scripts/believed --page >docs/BELIEVED.md
+
+names: ## print the names that mean two things
+	@scripts/names
 
 # The tables of docs/BENCH.md, and what each form that was decided by speed gains. They need gcc, valgrind and Python.
 # WORDS are for the scripts, as `make bench WORDS='--page docs/BENCH.md --core 3'`.
