@@ -1,10 +1,10 @@
 #!/bin/sh
 # gate.sh [--page PAGE]: `rt ci`, with its output and its status, on all processors. With --page, where it passes, the
 # page's row for as many processors gets the kit, the number of wrong bodies, and the minutes, elapsed and of a processor.
-# Told a number of jobs (RT_JOBS), the kit runs as many tasks at once, but gives a proof one job, and the libraries
-# stand on one another, so that there is mostly one to be proved. Not told, it gives a proof up to four jobs, but by its
-# own reckoning of memory tries few wrong bodies at once. So there are two runs. The first isn't told, and proves the
-# libraries alone, on a copy without wrong bodies; `rt ci` finds each of them at work, and takes what is kept of it.
+# With a number of jobs (RT_JOBS) the kit runs as many tasks at once, but gives a proof one job; and since each library
+# needs the one below it, there is mostly one to prove. Without a number a proof gets up to four jobs, but by the kit's
+# own estimate of memory few wrong bodies are tried at once. So there are two runs. The first has no number, and proves
+# the libraries alone, on a copy without wrong bodies; `rt ci` finds it at work on each, and takes what it kept.
 # With CI=true the kit refuses a run of some crates, and `rt ci` is alone.
 cd "$(dirname "$0")/.." || exit 2
 folder=$(mktemp -d) || exit 2
