@@ -1,6 +1,6 @@
 #!/bin/sh
-# gate.sh [--page PAGE]: `rt ci`, with its output and its status, on all processors. With --page, where it passes, the
-# page's row for as many processors gets the kit, the number of wrong bodies, and the minutes, elapsed and of a processor.
+# gate.sh [--page PAGE]: `rt ci`, with its output and its status, on all processors. With --page, if it passes, the
+# page's row for as many processors gets the kit, the number of wrong bodies, and the minutes (elapsed, of a processor).
 # With a number of jobs (RT_JOBS) the kit runs as many tasks at once, but gives a proof one job; and since each library
 # needs the one below it, there is mostly one to prove. Without a number a proof gets up to four jobs, but by the kit's
 # own estimate of memory few wrong bodies are tried at once. So there are two runs. The first has no number, and proves
@@ -34,9 +34,11 @@ if [ $status = 0 ] && [ -n "$page" ]; then
     wait
     times >"$folder/times"
     of_a_processor=$(awk -F '[ms ]+' 'NR == 2 { printf "%.0f", $1 + $2 / 60 + $3 + $4 / 60 }' "$folder/times")
+    elapsed=$((($(date +%s) - begun + 30) / 60))
+    kit=$(rt --version | cut -d ' ' -f 1)
     bodies=$(find crates/*/must-fail -name '*.edit' | wc -l)
-    row="| $jobs | $(rt --version | cut -d ' ' -f 1) | $bodies | $((($(date +%s) - begun + 30) / 60)) | $of_a_processor |"
-    awk -v jobs="$jobs" -v row="$row" '$0 ~ "^[|] " jobs " [|] rattle-kit" { $0 = row } { print }' "$page" >"$folder/page" &&
-        cat "$folder/page" >"$page"
+    row="| $jobs | $kit | $bodies | $elapsed | $of_a_processor |"
+    awk -v jobs="$jobs" -v row="$row" '$0 ~ "^[|] " jobs " [|] rattle-kit" { $0 = row } { print }' \
+        "$page" >"$folder/page" && cat "$folder/page" >"$page"
 fi
 exit $status
