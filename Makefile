@@ -22,10 +22,10 @@ SONAME = libhelgrothy.so.0
 
 .PHONY: help run bin all $(PROGRAMS) $(SPAN_CRATES) test test-mutants test-hostile test-hostile-python test-python
 .PHONY: test-search test-page test-docs
-.PHONY: pictures completion believed bench bench-forms test-bench test-build
+.PHONY: pictures completion believed names bench bench-forms test-bench test-build
 .PHONY: lib install install-lib uninstall uninstall-lib dist deb wheel version release
 .PHONY: test-bindings test-install test-dist test-deb test-wheel
-# Without a target: what there is.
+# Without a target: the list of targets.
 help:
 	@sed -n 's/^\([a-z-]*\):.* ## /\1: /p' Makefile | LC_ALL=C sort
 
@@ -39,11 +39,11 @@ test: ## the merge gate: proofs, wrong bodies, tests, programs
 	@sh tests/python.sh
 test-mutants: ## plant the wrong bodies of mutants/
 	@python3 tests/mutants.py
-test-hostile: ## the programs on what is made to hurt
+test-hostile: ## the programs on hostile inputs
 	@python3 scripts/hostile/hostile.py
 test-python: ## the Python package, and 2,000 random problems
 	@sh tests/python.sh && python3 python/tests/trial.py 2000 1
-test-hostile-python: ## the Python commands on what is made to hurt
+test-hostile-python: ## the Python commands on hostile inputs
 	@python3 tests/hostile_python.py 5000 1
 test-search: bin ## 500 searches by helgrothy search, with mishaps
 	@PATH=$$PWD/bin:$$PATH python3 tests/search.py 500 1
@@ -56,23 +56,23 @@ test-docs: bin ## the commands, pictures and tables of the pages
 	@scripts/faults --check
 	@scripts/bench/forms.py --check
 
-# The pictures of the documents, made anew.
-pictures: ## draw the pictures of the pages anew
+pictures: ## draw the pictures of the pages
 	@scripts/pictures/pictures
 
-# Completion for shells, made anew from the parsers.
-completion: ## write completion for shells anew
+completion: ## write the completion for shells
 	@scripts/completion
 
-# The page of what has to be believed, made anew.
-believed: ## write docs/BELIEVED.md anew
+believed: ## write docs/BELIEVED.md
 	@scripts/believed --page >docs/BELIEVED.md
+
+names: ## print the names that mean two things
+	@scripts/names
 
 # The tables of docs/BENCH.md, and what each form that was decided by speed gains. They need gcc, valgrind and Python.
 # WORDS are for the scripts, as `make bench WORDS='--page docs/BENCH.md --core 3'`.
 bench: ## print the tables of docs/BENCH.md
 	@scripts/bench/tables.py $(WORDS)
-bench-forms: ## count what each form gains that was decided by speed
+bench-forms: ## count what each form that was chosen for speed gains
 	@scripts/bench/forms.py $(WORDS)
 test-build: ## test the script that builds
 	@python3 tests/build.py
@@ -85,8 +85,8 @@ all: bin ## build all programs, from nothing about a quarter of an hour
 $(PROGRAMS) $(SPAN_CRATES): bin
 	@scripts/build $@
 
-# `bin` leads to the programs and scripts by the names that they have once they are installed.
-bin: ## lead to the programs and scripts that there are
+# `bin` has links to the programs and scripts, by the names that they have when installed.
+bin: ## link the programs and scripts
 	@mkdir -p bin
 	@for program in $(PROGRAMS); do ln -sfn ../crates/$$program/out/$$program bin/$$program || exit 1; done
 	@for name in $(SPANS); do ln -sfn ../crates/dlx_$$name/out/dlx_$$name bin/dlx-$$name || exit 1; done
