@@ -1,4 +1,4 @@
-use Rattle.std.proofs.Common.{◌≡◌, length, ap, ◌∙◌, append_assoc}
+use Rattle.std.proofs.Common.{length, ap, ◌∙◌, append_assoc}
 use Rattle.std.proofs.lemmas.List.{length-reverse}
 use Rattle.xc_dance.proofs.shown.LinksDebug.fmt.Goals as goal
 
