@@ -14,6 +14,7 @@ pub record IsCommitting (Held : ℕ → Type 0) (off : ℕ → ℕ) (vs : ℕ �
   pub puzzle : now.puzzle ≡ s.puzzle
   pub room : now.room ≡ s.room
   pub undone : now.undone ≡ s.undone
+  pub capacity : now.capacity ≡ s.capacity
   pub written : HasWritten s now
   pub along : (x : ℕ) → Held x → IsAlong s.puzzle (off x) (vs x) s.trail now.trail q
 
@@ -28,5 +29,5 @@ module _ {Held : ℕ → Type 0} {off : ℕ → ℕ} {vs : ℕ → List Use} {s 
 
   pub one_more : (new : Linked) → IsCommitting Held off vs s now q → {x : ℕ} → Held x
       → ((y : ℕ) → Held y → IsNext s.puzzle y (off y) (vs y) s.trail now.trail q) → j ≡ top_at s.puzzle now.trail q
-      → Commits now q j new → HasWritten now new → IsCommitting Held off vs s new (q + 1)
-  one_more new a {x} held next is made written = grind (arith, off, slice_get)
+      → Commits now q j new → HasWritten now new → new.capacity ≡ now.capacity → IsCommitting Held off vs s new (q + 1)
+  one_more new a {x} held next is made written kept = grind (arith, off, slice_get)

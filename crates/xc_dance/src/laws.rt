@@ -1,7 +1,9 @@
 //! What the tables promise of moves and their undoing, as calls whose contracts say it.
-ghost use Rattle.std.specs.Prelude.{◌≡◌, IfOk};
-ghost use Rattle.xc_dance.specs.Moves.{IsLegal};
+ghost use Rattle.std.specs.Prelude.{◌≡◌, ◌<◌, ◌↔◌, ℕ, List, ◌∷◌, ◌++◌, AllPairs, IfOk, IsTrue, slice_get};
+ghost use Rattle.xc_input.specs.Problem.{Puzzle};
+ghost use Rattle.xc_dance.specs.Moves.{IsLegal, listed_numbers, next_above};
 ghost use Rattle.xc_dance.specs.Same.{IsSame};
+ghost use Rattle.xc_dance.specs.declared.dance.Move.{Move};
 
 use crate::{Count, Dance, Full, Links, Move};
 
@@ -15,4 +17,18 @@ pub fn there_and_back(links: &mut Links, m: Move) -> Result<(Count, Count), Full
     let made = links.apply(m)?;
     let undone = links.undo();
     Ok((made, undone))
+}
+
+/// The options of an item's list rise in number. So `first` answers its head, and `below` of an option the next one.
+pub fn lists_rise()
+    ensures rise { (p : Puzzle) (t : List Move) (i : ℕ) → AllPairs (λ m n. m < n) (0 ∷ listed_numbers p t i) }
+    ensures next { (p : Puzzle) (t : List Move) (i o : ℕ) (front back : List ℕ) →
+        0 ∷ listed_numbers p t i ≡ front ++ o ∷ back → next_above o (listed_numbers p t i) ≡ slice_get back 0 }
+{}
+
+/// Whether two moves, and two counts, are equal: `==` says so of both.
+pub fn are_equal(a: &(Move, Count), b: &(Move, Count)) -> bool
+    ensures { IsTrue result ↔ (a.now ≡ b.now) }
+{
+    a == b
 }

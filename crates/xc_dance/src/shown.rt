@@ -1,8 +1,16 @@
 //! What `{:?}` shows of a keeper: how many moves stand, and the room. Its tables aren't shown.
+ghost use Rattle.std.specs.Prelude.{◌++◌, codes, length};
+ghost use Rattle.std.specs.Fmt.{decimal};
+
 use crate::{Dance, Links, Lists};
 use std::fmt;
 
 impl fmt::Debug for Links {
+    ghost use Rattle.std.specs.Prelude.{Some};
+
+    ghost debug_output = { λ d. Some (codes "Links { moves: " ++ decimal (length d.trail)
+        ++ codes ", room: " ++ decimal d.room ++ codes " }") };
+
     fn fmt<W: fmt::Write>(&self, f: &mut fmt::Formatter<W>) -> fmt::Result {
         let moves = self.moves().len();
         let room = self.room();
@@ -11,6 +19,11 @@ impl fmt::Debug for Links {
 }
 
 impl fmt::Debug for Lists {
+    ghost use Rattle.std.specs.Prelude.{Some};
+
+    ghost debug_output = { λ d. Some (codes "Lists { moves: " ++ decimal (length d.trail)
+        ++ codes ", room: " ++ decimal d.room ++ codes " }") };
+
     fn fmt<W: fmt::Write>(&self, f: &mut fmt::Formatter<W>) -> fmt::Result {
         let moves = self.moves().len();
         let room = self.room();

@@ -8,6 +8,7 @@ ghost use Rattle.xc_input.specs.inner.Stages.{with_option, written_by, no_stage,
 ghost use Rattle.xc_input.specs.Tokens.{parts};
 ghost use Rattle.xc_input.specs.inner.Builders.{Judged, IsBuilder, IsItemTable, AreMarks, AreTablesFor, row_of_line};
 ghost use Rattle.xc_input.specs.inner.Builders.{stage_of_builder, sheet_of_builder, named_by, IsReadable};
+ghost use Rattle.indexmap.specs.IndexSet.{hasher_of};
 
 use crate::guess::{ColourGuesses, Guesses};
 use crate::item_line::{ItemLine, item_line};
@@ -71,6 +72,7 @@ impl ProblemBuilder {
     pub fn new(alloc: Global, seed: Seed) -> ProblemBuilder
         ensures sound { IsBuilder result }
         ensures stage { stage_of_builder result ≡ no_stage }
+        ensures seed { hasher_of result.names ≡ seed }
     {
         ProblemBuilder {
             started: false,
@@ -125,6 +127,7 @@ impl ProblemBuilder {
         ensures taken { OnOk result
             (IsBuilder self.new × (stage_of_builder self.new ≡ with_line kind count (stage_of_builder self.old)
             line.now)) }
+        ensures seed { hasher_of self.new.names ≡ hasher_of self.old.names }
     {
         if has_byte(line, 0) {
             return Err(LineError::Fault(FaultKind::NulByte));
@@ -151,6 +154,7 @@ impl ProblemBuilder {
               sheet = with_row (sheet_of_builder self.old) (row_of kind no_row (parts line.now));
               ignored = self.old.ignored.items;
             })) }
+        ensures seed { hasher_of self.new.names ≡ hasher_of self.old.names }
     {
         let row = item_line(alloc, *self.names.hasher(), kind, line)?;
         let tables = Tables::new(alloc, &row)?;
@@ -170,6 +174,7 @@ impl ProblemBuilder {
           sheet = with_row (sheet_of_builder self.old) (row_of_line row);
           ignored = self.old.ignored.items;
         } }
+        ensures seed { hasher_of self.new.names ≡ hasher_of row.names }
     {
         let ItemLine { names, items, bar } = row;
         let Tables {
@@ -202,6 +207,7 @@ impl ProblemBuilder {
         ensures taken { OnOk result
             (IsBuilder self.new × (stage_of_builder self.new ≡ with_option count (stage_of_builder self.old)
             (written_by (sheet_of_builder self.old) line.now))) }
+        ensures seed { hasher_of self.new.names ≡ hasher_of self.old.names }
     {
         let start = self.uses.len();
         let met = self.colours.len();

@@ -9,6 +9,7 @@ ghost use Rattle.xc_input.specs.inner.Stages.{entry, part_checks, with_part, row
 ghost use Rattle.xc_input.specs.inner.Sheets.{names_of};
 ghost use Rattle.xc_input.specs.inner.BoundTexts.{low_text, high_text};
 ghost use Rattle.xc_input.specs.inner.Builders.{Judged, IsItemTable, row_of_line, entry_of};
+ghost use Rattle.indexmap.specs.IndexSet.{hasher_of};
 
 use crate::digits::number_of;
 use crate::limits::{LONGEST_NAME, MOST_ITEMS};
@@ -129,6 +130,7 @@ impl ItemLine {
     pub fn new(alloc: Global, seed: Seed) -> ItemLine
         ensures table { IsItemTable result }
         ensures row { row_of_line result ≡ no_row }
+        ensures seed { hasher_of result.names ≡ seed }
     {
         ItemLine {
             names: no_names(alloc, seed),
@@ -144,6 +146,7 @@ impl ItemLine {
         ensures judged { Judged (first (part_checks kind (row_of_line self.old) part.now)) result }
         ensures added { OnOk result
             (IsItemTable self.new × (row_of_line self.new ≡ with_part kind (row_of_line self.old) part.now)) }
+        ensures seed { hasher_of self.new.names ≡ hasher_of self.old.names }
     {
         if let [b'|', ..] = part {
             if self.bar.is_some() {
@@ -164,6 +167,7 @@ impl ItemLine {
         ensures added { OnOk result
             (IsItemTable self.new × (map entry_of self.new.items.items ≡ map entry_of self.old.items.items ++ entry kind
             (is_some self.old.bar) token.now ∷ []) × (self.new.bar ≡ self.old.bar)) }
+        ensures seed { hasher_of self.new.names ≡ hasher_of self.old.names }
     {
         let token = split_token(kind, self.bar.is_some(), token)?;
         let ItemToken { name, low, high } = token;
@@ -203,6 +207,7 @@ fn push_item(
 pub fn item_line(alloc: Global, seed: Seed, kind: Kind, line: &[u8]) -> Result<ItemLine, LineError>
     ensures judged { Judged (first (row_checks kind no_row (parts line.now))) result }
     ensures row { IfOk result (λ i. IsItemTable i × (row_of_line i ≡ row_of kind no_row (parts line.now))) }
+    ensures seed { IfOk result (λ i. hasher_of i.names ≡ seed) }
 {
     let mut items = ItemLine::new(alloc, seed);
     let mut rest = line;

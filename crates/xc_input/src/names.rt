@@ -48,6 +48,7 @@ pub fn add_name(alloc: Global, names: &mut NameSet, name: &[u8]) -> Result<usize
     ensures added { OnOk result
         (map (λ v. v.items) names.new.keys ≡ map (λ v. v.items) names.old.keys ++ name.now ∷ []) }
     ensures place { IfOk result (λ n. n ≡ length names.old.keys) }
+    ensures seed { hasher_of names.new ≡ hasher_of names.old }
 {
     let key = Vec::from_slice(alloc, name)?;
     let (n, _) = names.insert_full(key)?;

@@ -261,6 +261,14 @@ impl Problem {
 
 /// Its counts. Names, options and the seed aren't shown.
 impl fmt::Debug for Problem {
+    ghost use Rattle.std.specs.Prelude.{◌++◌, codes};
+    ghost use Rattle.std.specs.Fmt.{decimal};
+
+    ghost debug_output = { λ p. Some (codes "Problem { items: " ++ decimal (item_count p.puzzle)
+        ++ codes ", primary: " ++ decimal (primary_count p.puzzle) ++ codes ", options: "
+        ++ decimal (option_count p.puzzle) ++ codes ", uses: " ++ decimal (use_count p.puzzle.options)
+        ++ codes " }") };
+
     fn fmt<W: fmt::Write>(&self, f: &mut fmt::Formatter<W>) -> fmt::Result {
         let items = self.items();
         let primary = self.primary();

@@ -80,7 +80,8 @@ fn feed_all<S: Source>(
 }
 
 /// A buffer of zeros.
-// `xc_tools/src/whole_text.rt` has the same: six lines twice are less than a public call that is nothing of a problem's.
+// `xc_tools/src/whole_text.rt` has the same: six lines twice are less than a public call that has nothing to do with
+// problems.
 fn buffer(alloc: Global) -> Result<Vec<u8>, AllocError>
     ensures { IfOk result (λ v. length v.items ≡ 65536) }
 {

@@ -44,10 +44,16 @@ impl Model for Reader {
     ghost use Rattle.xc_input.specs.inner.Builders.{IsBuilder, stage_of_builder};
     ghost use Rattle.xc_input.specs.inner.EndedLines.{AreWhole};
     ghost use Rattle.std.specs.Prelude.{◌≡◌, length, MatchOption};
+    ghost use Rattle.indexmap.specs.IndexSet.{hasher_of};
 
     ghost Value = { Reading };
 
-    ghost view = { λ r. record { kind = r.kind; lines = r.given.lines; error = r.error } };
+    ghost view = { λ r. record {
+      kind = r.kind;
+      seed = hasher_of r.builder.names;
+      lines = r.given.lines;
+      error = r.error;
+    } };
 
     ghost invariant = { λ r. (r.count ≡ line_number (length r.given.lines)) × IsStateOf r.kind r.given.lines r.error
         × MatchOption r.error (IsBuilder r.builder × (stage_of_builder r.builder ≡ stage_of r.kind r.given.lines))
@@ -59,6 +65,7 @@ impl Reader {
     /// A reader whose tables hash by the fixed seed.
     pub fn new(alloc: Global, kind: Kind) -> Reader
         ensures kind { result.kind ≡ kind }
+        ensures seed { result.seed ≡ Seed.FIXED }
         ensures lines { result.lines ≡ [] }
         ensures error { result.error ≡ None }
     {
@@ -68,6 +75,7 @@ impl Reader {
     /// A reader whose tables hash by this seed. What it reads is the same by each seed.
     pub fn with_seed(alloc: Global, kind: Kind, seed: Seed) -> Reader
         ensures kind { result.kind ≡ kind }
+        ensures seed { result.seed ≡ seed }
         ensures lines { result.lines ≡ [] }
         ensures error { result.error ≡ None }
     {
@@ -86,6 +94,7 @@ impl Reader {
     pub fn line(&mut self, line: &[u8]) -> Result<(), InputError>
         requires { has 10 line.now ≡ false }
         ensures kind { self.new.kind ≡ self.old.kind }
+        ensures seed { self.new.seed ≡ self.old.seed }
         ensures given { self.new.lines ≡ self.old.lines ++ line.now ∷ [] }
         ensures error { self.new.error ≡ result_err result }
         ensures state { IsStateOf self.new.kind self.new.lines (result_err result) }

@@ -130,5 +130,6 @@ Commits now q j new =
 
 -- at the end
 pub whole : (p : Puzzle) (room undone : ℕ) (now : Linked) {t : List Move} → now.puzzle ≡ p → now.room ≡ room →
-    now.undone ≡ undone → now.trail ≡ t → dancing_of now ≡ record { puzzle = p; trail = t; room = room; undone = undone }
+    now.undone ≡ undone → now.trail ≡ t →
+    dancing_of now ≡ record { puzzle = p; trail = t; room = room; undone = undone }
 whole p room undone now e r u h = grind arith

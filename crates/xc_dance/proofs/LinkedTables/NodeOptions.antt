@@ -190,8 +190,9 @@ pub record OwnNode (p : Puzzle) (t : List Move) (i : ℕ) (n : Nodes) : Type 0 w
   pub color : get_or n.color i 0 ≡ unwrap_or (purified i t) 0
   pub down : get_or n.dlink i 0 ≡ link_place p i (first_above 0 0 (listed_numbers p t i))
 
-pub own_node : {p : Puzzle} {t : List Move} {i : ℕ} {n : Nodes} {v : Linked} {m u k : ℕ} → n ≡ nodes_after p t
-    → IsLaid p → record { puzzle = p; trail = t; room = m; undone = u; written = k } ≡ v → IsItem v.puzzle i → OwnNode p t i n
+pub own_node : {p : Puzzle} {t : List Move} {i : ℕ} {n : Nodes} {v : Linked} {m u k l : ℕ} → n ≡ nodes_after p t
+    → IsLaid p → record { puzzle = p; trail = t; room = m; undone = u; written = k; capacity = l } ≡ v
+    → IsItem v.puzzle i → OwnNode p t i n
 own_node {p} {t} {i} is laid seen item =
     let here : IsItem p i = subst (λ (w : Linked). IsItem w.puzzle i) (sym seen) item in
     let at = laid.head i here.0 here.1 in

@@ -1,13 +1,13 @@
 -- The fault of a token is that of its line.
-use Rattle.std.proofs.Common.{◌≡◌, ◌∙◌, ℕ, ◌+◌, List, [], ◌∷◌, ◌++◌, None, Some, Bool, true, false, length, refl, map}
-use Rattle.std.proofs.Common.{ap, arith}
+use Rattle.std.proofs.Common.{◌≡◌, ◌∙◌, ℕ, ◌+◌, List, [], ◌∷◌, ◌++◌, Some, Bool, true, false, length, map}
+use Rattle.std.proofs.Common.{arith}
 use Rattle.std.specs.Prelude.{slice_get}
 use Rattle.xc_input.specs.declared.kind.Kind.{Kind}
 use Rattle.xc_input.specs.declared.fault.FaultKind.{FaultKind}
 use Rattle.xc_input.specs.declared.faulty.FaultyToken.{FaultyToken}
 use Rattle.xc_input.specs.Faults.{first, checks_of_each, context_of, token_checks}
 use Rattle.xc_input.specs.FaultyTokens.{IsAtFault, IsFaulty}
-use Rattle.xc_input.specs.FirstFault.{content, content_checks, line_checks, line_fault, line_number}
+use Rattle.xc_input.specs.FirstFault.{content, content_checks, line_checks, line_number}
 use Rattle.xc_input.specs.Law.{TokensAgree}
 use Rattle.xc_input.specs.Tokens.{tokens, parts}
 use Rattle.xc_input.proofs.FaultLemmas.FirstChecks.{first-front, first-each}

@@ -20,6 +20,7 @@ use Rattle.xc_input.specs.Named.{Named, IsSound}
 use Rattle.xc_input.specs.inner.Builders.{IsBuilder, IsReadable, named_by, stage_of_builder, sheet_of_builder}
 use Rattle.xc_input.specs.inner.EndedLines.{AreWhole}
 use Rattle.xc_input.specs.Readings.{Reading, IsStateOf}
+use Rattle.xc_input.specs.declared.seed.Seed.{Seed}
 use Rattle.xc_input.specs.inner.Feeding.{IsEndOf}
 use Rattle.xc_input.proofs.LineLemmas.Reading.{end-is}
 use Rattle.xc_input.proofs.ValidLemmas.SoundSheets.{item-names, behind-bounds}
@@ -36,8 +37,8 @@ refutes kind lines Memory h f p ig s = absurd (f refl)
 by-builder : (d : ProblemBuilder) → named_of (sheet_of_builder d) ≡ named_by d
 by-builder d = grind (arith, item-names, length-map, take-map, map-map, nat_tests)
 
-module _ {v : Reading} {kind : Kind} {lines : List (List ℕ)} {o : Option InputError}
-    (is : v ≡ record { kind = kind; lines = lines; error = o }) (h : IsStateOf kind lines o) where
+module _ {v : Reading} {kind : Kind} {seed : Seed} {lines : List (List ℕ)} {o : Option InputError}
+    (is : v ≡ record { kind = kind; seed = seed; lines = lines; error = o }) (h : IsStateOf kind lines o) where
   -- what a reading stands for, its lines do
   StandsFor-given : {p : Named} {ig : List ℕ} → StandsFor v.kind v.lines p ig → StandsFor kind lines p ig
   StandsFor-given {p} {ig} = subst (λ (r : Reading). StandsFor r.kind r.lines p ig) is

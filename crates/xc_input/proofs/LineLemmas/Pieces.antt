@@ -48,7 +48,8 @@ faultless kind reading carry is between gave = record {
 -- want of memory before the first read
 pub part-none : (kind : Kind) (a : SourceState) → IsPart kind a a Memory
 part-none kind a =
-    let none : GaveFaultless kind a a = record { front = []; part = []; gave = gave_none a; no_fault = refl; partial = refl } in
+    let none : GaveFaultless kind a a =
+    record { front = []; part = []; gave = gave_none a; no_fault = refl; partial = refl } in
     ([], a, [], inl (gave_none a), refl, none, sym (append-nil a.given), omega arith)
 
 -- the answer at the end of the input

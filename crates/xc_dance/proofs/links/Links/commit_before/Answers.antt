@@ -28,7 +28,14 @@ pub loop-q-init : goal.loop-q-init
 loop-q-init c =
     let s = (goal.at.loop-q-init c).After-self in
     let to = c.ulink-first.ensures ∙ ap (λ (n : Nodes). get_or n.ulink c.args.end 0) (first_nodes s) in
-    record { puzzle = refl; room = refl; undone = refl; written = refl; along = λ x h. along_first _ _ _ _ _ (to ∙ (led s x h).first) }
+    record {
+      puzzle = refl;
+      room = refl;
+      undone = refl;
+      capacity = refl;
+      written = refl;
+      along = λ x h. along_first _ _ _ _ _ (to ∙ (led s x h).first);
+    }
 
 nodes_is : (c : After-self-in-loop-q) → c.self-in-loop-q.inside.nodes.cells
     ≡ nodes_after c.args.self.now.puzzle c.loop-q.self.trail
@@ -57,7 +64,7 @@ loop-q-preserved c =
     let here = (goal.at.loop-q-preserved c).After-self-in-loop-q in
     let is = c.top-j.ensures ∙ ap (λ (n : Nodes). get_or n.top c.loop-q.q 0) (nodes_is here) in
     one_more _ c.loop-q.invariant c.requires.can.1 (next here) is c.commit_node.ensures.committed
-    c.commit_node.ensures.written
+    c.commit_node.ensures.written c.commit_node.ensures.memory
 
 pub returns-clause-committed : goal.returns-clause-committed
 returns-clause-committed c = λ x held. whole _ _ _ c.loop-q.self c.loop-q.invariant.puzzle c.loop-q.invariant.room

@@ -80,6 +80,7 @@ loop-self-preserved c =
     let here = (goal.at.loop-self-preserved c).After-self-in-loop-self in
     one_more _ c.loop-self.invariant c.requires.1 (next here (omega (arith, c.top.ensures, c.loop-self-test.true)))
     (c.top-j.ensures ∙ top_is here) c.commit_node.ensures.committed c.commit_node.ensures.written
+    c.commit_node.ensures.memory
 
 pub returns-clause-committed : goal.returns-clause-committed
 returns-clause-committed c = λ x held.
