@@ -86,8 +86,12 @@ impl<'a, D: Dance> Search<'a, D> {
     /// Goes on to the next solution, which `choices` then gives. After `Done` it answers `Done`
     /// again.
     pub fn next(&mut self) -> Step
-        ensures still { self.new ≡ record self.old
-            { to_come = self.new.to_come; shown = self.new.shown; ahead = ends_after 1 self.old.ahead; made = self.new.made } }
+        ensures still { self.new ≡ record self.old {
+          to_come = self.new.to_come;
+          shown = self.new.shown;
+          ahead = ends_after 1 self.old.ahead;
+          made = self.new.made;
+        } }
         ensures moves { MakesFew self.old self.new }
         ensures solution { result ≡ Step.Solution → self.old.to_come ≡ self.new.shown ∷ self.new.to_come }
         ensures done { result ≡ Step.Done → (self.old.to_come ≡ []) × (self.new ≡ record self.old

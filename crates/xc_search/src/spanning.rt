@@ -220,20 +220,8 @@ fn run<'u, D: Dance>(position: &mut Position<D>, stack: &mut Stack, task: Task<'
     while steps > 0 {
         match enter_branch(position, stack, behind, early, &mut more, &mut last) {
             Next::Branch(entered) => position.commit_branch(entered.item, entered.place as u32),
-            Next::Solution => {
-                return Ran {
-                    stop: Stop::Member,
-                    more,
-                    steps,
-                };
-            }
-            Next::Nothing => {
-                return Ran {
-                    stop: Stop::Nothing,
-                    more,
-                    steps,
-                };
-            }
+            Next::Solution => return halted(Stop::Member, more, steps),
+            Next::Nothing => return halted(Stop::Nothing, more, steps),
         }
         steps -= 1;
         if let Some(until) = until {
@@ -241,21 +229,21 @@ fn run<'u, D: Dance>(position: &mut Position<D>, stack: &mut Stack, task: Task<'
                 Place::Before => {}
                 // What is left below may reach the row, so it isn't counted at once.
                 Place::Begins => last = usize::MAX,
-                Place::Reached => {
-                    return Ran {
-                        stop: Stop::Row,
-                        more,
-                        steps,
-                    };
-                }
+                Place::Reached => return halted(Stop::Row, more, steps),
             }
         }
     }
-    Ran {
-        stop: Stop::Steps,
-        more,
-        steps,
-    }
+    halted(Stop::Steps, more, steps)
+}
+
+/// What a run came to.
+// A call for its coldness alone: else the compiler takes the end of a run for as likely as a step of its loop.
+#[cold]
+#[inline(never)]
+fn halted(stop: Stop, more: u64, steps: u64) -> Ran
+    ensures { result ≡ record { stop = stop; more = more; steps = steps } }
+{
+    Ran { stop, more, steps }
 }
 
 /// Goes on until the row of the levels doesn't come before `from`, into no branch but those whose rows begin it. False

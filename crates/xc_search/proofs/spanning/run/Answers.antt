@@ -55,13 +55,14 @@ pub returns-in-Solution : goal.returns-in-Solution
 returns-in-Solution g c =
     let s = c.loop-steps.invariant in
     let same = c.enter_branch.ensures.same c.in-Solution.is in
-    runs_to_member s.stands s.within same.0 same.1 same.2 same.3 (c.enter_branch.ensures.solved c.in-Solution.is)
-    s.rest.before
+    rw c.halted.ensures (runs_to_member s.stands s.within same.0 same.1 same.2 same.3
+    (c.enter_branch.ensures.solved c.in-Solution.is) s.rest.before)
 
 pub returns-in-Nothing : goal.returns-in-Nothing
 returns-in-Nothing g c =
     let s = c.loop-steps.invariant in
-    runs_to_end s.stands s.within (c.enter_branch.ensures.done c.in-Nothing.is _ s.rest)
+    rw c.halted-in-Nothing.ensures
+    (runs_to_end s.stands s.within (c.enter_branch.ensures.done c.in-Nothing.is _ s.rest))
 
 pub returns-in-Reached : goal.returns-in-Reached
 returns-in-Reached g c =
@@ -69,8 +70,8 @@ returns-in-Reached g c =
     let row = row_levels c.commit_branch.new.self.puzzle c.levels.result.now c.enter_branch.new.stack.levels
     c.levels.ensures.levels in
     let s = c.loop-steps.invariant in
-    runs_to_row s.stands s.within c.loop-steps-test.true (begins g on)
-    (rw (← s.same, c.in-Some.is, ← row) (c.place_of.ensures.reached c.in-Reached.is))
+    rw c.halted-in-Reached.ensures (runs_to_row s.stands s.within c.loop-steps-test.true (begins g on)
+    (rw (← s.same, c.in-Some.is, ← row) (c.place_of.ensures.reached c.in-Reached.is)))
 
 pub loop-steps-preserved-in-Before : goal.loop-steps-preserved-in-Before
 loop-steps-preserved-in-Before g c =
@@ -114,4 +115,5 @@ loop-steps-preserved g c =
 pub returns : goal.returns
 returns g c =
     let s = c.loop-steps.invariant in
-    runs_to_steps s.stands s.within (omega (arith, c.loop-steps-test.false)) s.rest.before
+    rw c.halted-2.ensures
+    (runs_to_steps s.stands s.within (omega (arith, c.loop-steps-test.false)) s.rest.before)
