@@ -6,8 +6,7 @@ ghost use Rattle.xc_search.specs.Listing.{Residual, branch_item, level, listing}
 ghost use Rattle.xc_search.specs.Worked.{choice, seven_items, two_colours, once_or_twice, equal_options};
 ghost use Rattle.xc_search.specs.Worked.{missing_item, one_colour, up_to_twice, no_options, largest_bound};
 ghost use Rattle.xc_search.specs.Worked.{both_options, blank_secondary, bounds_and_colours, bound_beside_one};
-ghost use Rattle.xc_search.specs.Cover.{members, EachMemberCovers, EachCoverIsListed};
-ghost use Rattle.xc_search.specs.Cover.{EachCoverIsListedOnce, NoSetTwice};
+ghost use Rattle.xc_search.specs.Cover.{members, IsCover, HasSetAt, EachMemberCovers, EachCoverIsListedOnce};
 ghost use Rattle.xc_search.specs.Spans.{row_of, precedes, between, spans_from, RowsRise};
 
 /// The listing is one level over itself.
@@ -22,12 +21,12 @@ pub fn each_member_covers()
 
 /// Each cover of a valid problem is the set of options of a member of its listing.
 pub fn each_cover_is_listed()
-    ensures { (p : Puzzle) → IsValid p → EachCoverIsListed p }
+    ensures { (p : Puzzle) (s : List ℕ) → IsValid p → IsCover p s → (k : ℕ) × HasSetAt p k s }
 {}
 
 /// Members at two places of a valid problem's listing have different sets of options.
 pub fn no_set_twice()
-    ensures { (p : Puzzle) → IsValid p → NoSetTwice p }
+    ensures { (p : Puzzle) (j k : ℕ) (s : List ℕ) → IsValid p → HasSetAt p j s → HasSetAt p k s → j ≡ k }
 {}
 
 /// Each cover of a valid problem is the set of options of exactly one member of its listing.

@@ -7,10 +7,10 @@ use Rattle.xc_dance.specs.declared.dance.Move.{Move}
 use Rattle.xc_dance.specs.declared.dance.Move.TheVariants.{Spend}
 use Rattle.xc_search.specs.declared.level.Level.{Level}
 use Rattle.xc_input.specs.Problem.{Puzzle, Numbered, high_at}
-use Rattle.xc_search.specs.Listing.{branch_count, take_branch, none_branch}
+use Rattle.xc_search.specs.Listing.{branch_count}
 use Rattle.xc_dance.specs.Moves.{spends}
 use Rattle.xc_search.specs.Residuals.{wanted_at}
-use Rattle.xc_search.specs.inner.Residual.{residual_of}
+use Rattle.xc_search.specs.inner.Residual.{residual_of, take_branch, none_branch}
 use Rattle.xc_search.specs.inner.Levels.{options_at, IsBegun, IsPlace}
 use Rattle.xc_dance.specs.Commits.{option_at, after_spend}
 use Rattle.xc_search.specs.inner.Commits.{oldest, tweaked, walks}
