@@ -42,5 +42,4 @@ HasSetAt p k s = (m : List Choice) × (slice_get (members p) k ≡ Some m) × Sa
 
 -- each cover is the set of exactly one member
 abbrev pub EachCoverIsListedOnce : Puzzle → Type 0
-EachCoverIsListedOnce p = (s : List ℕ) → IsCover p s →
-    (k : ℕ) × HasSetAt p k s × ((j : ℕ) → HasSetAt p j s → j ≡ k)
+EachCoverIsListedOnce p = (s : List ℕ) → IsCover p s → (k : ℕ) × HasSetAt p k s × ((j : ℕ) → HasSetAt p j s → j ≡ k)

@@ -126,7 +126,8 @@ enters_first {d} {e} {ls} {i} {n} {l} o f ks b ef entered ek =
     rw (← item) (enters, λ x first u a. next.1 x u (rw (down.2, same) first) (rw (down.2, same) a))
 
 -- where what is left has no solution
-goes_behind : (d e : Dancing) (ls : Levels) → e ≡ record d { undone = e.undone } → IsStanding d.puzzle d.trail ls.levels true
+goes_behind : (d e : Dancing) (ls : Levels) → e ≡ record d { undone = e.undone }
+    → IsStanding d.puzzle d.trail ls.levels true
     → listing (residual_of d.puzzle d.trail) ≡ [] →
     GoesOn d ls true e ls false × (visits e.puzzle e.trail ls.levels < ahead d.puzzle d.trail ls.levels true)
 goes_behind d e ls same s none = grind (arith, stands_behind, some_work)

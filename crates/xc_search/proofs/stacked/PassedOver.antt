@@ -45,7 +45,8 @@ pub stands_behind : (p : Puzzle) (t : List Move) (ls : List Level) → AreStacke
 stands_behind p t ls a = record { stacked = a; searchable = λ e. cc; shallow = λ e. cc }
 
 -- it stands at the member behind the first n
-pub went_to : (d e : Dancing) (ls ks : Levels) (down : Bool) (n : ℕ) → (e ≡ record d { trail = e.trail; undone = e.undone })
+pub went_to : (d e : Dancing) (ls ks : Levels) (down : Bool) (n : ℕ)
+    → (e ≡ record d { trail = e.trail; undone = e.undone })
     × (ks ≡ record ls { levels = ks.levels }) → IsSolved e.puzzle e.trail ks.levels →
     drop n (coming d.puzzle d.trail ls.levels down) ≡ coming e.puzzle e.trail ks.levels true
     → WentOver d ls down (n + 1) e ks

@@ -29,7 +29,12 @@ loop-level-preserved g c =
     c.loop-level.stack c.pop.new.self c.loop-level.invariant.still c.loop-level.invariant.made
     c.loop-level.invariant.stacked c.in-Some.ensures.some
     (ended g (goal.at.loop-level-preserved g c).After-undo_to-in-Some) c.pop.ensures in
-    record { still = on.0; made = on.1; stacked = on.2; stack = grind (arith, c.loop-level.invariant.stack, c.pop.ensures) }
+    record {
+      still = on.0;
+      made = on.1;
+      stacked = on.2;
+      stack = grind (arith, c.loop-level.invariant.stack, c.pop.ensures);
+    }
 
 pub undo_tweaks-requires : goal.undo_tweaks-requires
 undo_tweaks-requires g c = grind (arith, common_steps)
