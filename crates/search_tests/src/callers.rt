@@ -1,6 +1,7 @@
 //! What is there for callers: the room of a search, and searches with no counting.
 use fixtures::{SEVEN, THREE_ALIKE, on_problem};
-use std::alloc::Global;
+use std::alloc::{AllocError, Global};
+use std::test::Fail;
 use xc_dance::{Dance, Links, Lists, Memory};
 use xc_input::{Kind, Problem};
 use xc_search::{Search, most_moves};
@@ -92,4 +93,33 @@ fn solutions_until_enough(rt: HostRuntime) {
                 && visited(alloc, problem, 9) == Some((3, true))
         })
     );
+}
+
+/// One item in so many options.
+fn all_alike(alloc: Global, options: u32) -> Result<Vec<u8>, AllocError> {
+    let mut text = Vec::from_slice(alloc, b"A\n")?;
+    for _ in 0..options {
+        text.extend_from_slice(b"A\n")?;
+    }
+    Ok(text)
+}
+
+/// How many solutions a search passes over.
+fn passed_in_all(alloc: Global, problem: &Problem) -> Option<u64> {
+    let mut search = begun(alloc, problem)?;
+    let passed = search.pass(u64::MAX);
+    drop(search);
+    Some(passed)
+}
+
+#[test]
+fn a_search_of_many_options(rt: HostRuntime) -> Result<(), Fail> {
+    let alloc = rt.alloc();
+    let text = all_alike(alloc, 20_000)?;
+    assert!(rt;
+        on_problem(alloc, Kind::Plain, &text, |problem| {
+            passed_in_all(alloc, problem) == Some(20_000)
+        })
+    );
+    Ok(())
 }
