@@ -32,7 +32,8 @@ body_text a i None = codes " null " ++ bytes_at a.names i
 
 -- the line of a choice: its body, its branch and the number of branches
 abbrev pub choice_text : Named → Choice → List ℕ
-choice_text a c = body_text a c.item c.option ++ codes " (" ++ decimal c.k ++ codes " of " ++ decimal c.n ++ codes ")\n"
+choice_text a c =
+    body_text a c.item c.option ++ (codes " (" ++ decimal c.k ++ codes " of " ++ decimal c.n ++ codes ")\n")
 
 -- the text of the member with this number
 abbrev pub member_text : Named → ℕ × List Choice → List ℕ
