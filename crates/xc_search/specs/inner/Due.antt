@@ -39,8 +39,8 @@ due d ls true = d.undone + (here (branch_item (residual_of d.puzzle d.trail)) (l
     + room_for d.puzzle * length (ends_behind d.puzzle d.trail ls.levels))
 due d ls false = d.undone + (length d.trail + room_for d.puzzle * length (ends_behind d.puzzle d.trail ls.levels))
 
--- From levels ls in state d, where m solutions were to be passed over, it came to levels ks in state e, where n are: the
--- ends behind them are the same, and no more moves are due.
+-- From levels ls in state d, where m solutions were to be passed over, it came to levels ks in state e, where n are:
+-- the ends behind them are the same, and no more moves are due.
 pub record Pays (d : Dancing) (ls : Levels) (down : Bool) (m : ℕ) (e : Dancing) (ks : Levels) (below : Bool) (n : ℕ) :
     Type 0 where
   pub ends : ends_after (suc m) (ends_ahead d.puzzle d.trail ls.levels down)
