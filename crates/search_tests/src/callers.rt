@@ -4,7 +4,7 @@ use std::alloc::{AllocError, Global};
 use std::test::Fail;
 use xc_dance::{Dance, Links, Lists, Memory};
 use xc_input::{Kind, Problem};
-use xc_search::{Search, most_moves};
+use xc_search::{Choice, Halt, RowNumber, Search, Step, Went, laws, most_moves};
 
 /// The room of a keeper that was made. The keeper is of any type, so that its drop is proved here and not in
 /// the test.
@@ -122,4 +122,36 @@ fn a_search_of_many_options(rt: HostRuntime) -> Result<(), Fail> {
         })
     );
     Ok(())
+}
+
+/// A choice of branch `k` of two.
+fn choice(k: u32) -> Choice {
+    Choice {
+        item: 1,
+        option: Some(k),
+        k,
+        n: 2,
+    }
+}
+
+#[test]
+fn equal_values(rt: HostRuntime) {
+    let went = |steps| Went {
+        halt: Halt::End,
+        members: 0,
+        steps,
+    };
+    assert!(rt;
+        laws::equal_choices(&choice(1), &choice(1)) && !laws::equal_choices(&choice(1), &choice(2))
+    );
+    assert!(rt;
+        laws::equal_steps(&Step::Done, &Step::Done)
+            && !laws::equal_steps(&Step::Done, &Step::Solution)
+    );
+    assert!(rt; laws::equal_ways(&went(1), &went(1)) && !laws::equal_ways(&went(1), &went(2)));
+    let number = |k| RowNumber { k, n: 2 };
+    assert!(rt;
+        laws::equal_row_numbers(&number(1), &number(1))
+            && !laws::equal_row_numbers(&number(1), &number(2))
+    );
 }
