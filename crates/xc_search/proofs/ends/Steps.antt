@@ -144,9 +144,8 @@ pays_next d f l b vs ks stacked top ef undone entered ek m =
       ends = ap (ends_after (suc m)) (was ∙ sym all);
       due = omega (arith, undone, within, ap (may p) all, ap (may p) was);
     } in
-    let pays = λ (f : Dancing).
-    Pays d vs false m (branched f l.item b.place) (record vs { levels = k ∷ js }) true m in
-    rw levels (subst pays (sym ef) begun)
+    rw levels (subst (λ (f : Dancing). Pays d vs false m (branched f l.item b.place)
+    (record vs { levels = k ∷ js }) true m) (sym ef) begun)
 
 -- ---- a level is begun
 

@@ -15,6 +15,6 @@ led_begun x p u t s l k ls b first a = grind (arith)
 
 -- the newest level ended
 pub keeps_back : (x : Bool) (d e : Dancing) (l : Level) (vs ks : Levels) → vs.levels ≡ l ∷ drop 1 vs.levels →
-    e ≡ record d { trail = oldest l.mark d.trail; undone = d.undone + (length d.trail - l.mark) }
-    → ks ≡ record vs { levels = drop 1 vs.levels } → KeepsBy x d vs e ks
+    e ≡ record d { trail = oldest l.mark d.trail; undone = d.undone + (length d.trail - l.mark) } →
+    ks ≡ record vs { levels = drop 1 vs.levels } → KeepsBy x d vs e ks
 keeps_back x d e l vs ks top ed ek = grind arith

@@ -127,8 +127,7 @@ enters_first {d} {e} {ls} {i} {n} {l} o f ks b ef entered ek =
 
 -- where what is left has no solution
 goes_behind : (d e : Dancing) (ls : Levels) → e ≡ record d { undone = e.undone }
-    → IsStanding d.puzzle d.trail ls.levels true
-    → listing (residual_of d.puzzle d.trail) ≡ [] →
+    → IsStanding d.puzzle d.trail ls.levels true → listing (residual_of d.puzzle d.trail) ≡ [] →
     GoesOn d ls true e ls false × (visits e.puzzle e.trail ls.levels < ahead d.puzzle d.trail ls.levels true)
 goes_behind d e ls same s none = grind (arith, stands_behind, some_work)
 
