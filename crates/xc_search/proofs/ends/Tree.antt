@@ -1,6 +1,6 @@
 -- The ends of a search's tree.
 use Rattle.std.proofs.Common.{ℕ, zero, suc, ◌≡◌, ◌+◌, ◌<◌, ◌≤◌, Bool, true, false, List, [], ◌∷◌, ◌++◌, length, Option}
-use Rattle.std.proofs.Common.{Some, None, refl, sym, ap, ◌∙◌, arith, subst, inl, inr, length-append, append_assoc, ◌≢◌}
+use Rattle.std.proofs.Common.{Some, None, refl, sym, ap, ◌∙◌, arith, length-append, ◌≢◌}
 use Rattle.std.proofs.Common.{cond}
 use Rattle.std.specs.Prelude.{flat_map, map, count_by}
 use Rattle.std.proofs.lemmas.List.Sums.{sum_by-cons}
@@ -14,7 +14,6 @@ use Rattle.xc_search.specs.inner.Due.{ends_of}
 use Rattle.xc_input.proofs.lists.EachElement.{each_weaker}
 use Rattle.xc_input.proofs.lists.Filters.{flat_map-same}
 use Rattle.xc_input.proofs.lists.Members.{IsIn, each_from, filter-in}
-use Rattle.xc_search.proofs.Cases.{by_option}
 use Rattle.xc_search.proofs.listing.ByDepth.{by_depth}
 use Rattle.xc_search.proofs.listing.DeadEnds.{best_least, no_branches, still_short, still_without}
 use Rattle.xc_search.proofs.listing.EachBranch.{IsBranchOf, takes_one, takes_none, in-branches}

@@ -1,5 +1,4 @@
 -- The branches of an item in their order.
-use Rattle.std.proofs.lemmas.Grind.{common_steps}
 use Rattle.std.proofs.Common.{ℕ, suc, ◌≡◌, ◌+◌, ◌<◌, ◌≤◌, true, eqb, List, [], ◌∷◌, length, map, length-append}
 use Rattle.std.proofs.Common.{take, drop, Some, None, ap, ◌∙◌, arith, eqb-true, eq-eqb, length-drop}
 use Rattle.std.proofs.lemmas.Option.{slice_get-map, slice_get_within}

@@ -1,5 +1,5 @@
 -- Moves among which no tweak stands.
-use Rattle.std.proofs.Common.{ℕ, zero, suc, ◌≡◌, ◌-◌, ◌<◌, ◌≤◌, false, List, [], ◌∷◌, length, drop, refl, subst}
+use Rattle.std.proofs.Common.{ℕ, zero, suc, ◌≡◌, ◌-◌, ◌<◌, false, List, [], ◌∷◌, length, drop, refl, subst}
 use Rattle.std.proofs.Common.{sym, arith, leb, leb-true, leb-false, Option, None, Some}
 use Rattle.xc_search.proofs.Cases.{by_bool}
 use Rattle.xc_input.specs.declared.problem.Use.{Use}
@@ -8,7 +8,7 @@ use Rattle.xc_input.specs.Problem.{Puzzle, uses_of}
 use Rattle.xc_dance.specs.Commits.{after_spend, after_use, after_uses, others}
 use Rattle.xc_search.specs.inner.Commits.{NoTweakAbove, is_tweak, oldest, tweaked}
 use Rattle.xc_search.specs.inner.Levels.{after_branch}
-use Rattle.xc_search.proofs.moves.OldestMoves.{oldest-drop, oldest_all}
+use Rattle.xc_search.proofs.moves.OldestMoves.{oldest-drop}
 
 -- moves on top, none of which is a tweak
 pub data Plain : List Move → List Move → Type 0 where
