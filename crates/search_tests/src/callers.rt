@@ -1,9 +1,10 @@
 //! What is there for callers: the room of a search, and searches with no counting.
 use fixtures::{SEVEN, THREE_ALIKE, on_problem};
-use std::alloc::Global;
+use std::alloc::{AllocError, Global};
+use std::test::Fail;
 use xc_dance::{Dance, Links, Lists, Memory};
 use xc_input::{Kind, Problem};
-use xc_search::{Search, most_moves};
+use xc_search::{Choice, Halt, RowNumber, Search, Step, Went, laws, most_moves};
 
 /// The room of a keeper that was made. The keeper is of any type, so that its drop is proved here and not in
 /// the test.
@@ -91,5 +92,66 @@ fn solutions_until_enough(rt: HostRuntime) {
             visited(alloc, problem, 2) == Some((2, false))
                 && visited(alloc, problem, 9) == Some((3, true))
         })
+    );
+}
+
+/// One item in so many options.
+fn all_alike(alloc: Global, options: u32) -> Result<Vec<u8>, AllocError> {
+    let mut text = Vec::from_slice(alloc, b"A\n")?;
+    for _ in 0..options {
+        text.extend_from_slice(b"A\n")?;
+    }
+    Ok(text)
+}
+
+/// How many solutions a search passes over.
+fn passed_in_all(alloc: Global, problem: &Problem) -> Option<u64> {
+    let mut search = begun(alloc, problem)?;
+    let passed = search.pass(u64::MAX);
+    drop(search);
+    Some(passed)
+}
+
+#[test]
+fn a_search_of_many_options(rt: HostRuntime) -> Result<(), Fail> {
+    let alloc = rt.alloc();
+    let text = all_alike(alloc, 20_000)?;
+    assert!(rt;
+        on_problem(alloc, Kind::Plain, &text, |problem| {
+            passed_in_all(alloc, problem) == Some(20_000)
+        })
+    );
+    Ok(())
+}
+
+/// A choice of branch `k` of two.
+fn choice(k: u32) -> Choice {
+    Choice {
+        item: 1,
+        option: Some(k),
+        k,
+        n: 2,
+    }
+}
+
+#[test]
+fn equal_values(rt: HostRuntime) {
+    let went = |steps| Went {
+        halt: Halt::End,
+        members: 0,
+        steps,
+    };
+    assert!(rt;
+        laws::equal_choices(&choice(1), &choice(1)) && !laws::equal_choices(&choice(1), &choice(2))
+    );
+    assert!(rt;
+        laws::equal_steps(&Step::Done, &Step::Done)
+            && !laws::equal_steps(&Step::Done, &Step::Solution)
+    );
+    assert!(rt; laws::equal_ways(&went(1), &went(1)) && !laws::equal_ways(&went(1), &went(2)));
+    let number = |k| RowNumber { k, n: 2 };
+    assert!(rt;
+        laws::equal_row_numbers(&number(1), &number(1))
+            && !laws::equal_row_numbers(&number(1), &number(2))
     );
 }

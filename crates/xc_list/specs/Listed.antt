@@ -31,8 +31,7 @@ is_known p words = list_any (is_body p words) p.puzzle.options
 
 -- the word `null` and the name of a primary item
 abbrev pub is_none : Named → List (List ℕ) → Bool
-is_none p (a ∷ b ∷ []) =
-    bytes_eq a (codes "null") && list_any (bytes_eq b) (take (primary_count p.puzzle) p.names)
+is_none p (a ∷ b ∷ []) = bytes_eq a (codes "null") && list_any (bytes_eq b) (take (primary_count p.puzzle) p.names)
 is_none p _ = false
 
 -- the fault of line n, where a header stands before it or not: it has to be a header or behind one a choice line, whose

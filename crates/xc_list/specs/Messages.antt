@@ -7,8 +7,7 @@ use Rattle.xc_list.specs.declared.runs.End.TheVariants.{Done, Limit, WriteFailed
 
 -- how many solutions there are, and a tail
 abbrev pub total_text : ℕ → List ℕ → List ℕ
-total_text n tail =
-    codes "Altogether " ++ decimal n ++ (if n == 1 then codes " solution" else codes " solutions") ++ tail
+total_text n t = codes "Altogether " ++ decimal n ++ (if n == 1 then codes " solution" else codes " solutions") ++ t
 
 -- the last line of a run: how many solutions there are, or the one whose write failed
 abbrev pub summary_text : End → List ℕ

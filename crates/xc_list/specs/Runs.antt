@@ -1,6 +1,6 @@
 -- What a run writes, and its end.
-use Rattle.std.specs.Prelude.{ℕ, ◌+◌, ◌-◌, ◌*◌, ◌≤◌, ◌≡◌, Bool, true, List, [], length, Some, Result, MatchResult, if◌then◌else◌}
-use Rattle.std.specs.Prelude.{nat_lt}
+use Rattle.std.specs.Prelude.{ℕ, ◌+◌, ◌-◌, ◌*◌, ◌≤◌, ◌≡◌, Bool, true, nat_lt, List, [], length, Some}
+use Rattle.std.specs.Prelude.{Result, MatchResult, if◌then◌else◌}
 use Rattle.xc_list.specs.Texts.{Seen, SinkState, Took, BrokeOff, Behind}
 use Rattle.xc_dance.specs.declared.dance.Memory.{Memory}
 use Rattle.xc_search.specs.declared.choice.Choice.{Choice}
@@ -45,11 +45,9 @@ solutions_found (WriteFailed n) = n
 -- the ends of the search's tree that are left where a run ended: those behind the member that it had reached
 abbrev pub ends_left : Puzzle → End → List Bool
 ends_left p (Done n) = []
-ends_left p (Limit n) = ends_after n (ends (whole p))
-ends_left p (WriteFailed n) = ends_after n (ends (whole p))
+ends_left p end = ends_after (solutions_found end) (ends (whole p))
 
 -- A run that ended so took its dance from so many moves ever made to so many: no more, for each end of the search's
 -- tree up to that member, than may stand at once.
 abbrev pub MakesFew : Puzzle → ℕ → ℕ → End → Type 0
-MakesFew p old new end =
-    new + room_for p * length (ends_left p end) ≤ old + room_for p * length (ends (whole p))
+MakesFew p old new end = new + room_for p * length (ends_left p end) ≤ old + room_for p * length (ends (whole p))

@@ -22,8 +22,7 @@ asked_of w = record { listed = w.listed; steps = w.steps; from = w.from.items; u
 
 -- whether a word asks for a listing, or for a count alone
 abbrev pub listing_word : List ℕ → Option Bool
-listing_word w =
-    if bytes_eq w (codes "m0") then Some false else if bytes_eq w (codes "m1") then Some true else None
+listing_word w = if bytes_eq w (codes "m0") then Some false else if bytes_eq w (codes "m1") then Some true else None
 
 -- the number of a row that digits tell, below 2^32
 abbrev pub row_number : List ℕ → Option ℕ

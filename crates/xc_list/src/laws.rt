@@ -1,5 +1,5 @@
 //! What the definitions say of worked problems and words.
-ghost use Rattle.std.specs.Prelude.{ℕ, ◌≡◌, ◌<◌, ◌-◌, ◌^◌, All, List, [], ◌∷◌, ◌++◌, codes, Ok, Err, Some};
+ghost use Rattle.std.specs.Prelude.{ℕ, ◌≡◌, ◌↔◌, true, ◌<◌, ◌-◌, ◌^◌, All, List, [], ◌∷◌, ◌++◌, codes, Ok, Err, Some};
 ghost use Rattle.xc_input.specs.Named.{Named};
 ghost use Rattle.xc_list.specs.Messages.{summary_text};
 ghost use Rattle.xc_list.specs.Output.{output};
@@ -10,6 +10,53 @@ ghost use Rattle.xc_list.specs.SpanWords.{row_word};
 ghost use Rattle.xc_list.specs.Worked.{seven, alike, colours};
 ghost use Rattle.xc_list.specs.declared.runs.End.TheVariants.{Done, Limit};
 ghost use Rattle.xc_list.specs.declared.words.WordFault.TheVariants.{Unknown, BadNumber, ZeroLimit};
+
+use crate::checker::{ListingFault, Verdict};
+use crate::runs::End;
+use crate::spans::SpanFault;
+use crate::words::{WordFault, Words};
+
+/// Two ends of runs are equal exactly if they are the same.
+pub fn equal_ends(a: &End, b: &End) -> bool
+    ensures { result ≡ true ↔ a.now ≡ b.now }
+{
+    a == b
+}
+
+/// Two verdicts are equal exactly if they are the same.
+pub fn equal_verdicts(a: &Verdict, b: &Verdict) -> bool
+    ensures { result ≡ true ↔ a.now ≡ b.now }
+{
+    a == b
+}
+
+/// What two commands ask for is equal exactly if it is the same.
+pub fn equal_words(a: &Words, b: &Words) -> bool
+    ensures { result ≡ true ↔ a.now ≡ b.now }
+{
+    a == b
+}
+
+/// Two faults of words are equal exactly if they are the same.
+pub fn equal_word_faults(a: &WordFault, b: &WordFault) -> bool
+    ensures { result ≡ true ↔ a.now ≡ b.now }
+{
+    a == b
+}
+
+/// Two faults of listings are equal exactly if they are the same.
+pub fn equal_listing_faults(a: &ListingFault, b: &ListingFault) -> bool
+    ensures { result ≡ true ↔ a.now ≡ b.now }
+{
+    a == b
+}
+
+/// Two faults of runs over spans are equal exactly if they are the same.
+pub fn equal_span_faults(a: &SpanFault, b: &SpanFault) -> bool
+    ensures { result ≡ true ↔ a.now ≡ b.now }
+{
+    a == b
+}
 
 /// The outputs and the ends of worked problems.
 pub fn worked_texts()

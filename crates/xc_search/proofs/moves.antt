@@ -1,3 +1,4 @@
 pub mod BranchMoves
 pub mod LegalTweaks
+pub mod NoTweaks
 pub mod OldestMoves

@@ -40,14 +40,6 @@ EachMemberCovers p = All (λ m. IsCover p (options_of m)) (members p)
 abbrev pub HasSetAt : Puzzle → ℕ → List ℕ → Type 0
 HasSetAt p k s = (m : List Choice) × (slice_get (members p) k ≡ Some m) × SameSet s (options_of m)
 
--- each cover is the set of a member
-abbrev pub EachCoverIsListed : Puzzle → Type 0
-EachCoverIsListed p = (s : List ℕ) → IsCover p s → (k : ℕ) × HasSetAt p k s
-
--- members at two places have different sets
-abbrev pub NoSetTwice : Puzzle → Type 0
-NoSetTwice p = (j k : ℕ) (s : List ℕ) → HasSetAt p j s → HasSetAt p k s → j ≡ k
-
--- each cover is the set of exactly one member: it is that of one, and not that of two
+-- each cover is the set of exactly one member
 abbrev pub EachCoverIsListedOnce : Puzzle → Type 0
-EachCoverIsListedOnce p = EachCoverIsListed p × NoSetTwice p
+EachCoverIsListedOnce p = (s : List ℕ) → IsCover p s → (k : ℕ) × HasSetAt p k s × ((j : ℕ) → HasSetAt p j s → j ≡ k)

@@ -1,14 +1,18 @@
 //! Laws of the listing: its members are the covers, each once, and those of its spans in turn.
-ghost use Rattle.std.specs.Prelude.{ℕ, ◌≡◌, List, [], ◌∷◌, ◌++◌, map, Some, None};
+ghost use Rattle.std.specs.Prelude.{ℕ, ◌≡◌, ◌↔◌, List, [], ◌∷◌, ◌++◌, map, count_by, length, Some, None};
 ghost use Rattle.std.specs.Prelude.{Option, IfSome, AllPairs, true, false};
 ghost use Rattle.xc_input.specs.Problem.{Puzzle, IsValid};
 ghost use Rattle.xc_search.specs.Listing.{Residual, branch_item, level, listing};
+ghost use Rattle.xc_search.specs.Ends.{ends};
 ghost use Rattle.xc_search.specs.Worked.{choice, seven_items, two_colours, once_or_twice, equal_options};
 ghost use Rattle.xc_search.specs.Worked.{missing_item, one_colour, up_to_twice, no_options, largest_bound};
 ghost use Rattle.xc_search.specs.Worked.{both_options, blank_secondary, bounds_and_colours, bound_beside_one};
-ghost use Rattle.xc_search.specs.Cover.{members, EachMemberCovers, EachCoverIsListed};
-ghost use Rattle.xc_search.specs.Cover.{EachCoverIsListedOnce, NoSetTwice};
+ghost use Rattle.xc_search.specs.Cover.{members, IsCover, HasSetAt, EachMemberCovers, EachCoverIsListedOnce};
 ghost use Rattle.xc_search.specs.Spans.{row_of, precedes, between, spans_from, RowsRise};
+
+use crate::choice::Choice;
+use crate::search::Step;
+use crate::span::{RowNumber, Went};
 
 /// The listing is one level over itself.
 pub fn listing_unrolls()
@@ -22,18 +26,51 @@ pub fn each_member_covers()
 
 /// Each cover of a valid problem is the set of options of a member of its listing.
 pub fn each_cover_is_listed()
-    ensures { (p : Puzzle) → IsValid p → EachCoverIsListed p }
+    ensures { (p : Puzzle) (s : List ℕ) → IsValid p → IsCover p s → (k : ℕ) × HasSetAt p k s }
 {}
 
 /// Members at two places of a valid problem's listing have different sets of options.
 pub fn no_set_twice()
-    ensures { (p : Puzzle) → IsValid p → NoSetTwice p }
+    ensures { (p : Puzzle) (j k : ℕ) (s : List ℕ) → IsValid p → HasSetAt p j s → HasSetAt p k s → j ≡ k }
 {}
 
 /// Each cover of a valid problem is the set of options of exactly one member of its listing.
 pub fn each_cover_is_listed_once()
     ensures { (p : Puzzle) → IsValid p → EachCoverIsListedOnce p }
 {}
+
+/// As many of the ends of a search's tree are solutions as the listing has members.
+pub fn solutions_are_members()
+    ensures { (r : Residual) → count_by (λ e. e) (ends r) ≡ length (listing r) }
+{}
+
+/// Two choices are equal exactly if they are the same.
+pub fn equal_choices(a: &Choice, b: &Choice) -> bool
+    ensures { result ≡ true ↔ a.now ≡ b.now }
+{
+    a == b
+}
+
+/// Two answers of `next` are equal exactly if they are the same.
+pub fn equal_steps(a: &Step, b: &Step) -> bool
+    ensures { result ≡ true ↔ a.now ≡ b.now }
+{
+    a == b
+}
+
+/// Two answers of `go_on` are equal exactly if they are the same.
+pub fn equal_ways(a: &Went, b: &Went) -> bool
+    ensures { result ≡ true ↔ a.now ≡ b.now }
+{
+    a == b
+}
+
+/// Two numbers of rows are equal exactly if they are the same.
+pub fn equal_row_numbers(a: &RowNumber, b: &RowNumber) -> bool
+    ensures { result ≡ true ↔ a.now ≡ b.now }
+{
+    a == b
+}
 
 /// The members of a listing stand in the order of their rows.
 pub fn rows_rise()

@@ -316,5 +316,5 @@ pub fn unwind<D: Dance>(position: &mut Position<D>, stack: &mut Stack)
         position.undo_to(level.mark);
         stack.pop();
     }
-    position.undo_to(0);
+    position.undo_rest();
 }

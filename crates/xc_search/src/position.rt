@@ -1,9 +1,10 @@
 //! A dance of a problem, as the search goes over it.
-ghost use Rattle.std.specs.Prelude.{ℕ, ◌≡◌, ◌+◌, ◌<◌, ◌≤◌, ◌∷◌, length, drop, true, IfSome, ◌^◌};
+ghost use Rattle.std.specs.Prelude.{ℕ, ◌≡◌, ◌+◌, ◌-◌, ◌<◌, ◌≤◌, [], ◌∷◌, length, drop, true, IfSome, ◌^◌};
+ghost use Rattle.xc_dance.specs.Dancing.{moves_made};
 ghost use Rattle.xc_input.specs.Problem.{IsItem};
 ghost use Rattle.xc_dance.specs.Fields.{link_place, first_above};
 ghost use Rattle.xc_dance.specs.Commits.{IsListedAt, IsUseAt, after_option, option_at};
-ghost use Rattle.xc_search.specs.inner.Commits.{MayStand};
+ghost use Rattle.xc_search.specs.inner.Commits.{MayStand, NoTweakAbove};
 ghost use Rattle.xc_dance.specs.Moves.{IsLegal, AreTweaks, listed_numbers, next_above};
 ghost use Rattle.xc_search.specs.Residuals.{wanted_after, choice_after};
 ghost use Rattle.xc_search.specs.Room.{room_for};
@@ -155,13 +156,24 @@ impl<'a, D: Dance> Position<'a, D> {
         self.dance.make(m);
     }
 
-    /// Undoes the newest move. There must be one.
+    /// Undoes the newest move. There must be one, and it is no tweak: those of a level come off at once.
     #[inline(always)]
     pub fn undo(&mut self)
-        requires { 0 < length self.old.trail }
+        requires some { 0 < length self.old.trail }
+        requires other { NoTweakAbove (length self.old.trail - 1) self.old.trail }
         ensures { self.new ≡ record self.old { trail = drop 1 self.old.trail; undone = self.old.undone + 1 } }
     {
         self.dance.undo();
+    }
+
+    /// Undoes what stands below no level: nothing, since a search begins on a dance without moves.
+    #[inline(always)]
+    pub fn undo_rest(&mut self)
+        ensures { self.new ≡ record self.old { trail = []; undone = moves_made self.old } }
+    {
+        while self.height() > 0 {
+            self.dance.undo();
+        }
     }
 
     /// The place of the node below the one at a place of the item's list.
@@ -199,10 +211,11 @@ impl<'a, D: Dance> Position<'a, D> {
         self.dance.commit(self.problem, i, place);
     }
 
-    /// Undoes the newest `k` moves, tweaks of one item.
+    /// Undoes the newest `k` moves, tweaks of one item, below which stands no other tweak.
     #[inline(always)]
     pub fn undo_tweaks(&mut self, k: usize)
-        requires { AreTweaks k self.old.trail }
+        requires tweaks { AreTweaks k self.old.trail }
+        requires all { NoTweakAbove (length self.old.trail - k - 1) (drop k self.old.trail) }
         ensures { self.new ≡ record self.old { trail = drop k self.old.trail; undone = self.old.undone + k } }
     {
         self.dance.undo_tweaks(k);

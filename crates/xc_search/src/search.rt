@@ -35,7 +35,7 @@ pub struct Search<'a, D: Dance> {
 }
 
 impl<'a, D: Dance> Model for Search<'a, D> {
-    ghost use Rattle.std.specs.Prelude.{◌≤◌, vec_capacity};
+    ghost use Rattle.std.specs.Prelude.{◌≡◌, vec_capacity};
     ghost use Rattle.xc_search.specs.Outlook.{Outlook};
     ghost use Rattle.xc_search.specs.inner.MostLevels.{most_levels};
 
@@ -43,7 +43,7 @@ impl<'a, D: Dance> Model for Search<'a, D> {
 
     ghost view = { λ s. record s.walk { shown = s.choices.items } };
 
-    ghost invariant = { λ s. record { choices_fit : most_levels s.walk.puzzle ≤ vec_capacity s.choices } };
+    ghost invariant = { λ s. record { as_begun : vec_capacity s.choices ≡ most_levels s.walk.puzzle } };
 }
 
 impl<'a, D: Dance> Search<'a, D> {

@@ -20,7 +20,7 @@ pub struct Stack {
 }
 
 impl Model for Stack {
-    ghost use Rattle.std.specs.Prelude.{◌≤◌, length, reverse, vec_capacity};
+    ghost use Rattle.std.specs.Prelude.{◌≡◌, ◌≤◌, length, reverse, vec_capacity};
     ghost use Rattle.xc_search.specs.inner.Levels.{Levels};
 
     ghost Value = { Levels };
@@ -32,7 +32,7 @@ impl Model for Stack {
 
     ghost invariant = { λ a. record {
       few : length a.levels.items ≤ a.room;
-      levels_fit : a.room ≤ vec_capacity a.levels;
+      as_begun : vec_capacity a.levels ≡ a.room;
     } };
 }
 

@@ -4,7 +4,7 @@ ghost use Rattle.xc_input.specs.Problem.{IsItem, uses_of, IsOption};
 ghost use Rattle.xc_search.specs.Room.{room_for};
 ghost use Rattle.xc_dance.specs.Commits.{after_spend, after_use, after_uses, others};
 ghost use Rattle.xc_input.specs.UsePlaces.{place_in};
-ghost use Rattle.xc_search.specs.inner.Commits.{MayStand, oldest, after_none};
+ghost use Rattle.xc_search.specs.inner.Commits.{MayStand, NoTweakAbove, oldest, after_none};
 
 use crate::position::Position;
 use xc_dance::{Dance, Move};
@@ -14,7 +14,8 @@ impl<'a, D: Dance> Position<'a, D> {
     /// Undoes moves until only the oldest `mark` stand.
     #[inline(always)]
     pub fn undo_to(&mut self, mark: usize)
-        requires { mark ≤ length self.old.trail }
+        requires within { mark ≤ length self.old.trail }
+        requires other { NoTweakAbove mark self.old.trail }
         ensures { self.new ≡ record self.old {
           trail = oldest mark self.old.trail;
           undone = self.old.undone + (length self.old.trail - mark);

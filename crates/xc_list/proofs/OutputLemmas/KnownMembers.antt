@@ -3,7 +3,6 @@ use Rattle.xc_search.proofs.listing.EachBranch.{in-nones}
 use Rattle.xc_search.proofs.listing.BranchesLess.{by_branches}
 use Rattle.xc_search.proofs.listing.Unrolled.{listing_at}
 use Rattle.std.proofs.Common.{[], None, Some}
-use Rattle.xc_search.specs.Listing.{take_branch}
 use Rattle.std.proofs.Common.{map}
 use Rattle.xc_input.proofs.lists.Members.{IsIn, in-map, in-filter, in-append, each_in, each_from, in-take}
 use Rattle.xc_search.proofs.listing.Numbering.{with_bounds, numbered_at, uses_known}
@@ -31,6 +30,7 @@ use Rattle.xc_search.specs.Listing.{listing}
 use Rattle.xc_input.specs.Problem.{holding}
 use Rattle.xc_search.specs.Cover.{members}
 use Rattle.xc_list.specs.Known.{IsKnownChoice}
+use Rattle.xc_search.specs.inner.Residual.{take_branch}
 
 -- a residual of a problem: its items are primary, and its options are some of the problem's
 record IsKnownResidual (p : Puzzle) (r : Residual) : Type 0 where

@@ -11,8 +11,7 @@ use Rattle.xc_search.specs.declared.choice.Choice.{Choice}
 use Rattle.xc_input.specs.Problem.{Puzzle, Numbered, numbered_options, primary_count}
 use Rattle.xc_input.specs.Problem.{IsOption, holds, bounds_at, uses_of, IsValid}
 use Rattle.xc_search.specs.Listing.{Wanted, Residual, whole}
-use Rattle.xc_search.specs.Cover.{IsCover, SameSet, times_held, options_of, members, EachMemberCovers}
-use Rattle.xc_search.specs.Cover.{EachCoverIsListed}
+use Rattle.xc_search.specs.Cover.{IsCover, SameSet, HasSetAt, times_held, options_of, members, EachMemberCovers}
 use Rattle.xc_dance.proofs.MoveLemmas.OptionsRise.{options_rise}
 use Rattle.xc_input.proofs.lists.EachTwo.{EachTwo, AllPairs-from_each_two, each_two_from_AllPairs}
 use Rattle.xc_input.proofs.lists.Members.{IsIn, in-contains, contains-in, slice_get-in, each_in, each_from}
@@ -121,7 +120,7 @@ module _ (p : Puzzle) (v : IsValid p) where
     λ k. contains-in s o (listed_in s o (t.taken o (in-contains (options_of m) o k))),
   )
 
-  pub each_cover_is_listed : EachCoverIsListed p
+  pub each_cover_is_listed : (s : List ℕ) → IsCover p s → (k : ℕ) × HasSetAt p k s
   each_cover_is_listed s c =
       let m = listed_for (primary_count p) (is_listed s) (whole p) (proper_whole p v) (covers_whole s c) in
       grind (arith, slice_get-in (members p) m.0 m.1, same_set s m.0 c m.2)

@@ -11,8 +11,8 @@ use Rattle.std.specs.List.{cons_option}
 use Rattle.xc_input.specs.declared.problem.Use.{Use}
 use Rattle.xc_search.specs.declared.choice.Choice.{Choice}
 use Rattle.xc_input.specs.Problem.{Numbered, colour_at, holds, holding}
-use Rattle.xc_search.specs.Listing.{Wanted, Residual, Branch, spend_one, may_stay, item_left, stays, pick, none}
-use Rattle.xc_search.specs.Listing.{branch_count, take_branch, none_branch, branches_of}
+use Rattle.xc_search.specs.Listing.{Wanted, Residual, Branch, spend_one, may_stay, stays, pick, none}
+use Rattle.xc_search.specs.Listing.{branch_count, branches_of}
 use Rattle.xc_search.specs.Cover.{options_of}
 use Rattle.xc_input.proofs.FaultLemmas.BooleanTests.{and_left, and_right}
 use Rattle.xc_input.proofs.lists.Filters.{filter_both, filter_same}
@@ -26,6 +26,7 @@ use Rattle.xc_search.proofs.completeness.Proper.{IsProper, find-in, in-find, goe
 use Rattle.xc_search.proofs.listing.EachBranch.{IsBranchOf, takes_one, takes_none, left_before, takes-in, nones-in}
 use Rattle.xc_search.proofs.residual.NumberedOnce.{same_number}
 use Rattle.xc_search.proofs.residual.OptionUses.{holds_use}
+use Rattle.xc_search.specs.inner.Residual.{item_left, take_branch, none_branch}
 
 -- the option holds item j and is chosen
 abbrev pub is_held : (ℕ → Bool) → ℕ → Numbered → Bool

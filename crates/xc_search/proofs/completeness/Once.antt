@@ -5,10 +5,10 @@ use Rattle.std.specs.Prelude.{slice_get}
 use Rattle.std.specs.List.{enumerate_from}
 use Rattle.xc_search.specs.declared.choice.Choice.{Choice}
 use Rattle.xc_input.specs.Problem.{Puzzle, Numbered, holds, holding, IsValid}
-use Rattle.xc_search.specs.Listing.{Wanted, Residual, Branch, whole, branch_count, take_branch}
+use Rattle.xc_search.specs.Listing.{Wanted, Residual, Branch, whole, branch_count}
 use Rattle.xc_search.specs.Listing.{branches_of}
 use Rattle.xc_search.specs.Listing.{listing}
-use Rattle.xc_search.specs.Cover.{NoSetTwice}
+use Rattle.xc_search.specs.Cover.{HasSetAt}
 use Rattle.xc_input.proofs.FaultLemmas.BooleanTests.{and_left}
 use Rattle.xc_input.proofs.lists.EachTwo.{EachTwo, EachTwo-append, EachTwo-map, EachTwo-flat_map, EachTwo-at}
 use Rattle.xc_input.proofs.lists.EachTwo.{EachTwo-weaker, EachTwo-take, EachTwo-enumerated}
@@ -23,6 +23,7 @@ use Rattle.xc_search.proofs.listing.BranchLists.{takes}
 use Rattle.xc_search.proofs.listing.EachBranch.{nones, behind, in-branches, in-nones, rise_behind}
 use Rattle.xc_search.proofs.listing.Unrolled.{listing_at}
 use Rattle.xc_search.proofs.residual.NumberedOnce.{two_rise}
+use Rattle.xc_search.specs.inner.Residual.{take_branch}
 
 -- no choice fits two branches
 abbrev AreApart : Residual → Branch → Branch → Type 0
@@ -85,7 +86,7 @@ pub one_place : (r : Residual) (chosen : ℕ → Bool) → Rises 0 (numbers r.op
     → IsMemberOf r chosen m → j ≡ k
 one_place r chosen rise j k l m e f s t = grind (arith, EachTwo-at, all_differ)
 
-pub no_set_twice : (p : Puzzle) → IsValid p → NoSetTwice p
+pub no_set_twice : (p : Puzzle) → IsValid p → (j k : ℕ) (s : List ℕ) → HasSetAt p j s → HasSetAt p k s → j ≡ k
 no_set_twice p v j k s a b =
     one_place (whole p) (is_listed s) (options_rise p) j k a.0 b.0 a.1 b.1 (member_of_set (whole p) s a.0 a.2)
     (member_of_set (whole p) s b.0 b.2)

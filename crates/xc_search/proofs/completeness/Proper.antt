@@ -9,7 +9,7 @@ use Rattle.std.proofs.lemmas.List.Elements.{recursion_from_All}
 use Rattle.xc_input.specs.Problem.{Puzzle, Numbered, numbered_options, primary_count, colour_at, holds, IsItem}
 use Rattle.xc_input.specs.Problem.{AreSoundBounds, IsSoundUse}
 use Rattle.xc_input.specs.Problem.{IsValid}
-use Rattle.xc_search.specs.Listing.{Wanted, Residual, wanted_from, whole, spend_one, item_left, stays}
+use Rattle.xc_search.specs.Listing.{Wanted, Residual, wanted_from, whole, spend_one, stays}
 use Rattle.xc_search.specs.Listing.{Branch, branch_item}
 use Rattle.xc_input.proofs.lists.Members.{IsIn, in-filter, filter-in, in-map, map-in, each_in, in-contains}
 use Rattle.xc_dance.proofs.MoveLemmas.OptionsRise.{options_rise}
@@ -31,6 +31,7 @@ use Rattle.std.specs.List.{list_all}
 use Rattle.xc_input.specs.Problem.{colour_in}
 use Rattle.xc_input.proofs.FaultLemmas.BooleanTests.{and_left}
 use Rattle.std.proofs.Common.{false}
+use Rattle.xc_search.specs.inner.Residual.{item_left}
 
 -- each two are of different items
 abbrev pub AreApart : List Wanted → Type 0

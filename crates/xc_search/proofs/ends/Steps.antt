@@ -11,20 +11,19 @@ use Rattle.xc_search.specs.declared.level.Begun.{Begun}
 use Rattle.xc_input.specs.Problem.{Puzzle}
 use Rattle.xc_input.proofs.lists.Members.{IsIn, each_in}
 use Rattle.xc_input.proofs.lists.Places.{drop_at}
-use Rattle.xc_dance.specs.Dancing.{Dancing, moves_made}
+use Rattle.xc_dance.specs.Dancing.{Dancing}
 use Rattle.xc_dance.specs.Commits.{option_at, after_spend}
-use Rattle.xc_dance.specs.Moves.{AreLegal}
 use Rattle.xc_dance.proofs.LinkedTables.FirstTables.{low_most}
-use Rattle.xc_search.specs.Listing.{Wanted, Branch, branch_item, branch_count, branches_of, listing}
+use Rattle.xc_search.specs.Listing.{Wanted, branch_item, branch_count, branches_of, listing}
 use Rattle.xc_search.specs.Room.{room_for}
 use Rattle.xc_search.specs.Ends.{ends, ends_after}
 use Rattle.xc_search.specs.Residuals.{wanted_at, choice_after}
 use Rattle.xc_search.specs.inner.Commits.{oldest}
 use Rattle.xc_search.specs.inner.Residual.{residual_of}
-use Rattle.xc_search.specs.inner.Levels.{Levels, IsSearchable, IsNode, IsStanding, AreStacked, IsBegun, IsEntered}
-use Rattle.xc_search.specs.inner.Levels.{IsDeadEnd, IsEarlyChoice, branches_at, after_branch, begun_level, newest_begun}
+use Rattle.xc_search.specs.inner.Levels.{Levels, IsSearchable, IsNode, AreStacked, IsBegun, IsEntered}
+use Rattle.xc_search.specs.inner.Levels.{IsEarlyChoice, branches_at, after_branch, begun_level, newest_begun}
 use Rattle.xc_search.specs.inner.Ahead.{branched}
-use Rattle.xc_search.specs.inner.Due.{ends_of, ends_behind, ends_ahead, here, due, Pays}
+use Rattle.xc_search.specs.inner.Due.{ends_of, ends_behind, ends_ahead, here, Pays}
 use Rattle.xc_search.proofs.Cases.{mapped_none}
 use Rattle.xc_search.proofs.ends.Tree.{some_end, ends_dead, ends_branches, ends_early, solutions, as_many_solutions}
 use Rattle.xc_search.proofs.ends.Tree.{after_all}

@@ -1,7 +1,9 @@
 -- The ends of a search's tree.
 use Rattle.std.proofs.Common.{ℕ, zero, suc, ◌≡◌, ◌+◌, ◌<◌, ◌≤◌, Bool, true, false, List, [], ◌∷◌, ◌++◌, length, Option}
-use Rattle.std.proofs.Common.{Some, None, refl, sym, ap, ◌∙◌, arith, subst, inl, inr, length-append, append_assoc, ◌≢◌}
-use Rattle.std.specs.Prelude.{flat_map, map}
+use Rattle.std.proofs.Common.{Some, None, refl, sym, ap, ◌∙◌, arith, length-append, ◌≢◌}
+use Rattle.std.proofs.Common.{cond}
+use Rattle.std.specs.Prelude.{flat_map, map, count_by}
+use Rattle.std.proofs.lemmas.List.Sums.{sum_by-cons}
 use Rattle.std.specs.List.{AllByRecursion}
 use Rattle.xc_search.specs.declared.choice.Choice.{Choice}
 use Rattle.xc_input.specs.Problem.{holds}
@@ -12,7 +14,6 @@ use Rattle.xc_search.specs.inner.Due.{ends_of}
 use Rattle.xc_input.proofs.lists.EachElement.{each_weaker}
 use Rattle.xc_input.proofs.lists.Filters.{flat_map-same}
 use Rattle.xc_input.proofs.lists.Members.{IsIn, each_from, filter-in}
-use Rattle.xc_search.proofs.Cases.{by_option}
 use Rattle.xc_search.proofs.listing.ByDepth.{by_depth}
 use Rattle.xc_search.proofs.listing.DeadEnds.{best_least, no_branches, still_short, still_without}
 use Rattle.xc_search.proofs.listing.EachBranch.{IsBranchOf, takes_one, takes_none, in-branches}
@@ -133,6 +134,11 @@ solutions_to (suc d) r = solutions_level d (branch_item r) r (solutions_to d)
 pub as_many_solutions : (r : Residual) → solutions (ends r) ≡ length (listing r)
 unfolding ends listing
 as_many_solutions r = solutions_to (length r.items + length r.options) r
+
+pub solutions_counted : (es : List Bool) → count_by (λ e. e) es ≡ solutions es
+solutions_counted [] = refl
+solutions_counted (true ∷ es) = omega (arith, sum_by-cons (λ e. cond e 1 0) true es, solutions_counted es)
+solutions_counted (false ∷ es) = omega (arith, sum_by-cons (λ e. cond e 1 0) false es, solutions_counted es)
 
 -- ---- ends behind solutions
 

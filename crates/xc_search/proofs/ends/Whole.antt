@@ -1,17 +1,16 @@
 -- What a search pays for, from one member to another.
-use Rattle.std.proofs.Common.{ℕ, zero, suc, ◌≡◌, ◌+◌, ◌*◌, ◌≤◌, Bool, true, false, List, [], ◌∷◌, ◌++◌, length, Option}
-use Rattle.std.proofs.Common.{Some, None, refl, sym, ap, ◌∙◌, arith, subst}
+use Rattle.std.proofs.Common.{ℕ, zero, suc, ◌≡◌, ◌+◌, ◌≤◌, Bool, true, false, List, [], ◌∷◌, length}
+use Rattle.std.proofs.Common.{None, refl, sym, ap, ◌∙◌, arith}
 use Rattle.xc_dance.specs.declared.dance.Move.{Move}
 use Rattle.xc_input.specs.Problem.{Puzzle}
 use Rattle.xc_dance.specs.Dancing.{Dancing, moves_made}
 use Rattle.xc_search.specs.declared.level.Level.{Level}
-use Rattle.xc_search.specs.Listing.{Wanted, branch_item}
-use Rattle.xc_search.specs.Room.{room_for}
-use Rattle.xc_search.specs.Ends.{ends, ends_after}
+use Rattle.xc_search.specs.Listing.{branch_item}
+use Rattle.xc_search.specs.Ends.{ends_after}
 use Rattle.xc_search.specs.inner.Residual.{residual_of}
 use Rattle.xc_search.specs.inner.Levels.{Levels, IsSearchable}
 use Rattle.xc_search.specs.inner.Ahead.{IsSolved}
-use Rattle.xc_search.specs.inner.Due.{ends_behind, ends_ahead, here, due, Pays, PaysFor}
+use Rattle.xc_search.specs.inner.Due.{ends_behind, ends_ahead, due, Pays, PaysFor}
 use Rattle.xc_search.proofs.Cases.{mapped_none}
 use Rattle.xc_search.proofs.ends.Tree.{ends_at}
 use Rattle.xc_search.proofs.ends.Steps.{may, here_at, room_in, due_within}

@@ -1,5 +1,4 @@
 -- The branches of an item in their order.
-use Rattle.std.proofs.lemmas.Grind.{common_steps}
 use Rattle.std.proofs.Common.{ℕ, suc, ◌≡◌, ◌+◌, ◌<◌, ◌≤◌, true, eqb, List, [], ◌∷◌, length, map, length-append}
 use Rattle.std.proofs.Common.{take, drop, Some, None, ap, ◌∙◌, arith, eqb-true, eq-eqb, length-drop}
 use Rattle.std.proofs.lemmas.Option.{slice_get-map, slice_get_within}
@@ -8,10 +7,11 @@ use Rattle.std.specs.List.{enumerate_from}
 use Rattle.xc_input.specs.Problem.{Numbered, holds, holding}
 use Rattle.xc_input.proofs.lists.Filters.{length-filter-le}
 use Rattle.xc_search.proofs.Cases.{by_bool, by_option}
-use Rattle.xc_search.specs.Listing.{Wanted, Residual, Branch, branches_of, branch_count, take_branch, none_branch}
-use Rattle.std.proofs.lemmas.List.{length-map, length-take}
+use Rattle.xc_search.specs.Listing.{Wanted, Residual, Branch, branches_of, branch_count}
+use Rattle.std.proofs.lemmas.List.{length-map, length-take, drop_all}
 use Rattle.std.proofs.lemmas.List.FromFn.{length-enumerate_from}
 use Rattle.xc_input.proofs.lists.Places.{get_left, get_seam, get_numbered, get_take, not_some}
+use Rattle.xc_search.specs.inner.Residual.{take_branch, none_branch}
 
 -- the branches that take an option
 abbrev pub takes : Residual → Wanted → List Branch
@@ -64,8 +64,26 @@ branch_none r w k h e =
     let seam = get_seam (takes r w) (none_branch r w.item (branch_count r w)) in
     (rw (test, last) seam, omega (arith, past, h), omega (arith, past, h))
 
+-- an item has no more branches than are counted
+no_more : (r : Residual) (w : Wanted) → length (branches_of r w) ≤ branch_count r w
+no_more r w =
+    by_bool (eqb w.low 0)
+    (λ e. rw e (omega (
+      arith,
+      length-append (takes r w) (none_branch r w.item (branch_count r w) ∷ []),
+      length-takes r w,
+      length-take (branch_count r w) (holding w.item r.options),
+      eqb-true _ _ e,
+    )))
+    (λ e. rw e (omega (
+      arith,
+      length-append (takes r w) [],
+      length-takes r w,
+      length-take (branch_count r w) (holding w.item r.options),
+    )))
+
 pub branches_end : (r : Residual) (w : Wanted) → drop (branch_count r w) (branches_of r w) ≡ []
-branches_end r w = grind (arith, common_steps, length-takes, eqb-true)
+branches_end r w = drop_all (branch_count r w) (branches_of r w) (no_more r w)
 
 -- the number of a branch is its place
 pub number_at : (r : Residual) (w : Wanted) (j : ℕ) (b : Branch) → slice_get (branches_of r w) j ≡ Some b

@@ -6,12 +6,13 @@ use Rattle.std.specs.Prelude.{nat_le}
 use Rattle.std.specs.List.{AllByRecursion, best_of}
 use Rattle.xc_input.specs.Problem.{Numbered, holds, holding}
 use Rattle.xc_search.specs.Listing.{Wanted, Residual, branch_count, branch_item, first_least, stays, pick}
-use Rattle.xc_search.specs.Listing.{Branch, take_branch, branches_of}
+use Rattle.xc_search.specs.Listing.{Branch, branches_of}
 use Rattle.xc_input.proofs.lists.Filters.{length-filter-le, length-filter-cons}
 use Rattle.xc_input.proofs.lists.Members.{IsIn, each_in}
 use Rattle.xc_input.proofs.lists.EachElement.{each_weaker, each-append, each-map, each-numbered}
 use Rattle.std.proofs.lemmas.List.{length-map}
 use Rattle.xc_search.proofs.Cases.{by_bool, by_option}
+use Rattle.xc_search.specs.inner.Residual.{take_branch}
 
 -- a test that each option of item i fails for itself leaves one out
 pub less_options : (i : ℕ) (q : Numbered → Numbered → Bool) → ((x : Numbered) → holds x i ≡ true → q x x ≡ false)

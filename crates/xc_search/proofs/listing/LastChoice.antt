@@ -5,7 +5,7 @@ use Rattle.std.proofs.lemmas.List.{length-take}
 use Rattle.std.specs.Prelude.{flat_map, nat_lt}
 use Rattle.std.specs.List.{AllByRecursion}
 use Rattle.xc_input.specs.Problem.{Numbered, holds, holding}
-use Rattle.xc_search.specs.Listing.{Wanted, Residual, Branch, branch_count, branch_item, branches_of, take_branch}
+use Rattle.xc_search.specs.Listing.{Wanted, Residual, Branch, branch_count, branch_item, branches_of}
 use Rattle.xc_search.specs.Listing.{spend_one, pick, listing}
 use Rattle.xc_input.proofs.lists.Filters.{keep_all}
 use Rattle.xc_input.proofs.lists.Members.{IsIn, each_from}
@@ -14,6 +14,7 @@ use Rattle.xc_search.proofs.listing.EachBranch.{behind, IsBranchOf, takes_one, t
 use Rattle.xc_search.proofs.listing.EachBranch.{branch_item-in}
 use Rattle.xc_search.proofs.listing.Unrolled.{listing_at}
 use Rattle.xc_search.proofs.Cases.{by_option}
+use Rattle.xc_search.specs.inner.Residual.{take_branch}
 
 pub record IsLast (r : Residual) : Type 0 where
   pub once : (w : Wanted) → IsIn r.items w → (w.low ≡ 1) × (w.high ≡ 1)

@@ -10,10 +10,10 @@ use Rattle.xc_input.specs.declared.problem.Use.{Use}
 use Rattle.xc_dance.specs.declared.dance.Move.{Move}
 use Rattle.xc_dance.specs.declared.dance.Move.TheVariants.{Cover, Tweak, Spend}
 use Rattle.xc_input.specs.Problem.{Puzzle, Numbered, holds, high_at, IsItem, holding}
-use Rattle.xc_search.specs.Listing.{Residual, may_stay, item_left}
+use Rattle.xc_search.specs.Listing.{Residual, may_stay}
 use Rattle.xc_dance.specs.Moves.{listed, is_open, purified, spends, without, is_among, AreLegal}
 use Rattle.xc_search.specs.Residuals.{wanted_after}
-use Rattle.xc_search.specs.inner.Residual.{residual_of}
+use Rattle.xc_search.specs.inner.Residual.{residual_of, item_left}
 use Rattle.xc_dance.specs.inner.Left.{left}
 use Rattle.xc_dance.specs.Commits.{after_spend}
 use Rattle.xc_search.specs.inner.Commits.{tweaked}

@@ -8,13 +8,14 @@ use Rattle.std.specs.Prelude.{nat_lt, is_some}
 use Rattle.std.specs.List.{AllByRecursion, list_all}
 use Rattle.xc_input.specs.declared.problem.Use.{Use}
 use Rattle.xc_input.specs.Problem.{Numbered, colour_in}
-use Rattle.xc_search.specs.Listing.{Wanted, Residual, may_stay, item_left}
+use Rattle.xc_search.specs.Listing.{Wanted, Residual, may_stay}
 use Rattle.xc_input.proofs.lists.Filters.{filter_both, keep_all}
 use Rattle.xc_input.proofs.lists.EachElement.{each_of_all}
 use Rattle.std.proofs.lemmas.List.{map-id}
 use Rattle.std.proofs.lemmas.List.Elements.{filter_agree}
 use Rattle.xc_search.proofs.Cases.{by_bool}
 use Rattle.xc_search.proofs.residual.OptionUses.{AreApart}
+use Rattle.xc_search.specs.inner.Residual.{item_left}
 
 -- one use of a taken option
 abbrev pub dec : ℕ → Wanted → Wanted

@@ -12,11 +12,11 @@ use Rattle.xc_input.specs.declared.problem.Use.{Use}
 use Rattle.xc_dance.specs.declared.dance.Move.{Move}
 use Rattle.xc_dance.specs.declared.dance.Move.TheVariants.{Spend}
 use Rattle.xc_input.specs.Problem.{Puzzle, primary_count, colour_at, high_at, IsPrimary, IsSecondary}
-use Rattle.xc_search.specs.Listing.{Wanted, Residual, none, may_stay, item_left}
+use Rattle.xc_search.specs.Listing.{Wanted, Residual, none, may_stay}
 use Rattle.xc_dance.specs.inner.Left.{left}
 use Rattle.xc_dance.specs.Moves.{is_open, purified, spends, AreLegal, agrees}
 use Rattle.xc_search.specs.Residuals.{wanted_at, wanted_after}
-use Rattle.xc_search.specs.inner.Residual.{residual_of}
+use Rattle.xc_search.specs.inner.Residual.{residual_of, item_left}
 use Rattle.xc_dance.specs.Commits.{after_spend, after_use, after_uses}
 use Rattle.xc_search.proofs.residual.PickedByUses.{dec, is_wanted, commit_use, commit_uses, as_residual}
 use Rattle.xc_search.proofs.residual.PickedByUses.{still_wanted}

@@ -7,13 +7,14 @@ use Rattle.xc_dance.specs.declared.dance.Move.{Move}
 use Rattle.xc_dance.specs.declared.dance.Move.TheVariants.{Spend}
 use Rattle.xc_search.specs.declared.level.Level.{Level}
 use Rattle.xc_input.specs.Problem.{Puzzle, Numbered, high_at}
-use Rattle.xc_search.specs.Listing.{branch_count, take_branch, none_branch}
+use Rattle.xc_search.specs.Listing.{branch_count}
 use Rattle.xc_dance.specs.Moves.{spends}
 use Rattle.xc_search.specs.Residuals.{wanted_at}
-use Rattle.xc_search.specs.inner.Residual.{residual_of}
+use Rattle.xc_search.specs.inner.Residual.{residual_of, take_branch, none_branch}
 use Rattle.xc_search.specs.inner.Levels.{options_at, IsBegun, IsPlace}
 use Rattle.xc_dance.specs.Commits.{option_at, after_spend}
-use Rattle.xc_search.specs.inner.Commits.{oldest, tweaked, walks}
+use Rattle.xc_search.specs.inner.Commits.{NoTweakAbove, oldest, tweaked, walks}
+use Rattle.xc_search.proofs.moves.NoTweaks.{plain_above, plain_branch}
 use Rattle.xc_search.specs.Room.{room_for}
 use Rattle.xc_search.proofs.room.SparingMoves.{sparing_taken, sparing_none, sparing_after_spend, spent_tweaked}
 use Rattle.xc_input.proofs.OptionLemmas.FlatParts.{numbered_get-at}
@@ -118,6 +119,7 @@ module _ {p : Puzzle} {t : List Move} {l : Level} (may : MayBegin p t l) where
       let ext_v = ext_after_branch p l.item o ground in
       let v = after_branch p l.item o ground in
       let mark_is : length u ≡ l.mark = length-oldest l.mark t (omega (arith, may.level.within)) in
+      let above : NoTweakAbove b.base v = rw own (plain_above (plain_branch p l.item o ground)) in
       let under : oldest l.mark v ≡ u = ap (λ n. oldest n v) (sym mark_is) ∙ ext_whole (ext_trans ext_v ext_ground) in
       let all : IsBegun p t l v (begun_level b l) = record {
         branch = made.branch;
@@ -129,7 +131,7 @@ module _ {p : Puzzle} {t : List Move} {l : Level} (may : MayBegin p t l) where
         item = refl;
         below = under;
         level = rw under
-            (grind (arith, may.level, ext_longer, ext_ground, ext_v, ext_whole, numbered_get-at));
+            (grind (arith, may.level, ext_longer, ext_ground, ext_v, ext_whole, numbered_get-at, above));
         searchable = made.searchable;
       } in
       grind (arith, has_room)

@@ -31,6 +31,7 @@ use Rattle.xc_search.proofs.residual.EachMove.{in_range}
 use Rattle.xc_input.proofs.lists.Members.{each_in}
 use Rattle.xc_search.proofs.residual.BranchItemLeft.{choice_is_branch_item}
 use Rattle.xc_search.proofs.moves.OldestMoves.{oldest_all, oldest-drop}
+use Rattle.xc_search.proofs.moves.NoTweaks.{none_above}
 use Rattle.xc_search.proofs.stacked.LessWork.{less_work}
 use Rattle.xc_input.proofs.lists.Filters.{map-map}
 use Rattle.xc_search.proofs.Cases.{mapped_none, mapped_some}
@@ -162,7 +163,9 @@ own_place p i = ap (λ o. link_place p i (unwrap_or o 0)) (sym (at_own p i))
 -- a level's own moves stand before its first branch
 pub first_stands : (p : Puzzle) (t : List Move) (i n : ℕ) → IsNode p t i
     → n ≡ branch_count (residual_of p t) (wanted_at p t i) → IsLevelAt p t (after_spend p i t) (first_level p t i n)
-first_stands p t i n node count = grind (arith, ext_longer, ext_after_spend, at_own, own_place, oldest_all)
+first_stands p t i n node count =
+    let above = none_above (after_spend p i t) in
+    grind (arith, ext_longer, ext_after_spend, at_own, own_place, oldest_all, above)
 
 -- a level is begun
 pub descended : (p : Puzzle) (t : List Move) (ls : List Level) (i n : ℕ) → IsSearchable p t → IsShallow p t ls

@@ -1,5 +1,6 @@
 -- No public clause cites this module. The moves of a level.
-use Rattle.std.specs.Prelude.{ℕ, ◌-◌, ◌≤◌, length, Bool, ◌&&◌, ◌==◌, List, ◌∷◌, ◌++◌, drop, if◌then◌else◌, replicate}
+use Rattle.std.specs.Prelude.{ℕ, ◌-◌, ◌≤◌, ◌≡◌, length, Bool, true, false, ◌&&◌, ◌==◌, List, [], ◌∷◌, ◌++◌, drop}
+use Rattle.std.specs.Prelude.{if◌then◌else◌, replicate}
 use Rattle.xc_dance.specs.declared.dance.Move.{Move}
 use Rattle.xc_dance.specs.declared.dance.Move.TheVariants.{Cover, Tweak, Spend}
 use Rattle.xc_input.specs.Problem.{Puzzle, low_at, high_at}
@@ -22,6 +23,16 @@ walks p t i = (high_at p i - spends i (Spend i ∷ t)) == 0 && low_at p i == hig
 -- k tweaks of item i
 abbrev pub tweaked : ℕ → ℕ → List Move → List Move
 tweaked k i t = replicate k (Tweak i) ++ t
+
+-- a move is a tweak
+abbrev pub is_tweak : Move → Bool
+is_tweak (Tweak i) = true
+is_tweak _ = false
+
+-- above the oldest n moves stands no tweak
+unfoldable pub NoTweakAbove : ℕ → List Move → Type 0
+NoTweakAbove n [] = Unit {0}
+NoTweakAbove n (m ∷ t) = n ≤ length t → (is_tweak m ≡ false) × NoTweakAbove n t
 
 -- the branch of none: the item is covered where it is open
 abbrev pub after_none : ℕ → List Move → List Move

@@ -20,7 +20,7 @@ use Rattle.xc_dance.specs.inner.Left.{left}
 use Rattle.xc_dance.specs.Fields.{link_place}
 use Rattle.xc_dance.specs.Commits.{option_at, IsUseAt, after_spend, after_uses, others}
 use Rattle.xc_input.specs.UsePlaces.{place_in}
-use Rattle.xc_search.specs.inner.Commits.{MayStand, after_none, oldest, tweaked, walks}
+use Rattle.xc_search.specs.inner.Commits.{MayStand, NoTweakAbove, after_none, oldest, tweaked, walks}
 use Rattle.xc_search.specs.inner.Sparing.{IsSparing}
 
 -- What a stack stands for.
@@ -104,6 +104,7 @@ pub record IsLevelAt (p : Puzzle) (u t : List Move) (l : Level) : Type 0 where
   pub option : taken p l ≡ option_map (λ o. o.number) (numbered_get (options_at p u l.item) l.begun)
   pub place : IsPlace p l.item l.place
   pub base : oldest l.base t ≡ tweaked l.tweaks l.item (after_spend p l.item u)
+  pub above : NoTweakAbove l.base t
 
 -- a level of the newest moves
 abbrev pub IsLevel : Puzzle → List Move → Level → Type 0

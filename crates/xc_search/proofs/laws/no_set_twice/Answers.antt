@@ -2,4 +2,4 @@ use Rattle.xc_search.proofs.completeness.Once.{no_set_twice}
 use Rattle.xc_search.proofs.laws.no_set_twice.Goals as goal
 
 pub returns : goal.returns
-returns c = no_set_twice
+returns c p j k s v = no_set_twice p v j k s

@@ -1,4 +1,7 @@
-use Rattle.std.proofs.Common.{arith, ap, ◌≡◌, refl}
+use Rattle.std.proofs.Common.{arith, ap, sym, length, ◌≡◌, refl}
+use Rattle.xc_dance.specs.Dancing.{Dancing}
+use Rattle.xc_search.specs.declared.level.Level.{Level}
+use Rattle.xc_search.proofs.moves.NoTweaks.{plain_above, plain_after_spend}
 use Rattle.xc_search.specs.inner.Levels.{Levels, MayBranch}
 use Rattle.xc_search.proofs.stacked.Depth.{depth_at}
 use Rattle.xc_search.proofs.stacked.EarlyChoice.{chosen_leads}
@@ -41,7 +44,16 @@ push-requires g c =
     )
 
 pub undo_to-requires : goal.undo_to-requires
-undo_to-requires g c = grind (arith, deepens, opened)
+undo_to-requires g c =
+    let o = opened g (goal.at.undo_to-requires g c).After-descend-level in
+    let s = c.args.position.now in
+    let spent = ap (λ (d : Dancing). d.trail) o.spent in
+    let mark : length s.trail ≡ c.descend-level.result.mark = sym (ap (λ (l : Level). l.mark) o.level) in
+    let plain = plain_above (plain_after_spend s.puzzle c.in-Some.item s.trail) in
+    record {
+      within = grind (arith, deepens, opened);
+      other = rw (← mark, spent) plain;
+    }
 
 pub returns-then-count-eq0-clause-nothing : goal.returns-then-count-eq0-clause-nothing
 returns-then-count-eq0-clause-nothing g c _ =

@@ -3,6 +3,7 @@ use Rattle.std.proofs.Common.{◌≡◌, ◌+◌, ◌-◌, length, drop, ap, ◌
 use Rattle.xc_dance.specs.Dancing.{Dancing}
 use Rattle.xc_search.specs.inner.Commits.{oldest}
 use Rattle.xc_search.proofs.stacked.LoopSteps.{ended_level, unwound}
+use Rattle.xc_search.proofs.stacked.BackAtLevel.{ends_tweaks}
 use Rattle.xc_search.proofs.levels.unwind.Goals as goal
 use Rattle.xc_search.proofs.levels.unwind.Goals.{After-undo_to-in-Some, then-level-gt0, else-level-gt0}
 
@@ -37,10 +38,31 @@ loop-level-preserved g c =
     }
 
 pub undo_tweaks-requires : goal.undo_tweaks-requires
-undo_tweaks-requires g c = grind (arith, common_steps)
+undo_tweaks-requires g c =
+    let l = c.in-Some.level.now in
+    let stacked = rw c.in-Some.ensures.some at c.loop-level.invariant.stacked in
+    let ends = ends_tweaks c.loop-level.position.puzzle c.loop-level.position.trail l stacked.0 in
+    record {
+      tweaks = grind (arith, common_steps);
+      all = rw (ap (λ (s : Dancing). s.trail) c.undo_to.ensures) ends.all;
+    }
 
 pub undo_to-requires-in-Some : goal.undo_to-requires-in-Some
-undo_to-requires-in-Some g c = grind (arith, common_steps)
+undo_to-requires-in-Some g c =
+    let l = c.in-Some.level.now in
+    let stacked = rw c.in-Some.ensures.some at c.loop-level.invariant.stacked in
+    let ends = ends_tweaks c.loop-level.position.puzzle c.loop-level.position.trail l stacked.0 in
+    let freed = λ (s : Dancing). record s { trail = drop l.tweaks s.trail; undone = s.undone + l.tweaks } in
+    record {
+      within = grind (arith, common_steps);
+      other = elim c.if-level-gt0.branch [
+        | then-level-gt0 w ↦
+            rw (ap (λ (s : Dancing). s.trail) (w.position-is ∙ w.undo_tweaks.ensures ∙ ap freed w.undo_to.ensures))
+            ends.other
+        | else-level-gt0 w ↦
+            rw (ap (λ (s : Dancing). s.trail) w.position-is) (ends.without (omega (arith, w.if-level-gt0.false)))
+      ];
+    }
 
 pub returns : goal.returns
 returns g c = grind (arith, common_steps)

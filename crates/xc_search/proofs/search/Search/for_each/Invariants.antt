@@ -8,8 +8,12 @@ use Rattle.xc_search.proofs.search.Search.for_each.Given as goal
 abbrev pub invariant-loop-visit : goal.invariant-loop-visit
 invariant-loop-visit g l = record {
   callable : goal.F-IsAlwaysCallable g l.visit;
-  still : l.self ≡ record l.initial.self
-      { to_come = l.self.to_come; shown = l.self.shown; ahead = l.self.ahead; made = l.self.made };
+  still : l.self ≡ record l.initial.self {
+    to_come = l.self.to_come;
+    shown = l.self.shown;
+    ahead = l.self.ahead;
+    made = l.self.made;
+  };
   moves : MakesFew l.initial.self l.self;
   -- what calls with the members to come do follows the calls that were made
   goes_on : (all : Bool) (left : List (List Choice)) (shown : List Choice) →
