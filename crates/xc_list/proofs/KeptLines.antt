@@ -3,7 +3,7 @@ use Rattle.std.proofs.Common.{ℕ, zero, suc, ◌≡◌, ◌+◌, ◌≤◌, Lis
 use Rattle.std.proofs.Common.{◌∙◌, ap, append_assoc}
 use Rattle.std.specs.Prelude.{flat_map, map}
 use Rattle.std.proofs.lemmas.Grind.{common_steps}
-use Rattle.std.proofs.lemmas.List.{take-take, drop-take, length-take, length-take-le, take-append-drop, take-append-le}
+use Rattle.std.proofs.lemmas.List.{take-take, drop-take, length-take-le, take-append-drop, take-append-le}
 use Rattle.std.proofs.Math.Seq.{take-append_seam, take-append-add, drop-append_seam}
 use Rattle.xc_list.proofs.Writing.{one_more as one_text_more}
 use Rattle.xc_input.specs.Named.{Named}
@@ -19,11 +19,6 @@ use Rattle.xc_list.proofs.PageLemmas.{held_more}
 -- no lines stand on any page
 pub kept_none : (a : Named) (page : List ℕ) → AreKept a page []
 kept_none a page = record { text = refl; ends = tt }
-
--- what stands before the lines may change
-pub kept_behind : {a : Named} {page more : List ℕ} {ls : List Line} → drop 22 more ≡ drop 22 page
-    → AreKept a page ls → AreKept a more ls
-kept_behind e k = record { text = rw e k.text; ends = k.ends }
 
 ends_put : (a : Named) (d at : ℕ) (ls : List Line) (l : Line) → AreEnds a at ls → d ≤ length ls
     → l.end ≡ at + length (flat_map (line_text a) (take d ls)) + length (line_text a l)
