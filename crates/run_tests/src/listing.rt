@@ -145,6 +145,19 @@ fn up_to_twice(rt: HostRuntime) -> Result<(), Fail> {
     all(rt.alloc(), Kind::Bounds, ALONE, ALONE_LISTING, 4)
 }
 
+// Lines that stay from one solution to the next, and some that are written anew behind others, in solutions of four, of
+// three and of two choices.
+#[test]
+fn lines_that_stay(rt: HostRuntime) -> Result<(), Fail> {
+    let text = b"x yy zzz wwww\nx\nx yy\nyy\nyy zzz\nzzz\nzzz wwww\nwwww\n";
+    let listing = b"1:\n x (1 of 2)\n yy (1 of 2)\n zzz (1 of 2)\n wwww (1 of 1)\n\
+        2:\n x (1 of 2)\n yy (1 of 2)\n zzz wwww (2 of 2)\n\
+        3:\n x (1 of 2)\n yy zzz (2 of 2)\n wwww (1 of 1)\n\
+        4:\n x yy (2 of 2)\n zzz (1 of 2)\n wwww (1 of 1)\n\
+        5:\n x yy (2 of 2)\n zzz wwww (2 of 2)\n";
+    all(rt.alloc(), Kind::Plain, text, listing, 5)
+}
+
 #[test]
 fn no_options(rt: HostRuntime) -> Result<(), Fail> {
     let listing = b"1:\n null A (1 of 1)\n";

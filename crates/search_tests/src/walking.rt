@@ -16,11 +16,26 @@ fn stands_at(walk: &Walk<Lists>, wanted: &[Choice]) -> bool {
     choices.next().is_none()
 }
 
+/// Whether the marks of a walk are those of these choices.
+fn is_marked(walk: &Walk<Lists>, wanted: &[Choice]) -> bool {
+    let mut marks = walk.marks();
+    for choice in wanted {
+        let Some(mark) = marks.next() else {
+            return false;
+        };
+        if walk.choice_of(mark) != *choice {
+            return false;
+        }
+    }
+    marks.next().is_none()
+}
+
 /// Whether a walk stands at no solution, then at this one alone, and then at none.
 fn passes_over_one(walk: &mut Walk<Lists>, wanted: &[Choice]) -> bool {
     stands_at(walk, &[])
         && walk.pass(1) == 1
         && stands_at(walk, wanted)
+        && is_marked(walk, wanted)
         && walk.pass(1) == 0
         && stands_at(walk, &[])
 }

@@ -4,6 +4,7 @@ pub mod OutputLemmas
 mod FewMoves
 pub mod NextPrinted
 pub mod Outputs
+pub mod KeptLines
 pub mod PageLemmas
 pub mod RowTexts
 pub mod SpanGoing

@@ -2,8 +2,9 @@
 use Rattle.std.proofs.lemmas.Bool.Decides.{nat_tests}
 use Rattle.std.proofs.Common.{[], ◌≡◌, ℕ, ◌+◌, ◌≤◌, List, ◌++◌, length, take, drop, sym, arith}
 use Rattle.std.proofs.Common.{append-nil, append_assoc, ◌∷◌}
-use Rattle.std.proofs.Math.Seq.{drop-cons, take-append-add}
-use Rattle.std.proofs.lemmas.List.{drop-append-le, take-take, length-take, length-take-le, drop-set, drop-set-add}
+use Rattle.std.proofs.Common.{ap, ◌∙◌}
+use Rattle.std.proofs.Math.Seq.{drop-cons, take-append-add, drop-append-add}
+use Rattle.std.proofs.lemmas.List.{drop-drop, drop-set-lt, drop-append-le, take-take, length-take, length-take-le, drop-set, drop-set-add}
 use Rattle.std.proofs.lemmas.Simd.{take_more_put_chunk, length-chunk}
 use Rattle.std.proofs.lemmas.Slice.{between_is}
 use Rattle.std.specs.Prelude.{slice_set}
@@ -71,6 +72,17 @@ pub header_held : (page put digits : List ℕ) (from : ℕ) → length page ≡ 
 header_held page put digits from size ends e =
     let line = take-append-add digits (drop 20 (slice_set (slice_set page 20 COLON) 21 10)) 2 in
     grind (arith, nat_tests, between_is put from 22, e, ends, colon_line page size)
+
+-- and nothing behind the line's end changes
+pub header_behind : (page put digits : List ℕ) (from : ℕ) → from + length digits ≡ 20
+    → drop from put ≡ digits ++ drop 20 (slice_set (slice_set page 20 COLON) 21 10) → drop 22 put ≡ drop 22 page
+header_behind page put digits from ends e =
+    let last = slice_set (slice_set page 20 COLON) 21 10 in
+    let on : drop (length digits + 2) (drop from put) ≡ drop 2 (drop 20 last) =
+    ap (drop (length digits + 2)) e ∙ drop-append-add digits (drop 20 last) 2 in
+    let there : from + (length digits + 2) ≡ 22 = omega (arith, ends) in
+    ap (λ n. drop n put) (sym there) ∙ sym (drop-drop (length digits + 2) from put) ∙ on ∙ drop-drop 2 20 last
+    ∙ drop-set-lt 22 (slice_set page 20 COLON) 21 10 (omega arith) ∙ drop-set-lt 22 page 20 COLON (omega arith)
 
 -- the texts of the first of a list, and the next one's
 module _ {X : Type 0} {a b : SinkState} {before held : List ℕ} {f : X → List ℕ} {rest next all : List X} {x : X}

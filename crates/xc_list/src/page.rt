@@ -1,12 +1,123 @@
 //! A page, on which a text is put together before the sink is asked to take it.
-ghost use Rattle.std.specs.Prelude.{◌≡◌, ◌+◌, ◌≤◌, ◌++◌, length, take, drop, decimal, codes};
-ghost use Rattle.xc_list.specs.inner.Pages.{held_text};
+ghost use Rattle.std.specs.Prelude.{◌≡◌, ◌+◌, ◌<◌, ◌≤◌, [], ◌∷◌, ◌++◌, length, take, drop, decimal, codes};
+ghost use Rattle.std.specs.Prelude.{IfSome, true};
+ghost use Rattle.xc_input.specs.Named.{Named};
+ghost use Rattle.xc_list.specs.inner.Pages.{AreKept, held_text};
 
 use itoa::write_digits;
+use std::marker::Model;
 use std::simd::Simd;
+use xc_search::Mark;
 
 /// How many bytes a page has.
 pub const ROOM: usize = 4096;
+
+/// Where lines start, behind the header.
+pub const LINES: usize = 22;
+
+/// How many lines of a solution a page keeps at most.
+const KEPT: usize = 64;
+
+/// A line that stands on a page.
+#[derive(Clone, Copy)]
+pub struct Line {
+    /// Of what choice it is.
+    pub mark: Mark,
+    /// Where it ends.
+    pub end: usize,
+}
+
+/// The lines that stand on a page one behind another.
+#[derive(Drop)]
+pub struct Kept {
+    lines: [Line; KEPT],
+    count: usize,
+}
+
+impl Model for Kept {
+    ghost use Rattle.std.specs.Prelude.{◌≡◌, ◌≤◌, List, length, take};
+    ghost use Rattle.xc_list.specs.declared.page.Line.{Line};
+
+    ghost Value = { List Line };
+
+    ghost view = { λ k. take k.count k.lines };
+
+    ghost invariant = { λ k. (k.count ≤ 64) × (length k.lines ≡ 64) };
+}
+
+impl Kept {
+    /// No lines.
+    fn new() -> Kept
+        ensures { result ≡ [] }
+    {
+        let mark = Mark {
+            item: 0,
+            place: 0,
+            k: 0,
+            n: 0,
+        };
+        Kept {
+            lines: [Line { mark, end: 0 }; KEPT],
+            count: 0,
+        }
+    }
+
+    /// Where the line behind the first `done` ends, if it is the mark's.
+    #[inline(always)]
+    pub fn end_of(&self, done: usize, mark: Mark) -> Option<usize>
+        ensures within { IfSome result (λ _. done < length self.now) }
+        ensures line { IfSome result (λ end. take (done + 1) self.now
+            ≡ take done self.now ++ record { mark = mark; end = end } ∷ []) }
+    {
+        if done < self.count {
+            let line = self.lines[done];
+            if line.mark == mark {
+                return Some(line.end);
+            }
+        }
+        None
+    }
+
+    /// Puts a line behind the first `done`, in place of those that stand there, and says whether there was room.
+    #[inline(always)]
+    pub fn put(&mut self, done: usize, line: Line) -> bool
+        requires { done ≤ length self.old }
+        ensures { result ≡ true → self.new ≡ take done self.old ++ line ∷ [] }
+    {
+        if done >= KEPT {
+            return false;
+        }
+        self.lines[done] = line;
+        self.count = done + 1;
+        true
+    }
+
+    /// Lets all lines go.
+    pub fn clear(&mut self)
+        ensures { self.new ≡ [] }
+    {
+        self.count = 0;
+    }
+}
+
+/// A page with the lines of the solution that was put on it last.
+#[derive(Drop)]
+pub struct Page {
+    pub text: [u8; ROOM],
+    pub kept: Kept,
+}
+
+impl Page {
+    /// A page on which no line stands.
+    pub fn new() -> Page
+        ensures { (a : Named) → AreKept a result.text result.kept }
+    {
+        Page {
+            text: [0; ROOM],
+            kept: Kept::new(),
+        }
+    }
+}
 
 /// Where the text on a page starts, and where it ends.
 #[derive(Clone, Copy)]
@@ -48,7 +159,8 @@ pub fn put_header(page: &mut [u8], number: u64) -> Held
     requires { length page.old ≡ 4096 }
     ensures put { held_text page.new result.from result.to ≡ decimal number ++ codes ":\n" }
     ensures size { length page.new ≡ 4096 }
-    ensures held { (result.from ≤ result.to) × (result.to ≤ 22) }
+    ensures held { (result.from ≤ result.to) × (result.to ≡ 22) }
+    ensures behind { drop 22 page.new ≡ drop 22 page.old }
 {
     page[20] = b':';
     page[21] = b'\n';

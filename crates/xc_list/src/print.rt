@@ -5,17 +5,18 @@ ghost use Rattle.xc_list.specs.Texts.{Writes};
 ghost use Rattle.xc_input.specs.Problem.{IsItem};
 ghost use Rattle.xc_list.specs.Output.{bytes_at, body_text, choice_text, member_text};
 ghost use Rattle.xc_list.specs.inner.LineParts.{branch_text};
-ghost use Rattle.xc_list.specs.inner.Pages.{IsPut, held_text};
+ghost use Rattle.xc_list.specs.inner.Pages.{IsPut, held_text, AreKept, Stand, end_of};
+ghost use Rattle.xc_search.specs.Marks.{marked, IsMark};
 ghost use Rattle.xc_list.specs.Known.{IsKnownChoice};
 
 use crate::bodies::{Bodies, LaidOut};
-use crate::page::{Held, put_bytes, put_header};
+use crate::page::{Held, Kept, LINES, Line, Page, put_bytes, put_header};
 use crate::sink::Sink;
 use crate::uses::write_name;
 use crate::write::{SinkFault, write_all, write_number, write_numbered};
 use xc_dance::Dance;
 use xc_input::Problem;
-use xc_search::{Choice, Walk};
+use xc_search::{Choice, Mark, Walk};
 
 /// Writes that no option is taken.
 fn write_none<S: Sink>(problem: &Problem, item: u32, sink: &mut S) -> Result<(), SinkFault>
@@ -346,12 +347,10 @@ fn write_in_pieces<'a, D: Dance, S: Sink>(
     write_lines(walk, bodies, sink)
 }
 
-/// Writes the solution at which a walk stands as `write_member` does, but where options are laid out puts its lines
-/// together on a page and lets the sink take them at once.
-// Out of line: among the search's values too few would be left in registers. It takes the walk and not a `Solution`,
-// which holds its address: the compiler would then copy the walk once more at each call of `pass`.
+/// Writes the solution at which a walk stands, and lets the sink take what a page holds where there is no more room.
+// Out of line: few solutions are as long.
 #[inline(never)]
-pub fn write_by_page<'a, D: Dance, S: Sink>(
+fn write_long<'a, D: Dance, S: Sink>(
     number: u64,
     walk: &Walk<'a, D>,
     bodies: &Bodies,
@@ -369,8 +368,103 @@ pub fn write_by_page<'a, D: Dance, S: Sink>(
     };
     let header = put_header(page, number);
     let held = put_lines(bodies, &laid, walk, page, header, sink)?;
-    // Written here, and not kept until the page is full: so a write that fails is one of this solution's.
     write_all(sink, &page[held.from..held.to])
+}
+
+/// Keeps the line of a mark that stands on a page behind the first `done`, or puts it there, and answers where it ends;
+/// none where it isn't put.
+#[inline(always)]
+fn keep_line<'a, D: Dance>(
+    laid: &LaidOut,
+    walk: &Walk<'a, D>,
+    mark: Mark,
+    done: usize,
+    at: usize,
+    text: &mut [u8],
+    kept: &mut Kept,
+) -> Option<usize>
+    requires same { walk.now.puzzle ≡ laid.now.puzzle }
+    requires mark { IsMark laid.now.puzzle mark }
+    requires known { IsKnownChoice laid.now.puzzle (marked laid.now.puzzle mark) }
+    requires kept { AreKept laid.now text.old kept.old }
+    requires done { done ≤ length kept.old }
+    requires at { at ≡ end_of laid.now (take done kept.old) }
+    requires size { length text.old ≡ 4096 }
+    ensures kept { IfSome result (λ _. AreKept laid.now text.new kept.new) }
+    ensures stands { IfSome result (λ _. Stand (done + 1) kept.new (take done kept.old) mark) }
+    ensures end { IfSome result (λ to. to ≡ end_of laid.now (take (done + 1) kept.new)) }
+    ensures header { IfSome result (λ _. take 22 text.new ≡ take 22 text.old) }
+    ensures size { length text.new ≡ 4096 }
+{
+    if let Some(end) = kept.end_of(done, mark) {
+        return Some(end);
+    }
+    let end = put_choice(laid, walk.choice_of(mark), text, at)?;
+    if kept.put(done, Line { mark, end }) {
+        Some(end)
+    } else {
+        None
+    }
+}
+
+/// Puts the lines of a solution on a page, where those that stand there at their places are kept, and answers where
+/// they end; none where one isn't put.
+#[inline(always)]
+fn keep_lines<'a, D: Dance>(
+    laid: &LaidOut,
+    walk: &Walk<'a, D>,
+    text: &mut [u8],
+    kept: &mut Kept,
+) -> Option<usize>
+    requires same { walk.now.puzzle ≡ laid.now.puzzle }
+    requires known { All (IsKnownChoice laid.now.puzzle) walk.now.shown }
+    requires kept { AreKept laid.now text.old kept.old }
+    requires size { length text.old ≡ 4096 }
+    ensures kept { IfSome result (λ _. AreKept laid.now text.new kept.new) }
+    ensures put { IfSome result (λ to. take to text.new
+        ≡ take 22 text.old ++ flat_map (choice_text laid.now) walk.now.shown) }
+    ensures end { IfSome result (λ to. (22 ≤ to) × (to ≤ 4096)) }
+    ensures size { length text.new ≡ 4096 }
+{
+    let mut at = LINES;
+    let mut done = 0;
+    let mut marks = walk.marks();
+    while let Some(mark) = marks.next() {
+        at = keep_line(laid, walk, mark, done, at, text, kept)?;
+        done += 1;
+    }
+    Some(at)
+}
+
+/// Writes the solution at which a walk stands as `write_member` does, but where options are laid out puts its lines
+/// together on a page and lets the sink take them at once. The lines that stand on the page from the last solution are
+/// kept.
+// Out of line: among the search's values too few would be left in registers. It takes the walk and not a `Solution`,
+// which holds its address: the compiler would then copy the walk once more at each call of `pass`.
+#[inline(never)]
+pub fn write_by_page<'a, D: Dance, S: Sink>(
+    number: u64,
+    walk: &Walk<'a, D>,
+    bodies: &Bodies,
+    page: &mut Page,
+    sink: &mut S,
+) -> Result<(), SinkFault>
+    requires same { walk.now.puzzle ≡ bodies.now.puzzle }
+    requires known { All (IsKnownChoice bodies.now.puzzle) walk.now.shown }
+    requires kept { AreKept bodies.now page.old.text page.old.kept }
+    ensures written { Writes (S.state sink.old) (S.state sink.new)
+        result (member_text bodies.now (number, walk.now.shown)) }
+    ensures kept { AreKept bodies.now page.new.text page.new.kept }
+{
+    if let Some(laid) = bodies.laid() {
+        let header = put_header(&mut page.text, number);
+        if let Some(to) = keep_lines(&laid, walk, &mut page.text, &mut page.kept) {
+            // Written here, and not kept until the page is full: so a write that fails is one of this solution's.
+            return write_all(sink, &page.text[header.from..to]);
+        }
+    }
+    page.kept.clear();
+    write_long(number, walk, bodies, &mut page.text, sink)
 }
 
 /// Writes a solution: its number, and a line for each choice.

@@ -12,10 +12,11 @@ ghost use Rattle.xc_list.specs.Output.{is_printed};
 ghost use Rattle.xc_list.specs.Known.{IsKnownChoice};
 ghost use Rattle.xc_list.specs.Runs.{IsRun, AnswersRun, MakesFew, solutions_found};
 ghost use Rattle.xc_list.specs.inner.Ends.{printed_text, WentTo};
+ghost use Rattle.xc_list.specs.inner.Pages.{AreKept};
 ghost use Rattle.xc_dance.specs.Same.{IsSame};
 
 use crate::bodies::Bodies;
-use crate::page::ROOM;
+use crate::page::Page;
 use crate::print::write_by_page;
 use crate::sink::Sink;
 use crate::words::Words;
@@ -61,14 +62,15 @@ fn write_printed<'a, D: Dance, S: Sink>(
     number: u64,
     walk: &Walk<'a, D>,
     bodies: &Bodies,
-    page: &mut [u8],
+    page: &mut Page,
     sink: &mut S,
 ) -> Result<(), SinkFault>
+    requires same { walk.now.puzzle ≡ bodies.now.puzzle }
     requires known { All (IsKnownChoice bodies.now.puzzle) walk.now.shown }
-    requires size { length page.old ≡ 4096 }
+    requires kept { AreKept bodies.now page.old.text page.old.kept }
     ensures written { Writes (S.state sink.old) (S.state sink.new)
         result (printed_text bodies.now spacing (number, walk.now.shown)) }
-    ensures size { length page.new ≡ 4096 }
+    ensures kept { AreKept bodies.now page.new.text page.new.kept }
 {
     if is_printed(spacing, number) {
         write_by_page(number, walk, bodies, page, sink)
@@ -116,7 +118,7 @@ fn write_members<'a, D: Dance, S: Sink>(
     ensures run { IsRun bodies.now words.now.spacing words.now.limit
         (S.state sink.old) (S.state sink.new) result }
 {
-    let mut page = [0; ROOM];
+    let mut page = Page::new();
     let mut found = 0;
     while found < words.limit {
         let steps = steps_to_printed(words.spacing, found, words.limit);

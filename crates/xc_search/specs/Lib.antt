@@ -7,5 +7,6 @@ pub mod Outlook
 pub mod Visited
 pub mod Spans
 pub mod InSpan
+pub mod Marks
 pub mod Worked
 pub mod inner

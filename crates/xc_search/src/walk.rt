@@ -1,6 +1,7 @@
 //! A walk over a problem's solutions.
 ghost use Rattle.std.specs.Prelude.{◌≡◌, ◌≢◌, ◌+◌, ◌<◌, ◌≤◌, [], ◌∷◌, drop, length, min, true, false};
-ghost use Rattle.std.specs.Prelude.{IfOk, IfErr, IfSome, IsNone, vec_capacity};
+ghost use Rattle.std.specs.Prelude.{IfOk, IfErr, IfSome, IsNone, vec_capacity, map, All};
+ghost use Rattle.xc_search.specs.Marks.{marked, IsMark};
 ghost use Rattle.xc_dance.specs.Dancing.{moves_made};
 ghost use Rattle.xc_search.specs.Outlook.{shown_after, MakesFew};
 ghost use Rattle.xc_search.specs.Listing.{whole};
@@ -14,6 +15,7 @@ use crate::choice::Choice;
 use crate::counts::most_levels;
 use crate::level::Level;
 use crate::levels::{advance, unwind};
+use crate::marks::{Mark, Marks};
 use crate::position::Position;
 use crate::stack::Stack;
 use core::mem::replace_with;
@@ -113,6 +115,24 @@ impl<'a, D: Dance> Walk<'a, D> {
             levels: self.standing.stack.levels(),
             position: &self.standing.position,
         }
+    }
+
+    /// The marks of the choices of `solution`.
+    #[inline(always)]
+    pub fn marks(&self) -> Marks<'_>
+        ensures marks { map (marked self.now.puzzle) result ≡ self.now.shown }
+        ensures right { All (IsMark self.now.puzzle) result }
+    {
+        Marks::new(self.standing.stack.levels())
+    }
+
+    /// The choice of a mark.
+    #[inline(always)]
+    pub fn choice_of(&self, mark: Mark) -> Choice
+        requires { IsMark self.now.puzzle mark }
+        ensures { result ≡ marked self.now.puzzle mark }
+    {
+        self.standing.position.choice_at(mark)
     }
 
     /// Puts the choices of `solution` in the place of those that stand in `shown`.

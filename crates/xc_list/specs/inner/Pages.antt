@@ -1,5 +1,10 @@
 -- No public clause cites this module. A text that is put together on a page before the sink is asked to take it.
-use Rattle.std.specs.Prelude.{ℕ, ◌≡◌, List, ◌++◌, take, drop, Result, MatchResult}
+use Rattle.std.specs.Prelude.{ℕ, ◌≡◌, ◌+◌, ◌≤◌, List, [], ◌∷◌, ◌++◌, length, take, drop, flat_map, Result, MatchResult}
+use Rattle.xc_input.specs.Named.{Named}
+use Rattle.xc_search.specs.declared.marks.Mark.{Mark}
+use Rattle.xc_search.specs.Marks.{marked}
+use Rattle.xc_list.specs.Output.{choice_text}
+use Rattle.xc_list.specs.declared.page.Line.{Line}
 use Rattle.xc_list.specs.Texts.{SinkState, Took, BrokeOff}
 use Rattle.xc_list.specs.declared.page.Held.{Held}
 
@@ -18,3 +23,27 @@ abbrev pub IsPut : {E : Type 0} → SinkState → SinkState → List ℕ → Res
 IsPut old new before r page text =
     MatchResult r (λ h. Puts old new before (held_text page h.from h.to) text)
     (λ _. BrokeOff old new (before ++ text))
+
+-- the line of a mark
+abbrev pub line_text : Named → Line → List ℕ
+line_text a l = choice_text a (marked a.puzzle l.mark)
+
+-- where lines end that stand on a page behind the header's place
+abbrev pub end_of : Named → List Line → ℕ
+end_of a ls = 22 + length (flat_map (line_text a) ls)
+
+-- each line says where it ends, the first of them behind a place
+abbrev pub AreEnds : Named → ℕ → List Line → Type 0
+AreEnds a at [] = Unit {0}
+AreEnds a at (l ∷ ls) = (l.end ≡ at + length (line_text a l)) × AreEnds a l.end ls
+
+-- Lines stand on a page behind the header's place, and each says where it ends.
+pub record AreKept (a : Named) (page : List ℕ) (ls : List Line) : Type 0 where
+  pub text : take (length (flat_map (line_text a) ls)) (drop 22 page) ≡ flat_map (line_text a) ls
+  pub ends : AreEnds a 22 ls
+
+-- the first n of the lines are these and the mark's
+pub record Stand (n : ℕ) (ls before : List Line) (m : Mark) : Type 0 where
+  pub within : n ≤ length ls
+  pub end : ℕ
+  pub lines : take n ls ≡ before ++ record { mark = m; end = end } ∷ []

@@ -9,7 +9,10 @@ use Rattle.xc_input.specs.Problem.{Puzzle}
 use Rattle.xc_dance.specs.declared.dance.Move.{Move}
 use Rattle.xc_search.specs.declared.level.Level.{Level}
 use Rattle.xc_search.specs.inner.Commits.{oldest}
-use Rattle.xc_search.specs.inner.Levels.{taken, options_at, IsLevelAt, AreStacked, IsShown}
+use Rattle.xc_search.specs.inner.Levels.{taken, options_at, IsLevelAt, AreStacked, IsShown, chosen, mark_of}
+use Rattle.xc_search.specs.Marks.{marked, IsMark}
+use Rattle.std.specs.Prelude.{map}
+use Rattle.std.proofs.Common.{◌≡◌}
 use Rattle.xc_input.proofs.lists.EachElement.{each_front}
 use Rattle.xc_search.proofs.moves.BranchMoves as branch
 use Rattle.xc_search.proofs.Cases.{by_option}
@@ -41,3 +44,16 @@ each_back P (x ∷ xs) a =
 -- from the oldest on too
 pub shown_back : (p : Puzzle) (ls : List Level) → All (IsShown p) (reverse ls) → All (IsShown p) ls
 shown_back p ls a = All-from_recursion _ _ (each_back (IsShown p) ls (recursion_from_All _ _ a))
+
+-- the choices of the levels' marks are theirs
+pub marks_chosen : (p : Puzzle) (ls : List Level) → map (marked p) (map mark_of ls) ≡ map (chosen p) ls
+marks_chosen p [] = refl
+marks_chosen p (l ∷ ls) = cc (marks_chosen p ls)
+
+each_mark : (p : Puzzle) (ls : List Level) → AllByRecursion (IsShown p) ls → AllByRecursion (IsMark p) (map mark_of ls)
+each_mark p [] a = tt
+each_mark p (l ∷ ls) a = (record { item = a.0.item; option = a.0.option }, each_mark p ls a.1)
+
+-- the marks of levels that are shown are right
+pub marks_right : (p : Puzzle) (ls : List Level) → All (IsShown p) ls → All (IsMark p) (map mark_of ls)
+marks_right p ls a = All-from_recursion _ _ (each_mark p ls (recursion_from_All _ _ a))

@@ -8,6 +8,7 @@ use Rattle.std.specs.List.{AllByRecursion}
 use Rattle.xc_search.specs.declared.choice.Choice.{Choice}
 use Rattle.xc_dance.specs.declared.dance.Move.{Move}
 use Rattle.xc_search.specs.declared.level.Level.{Level}
+use Rattle.xc_search.specs.declared.marks.Mark.{Mark}
 use Rattle.xc_search.specs.declared.level.Begun.{Begun}
 use Rattle.xc_input.specs.declared.problem.Use.{Use}
 use Rattle.xc_input.specs.Problem.{Puzzle, Numbered, IsValid, IsItem, IsPrimary, IsOption, numbered_get, holding}
@@ -122,6 +123,10 @@ AreStacked p t (l ∷ ls) = IsLevel p t l × IsShallow p (oldest l.mark t) ls ×
 -- the level's newest branch
 abbrev pub chosen : Puzzle → Level → Choice
 chosen p l = record { item = l.item; option = taken p l; k = l.begun; n = l.count }
+
+-- the mark of the level's newest branch
+abbrev pub mark_of : Level → Mark
+mark_of l = record { item = l.item; place = l.place; k = l.begun; n = l.count }
 
 -- the choices of levels, the newest first, in the order of the levels
 abbrev pub choices_of : Puzzle → List Level → List Choice

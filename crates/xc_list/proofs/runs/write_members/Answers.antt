@@ -65,6 +65,7 @@ loop-found-preserved g c =
       come = (stands to).1;
       within = within to;
       below = c.steps_to_printed-steps.ensures.within;
+      kept = c.write_printed.ensures.kept;
       taken = takes to c.loop-found.invariant.taken c.in-Ok.ensures.written;
     }
 

@@ -6,6 +6,7 @@ use Rattle.xc_search.specs.Listing.{whole}
 use Rattle.xc_search.specs.Room.{room_for}
 use Rattle.xc_list.specs.Output.{output}
 use Rattle.xc_list.specs.Texts.{Took}
+use Rattle.xc_list.specs.inner.Pages.{AreKept}
 use Rattle.xc_list.proofs.runs.write_members.Given as goal
 
 -- the members so far are written as far as they are printed, and the others are to come
@@ -24,6 +25,7 @@ invariant-loop-found g l = record {
   come : l.walk.to_come ≡ drop l.found (members l.bodies.puzzle);
   within : l.found ≤ length (members l.bodies.puzzle);
   below : l.found ≤ l.words.limit;
+  kept : AreKept l.bodies l.page.text l.page.kept;
   taken : Took (g.S.Sink.state l.fn.sink) (g.S.Sink.state l.sink) (output l.bodies l.words.spacing l.found);
 }
 

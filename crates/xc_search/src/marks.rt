@@ -1,0 +1,66 @@
+//! The levels of a solution, by which their choices are told apart.
+ghost use Rattle.std.specs.Prelude.{◌≡◌, [], ◌∷◌, IfSome, IsNone, map};
+ghost use Rattle.xc_search.specs.inner.Levels.{mark_of};
+
+use crate::level::Level;
+use std::marker::Model;
+
+/// What tells the choice of a level. Levels of one problem with the same marks have the same choices, so a caller that
+/// knows the choice of a mark need not ask for it again.
+#[derive(Clone, Copy, Debug, PartialEq, Eq)]
+pub struct Mark {
+    /// The branch item.
+    pub item: u32,
+    /// Where the option that is taken stands in the item's list; `item`, where none is.
+    pub place: u32,
+    /// The branch, from 1 to `n`.
+    pub k: u32,
+    /// The number of branches.
+    pub n: u32,
+}
+
+/// The marks of a solution that are still to be read.
+#[derive(Drop)]
+pub struct Marks<'w> {
+    levels: &'w [Level],
+}
+
+impl<'w> Model for Marks<'w> {
+    ghost use Rattle.std.specs.Prelude.{List, map};
+    ghost use Rattle.xc_search.specs.declared.marks.Mark.{Mark};
+    ghost use Rattle.xc_search.specs.inner.Levels.{mark_of};
+
+    ghost Value = { List Mark };
+
+    ghost view = { λ s. map mark_of s.levels.now };
+}
+
+impl<'w> Marks<'w> {
+    /// The marks of levels.
+    #[inline(always)]
+    pub(crate) fn new(levels: &'w [Level]) -> Marks<'w>
+        ensures { result ≡ map mark_of levels.now }
+    {
+        Marks { levels }
+    }
+
+    /// The next mark; None behind the last.
+    #[inline(always)]
+    pub fn next(&mut self) -> Option<Mark>
+        ensures some { IfSome result (λ m. self.old ≡ m ∷ self.new) }
+        ensures none { IsNone result → self.old ≡ [] }
+    {
+        match self.levels {
+            [] => None,
+            [level, behind @ ..] => {
+                self.levels = behind;
+                Some(Mark {
+                    item: level.item,
+                    place: level.place,
+                    k: level.begun,
+                    n: level.count,
+                })
+            }
+        }
+    }
+}
