@@ -15,7 +15,7 @@ use Rattle.xc_list.specs.Runs.{end_of}
 use Rattle.xc_list.specs.SpanTexts.{end_at, span_text}
 use Rattle.xc_list.specs.Texts.{Seen, SinkState, Took, BrokeOff, WasTold}
 use Rattle.xc_list.specs.declared.runs.End.{End}
-use Rattle.xc_tools.specs.Solves.{Sinks, TookAll, IsRefused}
+use Rattle.xc_tools.specs.WholeRuns.{Sinks, TookAll, IsRefused}
 
 -- A span as it was searched: its first row; the one before which it ends, where the empty row stands for the listing's
 -- end; the branches of the row where the search stopped before that, if it did; and how many steps it took.
@@ -133,5 +133,5 @@ asked_join (word ∷ files) =
 abbrev pub DidJoinWords : {S O E : Type 0} → List (List ℕ) → ℕ → Seen S SourceState → Seen S SourceState
     → Sinks O E → Sinks O E → Type 0
 DidJoinWords words status from to old new = MatchOption (asked_join words)
-    ((status ≡ 1) × IsRefused (codes "Usage: dlx-join m0|m1 [FILE..]\n") from to old new)
+    ((to ≡ from) × IsRefused status old new (1, codes "Usage: dlx-join m0|m1 [FILE..]\n"))
     (λ listed. DidJoin listed status from.state to.state old new)

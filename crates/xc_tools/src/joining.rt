@@ -9,7 +9,7 @@ ghost use Rattle.xc_input.specs.Words.{has};
 ghost use Rattle.xc_input.specs.inner.EndedLines.{ended};
 ghost use Rattle.xc_list.specs.Texts.{seen, Took, WasTold, Writes};
 ghost use Rattle.xc_tools.specs.Joins.{asked_join, gap_text, no_text, DidJoin, DidJoinWords};
-ghost use Rattle.xc_tools.specs.Solves.{sinks};
+ghost use Rattle.xc_tools.specs.WholeRuns.{sinks};
 ghost use Rattle.xc_tools.specs.declared.joining.Stop.TheVariants.{Device, Memory, WriteFailed};
 ghost use Rattle.xc_tools.specs.inner.Joining.{written, fed, stop_of, Adds, EndsAt, IsAfter, JoinsAll, StopsIn};
 ghost use Rattle.xc_tools.specs.inner.Joining.{StopsReading, ToldStop};
@@ -19,7 +19,8 @@ use crate::located::Located;
 use crate::solving::finish;
 use crate::span_lines::{Act, Joint, Refusal, put_word};
 use crate::status::{
-    BAD_INPUT, BAD_WORDS, COMPLETE, FAILED, GAP, NO_MEMORY, flush_and_refuse, out_of_memory, refuse,
+    BAD_INPUT, BAD_WORDS, COMPLETE, FAILED, GAP, NO_MEMORY, flush_and_refuse, out_of_memory,
+    refuse, write_failed,
 };
 use bstr::ByteSlice;
 use itoa::Buffer;
@@ -369,7 +370,7 @@ fn tell_stop<S: Located, O: Sink, E: Sink>(
         Stop::Gap => tell(GAP, gap_text(alloc, &lines.joint), out, err),
         Stop::Device => flush_and_refuse(FAILED, b"Read failed.\n", out, err),
         Stop::Memory => flush_and_refuse(NO_MEMORY, b"Out of memory.\n", out, err),
-        Stop::WriteFailed => refuse(FAILED, b"Write failed.\n", err),
+        Stop::WriteFailed => write_failed(err),
     }
 }
 

@@ -20,7 +20,7 @@ use Rattle.xc_list.specs.declared.runs.End.TheVariants.{Done, Limit}
 use Rattle.xc_list.proofs.TextLemmas.{appends_kept}
 use Rattle.xc_tools.specs.Joins.{AreTexts, DidJoin, DoMeet, HasBegun, IsBeginning, Span}
 use Rattle.xc_tools.specs.Joins.{joined}
-use Rattle.xc_tools.specs.Solves.{Sinks}
+use Rattle.xc_tools.specs.WholeRuns.{Sinks}
 use Rattle.xc_tools.specs.declared.joining.Stop.{Stop}
 use Rattle.xc_tools.specs.declared.joining.Stop.TheVariants.{NotText, Gap, Device, Memory, WriteFailed}
 use Rattle.xc_tools.specs.declared.span_lines.Joint.{Joint}
