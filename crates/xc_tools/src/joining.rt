@@ -4,6 +4,7 @@ ghost use Rattle.std.specs.Prelude.{◌⊎◌, ◌==◌, IsOkAnd, MatchOption, m
 ghost use Rattle.std.specs.Io.KnownBytes.{Keeps};
 ghost use Rattle.xc_list.specs.SpanTexts.{most_counted};
 ghost use Rattle.xc_list.specs.declared.runs.End.TheVariants.{Done, Limit};
+ghost use Rattle.xc_input.specs.Calls.{Rose};
 ghost use Rattle.xc_input.specs.Pieces.{GaveAll};
 ghost use Rattle.xc_input.specs.Words.{has};
 ghost use Rattle.xc_input.specs.inner.EndedLines.{ended};
@@ -308,7 +309,8 @@ fn tell<O: Sink, E: Sink>(
     ensures kept { Keeps (O.state out.old).taken (O.state out.new).taken }
     ensures did { IsOkAnd text (λ t. (result ≡ status) × WasTold (E.state err.old) (E.state err.new) t.items)
         ⊎ ((result ≡ 4) × WasTold (E.state err.old) (E.state err.new) (codes "Out of memory.\n"))
-        ⊎ ((result ≡ 3) × WasTold (E.state err.old) (E.state err.new) (codes "Write failed.\n")) }
+        ⊎ ((result ≡ 3) × Rose (O.state out.old).failures (O.state out.new).failures
+        × WasTold (E.state err.old) (E.state err.new) (codes "Write failed.\n")) }
 {
     match text {
         Ok(text) => flush_and_refuse(status, &text, out, err),
@@ -355,7 +357,7 @@ fn tell_stop<S: Located, O: Sink, E: Sink>(
     err: &mut E,
 ) -> u8
     ensures kept { Keeps (O.state out.old).taken (O.state out.new).taken }
-    ensures did { ToldStop stop result (E.state err.old) (E.state err.new) }
+    ensures did { ToldStop stop result (O.state out.old) (O.state out.new) (E.state err.old) (E.state err.new) }
 {
     match stop {
         Stop::NotText => {
