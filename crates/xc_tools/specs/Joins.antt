@@ -4,6 +4,7 @@ use Rattle.std.specs.Prelude.{None}
 use Rattle.std.specs.Prelude.{IfSome, MatchOption, flat_map, codes, decimal, if◌then◌else◌}
 use Rattle.std.specs.Io.KnownBytes.{Appends}
 use Rattle.std.specs.Str.{bytes_eq}
+use Rattle.xc_input.specs.Calls.{Rose}
 use Rattle.xc_input.specs.Named.{Named, IsSound}
 use Rattle.xc_input.specs.Pieces.{SourceState, Gave, GaveAll}
 use Rattle.xc_search.specs.declared.choice.Choice.{Choice}
@@ -15,7 +16,7 @@ use Rattle.xc_list.specs.Runs.{end_of}
 use Rattle.xc_list.specs.SpanTexts.{end_at, span_text}
 use Rattle.xc_list.specs.Texts.{Seen, SinkState, Took, BrokeOff, WasTold}
 use Rattle.xc_list.specs.declared.runs.End.{End}
-use Rattle.xc_tools.specs.Solves.{Sinks, TookAll, IsRefused}
+use Rattle.xc_tools.specs.WholeRuns.{Sinks, TookAll, IsRefused}
 
 -- A span as it was searched: its first row; the one before which it ends, where the empty row stands for the listing's
 -- end; the branches of the row where the search stopped before that, if it did; and how many steps it took.
@@ -106,10 +107,12 @@ gap_text met next = codes "Gap: from " ++ met ++ codes " until " ++ next ++ code
 abbrev pub no_text : List ℕ → ℕ → List ℕ
 no_text file line = file ++ codes "line " ++ decimal line ++ codes ": not the text of a span.\n"
 
--- What was told of a run that stopped: that a read or a write failed, or a part of the last line.
-abbrev pub ToldFailure : SinkState → SinkState → Type 0
-ToldFailure old new = WasTold old new (codes "Read failed.\n") ⊎ WasTold old new (codes "Write failed.\n")
-    ⊎ ((end : End) × BrokeOff old new (summary_text end))
+-- What failed, and was told: a read; or a write of the output or its flush; or the last line broke off.
+abbrev pub ToldFailure : {O E : Type 0} → SourceState → SourceState → Sinks O E → Sinks O E → Type 0
+ToldFailure from to old new = let told = WasTold old.err.state new.err.state in
+    (Rose from.failures to.failures × told (codes "Read failed.\n"))
+    ⊎ (Rose old.out.state.failures new.out.state.failures × told (codes "Write failed.\n"))
+    ⊎ ((end : End) × BrokeOff old.err.state new.err.state (summary_text end))
 
 -- What a run did that was asked for this, by its status. At 5 the spans don't meet, and at 2 the input is no texts.
 abbrev pub DidJoin : {O E : Type 0} → Bool → ℕ → SourceState → SourceState → Sinks O E → Sinks O E → Type 0
@@ -118,7 +121,7 @@ DidJoin listed status from to old new =
     let told = WasTold old.err.state new.err.state in
     ((status ≡ 0) × IsJoined listed from to old new)
     ⊎ ((status ≡ 2) × begun (λ _. ⊥) × (file : List ℕ) × (line : ℕ) × told (no_text file line))
-    ⊎ ((status ≡ 3) × begun (λ _. Unit {0}) × ToldFailure old.err.state new.err.state)
+    ⊎ ((status ≡ 3) × begun (λ _. Unit {0}) × ToldFailure from to old new)
     ⊎ ((status ≡ 4) × begun (λ _. Unit {0}) × told (codes "Out of memory.\n"))
     ⊎ ((status ≡ 5) × begun (λ spans. DoMeet [] spans → ⊥) × (met : List ℕ) × (next : List ℕ) × told
     (gap_text met next))
@@ -133,5 +136,5 @@ asked_join (word ∷ files) =
 abbrev pub DidJoinWords : {S O E : Type 0} → List (List ℕ) → ℕ → Seen S SourceState → Seen S SourceState
     → Sinks O E → Sinks O E → Type 0
 DidJoinWords words status from to old new = MatchOption (asked_join words)
-    ((status ≡ 1) × IsRefused (codes "Usage: dlx-join m0|m1 [FILE..]\n") from to old new)
+    ((to ≡ from) × IsRefused status old new (1, codes "Usage: dlx-join m0|m1 [FILE..]\n"))
     (λ listed. DidJoin listed status from.state to.state old new)

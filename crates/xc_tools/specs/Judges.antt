@@ -10,12 +10,11 @@ use Rattle.xc_input.specs.Lines.{lines_of}
 use Rattle.xc_input.specs.Calls.{Rose}
 use Rattle.xc_input.specs.Pieces.{SourceState, GaveAll}
 use Rattle.xc_list.specs.Listed.{fault_in_lines, AreVerdicts}
-use Rattle.xc_list.specs.Texts.{Seen, BrokeOff, WasTold}
+use Rattle.xc_list.specs.Texts.{Seen}
 use Rattle.xc_list.specs.declared.checker.Verdict.{Verdict}
 use Rattle.xc_list.specs.declared.checker.ListingFault.{ListingFault}
 use Rattle.xc_list.specs.declared.checker.ListingFault.TheVariants.{BadLine, UnknownOption, Memory}
-use Rattle.xc_tools.specs.Given.{GaveProblem}
-use Rattle.xc_tools.specs.Solves.{Sinks, TookAll, FailedBehind, IsRefused, HasNoProblem}
+use Rattle.xc_tools.specs.WholeRuns.{Sinks, Prints, IsRefused, ReadsProblem}
 
 -- the kind of problem that a number stands for
 abbrev pub numbered_kind : List ℕ → Option Kind
@@ -47,57 +46,35 @@ pub record HasVerdicts (a : Named) (vs : List Verdict) (old new : SourceState) :
   pub no_fault : fault_in_lines a 0 (lines_of listing) ≡ None
   pub verdicts : AreVerdicts a (lines_of listing) vs
 
--- 0, 5: the output took the verdicts, the status is 0 where each is yes and else 5, and nothing was told.
+-- 0, 3, 5: the listing has verdicts, and these were printed, which has status 0 where each is yes and else 5.
 pub record IsJudged {O E : Type 0} (a : Named) (status : ℕ) (from to : SourceState) (old new : Sinks O E) : Type 0 where
   pub verdicts : List Verdict
   pub right : HasVerdicts a verdicts from to
-  pub is_status : (if list_all (λ v. v.cover) verdicts then 0 else 5) ≡ status
-  pub taken : TookAll old.out.state new.out.state (flat_map verdict_text verdicts)
-  pub quiet : new.err ≡ old.err
+  pub printed : Prints (if list_all (λ v. v.cover) verdicts then 0 else 5) status old new
+      (flat_map verdict_text verdicts)
 
--- 2: the listing has a first fault, which was told, and nothing was written.
-pub record IsFaulty {O E : Type 0} (a : Named) (from to : SourceState) (old new : Sinks O E) : Type 0 where
+-- 2: the listing has a first fault.
+pub record IsFaulty {O E : Type 0} (a : Named) (status : ℕ) (from to : SourceState) (old new : Sinks O E) : Type 0 where
   pub listing : List ℕ
   pub gave : GaveAll from to listing
   pub fault : ListingFault
   pub first : fault_in_lines a 0 (lines_of listing) ≡ Some fault
-  pub told : WasTold old.err.state new.err.state (listing_fault_text fault)
-  pub unwritten : new.out ≡ old.out
+  pub refused : IsRefused status old new (2, listing_fault_text fault)
 
--- 3: a read of the listing failed, which was told, and nothing was written.
-pub record IsUnread {O E : Type 0} (from to : SourceState) (old new : Sinks O E) : Type 0 where
-  pub failure : Rose from.failures to.failures
-  pub told : WasTold old.err.state new.err.state (codes "Read failed.\n")
-  pub unwritten : new.out ≡ old.out
-
--- 3: a write of the verdicts failed, or the flush behind all of them, which was told.
-pub record IsFailed {O E : Type 0} (a : Named) (from to : SourceState) (old new : Sinks O E) : Type 0 where
-  pub verdicts : List Verdict
-  pub right : HasVerdicts a verdicts from to
-  pub failed : BrokeOff old.out.state new.out.state (flat_map verdict_text verdicts)
-      ⊎ FailedBehind old.out.state new.out.state (flat_map verdict_text verdicts)
-  pub told : WasTold old.err.state new.err.state (codes "Write failed.\n")
-
--- 4: there was no memory for the listing or the verdicts, which was told, and nothing was written.
-pub record IsOutOfMemory {O E : Type 0} (from to : SourceState) (old new : Sinks O E) : Type 0 where
-  pub no_failure : to.failures ≡ from.failures
-  pub told : WasTold old.err.state new.err.state (codes "Out of memory.\n")
-  pub unwritten : new.out ≡ old.out
-
--- What judging a listing of a problem did, by the status.
+-- What judging a listing of a problem did: it has verdicts or a fault; or a read of it failed; or there was no memory.
 abbrev pub DidJudgeListing : {O E : Type 0} → Named → ℕ → SourceState → SourceState → Sinks O E → Sinks O E → Type 0
 DidJudgeListing a status from to old new =
-    IsJudged a status from to old new
-    ⊎ ((status ≡ 2) × IsFaulty a from to old new)
-    ⊎ ((status ≡ 3) × (IsUnread from to old new ⊎ IsFailed a from to old new))
-    ⊎ ((status ≡ 4) × IsOutOfMemory from to old new)
+    IsJudged a status from to old new ⊎ IsFaulty a status from to old new
+    ⊎ (Rose from.failures to.failures × IsRefused status old new (3, codes "Read failed.\n"))
+    ⊎ ((to.failures ≡ from.failures) × IsRefused status old new (4, codes "Out of memory.\n"))
 
 -- What a run of the judge did, by its words and its status, which is 1 exactly where the words ask for no kind. Where
 -- there was no problem, the listing wasn't read.
 abbrev pub DidJudge : {P L O E : Type 0} → List (List ℕ) → ℕ → Seen P SourceState → Seen P SourceState
     → Seen L SourceState → Seen L SourceState → Sinks O E → Sinks O E → Type 0
 DidJudge words status problem_from problem_to from to old new = MatchOption (asked_kind words)
-    ((status ≡ 1) × (problem_to ≡ problem_from) × IsRefused (codes "Usage: dlxcheck PROBLEM [1|2|3]\n") from to old new)
-    (λ kind. (HasNoProblem kind status problem_from.state problem_to.state old new × (to ≡ from))
-    ⊎ GaveProblem kind (λ a _. DidJudgeListing a status from.state to.state old new)
-    problem_from.state problem_to.state)
+    ((problem_to ≡ problem_from) × (to ≡ from)
+    × IsRefused status old new (1, codes "Usage: dlxcheck PROBLEM [1|2|3]\n"))
+    (λ kind. ReadsProblem kind problem_from.state problem_to.state
+    (λ a _. DidJudgeListing a status from.state to.state old new)
+    (λ reason. (to ≡ from) × IsRefused status old new reason))

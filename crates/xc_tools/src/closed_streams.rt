@@ -2,7 +2,7 @@
 ghost use Rattle.std.specs.Prelude.{◌≡◌, ◌⊎◌, MatchOption, codes};
 ghost use Rattle.xc_list.specs.Texts.{WasTold};
 
-use crate::status::{FAILED, refuse};
+use crate::status::{FAILED, refuse, write_failed};
 use std::os::fd::AsFd;
 use xc_list::Sink;
 
@@ -28,7 +28,7 @@ pub fn closed_stream<I: AsFd, O: AsFd, D: AsFd, E: Sink>(
         return Some(refuse(FAILED, b"Read failed.\n", err));
     }
     if !is_open(output) || !is_open(messages) {
-        return Some(refuse(FAILED, b"Write failed.\n", err));
+        return Some(write_failed(err));
     }
     None
 }

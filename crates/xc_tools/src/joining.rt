@@ -4,12 +4,13 @@ ghost use Rattle.std.specs.Prelude.{◌⊎◌, ◌==◌, IsOkAnd, MatchOption, m
 ghost use Rattle.std.specs.Io.KnownBytes.{Keeps};
 ghost use Rattle.xc_list.specs.SpanTexts.{most_counted};
 ghost use Rattle.xc_list.specs.declared.runs.End.TheVariants.{Done, Limit};
+ghost use Rattle.xc_input.specs.Calls.{Rose};
 ghost use Rattle.xc_input.specs.Pieces.{GaveAll};
 ghost use Rattle.xc_input.specs.Words.{has};
 ghost use Rattle.xc_input.specs.inner.EndedLines.{ended};
 ghost use Rattle.xc_list.specs.Texts.{seen, Took, WasTold, Writes};
 ghost use Rattle.xc_tools.specs.Joins.{asked_join, gap_text, no_text, DidJoin, DidJoinWords};
-ghost use Rattle.xc_tools.specs.Solves.{sinks};
+ghost use Rattle.xc_tools.specs.WholeRuns.{sinks};
 ghost use Rattle.xc_tools.specs.declared.joining.Stop.TheVariants.{Device, Memory, WriteFailed};
 ghost use Rattle.xc_tools.specs.inner.Joining.{written, fed, stop_of, Adds, EndsAt, IsAfter, JoinsAll, StopsIn};
 ghost use Rattle.xc_tools.specs.inner.Joining.{StopsReading, ToldStop};
@@ -19,7 +20,8 @@ use crate::located::Located;
 use crate::solving::finish;
 use crate::span_lines::{Act, Joint, Refusal, put_word};
 use crate::status::{
-    BAD_INPUT, BAD_WORDS, COMPLETE, FAILED, GAP, NO_MEMORY, flush_and_refuse, out_of_memory, refuse,
+    BAD_INPUT, BAD_WORDS, COMPLETE, FAILED, GAP, NO_MEMORY, flush_and_refuse, out_of_memory,
+    refuse, write_failed,
 };
 use bstr::ByteSlice;
 use itoa::Buffer;
@@ -307,7 +309,8 @@ fn tell<O: Sink, E: Sink>(
     ensures kept { Keeps (O.state out.old).taken (O.state out.new).taken }
     ensures did { IsOkAnd text (λ t. (result ≡ status) × WasTold (E.state err.old) (E.state err.new) t.items)
         ⊎ ((result ≡ 4) × WasTold (E.state err.old) (E.state err.new) (codes "Out of memory.\n"))
-        ⊎ ((result ≡ 3) × WasTold (E.state err.old) (E.state err.new) (codes "Write failed.\n")) }
+        ⊎ ((result ≡ 3) × Rose (O.state out.old).failures (O.state out.new).failures
+        × WasTold (E.state err.old) (E.state err.new) (codes "Write failed.\n")) }
 {
     match text {
         Ok(text) => flush_and_refuse(status, &text, out, err),
@@ -354,7 +357,7 @@ fn tell_stop<S: Located, O: Sink, E: Sink>(
     err: &mut E,
 ) -> u8
     ensures kept { Keeps (O.state out.old).taken (O.state out.new).taken }
-    ensures did { ToldStop stop result (E.state err.old) (E.state err.new) }
+    ensures did { ToldStop stop result (O.state out.old) (O.state out.new) (E.state err.old) (E.state err.new) }
 {
     match stop {
         Stop::NotText => {
@@ -369,7 +372,7 @@ fn tell_stop<S: Located, O: Sink, E: Sink>(
         Stop::Gap => tell(GAP, gap_text(alloc, &lines.joint), out, err),
         Stop::Device => flush_and_refuse(FAILED, b"Read failed.\n", out, err),
         Stop::Memory => flush_and_refuse(NO_MEMORY, b"Out of memory.\n", out, err),
-        Stop::WriteFailed => refuse(FAILED, b"Write failed.\n", err),
+        Stop::WriteFailed => write_failed(err),
     }
 }
 

@@ -1,18 +1,20 @@
 //! A whole run of the judge. What it did is one relation by its status, in place of eighteen clauses, most of them
 //! twice.
-ghost use Rattle.std.specs.Prelude.{◌≡◌, ◌⊎◌, IsSomeAnd, map, List, codes, flat_map, if◌then◌else◌};
+ghost use Rattle.std.specs.Prelude.{◌≡◌, ◌⊎◌, ℕ, IsSomeAnd, map, List, flat_map, if◌then◌else◌};
 ghost use Rattle.std.specs.List.{list_all};
 ghost use Rattle.std.specs.Io.KnownBytes.{Keeps};
-ghost use Rattle.xc_list.specs.Texts.{seen, BrokeOff, WasTold, Writes, Begins};
+ghost use Rattle.xc_input.specs.Named.{Named};
+ghost use Rattle.xc_input.specs.Pieces.{IsWhole};
+ghost use Rattle.xc_list.specs.Texts.{seen, Writes, Begins};
 ghost use Rattle.xc_list.specs.declared.checker.Verdict.{Verdict};
-ghost use Rattle.xc_tools.specs.Given.{GaveProblem};
-ghost use Rattle.xc_tools.specs.Solves.{sinks, TookAll, FailedBehind, HasNoProblem};
+ghost use Rattle.xc_tools.specs.WholeRuns.{sinks, Prints};
 ghost use Rattle.xc_tools.specs.Judges.{asked_kind, numbered_kind, verdict_text, HasVerdicts};
 ghost use Rattle.xc_tools.specs.Judges.{DidJudgeListing, DidJudge};
 
 use crate::messages::{listing_fault, no_problem};
 use crate::status::{
-    BAD_INPUT, BAD_WORDS, COMPLETE, FAILED, NO_MEMORY, NOT_ALL_COVERS, out_of_memory, refuse,
+    BAD_INPUT, BAD_WORDS, COMPLETE, FAILED, NO_MEMORY, NOT_ALL_COVERS, flushed, out_of_memory,
+    refuse, write_failed,
 };
 use crate::whole_text::{TextError, read_text};
 use std::alloc::Global;
@@ -77,19 +79,16 @@ fn judged_status(verdicts: &[Verdict]) -> u8
 
 /// Writes and flushes the verdicts.
 fn tell_verdicts<O: Sink, E: Sink>(verdicts: &[Verdict], out: &mut O, err: &mut E) -> u8
-    ensures did { (((if list_all (λ v. v.cover) verdicts.now then 0 else 5) ≡ result)
-        × TookAll (O.state out.old) (O.state out.new) (flat_map verdict_text verdicts.now) × (err.new ≡ err.old))
-        ⊎ ((result ≡ 3) × (BrokeOff (O.state out.old) (O.state out.new) (flat_map verdict_text verdicts.now)
-        ⊎ FailedBehind (O.state out.old) (O.state out.new) (flat_map verdict_text verdicts.now))
-        × WasTold (E.state err.old) (E.state err.new) (codes "Write failed.\n")) }
+    ensures { Prints (if list_all (λ v. v.cover) verdicts.now then 0 else 5) result
+        (sinks O.state E.state out.old err.old) (sinks O.state E.state out.new err.new)
+        (flat_map verdict_text verdicts.now) }
 {
-    match write_verdicts(verdicts, out) {
-        Ok(()) => {}
-        Err(_) => return refuse(FAILED, b"Write failed.\n", err),
+    if write_verdicts(verdicts, out).is_err() {
+        return write_failed(err);
     }
-    match out.flush() {
+    match flushed(out, err) {
         Ok(()) => judged_status(verdicts),
-        Err(_) => refuse(FAILED, b"Write failed.\n", err),
+        Err(status) => status,
     }
 }
 
@@ -122,28 +121,6 @@ fn judge_listing<L: Source, O: Sink, E: Sink>(
     }
 }
 
-/// Reads a problem, and judges a listing of its solutions.
-fn judge_kind<P: Source, L: Source, O: Sink, E: Sink>(
-    alloc: Global,
-    kind: Kind,
-    problem: &mut P,
-    listing: &mut L,
-    out: &mut O,
-    err: &mut E,
-) -> u8
-    ensures did { (HasNoProblem kind result (P.state problem.old) (P.state problem.new)
-        (sinks O.state E.state out.old err.old) (sinks O.state E.state out.new err.new)
-        × (listing.new ≡ listing.old))
-        ⊎ GaveProblem kind (λ a _. DidJudgeListing a result (L.state listing.old) (L.state listing.new)
-        (sinks O.state E.state out.old err.old) (sinks O.state E.state out.new err.new))
-        (P.state problem.old) (P.state problem.new) }
-{
-    match read_problem(alloc, kind, problem) {
-        Ok(read) => judge_listing(alloc, &read.problem, listing, out, err),
-        Err(error) => no_problem(&error, err),
-    }
-}
-
 /// A whole run of the judge: reads the words, then the problem, then the listing, judges each
 /// solution of it, and writes the verdicts to `out` and what is wrong to `err`. The words are the
 /// name of the problem's file, which is not looked at here, and perhaps `1`, `2` or `3` for the
@@ -165,14 +142,16 @@ pub fn judge<P: Source, L: Source, O: Sink, E: Sink>(
 
     // Whatever the status, the output is a beginning of the verdicts.
     ensures begins { Keeps (O.state out.old).taken (O.state out.new).taken
-        ⊎ IsSomeAnd (asked_kind (map (λ w. w.items) words.now)) (λ kind. GaveProblem kind
-        (λ a _. (verdicts : List Verdict) × HasVerdicts a verdicts (L.state listing.old)
-        (L.state listing.new)
-        × Begins (O.state out.old) (O.state out.new) (flat_map verdict_text verdicts))
-        (P.state problem.old) (P.state problem.new)) }
+        ⊎ IsSomeAnd (asked_kind (map (λ w. w.items) words.now)) (λ kind. (a : Named) × (ignored : List ℕ)
+        × IsWhole kind (P.state problem.old) (P.state problem.new) a ignored
+        × (verdicts : List Verdict) × HasVerdicts a verdicts (L.state listing.old) (L.state listing.new)
+        × Begins (O.state out.old) (O.state out.new) (flat_map verdict_text verdicts)) }
 {
-    match asked_kind(words) {
-        Some(kind) => judge_kind(alloc, kind, problem, listing, out, err),
-        None => refuse(BAD_WORDS, b"Usage: dlxcheck PROBLEM [1|2|3]\n", err),
+    let Some(kind) = asked_kind(words) else {
+        return refuse(BAD_WORDS, b"Usage: dlxcheck PROBLEM [1|2|3]\n", err);
+    };
+    match read_problem(alloc, kind, problem) {
+        Ok(read) => judge_listing(alloc, &read.problem, listing, out, err),
+        Err(error) => no_problem(&error, err),
     }
 }

@@ -1,5 +1,7 @@
 //! A file that is opened when it is read.
-ghost use Rattle.std.specs.Prelude.{◌≡◌};
+ghost use Rattle.std.specs.Io.{ReadsAtMost};
+ghost use Rattle.std.specs.Prelude.{◌≡◌, IsSome, OnOk, option_and_then};
+ghost use Rattle.std.specs.Io.KnownBytes.{ReadConsumes};
 
 use std::fs::{self, Files};
 use std::io::{self, Read};
@@ -26,7 +28,16 @@ impl<'a, R: Files> NamedFile<'a, R> {
 }
 
 impl<'a, R: Files> Read for NamedFile<'a, R> {
-    fn read(&mut self, buf: &mut [u8]) -> io::Result<usize> {
+    ghost remaining = { λ s. option_and_then R.File.Read.remaining s.file };
+
+    fn read(&mut self, buf: &mut [u8]) -> io::Result<usize>
+        ensures bound { ReadsAtMost result buf.new }
+        ensures bytes { ReadConsumes (option_and_then R.File.Read.remaining self.old.file)
+            (option_and_then R.File.Read.remaining self.new.file) result buf.new }
+
+        // What was read stays open, so the next read goes on where this one ended.
+        ensures open { OnOk result (IsSome self.new.file) }
+    {
         match &mut self.file {
             Some(file) => file.read(buf),
             None => {

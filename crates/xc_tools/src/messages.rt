@@ -2,7 +2,7 @@
 ghost use Rattle.std.specs.Prelude.{◌≡◌, ◌++◌, OnErr, IsTrue, codes, decimal};
 ghost use Rattle.xc_list.specs.Texts.{Writes, WasTold};
 ghost use Rattle.xc_input.specs.FaultTexts.{fault_text};
-ghost use Rattle.xc_tools.specs.Errors.{no_problem};
+ghost use Rattle.xc_tools.specs.WholeRuns.{no_problem};
 ghost use Rattle.xc_tools.specs.Judges.{listing_fault_text};
 
 use crate::status::{BAD_INPUT, FAILED, NO_MEMORY};

@@ -1,6 +1,6 @@
 //! A whole run of a program. What it did is one relation by its status: as clauses, one a fact, there were sixteen,
 //! most of them twice, and what holds at a status had to be gathered from all.
-ghost use Rattle.std.specs.Prelude.{◌≡◌, ◌⊎◌, ◌+◌, IsOkAnd, IsTrue, [], map, codes};
+ghost use Rattle.std.specs.Prelude.{◌≡◌, ◌⊎◌, ◌+◌, ℕ, List, IsOkAnd, IsTrue, map, codes};
 ghost use Rattle.std.specs.Io.KnownBytes.{Keeps};
 ghost use Rattle.xc_list.specs.Messages.{summary_text};
 ghost use Rattle.xc_list.specs.Output.{output};
@@ -8,11 +8,13 @@ ghost use Rattle.xc_list.specs.declared.runs.End.TheVariants.{WriteFailed};
 ghost use Rattle.xc_list.specs.Settings.{read_words};
 ghost use Rattle.xc_list.specs.Texts.{seen, Took, BrokeOff, WasTold, Begins};
 ghost use Rattle.xc_input.specs.Calls.{Rose};
-ghost use Rattle.xc_tools.specs.Given.{GaveProblem};
-ghost use Rattle.xc_tools.specs.Solves.{sinks, DidSearch, HasNoProblem, DidSolve};
+ghost use Rattle.xc_input.specs.Named.{Named};
+ghost use Rattle.xc_input.specs.Pieces.{IsWhole};
+ghost use Rattle.xc_tools.specs.Solves.{DidSearch, DidWarnAndSearch, DidSolve};
+ghost use Rattle.xc_tools.specs.WholeRuns.{sinks};
 
 use crate::messages::no_problem;
-use crate::status::{BAD_WORDS, COMPLETE, FAILED, out_of_memory, refuse};
+use crate::status::{BAD_WORDS, COMPLETE, FAILED, flushed, out_of_memory};
 use std::alloc::Global;
 use xc_dance::Memory;
 use xc_input::{Kind, Problem, Read, Source, read_problem};
@@ -31,9 +33,8 @@ pub(crate) fn finish<O: Sink, E: Sink>(end: &End, out: &mut O, err: &mut E) -> u
         × BrokeOff (E.state err.old) (E.state err.new) (summary_text end.now)) }
 {
     // Status 0 needs this by contract: a flush takes no bytes, so the bytes alone would not show that it failed.
-    match out.flush() {
-        Ok(()) => {}
-        Err(_) => return refuse(FAILED, b"Write failed.\n", err),
+    if let Err(status) = flushed(out, err) {
+        return status;
     }
     match summary(end, err) {
         Ok(()) => COMPLETE,
@@ -58,7 +59,7 @@ fn solve_problem<O: Sink, E: Sink>(
     out: &mut O,
     err: &mut E,
 ) -> u8
-    ensures did { DidSearch problem.now [] words result
+    ensures did { DidSearch problem.now words result
         (sinks O.state E.state out.old err.old) (sinks O.state E.state out.new err.new) }
 {
     match run(alloc, problem, words, out) {
@@ -77,33 +78,13 @@ fn solve_read<O: Sink, E: Sink>(
     out: &mut O,
     err: &mut E,
 ) -> u8
-    ensures did { DidSearch read.now.problem read.now.ignored.items words result
-        (sinks O.state E.state out.old err.old) (sinks O.state E.state out.new err.new) }
+    ensures did { DidWarnAndSearch words result
+        (sinks O.state E.state out.old err.old) (sinks O.state E.state out.new err.new)
+        read.now.problem read.now.ignored.items }
 {
     match warnings(read, err) {
         Ok(()) => solve_problem(alloc, &read.problem, words, out, err),
         Err(_) => FAILED,
-    }
-}
-
-/// Reads a problem and searches it.
-fn solve_words<S: Source, O: Sink, E: Sink>(
-    alloc: Global,
-    kind: Kind,
-    words: Words,
-    input: &mut S,
-    out: &mut O,
-    err: &mut E,
-) -> u8
-    ensures did { HasNoProblem kind result (S.state input.old) (S.state input.new)
-        (sinks O.state E.state out.old err.old) (sinks O.state E.state out.new err.new)
-        ⊎ GaveProblem kind (λ a ignored. DidSearch a ignored words result
-        (sinks O.state E.state out.old err.old) (sinks O.state E.state out.new err.new))
-        (S.state input.old) (S.state input.new) }
-{
-    match read_problem(alloc, kind, input) {
-        Ok(read) => solve_read(alloc, &read, words, out, err),
-        Err(error) => no_problem(&error, err),
     }
 }
 
@@ -125,15 +106,19 @@ pub fn solve<S: Source, O: Sink, E: Sink>(
 
     // Whatever the status, the output is a beginning of the problem's.
     ensures begins { Keeps (O.state out.old).taken (O.state out.new).taken
-        ⊎ IsOkAnd (read_words (map (λ w. w.items) words.now)) (λ w. GaveProblem kind
-        (λ a _. Begins (O.state out.old) (O.state out.new) (output a w.spacing w.limit))
-        (S.state input.old) (S.state input.new)) }
+        ⊎ IsOkAnd (read_words (map (λ w. w.items) words.now)) (λ w. (a : Named) × (ignored : List ℕ)
+        × IsWhole kind (S.state input.old) (S.state input.new) a ignored
+        × Begins (O.state out.old) (O.state out.new) (output a w.spacing w.limit)) }
 {
-    match Words::read(words) {
-        Ok(words) => solve_words(alloc, kind, words, input, out, err),
+    let words = match Words::read(words) {
+        Ok(words) => words,
         Err(fault) => {
             let _ = word_fault(&fault, err);
-            BAD_WORDS
+            return BAD_WORDS;
         }
+    };
+    match read_problem(alloc, kind, input) {
+        Ok(read) => solve_read(alloc, &read, words, out, err),
+        Err(error) => no_problem(&error, err),
     }
 }

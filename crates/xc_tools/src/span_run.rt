@@ -1,16 +1,13 @@
 //! A whole run over a span of a listing.
-ghost use Rattle.std.specs.Prelude.{◌≡◌, ◌⊎◌, ◌+◌, IfOk, IsTrue, OnErr, map, option_map, codes};
-ghost use Rattle.std.specs.Io.KnownBytes.{Keeps};
-ghost use Rattle.xc_input.specs.Calls.{Rose};
+ghost use Rattle.std.specs.Prelude.{◌≡◌, IfOk, IsTrue, OnErr, map, option_map, codes};
 ghost use Rattle.xc_list.specs.SpanWords.{asked_of};
 ghost use Rattle.xc_list.specs.Texts.{seen, WasTold};
-ghost use Rattle.xc_tools.specs.Given.{GaveProblem};
-ghost use Rattle.xc_tools.specs.Solves.{sinks, HasNoProblem};
+ghost use Rattle.xc_tools.specs.WholeRuns.{sinks};
 ghost use Rattle.xc_tools.specs.SpanRuns.{asked_span, take_memory_of, DidSpan, DidSpanWords};
 
 use crate::judging::numbered_kind;
 use crate::messages::no_problem;
-use crate::status::{BAD_WORDS, COMPLETE, FAILED, out_of_memory, refuse};
+use crate::status::{BAD_WORDS, COMPLETE, flushed, out_of_memory, refuse, write_failed};
 use std::alloc::{AllocError, Global};
 use xc_input::{Kind, Problem, Source, read_problem};
 use xc_list::{Sink, SpanFault, SpanWords, list_span};
@@ -28,21 +25,6 @@ fn refuse_words<E: Sink>(err: &mut E) -> u8
     )
 }
 
-/// Flushes the text of a span, and tells where that failed.
-fn finish<O: Sink, E: Sink>(out: &mut O, err: &mut E) -> u8
-    ensures kept { Keeps (O.state out.old).taken (O.state out.new).taken }
-    ensures flushed_once { (O.state out.new).flushes ≡ (O.state out.old).flushes + 1 }
-    ensures did { ((result ≡ 0) × ((O.state out.new).failures ≡ (O.state out.old).failures)
-        × IsTrue (O.state out.new).settled × (seen E.state err.new ≡ seen E.state err.old))
-        ⊎ ((result ≡ 3) × Rose (O.state out.old).failures (O.state out.new).failures × IsTrue (O.state out.new).failed
-        × WasTold (E.state err.old) (E.state err.new) (codes "Write failed.\n")) }
-{
-    match out.flush() {
-        Ok(()) => COMPLETE,
-        Err(_) => refuse(FAILED, b"Write failed.\n", err),
-    }
-}
-
 /// Searches a span of a problem's listing, and tells how that ended.
 fn search_problem<O: Sink, E: Sink>(
     alloc: Global,
@@ -55,30 +37,12 @@ fn search_problem<O: Sink, E: Sink>(
         (sinks O.state E.state out.old err.old) (sinks O.state E.state out.new err.new) }
 {
     match list_span(alloc, problem, words, out) {
-        Ok(_) => finish(out, err),
+        Ok(_) => match flushed(out, err) {
+            Ok(()) => COMPLETE,
+            Err(status) => status,
+        },
         Err(SpanFault::Memory) => out_of_memory(err),
-        Err(SpanFault::WriteFailed) => refuse(FAILED, b"Write failed.\n", err),
-    }
-}
-
-/// Reads a problem, and searches a span of its listing.
-fn search_read<S: Source, O: Sink, E: Sink>(
-    alloc: Global,
-    kind: Kind,
-    words: &SpanWords,
-    input: &mut S,
-    out: &mut O,
-    err: &mut E,
-) -> u8
-    ensures did { HasNoProblem kind result (S.state input.old) (S.state input.new)
-        (sinks O.state E.state out.old err.old) (sinks O.state E.state out.new err.new)
-        ⊎ GaveProblem kind (λ a _. DidSpan a (asked_of words.now) result
-        (sinks O.state E.state out.old err.old) (sinks O.state E.state out.new err.new))
-        (S.state input.old) (S.state input.new) }
-{
-    match read_problem(alloc, kind, input) {
-        Ok(read) => search_problem(alloc, &read.problem, words, out, err),
-        Err(error) => no_problem(&error, err),
+        Err(SpanFault::WriteFailed) => write_failed(err),
     }
 }
 
@@ -118,9 +82,13 @@ pub fn solve_span<S: Source, O: Sink, E: Sink>(
         (seen S.state input.old) (seen S.state input.new)
         (sinks O.state E.state out.old err.old) (sinks O.state E.state out.new err.new) }
 {
-    match asked_span(alloc, words) {
-        Ok(Some((kind, words))) => search_read(alloc, kind, &words, input, out, err),
-        Ok(None) => refuse_words(err),
-        Err(_) => out_of_memory(err),
+    let (kind, words) = match asked_span(alloc, words) {
+        Ok(Some(asked)) => asked,
+        Ok(None) => return refuse_words(err),
+        Err(_) => return out_of_memory(err),
+    };
+    match read_problem(alloc, kind, input) {
+        Ok(read) => search_problem(alloc, &read.problem, &words, out, err),
+        Err(error) => no_problem(&error, err),
     }
 }

@@ -1,5 +1,5 @@
 //! The statuses that the programs end with.
-ghost use Rattle.std.specs.Prelude.{◌≡◌, ◌⊎◌, ◌+◌, IsTrue, codes};
+ghost use Rattle.std.specs.Prelude.{◌≡◌, ◌⊎◌, ◌+◌, IfErr, IsTrue, OnOk, codes};
 ghost use Rattle.std.specs.Io.KnownBytes.{Keeps};
 ghost use Rattle.xc_input.specs.Calls.{Rose};
 ghost use Rattle.xc_list.specs.Texts.{WasTold};
@@ -38,6 +38,30 @@ pub fn out_of_memory<E: Sink>(err: &mut E) -> u8
     refuse(NO_MEMORY, b"Out of memory.\n", err)
 }
 
+/// Tells that a write failed, and gives the status of that: 3.
+pub(crate) fn write_failed<E: Sink>(err: &mut E) -> u8
+    ensures status { result ≡ 3 }
+    ensures told { WasTold (E.state err.old) (E.state err.new) (codes "Write failed.\n") }
+{
+    refuse(FAILED, b"Write failed.\n", err)
+}
+
+/// Flushes the output; where that fails, tells it, and gives the status of that: 3.
+pub(crate) fn flushed<O: Sink, E: Sink>(out: &mut O, err: &mut E) -> Result<(), u8>
+    ensures kept { Keeps (O.state out.old).taken (O.state out.new).taken }
+    ensures flushed_once { (O.state out.new).flushes ≡ (O.state out.old).flushes + 1 }
+    ensures settled { OnOk result (((O.state out.new).failures ≡ (O.state out.old).failures)
+        × IsTrue (O.state out.new).settled × (err.new ≡ err.old)) }
+    ensures failed { IfErr result (λ status. (status ≡ 3)
+        × Rose (O.state out.old).failures (O.state out.new).failures × IsTrue (O.state out.new).failed
+        × WasTold (E.state err.old) (E.state err.new) (codes "Write failed.\n")) }
+{
+    match out.flush() {
+        Ok(()) => Ok(()),
+        Err(_) => Err(write_failed(err)),
+    }
+}
+
 /// Flushes the output, and then does what `refuse` does; where the flush fails, tells that, and gives the
 /// status of that: 3.
 pub(crate) fn flush_and_refuse<O: Sink, E: Sink>(
@@ -54,9 +78,8 @@ pub(crate) fn flush_and_refuse<O: Sink, E: Sink>(
         ⊎ ((result ≡ 3) × Rose (O.state out.old).failures (O.state out.new).failures × IsTrue (O.state out.new).failed
         × WasTold (E.state err.old) (E.state err.new) (codes "Write failed.\n")) }
 {
-    match out.flush() {
-        Ok(()) => {}
-        Err(_) => return refuse(FAILED, b"Write failed.\n", err),
+    match flushed(out, err) {
+        Ok(()) => refuse(status, text, err),
+        Err(failed) => failed,
     }
-    refuse(status, text, err)
 }

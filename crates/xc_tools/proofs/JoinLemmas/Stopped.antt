@@ -5,7 +5,7 @@ use Rattle.std.proofs.Common.{refl, sym, ap, ◌∙◌, append_assoc, append-nil
 use Rattle.std.proofs.Common.{drop, take-append-drop}
 use Rattle.std.specs.Prelude.{◌==◌, IsTrue, codes, if◌then◌else◌}
 use Rattle.std.specs.Io.KnownBytes.{Appends, Keeps}
-use Rattle.xc_input.specs.Calls.{Rose}
+use Rattle.xc_input.specs.Calls.{Rose, one_more}
 use Rattle.xc_input.specs.Named.{Named, IsSound}
 use Rattle.xc_input.specs.Pieces.{SourceState, Gave, GaveAll}
 use Rattle.xc_input.specs.Words.{has}
@@ -20,12 +20,13 @@ use Rattle.xc_list.specs.declared.runs.End.TheVariants.{Done, Limit}
 use Rattle.xc_list.proofs.TextLemmas.{appends_kept}
 use Rattle.xc_tools.specs.Joins.{AreTexts, DidJoin, DoMeet, HasBegun, IsBeginning, Span}
 use Rattle.xc_tools.specs.Joins.{joined}
-use Rattle.xc_tools.specs.Solves.{Sinks}
+use Rattle.xc_tools.specs.WholeRuns.{Sinks}
 use Rattle.xc_tools.specs.declared.joining.Stop.{Stop}
 use Rattle.xc_tools.specs.declared.joining.Stop.TheVariants.{NotText, Gap, Device, Memory, WriteFailed}
 use Rattle.xc_tools.specs.declared.span_lines.Joint.{Joint}
 use Rattle.xc_tools.specs.inner.SpanLines.{Join, goes, join_of}
 use Rattle.xc_tools.specs.inner.Joining.{EndsAt, IsLast, JoinsAll, StopsIn, StopsReading, ToldStop, reached, written}
+use Rattle.xc_tools.specs.inner.Joining.{WriteFails}
 use Rattle.xc_tools.proofs.JoinLemmas.Chains.{all_lines}
 use Rattle.xc_tools.proofs.JoinLemmas.Ends.{begins, end_of-total, finished, first-lines, never-faulty, never-meets}
 use Rattle.xc_tools.proofs.JoinLemmas.Ends.{no-rest}
@@ -127,7 +128,7 @@ module _ (listed : Bool) (new : Joint) (a b : SourceState) (x y z : SinkState) (
   stopped-reading WriteFailed (bytes, g, h) =
       in-lines WriteFailed bytes g h (take h.adds.said.many h.adds.text) h.adds.said.begun
       (λ whole q. taken-beginning h.adds.text whole h.adds.said.many (same-text WriteFailed bytes h whole q))
-  stopped-reading Device (ls, rest, g, w, took) = record {
+  stopped-reading Device (ls, rest, g, w, took, rose) = record {
     text = written listed ls;
     taken = appends_kept x.taken y.taken z.taken (written listed ls) took.whole kept;
     of = (
@@ -181,6 +182,47 @@ pub joins-as : {new : Joint} {a b : SourceState} {x y : SinkState} {p q : Bool} 
     → JoinsAll p new a b x y r → JoinsAll q new a b x y r
 joins-as {new = new} {a = a} {b = b} {x = x} {y = y} r is h = subst (λ p. JoinsAll p new a b x y r) is h
 
+-- ---- what failed in a run that stopped
+
+-- the output's failures up to a stop
+abbrev OutFailed : Stop → SinkState → SinkState → Type 0
+OutFailed WriteFailed x y = Rose x.failures y.failures
+OutFailed _ x y = y.failures ≡ x.failures
+
+module _ (listed : Bool) (new : Joint) (a b : SourceState) (x y : SinkState) where
+  out-in-reading : (e : Stop) → StopsReading listed new a b x y e → OutFailed e x y
+  out-in-reading NotText (bytes, g, h) = h.adds.said.no_failure
+  out-in-reading Gap (bytes, g, h) = h.adds.said.no_failure
+  out-in-reading Memory (bytes, g, h) = h.adds.said.no_failure
+  out-in-reading WriteFailed (bytes, g, h) = h.adds.said.failure
+  out-in-reading Device (ls, rest, g, w, took, rose) = took.no_failure
+
+  out-at-end : (e : Stop) (rest : List ℕ) (old : Joint) (text : List ℕ) → EndsAt rest old new (Err e) → Took x y text
+      → OutFailed e x y
+  out-at-end NotText rest old text ends took = took.no_failure
+  out-at-end Gap rest old text ends took = took.no_failure
+  out-at-end Memory rest old text ends took = took.no_failure
+  out-at-end Device rest old text ends took = took.no_failure
+  out-at-end WriteFailed rest old text ends took = absurd ends
+
+  out-failed : (e : Stop) → JoinsAll listed new a b x y (Err e) → OutFailed e x y
+  out-failed e (inl h) =
+      let is : e ≡ h.0 = cc (h.1) in subst (λ s. OutFailed s x y) (sym is) (out-in-reading h.0 h.2)
+  out-failed e (inr h) = out-at-end e h.1 h.2 (written listed h.0) h.7 h.8
+
+  all-failed : (e : Stop) (z : SinkState) → OutFailed e x y → WriteFails e y z → Rose x.failures z.failures
+  all-failed NotText z same rose = rose ∙ ap one_more same
+  all-failed Gap z same rose = rose ∙ ap one_more same
+  all-failed Memory z same rose = rose ∙ ap one_more same
+  all-failed Device z same rose = rose ∙ ap one_more same
+  all-failed WriteFailed z rose same = same ∙ rose
+
+  read-failed : (e : Stop) → e ≡ Device → JoinsAll listed new a b x y (Err e) → Rose a.failures b.failures
+  read-failed e at (inl h) =
+      let is : e ≡ h.0 = cc (h.1) in
+      (subst (λ s. StopsReading listed new a b x y s) (sym is ∙ at) h.2).5
+  read-failed e at (inr h) = absurd (subst (λ s. EndsAt h.1 h.2 new (Err s)) at h.7)
+
 any : (stop : Stop) (spans : List Span) → so_at stop spans → Unit {0}
 any stop spans h = tt
 
@@ -188,7 +230,7 @@ any stop spans h = tt
 pub run-stopped : {O E : Type 0} (listed : Bool) (new : Joint) (y : SinkState) (status : ℕ) (stop : Stop)
     (i j : SourceState) (from to : Sinks O E)
     → JoinsAll listed new i j from.out.state y (Err stop) → Keeps y.taken to.out.state.taken
-    → ToldStop stop status from.err.state to.err.state → DidJoin listed status i j from to
+    → ToldStop stop status y to.out.state from.err.state to.err.state → DidJoin listed status i j from to
 run-stopped listed new y status stop i j from to h kept (inl t) =
     let begun = stopped listed new i j from.out.state y to.out.state kept stop h in
     inr (inl (
@@ -214,10 +256,21 @@ run-stopped listed new y status stop i j from to h kept (inr (inr (inl t))) =
     inr (inr (inr (inl (t.0, begun-weaker listed (so_at stop) (λ _. Unit {0}) _ _ _ _ (any stop) begun, t.1))))
 run-stopped listed new y status stop i j from to h kept (inr (inr (inr (inl t)))) =
     let begun = stopped listed new i j from.out.state y to.out.state kept stop h in
-    inr (inr (inl (t.0, begun-weaker listed (so_at stop) (λ _. Unit {0}) _ _ _ _ (any stop) begun, inl t.1)))
+    let rose = read-failed listed new i j from.out.state y stop t.1 h in
+    inr (inr (inl (
+      t.0,
+      begun-weaker listed (so_at stop) (λ _. Unit {0}) _ _ _ _ (any stop) begun,
+      inl (rose, t.2),
+    )))
 run-stopped listed new y status stop i j from to h kept (inr (inr (inr (inr t)))) =
     let begun = stopped listed new i j from.out.state y to.out.state kept stop h in
-    inr (inr (inl (t.0, begun-weaker listed (so_at stop) (λ _. Unit {0}) _ _ _ _ (any stop) begun, inr (inl t.1))))
+    let out = out-failed listed new i j from.out.state y stop h in
+    let rose = all-failed listed new i j from.out.state y stop to.out.state out t.1 in
+    inr (inr (inl (
+      t.0,
+      begun-weaker listed (so_at stop) (λ _. Unit {0}) _ _ _ _ (any stop) begun,
+      inr (inl (rose, t.2)),
+    )))
 
 -- a run that came to the end of the input
 module _ {O E : Type 0} (listed : Bool) (status : ℕ) (i j : SourceState) (from to : Sinks O E) (y : SinkState)
@@ -261,7 +314,8 @@ module _ {O E : Type 0} (listed : Bool) (status : ℕ) (i j : SourceState) (from
           (so.0, so.1, is ∙ so.2);
     },
   )
-  whole-run (inr (inl h)) = inr (inr (inl (h.0, begun-whole, inr (inl h.3))))
+  whole-run (inr (inl h)) =
+      inr (inr (inl (h.0, begun-whole, inr (inl (h.1 ∙ ap one_more took.no_failure, h.3)))))
   whole-run (inr (inr h)) = inr (inr (inl (h.0, begun-whole, inr (inr (end, h.3)))))
 
 pub run-ended : {O E : Type 0} (listed : Bool) (new : Joint) (y : SinkState) (status : ℕ)

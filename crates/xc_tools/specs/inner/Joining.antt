@@ -1,5 +1,6 @@
 -- No public clause cites this module. How far a run that joins spans came.
 use Rattle.std.specs.Prelude.{ℕ, ◌≡◌, ◌⊎◌, Bool, true, false, List, [], ◌++◌, None, Result, Ok, Err}
+use Rattle.xc_input.specs.Calls.{Rose}
 use Rattle.xc_input.specs.Words.{has}
 use Rattle.xc_input.specs.inner.EndedLines.{ended, AreWhole}
 use Rattle.xc_input.specs.Pieces.{SourceState, Gave, GaveAll}
@@ -71,6 +72,7 @@ stop_of refusals.Memory = Memory
 abbrev pub StopsReading : Bool → Joint → SourceState → SourceState → SinkState → SinkState → Stop → Type 0
 StopsReading listed new old_in new_in out_old out_new Device = (lines : List (List ℕ)) × (rest : List ℕ)
     × Gave old_in new_in (ended lines ++ rest) × AreWhole lines × Took out_old out_new (written listed lines)
+    × Rose old_in.failures new_in.failures
 StopsReading listed new old_in new_in out_old out_new e =
     (bytes : List ℕ) × Gave old_in new_in bytes × StopsIn listed [] bytes new out_old out_new e
 
@@ -91,11 +93,16 @@ JoinsAll listed new old_in new_in out_old out_new r =
     × AreWhole lines × (has 10 rest ≡ false) × (reached listed lines ≡ goes (join_of old)) × EndsAt rest old new r
     × Took out_old out_new (written listed lines))
 
+-- how often the output failed behind a stop where that its write failed was told
+abbrev pub WriteFails : Stop → SinkState → SinkState → Type 0
+WriteFails WriteFailed old new = new.failures ≡ old.failures
+WriteFails _ old new = Rose old.failures new.failures
+
 -- what was told of a run that stopped, by its status
-abbrev pub ToldStop : Stop → ℕ → SinkState → SinkState → Type 0
-ToldStop stop status old new = ((status ≡ 2) × (stop ≡ NotText) × (file : List ℕ) × (line : ℕ) × WasTold old new
+abbrev pub ToldStop : Stop → ℕ → SinkState → SinkState → SinkState → SinkState → Type 0
+ToldStop stop status out_old out_new old new = ((status ≡ 2) × (stop ≡ NotText) × (file : List ℕ) × (line : ℕ) × WasTold old new
     (no_text file line))
     ⊎ ((status ≡ 5) × (stop ≡ Gap) × (met : List ℕ) × (next : List ℕ) × WasTold old new (gap_text met next))
     ⊎ ((status ≡ 4) × WasTold old new (codes "Out of memory.\n"))
-    ⊎ ((status ≡ 3) × WasTold old new (codes "Read failed.\n"))
-    ⊎ ((status ≡ 3) × WasTold old new (codes "Write failed.\n"))
+    ⊎ ((status ≡ 3) × (stop ≡ Device) × WasTold old new (codes "Read failed.\n"))
+    ⊎ ((status ≡ 3) × WriteFails stop out_old out_new × WasTold old new (codes "Write failed.\n"))

@@ -1,5 +1,5 @@
 use Rattle.std.proofs.Common.{◌∙◌, ap}
-use Rattle.xc_tools.specs.Solves.{sinks}
+use Rattle.xc_tools.specs.WholeRuns.{sinks}
 use Rattle.xc_tools.specs.inner.SpanLines.{Join}
 use Rattle.xc_tools.proofs.JoinLemmas.Stopped.{joins-as, run-ended, run-stopped}
 use Rattle.xc_tools.proofs.joining.join_input.Goals as goal

@@ -1,12 +1,13 @@
-use Rattle.std.proofs.Common.{refl}
-use Rattle.xc_tools.proofs.JudgeLemmas.{judged_begins}
+use Rattle.std.proofs.Common.{inl, inr}
+use Rattle.xc_tools.proofs.JudgeLemmas.{listing_begins}
 use Rattle.xc_tools.proofs.judging.judge.Goals as goal
 
-pub returns-in-Some-clause-begins : goal.returns-in-Some-clause-begins
-returns-in-Some-clause-begins g c =
-    rw (← c.in-Some.ensures) (judged_begins c.in-Some.kind _ _ _ _ _ _ _ c.judge_kind.ensures.did)
-
-pub returns-in-None-clause-did : goal.returns-in-None-clause-did
-returns-in-None-clause-did g c =
-    let refuse = c.refuse.ensures in rw (← c.in-None.ensures)
-    (refuse.status, refl, record { told = refuse.told; unread = refl; unwritten = refl })
+pub returns-in-Ok-clause-begins : goal.returns-in-Ok-clause-begins
+returns-in-Ok-clause-begins g c =
+    let read = c.in-Ok.read in
+    elim (listing_begins read.problem _ _ _ _ _ c.judge_listing.ensures.did) [
+      | inl kept ↦ inl kept
+      | inr told ↦
+          rw (← c.in-Some.ensures)
+          (inr (read.problem, read.ignored.items, c.in-Ok.ensures.whole, told.0, told.1, told.2))
+    ]

@@ -1,6 +1,12 @@
-use Rattle.xc_tools.proofs.RunLemmas.{run_begins}
+use Rattle.std.proofs.Common.{inr}
+use Rattle.xc_tools.specs.WholeRuns.{sinks}
+use Rattle.xc_tools.proofs.RunLemmas.{warned_begins}
 use Rattle.xc_tools.proofs.solving.solve.Goals as goal
 
-pub returns-in-Ok-clause-begins : goal.returns-in-Ok-clause-begins
-returns-in-Ok-clause-begins g c =
-    rw (← c.in-Ok.ensures) (run_begins _ c.in-Ok.words _ _ _ _ _ c.solve_words.ensures.did)
+pub returns-in-Ok-read_problem-clause-begins : goal.returns-in-Ok-read_problem-clause-begins
+returns-in-Ok-read_problem-clause-begins g c =
+    let read = c.in-Ok-read_problem.read in
+    let begins = warned_begins read.problem read.ignored.items c.in-Ok.words _
+    (sinks g.O.Sink.state g.E.Sink.state c.args.out.now c.args.err.now)
+    (sinks g.O.Sink.state g.E.Sink.state c.solve_read.new.out c.solve_read.new.err) c.solve_read.ensures.did in
+    rw (← c.in-Ok.ensures) (inr (read.problem, read.ignored.items, c.in-Ok-read_problem.ensures.whole, begins))

@@ -1,29 +1,6 @@
-use Rattle.std.proofs.Common.{inl, inr}
-use Rattle.xc_list.specs.Texts.{WasTold}
-use Rattle.xc_tools.specs.Solves.{sinks}
-use Rattle.xc_tools.proofs.RunLemmas.{behind_nothing, finished}
+use Rattle.xc_tools.specs.WholeRuns.{sinks}
+use Rattle.xc_tools.proofs.RunLemmas.{finished}
 use Rattle.xc_tools.proofs.solving.solve_problem.Goals as goal
-
-pub returns-in-Err : goal.returns-in-Err
-returns-in-Err g c =
-    let untouched = rw c.in-Err.is at c.run.ensures.run in
-    let told = c.out_of_memory.ensures in
-    record { did = inr (inr (told.status, record { told = behind_nothing WasTold told.told; unwritten = untouched })) }
-
-pub returns-in-Ok-WriteFailed : goal.returns-in-Ok-WriteFailed
-returns-in-Ok-WriteFailed g c =
-    let stop = rw c.in-Ok-WriteFailed.field-0-is at c.in-Ok-WriteFailed.ensures.run in
-    let told = c.tell_failed_write.ensures in
-    record {
-      did = inr (inl (
-        told.status,
-        inr (inl (record {
-          n = c.in-Ok-WriteFailed.n;
-          stopped = stop;
-          told = behind_nothing WasTold told.told;
-        })),
-      ));
-    }
 
 pub returns-in-Ok-Done : goal.returns-in-Ok-Done
 returns-in-Ok-Done g c =
