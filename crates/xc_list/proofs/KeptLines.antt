@@ -51,7 +51,8 @@ first_text a page ls d k =
     let whole : flat_map (line_text a) ls ≡ flat_map (line_text a) (take d ls) ++ flat_map (line_text a) (drop d ls) =
     grind (arith, common_steps, take-append-drop d ls) in
     let seam = take-append_seam (flat_map (line_text a) (take d ls)) (flat_map (line_text a) (drop d ls)) in
-    let cut = take-take (length (flat_map (line_text a) (take d ls))) (length (flat_map (line_text a) ls)) (drop 22 page)
+    let cut = take-take (length (flat_map (line_text a) (take d ls))) (length (flat_map (line_text a) ls))
+    (drop 22 page)
     (grind (arith, common_steps, whole)) in
     sym cut ∙ ap (take (length (flat_map (line_text a) (take d ls)))) (k.text ∙ whole) ∙ seam
 

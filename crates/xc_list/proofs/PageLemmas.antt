@@ -4,7 +4,8 @@ use Rattle.std.proofs.Common.{[], ◌≡◌, ℕ, ◌+◌, ◌≤◌, List, ◌+
 use Rattle.std.proofs.Common.{append-nil, append_assoc, ◌∷◌}
 use Rattle.std.proofs.Common.{ap, ◌∙◌}
 use Rattle.std.proofs.Math.Seq.{drop-cons, take-append-add, drop-append-add}
-use Rattle.std.proofs.lemmas.List.{drop-drop, drop-set-lt, drop-append-le, take-take, length-take, length-take-le, drop-set, drop-set-add}
+use Rattle.std.proofs.lemmas.List.{drop-drop, drop-set-lt, drop-append-le, take-take}
+use Rattle.std.proofs.lemmas.List.{length-take, length-take-le, drop-set, drop-set-add}
 use Rattle.std.proofs.lemmas.Simd.{take_more_put_chunk, length-chunk}
 use Rattle.std.proofs.lemmas.Slice.{between_is}
 use Rattle.std.specs.Prelude.{slice_set}
