@@ -223,8 +223,12 @@ class File(Pages):
                 self.assertTrue(self.tab.is_shown(shown))
             self.tab.media()
         self.tab.press("g")
+        drawn = "document.querySelectorAll('.card svg').length"
+        self.tab.value(f"addEventListener('afterprint', () => {{ window.printed = {drawn}; }})")
         self.tab.call("Page.printToPDF")
-        self.assertEqual(self.tab.value("document.querySelectorAll('.card svg').length"), 200)
+        self.assertEqual(self.tab.value("window.printed"), 200)
+        # What is far from what is seen has no picture again.
+        self.tab.wait(f"{drawn} < 200")
         self.is_quiet()
 
     def test_every_kind(self):
