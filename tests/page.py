@@ -18,7 +18,7 @@ TOP = os.path.dirname(os.path.dirname(os.path.abspath(__file__)))
 sys.path[:0] = [os.path.join(TOP, "python"), os.path.join(TOP, "tests")]
 sys.dont_write_bytecode = True
 
-from paging.browser import Browser, program  # noqa: E402
+from paging.browser import PATIENCE, Browser, program  # noqa: E402
 
 from helgrothy import Problem, make  # noqa: E402
 from helgrothy.page import forms  # noqa: E402
@@ -223,8 +223,12 @@ class File(Pages):
                 self.assertTrue(self.tab.is_shown(shown))
             self.tab.media()
         self.tab.press("g")
+        drawn = "document.querySelectorAll('.card svg').length"
+        self.tab.value(f"addEventListener('afterprint', () => {{ window.printed = {drawn}; }})")
         self.tab.call("Page.printToPDF")
-        self.assertEqual(self.tab.value("document.querySelectorAll('.card svg').length"), 200)
+        self.assertEqual(self.tab.value("window.printed"), 200)
+        # What is far from what is seen has no picture again.
+        self.tab.wait(f"{drawn} < 200")
         self.is_quiet()
 
     def test_every_kind(self):
@@ -340,7 +344,7 @@ class Page(Pages):
 
     def end(self):
         self.server.terminate()
-        status = self.server.wait(30)
+        status = self.server.wait(PATIENCE)
         self.server.stdout.close()
         self.assertEqual(status, 143)
 
@@ -379,7 +383,7 @@ class Page(Pages):
         return answers, [program for answer in answers for program in told.get(answer, [])]
 
     def wait(self, holds):
-        deadline = time.monotonic() + 30
+        deadline = time.monotonic() + PATIENCE
         while not holds():
             self.assertLess(time.monotonic(), deadline, "it never came to it")
             time.sleep(0.05)
@@ -528,7 +532,7 @@ class Page(Pages):
             stack.callback(other.kill)
             self.tab.go(other.stdout.readline().strip())
             other.send_signal(signal.SIGTERM)
-            self.assertEqual(other.wait(30), 143)
+            self.assertEqual(other.wait(PATIENCE), 143)
         self.tab.press("Enter", ctrl=True)
         self.tab.wait("document.querySelector('#state').innerText.startsWith('The page\\'s server has ended')")
 

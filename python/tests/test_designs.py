@@ -132,7 +132,12 @@ class Designs(unittest.TestCase):
         self.assertTrue(run("tests", path, "--least", "--svg")[1].startswith("<svg"))
         self.assertEqual(run("tests", path, "--least", "--json")[1].count('"t1/system": "linux"'), 1)
         self.assertEqual(run("make", "tests", path, "--tests", "5")[1], make.tests.problem(FACTORS, 5).text)
-        self.assertRegex(run("tests", "4^7", "--least", "--seconds", "5")[2], r"\A[0-9]+ tests; [0-9]+ weren't found in the time\.\n\Z")
+        # A busy machine may come to no design in five seconds.
+        for seconds in ("5", "50"):
+            told = run("tests", "3^7", "--least", "--seconds", seconds)[2]
+            if "wasn't done" not in told:
+                break
+        self.assertRegex(told, r"\A[0-9]+ tests; [0-9]+ weren't found in the time\.\n\Z")
 
     def test_bad_tables(self):
         for number, (table, words, sentence) in enumerate(BAD):

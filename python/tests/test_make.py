@@ -1,5 +1,6 @@
 """Each maker's problems have the known numbers of solutions, and their pictures show them."""
 
+import itertools
 import unittest
 import xml.etree.ElementTree as ElementTree
 
@@ -35,6 +36,7 @@ class Makers(unittest.TestCase):
         lines = self.shown(problem).splitlines()
         self.assertEqual(lines[0], "5 3 4 | 6 7 8 | 9 1 2")
         self.assertEqual(lines[3], "------+-------+------")
+        # OEIS A107739.
         self.assertEqual(make.sudoku.problem("." * 16).count(), 288)
         self.assertEqual(make.sudoku.problem("." * 36).count(limit=10), 10)
         for clues in ("1234", "x" + SUDOKU[1:]):
@@ -42,10 +44,15 @@ class Makers(unittest.TestCase):
                 make.sudoku.problem(clues)
 
     def test_queens(self):
+        # OEIS A000170.
         self.assertEqual([make.queens.problem(n).count() for n in range(1, 9)], [1, 0, 0, 2, 10, 4, 40, 92])
         self.assertEqual(self.shown(make.queens.problem(4)), ". . Q .\nQ . . .\n. . . Q\n. Q . .\n")
 
     def test_regions(self):
+        # Regions that are rows leave permutations in which neighbours differ by more than 1 (OEIS A002464).
+        for size, known in ((4, 2), (5, 14), (6, 90)):
+            rows = "".join(f"{letter * size}\n" for letter in "ABCDEF"[:size])
+            self.assertEqual(make.queens.problem(regions=rows).count(), known)
         problem = make.queens.problem(regions=REGIONS)
         self.assertEqual(problem.count(), 1)
         self.assertEqual(self.shown(problem), ". Q . .\n. . . Q\nQ . . .\n. . Q .\n")
@@ -54,10 +61,12 @@ class Makers(unittest.TestCase):
                 make.queens.problem(regions=regions)
 
     def test_langford(self):
+        # Twice OEIS A014552, whose lines aren't read backwards too.
         self.assertEqual([make.langford.problem(n).count() for n in range(1, 8)], [0, 0, 2, 2, 0, 0, 52])
         self.assertEqual(self.shown(make.langford.problem(3)), "3 1 2 1 3 2\n")
 
     def test_polyominoes(self):
+        # Two boxes with 4 images each (Knuth, The Art of Computer Programming 4B, 7.2.2.1).
         self.assertEqual(make.polyominoes.problem("pentominoes", "3x20").count(), 8)
         self.assertEqual(make.polyominoes.problem("DD\n\nDD\n\nDD\n", "2x3").count(), 3)
         one_sided = make.polyominoes.problem("LLL\nL\n", "...\n##.\n", mirrors=False)
@@ -68,6 +77,10 @@ class Makers(unittest.TestCase):
                 make.polyominoes.problem(pieces, region)
 
     def test_words(self):
+        # The six words of three letters: of the 12 Latin squares (OEIS A002860) those in which no line comes twice,
+        # whose rows are even permutations and whose columns are odd ones or the other way round.
+        orders = list(map("".join, itertools.permutations("abc")))
+        self.assertEqual(make.words.problem("...\n...\n...\n", orders).count(), 6)
         words = "area bear body dial ease else fire hour keen less loan mass must oral rare same shut sole".split()
         problem = make.words.problem("....\n....\n....\n....\n", words)
         self.assertEqual(problem.count(), 2)
@@ -76,6 +89,11 @@ class Makers(unittest.TestCase):
         self.assertEqual(self.shown(make.words.problem("C..\n#.#\n", ["cat", "at"])), "c a t\n# t #\n")
 
     def test_roster(self):
+        # Two people a day for two days each: matrices with two ones in each row and column (OEIS A001499).
+        for days, known in ((3, 6), (4, 90), (5, 2040)):
+            names = [f"p{day}" for day in range(days)]
+            table = [f"- {' '.join(names)}", "shift" + " 2" * days, "", *(f"{name} 2" for name in names)]
+            self.assertEqual(make.roster.problem("\n".join(table)).count(), known)
         problem = make.roster.problem(TABLE, rest=True)
         lines = self.shown(problem).splitlines()
         self.assertEqual([line.split()[0] for line in lines], ["mon", "ann", "bob", "cat"])
@@ -92,6 +110,11 @@ class Makers(unittest.TestCase):
             self.assertFalse(cell.label == "late" and after is not None and after.label == "early")
 
     def test_round_robin(self):
+        # 4 teams have one one-factorization and 6 have 6 (OEIS A000438), whose rounds come in any order; of 5 teams the
+        # one that rests plays a sixth. Home and away make a tournament of even scores: a regular one of 5 teams, or one
+        # that a further team makes regular (OEIS A007079: 24 of 5 teams, 2640 of 7).
+        for teams, known in (("abcd", 1 * 6 * 24), ("abcde", 6 * 120 * 24), ("abcdef", 6 * 120 * 2640)):
+            self.assertEqual(make.roundrobin.problem(teams).count(), known)
         problem = make.roundrobin.problem(["ann home:1", "bob", "cat", "dan away:3"])
         for solution in problem.solve():
             self.assertTrue(self.is_round_robin([problem.line(option) for option in solution], 4))

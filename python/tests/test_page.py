@@ -399,7 +399,7 @@ class Served(unittest.TestCase):
                 self.wait(lambda: len(members(group)) == 2)
                 folder = os.readlink(f"/proc/{group}/cwd")
                 process.send_signal(number)
-                self.assertEqual(process.wait(30), status)
+                self.assertEqual(process.wait(120), status)
                 self.wait(lambda: not members(group))
                 self.assertEqual(os.path.exists(folder), number == signal.SIGKILL)
                 shutil.rmtree(folder, ignore_errors=True)
@@ -416,7 +416,7 @@ class Served(unittest.TestCase):
         self.wait(lambda: not self.server._answers and not members(going._process.pid))
 
     def wait(self, holds):
-        deadline = time.monotonic() + 30
+        deadline = time.monotonic() + 120
         while not holds():
             self.assertLess(time.monotonic(), deadline, "it never came to it")
             time.sleep(0.05)

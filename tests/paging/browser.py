@@ -11,7 +11,7 @@ import time
 
 PROGRAMS = ("chromium", "chromium-browser", "google-chrome")
 # So many seconds an answer, or what is waited for, may take on a machine that does other things too.
-PATIENCE = 30
+PATIENCE = 120
 KEYS = {
     "Enter": (13, "\r"), "Escape": (27, ""), "Tab": (9, ""), "Home": (36, ""), "End": (35, ""), "Backspace": (8, ""),
     "ArrowLeft": (37, ""), "ArrowRight": (39, ""), "ArrowUp": (38, ""), "ArrowDown": (40, ""), ".": (190, "."),
@@ -140,14 +140,21 @@ class Tab:
         self.call("Input.insertText", text=text)
 
     def click(self, selector):
-        """Clicks the middle of the first element that a selector finds."""
-        self.value(f"document.querySelector({json.dumps(selector)}).scrollIntoView({{block: 'center'}})")
-        x, y = self.value(
-            f"(() => {{ const b = document.querySelector({json.dumps(selector)}).getBoundingClientRect();"
-            " return [b.x + b.width / 2, b.y + b.height / 2]; })()"
-        )
-        for kind in ("mousePressed", "mouseReleased"):
-            self.call("Input.dispatchMouseEvent", type=kind, x=x, y=y, button="left", clickCount=1)
+        """Clicks the middle of the first element that a selector finds, and again where that has moved meanwhile."""
+        element = f"document.querySelector({json.dumps(selector)})"
+        deadline = time.monotonic() + PATIENCE
+        heard = f"{element}.addEventListener('click', () => window.hit = true, {{capture: true, once: true}})"
+        self.value(f"window.hit = false; {heard}")
+        while not self.value("window.hit"):
+            if time.monotonic() > deadline:
+                raise RuntimeError(f"no click came to {selector}")
+            self.value(f"{element}.scrollIntoView({{block: 'center'}})")
+            x, y = self.value(
+                f"(() => {{ const b = {element}.getBoundingClientRect();"
+                " return [b.x + b.width / 2, b.y + b.height / 2]; })()"
+            )
+            for kind in ("mousePressed", "mouseReleased"):
+                self.call("Input.dispatchMouseEvent", type=kind, x=x, y=y, button="left", clickCount=1)
 
     def text(self, selector):
         """What is to be read in an element."""

@@ -399,10 +399,15 @@ class Viewer {
     get("help").addEventListener("click", () => get("keys").showModal());
     get("theme").addEventListener("click", turnTheme);
     addEventListener("keydown", (event) => this.press(event));
+    // On paper all cards have their pictures, until it is printed.
+    const drawn = () => [...get("cards").querySelectorAll(".room")].map((room) => room.parentElement);
     addEventListener("beforeprint", () => {
-      const rooms = this.isAll ? [...get("cards").querySelectorAll(".room")] : [];
-      this.fill(rooms.map((room) => ({ target: room.parentElement, isIntersecting: true })));
+      if (!this.isAll) return;
+      this.near.disconnect();
+      this.near.takeRecords();
+      this.fill(drawn().map((target) => ({ target, isIntersecting: true })));
     });
+    addEventListener("afterprint", () => drawn().forEach((card) => this.near.observe(card)));
   }
 
   press(event) {
