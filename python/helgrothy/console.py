@@ -9,8 +9,9 @@ import re
 import signal
 import sys
 import threading
+from collections.abc import Callable, Iterable, Iterator
 from contextlib import contextmanager, suppress
-from typing import Any, Callable, Iterable, Iterator, List, Optional
+from typing import Any
 
 from .errors import HelgrothyError, OutOfTime, reason_of
 from .programs import end_all
@@ -149,7 +150,7 @@ def seconds(word: str) -> float:
 
 
 @contextmanager
-def limited(most: Optional[float]) -> Iterator[None]:
+def limited(most: float | None) -> Iterator[None]:
     """Has what is done take at most so many seconds. Raises `OutOfTime`, in the main thread alone."""
     if most is None or not _is_main():
         yield
@@ -223,7 +224,7 @@ def _drop(stream: Any, number: int) -> None:
 
 
 def _read(file: Any, name: str) -> bytes:
-    pieces: List[bytes] = []
+    pieces: list[bytes] = []
     left = _MOST_TEXT
     while True:
         piece = file.read(min(_CHUNK, left + 1))

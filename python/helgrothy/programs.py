@@ -14,8 +14,9 @@ import stat
 import subprocess
 import tempfile
 import time
+from collections.abc import Iterable, Iterator, Sequence
 from types import TracebackType
-from typing import IO, Iterable, Iterator, List, Optional, Sequence, Set, Type
+from typing import IO
 
 from .errors import OutOfTime, ProgramFailed, ProgramNotFound
 
@@ -27,7 +28,7 @@ _LONGEST = 1e9
 _LAST_LINE = re.compile(r"Altogether (\d+) solutions?( \(limit\))?\.\Z")
 
 
-def folders(program: str) -> List[str]:
+def folders(program: str) -> list[str]:
     """The folders in which a program is looked for before the path, in their order."""
     package = os.path.dirname(os.path.abspath(__file__))
     top = os.path.dirname(os.path.dirname(package))
@@ -63,7 +64,7 @@ def has(program: str) -> bool:
     return True
 
 
-_running: Set[subprocess.Popen[bytes]] = set()
+_running: set[subprocess.Popen[bytes]] = set()
 
 
 def end_all() -> None:
@@ -86,8 +87,8 @@ class Run:
         program: str,
         words: Sequence[str],
         text: Iterable[bytes],
-        seconds: Optional[float] = None,
-        path: Optional[str] = None,
+        seconds: float | None = None,
+        path: str | None = None,
     ) -> None:
         path = find(program) if path is None else path
         self.program = program
@@ -105,7 +106,7 @@ class Run:
         return self
 
     def __exit__(
-        self, kind: Optional[Type[BaseException]], error: Optional[BaseException], trace: Optional[TracebackType]
+        self, kind: type[BaseException] | None, error: BaseException | None, trace: TracebackType | None
     ) -> None:
         if self._process.poll() is None:
             self._process.kill()

@@ -10,7 +10,8 @@ import os
 import shutil
 import subprocess
 import tempfile
-from typing import Any, Dict, Hashable, List, Optional, Set, Tuple
+from collections.abc import Hashable
+from typing import Any
 
 from .errors import OutOfTime
 from .export import clauses
@@ -25,7 +26,7 @@ _NONE = 20
 _WRITING_SECONDS = 1.3e-5
 
 
-def solver() -> Optional[Tuple[str, List[str]]]:
+def solver() -> tuple[str, list[str]] | None:
     """The name of the first solver that the path has, and its command."""
     for name, words in SOLVERS.items():
         path = path_of(name)
@@ -34,7 +35,7 @@ def solver() -> Optional[Tuple[str, List[str]]]:
     return None
 
 
-def path_of(name: str) -> Optional[str]:
+def path_of(name: str) -> str | None:
     """Where the path has a solver, if it does."""
     # A folder without a full name would be whatever lies where the command is called.
     folders = os.pathsep.join(filter(os.path.isabs, os.environ.get("PATH", os.defpath).split(os.pathsep)))
@@ -49,16 +50,16 @@ def writing_seconds(problem: Problem[Any]) -> float:
 class Clauses:
     """A problem for a SAT solver: which primary items are to be held is told with each question."""
 
-    def __init__(self, problem: Problem[Any], command: List[str]) -> None:
+    def __init__(self, problem: Problem[Any], command: list[str]) -> None:
         self._command = command
         options = len(problem.options)
-        self._let_off: Dict[Hashable, int] = {item: options + k for k, item in enumerate(problem.items, 1)}
+        self._let_off: dict[Hashable, int] = {item: options + k for k, item in enumerate(problem.items, 1)}
         found = clauses(problem, list(self._let_off.values()))
         self._variables = found.last
         self._count = found.count
         self._text = "".join(found.lines).encode()
 
-    def has_solution(self, kept: Set[Hashable], seconds: float) -> bool:
+    def has_solution(self, kept: set[Hashable], seconds: float) -> bool:
         """Whether these items can be held as their bounds say, the others being let off. Raises `OutOfTime`."""
         units = [-variable if item in kept else variable for item, variable in self._let_off.items()]
         with tempfile.TemporaryFile() as given:

@@ -10,8 +10,9 @@ from __future__ import annotations
 import itertools
 import os
 import sys
+from collections.abc import Callable, Iterable, Iterator
 from dataclasses import dataclass
-from typing import Callable, Iterable, Iterator, TextIO, TypeVar
+from typing import TextIO, TypeVar
 
 
 # The primary items, the secondary items and the options.

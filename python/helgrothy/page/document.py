@@ -9,8 +9,8 @@ import base64
 import hashlib
 import os
 import re
+from collections.abc import Iterable
 from html import escape
-from typing import Iterable
 
 from ..shown import shown
 

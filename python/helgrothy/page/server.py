@@ -21,7 +21,7 @@ import threading
 import time
 from contextlib import suppress
 from http.server import BaseHTTPRequestHandler, ThreadingHTTPServer
-from typing import Any, Set
+from typing import Any
 
 from .answer import MOST_SECONDS
 from .document import document, policy
@@ -58,7 +58,7 @@ class Server(ThreadingHTTPServer):
         self.word = secrets.token_urlsafe(32)
         self.page = document(_BODIES, "Helgrothy", _SCRIPTS, [data], connects=True)
         self.policy = f"{policy(_SCRIPTS, connects=True)}; frame-ancestors 'none'"
-        self._answers: Set[Answer] = set()
+        self._answers: set[Answer] = set()
         self._lock = threading.Lock()
         self._is_closed = False
         self._requests = threading.BoundedSemaphore(_MOST_AT_ONCE)

@@ -7,7 +7,7 @@ import signal
 import subprocess
 import threading
 from contextlib import suppress
-from typing import NamedTuple, Optional, Set
+from typing import NamedTuple
 
 from .. import __version__
 from ..errors import ProgramFailed
@@ -47,7 +47,7 @@ class Stop:
 
     def __init__(self) -> None:
         self._lock = threading.Lock()
-        self._running: Set[int] = set()
+        self._running: set[int] = set()
         self.is_set = False
 
     def set(self) -> None:
@@ -57,7 +57,7 @@ class Stop:
                 with suppress(OSError):
                     os.kill(process, signal.SIGKILL)
 
-    def start(self, command: list[str]) -> Optional[subprocess.Popen[bytes]]:
+    def start(self, command: list[str]) -> subprocess.Popen[bytes] | None:
         """A process, or None where none may begin any more."""
         with self._lock:
             if self.is_set:
@@ -72,7 +72,7 @@ class Stop:
             self._running.discard(process)
 
 
-def run(task: Task, stop: Optional[Stop] = None) -> Ran:
+def run(task: Task, stop: Stop | None = None) -> Ran:
     """Searches a span. Raises `ProgramNotFound`, `ProgramFailed` and `OSError`."""
     listed = "m1" if task.listed else "m0"
     command = [find(PROGRAM), str(task.kind), listed, str(task.steps), task.start, task.until]
@@ -121,7 +121,7 @@ def _read(process: subprocess.Popen[bytes], most: int) -> bytes:
             return b"".join(pieces)
 
 
-def _end(process: subprocess.Popen[bytes], stop: Optional[Stop]) -> tuple[int, float]:
+def _end(process: subprocess.Popen[bytes], stop: Stop | None) -> tuple[int, float]:
     """Leaves no process behind; its status, and its processor time."""
     assert process.stdin and process.stdout and process.stderr
     process.stdout.close()
