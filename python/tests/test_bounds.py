@@ -259,7 +259,6 @@ class Time(unittest.TestCase):
                 pass
         self.assertEqual(len(__import__("helgrothy.programs").programs._running), 0)
 
-
     def test_time_is_over_where_an_exception_is_lost(self):
         class Slow:
             def __init__(self, fault: type) -> None:

@@ -171,7 +171,6 @@ class ClosedStreams(unittest.TestCase):
         command("helgrothy", "search", "p.dlx", "--list", "--folder", "folder", cwd=self.folder)
 
     def test_all_combinations(self):
-        listing = "1:\n A x (1 of 2)\n2:\n A (2 of 2)\n"
         one = [(True, False, False), (False, True, False), (False, False, True)]
         for name, words, given, printed, message in (
             ("helgrothy", ["solve", "-", "--all"], True, "A x\n\nA\n", "Altogether 2 solutions.\n"),

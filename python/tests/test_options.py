@@ -59,7 +59,6 @@ class Secondary(unittest.TestCase):
                 copied.options.append("ab")
         self.assertEqual(["c"] + Problem("a", options=["a"]).options, ["c", "a"])
 
-
     def test_options_that_go_while_solutions_come(self):
         problem = Problem("ab", options=["a", "b", "ab"])
         wanted = list(map(list, problem.solve()))
