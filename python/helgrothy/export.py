@@ -7,14 +7,16 @@ variables there are follows from these.
 from __future__ import annotations
 
 from collections.abc import Hashable, Iterator, Sequence
+from dataclasses import dataclass
 from itertools import zip_longest
-from typing import Any, NamedTuple
+from typing import Any
 
 from .counting import Clauses
 from .problem import Problem
 
 
-class _Item(NamedTuple):
+@dataclass(frozen=True)
+class _Item:
     """An item: the options that hold it, by their colour (None without), and its bounds."""
 
     name: str

@@ -10,7 +10,7 @@ from __future__ import annotations
 import re
 from collections.abc import Callable, Generator, Hashable, Iterable, Iterator, Mapping
 from dataclasses import dataclass, field
-from typing import Generic, NamedTuple, TypeVar, Union
+from typing import Generic, TypeVar, Union
 
 from .errors import ListingFault, UnknownChoice
 from .syntax import text_of
@@ -32,7 +32,8 @@ class Null:
     item: Hashable
 
 
-class Step(NamedTuple):
+@dataclass(frozen=True)
+class Step:
     """A step of the search: the name of the item at which it chose; the option's place in the problem, from 0 on, or
     None where the item gets no further option; and that this was branch `branch` of `branches`.
     """

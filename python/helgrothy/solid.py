@@ -3,8 +3,8 @@
 from __future__ import annotations
 
 from collections.abc import Iterator
+from dataclasses import dataclass
 from html import escape
-from typing import NamedTuple
 
 from .draw import Cell, Picture, check_size
 from .errors import NoPicture
@@ -20,7 +20,8 @@ _DEPTH = 15
 _GAP = 16
 
 
-class _Face(NamedTuple):
+@dataclass(frozen=True)
+class _Face:
     """A face of a cube: how light it is, where it looks, its corners, and the cubes beyond the sides between these."""
 
     light: float

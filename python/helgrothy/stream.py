@@ -3,7 +3,7 @@
 from __future__ import annotations
 
 from collections.abc import Callable, Generator, Iterator, Sequence
-from dataclasses import dataclass
+from dataclasses import dataclass, replace
 from types import TracebackType
 from typing import Any, Generic, TypeVar
 
@@ -27,7 +27,7 @@ class Chosen(Generic[Option]):
     def steps(self) -> list[Step]:
         """The steps of the search that found it, among the options that were left and in their order there."""
         return [
-            step if step.option is None else step._replace(option=self._places[step.option])
+            step if step.option is None else replace(step, option=self._places[step.option])
             for step in self._solution.steps
         ]
 

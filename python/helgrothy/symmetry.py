@@ -12,7 +12,8 @@ from __future__ import annotations
 import re
 from collections import Counter
 from collections.abc import Generator, Hashable, Sequence
-from typing import Any, NamedTuple, TypeVar
+from dataclasses import dataclass
+from typing import Any, TypeVar
 
 from .errors import NoPicture, OutOfTime
 from .problem import Problem
@@ -110,7 +111,8 @@ def _keeps(holders: Counter[_Holders], motion: Motion) -> bool:
     )
 
 
-class Plan(NamedTuple):
+@dataclass(frozen=True)
+class Plan:
     """What is left out: the options that are searched, and for each option of the item the motions that keep it.
 
     Without such an item `kept` is empty, and all motions are looked at after the search.

@@ -30,6 +30,7 @@ _MOST_NEAR = 20_000
 _BOUND = re.compile(rb"([0-9]{1,9})(?::([0-9]{1,9}))?\Z")
 
 
+# A pair to those who give bounds and read them; all other records are dataclasses.
 class Bounds(NamedTuple):
     """How often a primary item is to be held: at least `low` and at most `high` times."""
 

@@ -9,13 +9,14 @@ from __future__ import annotations
 
 import itertools
 from collections.abc import Collection, Iterable
-from typing import NamedTuple
+from dataclasses import dataclass
 
 Cell = tuple[int, ...]
 Form = frozenset[Cell]
 
 
-class Motion(NamedTuple):
+@dataclass(frozen=True)
+class Motion:
     """Which axis of a cell becomes each axis of its image, and whether it is reversed (-1) or not (1)."""
 
     axes: tuple[int, ...]

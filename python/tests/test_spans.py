@@ -12,6 +12,7 @@ import tempfile
 import threading
 import unittest
 from concurrent.futures import Executor, Future, ProcessPoolExecutor, ThreadPoolExecutor
+from dataclasses import replace
 from unittest import mock
 
 from helgrothy import ListingFault, OutOfTime, Problem, ProgramFailed, ProgramNotFound, SearchFault, make, programs
@@ -83,9 +84,9 @@ class Rows(unittest.TestCase):
                 self.assertEqual((one.until, one.ends), (other.start, other.begins))
                 self.assertLess(one.start, other.start)
             self.assertTrue(until is None or pieces[-1].start < until)
-        self.assertEqual([piece.start for piece in cut(WHOLE._replace(start=(1,)), (8,), 4)], [(1,), (3,), (5,), (7,)])
-        self.assertEqual(len(cut(WHOLE._replace(start=(1, 1)), (2, 3), 9)), 4)
-        self.assertEqual(len(cut(WHOLE._replace(start=(1,)), (1,), 9)), 1)
+        self.assertEqual([piece.start for piece in cut(replace(WHOLE, start=(1,)), (8,), 4)], [(1,), (3,), (5,), (7,)])
+        self.assertEqual(len(cut(replace(WHOLE, start=(1, 1)), (2, 3), 9)), 4)
+        self.assertEqual(len(cut(replace(WHOLE, start=(1,)), (1,), 9)), 1)
 
     def test_gaps(self):
         self.assertEqual(folders.gaps([]), [WHOLE])

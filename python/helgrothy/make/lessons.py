@@ -16,7 +16,7 @@ import re
 from collections import Counter
 from collections.abc import Iterator
 from dataclasses import dataclass, field
-from typing import NamedTuple, NoReturn
+from typing import NoReturn
 
 from ..errors import TableFault
 from ..syntax import MOST_NAME, MOST_USES, Nearest, bytes_of
@@ -69,7 +69,8 @@ class _Line:
         raise TableFault(self.number, token, reason, hint)
 
 
-class Slot(NamedTuple):
+@dataclass(frozen=True)
+class Slot:
     """An hour of a day; a day without hours is one."""
 
     day: str

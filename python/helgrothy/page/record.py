@@ -9,8 +9,9 @@ from __future__ import annotations
 
 import json
 from collections.abc import Callable, Iterable, Sequence
+from dataclasses import dataclass
 from itertools import islice
-from typing import Any, NamedTuple
+from typing import Any
 from xml.etree import ElementTree
 
 from ..errors import NoPicture
@@ -26,7 +27,8 @@ _MOST_TEXT = 1 << 18
 _NO_TITLE = "An exact cover problem"
 
 
-class Element(NamedTuple):
+@dataclass(frozen=True)
+class Element:
     """An element of a picture."""
 
     name: str

@@ -21,6 +21,7 @@ import threading
 import time
 from contextlib import suppress
 from http.server import BaseHTTPRequestHandler, ThreadingHTTPServer
+from pathlib import Path
 from typing import Any
 
 from .answer import MOST_SECONDS
@@ -45,7 +46,7 @@ from helgrothy.page.answer import run
 run()
 """
 _BYTECODE = ["-B"] if sys.dont_write_bytecode else []
-_PACKAGE = os.path.dirname(os.path.dirname(os.path.dirname(os.path.abspath(__file__))))
+_PACKAGE = str(Path(__file__).absolute().parents[2])
 
 
 class Server(ThreadingHTTPServer):

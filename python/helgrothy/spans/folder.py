@@ -22,8 +22,9 @@ import stat
 import time
 from collections.abc import Callable, Iterable, Iterator
 from contextlib import suppress
+from dataclasses import dataclass
 from functools import partial
-from typing import IO, NamedTuple
+from typing import IO
 
 from .. import __version__
 from ..errors import SearchFault
@@ -50,7 +51,8 @@ _MOST_WAITING = 1 << 24
 _HOLD_TRIES, _HOLD_WAIT = 5, 0.05
 
 
-class Entry(NamedTuple):
+@dataclass(frozen=True)
+class Entry:
     """A file of spans: its path, where it begins and ends, and what it has."""
 
     path: str
@@ -61,7 +63,8 @@ class Entry(NamedTuple):
     digest: bytes
 
 
-class About(NamedTuple):
+@dataclass(frozen=True)
+class About:
     """What is searched."""
 
     version: str
@@ -78,7 +81,7 @@ class About(NamedTuple):
         return self.words == "m1"
 
     def text(self) -> bytes:
-        told = "".join(f"{name} {value}\n" for name, value in zip(self._fields, self))
+        told = "".join(f"{name} {value}\n" for name, value in vars(self).items())
         told = f"{_FORM}\n{told}"
         return f"{told}digest {hashlib.sha256(told.encode()).hexdigest()}\n".encode()
 

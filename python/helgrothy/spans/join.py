@@ -8,8 +8,8 @@ import signal
 import subprocess
 import threading
 from collections.abc import Callable, Iterable
+from dataclasses import dataclass
 from types import TracebackType
-from typing import NamedTuple
 
 from .. import console
 from ..errors import ProgramFailed
@@ -22,7 +22,8 @@ _CHUNK = 1 << 18
 _LAST_LINE = re.compile(r"Altogether (\d+) solutions?\.\n?\Z")
 
 
-class Ending(NamedTuple):
+@dataclass(frozen=True)
+class Ending:
     """How dlx-join ended, and what it said on standard error."""
 
     status: int

@@ -15,7 +15,6 @@ from collections.abc import Callable
 from concurrent.futures import CancelledError, Executor, Future
 from dataclasses import dataclass, replace
 from functools import partial
-from typing import NamedTuple
 
 from .. import __version__
 from ..errors import HelgrothyError, ProgramFailed, ProgramNotFound, SearchFault, reason_of
@@ -40,7 +39,8 @@ _TICK = 0.1
 _LEAST_SHARE = 0.001
 
 
-class Kept(NamedTuple):
+@dataclass(frozen=True)
+class Kept:
     """A span that is done: its text or some texts one after another, and what that took of a processor."""
 
     span: Span
@@ -69,7 +69,8 @@ class Progress:
         return f"{done}   {clock(self.seconds)}{left}   {self.at_work} at work"
 
 
-class Job(NamedTuple):
+@dataclass(frozen=True)
+class Job:
     """What is searched: a problem's text, the program for it, and whether the solutions are listed."""
 
     problem: bytes

@@ -7,7 +7,8 @@ its end. Of a tree whose branches of a level are taken to be equally large, a ro
 from __future__ import annotations
 
 import re
-from typing import NamedTuple, Optional
+from dataclasses import dataclass
+from typing import Optional
 
 from ..errors import SearchFault
 
@@ -21,7 +22,8 @@ _WORD = re.compile(r"[0-9]+(?:\.[0-9]+)*\Z")
 _MANY_DIGITS = re.compile(r"0*[1-9][0-9]{10}")
 
 
-class Span(NamedTuple):
+@dataclass(frozen=True)
+class Span:
     """The members from a row on and before another one; `begins` and `ends` are the places of the two rows."""
 
     start: Row

@@ -7,7 +7,7 @@ import signal
 import subprocess
 import threading
 from contextlib import suppress
-from typing import NamedTuple
+from dataclasses import dataclass
 
 from .. import __version__
 from ..errors import ProgramFailed
@@ -18,7 +18,8 @@ PROGRAM = "dlx-span"
 _CHUNK = 1 << 20
 
 
-class Task(NamedTuple):
+@dataclass(frozen=True)
+class Task:
     """A span to search: of which problem and by which program, from where until where, and at most so many steps.
 
     No text of more than `most` bytes comes back, if it isn't 0; the run is then ended.
@@ -33,7 +34,8 @@ class Task(NamedTuple):
     most: int
 
 
-class Ran(NamedTuple):
+@dataclass(frozen=True)
+class Ran:
     """What a run printed (nothing where that was too long), and what it took of a processor."""
 
     text: bytes
