@@ -226,7 +226,11 @@ class Folder:
             self._take(entry)
 
     def _entry(self, path: str) -> Entry:
-        with opened(path) as file:
+        try:
+            file = opened(path)
+        except SearchFault as error:
+            raise SearchFault(f"{error}; without it the search goes on") from None
+        with file:
             return _head(path, file)
 
     def _take(self, entry: Entry) -> None:
