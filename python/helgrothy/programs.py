@@ -10,11 +10,13 @@ from __future__ import annotations
 import os
 import re
 import select
+import signal
 import stat
 import subprocess
 import tempfile
 import time
 from collections.abc import Iterable, Iterator, Sequence
+from contextlib import contextmanager
 from pathlib import Path
 from types import TracebackType
 from typing import IO
@@ -67,6 +69,20 @@ def has(program: str) -> bool:
     return True
 
 
+@contextmanager
+def undisturbed() -> Iterator[None]:
+    """A clock that has run down is heard after this.
+
+    An exception amid the start of a program would leave it running with nobody who ends it, and one amid the start of
+    a thread becomes one that is meant for nobody.
+    """
+    before = signal.pthread_sigmask(signal.SIG_BLOCK, [signal.SIGALRM])
+    try:
+        yield
+    finally:
+        signal.pthread_sigmask(signal.SIG_SETMASK, before)
+
+
 _running: set[subprocess.Popen[bytes]] = set()
 
 
@@ -100,10 +116,11 @@ class Run:
             given.writelines(text)
             given.seek(0)
             self._told: IO[bytes] = tempfile.TemporaryFile()
-            self._process = subprocess.Popen(
-                [path, *words], stdin=given, stdout=subprocess.PIPE, stderr=self._told, bufsize=0
-            )
-            _running.add(self._process)
+            with undisturbed():
+                self._process = subprocess.Popen(
+                    [path, *words], stdin=given, stdout=subprocess.PIPE, stderr=self._told, bufsize=0
+                )
+                _running.add(self._process)
 
     def __enter__(self) -> Run:
         return self

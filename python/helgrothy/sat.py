@@ -8,14 +8,13 @@ from __future__ import annotations
 
 import os
 import shutil
-import subprocess
-import tempfile
 from collections.abc import Hashable
 from typing import Any
 
 from .errors import OutOfTime
 from .export import clauses
 from .problem import Problem
+from .programs import Run
 
 # Solvers, and the words by which they answer by their status alone.
 SOLVERS = {"cadical": ["-q", "-n"], "clasp": ["-q"]}
@@ -62,17 +61,17 @@ class Clauses:
     def has_solution(self, kept: set[Hashable], seconds: float) -> bool:
         """Whether these items can be held as their bounds say, the others being let off. Raises `OutOfTime`."""
         units = [-variable if item in kept else variable for item, variable in self._let_off.items()]
-        with tempfile.TemporaryFile() as given:
-            given.write(b"p cnf %d %d\n" % (self._variables, self._count + len(units)))
-            given.write(self._text)
-            given.write("".join(f"{unit} 0\n" for unit in units).encode())
-            given.seek(0)
-            try:
-                status = subprocess.run(
-                    self._command, stdin=given, stdout=subprocess.DEVNULL, stderr=subprocess.DEVNULL, timeout=seconds
-                ).returncode
-            except (OSError, subprocess.TimeoutExpired):
-                status = None
+        head = b"p cnf %d %d\n" % (self._variables, self._count + len(units))
+        path, *words = self._command
+        name = os.path.basename(path)
+        try:
+            with Run(name, words, [head, self._text, *(b"%d 0\n" % unit for unit in units)], seconds, path) as run:
+                for _ in run.chunks():
+                    pass
+                status = run.status()
+        except OSError:
+            # Time that is over is one too.
+            status = None
         if status not in (*_FOUND, _NONE):
-            raise OutOfTime(f"{os.path.basename(self._command[0])} gave no answer")
+            raise OutOfTime(f"{name} gave no answer")
         return status != _NONE

@@ -9,6 +9,7 @@ from types import TracebackType
 from typing import Any
 
 from .problem import Problem
+from .programs import undisturbed
 from .sums import search
 
 # A search may show no solution for so long; the count takes as long.
@@ -30,7 +31,8 @@ class Watch:
         self.has_told = False
 
     def __enter__(self) -> Watch:
-        self._timer.start()
+        with undisturbed():
+            self._timer.start()
         return self
 
     def __exit__(

@@ -158,7 +158,7 @@ class Conflicts(unittest.TestCase):
         told = []
         # The count takes as long as the search was quiet.
         with mock.patch.object(watch, "_QUIET_SECONDS", 2), watch.Watch(jigsaw(JIGSAWS[0]), told.append):
-            deadline = time.monotonic() + 30
+            deadline = time.monotonic() + 300
             while not told and time.monotonic() < deadline:
                 time.sleep(0.1)
         self.assertEqual(len(told), 1)
@@ -197,7 +197,7 @@ class Solvers(unittest.TestCase):
     def test_where_the_programs_come_to_no_end(self):
         problem = jigsaw(JIGSAWS[0])
         with mock.patch.multiple(Count, by_matching=lambda *_: None, by_climbing=lambda *_: None):
-            conflict = why.find(problem, 30)
+            conflict = why.find(problem, 300)
         self.assertIn(conflict.by, SOLVERS + ["dlx1"])
         self.assertIsNone(conflict.sums)
         self.assertLess(len(conflict.items), 324)
