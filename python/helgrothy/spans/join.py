@@ -44,7 +44,7 @@ class Join:
         # The row until which texts were given.
         self.at: Until = ()
         self._process = start(
-            [find(PROGRAM), "m1" if listed else "m0"], stdin=subprocess.PIPE, stdout=out, stderr=subprocess.PIPE
+            [str(find(PROGRAM)), "m1" if listed else "m0"], stdin=subprocess.PIPE, stdout=out, stderr=subprocess.PIPE
         )
         self._threads: list[threading.Thread] = []
         self._begin(self._feed)

@@ -77,7 +77,7 @@ class Stop:
 def run(task: Task, stop: Stop | None = None) -> Ran:
     """Searches a span. Raises `ProgramNotFound`, `ProgramFailed` and `OSError`."""
     listed = "m1" if task.listed else "m0"
-    command = [find(PROGRAM), str(task.kind), listed, str(task.steps), task.start, task.until]
+    command = [str(find(PROGRAM)), str(task.kind), listed, str(task.steps), task.start, task.until]
     process = _start(command) if stop is None else stop.start(command)
     if process is None:
         raise ProgramFailed(PROGRAM, -signal.SIGKILL, "stopped")
