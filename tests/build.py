@@ -70,11 +70,62 @@ class Build(unittest.TestCase):
         self.assertIn("no proof of low", told)
 
 
+class Whole(unittest.TestCase):
+    """`make all` over the crates of the repository, by a toolchain that says much and proves nothing."""
+
+    def setUp(self) -> None:
+        self.top = Path(tempfile.mkdtemp())
+        self.addCleanup(shutil.rmtree, self.top)
+        (self.top / "scripts").mkdir()
+        shutil.copy(TOP / "scripts" / "build", self.top / "scripts")
+        for name in ("Makefile", "VERSION", "crates.txt"):
+            shutil.copy(TOP / name, self.top)
+        for crate in (TOP / "crates").iterdir():
+            (self.top / "crates" / crate.name / "src").mkdir(parents=True)
+            (self.top / "crates" / crate.name / "src" / "lib.rt").write_text(crate.name)
+        (self.top / "kit").mkdir()
+        talking = "seq -f 'so far: %g of 300 functions checked' 300; echo \"$1 $PWD\" >>\"$(dirname \"$0\")/calls\"\n"
+        (self.top / "kit" / "rt").write_text(RT.replace("name=", f"[ $1 = version ] || {{ {talking}}}\nname=", 1))
+        (self.top / "kit" / "rt").chmod(0o755)
+
+    def make(self) -> list[str]:
+        environment = {**os.environ, "PATH": f"{self.top / 'kit'}:{os.environ['PATH']}", "MAKEFLAGS": ""}
+        ran = subprocess.run(["make", "all"], cwd=self.top, capture_output=True, text=True, env=environment)
+        self.assertEqual((ran.returncode, ran.stderr), (0, ""))
+        return ran.stdout.splitlines()
+
+    def calls(self) -> list[str]:
+        """The crates that the toolchain was at."""
+        calls = self.top / "kit" / "calls"
+        return [Path(line.split()[1]).name for line in calls.read_text().splitlines()] if calls.exists() else []
+
+    def test_from_nothing_few_lines_are_printed(self) -> None:
+        told = self.make()
+        # A line for each library, one for the programs, and one for each of them.
+        self.assertEqual(len(told), len(self.calls()) + 1)
+        self.assertLessEqual(len(told), 40)
+        self.assertTrue((self.top / "bin" / "dlx-span").exists())
+
+    def test_behind_the_gate_nothing_is_built(self) -> None:
+        names = ["dlx1", "dlx2", "dlx3", "dlxcheck", "dlx_span", "dlx_join"]
+        for name in names:
+            (self.top / "crates" / name / "out").mkdir()
+            (self.top / "crates" / name / "out" / name).write_text("a program")
+        environment = {**os.environ, "PATH": f"{self.top / 'kit'}:{os.environ['PATH']}"}
+        # As tests/gate.sh does where `rt ci` passed.
+        gate = (TOP / "tests" / "gate.sh").read_text()
+        self.assertIn(f"scripts/build --note {' '.join(names)}\n", gate)
+        subprocess.run([self.top / "scripts" / "build", "--note", *names], check=True, env=environment)
+        for _ in range(2):
+            self.assertEqual(self.make(), [f"built already: {' '.join(names)}"])
+        self.assertEqual(self.calls(), [])
+
+
 class Help(unittest.TestCase):
     def test_make_help_names_all_targets(self) -> None:
         lines = (TOP / "Makefile").read_text().splitlines()
         targets = {word for line in lines if line.startswith(".PHONY:") for word in line.split()[1:]}
-        targets -= {"help", "$(PROGRAMS)", "install-lib", "uninstall-lib"}
+        targets -= {"help", "$(PROGRAMS)", "$(SPAN_CRATES)", "install-lib", "uninstall-lib"}
         ran = subprocess.run(["make", "-s", "-C", TOP, "help"], capture_output=True, text=True, check=True)
         told = [line.partition(": ")[0] for line in ran.stdout.splitlines()]
         self.assertEqual(told, sorted(told, key=lambda name: f"{name}:"))

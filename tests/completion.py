@@ -22,7 +22,7 @@ LINES = [
     ("dlx-join m1 notes.txt not", "dlx-join m1 notes.txt notes.txt "),
     ("dlx-progress --ver", "dlx-progress --version "),
     ("helgrothy su", "helgrothy sudoku "),
-    ("helgrothy make po", "helgrothy make polyominoes "),
+    ("helgrothy make polyo", "helgrothy make polyominoes "),
     ("helgrothy make roster --r", "helgrothy make roster --rest "),
     ("helgrothy make roster not", "helgrothy make roster notes.txt "),
     ("helgrothy polyominoes pen", "helgrothy polyominoes pentominoes "),

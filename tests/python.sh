@@ -1,8 +1,17 @@
 #!/bin/sh
-# The Python package's tests, over the programs that `rt ci` built. Prints what fails, and nothing else.
+# The Python package's tests, over the programs that `rt ci` built; then flake8 and mypy where they are installed, by
+# python/setup.cfg and python/pyproject.toml. Prints what fails, and nothing else.
 cd "$(dirname "$0")/../python" || exit 1
 export PYTHONDONTWRITEBYTECODE=1
-told=$(python3 -m unittest discover -s tests 2>&1) || {
-    printf '%s\n' "$told"
-    exit 1
+
+# run COMMAND WORD..: prints what it said where it fails
+run() {
+    told=$("$@" 2>&1) || {
+        printf '%s\n' "$told"
+        exit 1
+    }
 }
+
+run python3 -m unittest discover -s tests
+if command -v flake8 >/dev/null; then run flake8 . ../scripts ../tests ../release; fi
+if command -v mypy >/dev/null; then run mypy --cache-dir=/dev/null; fi

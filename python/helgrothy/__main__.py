@@ -7,10 +7,11 @@ wait for the others as long as for its own.
 from __future__ import annotations
 
 import sys
-from typing import NoReturn, Optional, Sequence
+from collections.abc import Sequence
+from typing import NoReturn
 
 
-def main(words: Optional[Sequence[str]] = None) -> int:
+def main(words: Sequence[str] | None = None) -> int:
     """Does what the words of a command say, and gives its status."""
     given = sys.argv[1:] if words is None else list(words)
     from .spans import commands as spans

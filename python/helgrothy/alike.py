@@ -6,13 +6,14 @@ What is left is found from the lines before, by the rules of docs/SEARCH.md.
 
 from __future__ import annotations
 
+from collections.abc import Hashable, Mapping, Sequence
 from dataclasses import dataclass
-from typing import Dict, Hashable, List, Mapping, Optional, Sequence, Set, Tuple, Union
+from typing import Optional
 
 from .errors import UnknownChoice
 from .listing import Null
 
-Uses = Sequence[Tuple[Hashable, Optional[Hashable]]]
+Uses = Sequence[tuple[Hashable, Optional[Hashable]]]
 
 
 @dataclass(frozen=True)
@@ -29,7 +30,7 @@ class Branches:
     def __init__(self, uses: Sequence[Uses], high: Mapping[Hashable, int]) -> None:
         self._uses = uses
         self._high = high
-        self._holders: Dict[Hashable, List[int]] = {item: [] for item in high}
+        self._holders: dict[Hashable, list[int]] = {item: [] for item in high}
         for number, option in enumerate(uses):
             for item, _ in option:
                 if item in high:
@@ -37,15 +38,15 @@ class Branches:
         # The lines of the solution before, and of each level what is left of its branch item: solutions in a row have
         # most of these in common.
         self._lines: Sequence[bytes] = ()
-        self._levels: List[_Left] = []
+        self._levels: list[_Left] = []
 
     def told_apart(
-        self, lines: Sequence[bytes], items: Sequence[Hashable], choices: Sequence[Union[int, Null, Alike]]
-    ) -> List[Union[int, Null]]:
+        self, lines: Sequence[bytes], items: Sequence[Hashable], choices: Sequence[int | Null | Alike]
+    ) -> list[int | Null]:
         """The choices of a solution, with its lines and branch items. Raises `UnknownChoice`."""
         del self._levels[_common(self._lines, lines) + 1 :]
         self._lines = lines
-        found: List[Union[int, Null]] = []
+        found: list[int | Null] = []
         state = _State(self._high)
         for level, (line, item, choice) in enumerate(zip(lines, items, choices)):
             left = self._left(level, item)
@@ -79,9 +80,9 @@ class _Left:
         self.item = item
         self._holders = holders
         self._looked = 0
-        self._found: List[int] = []
+        self._found: list[int] = []
 
-    def option(self, branch: int, uses: Sequence[Uses], state: _State) -> Optional[int]:
+    def option(self, branch: int, uses: Sequence[Uses], state: _State) -> int | None:
         """The option of a branch, if there is such a branch. The state is that of the level, each time."""
         while len(self._found) < branch:
             if self._looked == len(self._holders):
@@ -98,12 +99,12 @@ class _State:
 
     def __init__(self, high: Mapping[Hashable, int]) -> None:
         self._high = high
-        self._held: Dict[Hashable, int] = {}
-        self._gone: Set[Hashable] = set()
-        self._colours: Dict[Hashable, Hashable] = {}
-        self._withdrawn: Dict[Hashable, int] = {}
+        self._held: dict[Hashable, int] = {}
+        self._gone: set[Hashable] = set()
+        self._colours: dict[Hashable, Hashable] = {}
+        self._withdrawn: dict[Hashable, int] = {}
 
-    def take(self, branch_item: Hashable, choice: Union[int, Null], uses: Uses) -> None:
+    def take(self, branch_item: Hashable, choice: int | Null, uses: Uses) -> None:
         if isinstance(choice, Null):
             self._gone.add(branch_item)
             return

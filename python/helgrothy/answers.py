@@ -7,7 +7,8 @@ set program by a line of atoms, `x(1) x(5)`, for each answer. What else they say
 from __future__ import annotations
 
 import re
-from typing import Any, Dict, Iterable, Iterator, List, Optional, Sequence
+from collections.abc import Iterable, Iterator, Sequence
+from typing import Any
 
 from .errors import AnswerFault
 from .problem import Problem
@@ -30,7 +31,7 @@ _TOLD = {
 SOLVERS = tuple(_TOLD)
 
 
-def solutions(solver: str, problem: Problem[Any], lines: Iterable[bytes]) -> Iterator[List[int]]:
+def solutions(solver: str, problem: Problem[Any], lines: Iterable[bytes]) -> Iterator[list[int]]:
     """The answers in what a solver printed: the places of the options that each takes, from 0 on.
 
     None comes where the solver says that there is none. Whether they are solutions isn't judged; `Problem.check` does.
@@ -47,15 +48,15 @@ class _Reader:
         self._solver = solver
         self._told = _TOLD[solver]
         self._options = len(problem.options)
-        self._status: Optional[str] = None
+        self._status: str | None = None
         self._has_answer = False
         # The variables of an answer that isn't at its end, and whether the line before said that one follows.
-        self._values: Dict[int, bool] = {}
+        self._values: dict[int, bool] = {}
         self._is_open = False
         self._follows = False
         self._number = 0
 
-    def read(self, number: int, line: str) -> Iterator[List[int]]:
+    def read(self, number: int, line: str) -> Iterator[list[int]]:
         self._number = number
         follows, self._follows = self._follows, False
         words = line.split()
@@ -74,7 +75,7 @@ class _Reader:
         elif words and not self._told.match(line):
             raise AnswerFault(number, line[:60], f"no line of an answer of {self._solver}")
 
-    def end(self) -> Iterator[List[int]]:
+    def end(self) -> Iterator[list[int]]:
         self._number += 1
         if self._is_open:
             yield self._answer()
@@ -86,7 +87,7 @@ class _Reader:
         reason = "it found none in its time" if self._status == "UNKNOWN" else f"no values; {hint}"
         raise AnswerFault(self._number, self._status, reason)
 
-    def _literals(self, words: Sequence[str]) -> Iterator[List[int]]:
+    def _literals(self, words: Sequence[str]) -> Iterator[list[int]]:
         for word in words:
             found = _LITERAL.match(word)
             if found is None:
@@ -99,7 +100,7 @@ class _Reader:
             if variable <= self._options and self._values.setdefault(variable, is_taken) != is_taken:
                 raise AnswerFault(self._number, word[:60], "the variable is both true and false")
 
-    def _answer(self) -> List[int]:
+    def _answer(self) -> list[int]:
         values, self._values, self._is_open = self._values, {}, False
         missing = next((number for number in range(1, self._options + 1) if number not in values), None)
         if missing is not None:
@@ -108,7 +109,7 @@ class _Reader:
         self._has_answer = True
         return [number - 1 for number in range(1, self._options + 1) if values[number]]
 
-    def _atoms(self, words: Sequence[str]) -> List[int]:
+    def _atoms(self, words: Sequence[str]) -> list[int]:
         taken = []
         for word in words:
             found = _ATOM.match(word)

@@ -9,10 +9,11 @@ from __future__ import annotations
 import argparse
 import re
 import time
+from collections.abc import Callable, Sequence
 from decimal import Decimal
 from fractions import Fraction
 from functools import partial
-from typing import Any, Callable, List, Optional, Sequence, Tuple, Union
+from typing import Any
 
 from . import __version__, answers, console, cost, shuffle, symmetry, why
 from .console import Parser, limited, number, positive, seconds, write
@@ -58,12 +59,12 @@ _SHARE = 0.9
 _SHARE_OF_PAGE = 0.7
 
 
-def main(words: Optional[Sequence[str]] = None) -> int:
+def main(words: Sequence[str] | None = None) -> int:
     """Does what the words of a command say, and gives its status."""
     return console.run("helgrothy", lambda: _act(words), unread=0)
 
 
-def _act(words: Optional[Sequence[str]]) -> int:
+def _act(words: Sequence[str] | None) -> int:
     arguments = parser_of_all().parse_args(words)
     with limited(getattr(arguments, "seconds", None)):
         status: int = arguments.command(arguments)
@@ -269,10 +270,10 @@ def _show(problem: Problem[Any], arguments: argparse.Namespace) -> int:
 def _search(
     problem: Problem[Any],
     arguments: argparse.Namespace,
-    limit: Optional[int],
+    limit: int | None,
     spacing: int,
-    seconds: Optional[float],
-) -> Tuple[Union[Solutions[Any], Stream[Any]], str]:
+    seconds: float | None,
+) -> tuple[Solutions[Any] | Stream[Any], str]:
     """The solutions that are asked for, and among what they are counted."""
     if arguments.shuffle is not None:
         return shuffle.solve(problem, arguments.shuffle, limit, spacing, seconds=seconds), ""
@@ -327,7 +328,7 @@ def _counted(total: int) -> str:
     return f"{total} solution{'' if total == 1 else 's'}"
 
 
-def _reasons(problem: Problem[Any], deadline: Optional[float]) -> List[str]:
+def _reasons(problem: Problem[Any], deadline: float | None) -> list[str]:
     """Why there is no solution, where a short while tells."""
     left = _REASON_SECONDS if deadline is None else min(_REASON_SECONDS, deadline - time.monotonic())
     try:
@@ -341,14 +342,14 @@ def _reasons(problem: Problem[Any], deadline: Optional[float]) -> List[str]:
 
 # Shows a solution: its number, its options, what gives the places of these among the problem's, and what gives the
 # steps of the search.
-_Show = Callable[[int, Sequence[Any], Callable[[Sequence[Any]], List[int]], Callable[[], List[Step]]], None]
+_Show = Callable[[int, Sequence[Any], Callable[[Sequence[Any]], list[int]], Callable[[], list[Step]]], None]
 
 
 def _showing(
     problem: Problem[Any],
     arguments: argparse.Namespace,
-    otherwise: Optional[Callable[[Sequence[str]], Any]],
-    page: Optional[File],
+    otherwise: Callable[[Sequence[str]], Any] | None,
+    page: File | None,
 ) -> _Show:
     """What shows solutions one after another: on a page, as data, or drawn."""
     if page is not None:
@@ -368,7 +369,7 @@ def _showing(
     return show
 
 
-def _page(problem: Problem[Any], arguments: argparse.Namespace) -> Optional[File]:
+def _page(problem: Problem[Any], arguments: argparse.Namespace) -> File | None:
     """The page that is asked for, if one is."""
     if not arguments.html:
         return None
@@ -443,7 +444,7 @@ def _draw(arguments: argparse.Namespace) -> int:
 
 
 def _drawing(
-    problem: Problem[Any], arguments: argparse.Namespace, otherwise: Optional[Callable[[Sequence[str]], Any]]
+    problem: Problem[Any], arguments: argparse.Namespace, otherwise: Callable[[Sequence[str]], Any] | None
 ) -> Callable[[Sequence[str]], Any]:
     """What draws solutions: by the patterns that are given, else as the problem was made, else otherwise."""
     if arguments.cell is not None and "(?P<layer>" in arguments.cell and otherwise is not None:

@@ -9,8 +9,10 @@ import re
 import signal
 import sys
 import threading
+import time
+from collections.abc import Callable, Iterable, Iterator
 from contextlib import contextmanager, suppress
-from typing import Any, Callable, Iterable, Iterator, List, Optional
+from typing import Any
 
 from .errors import HelgrothyError, OutOfTime, reason_of
 from .programs import end_all
@@ -26,6 +28,10 @@ _MOST_LINE = 1 << 23
 _MOST_NUMBER = (1 << 64) - 1
 # More than anybody waits, and no more than the system's clocks take.
 _MOST_SECONDS = 1e9
+# Where time is over an exception says so. Until it was raised so long ago, or the process has worked on for so long, it
+# is on its way, which may take seconds on a machine that does other things: a second one would break off what is done
+# at the end.
+_ON_ITS_WAY, _AT_WORK = 10.0, 0.5
 _INPUT, _OUTPUT, _ERROR = "standard input", "standard output", "standard error"
 
 
@@ -149,18 +155,30 @@ def seconds(word: str) -> float:
 
 
 @contextmanager
-def limited(most: Optional[float]) -> Iterator[None]:
+def limited(most: float | None) -> Iterator[None]:
     """Has what is done take at most so many seconds. Raises `OutOfTime`, in the main thread alone."""
     if most is None or not _is_main():
         yield
         return
 
+    is_open = True
+    # When one was raised: by the clock, and by what the process had taken of a processor.
+    raised: tuple[float, float] | None = None
+
     def end(*_: object) -> None:
-        raise OutOfTime(f"it wasn't done in {most:g} seconds")
+        nonlocal raised
+        now = time.monotonic(), time.process_time()
+        is_on_its_way = raised is not None and now[0] < raised[0] + _ON_ITS_WAY and now[1] < raised[1] + _AT_WORK
+        if is_open and not is_on_its_way:
+            raised = now
+            raise OutOfTime(f"it wasn't done in {most:g} seconds")
 
     def lose(lost: Any) -> None:
         # One that is lost isn't told: the next one comes.
-        if lost.exc_type is not OutOfTime:
+        nonlocal raised
+        if lost.exc_type is OutOfTime:
+            raised = None
+        else:
             tell(lost)
 
     before = signal.signal(signal.SIGALRM, end)
@@ -170,6 +188,7 @@ def limited(most: Optional[float]) -> Iterator[None]:
         signal.setitimer(signal.ITIMER_REAL, most, 1.0)
         yield
     finally:
+        is_open = False
         signal.setitimer(signal.ITIMER_REAL, 0)
         signal.signal(signal.SIGALRM, before)
         sys.unraisablehook = tell
@@ -223,7 +242,7 @@ def _drop(stream: Any, number: int) -> None:
 
 
 def _read(file: Any, name: str) -> bytes:
-    pieces: List[bytes] = []
+    pieces: list[bytes] = []
     left = _MOST_TEXT
     while True:
         piece = file.read(min(_CHUNK, left + 1))

@@ -11,9 +11,10 @@ from __future__ import annotations
 import math
 import re
 import time
+from collections.abc import Hashable, Iterator, Sequence
 from dataclasses import dataclass
 from fractions import Fraction
-from typing import Any, Dict, Generic, Hashable, Iterator, List, Optional, Sequence, Tuple, TypeVar, Union
+from typing import Any, Generic, TypeVar, Union
 
 from . import answers, export, sat
 from .errors import AnswerFault, OutOfTime, ProgramFailed, TableFault
@@ -36,8 +37,8 @@ _MOST_BOUNDS = 30
 class Least(Generic[Option]):
     """A solution: the places of its options, from 0 on, its options, what they cost, and who says that it is least."""
 
-    numbers: List[int]
-    options: List[Option]
+    numbers: list[int]
+    options: list[Option]
     cost: Fraction
     by: str = ""
 
@@ -45,16 +46,16 @@ class Least(Generic[Option]):
 class NotLeast(OutOfTime):
     """The time was over before a solution was proved to be least. `best` is the cheapest one that was found."""
 
-    def __init__(self, best: Optional[Least[Any]]) -> None:
+    def __init__(self, best: Least[Any] | None) -> None:
         super().__init__("the time was over before a proof that no solution costs less")
         self.best = best
         self.found = 0 if best is None else 1
 
 
-def read(text: str, options: int) -> List[Fraction]:
+def read(text: str, options: int) -> list[Fraction]:
     """The costs of so many options: a number for each, in their order, with white space between; a line that begins
     with a bar is a comment. Raises `TableFault`."""
-    costs: List[Fraction] = []
+    costs: list[Fraction] = []
     number = 0
     for number, line in enumerate(text.split("\n"), 1):
         for word in [] if line.lstrip().startswith("|") else line.split():
@@ -68,7 +69,7 @@ def read(text: str, options: int) -> List[Fraction]:
     return costs
 
 
-def least(problem: Problem[Option], costs: Sequence[Cost], seconds: Optional[float] = None) -> Optional[Least[Option]]:
+def least(problem: Problem[Option], costs: Sequence[Cost], seconds: float | None = None) -> Least[Option] | None:
     """The solution of least cost, as dlxcheck judges it to be one; None where there is no solution.
 
     costs: of each option in their order. Raises `NotLeast`, `ValueError` for another number of costs.
@@ -80,11 +81,11 @@ def least(problem: Problem[Option], costs: Sequence[Cost], seconds: Optional[flo
     whole = [int(cost * unit) for cost in exact]
     path = sat.path_of("clasp")
     if path is not None and sum(abs(cost) for cost in whole) <= _MOST_SUM and problem.options:
-        search: Iterator[Tuple[int, List[int]]] = _by_clasp(problem, whole, path, seconds)
+        search: Iterator[tuple[int, list[int]]] = _by_clasp(problem, whole, path, seconds)
         by = "clasp"
     else:
         search, by = _by_bounds(problem, whole, seconds), "dlx3"
-    best: Optional[Least[Option]] = None
+    best: Least[Option] | None = None
     try:
         for _, numbers in search:
             options = [problem.options[number] for number in numbers]
@@ -105,8 +106,8 @@ def _judged(problem: Problem[Option], found: Least[Option]) -> Least[Option]:
 
 
 def _by_clasp(
-    problem: Problem[Any], costs: Sequence[int], path: str, seconds: Optional[float]
-) -> Iterator[Tuple[int, List[int]]]:
+    problem: Problem[Any], costs: Sequence[int], path: str, seconds: float | None
+) -> Iterator[tuple[int, list[int]]]:
     """Solutions that cost less and less; the last one is least. Raises `OutOfTime`."""
     deadline = None if seconds is None else time.monotonic() + seconds
     lines = export.opb(problem)
@@ -138,12 +139,12 @@ def _by_clasp(
 
 
 def _by_bounds(
-    problem: Problem[Any], costs: Sequence[int], seconds: Optional[float]
-) -> Iterator[Tuple[int, List[int]]]:
+    problem: Problem[Any], costs: Sequence[int], seconds: float | None
+) -> Iterator[tuple[int, list[int]]]:
     """The same, by bounds that are narrowed."""
     deadline = None if seconds is None else time.monotonic() + seconds
     surplus, least = _surpluses(problem, [cost * _PARTS for cost in costs])
-    best: Optional[int] = None
+    best: int | None = None
     # Options of small surplus come first, so that a cheap solution comes early. One without a primary item is in none.
     is_used = [any(item in problem.items for item, _ in problem.pairs(option)) for option in problem.options]
     order = sorted((place for place, used in enumerate(is_used) if used), key=lambda place: surplus[place])
@@ -164,10 +165,10 @@ def _by_bounds(
                 return
 
 
-def _surpluses(problem: Problem[Any], costs: Sequence[int]) -> Tuple[List[int], int]:
+def _surpluses(problem: Problem[Any], costs: Sequence[int]) -> tuple[list[int], int]:
     """What each option costs beyond the prices of its items, none less than 0, and what a solution costs at least."""
     rows = [[item for item, _ in problem.pairs(option) if item in problem.items] for option in problem.options]
-    holders: Dict[Hashable, List[int]] = {item: [] for item in problem.items}
+    holders: dict[Hashable, list[int]] = {item: [] for item in problem.items}
     for place, row in enumerate(rows):
         for item in row:
             holders[item].append(place)
@@ -194,8 +195,8 @@ def _surpluses(problem: Problem[Any], costs: Sequence[int]) -> Tuple[List[int], 
 
 def _narrowed(problem: Problem[Any], places: Sequence[int], surplus: Sequence[int], room: int) -> Problem[Any]:
     """The problem of these options, with bounds on how many of them may have a large surplus."""
-    bounds: Dict[Hashable, Tuple[int, int]] = dict(problem.items)
-    marks: List[Tuple[int, Hashable]] = []
+    bounds: dict[Hashable, tuple[int, int]] = dict(problem.items)
+    marks: list[tuple[int, Hashable]] = []
     for most in range(1, min(len(places), _MOST_BOUNDS + 1)):
         # So many and one more with a surplus of at least this are too much.
         large = room // (most + 1) + 1
@@ -205,7 +206,7 @@ def _narrowed(problem: Problem[Any], places: Sequence[int], surplus: Sequence[in
             marks.append((large, mark))
     narrowed: Problem[Any] = Problem(bounds, list(problem.secondary))
     for place in places:
-        uses: Dict[Any, Any] = dict(problem.pairs(problem.options[place]))
+        uses: dict[Any, Any] = dict(problem.pairs(problem.options[place]))
         uses.update((mark, None) for large, mark in marks if surplus[place] >= large)
         narrowed.add_option(uses)
     return narrowed

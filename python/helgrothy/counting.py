@@ -2,7 +2,7 @@
 
 from __future__ import annotations
 
-from typing import List, Sequence
+from collections.abc import Sequence
 
 # So many variables altogether count by chains, which solvers follow best. The rest is added up in binary numbers: of
 # n variables at most k of which may hold, a chain has n times k more, and a sum 2 times n.
@@ -14,7 +14,7 @@ class Clauses:
 
     def __init__(self, last: int) -> None:
         """last: the last variable that has a meaning already."""
-        self.lines: List[str] = []
+        self.lines: list[str] = []
         self.count = 0
         self.last = last
         self._chained = 0
@@ -53,9 +53,9 @@ class Clauses:
         if low > 1:
             self.add(at_least[low - 1], *let_off)
 
-    def _chain(self, held: Sequence[int], most: int) -> List[int]:
+    def _chain(self, held: Sequence[int], most: int) -> list[int]:
         """At most so many hold. At j stands a variable that says that j + 1 do."""
-        at_least: List[int] = []
+        at_least: list[int] = []
         for variable in held:
             before = at_least
             if len(before) == most:
@@ -73,7 +73,7 @@ class Clauses:
                     self.add(-now, *was, old)
         return at_least
 
-    def _number(self, held: Sequence[int]) -> List[int]:
+    def _number(self, held: Sequence[int]) -> list[int]:
         """How many hold, as a binary number whose lowest bit comes first."""
         bits = []
         column = list(held)

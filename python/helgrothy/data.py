@@ -9,7 +9,8 @@ import csv
 import io
 import json
 from abc import ABC, abstractmethod
-from typing import Any, Callable, Dict, Iterable, Iterator, List, Mapping, Optional, Sequence
+from collections.abc import Callable, Iterable, Iterator, Mapping, Sequence
+from typing import Any, Optional
 
 from .problem import Problem
 
@@ -19,7 +20,7 @@ Uses = Mapping[str, Optional[str]]
 _MOST_FILLED = 1_000
 
 
-def places_of(problem: Problem[Any]) -> Callable[[Iterable[Any]], List[int]]:
+def places_of(problem: Problem[Any]) -> Callable[[Iterable[Any]], list[int]]:
     """What gives the places of a problem's own options, from 0 on; of one that is there twice the last."""
     places = {id(option): place for place, option in enumerate(problem.options)}
     return lambda options: [places[id(option)] for option in options]
@@ -30,7 +31,7 @@ class Data(ABC):
 
     def __init__(self, problem: Problem[Any]) -> None:
         self._problem = problem
-        self._uses: Dict[int, Uses] = {}
+        self._uses: dict[int, Uses] = {}
 
     @abstractmethod
     def head(self) -> str:
@@ -93,4 +94,4 @@ class Csv(Data):
         return text.getvalue()
 
 
-FORMATS: Dict[str, Callable[[Problem[Any]], Data]] = {"json": Json, "csv": Csv}
+FORMATS: dict[str, Callable[[Problem[Any]], Data]] = {"json": Json, "csv": Csv}

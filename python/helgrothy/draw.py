@@ -9,9 +9,10 @@ from __future__ import annotations
 import colorsys
 import itertools
 import re
+from collections.abc import Callable, Hashable, Iterator, Sequence
 from dataclasses import dataclass, field
 from html import escape
-from typing import TYPE_CHECKING, Any, Callable, Dict, Hashable, Iterator, List, Optional, Sequence, Set, Tuple
+from typing import TYPE_CHECKING, Any
 
 from .errors import NoPicture
 from .shown import shown
@@ -19,7 +20,7 @@ from .shown import shown
 if TYPE_CHECKING:
     from .problem import Problem
 
-Place = Tuple[int, int]
+Place = tuple[int, int]
 
 _SIDE = 36
 _FONT = 16
@@ -51,7 +52,7 @@ class Cell:
     is_queen: bool = False
     is_quiet: bool = False
     corner: str = ""
-    sums: Optional[Tuple[str, str]] = None
+    sums: tuple[str, str] | None = None
     cage: Hashable = None
 
 
@@ -63,7 +64,7 @@ class Picture:
     """
 
     title: str
-    cells: Dict[Place, Cell]
+    cells: dict[Place, Cell]
     rows: Sequence[str] = ()
     columns: Sequence[str] = ()
     has_grid: bool = True
@@ -118,7 +119,7 @@ def shade(number: int) -> str:
     return "#" + "".join(f"{round(part * 255):02x}" for part in (red, green, blue))
 
 
-class Shades(Dict[Hashable, str]):
+class Shades(dict[Hashable, str]):
     """A light colour for each value, in the order in which they are first asked for."""
 
     def __missing__(self, value: Hashable) -> str:
@@ -158,7 +159,7 @@ class _Text:
             lines.append(self.line(self.heads[r] if self.heads else "", labels))
         return "".join(f"{line.rstrip()}\n" for line in lines)
 
-    def line(self, head: str, labels: List[str]) -> str:
+    def line(self, head: str, labels: list[str]) -> str:
         parts = [head.ljust(self.head)] if self.head else []
         for c, label in enumerate(labels):
             if self.is_bar(c):
@@ -252,7 +253,7 @@ class _Svg:
         ]
         return "".join(f"{line}\n" for line in lines)
 
-    def at(self, r: int, c: int) -> Tuple[int, int]:
+    def at(self, r: int, c: int) -> tuple[int, int]:
         return self.left + c * self.wide, self.top + r * _SIDE
 
     def fills(self) -> Iterator[str]:
@@ -358,7 +359,7 @@ def _width(label: str) -> int:
     return round(len(shown(label)) * _FONT * 0.62) + 18
 
 
-def _runs(marks: List[bool]) -> Iterator[Tuple[int, int]]:
+def _runs(marks: list[bool]) -> Iterator[tuple[int, int]]:
     """Where each run of true marks begins, and how long it is."""
     start = 0
     while start < len(marks):
@@ -393,7 +394,7 @@ class Pattern:
         label = re.compile(rf"(?<!\S)(?:{self.label})(?!\S)")
         if cell.groups < 2:
             raise re.error("the pattern of a cell has no group for its row or column")
-        board: Set[Place] = {place for option in problem.options for place, _ in _cells(cell, problem.line(option))}
+        board: set[Place] = {place for option in problem.options for place, _ in _cells(cell, problem.line(option))}
         lines = map(problem.line, problem.options)
         if not board:
             raise no_match("cell", self.cell, "whole words", lines)
@@ -405,7 +406,7 @@ class Pattern:
 
         def draw(lines: Sequence[str]) -> Picture:
             cells = {(r - top, c - left): Cell() for r, c in board}
-            labels: Dict[Place, str] = {}
+            labels: dict[Place, str] = {}
             for number, line in enumerate(lines):
                 found = label.search(line)
                 name = "" if found is None else found.group(1 if label.groups else 0)
@@ -430,7 +431,7 @@ def no_match(what: str, pattern: str, parts: str, lines: Iterator[str]) -> NoPic
     return NoPicture(f"no {what} is found by {shown(pattern)}: {tried}")
 
 
-def _cells(cell: re.Pattern[str], line: str) -> Iterator[Tuple[Place, str]]:
+def _cells(cell: re.Pattern[str], line: str) -> Iterator[tuple[Place, str]]:
     """The places that an option's line names, and the label of each that has one of its own."""
     named = cell.groupindex
     for found in cell.finditer(line):
@@ -446,7 +447,7 @@ def _cells(cell: re.Pattern[str], line: str) -> Iterator[Tuple[Place, str]]:
         yield (_number(row), _number(column)), own or colour or ""
 
 
-def _number(word: Optional[str]) -> int:
+def _number(word: str | None) -> int:
     """A number, or a single letter as in numbers to base 36."""
     if word and _DECIMAL.match(word):
         return int(word)

@@ -6,27 +6,30 @@ variables there are follows from these.
 
 from __future__ import annotations
 
+from collections.abc import Hashable, Iterator, Sequence
+from dataclasses import dataclass
 from itertools import zip_longest
-from typing import Any, Dict, Hashable, Iterator, List, NamedTuple, Optional, Sequence
+from typing import Any
 
 from .counting import Clauses
 from .problem import Problem
 
 
-class _Item(NamedTuple):
+@dataclass(frozen=True)
+class _Item:
     """An item: the options that hold it, by their colour (None without), and its bounds."""
 
     name: str
     low: int
     high: int
-    options: Dict[Optional[Hashable], List[int]]
+    options: dict[Hashable | None, list[int]]
 
-    def all(self) -> List[int]:
+    def all(self) -> list[int]:
         return [option for options in self.options.values() for option in options]
 
 
-def _items(problem: Problem[Any]) -> List[_Item]:
-    items: Dict[Hashable, _Item] = {}
+def _items(problem: Problem[Any]) -> list[_Item]:
+    items: dict[Hashable, _Item] = {}
     for item, (low, high) in problem.items.items():
         items[item] = _Item(problem.name(item), low, high, {})
     for item in problem.secondary:
@@ -37,7 +40,7 @@ def _items(problem: Problem[Any]) -> List[_Item]:
     return list(items.values())
 
 
-def _ignored(problem: Problem[Any]) -> List[int]:
+def _ignored(problem: Problem[Any]) -> list[int]:
     """The options without a primary item, which are in no solution."""
     return [
         number
@@ -46,7 +49,7 @@ def _ignored(problem: Problem[Any]) -> List[int]:
     ]
 
 
-def _choices(item: _Item, fresh: Iterator[int]) -> Dict[int, List[int]]:
+def _choices(item: _Item, fresh: Iterator[int]) -> dict[int, list[int]]:
     """The colours of an item as new variables, each with the options that give it."""
     return {next(fresh): options for colour, options in item.options.items() if colour is not None}
 
@@ -113,7 +116,7 @@ def _sums(problem: Problem[Any]) -> Iterator[str]:
             yield _sum([], held, -item.high)
 
 
-def _sum(plus: List[int], minus: List[int], least: int) -> str:
+def _sum(plus: list[int], minus: list[int], least: int) -> str:
     terms = [f"+1 x{variable}" for variable in plus] + [f"-1 x{variable}" for variable in minus]
     # The format has no empty sum: a variable may stand against itself.
     return " ".join(terms or ["+1 x1 -1 x1"]) + f" >= {least} ;"

@@ -11,8 +11,9 @@ import atexit
 import os
 import subprocess
 import threading
+from collections.abc import Sequence
 from contextlib import suppress
-from typing import Any, Optional, Sequence
+from typing import Any
 
 _SHELL = """\
 while read -r what program; do
@@ -61,7 +62,7 @@ class _Guard:
         atexit.unregister(self.end)
 
 
-_guard: Optional[_Guard] = None
+_guard: _Guard | None = None
 _lock = threading.Lock()
 
 
@@ -99,7 +100,7 @@ def _tell(what: str, program: int) -> None:
                 _guard = None
 
 
-def _ready() -> Optional[_Guard]:
+def _ready() -> _Guard | None:
     """This process's shell. Where there is none to be had, programs run on without."""
     global _guard
     if _guard is not None and _guard.owner != os.getpid():

@@ -3,9 +3,9 @@
 from __future__ import annotations
 
 from collections import Counter
+from collections.abc import Iterator
 from dataclasses import dataclass
 from itertools import islice
-from typing import Dict, FrozenSet, Iterator, List, Optional, Tuple
 
 from .problem import Problem
 from .shown import shown
@@ -31,7 +31,7 @@ class Remark:
         return f"line {self.line}: {shown(token + self.text)}"
 
 
-def lint(text: bytes, kind: int = 3, seconds: float = 1.0) -> List[Remark]:
+def lint(text: bytes, kind: int = 3, seconds: float = 1.0) -> list[Remark]:
     """All remarks on the text of a problem for dlx`kind`, in the order of its lines. Raises nothing.
 
     Proofs that the sums of the bounds can't work are looked for so many seconds. Behind a thousand faults the text
@@ -115,7 +115,7 @@ def _too_few(bounds: Bounds, count: int) -> str:
 
 def _twins(sheet: Sheet) -> Iterator[Remark]:
     """Options that are equal make equal solutions."""
-    first: Dict[FrozenSet[Tuple[str, Optional[str]]], int] = {}
+    first: dict[frozenset[tuple[str, str | None]], int] = {}
     for option in sheet.options:
         uses = frozenset(option.uses.items())
         line = first.setdefault(uses, option.line)

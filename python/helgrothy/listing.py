@@ -8,28 +8,14 @@ word.
 from __future__ import annotations
 
 import re
+from collections.abc import Callable, Generator, Hashable, Iterable, Iterator, Mapping
 from dataclasses import dataclass, field
-from typing import (
-    Callable,
-    Dict,
-    Generator,
-    Generic,
-    Hashable,
-    Iterable,
-    Iterator,
-    List,
-    Mapping,
-    NamedTuple,
-    Optional,
-    Tuple,
-    TypeVar,
-    Union,
-)
+from typing import Generic, TypeVar, Union
 
 from .errors import ListingFault, UnknownChoice
 from .syntax import text_of
 
-O = TypeVar("O")
+Option = TypeVar("Option")
 S = TypeVar("S")
 
 _HEADER = re.compile(rb"([0-9]{1,20}):\Z")
@@ -46,23 +32,24 @@ class Null:
     item: Hashable
 
 
-class Step(NamedTuple):
+@dataclass(frozen=True)
+class Step:
     """A step of the search: the name of the item at which it chose; the option's place in the problem, from 0 on, or
     None where the item gets no further option; and that this was branch `branch` of `branches`.
     """
 
     item: str
-    option: Optional[int]
+    option: int | None
     branch: int
     branches: int
 
 
-def untold(options: Iterable[int]) -> List[Step]:
+def untold(options: Iterable[int]) -> list[Step]:
     """Options of a solution as steps of which nothing else is known: each is branch 0 of 0."""
     return [Step("", option, 0, 0) for option in options]
 
 
-def branch_of(line: bytes, is_null: bool) -> Tuple[bytes, int, int]:
+def branch_of(line: bytes, is_null: bool) -> tuple[bytes, int, int]:
     """The item at which a choice line chose, and which branch of how many it was."""
     words = line.split(b" ")
     return words[2 if is_null else 1], int(words[-3][1:]), int(words[-1][:-1])
@@ -75,21 +62,21 @@ def turned(body: bytes) -> bytes:
     return b" ".join(words[least:] + words[:least])
 
 
-class Decoder(Dict[bytes, Union[O, Null]], Generic[O]):
+class Decoder(dict[bytes, Union[Option, Null]], Generic[Option]):
     """What each choice line says: an option, or `Null`. A table that fills itself as lines are looked up.
 
     `options` are by `turned` bodies, `items` the primary items by name. Raises `UnknownChoice` for a line that says
     neither. A body that is both an option's and that of a choice of none is read as the option's, as by dlxcheck.
     """
 
-    def __init__(self, options: Mapping[bytes, O], items: Mapping[bytes, Hashable]) -> None:
+    def __init__(self, options: Mapping[bytes, Option], items: Mapping[bytes, Hashable]) -> None:
         super().__init__()
         # A body has as many lines as there are numbers behind it; of bodies there are at most as many as uses.
-        self._bodies: Dict[bytes, Union[O, Null]] = {}
+        self._bodies: dict[bytes, Option | Null] = {}
         self._options = options
         self._items = items
 
-    def __missing__(self, line: bytes) -> Union[O, Null]:
+    def __missing__(self, line: bytes) -> Option | Null:
         body = line[1 : max(line.rfind(b" ("), 0)]
         choice = self._bodies.get(body)
         if choice is None:
@@ -98,13 +85,13 @@ class Decoder(Dict[bytes, Union[O, Null]], Generic[O]):
             self[line] = choice
         return choice
 
-    def read(self, lines: bytes) -> List[Union[O, Null]]:
+    def read(self, lines: bytes) -> list[Option | Null]:
         """The choices of lines, without what stands behind the last one's end."""
         parts = lines.split(b"\n")
         parts.pop()
         return list(map(self.__getitem__, parts))
 
-    def _read(self, body: bytes) -> Union[O, Null]:
+    def _read(self, body: bytes) -> Option | Null:
         key = turned(body)
         if key in self._options:
             return self._options[key]
@@ -147,25 +134,25 @@ def stream(
     return is_open
 
 
-def last_number(text: bytes) -> Optional[int]:
+def last_number(text: bytes) -> int | None:
     """The last number of a solution in a part of a program's own listing."""
     numbers = _NUMBERS.findall(text)
     return int(numbers[-1]) if numbers else None
 
 
 @dataclass
-class Listed(Generic[O]):
+class Listed(Generic[Option]):
     """A solution of a listing: the number in its header, its choices, and the line of each."""
 
     number: int
-    choices: List[Union[O, Null]]
-    lines: List[bytes] = field(default_factory=list)
+    choices: list[Option | Null]
+    lines: list[bytes] = field(default_factory=list)
 
-    def options(self) -> List[O]:
+    def options(self) -> list[Option]:
         """The options, without the choices of none."""
         return [choice for choice in self.choices if not isinstance(choice, Null)]
 
-    def steps(self, places: Callable[[Iterable[O]], List[int]]) -> List[Step]:
+    def steps(self, places: Callable[[Iterable[Option]], list[int]]) -> list[Step]:
         """The steps of the search, by what gives the places of the problem's options."""
         steps = []
         for line, choice in zip(self.lines, self.choices):
@@ -175,7 +162,7 @@ class Listed(Generic[O]):
         return steps
 
 
-def solutions(lines: Iterable[bytes], decode: Decoder[O]) -> Iterator[Listed[O]]:
+def solutions(lines: Iterable[bytes], decode: Decoder[Option]) -> Iterator[Listed[Option]]:
     """The solutions of any listing, line by line. Raises `ListingFault`."""
     listed = None
     for number, line in enumerate(lines, 1):

@@ -9,15 +9,15 @@ from __future__ import annotations
 
 import re
 import time
+from collections.abc import Callable, Hashable, Iterator, Mapping, Sequence
 from dataclasses import dataclass
 from fractions import Fraction
 from functools import lru_cache
 from math import gcd
-from typing import Callable, Dict, Hashable, Iterator, List, Mapping, Optional, Sequence, Set, Tuple
 
 from .syntax import Bounds
 
-Row = Tuple[Hashable, ...]
+Row = tuple[Hashable, ...]
 # An item by its place among all, and a class by a number.
 Place = int
 Classes = Sequence[int]
@@ -35,13 +35,13 @@ _NONE = -1
 class Shortage:
     """Weights by which no option weighs more than nothing, and whether all that ask in a class are among them."""
 
-    weights: Dict[Hashable, int]
+    weights: dict[Hashable, int]
     is_whole: bool
 
 
 def shortage(
     rows: Sequence[Row], bounds: Mapping[Hashable, Bounds], name: Callable[[Hashable], str], deadline: float
-) -> Optional[Shortage]:
+) -> Shortage | None:
     """The shortage of the fewest asking items that two classes show, a whole class being as good as half of one; None
     where none is found in the time.
 
@@ -50,7 +50,7 @@ def shortage(
     items = list(bounds)
     places = {item: place for place, item in enumerate(items)}
     search = _Search([tuple(map(places.__getitem__, row)) for row in rows], list(bounds.values()), deadline)
-    best: Optional[_Short] = None
+    best: _Short | None = None
     for classes in _groupings(search.rows, [name(item) for item in items]):
         for short in search.all(classes):
             if best is None or short.size < best.size:
@@ -61,7 +61,7 @@ def shortage(
     return Shortage({**takes, **{items[place]: -best.worth for place in best.allowing}}, best.is_whole)
 
 
-def _groupings(rows: Sequence[Tuple[Place, ...]], names: Sequence[str]) -> Iterator[Classes]:
+def _groupings(rows: Sequence[tuple[Place, ...]], names: Sequence[str]) -> Iterator[Classes]:
     """Classes by the form of the names (a1 and a12 are alike, then a1 and word12 are, too), and by the place in an
     option at which an item first stands."""
     finer = [re.sub(r"\d+", "0", name) for name in names]
@@ -76,7 +76,7 @@ def _groupings(rows: Sequence[Tuple[Place, ...]], names: Sequence[str]) -> Itera
 
 
 def _numbered(forms: Sequence[str]) -> Classes:
-    numbers: Dict[str, int] = {}
+    numbers: dict[str, int] = {}
     return [numbers.setdefault(form, len(numbers)) for form in forms]
 
 
@@ -84,8 +84,8 @@ def _numbered(forms: Sequence[str]) -> Classes:
 class _Short:
     """What each asking item takes of the others at least, each time that it is held, and what each of these counts."""
 
-    takes: Dict[Place, int]
-    allowing: List[Place]
+    takes: dict[Place, int]
+    allowing: list[Place]
     worth: int
     is_whole: bool
 
@@ -100,17 +100,17 @@ class _Beside:
 
     rows: int
     share: Fraction
-    near: Set[Place]
+    near: set[Place]
 
 
 # Of two classes the items of one that ask, each with what is beside it of the other.
-_Pairs = Dict[Tuple[int, int], Dict[Place, _Beside]]
+_Pairs = dict[tuple[int, int], dict[Place, _Beside]]
 
 
 @dataclass
 class _Search:
-    rows: List[Tuple[Place, ...]]
-    bounds: List[Bounds]
+    rows: list[tuple[Place, ...]]
+    bounds: list[Bounds]
     deadline: float
 
     def __post_init__(self) -> None:
@@ -121,7 +121,7 @@ class _Search:
 
     def all(self, classes: Classes) -> Iterator[_Short]:
         """The shortages that any two of these classes show."""
-        asks: Dict[int, int] = {}
+        asks: dict[int, int] = {}
         for place, (low, _) in enumerate(self.bounds):
             if low:
                 asks[classes[place]] = asks.get(classes[place], 0) + 1
@@ -138,7 +138,7 @@ class _Search:
         pairs: _Pairs = {}
         steps, look = 0, 0
         for row in self.rows:
-            parts: Dict[int, List[Place]] = {}
+            parts: dict[int, list[Place]] = {}
             for place in row:
                 parts.setdefault(classes[place], []).append(place)
             # Each item with each one of another class, and each class with each other one.
@@ -153,7 +153,7 @@ class _Search:
                         _note(pairs.setdefault((one, other), {}), asking, others, _share(len(others), len(places)))
         return pairs
 
-    def short(self, beside: Mapping[Place, _Beside]) -> Optional[_Short]:
+    def short(self, beside: Mapping[Place, _Beside]) -> _Short | None:
         """The items that ask for more than those beside them allow; all of them where they do together."""
         worth = 1
         for one in beside.values():
@@ -176,7 +176,7 @@ def _share(others: int, items: int) -> Fraction:
     return Fraction(others, items)
 
 
-def _note(pair: Dict[Place, _Beside], asking: Sequence[Place], others: Sequence[Place], share: Fraction) -> None:
+def _note(pair: dict[Place, _Beside], asking: Sequence[Place], others: Sequence[Place], share: Fraction) -> None:
     for place in asking:
         beside = pair.get(place)
         if beside is None:
@@ -196,9 +196,9 @@ class Matching:
         self._room = dict(room)
         self._near = near
         # What each right node gives, and to whom.
-        self._given: Dict[int, Dict[int, int]] = {node: {} for node in room}
+        self._given: dict[int, dict[int, int]] = {node: {} for node in room}
 
-    def short(self, deadline: float) -> Optional[Tuple[Set[int], Set[int]]]:
+    def short(self, deadline: float) -> tuple[set[int], set[int]] | None:
         """Left nodes that ask for more than the right nodes near them have, and these; None where all is given, or
         where that isn't known in the time."""
         while time.monotonic() <= deadline:
@@ -211,13 +211,13 @@ class Matching:
                     pass
         return None
 
-    def _levels(self) -> Optional[Dict[int, int]]:
+    def _levels(self) -> dict[int, int] | None:
         """How far left nodes are from one that still asks, up to the nearest room; None where there is none."""
         levels = {node: 0 for node, asked in self._asked.items() if asked}
-        seen: Set[int] = set()
+        seen: set[int] = set()
         layer = list(levels)
         while layer:
-            further: List[int] = []
+            further: list[int] = []
             has_room = False
             for node in layer:
                 for right in self._near[node]:
@@ -234,7 +234,7 @@ class Matching:
             layer = further
         return None
 
-    def _ways(self, node: int, levels: Mapping[int, int]) -> Iterator[Tuple[int, int]]:
+    def _ways(self, node: int, levels: Mapping[int, int]) -> Iterator[tuple[int, int]]:
         """The right nodes with room beside a left one, and those of which a left node one level on can give way."""
         for right in self._near[node]:
             if self._room[right]:
@@ -243,10 +243,10 @@ class Matching:
                 if levels.get(other) == levels[node] + 1 and other in self._given[right]:
                     yield right, other
 
-    def _push(self, start: int, levels: Dict[int, int], ways: Mapping[int, Iterator[Tuple[int, int]]]) -> bool:
+    def _push(self, start: int, levels: dict[int, int], ways: Mapping[int, Iterator[tuple[int, int]]]) -> bool:
         """Gives some of what a node asks for along one way of the levels; False where none is left."""
-        lefts: List[int] = [start]
-        rights: List[int] = []
+        lefts: list[int] = [start]
+        rights: list[int] = []
         while lefts:
             right, other = next(ways[lefts[-1]], (_NONE, _NONE))
             if right == _NONE:
@@ -274,9 +274,9 @@ class Matching:
             if not self._given[right][left]:
                 del self._given[right][left]
 
-    def _smallest(self, deadline: float) -> Optional[Tuple[Set[int], Set[int]]]:
+    def _smallest(self, deadline: float) -> tuple[set[int], set[int]] | None:
         """Of what is reached from each node that still asks, the fewest left nodes."""
-        best: Optional[Tuple[Set[int], Set[int]]] = None
+        best: tuple[set[int], set[int]] | None = None
         for start in [node for node, asked in self._asked.items() if asked][:_MOST_STARTS]:
             if best is not None and time.monotonic() > deadline:
                 break
@@ -285,7 +285,7 @@ class Matching:
                 best = reached
         return best
 
-    def _reached(self, start: int) -> Tuple[Set[int], Set[int]]:
+    def _reached(self, start: int) -> tuple[set[int], set[int]]:
         lefts, rights = {start}, set()
         waiting = [start]
         while waiting:

@@ -5,7 +5,7 @@ from __future__ import annotations
 import itertools
 import re
 import string
-from typing import Callable, Dict, Hashable, Iterable, Iterator, Optional, Set
+from collections.abc import Callable, Hashable, Iterable, Iterator
 
 from .syntax import MOST_COLOUR, MOST_NAME, bytes_of, name_fault, text_of
 
@@ -15,12 +15,12 @@ _IN_NAME = [bytes([byte]) for byte in range(256) if byte not in b"\0 \t\n\v\f\r:
 _NOT_IN_COLOUR = re.compile(r"[\s\0\ud800-\udc7f\udd00-\udfff]+", re.ASCII)
 
 
-def item_names(items: Iterable[Hashable]) -> Dict[Hashable, str]:
+def item_names(items: Iterable[Hashable]) -> dict[Hashable, str]:
     """A name for each item: a text that is one stays, of others one is made that is near to it."""
     return _named(items, _is_name, _NOT_IN_NAME, MOST_NAME, "i")
 
 
-def colour_names(colours: Iterable[Hashable]) -> Dict[Hashable, str]:
+def colour_names(colours: Iterable[Hashable]) -> dict[Hashable, str]:
     """A name for each colour, by the rules of colours."""
     return _named(colours, _is_colour, _NOT_IN_COLOUR, MOST_COLOUR, "c")
 
@@ -43,13 +43,13 @@ def _is_colour(text: str) -> bool:
 
 def _named(
     values: Iterable[Hashable], is_legal: Callable[[str], bool], illegal: re.Pattern[str], most: int, stem: str
-) -> Dict[Hashable, str]:
-    names: Dict[Hashable, Optional[str]] = {}
+) -> dict[Hashable, str]:
+    names: dict[Hashable, str | None] = {}
     for value in values:
         names[value] = value if isinstance(value, str) and is_legal(value) else None
-    taken: Set[str] = {name for name in names.values() if name is not None}
-    last: Dict[str, int] = {}
-    made: Dict[Hashable, str] = {}
+    taken: set[str] = {name for name in names.values() if name is not None}
+    last: dict[str, int] = {}
+    made: dict[Hashable, str] = {}
     for number, (value, name) in enumerate(names.items(), 1):
         if name is None:
             spelled = _spelled(value)
@@ -64,7 +64,7 @@ def _named(
     return made
 
 
-def _spelled(value: Hashable) -> Optional[str]:
+def _spelled(value: Hashable) -> str | None:
     """Numbers, texts and tuples of them as text; of other values the text may change from run to run."""
     if isinstance(value, (str, int, float)):
         return str(value)

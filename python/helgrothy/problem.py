@@ -5,28 +5,11 @@ from __future__ import annotations
 import tempfile
 import warnings
 from collections import Counter
-from collections.abc import Iterable, Iterator, Mapping
+from collections.abc import Callable, Generator, Hashable, Iterable, Iterator, Mapping, Sequence
 from functools import partial
 from numbers import Integral
 from types import TracebackType
-from typing import (
-    IO,
-    TYPE_CHECKING,
-    Any,
-    Callable,
-    Dict,
-    Generator,
-    Generic,
-    Hashable,
-    List,
-    NoReturn,
-    Optional,
-    Sequence,
-    Tuple,
-    Type,
-    TypeVar,
-    Union,
-)
+from typing import IO, TYPE_CHECKING, Any, Generic, NoReturn, Optional, TypeVar, Union
 
 from . import listing as listings
 from .alike import Alike, Branches
@@ -54,7 +37,7 @@ _MOST_SECONDS = 5.0
 # One of so many solutions is printed where they are counted for a time.
 _NUMBERED = 1000
 Option = TypeVar("Option", bound=Iterable[Hashable])
-BoundsLike = Union[None, int, Tuple[int, int]]
+BoundsLike = Union[None, int, tuple[int, int]]
 
 
 class Problem(Generic[Option]):
@@ -83,35 +66,35 @@ class Problem(Generic[Option]):
 
     def __init__(
         self,
-        items: Union[Mapping[Any, BoundsLike], Iterable[Hashable]],
-        secondary: Union[Iterable[Hashable], bool] = (),
+        items: Mapping[Any, BoundsLike] | Iterable[Hashable],
+        secondary: Iterable[Hashable] | bool = (),
         options: Iterable[Option] = (),
         *,
         comments: Iterable[str] = (),
     ) -> None:
-        self.comments: Tuple[str, ...] = _comment_lines(comments)
-        self.items: Dict[Hashable, Bounds] = {}
-        self.secondary: Dict[Hashable, None] = {}
+        self.comments: tuple[str, ...] = _comment_lines(comments)
+        self.items: dict[Hashable, Bounds] = {}
+        self.secondary: dict[Hashable, None] = {}
         self.options: Options[Option] = Options()
-        self.pattern: Optional[Drawn] = None
+        self.pattern: Drawn | None = None
         self._line = len(self.comments) + 1
         others = () if secondary is True else secondary
         for what, given in (("items", items), ("secondary", others), ("options", options)):
             self._refuse(not isinstance(given, Iterable) and given is not False, given, f"bad {what}", "no iterable")
         self._takes_rest = secondary is True
         self._uses = 0
-        self._colours: Dict[Hashable, None] = {}
+        self._colours: dict[Hashable, None] = {}
         # Names of items and colours are made when they are first asked for.
-        self._item_names: Optional[Dict[Hashable, str]] = None
-        self._colour_names: Optional[Dict[Hashable, str]] = None
+        self._item_names: dict[Hashable, str] | None = None
+        self._colour_names: dict[Hashable, str] | None = None
         self._take_items(items, () if isinstance(secondary, bool) else secondary)
         for option in options:
             self._take(option)
 
     def _take_items(
-        self, items: Union[Mapping[Any, BoundsLike], Iterable[Hashable]], secondary: Iterable[Hashable]
+        self, items: Mapping[Any, BoundsLike] | Iterable[Hashable], secondary: Iterable[Hashable]
     ) -> None:
-        pairs: Iterable[Tuple[Hashable, BoundsLike]]
+        pairs: Iterable[tuple[Hashable, BoundsLike]]
         pairs = items.items() if isinstance(items, Mapping) else ((item, None) for item in items)
         for item, bounds in pairs:
             self._refuse(not _is_hashable(item), item, "bad name", _HASHABLE)
@@ -167,12 +150,12 @@ class Problem(Generic[Option]):
             self._colour_names = None
         list.append(self.options, option)
 
-    def _check_option(self, option: Option, number: int) -> Tuple[Dict[Hashable, None], Dict[Hashable, None]]:
+    def _check_option(self, option: Option, number: int) -> tuple[dict[Hashable, None], dict[Hashable, None]]:
         """Looks at an option's items; those that become secondary by it, and its colours."""
         has_primary = False
         seen = set()
-        rest: Dict[Hashable, None] = {}
-        colours: Dict[Hashable, None] = {}
+        rest: dict[Hashable, None] = {}
+        colours: dict[Hashable, None] = {}
         for item, colour in self.pairs(option):
             if item not in self.items and item not in self.secondary:
                 hint = "a text is an option of its letters; split it" if isinstance(option, str) else ""
@@ -192,14 +175,14 @@ class Problem(Generic[Option]):
         return rest, colours
 
     @staticmethod
-    def pairs(option: Iterable[Hashable]) -> Iterable[Tuple[Hashable, Optional[Hashable]]]:
+    def pairs(option: Iterable[Hashable]) -> Iterable[tuple[Hashable, Hashable | None]]:
         """An option's items, each with its colour or None."""
         if isinstance(option, (dict, Mapping)):
             return option.items()
         return ((item, None) for item in option)
 
     @classmethod
-    def parse(cls, text: Union[str, bytes], kind: int = 3) -> Problem[Dict[str, Optional[str]]]:
+    def parse(cls, text: str | bytes, kind: int = 3) -> Problem[dict[str, str | None]]:
         """The problem of a text, as the program dlx`kind` reads it; its options are mappings.
 
         Options that are ignored are left out. Raises `ProblemFault`, the one that the program would tell.
@@ -207,13 +190,13 @@ class Problem(Generic[Option]):
         return cls.of(read(bytes_of(text) if isinstance(text, str) else text, kind, most_faults=1))
 
     @classmethod
-    def of(cls, sheet: Sheet) -> Problem[Dict[str, Optional[str]]]:
+    def of(cls, sheet: Sheet) -> Problem[dict[str, str | None]]:
         """The problem of a text that was read. Raises `ProblemFault`, the first one of the sheet."""
         if sheet.faults:
             raise sheet.faults[0]
         items = {item.name: item.bounds for item in sheet.items.values() if item.bounds is not None}
         secondary = [item.name for item in sheet.items.values() if item.bounds is None]
-        problem: Problem[Dict[str, Optional[str]]] = Problem(
+        problem: Problem[dict[str, str | None]] = Problem(
             items, secondary, comments=(text for _, text in sheet.comments)
         )
         # The reader has looked at the options.
@@ -247,29 +230,29 @@ class Problem(Generic[Option]):
         return self._names[item]
 
     @property
-    def _names(self) -> Dict[Hashable, str]:
+    def _names(self) -> dict[Hashable, str]:
         if self._item_names is None:
             self._item_names = item_names([*self.items, *self.secondary])
         return self._item_names
 
     @property
-    def colours(self) -> Dict[Hashable, str]:
+    def colours(self) -> dict[Hashable, str]:
         """The colours, each with its name."""
         if self._colour_names is None:
             self._colour_names = colour_names(self._colours)
         return self._colour_names
 
     @property
-    def item_names(self) -> List[str]:
+    def item_names(self) -> list[str]:
         """The names of the primary items."""
         return [self._names[item] for item in self.items]
 
     @property
-    def secondary_names(self) -> List[str]:
+    def secondary_names(self) -> list[str]:
         """The names of the secondary items."""
         return [self._names[item] for item in self.secondary]
 
-    def uses(self, option: Iterable[Hashable]) -> Dict[str, Optional[str]]:
+    def uses(self, option: Iterable[Hashable]) -> dict[str, str | None]:
         """The names of an option's items, each with its colour's name or None. Raises `ProblemFault`."""
         names, colours = self._names, self.colours
         try:
@@ -303,7 +286,7 @@ class Problem(Generic[Option]):
         return "".join(f"{line}\n" for line in self.lines())
 
     def solve(
-        self, limit: Optional[int] = None, spacing: int = 1, *, nulls: bool = False, seconds: Optional[float] = None
+        self, limit: int | None = None, spacing: int = 1, *, nulls: bool = False, seconds: float | None = None
     ) -> Solutions[Option]:
         """The solutions, one by one as they are found, each a list of options as they were given.
 
@@ -325,7 +308,7 @@ class Problem(Generic[Option]):
         return Solutions(self._stream(outcome, words, nulls, seconds), outcome, first)
 
     def _stream(
-        self, outcome: _Outcome, words: List[str], nulls: bool, seconds: Optional[float]
+        self, outcome: _Outcome, words: list[str], nulls: bool, seconds: float | None
     ) -> Generator[Solution[Any], None, None]:
         wire = _Wire(self)
 
@@ -344,12 +327,12 @@ class Problem(Generic[Option]):
                 raise run.failure()
             outcome.ending = ending
 
-    def wire(self) -> Tuple[Iterator[bytes], Callable[[bytes], Solution[Any]]]:
+    def wire(self) -> tuple[Iterator[bytes], Callable[[bytes], Solution[Any]]]:
         """The problem for a program, with names as short as can be, and what makes solutions of the lines it prints."""
         wire = _Wire(self)
         return _ended(wire.lines), partial(Solution, _Source(self, wire, False))
 
-    def _is_whole(self, choices: Iterable[Union[Option, Null]]) -> bool:
+    def _is_whole(self, choices: Iterable[Option | Null]) -> bool:
         """Whether choices are all of a solution: no primary item is left."""
         held: Counter[Hashable] = Counter()
         for choice in choices:
@@ -370,12 +353,12 @@ class Problem(Generic[Option]):
 
     def count(
         self,
-        limit: Optional[int] = None,
+        limit: int | None = None,
         *,
-        seconds: Optional[float] = None,
-        jobs: Optional[int] = None,
-        executor: Optional[Executor] = None,
-        progress: Optional[Callable[[Progress], object]] = None,
+        seconds: float | None = None,
+        jobs: int | None = None,
+        executor: Executor | None = None,
+        progress: Callable[[Progress], object] | None = None,
     ) -> int:
         """How many solutions there are, or `limit` where there are as many or more.
 
@@ -404,11 +387,11 @@ class Problem(Generic[Option]):
 
     def _count_spans(
         self,
-        limit: Optional[int],
-        seconds: Optional[float],
-        jobs: Optional[int],
-        executor: Optional[Executor],
-        progress: Optional[Callable[[Progress], object]],
+        limit: int | None,
+        seconds: float | None,
+        jobs: int | None,
+        executor: Executor | None,
+        progress: Callable[[Progress], object] | None,
     ) -> int:
         from . import spans
 
@@ -418,7 +401,7 @@ class Problem(Generic[Option]):
             raise ValueError("jobs must be at least 1")
         return spans.count(b"".join(_ended(self.lines())), self.kind, jobs, executor, progress, seconds)
 
-    def check(self, listing: Union[str, bytes, IO[str], IO[bytes], Iterable[Iterable[Any]]]) -> List[bool]:
+    def check(self, listing: str | bytes | IO[str] | IO[bytes] | Iterable[Iterable[Any]]) -> list[bool]:
         """Of each solution whether it is one, as dlxcheck judges it, which holds all of them in memory.
 
         The listing is text as the programs print it (or a file that gives it), or solutions as `solve` gives them.
@@ -446,7 +429,7 @@ class Problem(Generic[Option]):
                 if not isinstance(choice, Null):
                     yield bytes_of(f" {self.line(choice)} (1 of 1)\n")
 
-    def draw(self, solution: Iterable[Any] = (), pattern: Optional[Drawn] = None) -> Picture:
+    def draw(self, solution: Iterable[Any] = (), pattern: Drawn | None = None) -> Picture:
         """A picture of a solution, or of the problem as it stands before one. Raises `NoPicture`.
 
         The problems that `helgrothy.make` makes have pictures of their own; others are drawn by a pattern, which may
@@ -454,14 +437,14 @@ class Problem(Generic[Option]):
         """
         return self._drawing(pattern)([self.line(choice) for choice in solution if not isinstance(choice, Null)])
 
-    def _drawing(self, pattern: Optional[Drawn] = None) -> Drawing:
+    def _drawing(self, pattern: Drawn | None = None) -> Drawing:
         """Raises `NoPicture`."""
         from .draw import drawing_of
 
         pattern = pattern or self.pattern
         return drawing_of(self) if pattern is None else pattern.of(self)
 
-    def _repr_svg_(self) -> Optional[str]:
+    def _repr_svg_(self) -> str | None:
         """The problem before it is solved, for notebooks; None where it has no picture."""
         try:
             return self.draw().svg()
@@ -472,7 +455,7 @@ class Problem(Generic[Option]):
         return f"<Problem of {len(self.items)} + {len(self.secondary)} items and {len(self.options)} options>"
 
 
-def _comment_lines(comments: Iterable[str]) -> Tuple[str, ...]:
+def _comment_lines(comments: Iterable[str]) -> tuple[str, ...]:
     lines = tuple(line for text in comments for line in text.split("\n"))
     for number, line in enumerate(lines, 1):
         try:
@@ -484,7 +467,7 @@ def _comment_lines(comments: Iterable[str]) -> Tuple[str, ...]:
     return lines
 
 
-class Options(List[Option]):
+class Options(list[Option]):
     """A problem's options. One is added by the problem's `add_option`, which looks at it, and not here."""
 
     def append(self, *_: Any, **__: Any) -> NoReturn:
@@ -495,7 +478,7 @@ class Options(List[Option]):
     def __setitem__(self, *_: Any, **__: Any) -> NoReturn:
         self.append()
 
-    def __reduce__(self) -> Tuple[Any, ...]:
+    def __reduce__(self) -> tuple[Any, ...]:
         return Options, (list(self),)
 
 
@@ -514,21 +497,21 @@ class _Wire(Generic[Option]):
         lines = [self._line(option, problem) for option in problem.options]
         self.lines = [problem._item_line(self._names), *lines]
         self._items = {bytes_of(self._names[item]): item for item in problem.items}
-        numbers: Dict[bytes, Union[int, Alike]] = {}
-        self._branches: Optional[Branches] = None
+        numbers: dict[bytes, int | Alike] = {}
+        self._branches: Branches | None = None
         for number, line in enumerate(lines):
             if numbers.setdefault(listings.turned(bytes_of(line)), number) != number:
                 numbers[listings.turned(bytes_of(line))] = Alike()
         if len(numbers) < len(lines):
             uses = [tuple(problem.pairs(option)) for option in problem.options]
             self._branches = Branches(uses, {item: high for item, (_, high) in problem.items.items()})
-        self._decoder: Decoder[Union[int, Alike]] = Decoder(numbers, self._items)
+        self._decoder: Decoder[int | Alike] = Decoder(numbers, self._items)
 
-    def numbers(self, lines: bytes) -> List[Union[int, Null]]:
+    def numbers(self, lines: bytes) -> list[int | Null]:
         """The choices of lines: numbers of options, from 0 on, and choices of none. Raises `UnknownChoice`."""
         found: Any = self._decoder.read(lines)
         if self._branches is None or not any(isinstance(choice, Alike) for choice in found):
-            numbers: List[Union[int, Null]] = found
+            numbers: list[int | Null] = found
             return numbers
         parts = lines.split(b"\n")[:-1]
         items = [
@@ -537,7 +520,7 @@ class _Wire(Generic[Option]):
         ]
         return self._branches.told_apart(parts, items, found)
 
-    def steps(self, lines: bytes, name: Callable[[Hashable], str]) -> List[Step]:
+    def steps(self, lines: bytes, name: Callable[[Hashable], str]) -> list[Step]:
         """The steps of lines, by the names of items. Raises `UnknownChoice`."""
         steps = []
         for line, choice in zip(lines.split(b"\n"), self.numbers(lines)):
@@ -546,7 +529,7 @@ class _Wire(Generic[Option]):
             steps.append(Step(name(self._items[word]), place, branch, branches))
         return steps
 
-    def read(self, lines: bytes) -> List[Union[Option, Null]]:
+    def read(self, lines: bytes) -> list[Option | Null]:
         """The choices of lines. Raises `UnknownChoice`."""
         numbers: Any = self.numbers(lines)
         if self._has_nulls:
@@ -567,20 +550,20 @@ class _Source(Generic[Option]):
         self._problem = problem
         self._wire = wire
         self._may_be_null = any(low < high for low, high in problem.items.values())
-        self.options: Callable[[bytes], List[Any]] = (
+        self.options: Callable[[bytes], list[Any]] = (
             wire.read if nulls or not self._may_be_null else self._without_nulls
         )
 
-    def _without_nulls(self, lines: bytes) -> List[Any]:
+    def _without_nulls(self, lines: bytes) -> list[Any]:
         return [choice for choice in self._wire.read(lines) if not isinstance(choice, Null)]
 
-    def numbers(self, lines: bytes) -> List[int]:
+    def numbers(self, lines: bytes) -> list[int]:
         return [number for number in self._wire.numbers(lines) if not isinstance(number, Null)]
 
-    def steps(self, lines: bytes) -> List[Step]:
+    def steps(self, lines: bytes) -> list[Step]:
         return self._wire.steps(lines, self._problem.name)
 
-    def svg(self, options: Sequence[Any]) -> Optional[str]:
+    def svg(self, options: Sequence[Any]) -> str | None:
         try:
             return self._problem.draw(options).svg()
         except NoPicture:
@@ -591,7 +574,7 @@ class _Outcome:
     """How many solutions came, and how the run ended. The run knows this and not its `Solutions`, so no circle keeps
     either of them alive."""
 
-    ending: Optional[Ending] = None
+    ending: Ending | None = None
     found = 0
 
     def count(self, more: int) -> None:
@@ -621,12 +604,12 @@ class Solutions(Generic[Option]):
         return next(self._stream)
 
     @property
-    def total(self) -> Optional[int]:
+    def total(self) -> int | None:
         """How many solutions there were, once they came to an end."""
         return self._outcome.ending.total if self._outcome.ending else None
 
     @property
-    def complete(self) -> Optional[bool]:
+    def complete(self) -> bool | None:
         """Whether these are all, or a limit was met, once they came to an end."""
         return self._outcome.ending.complete if self._outcome.ending else None
 
@@ -634,12 +617,12 @@ class Solutions(Generic[Option]):
         """Ends the program, if it runs."""
         self._stream.close()
 
-    def _repr_html_(self) -> Optional[str]:
+    def _repr_html_(self) -> str | None:
         """Pictures of the first solutions, for notebooks; None where the problem has none.
 
         They are searched anew for a few seconds, so that these solutions stay as they are.
         """
-        pictures: List[str] = []
+        pictures: list[str] = []
         told = "no more were found in the time"
         with self._first(_MOST_PICTURES + 1) as solutions:
             try:
@@ -660,7 +643,7 @@ class Solutions(Generic[Option]):
         return self
 
     def __exit__(
-        self, kind: Optional[Type[BaseException]], error: Optional[BaseException], trace: Optional[TracebackType]
+        self, kind: type[BaseException] | None, error: BaseException | None, trace: TracebackType | None
     ) -> None:
         self.close()
 
@@ -685,7 +668,7 @@ def _ended(lines: Iterable[str]) -> Iterator[bytes]:
     return (bytes_of(f"{line}\n") for line in lines)
 
 
-def _words(limit: Optional[int], spacing: int) -> List[str]:
+def _words(limit: int | None, spacing: int) -> list[str]:
     """The words of a solver that print each solution whose number is a multiple of `spacing`."""
     if limit is not None and limit < 1:
         raise ValueError("limit must be at least 1")

@@ -10,12 +10,16 @@ from __future__ import annotations
 import os
 import re
 import select
+import signal
 import stat
 import subprocess
 import tempfile
 import time
+from collections.abc import Iterable, Iterator, Sequence
+from contextlib import contextmanager
+from pathlib import Path
 from types import TracebackType
-from typing import IO, Iterable, Iterator, List, Optional, Sequence, Set, Type
+from typing import IO
 
 from .errors import OutOfTime, ProgramFailed, ProgramNotFound
 
@@ -27,28 +31,30 @@ _LONGEST = 1e9
 _LAST_LINE = re.compile(r"Altogether (\d+) solutions?( \(limit\))?\.\Z")
 
 
-def folders(program: str) -> List[str]:
+def folders(program: str) -> list[Path]:
     """The folders in which a program is looked for before the path, in their order."""
-    package = os.path.dirname(os.path.abspath(__file__))
-    top = os.path.dirname(os.path.dirname(package))
-    given = [folder for folder in os.environ.get(VARIABLE, "").split(os.pathsep) if folder]
-    beside = [os.path.join(package, "bin")]
+    # No link is followed: the programs are beside the package as it is named.
+    package = Path(os.path.abspath(__file__)).parent
+    top = package.parent.parent
+    given = [Path(folder) for folder in os.environ.get(VARIABLE, "").split(os.pathsep) if folder]
+    beside = [package / "bin"]
     # Anybody may make a `bin` beside a package that lies in a folder of /tmp.
     if _is_anybodys(package) or not _is_anybodys(top):
-        beside += [os.path.join(top, "bin"), os.path.join(top, "crates", program, "out")]
+        beside += [top / "bin", top / "crates" / program / "out"]
     return given + beside
 
 
-def _is_anybodys(folder: str) -> bool:
+def _is_anybodys(folder: Path) -> bool:
     """Whether all users may write into a folder."""
-    return bool(os.stat(folder).st_mode & stat.S_IWOTH)
+    return bool(folder.stat().st_mode & stat.S_IWOTH)
 
 
-def find(program: str) -> str:
+def find(program: str) -> Path:
     """The path of a program. Raises `ProgramNotFound`."""
-    on_path = filter(os.path.isabs, os.environ.get("PATH", os.defpath).split(os.pathsep))
+    on_path = [Path(folder) for folder in os.environ.get("PATH", os.defpath).split(os.pathsep) if os.path.isabs(folder)]
     for folder in [*folders(program), *on_path]:
-        path = os.path.join(folder, program)
+        path = folder / program
+        # `Path.is_file` raises an exception for a folder that this user may not look into.
         if os.path.isfile(path) and os.access(path, os.X_OK):
             return path
     raise ProgramNotFound(f"{program} is neither beside the package nor on the path; name its folder by {VARIABLE}")
@@ -63,7 +69,21 @@ def has(program: str) -> bool:
     return True
 
 
-_running: Set[subprocess.Popen[bytes]] = set()
+@contextmanager
+def undisturbed() -> Iterator[None]:
+    """A clock that has run down is heard after this.
+
+    An exception amid the start of a program would leave it running with nobody who ends it, and one amid the start of
+    a thread becomes one that is meant for nobody.
+    """
+    before = signal.pthread_sigmask(signal.SIG_BLOCK, [signal.SIGALRM])
+    try:
+        yield
+    finally:
+        signal.pthread_sigmask(signal.SIG_SETMASK, before)
+
+
+_running: set[subprocess.Popen[bytes]] = set()
 
 
 def end_all() -> None:
@@ -86,8 +106,8 @@ class Run:
         program: str,
         words: Sequence[str],
         text: Iterable[bytes],
-        seconds: Optional[float] = None,
-        path: Optional[str] = None,
+        seconds: float | None = None,
+        path: str | Path | None = None,
     ) -> None:
         path = find(program) if path is None else path
         self.program = program
@@ -96,16 +116,17 @@ class Run:
             given.writelines(text)
             given.seek(0)
             self._told: IO[bytes] = tempfile.TemporaryFile()
-            self._process = subprocess.Popen(
-                [path, *words], stdin=given, stdout=subprocess.PIPE, stderr=self._told, bufsize=0
-            )
-            _running.add(self._process)
+            with undisturbed():
+                self._process = subprocess.Popen(
+                    [path, *words], stdin=given, stdout=subprocess.PIPE, stderr=self._told, bufsize=0
+                )
+                _running.add(self._process)
 
     def __enter__(self) -> Run:
         return self
 
     def __exit__(
-        self, kind: Optional[Type[BaseException]], error: Optional[BaseException], trace: Optional[TracebackType]
+        self, kind: type[BaseException] | None, error: BaseException | None, trace: TracebackType | None
     ) -> None:
         if self._process.poll() is None:
             self._process.kill()

@@ -8,13 +8,13 @@ from __future__ import annotations
 
 import os
 import shutil
-import subprocess
-import tempfile
-from typing import Any, Dict, Hashable, List, Optional, Set, Tuple
+from collections.abc import Hashable
+from typing import Any
 
 from .errors import OutOfTime
 from .export import clauses
 from .problem import Problem
+from .programs import Run
 
 # Solvers, and the words by which they answer by their status alone.
 SOLVERS = {"cadical": ["-q", "-n"], "clasp": ["-q"]}
@@ -25,7 +25,7 @@ _NONE = 20
 _WRITING_SECONDS = 1.3e-5
 
 
-def solver() -> Optional[Tuple[str, List[str]]]:
+def solver() -> tuple[str, list[str]] | None:
     """The name of the first solver that the path has, and its command."""
     for name, words in SOLVERS.items():
         path = path_of(name)
@@ -34,7 +34,7 @@ def solver() -> Optional[Tuple[str, List[str]]]:
     return None
 
 
-def path_of(name: str) -> Optional[str]:
+def path_of(name: str) -> str | None:
     """Where the path has a solver, if it does."""
     # A folder without a full name would be whatever lies where the command is called.
     folders = os.pathsep.join(filter(os.path.isabs, os.environ.get("PATH", os.defpath).split(os.pathsep)))
@@ -49,29 +49,29 @@ def writing_seconds(problem: Problem[Any]) -> float:
 class Clauses:
     """A problem for a SAT solver: which primary items are to be held is told with each question."""
 
-    def __init__(self, problem: Problem[Any], command: List[str]) -> None:
+    def __init__(self, problem: Problem[Any], command: list[str]) -> None:
         self._command = command
         options = len(problem.options)
-        self._let_off: Dict[Hashable, int] = {item: options + k for k, item in enumerate(problem.items, 1)}
+        self._let_off: dict[Hashable, int] = {item: options + k for k, item in enumerate(problem.items, 1)}
         found = clauses(problem, list(self._let_off.values()))
         self._variables = found.last
         self._count = found.count
         self._text = "".join(found.lines).encode()
 
-    def has_solution(self, kept: Set[Hashable], seconds: float) -> bool:
+    def has_solution(self, kept: set[Hashable], seconds: float) -> bool:
         """Whether these items can be held as their bounds say, the others being let off. Raises `OutOfTime`."""
         units = [-variable if item in kept else variable for item, variable in self._let_off.items()]
-        with tempfile.TemporaryFile() as given:
-            given.write(b"p cnf %d %d\n" % (self._variables, self._count + len(units)))
-            given.write(self._text)
-            given.write("".join(f"{unit} 0\n" for unit in units).encode())
-            given.seek(0)
-            try:
-                status = subprocess.run(
-                    self._command, stdin=given, stdout=subprocess.DEVNULL, stderr=subprocess.DEVNULL, timeout=seconds
-                ).returncode
-            except (OSError, subprocess.TimeoutExpired):
-                status = None
+        head = b"p cnf %d %d\n" % (self._variables, self._count + len(units))
+        path, *words = self._command
+        name = os.path.basename(path)
+        try:
+            with Run(name, words, [head, self._text, *(b"%d 0\n" % unit for unit in units)], seconds, path) as run:
+                for _ in run.chunks():
+                    pass
+                status = run.status()
+        except OSError:
+            # Time that is over is one too.
+            status = None
         if status not in (*_FOUND, _NONE):
-            raise OutOfTime(f"{os.path.basename(self._command[0])} gave no answer")
+            raise OutOfTime(f"{name} gave no answer")
         return status != _NONE

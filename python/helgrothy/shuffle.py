@@ -9,7 +9,8 @@ from __future__ import annotations
 import random
 import re
 import time
-from typing import Any, Generator, List, Optional, Tuple, TypeVar
+from collections.abc import Generator
+from typing import Any, TypeVar
 
 from .errors import OutOfTime
 from .problem import Problem
@@ -25,7 +26,7 @@ _HEADER = re.compile(rb"^[0-9]+:\n", re.MULTILINE)
 _RECORD = re.compile(rb"^from [0-9.-]+ until [0-9.-]+ (of [0-9.-]+ )?solutions [0-9]+ steps [0-9]+\n\Z", re.MULTILINE)
 
 
-def order(count: int, rng: random.Random) -> List[int]:
+def order(count: int, rng: random.Random) -> list[int]:
     """The numbers below `count` in a random order.
 
     It takes nothing of the generator but `random`, which Python promises to keep for a seed.
@@ -40,10 +41,10 @@ def order(count: int, rng: random.Random) -> List[int]:
 def solve(
     problem: Problem[Option],
     seed: int,
-    limit: Optional[int] = None,
+    limit: int | None = None,
     spacing: int = 1,
     *,
-    seconds: Optional[float] = None,
+    seconds: float | None = None,
 ) -> Stream[Option]:
     """Solutions in a random order. limit, spacing and seconds are those of `Problem.solve`.
 
@@ -53,7 +54,7 @@ def solve(
     rng = random.Random(seed)
     deadline = None if seconds is None else time.monotonic() + seconds
 
-    def left() -> Optional[float]:
+    def left() -> float | None:
         return None if deadline is None else max(deadline - time.monotonic(), 0.0)
 
     def all_of_one(stream: Stream[Option]) -> Generator[Chosen[Option], None, None]:
@@ -86,11 +87,11 @@ def solve(
 
 
 def _try(
-    problem: Problem[Any], steps: int, limit: int, seconds: Optional[float]
-) -> Tuple[List[Solution[Any]], bool]:
+    problem: Problem[Any], steps: int, limit: int, seconds: float | None
+) -> tuple[list[Solution[Any]], bool]:
     """The first solutions in so many steps, and whether these are all there are."""
     lines, give = problem.wire()
-    chunks: List[bytes] = []
+    chunks: list[bytes] = []
     count, last = 0, b""
     with Run("dlx-span", [str(problem.kind), "m1", str(steps), "-", "-"], lines, seconds) as run:
         for chunk in run.chunks():

@@ -2,16 +2,17 @@
 
 from __future__ import annotations
 
+from collections.abc import Iterator
+from dataclasses import dataclass
 from html import escape
-from typing import Dict, Iterator, List, NamedTuple, Set, Tuple
 
 from .draw import Cell, Picture, check_size
 from .errors import NoPicture
 from .shown import shown
 
 # A layer, counted from the top, a row from behind, and a column from the left.
-Cube = Tuple[int, int, int]
-Point = Tuple[float, float]
+Cube = tuple[int, int, int]
+Point = tuple[float, float]
 
 _SIDE = 30
 # How far a row is to the right of the next one, and above it.
@@ -19,13 +20,14 @@ _DEPTH = 15
 _GAP = 16
 
 
-class _Face(NamedTuple):
+@dataclass(frozen=True)
+class _Face:
     """A face of a cube: how light it is, where it looks, its corners, and the cubes beyond the sides between these."""
 
     light: float
     outwards: Cube
-    corners: Tuple[Cube, ...]
-    beside: Tuple[Cube, ...]
+    corners: tuple[Cube, ...]
+    beside: tuple[Cube, ...]
 
 
 _ABOVE, _BELOW, _BEHIND, _BEFORE, _RIGHT, _LEFT = (-1, 0, 0), (1, 0, 0), (0, -1, 0), (0, 1, 0), (0, 0, 1), (0, 0, -1)
@@ -39,7 +41,7 @@ _FACES = (
 class Solid(Picture):
     """Cells by layer, row and column, from 0 on; a place without one is a hole."""
 
-    def __init__(self, title: str, cubes: Dict[Cube, Cell]) -> None:
+    def __init__(self, title: str, cubes: dict[Cube, Cell]) -> None:
         if not cubes:
             raise NoPicture("there is no cell to draw")
         self.cubes = cubes
@@ -83,7 +85,7 @@ class Solid(Picture):
         return "".join(f"{line}\n" for line in [*lines, "</svg>"])
 
 
-def check_box(cubes: Dict[Cube, Cell]) -> Cube:
+def check_box(cubes: dict[Cube, Cell]) -> Cube:
     """How many layers, rows and columns there are. Raises `NoPicture` for more than so many cells have reason for."""
     layers, rows, columns = (max(at[axis] for at in cubes) + 1 for axis in range(3))
     check_size(rows, layers * (columns + 1), len(cubes))
@@ -93,7 +95,7 @@ def check_box(cubes: Dict[Cube, Cell]) -> Cube:
 class _View:
     """Some layers, seen from the front, above and the right."""
 
-    def __init__(self, solid: Solid, layers: Set[int], corner: Point) -> None:
+    def __init__(self, solid: Solid, layers: set[int], corner: Point) -> None:
         self.cubes = {at: cell for at, cell in solid.cubes.items() if at[0] in layers}
         self.rows = solid.sides[1]
         self.top = min(layers)
@@ -141,7 +143,7 @@ class _View:
 
     def labels(self) -> Iterator[str]:
         """The label of each piece of the layer, on its cell that is nearest to its middle."""
-        groups: Dict[object, List[Cube]] = {}
+        groups: dict[object, list[Cube]] = {}
         for at, cell in self.cubes.items():
             if cell.label:
                 groups.setdefault((cell.group, cell.label), []).append(at)
@@ -156,7 +158,7 @@ def _added(at: Cube, step: Cube) -> Cube:
     return at[0] + step[0], at[1] + step[1], at[2] + step[2]
 
 
-def _middle(held: List[Cube]) -> Cube:
+def _middle(held: list[Cube]) -> Cube:
     """The cell nearest to the middle of all."""
     means = [sum(axis) / len(held) for axis in zip(*held)]
     return min(held, key=lambda at: (sum((place - mean) ** 2 for place, mean in zip(at, means)), at))

@@ -2,32 +2,33 @@
 
 from __future__ import annotations
 
+from collections.abc import Iterator, Sequence
 from functools import total_ordering
-from typing import Any, Generic, Iterator, List, Optional, Protocol, Sequence, Tuple, TypeVar, Union, overload
+from typing import Any, Generic, Protocol, TypeVar, overload
 
 from .listing import Null, Step
 
-O = TypeVar("O")
+Option = TypeVar("Option")
 
 
 class Source(Protocol):
     """What reads the lines of solutions and draws them: the run that gave them."""
 
-    def options(self, lines: bytes) -> List[Any]:
+    def options(self, lines: bytes) -> list[Any]:
         """The options that lines say, and choices of none where they are asked for."""
 
-    def numbers(self, lines: bytes) -> List[int]:
+    def numbers(self, lines: bytes) -> list[int]:
         """The numbers of the options that lines say."""
 
-    def steps(self, lines: bytes) -> List[Step]:
+    def steps(self, lines: bytes) -> list[Step]:
         """The steps of the search that lines say."""
 
-    def svg(self, options: Sequence[Any]) -> Optional[str]:
+    def svg(self, options: Sequence[Any]) -> str | None:
         """A picture of options; None where there is no drawing."""
 
 
 @total_ordering
-class Solution(Sequence[O], Generic[O]):
+class Solution(Sequence[Option], Generic[Option]):
     """The options of a solution, as a list that isn't changed; `list(solution)` is one that may be.
 
     It holds the lines that the program printed, and they are read when it is first touched: a loop pays for the
@@ -40,36 +41,36 @@ class Solution(Sequence[O], Generic[O]):
     def __init__(self, source: Source, lines: bytes) -> None:
         self._source = source
         self._lines = lines
-        self._held: Optional[List[O]] = None
+        self._held: list[Option] | None = None
 
-    def _options(self) -> List[O]:
+    def _options(self) -> list[Option]:
         if self._held is None:
             self._held = self._source.options(self._lines)
         return self._held
 
     @property
-    def numbers(self) -> List[int]:
+    def numbers(self) -> list[int]:
         """The places of the options in the problem's `options`, from 0 on; choices of none have none."""
         return self._source.numbers(self._lines)
 
     @property
-    def steps(self) -> List[Step]:
+    def steps(self) -> list[Step]:
         """How the search went to it: at which item it chose which option, and which branch of how many that was."""
         return self._source.steps(self._lines)
 
     def __len__(self) -> int:
         return len(self._options())
 
-    def __iter__(self) -> Iterator[O]:
+    def __iter__(self) -> Iterator[Option]:
         return iter(self._options())
 
     @overload
-    def __getitem__(self, place: int) -> O: ...
+    def __getitem__(self, place: int) -> Option: ...
 
     @overload
-    def __getitem__(self, place: slice) -> List[O]: ...
+    def __getitem__(self, place: slice) -> list[Option]: ...
 
-    def __getitem__(self, place: Union[int, slice]) -> Union[O, List[O]]:
+    def __getitem__(self, place: int | slice) -> Option | list[Option]:
         return self._options()[place]
 
     def __eq__(self, other: object) -> bool:
@@ -77,18 +78,18 @@ class Solution(Sequence[O], Generic[O]):
 
     def __hash__(self) -> int:
         # Options may have no hash, but their items have; options that are equal hold the same.
-        choices: List[Any] = self._options()
+        choices: list[Any] = self._options()
         return hash(tuple(choice if isinstance(choice, Null) else frozenset(choice) for choice in choices))
 
-    def __lt__(self, other: Sequence[O]) -> bool:
+    def __lt__(self, other: Sequence[Option]) -> bool:
         return self._options() < list(other)
 
     def __repr__(self) -> str:
         return repr(self._options())
 
-    def _repr_svg_(self) -> Optional[str]:
+    def _repr_svg_(self) -> str | None:
         """The picture, for notebooks; None where the problem has none."""
         return self._source.svg(self._options())
 
-    def __reduce__(self) -> Tuple[Any, ...]:
+    def __reduce__(self) -> tuple[Any, ...]:
         return list, (self._options(),)

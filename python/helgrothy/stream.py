@@ -2,9 +2,10 @@
 
 from __future__ import annotations
 
-from dataclasses import dataclass
+from collections.abc import Callable, Generator, Iterator, Sequence
+from dataclasses import dataclass, replace
 from types import TracebackType
-from typing import Any, Callable, Generator, Generic, Iterator, List, Optional, Sequence, Type, TypeVar
+from typing import Any, Generic, TypeVar
 
 from .listing import Step
 from .problem import Problem
@@ -17,16 +18,16 @@ Option = TypeVar("Option", bound=Any)
 class Chosen(Generic[Option]):
     """A solution: the places of its options in the problem's `options`, from 0 on, and the options."""
 
-    numbers: List[int]
-    options: List[Option]
+    numbers: list[int]
+    options: list[Option]
     _places: Sequence[int]
     _solution: Solution[Any]
 
     @property
-    def steps(self) -> List[Step]:
+    def steps(self) -> list[Step]:
         """The steps of the search that found it, among the options that were left and in their order there."""
         return [
-            step if step.option is None else step._replace(option=self._places[step.option])
+            step if step.option is None else replace(step, option=self._places[step.option])
             for step in self._solution.steps
         ]
 
@@ -44,8 +45,8 @@ class Stream(Generic[Option]):
     """
 
     def __init__(self, begin: Callable[[Stream[Option]], Generator[Chosen[Option], None, None]]) -> None:
-        self.total: Optional[int] = None
-        self.complete: Optional[bool] = None
+        self.total: int | None = None
+        self.complete: bool | None = None
         self._stream = begin(self)
 
     def __iter__(self) -> Iterator[Chosen[Option]]:
@@ -66,6 +67,6 @@ class Stream(Generic[Option]):
         return self
 
     def __exit__(
-        self, kind: Optional[Type[BaseException]], error: Optional[BaseException], trace: Optional[TracebackType]
+        self, kind: type[BaseException] | None, error: BaseException | None, trace: TracebackType | None
     ) -> None:
         self.close()

@@ -9,9 +9,9 @@ which `Sums.is_proof` does.
 from __future__ import annotations
 
 import time
-from collections.abc import Mapping
+from collections.abc import Callable, Hashable, Mapping, Sequence
 from dataclasses import dataclass, replace
-from typing import Any, Callable, Dict, Hashable, List, Optional, Sequence, Set, Tuple
+from typing import Any
 
 from .matching import shortage
 from .problem import Problem
@@ -25,7 +25,7 @@ _MATCHED = 0.6
 # Weights are looked for among such small numbers.
 _LARGEST = (1, 2, 3, 4, 5, 6, 12)
 
-Row = Tuple[Hashable, ...]
+Row = tuple[Hashable, ...]
 
 
 @dataclass(frozen=True)
@@ -33,7 +33,7 @@ class Sums:
     """Weights of items; what those above 0 ask for at least, what those below 0 allow at most, and what the options
     give beyond that. is_whole: those above 0 are all that ask in a class of items."""
 
-    weights: Dict[Hashable, int]
+    weights: dict[Hashable, int]
     low: int
     high: int
     given: int
@@ -48,11 +48,11 @@ class Sums:
         return f"the sums can't work: {asked}, and {self._part(less, 'allow', str(self.high + self.given), names)}"
 
     @property
-    def asking(self) -> List[Hashable]:
+    def asking(self) -> list[Hashable]:
         """The items of weights above 0."""
         return [item for item, weight in self.weights.items() if weight > 0]
 
-    def _part(self, items: List[Hashable], verb: str, much: str, names: Callable[[Hashable], str]) -> str:
+    def _part(self, items: list[Hashable], verb: str, much: str, names: Callable[[Hashable], str]) -> str:
         """What items ask for or allow: of one weight all together, else each by its weight."""
         weights = {abs(self.weights[item]) for item in items}
         is_one = len(weights) == 1
@@ -71,16 +71,16 @@ class Sums:
         return self.low > self.high + self.given
 
 
-def bounds_of(problem: Problem[Any]) -> Dict[Hashable, Bounds]:
+def bounds_of(problem: Problem[Any]) -> dict[Hashable, Bounds]:
     """The bounds of the primary items, and of the secondary ones that no option gives a colour."""
-    coloured: Set[Hashable] = set()
+    coloured: set[Hashable] = set()
     for option in problem.options:
         if isinstance(option, Mapping):
             coloured.update(item for item, colour in option.items() if colour is not None)
     return {**problem.items, **{item: Bounds(0, 1) for item in problem.secondary if item not in coloured}}
 
 
-def search(problem: Problem[Any], seconds: float = 2.0) -> Optional[Sums]:
+def search(problem: Problem[Any], seconds: float = 2.0) -> Sums | None:
     """Weights that prove that there is no solution, with as few items as leaving out finds; None where none are
     found in the time, which says nothing. Where a whole class of items is the proof, it stays whole.
     """
@@ -95,11 +95,11 @@ class Count:
     def __init__(self, problem: Problem[Any]) -> None:
         self._name = problem.name
         self._bounds = bounds = bounds_of(problem)
-        self._rows: List[Row] = [
+        self._rows: list[Row] = [
             tuple(item for item, _ in problem.pairs(option) if item in bounds) for option in problem.options
         ]
 
-    def by_matching(self, seconds: float) -> Optional[Sums]:
+    def by_matching(self, seconds: float) -> Sums | None:
         """Weights from a matching of two classes of items."""
         deadline = time.monotonic() + seconds
         short = shortage(self._rows, self._bounds, self._name, deadline)
@@ -110,7 +110,7 @@ class Count:
             return None
         return replace(found, is_whole=True) if short.is_whole else self._fewer(found, deadline)
 
-    def by_climbing(self, seconds: float) -> Optional[Sums]:
+    def by_climbing(self, seconds: float) -> Sums | None:
         """Weights from raising those of what is asked for too little, and lowering others."""
         deadline = time.monotonic() + seconds
         scales = {item: 0.0 for item in self._bounds}
@@ -126,7 +126,7 @@ class Count:
                     return self._fewer(found, deadline)
         return None
 
-    def _weigh(self, weights: Dict[Hashable, int]) -> Sums:
+    def _weigh(self, weights: dict[Hashable, int]) -> Sums:
         bounds = self._bounds
         low = sum(weight * bounds[item].low for item, weight in weights.items() if weight > 0)
         high = sum(-weight * bounds[item].high for item, weight in weights.items() if weight < 0)
@@ -145,7 +145,7 @@ class Count:
 
 
 def _climb(
-    rows: Sequence[Row], items: Mapping[Hashable, Bounds], scales: Dict[Hashable, float], step: float
+    rows: Sequence[Row], items: Mapping[Hashable, Bounds], scales: dict[Hashable, float], step: float
 ) -> None:
     """Raises the weights of what is asked for too little by the options that weigh something, and lowers others."""
     held = dict.fromkeys(items, 0)
@@ -163,7 +163,7 @@ def _climb(
             scales[item] *= 1 - step / 4
 
 
-def _whole(scales: Dict[Hashable, float], largest: int) -> Dict[Hashable, int]:
+def _whole(scales: dict[Hashable, float], largest: int) -> dict[Hashable, int]:
     most = max((abs(scale) for scale in scales.values()), default=0.0) or 1.0
     rounded = {item: round(scale * largest / most) for item, scale in scales.items()}
     return {item: weight for item, weight in rounded.items() if weight}

@@ -11,7 +11,9 @@ from __future__ import annotations
 
 import re
 from collections import Counter
-from typing import Any, Dict, FrozenSet, Generator, Hashable, List, NamedTuple, Optional, Sequence, Set, Tuple, TypeVar
+from collections.abc import Generator, Hashable, Sequence
+from dataclasses import dataclass
+from typing import Any, TypeVar
 
 from .errors import NoPicture, OutOfTime
 from .problem import Problem
@@ -21,13 +23,13 @@ from .turns import Cell, symmetries
 
 Option = TypeVar("Option", bound=Any)
 # Where each option lies after a motion.
-Motion = Tuple[int, ...]
+Motion = tuple[int, ...]
 # The options that hold an item, apart by its colours (True without one), and its bounds.
-_Holders = Tuple[FrozenSet[Tuple[bool, FrozenSet[int]]], Hashable]
+_Holders = tuple[frozenset[tuple[bool, frozenset[int]]], Hashable]
 _MOST_DIGITS = 9
 
 
-def motions(problem: Problem[Any], cell: str) -> List[Motion]:
+def motions(problem: Problem[Any], cell: str) -> list[Motion]:
     """The symmetries of a problem, that of no change first.
 
     cell: a pattern (regular expression) for the cells of an option, as whole words of its line. Its groups `layer`,
@@ -44,7 +46,7 @@ def motions(problem: Problem[Any], cell: str) -> List[Motion]:
         place = next(place for place, key in enumerate(keys) if places[key] != place)
         raise NoPicture(f"options {place + 1} and {places[keys[place]] + 1} lie in the same cells and are alike")
     holders = _holders(problem)
-    found: Dict[Motion, None] = {}
+    found: dict[Motion, None] = {}
     for symmetry in symmetries(region):
         images = [frozenset(symmetry[at] for at in cells) for cells in laid]
         motion = [places.get(key) for key in zip(images, words)]
@@ -54,15 +56,15 @@ def motions(problem: Problem[Any], cell: str) -> List[Motion]:
     return list(found)
 
 
-def _laid(problem: Problem[Any], cell: str) -> Tuple[List[FrozenSet[Cell]], List[Tuple[str, ...]]]:
+def _laid(problem: Problem[Any], cell: str) -> tuple[list[frozenset[Cell]], list[tuple[str, ...]]]:
     """The cells of each option, and its other words."""
     pattern = re.compile(rf"(?<!\S)(?:{cell})(?!\S)")
     if not pattern.groups:
         raise re.error("the pattern of a cell has no group for its row or column")
     named = [name for name in ("layer", "row", "column") if name in pattern.groupindex]
-    groups: List[Any] = list(named) or list(range(1, pattern.groups + 1))
+    groups: list[Any] = list(named) or list(range(1, pattern.groups + 1))
     laid, words = [], []
-    dimensions: Set[int] = set()
+    dimensions: set[int] = set()
     for option in problem.options:
         line = problem.line(option)
         found = [tuple(map(_number, filter(None, match.group(0, *groups)[1:]))) for match in pattern.finditer(line)]
@@ -86,7 +88,7 @@ def _number(word: str) -> int:
 
 def _holders(problem: Problem[Any]) -> Counter[_Holders]:
     """How many items have the same holders and bounds."""
-    held: Dict[Hashable, Dict[Optional[Hashable], Set[int]]] = {}
+    held: dict[Hashable, dict[Hashable | None, set[int]]] = {}
     for place, option in enumerate(problem.options):
         for item, colour in problem.pairs(option):
             held.setdefault(item, {}).setdefault(colour, set()).add(place)
@@ -100,7 +102,7 @@ def _holders(problem: Problem[Any]) -> Counter[_Holders]:
 def _keeps(holders: Counter[_Holders], motion: Motion) -> bool:
     """Whether a motion of the options is one of the items too."""
 
-    def image(places: FrozenSet[int]) -> FrozenSet[int]:
+    def image(places: frozenset[int]) -> frozenset[int]:
         return frozenset(motion[place] for place in places)
 
     return len(set(motion)) == len(motion) and all(
@@ -109,25 +111,26 @@ def _keeps(holders: Counter[_Holders], motion: Motion) -> bool:
     )
 
 
-class Plan(NamedTuple):
+@dataclass(frozen=True)
+class Plan:
     """What is left out: the options that are searched, and for each option of the item the motions that keep it.
 
     Without such an item `kept` is empty, and all motions are looked at after the search.
     """
 
-    motions: List[Motion]
-    places: List[int]
-    kept: Dict[int, List[Motion]]
+    motions: list[Motion]
+    places: list[int]
+    kept: dict[int, list[Motion]]
 
 
-def plan(problem: Problem[Any], motions: List[Motion]) -> Plan:
+def plan(problem: Problem[Any], motions: list[Motion]) -> Plan:
     """The item of which most options are left out: as many as there are motions, of one that has few options."""
-    holders: Dict[Hashable, List[int]] = {item: [] for item, bounds in problem.items.items() if bounds == ONCE}
+    holders: dict[Hashable, list[int]] = {item: [] for item, bounds in problem.items.items() if bounds == ONCE}
     for place, option in enumerate(problem.options):
         for item, _ in problem.pairs(option):
             if item in holders:
                 holders[item].append(place)
-    best: Tuple[float, int, List[int], Dict[int, List[Motion]]] = (1.0, 0, [], {})
+    best: tuple[float, int, list[int], dict[int, list[Motion]]] = (1.0, 0, [], {})
     for places in holders.values():
         own = set(places)
         if not own or any(motion[place] not in own for motion in motions for place in places):
@@ -145,10 +148,10 @@ def plan(problem: Problem[Any], motions: List[Motion]) -> Plan:
 def solve(
     problem: Problem[Option],
     plan: Plan,
-    limit: Optional[int] = None,
+    limit: int | None = None,
     spacing: int = 1,
     *,
-    seconds: Optional[float] = None,
+    seconds: float | None = None,
 ) -> Stream[Option]:
     """The solutions up to the symmetries of a plan. limit, spacing and seconds are those of `Problem.solve`."""
 

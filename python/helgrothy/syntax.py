@@ -9,8 +9,9 @@ from __future__ import annotations
 import difflib
 import re
 import time
+from collections.abc import Collection, Iterator
 from dataclasses import dataclass, field
-from typing import Collection, Dict, Iterator, List, NamedTuple, Optional, Tuple
+from typing import NamedTuple
 
 from .errors import ProblemFault
 
@@ -29,6 +30,7 @@ _MOST_NEAR = 20_000
 _BOUND = re.compile(rb"([0-9]{1,9})(?::([0-9]{1,9}))?\Z")
 
 
+# A pair to those who give bounds and read them; all other records are dataclasses.
 class Bounds(NamedTuple):
     """How often a primary item is to be held: at least `low` and at most `high` times."""
 
@@ -44,7 +46,7 @@ class ItemLine:
     """An item of the item line; `bounds` is None for a secondary one."""
 
     name: str
-    bounds: Optional[Bounds]
+    bounds: Bounds | None
 
 
 @dataclass(frozen=True)
@@ -52,20 +54,20 @@ class OptionLine:
     """An option: its line, and its uses in their order, each an item's name with its colour or None."""
 
     line: int
-    uses: Dict[str, Optional[str]]
+    uses: dict[str, str | None]
 
 
 @dataclass
 class Sheet:
     """What a text says: comments (line and text), items, options, the lines of ignored ones, and all faults."""
 
-    comments: List[Tuple[int, str]] = field(default_factory=list)
+    comments: list[tuple[int, str]] = field(default_factory=list)
     item_line: int = 0
-    item_tokens: List[str] = field(default_factory=list)
-    items: Dict[str, ItemLine] = field(default_factory=dict)
-    options: List[OptionLine] = field(default_factory=list)
-    ignored: List[int] = field(default_factory=list)
-    faults: List[ProblemFault] = field(default_factory=list)
+    item_tokens: list[str] = field(default_factory=list)
+    items: dict[str, ItemLine] = field(default_factory=dict)
+    options: list[OptionLine] = field(default_factory=list)
+    ignored: list[int] = field(default_factory=list)
+    faults: list[ProblemFault] = field(default_factory=list)
     # Whether there were so many faults that the text wasn't read on.
     is_cut: bool = False
 
@@ -79,7 +81,7 @@ def bytes_of(text: str) -> bytes:
     return text.encode("utf-8", "surrogateescape")
 
 
-def name_fault(name: bytes) -> Optional[str]:
+def name_fault(name: bytes) -> str | None:
     """What is wrong with the form of a name, if anything."""
     if not name:
         return "empty name"
@@ -90,7 +92,7 @@ def name_fault(name: bytes) -> Optional[str]:
     return None
 
 
-def bounds_fault(low: int, high: int) -> Optional[str]:
+def bounds_fault(low: int, high: int) -> str | None:
     """What is wrong with two bounds, if anything."""
     if not (0 <= low <= MOST_BOUND and 0 <= high <= MOST_BOUND):
         return "bad bound"
@@ -148,7 +150,7 @@ class _Reader:
         else:
             self.read_option(number, tokens)
 
-    def read_items(self, number: int, tokens: List[bytes]) -> None:
+    def read_items(self, number: int, tokens: list[bytes]) -> None:
         behind = False
         for token in _cut_bars(tokens):
             self.sheet.item_tokens.append(text_of(token))
@@ -163,7 +165,7 @@ class _Reader:
             else:
                 self.sheet.items[text_of(name)] = ItemLine(text_of(name), None if behind else bounds)
 
-    def cut_item(self, token: bytes, behind: bool) -> Tuple[Bounds, bytes, Optional[str]]:
+    def cut_item(self, token: bytes, behind: bool) -> tuple[Bounds, bytes, str | None]:
         """A token's bounds and name, and what is wrong with it, in the order of the programs' checks."""
         bounds, name = ONCE, token
         if self.kind == 3 and b"|" in token:
@@ -194,8 +196,8 @@ class _Reader:
             return "bounds are v|name or u:v|name"
         return ""
 
-    def read_option(self, number: int, tokens: List[bytes]) -> None:
-        uses: Dict[str, Optional[str]] = {}
+    def read_option(self, number: int, tokens: list[bytes]) -> None:
+        uses: dict[str, str | None] = {}
         has_primary = False
         faults = len(self.sheet.faults)
         items = self.sheet.items
@@ -226,8 +228,8 @@ class _Reader:
             self.tell(number, b"", "too many uses")
 
     def use_fault(
-        self, item: Optional[ItemLine], name: bytes, colon: bytes, colour: bytes, repeated: bool
-    ) -> Optional[str]:
+        self, item: ItemLine | None, name: bytes, colon: bytes, colour: bytes, repeated: bool
+    ) -> str | None:
         """What is wrong with a use, in the order of the programs' checks."""
         if colon and self.kind == 1:
             return "colour not allowed here"
@@ -274,7 +276,7 @@ class Nearest:
         return "" if near is None else f"is it {near}?"
 
 
-def _near(name: str, names: Collection[str], deadline: float) -> Optional[str]:
+def _near(name: str, names: Collection[str], deadline: float) -> str | None:
     """The name that has most in common with one, as `difflib` reckons, or None where none has half."""
     likeness = difflib.SequenceMatcher()
     likeness.set_seq2(name)
@@ -289,7 +291,7 @@ def _near(name: str, names: Collection[str], deadline: float) -> Optional[str]:
     return best
 
 
-def _cut_bars(tokens: List[bytes]) -> Iterator[bytes]:
+def _cut_bars(tokens: list[bytes]) -> Iterator[bytes]:
     """The item line's tokens; a bar at the start of one stands for itself."""
     for token in tokens:
         name = token.lstrip(b"|")

@@ -7,8 +7,9 @@ the order of the file.
 from __future__ import annotations
 
 import re
+from collections.abc import Iterable, Sequence
 from dataclasses import dataclass
-from typing import TYPE_CHECKING, Any, Dict, Iterable, List, Optional, Sequence, Set, Tuple
+from typing import TYPE_CHECKING, Any
 
 from .draw import Cell, Drawing, Pattern, Picture, Shades, check_size, no_match
 
@@ -29,9 +30,9 @@ class Table:
     that has neither.
     """
 
-    row: Optional[str] = None
-    column: Optional[str] = None
-    label: Optional[str] = None
+    row: str | None = None
+    column: str | None = None
+    label: str | None = None
 
     def of(self, problem: Problem[Any]) -> Drawing:
         """The drawing for a problem. Raises `NoPicture` where no option has a cell, or `re.error`."""
@@ -60,8 +61,8 @@ class Table:
 
 
 def by_patterns(
-    problem: Problem[Any], cell: Optional[str], row: Optional[str], column: Optional[str], label: Optional[str]
-) -> Optional[Drawing]:
+    problem: Problem[Any], cell: str | None, row: str | None, column: str | None, label: str | None
+) -> Drawing | None:
     """The drawing by patterns for a board or a table; None where there are none. Raises `ValueError`, `NoPicture`."""
     if cell is not None and (row is not None or column is not None):
         raise ValueError("--cell is for a board, --row and --column are for a table: not both")
@@ -76,22 +77,22 @@ def by_patterns(
 class _Names:
     """The names that a pattern finds, in their order; without a pattern there is one, which is nowhere."""
 
-    def __init__(self, what: str, pattern: Optional[str]) -> None:
+    def __init__(self, what: str, pattern: str | None) -> None:
         self.what = what
         self.given = pattern or ""
         self.pattern = None if pattern is None else re.compile(rf"(?<!\w)(?:{pattern})(?!\w)")
         # Most words stand in many options.
-        self._known: Dict[str, List[str]] = {}
-        self.order: Dict[str, int] = {} if pattern is not None else {"": 0}
+        self._known: dict[str, list[str]] = {}
+        self.order: dict[str, int] = {} if pattern is not None else {"": 0}
 
-    def of(self, word: str) -> List[str]:
+    def of(self, word: str) -> list[str]:
         """The names in a word."""
         known = self._known.get(word)
         if known is None:
             known = self._known[word] = self._found(word)
         return known
 
-    def _found(self, word: str) -> List[str]:
+    def _found(self, word: str) -> list[str]:
         if self.pattern is None:
             return []
         group = 1 if self.pattern.groups else 0
@@ -108,11 +109,11 @@ class _Names:
             if name in held:
                 self.order.setdefault(name, len(self.order))
 
-    def heads(self) -> List[str]:
+    def heads(self) -> list[str]:
         return [] if self.pattern is None else list(self.order)
 
 
-def _places(words: Sequence[str], rows: _Names, columns: _Names) -> Set[Tuple[int, int]]:
+def _places(words: Sequence[str], rows: _Names, columns: _Names) -> set[tuple[int, int]]:
     """The cells that an option fills."""
     found = [(rows.of(word), columns.of(word)) for word in words]
     if rows.pattern is None or columns.pattern is None or not any(r and c for r, c in found):

@@ -8,17 +8,19 @@ and 24 of them are turns. The others are mirror images.
 from __future__ import annotations
 
 import itertools
-from typing import Collection, Dict, FrozenSet, Iterable, List, NamedTuple, Set, Tuple
+from collections.abc import Collection, Iterable
+from dataclasses import dataclass
 
-Cell = Tuple[int, ...]
-Form = FrozenSet[Cell]
+Cell = tuple[int, ...]
+Form = frozenset[Cell]
 
 
-class Motion(NamedTuple):
+@dataclass(frozen=True)
+class Motion:
     """Which axis of a cell becomes each axis of its image, and whether it is reversed (-1) or not (1)."""
 
-    axes: Tuple[int, ...]
-    signs: Tuple[int, ...]
+    axes: tuple[int, ...]
+    signs: tuple[int, ...]
 
     def of(self, cell: Cell) -> Cell:
         """The image of a cell."""
@@ -31,7 +33,7 @@ class Motion(NamedTuple):
         return (exchanges + self.signs.count(-1)) % 2 == 0
 
 
-def motions(dimensions: int, mirrors: bool = True) -> List[Motion]:
+def motions(dimensions: int, mirrors: bool = True) -> list[Motion]:
     """All motions of so many dimensions, or the turns alone. The first one leaves all as it is."""
     found = [
         Motion(axes, signs)
@@ -52,14 +54,14 @@ def _least(cells: Collection[Cell]) -> Cell:
     return tuple(min(axis) for axis in zip(*cells))
 
 
-def images(cells: Collection[Cell], mirrors: bool = True) -> List[Form]:
+def images(cells: Collection[Cell], mirrors: bool = True) -> list[Form]:
     """The forms that a piece of these cells has when it is turned and, perhaps, mirrored: each once, from 0 on."""
     some = next(iter(cells))
-    forms: Set[Form] = {moved([motion.of(cell) for cell in cells]) for motion in motions(len(some), mirrors)}
+    forms: set[Form] = {moved([motion.of(cell) for cell in cells]) for motion in motions(len(some), mirrors)}
     return sorted(forms, key=sorted)
 
 
-def symmetries(cells: Iterable[Cell], mirrors: bool = True) -> List[Dict[Cell, Cell]]:
+def symmetries(cells: Iterable[Cell], mirrors: bool = True) -> list[dict[Cell, Cell]]:
     """The motions that lay a region on itself: of each one where it takes each cell. That of no change is the first.
 
     Two motions that take all cells to the same places, as in a single row, are one.
@@ -69,7 +71,7 @@ def symmetries(cells: Iterable[Cell], mirrors: bool = True) -> List[Dict[Cell, C
         return [{}]
     known = set(region)
     least = _least(region)
-    found: Dict[Tuple[Cell, ...], None] = {}
+    found: dict[tuple[Cell, ...], None] = {}
     for motion in motions(len(least), mirrors):
         turned = [motion.of(cell) for cell in region]
         shift = tuple(low - begin for low, begin in zip(least, _least(turned)))

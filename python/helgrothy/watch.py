@@ -3,11 +3,13 @@
 from __future__ import annotations
 
 import threading
+from collections.abc import Callable
 from contextlib import suppress
 from types import TracebackType
-from typing import Any, Callable, Optional, Type
+from typing import Any
 
 from .problem import Problem
+from .programs import undisturbed
 from .sums import search
 
 # A search may show no solution for so long; the count takes as long.
@@ -29,11 +31,12 @@ class Watch:
         self.has_told = False
 
     def __enter__(self) -> Watch:
-        self._timer.start()
+        with undisturbed():
+            self._timer.start()
         return self
 
     def __exit__(
-        self, kind: Optional[Type[BaseException]], error: Optional[BaseException], trace: Optional[TracebackType]
+        self, kind: type[BaseException] | None, error: BaseException | None, trace: TracebackType | None
     ) -> None:
         self.end()
 

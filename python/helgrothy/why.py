@@ -9,8 +9,9 @@ limit, so an item of which it isn't known in time whether it can be let off stay
 from __future__ import annotations
 
 import time
+from collections.abc import Callable, Hashable, Iterator
 from dataclasses import dataclass
-from typing import Any, Callable, Dict, Hashable, Iterator, List, Optional, Set, Tuple
+from typing import Any
 
 from . import sat
 from .errors import OutOfTime
@@ -35,9 +36,9 @@ class Conflict:
     where they don't.
     """
 
-    items: List[Hashable]
+    items: list[Hashable]
     is_least: bool
-    sums: Optional[Sums] = None
+    sums: Sums | None = None
     by: str = ""
 
     def lines(self, problem: Problem[Any]) -> Iterator[str]:
@@ -64,7 +65,7 @@ class Conflict:
             yield f"it is in {count} option{'' if count == 1 else 's'}, and to be held {low} times"
 
 
-def find(problem: Problem[Any], seconds: float = 10.0) -> Optional[Conflict]:
+def find(problem: Problem[Any], seconds: float = 10.0) -> Conflict | None:
     """A conflict, as small as leaving out finds in so many seconds; None where there is a solution.
 
     Raises `OutOfTime` where not even that is known in the time.
@@ -93,7 +94,7 @@ def find(problem: Problem[Any], seconds: float = 10.0) -> Optional[Conflict]:
     return Conflict(kept, question.is_sure, by=question.by)
 
 
-def _held(problem: Problem[Any]) -> Dict[Hashable, int]:
+def _held(problem: Problem[Any]) -> dict[Hashable, int]:
     times = dict.fromkeys(problem.items, 0)
     for option in problem.options:
         for item, _ in problem.pairs(option):
@@ -103,7 +104,7 @@ def _held(problem: Problem[Any]) -> Dict[Hashable, int]:
 
 
 # Whether items can be held, the others being let off; raises `OutOfTime` where so many seconds don't tell.
-_Answer = Callable[[Set[Hashable], float], bool]
+_Answer = Callable[[set[Hashable], float], bool]
 
 
 class _Question:
@@ -116,14 +117,14 @@ class _Question:
         self._problem = problem
         self._deadline = deadline
         self._most = most
-        self._answers: List[Tuple[str, _Answer]] = [(f"dlx{problem.kind}", self._searched)]
+        self._answers: list[tuple[str, _Answer]] = [(f"dlx{problem.kind}", self._searched)]
         # A problem whose clauses would take too long to write is left to the programs.
         is_small = sat.writing_seconds(problem) < (deadline - time.monotonic()) / 2
         self._solver = sat.solver() if is_small else None
         self.is_sure = True
         self.by = ""
 
-    def can_go(self, kept: Set[Hashable]) -> bool:
+    def can_go(self, kept: set[Hashable]) -> bool:
         """Whether there is still no solution; where that isn't known in time, no."""
         left = min(self._most, self._deadline - time.monotonic())
         try:
@@ -139,7 +140,7 @@ class _Question:
         self._most *= _LONGER
         return time.monotonic() < self._deadline
 
-    def is_soon_solved(self, kept: Set[Hashable]) -> bool:
+    def is_soon_solved(self, kept: set[Hashable]) -> bool:
         """Whether a short search finds a solution."""
         try:
             return self._searched(kept, min(_FIRST_SECONDS, self._deadline - time.monotonic()))
@@ -154,7 +155,7 @@ class _Question:
             return False
         return not any(self.can_go(asked - {item}) or not self.is_sure for item in found.asking)
 
-    def has_solution(self, kept: Set[Hashable], seconds: float) -> bool:
+    def has_solution(self, kept: set[Hashable], seconds: float) -> bool:
         """Asks each who may answer in turn, ever longer, and first the one who answered last. Raises `OutOfTime`."""
         deadline = time.monotonic() + seconds
         is_alone = len(self._answers) == 1 and self._solver is None
@@ -179,10 +180,10 @@ class _Question:
                 self._solver = None
                 self._answers.append((name, sat.Clauses(self._problem, command).has_solution))
 
-    def _searched(self, kept: Set[Hashable], seconds: float) -> bool:
+    def _searched(self, kept: set[Hashable], seconds: float) -> bool:
         problem = self._problem
-        items: Dict[Hashable, Bounds] = {}
-        secondary: List[Hashable] = []
+        items: dict[Hashable, Bounds] = {}
+        secondary: list[Hashable] = []
         for item, (low, high) in problem.items.items():
             if item in kept:
                 items[item] = Bounds(low, high)
@@ -199,7 +200,7 @@ class _Question:
         return relaxed.count(limit=1, seconds=seconds) > 0
 
 
-def _left(items: List[Hashable], question: _Question) -> List[Hashable]:
+def _left(items: list[Hashable], question: _Question) -> list[Hashable]:
     """What is left when parts of the items are let off, ever smaller ones, and then single ones; these once more, while
     there is time, where some questions had no answer.
     """

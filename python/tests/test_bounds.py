@@ -2,24 +2,34 @@
 
 import contextlib
 import os
+import signal
+import subprocess
 import sys
-import time
 import tempfile
+import threading
+import time
 import unittest
 import xml.etree.ElementTree
 from unittest import mock
 
-from helgrothy import NoPicture, OutOfTime, Problem, console, make, syntax
+from helgrothy import NoPicture, OutOfTime, Problem, console, make, programs, sat, syntax
 from helgrothy.draw import Cell, Pattern, Picture
 from helgrothy.lint import lint
 from helgrothy.shown import shown
 from helgrothy.syntax import read
+from helgrothy.watch import Watch
 from test_commands import Pipe, run
 
-# What would go on for ever is ended long before; a machine that does other things too takes a while.
-HANG = 30
+# What would go on for ever is ended long before. Of a processor, so that it says nothing of what else a machine does; what
+# runs into its own time gets more of it.
+HANG, ENOUGH = 30, "200"
 
 ESCAPES = "\x1b]0;pwn\x07"
+
+
+def used() -> float:
+    """The seconds of a processor that this process and the programs that it ran have taken."""
+    return sum(os.times()[:4])
 
 
 class Terminal(Pipe):
@@ -51,6 +61,8 @@ class Shown(unittest.TestCase):
             words = (command, "cnf") if command == "export" else (command,)
             self.assertIn(f"line 2: {name}B: unknown item", run(*words, given=text)[2])
         self.assertIn(f"{name}: No such file", run("lint", ESCAPES)[2])
+        for command, told in (("search", "No such file"), ("status", "no such folder"), ("result", "no such folder")):
+            self.assertIn(f"{name}nowhere: {told}", run(command, f"{ESCAPES}nowhere")[2])
         self.assertIn(f"unrecognized arguments: {name}", run("lint", "-", ESCAPES)[2])
         with tempfile.NamedTemporaryFile("w", suffix=ESCAPES) as file:
             file.write(text)
@@ -87,7 +99,7 @@ class Shown(unittest.TestCase):
 
 class Pictures(unittest.TestCase):
     def test_numbers_in_names(self):
-        start = time.monotonic()
+        start = used()
         for text in (
             "| helgrothy make queens 5\nr1 c999999999\nr1 c999999999\n",
             "| helgrothy make langford 4\n1 s99999999 s1\n1 s99999999 s1\n",
@@ -100,11 +112,11 @@ class Pictures(unittest.TestCase):
                 problem = Problem.parse(text)
                 problem.draw(next(problem.solve()))
             # The options are told all the same.
-            status, out, _ = run("solve", "--seconds", "5", given=text)
+            status, out, _ = run("solve", "--seconds", ENOUGH, given=text)
             self.assertEqual((status, out), (0, "\n".join(text.split("\n")[2 : -1 if "D@" in text or "sudoku" in text else 3]) + "\n"))
-            status, _, error = run("solve", "--seconds", "5", "--svg", given=text)
+            status, _, error = run("solve", "--seconds", ENOUGH, "--svg", given=text)
             self.assertEqual((status, error.count("\n")), (2, 1))
-        self.assertLess(time.monotonic() - start, HANG)
+        self.assertLess(used() - start, HANG)
 
     def test_a_piece_without_cells(self):
         text = "| helgrothy make polyominoes\nA r1c1 | x\nA x\nr1c1\n"
@@ -130,12 +142,12 @@ class Pictures(unittest.TestCase):
             else:
                 with self.assertRaises(NoPicture):
                     problem.draw(problem.options, Pattern(r"r(\w+)c(\w+)"))
-        start = time.monotonic()
+        start = used()
         days = "maths art | mon-1 wednesday-1\nmaths mon-1\nart wednesday-1\n"
         status, _, error = run("solve", "--cell", r"(\w+)-(\d)", "--label", "maths|art", given=days)
         self.assertEqual(status, 2)
         self.assertIn("mon is no row or column: neither a number nor a single letter", error)
-        self.assertLess(time.monotonic() - start, HANG)
+        self.assertLess(used() - start, HANG)
 
     def test_patterns_that_match_in_part(self):
         for cell in (r"r(\d+)(c(\d+))?", r"(?P<row>\d)?(?P<column>\d)?x?", "(a{99999999999})(b)", "(" * 200, r"(x)|(y)", "()()"):
@@ -161,9 +173,9 @@ class Time(unittest.TestCase):
     def test_a_command_ends_in_its_time(self):
         hard = make.langford.problem(14).text
         for words in (("solve", "--all", "--seconds", "0.3"), ("why", "--seconds", "0.3")):
-            start = time.monotonic()
+            start = used()
             self.assertEqual(run(*words, given=hard)[0], 2)
-            self.assertLess(time.monotonic() - start, HANG)
+            self.assertLess(used() - start, HANG)
 
         def slow(*_: object) -> None:
             while True:
@@ -242,10 +254,10 @@ class Time(unittest.TestCase):
         self.assertLess(time.process_time() - start, 5)
 
     def test_many_levels_of_equal_options(self):
-        start = time.monotonic()
+        start = used()
         options = [[k] for k in range(4_000) for _ in range(3)]
         self.assertEqual(next(Problem(range(4_000), options=options).solve()), options[::3])
-        self.assertLess(time.monotonic() - start, HANG)
+        self.assertLess(used() - start, HANG)
 
     def test_one_long_option_makes_no_other_long(self):
         names = [f"{k:x}" for k in range(3_000)]
@@ -257,8 +269,39 @@ class Time(unittest.TestCase):
             problem = make.queens.problem(30)
             for _ in problem.solve():
                 pass
-        self.assertEqual(len(__import__("helgrothy.programs").programs._running), 0)
+        self.assertEqual(len(programs._running), 0)
 
+    def test_time_is_over_while_a_program_begins(self):
+        """It would run on for ever: nobody knows of it yet."""
+        begin, begun = subprocess.Popen, []
+
+        def slow(*given, **named):
+            begun.append(begin(*given, **named))
+            signal.pthread_kill(threading.get_ident(), signal.SIGALRM)
+            return begun[-1]
+
+        clauses = sat.Clauses(make.langford.problem(4), [programs.find("dlx1"), "t0"])
+        for act in (make.langford.problem(14).count, lambda: clauses.has_solution(set(), 100)):
+            with mock.patch.object(subprocess, "Popen", slow):
+                with self.assertRaises(OutOfTime), console.limited(1000):
+                    act()
+            self.assertIsNotNone(begun[-1].returncode)
+            self.assertEqual(len(programs._running), 0)
+
+    def test_time_is_over_while_a_thread_begins(self):
+        """In Python's own code, which then fails with a `KeyError`."""
+        name = "_start_joinable_thread" if hasattr(threading, "_start_joinable_thread") else "_start_new_thread"
+        begin = getattr(threading, name)
+
+        def slow(*given, **named):
+            found = begin(*given, **named)
+            time.sleep(0.2)
+            signal.pthread_kill(threading.get_ident(), signal.SIGALRM)
+            return found
+
+        with mock.patch.object(threading, name, slow), self.assertRaises(OutOfTime), console.limited(1000):
+            with Watch(make.queens.problem(4), print):
+                pass
 
     def test_time_is_over_where_an_exception_is_lost(self):
         class Slow:
@@ -271,7 +314,7 @@ class Time(unittest.TestCase):
                 raise self.fault("lost")
 
         told = Pipe()
-        start = time.monotonic()
+        start = used()
         with contextlib.redirect_stderr(told), self.assertRaises(OutOfTime), console.limited(0.1):
             Slow(OutOfTime)
             while True:
@@ -280,7 +323,29 @@ class Time(unittest.TestCase):
         with contextlib.redirect_stderr(told), console.limited(9):
             Slow(KeyError)
         self.assertIn("KeyError", told.text())
-        self.assertLess(time.monotonic() - start, HANG)
+        self.assertLess(used() - start, HANG)
+
+    def test_no_second_exception_comes_while_the_first_is_on_its_way(self):
+        """On a machine that does other things an end may take seconds, and what is told there is told."""
+        done = []
+        with self.assertRaises(OutOfTime), console.limited(0.05):
+            try:
+                while True:
+                    pass
+            finally:
+                time.sleep(2.5)
+                done.append(signal.getitimer(signal.ITIMER_REAL)[1])
+        self.assertEqual(done, [1.0])
+        self.assertEqual(signal.getitimer(signal.ITIMER_REAL), (0.0, 0.0))
+
+    def test_time_is_over_where_an_exception_is_swallowed(self):
+        """It is a `TimeoutError`, and so an `OSError`, which some code takes for one of a file."""
+        with self.assertRaises(OutOfTime), console.limited(0.05):
+            with contextlib.suppress(OSError):
+                while True:
+                    pass
+            while True:
+                pass
 
 
 class Words(unittest.TestCase):

@@ -3,13 +3,14 @@
 import contextlib
 import io
 import os
+import re
 import subprocess
 import sys
 import tempfile
 import unittest
 from unittest import mock
 
-from helgrothy import OutOfTime, make, why
+from helgrothy import OutOfTime, commands, make, sums, why
 from helgrothy.__main__ import main
 
 PACKAGE = os.path.dirname(os.path.dirname(os.path.abspath(__file__)))
@@ -33,6 +34,15 @@ def run(*words: str, given: str = ""):
             except SystemExit as ended:
                 status = ended.code
     return status, out.text(), error.text()
+
+
+def run_until(told: str, *words: str, given: str = ""):
+    """The same, with ever more seconds, until standard error says this: a machine that does other things takes longer."""
+    for seconds in ("0.5", "5", "50"):
+        done = run(*words, "--seconds", seconds, given=given)
+        if re.search(told, done[2]):
+            break
+    return done
 
 
 class Commands(unittest.TestCase):
@@ -79,6 +89,9 @@ class Commands(unittest.TestCase):
         self.assertEqual(run("why", given="A B\nA\n")[1].splitlines()[0], "can't all be held: B")
         self.assertEqual(run("export", "cnf", given="A\nA\n")[1].splitlines()[1:], ["p cnf 1 1", "1 0"])
 
+    # A machine that does other things too finds none in a second or two.
+    @mock.patch.object(commands, "_REASON_SECONDS", 99.0)
+    @mock.patch("helgrothy.lint.search", lambda problem, _: sums.search(problem, 100.0))
     def test_no_solution_has_its_reason(self):
         told = "Altogether 0 solutions.\ncan't all be held: B\nit is in no option\n"
         self.assertEqual(run("solve", given="A B\nA\n"), (1, "", told))
@@ -95,9 +108,10 @@ class Commands(unittest.TestCase):
         with mock.patch.object(why, "find", side_effect=OutOfTime("no")):
             told = run("queens", "3")[2]
         self.assertRegex(told, "no reason was found in [0-9.]+ seconds; `helgrothy why` may look longer\n")
-        status, _, told = run("langford", "15", "--all", "--seconds", "0.5")
+        found = r"[0-9]+ solutions? till then\n\Z"
+        status, _, told = run_until(found, "langford", "15", "--all")
         self.assertEqual(status, 2)
-        self.assertRegex(told, r"[0-9]+ solutions? till then\n\Z")
+        self.assertRegex(told, found)
 
     def test_failures(self):
         for words, wanted in (

@@ -7,7 +7,7 @@ import unittest
 
 from helgrothy import OutOfTime, Problem, make
 from helgrothy.make import fewest
-from test_commands import run
+from test_commands import run, run_until
 
 FACTORS = """\
 # what is to be tested
@@ -132,12 +132,8 @@ class Designs(unittest.TestCase):
         self.assertTrue(run("tests", path, "--least", "--svg")[1].startswith("<svg"))
         self.assertEqual(run("tests", path, "--least", "--json")[1].count('"t1/system": "linux"'), 1)
         self.assertEqual(run("make", "tests", path, "--tests", "5")[1], make.tests.problem(FACTORS, 5).text)
-        # A busy machine may come to no design in five seconds.
-        for seconds in ("5", "50"):
-            told = run("tests", "3^7", "--least", "--seconds", seconds)[2]
-            if "wasn't done" not in told:
-                break
-        self.assertRegex(told, r"\A[0-9]+ tests; [0-9]+ weren't found in the time\.\n\Z")
+        told = r"\A[0-9]+ tests; [0-9]+ weren't found in the time\.\n\Z"
+        self.assertRegex(run_until(told, "tests", "4^7", "--least")[2], told)
 
     def test_bad_tables(self):
         for number, (table, words, sentence) in enumerate(BAD):

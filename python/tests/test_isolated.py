@@ -6,9 +6,11 @@ import subprocess
 import sys
 import tempfile
 import unittest
+from pathlib import Path
 from unittest import mock
 
 from helgrothy import Problem, ProgramNotFound, programs
+
 SCRIPT = os.path.join(os.path.dirname(os.path.dirname(os.path.dirname(os.path.abspath(__file__)))), "scripts", "helgrothy")
 PACKAGE = os.path.dirname(os.path.dirname(programs.__file__))
 # A module of each that the commands load, and of each that these load in turn.
@@ -127,9 +129,9 @@ class Isolated(unittest.TestCase):
         package = self.file("python/helgrothy/programs.py", "")
         os.chmod(os.path.dirname(os.path.dirname(package)), 0o755)
         with mock.patch.object(programs, "__file__", package):
-            self.assertNotIn(os.path.join(self.folder, "bin"), programs.folders("dlx1"))
+            self.assertNotIn(Path(self.folder, "bin"), programs.folders("dlx1"))
             os.chmod(self.folder, 0o755)
-            self.assertIn(os.path.join(self.folder, "bin"), programs.folders("dlx1"))
+            self.assertIn(Path(self.folder, "bin"), programs.folders("dlx1"))
 
     def test_no_package_that_anybody_may_put_there_is_loaded(self):
         with open(SCRIPT) as file:
@@ -171,7 +173,6 @@ class ClosedStreams(unittest.TestCase):
         command("helgrothy", "search", "p.dlx", "--list", "--folder", "folder", cwd=self.folder)
 
     def test_all_combinations(self):
-        listing = "1:\n A x (1 of 2)\n2:\n A (2 of 2)\n"
         one = [(True, False, False), (False, True, False), (False, False, True)]
         for name, words, given, printed, message in (
             ("helgrothy", ["solve", "-", "--all"], True, "A x\n\nA\n", "Altogether 2 solutions.\n"),

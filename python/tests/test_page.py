@@ -416,7 +416,7 @@ class Served(unittest.TestCase):
         self.wait(lambda: not self.server._answers and not members(going._process.pid))
 
     def wait(self, holds):
-        deadline = time.monotonic() + 120
+        deadline = time.monotonic() + 300
         while not holds():
             self.assertLess(time.monotonic(), deadline, "it never came to it")
             time.sleep(0.05)

@@ -125,11 +125,11 @@ class Solving(unittest.TestCase):
         self.assertEqual(children(), before)
 
     def test_a_solution_comes_before_the_next_is_found(self):
-        # The second solution is behind all of Langford's pairs for 13, of which there are none.
-        hard = make.langford.problem(13)
+        # The second solution is behind all of Langford's pairs for 14, of which there are none.
+        hard = make.langford.problem(14)
         options = [["easy", *hard.items]] + [["easy", "late"]] + hard.options
         problem = Problem(["easy", *hard.items], ["late"], options)
-        with problem.solve(seconds=20) as solutions:
+        with problem.solve(seconds=100) as solutions:
             self.assertEqual(next(solutions), [options[0]])
 
     def test_a_solution_is_as_a_list(self):

@@ -12,6 +12,7 @@ import tempfile
 import threading
 import unittest
 from concurrent.futures import Executor, Future, ProcessPoolExecutor, ThreadPoolExecutor
+from dataclasses import replace
 from unittest import mock
 
 from helgrothy import ListingFault, OutOfTime, Problem, ProgramFailed, ProgramNotFound, SearchFault, make, programs
@@ -83,9 +84,9 @@ class Rows(unittest.TestCase):
                 self.assertEqual((one.until, one.ends), (other.start, other.begins))
                 self.assertLess(one.start, other.start)
             self.assertTrue(until is None or pieces[-1].start < until)
-        self.assertEqual([piece.start for piece in cut(WHOLE._replace(start=(1,)), (8,), 4)], [(1,), (3,), (5,), (7,)])
-        self.assertEqual(len(cut(WHOLE._replace(start=(1, 1)), (2, 3), 9)), 4)
-        self.assertEqual(len(cut(WHOLE._replace(start=(1,)), (1,), 9)), 1)
+        self.assertEqual([piece.start for piece in cut(replace(WHOLE, start=(1,)), (8,), 4)], [(1,), (3,), (5,), (7,)])
+        self.assertEqual(len(cut(replace(WHOLE, start=(1, 1)), (2, 3), 9)), 4)
+        self.assertEqual(len(cut(replace(WHOLE, start=(1,)), (1,), 9)), 1)
 
     def test_gaps(self):
         self.assertEqual(folders.gaps([]), [WHOLE])
@@ -436,9 +437,56 @@ class Folders(unittest.TestCase):
             (lambda: os.mkdir(name), "it is no file"),
         ):
             make_it()
-            with self.assertRaisesRegex(SearchFault, f"{name}: {what}"):
-                Folder(self.path, self.job)
+            # It says what to do, and this is so.
+            for how in ({"job": self.job}, {"is_read": True}):
+                with self.assertRaisesRegex(SearchFault, f"{name}: {what}; without it the search goes on$"):
+                    Folder(self.path, **how)
             os.rmdir(name) if os.path.isdir(name) and not os.path.islink(name) else os.remove(name)
+            with Folder(self.path, self.job) as folder:
+                self.assertTrue(folder.todo())
+
+    def test_names_that_only_look_like_its_own(self):
+        self.fill()
+        names = ["\u00b2.tmp", "\u00b2.span", "\u0661" * 8 + ".span", "9" * 60 + ".span", "1.span", "00000077.span.old"]
+        for name in [*names, "-00000077.span", "\udcff"]:
+            with open(os.path.join(self.path, name), "wb") as file:
+                file.write(b"[" * 100_000)
+        with Folder(self.path, self.job) as folder:
+            folder.check()
+            self.assertAlmostEqual(folder.share, 0.8)
+
+    def test_heads_of_another_form(self):
+        """As another version might write them: a word more, a word less, and words of another kind."""
+        name = os.path.join(self.path, self.fill()[0])
+        with open(name, "rb") as file:
+            head, _, text = file.read().partition(b"\n")
+        words = head.split(b" ")
+        odd = [b"", b"x", b"nan", b"inf", b"-1", b"1e999", b"0x1", b"9" * 400, b"1." * 5_000 + b"1", b"[" * 5_000, b"\xff", b"0 0"]
+        heads = [[*words[:at], one, *words[at + 1 :]] for at in range(len(words)) for one in odd]
+        heads += [words[:at] + words[at + 1 :] for at in range(len(words))]
+        for changed in heads:
+            with open(name, "wb") as file:
+                file.write(b" ".join(changed) + b"\n" + text)
+            with self.assertRaisesRegex(SearchFault, name), Folder(self.path, self.job) as folder:
+                folder.check()
+
+    def test_a_problem_that_changes_while_it_is_searched(self):
+        """Workers get the text that was compared, and no name of a file that another one may write."""
+        path = os.path.join(self.path, "problem.dlx")
+
+        def submit(task):
+            with open(path, "wb") as file:
+                file.write(b"A\nA\n")
+            future: Future = Future()
+            future.set_result(span.run(task))
+            return future
+
+        with Folder(self.path, self.job) as folder:
+            self.assertTrue(Loop(self.job, submit, lambda: 1, folder.keep, None).search(folder.todo()))
+            folder.flush()
+            self.assertEqual((folder.todo(), folder.solutions), ([], 40))
+            with self.assertRaisesRegex(SearchFault, f"{path}: it was changed"):
+                folder.problem()
 
 
 class Commands(unittest.TestCase):
@@ -472,14 +520,39 @@ class Commands(unittest.TestCase):
         self.assertEqual((status, printed), (2, b""))
         self.assertIn("a search that lists solutions", message)
 
+    def test_nothing_is_printed_of_what_is_damaged(self):
+        listing, _ = whole(1, QUEENS, "m1")
+        folder = f"{self.path}.found"
+        search = ["search", self.path, "--list", "--folder", folder]
+        self.assertEqual(self.run_it(*search)[0], 0)
+        name = max(os.path.join(folder, name) for name in os.listdir(folder) if name.endswith(".span"))
+        with open(name, "rb") as file:
+            right = file.read()
+        # Another solution, as the record says it; and what another user made of it.
+        at = right.rindex(b" (1 of ")
+        for wrong in (right[:at] + b" (2 of " + right[at + 7 :], right[:-9], b"span\n", b"["):
+            with open(name, "wb") as file:
+                file.write(wrong)
+            for words in (["result", folder, "--list"], ["result", folder], search):
+                with self.subTest(words=words, wrong=wrong[-9:]):
+                    status, printed, told = self.run_it(*words)
+                    self.assertEqual((status, printed, told.count("\n")), (2, b"", 1))
+                    self.assertIn(f"{name}: it is damaged", told)
+        os.remove(name)
+        self.assertEqual(self.run_it(*search)[:2], (0, listing))
+
     def test_not_done(self):
         with open(self.path, "wb") as file:
             file.write(make.queens.problem(17).text.encode())
         folder = f"{self.path}.search"
-        status, _, told = self.run_it("search", self.path, "--seconds", "0.5")
-        self.assertEqual(status, NOT_DONE)
-        line = r"\Ahelgrothy: not done in 0.5 seconds: [0-9.]+ %; the same command goes on \(.*q.dlx.search\)\n\Z"
-        self.assertRegex(told, line)
+        # A machine that does other things does nothing in half a second.
+        for seconds in ("0.5", "5", "50"):
+            status, _, told = self.run_it("search", self.path, "--seconds", seconds)
+            self.assertEqual(status, NOT_DONE)
+            line = r"\Ahelgrothy: not done in {} seconds: [0-9.]+ %; the same command goes on \(.*q.dlx.search\)\n\Z"
+            self.assertRegex(told, line.format(seconds))
+            if b"left" in self.run_it("status", folder)[1]:
+                break
         self.assertEqual(self.run_it("result", folder)[:2], (NOT_DONE, b""))
         self.assertEqual(self.run_it("result", folder, "--list")[:2], (NOT_DONE, b""))
         line = r"\A[0-9.]+ % done: [0-9,]+ solutions, .*\nleft: about .*\n\Z"
@@ -503,6 +576,8 @@ class Commands(unittest.TestCase):
             ["result", self.path],
             ["search"],
             ["search", self.path, "--jobs", "0"],
+            ["search", self.path, "--jobs", "1_0"],
+            ["search", self.path, "--jobs", "9" * 5_000],
             ["search", self.path, "--seconds", "0"],
             ["search", self.path, "--jobs", "2", "--dask", "x"],
             ["rows", self.path, "--count", "0"],
@@ -538,7 +613,8 @@ class Progress(unittest.TestCase):
         told = []
         progress.follow(listing, told.append, 0)
         self.assertEqual(len(told), 2)
-        for line in (b"x\n", b" a (0 of 2)\n", b" a (3 of 2)\n", b"0:\n", b" a (1 of 0)\n"):
+        digits = [line % (b"9" * 400) for line in (b" a (1 of %s)\n", b" a (%s of 1)\n", b"%s:\n")]
+        for line in (b"x\n", b" a (0 of 2)\n", b" a (3 of 2)\n", b"0:\n", b" a (1 of 0)\n", *digits):
             with self.assertRaises(ListingFault):
                 list(progress.shares([b"1:\n", line]))
 

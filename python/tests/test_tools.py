@@ -34,7 +34,7 @@ class Lint(unittest.TestCase):
         self.assertIn("is it tuesday?", str(lint(b"tuesday\ntusday\ntuesday\n")[0]))
 
     def test_sums(self):
-        remarks = lint(make.roster.problem(NURSES).text.encode())
+        remarks = lint(make.roster.problem(NURSES).text.encode(), seconds=100.0)
         self.assertEqual(len(remarks), 1)
         self.assertRegex(remarks[0].text, r"the sums can't work: .* ask for 9 in all, and .* allow 6: there is no")
         area = search(make.polyominoes.problem("pentominoes", "\n".join(["." * 10] * 6 + ["."])))

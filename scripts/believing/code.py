@@ -1,8 +1,9 @@
 """What the code declares, with its contracts."""
 import re
+from collections.abc import Iterator, Sequence
 from dataclasses import dataclass
 from pathlib import Path
-from typing import Dict, Iterator, List, Optional, Sequence, Set, Tuple
+from typing import Optional
 
 from believing.definitions import bound_in, without_labels
 from believing.entries import STRING, Entry, Key, Scope
@@ -14,8 +15,8 @@ DECLARATION = r"(pub(\(crate\))? )?(extern \"C\" )?(fn|struct|enum|trait|impl|gh
 class Block:
     """A declaration: its documentation, its lines up to the next one, and where it starts."""
 
-    doc: List[str]
-    lines: List[str]
+    doc: list[str]
+    lines: list[str]
     at: int
 
 
@@ -25,11 +26,11 @@ class SourceFile:
 
     crate: str
     path: str
-    lines: List[str]
+    lines: list[str]
     scope: Scope
-    types: Dict[str, Key]
+    types: dict[str, Key]
 
-    def named(self, text: str) -> List[Key]:
+    def named(self, text: str) -> list[Key]:
         """The types that a text names."""
         return [self.types[name] for name in re.findall(r"\w+", text) if name in self.types]
 
@@ -49,13 +50,13 @@ def read_source(top: Path, path: Path, crate: str, crates: Sequence[str]) -> Sou
     return SourceFile(crate, str(path.relative_to(top)), lines, scope, types)
 
 
-def imports(text: str) -> Iterator[Tuple[str, List[str]]]:
+def imports(text: str) -> Iterator[tuple[str, list[str]]]:
     """What the code imports or exports: the crate or module where each path begins, and the names at its end."""
     for home, one, many in re.findall(r"^(?:pub )?use (\w+)(?:::\w+)*::(?:(\w+)|\{([^}]*)\});", text, re.M):
         yield home, [name.strip() for name in (one or many).split(",") if name.strip()]
 
 
-def exports(top: Path, crate: str) -> Tuple[Set[str], Set[str]]:
+def exports(top: Path, crate: str) -> tuple[set[str], set[str]]:
     """The names that a library exports, to C too, and the files of its public modules."""
     text = (top / "crates" / crate / "src" / "lib.rt").read_text(encoding="utf-8")
     lines = "\n".join(re.findall(r"^pub use [^;]*;", text, re.M))
@@ -68,7 +69,7 @@ def exports(top: Path, crate: str) -> Tuple[Set[str], Set[str]]:
 
 def cut_blocks(lines: Sequence[str], indent: str) -> Iterator[Block]:
     """The declarations at this indentation."""
-    doc: List[str] = []
+    doc: list[str] = []
     block: Optional[Block] = None
     for at, line in enumerate(lines):
         starts = re.match(indent + DECLARATION, line)
@@ -91,7 +92,7 @@ def members(block: Block) -> Iterator[Block]:
             yield Block(one.doc, trimmed(one.lines), block.at + one.at)
 
 
-def trimmed(lines: Sequence[str]) -> List[str]:
+def trimmed(lines: Sequence[str]) -> list[str]:
     """Lines without empty ones at their end."""
     kept = list(lines)
     while kept and not kept[-1].strip():
@@ -99,10 +100,10 @@ def trimmed(lines: Sequence[str]) -> List[str]:
     return kept
 
 
-def cut_contract(block: Block, indent: str) -> Tuple[List[str], List[str]]:
+def cut_contract(block: Block, indent: str) -> tuple[list[str], list[str]]:
     """The signature and the clauses of a function, without its body."""
-    signature: List[str] = []
-    clauses: List[str] = []
+    signature: list[str] = []
+    clauses: list[str] = []
     depth = 0
     for line in block.lines:
         part = clauses if clauses or re.match(r"\s*(requires|ensures)\b", line) else signature
@@ -119,7 +120,7 @@ def cut_contract(block: Block, indent: str) -> Tuple[List[str], List[str]]:
     return signature, clauses
 
 
-def cut_ghost(block: Block) -> List[str]:
+def cut_ghost(block: Block) -> list[str]:
     """A ghost member, to its last brace."""
     depth = 0
     for many, line in enumerate(block.lines, 1):
@@ -147,7 +148,7 @@ def without_bounds(text: str) -> str:
 
 # ---- what is cited
 
-def cited_by_clauses(clauses: Sequence[str], signature: str, file: SourceFile, scope: Scope) -> List[Key]:
+def cited_by_clauses(clauses: Sequence[str], signature: str, file: SourceFile, scope: Scope) -> list[Key]:
     """What clauses cite: definitions, the impls that they name, and the traits of the parameters whose members they
     name. Then the types of the signature."""
     text = "\n".join(line for line in clauses if not line.lstrip().startswith("//"))
@@ -162,7 +163,7 @@ def cited_by_clauses(clauses: Sequence[str], signature: str, file: SourceFile, s
     return cited + file.named(without_bounds(signature))
 
 
-def read_member(member: Block, header: str, file: SourceFile, scope: Scope) -> Tuple[List[str], List[Key]]:
+def read_member(member: Block, header: str, file: SourceFile, scope: Scope) -> tuple[list[str], list[Key]]:
     """The text of a ghost member or of a function with clauses, and what it cites; nothing for another function."""
     if "ghost " in member.lines[0]:
         lines = cut_ghost(member)
@@ -177,8 +178,8 @@ class Code:
     """What stands in the crates' sources: functions, methods, types, traits and impls."""
 
     def __init__(self) -> None:
-        self.entries: List[Entry] = []
-        self.types: Dict[Key, Entry] = {}
+        self.entries: list[Entry] = []
+        self.types: dict[Key, Entry] = {}
 
     def read(self, file: SourceFile) -> None:
         readers = {"fn": self.read_function, "struct": self.read_type, "enum": self.read_type, "trait": self.read_trait}
@@ -189,7 +190,7 @@ class Code:
             elif block.lines[0].startswith("impl"):
                 self.read_impl(file, block)
 
-    def add(self, file: SourceFile, name: str, block: Block, text: Sequence[str], cites: List[Key]) -> Entry:
+    def add(self, file: SourceFile, name: str, block: Block, text: Sequence[str], cites: list[Key]) -> Entry:
         entry = Entry((file.crate, name), file.path, block.at + 1, block.doc, trimmed(text), cites, True)
         self.entries.append(entry)
         return entry
@@ -212,8 +213,8 @@ class Code:
         self.types[entry.key] = entry
 
     def read_trait(self, file: SourceFile, block: Block, name: str) -> None:
-        text: List[str] = []
-        cites: List[Key] = []
+        text: list[str] = []
+        cites: list[Key] = []
         for member in members(block):
             lines, cited = read_member(member, "", file, file.scope)
             text += ["", *member.doc, *(lines or cut_contract(member, "    ")[0])]
@@ -247,8 +248,8 @@ class Code:
             self.add(file, f"{of_type}::{found[1]}", member, text, cites + [(file.crate, of_type)])
 
     def read_trait_impl(self, file: SourceFile, block: Block, header: str, name: str, scope: Scope) -> None:
-        text: List[str] = []
-        cites: List[Key] = file.named(header)
+        text: list[str] = []
+        cites: list[Key] = file.named(header)
         for member in members(block):
             lines, cited = read_member(member, header, file, scope)
             if lines:

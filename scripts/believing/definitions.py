@@ -1,8 +1,8 @@
 """The definitions of `specs`."""
 import re
+from collections.abc import Iterator, Sequence
 from dataclasses import dataclass, field
 from pathlib import Path
-from typing import Dict, Iterator, List, Sequence, Set, Tuple
 
 from believing.entries import NAME, Entry, Key, Scope, joined
 
@@ -17,8 +17,8 @@ class Module:
     path: str
     sentence: str
     scope: Scope
-    definitions: List[Entry] = field(default_factory=list)
-    constructors: Dict[str, str] = field(default_factory=dict)
+    definitions: list[Entry] = field(default_factory=list)
+    constructors: dict[str, str] = field(default_factory=dict)
 
     def add(self, entry: Entry) -> None:
         self.definitions.append(entry)
@@ -55,7 +55,7 @@ def defined_by(line: str) -> str:
     return found[1] if found else ""
 
 
-def cut_definitions(lines: Sequence[str], path: str) -> Iterator[Tuple[int, int, int]]:
+def cut_definitions(lines: Sequence[str], path: str) -> Iterator[tuple[int, int, int]]:
     """Where the comment above each definition starts, the definition itself, and where it ends: at an empty line, or at
     the comment above the next one."""
     heads = [at for at, line in enumerate(lines) if defined_by(line)]
@@ -72,9 +72,9 @@ def cut_definitions(lines: Sequence[str], path: str) -> Iterator[Tuple[int, int,
         yield above, start, end
 
 
-def equations(entry: Entry) -> List[str]:
+def equations(entry: Entry) -> list[str]:
     """The head of a definition, with the fields or constructors that it has, and then its equations."""
-    parts: List[List[str]] = []
+    parts: list[list[str]] = []
     for line in entry.text:
         if line.startswith("--"):
             continue
@@ -90,7 +90,7 @@ def is_table(entry: Entry) -> bool:
     return len(rows) > 1 and all(re.fullmatch(rf"{NAME} [A-Z]\w* = .*", row) for row in rows)
 
 
-def bound_in(text: str) -> Set[str]:
+def bound_in(text: str) -> set[str]:
     """The names that a text binds: in telescopes, functions, `let`, and the cases of an `elim`."""
     groups = re.findall(rf"[({{]((?:{NAME}\s+)+):\s", text) + re.findall(r"λ ([^.()]*)\.", text)
     groups += re.findall(rf"\blet ({NAME})", text) + re.findall(r"[\[|]([^\[\]|↦]*)↦", text)
@@ -102,7 +102,7 @@ def without_labels(text: str) -> str:
     return re.sub(rf"([{{;]|^)(\s*){NAME}(\s*=\s)", r"\1\2\3", text, flags=re.M)
 
 
-def cited_by_definition(entry: Entry, scope: Scope, constructors: Set[str]) -> List[Key]:
+def cited_by_definition(entry: Entry, scope: Scope, constructors: set[str]) -> list[Key]:
     head, *rest = equations(entry)
     cited = cited_by_head(head, scope)
     for text in rest:
@@ -110,7 +110,7 @@ def cited_by_definition(entry: Entry, scope: Scope, constructors: Set[str]) -> L
     return cited
 
 
-def cited_by_head(text: str, scope: Scope) -> List[Key]:
+def cited_by_head(text: str, scope: Scope) -> list[Key]:
     """What a definition's type cites, or its fields. A field is bound in the ones behind it."""
     head, *fields = re.split(r"\n  (?:pub )?(?=[^\W\d])", text)
     bound = bound_in(head)
@@ -122,7 +122,7 @@ def cited_by_head(text: str, scope: Scope) -> List[Key]:
     return cited
 
 
-def cited_by_equation(text: str, scope: Scope, constructors: Set[str]) -> List[Key]:
+def cited_by_equation(text: str, scope: Scope, constructors: set[str]) -> list[Key]:
     """What an equation cites. A name on its left is a constructor or is bound."""
     left, _, right = re.sub(r"\s=(\s|$)", "\0", text, count=1).partition("\0")
     patterns = re.findall(NAME, left)[1:]

@@ -1,10 +1,11 @@
 """What is read: definitions, and what the code declares, with what each cites."""
 import re
+from collections.abc import Iterable, Sequence
 from dataclasses import dataclass, field
-from typing import Dict, Iterable, List, NamedTuple, Sequence, Tuple
+from typing import NamedTuple
 
 # A definition by its module and name, or what stands in the code by its crate and name.
-Key = Tuple[str, str]
+Key = tuple[str, str]
 
 NAME = r"[^\W\d][\w']*"
 CHAIN = re.compile(rf"(?<![\w'.])({NAME})((?:\.[\w']+)*)")
@@ -18,9 +19,9 @@ class Entry:
     key: Key
     path: str
     line: int
-    comment: List[str]
-    text: List[str]
-    cites: List[Key]
+    comment: list[str]
+    text: list[str]
+    cites: list[Key]
     has_contract: bool = False
 
     @property
@@ -74,8 +75,8 @@ def figures(entries: Iterable[Entry]) -> Figures:
 class Scope:
     """The names that a file or a block imports, and the modules that it calls by another name."""
 
-    names: Dict[str, Key] = field(default_factory=dict)
-    modules: Dict[str, str] = field(default_factory=dict)
+    names: dict[str, Key] = field(default_factory=dict)
+    modules: dict[str, str] = field(default_factory=dict)
 
     def take_imports(self, lines: Iterable[str]) -> None:
         for line in lines:
@@ -88,7 +89,7 @@ class Scope:
             elif module:
                 self.modules[module[2]] = module[1]
 
-    def cited(self, text: str, bound: Iterable[str] = ()) -> List[Key]:
+    def cited(self, text: str, bound: Iterable[str] = ()) -> list[Key]:
         """What a text cites, in order. What stands behind a dot is a field, unless a module stands before it."""
         keys = []
         for head, rest in CHAIN.findall(STRING.sub('""', text)):

@@ -1,5 +1,5 @@
 """The page of what has to be believed of six calls."""
-from typing import Iterable, Iterator, List, Sequence, Set
+from collections.abc import Iterable, Iterator, Sequence
 
 from believing.entries import Entry, Key, figures
 from believing.repository import Repository
@@ -32,13 +32,13 @@ def page(repository: Repository) -> Iterator[str]:
     for call in calls:
         yield f"- [`{call.name}`](#{call.name}) reaches {counted(figures(repository.reached([call])))}."
     yield ""
-    above: Set[Key] = set()
+    above: set[Key] = set()
     for call in calls:
         yield from part(repository, call, above)
         above.update(one.key for one in repository.reached([call]))
 
 
-def part(repository: Repository, call: Entry, above: Set[Key]) -> Iterator[str]:
+def part(repository: Repository, call: Entry, above: set[Key]) -> Iterator[str]:
     """A call's part of the page. `above` has what the parts before it show."""
     reached = repository.reached([call])
     new = [one for one in reached if one.key not in above]
@@ -63,12 +63,12 @@ def declarations(title: str, entries: Iterable[Entry]) -> Iterator[str]:
         yield from fenced("rust", lines)
 
 
-def in_turn(texts: Iterable[Sequence[str]]) -> List[str]:
+def in_turn(texts: Iterable[Sequence[str]]) -> list[str]:
     """Texts one after another, with an empty line between."""
     return [line for text in texts for line in ["", *text]][1:]
 
 
-def from_above(repository: Repository, entries: Sequence[Entry], above: Set[Key]) -> Iterator[str]:
+def from_above(repository: Repository, entries: Sequence[Entry], above: set[Key]) -> Iterator[str]:
     """What a call reaches of what is above: all that is shown of a file, or which of it."""
     if not entries:
         return
@@ -89,5 +89,5 @@ def inside(path: str) -> str:
     return path[len("crates/"):]
 
 
-def fenced(word: str, lines: Sequence[str]) -> List[str]:
+def fenced(word: str, lines: Sequence[str]) -> list[str]:
     return [f"```{word}", *lines, "```", ""]

@@ -1,7 +1,7 @@
 """All definitions and public calls of the repository, and what each reaches."""
 import re
+from collections.abc import Iterable, Iterator, Sequence
 from pathlib import Path
-from typing import Dict, Iterable, Iterator, List, Sequence, Tuple
 
 from believing.code import Code, exports, read_source
 from believing.definitions import Module, cited_by_definition, read_crate
@@ -44,9 +44,9 @@ class Repository:
         onward = module.scope.names.get(key[1])
         return self.home(onward) if onward else key
 
-    def reached(self, roots: Iterable[Entry]) -> List[Entry]:
+    def reached(self, roots: Iterable[Entry]) -> list[Entry]:
         """What these entries cite, however far down."""
-        seen: Dict[Key, Entry] = {}
+        seen: dict[Key, Entry] = {}
         todo = [key for root in roots for key in root.cites]
         while todo:
             key = todo.pop()
@@ -55,30 +55,30 @@ class Repository:
                 todo += self.entries[key].cites
         return list(seen.values())
 
-    def calls_named(self, name: str) -> List[Entry]:
+    def calls_named(self, name: str) -> list[Entry]:
         """The calls of this name; else those of this type; else the methods of this name."""
         whole = [call for call in self.calls if call.name == name]
         of_type = [call for call in self.calls if owner(call) == name]
         methods = [call for call in self.calls if call.name.endswith(f"::{name}")]
         return whole or of_type or methods
 
-    def code_in_order(self, entries: Iterable[Entry]) -> List[Entry]:
+    def code_in_order(self, entries: Iterable[Entry]) -> list[Entry]:
         """What of these stands in the code: the lowest crate first, by files."""
         code = [one for one in entries if not one.is_definition]
         return sorted(code, key=lambda one: (self.crates.index(one.key[0]), one.path, one.line))
 
-    def definitions_in_order(self, entries: Sequence[Entry]) -> List[Tuple[Module, List[Entry]]]:
+    def definitions_in_order(self, entries: Sequence[Entry]) -> list[tuple[Module, list[Entry]]]:
         """Definitions by files, each file behind those that it stands on, the lowest crate first."""
-        by_path: Dict[str, List[Entry]] = {}
+        by_path: dict[str, list[Entry]] = {}
         for one in sorted(entries, key=lambda entry: entry.line):
             if one.is_definition:
                 by_path.setdefault(one.path, []).append(one)
-        order: List[str] = []
+        order: list[str] = []
         for path in self.files:
             self.put_behind(path, by_path, order)
         return [(self.files[path], by_path[path]) for path in order]
 
-    def put_behind(self, path: str, by_path: Dict[str, List[Entry]], order: List[str]) -> None:
+    def put_behind(self, path: str, by_path: dict[str, list[Entry]], order: list[str]) -> None:
         """Puts a file behind those that its definitions cite."""
         if path in order or path not in by_path:
             return
@@ -89,7 +89,7 @@ class Repository:
         order.append(path)
 
 
-def crates_with_definitions(top: Path) -> List[str]:
+def crates_with_definitions(top: Path) -> list[str]:
     lines = (top / "crates.txt").read_text(encoding="utf-8").splitlines()
     names = [re.split(r"[:\s]", line)[0] for line in lines if line and not line.startswith("#")]
     return [name for name in names if (top / "crates" / name / "specs").is_dir()]

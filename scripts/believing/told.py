@@ -1,5 +1,5 @@
 """What is told of the calls: their figures, all that one reaches, and what is wrong with the definitions."""
-from typing import Iterator
+from collections.abc import Iterator
 
 from believing.definitions import is_table
 from believing.entries import Entry, Figures, figures

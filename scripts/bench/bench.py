@@ -3,15 +3,15 @@
          [--most SECONDS] [--page PAGE]
 
 Counts the solutions of the problems that problems.py wrote into FOLDER, by the programs that `make all` built or those
-in the folder given by --ours and, beside them, by other solvers: C programs dlx1, dlx2 and dlx3 in each folder given by --c, and, where they are
-installed, clasp and Gecode (fzn-gecode), as 0-1 problems that are made from the same texts, and Sage's dancing links
-(sage), for problems of kind 1. All take turns, on one core where --core gives its number. Told are ratios of CPU time,
-ours to theirs, the median of K runs (3), or of at most 3 where one of each took more than 15 seconds together: below 1
-ours is faster. A run of theirs may take so many seconds (60); where it takes longer, the ratio is at most the one told.
---c-alone leaves all but C out. Then come the ratios of the most memory held, those of printing (the time of a run that
-prints each solution less that of one that counts them), and how time and memory grow with the problem. Each run has to
-end with the problem's number of solutions. With --page the tables take the places of those with the same heads in a
-page, once all are there.
+in the folder given by --ours and, beside them, by other solvers: C programs dlx1, dlx2 and dlx3 in each folder given
+by --c, and, where they are installed, clasp and Gecode (fzn-gecode), as 0-1 problems that are made from the same texts,
+and Sage's dancing links (sage), for problems of kind 1. All take turns, on one core where --core gives its number. Told
+are ratios of CPU time, ours to theirs, the median of K runs (3), or of at most 3 where one of each took more than 15
+seconds together: below 1 ours is faster. A run of theirs may take so many seconds (60); where it takes longer, the
+ratio is at most the one told. --c-alone leaves all but C out. Then come the ratios of the most memory held, those of
+printing (the time of a run that prints each solution less that of one that counts them), and how time and memory grow
+with the problem. Each run has to end with the problem's number of solutions. With --page the tables take the places of
+those with the same heads in a page, once all are there.
 """
 
 import argparse
@@ -306,7 +306,8 @@ def main():
     if given.core is not None:
         os.sched_setaffinity(0, {given.core})
     ours = Exact("ours", given.ours)
-    in_c = [Exact(name or os.path.basename(os.path.abspath(folder)), os.path.abspath(folder)) for name, folder in given.c]
+    in_c = [(name, os.path.abspath(folder)) for name, folder in given.c]
+    in_c = [Exact(name or os.path.basename(folder), folder) for name, folder in in_c]
     installed = (Clasp(), "clasp"), (Gecode(), "fzn-gecode"), (Sage(), "sage")
     installed = [solver for solver, program in installed if shutil.which(program) and not given.c_alone]
     only = set(filter(None, given.only.split(",")))

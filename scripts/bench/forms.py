@@ -5,10 +5,11 @@ forms/NAME.edit has the road not taken, in the format of must-fail/: `file:`, `o
 `new:`. Here several lines `old:` or `new:` in a row are a text of so many lines. In front stand three lines more: what
 stands in the code, what instead, and the set of runs (instructions.py) that it is counted on. Each edit is planted in a
 copy, which is built without proofs and counted. The ratio is that of the instructions of the code as it stands to those
-with the edit, the geometric mean over the set: below 1 the form gains, and from 0.995 to 1.005 it could go. Both have to
-end with the same last line. Builds and counts are kept in scripts/bench/out by the checksums of what they are made of,
-so after a run that was broken off only the rest is made. --check only looks whether each file is there and has the old
-text once, which is looked at first in any case. --page puts the table in the place of that with the same head in a page.
+with the edit, the geometric mean over the set: below 1 the form gains, and from 0.995 to 1.005 it could go. Both have
+to end with the same last line. Builds and counts are kept in scripts/bench/out by the checksums of what they are made
+of, so after a run that was broken off only the rest is made. --check only looks whether each file is there and has the
+old text once, which is looked at first in any case. --page puts the table in the place of that with the same head in a
+page.
 """
 
 from __future__ import annotations

@@ -2,8 +2,8 @@
 """hotspots.py [--asm] [--least SHARE] PROGRAM PROBLEM [WORD..]: where the instructions of a run go, by callgrind.
 
 PROBLEM is one of problems.py, and the words are the program's. Printed are the functions with a hundredth or more of
-all instructions, and with --asm each instruction of the program that was met for at least such a share of them (0.0002),
-with how often it was. Needs valgrind, and objdump for --asm.
+all instructions, and with --asm each instruction of the program that was met for at least such a share of them
+(0.0002), with how often it was. Needs valgrind, and objdump for --asm.
 """
 
 from __future__ import annotations

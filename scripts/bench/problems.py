@@ -10,8 +10,9 @@ from __future__ import annotations
 import itertools
 import os
 import sys
+from collections.abc import Callable, Iterable, Iterator
 from dataclasses import dataclass
-from typing import Callable, Iterable, Iterator, TextIO, TypeVar
+from typing import TextIO, TypeVar
 
 
 # The primary items, the secondary items and the options.
@@ -183,7 +184,8 @@ def words(count: int, length: int, seed: int) -> list[str]:
     dice, found = Dice(seed), dict[str, int]()
     while len(found) < count:
         first = dice.below(2)
-        found["".join("aeiou"[dice.below(5)] if (k + first) % 2 else "bdlmnrst"[dice.below(8)] for k in range(length))] = 1
+        letters = ("aeiou"[dice.below(5)] if (k + first) % 2 else "bdlmnrst"[dice.below(8)] for k in range(length))
+        found["".join(letters)] = 1
     return sorted(found)
 
 

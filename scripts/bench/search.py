@@ -18,8 +18,9 @@ import subprocess
 import sys
 import tempfile
 import time
+from collections.abc import Iterator
 from pathlib import Path
-from typing import Iterator, List, NamedTuple, Optional
+from typing import NamedTuple
 
 from page import put
 
@@ -42,7 +43,7 @@ class Took(NamedTuple):
     told: str
 
 
-def timed(command: List[str], given: Path) -> Took:
+def timed(command: list[str], given: Path) -> Took:
     """A run that has to succeed."""
     begun = time.monotonic()
     with open(given) as file:
@@ -57,11 +58,11 @@ def timed(command: List[str], given: Path) -> Took:
     return Took(time.monotonic() - begun, used.ru_utime + used.ru_stime, last)
 
 
-def searching(problem: Path, *words: str) -> List[str]:
+def searching(problem: Path, *words: str) -> list[str]:
     return [str(BIN / "helgrothy"), "search", str(problem), *words]
 
 
-def measure(name: str, problem: Path, rounds: int, address: Optional[str]) -> str:
+def measure(name: str, problem: Path, rounds: int, address: str | None) -> str:
     commands = [[str(BIN / "dlx1")], *(searching(problem, "--jobs", str(jobs)) for jobs in WORKERS)]
     if address is not None:
         commands.append(searching(problem, "--dask", address))

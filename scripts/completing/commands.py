@@ -3,8 +3,8 @@
 from __future__ import annotations
 
 import argparse
+from collections.abc import Iterator
 from dataclasses import dataclass, field
-from typing import Dict, Iterator, List, Optional, Tuple
 
 from helgrothy.commands import parser_of_all
 from helgrothy.make import cubes, polyominoes
@@ -38,7 +38,7 @@ _WORDS = {"PIECES": sorted(polyominoes.SETS), "CUBES": sorted(cubes.SETS)}
 class Value:
     """What a word may be."""
 
-    words: Tuple[str, ...] = ()
+    words: tuple[str, ...] = ()
     files: str = ""
 
     def __str__(self) -> str:
@@ -49,9 +49,9 @@ class Value:
 class Option:
     """An option: its names, its help, and its value, if it takes one."""
 
-    names: Tuple[str, ...]
+    names: tuple[str, ...]
     help: str
-    value: Optional[Value] = None
+    value: Value | None = None
 
 
 @dataclass
@@ -62,10 +62,10 @@ class Command:
     """
 
     path: str
-    options: List[Option] = field(default_factory=list)
-    places: List[Value] = field(default_factory=list)
+    options: list[Option] = field(default_factory=list)
+    places: list[Value] = field(default_factory=list)
     goes_on: bool = False
-    commands: Dict[str, str] = field(default_factory=dict)
+    commands: dict[str, str] = field(default_factory=dict)
 
 
 def all_commands() -> Iterator[Command]:
@@ -83,7 +83,7 @@ def all_commands() -> Iterator[Command]:
 
 def _of(path: str, parser: argparse.ArgumentParser) -> Iterator[Command]:
     command = Command(path)
-    below: List[Command] = []
+    below: list[Command] = []
     for action in parser._actions:
         if isinstance(action, argparse._SubParsersAction):
             command.commands = {choice.dest: choice.help or "" for choice in action._choices_actions}

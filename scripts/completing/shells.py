@@ -7,20 +7,20 @@ an option that takes a value takes the next one.
 from __future__ import annotations
 
 import re
-from typing import Callable, Dict, List, Optional
+from collections.abc import Callable
 
 from .commands import Command, Value, all_commands
 
 _MADE = "# Completion of the words of programs and commands in {}. Made by scripts/completion: changes belong there.\n"
 
 
-def all_texts() -> Dict[str, str]:
+def all_texts() -> dict[str, str]:
     """The texts by the shells' names."""
     commands = list(all_commands())
     return {"bash": bash(commands), "zsh": zsh(commands), "fish": fish(commands)}
 
 
-def _names(commands: List[Command]) -> str:
+def _names(commands: list[Command]) -> str:
     return " ".join(command.path for command in commands if " " not in command.path)
 
 
@@ -29,22 +29,22 @@ def _quoted(text: str) -> str:
     return "'" + text.replace("'", "'\\''") + "'"
 
 
-def _cases(rows: Dict[str, List[str]], line: Callable[[str], str]) -> str:
+def _cases(rows: dict[str, list[str]], line: Callable[[str], str]) -> str:
     """The branches of a `case`: each text with all that lead to it."""
     return "".join(
         f"        {' | '.join(map(_quoted, found))})\n            {line(text)} ;;\n" for text, found in rows.items()
     )
 
 
-def _turned(pairs: Dict[str, str]) -> Dict[str, List[str]]:
+def _turned(pairs: dict[str, str]) -> dict[str, list[str]]:
     """The keys of each value."""
-    rows: Dict[str, List[str]] = {}
+    rows: dict[str, list[str]] = {}
     for key, value in pairs.items():
         rows.setdefault(value, []).append(key)
     return rows
 
 
-def _values(commands: List[Command]) -> Dict[str, str]:
+def _values(commands: list[Command]) -> dict[str, str]:
     """What an option takes, by the command and the option's name."""
     return {
         f"{command.path} {name}": str(option.value)
@@ -55,7 +55,7 @@ def _values(commands: List[Command]) -> Dict[str, str]:
     }
 
 
-def _places(commands: List[Command]) -> Dict[str, str]:
+def _places(commands: list[Command]) -> dict[str, str]:
     """What may stand in a place, by the command and the place; `+` behind a number stands for all from there on."""
     found = {}
     for command in commands:
@@ -124,7 +124,7 @@ _dlx() {
 """
 
 
-def bash(commands: List[Command]) -> str:
+def bash(commands: list[Command]) -> str:
     options = {
         command.path: " ".join(name for option in command.options for name in option.names if name.startswith("--"))
         for command in commands
@@ -145,7 +145,7 @@ def bash(commands: List[Command]) -> str:
     )
 
 
-def _place_function(commands: List[Command], name: str) -> str:
+def _place_function(commands: list[Command], name: str) -> str:
     """What may stand in a place of a command's words, for bash and zsh."""
     rows = []
     for text, keys in _turned(_places(commands)).items():
@@ -213,7 +213,7 @@ _helgrothy() {
 """
 
 
-def zsh(commands: List[Command]) -> str:
+def zsh(commands: list[Command]) -> str:
     cases = ""
     for command in commands:
         options = " ".join(
@@ -281,7 +281,7 @@ end
 """
 
 
-def fish(commands: List[Command]) -> str:
+def fish(commands: list[Command]) -> str:
     lines = []
     for command in commands:
         program = command.path.split()[0]
@@ -310,7 +310,7 @@ def fish(commands: List[Command]) -> str:
     )
 
 
-def _fish(program: str, condition: str, what: str, value: Optional[Value], told: str) -> str:
+def _fish(program: str, condition: str, what: str, value: Value | None, told: str) -> str:
     line = f"complete -c {program} -n {_fish_quoted(condition)}{what}"
     if value is not None:
         # -r takes a value, of which -f says that it is no file, and -F that it may be one.

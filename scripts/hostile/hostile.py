@@ -325,7 +325,10 @@ def deep(folder):
     file = f"{folder}/deep.dlx"
     with open(file, "wb") as it:
         it.write(text)
-    small = lambda words: ["sh", "-c", 'ulimit -s 64; exec "$@"', "sh", path(words[0]), *words[1:]]
+
+    def small(words):
+        return ["sh", "-c", 'ulimit -s 64; exec "$@"', "sh", path(words[0]), *words[1:]]
+
     done = subprocess.run(small(["dlx1", "m1"]), input=text, capture_output=True)
     tell(done.returncode == 0 and done.stdout.count(b"\n") == 50001, f"50,000 levels on a small stack: {done.returncode}")
     done = subprocess.run(small(["dlxcheck", file]), input=done.stdout, capture_output=True)
@@ -357,7 +360,7 @@ def streams(folder):
     shell("the judge's problem a folder", f"{judge} {folder}", 3, b"Read failed.\n")
     shell("the judge's listing a folder", f"{judge} {file} <{folder}", 3, b"Read failed.\n")
     shell("the judge's output full", f"printf '1:\\n A (1 of 1)\\n' | {judge} {file} >/dev/full", 3, b"Write failed.\n")
-    listing = f"printf '1:\\n A (1 of 1)\\n' |"
+    listing = "printf '1:\\n A (1 of 1)\\n' |"
     shell("the judge's listing closed", f"{judge} {file} 1 <&-", 3, b"Read failed.\n")
     shell("the judge's output closed", f"{listing} {judge} {file} 1 >&-", 3, b"Write failed.\n")
     shell("the judge's messages closed", f"{listing} {judge} {file} 1 2>&-", 3, b"")

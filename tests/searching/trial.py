@@ -1,7 +1,6 @@
 """A problem, what the program in one says of it, and the commands of one try."""
 
 import os
-import random
 import re
 import resource
 import shutil

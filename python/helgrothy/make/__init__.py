@@ -1,6 +1,5 @@
 """Makers of problems, one module a kind: `problem(..)` makes one, `drawing(problem)` draws its solutions."""
 
-from typing import Dict
 
 from . import (
     kakuro,
@@ -18,7 +17,7 @@ from . import (
 )
 from .kind import Kind, kind_of
 
-KINDS: Dict[str, Kind] = {
+KINDS: dict[str, Kind] = {
     kind.name: kind
     for kind in (
         sudoku.KIND,

@@ -4,14 +4,14 @@ from __future__ import annotations
 
 import re
 from collections import Counter
+from collections.abc import Iterator, Sequence
 from dataclasses import dataclass
-from typing import Dict, Iterator, List, Sequence, Set, Tuple
 
 from ..errors import TableFault
 from .kind import cut, numbered, picture
 
-Square = Tuple[int, int]
-Numbered = Tuple[int, str]
+Square = tuple[int, int]
+Numbered = tuple[int, str]
 
 LEAST_SIZE, MOST_SIZE = 4, 25
 _CELL = re.compile(r"[rR]([0-9]{1,4})[cC]([0-9]{1,4})\Z")
@@ -27,7 +27,7 @@ class Cage:
     name: str
     line: int
     total: int
-    cells: Tuple[Square, ...]
+    cells: tuple[Square, ...]
 
 
 def check_size(line: int, size: int, what: str) -> None:
@@ -39,7 +39,7 @@ def check_size(line: int, size: int, what: str) -> None:
 # ---- regions
 
 
-def regions(text: str) -> Dict[Square, str]:
+def regions(text: str) -> dict[Square, str]:
     """The region of each cell, from a picture with a character for each. Raises `TableFault`."""
     rows = _square(picture(text))
     size = len(rows)
@@ -57,7 +57,7 @@ def regions(text: str) -> Dict[Square, str]:
     return cells
 
 
-def _square(lines: Sequence[Numbered]) -> List[Numbered]:
+def _square(lines: Sequence[Numbered]) -> list[Numbered]:
     """The rows of a picture without the blanks in them, as long as they are many."""
     rows = [(number, "".join(line.split())) for number, line in lines]
     check_size(rows[0][0], len(rows), "rows")
@@ -70,7 +70,7 @@ def _square(lines: Sequence[Numbered]) -> List[Numbered]:
 # ---- cages
 
 
-def cages(text: str, size: int) -> Tuple[List[Cage], int]:
+def cages(text: str, size: int) -> tuple[list[Cage], int]:
     """The cages of a Sudoku of so many rows, and this number, which the text says where it is 0. Raises `TableFault`.
 
     The text has a line for each cage, its sum and its cells, `12 r1c1 r1c2`. Or it is a picture with a letter for each
@@ -109,20 +109,20 @@ def _cell(number: int, word: str) -> Square:
     return r, c
 
 
-def _drawn(text: str, size: int) -> Tuple[List[Cage], int]:
+def _drawn(text: str, size: int) -> tuple[list[Cage], int]:
     """The cages of a picture with sums, and how many rows it has."""
     drawn, sums = _parts(picture(text))
     rows = _square(drawn)
     if size not in (0, len(rows)):
         raise TableFault(rows[0][0], "", f"the picture has {len(rows)} rows, where the Sudoku has {size}")
-    cells: Dict[str, List[Square]] = {}
-    first: Dict[str, int] = {}
+    cells: dict[str, list[Square]] = {}
+    first: dict[str, int] = {}
     for r, (number, row) in enumerate(rows):
         for c, mark in enumerate(row):
             if mark != _NO_CAGE:
                 cells.setdefault(mark, []).append((r, c))
                 first.setdefault(mark, number)
-    totals: Dict[str, Tuple[int, int]] = {}
+    totals: dict[str, tuple[int, int]] = {}
     for number, line in sums:
         for word in line.split():
             name, sign, total = word.rpartition("=")
@@ -139,7 +139,7 @@ def _drawn(text: str, size: int) -> Tuple[List[Cage], int]:
     return [Cage(name, *totals[name], tuple(own)) for name, own in cells.items()], len(rows)
 
 
-def _parts(lines: Sequence[Numbered]) -> Tuple[List[Numbered], List[Numbered]]:
+def _parts(lines: Sequence[Numbered]) -> tuple[list[Numbered], list[Numbered]]:
     """A picture, and what follows the first blank line."""
     end = next((place for place, (_, line) in enumerate(lines) if not line), len(lines))
     return list(lines[:end]), list(lines[end:])
@@ -147,7 +147,7 @@ def _parts(lines: Sequence[Numbered]) -> Tuple[List[Numbered], List[Numbered]]:
 
 def _check(cages: Sequence[Cage], size: int) -> None:
     """Raises `TableFault` where a cage lies outside, over another one, in parts, or can't have its sum."""
-    owner: Dict[Square, Cage] = {}
+    owner: dict[Square, Cage] = {}
     for cage in cages:
         for cell in cage.cells:
             if max(cell) >= size:
@@ -183,7 +183,7 @@ def _told(cell: Square) -> str:
     return f"r{cell[0] + 1}c{cell[1] + 1}"
 
 
-def _apart(cage: Cage) -> Set[Square]:
+def _apart(cage: Cage) -> set[Square]:
     """The cells that can't be reached from the first one within the cage."""
     left = set(cage.cells)
     waiting = [cage.cells[0]]

@@ -3,7 +3,6 @@
 Those of the flat pieces are sets of `polyominoes`.
 """
 
-from typing import Dict
 
 from . import polyominoes
 
@@ -69,7 +68,7 @@ pp. ...
 .q. qq.
 """
 
-SETS: Dict[str, str] = {
+SETS: dict[str, str] = {
     **polyominoes.SETS,
     "soma": "\n".join([_V, _L, _T, _Z, _SOLID]),
     "tetracubes": "\n".join([_I, _L, _O, _T, _Z, _SOLID]),

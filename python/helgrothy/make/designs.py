@@ -4,9 +4,10 @@ from __future__ import annotations
 
 import itertools
 import re
+from collections.abc import Hashable, Iterable, Iterator, Sequence
 from dataclasses import dataclass
 from math import comb, prod
-from typing import Dict, Hashable, Iterable, Iterator, List, Optional, Sequence, Tuple
+from typing import Optional
 
 from ..errors import TableFault
 from ..names import colour_names
@@ -14,9 +15,9 @@ from ..problem import Problem
 from ..syntax import MOST_USES, bytes_of
 from .kind import check_items, numbered
 
-Option = Dict[Hashable, Optional[str]]
+Option = dict[Hashable, Optional[str]]
 # What comes together in a test: values of some factors, each factor and value by its number.
-Meeting = Tuple[Tuple[int, int], ...]
+Meeting = tuple[tuple[int, int], ...]
 
 MOST_STRENGTH = 10
 # Numbers of values, such as `3,3,2` or `3^2,2`.
@@ -32,8 +33,8 @@ class Factor:
     """A factor, and its values with the colours that they have in a problem, which are shorter where need be."""
 
     name: str
-    values: Tuple[str, ...]
-    colours: Tuple[str, ...]
+    values: tuple[str, ...]
+    colours: tuple[str, ...]
 
     @staticmethod
     def of(name: str, values: Iterable[str]) -> Factor:
@@ -44,7 +45,7 @@ class Factor:
 # ---- reading
 
 
-def read_factors(text: str) -> List[Factor]:
+def read_factors(text: str) -> list[Factor]:
     """The factors of a table, a line for each, or of numbers of values. Raises `TableFault`."""
     given = text.strip()
     factors = list(_by_levels(given) if LEVELS.match(given) else _by_lines(text))
@@ -68,7 +69,7 @@ def _by_levels(text: str) -> Iterator[Factor]:
 
 
 def _by_lines(text: str) -> Iterator[Factor]:
-    lines: Dict[str, int] = {}
+    lines: dict[str, int] = {}
     for number, line in numbered(text):
         words = line.split()
         if not words or words[0].startswith("#"):
@@ -105,7 +106,7 @@ class Design:
     Raises `ValueError` for fewer tests, and for more than a problem takes.
     """
 
-    def __init__(self, factors: Sequence[Factor], tests: Optional[int], strength: int) -> None:
+    def __init__(self, factors: Sequence[Factor], tests: int | None, strength: int) -> None:
         """tests: how many, or None for the least."""
         if not 1 <= strength <= min(MOST_STRENGTH, len(factors)):
             most = f"at most {MOST_STRENGTH}" if len(factors) > MOST_STRENGTH else f"there are {len(factors)} factors"
@@ -119,7 +120,7 @@ class Design:
         if self.tests < self.least:
             raise ValueError(f"{tests} tests are too few: {self.reason}")
         self._check_size()
-        self.meetings: List[Meeting] = list(self._all_meetings())
+        self.meetings: list[Meeting] = list(self._all_meetings())
         self._firsts = {first: test for test, first in enumerate(self._values_of(self._largest))}
 
     @property
@@ -149,7 +150,7 @@ class Design:
         for values in itertools.product(*(range(self._levels[factor]) for factor in chosen)):
             yield tuple(zip(chosen, values))
 
-    def first_test(self, test: Dict[int, int]) -> int:
+    def first_test(self, test: dict[int, int]) -> int:
         """The place of a test with these values among the first ones."""
         return self._firsts[tuple((factor, test[factor]) for factor in self._largest)]
 
@@ -170,7 +171,7 @@ class Design:
             held[f"t{test + 1}/{self.factors[factor].name}"] = self.factors[factor].colours[value]
         return held
 
-    def _item(self, meeting: Meeting) -> Tuple[str, ...]:
+    def _item(self, meeting: Meeting) -> tuple[str, ...]:
         """The item of what comes together, for which `Problem` makes a name."""
         return tuple(f"{self.factors[factor].name}={self.factors[factor].values[value]}" for factor, value in meeting)
 
@@ -189,7 +190,7 @@ class Design:
         )
 
 
-def _sums(levels: Sequence[int], most: int) -> List[int]:
+def _sums(levels: Sequence[int], most: int) -> list[int]:
     """How many values come together of 0, 1, .. factors: sums of products, to which each factor adds."""
     sums = [1] + [0] * most
     for level in levels:

@@ -9,8 +9,8 @@ from __future__ import annotations
 import itertools
 import random
 import time
+from collections.abc import Iterator, Sequence
 from dataclasses import dataclass
-from typing import Dict, Iterator, List, Optional, Sequence, Set, Tuple
 
 from ..errors import OutOfTime
 from ..problem import Problem
@@ -18,7 +18,7 @@ from .designs import Design, Factor, Meeting, Option
 from .kind import Found
 
 # A test: the values that it has, by the number of the factor.
-Test = Dict[int, int]
+Test = dict[int, int]
 
 # The shortest try; others are twice as long, four times and so on.
 _TRY_SECONDS = 0.3
@@ -34,7 +34,7 @@ class Few:
     """
 
     problem: Problem[Option]
-    numbers: List[int]
+    numbers: list[int]
     tests: int
     reason: str
 
@@ -70,7 +70,7 @@ def fewest(factors: Sequence[Factor], strength: int, seconds: float) -> Few:
     return Few(problem, numbers, design.tests, reason)
 
 
-def _search(problem: Problem[Option], deadline: float) -> Optional[List[int]]:
+def _search(problem: Problem[Option], deadline: float) -> list[int] | None:
     """The places of a solution's options, or None where there is no solution. Raises `OutOfTime`."""
     tried, order = problem, list(range(len(problem.options)))
     for number in itertools.count(1):
@@ -93,7 +93,7 @@ def _length(number: int) -> int:
     return (number + 1) >> 1
 
 
-def _shuffled(problem: Problem[Option], seed: int) -> Tuple[Problem[Option], List[int]]:
+def _shuffled(problem: Problem[Option], seed: int) -> tuple[Problem[Option], list[int]]:
     """The problem with its items and options in another order, and the places that the options had."""
     rng = random.Random(seed)
     items, order = list(problem.items), list(range(len(problem.options)))
@@ -105,14 +105,14 @@ def _shuffled(problem: Problem[Option], seed: int) -> Tuple[Problem[Option], Lis
 # ---- a quick design
 
 
-def _quick(factors: Sequence[Factor], strength: int, deadline: float) -> Tuple[Design, List[int]]:
+def _quick(factors: Sequence[Factor], strength: int, deadline: float) -> tuple[Design, list[int]]:
     """A design without a search, each of whose tests takes up much of what is missing, and the places of its options.
 
     Raises `OutOfTime`.
     """
     model = Design(factors, None, strength)
     missing = set(model.meetings)
-    tests: List[Test] = []
+    tests: list[Test] = []
     for meeting in model.meetings:
         if meeting in missing:
             if time.monotonic() > deadline:
@@ -123,7 +123,7 @@ def _quick(factors: Sequence[Factor], strength: int, deadline: float) -> Tuple[D
     return design, list(_places(design, _in_order(design, tests)))
 
 
-def _next_test(factors: Sequence[Factor], strength: int, meeting: Meeting, missing: Set[Meeting]) -> Test:
+def _next_test(factors: Sequence[Factor], strength: int, meeting: Meeting, missing: set[Meeting]) -> Test:
     """A test with this, and then with that value of each factor by which most that is missing comes together."""
     test = dict(meeting)
     for factor in sorted(set(range(len(factors))) - set(test), key=lambda at: (-len(factors[at].values), at)):
@@ -140,10 +140,10 @@ def _held(test: Test, strength: int) -> Iterator[Meeting]:
     return itertools.combinations(sorted(test.items()), strength)
 
 
-def _in_order(design: Design, tests: Sequence[Test]) -> List[Test]:
+def _in_order(design: Design, tests: Sequence[Test]) -> list[Test]:
     """The tests in the order of the model, which begins with one for each of the values of its first tests."""
-    firsts: Dict[int, Test] = {}
-    rest: List[Test] = []
+    firsts: dict[int, Test] = {}
+    rest: list[Test] = []
     for test in tests:
         if firsts.setdefault(design.first_test(test), test) is not test:
             rest.append(test)
@@ -152,7 +152,7 @@ def _in_order(design: Design, tests: Sequence[Test]) -> List[Test]:
 
 def _places(design: Design, tests: Sequence[Test]) -> Iterator[int]:
     """The places of the options that make up a design: what comes together, in the first test where it does."""
-    where: Dict[Meeting, int] = {}
+    where: dict[Meeting, int] = {}
     for number, test in enumerate(tests):
         for meeting in _held(test, design.strength):
             where.setdefault(meeting, number)

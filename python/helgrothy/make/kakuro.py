@@ -6,15 +6,16 @@ import argparse
 import itertools
 import re
 from collections import Counter
+from collections.abc import Iterator, Sequence
 from dataclasses import dataclass, field
-from typing import Any, Dict, FrozenSet, Iterator, List, Optional, Sequence, Set, Tuple
+from typing import Any
 
 from ..draw import Cell, Drawing, Picture, check_size
 from ..errors import TableFault
 from ..problem import Problem
 from .kind import Counted, Kind, check_items, cut, picture, read_text
 
-Square = Tuple[int, int]
+Square = tuple[int, int]
 
 DIGITS = range(1, 10)
 _ACROSS, _DOWN = "across", "down"
@@ -35,11 +36,11 @@ class _Run:
     way: str
     line: int
     total: int
-    cells: List[Square]
-    sets: List[FrozenSet[int]] = field(default_factory=list)
+    cells: list[Square]
+    sets: list[frozenset[int]] = field(default_factory=list)
 
 
-def problem(grid: str) -> Problem[List[str]]:
+def problem(grid: str) -> Problem[list[str]]:
     """The Kakuro of this picture: cells with blanks between them, a row in each line.
 
     A dot is a white cell, a digit one that is given, # a black one. `17\\24` is a black cell with the sum 17 below it
@@ -57,13 +58,13 @@ def problem(grid: str) -> Problem[List[str]]:
     check_items(len(white))
     runs = list(_runs(rows, marks))
     _check_totals(rows, runs)
-    own: Dict[Square, List[_Run]] = {}
+    own: dict[Square, list[_Run]] = {}
     for run in runs:
         for at in run.cells:
             own.setdefault(at, []).append(run)
     _check_given(rows, runs, marks)
     check_items(len(white) + 10 * len(runs))
-    options: Counted[List[str]] = Counted()
+    options: Counted[list[str]] = Counted()
     for at in white:
         for digit in DIGITS if marks[at] in _WHITE else [int(marks[at])]:
             if all(any(digit in digits for digits in run.sets) for run in own.get(at, ())):
@@ -93,7 +94,7 @@ def _name(at: Square) -> str:
 # ---- the picture
 
 
-def _marks(rows: Sequence[Tuple[int, List[str]]]) -> Dict[Square, str]:
+def _marks(rows: Sequence[tuple[int, list[str]]]) -> dict[Square, str]:
     """What stands in each cell."""
     wide = Counter(len(words) for _, words in rows if words).most_common(1)[0][0]
     marks = {}
@@ -109,7 +110,7 @@ def _marks(rows: Sequence[Tuple[int, List[str]]]) -> Dict[Square, str]:
     return marks
 
 
-def _runs(rows: Sequence[Tuple[int, List[str]]], marks: Dict[Square, str]) -> Iterator[_Run]:
+def _runs(rows: Sequence[tuple[int, list[str]]], marks: dict[Square, str]) -> Iterator[_Run]:
     """The runs that have a sum. Raises `TableFault` for one that hasn't, or can't have it."""
     for way, (down, right) in _STEPS.items():
         for (r, c), mark in marks.items():
@@ -134,7 +135,7 @@ def _runs(rows: Sequence[Tuple[int, List[str]]], marks: Dict[Square, str]) -> It
                 yield run
 
 
-def _is_white(marks: Dict[Square, str], at: Square) -> bool:
+def _is_white(marks: dict[Square, str], at: Square) -> bool:
     mark = marks.get(at)
     return mark is not None and (mark in _WHITE or mark.isdigit())
 
@@ -143,7 +144,7 @@ def _where(way: str) -> str:
     return "to the right" if way == _ACROSS else "downwards"
 
 
-def _sets(run: _Run, mark: str) -> Iterator[FrozenSet[int]]:
+def _sets(run: _Run, mark: str) -> Iterator[frozenset[int]]:
     """The digits that a run may have. Raises `TableFault` where there are none."""
     count, beside = len(run.cells), "to its right" if run.way == _ACROSS else "below it"
     if not count:
@@ -160,14 +161,14 @@ def _sets(run: _Run, mark: str) -> Iterator[FrozenSet[int]]:
             yield frozenset(digits)
 
 
-def _check_totals(rows: Sequence[Tuple[int, List[str]]], runs: Sequence[_Run]) -> None:
+def _check_totals(rows: Sequence[tuple[int, list[str]]], runs: Sequence[_Run]) -> None:
     """Raises `TableFault` where cells that are connected sum to one number across and to another one down."""
     across = {at: run for run in runs if run.way == _ACROSS for at in run.cells}
     down = {at: run for run in runs if run.way == _DOWN for at in run.cells}
     left = set(across) | set(down)
     while left:
         first = min(left)
-        joined: Set[Square] = set()
+        joined: set[Square] = set()
         waiting = [first]
         while waiting:
             at = waiting.pop()
@@ -184,7 +185,7 @@ def _check_totals(rows: Sequence[Tuple[int, List[str]]], runs: Sequence[_Run]) -
 
 
 def _check_given(
-    rows: Sequence[Tuple[int, List[str]]], runs: Sequence[_Run], marks: Dict[Square, str]
+    rows: Sequence[tuple[int, list[str]]], runs: Sequence[_Run], marks: dict[Square, str]
 ) -> None:
     """Raises `TableFault` where the digits that are given don't fit the sum of their run."""
     for run in runs:
@@ -206,7 +207,7 @@ def _check_given(
 def drawing(problem: Problem[Any]) -> Drawing:
     """The grid with its digits, as it is written."""
     board = [(int(found.group(1)), int(found.group(2))) for found in map(_CELL.match, problem.item_names) if found]
-    sums: Dict[Square, List[str]] = {}
+    sums: dict[Square, list[str]] = {}
     for option in problem.options:
         name, *words = problem.line(option).split()
         run = _RUN.match(name)
@@ -236,7 +237,7 @@ def drawing(problem: Problem[Any]) -> Drawing:
     return draw
 
 
-def _cut(line: str) -> Tuple[Optional[Square], Optional[str]]:
+def _cut(line: str) -> tuple[Square | None, str | None]:
     """The cell and the digit of an option, if it is that of a cell."""
     words = line.split()
     cell = next((found for found in map(_CELL.match, words) if found), None)
@@ -253,7 +254,7 @@ def _add_arguments(parser: argparse.ArgumentParser) -> None:
     )
 
 
-def _make(arguments: argparse.Namespace) -> Problem[List[str]]:
+def _make(arguments: argparse.Namespace) -> Problem[list[str]]:
     return problem(read_text(arguments.grid))
 
 

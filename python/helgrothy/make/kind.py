@@ -4,8 +4,9 @@ from __future__ import annotations
 
 import argparse
 import re
+from collections.abc import Callable, Sequence, Sized
 from dataclasses import dataclass
-from typing import Any, Callable, List, Optional, Sequence, Sized, Tuple, TypeVar
+from typing import Any, TypeVar
 
 from ..console import read
 from ..draw import Drawing
@@ -24,7 +25,7 @@ class Found:
     """A solution that a kind's own search found: the problem, the places of the options, and what is known of it."""
 
     problem: Problem[Any]
-    numbers: List[int]
+    numbers: list[int]
     remark: str
 
 
@@ -43,11 +44,11 @@ class Kind:
     make: Callable[[argparse.Namespace], Problem[Any]]
     drawing: Callable[[Problem[Any]], Drawing]
     add_search_arguments: Callable[[argparse.ArgumentParser], None] = lambda parser: None
-    search: Callable[[argparse.Namespace], Optional[Callable[[Optional[float]], Found]]] = lambda arguments: None
-    cell: Optional[str] = None
+    search: Callable[[argparse.Namespace], Callable[[float | None], Found] | None] = lambda arguments: None
+    cell: str | None = None
 
 
-def kind_of(comments: Sequence[str]) -> Optional[str]:
+def kind_of(comments: Sequence[str]) -> str | None:
     """The name of the kind that the comments of a problem tell."""
     made = _MADE.match(comments[0]) if comments else None
     return made.group(1) if made else None
@@ -62,7 +63,7 @@ def read_text(path: str) -> str:
         raise ValueError(f"{name}: byte {error.start + 1} isn't UTF-8") from None
 
 
-class Counted(List[T]):
+class Counted(list[T]):
     """Options as they are made: no more than a problem may have. Raises `ValueError`."""
 
     def __init__(self) -> None:
@@ -87,12 +88,12 @@ def cut(text: str) -> str:
     return text if len(text) <= _MOST_TOLD else f"{text[:_MOST_TOLD]} .."
 
 
-def numbered(text: str) -> List[Tuple[int, str]]:
+def numbered(text: str) -> list[tuple[int, str]]:
     """The lines of a text with their numbers, without blanks at their ends."""
     return [(number, line.rstrip()) for number, line in enumerate(text.splitlines(), 1)]
 
 
-def picture(text: str) -> List[Tuple[int, str]]:
+def picture(text: str) -> list[tuple[int, str]]:
     """The lines of a picture: those from the first to the last that isn't blank. Raises `TableFault`."""
     lines = numbered(text)
     while lines and not lines[0][1]:

@@ -3,14 +3,15 @@
 from __future__ import annotations
 
 import argparse
-from typing import Any, List, Sequence
+from collections.abc import Sequence
+from typing import Any
 
 from ..draw import Cell, Drawing, Picture, Shades, check_size
 from ..problem import Problem
 from .kind import Counted, Kind, check_items
 
 
-def problem(pairs: int) -> Problem[List[str]]:
+def problem(pairs: int) -> Problem[list[str]]:
     """The pairs 1 to `pairs` in twice as many places. There are solutions where pairs is 3 or 0 more than a
     multiple of 4, each in two images.
 
@@ -20,7 +21,7 @@ def problem(pairs: int) -> Problem[List[str]]:
         raise ValueError("there has to be a pair")
     places = 2 * pairs
     check_items(pairs + places)
-    options: Counted[List[str]] = Counted()
+    options: Counted[list[str]] = Counted()
     for i in range(1, pairs + 1):
         for first in range(1, places - i):
             options.add([str(i), f"s{first}", f"s{first + i + 1}"])

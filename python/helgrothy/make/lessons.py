@@ -14,8 +14,9 @@ import csv
 import io
 import re
 from collections import Counter
+from collections.abc import Iterator
 from dataclasses import dataclass, field
-from typing import Dict, Iterator, List, NamedTuple, NoReturn, Optional, Set, Tuple
+from typing import NoReturn
 
 from ..errors import TableFault
 from ..syntax import MOST_NAME, MOST_USES, Nearest, bytes_of
@@ -39,7 +40,7 @@ class _Line:
 
     number: int
     kind: str
-    cells: Dict[str, str]
+    cells: dict[str, str]
 
     def __str__(self) -> str:
         return f"{self.kind} of line {self.number}"
@@ -48,16 +49,16 @@ class _Line:
     def name(self) -> str:
         return self.cells["name"]
 
-    def words(self, cell: str) -> List[str]:
+    def words(self, cell: str) -> list[str]:
         """The words of a cell, each once."""
-        seen: Dict[str, None] = {}
+        seen: dict[str, None] = {}
         for word in self.cells[cell].split():
             if word in seen:
                 self.refuse(word, f"twice among the {cell} of {self.name}")
             seen[word] = None
         return list(seen)
 
-    def count(self, cell: str) -> Optional[int]:
+    def count(self, cell: str) -> int | None:
         """The number in a cell, or None for an empty one."""
         word = self.cells[cell]
         if word and (not _NUMBER.match(word) or int(word) == 0):
@@ -68,7 +69,8 @@ class _Line:
         raise TableFault(self.number, token, reason, hint)
 
 
-class Slot(NamedTuple):
+@dataclass(frozen=True)
+class Slot:
     """An hour of a day; a day without hours is one."""
 
     day: str
@@ -83,8 +85,8 @@ class Slot(NamedTuple):
 class Places:
     """Where something may be: of days, hours, slots and rooms in any of those that are wanted, and in none barred."""
 
-    wanted: Dict[str, Set[str]] = field(default_factory=dict)
-    barred: Set[str] = field(default_factory=set)
+    wanted: dict[str, set[str]] = field(default_factory=dict)
+    barred: set[str] = field(default_factory=set)
 
     def allow(self, slot: Slot, room: str) -> bool:
         names = {"day": slot.day, "hour": slot.hour, "slot": slot.name, "room": room}
@@ -101,7 +103,7 @@ class Room:
     """A room, and where that is open; without seats it has as many as are needed."""
 
     name: str
-    seats: Optional[int]
+    seats: int | None
     places: Places
 
 
@@ -112,8 +114,8 @@ class Person:
     line: _Line
     name: str
     places: Places
-    daily: Optional[int]
-    lessons: List[Lesson] = field(default_factory=list)
+    daily: int | None
+    lessons: list[Lesson] = field(default_factory=list)
 
     @property
     def asked(self) -> int:
@@ -128,9 +130,9 @@ class Lesson:
     line: _Line
     name: str
     places: Places
-    given_seats: Optional[int]
+    given_seats: int | None
     times: int
-    people: Dict[str, Person] = field(default_factory=dict)
+    people: dict[str, Person] = field(default_factory=dict)
 
     @property
     def seats(self) -> int:
@@ -143,15 +145,15 @@ class Plan:
     Without a room in the table there is one that is named by an empty text, and takes all.
     """
 
-    def __init__(self, text: str, daily: Optional[int] = None) -> None:
+    def __init__(self, text: str, daily: int | None = None) -> None:
         """daily: for people without a number of their own. Raises `TableFault`."""
-        lines: Dict[str, List[_Line]] = {kind: [] for kind in _CELLS}
+        lines: dict[str, list[_Line]] = {kind: [] for kind in _CELLS}
         for line in _lines(text):
             lines[line.kind].append(line)
         self._daily = daily
         self._nearest = Nearest()
         # Days, hours, slots and rooms are places, so each name is of one of them.
-        self._kinds: Dict[str, str] = {}
+        self._kinds: dict[str, str] = {}
         self.slots = [slot for line in lines["day"] for slot in self._slots_of(line)]
         if not self.slots:
             raise TableFault(1, "", "no line `day,NAME,HOURS`")
@@ -160,8 +162,8 @@ class Plan:
         self.rooms = [Room(line.name, line.count("seats"), self._places(line)) for line in lines["room"]]
         self.has_rooms = bool(self.rooms)
         self.rooms = self.rooms or [Room("", None, _ANYWHERE)]
-        self.people: Dict[str, Person] = {}
-        self.lessons: Dict[str, Lesson] = {}
+        self.people: dict[str, Person] = {}
+        self.lessons: dict[str, Lesson] = {}
         for line in lines["person"]:
             self._take_person(line)
         for line in sorted(lines["lesson"] + lines["exam"], key=lambda line: line.number):
@@ -238,7 +240,7 @@ class Plan:
         if not person.lessons:
             line.refuse(line.name, "a person without a lesson or exam")
 
-    def places_of(self, lesson: Lesson) -> Iterator[Tuple[Slot, Room]]:
+    def places_of(self, lesson: Lesson) -> Iterator[tuple[Slot, Room]]:
         """The slots and rooms in which a lesson may be held."""
         # Most people have the same places: anywhere.
         asked = {id(person.places): person.places for person in lesson.people.values()}

@@ -4,9 +4,10 @@ from __future__ import annotations
 
 import argparse
 import re
+from collections.abc import Iterator, Sequence
 from dataclasses import dataclass
 from itertools import groupby
-from typing import Any, Dict, Iterator, List, Optional, Sequence, Tuple
+from typing import Any, Optional
 
 from ..draw import Cell, Drawing, Picture, check_size
 from ..errors import TableFault
@@ -14,8 +15,8 @@ from ..problem import Problem
 from ..syntax import MOST_USES
 from .kind import Counted, Kind, cut, numbered, read_text
 
-Option = Dict[str, Optional[str]]
-Clue = Tuple[int, ...]
+Option = dict[str, Optional[str]]
+Clue = tuple[int, ...]
 
 FILLED, EMPTY = "#", "."
 _HEADS = ("rows", "columns")
@@ -82,10 +83,10 @@ def problem(clues: str) -> Problem[Option]:
 # ---- the clues
 
 
-def _read(text: str) -> Tuple[List[_Line], List[_Line]]:
+def _read(text: str) -> tuple[list[_Line], list[_Line]]:
     """The clues of the rows and of the columns."""
-    parts: List[List[_Line]] = [[]]
-    sides: Dict[str, Tuple[int, int]] = {}
+    parts: list[list[_Line]] = [[]]
+    sides: dict[str, tuple[int, int]] = {}
     last = 1
     for number, line in numbered(text):
         words = line.replace(",", " ").split()
@@ -147,7 +148,7 @@ def _check(rows: Sequence[_Line], columns: Sequence[_Line]) -> None:
 # ---- arrangements of a line
 
 
-def _ends(clue: Clue, marks: Sequence[str]) -> List[List[bool]]:
+def _ends(clue: Clue, marks: Sequence[str]) -> list[list[bool]]:
     """[k][i]: whether the runs from k on may be laid into the squares from i on. A mark is #, ., or a blank: either."""
     size = len(marks)
     may = [[False] * (size + 2) for _ in range(len(clue) + 1)]
@@ -198,7 +199,7 @@ def _count(clue: Clue, marks: Sequence[str]) -> int:
     return ways[0]
 
 
-def _known(clue: Clue, marks: Sequence[str]) -> Optional[List[str]]:
+def _known(clue: Clue, marks: Sequence[str]) -> list[str] | None:
     """The marks that all arrangements have in common, or None where there is no arrangement."""
     size = len(marks)
     after = _ends(clue, marks)
@@ -236,7 +237,7 @@ class _Board:
         self._columns = columns
         self.marks = {(r, c): " " for r in range(1, len(rows) + 1) for c in range(1, len(columns) + 1)}
 
-    def lines(self) -> Iterator[Tuple[str, _Line, List[Tuple[int, int]]]]:
+    def lines(self) -> Iterator[tuple[str, _Line, list[tuple[int, int]]]]:
         """Rows and columns with their names and squares."""
         for r, line in enumerate(self._rows, 1):
             yield f"row{r}", line, [(r, c) for c in range(1, len(self._columns) + 1)]
@@ -270,7 +271,7 @@ class _Board:
 
 def drawing(problem: Problem[Any]) -> Drawing:
     """Filled squares, with the clues beside the rows and above the columns."""
-    clues: Dict[str, List[Clue]] = {"row": [], "col": []}
+    clues: dict[str, list[Clue]] = {"row": [], "col": []}
     numbers = {name: found for name in problem.item_names if (found := _LINE.match(name))}
     for kind, own in clues.items():
         count = max(int(found.group(2)) for found in numbers.values() if found.group(1) == kind)

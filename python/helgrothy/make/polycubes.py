@@ -5,7 +5,8 @@ from __future__ import annotations
 import argparse
 import re
 from collections import Counter
-from typing import Any, Dict, FrozenSet, Iterator, List, Sequence, Tuple
+from collections.abc import Iterator, Sequence
+from typing import Any
 
 from ..draw import Cell, Drawing, Shades
 from ..errors import TableFault
@@ -16,8 +17,8 @@ from ..turns import images
 from .cubes import SETS
 from .kind import Counted, Kind, check_items, numbered, read_text
 
-Form = FrozenSet[Tuple[int, ...]]
-Lines = List[Tuple[int, str]]
+Form = frozenset[tuple[int, ...]]
+Lines = list[tuple[int, str]]
 
 _BOX = re.compile(r"([0-9]{1,9})x([0-9]{1,9})x([0-9]{1,9})\Z")
 _SIZES = re.compile(r"[0-9]+(x[0-9]+)*x?\Z")
@@ -28,7 +29,7 @@ _MOST_LOOKS = 10 * MOST_USES
 
 def problem(
     pieces: str = "soma", box: str = "3x3x3", *, mirrors: bool = False, some: bool = False
-) -> Problem[List[str]]:
+) -> Problem[list[str]]:
     """A box or another region to be filled by pieces of cubes, each used as often as it is given.
 
     pieces: `soma`, `tetracubes`, `pentacubes`, `tetrominoes`, `pentominoes`, or pictures with blank lines between.
@@ -42,8 +43,8 @@ def problem(
     """
     cells = _region(box)
     copies: Counter[str] = Counter()
-    forms: Dict[str, Form] = {}
-    lines: Dict[str, int] = {}
+    forms: dict[str, Form] = {}
+    lines: dict[str, int] = {}
     for number, name, form in _pieces(SETS.get(pieces, pieces)):
         if forms.setdefault(name, form) != form:
             raise TableFault(number, name, f"the piece of line {lines[name]} has this letter, and is another one")
@@ -53,7 +54,7 @@ def problem(
         raise TableFault(1, "", "no piece")
     _check_volume(sum(len(form) * copies[name] for name, form in forms.items()), len(cells), some)
     check_items(len(forms) + len(cells))
-    options: Counted[List[str]] = Counted()
+    options: Counted[list[str]] = Counted()
     looks = 0
     for name, form in forms.items():
         before = len(options)
@@ -103,7 +104,7 @@ def _check_volume(cubes: int, cells: int, some: bool) -> None:
 # ---- reading
 
 
-def _region(box: str) -> List[Cube]:
+def _region(box: str) -> list[Cube]:
     found = _BOX.match(box)
     if found is not None:
         layers, high, wide = map(int, found.groups())
@@ -127,7 +128,7 @@ def _region(box: str) -> List[Cube]:
     return sorted(cells)
 
 
-def _pieces(text: str) -> Iterator[Tuple[int, str, Form]]:
+def _pieces(text: str) -> Iterator[tuple[int, str, Form]]:
     """Each piece's first line, letter and cubes."""
     block: Lines = []
     for number, line in [*numbered(text), (0, "")]:
@@ -138,7 +139,7 @@ def _pieces(text: str) -> Iterator[Tuple[int, str, Form]]:
             block = []
 
 
-def _piece(block: Lines) -> Tuple[int, str, Form]:
+def _piece(block: Lines) -> tuple[int, str, Form]:
     first = block[0][0]
     marks = {(layer, r, c): mark for layer, r, c, mark in _cubes(block) if mark != "."}
     letters = sorted(set(marks.values()))
@@ -150,7 +151,7 @@ def _piece(block: Lines) -> Tuple[int, str, Form]:
     return first, letters[0], frozenset(tuple(at - low for at, low in zip(cube, least)) for cube in marks)
 
 
-def _cubes(block: Lines) -> Iterator[Tuple[int, int, int, str]]:
+def _cubes(block: Lines) -> Iterator[tuple[int, int, int, str]]:
     """The marks of a picture by layer, row and column, from 1 on: each word of a line is a row of a layer."""
     layers = len(block[0][1].split())
     for r, (number, line) in enumerate(block, 1):
@@ -183,7 +184,7 @@ def _is_one(cubes: Sequence[Cube]) -> bool:
     return not left
 
 
-def _laid(form: Form, cells: Sequence[Cube]) -> Iterator[List[Cube]]:
+def _laid(form: Form, cells: Sequence[Cube]) -> Iterator[list[Cube]]:
     """The places of a form in the region: each lays its first cube on a cell."""
     held = set(cells)
     first, *_ = cubes = sorted(form)
@@ -244,7 +245,7 @@ def _add_arguments(parser: argparse.ArgumentParser) -> None:
     parser.add_argument("--some", action="store_true", help="pieces may be left over")
 
 
-def _make(arguments: argparse.Namespace) -> Problem[List[str]]:
+def _make(arguments: argparse.Namespace) -> Problem[list[str]]:
     pieces = arguments.pieces if arguments.pieces in SETS else read_text(arguments.pieces)
     box = arguments.box if _SIZES.match(arguments.box) else read_text(arguments.box)
     return problem(pieces, box, mirrors=arguments.mirrors, some=arguments.some)

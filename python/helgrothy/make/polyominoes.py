@@ -5,7 +5,8 @@ from __future__ import annotations
 import argparse
 import re
 from collections import Counter
-from typing import Any, Dict, FrozenSet, Iterator, List, Sequence, Set, Tuple
+from collections.abc import Iterator, Sequence
+from typing import Any
 
 from ..draw import Cell, Drawing, Picture, Shades, check_size
 from ..errors import TableFault
@@ -13,8 +14,8 @@ from ..problem import Problem
 from ..syntax import MOST_USES
 from .kind import Counted, Kind, check_items, numbered, picture, read_text
 
-Square = Tuple[int, int]
-Form = FrozenSet[Square]
+Square = tuple[int, int]
+Form = frozenset[Square]
 
 # Sets of pieces that have a name.
 SETS = {
@@ -32,7 +33,7 @@ _MOST_LOOKS = 10 * MOST_USES
 
 def problem(
     pieces: str = "pentominoes", region: str = "6x10", *, turns: bool = True, mirrors: bool = True
-) -> Problem[List[str]]:
+) -> Problem[list[str]]:
     """A region to be filled by pieces, each used as often as it is given.
 
     pieces: `pentominoes`, `tetrominoes`, or pictures parted by blank lines. A piece's squares are a letter, which is
@@ -43,9 +44,9 @@ def problem(
     An option is a piece with the cells rRcC that it fills. Raises `TableFault`.
     """
     cells = _region(region)
-    options: Counted[List[str]] = Counted()
+    options: Counted[list[str]] = Counted()
     copies: Counter[str] = Counter()
-    forms: Dict[str, Form] = {}
+    forms: dict[str, Form] = {}
     for number, name, form in _pieces(SETS.get(pieces, pieces)):
         if forms.setdefault(name, form) != form:
             raise TableFault(number, name, "another piece has this letter")
@@ -71,7 +72,7 @@ def problem(
     )
 
 
-def _region(region: str) -> List[Square]:
+def _region(region: str) -> list[Square]:
     box = _BOX.match(region)
     if box is not None:
         high, wide = int(box.group(1)), int(box.group(2))
@@ -92,9 +93,9 @@ def _rows(cells: Sequence[Square]) -> Iterator[str]:
         yield "".join("." if (r, c) in held else "#" for c in range(1, max(c for _, c in cells) + 1))
 
 
-def _pieces(text: str) -> Iterator[Tuple[int, str, Form]]:
+def _pieces(text: str) -> Iterator[tuple[int, str, Form]]:
     """Each piece's first line, letter and squares."""
-    block: List[Tuple[int, str]] = []
+    block: list[tuple[int, str]] = []
     for number, line in [*numbered(text), (0, "")]:
         if line:
             block.append((number, line))
@@ -113,9 +114,9 @@ def _moved(squares: Sequence[Square]) -> Form:
     return frozenset((r - top, c - left) for r, c in squares)
 
 
-def _turned(form: Form, turns: bool, mirrors: bool) -> List[Form]:
+def _turned(form: Form, turns: bool, mirrors: bool) -> list[Form]:
     """The turns and mirror images of a piece, each once."""
-    found: Set[Form] = set()
+    found: set[Form] = set()
     for image in [form, _moved([(r, -c) for r, c in form])] if mirrors else [form]:
         for _ in range(4 if turns else 1):
             found.add(image)
@@ -123,7 +124,7 @@ def _turned(form: Form, turns: bool, mirrors: bool) -> List[Form]:
     return sorted(found, key=sorted)
 
 
-def _laid(form: Form, cells: Sequence[Square]) -> Iterator[List[Square]]:
+def _laid(form: Form, cells: Sequence[Square]) -> Iterator[list[Square]]:
     """The places of a form in the region: each lays its first square on a cell."""
     held = set(cells)
     squares = sorted(form)
@@ -179,7 +180,7 @@ def _add_arguments(parser: argparse.ArgumentParser) -> None:
     parser.add_argument("--no-mirrors", action="store_true", help="pieces may not be mirrored")
 
 
-def _make(arguments: argparse.Namespace) -> Problem[List[str]]:
+def _make(arguments: argparse.Namespace) -> Problem[list[str]]:
     pieces = arguments.pieces if arguments.pieces in SETS else read_text(arguments.pieces)
     region = arguments.region if _BOX.match(arguments.region) else read_text(arguments.region)
     return problem(pieces, region, turns=not arguments.no_turns, mirrors=not arguments.no_mirrors)

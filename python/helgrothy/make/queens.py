@@ -4,7 +4,8 @@ from __future__ import annotations
 
 import argparse
 import re
-from typing import Any, Dict, Iterator, List, Optional, Sequence, Tuple
+from collections.abc import Iterator, Sequence
+from typing import Any
 
 from ..draw import Cell, Drawing, Picture, Shades
 from ..errors import TableFault
@@ -14,7 +15,7 @@ from .kind import Counted, Kind, check_items, picture, read_text
 _NUMBER = re.compile(r"-?[0-9]{1,18}\Z")
 
 
-def problem(size: int = 0, regions: Optional[str] = None) -> Problem[List[str]]:
+def problem(size: int = 0, regions: str | None = None) -> Problem[list[str]]:
     """Queens on a board of `size` rows and columns; or, from a picture of regions, the puzzle with a queen in each
     row, column and region, none next to another, not even by a corner.
 
@@ -31,7 +32,7 @@ def problem(size: int = 0, regions: Optional[str] = None) -> Problem[List[str]]:
     check_items(6 * size - 6)
     diagonals = [f"{way}{d}" for way in "ab" for d in range(2, 2 * size - 1)]
     known = set(diagonals)
-    options: Counted[List[str]] = Counted()
+    options: Counted[list[str]] = Counted()
     for r in range(1, size + 1):
         for c in range(1, size + 1):
             crossed = [name for name in (f"a{r + c - 1}", f"b{size - r + c}") if name in known]
@@ -47,13 +48,13 @@ def problem(size: int = 0, regions: Optional[str] = None) -> Problem[List[str]]:
     )
 
 
-def _lines(size: int) -> List[str]:
+def _lines(size: int) -> list[str]:
     """Rows and columns from the middle outwards."""
     order = sorted(range(1, size + 1), key=lambda i: (abs(2 * i - size - 1), i))
     return [f"{line}{i}" for i in order for line in "rc"]
 
 
-def _in_regions(text: str) -> Problem[List[str]]:
+def _in_regions(text: str) -> Problem[list[str]]:
     lines = picture(text)
     rows = ["".join(line.split()) for _, line in lines]
     size = len(rows)
@@ -91,13 +92,13 @@ def _corners(r: int, c: int) -> Iterator[str]:
 
 def drawing(problem: Problem[Any]) -> Drawing:
     """A chequered board, or the regions in their colours."""
-    regions: Dict[Tuple[int, int], Optional[str]] = {}
+    regions: dict[tuple[int, int], str | None] = {}
     for option in problem.options:
         place, region = _cut(problem.line(option))
         regions[place] = region
     shades = Shades()
 
-    def square(place: Tuple[int, int]) -> Cell:
+    def square(place: tuple[int, int]) -> Cell:
         region = regions[place]
         if region is not None:
             return Cell(group=region, fill=shades[region])
@@ -112,7 +113,7 @@ def drawing(problem: Problem[Any]) -> Drawing:
     return draw
 
 
-def _cut(line: str) -> Tuple[Tuple[int, int], Optional[str]]:
+def _cut(line: str) -> tuple[tuple[int, int], str | None]:
     """An option's square, and its region if there are any."""
     words = line.split()
     region = next((word[3:] for word in words if word.startswith("in-")), None)
@@ -128,7 +129,7 @@ def _add_arguments(parser: argparse.ArgumentParser) -> None:
     )
 
 
-def _make(arguments: argparse.Namespace) -> Problem[List[str]]:
+def _make(arguments: argparse.Namespace) -> Problem[list[str]]:
     if _NUMBER.match(arguments.board):
         return problem(int(arguments.board))
     return problem(regions=read_text(arguments.board))

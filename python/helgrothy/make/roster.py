@@ -4,8 +4,9 @@ from __future__ import annotations
 
 import argparse
 import re
+from collections.abc import Iterator, Sequence
 from dataclasses import dataclass
-from typing import Any, Dict, Iterator, List, Sequence, Set, Tuple
+from typing import Any
 
 from ..draw import Cell, Drawing, Picture, Shades, check_size
 from ..errors import TableFault
@@ -14,7 +15,7 @@ from ..syntax import MOST_USES
 from .kind import Counted, Kind, numbered, read_text
 
 # How many people a shift of a day takes, at least and at most.
-Needs = Dict[Tuple[str, str], Tuple[int, int]]
+Needs = dict[tuple[str, str], tuple[int, int]]
 
 _NUMBERS = re.compile(r"([0-9]{1,9})(?::([0-9]{1,9}))?\Z")
 
@@ -22,11 +23,11 @@ _NUMBERS = re.compile(r"([0-9]{1,9})(?::([0-9]{1,9}))?\Z")
 @dataclass
 class _Person:
     name: str
-    bounds: Tuple[int, int]
-    off: Set[str]
+    bounds: tuple[int, int]
+    off: set[str]
 
 
-def problem(table: str, *, rest: bool = False) -> Problem[List[str]]:
+def problem(table: str, *, rest: bool = False) -> Problem[list[str]]:
     """A roster from a table.
 
         -      mon tue wed
@@ -50,8 +51,8 @@ def problem(table: str, *, rest: bool = False) -> Problem[List[str]]:
     rests = _Rests(days, shifts)
     if len(needs) * len(people) > MOST_USES:
         raise ValueError(f"{len(needs)} shifts of days for {len(people)} people are too many")
-    options: Counted[List[str]] = Counted()
-    secondary: Dict[str, None] = {}
+    options: Counted[list[str]] = Counted()
+    secondary: dict[str, None] = {}
     for person in people:
         for day, shift in _free(person, needs):
             once = [f"{person.name}-{day}", *(rests.items(person.name, day, shift) if rest else [])]
@@ -82,7 +83,7 @@ class _Rests:
         self._day = {day: at for at, day in reversed(list(enumerate(days)))}
         self._shift = {shift: place for place, shift in enumerate(shifts)}
 
-    def items(self, name: str, day: str, shift: str) -> List[str]:
+    def items(self, name: str, day: str, shift: str) -> list[str]:
         days, shifts = self._days, self._shifts
         at, place = self._day[day], self._shift[shift]
         after = [f"{name}-{day}>{line}" for line in shifts[:place]] if at + 1 < len(days) else []
@@ -90,14 +91,14 @@ class _Rests:
         return after + before
 
 
-def _free(person: _Person, needs: Needs) -> Iterator[Tuple[str, str]]:
+def _free(person: _Person, needs: Needs) -> Iterator[tuple[str, str]]:
     """The shifts of days that a person may take."""
     for (day, shift), (_, most) in needs.items():
         if most and person.off.isdisjoint((day, shift, f"{day}/{shift}")):
             yield day, shift
 
 
-def _read(table: str) -> Tuple[List[str], Needs, List[_Person]]:
+def _read(table: str) -> tuple[list[str], Needs, list[_Person]]:
     lines = [(number, line.split()) for number, line in numbered(table) if not line.startswith("#")]
     while lines and not lines[0][1]:
         lines.pop(0)
@@ -118,7 +119,7 @@ def _read(table: str) -> Tuple[List[str], Needs, List[_Person]]:
     return days, needs, people
 
 
-def _person(number: int, words: Sequence[str], days: Sequence[str], known: Set[str]) -> _Person:
+def _person(number: int, words: Sequence[str], days: Sequence[str], known: set[str]) -> _Person:
     name, *rest = words
     bounds = (0, len(days))
     if rest and not rest[0].startswith("-"):
@@ -129,7 +130,7 @@ def _person(number: int, words: Sequence[str], days: Sequence[str], known: Set[s
     return _Person(name, bounds, {word[1:] for word in rest})
 
 
-def _numbers(number: int, word: str) -> Tuple[int, int]:
+def _numbers(number: int, word: str) -> tuple[int, int]:
     found = _NUMBERS.match(word)
     if found is None:
         raise TableFault(number, word, "neither a number nor two with a colon between")
@@ -169,7 +170,7 @@ def _add_arguments(parser: argparse.ArgumentParser) -> None:
     parser.add_argument("--rest", action="store_true", help="no shift on the next day that stands higher in the table")
 
 
-def _make(arguments: argparse.Namespace) -> Problem[List[str]]:
+def _make(arguments: argparse.Namespace) -> Problem[list[str]]:
     return problem(read_text(arguments.table), rest=arguments.rest)
 
 

@@ -5,7 +5,8 @@ from __future__ import annotations
 import argparse
 import re
 from collections import Counter
-from typing import Any, Dict, Iterable, List, Sequence, Tuple
+from collections.abc import Iterable, Sequence
+from typing import Any
 
 from ..draw import Cell, Drawing, Picture, check_size
 from ..errors import TableFault
@@ -15,7 +16,7 @@ from .kind import Counted, Kind, check_items, numbered, read_text
 _WISH = re.compile(r"(home|away):([0-9]{1,9})\Z")
 
 
-def problem(teams: Iterable[str], *, double: bool = False) -> Problem[List[str]]:
+def problem(teams: Iterable[str], *, double: bool = False) -> Problem[list[str]]:
     """A round robin of teams, each a name and, behind it, wishes such as `home:1` or `away:3`: where it plays in a
     round.
 
@@ -32,7 +33,7 @@ def problem(teams: Iterable[str], *, double: bool = False) -> Problem[List[str]]
     rounds = (len(names) - 1 + len(names) % 2) * (2 if double else 1)
     pairs = len(names) * (len(names) - 1)
     check_items((pairs if double else pairs // 2) + len(names) * rounds)
-    place: Dict[str, int] = {}
+    place: dict[str, int] = {}
     for number, name in enumerate(names):
         place.setdefault(name, number)
     games = {
@@ -41,7 +42,7 @@ def problem(teams: Iterable[str], *, double: bool = False) -> Problem[List[str]]
         for away in names
         if home != away
     }
-    options: Counted[List[str]] = Counted()
+    options: Counted[list[str]] = Counted()
     for (home, away), pair in games.items():
         for number in range(1, rounds + 1):
             if wished[home].get(number) != "away" and wished[away].get(number) != "home":
@@ -50,7 +51,7 @@ def problem(teams: Iterable[str], *, double: bool = False) -> Problem[List[str]]
     played = [f"{name}@{number}" for number in range(1, rounds + 1) for name in names]
     is_even = len(names) % 2 == 0
     least = (len(names) - 1) // 2
-    items: Dict[str, Tuple[int, int]] = {
+    items: dict[str, tuple[int, int]] = {
         **{item: (1, 1) for item in (*games.values(), *(played if is_even else ()))},
         **({} if double else {f"home={name}": (least, len(names) - 1 - least) for name in names}),
     }
@@ -66,7 +67,7 @@ def problem(teams: Iterable[str], *, double: bool = False) -> Problem[List[str]]
     )
 
 
-def _wishes(number: int, words: Sequence[str]) -> Tuple[str, Dict[int, str]]:
+def _wishes(number: int, words: Sequence[str]) -> tuple[str, dict[int, str]]:
     """A team's name, and where it wants to play in a round."""
     wishes = {}
     for word in words[1:]:
@@ -79,7 +80,7 @@ def _wishes(number: int, words: Sequence[str]) -> Tuple[str, Dict[int, str]]:
 
 def drawing(problem: Problem[Any]) -> Drawing:
     """A line for each round, with its games; who is at home stands first."""
-    order: Dict[str, None] = {}
+    order: dict[str, None] = {}
     last = 1
     for option in problem.options:
         home, away, number = _cut(problem.line(option))
@@ -100,7 +101,7 @@ def drawing(problem: Problem[Any]) -> Drawing:
     return draw
 
 
-def _cut(line: str) -> Tuple[str, str, int]:
+def _cut(line: str) -> tuple[str, str, int]:
     """Who is at home, who is away, and the round."""
     _, home, away = line.split()[:3]
     name, _, number = home.rpartition("@")
@@ -116,7 +117,7 @@ def _add_arguments(parser: argparse.ArgumentParser) -> None:
     parser.add_argument("--double", action="store_true", help="each two teams meet twice, once at each one's home")
 
 
-def _make(arguments: argparse.Namespace) -> Problem[List[str]]:
+def _make(arguments: argparse.Namespace) -> Problem[list[str]]:
     return problem((line for _, line in numbered(read_text(arguments.teams))), double=arguments.double)
 
 

@@ -7,7 +7,8 @@ import math
 import os
 import re
 from collections import Counter
-from typing import Any, Dict, FrozenSet, Iterator, List, Optional, Sequence, Tuple
+from collections.abc import Iterator, Sequence
+from typing import Any
 
 from ..draw import Cell, Drawing, Picture
 from ..errors import TableFault
@@ -24,7 +25,7 @@ _DIGIT = re.compile(r"r\d+=(.)\Z")
 _CAGE = re.compile(r"(k\d+)(?:=(.))?\Z")
 
 
-def problem(clues: str = "", *, regions: Optional[str] = None, cages: Optional[str] = None) -> Problem[List[str]]:
+def problem(clues: str = "", *, regions: str | None = None, cages: str | None = None) -> Problem[list[str]]:
     """The Sudoku of these clues: 81 characters row by row, a dot or 0 for an empty place. Another one of 4 to 25 rows
     has as many characters as places; its digits go on after 9 with A, B, .. White space counts for nothing.
 
@@ -42,7 +43,7 @@ def problem(clues: str = "", *, regions: Optional[str] = None, cages: Optional[s
     _check_rows(clues)
     own_region = None if regions is None else areas.regions(regions)
     size = _size(marks, own_region)
-    own_cages: List[Cage] = []
+    own_cages: list[Cage] = []
     if cages is not None:
         own_cages, size = areas.cages(cages, size)
     if marks and len(marks) != size * size:
@@ -54,9 +55,9 @@ def problem(clues: str = "", *, regions: Optional[str] = None, cages: Optional[s
     caged = {cell: number for number, cage in enumerate(own_cages, 1) for cell in cage.cells}
     _check_sets(own_cages, size)
     sets = [list(_sets(cage, digits)) for cage in own_cages]
-    may: List[FrozenSet[str]] = [frozenset(digit for one in found for digit in one) for found in sets]
+    may: list[frozenset[str]] = [frozenset(digit for one in found for digit in one) for found in sets]
     places = [(r, c) for r in range(size) for c in range(size)]
-    options: Counted[List[str]] = Counted()
+    options: Counted[list[str]] = Counted()
     for place, mark in zip(places, marks or "." * len(places)):
         cage = caged.get(place)
         for digit in digits if mark in _EMPTY else mark.upper():
@@ -84,13 +85,13 @@ def problem(clues: str = "", *, regions: Optional[str] = None, cages: Optional[s
     )
 
 
-def _uses(place: Square, region: str, digit: str) -> List[str]:
+def _uses(place: Square, region: str, digit: str) -> list[str]:
     r, c = place
     return [f"r{r + 1}c{c + 1}", f"r{r + 1}={digit}", f"c{c + 1}={digit}", f"b{region}={digit}"]
 
 
 def _comments(
-    marks: str, regions: Optional[Dict[Square, str]], cages: Sequence[Cage], size: int
+    marks: str, regions: dict[Square, str] | None, cages: Sequence[Cage], size: int
 ) -> Iterator[str]:
     told = "".join("." if mark in _EMPTY else mark for mark in marks)
     words = ["--regions REGIONS"] * (regions is not None) + ["--cages CAGES"] * bool(cages)
@@ -112,7 +113,7 @@ def _marks(clues: str) -> str:
     return "".join(clues.split())
 
 
-def _size(marks: str, regions: Optional[Dict[Square, str]]) -> int:
+def _size(marks: str, regions: dict[Square, str] | None) -> int:
     """How many rows there are, or 0 where neither clues nor regions say so. Raises `TableFault`."""
     if regions is not None:
         return max(r for r, _ in regions) + 1
@@ -125,7 +126,7 @@ def _size(marks: str, regions: Optional[Dict[Square, str]]) -> int:
     return size
 
 
-def _boxes(size: int) -> Dict[Square, str]:
+def _boxes(size: int) -> dict[Square, str]:
     """The box of each place: as many rows as columns, or fewer. Raises `TableFault`."""
     high = max(high for high in range(1, size + 1) if size % high == 0 and high * high <= size)
     if high == 1:
@@ -157,7 +158,7 @@ def _check(clues: str, digits: str) -> None:
 def _check_sets(cages: Sequence[Cage], size: int) -> None:
     """Raises `ValueError` where there are too many sets of digits."""
     # Of the digits up to one: how many sets have so many digits and this sum.
-    ways: Counter[Tuple[int, int]] = Counter({(0, 0): 1})
+    ways: Counter[tuple[int, int]] = Counter({(0, 0): 1})
     for digit in range(1, size + 1):
         ways.update({(count + 1, total + digit): times for (count, total), times in ways.items()})
     uses = sum(ways[len(cage.cells), cage.total] * (1 + size - len(cage.cells)) for cage in cages)
@@ -165,10 +166,10 @@ def _check_sets(cages: Sequence[Cage], size: int) -> None:
         raise ValueError(f"the problem would have more than {MOST_USES} uses of items")
 
 
-def _sets(cage: Cage, digits: str) -> Iterator[FrozenSet[str]]:
+def _sets(cage: Cage, digits: str) -> Iterator[frozenset[str]]:
     """The sets of digits with the sum of a cage."""
     # Digits from the largest down: what is left of the sum has to be within reach of those that are left.
-    waiting: List[Tuple[int, int, int, FrozenSet[str]]] = [(len(digits), len(cage.cells), cage.total, frozenset())]
+    waiting: list[tuple[int, int, int, frozenset[str]]] = [(len(digits), len(cage.cells), cage.total, frozenset())]
     while waiting:
         most, count, total, held = waiting.pop()
         if not count and not total:
@@ -184,10 +185,10 @@ def _sets(cage: Cage, digits: str) -> Iterator[FrozenSet[str]]:
 def drawing(problem: Problem[Any]) -> Drawing:
     """Boxes or regions with digits, clues in bold; cages with their sums in the SVG."""
     times: Counter[Square] = Counter()
-    boxes: Dict[Square, str] = {}
-    clues: Dict[Square, str] = {}
-    cages: Dict[Square, str] = {}
-    sums: Dict[str, int] = {}
+    boxes: dict[Square, str] = {}
+    clues: dict[Square, str] = {}
+    cages: dict[Square, str] = {}
+    sums: dict[str, int] = {}
     digits = frozenset(name[3:] for name in problem.item_names if name.startswith("r1="))
     for option in problem.options:
         line = problem.line(option)
@@ -219,13 +220,13 @@ def drawing(problem: Problem[Any]) -> Drawing:
     return draw
 
 
-def _sum(line: str, digits: FrozenSet[str]) -> int:
+def _sum(line: str, digits: frozenset[str]) -> int:
     """The sum of a cage from one of its options, which holds the digits that aren't in it."""
     missing = {found.group(2) for found in map(_CAGE.match, line.split()) if found and found.group(2)}
     return sum(_DIGITS.index(digit) + 1 for digit in digits - missing)
 
 
-def _cut(line: str) -> Tuple[Square, str, str]:
+def _cut(line: str) -> tuple[Square, str, str]:
     """An option's place, digit and box."""
     words = line.split()
     place = next(found for found in map(_PLACE.match, words) if found)
@@ -254,7 +255,7 @@ def _add_arguments(parser: argparse.ArgumentParser) -> None:
     )
 
 
-def _make(arguments: argparse.Namespace) -> Problem[List[str]]:
+def _make(arguments: argparse.Namespace) -> Problem[list[str]]:
     given = arguments.clues
     is_file = given == "-" or os.path.exists(given) or any(c not in _EMPTY and c.upper() not in _DIGITS for c in given)
     if not given and arguments.regions is None and arguments.cages is None:

@@ -4,7 +4,8 @@ from __future__ import annotations
 
 import argparse
 import re
-from typing import Any, Callable, Optional, Sequence
+from collections.abc import Callable, Sequence
+from typing import Any
 
 from ..console import positive
 from ..draw import Cell, Drawing, Picture, check_size, shade
@@ -99,7 +100,7 @@ def _add_search_arguments(parser: argparse.ArgumentParser) -> None:
     )
 
 
-def _search(arguments: argparse.Namespace) -> Optional[Callable[[Optional[float]], Found]]:
+def _search(arguments: argparse.Namespace) -> Callable[[float | None], Found] | None:
     if not arguments.least:
         return None
     if arguments.tests is not None:

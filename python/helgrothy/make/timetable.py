@@ -3,7 +3,8 @@
 from __future__ import annotations
 
 import argparse
-from typing import Any, Dict, List, Optional, Sequence, Tuple
+from collections.abc import Sequence
+from typing import Any
 
 from ..console import positive
 from ..draw import Cell, Drawing, Picture, Shades, check_size
@@ -15,7 +16,7 @@ from .lessons import Lesson, Plan, Slot
 _TABLE_AT = 2
 
 
-def problem(table: str, *, daily: Optional[int] = None) -> Problem[List[str]]:
+def problem(table: str, *, daily: int | None = None) -> Problem[list[str]]:
     """A timetable from a table.
 
         day,mon,1 2
@@ -39,7 +40,7 @@ def problem(table: str, *, daily: Optional[int] = None) -> Problem[List[str]]:
     """
     plan = Plan(table, daily)
     limits = _Limits(plan)
-    options: Counted[List[str]] = Counted()
+    options: Counted[list[str]] = Counted()
     for lesson in plan.lessons.values():
         for slot, room in plan.places_of(lesson):
             place = [f"{slot.name}/{room.name}"] if plan.has_rooms else []
@@ -70,16 +71,16 @@ class _Limits:
     """How many lessons a day people have at most, where they might have more: an item for a person on a day."""
 
     def __init__(self, plan: Plan) -> None:
-        days: Dict[str, int] = {}
+        days: dict[str, int] = {}
         for slot in plan.slots:
             days[slot.day] = days.get(slot.day, 0) + 1
-        self.bounds: Dict[str, int] = {}
+        self.bounds: dict[str, int] = {}
         for person in plan.people.values():
             for day, slots in days.items():
                 if person.daily is not None and person.daily < min(person.asked, slots):
                     self.bounds[f"{person.name}@{day}"] = person.daily
 
-    def items(self, lesson: Lesson, slot: Slot) -> List[str]:
+    def items(self, lesson: Lesson, slot: Slot) -> list[str]:
         names = [f"{name}@{slot.day}" for name in lesson.people]
         return [name for name in names if name in self.bounds]
 
@@ -97,7 +98,7 @@ def drawing(problem: Problem[Any]) -> Drawing:
     slots = {slot.name: slot for slot in plan.slots}
     shades = Shades()
 
-    def place(word: str) -> Tuple[int, int]:
+    def place(word: str) -> tuple[int, int]:
         name, sign, room = word.partition("/")
         if sign:
             return row[name], column[room]
@@ -133,7 +134,7 @@ def _add_arguments(parser: argparse.ArgumentParser) -> None:
     parser.add_argument("--daily", type=positive, metavar="N", help="nobody has more than N lessons a day")
 
 
-def _make(arguments: argparse.Namespace) -> Problem[List[str]]:
+def _make(arguments: argparse.Namespace) -> Problem[list[str]]:
     return problem(read_text(arguments.table), daily=arguments.daily)
 
 

@@ -5,15 +5,16 @@ from __future__ import annotations
 import argparse
 import re
 from collections import Counter
-from typing import Any, Dict, Iterable, Iterator, List, Optional, Sequence, Tuple
+from collections.abc import Iterable, Iterator, Sequence
+from typing import Any, Optional
 
 from ..draw import Cell, Drawing, Picture, check_size
 from ..problem import Problem
 from ..syntax import MOST_USES
 from .kind import Counted, Kind, picture, read_text
 
-Square = Tuple[int, int]
-Option = Dict[str, Optional[str]]
+Square = tuple[int, int]
+Option = dict[str, Optional[str]]
 
 _CELL = re.compile(r"r(\d+)c(\d+)(?::(.+))?\Z")
 
@@ -60,7 +61,7 @@ def _name(at: Square) -> str:
     return f"r{at[0]}c{at[1]}"
 
 
-def _slots(marks: Dict[Square, str]) -> Iterator[Tuple[str, List[Square]]]:
+def _slots(marks: dict[Square, str]) -> Iterator[tuple[str, list[Square]]]:
     """The places of words, each with its squares."""
     for way, down, right in (("across", 0, 1), ("down", 1, 0)):
         for r, c in marks:
@@ -80,15 +81,15 @@ class _Lexicon:
     def __init__(self, words: Iterable[str]) -> None:
         self._words = list(dict.fromkeys(word.lower() for word in words if word.isalpha()))
         # The words of a length; with a letter at a place; and what was found for the letters of places.
-        self._of_length: Dict[int, List[str]] = {}
-        self._with: Dict[Tuple[int, int, str], List[str]] = {}
-        self._fitting: Dict[Tuple[str, ...], List[str]] = {}
+        self._of_length: dict[int, list[str]] = {}
+        self._with: dict[tuple[int, int, str], list[str]] = {}
+        self._fitting: dict[tuple[str, ...], list[str]] = {}
         for word in self._words:
             self._of_length.setdefault(len(word), []).append(word)
             for place, letter in enumerate(word):
                 self._with.setdefault((len(word), place, letter), []).append(word)
 
-    def fitting(self, marks: Sequence[str]) -> List[str]:
+    def fitting(self, marks: Sequence[str]) -> list[str]:
         """The words for a row of squares with these marks, of which letters are given, in their order."""
         letters = tuple(mark.lower() if mark.isalpha() else "" for mark in marks)
         found = self._fitting.get(letters)

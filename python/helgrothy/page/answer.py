@@ -16,9 +16,10 @@ import signal
 import sys
 import threading
 import time
+from collections.abc import Iterator, Mapping
 from contextlib import suppress
 from dataclasses import dataclass, field, fields
-from typing import Any, Dict, Iterator, List, Mapping, Optional, Union
+from typing import Any
 
 from .. import shuffle, symmetry, why
 from ..console import limited
@@ -100,7 +101,7 @@ def answer(request: Request) -> Iterator[str]:
         yield _line({"error": shown(reason_of(error))})
 
 
-def _line(told: Dict[str, Any]) -> str:
+def _line(told: dict[str, Any]) -> str:
     return json.dumps(told, separators=(",", ":"))
 
 
@@ -112,7 +113,7 @@ def _raw(request: Request) -> bytes:
     return request.text.encode("utf-8", "replace")
 
 
-def _remarks(remarks: List[Remark]) -> List[Dict[str, Any]]:
+def _remarks(remarks: list[Remark]) -> list[dict[str, Any]]:
     """Remarks with the tokens as they stand in the text, by which the page finds them."""
     told = [
         {"line": it.line, "token": it.token, "name": shown(it.token), "text": shown(it.text), "fault": it.is_fault}
@@ -145,7 +146,7 @@ class _Solving:
         yield record.problem()
         yield from self._search(problem, record)
 
-    def _drawing(self, problem: Problem[Any]) -> Optional[Draw]:
+    def _drawing(self, problem: Problem[Any]) -> Draw | None:
         cell, row, column, label = (
             getattr(self._request, name) or None for name in ("cell", "row", "column", "label")
         )
@@ -176,7 +177,7 @@ class _Solving:
         total = shown if solutions.total is None else solutions.total
         yield record.end(total, bool(solutions.complete), [] if total else self._reasons(problem))
 
-    def _found(self, problem: Problem[Any]) -> Union[Solutions[Any], Stream[Any]]:
+    def _found(self, problem: Problem[Any]) -> Solutions[Any] | Stream[Any]:
         limit, seconds = self._request.limit, self._left()
         if self._request.way == "random":
             return shuffle.solve(problem, random.SystemRandom().getrandbits(32), limit, seconds=seconds)
@@ -192,7 +193,7 @@ class _Solving:
     def _left(self) -> float:
         return max(self._deadline - time.monotonic(), 0.01)
 
-    def _reasons(self, problem: Problem[Any]) -> List[str]:
+    def _reasons(self, problem: Problem[Any]) -> list[str]:
         """Why there is no solution, where a short while tells."""
         with suppress(OutOfTime):
             conflict = why.find(problem, min(self._left() * 0.9, _REASON_SECONDS))

@@ -7,14 +7,14 @@ from __future__ import annotations
 
 import base64
 import hashlib
-import os
 import re
+from collections.abc import Iterable
 from html import escape
-from typing import Iterable
+from pathlib import Path
 
 from ..shown import shown
 
-_PARTS = os.path.join(os.path.dirname(os.path.abspath(__file__)), "parts")
+_PARTS = Path(__file__).parent / "parts"
 _STYLE = "look.css"
 _MARK = re.compile(r"\{\{(\w+)\}\}")
 _LESS = {"<": "\\u003c", ">": "\\u003e", "&": "\\u0026"}
@@ -70,5 +70,4 @@ def _hash(text: str) -> str:
 
 
 def _part(name: str) -> str:
-    with open(os.path.join(_PARTS, name), encoding="utf-8") as file:
-        return file.read()
+    return (_PARTS / name).read_text(encoding="utf-8")

@@ -2,7 +2,8 @@
 
 from __future__ import annotations
 
-from typing import Any, Iterable, List, Optional, Sequence
+from collections.abc import Iterable, Sequence
+from typing import Any
 
 from ..listing import Step
 from ..problem import Problem
@@ -17,9 +18,9 @@ _MOST_TEXT = 1 << 26
 class File:
     """A page of a problem's solutions, each with its picture where `draw` has one; `text` is all of it."""
 
-    def __init__(self, problem: Problem[Any], draw: Optional[Draw]) -> None:
+    def __init__(self, problem: Problem[Any], draw: Draw | None) -> None:
         self._record = Record(problem, draw)
-        self._lines: List[str] = [self._record.problem()]
+        self._lines: list[str] = [self._record.problem()]
         self._length = 0
 
     def add(self, number: int, steps: Sequence[Step]) -> None:

@@ -6,8 +6,9 @@ What is typed into a field never names a file that is there: it is the text of a
 from __future__ import annotations
 
 import argparse
+from collections.abc import Iterator, Mapping
 from dataclasses import dataclass
-from typing import Any, Dict, Iterator, List, Mapping, NoReturn, Set, Tuple
+from typing import Any, NoReturn
 
 from ..make import KINDS
 from ..make.kind import Kind
@@ -17,7 +18,7 @@ from ..problem import Problem
 _LONGEST_NAME = 100
 
 # What the forms of some kinds hold at first, by the names of their fields.
-EXAMPLES: Dict[str, Dict[str, str]] = {
+EXAMPLES: dict[str, dict[str, str]] = {
     "sudoku": {"clues": "53..7....6..195....98....6.8...6...34..8.3..17...2...6.6....28....419..5....8..79"},
     "queens": {"board": "8"},
     "langford": {"pairs": "7"},
@@ -64,7 +65,7 @@ class Field:
     help: str
     option: str
     is_flag: bool
-    words: Tuple[str, ...]
+    words: tuple[str, ...]
 
 
 def fields(kind: Kind) -> Iterator[Field]:
@@ -79,7 +80,7 @@ def fields(kind: Kind) -> Iterator[Field]:
         yield Field(action.dest, label, help, option, action.nargs == 0, words)
 
 
-def forms() -> List[Dict[str, Any]]:
+def forms() -> list[dict[str, Any]]:
     """All kinds, for a page."""
     return [
         {
@@ -108,7 +109,7 @@ def problem(name: str, values: Mapping[str, object]) -> Problem[Any]:
 
 def _words(kind: Kind, values: Mapping[str, object]) -> Iterator[str]:
     places = []
-    files: Set[str] = set()
+    files: set[str] = set()
     for number, field in enumerate(fields(kind), 1):
         value = values.get(field.name)
         if field.is_flag and value is True:
@@ -123,7 +124,7 @@ def _words(kind: Kind, values: Mapping[str, object]) -> Iterator[str]:
     yield from places
 
 
-def _word(value: str, number: int, files: Set[str]) -> str:
+def _word(value: str, number: int, files: set[str]) -> str:
     """A word for what was typed: itself, which is then also the name of a file with that text, or such a name.
 
     So a command takes it as a word or as a file, and whichever file it names is this one, which is among `files` then.

@@ -8,8 +8,10 @@ is each option.
 from __future__ import annotations
 
 import json
+from collections.abc import Callable, Iterable, Sequence
+from dataclasses import dataclass
 from itertools import islice
-from typing import Any, Callable, Dict, Iterable, List, NamedTuple, Optional, Sequence, Set, Tuple
+from typing import Any
 from xml.etree import ElementTree
 
 from ..errors import NoPicture
@@ -25,13 +27,14 @@ _MOST_TEXT = 1 << 18
 _NO_TITLE = "An exact cover problem"
 
 
-class Element(NamedTuple):
+@dataclass(frozen=True)
+class Element:
     """An element of a picture."""
 
     name: str
-    attributes: Tuple[Tuple[str, str], ...]
+    attributes: tuple[tuple[str, str], ...]
     text: str
-    within: Tuple[Element, ...]
+    within: tuple[Element, ...]
 
 
 class Record:
@@ -40,17 +43,17 @@ class Record:
     title: what the pictures show, once there is one.
     """
 
-    def __init__(self, problem: Problem[Any], draw: Optional[Draw]) -> None:
+    def __init__(self, problem: Problem[Any], draw: Draw | None) -> None:
         self._problem = problem
         self._draw = draw
-        self._elements: Dict[Element, int] = {}
-        self._options: Set[int] = set()
+        self._elements: dict[Element, int] = {}
+        self._options: set[int] = set()
         self.title = _NO_TITLE
 
     def problem(self) -> str:
         """The problem: its comments, its text as far as it is shown, and how large it is."""
         problem = self._problem
-        lines: List[str] = []
+        lines: list[str] = []
         left = _MOST_TEXT
         more = False
         for line in problem.lines():
@@ -81,7 +84,7 @@ class Record:
         self._options.update(chosen)
         known = len(self._elements)
         picture = self._picture(lines)
-        told: Dict[str, Any] = {
+        told: dict[str, Any] = {
             "number": number,
             "steps": [
                 [shown(step.item), 0 if step.option is None else step.option + 1, step.branch, step.branches]
@@ -96,7 +99,7 @@ class Record:
             told["elements"] = [_told(element) for element in islice(self._elements, known, None)]
         return _line({"solution": told})
 
-    def _picture(self, lines: Sequence[str]) -> List[int]:
+    def _picture(self, lines: Sequence[str]) -> list[int]:
         """The numbers of a picture's elements, the first one that of the whole; none where there is no picture."""
         if self._draw is None:
             return []
@@ -121,7 +124,7 @@ def _element(element: ElementTree.Element) -> Element:
     return Element(_name(element), tuple(element.items()), element.text or "", tuple(map(_element, element)))
 
 
-def _told(element: Element) -> List[Any]:
+def _told(element: Element) -> list[Any]:
     """An element as the page is told it: its name, its attributes, and its text or the elements in it."""
     return [element.name, dict(element.attributes), list(map(_told, element.within)) or element.text]
 
@@ -130,5 +133,5 @@ def _name(element: ElementTree.Element) -> str:
     return element.tag.rpartition("}")[2]
 
 
-def _line(told: Dict[str, Any]) -> str:
+def _line(told: dict[str, Any]) -> str:
     return json.dumps(told, separators=(",", ":"))

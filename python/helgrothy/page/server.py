@@ -21,7 +21,8 @@ import threading
 import time
 from contextlib import suppress
 from http.server import BaseHTTPRequestHandler, ThreadingHTTPServer
-from typing import Any, Set
+from pathlib import Path
+from typing import Any
 
 from .answer import MOST_SECONDS
 from .document import document, policy
@@ -45,7 +46,7 @@ from helgrothy.page.answer import run
 run()
 """
 _BYTECODE = ["-B"] if sys.dont_write_bytecode else []
-_PACKAGE = os.path.dirname(os.path.dirname(os.path.dirname(os.path.abspath(__file__))))
+_PACKAGE = str(Path(__file__).absolute().parents[2])
 
 
 class Server(ThreadingHTTPServer):
@@ -58,7 +59,7 @@ class Server(ThreadingHTTPServer):
         self.word = secrets.token_urlsafe(32)
         self.page = document(_BODIES, "Helgrothy", _SCRIPTS, [data], connects=True)
         self.policy = f"{policy(_SCRIPTS, connects=True)}; frame-ancestors 'none'"
-        self._answers: Set[Answer] = set()
+        self._answers: set[Answer] = set()
         self._lock = threading.Lock()
         self._is_closed = False
         self._requests = threading.BoundedSemaphore(_MOST_AT_ONCE)

@@ -7,7 +7,6 @@ from __future__ import annotations
 
 import time
 from concurrent.futures import Executor
-from typing import Dict, List, Optional
 
 from ..errors import OutOfTime
 from .join import count as joined
@@ -22,16 +21,16 @@ __all__ = ["Progress", "count"]
 def count(
     problem: bytes,
     kind: int,
-    jobs: Optional[int] = None,
-    executor: Optional[Executor] = None,
-    progress: Optional[Tell] = None,
-    seconds: Optional[float] = None,
+    jobs: int | None = None,
+    executor: Executor | None = None,
+    progress: Tell | None = None,
+    seconds: float | None = None,
 ) -> int:
     """How many solutions a problem has, by so many processors or by an executor.
 
     Raises `ProgramNotFound`, `ProgramFailed`, `SearchFault`, and `OutOfTime`, whose `found` is what was found by then.
     """
-    found: Dict[Row, Kept] = {}
+    found: dict[Row, Kept] = {}
 
     def keep(kept: Kept) -> None:
         found[kept.span.start] = kept
@@ -45,7 +44,7 @@ def count(
         error = OutOfTime(f"the search took longer than {time.monotonic() - begun:.3g} seconds")
         error.found = loop.solutions
         raise error
-    texts: List[bytes] = []
+    texts: list[bytes] = []
     at: Until = ()
     while at is not None:
         texts.append(found[at].text)

@@ -10,7 +10,8 @@ import argparse
 import signal
 import subprocess
 import sys
-from typing import Any, NoReturn, Optional, Sequence
+from collections.abc import Sequence
+from typing import Any, NoReturn
 
 from .. import __version__, console
 from ..errors import ProgramFailed, SearchFault
@@ -124,9 +125,9 @@ class _Searching:
         self._job = job
         self._arguments = arguments
         self._shown = Shown(job.listed)
-        self._join: Optional[Join] = None
+        self._join: Join | None = None
         self._share = folder.share
-        self._loop: Optional[Loop] = None
+        self._loop: Loop | None = None
 
     def run(self) -> int:
         todo = self._folder.todo()
@@ -328,13 +329,13 @@ def progress_parser() -> argparse.ArgumentParser:
     return parser
 
 
-def _progress(words: Optional[Sequence[str]]) -> int:
+def _progress(words: Sequence[str] | None) -> int:
     progress_parser().parse_args(words)
     follow(console.input_lines(), console.say)
     return 0
 
 
-def progress_main(words: Optional[Sequence[str]] = None) -> int:
+def progress_main(words: Sequence[str] | None = None) -> int:
     """Does what the words of `dlx-progress` say, and gives its status."""
     return console.run("dlx-progress", lambda: _progress(words))
 

@@ -4,17 +4,16 @@ from __future__ import annotations
 
 import heapq
 import time
-from typing import Dict, List, Tuple
 
 from . import record as records
 from .rows import Row, Span, place, word_of
 from .span import Task, run
 
 _SECONDS = 1.0
-_Node = Tuple[float, Row, Row]
+_Node = tuple[float, Row, Row]
 
 
-def rows(problem: bytes, kind: int, count: int, seconds: float = _SECONDS) -> List[Row]:
+def rows(problem: bytes, kind: int, count: int, seconds: float = _SECONDS) -> list[Row]:
     """Up to so many rows, rising, that cut the tree into shares as equal as can be told within that time.
 
     The node of the largest share is looked at first: a run of one step tells the number of its branches. Raises
@@ -22,8 +21,8 @@ def rows(problem: bytes, kind: int, count: int, seconds: float = _SECONDS) -> Li
     """
     deadline = time.monotonic() + seconds
     # Nodes that may be looked at, the largest first: the share, the row, and the branches of its levels.
-    open_nodes: List[_Node] = [(-1.0, (), ())]
-    leaves: Dict[Row, Row] = {(): ()}
+    open_nodes: list[_Node] = [(-1.0, (), ())]
+    leaves: dict[Row, Row] = {(): ()}
     while open_nodes and len(leaves) <= _ENOUGH * count and time.monotonic() < deadline:
         share, row, branches = heapq.heappop(open_nodes)
         below = _branches(problem, kind, row, len(row))
@@ -49,11 +48,11 @@ def _branches(problem: bytes, kind: int, row: Row, level: int) -> int:
     return record.branches[level] if len(stop) > level and stop[:level] == row else 0
 
 
-def _even(edges: List[Tuple[Row, float]], count: int) -> List[Row]:
+def _even(edges: list[tuple[Row, float]], count: int) -> list[Row]:
     """So many of the rows, whose places are as even as can be."""
     if len(edges) <= count:
         return [row for row, _ in edges]
-    taken: List[Row] = []
+    taken: list[Row] = []
     for number, (row, at) in enumerate(edges):
         is_due = at >= (len(taken) + 1) / (count + 1)
         if len(taken) < count and (is_due or len(edges) - number <= count - len(taken)):

@@ -20,9 +20,11 @@ import os
 import re
 import stat
 import time
+from collections.abc import Callable, Iterable, Iterator
 from contextlib import suppress
+from dataclasses import dataclass
 from functools import partial
-from typing import IO, Callable, Dict, Iterable, Iterator, List, NamedTuple, Optional, Tuple
+from typing import IO
 
 from .. import __version__
 from ..errors import SearchFault
@@ -49,7 +51,8 @@ _MOST_WAITING = 1 << 24
 _HOLD_TRIES, _HOLD_WAIT = 5, 0.05
 
 
-class Entry(NamedTuple):
+@dataclass(frozen=True)
+class Entry:
     """A file of spans: its path, where it begins and ends, and what it has."""
 
     path: str
@@ -60,7 +63,8 @@ class Entry(NamedTuple):
     digest: bytes
 
 
-class About(NamedTuple):
+@dataclass(frozen=True)
+class About:
     """What is searched."""
 
     version: str
@@ -77,7 +81,7 @@ class About(NamedTuple):
         return self.words == "m1"
 
     def text(self) -> bytes:
-        told = "".join(f"{name} {value}\n" for name, value in zip(self._fields, self))
+        told = "".join(f"{name} {value}\n" for name, value in vars(self).items())
         told = f"{_FORM}\n{told}"
         return f"{told}digest {hashlib.sha256(told.encode()).hexdigest()}\n".encode()
 
@@ -88,14 +92,14 @@ class Folder:
     Raises `SearchFault` and `OSError`.
     """
 
-    def __init__(self, path: str, job: Optional[Job] = None, is_read: bool = False) -> None:
+    def __init__(self, path: str, job: Job | None = None, is_read: bool = False) -> None:
         self.path = path
         self._lock = -1
         self._begun = self._written = time.monotonic()
-        self._waiting: Dict[Row, Kept] = {}
+        self._waiting: dict[Row, Kept] = {}
         self._size = 0
-        self.entries: Dict[Row, Entry] = {}
-        self._by_end: Dict[Until, Row] = {}
+        self.entries: dict[Row, Entry] = {}
+        self._by_end: dict[Until, Row] = {}
         self._number = 0
         try:
             self._hold(is_read, is_made=job is not None)
@@ -210,7 +214,7 @@ class Folder:
     # ---- what is done
 
     def _read_entries(self) -> None:
-        found: List[Entry] = []
+        found: list[Entry] = []
         for name in os.listdir(self.path):
             span = _SPAN.match(name)
             if span is not None:
@@ -222,7 +226,11 @@ class Folder:
             self._take(entry)
 
     def _entry(self, path: str) -> Entry:
-        with opened(path) as file:
+        try:
+            file = opened(path)
+        except SearchFault as error:
+            raise SearchFault(f"{error}; without it the search goes on") from None
+        with file:
             return _head(path, file)
 
     def _take(self, entry: Entry) -> None:
@@ -249,7 +257,7 @@ class Folder:
         summed.update(text)
         return summed.hexdigest().encode()
 
-    def todo(self) -> List[Span]:
+    def todo(self) -> list[Span]:
         """The spans that are left, in their order."""
         return gaps(entry.span for entry in sorted(self.entries.values(), key=_order))
 
@@ -272,7 +280,7 @@ class Folder:
             yield entry
             at = entry.span.until
 
-    def texts(self) -> List[Callable[[], bytes]]:
+    def texts(self) -> list[Callable[[], bytes]]:
         return [partial(self.text, entry) for entry in self.chain()]
 
     # ---- more is done
@@ -292,7 +300,7 @@ class Folder:
             self._write_run(run)
         self._written = time.monotonic()
 
-    def _write_run(self, run: List[Kept]) -> None:
+    def _write_run(self, run: list[Kept]) -> None:
         """Writes spans that follow one another as one file, with small ones beside them where nothing is listed."""
         old = [] if self.about.listed else self._beside(run)
         all_of_it = sorted([*run, *(kept for kept, _ in old)], key=lambda kept: kept.span.start)
@@ -314,9 +322,9 @@ class Folder:
             del self._waiting[kept.span.start]
             self._size -= len(kept.text)
 
-    def _beside(self, run: List[Kept]) -> List[Tuple[Kept, Entry]]:
+    def _beside(self, run: list[Kept]) -> list[tuple[Kept, Entry]]:
         """Files before and behind these spans that aren't much larger, so that there are never many."""
-        found: List[Tuple[Kept, Entry]] = []
+        found: list[tuple[Kept, Entry]] = []
         size = sum(len(kept.text) for kept in run)
         start: Row = run[0].span.start
         until: Until = run[-1].span.until
@@ -399,10 +407,9 @@ class Look(Folder):
             raise SearchFault(f"{self.path}: no such folder")
 
 
-
-def arranged(entries: Iterable[Entry]) -> List[Entry]:
+def arranged(entries: Iterable[Entry]) -> list[Entry]:
     """Files in their order, without those that begin within another one."""
-    taken: List[Entry] = []
+    taken: list[Entry] = []
     at: Until = ()
     for entry in sorted(entries, key=_order):
         if at is not None and at <= entry.span.start:
@@ -411,9 +418,9 @@ def arranged(entries: Iterable[Entry]) -> List[Entry]:
     return taken
 
 
-def gaps(spans: Iterable[Span]) -> List[Span]:
+def gaps(spans: Iterable[Span]) -> list[Span]:
     """What spans that stand in their order leave of the whole."""
-    found: List[Span] = []
+    found: list[Span] = []
     at: Until = WHOLE.start
     place = WHOLE.begins
     for span in spans:
@@ -480,15 +487,15 @@ def _fields(span: Span, length: int, solutions: int, seconds: float) -> bytes:
     return f"{rows} {float(span.begins)!r} {float(span.ends)!r} {length} {solutions} {seconds!r}\n".encode()
 
 
-def _order(entry: Entry) -> Tuple[Row, bool, Tuple[int, ...]]:
+def _order(entry: Entry) -> tuple[Row, bool, tuple[int, ...]]:
     """By where a file begins, the longest first."""
     until = entry.span.until
     return entry.span.start, until is not None, tuple(-k for k in until or ())
 
 
-def _runs(waiting: List[Kept]) -> Iterator[List[Kept]]:
+def _runs(waiting: list[Kept]) -> Iterator[list[Kept]]:
     """Spans in their order, those together that follow one another, up to a size."""
-    run: List[Kept] = []
+    run: list[Kept] = []
     size = 0
     for kept in waiting:
         if run and (run[-1].span.until != kept.span.start or size + len(kept.text) > _MOST_WAITING):

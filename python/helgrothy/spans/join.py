@@ -7,8 +7,9 @@ import re
 import signal
 import subprocess
 import threading
+from collections.abc import Callable, Iterable
+from dataclasses import dataclass
 from types import TracebackType
-from typing import Callable, Iterable, List, NamedTuple, Optional, Type
 
 from .. import console
 from ..errors import ProgramFailed
@@ -21,7 +22,8 @@ _CHUNK = 1 << 18
 _LAST_LINE = re.compile(r"Altogether (\d+) solutions?\.\n?\Z")
 
 
-class Ending(NamedTuple):
+@dataclass(frozen=True)
+class Ending:
     """How dlx-join ended, and what it said on standard error."""
 
     status: int
@@ -35,16 +37,16 @@ class Join:
     its own, so that nothing waits for who reads the listing. `wake` is called by that thread where it can't go on.
     """
 
-    def __init__(self, listed: bool, out: Optional[int] = None, wake: Callable[[], None] = lambda: None) -> None:
+    def __init__(self, listed: bool, out: int | None = None, wake: Callable[[], None] = lambda: None) -> None:
         self._wake = wake
-        self._error: Optional[BaseException] = None
-        self._texts: queue.SimpleQueue[Optional[Callable[[], bytes]]] = queue.SimpleQueue()
+        self._error: BaseException | None = None
+        self._texts: queue.SimpleQueue[Callable[[], bytes] | None] = queue.SimpleQueue()
         # The row until which texts were given.
         self.at: Until = ()
         self._process = start(
-            [find(PROGRAM), "m1" if listed else "m0"], stdin=subprocess.PIPE, stdout=out, stderr=subprocess.PIPE
+            [str(find(PROGRAM)), "m1" if listed else "m0"], stdin=subprocess.PIPE, stdout=out, stderr=subprocess.PIPE
         )
-        self._threads: List[threading.Thread] = []
+        self._threads: list[threading.Thread] = []
         self._begin(self._feed)
         if out == subprocess.PIPE:
             self._begin(self._print)
@@ -80,7 +82,7 @@ class Join:
         return self
 
     def __exit__(
-        self, kind: Optional[Type[BaseException]], error: Optional[BaseException], trace: Optional[TracebackType]
+        self, kind: type[BaseException] | None, error: BaseException | None, trace: TracebackType | None
     ) -> None:
         self._texts.put(None)
         self._process.kill()

@@ -11,10 +11,10 @@ import heapq
 import itertools
 import queue
 import time
+from collections.abc import Callable
 from concurrent.futures import CancelledError, Executor, Future
 from dataclasses import dataclass, replace
 from functools import partial
-from typing import Callable, Dict, List, NamedTuple, Optional, Tuple
 
 from .. import __version__
 from ..errors import HelgrothyError, ProgramFailed, ProgramNotFound, SearchFault, reason_of
@@ -39,7 +39,8 @@ _TICK = 0.1
 _LEAST_SHARE = 0.001
 
 
-class Kept(NamedTuple):
+@dataclass(frozen=True)
+class Kept:
     """A span that is done: its text or some texts one after another, and what that took of a processor."""
 
     span: Span
@@ -59,7 +60,7 @@ class Progress:
     share: float
     solutions: int
     seconds: float
-    left: Optional[float]
+    left: float | None
     at_work: int
 
     def __str__(self) -> str:
@@ -68,7 +69,8 @@ class Progress:
         return f"{done}   {clock(self.seconds)}{left}   {self.at_work} at work"
 
 
-class Job(NamedTuple):
+@dataclass(frozen=True)
+class Job:
     """What is searched: a problem's text, the program for it, and whether the solutions are listed."""
 
     problem: bytes
@@ -100,17 +102,17 @@ class Loop:
     how far the search is, some times a second.
     """
 
-    def __init__(self, job: Job, submit: Submit, workers: Callable[[], int], keep: Keep, tell: Optional[Tell]) -> None:
+    def __init__(self, job: Job, submit: Submit, workers: Callable[[], int], keep: Keep, tell: Tell | None) -> None:
         self._job = job
         self._submit = submit
         self._workers = workers
         self._keep = keep
         self._tell = tell
         self._pace = Pace(MOST_TEXT if job.listed else 0)
-        self._ready: List[Tuple[Tuple[int, ...], int, _Todo]] = []
+        self._ready: list[tuple[tuple[int, ...], int, _Todo]] = []
         self._number = itertools.count()
-        self._came: queue.SimpleQueue[Optional[Tuple[Future[Ran], _Todo, int]]] = queue.SimpleQueue()
-        self._runs: Dict[Future[Ran], _Todo] = {}
+        self._came: queue.SimpleQueue[tuple[Future[Ran], _Todo, int] | None] = queue.SimpleQueue()
+        self._runs: dict[Future[Ran], _Todo] = {}
         self._begun = time.monotonic()
         self._deadline = float("inf")
         self._share_before = 0.0
@@ -126,7 +128,7 @@ class Loop:
         """Has `search` call `tell` at once; any thread may ask for that."""
         self._came.put(None)
 
-    def search(self, todo: List[Span], seconds: Optional[float] = None) -> bool:
+    def search(self, todo: list[Span], seconds: float | None = None) -> bool:
         """Searches these spans, for so many seconds at most; whether all was done.
 
         Raises `ProgramNotFound`, `ProgramFailed` and `SearchFault`, and what `keep`, `tell` and `submit` raise. Spans
@@ -150,8 +152,8 @@ class Loop:
                     self._tell(self.progress())
             return True
         finally:
-            for run in list(self._runs):
-                run.cancel()
+            for future in list(self._runs):
+                future.cancel()
 
     def progress(self) -> Progress:
         seconds = time.monotonic() - self._begun

@@ -4,7 +4,7 @@ from __future__ import annotations
 
 import re
 import time
-from typing import Callable, Iterable, Iterator, List, Tuple
+from collections.abc import Callable, Iterable, Iterator
 
 from ..errors import ListingFault
 from ..syntax import text_of
@@ -16,11 +16,11 @@ _CHOICE = re.compile(rb"\A .* \(([0-9]{1,10}) of ([0-9]{1,10})\)\n?\Z")
 _LONGEST = 40
 
 
-def shares(listing: Iterable[bytes]) -> Iterator[Tuple[int, float]]:
+def shares(listing: Iterable[bytes]) -> Iterator[tuple[int, float]]:
     """Of each solution of a listing its number, and the share of the tree before its row. Raises `ListingFault`."""
     number = 0
-    row: List[int] = []
-    branches: List[int] = []
+    row: list[int] = []
+    branches: list[int] = []
     for at, line in enumerate(listing, 1):
         choice = _CHOICE.search(line)
         header = None if choice else _HEADER.match(line)

@@ -3,7 +3,7 @@
 from __future__ import annotations
 
 import re
-from typing import NamedTuple
+from dataclasses import dataclass
 
 from ..errors import SearchFault
 from .rows import Row, Span, Until, precedes, read, read_until, word_of
@@ -14,7 +14,8 @@ _LINE = rb"from %s until %s(?: of %s)? solutions %s steps %s\n\Z" % (_ROW, _ROW,
 _RECORD = re.compile(_LINE)
 
 
-class Record(NamedTuple):
+@dataclass(frozen=True)
+class Record:
     """What a run did: it searched from a row until another one.
 
     `branches` are those of each level of the row where it stopped for want of steps; none where it did the whole.

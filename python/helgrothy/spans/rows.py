@@ -7,11 +7,12 @@ its end. Of a tree whose branches of a level are taken to be equally large, a ro
 from __future__ import annotations
 
 import re
-from typing import List, NamedTuple, Optional, Tuple
+from dataclasses import dataclass
+from typing import Optional
 
 from ..errors import SearchFault
 
-Row = Tuple[int, ...]
+Row = tuple[int, ...]
 Until = Optional[Row]
 
 MOST_NUMBER = (1 << 32) - 1
@@ -21,7 +22,8 @@ _WORD = re.compile(r"[0-9]+(?:\.[0-9]+)*\Z")
 _MANY_DIGITS = re.compile(r"0*[1-9][0-9]{10}")
 
 
-class Span(NamedTuple):
+@dataclass(frozen=True)
+class Span:
     """The members from a row on and before another one; `begins` and `ends` are the places of the two rows."""
 
     start: Row
@@ -69,12 +71,12 @@ def place(row: Row, branches: Row) -> float:
     return min(before, 1.0)
 
 
-def cut(span: Span, branches: Row, pieces: int) -> List[Span]:
+def cut(span: Span, branches: Row, pieces: int) -> list[Span]:
     """A span in up to so many pieces, cut between branches of the highest levels.
 
     `branches` are those of the levels of the row at which it begins.
     """
-    found: List[Tuple[Row, float]] = []
+    found: list[tuple[Row, float]] = []
     before, share = 0.0, 1.0
     for level, (k, n) in enumerate(zip(span.start, branches)):
         share /= max(n, 1)
@@ -88,7 +90,7 @@ def cut(span: Span, branches: Row, pieces: int) -> List[Span]:
         ]
         before += max(k - 1, 0) * share
     edges = [(span.start, span.begins), *found]
-    ends: List[Tuple[Until, float]] = [*found, (span.until, span.ends)]
+    ends: list[tuple[Until, float]] = [*found, (span.until, span.ends)]
     return [Span(start, until, begins, at) for (start, begins), (until, at) in zip(edges, ends)]
 
 
@@ -100,7 +102,7 @@ def _last_branch(span: Span, level: int, branches: int) -> int:
     return min(branches, until[level] if len(until) > level + 1 else until[level] - 1)
 
 
-def _some(first: int, last: int, most: int) -> List[int]:
+def _some(first: int, last: int, most: int) -> list[int]:
     """At most so many of the numbers from the first to the last, as evenly as can be."""
     count = last - first + 1
     if count <= most:

@@ -7,7 +7,7 @@ import signal
 import subprocess
 import threading
 from contextlib import suppress
-from typing import NamedTuple, Optional, Set
+from dataclasses import dataclass
 
 from .. import __version__
 from ..errors import ProgramFailed
@@ -18,7 +18,8 @@ PROGRAM = "dlx-span"
 _CHUNK = 1 << 20
 
 
-class Task(NamedTuple):
+@dataclass(frozen=True)
+class Task:
     """A span to search: of which problem and by which program, from where until where, and at most so many steps.
 
     No text of more than `most` bytes comes back, if it isn't 0; the run is then ended.
@@ -33,7 +34,8 @@ class Task(NamedTuple):
     most: int
 
 
-class Ran(NamedTuple):
+@dataclass(frozen=True)
+class Ran:
     """What a run printed (nothing where that was too long), and what it took of a processor."""
 
     text: bytes
@@ -47,7 +49,7 @@ class Stop:
 
     def __init__(self) -> None:
         self._lock = threading.Lock()
-        self._running: Set[int] = set()
+        self._running: set[int] = set()
         self.is_set = False
 
     def set(self) -> None:
@@ -57,7 +59,7 @@ class Stop:
                 with suppress(OSError):
                     os.kill(process, signal.SIGKILL)
 
-    def start(self, command: list[str]) -> Optional[subprocess.Popen[bytes]]:
+    def start(self, command: list[str]) -> subprocess.Popen[bytes] | None:
         """A process, or None where none may begin any more."""
         with self._lock:
             if self.is_set:
@@ -72,10 +74,10 @@ class Stop:
             self._running.discard(process)
 
 
-def run(task: Task, stop: Optional[Stop] = None) -> Ran:
+def run(task: Task, stop: Stop | None = None) -> Ran:
     """Searches a span. Raises `ProgramNotFound`, `ProgramFailed` and `OSError`."""
     listed = "m1" if task.listed else "m0"
-    command = [find(PROGRAM), str(task.kind), listed, str(task.steps), task.start, task.until]
+    command = [str(find(PROGRAM)), str(task.kind), listed, str(task.steps), task.start, task.until]
     process = _start(command) if stop is None else stop.start(command)
     if process is None:
         raise ProgramFailed(PROGRAM, -signal.SIGKILL, "stopped")
@@ -121,7 +123,7 @@ def _read(process: subprocess.Popen[bytes], most: int) -> bytes:
             return b"".join(pieces)
 
 
-def _end(process: subprocess.Popen[bytes], stop: Optional[Stop]) -> tuple[int, float]:
+def _end(process: subprocess.Popen[bytes], stop: Stop | None) -> tuple[int, float]:
     """Leaves no process behind; its status, and its processor time."""
     assert process.stdin and process.stdout and process.stderr
     process.stdout.close()

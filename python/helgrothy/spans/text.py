@@ -5,7 +5,7 @@ The programs judge the text; what is told here of a text with a fault is nothing
 
 from __future__ import annotations
 
-from typing import Iterator, List, Tuple
+from collections.abc import Iterator
 
 from ..syntax import read
 
@@ -18,7 +18,7 @@ def kind_of(problem: bytes) -> int:
     return 2 if any(b":" in line for _, line in options) else 1
 
 
-def ignored(problem: bytes, kind: int) -> List[int]:
+def ignored(problem: bytes, kind: int) -> list[int]:
     """The lines of options without a primary item. Asks that the text has no fault for the program dlx`kind`."""
     items, options = _lines(problem)
     if b"|" not in items:
@@ -27,7 +27,7 @@ def ignored(problem: bytes, kind: int) -> List[int]:
     return [number for number, line in options if primary.isdisjoint(line.split())]
 
 
-def _lines(problem: bytes) -> Tuple[bytes, Iterator[Tuple[int, bytes]]]:
+def _lines(problem: bytes) -> tuple[bytes, Iterator[tuple[int, bytes]]]:
     """The item line, and the lines of options with their numbers."""
     lines = (
         (number, line)

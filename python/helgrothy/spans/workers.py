@@ -9,7 +9,7 @@ import os
 import time
 from concurrent.futures import Executor, Future, ThreadPoolExecutor
 from types import TracebackType
-from typing import Any, Dict, Optional, Type
+from typing import Any
 
 from ..errors import SearchFault
 from .loop import submitting
@@ -42,7 +42,7 @@ class Workers:
         return self
 
     def __exit__(
-        self, kind: Optional[Type[BaseException]], error: Optional[BaseException], trace: Optional[TracebackType]
+        self, kind: type[BaseException] | None, error: BaseException | None, trace: TracebackType | None
     ) -> None:
         self.close()
 
@@ -115,7 +115,7 @@ class Dask(Workers):
             pass
 
 
-def _address(address: str) -> Dict[str, str]:
+def _address(address: str) -> dict[str, str]:
     """How Dask is told of a scheduler. Raises `SearchFault` where its file doesn't come."""
     if not address.endswith(".json"):
         return {"address": address}
