@@ -16,7 +16,7 @@ from .loop import submitting
 from .span import Ran, Stop, Task, run
 
 # So many seconds a scheduler may take to answer.
-_PATIENCE = 10
+_PATIENCE = 30
 _SELDOM = 2.0
 
 
