@@ -10,7 +10,7 @@ use Rattle.xc_input.specs.Named.{Named}
 use Rattle.xc_input.specs.Text.{StandsFor}
 use Rattle.xc_search.specs.Cover.{members, EachMemberCovers, EachCoverIsListedOnce}
 use Rattle.xc_list.specs.Output.{output}
-use Rattle.xc_c.specs.Numbers.{numbered_kind, faults}
+use Rattle.xc_c.specs.Numbers.{kind_by_number, faults}
 
 -- a fault is told by its status, 3, its line and its number; that there is none by zeros
 abbrev pub IsTold : Option (ℕ × FaultKind) → ℕ → ℕ → ℕ → Type 0
@@ -23,7 +23,7 @@ IsUntold why status line fault = (status ≡ why) × (line ≡ 0) × (fault ≡ 
 
 -- The first fault of a text is told, or that it has none; at 5 the number is of no kind, and at 4 memory was wanting.
 abbrev pub TellsFault : ℕ → List ℕ → ℕ → ℕ → ℕ → Type 0
-TellsFault number text status line fault = MatchOption (numbered_kind number) (IsUntold 5 status line fault)
+TellsFault number text status line fault = MatchOption (kind_by_number number) (IsUntold 5 status line fault)
     (λ kind. IsUntold 4 status line fault ⊎ IsTold (first_fault kind (lines_of text)) status line fault)
 
 -- A text of this kind stands for a problem, each of whose solutions is a cover, and each of whose covers is one
@@ -39,7 +39,7 @@ pub record IsSearched (kind : Kind) (text : List ℕ) (says : Named → Type 0) 
 -- What a search of a text answers: this is so of its problem; or nothing came of it, at status 5 since the number is of
 -- no kind, at 3 since the text has a fault, at 4 for want of memory.
 abbrev pub Searches : ℕ → List ℕ → ℕ → Type 0 → (Named → Type 0) → Type 0
-Searches number text status nothing says = MatchOption (numbered_kind number) ((status ≡ 5) × nothing) (λ kind.
+Searches number text status nothing says = MatchOption (kind_by_number number) ((status ≡ 5) × nothing) (λ kind.
     ((status ≡ 3) × (first_fault kind (lines_of text) ≢ None) × nothing) ⊎ ((status ≡ 4) × nothing)
     ⊎ IsSearched kind text says)
 

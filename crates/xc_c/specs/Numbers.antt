@@ -10,8 +10,8 @@ use Rattle.xc_input.specs.declared.fault.FaultKind.TheVariants.{ColourOnPrimary,
 use Rattle.xc_input.specs.declared.fault.FaultKind.TheVariants.{TooManyUses}
 
 -- the kind of a number: as `dlx1` reads a text, as `dlx2`, as `dlx3`
-abbrev pub numbered_kind : ℕ → Option Kind
-numbered_kind n =
+abbrev pub kind_by_number : ℕ → Option Kind
+kind_by_number n =
     if n == 1 then Some Plain else if n == 2 then Some Colours else if n == 3 then Some Bounds else None
 
 -- the faults in the order of their numbers, from 1, as in the table of faults

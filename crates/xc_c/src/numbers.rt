@@ -1,7 +1,7 @@
 //! The numbers by which kinds, faults and statuses are told, since an enum doesn't cross to C.
 ghost use Rattle.std.specs.Prelude.{◌≡◌, Some};
 ghost use Rattle.xc_input.specs.Problem.{numbered_get};
-ghost use Rattle.xc_c.specs.Numbers.{faults, numbered_kind};
+ghost use Rattle.xc_c.specs.Numbers.{faults, kind_by_number};
 ghost use Rattle.xc_c.specs.inner.Statuses.{error_status};
 
 use xc_input::{FaultKind, InputError, Kind};
@@ -21,7 +21,7 @@ pub(crate) const NO_KIND: u32 = 5;
 
 /// The kind of a number.
 pub(crate) fn numbered_kind(number: u32) -> Option<Kind>
-    ensures { result ≡ numbered_kind number }
+    ensures { result ≡ kind_by_number number }
 {
     match number {
         1 => Some(Kind::Plain),

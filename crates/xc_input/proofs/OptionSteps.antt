@@ -11,7 +11,7 @@ use Rattle.xc_input.specs.Limits.{most_items, most_uses}
 use Rattle.xc_input.specs.Sheets.{Written, with_colour}
 use Rattle.xc_input.specs.Faults.{first}
 use Rattle.xc_input.specs.inner.Sheets.{with_uses}
-use Rattle.xc_input.specs.inner.Stages.{token_checks, option_checks, written, context}
+use Rattle.xc_input.specs.inner.Stages.{staged_token_checks, staged_option_checks, written, context}
 use Rattle.xc_input.specs.inner.Builders.{AreMarks, AreDistinct, IsMarkable, items_of}
 use Rattle.xc_input.specs.inner.ColourNumbers.{numbered, use_behind}
 use Rattle.xc_input.proofs.OptionLemmas.Colours.{numbered-more, numbered-length, with_uses-append, colours_more}
@@ -24,8 +24,8 @@ pub record IsBehind (kind : Kind) (names : List (List ℕ)) (primary : ℕ) (lin
     (met : List (List ℕ)) (old : List Use) (marks : List Bool) (colours : List (List ℕ)) (uses : List Use)
     : Type 0 where
   pub us : List Written
-  pub decided : first (option_checks (context kind names primary) [] line)
-      ≡ first (option_checks (context kind names primary) (items_of us) rest)
+  pub decided : first (staged_option_checks (context kind names primary) [] line)
+      ≡ first (staged_option_checks (context kind names primary) (items_of us) rest)
   pub split : map (written names) line ≡ us ++ map (written names) rest
   pub count : length marks ≡ length names
   pub marked : AreMarks marks (items_of us)
@@ -50,7 +50,8 @@ module _ {kind : Kind} {names : List (List ℕ)} {primary : ℕ} {line : List (L
     -- behind one token more
     pub behind_more : {token : List ℕ} {others : List (List ℕ)} {u : Written} {colours' : List (List ℕ)}
         {uses' : List Use} → rest ≡ token ∷ others
-        → (first (token_checks (context kind names primary) (items_of b.us) token) ≡ None) × (u ≡ written names token)
+        → (first (staged_token_checks (context kind names primary) (items_of b.us) token) ≡ None) × (u
+        ≡ written names token)
         → IsMarkable (length marks) u.item → get_or marks (u.item - 1) false ≡ false
         → uses' ≡ uses ++ use_behind colours u ∷ [] → colours' ≡ with_colour colours u.colour → AreDistinct colours'
         → IsBehind kind names primary line others met old (set marks (u.item - 1) true) colours' uses'

@@ -3,7 +3,8 @@
 ghost use Rattle.std.specs.Prelude.{◌≡◌, [], true, false, nat_le, OnOk, IfOk, length};
 ghost use Rattle.std.specs.List.{list_any};
 ghost use Rattle.xc_input.specs.Faults.{first};
-ghost use Rattle.xc_input.specs.inner.Stages.{row_checks, no_row, row_of, line_checks, content_checks, with_line};
+ghost use Rattle.xc_input.specs.inner.Stages.{row_checks, no_row, row_with_parts, staged_line_checks};
+ghost use Rattle.xc_input.specs.inner.Stages.{staged_content_checks, with_line};
 ghost use Rattle.xc_input.specs.inner.Stages.{with_option, written_by, no_stage, with_row};
 ghost use Rattle.xc_input.specs.Tokens.{parts};
 ghost use Rattle.xc_input.specs.inner.Builders.{Judged, IsBuilder, IsItemTable, AreMarks, AreTablesFor, row_of_line};
@@ -123,7 +124,7 @@ impl ProblemBuilder {
         line: &[u8],
     ) -> Result<(), LineError>
         requires { IsBuilder self.old }
-        ensures judged { Judged (first (line_checks kind (stage_of_builder self.old) line.now)) result }
+        ensures judged { Judged (first (staged_line_checks kind (stage_of_builder self.old) line.now)) result }
         ensures taken { OnOk result
             (IsBuilder self.new × (stage_of_builder self.new ≡ with_line kind count (stage_of_builder self.old)
             line.now)) }
@@ -151,7 +152,7 @@ impl ProblemBuilder {
         ensures taken { OnOk result
             (IsBuilder self.new × (stage_of_builder self.new ≡ record {
               started = true;
-              sheet = with_row (sheet_of_builder self.old) (row_of kind no_row (parts line.now));
+              sheet = with_row (sheet_of_builder self.old) (row_with_parts kind no_row (parts line.now));
               ignored = self.old.ignored.items;
             })) }
         ensures seed { hasher_of self.new.names ≡ hasher_of self.old.names }
@@ -203,7 +204,7 @@ impl ProblemBuilder {
     ) -> Result<(), LineError>
         requires sound { IsBuilder self.old }
         requires started { self.old.started ≡ true }
-        ensures judged { Judged (first (content_checks kind (stage_of_builder self.old) line.now)) result }
+        ensures judged { Judged (first (staged_content_checks kind (stage_of_builder self.old) line.now)) result }
         ensures taken { OnOk result
             (IsBuilder self.new × (stage_of_builder self.new ≡ with_option count (stage_of_builder self.old)
             (written_by (sheet_of_builder self.old) line.now))) }

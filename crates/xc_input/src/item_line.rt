@@ -5,7 +5,7 @@ ghost use Rattle.std.specs.List.{list_any};
 ghost use Rattle.xc_input.specs.Tokens.{parts, is_space};
 ghost use Rattle.xc_input.specs.Words.{number};
 ghost use Rattle.xc_input.specs.Faults.{first, name_checks, is_bounds, prefix_checks, bound_checks, item_checks};
-ghost use Rattle.xc_input.specs.inner.Stages.{entry, part_checks, with_part, row_checks, row_of, no_row};
+ghost use Rattle.xc_input.specs.inner.Stages.{entry, staged_part_checks, with_part, row_checks, row_with_parts, no_row};
 ghost use Rattle.xc_input.specs.inner.Sheets.{names_of};
 ghost use Rattle.xc_input.specs.inner.BoundTexts.{low_text, high_text};
 ghost use Rattle.xc_input.specs.inner.Builders.{Judged, IsItemTable, row_of_line, entry_of};
@@ -143,7 +143,7 @@ impl ItemLine {
     pub fn add(&mut self, alloc: Global, kind: Kind, part: &[u8]) -> Result<(), LineError>
         requires table { IsItemTable self.old }
         requires solid { list_any is_space part.now ≡ false }
-        ensures judged { Judged (first (part_checks kind (row_of_line self.old) part.now)) result }
+        ensures judged { Judged (first (staged_part_checks kind (row_of_line self.old) part.now)) result }
         ensures added { OnOk result
             (IsItemTable self.new × (row_of_line self.new ≡ with_part kind (row_of_line self.old) part.now)) }
         ensures seed { hasher_of self.new.names ≡ hasher_of self.old.names }
@@ -206,7 +206,7 @@ fn push_item(
 /// The items of the item line, in a table by this seed, or its first fault.
 pub fn item_line(alloc: Global, seed: Seed, kind: Kind, line: &[u8]) -> Result<ItemLine, LineError>
     ensures judged { Judged (first (row_checks kind no_row (parts line.now))) result }
-    ensures row { IfOk result (λ i. IsItemTable i × (row_of_line i ≡ row_of kind no_row (parts line.now))) }
+    ensures row { IfOk result (λ i. IsItemTable i × (row_of_line i ≡ row_with_parts kind no_row (parts line.now))) }
     ensures seed { IfOk result (λ i. hasher_of i.names ≡ seed) }
 {
     let mut items = ItemLine::new(alloc, seed);

@@ -6,7 +6,7 @@ ghost use Rattle.xc_input.specs.Tokens.{tokens};
 ghost use Rattle.xc_input.specs.Faults.{first, is_plain, is_bad_colour, name_checks};
 ghost use Rattle.xc_input.specs.Sheets.{with_colour};
 ghost use Rattle.xc_input.specs.inner.Sheets.{with_uses};
-ghost use Rattle.xc_input.specs.inner.Stages.{token_checks, option_checks, written, context};
+ghost use Rattle.xc_input.specs.inner.Stages.{staged_token_checks, staged_option_checks, written, context};
 ghost use Rattle.xc_input.specs.inner.ColourNumbers.{numbered, use_behind};
 ghost use Rattle.xc_input.specs.Limits.{most_items, most_uses};
 ghost use Rattle.xc_input.specs.declared.fault.FaultKind.TheVariants.{UnknownItem};
@@ -71,9 +71,9 @@ pub fn use_of<'a>(
     requires marked { IfSome token.place (λ at. at < length marks.now) }
     ensures judged { (names : List (List ℕ)) (text : List ℕ) (seen : List ℕ) → All IsName names
         → length marks.now ≡ length names → IsCutToken names text token.entry → AreMarks marks.now seen
-        → MatchResult result (λ p. (first (token_checks (context kind names primary) seen text) ≡ None)
+        → MatchResult result (λ p. (first (staged_token_checks (context kind names primary) seen text) ≡ None)
         × (written_of p ≡ written names text))
-        (λ fault. first (token_checks (context kind names primary) seen text) ≡ Some fault) }
+        (λ fault. first (staged_token_checks (context kind names primary) seen text) ≡ Some fault) }
     ensures within { IfOk result (λ p. IsMarkable (length marks.now) p.item) }
     ensures unmarked { IfOk result (λ p. get_or marks.now (p.item - 1) false ≡ false) }
 {
@@ -145,7 +145,7 @@ pub fn option_line(
     requires few_colours { length (key_names colours.old.keys) ≤ length uses.old.items }
     requires distinct { AreDistinct (key_names colours.old.keys) }
     ensures judged { Judged (first
-        (option_checks (context kind (key_names names.now.keys) primary) [] (tokens line.now))) result }
+        (staged_option_checks (context kind (key_names names.now.keys) primary) [] (tokens line.now))) result }
     ensures uses { OnOk result
         (uses.new.items ≡ uses.old.items ++ numbered (key_names colours.old.keys)
         (map (written (key_names names.now.keys)) (tokens line.now))) }

@@ -13,7 +13,7 @@ use Rattle.xc_search.specs.declared.choice.Choice.{Choice}
 use Rattle.xc_search.specs.declared.marks.Mark.{Mark}
 use Rattle.xc_search.specs.Marks.{marked}
 use Rattle.xc_list.specs.Output.{choice_text}
-use Rattle.xc_list.specs.inner.Pages.{AreEnds, AreKept, Stand, end_of, held_text, line_text}
+use Rattle.xc_list.specs.inner.Pages.{AreEnds, AreKept, MatchMark, lines_end, held_text, line_text}
 use Rattle.xc_list.proofs.PageLemmas.{held_more}
 
 -- no lines stand on any page
@@ -39,7 +39,7 @@ ends_at a (suc d) at (x ∷ xs) l h e =
 
 -- where the line behind the first of them ends
 pub ends_there : (a : Named) (d : ℕ) (ls : List Line) (l : Line) → AreEnds a 22 ls
-    → take (d + 1) ls ≡ take d ls ++ l ∷ [] → l.end ≡ end_of a (take (d + 1) ls)
+    → take (d + 1) ls ≡ take d ls ++ l ∷ [] → l.end ≡ lines_end a (take (d + 1) ls)
 ends_there a d ls l h e =
     let next : d + 1 ≡ suc d = omega arith in
     rw next (ends_at a d 22 ls l h (rw next at e))
@@ -58,7 +58,7 @@ first_text a page ls d k =
 
 -- where they end is on the page
 pub first_fits : (a : Named) (page : List ℕ) (ls : List Line) (d : ℕ) → AreKept a page ls → length page ≡ 4096
-    → end_of a (take d ls) ≤ 4096
+    → lines_end a (take d ls) ≤ 4096
 first_fits a page ls d k size = grind (arith, common_steps, ap length (first_text a page ls d k))
 
 front_and_text : (page text : List ℕ) → 22 ≤ length page → take (length text) (drop 22 page) ≡ text
@@ -84,14 +84,14 @@ text_behind page more text end there long e =
 
 -- up to there the page has the header and their text
 up_to_end : (a : Named) (page : List ℕ) (ls : List Line) (d : ℕ) → AreKept a page ls → length page ≡ 4096
-    → take (end_of a (take d ls)) page ≡ take 22 page ++ flat_map (line_text a) (take d ls)
+    → take (lines_end a (take d ls)) page ≡ take 22 page ++ flat_map (line_text a) (take d ls)
 up_to_end a page ls d k size =
     front_and_text page (flat_map (line_text a) (take d ls)) (omega (arith, size)) (first_text a page ls d k)
 
 -- a line that was put behind the first of them stands, and they
 module _ (a : Named) (page more : List ℕ) (ls : List Line) (l : Line) (d : ℕ) (k : AreKept a page ls)
     (few : d ≤ length ls) (size : length page ≡ 4096) (same : length more ≡ 4096) (room : l.end ≤ 4096)
-    (put : take l.end more ≡ take (end_of a (take d ls)) page ++ line_text a l) where
+    (put : take l.end more ≡ take (lines_end a (take d ls)) page ++ line_text a l) where
   abbrev both : List ℕ
   both = flat_map (line_text a) (take d ls ++ l ∷ [])
 
@@ -103,7 +103,7 @@ module _ (a : Named) (page more : List ℕ) (ls : List Line) (l : Line) (d : ℕ
       ∙ append_assoc (take 22 page) (flat_map (line_text a) (take d ls)) (line_text a l)
       ∙ ap (λ t. take 22 page ++ t) (sym text_is)
 
-  put_end : l.end ≡ end_of a (take d ls ++ l ∷ [])
+  put_end : l.end ≡ lines_end a (take d ls ++ l ∷ [])
   put_end = grind (arith, common_steps, ap length line)
 
   put_header : take 22 more ≡ take 22 page
@@ -115,7 +115,7 @@ module _ (a : Named) (page more : List ℕ) (ls : List Line) (l : Line) (d : ℕ
     ends = ends_put a d 22 ls l k.ends few (grind (arith, common_steps, put_end, ap length text_is));
   }
 
-  stands : AreKept a more (take d ls ++ l ∷ []) × (l.end ≡ end_of a (take (d + 1) (take d ls ++ l ∷ [])))
+  stands : AreKept a more (take d ls ++ l ∷ []) × (l.end ≡ lines_end a (take (d + 1) (take d ls ++ l ∷ [])))
       × (take 22 more ≡ take 22 page)
   stands =
       let all : take (d + 1) (take d ls ++ l ∷ []) ≡ take d ls ++ l ∷ [] = grind (arith, common_steps) in
@@ -123,15 +123,15 @@ module _ (a : Named) (page more : List ℕ) (ls : List Line) (l : Line) (d : ℕ
 
 -- the line of a mark that was put behind the first of them
 pub line_stands : (a : Named) (p : Puzzle) (page more : List ℕ) (ls new : List Line) (m : Mark) (c : Choice)
-    (d at end : ℕ) → AreKept a page ls → d ≤ length ls → at ≡ end_of a (take d ls) → length page ≡ 4096
+    (d at end : ℕ) → AreKept a page ls → d ≤ length ls → at ≡ lines_end a (take d ls) → length page ≡ 4096
     → length more ≡ 4096 → end ≤ 4096 → p ≡ a.puzzle → c ≡ marked p m → take end more ≡ take at page ++ choice_text a c
     → new ≡ take d ls ++ record { mark = m; end = end } ∷ []
-    → AreKept a more new × (end ≡ end_of a (take (d + 1) new)) × (take 22 more ≡ take 22 page)
+    → AreKept a more new × (end ≡ lines_end a (take (d + 1) new)) × (take 22 more ≡ take 22 page)
 line_stands a p page more ls new m c d at end k few there size same room of_a of_m put e =
     let is : c ≡ marked a.puzzle m = of_m ∙ ap (λ q. marked q m) of_a in
-    let line : take end more ≡ take (end_of a (take d ls)) page ++ choice_text a (marked a.puzzle m) =
+    let line : take end more ≡ take (lines_end a (take d ls)) page ++ choice_text a (marked a.puzzle m) =
     put ∙ ap (λ n. take n page ++ choice_text a c) there
-    ∙ ap (λ x. take (end_of a (take d ls)) page ++ choice_text a x) is in
+    ∙ ap (λ x. take (lines_end a (take d ls)) page ++ choice_text a x) is in
     rw e (stands a page more ls (record { mark = m; end = end }) d k few size same room line)
 
 -- the choices of lines
@@ -140,7 +140,7 @@ choices_of a ls = map (λ l. marked a.puzzle l.mark) ls
 
 -- one more stands, and one less is left
 pub one_more : (a : Named) (before ls : List Line) (n : ℕ) (m : Mark) (rest marks : List Mark) (all : List Choice)
-    → Stand n ls before m → marks ≡ m ∷ rest → choices_of a before ++ map (marked a.puzzle) marks ≡ all
+    → MatchMark n ls before m → marks ≡ m ∷ rest → choices_of a before ++ map (marked a.puzzle) marks ≡ all
     → choices_of a (take n ls) ++ map (marked a.puzzle) rest ≡ all
 one_more a before ls n m rest marks all s e h = grind (arith, common_steps, s.lines, e, h)
 
@@ -150,7 +150,7 @@ texts_of a (l ∷ ls) = ap (λ t. line_text a l ++ t) (texts_of a ls)
 
 -- all lines of a solution stand
 pub all_stand : (a : Named) (page first : List ℕ) (ls : List Line) (d at : ℕ) (marks : List Mark) (all : List Choice)
-    → AreKept a page ls → length page ≡ 4096 → at ≡ end_of a (take d ls) → take 22 page ≡ take 22 first
+    → AreKept a page ls → length page ≡ 4096 → at ≡ lines_end a (take d ls) → take 22 page ≡ take 22 first
     → choices_of a (take d ls) ++ map (marked a.puzzle) marks ≡ all → marks ≡ []
     → (take at page ≡ take 22 first ++ flat_map (choice_text a) all) × (22 ≤ at) × (at ≤ 4096)
 all_stand a page first ls d at marks all k size there same whole none =

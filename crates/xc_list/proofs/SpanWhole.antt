@@ -20,7 +20,7 @@ use Rattle.xc_list.specs.SpanWords.{AskedSpan}
 use Rattle.xc_list.specs.SpanRuns.{most_steps, StopsAt, OfSpan}
 use Rattle.xc_list.specs.Texts.{SinkState, Took, BrokeOff}
 use Rattle.xc_list.specs.inner.SpanSteps.{numbers_text, row_in, branches_in, until_text, counts_text, told_text}
-use Rattle.xc_list.specs.inner.SpanSteps.{left_at, written_text, WentOn, IsBegun}
+use Rattle.xc_list.specs.inner.SpanSteps.{left_at, written_text, WentOn, BeginsAt}
 use Rattle.xc_list.proofs.OutputLemmas.KnownMembers.{members_known}
 use Rattle.xc_list.proofs.Writing.{broke_before}
 use Rattle.xc_input.proofs.lists.Members.{in-filter, each_in, each_from}
@@ -86,7 +86,7 @@ known_between p from until =
     All-from_recursion known (between p from until) (each_from _ _ (λ m h.
     each_in _ _ _ (recursion_from_All known _ (members_known p)) (in-filter _ _ _ h).0))
 
-pub known_left : (p : Puzzle) (from : List ℕ) (until : Option (List ℕ)) (s : InSpan) → IsBegun p from until s
+pub known_left : (p : Puzzle) (from : List ℕ) (until : Option (List ℕ)) (s : InSpan) → BeginsAt p from until s
     → All (All (IsKnownChoice p)) (left_of s)
 known_left p from until s b = subst (All (All (IsKnownChoice p))) (sym b.left) (known_between p from until)
 
@@ -136,7 +136,7 @@ module _ (a : Named) (asked : AskedSpan) (w : Went) where
 
   module _ (R : SinkState → SinkState → List ℕ → Type 0) {x y z : SinkState}
       (join : (s t : List ℕ) → Took x y s → R y z t → R x z (s ++ t)) (s n : InSpan)
-      (begun : IsBegun p asked.from (end_at asked.until) s)
+      (begun : BeginsAt p asked.from (end_at asked.until) s)
       (still : n ≡ record s { row = n.row; shown = n.shown; made = n.made })
       (o : WentOn s.puzzle s.until s.row n.row (most_steps asked.steps) w)
       (listing : Took x y (written_text a asked.listed asked.from (take w.members (left_of s))))
@@ -196,7 +196,7 @@ module _ (a : Named) (asked : AskedSpan) (w : Went) where
       ]
 
 -- a sink that broke off in the listing broke off in the text of the whole span
-pub of_broken : (a : Named) (asked : AskedSpan) (s : InSpan) → IsBegun a.puzzle asked.from (end_at asked.until) s
+pub of_broken : (a : Named) (asked : AskedSpan) (s : InSpan) → BeginsAt a.puzzle asked.from (end_at asked.until) s
     → {x z : SinkState} → BrokeOff x z (written_text a asked.listed asked.from (left_of s))
     → (w : Went) × OfSpan a asked w BrokeOff x z
 of_broken a asked s begun {x = x} {z = z} broke = (

@@ -49,5 +49,5 @@ ends_left p end = ends_after (solutions_found end) (ends (whole p))
 
 -- A run that ended so took its dance from so many moves ever made to so many: no more, for each end of the search's
 -- tree up to that member, than may stand at once.
-abbrev pub MakesFew : Puzzle → ℕ → ℕ → End → Type 0
-MakesFew p old new end = new + room_for p * length (ends_left p end) ≤ old + room_for p * length (ends (whole p))
+abbrev pub RunMakesFew : Puzzle → ℕ → ℕ → End → Type 0
+RunMakesFew p old new end = new + room_for p * length (ends_left p end) ≤ old + room_for p * length (ends (whole p))

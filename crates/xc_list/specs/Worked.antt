@@ -20,5 +20,5 @@ colours = record {
 }
 
 -- one item in three equal options
-abbrev pub alike : Named
-alike = record { names = codes "A" ∷ []; colours = []; puzzle = equal_options }
+abbrev pub three_alike : Named
+three_alike = record { names = codes "A" ∷ []; colours = []; puzzle = equal_options }

@@ -7,7 +7,7 @@ ghost use Rattle.xc_list.specs.Runs.{end_of};
 ghost use Rattle.xc_list.specs.Settings.{read_words};
 ghost use Rattle.xc_list.specs.SpanTexts.{row_text};
 ghost use Rattle.xc_list.specs.SpanWords.{row_word};
-ghost use Rattle.xc_list.specs.Worked.{seven, alike, colours};
+ghost use Rattle.xc_list.specs.Worked.{seven, three_alike, colours};
 ghost use Rattle.xc_list.specs.declared.runs.End.TheVariants.{Done, Limit};
 ghost use Rattle.xc_list.specs.declared.words.WordFault.TheVariants.{Unknown, BadNumber, ZeroLimit};
 
@@ -62,11 +62,11 @@ pub fn equal_span_faults(a: &SpanFault, b: &SpanFault) -> bool
 pub fn worked_texts()
     ensures seven { output seven 1 100 ≡ codes "1:\n a d f (2 of 2)\n b g (1 of 1)\n c e (1 of 1)\n" }
     ensures colours { output colours 1 100 ≡ codes "1:\n q x:A (2 of 2)\n p r x:A y (1 of 1)\n" }
-    ensures spaced { output alike 2 100 ≡ codes "2:\n A (2 of 3)\n" }
-    ensures limited { output alike 1 2 ≡ codes "1:\n A (1 of 3)\n2:\n A (2 of 3)\n" }
-    ensures counted { output alike 0 100 ≡ [] }
-    ensures done { end_of alike 4 ≡ Done 3 }
-    ensures limit { end_of alike 3 ≡ Limit 3 }
+    ensures spaced { output three_alike 2 100 ≡ codes "2:\n A (2 of 3)\n" }
+    ensures limited { output three_alike 1 2 ≡ codes "1:\n A (1 of 3)\n2:\n A (2 of 3)\n" }
+    ensures counted { output three_alike 0 100 ≡ [] }
+    ensures done { end_of three_alike 4 ≡ Done 3 }
+    ensures limit { end_of three_alike 3 ≡ Limit 3 }
     ensures one { summary_text (Done 1) ≡ codes "Altogether 1 solution.\n" }
     ensures met { summary_text (Limit 12) ≡ codes "Altogether 12 solutions (limit).\n" }
 {}

@@ -5,7 +5,7 @@ ghost use Rattle.xc_list.specs.Texts.{Writes};
 ghost use Rattle.xc_input.specs.Problem.{IsItem};
 ghost use Rattle.xc_list.specs.Output.{bytes_at, body_text, choice_text, member_text};
 ghost use Rattle.xc_list.specs.inner.LineParts.{branch_text};
-ghost use Rattle.xc_list.specs.inner.Pages.{IsPut, held_text, AreKept, Stand, end_of};
+ghost use Rattle.xc_list.specs.inner.Pages.{IsPut, held_text, AreKept, MatchMark, lines_end};
 ghost use Rattle.xc_search.specs.Marks.{marked, IsMark};
 ghost use Rattle.xc_list.specs.Known.{IsKnownChoice};
 
@@ -388,11 +388,11 @@ fn keep_line<'a, D: Dance>(
     requires known { IsKnownChoice laid.now.puzzle (marked laid.now.puzzle mark) }
     requires kept { AreKept laid.now text.old kept.old }
     requires done { done ≤ length kept.old }
-    requires at { at ≡ end_of laid.now (take done kept.old) }
+    requires at { at ≡ lines_end laid.now (take done kept.old) }
     requires size { length text.old ≡ 4096 }
     ensures kept { IfSome result (λ _. AreKept laid.now text.new kept.new) }
-    ensures stands { IfSome result (λ _. Stand (done + 1) kept.new (take done kept.old) mark) }
-    ensures end { IfSome result (λ to. to ≡ end_of laid.now (take (done + 1) kept.new)) }
+    ensures stands { IfSome result (λ _. MatchMark (done + 1) kept.new (take done kept.old) mark) }
+    ensures end { IfSome result (λ to. to ≡ lines_end laid.now (take (done + 1) kept.new)) }
     ensures header { IfSome result (λ _. take 22 text.new ≡ take 22 text.old) }
     ensures size { length text.new ≡ 4096 }
 {

@@ -10,7 +10,7 @@ ghost use Rattle.xc_dance.specs.Dancing.{moves_made};
 ghost use Rattle.xc_dance.specs.Linked.{dancing_of};
 ghost use Rattle.xc_list.specs.Output.{is_printed};
 ghost use Rattle.xc_list.specs.Known.{IsKnownChoice};
-ghost use Rattle.xc_list.specs.Runs.{IsRun, AnswersRun, MakesFew, solutions_found};
+ghost use Rattle.xc_list.specs.Runs.{IsRun, AnswersRun, RunMakesFew, solutions_found};
 ghost use Rattle.xc_list.specs.inner.Ends.{printed_text, WentTo};
 ghost use Rattle.xc_list.specs.inner.Pages.{AreKept};
 ghost use Rattle.xc_dance.specs.Same.{IsSame};
@@ -113,7 +113,7 @@ fn write_members<'a, D: Dance, S: Sink>(
       ahead = walk.new.ahead;
       made = walk.new.made;
     } }
-    ensures moves { MakesFew bodies.now.puzzle walk.old.made walk.new.made result }
+    ensures moves { RunMakesFew bodies.now.puzzle walk.old.made walk.new.made result }
     ensures went { WentTo (members bodies.now.puzzle) walk.new result }
     ensures run { IsRun bodies.now words.now.spacing words.now.limit
         (S.state sink.old) (S.state sink.new) result }
@@ -169,7 +169,7 @@ pub fn run_over<D: Dance, S: Sink>(
     requires room { room_for problem.now.puzzle ≤ (D.state dance).room }
     ensures dance { D.state result.0 ≡ record (D.state dance) { undone = (D.state result.0).undone } }
     ensures moves { IfOk result.1
-        (MakesFew problem.now.puzzle (moves_made (D.state dance)) (moves_made (D.state result.0))) }
+        (RunMakesFew problem.now.puzzle (moves_made (D.state dance)) (moves_made (D.state result.0))) }
     ensures back { OnErr result.1 (D.state result.0 ≡ D.state dance) }
     ensures run { AnswersRun problem.now words.spacing words.limit
         (seen S.state sink.old) (seen S.state sink.new) result.1 }
@@ -198,7 +198,7 @@ pub fn run_over_links<S: Sink>(
 ) -> Result<(Links, Result<End, Memory>), Memory>
     ensures built { IfOk result (λ back. IsSame back.0.puzzle back.0.trail problem.now.puzzle []) }
     ensures moves { IfOk result (λ back. IfOk back.1
-        (MakesFew problem.now.puzzle 0 (moves_made (dancing_of back.0)))) }
+        (RunMakesFew problem.now.puzzle 0 (moves_made (dancing_of back.0)))) }
     ensures run { MatchResult result (λ back. AnswersRun problem.now words.spacing words.limit
         (seen S.state sink.old) (seen S.state sink.new) back.1) (λ _. sink.new ≡ sink.old) }
     ensures right { EachMemberCovers problem.now.puzzle }

@@ -9,7 +9,7 @@ ghost use Rattle.xc_list.specs.SpanTexts.{row_text, end_at, members_text, listin
 ghost use Rattle.xc_list.specs.SpanWords.{asked_of};
 ghost use Rattle.xc_list.specs.SpanRuns.{most_steps, OfSpan, AnswersSpan};
 ghost use Rattle.xc_list.specs.inner.SpanSteps.{dotted, numbers_text, text_at, row_in, branches_in, until_text};
-ghost use Rattle.xc_list.specs.inner.SpanSteps.{counts_text, told_text, WentOn, IsBegun, written_text, SpanWritten};
+ghost use Rattle.xc_list.specs.inner.SpanSteps.{counts_text, told_text, WentOn, BeginsAt, written_text, SpanWritten};
 
 use crate::bodies::Bodies;
 use crate::print::write_member;
@@ -277,7 +277,7 @@ fn write_span<'a, D: Dance, S: Sink>(
     words: &SpanWords,
     sink: &mut S,
 ) -> Result<Went, SinkFault>
-    requires begun { IsBegun bodies.now.puzzle words.now.from.items (end_at words.now.until.items) span.old }
+    requires begun { BeginsAt bodies.now.puzzle words.now.from.items (end_at words.now.until.items) span.old }
     ensures still { span.new ≡ record span.old {
       row = span.new.row;
       shown = span.new.shown;

@@ -14,8 +14,8 @@ abbrev pub plain : ℕ → Use
 plain i = record { item = i; colour = 0 }
 
 -- a use of colour c
-abbrev pub coloured : ℕ → ℕ → Use
-coloured i c = record { item = i; colour = c }
+abbrev pub coloured_use : ℕ → ℕ → Use
+coloured_use i c = record { item = i; colour = c }
 
 -- branch k of the n of item i
 abbrev pub choice : ℕ → Option ℕ → ℕ → ℕ → Choice
@@ -38,8 +38,8 @@ two_colours = record {
   bounds = within 1 1 ∷ within 1 1 ∷ within 1 1 ∷ [];
   secondary = 2;
   options =
-      (plain 1 ∷ plain 2 ∷ plain 4 ∷ coloured 5 1 ∷ []) ∷ (plain 1 ∷ plain 3 ∷ coloured 4 1 ∷ plain 5 ∷ [])
-      ∷ (plain 1 ∷ coloured 4 2 ∷ []) ∷ (plain 2 ∷ coloured 4 1 ∷ []) ∷ (plain 3 ∷ coloured 5 2 ∷ []) ∷ [];
+      (plain 1 ∷ plain 2 ∷ plain 4 ∷ coloured_use 5 1 ∷ []) ∷ (plain 1 ∷ plain 3 ∷ coloured_use 4 1 ∷ plain 5 ∷ [])
+      ∷ (plain 1 ∷ coloured_use 4 2 ∷ []) ∷ (plain 2 ∷ coloured_use 4 1 ∷ []) ∷ (plain 3 ∷ coloured_use 5 2 ∷ []) ∷ [];
 }
 
 -- 1:2|A B: A / A B / B
@@ -68,7 +68,7 @@ one_colour = record {
   bounds = within 1 1 ∷ within 1 1 ∷ [];
   secondary = 1;
   options =
-      (plain 1 ∷ coloured 3 1 ∷ []) ∷ (plain 2 ∷ coloured 3 1 ∷ []) ∷ (plain 2 ∷ coloured 3 2 ∷ [])
+      (plain 1 ∷ coloured_use 3 1 ∷ []) ∷ (plain 2 ∷ coloured_use 3 1 ∷ []) ∷ (plain 2 ∷ coloured_use 3 2 ∷ [])
       ∷ (plain 2 ∷ plain 3 ∷ []) ∷ [];
 }
 
@@ -104,7 +104,7 @@ bounds_and_colours = record {
   bounds = within 2 2 ∷ within 0 1 ∷ [];
   secondary = 1;
   options =
-      (plain 1 ∷ plain 2 ∷ []) ∷ (plain 1 ∷ coloured 3 1 ∷ []) ∷ (plain 1 ∷ coloured 3 2 ∷ [])
+      (plain 1 ∷ plain 2 ∷ []) ∷ (plain 1 ∷ coloured_use 3 1 ∷ []) ∷ (plain 1 ∷ coloured_use 3 2 ∷ [])
       ∷ (plain 2 ∷ []) ∷ [];
 }
 

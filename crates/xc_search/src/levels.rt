@@ -13,7 +13,7 @@ ghost use Rattle.xc_search.specs.inner.Ahead.{EntersOver, StandsOver, EndsOver, 
 ghost use Rattle.xc_search.specs.Listing.{listing};
 ghost use Rattle.xc_search.specs.inner.Residual.{residual_of};
 ghost use Rattle.xc_search.specs.Residuals.{choice_after};
-ghost use Rattle.xc_search.specs.inner.Paths.{KeepsBy, IsChosenBy, Rises};
+ghost use Rattle.xc_search.specs.inner.Paths.{KeepsBy, IsChosenBy, AreLater};
 
 use crate::level::{Begun, Level, begin_level};
 use crate::position::Position;
@@ -63,7 +63,7 @@ pub fn deepen<D: Dance>(
         IsEarlyChoice position.old.puzzle position.old.trail next → (m : ℕ) →
         Pays position.old stack.old true m (branched position.new b.item b.place) stack.new true m }
     ensures near { (b : Entered) → result ≡ Below.Branch b → b.place < 2 ^ 32 }
-    ensures deeper_row { (b : Entered) → result ≡ Below.Branch b → Rises stack.old stack.new }
+    ensures deeper_row { (b : Entered) → result ≡ Below.Branch b → AreLater stack.old stack.new }
     ensures nothing { result ≡ Below.Nothing → GoesOn position.old stack.old true position.new stack.new false }
     ensures nothing_row { result ≡ Below.Nothing → stack.new ≡ stack.old }
     ensures fewer { result ≡ Below.Nothing →
@@ -138,7 +138,7 @@ pub fn resume<D: Dance>(position: &mut Position<D>, stack: &mut Stack) -> Option
         EntersBranch position.old stack.old false position.new stack.new b.item b.place) }
     ensures resumed_path { IfSome result (λ b. (exact : Bool) →
         KeepsBy exact position.old stack.old (branched position.new b.item b.place) stack.new) }
-    ensures resumed_row { IfSome result (λ _. Rises stack.old stack.new) }
+    ensures resumed_row { IfSome result (λ _. AreLater stack.old stack.new) }
     ensures near { IfSome result (λ b. b.place < 2 ^ 32) }
     ensures resumed_pays { IfSome result (λ b. (m : ℕ) →
         Pays position.old stack.old false m (branched position.new b.item b.place) stack.new true m) }

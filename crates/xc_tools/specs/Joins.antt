@@ -20,18 +20,18 @@ use Rattle.xc_tools.specs.WholeRuns.{Sinks, TookAll, IsRefused}
 
 -- A span as it was searched: its first row; the one before which it ends, where the empty row stands for the listing's
 -- end; the branches of the row where the search stopped before that, if it did; and how many steps it took.
-pub record Span : Type 0 where
+pub record SearchedSpan : Type 0 where
   pub from : List ℕ
   pub until : List ℕ
   pub branches : Option (List ℕ)
   pub steps : ℕ
 
 -- the members of a span
-abbrev pub members_of : Named → Span → List (List Choice)
+abbrev pub members_of : Named → SearchedSpan → List (List Choice)
 members_of a s = between a.puzzle s.from (end_at s.until)
 
 -- the text of a span
-abbrev pub text_of : Named → Bool → Span → List ℕ
+abbrev pub text_of : Named → Bool → SearchedSpan → List ℕ
 text_of a listed s = span_text a listed s.from s.until s.branches s.steps
 
 -- numbers below 2^64
@@ -39,7 +39,7 @@ abbrev pub AreSmall : List ℕ → Type 0
 AreSmall row = All (λ n. n < 2 ^ 64) row
 
 -- A span of a problem ends no earlier than it begins, and all of its numbers are below 2^64.
-pub record IsSpan (a : Named) (s : Span) : Type 0 where
+pub record IsSpan (a : Named) (s : SearchedSpan) : Type 0 where
   pub forward : IfSome (end_at s.until) (λ u. precedes u s.from ≡ false)
   pub from : AreSmall s.from
   pub until : AreSmall s.until
@@ -48,13 +48,13 @@ pub record IsSpan (a : Named) (s : Span) : Type 0 where
   pub few : length (members_of a s) < 2 ^ 64
 
 -- These are the texts of spans of a problem, one after another.
-pub record AreTexts (a : Named) (listed : Bool) (spans : List Span) (text : List ℕ) : Type 0 where
+pub record AreTexts (a : Named) (listed : Bool) (spans : List SearchedSpan) (text : List ℕ) : Type 0 where
   pub each : All (IsSpan a) spans
   pub whole : flat_map (text_of a listed) spans ≡ text
 
 -- The first span begins at this row, each other one where the one before it ended, and the last ends at the listing's
 -- end.
-abbrev pub DoMeet : List ℕ → List Span → Type 0
+abbrev pub DoMeet : List ℕ → List SearchedSpan → Type 0
 DoMeet row [] = ⊥
 DoMeet row (s ∷ spans) = (s.from ≡ row) × elim s.until [ [] ↦ spans ≡ [] | n ∷ until ↦ DoMeet (n ∷ until) spans ]
 
@@ -69,12 +69,12 @@ abbrev pub IsBeginning : List ℕ → List ℕ → Type 0
 IsBeginning text whole = (tail : List ℕ) × (text ++ tail ≡ whole)
 
 -- this is so of each sound problem and spans of it whose texts these bytes are
-abbrev pub ForTexts : Bool → (Named → List Span → Type 0) → List ℕ → Type 0
+abbrev pub ForTexts : Bool → (Named → List SearchedSpan → Type 0) → List ℕ → Type 0
 ForTexts listed says bytes =
-    (a : Named) (spans : List Span) → IsSound a → AreTexts a listed spans bytes → says a spans
+    (a : Named) (spans : List SearchedSpan) → IsSound a → AreTexts a listed spans bytes → says a spans
 
 -- This is so of each sound problem and spans of it whose texts a source gave, with its end, or began to give.
-abbrev pub OfTexts : Bool → (Named → List Span → Type 0) → SourceState → SourceState → Type 0
+abbrev pub OfTexts : Bool → (Named → List SearchedSpan → Type 0) → SourceState → SourceState → Type 0
 OfTexts listed says old new = (bytes : List ℕ) × ((GaveAll old new bytes × ForTexts listed says bytes)
     ⊎ (Gave old new bytes × ((more : List ℕ) → ForTexts listed says (bytes ++ more))))
 
@@ -93,7 +93,7 @@ pub record IsJoined {O E : Type 0} (listed : Bool) (from to : SourceState) (old 
 
 -- The output took a text. Where the input is texts of spans, or their beginning, it is a beginning of the whole
 -- listing, and this is so of the spans.
-pub record HasBegun (listed : Bool) (says : List Span → Type 0) (input_old input_new : SourceState)
+pub record HasBegun (listed : Bool) (says : List SearchedSpan → Type 0) (input_old input_new : SourceState)
     (out_old out_new : SinkState) : Type 0 where
   pub text : List ℕ
   pub taken : Appends out_old.taken out_new.taken text
@@ -117,7 +117,7 @@ ToldFailure from to old new = let told = WasTold old.err.state new.err.state in
 -- What a run did that was asked for this, by its status. At 5 the spans don't meet, and at 2 the input is no texts.
 abbrev pub DidJoin : {O E : Type 0} → Bool → ℕ → SourceState → SourceState → Sinks O E → Sinks O E → Type 0
 DidJoin listed status from to old new =
-    let begun = λ (says : List Span → Type 0). HasBegun listed says from to old.out.state new.out.state in
+    let begun = λ (says : List SearchedSpan → Type 0). HasBegun listed says from to old.out.state new.out.state in
     let told = WasTold old.err.state new.err.state in
     ((status ≡ 0) × IsJoined listed from to old new)
     ⊎ ((status ≡ 2) × begun (λ _. ⊥) × (file : List ℕ) × (line : ℕ) × told (no_text file line))

@@ -12,7 +12,8 @@ ghost use Rattle.xc_list.specs.Texts.{seen, Took, WasTold, Writes};
 ghost use Rattle.xc_tools.specs.Joins.{asked_join, gap_text, no_text, DidJoin, DidJoinWords};
 ghost use Rattle.xc_tools.specs.WholeRuns.{sinks};
 ghost use Rattle.xc_tools.specs.declared.joining.Stop.TheVariants.{Device, Memory, WriteFailed};
-ghost use Rattle.xc_tools.specs.inner.Joining.{written, fed, stop_of, Adds, EndsAt, IsAfter, JoinsAll, StopsIn};
+ghost use Rattle.xc_tools.specs.inner.Joining.{joined_text, fed_lines, stop_of, Adds, EndsAt, IsAfter, JoinsAll};
+ghost use Rattle.xc_tools.specs.inner.Joining.{StopsIn};
 ghost use Rattle.xc_tools.specs.inner.Joining.{StopsReading, ToldStop};
 ghost use Rattle.xc_tools.specs.inner.SpanLines.{act_text};
 
@@ -160,7 +161,7 @@ fn end_line<O: Sink>(
     ensures adds { OnOk result (Adds lines.old.joint.listed lines.old.given.lines lines.new.given.lines Took
         (O.state out.old) (O.state out.new)) }
     ensures stops { IfErr result (StopsIn lines.old.joint.listed lines.old.given.lines
-        (fed lines.old carry.old.items ++ with_feed.now) lines.new.joint (O.state out.old) (O.state out.new)) }
+        (fed_lines lines.old carry.old.items ++ with_feed.now) lines.new.joint (O.state out.old) (O.state out.new)) }
 {
     count_line(lines);
     if carry.is_empty() {
@@ -195,11 +196,11 @@ fn feed<O: Sink>(
     ensures listed { lines.new.joint.listed ≡ lines.old.joint.listed }
     ensures after { OnOk result (IsAfter lines.new) }
     ensures part { OnOk result (has 10 carry.new.items ≡ false) }
-    ensures fed { OnOk result (fed lines.new carry.new.items ≡ fed lines.old carry.old.items ++ piece.now) }
+    ensures fed { OnOk result (fed_lines lines.new carry.new.items ≡ fed_lines lines.old carry.old.items ++ piece.now) }
     ensures adds { OnOk result (Adds lines.old.joint.listed lines.old.given.lines lines.new.given.lines Took
         (O.state out.old) (O.state out.new)) }
     ensures stops { IfErr result (StopsIn lines.old.joint.listed lines.old.given.lines
-        (fed lines.old carry.old.items ++ piece.now) lines.new.joint (O.state out.old) (O.state out.new)) }
+        (fed_lines lines.old carry.old.items ++ piece.now) lines.new.joint (O.state out.old) (O.state out.new)) }
 {
     let mut rest = piece;
     while let Some((line, with_feed, others)) = next_line(rest) {
@@ -234,9 +235,9 @@ fn feed_all<S: Located, O: Sink>(
     ensures after { OnOk result (IsAfter lines.new) }
     ensures part { OnOk result (has 10 carry.new.items ≡ false) }
     ensures all { OnOk result (GaveAll (S.Source.state input.old) (S.Source.state input.new)
-        (fed lines.new carry.new.items)) }
+        (fed_lines lines.new carry.new.items)) }
     ensures adds { OnOk result (Took (O.state out.old) (O.state out.new)
-        (written lines.old.joint.listed lines.new.given.lines)) }
+        (joined_text lines.old.joint.listed lines.new.given.lines)) }
     ensures stops { IfErr result (StopsReading lines.old.joint.listed lines.new.joint
         (S.Source.state input.old) (S.Source.state input.new) (O.state out.old) (O.state out.new)) }
 {

@@ -8,8 +8,8 @@ ghost use Rattle.xc_list.specs.ListingLines.{before_last, words_in};
 ghost use Rattle.xc_tools.specs.inner.SpanLines.{act_text, begins_with, by_header, by_heading, by_last, by_line};
 ghost use Rattle.xc_tools.specs.inner.SpanLines.{by_record, closed};
 ghost use Rattle.xc_tools.specs.inner.SpanLines.{counts_of, goes, heading_of, inside, is_header, is_number, is_row};
-ghost use Rattle.xc_tools.specs.inner.SpanLines.{join_of, meets, record_of, saturating_number, solutions_of};
-ghost use Rattle.xc_tools.specs.inner.SpanLines.{start, Takes, told_of, Unmet};
+ghost use Rattle.xc_tools.specs.inner.SpanLines.{join_of, meets, record_of, saturating_number, recorded_solutions};
+ghost use Rattle.xc_tools.specs.inner.SpanLines.{start, TakesLine, told_of, Unmet};
 ghost use Rattle.xc_tools.specs.declared.span_lines.Refusal.TheVariants.{Memory};
 ghost use Rattle.xc_tools.specs.declared.span_lines.Act.TheVariants.{Nothing};
 
@@ -175,7 +175,7 @@ fn are_counts(solutions: &[u8], n: &[u8], steps: &[u8], m: &[u8]) -> bool
 
 /// How many solutions the last words of a record tell.
 fn solutions_of<'a>(words: &[&'a [u8]]) -> Option<&'a [u8]>
-    ensures { option_map (λ n. n.now) result ≡ solutions_of (map (λ w. w.now) words.now) }
+    ensures { option_map (λ n. n.now) result ≡ recorded_solutions (map (λ w. w.now) words.now) }
 {
     match words {
         [solutions, n, steps, m] => {
@@ -280,7 +280,7 @@ impl Joint {
     /// Takes the heading of a listing.
     fn take_heading(&mut self, alloc: Global, line: &[u8]) -> Result<Act, Refusal>
         ensures listed { self.new.listed ≡ self.old.listed }
-        ensures step { Takes (by_heading (join_of self.old) (words_in line.now)) line.now result self.new }
+        ensures step { TakesLine (by_heading (join_of self.old) (words_in line.now)) line.now result self.new }
     {
         let words = words_of(alloc, line)?;
         let Some(row) = heading_of(&words) else {
@@ -294,7 +294,7 @@ impl Joint {
     /// Takes a text that is a record alone.
     fn take_record(&mut self, alloc: Global, line: &[u8]) -> Result<Act, Refusal>
         ensures listed { self.new.listed ≡ self.old.listed }
-        ensures step { Takes (by_record (join_of self.old) (words_in line.now)) line.now result self.new }
+        ensures step { TakesLine (by_record (join_of self.old) (words_in line.now)) line.now result self.new }
     {
         let words = words_of(alloc, line)?;
         let Some(record) = record_of(&words) else {
@@ -310,7 +310,7 @@ impl Joint {
     /// Takes the record of a listing with so many solutions.
     fn take_last(&mut self, alloc: Global, found: u64, line: &[u8]) -> Result<Act, Refusal>
         ensures listed { self.new.listed ≡ self.old.listed }
-        ensures step { Takes (by_last (join_of self.old) found (words_in line.now)) line.now result self.new }
+        ensures step { TakesLine (by_last (join_of self.old) found (words_in line.now)) line.now result self.new }
     {
         let words = words_of(alloc, line)?;
         let Some(record) = record_of(&words) else {
@@ -342,7 +342,7 @@ impl Joint {
     /// Takes a line of an open listing with so many solutions.
     fn take_inside(&mut self, alloc: Global, found: u64, line: &[u8]) -> Result<Act, Refusal>
         ensures listed { self.new.listed ≡ self.old.listed }
-        ensures step { Takes (inside (join_of self.old) found line.now) line.now result self.new }
+        ensures step { TakesLine (inside (join_of self.old) found line.now) line.now result self.new }
     {
         if begins_with(line, b' ') && found > 0 {
             return Ok(if self.full { Act::Nothing } else { Act::Copy });
@@ -359,7 +359,7 @@ impl Joint {
     /// Takes a line, without its line feed, and answers what is to be written for it.
     pub fn take(&mut self, alloc: Global, line: &[u8]) -> Result<Act, Refusal>
         ensures listed { self.new.listed ≡ self.old.listed }
-        ensures step { Takes (by_line (join_of self.old) line.now) line.now result self.new }
+        ensures step { TakesLine (by_line (join_of self.old) line.now) line.now result self.new }
     {
         match self.found {
             Some(found) => self.take_inside(alloc, found, line),

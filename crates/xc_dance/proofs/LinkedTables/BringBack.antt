@@ -15,7 +15,7 @@ use Rattle.xc_dance.specs.inner.Links.Steps.{unhidden, CanUnhide, CanUnhideNode,
 use Rattle.xc_dance.specs.inner.Links.Steps.{unhide_costs}
 use Rattle.xc_dance.specs.inner.Links.Cells.{fixed_up, fixed_down, top_in, nodes_from, dlink_in, color_in}
 use Rattle.xc_dance.specs.inner.Links.Cells.{line_of}
-use Rattle.xc_dance.specs.inner.Links.Laid.{IsName, IsLaid, Placed}
+use Rattle.xc_dance.specs.inner.Links.Laid.{HoldsItem, IsLaid, Placed}
 use Rattle.xc_dance.specs.declared.dance.Move.{Move}
 use Rattle.xc_dance.specs.inner.Links.Span.{Span}
 use Rattle.xc_dance.specs.Moves.{is_open, AreLegal, listed_numbers}
@@ -44,14 +44,14 @@ use Rattle.xc_dance.proofs.LinkedTables.Walks.{Way}
 
 -- what a step needs of option o, which comes back into item j's line
 pub record IsReturner (p : Puzzle) (j : ℕ) (l : Line) (o : ℕ) : Type 0 where
-  pub above : IsName p j (l.up o)
-  pub below : IsName p j (l.down o)
+  pub above : HoldsItem p j (l.up o)
+  pub below : HoldsItem p j (l.down o)
   pub few : l.len < 2 ^ 31
 
 -- it comes back there unless its node is marked
 pub record Returning (p : Puzzle) (col : Node → ℕ) (ln : ℕ → Line) (o j : ℕ) : Type 0 where
   pub item : InRange p j
-  pub name : IsName p j o
+  pub name : HoldsItem p j o
   pub returner : is_mark p col o j ≡ false → IsReturner p j (ln j) o
 
 pub record Unhidden (t u : Nodes) (q : ℕ) : Type 0 where

@@ -13,7 +13,7 @@ use Rattle.xc_dance.specs.Moves.{is_open, listed_numbers}
 use Rattle.xc_dance.specs.Commits.{IsListedAt, IsUseAt, after_use}
 use Rattle.xc_dance.specs.Fields.{layout, used, link_place, first_above, is_in}
 use Rattle.xc_dance.specs.inner.Links.Cells.{nodes_after}
-use Rattle.xc_dance.specs.inner.Links.Laid.{IsLaid, IsName}
+use Rattle.xc_dance.specs.inner.Links.Laid.{IsLaid, HoldsItem}
 use Rattle.xc_dance.proofs.LinkedTables.NodeOptions.{own_down, use_down, node_within, contained}
 use Rattle.xc_dance.proofs.LinkedTables.GoodLines.{Named, numbers_named}
 use Rattle.xc_dance.proofs.LinkedTables.Sweep.{in_above}
@@ -26,7 +26,8 @@ pub in_list_name : (p : Puzzle) (t : List Move) (i x : ℕ) → is_in x (listed_
     × (is_some (colour_in (uses_of p x) i) ≡ true)
 in_list_name p t i x e = (in_above _ _ _ (rises_listed p t i) e, element_of (Named p i) _ _ (numbers_named p t i) e)
 
-listed_name : (p : Puzzle) (t : List Move) (i : ℕ) {x : ℕ} → (x ≡ 0) ⊎ Contains (listed_numbers p t i) x → IsName p i x
+listed_name : (p : Puzzle) (t : List Move) (i : ℕ) {x : ℕ} → (x ≡ 0) ⊎ Contains (listed_numbers p t i) x
+    → HoldsItem p i x
 listed_name p t i (inl z) = inl z
 listed_name p t i (inr h) = inr (in_list_name p t _ _ (contained _ _ h))
 
@@ -45,7 +46,7 @@ pub listed_down : {p : Puzzle} {t : List Move} {i x q : ℕ} → IsLaid p → Is
     get_or (nodes_after p t).dlink q 0 ≡ link_place p i (first_above 0 x (listed_numbers p t i))
 listed_down {p} {t} laid item at = ap (λ k. get_or (nodes_after p t).dlink k 0) at.at ∙ down_at t _ laid item at.listed
 
-pub use_name : {p : Puzzle} {i x q : ℕ} → IsUseAt p i x q → IsName p i x
+pub use_name : {p : Puzzle} {i x q : ℕ} → IsUseAt p i x q → HoldsItem p i x
 use_name u = inr (u.known.0, held_of _ _ u.holds)
 
 -- ---- the use of a secondary item

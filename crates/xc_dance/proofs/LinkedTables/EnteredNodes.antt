@@ -21,7 +21,7 @@ use Rattle.xc_dance.specs.inner.Links.Lines.{Line}
 use Rattle.xc_dance.specs.inner.Links.FirstNodes.{blank, entered}
 use Rattle.xc_dance.specs.Moves.{listed_numbers}
 use Rattle.xc_dance.specs.Fields.{Node, own, spacer, used, layout, nodes_of, is_in, link_place}
-use Rattle.xc_dance.specs.inner.Links.Laid.{IsFit, AreDistinct, IsName, Placed, IsLaid}
+use Rattle.xc_dance.specs.inner.Links.Laid.{IsFit, DifferByItem, HoldsItem, Placed, IsLaid}
 use Rattle.xc_dance.specs.inner.Links.Columns.{Nodes}
 use Rattle.xc_dance.specs.inner.Links.Cells.{top_in, color_in, fixed_up, fixed_down, nodes_from, ulink_in, dlink_in}
 use Rattle.xc_dance.specs.inner.Links.Cells.{line_of, up_of, down_of, nodes_after}
@@ -143,12 +143,12 @@ absent_none j o [] e = refl
 absent_none j o (u ∷ us) e = grind (arith, false≢true, absent_none j o us)
 
 -- an option that holds an item has one node of it
-pub one_use : (j o : ℕ) (us : List Use) → AreDistinct us
+pub one_use : (j o : ℕ) (us : List Use) → DifferByItem us
     → held j (map (used o) us) ≡ cond (is_some (colour_in us j)) (o ∷ []) []
 one_use j o [] d = grind (arith, absent_none, eqb-true)
 one_use j o (u ∷ us) d = grind (arith, absent_none, eqb-true, one_use j o us d.1)
 
-pub options_hold : (j : ℕ) (os : List Numbered) → AllByRecursion (λ (x : Numbered). AreDistinct x.uses) os
+pub options_hold : (j : ℕ) (os : List Numbered) → AllByRecursion (λ (x : Numbered). DifferByItem x.uses) os
     → held j (flat_map nodes_of os) ≡ map (λ (o : Numbered). o.number) (holding j os)
 options_hold j [] d = refl
 options_hold j (x ∷ os) d = grind (arith, held-append, append-nil, one_use j x.number x.uses d.0, options_hold j os d.1)
@@ -198,7 +198,7 @@ entered-is p ln col q o u laid e here head last item =
 -- ---- the nodes so far
 
 use_name : (p : Puzzle) (k o j : ℕ) (u : Use) → IsFit p → slice_get (layout p) k ≡ Some (used o u) → u.item ≡ j
-    → IsName p j o
+    → HoldsItem p j o
 use_name p k o j u fit e same = grind (arith, (is_laid _ fit).nodes)
 
 -- an item's line once one node more is entered
@@ -228,7 +228,8 @@ use_step p q o u fit limits e =
     let range = laid.nodes.ranged q (used o u) j o e refl in
     let here = laid.there j o range.0 range.1 (use_name p q o j u fit e refl) in
     let head = laid.there j 0 range.0 range.1 (inl refl) in
-    let name : IsName p j ((ln j).up 0) = last_from (IsName p j) blank _ (inl refl) (held_each (IsName p j) j ns
+    let name : HoldsItem p j ((ln j).up 0) =
+    last_from (HoldsItem p j) blank _ (inl refl) (held_each (HoldsItem p j) j ns
     (λ k x v f same. use_name p k x j v fit (get_taken q k (layout p) (used x v) f) same)) in
     let last = laid.there j ((ln j).up 0) range.0 range.1 name in
     let is_i = get_map (top_in ln) (layout p) q (used o u) e in

@@ -18,7 +18,7 @@ use Rattle.xc_input.specs.Problem.{Puzzle, item_count, option_count, primary_cou
 use Rattle.xc_input.specs.Problem.{AreSoundBounds}
 use Rattle.std.proofs.lemmas.List.{length-map, length-take-le, map-append}
 use Rattle.std.proofs.lemmas.Option.{slice_get_within}
-use Rattle.xc_dance.specs.inner.Links.FirstNodes.{filled, blanks, rows_of, laid_to, with_row}
+use Rattle.xc_dance.specs.inner.Links.FirstNodes.{filled, blanks, rows_of, laid_to, with_node}
 use Rattle.xc_dance.specs.inner.Links.Columns.{Laying}
 use Rattle.xc_dance.proofs.Copied.{take_more-get}
 use Rattle.xc_dance.specs.declared.links.rows.Row.{Row}
@@ -65,11 +65,11 @@ row_of p n =
     record { top = top_in blanks n; ulink = ulink_in p blanks n; dlink = dlink_in p blanks n; color = color_in p [] n }
 
 rows_more : (p : Puzzle) (ns : List Node) (n : Node)
-    → (with_row (record { count = 0; nodes = rows_of p ns }) (row_of p n)).nodes ≡ rows_of p (ns ++ n ∷ [])
+    → (with_node (record { count = 0; nodes = rows_of p ns }) (row_of p n)).nodes ≡ rows_of p (ns ++ n ∷ [])
 rows_more p ns n = grind (arith, map-append)
 
 -- one node more
-pub laid_more : (p : Puzzle) (k : ℕ) {n : Node} {r : Row} {old new : Laying} → new ≡ with_row old r → old ≡ laid_to p k
+pub laid_more : (p : Puzzle) (k : ℕ) {n : Node} {r : Row} {old new : Laying} → new ≡ with_node old r → old ≡ laid_to p k
     → slice_get (layout p) k ≡ Some n → r ≡ row_of p n → new ≡ laid_to p (k + 1)
 laid_more p k laid before e is = grind (arith, rows_more, take_more-get)
 

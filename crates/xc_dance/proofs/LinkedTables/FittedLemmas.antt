@@ -8,7 +8,7 @@ use Rattle.xc_input.specs.declared.problem.Use.{Use}
 use Rattle.xc_input.specs.Problem.{Puzzle, uses_of, item_count, IsValid, IsSoundOption}
 use Rattle.xc_input.specs.Problem.{IsWithinLimits}
 use Rattle.xc_input.specs.Named.{AreColoursKnown}
-use Rattle.xc_dance.specs.inner.Links.Laid.{AreDistinct, IsFit}
+use Rattle.xc_dance.specs.inner.Links.Laid.{DifferByItem, IsFit}
 use Rattle.xc_dance.specs.inner.Links.Span.{Span}
 use Rattle.xc_dance.specs.Fields.{layout}
 use Rattle.xc_dance.specs.inner.Links.Made.{IsFitted}
@@ -24,7 +24,7 @@ use Rattle.xc_dance.specs.declared.links.cells.nodes.TheConstants.{MARK}
 
 -- ---- a valid problem is fit for the walks
 
-pub distinct_from : (us : List Use) → AllPairs (λ u v. u.item ≢ v.item) us → AreDistinct us
+pub distinct_from : (us : List Use) → AllPairs (λ u v. u.item ≢ v.item) us → DifferByItem us
 distinct_from [] h = tt
 distinct_from (u ∷ us) h = (
   holds_use us u.item ∙ list_any_none (λ v. eqb v.item u.item) us
@@ -58,7 +58,7 @@ sound_items p us s = grind (arith, each_weaker, recursion_from_All)
 pub is_fit : (p : Puzzle) → IsValid p → All (λ us. All (λ u. u.colour < MARK) us) p.options → length p.options < 2 ^ 30
     → item_count p < 2 ^ 31 → length (layout p) < 2 ^ 31 → IsFit p
 is_fit p valid colours few small near =
-    let distinct = at_option (IsSoundOption p) AreDistinct p tt (λ us s. distinct_from us s.distinct) valid.options in
+    let distinct = at_option (IsSoundOption p) DifferByItem p tt (λ us s. distinct_from us s.distinct) valid.options in
     let items = at_option (IsSoundOption p) (AllByRecursion (InRange p)) p tt (sound_items p) valid.options in
     let below = at_option (All IsBelow) (AllByRecursion IsBelow) p tt (recursion_from_All IsBelow) colours in
     assumption

@@ -14,7 +14,7 @@ use Rattle.xc_dance.specs.inner.Links.Lines.{Line}
 use Rattle.xc_dance.specs.inner.Links.Steps.{unlinked, CanHide, CanUnhide, hidden, unhidden}
 use Rattle.xc_dance.specs.inner.Links.Cells.{slot_of, fixed_up, fixed_down, top_in, nodes_from, line_of, link_at}
 use Rattle.xc_dance.specs.inner.Links.Cells.{ulink_in, dlink_in}
-use Rattle.xc_dance.specs.inner.Links.Laid.{IsName, IsLaid, IsFit}
+use Rattle.xc_dance.specs.inner.Links.Laid.{HoldsItem, IsLaid, IsFit}
 use Rattle.xc_dance.specs.declared.dance.Move.{Move}
 use Rattle.xc_dance.specs.Moves.{listed_numbers, listed}
 use Rattle.xc_input.proofs.lists.EachElement.{each-map, each_weaker}
@@ -40,9 +40,9 @@ InRange p j = (0 < j) × (j ≤ item_count p)
 pub record IsMember (p : Puzzle) (j : ℕ) (l : Line) (o : ℕ) : Type 0 where
   pub item : InRange p j
   pub pos : 0 < o
-  pub name : IsName p j o
-  pub above : IsName p j (l.up o)
-  pub below : IsName p j (l.down o)
+  pub name : HoldsItem p j o
+  pub above : HoldsItem p j (l.up o)
+  pub below : HoldsItem p j (l.down o)
   pub up_back : l.down (l.up o) ≡ o
   pub down_back : l.up (l.down o) ≡ o
   pub some : 0 < l.len
@@ -97,12 +97,12 @@ Named p j x = is_some (colour_in (uses_of p x) j) ≡ true
 
 -- a member of a list that is linked from a on: the first, or any
 at_first : (p : Puzzle) (j : ℕ) (l : Line) (a y : ℕ) (ys : List ℕ) → InRange p j → 0 < l.len → l.len < 2 ^ 31 → 0 < y
-    → IsName p j a → IsLinkedFrom l a (y ∷ ys) → AllByRecursion (Named p j) (y ∷ ys) → IsMember p j l y
+    → HoldsItem p j a → IsLinkedFrom l a (y ∷ ys) → AllByRecursion (Named p j) (y ∷ ys) → IsMember p j l y
 at_first p j l a y [] r some few pos n h named = grind arith
 at_first p j l a y (z ∷ zs) r some few pos n h named = grind arith
 
 at_member : (p : Puzzle) (j : ℕ) (l : Line) (a : ℕ) (xs : List ℕ) (o : ℕ) → InRange p j → 0 < l.len → l.len < 2 ^ 31
-    → IsName p j a → IsLinkedFrom l a xs → AllByRecursion (Named p j) xs → is_in o xs ≡ true → IsMember p j l o
+    → HoldsItem p j a → IsLinkedFrom l a xs → AllByRecursion (Named p j) xs → is_in o xs ≡ true → IsMember p j l o
 at_member p j l a [] o r some few n h named e = absurd (false≢true e)
 at_member p j l a (y ∷ ys) o r some few n h named e =
     let pos : 0 < y = omega (arith, h.0) in

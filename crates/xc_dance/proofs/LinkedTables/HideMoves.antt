@@ -24,7 +24,7 @@ use Rattle.xc_dance.specs.inner.Links.Cells.{ulink_in, dlink_in, nodes_after, li
 use Rattle.xc_dance.specs.inner.Links.Laid.{Placed, IsLaid, IsFit}
 use Rattle.xc_dance.specs.inner.Links.Columns.{Nodes}
 use Rattle.xc_dance.specs.inner.Links.Span.{Span}
-use Rattle.xc_dance.specs.inner.Lists.Losing.{is_kept}
+use Rattle.xc_dance.specs.inner.Lists.Losing.{keeps_colour}
 use Rattle.xc_dance.specs.Cost.{leaving, cost_of, marking}
 use Rattle.xc_dance.specs.declared.dance.Move.TheVariants.{Cover, Purify}
 use Rattle.xc_dance.specs.inner.Links.ListWalks.{left_node, back_node, CanHideList}
@@ -125,7 +125,7 @@ leavers_of p t i keep = grind (arith, Rises-filter, and_parts, in_filter, rises_
 
 -- what the walk writes: a cell for each option that is kept, three for each node that leaves
 abbrev pub hide_writes : Puzzle → List Move → Move → ℕ → Option ℕ → ℕ
-hide_writes p t m i keep = length (filter (is_kept p i keep) (listed_numbers p t i)) + 3 * leaving p t m
+hide_writes p t m i keep = length (filter (keeps_colour p i keep) (listed_numbers p t i)) + 3 * leaving p t m
 
 -- a walk down item i's list leads from the table t to u, and the walk back up to t, and each writes n cells
 pub record WalkMade (spans : List Span) (i : ℕ) (keep : Option ℕ) (t u : Nodes) (n : ℕ) : Type 0 where
@@ -209,7 +209,7 @@ purify_hides p t i c legal laid pos le opened = search (arith, purify_passed, ta
 
 -- the options kept are those that are marked
 pub kept_marked : (p : Puzzle) (t : List Move) (i c : ℕ)
-    → length (filter (is_kept p i (Some c)) (listed_numbers p t i)) ≡ marking p t i c
+    → length (filter (keeps_colour p i (Some c)) (listed_numbers p t i)) ≡ marking p t i c
 kept_marked p t i c = grind (arith, listed, length-map, filter_same, each_weaker, holders, filter-map)
 
 -- a Cover keeps none

@@ -5,14 +5,14 @@ use Rattle.xc_input.specs.Problem.{Puzzle, item_count}
 use Rattle.xc_input.proofs.lists.EachElement.{each_at}
 use Rattle.xc_dance.specs.Fields.{Node, own, used, link_place}
 use Rattle.xc_dance.specs.inner.Links.Cells.{slot_of}
-use Rattle.xc_dance.specs.inner.Links.Laid.{IsName, Placed, IsLaid, IsFit}
+use Rattle.xc_dance.specs.inner.Links.Laid.{HoldsItem, Placed, IsLaid, IsFit}
 pub use Rattle.xc_dance.proofs.MoveLemmas.OptionsRise.{IsOption, options_numbered}
 use Rattle.xc_dance.proofs.LinkedTables.PlaceLemmas.{IsAt, is_at, head_is, found_use, use_at, held_node}
 
 -- ---- the places of the node table
 
 -- a member of an item's list has its node there
-pub placed : (p : Puzzle) (j x : ℕ) → 0 < j → j ≤ item_count p → IsName p j x → Placed p j x
+pub placed : (p : Puzzle) (j x : ℕ) → 0 < j → j ≤ item_count p → HoldsItem p j x → Placed p j x
 placed p j zero pos le name = record { node = own j; at = head_is _ _ pos le; slot = refl }
 placed p j (suc m) pos le name = grind (arith, held_node p j (suc m))
 

@@ -17,7 +17,7 @@ use Rattle.std.proofs.lemmas.List.Filters.{length-filter_both}
 use Rattle.xc_input.specs.Problem.{Puzzle, item_count, colour_in, uses_of, holds, holding, Numbered}
 use Rattle.xc_dance.specs.declared.dance.Move.{Move}
 use Rattle.xc_dance.specs.Moves.{listed, is_open, AreLegal, listed_numbers, is_other_colour, without}
-use Rattle.xc_dance.specs.inner.Lists.Losing.{is_kept}
+use Rattle.xc_dance.specs.inner.Lists.Losing.{keeps_colour}
 use Rattle.xc_dance.specs.Fields.{Node, is_in}
 use Rattle.xc_dance.specs.inner.Left.{left}
 use Rattle.xc_dance.specs.inner.Links.ListWalks.{is_kept_colour}
@@ -54,7 +54,7 @@ pub eqb_turn : (a b : ℕ) → eqb a b ≡ eqb b a
 eqb_turn a b = grind (arith, eq-eqb, eqb-false, eqb-true, ne_eqb)
 
 test_is : (p : Puzzle) (i : ℕ) (keep : Option ℕ) (x c : ℕ) → colour_in (uses_of p x) i ≡ Some c
-    → is_kept_colour keep c ≡ is_kept p i keep x
+    → is_kept_colour keep c ≡ keeps_colour p i keep x
 test_is p i None x c e = refl
 test_is p i (Some d) x c e = eqb_turn _ _ ∙ sym (not-not (eqb d c)) ∙ sym (ap (λ o. not (is_other_colour d o)) e)
 
@@ -215,7 +215,7 @@ exchanged p col i (o ∷ os) fit =
 
 -- the walk's costs: 1 for each option kept, 3 for each node that leaves
 pub costs_split : (p : Puzzle) (col : Node → ℕ) (i : ℕ) (keep : Option ℕ) (xs : List ℕ) → sum_by
-    (step_cost p col i keep) xs ≡ length (filter (is_kept p i keep) xs)
+    (step_cost p col i keep) xs ≡ length (filter (keeps_colour p i keep) xs)
     + 3 * sum_by (gone_count p col i) (leavers p i keep xs)
 costs_split p col i keep [] = grind (arith, common_steps)
 costs_split p col i keep (o ∷ xs) = grind (arith, common_steps, costs_split p col i keep xs, sum_by-cons)

@@ -17,7 +17,7 @@ use Rattle.xc_dance.specs.Fields.{Node, own, layout, link_place}
 use Rattle.xc_dance.specs.inner.Links.Lines.{Line}
 use Rattle.xc_dance.specs.inner.Links.Cells.{slot_of, link_at, fixed_up, fixed_down, top_in, ulink_in, dlink_in}
 use Rattle.xc_dance.specs.inner.Links.Cells.{nodes_from}
-use Rattle.xc_dance.specs.inner.Links.Laid.{Placed, IsLaid, IsName}
+use Rattle.xc_dance.specs.inner.Links.Laid.{Placed, IsLaid, HoldsItem}
 use Rattle.xc_dance.proofs.LinkedTables.Sweep.{put_at-same, put_at-other, put_at, with_line}
 use Rattle.xc_dance.specs.declared.links.cells.nodes.TheConstants.{SPACER}
 
@@ -144,7 +144,7 @@ pub record NodeCells (p : Puzzle) (ln : ℕ → Line) (col : Node → ℕ) (j o 
   pub names : NamesPlaces (nodes_from p ln col) (link_place p j o)
 
 pub node_cells : (p : Puzzle) (ln : ℕ → Line) (col : Node → ℕ) (j o : ℕ) → IsLaid p → 0 < j → j ≤ item_count p → 0 < o
-    → IsName p j o → IsName p j ((ln j).up o) → IsName p j ((ln j).down o) → NodeCells p ln col j o
+    → HoldsItem p j o → HoldsItem p j ((ln j).up o) → HoldsItem p j ((ln j).down o) → NodeCells p ln col j o
 node_cells p ln col j o laid pos le o_pos name name_up name_down =
     let here = laid.there j o pos le name in
     let above = laid.there j ((ln j).up o) pos le name_up in

@@ -17,7 +17,7 @@ use Rattle.xc_dance.specs.Fields.{Node, unused, own, spacer, used, layout, link_
 use Rattle.xc_dance.specs.inner.Left.{left}
 use Rattle.xc_dance.specs.inner.Links.Cells.{color_in, slot_of}
 use Rattle.xc_dance.specs.inner.Links.Laid.{IsLaid, IsFit}
-use Rattle.xc_dance.specs.inner.Lists.Losing.{is_kept}
+use Rattle.xc_dance.specs.inner.Lists.Losing.{keeps_colour}
 use Rattle.xc_input.proofs.FaultLemmas.BooleanTests.{and_right}
 use Rattle.xc_input.proofs.lists.EachElement.{each_weaker, each_both}
 use Rattle.xc_dance.proofs.MoveLemmas.StateLemmas.{open_is}
@@ -156,7 +156,7 @@ marked_none p i now (x ∷ xs) = marked_none p i now xs
 -- the slot is of item i and of one of the options that are kept
 abbrev slot_kept : Puzzle → ℕ → Option ℕ → List ℕ → Option (ℕ × ℕ) → Bool
 slot_kept p i keep xs None = false
-slot_kept p i keep xs (Some s) = eqb s.0 i && (is_in s.1 xs && is_kept p i keep s.1)
+slot_kept p i keep xs (Some s) = eqb s.0 i && (is_in s.1 xs && keeps_colour p i keep s.1)
 
 none_kept : (p : Puzzle) (i : ℕ) (keep : Option ℕ) (s : Option (ℕ × ℕ)) (v : ℕ)
     → v ≡ cond (slot_kept p i keep [] s) MARK v
@@ -167,7 +167,7 @@ pub marked_at : (p : Puzzle) (i : ℕ) (keep : Option ℕ) (now : Node → ℕ) 
     → marked_list p i keep now xs n ≡ cond (slot_kept p i keep xs (slot_of n)) MARK (now n)
 marked_at p i keep now [] n = grind (arith, none_kept)
 marked_at p i keep now (o ∷ xs) n =
-    let rest = marked_at p i keep (cond (is_kept p i keep o) (with_color now i o MARK) now) xs n in
+    let rest = marked_at p i keep (cond (keeps_colour p i keep o) (with_color now i o MARK) now) xs n in
     grind (arith, none_kept)
 
 pub cover_colours : (p : Puzzle) (t : List Move) (i : ℕ) (n : Node) → color_in p (Cover i ∷ t) n ≡ color_in p t n

@@ -19,7 +19,7 @@ use Rattle.xc_dance.specs.Fields.{own, layout, first_above, ring_of, used, space
 use Rattle.xc_dance.specs.Fields.{link_place}
 use Rattle.xc_dance.specs.inner.Links.Cells.{top_in, color_in, line_of, nodes_after}
 use Rattle.xc_dance.specs.inner.Links.ItemCells.{items_after, rlink_at}
-use Rattle.xc_dance.specs.inner.Links.Laid.{IsLaid, IsName}
+use Rattle.xc_dance.specs.inner.Links.Laid.{IsLaid, HoldsItem}
 use Rattle.xc_dance.specs.inner.Links.Answered.{named, IsNodeOf}
 use Rattle.xc_dance.specs.inner.Links.OptionPlaces.{start_at}
 use Rattle.xc_dance.proofs.MoveLemmas.ListLemmas.{next_above-gt, Rises-filter, Rises-range}
@@ -130,7 +130,7 @@ to_spacer p t i o q laid pos held from to =
     ]
 
 -- a node that isn't the item's own is of an option
-name_used : (p : Puzzle) (i place x : ℕ) → IsName p i x → place ≡ link_place p i x → place ≢ i → (0 < x)
+name_used : (p : Puzzle) (i place x : ℕ) → HoldsItem p i x → place ≡ link_place p i x → place ≢ i → (0 < x)
     × (is_some (colour_in (uses_of p x) i) ≡ true)
 name_used p i place x (inl z) at other = absurd (other (at ∙ ap (link_place p i) z))
 name_used p i place x (inr h) at other = h
@@ -138,15 +138,15 @@ name_used p i place x (inr h) at other = h
 -- what TOP tells at q, which is not past the spacer behind the node at the place
 pub record Seeks (p : Puzzle) (i place : ℕ) (top : List ℕ) (q : ℕ) : Type 0 where
   pub within : q < length (layout p)
-  pub low : get_or top q 0 < SPACER → (x : ℕ) → IsName p i x → place ≡ link_place p i x → q + 1 ≤ spacer_place p x
-  pub high : SPACER ≤ get_or top q 0 → (x : ℕ) → IsName p i x → place ≡ link_place p i x
+  pub low : get_or top q 0 < SPACER → (x : ℕ) → HoldsItem p i x → place ≡ link_place p i x → q + 1 ≤ spacer_place p x
+  pub high : SPACER ≤ get_or top q 0 → (x : ℕ) → HoldsItem p i x → place ≡ link_place p i x
       → Some (get_or top q 0 - SPACER) ≡ named x
 
 pub seeks : (p : Puzzle) (t : List Move) (i place q : ℕ) → IsLaid p → IsNodeOf p i place → place ≢ i
-    → place ≤ q → ((x : ℕ) → IsName p i x → place ≡ link_place p i x → q ≤ spacer_place p x) →
+    → place ≤ q → ((x : ℕ) → HoldsItem p i x → place ≡ link_place p i x → q ≤ spacer_place p x) →
     Seeks p i place (nodes_after p t).top q
 seeks p t i place q laid node other from to =
-    let tells : (x : ℕ) → IsName p i x → place ≡ link_place p i x → ToSpacer p t x q = λ x name at.
+    let tells : (x : ℕ) → HoldsItem p i x → place ≡ link_place p i x → ToSpacer p t x q = λ x name at.
     let is = name_used p i place x name at other in
     to_spacer p t i x q laid is.0 is.1 (omega (arith, from, at)) (to x name at) in
     grind (arith, name_used, ne_eqb)
@@ -165,10 +165,10 @@ next_contained n k (x ∷ xs) e =
       | false ↦ λ f. (let rest = next_contained n k xs f in (suc rest.0, omega (arith, rest.1), rest.2))
     ] e
 
-pub above_name : (p : Puzzle) (t : List Move) (i n : ℕ) → IsName p i (first_above 0 n (listed_numbers p t i))
+pub above_name : (p : Puzzle) (t : List Move) (i n : ℕ) → HoldsItem p i (first_above 0 n (listed_numbers p t i))
 above_name p t i n =
     let ns = listed_numbers p t i in
-    elim (next_above n ns) as (λ o. next_above n ns ≡ o → IsName p i (unwrap_or o 0)) [
+    elim (next_above n ns) as (λ o. next_above n ns ≡ o → HoldsItem p i (unwrap_or o 0)) [
       | None ↦ λ e. inl refl
       | Some k ↦ λ e. inr (
         omega (arith, next_above-gt n k ns e),
@@ -213,7 +213,7 @@ use_down p t i (suc m) laid pos le some held e =
     get_down p (line_of p t) i (suc m) (laid.there i (suc m) pos le (inr (some, held)))
     ∙ ap (link_place p i) (below_now p t i (suc m) e)
 
-pub node_within : (p : Puzzle) (i o : ℕ) → IsLaid p → 0 < i → i ≤ item_count p → IsName p i o
+pub node_within : (p : Puzzle) (i o : ℕ) → IsLaid p → 0 < i → i ≤ item_count p → HoldsItem p i o
     → link_place p i o < length (layout p)
 node_within p i o laid pos le name = grind (arith, slice_get_within)
 

@@ -8,13 +8,13 @@ use Rattle.std.proofs.lemmas.Option.{slice_get_within}
 use Rattle.xc_input.specs.Problem.{Puzzle, item_count}
 use Rattle.xc_dance.specs.Fields.{Node, layout, link_place, is_in}
 use Rattle.xc_dance.specs.inner.Links.Lines.{Line}
-use Rattle.xc_dance.specs.inner.Links.ListWalks.{with_colour, is_kept_colour, is_kept_mark, left_node, back_node}
+use Rattle.xc_dance.specs.inner.Links.ListWalks.{recoloured, is_kept_colour, is_kept_mark, left_node, back_node}
 use Rattle.xc_dance.specs.inner.Links.ListWalks.{leave_cost, back_cost, CanLeave, CanReturn}
 use Rattle.xc_dance.specs.inner.Links.Cells.{nodes_from, ulink_in, dlink_in}
 use Rattle.xc_dance.specs.inner.Links.Laid.{Placed, IsLaid}
 use Rattle.xc_dance.specs.inner.Links.Columns.{Nodes}
 use Rattle.xc_dance.specs.inner.Links.Span.{Span}
-use Rattle.xc_dance.specs.inner.Lists.Losing.{is_kept}
+use Rattle.xc_dance.specs.inner.Lists.Losing.{keeps_colour}
 use Rattle.xc_dance.proofs.LinkedTables.LinkColumns.{get_map, map_put, same_nodes, written_back, get_up}
 use Rattle.xc_dance.proofs.LinkedTables.LinkColumns.{get_down, same_at}
 use Rattle.xc_dance.proofs.LinkedTables.Sweep.{is_slot, with_color, in_more, Rises, in_above, cut, IsLinkedFrom}
@@ -47,7 +47,7 @@ color_put p col j x v laid h =
 
 -- a node is coloured in the table
 pub coloured_is : (p : Puzzle) (col : Node → ℕ) (ln : ℕ → Line) (j x v : ℕ) → IsLaid p → Placed p j x
-    → with_colour (nodes_from p ln col) (link_place p j x) v ≡ nodes_from p ln (with_color col j x v)
+    → recoloured (nodes_from p ln col) (link_place p j x) v ≡ nodes_from p ln (with_color col j x v)
 coloured_is p col ln j x v laid h = grind (arith, color_put, same_nodes)
 
 pub color_other : (p : Puzzle) (col : Node → ℕ) (j x v k y : ℕ) → Placed p k y → (eqb k j && eqb y x) ≡ false →
@@ -63,13 +63,13 @@ color_other p col j x v k y h ne =
 
 -- option o is met: where it is kept, item i's node of it is marked
 abbrev pub marked_by : Puzzle → ℕ → Option ℕ → (Node → ℕ) → ℕ → Node → ℕ
-marked_by p i keep now o = cond (is_kept p i keep o) (with_color now i o MARK) now
+marked_by p i keep now o = cond (keeps_colour p i keep o) (with_color now i o MARK) now
 
 abbrev pub marked_list : Puzzle → ℕ → Option ℕ → (Node → ℕ) → List ℕ → Node → ℕ
 marked_list p i keep now xs = fold (marked_by p i keep) now xs
 
 abbrev pub step_cost : Puzzle → (Node → ℕ) → ℕ → Option ℕ → ℕ → ℕ
-step_cost p col i keep o = cond (is_kept p i keep o) 1 (3 * gone_count p col i o)
+step_cost p col i keep o = cond (keeps_colour p i keep o) 1 (3 * gone_count p col i o)
 
 -- ---- what the walk asks
 
@@ -80,7 +80,7 @@ own_color p col i o = get_or (map col (layout p)) (link_place p i o) 0
 pub record OwnReady (p : Puzzle) (col : Node → ℕ) (i : ℕ) (keep : Option ℕ) (o : ℕ) : Type 0 where
   pub named : Named p i o
   pub unmarked : eqb (own_color p col i o) MARK ≡ false
-  pub test : is_kept_colour keep (own_color p col i o) ≡ is_kept p i keep o
+  pub test : is_kept_colour keep (own_color p col i o) ≡ keeps_colour p i keep o
 
 -- those of the options xs that leave item j's list are members of its line l
 pub record LineReady (p : Puzzle) (col : Node → ℕ) (i j : ℕ) (l : Line) (xs : List ℕ) : Type 0 where
@@ -133,7 +133,7 @@ mark_step p now spans (Some c) ln i o laid h near e =
     let within = slice_get_within (layout p) x h.node h.at in
     let long : length t.color ≡ length (layout p) = length-map (layout p) now in
     let long' = length-map (layout p) (with_color now i o MARK) in
-    let is : with_colour t x MARK ≡ u = coloured_is p now ln i o MARK laid h in
+    let is : recoloured t x MARK ≡ u = coloured_is p now ln i o MARK laid h in
     let at = get_map (with_color now i o MARK) (layout p) x h.node h.at in
     let marked : is_kept_mark (Some c) (get_or u.color x 0) ≡ true =
     eq-eqb _ MARK (rw (h.slot, eq-eqb i i refl, eq-eqb o o refl) at at) in
@@ -141,8 +141,8 @@ mark_step p now spans (Some c) ln i o laid h near e =
       down = grind (arith, false≢true);
       up = record {
         can = grind (arith, false≢true);
-        done = rw marked (ap (λ (w : Nodes). with_colour w x c) (sym is)
-            ∙ same_nodes (with_colour (with_colour t x MARK) x c) t refl refl refl
+        done = rw marked (ap (λ (w : Nodes). recoloured w x c) (sym is)
+            ∙ same_nodes (recoloured (recoloured t x MARK) x c) t refl refl refl
             (written_back t.color x x MARK c refl (eqb-true (own_color p now i o) c e)));
         cost = rw marked refl;
       };
@@ -210,7 +210,7 @@ module _ (p : Puzzle) (col : Node → ℕ) (spans : List Span) (i : ℕ) (keep :
       → LinesReady p col i (left_by p col i keep ln o) xs
   lines_on ln o xs r h j range ne =
       let js = other_items p o i in
-      elim (is_kept p i keep o) as (λ b. LineReady p col i j (cond b ln (left_all p col o ln js) j) xs) [
+      elim (keeps_colour p i keep o) as (λ b. LineReady p col i j (cond b ln (left_all p col o ln js) j) xs) [
         | true ↦ line_on p col i j (ln j) o xs false r (λ e. absurd (false≢true e)) (h j range ne)
         | false ↦ subst (λ m. LineReady p col i j m xs) (sym (all_at cut p col o ln js j (others_apart p o i f.fit)))
             (line_on p col i j (ln j) o xs (leaves p col i j o) r (λ e. e) (h j range ne))
@@ -218,7 +218,7 @@ module _ (p : Puzzle) (col : Node → ℕ) (spans : List Span) (i : ℕ) (keep :
 
   own_on : (ln : ℕ → Line) (o : ℕ) → left_by p col i keep ln o i ≡ ln i
   own_on ln o =
-      elim (is_kept p i keep o) as (λ b. cond b ln (left_all p col o ln (other_items p o i)) i ≡ ln i)
+      elim (keeps_colour p i keep o) as (λ b. cond b ln (left_all p col o ln (other_items p o i)) i ≡ ln i)
       [ true ↦ refl | false ↦ all_other cut p col o ln (other_items p o i) i (own_apart p i o f.fit) ]
 
   passed_on : (now : Node → ℕ) (o : ℕ) (xs : List ℕ) → Rises o xs → Passed p i col now (o ∷ xs)
@@ -228,7 +228,8 @@ module _ (p : Puzzle) (col : Node → ℕ) (spans : List Span) (i : ℕ) (keep :
         let before = h.same j q placed (grind arith) in
         let apart : (eqb j i && eqb q o) ≡ false = grind (arith, ne_eqb, in_above o q xs r) in
         let other = color_other p now i o MARK j q placed apart in
-        elim (is_kept p i keep o) as (λ b. own_color p (cond b (with_color now i o MARK) now) j q ≡ own_color p col j q)
+        elim (keeps_colour p i keep o) as (λ b. own_color p (cond b (with_color now i o MARK) now) j q
+        ≡ own_color p col j q)
         [ true ↦ other ∙ before | false ↦ before ];
   }
 
@@ -240,8 +241,8 @@ module _ (p : Puzzle) (col : Node → ℕ) (spans : List Span) (i : ℕ) (keep :
       let js = other_items p o i in
       let here = f.laid.there i o pos le (inr (o_pos, own.named)) in
       let same = passed.same i o here (grind (arith, is_in-first)) in
-      let test : is_kept_colour keep (own_color p now i o) ≡ is_kept p i keep o = grind arith in
-      elim (is_kept p i keep o) as (λ b. is_kept p i keep o ≡ b → OneStep spans keep (nodes_from p ln now)
+      let test : is_kept_colour keep (own_color p now i o) ≡ keeps_colour p i keep o = grind arith in
+      elim (keeps_colour p i keep o) as (λ b. keeps_colour p i keep o ≡ b → OneStep spans keep (nodes_from p ln now)
       (nodes_from p (cond b ln (left_all p col o ln js)) (cond b (with_color now i o MARK) now)) (link_place p i o)
       (cond b 1 (3 * gone_count p col i o))) [
         | true ↦ λ e. mark_step p now spans keep ln i o f.laid here (f.spanned.within o i o_pos own.named) (test ∙ e)

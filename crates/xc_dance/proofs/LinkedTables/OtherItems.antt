@@ -15,10 +15,10 @@ use Rattle.xc_input.specs.Problem.{Puzzle, colour_in, uses_of, item_count}
 use Rattle.xc_dance.specs.Fields.{Node, is_in}
 use Rattle.xc_dance.specs.inner.Links.Lines.{Line}
 use Rattle.xc_dance.specs.inner.Links.Others.{before_use, behind_use}
-use Rattle.xc_dance.specs.inner.Links.Laid.{AreDistinct, IsFit}
+use Rattle.xc_dance.specs.inner.Links.Laid.{DifferByItem, IsFit}
 use Rattle.xc_dance.proofs.LinkedTables.Sweep.{cuts, other_items}
 use Rattle.xc_dance.proofs.LinkedTables.OneOption.{is_mark, left_all, all_at, AllApart}
-use Rattle.xc_dance.specs.inner.Lists.Losing.{is_kept}
+use Rattle.xc_dance.specs.inner.Lists.Losing.{keeps_colour}
 use Rattle.xc_dance.proofs.LinkedTables.Sweep.{cut}
 use Rattle.std.proofs.lemmas.Bool.{and_parts}
 use Rattle.std.proofs.Common.{Option, cond, fold}
@@ -31,7 +31,7 @@ items_of [] k = grind arith
 items_of (u ∷ us) k = grind (arith, items_of us k)
 
 -- the other items are those that the option holds, but i
-pub others_by : (us : List Use) (i k : ℕ) → AreDistinct us
+pub others_by : (us : List Use) (i k : ℕ) → DifferByItem us
     → (is_in k (behind_use i us) || is_in k (before_use i us)) ≡ (not (eqb k i) && is_some (colour_in us k))
 others_by [] i k d = elim (eqb k i) as (λ b. false ≡ (not b && false)) [ true ↦ refl | false ↦ refl ]
 others_by (u ∷ us) i k d = grind (arith, eq-eqb, eqb-false, eqb-true, items_of, ne_eqb, others_by us i k d.1)
@@ -51,11 +51,11 @@ all_insert : (k : ℕ) (xs ys : List ℕ) → (is_in k xs || is_in k ys) ≡ fal
 all_insert k [] ys e h = (e, h)
 all_insert k (x ∷ xs) ys e h = grind (arith, eqb-false, eqb-true, eq-eqb, ne_eqb, in_insert, all_insert k xs ys)
 
-items_apart : (us : List Use) → AreDistinct us → AllApart (map (λ u. u.item) us)
+items_apart : (us : List Use) → DifferByItem us → AllApart (map (λ u. u.item) us)
 items_apart [] d = tt
 items_apart (u ∷ us) d = (items_of us u.item ∙ d.0, items_apart us d.1)
 
-others_apart_of : (us : List Use) (i : ℕ) → AreDistinct us → AllApart (behind_use i us ++ before_use i us)
+others_apart_of : (us : List Use) (i : ℕ) → DifferByItem us → AllApart (behind_use i us ++ before_use i us)
 others_apart_of [] i d = grind (arith, all_insert, append-nil, items_apart, others_by)
 others_apart_of (u ∷ us) i d = grind (arith, all_insert, append-nil, items_apart, others_by, others_apart_of us i d.1)
 
@@ -92,11 +92,11 @@ other_item {p} o i j fit e = grind (arith, and_parts, false≢true, item_range, 
 
 -- those of the options that leave
 abbrev pub leavers : Puzzle → ℕ → Option ℕ → List ℕ → List ℕ
-leavers p i keep xs = filter (λ o. not (is_kept p i keep o)) xs
+leavers p i keep xs = filter (λ o. not (keeps_colour p i keep o)) xs
 
 -- option o is met
 abbrev pub left_by : Puzzle → (Node → ℕ) → ℕ → Option ℕ → (ℕ → Line) → ℕ → ℕ → Line
-left_by p col i keep ln o = cond (is_kept p i keep o) ln (left_all p col o ln (other_items p o i))
+left_by p col i keep ln o = cond (keeps_colour p i keep o) ln (left_all p col o ln (other_items p o i))
 
 -- the options xs are met, one after another
 abbrev pub left_list : Puzzle → (Node → ℕ) → ℕ → Option ℕ → (ℕ → Line) → List ℕ → ℕ → Line

@@ -25,7 +25,7 @@ use Rattle.xc_dance.proofs.MoveLemmas.Shortened.{holds_use}
 use Rattle.xc_dance.proofs.LiveLists.OptionsLost.{known_option}
 use Rattle.xc_dance.specs.Fields.{Node, unused, own, spacer, used, nodes_of, layout, spacer_place, link_place}
 use Rattle.xc_dance.specs.inner.Links.OptionPlaces.{start_at}
-use Rattle.xc_dance.specs.inner.Links.Laid.{IsFit, AreDistinct}
+use Rattle.xc_dance.specs.inner.Links.Laid.{IsFit, DifferByItem}
 use Rattle.xc_dance.specs.inner.Links.Steps.{span_at}
 use Rattle.xc_dance.specs.inner.Links.Others.{before_use, behind_use, IsSpanOf, HasSpans}
 use Rattle.xc_dance.specs.inner.Links.OptionSpans.{span_of, spans_of}
@@ -79,7 +79,7 @@ held_use (u ∷ us) i e =
     ] refl e
 
 -- a use among distinct ones is the one by which its item is held
-pub found_use : (us : List Use) (k : ℕ) (u : Use) → AreDistinct us → slice_get us k ≡ Some u
+pub found_use : (us : List Use) (k : ℕ) (u : Use) → DifferByItem us → slice_get us k ≡ Some u
     → (place_in u.item us ≡ k) × (colour_in us u.item ≡ Some u.colour)
 found_use [] k u d e = cc
 found_use (v ∷ us) zero u d e = grind (arith, same_Some, eq-eqb v.item v.item refl)

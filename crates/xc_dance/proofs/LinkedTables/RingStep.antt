@@ -6,7 +6,7 @@ use Rattle.std.specs.Prelude.{slice_get}
 use Rattle.std.proofs.lemmas.List.{length-map}
 use Rattle.std.proofs.lemmas.List.FromFn.{get_or-map-range_with_len, length-range_with_len}
 use Rattle.xc_dance.specs.inner.Links.Columns.{Items}
-use Rattle.xc_dance.specs.Fields.{ring_of, ring_head, left_of, right_of, last_below, first_above}
+use Rattle.xc_dance.specs.Fields.{ring_of, ring_head, left_neighbour, right_of, last_below, first_above}
 use Rattle.xc_dance.proofs.LinkedTables.LinkColumns.{map_put, map_same}
 use Rattle.xc_dance.specs.declared.dance.Move.{Move}
 use Rattle.xc_dance.specs.declared.dance.Move.TheVariants.{Spend}
@@ -39,9 +39,9 @@ row_same f g n h = grind (arith, length-range_with_len, map_same, row_at, slice_
 -- ---- rings
 
 pub left_now : (p : Puzzle) (t : List Move) (q : ℕ) → is_covered q t ≡ false
-    → left_of p t q ≡ last_below (ring_head p q) q (ring_of p t q)
+    → left_neighbour p t q ≡ last_below (ring_head p q) q (ring_of p t q)
 left_now p [] q e = refl
-left_now p (m ∷ t) q e = ap (λ b. cond b (left_of p t q) (last_below (ring_head p q) q (ring_of p (m ∷ t) q))) e
+left_now p (m ∷ t) q e = ap (λ b. cond b (left_neighbour p t q) (last_below (ring_head p q) q (ring_of p (m ∷ t) q))) e
 
 pub right_now : (p : Puzzle) (t : List Move) (q : ℕ) → is_covered q t ≡ false
     → right_of p t q ≡ first_above (ring_head p q) q (ring_of p t q)

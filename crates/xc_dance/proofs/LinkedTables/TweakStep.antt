@@ -13,7 +13,7 @@ use Rattle.xc_dance.specs.Moves.{listed, is_open, AreLegal, listed_numbers}
 use Rattle.xc_dance.specs.Fields.{Node, unused, own, layout, link_place, first_of, is_in}
 use Rattle.xc_dance.specs.inner.Links.Lines.{Line}
 use Rattle.xc_dance.specs.inner.Links.Steps.{HasSize, NamesPlaces, unlinked, relinked}
-use Rattle.xc_dance.specs.inner.Links.Tweaking.{tweaked, untweaked, CanTweak}
+use Rattle.xc_dance.specs.inner.Links.Tweaking.{tweaked_nodes, untweaked, CanTweak}
 use Rattle.xc_dance.specs.inner.Links.Tweaking.{CanUntweak, tweak_cost, untweak_cost}
 use Rattle.xc_dance.specs.inner.Links.Cells.{color_in, dlink_in, nodes_from, nodes_after, line_of}
 use Rattle.xc_dance.specs.inner.Links.Made.{IsFitted}
@@ -121,7 +121,7 @@ hiding p t spans false i legal fit opened f = (
 -- a Tweak of item i leads from table t to u, its undoing at node x back, and each writes n cells
 pub record TweakMade (spans : List Span) (covered : Bool) (i x n : ℕ) (t u : Nodes) : Type 0 where
   pub can : CanTweak spans covered t i
-  pub done : tweaked spans covered t i ≡ u
+  pub done : tweaked_nodes spans covered t i ≡ u
   pub can_back : CanUntweak spans covered u x
   pub undone : untweaked spans covered u x ≡ t
   pub cost : tweak_cost spans covered t i ≡ n

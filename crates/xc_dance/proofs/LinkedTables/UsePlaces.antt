@@ -11,7 +11,7 @@ use Rattle.xc_dance.specs.Fields.{used, spacer, layout, link_place, spacer_place
 use Rattle.xc_dance.specs.Commits.{IsUseAt, option_at}
 use Rattle.xc_input.specs.UsePlaces.{place_in}
 use Rattle.xc_dance.specs.inner.Links.Cells.{ulink_in, line_of, nodes_after}
-use Rattle.xc_dance.specs.inner.Links.Laid.{IsName}
+use Rattle.xc_dance.specs.inner.Links.Laid.{HoldsItem}
 use Rattle.xc_dance.specs.inner.Links.Answered.{named}
 use Rattle.xc_dance.specs.inner.Links.OptionPlaces.{start_at}
 use Rattle.xc_dance.specs.inner.Links.UseNodes.{uses_behind, uses_before}
@@ -51,7 +51,8 @@ spacer_cells p t x q known at =
 -- ---- the option of a place
 
 -- the option at the place where one uses an item, and none at the item's own node
-pub option_there : (p : Puzzle) (i y : ℕ) → i ≤ item_count p → IsName p i y → option_at p i (link_place p i y) ≡ named y
+pub option_there : (p : Puzzle) (i y : ℕ) → i ≤ item_count p → HoldsItem p i y → option_at p i (link_place p i y)
+    ≡ named y
 option_there p i y le (inl z) = grind (arith, named, eq-eqb)
 option_there p i y le (inr h) = grind (arith, behind_items p i y h.0, held_node p i y h.0 h.1)
 

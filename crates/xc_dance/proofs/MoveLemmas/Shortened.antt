@@ -20,7 +20,8 @@ use Rattle.xc_dance.specs.declared.dance.Move.TheVariants.{Cover, Purify, Tweak}
 use Rattle.xc_dance.specs.Moves.{is_open, is_among, without, other_colours, listed, listed_numbers}
 use Rattle.xc_dance.specs.inner.Lists.Rising.{Rises}
 use Rattle.xc_dance.specs.inner.Lists.Taking.{less, list_at}
-use Rattle.xc_dance.specs.inner.Lists.Losing.{lose_from, lose, has_use, is_kept, AreListsFrom, AreLists, lists_after}
+use Rattle.xc_dance.specs.inner.Lists.Losing.{lose_from, lose, has_use, keeps_colour, AreListsFrom, AreLists}
+use Rattle.xc_dance.specs.inner.Lists.Losing.{lists_after}
 use Rattle.xc_dance.proofs.MoveLemmas.ListLemmas.{each_listed, numbers, Rises-weaker}
 use Rattle.xc_dance.proofs.LiveLists.Removal.{less-remove}
 use Rattle.xc_dance.proofs.LiveLists.OptionsLost.{lose_other, length-lose_from, lists-lose_from}
@@ -89,17 +90,17 @@ lost : (p : Puzzle) (t : List Move) (j : ℕ) (gone : List Numbered) {ns : List 
 lost p t j gone e = grind (arith, lose_range, less_without)
 
 pub lists_covered : (p : Puzzle) (t : List Move) (j : ℕ) → 1 ≤ j → j ≤ item_count p →
-    lose t j (filter (λ o. not (is_kept p j None o)) (list_at (lists_after p t) (j - 1))) (lists_after p t) ≡
+    lose t j (filter (λ o. not (keeps_colour p j None o)) (list_at (lists_after p t) (j - 1))) (lists_after p t) ≡
     lists_after p (Cover j ∷ t)
 lists_covered p t j low high = grind (arith, lost p t j (listed p t j), list_after, keep_all, each_of_all)
 
 pub other_numbers : (p : Puzzle) (j c : ℕ) (xs : List Numbered) → AllByRecursion (IsHolder p j) xs
-    → filter (λ o. not (is_kept p j (Some c) o)) (numbers xs) ≡ numbers (other_colours j c xs)
+    → filter (λ o. not (keeps_colour p j (Some c) o)) (numbers xs) ≡ numbers (other_colours j c xs)
 other_numbers p j c [] h = grind (arith, not-not)
 other_numbers p j c (x ∷ xs) h = grind (arith, not-not, other_numbers p j c xs h.1)
 
 pub lists_purified : (p : Puzzle) (t : List Move) (j c : ℕ) → 1 ≤ j → j ≤ item_count p →
-    lose t j (filter (λ o. not (is_kept p j (Some c) o)) (list_at (lists_after p t) (j - 1))) (lists_after p t) ≡
+    lose t j (filter (λ o. not (keeps_colour p j (Some c) o)) (list_at (lists_after p t) (j - 1))) (lists_after p t) ≡
     lists_after p (Purify j c ∷ t)
 lists_purified p t j c low high = lost p t j (other_colours j c (listed p t j))
     (ap (filter _) (list_after p t j low high) ∙ other_numbers p j c (listed p t j) (holders p t j))

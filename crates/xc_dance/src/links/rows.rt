@@ -44,7 +44,7 @@ impl Model for Rows {
 }
 
 impl Rows {
-    ghost use Rattle.xc_dance.specs.inner.Links.FirstNodes.{with_row, no_rows};
+    ghost use Rattle.xc_dance.specs.inner.Links.FirstNodes.{with_node, no_rows};
 
     /// None of so many nodes.
     pub(crate) fn new(alloc: Global, count: usize) -> Result<Rows, AllocError>
@@ -62,7 +62,7 @@ impl Rows {
     #[inline(always)]
     pub(crate) fn lay(&mut self, row: Row)
         requires { length self.old.nodes.top < self.old.count }
-        ensures { self.new ≡ with_row self.old row }
+        ensures { self.new ≡ with_node self.old row }
     {
         self.top.push(row.top);
         self.links.push(row.ulink, row.dlink);

@@ -3,7 +3,7 @@ ghost use Rattle.std.specs.Prelude.{◌≡◌, ◌-◌, ◌<◌, ◌≤◌, ◌=
 ghost use Rattle.xc_input.specs.Problem.{IsItem, IsOption, colour_in};
 ghost use Rattle.xc_dance.specs.Moves.{IsLegal, is_open, is_other_colour};
 ghost use Rattle.xc_dance.specs.inner.Lists.Taking.{list_at};
-ghost use Rattle.xc_dance.specs.inner.Lists.Losing.{lose, is_kept, AreLists, lists_after};
+ghost use Rattle.xc_dance.specs.inner.Lists.Losing.{lose, keeps_colour, AreLists, lists_after};
 
 use crate::Move;
 use crate::lists::table::Table;
@@ -45,7 +45,7 @@ fn hide_options(standing: &Trail, live: &mut OptionLists, item: u32, kept: Optio
     requires lists { AreLists standing.now.puzzle live.old.lists }
     ensures { live.new ≡ record live.old {
       lists = lose standing.now.trail item
-          (filter (λ o. not (is_kept standing.now.puzzle item kept o)) (list_at live.old.lists (item - 1)))
+          (filter (λ o. not (keeps_colour standing.now.puzzle item kept o)) (list_at live.old.lists (item - 1)))
           live.old.lists;
     } }
 {
@@ -96,7 +96,7 @@ fn loses(standing: &Trail, item: u32, hider: u32) -> bool
 /// Whether the option gives the item the colour kept.
 fn keeps(table: &Table, item: u32, kept: Option<u32>, option: u32) -> bool
     requires { IsOption table.now option }
-    ensures { result ≡ is_kept table.now item kept option }
+    ensures { result ≡ keeps_colour table.now item kept option }
 {
     match kept {
         Some(colour) => has_colour(table.uses(option), item, colour),

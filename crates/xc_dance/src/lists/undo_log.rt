@@ -31,7 +31,7 @@ pub(crate) struct OptionLists {
 impl Model for OptionLists {
     ghost use Rattle.std.specs.Prelude.{◌≤◌, ◌+◌, length, reverse, sum_by, vec_capacity};
     ghost use Rattle.xc_dance.specs.inner.Lists.Versions.{Versions};
-    ghost use Rattle.xc_dance.specs.inner.Lists.Taking.{lists_at_marks, Fits, AreMarks, numbers_of, rooms_of};
+    ghost use Rattle.xc_dance.specs.inner.Lists.Taking.{lists_at_marks, Fits, AreFalling, numbers_of, rooms_of};
 
     ghost Value = { Versions };
 
@@ -43,7 +43,7 @@ impl Model for OptionLists {
 
     ghost invariant = { λ a. record {
       fits : Fits (rooms_of a.lists.items) (reverse a.taken.items) (numbers_of a.lists.items);
-      starts : AreMarks (reverse a.starts.items) (length a.taken.items);
+      starts : AreFalling (reverse a.starts.items) (length a.taken.items);
       few : length a.starts.items ≤ a.room;
       room_to_mark : a.room ≤ vec_capacity a.starts;
       room_to_take : length a.taken.items + sum_by length (numbers_of a.lists.items) ≤ vec_capacity a.taken;

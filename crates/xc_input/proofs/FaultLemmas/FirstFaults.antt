@@ -14,7 +14,7 @@ use Rattle.xc_input.specs.Faults.{first}
 use Rattle.xc_input.specs.FirstFault.{line_number, content, line_checks, line_fault, first_fault}
 use Rattle.xc_input.specs.Named.{Named}
 use Rattle.xc_input.specs.Text.{StandsFor}
-use Rattle.xc_input.specs.inner.Stages.{Stage, stage_of, line_checks as stage_checks}
+use Rattle.xc_input.specs.inner.Stages.{Stage, stage_of, staged_line_checks as stage_checks}
 use Rattle.xc_input.proofs.FaultLemmas.BooleanTests.{by-test}
 use Rattle.xc_input.proofs.FaultLemmas.FirstChecks.{first-each}
 use Rattle.xc_input.proofs.GrammarLemmas.ClearLines.{AreClear, lines-clear, first-numbered, checks_of}

@@ -27,7 +27,7 @@ use Rattle.xc_input.specs.Faults.{Context, context_of, item_of, token_checks as 
 use Rattle.xc_input.specs.FirstFault.{line_number, content, is_kept, kept_uses, option_checks, content_checks}
 use Rattle.xc_input.specs.FirstFault.{line_checks, line_fault}
 use Rattle.xc_input.specs.Text.{IsEntry, IsUse}
-use Rattle.xc_input.specs.inner.Stages.{entry, token_checks, context, written, item_number}
+use Rattle.xc_input.specs.inner.Stages.{entry, staged_token_checks, context, written, item_number}
 use Rattle.xc_input.proofs.FaultLemmas.BooleanTests.{by-test}
 use Rattle.xc_input.proofs.FaultLemmas.Checks.{some-is}
 use Rattle.xc_input.proofs.FaultLemmas.FirstChecks.{fails, none-append, clear-each}
@@ -129,7 +129,7 @@ parts-clear kind = clear-each (part_checks kind) (AreClearParts kind) (part-clea
 -- AN OPTION LINE
 module _ (kind : Kind) (names : List (List ℕ)) (primaries : ℕ) (seen token : List ℕ) where
   abbrev checks : List (FaultKind × Bool)
-  checks = token_checks (context kind names primaries) seen token
+  checks = staged_token_checks (context kind names primaries) seen token
 
   use-good : first checks ≡ None → IsUse (context kind names primaries) token (written names token)
       × (list_any (λ i. nat_eq i (item_number names (before COLON token))) seen ≡ false)

@@ -21,10 +21,11 @@ use Rattle.xc_input.specs.Faults.{context_of, item_of, token_checks, has_primary
 use Rattle.xc_input.specs.FirstFault.{line_number, content, kept_uses, option_checks, content_checks}
 use Rattle.xc_input.specs.inner.ColourNumbers.{numbered}
 use Rattle.xc_input.specs.inner.Sheets.{Sheet, names_of, with_uses}
-use Rattle.xc_input.specs.inner.Stages.{entry, Row, row_checks, row_of, no_row, with_part, context, written, written_by}
+use Rattle.xc_input.specs.inner.Stages.{entry, Row, row_checks, row_with_parts, no_row, with_part, context, written}
+use Rattle.xc_input.specs.inner.Stages.{written_by}
 use Rattle.xc_input.specs.inner.Stages.{Stage, no_stage, with_option, with_row, stage_from, stage_of}
-use Rattle.xc_input.specs.inner.Stages.{part_checks as row_part_checks, option_checks as tokens_checks}
-use Rattle.xc_input.specs.inner.Stages.{content_checks as stage_content}
+use Rattle.xc_input.specs.inner.Stages.{staged_part_checks as row_part_checks, staged_option_checks as tokens_checks}
+use Rattle.xc_input.specs.inner.Stages.{staged_content_checks as stage_content}
 use Rattle.xc_input.proofs.FaultLemmas.BooleanTests.{by-test}
 use Rattle.xc_input.proofs.GrammarLemmas.ClearLines.{StandFor, AreClear, names-snoc}
 use Rattle.xc_input.proofs.OptionLemmas.Colours.{with_uses-append, number-later}
@@ -54,7 +55,7 @@ parts-checked [] r = refl
 parts-checked (p ∷ ps) r = λ i. row-checks p r i ++ parts-checked ps (row-more p r) i
 
 row-names : {kind : Kind} (ps : List (List ℕ)) {row : Row} {before : List (List ℕ)} → IsRowOf kind row before
-    → names_of (row_of kind row ps).entries ≡ item_names kind (before ++ ps)
+    → names_of (row_with_parts kind row ps).entries ≡ item_names kind (before ++ ps)
 row-names {kind} [] {before = before} r = r.names ∙ ap (item_names kind) (sym (append-nil before))
 row-names {kind} (p ∷ ps) {before = before} r = grind (arith, row-more, append_assoc, row-names ps (row-more p r))
 
@@ -70,14 +71,14 @@ abbrev R : List Entry → Option ℕ → Row
 R entries bar = record { entries = entries; bar = bar }
 
 row-behind : (kind : Kind) (es : List Entry) (n : ℕ) (ps : List (List ℕ)) → StandFor kind true ps
-    → row_of kind (R es (Some n)) ps ≡ R (es ++ map (entry kind true) ps) (Some n)
+    → row_with_parts kind (R es (Some n)) ps ≡ R (es ++ map (entry kind true) ps) (Some n)
 row-behind kind es n [] a = ap (λ es. R es (Some n)) (sym (append-nil es))
 row-behind kind es n (p ∷ ps) a = rw (no-bar kind p _ a.0) (row-behind kind (es ++ entry kind true p ∷ []) n ps a.1
     ∙ ap (λ es. R es (Some n)) (append_assoc es (entry kind true p ∷ []) (map (entry kind true) ps)))
 
 row-is : (kind : Kind) (es : List Entry) (ps : List (List ℕ)) → StandFor kind true (after_first is_bar ps)
-    → ((row_of kind (R es None) ps).entries ≡ es ++ items_in kind ps)
-    × (P (row_of kind (R es None) ps) ≡ length es + length (before_first is_bar ps))
+    → ((row_with_parts kind (R es None) ps).entries ≡ es ++ items_in kind ps)
+    × (P (row_with_parts kind (R es None) ps) ≡ length es + length (before_first is_bar ps))
 row-is kind es [] a = (sym (append-nil es), omega arith)
 row-is kind es (p ∷ ps) a = by-test (is_bar p)
     (λ f. let r = row-behind kind es (length es) ps (rw (after-cons p ps true f) at a) in
@@ -87,16 +88,17 @@ row-is kind es (p ∷ ps) a = by-test (is_bar p)
 
 -- the items of the item line, before any option
 abbrev pub start : Kind → List ℕ → Sheet
-start kind line = with_row no_stage.sheet (row_of kind no_row (parts line))
+start kind line = with_row no_stage.sheet (row_with_parts kind no_row (parts line))
 
 abbrev pub said : Kind → Sheet → Context
 said kind sheet = context kind (names_of sheet.entries) sheet.primaries
 
 -- what parts of an item line say
 pub context-is : (kind : Kind) (ps : List (List ℕ)) → StandFor kind true (after_first is_bar ps) → context_of kind ps
-    ≡ context kind (names_of (row_of kind no_row ps).entries) (P (row_of kind no_row ps))
+    ≡ context kind (names_of (row_with_parts kind no_row ps).entries) (P (row_with_parts kind no_row ps))
 context-is kind ps a =
-    let count : length (before_first is_bar ps) ≡ P (row_of kind no_row ps) = omega (arith, (row-is kind [] ps a).1) in
+    let count : length (before_first is_bar ps) ≡ P (row_with_parts kind no_row ps) =
+    omega (arith, (row-is kind [] ps a).1) in
     λ i. context kind (sym (row-names ps (no-row kind)) i) (count i)
 
 pub start-is : (kind : Kind) (line : List ℕ) → StandFor kind true (after_first is_bar (parts line))
@@ -158,7 +160,7 @@ S sheet ignored = record { started = true; sheet = sheet; ignored = ignored }
 abbrev with_content : Kind → Stage → ℕ × List ℕ → Stage
 with_content kind stage l =
     (if stage.started then with_option (line_number l.0) stage (written_by stage.sheet l.1)
-    else record stage { started = true; sheet = with_row stage.sheet (row_of kind no_row (parts l.1)) })
+    else record stage { started = true; sheet = with_row stage.sheet (row_with_parts kind no_row (parts l.1)) })
 
 stage-content : (kind : Kind) (n : ℕ) (stage : Stage) (lines : List (List ℕ))
     → stage_from kind n stage lines ≡ fold (with_content kind) stage (content_from (n + 1) lines)

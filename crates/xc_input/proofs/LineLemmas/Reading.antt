@@ -14,7 +14,7 @@ use Rattle.xc_input.specs.declared.line_error.LineError.TheVariants.{Fault as Ba
 use Rattle.xc_input.specs.declared.builder.ProblemBuilder.{ProblemBuilder}
 use Rattle.xc_input.specs.Faults.{first}
 use Rattle.xc_input.specs.FirstFault.{line_number, line_fault, first_fault}
-use Rattle.xc_input.specs.inner.Stages.{Stage, line_checks, with_line, stage_from, stage_of, no_stage}
+use Rattle.xc_input.specs.inner.Stages.{Stage, staged_line_checks, with_line, stage_from, stage_of, no_stage}
 use Rattle.xc_input.specs.inner.Builders.{Judged, IsBuilder, stage_of_builder, error_at}
 use Rattle.xc_input.specs.Readings.{IsStateOf}
 use Rattle.xc_input.specs.inner.Feeding.{IsErrorOf, IsEndOf}
@@ -52,16 +52,16 @@ module _ (kind : Kind) (old new : List (List ℕ)) (line : List ℕ) (f : new �
   sound = subst (λ q. MatchOption q (IsBuilder d × (stage_of_builder d ≡ stage_of kind old)) (λ _. Unit {0})) g s
 
   fault-is : line_fault kind new ≡ option_map (λ k. (line_number (length new), k))
-      (first (line_checks kind (stage_of_builder d) line))
+      (first (staged_line_checks kind (stage_of_builder d) line))
   fault-is = grind (arith, nat_tests, next-fault, length-append old (line ∷ []))
 
   pub fails : (count : ℕ) (e : LineError) (T : Type 0) → count ≡ line_number (length new)
-      → Judged {T = T} (first (line_checks kind (stage_of_builder d) line)) (Err e)
+      → Judged {T = T} (first (staged_line_checks kind (stage_of_builder d) line)) (Err e)
       → IsErrorOf kind new (error_at count e)
   fails count (Bad k) T c j = fault-is ∙ (λ i. option_map (λ k. (sym c i, k)) (j i))
   fails count NoMemory T c j = tt
 
-  pub goes : first (line_checks kind (stage_of_builder d) line) ≡ None → line_fault kind new ≡ None
+  pub goes : first (staged_line_checks kind (stage_of_builder d) line) ≡ None → line_fault kind new ≡ None
   goes j = fault-is ∙ ap (option_map (λ k. (line_number (length new), k))) j
 
   pub stage-is : (count : ℕ) (d' : ProblemBuilder) → count ≡ line_number (length new) → IsBuilder d'

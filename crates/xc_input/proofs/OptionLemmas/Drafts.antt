@@ -19,7 +19,7 @@ use Rattle.std.specs.List.{list_any}
 use Rattle.xc_input.specs.Sheets.{Written, colour_number}
 use Rattle.xc_input.specs.inner.Sheets.{with_uses}
 use Rattle.xc_input.specs.Faults.{first, has_primary}
-use Rattle.xc_input.specs.inner.Stages.{option_checks, context, written, content_checks}
+use Rattle.xc_input.specs.inner.Stages.{staged_option_checks, context, written, staged_content_checks}
 use Rattle.xc_input.specs.inner.Stages.{with_option, written_by}
 use Rattle.xc_input.specs.Limits.{most_uses}
 use Rattle.xc_input.specs.inner.Builders.{AreMarks, AreDistinct, IsBuilder, stage_of_builder}
@@ -46,10 +46,10 @@ module _ (kind : Kind) {d : ProblemBuilder} (line : List ℕ) (s : IsBuilder d) 
   us = map (written (key_names d.names.keys)) (tokens line)
 
   abbrev checks : List (FaultKind × Bool)
-  checks = option_checks (context kind (key_names d.names.keys) d.primary) [] (tokens line)
+  checks = staged_option_checks (context kind (key_names d.names.keys) d.primary) [] (tokens line)
 
   abbrev fault : Option FaultKind
-  fault = first (content_checks kind (stage_of_builder d) line)
+  fault = first (staged_content_checks kind (stage_of_builder d) line)
 
   -- the checks of the tokens, and then that of the whole line
   pub content-is : fault ≡ first (checks ++ whole_checks (sheet_of_builder d) line)

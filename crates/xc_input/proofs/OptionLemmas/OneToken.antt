@@ -11,7 +11,7 @@ use Rattle.xc_input.specs.declared.fault.FaultKind.TheVariants.{BadColour, Colou
 use Rattle.xc_input.specs.Words.{has, before, after, place}
 use Rattle.xc_input.specs.Sheets.{Written}
 use Rattle.xc_input.specs.Faults.{first, is_plain, is_bad_colour, name_checks}
-use Rattle.xc_input.specs.inner.Stages.{token_checks, option_checks, written, context}
+use Rattle.xc_input.specs.inner.Stages.{staged_token_checks, staged_option_checks, written, context}
 use Rattle.xc_input.specs.inner.Builders.{items_of}
 use Rattle.xc_input.specs.Named.{IsName}
 use Rattle.xc_input.proofs.FaultLemmas.FirstChecks.{first-back}
@@ -33,11 +33,11 @@ none-after b (x ∷ xs) e = grind (arith, nat_tests, none-after b xs)
 module _ (kind : Kind) (names : List (List ℕ)) (primary : ℕ) (seen : List ℕ) (token : List ℕ) where
   -- the first fault
   abbrev fault : Option FaultKind
-  fault = first (token_checks (context kind names primary) seen token)
+  fault = first (staged_token_checks (context kind names primary) seen token)
 
   -- the checks behind those of the name
   abbrev past_name : List (FaultKind × Bool)
-  past_name = drop (1 + length (name_checks token)) (token_checks (context kind names primary) seen token)
+  past_name = drop (1 + length (name_checks token)) (staged_token_checks (context kind names primary) seen token)
 
   pub past-name : (is_plain kind && has COLON token) ≡ false → first (name_checks (before COLON token)) ≡ None
       → fault ≡ first past_name
@@ -93,7 +93,7 @@ module _ (kind : Kind) (primary : ℕ) (seen : List ℕ) {names : List (List ℕ
 
 -- a step of the loop over the tokens
 pub token-step : (kind : Kind) (names : List (List ℕ)) (primary : ℕ) (us : List Written) (token : List ℕ)
-    (others : List (List ℕ)) → first (token_checks (context kind names primary) (items_of us) token) ≡ None
-    → first (option_checks (context kind names primary) (items_of us) (token ∷ others))
-    ≡ first (option_checks (context kind names primary) (items_of (us ++ written names token ∷ [])) others)
+    (others : List (List ℕ)) → first (staged_token_checks (context kind names primary) (items_of us) token) ≡ None
+    → first (staged_option_checks (context kind names primary) (items_of us) (token ∷ others))
+    ≡ first (staged_option_checks (context kind names primary) (items_of (us ++ written names token ∷ [])) others)
 token-step kind names primary us token others e = grind (arith, map-snoc, first-back)

@@ -35,8 +35,8 @@ pub record Row : Type 0 where
   pub bar : Option ℕ
 
 -- the checks of a bar or another part, behind such items
-abbrev pub part_checks : Kind → Row → List ℕ → List (FaultKind × Bool)
-part_checks kind row part =
+abbrev pub staged_part_checks : Kind → Row → List ℕ → List (FaultKind × Bool)
+staged_part_checks kind row part =
     (if is_bar part then (TwoBars, is_some row.bar) ∷ []
     else item_checks kind (names_of row.entries) (is_some row.bar) part)
 
@@ -49,11 +49,11 @@ with_part kind row part =
 -- the checks of parts, behind such items
 abbrev pub row_checks : Kind → Row → List (List ℕ) → List (FaultKind × Bool)
 row_checks kind row [] = []
-row_checks kind row (part ∷ parts) = part_checks kind row part ++ row_checks kind (with_part kind row part) parts
+row_checks kind row (part ∷ parts) = staged_part_checks kind row part ++ row_checks kind (with_part kind row part) parts
 
 -- the items so far with those of parts
-abbrev pub row_of : Kind → Row → List (List ℕ) → Row
-row_of kind row parts = fold (with_part kind) row parts
+abbrev pub row_with_parts : Kind → Row → List (List ℕ) → Row
+row_with_parts kind row parts = fold (with_part kind) row parts
 
 -- no items so far, and no bar
 abbrev pub no_row : Row
@@ -74,8 +74,8 @@ abbrev pub written : List (List ℕ) → List ℕ → Written
 written names token = record { item = item_number names (before (code ":") token); colour = after (code ":") token }
 
 -- the checks of a token, behind tokens with these items
-abbrev pub token_checks : Context → List ℕ → List ℕ → List (FaultKind × Bool)
-token_checks c seen token =
+abbrev pub staged_token_checks : Context → List ℕ → List ℕ → List (FaultKind × Bool)
+staged_token_checks c seen token =
     let name = before (code ":") token in
     let item = item_number c.names name in
     let coloured = has (code ":") token in
@@ -85,10 +85,11 @@ token_checks c seen token =
     (BadColour, coloured && is_bad_colour (after (code ":") token)) ∷ [])
 
 -- the checks of tokens, behind tokens with these items
-abbrev pub option_checks : Context → List ℕ → List (List ℕ) → List (FaultKind × Bool)
-option_checks c seen [] = []
-option_checks c seen (token ∷ tokens) =
-    token_checks c seen token ++ option_checks c (seen ++ item_number c.names (before (code ":") token) ∷ []) tokens
+abbrev pub staged_option_checks : Context → List ℕ → List (List ℕ) → List (FaultKind × Bool)
+staged_option_checks c seen [] = []
+staged_option_checks c seen (token ∷ tokens) =
+    staged_token_checks c seen token ++ staged_option_checks c (seen
+    ++ item_number c.names (before (code ":") token) ∷ []) tokens
 
 -- THE LINES
 
@@ -118,15 +119,16 @@ whole_checks sheet line =
     (TooManyUses, kept && nat_lt most_uses (use_count sheet.options + length (tokens line))) ∷ []
 
 -- a line that is neither blank nor a comment
-abbrev pub content_checks : Kind → Stage → List ℕ → List (FaultKind × Bool)
-content_checks kind stage line =
+abbrev pub staged_content_checks : Kind → Stage → List ℕ → List (FaultKind × Bool)
+staged_content_checks kind stage line =
     let known = context kind (names_of stage.sheet.entries) stage.sheet.primaries in
-    (if stage.started then option_checks known [] (tokens line) ++ whole_checks stage.sheet line
+    (if stage.started then staged_option_checks known [] (tokens line) ++ whole_checks stage.sheet line
     else row_checks kind no_row (parts line))
 
 -- the checks of a line
-abbrev pub line_checks : Kind → Stage → List ℕ → List (FaultKind × Bool)
-line_checks kind stage line = (NulByte, has 0 line) ∷ (if is_skipped line then [] else content_checks kind stage line)
+abbrev pub staged_line_checks : Kind → Stage → List ℕ → List (FaultKind × Bool)
+staged_line_checks kind stage line = (NulByte, has 0 line) ∷ (if is_skipped line then []
+    else staged_content_checks kind stage line)
 
 -- the lines with an option of the line of this number
 abbrev pub with_option : ℕ → Stage → List Written → Stage
@@ -142,7 +144,7 @@ abbrev pub with_line : Kind → ℕ → Stage → List ℕ → Stage
 with_line kind n stage line =
     (if is_skipped line then stage else
     (if stage.started then with_option n stage (written_by stage.sheet line)
-    else record stage { started = true; sheet = with_row stage.sheet (row_of kind no_row (parts line)) }))
+    else record stage { started = true; sheet = with_row stage.sheet (row_with_parts kind no_row (parts line)) }))
 
 -- what lines give, behind n lines that gave this
 abbrev pub stage_from : Kind → ℕ → Stage → List (List ℕ) → Stage

@@ -9,7 +9,8 @@ use Rattle.std.proofs.Common.{get_or, replicate, Some, refl, sym, ap, ap₂, ◌
 use Rattle.std.specs.Prelude.{slice_get, nat_le, count_by}
 use Rattle.std.specs.List.{AllZip, list_all}
 use Rattle.std.proofs.lemmas.List.{length-replicate, get_or-replicate}
-use Rattle.xc_list.specs.inner.Classes.{Classes, AreClasses, IsOfClass, class_at, same_uses, alike, numbers, class_size}
+use Rattle.xc_list.specs.inner.Classes.{Classes, AreClasses, IsOfClass, class_at, same_uses, alike, option_numbers}
+use Rattle.xc_list.specs.inner.Classes.{class_size}
 use Rattle.xc_list.specs.inner.CoverCounts.{raised, uses_at}
 use Rattle.xc_list.proofs.CheckLemmas.ListedNumbers.{one_place}
 use Rattle.xc_list.proofs.CheckLemmas.DifferentOptions.{counted, is_counted}
@@ -38,7 +39,7 @@ has_room b ks k = nat_le (get_or (asked_after b ks) k 0) (class_size b.problem.p
 
 -- whether options like this one are taken no more often than there are
 abbrev pub IsAsked : Puzzle → List ℕ → ℕ → Type 0
-IsAsked p reps r = count_by (alike p r) reps ≤ count_by (alike p r) (numbers p)
+IsAsked p reps r = count_by (alike p r) reps ≤ count_by (alike p r) (option_numbers p)
 
 module _ (b : Classes) (are : AreClasses b.problem.puzzle b.classes) (ks reps : List ℕ)
     (z : AllZip (IsOfClass b) ks reps) where
@@ -66,7 +67,8 @@ module _ (b : Classes) (are : AreClasses b.problem.puzzle b.classes) (ks reps : 
         | inl l ↦
             let o = counted_some (alike p r) reps l in
             let k = beside (IsOfClass b) ks reps o.0 z o.1 in
-            subst (λ f. count_by f reps ≤ count_by f (numbers p)) (λ i x. sym ((alike-classes p).left r o.0 x o.2) i)
+            subst (λ f. count_by f reps ≤ count_by f (option_numbers p))
+            (λ i x. sym ((alike-classes p).left r o.0 x o.2) i)
             ((room_asked k.0 o.0 k.2).0 (passes-at (has_room b ks) ks k.0 rooms k.1))
         | inr l ↦ omega (arith, l, is_counted (alike p r) reps)
       ]

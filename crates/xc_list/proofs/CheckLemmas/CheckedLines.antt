@@ -14,7 +14,7 @@ use Rattle.xc_input.specs.Named.{Named}
 use Rattle.xc_list.specs.declared.checker.Verdict.{Verdict}
 use Rattle.xc_list.specs.declared.checker.ListingFault.{ListingFault}
 use Rattle.xc_list.specs.declared.checker.ListingFault.TheVariants.{BadLine, UnknownOption}
-use Rattle.xc_list.specs.inner.ReadLines.{Line, Header, Body, Other, read}
+use Rattle.xc_list.specs.inner.ReadLines.{ReadLine, Header, Body, Other, read}
 use Rattle.std.specs.Option.{option_or}
 use Rattle.xc_list.specs.Listed.{Solution, is_known, is_none, fault_in_lines}
 use Rattle.xc_list.specs.inner.Classes.{Classes, AreClasses, IsIndexed, IsOfClass, IsClassOfBody, IsCoverOfClasses}
@@ -69,7 +69,7 @@ not-first done = let e : nat_eq (done + 1) 0 ≡ false = grind (arith, nat_tests
 
 -- THE FAULT OF A LINE
 -- the fault of line n, which says this, where a header stands before it or not
-abbrev pub fault_said : Named → Bool → ℕ → Line → Option ListingFault
+abbrev pub fault_said : Named → Bool → ℕ → ReadLine → Option ListingFault
 fault_said p begun n (Header number) = None
 fault_said p begun n (Body words) =
     if not begun then Some (BadLine n)
@@ -82,7 +82,7 @@ pub lines-cons : (p : Named) (n : ℕ) (line : List ℕ) (lines : List (List ℕ
     (read line)) (fault_in_lines p (n + 1) lines)
 lines-cons p n line lines = grind (arith, nat_tests)
 
-no_fault-at : (p : Named) (done : ℕ) (line : List ℕ) (rest : List (List ℕ)) (said : Line) → read line ≡ said
+no_fault-at : (p : Named) (done : ℕ) (line : List ℕ) (rest : List (List ℕ)) (said : ReadLine) → read line ≡ said
     → fault_said p (not (done == 0)) (min (done + 1) (2 ^ 64 - 1)) said ≡ None
     → fault_in_lines p done (line ∷ rest) ≡ fault_in_lines p (done + 1) rest
 no_fault-at p done line rest said e f = cc (lines-cons p done line rest, e, f)

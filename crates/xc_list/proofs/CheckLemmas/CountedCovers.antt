@@ -19,7 +19,7 @@ use Rattle.xc_input.specs.Named.{IsSound}
 use Rattle.xc_search.specs.Cover.{times_held}
 use Rattle.xc_input.proofs.lists.Members.{each_in, each_from}
 use Rattle.xc_list.specs.inner.Classes.{Classes, AreClasses, IsOfClass, IsCoverOfClasses}
-use Rattle.xc_list.specs.inner.CoverCounts.{added, coloured, uses_at, uses_in, short_of, agrees, is_met}
+use Rattle.xc_list.specs.inner.CoverCounts.{added, colours_after, uses_at, uses_in, short_of, allows_use, is_met}
 use Rattle.xc_list.specs.inner.CoverCounts.{is_class_met}
 use Rattle.xc_list.proofs.CheckLemmas.ShortItems.{short_none, none_short}
 use Rattle.xc_list.proofs.CheckLemmas.HeldItems.{AreItems, added-at}
@@ -51,7 +51,7 @@ times_after b ks = added (uses_in b.classes ks) (replicate (item_count b.problem
 abbrev pub is_counted_cover : Classes → List ℕ → List ℕ → Bool
 is_counted_cover b cs ks =
     short_of b.problem.puzzle.bounds (times_after b ks) == 0 && list_all
-    (is_class_met b b.problem.puzzle.bounds (times_after b ks) (coloured (uses_in b.classes ks) cs)
+    (is_class_met b b.problem.puzzle.bounds (times_after b ks) (colours_after (uses_in b.classes ks) cs)
     (asked_after b ks)) ks
 
 -- options of these classes, with the tables that count them
@@ -73,7 +73,7 @@ module _ (b : Classes) (cs ks reps : List ℕ) (s : IsSolution b cs ks reps) whe
   colours_of k = gathered p (suc k) reps
 
   abbrev meets : Use → Bool
-  meets u = is_met p.bounds (times_after b ks) (coloured us cs) u
+  meets u = is_met p.bounds (times_after b ks) (colours_after us cs) u
 
   items : AreItems (item_count p) us
   items =
@@ -93,7 +93,7 @@ module _ (b : Classes) (cs ks reps : List ℕ) (s : IsSolution b cs ks reps) whe
       omega (arith, adds, none, length-given (suc k) us, ap length (gives k))
 
   met_one : (k : ℕ) (u : Use) → k < item_count p → u.item ≡ suc k
-      → meets u ≡ agrees (slice_get p.bounds k) (length (colours_of k)) (last_or (get_or cs k 0) (colours_of k))
+      → meets u ≡ allows_use (slice_get p.bounds k) (length (colours_of k)) (last_or (get_or cs k 0) (colours_of k))
       u.colour
   met_one k u l e = grind (arith, coloured-at, us, items, gives, time)
 

@@ -16,7 +16,7 @@ use Rattle.xc_input.proofs.lists.Members.{IsIn, each_in, in-slice_get, in-contai
 use Rattle.xc_input.proofs.lists.Members.{contains-in}
 use Rattle.xc_input.proofs.lists.EachTwo.{each_two_from_AllPairs, AllPairs-from_each_two}
 use Rattle.xc_list.specs.Listed.{is_known, IsListedCover, stands_for}
-use Rattle.xc_list.specs.inner.Classes.{class_at, alike, numbers, same_uses, IsCoverOfClasses}
+use Rattle.xc_list.specs.inner.Classes.{class_at, alike, option_numbers, same_uses, IsCoverOfClasses}
 use Rattle.xc_list.proofs.CheckLemmas.DifferentOptions.{is_counted, IsLikeness, AreAlike, AreApart}
 use Rattle.xc_list.proofs.CheckLemmas.DifferentOptions.{count_alike, count_within, give}
 use Rattle.xc_list.proofs.CheckLemmas.Rotations.{DifferInItems, colour-alike}
@@ -29,10 +29,10 @@ use Rattle.xc_input.proofs.lists.EachTwo.{EachTwo, EachTwo-of, EachTwo-weaker}
 use Rattle.std.specs.List.{cons_option}
 use Rattle.std.proofs.Common.{length, ap}
 
-numbered : (p : Puzzle) (o : ℕ) → IsIn (numbers p) o → IsOption p o
+numbered : (p : Puzzle) (o : ℕ) → IsIn (option_numbers p) o → IsOption p o
 numbered p o h = grind (arith, in-range 1 (option_count p) o h)
 
-pub numbers-in : (p : Puzzle) (o : ℕ) → IsOption p o → IsIn (numbers p) o
+pub numbers-in : (p : Puzzle) (o : ℕ) → IsOption p o → IsIn (option_numbers p) o
 numbers-in p o h = range-in 1 (option_count p) o h.0 (omega (arith, h.1))
 
 -- the uses of an option are among those of the problem
@@ -92,7 +92,8 @@ module _ (p : Puzzle) (v : IsValid p) (reps s : List ℕ) (known : AreKnown p s)
   classes_of_cover c = record {
     asked =
         λ r.
-        let within = count_within (alike p r) s (numbers p) apart (λ o k e. numbers-in p o (each_in _ _ _ known k)) in
+        let within = count_within (alike p r) s (option_numbers p) apart
+        (λ o k e. numbers-in p o (each_in _ _ _ known k)) in
         omega (arith, within, count_alike (alike p) (alike-classes p) r reps s z, is_counted {X = ℕ});
     within = λ i b e. rw (held-alike i) (c.within i b e);
     agree = λ j k q r i x y l e f second.
@@ -132,9 +133,10 @@ classes_decide p bodies reps r all h = (
       let s = recursion_from_All (IsOption p.puzzle) g.0 g.2.known in
       classes_of_cover p.puzzle r.valid reps g.0 s ((stand-alike p r _ reps g.0 all s h).0 g.1) g.2,
   λ c.
-      let g = give (alike p.puzzle) (alike-classes p.puzzle) (numbers p.puzzle) (range-apart 1 (option_count p.puzzle))
+      let g = give (alike p.puzzle) (alike-classes p.puzzle) (option_numbers p.puzzle)
+      (range-apart 1 (option_count p.puzzle))
       reps (λ q k. omega (arith, c.asked q, is_counted {X = ℕ})) in
-      let s = each_weaker (IsIn (numbers p.puzzle)) (IsOption p.puzzle) g.0 (numbered p.puzzle) g.1.known in (
+      let s = each_weaker (IsIn (option_numbers p.puzzle)) (IsOption p.puzzle) g.0 (numbered p.puzzle) g.1.known in (
         g.0,
         (stand-alike p r _ reps g.0 all s h).1 g.1.alike,
         cover_of_classes p.puzzle r.valid reps g.0 s g.1.alike g.1.apart c,

@@ -4,7 +4,7 @@ use Rattle.std.proofs.Common.{◌++◌, length, get_or, set, refl, ◌∙◌, ar
 use Rattle.std.specs.List.{AllByRecursion}
 use Rattle.std.proofs.lemmas.List.{get_or-set_same, get_or-set_other, length-set, get_or_past}
 use Rattle.xc_input.specs.declared.problem.Use.{Use}
-use Rattle.xc_list.specs.inner.CoverCounts.{raised, lowered, item_places, added, coloured}
+use Rattle.xc_list.specs.inner.CoverCounts.{raised, lowered, item_places, added, colours_after}
 use Rattle.std.proofs.lemmas.Bool.{cases_lt}
 use Rattle.std.proofs.lemmas.Bool.Decides.{nat_tests}
 use Rattle.xc_list.proofs.CheckLemmas.DifferentOptions.{counted}
@@ -48,11 +48,12 @@ raised-most ks ns k = grind (arith, cases_lt, raised-at, get_or_past, length-rai
 
 -- ---- uses
 
-pub coloured-append : (us vs : List Use) (cs : List ℕ) → coloured (us ++ vs) cs ≡ coloured vs (coloured us cs)
+pub coloured-append : (us vs : List Use) (cs : List ℕ) → colours_after (us ++ vs) cs
+    ≡ colours_after vs (colours_after us cs)
 coloured-append [] vs cs = refl
 coloured-append (u ∷ us) vs cs = coloured-append us vs (set cs (u.item - 1) u.colour)
 
-pub length-coloured : (us : List Use) (cs : List ℕ) → length (coloured us cs) ≡ length cs
+pub length-coloured : (us : List Use) (cs : List ℕ) → length (colours_after us cs) ≡ length cs
 length-coloured [] cs = refl
 length-coloured (u ∷ us) cs = length-coloured us (set cs (u.item - 1) u.colour) ∙ length-set cs (u.item - 1) u.colour
 

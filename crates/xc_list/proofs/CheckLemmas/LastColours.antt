@@ -16,7 +16,7 @@ use Rattle.xc_input.proofs.lists.EachTwo.{EachTwo}
 use Rattle.xc_input.proofs.lists.EachElement.{each_weaker}
 use Rattle.std.proofs.lemmas.List.Elements.{filter-append}
 use Rattle.xc_list.specs.inner.Classes.{Classes, IsOfClass, class_at}
-use Rattle.xc_list.specs.inner.CoverCounts.{coloured, uses_in}
+use Rattle.xc_list.specs.inner.CoverCounts.{colours_after, uses_in}
 use Rattle.xc_list.proofs.CheckLemmas.DifferentOptions.{is_counted}
 use Rattle.xc_list.proofs.CheckLemmas.Rotations.{DifferInItems, differ-turned, colour-class}
 use Rattle.xc_list.proofs.CheckLemmas.DecidedByClasses.{option-differs}
@@ -30,7 +30,7 @@ use Rattle.std.specs.Prelude.{◌↔◌}
 use Rattle.std.proofs.lemmas.Bool.{leb-true, le-leb}
 use Rattle.std.proofs.Common.{true}
 use Rattle.xc_input.specs.declared.problem.Bounds.{Bounds}
-use Rattle.xc_list.specs.inner.CoverCounts.{agrees, uses_at}
+use Rattle.xc_list.specs.inner.CoverCounts.{allows_use, uses_at}
 use Rattle.xc_input.proofs.lists.EachElement.{each_of_all}
 use Rattle.xc_list.proofs.CheckLemmas.GatheredColours.{gathered, Agree}
 
@@ -47,7 +47,7 @@ given-append i us vs = simp (filter-append, map-append)
 
 -- the colour that was given last
 pub coloured-at : (n : ℕ) (us : List Use) (cs : List ℕ) (k : ℕ) → AreItems n us → n ≡ length cs → k < n
-    → get_or (coloured us cs) k 0 ≡ last_or (get_or cs k 0) (given (suc k) us)
+    → get_or (colours_after us cs) k 0 ≡ last_or (get_or cs k 0) (given (suc k) us)
 coloured-at n [] cs k a e l = refl
 coloured-at n (u ∷ us) cs k a e l =
     let size = e ∙ sym (length-set cs (u.item - 1) u.colour) in
@@ -96,7 +96,7 @@ last_same c (d ∷ cs) a = last_same d cs (subst (λ e. AllByRecursion (λ f. e 
 
 -- whether the counts of an item that was given colours in turn agree with a colour
 abbrev pub agrees_with : Option Bounds → ℕ → List ℕ → ℕ → Type 0
-agrees_with v d cs c = agrees v (length cs) (last_or d cs) c ≡ true
+agrees_with v d cs c = allows_use v (length cs) (last_or d cs) c ≡ true
 
 agree-last : (d : ℕ) (cs : List ℕ) → EachTwo Agree cs → AllByRecursion (agrees_with None d cs) cs
 agree-last d [] h = tt

@@ -4,7 +4,7 @@ use Rattle.std.specs.Prelude.{is_some}
 use Rattle.xc_list.specs.inner.Listings.{Listing, listing_of}
 use Rattle.std.specs.List.{AllZip}
 use Rattle.xc_list.specs.ListingLines.{words_in}
-use Rattle.xc_list.specs.inner.ReadLines.{Line, read}
+use Rattle.xc_list.specs.inner.ReadLines.{ReadLine, read}
 use Rattle.xc_list.specs.inner.ReadLines as lines
 use Rattle.xc_list.specs.Listed.{Solution, is_known, fault_in_lines, IsVerdictOn, AreVerdicts}
 use Rattle.xc_list.specs.Listed.{IsListingFault}
@@ -15,7 +15,7 @@ use Rattle.xc_list.specs.declared.checker.listing_lines.ListingLine.{ListingLine
 use Rattle.xc_list.specs.declared.checker.listing_lines.ListingLine.TheVariants.{Header, Body, Other}
 
 -- what a line that was read says
-abbrev pub line_said : ListingLine → Line
+abbrev pub line_said : ListingLine → ReadLine
 line_said (Header n) = lines.Header n
 line_said (Body text) = lines.Body (words_in text.now)
 line_said Other = lines.Other
@@ -61,12 +61,12 @@ Closes old new = (vs : List Verdict) × (new.verdicts ≡ old.verdicts ++ vs)
     (with_later old.open_number bodies (record { loose = []; solutions = [] })) vs)
 
 -- a line that says this was taken
-abbrev pub Takes : Line → Progress → Progress → Type 0
+abbrev pub Takes : ReadLine → Progress → Progress → Type 0
 Takes said old new = (all : List (List ℕ)) (done : ℕ) (line : List ℕ) (rest : List (List ℕ)) → read line ≡ said
     → IsProgress all done (line ∷ rest) old → IsProgress all (done + 1) rest new
 
 -- the line with this number, which says this, has this fault
-abbrev pub Refuses : ℕ → Line → Progress → ListingFault → Type 0
+abbrev pub Refuses : ℕ → ReadLine → Progress → ListingFault → Type 0
 Refuses number said s e = (all : List (List ℕ)) (done : ℕ) (line : List ℕ) (rest : List (List ℕ)) → read line ≡ said
     → number ≡ min (done + 1) (2 ^ 64 - 1) → IsProgress all done (line ∷ rest) s
     → IsListingFault s.options.problem all e

@@ -33,17 +33,17 @@ abbrev pub alike : Puzzle → ℕ → ℕ → Bool
 alike p a b = same_uses (class_at p a) (class_at p b)
 
 -- the numbers of all options
-abbrev pub numbers : Puzzle → List ℕ
-numbers p = range_with_len 1 (option_count p)
+abbrev pub option_numbers : Puzzle → List ℕ
+option_numbers p = range_with_len 1 (option_count p)
 
 -- how many options are of a class
 abbrev pub class_size : Puzzle → List Use → ℕ
-class_size p class = count_by (λ o. same_uses class (class_at p o)) (numbers p)
+class_size p class = count_by (λ o. same_uses class (class_at p o)) (option_numbers p)
 
 -- Options, one for each choice line, that stand for their classes: no class is asked more often than it has options,
 -- and the conditions of a cover hold of them as they are.
 pub record IsCoverOfClasses (p : Puzzle) (reps : List ℕ) : Type 0 where
-  pub asked : (r : ℕ) → count_by (alike p r) reps ≤ count_by (alike p r) (numbers p)
+  pub asked : (r : ℕ) → count_by (alike p r) reps ≤ count_by (alike p r) (option_numbers p)
   pub within : (i : ℕ) (b : Bounds) → bounds_at p i ≡ Some b
       → (b.low ≤ times_held p i reps) × (times_held p i reps ≤ b.high)
   pub agree : (j k a b i c d : ℕ) → j < k → slice_get reps j ≡ Some a → slice_get reps k ≡ Some b → IsSecondary p i

@@ -42,9 +42,9 @@ abbrev pub cleared : List Use → List ℕ → List ℕ
 cleared us ts = lowered (item_places us) ts
 
 -- each use's colour at its item's place
-abbrev pub coloured : List Use → List ℕ → List ℕ
-coloured [] cs = cs
-coloured (u ∷ us) cs = coloured us (slice_set cs (u.item - 1) u.colour)
+abbrev pub colours_after : List Use → List ℕ → List ℕ
+colours_after [] cs = cs
+colours_after (u ∷ us) cs = colours_after us (slice_set cs (u.item - 1) u.colour)
 
 -- the uses of the class with this number
 abbrev pub uses_at : List (List Use) → ℕ → List Use
@@ -63,14 +63,14 @@ short_of (x ∷ bounds) (t ∷ ts) = (if nat_lt t x.low then 1 else 0) + short_o
 
 -- Whether an item that is held t times agrees with a use of it: a primary item with its upper bound, and any other,
 -- whose last colour is c, with the use's colour d.
-abbrev pub agrees : Option Bounds → ℕ → ℕ → ℕ → Bool
-agrees (Some x) t c d = nat_le t x.high
-agrees None t c d = t == 1 || (not (d == 0) && d == c)
+abbrev pub allows_use : Option Bounds → ℕ → ℕ → ℕ → Bool
+allows_use (Some x) t c d = nat_le t x.high
+allows_use None t c d = t == 1 || (not (d == 0) && d == c)
 
 -- whether its item agrees with a use, by the bounds, the times and the last colours
 abbrev pub is_met : List Bounds → List ℕ → List ℕ → Use → Bool
 is_met bounds ts cs u =
-    agrees (slice_get bounds (u.item - 1)) (slice_index ts (u.item - 1)) (slice_index cs (u.item - 1)) u.colour
+    allows_use (slice_get bounds (u.item - 1)) (slice_index ts (u.item - 1)) (slice_index cs (u.item - 1)) u.colour
 
 -- whether a class is asked no more often than it has options, and its items agree
 abbrev pub is_class_met : Classes → List Bounds → List ℕ → List ℕ → List ℕ → ℕ → Bool

@@ -1,6 +1,6 @@
 -- No public clause cites this module. What lines list, from the last one on.
 use Rattle.std.specs.Prelude.{ℕ, List, [], ◌∷◌}
-use Rattle.xc_list.specs.inner.ReadLines.{Line, Header, Body, Other, read}
+use Rattle.xc_list.specs.inner.ReadLines.{ReadLine, Header, Body, Other, read}
 use Rattle.xc_list.specs.Listed.{Solution}
 
 -- bodies that stand before the first header, and the solutions behind them
@@ -9,7 +9,7 @@ pub record Listing : Type 0 where
   pub solutions : List Solution
 
 -- a line in front of what later lines list
-abbrev pub before_listing : Line → Listing → Listing
+abbrev pub before_listing : ReadLine → Listing → Listing
 before_listing (Header n) later =
     record { loose = []; solutions = record { number = n; bodies = later.loose } ∷ later.solutions }
 before_listing (Body words) later = record { loose = words ∷ later.loose; solutions = later.solutions }

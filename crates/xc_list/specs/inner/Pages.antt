@@ -29,8 +29,8 @@ abbrev pub line_text : Named → Line → List ℕ
 line_text a l = choice_text a (marked a.puzzle l.mark)
 
 -- where lines end that stand on a page behind the header's place
-abbrev pub end_of : Named → List Line → ℕ
-end_of a ls = 22 + length (flat_map (line_text a) ls)
+abbrev pub lines_end : Named → List Line → ℕ
+lines_end a ls = 22 + length (flat_map (line_text a) ls)
 
 -- each line says where it ends, the first of them behind a place
 abbrev pub AreEnds : Named → ℕ → List Line → Type 0
@@ -43,7 +43,7 @@ pub record AreKept (a : Named) (page : List ℕ) (ls : List Line) : Type 0 where
   pub ends : AreEnds a 22 ls
 
 -- the first n of the lines are these and the mark's
-pub record Stand (n : ℕ) (ls before : List Line) (m : Mark) : Type 0 where
+pub record MatchMark (n : ℕ) (ls before : List Line) (m : Mark) : Type 0 where
   pub within : n ≤ length ls
   pub end : ℕ
   pub lines : take n ls ≡ before ++ record { mark = m; end = end } ∷ []

@@ -3,13 +3,13 @@ use Rattle.std.specs.Prelude.{ℕ, List, Some, None}
 use Rattle.xc_list.specs.ListingLines.{header_number, body_of}
 
 -- what a line is: a header with its number, a choice line with its body, or neither
-pub data Line : Type 0 where
-  Header : ℕ → Line
-  Body : List (List ℕ) → Line
-  Other : Line
+pub data ReadLine : Type 0 where
+  Header : ℕ → ReadLine
+  Body : List (List ℕ) → ReadLine
+  Other : ReadLine
 
 -- (no line is both: a header begins with a digit, a choice line with a space)
-abbrev pub read : List ℕ → Line
+abbrev pub read : List ℕ → ReadLine
 read line = elim (header_number line) [
   | Some n ↦ Header n
   | None ↦ elim (body_of line) [ Some words ↦ Body words | None ↦ Other ]

@@ -73,7 +73,7 @@ pub record WentOn (p : Puzzle) (until from to : Option (List ℕ)) (most : ℕ) 
   pub most_members : went.halt ≡ Member → went.members ≡ 2 ^ 64 - 1
 
 -- A search was just begun over this problem, at the row `from`.
-pub record IsBegun (p : Puzzle) (from : List ℕ) (end : Option (List ℕ)) (s : InSpan) : Type 0 where
+pub record BeginsAt (p : Puzzle) (from : List ℕ) (end : Option (List ℕ)) (s : InSpan) : Type 0 where
   pub puzzle : s.puzzle ≡ p
   pub until : s.until ≡ end
   pub left : left_of s ≡ between p from end

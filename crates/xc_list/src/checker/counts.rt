@@ -4,7 +4,8 @@ ghost use Rattle.std.specs.Prelude.{slice_index, slice_set, All, AllPairs, IfOk}
 ghost use Rattle.std.specs.List.{list_all};
 ghost use Rattle.xc_input.specs.Problem.{item_count};
 ghost use Rattle.xc_list.specs.inner.Classes.{IsIndexed};
-ghost use Rattle.xc_list.specs.inner.CoverCounts.{added, coloured, cleared, raised, lowered, uses_in, short_of, is_met};
+ghost use Rattle.xc_list.specs.inner.CoverCounts.{added, colours_after, cleared, raised, lowered, uses_in, short_of};
+ghost use Rattle.xc_list.specs.inner.CoverCounts.{is_met};
 ghost use Rattle.xc_list.specs.inner.CoverCounts.{is_class_met};
 
 use crate::checker::option_index::OptionIndex;
@@ -43,7 +44,7 @@ impl Counts {
         requires few { slice_index self.old.times.items (u.item - 1) < 2 ^ 64 - 1 }
         requires short { self.old.short ≡ short_of bounds.now self.old.times.items }
         ensures times { self.new.times.items ≡ added (u ∷ []) self.old.times.items }
-        ensures colours { self.new.colours.items ≡ coloured (u ∷ []) self.old.colours.items }
+        ensures colours { self.new.colours.items ≡ colours_after (u ∷ []) self.old.colours.items }
         ensures asked { self.new.asked ≡ self.old.asked }
         ensures short { self.new.short ≡ short_of bounds.now self.new.times.items }
     {
@@ -64,7 +65,7 @@ impl Counts {
         requires few { (k : ℕ) → slice_index self.old.times.items k < 2 ^ 64 - 1 }
         requires short { self.old.short ≡ short_of bounds.now self.old.times.items }
         ensures times { self.new.times.items ≡ added uses.now self.old.times.items }
-        ensures colours { self.new.colours.items ≡ coloured uses.now self.old.colours.items }
+        ensures colours { self.new.colours.items ≡ colours_after uses.now self.old.colours.items }
         ensures asked { self.new.asked ≡ self.old.asked }
         ensures short { self.new.short ≡ short_of bounds.now self.new.times.items }
     {
@@ -111,7 +112,7 @@ impl Counts {
         requires needed { needed ≡ short_of bounds.now self.old.times.items }
         requires known { All (λ k. k < length options.now.classes) chosen.now }
         ensures times { self.new.times.items ≡ added (uses_in options.now.classes chosen.now) self.old.times.items }
-        ensures colours { self.new.colours.items ≡ coloured (uses_in options.now.classes chosen.now)
+        ensures colours { self.new.colours.items ≡ colours_after (uses_in options.now.classes chosen.now)
             self.old.colours.items }
         ensures asked { self.new.asked.items ≡ raised chosen.now self.old.asked.items }
         ensures short { self.new.short ≡ short_of bounds.now self.new.times.items }

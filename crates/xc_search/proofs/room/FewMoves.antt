@@ -12,7 +12,7 @@ use Rattle.xc_input.specs.Problem.{Puzzle, Numbered, numbered_options, colour_in
 use Rattle.xc_input.specs.Problem.{IsItem, primary_count}
 use Rattle.xc_dance.specs.Moves.{listed, is_open, AreLegal}
 use Rattle.xc_search.specs.Room.{room_for}
-use Rattle.xc_search.specs.inner.Sparing.{spendings, uses_in}
+use Rattle.xc_search.specs.inner.Sparing.{spendings, count_of_uses}
 use Rattle.xc_input.proofs.lists.Filters.{length-filter-le}
 use Rattle.xc_input.proofs.lists.Totals.{total, total_zero, total_le, total_less, one_if, total_same, total_two}
 use Rattle.xc_input.proofs.lists.Totals.{total_once}
@@ -63,7 +63,8 @@ holding_more : (o : Numbered) (os : List Numbered) (i : ℕ)
     → 1 + length (holding i (o ∷ os)) ≡ one_if (is_some (colour_in o.uses i)) + (1 + length (holding i os))
 holding_more o os i = grind arith
 
-held_all : (os : List Numbered) (a n : ℕ) → total (λ i. 1 + length (holding i os)) (range_with_len a n) ≤ n + uses_in os
+held_all : (os : List Numbered) (a n : ℕ) → total (λ i. 1 + length (holding i os)) (range_with_len a n)
+    ≤ n + count_of_uses os
 held_all [] a n = omega (arith, total_ones a n)
 held_all (o ∷ os) a n =
     let is = range_with_len a n in
@@ -71,7 +72,7 @@ held_all (o ∷ os) a n =
     let two = total_two (λ i. one_if (is_some (colour_in o.uses i))) (λ i. 1 + length (holding i os)) is in
     omega (arith, more, two, held_few o.uses a n, held_all os a n)
 
-pub uses_whole : (k : ℕ) (os : List (List Use)) → uses_in (numbered_from k os) ≡ sum_by (λ us. length us) os
+pub uses_whole : (k : ℕ) (os : List (List Use)) → count_of_uses (numbered_from k os) ≡ sum_by (λ us. length us) os
 uses_whole k [] = refl
 uses_whole k (us ∷ os) = omega (arith, uses_whole (k + 1) os, sum_by-cons (λ (us : List Use). length us) us os)
 

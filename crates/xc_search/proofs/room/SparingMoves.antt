@@ -13,7 +13,7 @@ use Rattle.xc_search.specs.inner.Residual.{residual_of}
 use Rattle.xc_dance.specs.inner.Left.{left}
 use Rattle.xc_dance.specs.Commits.{after_spend, after_use, after_uses, others}
 use Rattle.xc_search.specs.inner.Commits.{tweaked, after_none}
-use Rattle.xc_search.specs.inner.Sparing.{spendings, uses_in, IsSparing}
+use Rattle.xc_search.specs.inner.Sparing.{spendings, count_of_uses, IsSparing}
 use Rattle.xc_input.proofs.lists.Filters.{length-filter-le}
 use Rattle.xc_search.proofs.listing.BranchesLess.{less_items}
 use Rattle.xc_input.proofs.lists.Members.{IsIn}
@@ -41,12 +41,12 @@ spent_uses p (u ∷ us) t = grind (arith, spent_after_spend, spent_uses p us (af
 
 -- ---- uses of the options left
 
-fewer_uses : (q : Numbered → Bool) (os : List Numbered) → uses_in (filter q os) ≤ uses_in os
+fewer_uses : (q : Numbered → Bool) (os : List Numbered) → count_of_uses (filter q os) ≤ count_of_uses os
 fewer_uses q [] = omega arith
 fewer_uses q (o ∷ os) = grind (arith, fewer_uses q os)
 
 without_uses : (q : Numbered → Bool) (i k : ℕ) (x : Numbered) (os : List Numbered) → slice_get (holding i os) k ≡ Some x
-    → q x ≡ false → uses_in (filter q os) + length x.uses ≤ uses_in os
+    → q x ≡ false → count_of_uses (filter q os) + length x.uses ≤ count_of_uses os
 without_uses q i k x [] e f = cc
 without_uses q i k x (o ∷ os) e f = by_bool (holds o i)
     (λ h. by_number k (λ z. grind (arith, fewer_uses))

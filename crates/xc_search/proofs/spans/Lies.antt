@@ -18,7 +18,7 @@ use Rattle.xc_search.specs.Spans.{row_of, precedes, between}
 use Rattle.xc_search.specs.inner.Commits.{oldest}
 use Rattle.xc_search.specs.inner.Residual.{residual_of}
 use Rattle.xc_search.specs.Residuals.{wanted_at}
-use Rattle.xc_search.specs.inner.Levels.{branches_at, members_of, choices_of, to_give}
+use Rattle.xc_search.specs.inner.Levels.{branches_at, branch_members, choices_of, to_give}
 use Rattle.xc_search.specs.inner.Paths.{AreLedBy, MayLead}
 use Rattle.xc_input.proofs.lists.EachElement.{each-append, each-map, each_weaker, each_of_all}
 use Rattle.xc_input.proofs.lists.Filters.{keep_all, map-same}
@@ -107,19 +107,19 @@ branch_behind path k b h =
 
 -- the members of these branches, about the one at a place
 members_at : (path : List Choice) (bs : List Branch) (j : ℕ) (b : Branch) → slice_get bs j ≡ Some b →
-    members_of path bs ≡ members_of path (take j bs)
-    ++ (map (λ m. (path ++ b.choice ∷ []) ++ m) (listing b.next) ++ members_of path (drop (suc j) bs))
+    branch_members path bs ≡ branch_members path (take j bs)
+    ++ (map (λ m. (path ++ b.choice ∷ []) ++ m) (listing b.next) ++ branch_members path (drop (suc j) bs))
 members_at path bs j b e =
-    ap (members_of path) (sym (take-append-drop j bs) ∙ ap (λ x. take j bs ++ x) (drop_at bs j b e))
+    ap (branch_members path) (sym (take-append-drop j bs) ∙ ap (λ x. take j bs ++ x) (drop_at bs j b e))
     ∙ flat_map-append _ (take j bs) (b ∷ drop (suc j) bs)
-    ∙ ap (λ x. members_of path (take j bs) ++ (x ++ members_of path (drop (suc j) bs)))
+    ∙ ap (λ x. branch_members path (take j bs) ++ (x ++ branch_members path (drop (suc j) bs)))
     (map-same _ _ (listing b.next) (λ m. sym (append_assoc path (b.choice ∷ []) m)))
 
 -- a node one branch further down
 lies_next : (p : Puzzle) (path : List Choice) (r : Residual) (after : List (List Choice)) → LiesAt p path r after
     → (w : Wanted) → listing r ≡ level listing (Some w) r → (k : ℕ) (b : Branch)
     → slice_get (branches_of r w) (k - 1) ≡ Some b → b.choice.k ≡ k →
-    LiesAt p (path ++ b.choice ∷ []) b.next (members_of path (drop k (branches_of r w)) ++ after)
+    LiesAt p (path ++ b.choice ∷ []) b.next (branch_members path (drop k (branches_of r w)) ++ after)
 lies_next p path r after l w e k b at number =
     let bs = branches_of r w in
     let some : suc (k - 1) ≡ k = omega (arith, number, (number_at r w (k - 1) b at).1) in
@@ -127,14 +127,15 @@ lies_next p path r after l w e k b at number =
     λ j x q. omega (arith, (number_at r w j x q).1) in
     let row : row_of (path ++ b.choice ∷ []) ≡ row_of path ++ k ∷ [] =
     branch_row path [] b.choice ∙ ap (λ k. row_of path ++ k ∷ []) number in
-    let here : map (λ m. path ++ m) (listing r) ≡ members_of path bs =
+    let here : map (λ m. path ++ m) (listing r) ≡ branch_members path bs =
     ap (map (λ m. path ++ m)) e ∙ members_all path bs in
     let mid = map (λ m. (path ++ b.choice ∷ []) ++ m) (listing b.next) in
-    let split : members_of path bs ≡ members_of path (take (k - 1) bs) ++ (mid ++ members_of path (drop k bs)) =
+    let split : branch_members path bs ≡ branch_members path (take (k - 1) bs) ++ (mid
+    ++ branch_members path (drop k bs)) =
     members_at path bs (k - 1) b at
-    ∙ ap (λ n. members_of path (take (k - 1) bs) ++ (mid ++ members_of path (drop n bs))) some in
+    ∙ ap (λ n. branch_members path (take (k - 1) bs) ++ (mid ++ branch_members path (drop n bs))) some in
     record {
-      front = l.front ++ members_of path (take (k - 1) bs);
+      front = l.front ++ branch_members path (take (k - 1) bs);
       all = l.all ∙ ap (λ x. l.front ++ (x ++ after)) (here ∙ split) ∙ grind (arith, common_steps);
       before = rw row (each-append _ l.front _
           (each_weaker (IsBefore (row_of path)) (IsBefore (row_of path ++ k ∷ [])) l.front
@@ -142,7 +143,7 @@ lies_next p path r after l w e k b at number =
           (each-flat_map _ _ (take (k - 1) bs) (each_weaker _ _ (take (k - 1) bs)
           (λ x h. branch_before path k x (omega (arith, h, some)))
           (numbered_before (λ (b : Branch). b.choice.k) 0 (k - 1) bs numbers))));
-      behind = rw row (each-append _ (members_of path (drop k bs)) after
+      behind = rw row (each-append _ (branch_members path (drop k bs)) after
           (each-flat_map _ _ (drop k bs) (each_weaker _ _ (drop k bs)
           (λ x h. branch_behind path k x (omega (arith, h)))
           (numbered_behind (λ (b : Branch). b.choice.k) 0 k bs numbers)))

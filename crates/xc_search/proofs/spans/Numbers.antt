@@ -7,7 +7,7 @@ use Rattle.xc_search.specs.declared.level.Begun.{Begun}
 use Rattle.xc_input.specs.Problem.{Puzzle}
 use Rattle.xc_search.specs.Spans.{precedes}
 use Rattle.xc_search.specs.inner.Levels.{Levels, newest_begun}
-use Rattle.xc_search.specs.inner.Paths.{Rises, numbers}
+use Rattle.xc_search.specs.inner.Paths.{AreLater, numbers}
 use Rattle.xc_search.specs.inner.Spanning.{row_at}
 use Rattle.xc_search.proofs.spans.Kept.{row_levels}
 use Rattle.xc_search.proofs.spans.Rows.{less_before, same_beginning, not_before_before, before_either_way}
@@ -22,7 +22,7 @@ numbers_more l ls =
     ∙ map-append (λ (l : Level). l.begun) (reverse ls) (l ∷ [])
 
 -- a level more
-pub rises_below : (l : Level) (ls ks : Levels) → ks.levels ≡ l ∷ ls.levels → Rises ls ks
+pub rises_below : (l : Level) (ls ks : Levels) → ks.levels ≡ l ∷ ls.levels → AreLater ls ks
 rises_below l ls ks e =
     let row = numbers ls.levels in
     ap (precedes row) (ap numbers e ∙ numbers_more l ls.levels)
@@ -50,7 +50,7 @@ oldest_fewer l ls ks js top e o = record {
 
 -- the next branch of the newest of these
 pub rises_next : (l : Level) (b : Begun) (ls ks js : Levels) → ks.levels ≡ l ∷ drop 1 ks.levels
-    → js.levels ≡ newest_begun b ks.levels → l.begun < b.begun → IsOldest ls ks → Rises ls js
+    → js.levels ≡ newest_begun b ks.levels → l.begun < b.begun → IsOldest ls ks → AreLater ls js
 rises_next l b ls ks js top e more o =
     let rest = drop 1 ks.levels in
     let row = numbers rest in
@@ -63,6 +63,6 @@ rises_next l b ls ks js top e more o =
     ∙ less_before l.begun b.begun o.behind [] more)
 
 -- one behind another
-pub rises_on : (ls ks js : Levels) → Rises ls ks → Rises ks js → Rises ls js
+pub rises_on : (ls ks js : Levels) → AreLater ls ks → AreLater ks js → AreLater ls js
 rises_on ls ks js a b = not_before_before (numbers ls.levels) (numbers ks.levels) (numbers js.levels)
     (before_either_way (numbers ls.levels) (numbers ks.levels) a) b

@@ -4,7 +4,7 @@ use Rattle.xc_dance.specs.Dancing.{Dancing}
 use Rattle.xc_search.specs.inner.Residual.{residual_of}
 use Rattle.xc_search.specs.inner.Levels.{Levels, IsStanding, coming}
 use Rattle.xc_search.specs.inner.Ahead.{EntersBranch, GoesOn, IsDone, branched, work_left}
-use Rattle.xc_search.specs.inner.Paths.{KeepsBy, Rises}
+use Rattle.xc_search.specs.inner.Paths.{KeepsBy, AreLater}
 use Rattle.xc_search.specs.inner.Spanning.{Enters, Ends, Falls, PassesOver}
 use Rattle.xc_search.proofs.stacked.LessWork.{some_work}
 use Rattle.xc_search.proofs.stacked.PassedOver.{stands_behind}
@@ -37,7 +37,7 @@ falls_back x c until m same on fewer path = record {
 
 -- a branch below is entered
 pub enters_below : {d e : Dancing} {ls ks : Levels} {i q : ℕ} (x c : Bool) (until : Option (List ℕ)) (m : ℕ)
-    → EntersBranch d ls true e ks i q → KeepsBy x d ls (branched e i q) ks → Rises ls ks
+    → EntersBranch d ls true e ks i q → KeepsBy x d ls (branched e i q) ks → AreLater ls ks
     → Enters x c until d ls m e ks m i q
 enters_below x c until m b path rises = record {
   can = b.can;
@@ -55,7 +55,7 @@ enters_below x c until m b path rises = record {
 -- a branch of a level is entered
 pub enters_back : {x c : Bool} {until : Option (List ℕ)} {d e f : Dancing} {ls ks js : Levels} {m n i q : ℕ}
     → Falls x c until d ls m e ks n → EntersBranch e ks false f js i q → KeepsBy x e ks (branched f i q) js
-    → Rises ks js
+    → AreLater ks js
     → Enters x c until d ls m f js n i q
 enters_back {x} {c} {until} {n = n} back b path rises = record {
   can = b.can;

@@ -12,8 +12,8 @@ use Rattle.xc_search.specs.Cover.{members}
 use Rattle.xc_search.specs.Spans.{row_of, precedes, is_before, between}
 use Rattle.xc_search.specs.inner.Levels.{Levels, AreStacked, IsStanding, coming}
 use Rattle.xc_search.specs.inner.Ahead.{work_left}
-use Rattle.xc_search.specs.inner.Paths.{AreLed, AreLedBy, Rises}
-use Rattle.xc_search.specs.inner.Spanning.{row_at, Begins, Ends, PassesOver, Stands, EndsSpan}
+use Rattle.xc_search.specs.inner.Paths.{AreLed, AreLedBy, AreLater}
+use Rattle.xc_search.specs.inner.Spanning.{row_at, BeginsBranch, Ends, PassesOver, Stands, EndsSpan}
 use Rattle.xc_input.proofs.lists.EachElement.{each_of_all}
 use Rattle.xc_input.proofs.lists.Filters.{filter_both}
 use Rattle.xc_search.proofs.Cases.{by_bool, by_number}
@@ -55,12 +55,12 @@ module _ {x c : Bool} {until : Option (List ℕ)} {d e : Dancing} {ls ks : Level
         (λ k h. let less = s.less (omega (arith, h)) in omega (arith, less))
 
     -- where it goes on to a later row, that is later than where it began
-    later_than : (js : Levels) → Rises ks js → Rises ls js
+    later_than : (js : Levels) → AreLater ks js → AreLater ls js
     later_than js b = by_number begun
         (λ h. rw (← (s.same h).1) b)
         (λ k h. rises_on ls ks js (s.later (omega (arith, h))) b)
 
-    pub stands_more : {f : Dancing} {js : Levels} {o : ℕ} → Begins x c until e ks n f js o
+    pub stands_more : {f : Dancing} {js : Levels} {o : ℕ} → BeginsBranch x c until e ks n f js o
         → (more : ℕ) → more ≡ begun + 1 → Stands x c until d ls m f js o more
     stands_more {f} {js} {o} b more one = record {
       still = grind (arith, s.still, b.still);

@@ -11,7 +11,8 @@ use Rattle.xc_search.specs.inner.Residual.{residual_of}
 use Rattle.xc_search.specs.inner.Levels.{Levels, coming}
 use Rattle.xc_search.specs.inner.Ahead.{IsSolved, work_left}
 use Rattle.xc_search.specs.inner.Paths.{AreLed, numbers}
-use Rattle.xc_search.specs.inner.Spanning.{row_at, Begins, Ends, PassesOver, Stands, RunsTo, RanTo, Halts, EndsSpan}
+use Rattle.xc_search.specs.inner.Spanning.{row_at, BeginsBranch, Ends, PassesOver, Stands, RunsTo, RanTo, Halts}
+use Rattle.xc_search.specs.inner.Spanning.{EndsSpan}
 use Rattle.xc_search.specs.inner.Spanning.{Settles}
 use Rattle.xc_search.proofs.Cases.{by_number}
 use Rattle.xc_search.proofs.spans.Rows.{before_not_before}
@@ -64,11 +65,11 @@ module _ {x c : Bool} {until : Option (List ℕ)} {d e : Dancing} {ls ks : Level
       within = within;
     }
 
-    pub runs_on : {f : Dancing} {js : Levels} {o : ℕ} → 0 < steps → Begins x c until e ks n f js o
+    pub runs_on : {f : Dancing} {js : Levels} {o : ℕ} → 0 < steps → BeginsBranch x c until e ks n f js o
         → Stands x c until d ls m f js o (most - (steps - 1))
     runs_on some b = stands_more s b (most - (steps - 1)) (omega (arith, some, within))
 
-    pub runs_to_row : {f : Dancing} {js : Levels} {o : ℕ} → 0 < steps → Begins x c until e ks n f js o
+    pub runs_to_row : {f : Dancing} {js : Levels} {o : ℕ} → 0 < steps → BeginsBranch x c until e ks n f js o
         → is_before until (row_at f.puzzle js.levels) ≡ false
         → RunsTo x c until d ls m most Row f js o (steps - 1)
     runs_to_row some b past = record {

@@ -16,7 +16,8 @@ use Rattle.xc_search.specs.Listing.{Wanted, Branch, branch_count, branch_item, l
 use Rattle.xc_dance.specs.Moves.{is_open, open_items, AreLegal}
 use Rattle.xc_search.specs.Residuals.{wanted_at, wanted_after, choice_after}
 use Rattle.xc_search.specs.inner.Residual.{residual_of}
-use Rattle.xc_search.specs.inner.Levels.{branches_at, members_of, IsSearchable, IsNode, IsLevelAt, IsShallow, MayBranch}
+use Rattle.xc_search.specs.inner.Levels.{branches_at, branch_members, IsSearchable, IsNode, IsLevelAt, IsShallow}
+use Rattle.xc_search.specs.inner.Levels.{MayBranch}
 use Rattle.xc_search.specs.inner.Levels.{IsNext}
 use Rattle.xc_search.specs.inner.Levels.{AreStacked, IsPlace, choices_of, to_give, coming, first_level}
 use Rattle.xc_dance.specs.Fields.{link_place}
@@ -149,7 +150,7 @@ pub solution : (p : Puzzle) (t : List Move) (ls : List Level) → AreLegal p t �
 solution p t ls l e = grind (arith, common_steps, listing_unrolled, mapped_none, choice_is_branch_item)
 
 pub members_all : (before : List Choice) (bs : List Branch)
-    → map (λ m. before ++ m) (flat_map (λ b. map (λ m. b.choice ∷ m) (listing b.next)) bs) ≡ members_of before bs
+    → map (λ m. before ++ m) (flat_map (λ b. map (λ m. b.choice ∷ m) (listing b.next)) bs) ≡ branch_members before bs
 members_all before [] = refl
 members_all before (b ∷ bs) = grind (arith, common_steps, members_all before bs, map-map)
 

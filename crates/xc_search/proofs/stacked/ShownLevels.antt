@@ -9,7 +9,7 @@ use Rattle.xc_input.specs.Problem.{Puzzle}
 use Rattle.xc_dance.specs.declared.dance.Move.{Move}
 use Rattle.xc_search.specs.declared.level.Level.{Level}
 use Rattle.xc_search.specs.inner.Commits.{oldest}
-use Rattle.xc_search.specs.inner.Levels.{taken, options_at, IsLevelAt, AreStacked, IsShown, chosen, mark_of}
+use Rattle.xc_search.specs.inner.Levels.{option_taken, options_at, IsLevelAt, AreStacked, IsShown, chosen, mark_of}
 use Rattle.xc_search.specs.Marks.{marked, IsMark}
 use Rattle.std.specs.Prelude.{map}
 use Rattle.std.proofs.Common.{◌≡◌}
@@ -21,7 +21,7 @@ use Rattle.xc_search.proofs.stacked.NextOption.{last_taken}
 level_shown : (p : Puzzle) (u t : List Move) (l : Level) → IsLevelAt p u t l → IsShown p l
 level_shown p u t l is_level = record {
   item = omega (arith, is_level.node.item);
-  option = by_option (taken p l) (λ e. rw e tt) (λ o e.
+  option = by_option (option_taken p l) (λ e. rw e tt) (λ o e.
       let last = last_taken (options_at p u l.item) l.begun o (sym is_level.option ∙ e) in
       let x = last.1 in
       let at = (branch.taken p u l.item last.0 (suc last.0) x is_level.node last.3 (λ _. refl) (omega arith)).at in

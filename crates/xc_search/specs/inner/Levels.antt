@@ -82,8 +82,8 @@ abbrev pub options_at : Puzzle → List Move → ℕ → List Numbered
 options_at p t i = holding i (left p t)
 
 -- the option that a level took last
-abbrev pub taken : Puzzle → Level → Option ℕ
-taken p l = option_at p l.item l.place
+abbrev pub option_taken : Puzzle → Level → Option ℕ
+option_taken p l = option_at p l.item l.place
 
 -- at place q of item i's list stands its option, or the item's own node
 abbrev pub IsPlace : Puzzle → ℕ → ℕ → Type 0
@@ -92,7 +92,7 @@ IsPlace p i q = q ≡ link_place p i (unwrap_or (option_at p i q) 0)
 -- the option that a level took last, if it took one, uses its item at the level's place
 pub record IsShown (p : Puzzle) (l : Level) : Type 0 where
   pub item : IsItem p l.item
-  pub option : IfSome (taken p l) (λ x. IsUseAt p l.item x l.place)
+  pub option : IfSome (option_taken p l) (λ x. IsUseAt p l.item x l.place)
 
 -- A level that was begun on the moves u, below the moves t. Its base stands before a branch.
 pub record IsLevelAt (p : Puzzle) (u t : List Move) (l : Level) : Type 0 where
@@ -102,7 +102,7 @@ pub record IsLevelAt (p : Puzzle) (u t : List Move) (l : Level) : Type 0 where
   pub begun : l.begun ≤ l.count
   pub walking : l.walks ≡ walks p u l.item
   pub tweaks : l.tweaks ≡ (if l.walks then 0 else min l.begun (length (options_at p u l.item)))
-  pub option : taken p l ≡ option_map (λ o. o.number) (numbered_get (options_at p u l.item) l.begun)
+  pub option : option_taken p l ≡ option_map (λ o. o.number) (numbered_get (options_at p u l.item) l.begun)
   pub place : IsPlace p l.item l.place
   pub base : oldest l.base t ≡ tweaked l.tweaks l.item (after_spend p l.item u)
   pub above : NoTweakAbove l.base t
@@ -122,7 +122,7 @@ AreStacked p t (l ∷ ls) = IsLevel p t l × IsShallow p (oldest l.mark t) ls ×
 
 -- the level's newest branch
 abbrev pub chosen : Puzzle → Level → Choice
-chosen p l = record { item = l.item; option = taken p l; k = l.begun; n = l.count }
+chosen p l = record { item = l.item; option = option_taken p l; k = l.begun; n = l.count }
 
 -- the mark of the level's newest branch
 abbrev pub mark_of : Level → Mark
@@ -137,14 +137,14 @@ unfoldable pub branches_at : Puzzle → List Move → ℕ → List Branch
 branches_at p t i = branches_of (residual_of p t) (wanted_at p t i)
 
 -- the members of these branches, behind the choices before them
-abbrev pub members_of : List Choice → List Branch → List (List Choice)
-members_of before bs = flat_map (λ b. map (λ m. before ++ b.choice ∷ m) (listing b.next)) bs
+abbrev pub branch_members : List Choice → List Branch → List (List Choice)
+branch_members before bs = flat_map (λ b. map (λ m. before ++ b.choice ∷ m) (listing b.next)) bs
 
 -- what the levels have still to give by the branches that weren't begun
 abbrev pub to_give : Puzzle → List Move → List Level → List (List Choice)
 to_give p t [] = []
 to_give p t (l ∷ ls) =
-    members_of (choices_of p ls) (drop l.begun (branches_at p (oldest l.mark t) l.item)) ++ to_give p
+    branch_members (choices_of p ls) (drop l.begun (branches_at p (oldest l.mark t) l.item)) ++ to_give p
     (oldest l.mark t) ls
 
 -- and before that, where what is left wasn't searched yet, what that gives
@@ -215,8 +215,8 @@ pub record CanBranch (p : Puzzle) (i : ℕ) (o : Option ℕ) (t : List Move) : T
 
 -- From level l on moves t a branch was entered: once its moves stand behind the moves s, it was begun with level k.
 pub record IsEntered (p : Puzzle) (t : List Move) (l : Level) (s : List Move) (k : Level) : Type 0 where
-  pub can : CanBranch p k.item (taken p k) s
-  pub begun : IsBegun p t l (after_branch p k.item (taken p k) s) k
+  pub can : CanBranch p k.item (option_taken p k) s
+  pub begun : IsBegun p t l (after_branch p k.item (option_taken p k) s) k
 
 -- the number of the option that a level's next branch takes
 abbrev pub next_number : Puzzle → List Move → Level → Option ℕ

@@ -57,5 +57,5 @@ abbrev pub numbers : List Level → List ℕ
 numbers ls = map (λ l. l.begun) (reverse ls)
 
 -- levels ks stand at a later row than levels ls
-abbrev pub Rises : Levels → Levels → Type 0
-Rises ls ks = precedes (numbers ls.levels) (numbers ks.levels) ≡ true
+abbrev pub AreLater : Levels → Levels → Type 0
+AreLater ls ks = precedes (numbers ls.levels) (numbers ks.levels) ≡ true

@@ -12,7 +12,7 @@ use Rattle.xc_dance.specs.Commits.{option_at}
 use Rattle.xc_search.specs.Spans.{row_of, precedes, is_before, between}
 use Rattle.xc_search.specs.inner.Levels.{Levels, IsStanding, AreStacked, IsPlace, CanBranch, choices_of, coming}
 use Rattle.xc_search.specs.inner.Ahead.{IsSolved, work_left, branched}
-use Rattle.xc_search.specs.inner.Paths.{AreLed, AreLedBy, KeepsBy, Rises, numbers}
+use Rattle.xc_search.specs.inner.Paths.{AreLed, AreLedBy, KeepsBy, AreLater, numbers}
 
 -- the row of the levels
 abbrev pub row_at : Puzzle → List Level → List ℕ
@@ -48,12 +48,13 @@ pub record Falls (exact counts : Bool) (until : Option (List ℕ)) (d : Dancing)
       (coming e.puzzle e.trail ks.levels false)
 
 -- From levels ls in state d it began a branch.
-pub record Begins (exact counts : Bool) (until : Option (List ℕ)) (d : Dancing) (ls : Levels) (m : ℕ) (e : Dancing)
+pub record BeginsBranch (exact counts : Bool) (until : Option (List ℕ)) (d : Dancing) (ls : Levels) (m : ℕ)
+    (e : Dancing)
     (ks : Levels) (n : ℕ) : Type 0 where
   pub still : (e ≡ record d { trail = e.trail; undone = e.undone }) × (ks ≡ record ls { levels = ks.levels })
   pub standing : IsStanding e.puzzle e.trail ks.levels true
   pub path : KeepsBy exact d ls e ks
-  pub rises : Rises ls ks
+  pub rises : AreLater ls ks
   pub less : work_left e ks true < work_left d ls true
   pub over : PassesOver counts until m n (coming d.puzzle d.trail ls.levels true)
       (coming e.puzzle e.trail ks.levels true)
@@ -63,7 +64,7 @@ pub record Enters (exact counts : Bool) (until : Option (List ℕ)) (d : Dancing
     (ks : Levels) (n i q : ℕ) : Type 0 where
   pub can : CanBranch e.puzzle i (option_at e.puzzle i q) e.trail
   pub place : IsPlace e.puzzle i q
-  pub begins : Begins exact counts until d ls m (branched e i q) ks n
+  pub begins : BeginsBranch exact counts until d ls m (branched e i q) ks n
 
 -- All levels ended.
 pub record Ends (counts : Bool) (until : Option (List ℕ)) (d : Dancing) (ls : Levels) (m : ℕ) (e : Dancing)
@@ -82,7 +83,7 @@ pub record Stands (exact counts : Bool) (until : Option (List ℕ)) (d : Dancing
   pub over : PassesOver counts until m n (coming d.puzzle d.trail ls.levels true)
       (coming e.puzzle e.trail ks.levels true)
   pub same : begun ≡ 0 → (e ≡ d) × (ks ≡ ls) × (n ≡ m)
-  pub later : 0 < begun → Rises ls ks
+  pub later : 0 < begun → AreLater ls ks
   pub less : 0 < begun → work_left e ks true < work_left d ls true
 
 -- One run came so far.
@@ -117,7 +118,7 @@ pub record Halts (until : Option (List ℕ)) (d : Dancing) (ls : Levels) (m : �
   pub over : PassesOver true until m n (coming d.puzzle d.trail ls.levels true)
       (coming e.puzzle e.trail ks.levels true)
   pub same : begun ≡ 0 → (e ≡ d) × (ks ≡ ls) × (n ≡ m)
-  pub later : 0 < begun → Rises ls ks
+  pub later : 0 < begun → AreLater ls ks
 
 -- It came to the end of its span: of m members n weren't there.
 pub record EndsSpan (d : Dancing) (ls : Levels) (m : ℕ) (until : Option (List ℕ)) (e : Dancing) (ks : Levels) (n : ℕ) :

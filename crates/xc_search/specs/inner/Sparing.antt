@@ -15,10 +15,10 @@ spendings (Tweak j ∷ t) = spendings t
 spendings (Spend j ∷ t) = suc (spendings t)
 
 -- the uses of these options
-abbrev pub uses_in : List Numbered → ℕ
-uses_in [] = 0
-uses_in (o ∷ os) = length o.uses + uses_in os
+abbrev pub count_of_uses : List Numbered → ℕ
+count_of_uses [] = 0
+count_of_uses (o ∷ os) = length o.uses + count_of_uses os
 
 -- The Spends that stand are no more than the uses of options that were taken and the items that were left out.
 abbrev pub IsSparing : Puzzle → List Move → Type 0
-IsSparing p t = spendings t + length (open_items p t) + uses_in (left p t) ≤ use_count p.options + primary_count p
+IsSparing p t = spendings t + length (open_items p t) + count_of_uses (left p t) ≤ use_count p.options + primary_count p

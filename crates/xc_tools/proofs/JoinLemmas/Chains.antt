@@ -21,8 +21,8 @@ use Rattle.xc_list.specs.SpanTexts.{most_counted}
 use Rattle.xc_list.specs.Output.{member_text}
 use Rattle.xc_list.specs.ListingLines.{words_in}
 use Rattle.xc_list.specs.SpanTexts.{end_at, row_text}
-use Rattle.xc_tools.specs.Joins.{AreSmall, DoMeet, IsSpan, Span, members_of}
-use Rattle.xc_tools.specs.inner.SpanLines.{Join, Stand, Told, goes, faulty, apart, after, by_heading, by_line}
+use Rattle.xc_tools.specs.Joins.{AreSmall, DoMeet, IsSpan, SearchedSpan, members_of}
+use Rattle.xc_tools.specs.inner.SpanLines.{Join, Stand, Told, goes, faulty, apart, stand_after, by_heading, by_line}
 use Rattle.xc_tools.specs.inner.SpanLines.{by_record}
 use Rattle.xc_tools.specs.inner.SpanLines.{closed, heading_of, meets, record_of, saturating_number, wrote}
 use Rattle.xc_tools.proofs.JoinLemmas.SpanWords.{AreShort, AreShortIf, dash_or_digits, heading_line, heading-read}
@@ -36,7 +36,7 @@ short-if : (branches : Option (List ℕ)) → IfSome branches AreSmall → AreSh
 short-if None h = tt
 short-if (Some row) h = recursion_from_All (λ n. n < 2 ^ 64) row h
 
-pub short-span : (a : Named) (s : Span) → IsSpan a s → IsShort a s
+pub short-span : (a : Named) (s : SearchedSpan) → IsSpan a s → IsShort a s
 short-span a s h = record {
   from = recursion_from_All (λ n. n < 2 ^ 64) s.from h.from;
   until = recursion_from_All (λ n. n < 2 ^ 64) s.until h.until;
@@ -47,7 +47,7 @@ short-span a s h = record {
 
 -- ---- a gap
 
-pub after-apart : (m n : List ℕ) (ls : List (List ℕ)) → after (apart m n) ls ≡ apart m n
+pub after-apart : (m n : List ℕ) (ls : List (List ℕ)) → stand_after (apart m n) ls ≡ apart m n
 after-apart m n [] = refl
 after-apart m n (l ∷ ls) = after-apart m n ls
 
@@ -78,18 +78,19 @@ record-apart s words t e m =
 
 -- these lines lead to a gap, and nothing is written for them
 abbrev IsGap : Stand → List (List ℕ) → Type 0
-IsGap s ls = (m : List ℕ) × (n : List ℕ) × (after s ls ≡ apart m n) × (wrote s ls ≡ [])
+IsGap s ls = (m : List ℕ) × (n : List ℕ) × (stand_after s ls ≡ apart m n) × (wrote s ls ≡ [])
 
 gap-first : (s : Join) (line : List ℕ) (ls : List (List ℕ)) (m n : List ℕ) → by_line s line ≡ (apart m n, [])
     → IsGap (goes s) (line ∷ ls)
 gap-first s line ls m n e = (
   m,
   n,
-  ap (λ r. after r.0 ls) e ∙ after-apart m n ls,
+  ap (λ r. stand_after r.0 ls) e ∙ after-apart m n ls,
   ap (λ r. r.1 ++ wrote r.0 ls) e ∙ wrote-apart m n ls,
 )
 
-gap-span : (a : Named) (listed finished : Bool) (row : List ℕ) (n : ℕ) (s : Span) (ls : List (List ℕ)) → IsShort a s
+gap-span : (a : Named) (listed finished : Bool) (row : List ℕ) (n : ℕ) (s : SearchedSpan) (ls : List (List ℕ))
+    → IsShort a s
     → meets (rest_at listed finished row n) (row_text s.from) ≡ false
     → IsGap (goes (rest_at listed finished row n)) (span_lines a listed s ++ ls)
 gap-span a true finished row n s ls h e =
@@ -114,7 +115,7 @@ so_far-none p = keep_none _ (members p) (each_of_all _ (members p) (λ m. refl))
 so_far-rest : (p : Puzzle) (row : List ℕ) → so_far p row ++ between p row None ≡ members p
 so_far-rest p row = spans_meet p [] row None refl tt ∙ all_between p
 
-so_far-span : (a : Named) (s : Span) → IsSpan a s
+so_far-span : (a : Named) (s : SearchedSpan) → IsSpan a s
     → so_far a.puzzle s.from ++ members_of a s ≡ between a.puzzle [] (end_at s.until)
 so_far-span a s h = spans_meet a.puzzle [] s.from (end_at s.until) refl h.forward
 
@@ -148,13 +149,13 @@ IsBegun a listed row text = (tail : List ℕ)
 
 -- Spans from a row on meet, and these lines led to the listing's end and its whole text; or they don't, and a beginning
 -- was written.
-abbrev pub Outcome : Named → Bool → List ℕ → List Span → Stand → List ℕ → Type 0
+abbrev pub Outcome : Named → Bool → List ℕ → List SearchedSpan → Stand → List ℕ → Type 0
 Outcome a listed row spans st text =
     (DoMeet row spans × (st ≡ goes (rest_at listed true [] (length (members a.puzzle))))
     × (listed_part listed a 0 (so_far a.puzzle row) ++ text ≡ listed_part listed a 0 (members a.puzzle)))
     ⊎ ((DoMeet row spans → ⊥) × IsEarly st × IsBegun a listed row text)
 
-abbrev pub all_lines : Named → Bool → List Span → List (List ℕ)
+abbrev pub all_lines : Named → Bool → List SearchedSpan → List (List ℕ)
 all_lines a listed spans = flat_map (span_lines a listed) spans
 
 begun-here : (a : Named) (listed : Bool) (row : List ℕ) → IsBegun a listed row []
@@ -165,7 +166,7 @@ begun-here a listed row =
     )
 
 -- spans meet behind one that ends here
-abbrev MeetBehind : List Span → List ℕ → Type 0
+abbrev MeetBehind : List SearchedSpan → List ℕ → Type 0
 MeetBehind spans until = elim until [ [] ↦ spans ≡ [] | n ∷ until ↦ DoMeet (n ∷ until) spans ]
 
 -- behind the members before a row those of a span, and then another text
@@ -177,9 +178,10 @@ joined-text a listed xs ms all text e =
 
 module _ (a : Named) (listed : Bool) where
   -- a gap at the first span
-  apart-first : (row : List ℕ) (n : ℕ) (s : Span) (spans : List Span) → IsShort a s → AreShort row
+  apart-first : (row : List ℕ) (n : ℕ) (s : SearchedSpan) (spans : List SearchedSpan) → IsShort a s → AreShort row
       → bytes_eq (row_text s.from) (row_text row) ≡ false
-      → Outcome a listed row (s ∷ spans) (after (goes (rest_at listed false row n)) (all_lines a listed (s ∷ spans)))
+      → Outcome a listed row (s ∷ spans) (stand_after (goes (rest_at listed false row n))
+      (all_lines a listed (s ∷ spans)))
       (wrote (goes (rest_at listed false row n)) (all_lines a listed (s ∷ spans)))
   apart-first row n s spans h short e =
       let gap = gap-span a listed false row n s (all_lines a listed spans) h e in
@@ -190,10 +192,10 @@ module _ (a : Named) (listed : Bool) where
       )
 
   -- the rest behind a span that ends at the listing's end
-  behind-last : (s : Span) (spans : List Span) (j : ℕ) → AllByRecursion (IsSpan a) spans
+  behind-last : (s : SearchedSpan) (spans : List SearchedSpan) (j : ℕ) → AllByRecursion (IsSpan a) spans
       → so_far a.puzzle s.from ++ members_of a s ≡ members a.puzzle → j ≡ length (members a.puzzle)
       → s.until ≡ [] → (text : List ℕ) → text ≡ listed_part listed a (length (so_far a.puzzle s.from)) (members_of a s)
-      → Outcome a listed s.from (s ∷ spans) (after (goes (rest_at listed true [] j)) (all_lines a listed spans))
+      → Outcome a listed s.from (s ∷ spans) (stand_after (goes (rest_at listed true [] j)) (all_lines a listed spans))
       (text ++ wrote (goes (rest_at listed true [] j)) (all_lines a listed spans))
   behind-last s [] j each e count last text is =
       let whole = joined-text a listed (so_far a.puzzle s.from) (members_of a s) (members a.puzzle) [] e in
@@ -220,7 +222,7 @@ module _ (a : Named) (listed : Bool) where
       )
 
   -- a chain from some row on is one from the row of the span before on
-  behind-span : (s : Span) (spans : List Span) (n : ℕ) (u : List ℕ) → s.until ≡ n ∷ u
+  behind-span : (s : SearchedSpan) (spans : List SearchedSpan) (n : ℕ) (u : List ℕ) → s.until ≡ n ∷ u
       → so_far a.puzzle s.from ++ members_of a s ≡ so_far a.puzzle (n ∷ u)
       → (st : Stand) (more : List ℕ) → Outcome a listed (n ∷ u) spans st more
       → Outcome a listed s.from (s ∷ spans) st
@@ -248,34 +250,35 @@ module _ (a : Named) (listed : Bool) where
       )
 
   -- the first span of a chain, and then the others
-  go-on : (s : Span) (spans : List Span) (j k : ℕ) → IsShort a s → j ≡ length (so_far a.puzzle s.from)
+  go-on : (s : SearchedSpan) (spans : List SearchedSpan) (j k : ℕ) → IsShort a s → j ≡ length (so_far a.puzzle s.from)
       → k ≡ j + length (members_of a s) → (P : Stand → List ℕ → Type 0)
-      → P (after (goes (rest_at listed (is_last s.until) s.until k)) (all_lines a listed spans))
+      → P (stand_after (goes (rest_at listed (is_last s.until) s.until k)) (all_lines a listed spans))
       (listed_part listed a j (members_of a s)
       ++ wrote (goes (rest_at listed (is_last s.until) s.until k)) (all_lines a listed spans))
-      → P (after (goes (rest_at listed false s.from j)) (all_lines a listed (s ∷ spans)))
+      → P (stand_after (goes (rest_at listed false s.from j)) (all_lines a listed (s ∷ spans)))
       (wrote (goes (rest_at listed false s.from j)) (all_lines a listed (s ∷ spans)))
   go-on s spans j k h e f P rest =
       let first = goes (rest_at listed false s.from j) in
       let lines = span_lines a listed s in
       let others = all_lines a listed spans in
       let run = run-span a listed s j k h f in
-      let stands : after first (lines ++ others) ≡ after (goes (rest_at listed (is_last s.until) s.until k)) others =
-      after-append first lines others ∙ ap (λ z. after z others) run.stands in
+      let stands : stand_after first (lines ++ others)
+      ≡ stand_after (goes (rest_at listed (is_last s.until) s.until k)) others =
+      after-append first lines others ∙ ap (λ z. stand_after z others) run.stands in
       let says : wrote first (lines ++ others) ≡ listed_part listed a j (members_of a s)
       ++ wrote (goes (rest_at listed (is_last s.until) s.until k)) others =
       wrote-append first lines others ∙ ap (λ z. wrote first lines ++ wrote z others) run.stands
       ∙ ap (λ t. t ++ wrote (goes (rest_at listed (is_last s.until) s.until k)) others) run.says in
       subst (λ z. P z (wrote first (lines ++ others))) (sym stands)
-      (subst (P (after (goes (rest_at listed (is_last s.until) s.until k)) others)) (sym says) rest)
+      (subst (P (stand_after (goes (rest_at listed (is_last s.until) s.until k)) others)) (sym says) rest)
 
   -- it goes on by where the first one ends
-  by-end : (s : Span) (spans : List Span) (k : ℕ) (until : List ℕ) → s.until ≡ until → IsSpan a s
+  by-end : (s : SearchedSpan) (spans : List SearchedSpan) (k : ℕ) (until : List ℕ) → s.until ≡ until → IsSpan a s
       → AllByRecursion (IsSpan a) spans → k ≡ length (so_far a.puzzle s.from) + length (members_of a s)
       → ((n : ℕ) (u : List ℕ) (i : ℕ) → AreShort (n ∷ u) → i ≡ length (so_far a.puzzle (n ∷ u))
-      → Outcome a listed (n ∷ u) spans (after (goes (rest_at listed false (n ∷ u) i)) (all_lines a listed spans))
+      → Outcome a listed (n ∷ u) spans (stand_after (goes (rest_at listed false (n ∷ u) i)) (all_lines a listed spans))
       (wrote (goes (rest_at listed false (n ∷ u) i)) (all_lines a listed spans)))
-      → Outcome a listed s.from (s ∷ spans) (after (goes (rest_at listed (is_last until) until k))
+      → Outcome a listed s.from (s ∷ spans) (stand_after (goes (rest_at listed (is_last until) until k))
       (all_lines a listed spans))
       (listed_part listed a (length (so_far a.puzzle s.from)) (members_of a s)
       ++ wrote (goes (rest_at listed (is_last until) until k)) (all_lines a listed spans))
@@ -296,9 +299,9 @@ module _ (a : Named) (listed : Bool) where
       dash_or_digits n u short.0 short.1 ((bytes_eq-Decides (row_text (n ∷ u)) (codes "-")).0 q)) in
       behind-span s spans n u e all _ _ (rw inside (later n u k short count))
 
-  pub chain : (spans : List Span) (row : List ℕ) (j : ℕ) → AllByRecursion (IsSpan a) spans → AreShort row
+  pub chain : (spans : List SearchedSpan) (row : List ℕ) (j : ℕ) → AllByRecursion (IsSpan a) spans → AreShort row
       → j ≡ length (so_far a.puzzle row)
-      → Outcome a listed row spans (after (goes (rest_at listed false row j)) (all_lines a listed spans))
+      → Outcome a listed row spans (stand_after (goes (rest_at listed false row j)) (all_lines a listed spans))
       (wrote (goes (rest_at listed false row j)) (all_lines a listed spans))
   chain [] row j each short e = inr (λ h. h, (refl, refl), begun-here a listed row)
   chain (s ∷ spans) row j each short e =
@@ -306,7 +309,7 @@ module _ (a : Named) (listed : Bool) where
       by_bool (bytes_eq (row_text s.from) (row_text row))
       (λ yes.
       let from = rows-same s.from row is.from short ((bytes_eq-Decides (row_text s.from) (row_text row)).0 yes) in
-      subst (λ r. Outcome a listed r (s ∷ spans) (after (goes (rest_at listed false r j)) (all_lines a listed
+      subst (λ r. Outcome a listed r (s ∷ spans) (stand_after (goes (rest_at listed false r j)) (all_lines a listed
       (s ∷ spans)))
       (wrote (goes (rest_at listed false r j)) (all_lines a listed (s ∷ spans)))) from
       (let count : j ≡ length (so_far a.puzzle s.from) = e ∙ ap (λ r. length (so_far a.puzzle r)) (sym from) in

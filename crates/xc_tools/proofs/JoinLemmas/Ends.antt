@@ -20,8 +20,8 @@ use Rattle.xc_list.specs.SpanTexts.{most_counted}
 use Rattle.xc_list.specs.Output.{is_printed, member_text}
 use Rattle.xc_list.specs.Runs.{end_of}
 use Rattle.xc_list.specs.declared.runs.End.TheVariants.{Done, Limit}
-use Rattle.xc_tools.specs.Joins.{AreTexts, DoMeet, IsBeginning, IsSpan, Span, joined}
-use Rattle.xc_tools.specs.inner.SpanLines.{Join, Stand, goes, faulty, apart, after, start, wrote}
+use Rattle.xc_tools.specs.Joins.{AreTexts, DoMeet, IsBeginning, IsSpan, SearchedSpan, joined}
+use Rattle.xc_tools.specs.inner.SpanLines.{Join, Stand, goes, faulty, apart, stand_after, start, wrote}
 use Rattle.xc_tools.proofs.JoinLemmas.SpanRuns.{after-append, listed_from, listed_part, rest_at, span_lines}
 use Rattle.xc_tools.proofs.JoinLemmas.SpanRuns.{wrote-append}
 use Rattle.xc_tools.proofs.JoinLemmas.SpanLines.{ended-append, texts-ended, whole-append, whole-span}
@@ -64,7 +64,7 @@ part-none : (listed : Bool) (a : Named) → listed_part listed a 0 [] ≡ []
 part-none true a = refl
 part-none false a = refl
 
-after-faulty : (ls : List (List ℕ)) → after faulty ls ≡ faulty
+after-faulty : (ls : List (List ℕ)) → stand_after faulty ls ≡ faulty
 after-faulty [] = refl
 after-faulty (l ∷ ls) = after-faulty ls
 
@@ -92,14 +92,14 @@ end_of-total a total e = grind (arith, nat_tests)
 -- ---- lines of texts
 
 module _ (a : Named) (listed : Bool) (sound : IsSound a) where
-  whole-texts : (spans : List Span) → AllByRecursion (IsSpan a) spans → AreWhole (all_lines a listed spans)
+  whole-texts : (spans : List SearchedSpan) → AllByRecursion (IsSpan a) spans → AreWhole (all_lines a listed spans)
   whole-texts [] each = tt
   whole-texts (s ∷ spans) each =
       whole-append (span_lines a listed s) (all_lines a listed spans)
       (whole-span a sound listed s (short-span a s each.0) (each_from _ _ (λ m i. (in-filter _ _ m i).0)))
       (whole-texts spans each.1)
 
-module _ (a : Named) (listed : Bool) (sound : IsSound a) (spans : List Span) (text : List ℕ)
+module _ (a : Named) (listed : Bool) (sound : IsSound a) (spans : List SearchedSpan) (text : List ℕ)
     (are : AreTexts a listed spans text) where
   each : AllByRecursion (IsSpan a) spans
   each = recursion_from_All (IsSpan a) spans are.each
@@ -131,10 +131,10 @@ module _ (a : Named) (listed : Bool) (sound : IsSound a) (spans : List Span) (te
         length-append (b ∷ rest) (10 ∷ []),
       ))
 
-  outcome : (DoMeet [] spans × (after (goes (start listed)) (all_lines a listed spans)
+  outcome : (DoMeet [] spans × (stand_after (goes (start listed)) (all_lines a listed spans)
       ≡ goes (rest_at listed true [] (length (members a.puzzle))))
       × (wrote (goes (start listed)) (all_lines a listed spans) ≡ joined a listed))
-      ⊎ ((DoMeet [] spans → ⊥) × IsEarly (after (goes (start listed)) (all_lines a listed spans))
+      ⊎ ((DoMeet [] spans → ⊥) × IsEarly (stand_after (goes (start listed)) (all_lines a listed spans))
       × IsBeginning (wrote (goes (start listed)) (all_lines a listed spans)) (joined a listed))
   outcome =
       let none = so_far-none a.puzzle in
@@ -160,20 +160,21 @@ module _ (a : Named) (listed : Bool) (sound : IsSound a) (spans : List Span) (te
 
   -- ---- behind some of the lines
   module _ (ls more : List (List ℕ)) (first : all_lines a listed spans ≡ ls ++ more) where
-    ends-in : after (goes (start listed)) (all_lines a listed spans) ≡ after (after (goes (start listed)) ls) more
-    ends-in = ap (after (goes (start listed))) first ∙ after-append (goes (start listed)) ls more
+    ends-in : stand_after (goes (start listed)) (all_lines a listed spans)
+        ≡ stand_after (stand_after (goes (start listed)) ls) more
+    ends-in = ap (stand_after (goes (start listed))) first ∙ after-append (goes (start listed)) ls more
 
-    pub never-faulty : after (goes (start listed)) ls ≡ faulty → ⊥
+    pub never-faulty : stand_after (goes (start listed)) ls ≡ faulty → ⊥
     never-faulty e =
-        let end = ends-in ∙ ap (λ z. after z more) e ∙ after-faulty more in
+        let end = ends-in ∙ ap (λ z. stand_after z more) e ∙ after-faulty more in
         elim outcome [
           | inl h ↦ absurd (cc (end, h.1))
           | inr h ↦ absurd (subst IsEarly end h.1)
         ]
 
-    pub never-meets : (m n : List ℕ) → after (goes (start listed)) ls ≡ apart m n → DoMeet [] spans → ⊥
+    pub never-meets : (m n : List ℕ) → stand_after (goes (start listed)) ls ≡ apart m n → DoMeet [] spans → ⊥
     never-meets m n e =
-        let end = ends-in ∙ ap (λ z. after z more) e ∙ after-apart m n more in
+        let end = ends-in ∙ ap (λ z. stand_after z more) e ∙ after-apart m n more in
         elim outcome [
           | inl h ↦ absurd (cc (end, h.1))
           | inr h ↦ h.0
@@ -181,7 +182,7 @@ module _ (a : Named) (listed : Bool) (sound : IsSound a) (spans : List Span) (te
 
     pub begins : IsBeginning (wrote (goes (start listed)) ls) (joined a listed)
     begins =
-        let tail = wrote (after (goes (start listed)) ls) more in
+        let tail = wrote (stand_after (goes (start listed)) ls) more in
         let split : wrote (goes (start listed)) (all_lines a listed spans) ≡ wrote (goes (start listed)) ls ++ tail =
         ap (wrote (goes (start listed))) first ∙ wrote-append (goes (start listed)) ls more in
         elim outcome [
@@ -194,7 +195,7 @@ module _ (a : Named) (listed : Bool) (sound : IsSound a) (spans : List Span) (te
         ]
 
   -- behind all lines
-  module _ (s : Join) (e : after (goes (start listed)) (all_lines a listed spans) ≡ goes s) where
+  module _ (s : Join) (e : stand_after (goes (start listed)) (all_lines a listed spans) ≡ goes s) where
     pub none-open : s.found ≡ None
     none-open = elim outcome [
       | inl h ↦ ap found_in (sym e ∙ h.1)

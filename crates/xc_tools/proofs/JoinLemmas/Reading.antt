@@ -14,9 +14,9 @@ use Rattle.xc_tools.specs.declared.span_lines.Joint.{Joint}
 use Rattle.xc_tools.specs.declared.span_lines.Refusal.{Refusal}
 use Rattle.xc_tools.specs.declared.span_lines.Refusal.TheVariants as refusals
 use Rattle.xc_tools.specs.inner.SpanLines.{Join, Stand, goes, faulty, apart, by_line, start, step}
-use Rattle.xc_tools.specs.inner.SpanLines.{Refuses}
-use Rattle.xc_tools.specs.inner.Joining.{Adds, EndsAt, StopsIn, StopsReading, reached, says_of, stop_of}
-use Rattle.xc_tools.specs.inner.Joining.{written}
+use Rattle.xc_tools.specs.inner.SpanLines.{RefusesLine}
+use Rattle.xc_tools.specs.inner.Joining.{Adds, EndsAt, StopsIn, StopsReading, stand_reached, says_of, stop_of}
+use Rattle.xc_tools.specs.inner.Joining.{joined_text}
 use Rattle.xc_input.specs.Pieces.{SourceState, Gave}
 use Rattle.std.proofs.Math.Seq.{take-append-add}
 use Rattle.std.proofs.lemmas.List.{length-take}
@@ -25,21 +25,21 @@ use Rattle.xc_tools.proofs.JoinLemmas.SpanLines.{ended-append, whole-append}
 
 -- ---- one line more
 
-module _ (listed : Bool) (ls : List (List ℕ)) (line : List ℕ) (s : Join) (e : reached listed ls ≡ goes s) where
-  pub stands-more : reached listed (ls ++ line ∷ []) ≡ (by_line s line).0
+module _ (listed : Bool) (ls : List (List ℕ)) (line : List ℕ) (s : Join) (e : stand_reached listed ls ≡ goes s) where
+  pub stands-more : stand_reached listed (ls ++ line ∷ []) ≡ (by_line s line).0
   stands-more = after-append (goes (start listed)) ls (line ∷ []) ∙ ap (λ z. (step z line).0) e
 
-  pub written-more : written listed (ls ++ line ∷ []) ≡ written listed ls ++ (by_line s line).1
+  pub written-more : joined_text listed (ls ++ line ∷ []) ≡ joined_text listed ls ++ (by_line s line).1
   written-more =
       wrote-append (goes (start listed)) ls (line ∷ [])
-      ∙ ap (λ z. written listed ls ++ ((step z line).1 ++ [])) e
-      ∙ ap (λ t. written listed ls ++ t) (append-nil (by_line s line).1)
+      ∙ ap (λ z. joined_text listed ls ++ ((step z line).1 ++ [])) e
+      ∙ ap (λ t. joined_text listed ls ++ t) (append-nil (by_line s line).1)
 
   pub adds-more : (R : SinkState → SinkState → List ℕ → Type 0) (x y : SinkState) (st : Stand) (text : List ℕ)
       → by_line s line ≡ (st, text) → R x y text → Adds listed ls (ls ++ line ∷ []) R x y
   adds-more R x y st text f said = record {
     text = text;
-    more = written-more ∙ ap (λ r. written listed ls ++ r.1) f;
+    more = written-more ∙ ap (λ r. joined_text listed ls ++ r.1) f;
     said = said;
   }
 
@@ -47,7 +47,7 @@ pub whole-more : (ls : List (List ℕ)) (line : List ℕ) → AreWhole ls → ha
 whole-more ls line w f = whole-append ls (line ∷ []) w (f, tt)
 
 pub adds-none : (listed : Bool) (ls : List (List ℕ)) (x : SinkState) → Adds listed ls ls Took x x
-adds-none listed ls x = record { text = []; more = sym (append-nil (written listed ls)); said = took_nothing x }
+adds-none listed ls x = record { text = []; more = sym (append-nil (joined_text listed ls)); said = took_nothing x }
 
 -- ---- a line that stops the run
 
@@ -63,12 +63,12 @@ stops-before listed ls rest bytes new x w e = record {
   adds = adds-none listed ls x;
 }
 
-module _ (listed : Bool) (ls : List (List ℕ)) (line : List ℕ) (s : Join) (e : reached listed ls ≡ goes s)
+module _ (listed : Bool) (ls : List (List ℕ)) (line : List ℕ) (s : Join) (e : stand_reached listed ls ≡ goes s)
     (w : AreWhole ls) (f : has 10 line ≡ false) (new : Joint) (x : SinkState) where
   front-line : ended ls ++ (line ++ 10 ∷ []) ≡ ended (ls ++ line ∷ []) ++ []
   front-line = sym (ended-append ls (line ∷ [])) ∙ sym (append-nil (ended (ls ++ line ∷ [])))
 
-  pub refused : (r : Refusal) → Refuses r new (by_line s line)
+  pub refused : (r : Refusal) → RefusesLine r new (by_line s line)
       → StopsIn listed ls (ended ls ++ (line ++ 10 ∷ [])) new x x (stop_of r)
   refused refusals.NotText is = record {
     lines = ls ++ line ∷ [];
@@ -116,7 +116,7 @@ pub adds-then : (listed : Bool) (a b c : List (List ℕ)) (x y z : SinkState) �
     → Adds listed b c Took y z → Adds listed a c Took x z
 adds-then listed a b c x y z p q = record {
   text = p.text ++ q.text;
-  more = q.more ∙ ap (λ t. t ++ q.text) p.more ∙ append_assoc (written listed a) p.text q.text;
+  more = q.more ∙ ap (λ t. t ++ q.text) p.more ∙ append_assoc (joined_text listed a) p.text q.text;
   said = then_took p.said q.said;
 }
 
@@ -137,7 +137,7 @@ stops-then listed a b bytes new x y z e p h = record {
   last = h.last;
   adds = record {
     text = p.text ++ h.adds.text;
-    more = h.adds.more ∙ ap (λ t. t ++ h.adds.text) p.more ∙ append_assoc (written listed a) p.text h.adds.text;
+    more = h.adds.more ∙ ap (λ t. t ++ h.adds.text) p.more ∙ append_assoc (joined_text listed a) p.text h.adds.text;
     said = says-then e x y z p.text h.adds.text p.said h.adds.said;
   };
 }

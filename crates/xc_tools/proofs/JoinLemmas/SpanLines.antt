@@ -25,7 +25,7 @@ use Rattle.xc_list.proofs.OutputLemmas.KnownMembers.{AreCounted, IsCounted, memb
 use Rattle.xc_list.proofs.OutputLemmas.OutputLines.{choice_line, choice_words, member-ended}
 use Rattle.xc_list.proofs.OutputLemmas.OutputLines.{member_lines, output_lines}
 use Rattle.xc_list.proofs.OutputLemmas.ReadLines.{ending_words, no_feed-header, spaced}
-use Rattle.xc_tools.specs.Joins.{Span, members_of, text_of}
+use Rattle.xc_tools.specs.Joins.{SearchedSpan, members_of, text_of}
 use Rattle.xc_tools.proofs.JoinLemmas.SpanWords.{feed-decimal, feed-heading, feed-record}
 use Rattle.xc_tools.proofs.JoinLemmas.SpanWords.{heading_line, record_line}
 use Rattle.xc_tools.proofs.JoinLemmas.SpanRuns.{IsShort, listing_lines, span_lines}
@@ -50,7 +50,7 @@ listing-ended : (a : Named) (row : List ℕ) (nms : List (ℕ × List Choice))
     ≡ heading_line row ++ 10 ∷ ended (output_lines a nms)
 listing-ended a row nms = rw (← ended-members a nms) (simp append_assoc)
 
-pub text-ended : (a : Named) (listed : Bool) (s : Span) → text_of a listed s ≡ ended (span_lines a listed s)
+pub text-ended : (a : Named) (listed : Bool) (s : SearchedSpan) → text_of a listed s ≡ ended (span_lines a listed s)
 text-ended a true s =
     let ms = members_of a s in
     let end = record-ended s.from s.until s.branches (length ms) s.steps in
@@ -59,7 +59,7 @@ text-ended a true s =
     let all = ended-append (listing_lines a true s.from ms) (last ∷ []) in cc (end, lines, all)
 text-ended a false s = record-ended s.from s.until s.branches (length (members_of a s)) s.steps
 
-pub texts-ended : (a : Named) (listed : Bool) (spans : List Span)
+pub texts-ended : (a : Named) (listed : Bool) (spans : List SearchedSpan)
     → flat_map (text_of a listed) spans ≡ ended (flat_map (span_lines a listed) spans)
 texts-ended a listed [] = refl
 texts-ended a listed (s ∷ spans) =
@@ -118,7 +118,8 @@ module _ (a : Named) (sound : IsSound a) where
       (no_feed-header k (omega (arith, h)), whole-choices a sound m (member_counted a.puzzle m all.0))
       (whole-members (k + 1) ms (omega (arith, h)) all.1)
 
-  pub whole-span : (listed : Bool) (s : Span) → IsShort a s → AllByRecursion (IsIn (members a.puzzle)) (members_of a s)
+  pub whole-span : (listed : Bool) (s : SearchedSpan) → IsShort a s
+      → AllByRecursion (IsIn (members a.puzzle)) (members_of a s)
       → AreWhole (span_lines a listed s)
   whole-span true s h all =
       whole-append (listing_lines a true s.from (members_of a s)) _

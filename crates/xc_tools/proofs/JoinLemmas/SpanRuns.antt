@@ -13,7 +13,7 @@ use Rattle.std.proofs.lemmas.Fmt.{digits_value-decimal}
 use Rattle.std.specs.Prelude.{fold, ◌*◌}
 use Rattle.std.specs.Str.{byte}
 use Rattle.xc_input.proofs.TokenLemmas.DecimalValues.{value_from}
-use Rattle.xc_tools.specs.Joins.{Span, members_of}
+use Rattle.xc_tools.specs.Joins.{SearchedSpan, members_of}
 use Rattle.xc_input.specs.Named.{Named}
 use Rattle.xc_search.specs.declared.choice.Choice.{Choice}
 use Rattle.xc_list.specs.SpanTexts.{most_counted}
@@ -23,7 +23,8 @@ use Rattle.xc_list.specs.SpanTexts.{row_text}
 use Rattle.xc_list.proofs.OutputLemmas.OutputLines.{choice-ended, choice_line, choice_words, header_line}
 use Rattle.xc_list.proofs.OutputLemmas.OutputLines.{member_lines, output_lines}
 use Rattle.xc_list.proofs.OutputLemmas.ReadLines.{before_last-last, ending_words, spaced}
-use Rattle.xc_tools.specs.inner.SpanLines.{Join, Stand, goes, faulty, apart, after, begins_with, by_header, by_line}
+use Rattle.xc_tools.specs.inner.SpanLines.{Join, Stand, goes, faulty, apart, stand_after, begins_with, by_header}
+use Rattle.xc_tools.specs.inner.SpanLines.{by_line}
 use Rattle.xc_tools.specs.inner.SpanLines.{Told, by_heading, by_last, by_record, closed, heading_of, is_header, meets}
 use Rattle.xc_tools.specs.inner.SpanLines.{record_of, saturating_number, step, wrote}
 use Rattle.xc_tools.proofs.JoinLemmas.SpanWords.{AreShort, AreShortIf, digits, digits_read, heading_line, heading-read}
@@ -34,18 +35,18 @@ use Rattle.xc_tools.proofs.JoinLemmas.SpanWords.{record-read, same}
 
 -- these lines lead from one stand to another, and this is written for them
 pub record Runs (old : Stand) (lines : List (List ℕ)) (new : Stand) (text : List ℕ) : Type 0 where
-  pub stands : after old lines ≡ new
+  pub stands : stand_after old lines ≡ new
   pub says : wrote old lines ≡ text
 
-pub after-append : (s : Stand) (xs ys : List (List ℕ)) → after s (xs ++ ys) ≡ after (after s xs) ys
+pub after-append : (s : Stand) (xs ys : List (List ℕ)) → stand_after s (xs ++ ys) ≡ stand_after (stand_after s xs) ys
 after-append s [] ys = refl
 after-append s (x ∷ xs) ys = after-append (step s x).0 xs ys
 
-pub wrote-append : (s : Stand) (xs ys : List (List ℕ)) → wrote s (xs ++ ys) ≡ wrote s xs ++ wrote (after s xs) ys
+pub wrote-append : (s : Stand) (xs ys : List (List ℕ)) → wrote s (xs ++ ys) ≡ wrote s xs ++ wrote (stand_after s xs) ys
 wrote-append s [] ys = refl
 wrote-append s (x ∷ xs) ys =
     ap (λ t. (step s x).1 ++ t) (wrote-append (step s x).0 xs ys)
-    ∙ sym (append_assoc (step s x).1 (wrote (step s x).0 xs) (wrote (after (step s x).0 xs) ys))
+    ∙ sym (append_assoc (step s x).1 (wrote (step s x).0 xs) (wrote (stand_after (step s x).0 xs) ys))
 
 pub runs-none : (s : Stand) → Runs s [] s []
 runs-none s = record { stands = refl; says = refl }
@@ -53,7 +54,7 @@ runs-none s = record { stands = refl; says = refl }
 pub runs-append : {a b c : Stand} {xs ys : List (List ℕ)} {s t : List ℕ} → Runs a xs b s → Runs b ys c t
     → Runs a (xs ++ ys) c (s ++ t)
 runs-append {a = a} {b = b} {c = c} {xs = xs} {ys = ys} {s = s} {t = t} p q = record {
-  stands = after-append a xs ys ∙ ap (λ z. after z ys) p.stands ∙ q.stands;
+  stands = after-append a xs ys ∙ ap (λ z. stand_after z ys) p.stands ∙ q.stands;
   says = wrote-append a xs ys ∙ ap (λ z. wrote a xs ++ wrote z ys) p.stands ∙ cc (p.says, q.says);
 }
 
@@ -269,7 +270,7 @@ abbrev pub listing_lines : Named → Bool → List ℕ → List (List Choice) �
 listing_lines a true row ms = heading_line row ∷ output_lines a (enumerate_from 1 ms)
 listing_lines a false row ms = []
 
-abbrev pub span_lines : Named → Bool → Span → List (List ℕ)
+abbrev pub span_lines : Named → Bool → SearchedSpan → List (List ℕ)
 span_lines a listed s = listing_lines a listed s.from (members_of a s)
     ++ record_line s.from s.until s.branches (length (members_of a s)) s.steps ∷ []
 
@@ -279,14 +280,14 @@ listed_part true a n ms = listed_from a n ms
 listed_part false a n ms = []
 
 -- a span whose numbers are small
-pub record IsShort (a : Named) (s : Span) : Type 0 where
+pub record IsShort (a : Named) (s : SearchedSpan) : Type 0 where
   pub from : AreShort s.from
   pub until : AreShort s.until
   pub branches : AreShortIf s.branches
   pub steps : s.steps < 2 ^ 64
   pub few : length (members_of a s) < 2 ^ 64
 
-pub run-span : (a : Named) (listed : Bool) (s : Span) (n j : ℕ) → IsShort a s → j ≡ n + length (members_of a s)
+pub run-span : (a : Named) (listed : Bool) (s : SearchedSpan) (n j : ℕ) → IsShort a s → j ≡ n + length (members_of a s)
     → Runs (goes (rest_at listed false s.from n)) (span_lines a listed s)
     (goes (rest_at listed (is_last s.until) s.until j)) (listed_part listed a n (members_of a s))
 run-span a true s n j h e =

@@ -16,7 +16,7 @@ use Rattle.std.proofs.lemmas.Str.Parse.{IsNumeralModel, numerals_by_fold}
 use Rattle.xc_input.proofs.TokenLemmas.DecimalValues.{value_from}
 use Rattle.xc_list.specs.ListingLines.{words_in}
 use Rattle.xc_list.specs.SpanTexts.{row_text, branches_text}
-use Rattle.xc_tools.specs.inner.SpanLines.{heading_of, is_number, is_row, record_of, solutions_of}
+use Rattle.xc_tools.specs.inner.SpanLines.{heading_of, is_number, is_row, record_of, recorded_solutions}
 
 -- ---- digits
 
@@ -143,7 +143,8 @@ words-counts n steps h k =
     ap (λ ws. codes "solutions" ∷ ws) (word-then (decimal n) (codes "steps " ++ decimal steps) (blank-decimal n h)
     ∙ ap (λ ws. decimal n ∷ codes "steps" ∷ ws) (word-last (decimal steps) (blank-decimal steps k)))
 
-solutions-read : (n steps : ℕ) → n < 2 ^ 64 → steps < 2 ^ 64 → solutions_of (counts_words n steps) ≡ Some (decimal n)
+solutions-read : (n steps : ℕ) → n < 2 ^ 64 → steps < 2 ^ 64 → recorded_solutions (counts_words n steps)
+    ≡ Some (decimal n)
 solutions-read n steps h k = rw (is_number-decimal n h, is_number-decimal steps k) refl
 
 -- the words from the end of a span on

@@ -18,14 +18,15 @@ use Rattle.xc_list.specs.Texts.{SinkState, Took, BrokeOff, WasTold}
 use Rattle.xc_list.specs.declared.runs.End.{End}
 use Rattle.xc_list.specs.declared.runs.End.TheVariants.{Done, Limit}
 use Rattle.xc_list.proofs.TextLemmas.{appends_kept}
-use Rattle.xc_tools.specs.Joins.{AreTexts, DidJoin, DoMeet, HasBegun, IsBeginning, Span}
+use Rattle.xc_tools.specs.Joins.{AreTexts, DidJoin, DoMeet, HasBegun, IsBeginning, SearchedSpan}
 use Rattle.xc_tools.specs.Joins.{joined}
 use Rattle.xc_tools.specs.WholeRuns.{Sinks}
 use Rattle.xc_tools.specs.declared.joining.Stop.{Stop}
 use Rattle.xc_tools.specs.declared.joining.Stop.TheVariants.{NotText, Gap, Device, Memory, WriteFailed}
 use Rattle.xc_tools.specs.declared.span_lines.Joint.{Joint}
 use Rattle.xc_tools.specs.inner.SpanLines.{Join, goes, join_of}
-use Rattle.xc_tools.specs.inner.Joining.{EndsAt, IsLast, JoinsAll, StopsIn, StopsReading, ToldStop, reached, written}
+use Rattle.xc_tools.specs.inner.Joining.{EndsAt, IsLast, JoinsAll, StopsIn, StopsReading, ToldStop, stand_reached}
+use Rattle.xc_tools.specs.inner.Joining.{joined_text}
 use Rattle.xc_tools.specs.inner.Joining.{WriteFails}
 use Rattle.xc_tools.proofs.JoinLemmas.Chains.{all_lines}
 use Rattle.xc_tools.proofs.JoinLemmas.Ends.{begins, end_of-total, finished, first-lines, never-faulty, never-meets}
@@ -33,7 +34,7 @@ use Rattle.xc_tools.proofs.JoinLemmas.Ends.{no-rest}
 use Rattle.xc_tools.proofs.JoinLemmas.Ends.{none-open, not-finished}
 
 -- what is so of spans at such a stop
-abbrev pub so_at : Stop → List Span → Type 0
+abbrev pub so_at : Stop → List SearchedSpan → Type 0
 so_at NotText spans = ⊥
 so_at Gap spans = DoMeet [] spans → ⊥
 so_at Device spans = Unit {0}
@@ -47,13 +48,13 @@ taken-beginning text whole n h = (
       ∙ ap (λ t. t ++ h.0) (take-append-drop n text) ∙ h.1,
 )
 
-module _ (a : Named) (listed : Bool) (sound : IsSound a) (spans : List Span) (text : List ℕ)
+module _ (a : Named) (listed : Bool) (sound : IsSound a) (spans : List SearchedSpan) (text : List ℕ)
     (are : AreTexts a listed spans text) (ls : List (List ℕ)) (rest : List ℕ) (w : AreWhole ls)
     (e : text ≡ ended ls ++ rest) where
   lines-first : all_lines a listed spans ≡ ls ++ lines_of rest
   lines-first = first-lines a listed sound spans text are ls rest w e
 
-  begins-so : IsBeginning (written listed ls) (joined a listed)
+  begins-so : IsBeginning (joined_text listed ls) (joined a listed)
   begins-so = begins a listed sound spans text are ls (lines_of rest) lines-first
 
   last-so : (new : Joint) (stop : Stop) → IsLast listed ls new stop → so_at stop spans
@@ -63,15 +64,15 @@ module _ (a : Named) (listed : Bool) (sound : IsSound a) (spans : List Span) (te
   last-so new Memory h = tt
   last-so new WriteFailed h = tt
 
-  module _ (free : has 10 rest ≡ false) (s : Join) (at : reached listed ls ≡ goes s) where
+  module _ (free : has 10 rest ≡ false) (s : Join) (at : stand_reached listed ls ≡ goes s) where
     none-left : rest ≡ []
     none-left = no-rest a listed sound spans text are ls rest w free e
 
-    all-read : reached listed (all_lines a listed spans) ≡ goes s
-    all-read = ap (reached listed) (lines-first ∙ ap (λ r. ls ++ lines_of r) none-left ∙ append-nil ls) ∙ at
+    all-read : stand_reached listed (all_lines a listed spans) ≡ goes s
+    all-read = ap (stand_reached listed) (lines-first ∙ ap (λ r. ls ++ lines_of r) none-left ∙ append-nil ls) ∙ at
 
-    written-all : written listed (all_lines a listed spans) ≡ written listed ls
-    written-all = ap (written listed) (lines-first ∙ ap (λ r. ls ++ lines_of r) none-left ∙ append-nil ls)
+    written-all : joined_text listed (all_lines a listed spans) ≡ joined_text listed ls
+    written-all = ap (joined_text listed) (lines-first ∙ ap (λ r. ls ++ lines_of r) none-left ∙ append-nil ls)
 
     ends-so : (stop : Stop) (old new : Joint) → s ≡ join_of old → EndsAt rest old new (Err stop) → so_at stop spans
     ends-so NotText old new is h =
@@ -83,7 +84,7 @@ module _ (a : Named) (listed : Bool) (sound : IsSound a) (spans : List Span) (te
     ends-so WriteFailed old new is h = tt
 
     joined-so : (old new : Joint) → s ≡ join_of old → EndsAt rest old new (Ok tt) → DoMeet [] spans
-        × (written listed ls ≡ joined a listed)
+        × (joined_text listed ls ≡ joined a listed)
         × ((if new.total == most_counted then Limit new.total else Done new.total) ≡ end_of a most_counted)
     joined-so old new is h =
         let so = finished a listed sound spans text are s all-read (ap (λ (j : Join). j.finished) is ∙ h.1) in
@@ -95,7 +96,7 @@ module _ (a : Named) (listed : Bool) (sound : IsSound a) (spans : List Span) (te
 module _ (listed : Bool) (new : Joint) (a b : SourceState) (x y z : SinkState) (kept : Keeps y.taken z.taken) where
   in-lines : (e : Stop) (bytes : List ℕ) → Gave a b bytes → (h : StopsIn listed [] bytes new x y e)
       → (text : List ℕ) → Appends x.taken y.taken text
-      → ((whole : List ℕ) → IsBeginning (written listed h.lines) whole → IsBeginning text whole)
+      → ((whole : List ℕ) → IsBeginning (joined_text listed h.lines) whole → IsBeginning text whole)
       → HasBegun listed (so_at e) a b x z
   in-lines e bytes g h text took begun = record {
     text = text;
@@ -116,7 +117,7 @@ module _ (listed : Bool) (new : Joint) (a b : SourceState) (x y z : SinkState) (
 
   -- a text that was added to nothing is all
   same-text : (e : Stop) (bytes : List ℕ) (h : StopsIn listed [] bytes new x y e) (whole : List ℕ)
-      → IsBeginning (written listed h.lines) whole → IsBeginning h.adds.text whole
+      → IsBeginning (joined_text listed h.lines) whole → IsBeginning h.adds.text whole
   same-text e bytes h whole b = subst (λ t. IsBeginning t whole) h.adds.more b
 
   pub stopped-reading : (e : Stop) → StopsReading listed new a b x y e → HasBegun listed (so_at e) a b x z
@@ -129,8 +130,8 @@ module _ (listed : Bool) (new : Joint) (a b : SourceState) (x y z : SinkState) (
       in-lines WriteFailed bytes g h (take h.adds.said.many h.adds.text) h.adds.said.begun
       (λ whole q. taken-beginning h.adds.text whole h.adds.said.many (same-text WriteFailed bytes h whole q))
   stopped-reading Device (ls, rest, g, w, took, rose) = record {
-    text = written listed ls;
-    taken = appends_kept x.taken y.taken z.taken (written listed ls) took.whole kept;
+    text = joined_text listed ls;
+    taken = appends_kept x.taken y.taken z.taken (joined_text listed ls) took.whole kept;
     of = (
       ended ls ++ rest,
       inr (
@@ -142,11 +143,11 @@ module _ (listed : Bool) (new : Joint) (a b : SourceState) (x y z : SinkState) (
   }
 
   pub stopped-ending : (e : Stop) (ls : List (List ℕ)) (rest : List ℕ) (old : Joint) → GaveAll a b (ended ls ++ rest)
-      → AreWhole ls → has 10 rest ≡ false → reached listed ls ≡ goes (join_of old) → EndsAt rest old new (Err e)
-      → Took x y (written listed ls) → HasBegun listed (so_at e) a b x z
+      → AreWhole ls → has 10 rest ≡ false → stand_reached listed ls ≡ goes (join_of old) → EndsAt rest old new (Err e)
+      → Took x y (joined_text listed ls) → HasBegun listed (so_at e) a b x z
   stopped-ending e ls rest old g w free at ends took = record {
-    text = written listed ls;
-    taken = appends_kept x.taken y.taken z.taken (written listed ls) took.whole kept;
+    text = joined_text listed ls;
+    taken = appends_kept x.taken y.taken z.taken (joined_text listed ls) took.whole kept;
     of = (
       ended ls ++ rest,
       inl (
@@ -165,8 +166,9 @@ module _ (listed : Bool) (new : Joint) (a b : SourceState) (x y z : SinkState) (
       subst (λ s. HasBegun listed (so_at s) a b x z) (sym is) (stopped-reading h.0 h.2)
   stopped e (inr h) = stopped-ending e h.0 h.1 h.2 h.3 h.4 h.5 h.6 h.7 h.8
 
-pub begun-weaker : (listed : Bool) (says says' : List Span → Type 0) (a b : SourceState) (x y : SinkState)
-    → ((spans : List Span) → says spans → says' spans) → HasBegun listed says a b x y → HasBegun listed says' a b x y
+pub begun-weaker : (listed : Bool) (says says' : List SearchedSpan → Type 0) (a b : SourceState) (x y : SinkState)
+    → ((spans : List SearchedSpan) → says spans → says' spans) → HasBegun listed says a b x y
+    → HasBegun listed says' a b x y
 begun-weaker listed says says' a b x y f h = record {
   text = h.text;
   taken = h.taken;
@@ -208,7 +210,7 @@ module _ (listed : Bool) (new : Joint) (a b : SourceState) (x y : SinkState) whe
   out-failed : (e : Stop) → JoinsAll listed new a b x y (Err e) → OutFailed e x y
   out-failed e (inl h) =
       let is : e ≡ h.0 = cc (h.1) in subst (λ s. OutFailed s x y) (sym is) (out-in-reading h.0 h.2)
-  out-failed e (inr h) = out-at-end e h.1 h.2 (written listed h.0) h.7 h.8
+  out-failed e (inr h) = out-at-end e h.1 h.2 (joined_text listed h.0) h.7 h.8
 
   all-failed : (e : Stop) (z : SinkState) → OutFailed e x y → WriteFails e y z → Rose x.failures z.failures
   all-failed NotText z same rose = rose ∙ ap one_more same
@@ -223,7 +225,7 @@ module _ (listed : Bool) (new : Joint) (a b : SourceState) (x y : SinkState) whe
       (subst (λ s. StopsReading listed new a b x y s) (sym is ∙ at) h.2).5
   read-failed e at (inr h) = absurd (subst (λ s. EndsAt h.1 h.2 new (Err s)) at h.7)
 
-any : (stop : Stop) (spans : List Span) → so_at stop spans → Unit {0}
+any : (stop : Stop) (spans : List SearchedSpan) → so_at stop spans → Unit {0}
 any stop spans h = tt
 
 -- a run that stopped, by what was told
@@ -275,16 +277,17 @@ run-stopped listed new y status stop i j from to h kept (inr (inr (inr (inr t)))
 -- a run that came to the end of the input
 module _ {O E : Type 0} (listed : Bool) (status : ℕ) (i j : SourceState) (from to : Sinks O E) (y : SinkState)
     (ls : List (List ℕ)) (rest : List ℕ) (old new : Joint) (g : GaveAll i j (ended ls ++ rest)) (w : AreWhole ls)
-    (free : has 10 rest ≡ false) (at : reached listed ls ≡ goes (join_of old)) (ends : EndsAt rest old new (Ok tt))
-    (took : Took from.out.state y (written listed ls)) (kept : Keeps y.taken to.out.state.taken)
+    (free : has 10 rest ≡ false) (at : stand_reached listed ls
+    ≡ goes (join_of old)) (ends : EndsAt rest old new (Ok tt))
+    (took : Took from.out.state y (joined_text listed ls)) (kept : Keeps y.taken to.out.state.taken)
     (flushed : to.out.state.flushes ≡ y.flushes + 1) (end : End)
     (is : end ≡ (if new.total == most_counted then Limit new.total else Done new.total)) where
-  all-kept : Appends from.out.state.taken to.out.state.taken (written listed ls)
-  all-kept = appends_kept from.out.state.taken y.taken to.out.state.taken (written listed ls) took.whole kept
+  all-kept : Appends from.out.state.taken to.out.state.taken (joined_text listed ls)
+  all-kept = appends_kept from.out.state.taken y.taken to.out.state.taken (joined_text listed ls) took.whole kept
 
   begun-whole : HasBegun listed (λ _. Unit {0}) i j from.out.state to.out.state
   begun-whole = record {
-    text = written listed ls;
+    text = joined_text listed ls;
     taken = all-kept;
     of = (ended ls ++ rest, inl (g, λ p spans sound are. (begins-so p listed sound spans _ are ls rest w refl, tt)));
   }
@@ -300,7 +303,7 @@ module _ {O E : Type 0} (listed : Bool) (status : ℕ) (i j : SourceState) (from
     record {
       bytes = ended ls ++ rest;
       gave = g;
-      text = written listed ls;
+      text = joined_text listed ls;
       taken = record {
         no_failure = h.1 ∙ took.no_failure;
         whole = all-kept;

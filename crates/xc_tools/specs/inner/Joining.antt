@@ -13,36 +13,36 @@ use Rattle.xc_tools.specs.declared.joining.Stop.TheVariants.{NotText, Gap, Devic
 use Rattle.xc_tools.specs.declared.span_lines.Joint.{Joint}
 use Rattle.xc_tools.specs.declared.span_lines.Refusal.{Refusal}
 use Rattle.xc_tools.specs.declared.span_lines.Refusal.TheVariants as refusals
-use Rattle.xc_tools.specs.inner.SpanLines.{Stand, goes, faulty, apart, after, join_of, start, wrote}
+use Rattle.xc_tools.specs.inner.SpanLines.{Stand, goes, faulty, apart, stand_after, join_of, start, wrote}
 
 -- what stands after lines from the beginning on
-abbrev pub reached : Bool → List (List ℕ) → Stand
-reached listed lines = after (goes (start listed)) lines
+abbrev pub stand_reached : Bool → List (List ℕ) → Stand
+stand_reached listed lines = stand_after (goes (start listed)) lines
 
 -- what is written for them
-abbrev pub written : Bool → List (List ℕ) → List ℕ
-written listed lines = wrote (goes (start listed)) lines
+abbrev pub joined_text : Bool → List (List ℕ) → List ℕ
+joined_text listed lines = wrote (goes (start listed)) lines
 
 -- what was taken and what is carried on
-abbrev pub fed : Lines → List ℕ → List ℕ
-fed l carry = ended l.given.lines ++ carry
+abbrev pub fed_lines : Lines → List ℕ → List ℕ
+fed_lines l carry = ended l.given.lines ++ carry
 
 -- The lines that were taken led here, and none of them has a line feed in it.
 pub record IsAfter (l : Lines) : Type 0 where
-  pub stands : reached l.joint.listed l.given.lines ≡ goes (join_of l.joint)
+  pub stands : stand_reached l.joint.listed l.given.lines ≡ goes (join_of l.joint)
   pub whole : AreWhole l.given.lines
 
 -- This is so of a sink and what is written for the second lines behind the first.
 pub record Adds (listed : Bool) (before lines : List (List ℕ)) (says : SinkState → SinkState → List ℕ → Type 0)
     (old new : SinkState) : Type 0 where
   pub text : List ℕ
-  pub more : written listed lines ≡ written listed before ++ text
+  pub more : joined_text listed lines ≡ joined_text listed before ++ text
   pub said : says old new text
 
 -- why lines were the last ones
 abbrev pub IsLast : Bool → List (List ℕ) → Joint → Stop → Type 0
-IsLast listed lines new NotText = reached listed lines ≡ faulty
-IsLast listed lines new Gap = reached listed lines ≡ apart new.met.items new.next.items
+IsLast listed lines new NotText = stand_reached listed lines ≡ faulty
+IsLast listed lines new Gap = stand_reached listed lines ≡ apart new.met.items new.next.items
 IsLast listed lines new Device = ⊥
 IsLast listed lines new Memory = Unit {0}
 IsLast listed lines new WriteFailed = Unit {0}
@@ -71,7 +71,7 @@ stop_of refusals.Memory = Memory
 -- Why reading stopped: a read failed behind what the source gave; or in lines that it gave.
 abbrev pub StopsReading : Bool → Joint → SourceState → SourceState → SinkState → SinkState → Stop → Type 0
 StopsReading listed new old_in new_in out_old out_new Device = (lines : List (List ℕ)) × (rest : List ℕ)
-    × Gave old_in new_in (ended lines ++ rest) × AreWhole lines × Took out_old out_new (written listed lines)
+    × Gave old_in new_in (ended lines ++ rest) × AreWhole lines × Took out_old out_new (joined_text listed lines)
     × Rose old_in.failures new_in.failures
 StopsReading listed new old_in new_in out_old out_new e =
     (bytes : List ℕ) × Gave old_in new_in bytes × StopsIn listed [] bytes new out_old out_new e
@@ -90,8 +90,8 @@ abbrev pub JoinsAll : Bool → Joint → SourceState → SourceState → SinkSta
 JoinsAll listed new old_in new_in out_old out_new r =
     ((e : Stop) × (r ≡ Err e) × StopsReading listed new old_in new_in out_old out_new e)
     ⊎ ((lines : List (List ℕ)) × (rest : List ℕ) × (old : Joint) × GaveAll old_in new_in (ended lines ++ rest)
-    × AreWhole lines × (has 10 rest ≡ false) × (reached listed lines ≡ goes (join_of old)) × EndsAt rest old new r
-    × Took out_old out_new (written listed lines))
+    × AreWhole lines × (has 10 rest ≡ false) × (stand_reached listed lines ≡ goes (join_of old)) × EndsAt rest old new r
+    × Took out_old out_new (joined_text listed lines))
 
 -- how often the output failed behind a stop where that its write failed was told
 abbrev pub WriteFails : Stop → SinkState → SinkState → Type 0
@@ -100,7 +100,8 @@ WriteFails _ old new = Rose old.failures new.failures
 
 -- what was told of a run that stopped, by its status
 abbrev pub ToldStop : Stop → ℕ → SinkState → SinkState → SinkState → SinkState → Type 0
-ToldStop stop status out_old out_new old new = ((status ≡ 2) × (stop ≡ NotText) × (file : List ℕ) × (line : ℕ) × WasTold old new
+ToldStop stop status out_old out_new old new = ((status ≡ 2) × (stop ≡ NotText) × (file : List ℕ) × (line : ℕ)
+    × WasTold old new
     (no_text file line))
     ⊎ ((status ≡ 5) × (stop ≡ Gap) × (met : List ℕ) × (next : List ℕ) × WasTold old new (gap_text met next))
     ⊎ ((status ≡ 4) × WasTold old new (codes "Out of memory.\n"))

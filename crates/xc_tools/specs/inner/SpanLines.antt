@@ -55,16 +55,16 @@ heading_of (from ∷ row ∷ []) = if bytes_eq from (codes "from") && is_row row
 heading_of _ = None
 
 -- the last words of a record: the number of solutions and that of steps
-abbrev pub solutions_of : List (List ℕ) → Option (List ℕ)
-solutions_of (s ∷ n ∷ t ∷ m ∷ []) =
+abbrev pub recorded_solutions : List (List ℕ) → Option (List ℕ)
+recorded_solutions (s ∷ n ∷ t ∷ m ∷ []) =
     if bytes_eq s (codes "solutions") && bytes_eq t (codes "steps") && is_number n && is_number m then Some n else None
-solutions_of _ = None
+recorded_solutions _ = None
 
 -- the same behind the branches of a row, if they are told
 abbrev pub counts_of : List (List ℕ) → Option (List ℕ)
 counts_of (o ∷ row ∷ rest) =
-    if bytes_eq o (codes "of") && is_row row then solutions_of rest else solutions_of (o ∷ row ∷ rest)
-counts_of words = solutions_of words
+    if bytes_eq o (codes "of") && is_row row then recorded_solutions rest else recorded_solutions (o ∷ row ∷ rest)
+counts_of words = recorded_solutions words
 
 -- what these words tell, if they are a record
 abbrev pub record_of : List (List ℕ) → Option Told
@@ -160,15 +160,15 @@ abbrev pub told_of : Record → Told
 told_of r = record { from = r.from.now; until = r.until.now; solutions = r.solutions.now }
 
 -- why no line is taken any more
-abbrev pub Refuses : Refusal → Joint → Stand × List ℕ → Type 0
-Refuses NotText new step = step ≡ (faulty, [])
-Refuses Gap new step = step ≡ (apart new.met.items new.next.items, [])
-Refuses Memory new step = Unit {0}
+abbrev pub RefusesLine : Refusal → Joint → Stand × List ℕ → Type 0
+RefusesLine NotText new step = step ≡ (faulty, [])
+RefusesLine Gap new step = step ≡ (apart new.met.items new.next.items, [])
+RefusesLine Memory new step = Unit {0}
 
 -- what taking a line answers, where this is to be done for it
-abbrev pub Takes : Stand × List ℕ → List ℕ → Result Act Refusal → Joint → Type 0
-Takes step line (Ok act) new = step ≡ (goes (join_of new), act_text act line)
-Takes step line (Err e) new = Refuses e new step
+abbrev pub TakesLine : Stand × List ℕ → List ℕ → Result Act Refusal → Joint → Type 0
+TakesLine step line (Ok act) new = step ≡ (goes (join_of new), act_text act line)
+TakesLine step line (Err e) new = RefusesLine e new step
 
 -- why a text may not begin at a row
 abbrev pub Unmet : Refusal → Bool → List ℕ → List ℕ → Type 0
@@ -188,9 +188,9 @@ step faulty line = (faulty, [])
 step (apart met next) line = (apart met next, [])
 
 -- what stands after these lines
-abbrev pub after : Stand → List (List ℕ) → Stand
-after stand [] = stand
-after stand (line ∷ lines) = after (step stand line).0 lines
+abbrev pub stand_after : Stand → List (List ℕ) → Stand
+stand_after stand [] = stand
+stand_after stand (line ∷ lines) = stand_after (step stand line).0 lines
 
 -- what is written for them
 abbrev pub wrote : Stand → List (List ℕ) → List ℕ

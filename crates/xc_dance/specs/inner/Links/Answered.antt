@@ -2,7 +2,7 @@
 use Rattle.std.specs.Prelude.{ℕ, ◌≡◌, ◌==◌, Option, Some, None, if◌then◌else◌}
 use Rattle.xc_input.specs.Problem.{Puzzle}
 use Rattle.xc_dance.specs.Fields.{link_place}
-use Rattle.xc_dance.specs.inner.Links.Laid.{IsName}
+use Rattle.xc_dance.specs.inner.Links.Laid.{HoldsItem}
 
 -- an option number as it is answered
 abbrev pub named : ℕ → Option ℕ
@@ -11,5 +11,5 @@ named x = if x == 0 then None else Some x
 -- a node of item i stands there
 pub record IsNodeOf (p : Puzzle) (i place : ℕ) : Type 0 where
   pub number : ℕ
-  pub name : IsName p i number
+  pub name : HoldsItem p i number
   pub at : place ≡ link_place p i number

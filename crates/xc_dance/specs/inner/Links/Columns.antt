@@ -44,8 +44,8 @@ abbrev pub columns : List Cell → List Link → List Cell → Nodes
 columns top links color = record { top = values top; ulink = ups links; dlink = downs links; color = values color }
 
 -- how often these cells were written
-abbrev pub written : List Cell → List Link → List Cell → ℕ
-written top links color = writes top + link_writes links + writes color
+abbrev pub column_writes : List Cell → List Link → List Cell → ℕ
+column_writes top links color = writes top + link_writes links + writes color
 
 -- the node table: its columns, and how often its cells were written
 pub record NodeTable : Type 0 where

@@ -40,8 +40,8 @@ abbrev pub laid_to : Puzzle → ℕ → Laying
 laid_to p k = record { count = length (layout p); nodes = rows_of p (take k (layout p)) }
 
 -- one node more, with these cells
-abbrev pub with_row : Laying → Row → Laying
-with_row t r = record t {
+abbrev pub with_node : Laying → Row → Laying
+with_node t r = record t {
   nodes = record {
     top = t.nodes.top ++ r.top ∷ [];
     ulink = t.nodes.ulink ++ r.ulink ∷ [];

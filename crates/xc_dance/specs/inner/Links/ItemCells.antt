@@ -5,13 +5,13 @@ use Rattle.xc_dance.specs.declared.dance.Move.{Move}
 use Rattle.xc_dance.specs.inner.Links.Columns.{Items}
 use Rattle.xc_input.specs.Problem.{Puzzle, primary_count, item_count, low_at, high_at}
 use Rattle.xc_dance.specs.Moves.{spends}
-use Rattle.xc_dance.specs.Fields.{ring_of, left_of, right_of, first_of, last_of}
+use Rattle.xc_dance.specs.Fields.{ring_of, left_neighbour, right_of, first_of, last_of}
 
 -- the number in the LLINK cell at a place, heads included
 abbrev pub llink_at : Puzzle → List Move → ℕ → ℕ
 llink_at p t q =
     if q == 0 then last_of 0 (ring_of p t 0)
-    else (if nat_le q (item_count p) then left_of p t q else last_of (item_count p + 1)
+    else (if nat_le q (item_count p) then left_neighbour p t q else last_of (item_count p + 1)
     (ring_of p t (primary_count p + 1)))
 
 -- the number in the RLINK cell at a place, heads included

@@ -8,8 +8,8 @@ use Rattle.xc_dance.specs.inner.Links.Cells.{slot_of}
 use Rattle.xc_dance.specs.declared.links.cells.nodes.TheConstants.{MARK}
 
 -- 0, or an option that holds item j
-abbrev pub IsName : Puzzle → ℕ → ℕ → Type 0
-IsName p j x = (x ≡ 0) ⊎ ((0 < x) × (is_some (colour_in (uses_of p x) j) ≡ true))
+abbrev pub HoldsItem : Puzzle → ℕ → ℕ → Type 0
+HoldsItem p j x = (x ≡ 0) ⊎ ((0 < x) × (is_some (colour_in (uses_of p x) j) ≡ true))
 
 -- member x of item j's list has a node in the table
 pub record Placed (p : Puzzle) (j x : ℕ) : Type 0 where
@@ -34,20 +34,20 @@ pub record IsLaid (p : Puzzle) : Type 0 where
   pub unique : (k : ℕ) (n : Node) (j x : ℕ) → slice_get (layout p) k ≡ Some n → slot_of n ≡ Some (j, x)
       → link_place p j x ≡ k
   -- and each that there is stands there
-  pub there : (j x : ℕ) → 0 < j → j ≤ item_count p → IsName p j x → Placed p j x
+  pub there : (j x : ℕ) → 0 < j → j ≤ item_count p → HoldsItem p j x → Placed p j x
   pub head : (j : ℕ) → 0 < j → j ≤ item_count p → slice_get (layout p) j ≡ Some (own j)
   pub nodes : HasSoundNodes p
   -- items' numbers are below those of spacers
   pub small : item_count p < 2 ^ 31
 
 -- no two of the uses are of one item
-abbrev pub AreDistinct : List Use → Type 0
-AreDistinct [] = Unit {0}
-AreDistinct (u ∷ us) = (is_some (colour_in us u.item) ≡ false) × AreDistinct us
+abbrev pub DifferByItem : List Use → Type 0
+DifferByItem [] = Unit {0}
+DifferByItem (u ∷ us) = (is_some (colour_in us u.item) ≡ false) × DifferByItem us
 
 -- what the walks need of the options
 pub record IsFit (p : Puzzle) : Type 0 where
-  pub distinct : (o : ℕ) → AreDistinct (uses_of p o)
+  pub distinct : (o : ℕ) → DifferByItem (uses_of p o)
   pub items : (o : ℕ) → AllByRecursion (λ u. (0 < u.item) × (u.item ≤ item_count p)) (uses_of p o)
   pub colours : (o : ℕ) → AllByRecursion (λ u. u.colour < MARK) (uses_of p o)
   pub few : length p.options < 2 ^ 30

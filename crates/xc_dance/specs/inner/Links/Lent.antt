@@ -3,7 +3,7 @@ use Rattle.std.specs.Prelude.{ℕ, ◌≡◌, length}
 use Rattle.xc_dance.specs.declared.links.cells.lent.Cells.{Cells}
 use Rattle.xc_dance.specs.declared.links.cells.lent.CellsMut.{CellsMut}
 use Rattle.xc_dance.specs.declared.links.cells.lent.LinksMut.{LinksMut}
-use Rattle.xc_dance.specs.inner.Links.Columns.{Nodes, columns, written}
+use Rattle.xc_dance.specs.inner.Links.Columns.{Nodes, columns, column_writes}
 
 -- what is lent is lent still, cell for cell
 abbrev pub IsRow : CellsMut → CellsMut → Type 0
@@ -19,7 +19,7 @@ lent top links color = columns top.cells.now links.links.now color.cells.now
 
 -- how often their cells were written
 abbrev pub lent_writes : CellsMut → LinksMut → Cells → ℕ
-lent_writes top links color = written top.cells.now links.links.now color.cells.now
+lent_writes top links color = column_writes top.cells.now links.links.now color.cells.now
 
 -- the columns that are lent, all of them to be written
 abbrev pub lent_all : CellsMut → LinksMut → CellsMut → Nodes
@@ -27,4 +27,4 @@ lent_all top links color = columns top.cells.now links.links.now color.cells.now
 
 -- how often their cells were written
 abbrev pub all_writes : CellsMut → LinksMut → CellsMut → ℕ
-all_writes top links color = written top.cells.now links.links.now color.cells.now
+all_writes top links color = column_writes top.cells.now links.links.now color.cells.now

@@ -9,8 +9,8 @@ use Rattle.xc_dance.specs.inner.Links.Walks.{costs, CanFollow}
 use Rattle.xc_dance.specs.declared.links.cells.nodes.TheConstants.{MARK}
 
 -- node q has this colour now
-abbrev pub with_colour : Nodes → ℕ → ℕ → Nodes
-with_colour t q v = record { top = t.top; ulink = t.ulink; dlink = t.dlink; color = slice_set t.color q v }
+abbrev pub recoloured : Nodes → ℕ → ℕ → Nodes
+recoloured t q v = record { top = t.top; ulink = t.ulink; dlink = t.dlink; color = slice_set t.color q v }
 
 -- the colour is the one that is kept
 abbrev pub is_kept_colour : Option ℕ → ℕ → Bool
@@ -30,7 +30,7 @@ kept_colour (Some c) = c
 -- one step down: a node of the colour kept is marked, any other one hidden
 abbrev pub left_node : List Span → Option ℕ → Nodes → ℕ → Nodes
 left_node spans keep t p =
-    if is_kept_colour keep (slice_index t.color p) then with_colour t p MARK else hidden_node spans t p
+    if is_kept_colour keep (slice_index t.color p) then recoloured t p MARK else hidden_node spans t p
 
 -- what one step down writes
 abbrev pub leave_cost : List Span → Option ℕ → Nodes → ℕ → ℕ
@@ -39,7 +39,7 @@ leave_cost spans keep t p = if is_kept_colour keep (slice_index t.color p) then 
 -- one step up: a marked node gets its colour back, any other one is unhidden
 abbrev pub back_node : List Span → Option ℕ → Nodes → ℕ → Nodes
 back_node spans keep t p =
-    if is_kept_mark keep (slice_index t.color p) then with_colour t p (kept_colour keep) else unhidden_node spans t p
+    if is_kept_mark keep (slice_index t.color p) then recoloured t p (kept_colour keep) else unhidden_node spans t p
 
 -- what one step up writes
 abbrev pub back_cost : List Span → Option ℕ → Nodes → ℕ → ℕ

@@ -5,11 +5,12 @@ use Rattle.xc_dance.specs.declared.dance.Move.TheVariants.{Cover, Purify, Tweak,
 use Rattle.xc_dance.specs.inner.Links.Columns.{Nodes, Items}
 use Rattle.xc_dance.specs.inner.Links.Span.{Span}
 use Rattle.xc_input.specs.Problem.{Puzzle, high_at}
-use Rattle.xc_dance.specs.inner.Links.ListWalks.{left_node, back_node, CanHideList, CanUnhideList, with_colour}
+use Rattle.xc_dance.specs.inner.Links.ListWalks.{left_node, back_node, CanHideList, CanUnhideList, recoloured}
 use Rattle.xc_dance.specs.inner.Links.ListWalks.{walk_costs, back_costs}
 use Rattle.xc_dance.specs.inner.Links.Steps.{list_of, list_back}
 use Rattle.xc_dance.specs.inner.Links.Purifying.{purified_list, unpurified_list, CanPurify, CanUnpurify}
-use Rattle.xc_dance.specs.inner.Links.Tweaking.{tweaked, untweaked, tweak_cost, untweak_cost, CanTweak, CanUntweak}
+use Rattle.xc_dance.specs.inner.Links.Tweaking.{tweaked_nodes, untweaked, tweak_cost, untweak_cost, CanTweak}
+use Rattle.xc_dance.specs.inner.Links.Tweaking.{CanUntweak}
 use Rattle.xc_dance.specs.inner.Links.Rings.{left_ring, back_in_ring, with_bound, is_off}
 use Rattle.xc_dance.specs.inner.Links.Laid.{IsLaid, IsFit}
 use Rattle.xc_dance.specs.inner.Links.Others.{HasSpans}
@@ -18,7 +19,7 @@ use Rattle.xc_dance.specs.inner.Links.Others.{HasSpans}
 abbrev pub nodes_made : List Span → Nodes → Items → Move → Nodes
 nodes_made spans t s (Cover i) = fold (left_node spans None) t (list_of t i)
 nodes_made spans t s (Purify i c) = purified_list spans c t i
-nodes_made spans t s (Tweak i) = tweaked spans (is_off s i) t i
+nodes_made spans t s (Tweak i) = tweaked_nodes spans (is_off s i) t i
 nodes_made spans t s (Spend i) = t
 
 -- and of the item table
@@ -69,7 +70,7 @@ CanUnmake spans t s (Spend i) x = (i < length s.bound) × (slice_index s.bound i
 -- how many cells a move writes
 abbrev pub made_cost : List Span → Nodes → Items → Move → ℕ
 made_cost spans t s (Cover i) = walk_costs spans None t (list_of t i) + 2
-made_cost spans t s (Purify i c) = walk_costs spans (Some c) (with_colour t i c) (list_of t i) + 1
+made_cost spans t s (Purify i c) = walk_costs spans (Some c) (recoloured t i c) (list_of t i) + 1
 made_cost spans t s (Tweak i) = tweak_cost spans (is_off s i) t i
 made_cost spans t s (Spend i) = 1
 

@@ -73,8 +73,8 @@ abbrev pub places : ℕ → ℕ → List ℕ
 places a b = range_with_len a (b - a)
 
 -- the other nodes of the option that stands from first to below end, cyclically from behind p
-abbrev pub others : ℕ → ℕ → ℕ → List ℕ
-others p first end = places (p + 1) end ++ places first p
+abbrev pub other_nodes : ℕ → ℕ → ℕ → List ℕ
+other_nodes p first end = places (p + 1) end ++ places first p
 
 -- a step of unhide at node q, which passes over a marked node
 abbrev pub unhidden : Nodes → ℕ → Nodes
@@ -102,7 +102,7 @@ span_at spans p = get_or spans p (record { first = 0; end = 0 })
 
 -- the other nodes of p's option
 abbrev pub others_of : List Span → ℕ → List ℕ
-others_of spans p = others p (span_at spans p).first (span_at spans p).end
+others_of spans p = other_nodes p (span_at spans p).first (span_at spans p).end
 
 -- hide(p)
 abbrev pub hidden_node : List Span → Nodes → ℕ → Nodes

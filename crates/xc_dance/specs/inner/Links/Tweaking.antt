@@ -14,8 +14,9 @@ abbrev pub unhidden_unless : List Span → Bool → Nodes → ℕ → Nodes
 unhidden_unless spans covered t x = if covered then t else unhidden_node spans t x
 
 -- the first node of item i's list leaves it
-abbrev pub tweaked : List Span → Bool → Nodes → ℕ → Nodes
-tweaked spans covered t i = unlinked (hidden_unless spans covered t (slice_index t.dlink i)) (slice_index t.dlink i)
+abbrev pub tweaked_nodes : List Span → Bool → Nodes → ℕ → Nodes
+tweaked_nodes spans covered t i =
+    unlinked (hidden_unless spans covered t (slice_index t.dlink i)) (slice_index t.dlink i)
 
 -- node x comes back
 abbrev pub untweaked : List Span → Bool → Nodes → ℕ → Nodes

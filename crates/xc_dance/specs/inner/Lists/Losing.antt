@@ -23,9 +23,9 @@ abbrev pub lose : List Move → ℕ → List ℕ → List (List ℕ) → List (L
 lose t j gone ls = lose_from t j gone 1 ls
 
 -- the option gives item i the colour that is kept
-abbrev pub is_kept : Puzzle → ℕ → Option ℕ → ℕ → Bool
-is_kept p i None o = false
-is_kept p i (Some c) o = not (is_other_colour c (colour_in (uses_of p o) i))
+abbrev pub keeps_colour : Puzzle → ℕ → Option ℕ → ℕ → Bool
+keeps_colour p i None o = false
+keeps_colour p i (Some c) o = not (is_other_colour c (colour_in (uses_of p o) i))
 
 -- from item i on, each item that is used has the option at the end of its list
 abbrev pub enlisted_from : List Use → ℕ → ℕ → List (List ℕ) → List (List ℕ)

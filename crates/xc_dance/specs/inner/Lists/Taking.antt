@@ -41,9 +41,9 @@ lists_at_marks [] es lists = []
 lists_at_marks (k ∷ ks) es lists = restored k es lists ∷ lists_at_marks ks (still_taken k es) (restored k es lists)
 
 -- the marks, the newest first, fall from n
-abbrev pub AreMarks : List ℕ → ℕ → Type 0
-AreMarks [] n = ⊤
-AreMarks (k ∷ ks) n = (k ≤ n) × AreMarks ks k
+abbrev pub AreFalling : List ℕ → ℕ → Type 0
+AreFalling [] n = ⊤
+AreFalling (k ∷ ks) n = (k ≤ n) × AreFalling ks k
 
 -- its list is there, reaches to its place and has room for it
 abbrev pub HasRoom : List ℕ → Removed → List (List ℕ) → Type 0

@@ -2,7 +2,7 @@
 //! 4B.
 ghost use Rattle.std.specs.Prelude.{◌≡◌, ℕ, ◌+◌, ◌-◌, ◌*◌, ◌<◌, ◌≤◌, ◌^◌, length, slice_index, slice_get, fold, None};
 ghost use Rattle.std.specs.Prelude.{Some, false, if◌then◌else◌, IfOk, IsTrue, ◌↔◌};
-ghost use Rattle.xc_dance.specs.inner.Links.Columns.{columns, written};
+ghost use Rattle.xc_dance.specs.inner.Links.Columns.{columns, column_writes};
 ghost use Rattle.xc_dance.specs.inner.Links.Steps.{list_of, list_back};
 ghost use Rattle.xc_dance.specs.inner.Links.ListWalks.{left_node, back_node, walk_costs, back_costs, CanHideList};
 ghost use Rattle.xc_dance.specs.inner.Links.ListWalks.{CanUnhideList};
@@ -32,13 +32,13 @@ pub(crate) struct Nodes {
 }
 
 impl Model for Nodes {
-    ghost use Rattle.xc_dance.specs.inner.Links.Columns.{NodeTable, columns, written};
+    ghost use Rattle.xc_dance.specs.inner.Links.Columns.{NodeTable, columns, column_writes};
 
     ghost Value = { NodeTable };
 
     ghost view = { λ a. record {
       cells = columns a.top.cells.items a.links.links.items a.color.cells.items;
-      written = written a.top.cells.items a.links.links.items a.color.cells.items;
+      written = column_writes a.top.cells.items a.links.links.items a.color.cells.items;
     } };
 }
 
@@ -47,10 +47,10 @@ impl Nodes {
     ghost use Rattle.xc_dance.specs.inner.Links.FirstNodes.{entered};
     ghost use Rattle.xc_dance.specs.inner.Links.Steps.{HasSize, list_of, list_back};
     ghost use Rattle.xc_dance.specs.inner.Links.ListWalks.{left_node, back_node, walk_costs, back_costs, CanHideList};
-    ghost use Rattle.xc_dance.specs.inner.Links.ListWalks.{CanUnhideList, with_colour};
+    ghost use Rattle.xc_dance.specs.inner.Links.ListWalks.{CanUnhideList, recoloured};
     ghost use Rattle.xc_dance.specs.inner.Links.Unmarked.{IsUnmarked};
     ghost use Rattle.xc_dance.specs.inner.Links.Purifying.{purified_list, unpurified_list, CanPurify, CanUnpurify};
-    ghost use Rattle.xc_dance.specs.inner.Links.Tweaking.{tweaked, untweaked, tweak_cost, untweak_cost, CanTweak};
+    ghost use Rattle.xc_dance.specs.inner.Links.Tweaking.{tweaked_nodes, untweaked, tweak_cost, untweak_cost, CanTweak};
     ghost use Rattle.xc_dance.specs.inner.Links.Tweaking.{CanUntweak};
     ghost use Rattle.xc_dance.specs.inner.Links.TweaksBack.{untweaked_all, untweak_all_cost, CanUntweakAll};
 
@@ -210,7 +210,7 @@ impl Nodes {
     pub(crate) fn purify(&mut self, spans: &Spans, i: u32, c: u32) -> u64
         requires can { CanPurify spans.now c self.old.cells i }
         ensures done { self.new.cells ≡ purified_list spans.now c self.old.cells i }
-        ensures cost { result ≡ walk_costs spans.now (Some c) (with_colour self.old.cells i c)
+        ensures cost { result ≡ walk_costs spans.now (Some c) (recoloured self.old.cells i c)
             (list_of self.old.cells i) + 1 }
         ensures counted { self.new.written ≡ self.old.written + result }
     {
@@ -244,7 +244,7 @@ impl Nodes {
     pub(crate) fn tweak(&mut self, spans: &Spans, covered: bool, i: u32, marks: bool) -> u64
         requires can { CanTweak spans.now covered self.old.cells i }
         requires unmarked { marks ≡ false → IsUnmarked spans.now self.old.cells.color }
-        ensures done { self.new.cells ≡ tweaked spans.now covered self.old.cells i }
+        ensures done { self.new.cells ≡ tweaked_nodes spans.now covered self.old.cells i }
         ensures cost { result ≡ tweak_cost spans.now covered self.old.cells i }
         ensures counted { self.new.written ≡ self.old.written + result }
     {
@@ -327,7 +327,7 @@ fn hide_among_marks(
     ensures cost { result ≡ walk_costs spans.now keep (columns top.old links.old color.old)
         (list_of (columns top.old links.old color.old) i) }
     ensures few_writes { result ≤ 3 * 2 ^ 62 }
-    ensures counted { written top.new links.new color.new ≡ written top.old links.old color.old + result }
+    ensures counted { column_writes top.new links.new color.new ≡ column_writes top.old links.old color.old + result }
 {
     let mut top = CellsMut { cells: &mut *top };
     let mut links = LinksMut { links: &mut *links };
@@ -352,7 +352,7 @@ fn unhide_among_marks(
     ensures cost { result ≡ back_costs spans.now keep (columns top.old links.old color.old)
         (list_back (columns top.old links.old color.old) i) }
     ensures few_writes { result ≤ 3 * 2 ^ 62 }
-    ensures counted { written top.new links.new color.new ≡ written top.old links.old color.old + result }
+    ensures counted { column_writes top.new links.new color.new ≡ column_writes top.old links.old color.old + result }
 {
     let mut top = CellsMut { cells: &mut *top };
     let mut links = LinksMut { links: &mut *links };

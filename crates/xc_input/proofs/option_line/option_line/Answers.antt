@@ -6,7 +6,7 @@ use Rattle.std.proofs.Common.{◌++◌, ◌∷◌, []}
 use Rattle.xc_input.specs.Faults.{first}
 use Rattle.xc_input.specs.Tokens.{tokens}
 use Rattle.xc_input.specs.declared.line_error.LineError.TheVariants.{Fault}
-use Rattle.xc_input.specs.inner.Stages.{context, token_checks, option_checks, written}
+use Rattle.xc_input.specs.inner.Stages.{context, staged_token_checks, staged_option_checks, written}
 use Rattle.xc_input.specs.inner.Builders.{items_of}
 use Rattle.xc_input.specs.inner.Stored.{key_names}
 use Rattle.xc_input.proofs.FaultLemmas.Checks.{stopped, items-length}
@@ -20,10 +20,10 @@ pub returns-in_err-written-clause-judged : goal.returns-in_err-written-clause-ju
 returns-in_err-written-clause-judged c =
     let b = c.loop-token.invariant in
     let known = context c.args.kind (key_names c.args.names.now.keys) c.args.primary in
-    stopped (token_checks known (items_of b.us) c.in-Some.ensures.0) (option_checks known (items_of b.us
+    stopped (staged_token_checks known (items_of b.us) c.in-Some.ensures.0) (staged_option_checks known (items_of b.us
     ++ (written known.names c.in-Some.ensures.0).item ∷ []) (tokens c.in-Some.others.now)) c.from_residual.result
     (Fault c.in_err-written.field-0.0) c.from_residual.ensures.1
-    (b.decided ∙ ap (λ ts. first (option_checks known (items_of b.us) ts)) c.in-Some.ensures.1)
+    (b.decided ∙ ap (λ ts. first (staged_option_checks known (items_of b.us) ts)) c.in-Some.ensures.1)
     (c.in_err-written.ensures.judged known.names c.in-Some.ensures.0 (items_of b.us) c.requires.named.named b.count
     c.in-Some.ensures.3 b.marked)
 

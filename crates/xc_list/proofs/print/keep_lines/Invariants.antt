@@ -2,7 +2,7 @@ use Rattle.std.proofs.Common.{◌≡◌, ◌≤◌, ◌++◌, length, take}
 use Rattle.std.specs.Prelude.{All, map}
 use Rattle.xc_search.specs.Marks.{marked, IsMark}
 use Rattle.xc_list.specs.Known.{IsKnownChoice}
-use Rattle.xc_list.specs.inner.Pages.{AreKept, end_of}
+use Rattle.xc_list.specs.inner.Pages.{AreKept, lines_end}
 use Rattle.xc_list.proofs.print.keep_lines.Given as goal
 
 -- the lines of the marks before those that are left stand
@@ -10,7 +10,7 @@ abbrev pub invariant-loop-mark : goal.invariant-loop-mark
 invariant-loop-mark g l = record {
   kept : AreKept l.laid l.text l.kept;
   done : l.done ≤ length l.kept;
-  at : l.at ≡ end_of l.laid (take l.done l.kept);
+  at : l.at ≡ lines_end l.laid (take l.done l.kept);
   whole : map (λ k. marked l.laid.puzzle k.mark) (take l.done l.kept) ++ map (marked l.laid.puzzle) l.marks
       ≡ l.fn.walk.shown;
   right : All (IsMark l.laid.puzzle) l.marks;

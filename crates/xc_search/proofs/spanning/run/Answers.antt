@@ -1,7 +1,7 @@
 use Rattle.std.proofs.Common.{not, refl, sym, ap, ◌∙◌, arith, length}
 use Rattle.std.specs.Prelude.{option_map}
 use Rattle.std.proofs.lemmas.List.{length-reverse}
-use Rattle.xc_search.specs.inner.Spanning.{Begins, IsRest}
+use Rattle.xc_search.specs.inner.Spanning.{BeginsBranch, IsRest}
 use Rattle.xc_search.proofs.spans.Kept.{row_levels, rest_before, rest_about}
 use Rattle.xc_search.proofs.spans.Passing.{rest_of_all}
 use Rattle.xc_search.proofs.spans.Running.{stands_first}
@@ -44,7 +44,7 @@ commit_branch-requires-clause-place g c =
     (c.enter_branch.ensures.entered c.in-Branch.entered c.in-Branch.is _ c.loop-steps.invariant.rest).place
 
 -- a branch was begun
-begins : (g : _) (c : After-commit_branch g) → Begins (not c.args.task.early) (not c.args.task.behind)
+begins : (g : _) (c : After-commit_branch g) → BeginsBranch (not c.args.task.early) (not c.args.task.behind)
     (option_map (λ u. u.now) c.args.task.until) c.loop-steps.position c.loop-steps.stack c.loop-steps.more
     c.commit_branch.new.self c.enter_branch.new.stack c.enter_branch.new.more
 begins g c =

@@ -1,7 +1,7 @@
 use Rattle.std.proofs.Common.{◌≡◌, ◌++◌, length, false}
 use Rattle.xc_input.specs.Words.{has}
 use Rattle.xc_list.specs.Texts.{Took}
-use Rattle.xc_tools.specs.inner.Joining.{Adds, IsAfter, fed}
+use Rattle.xc_tools.specs.inner.Joining.{Adds, IsAfter, fed_lines}
 use Rattle.xc_tools.proofs.joining.feed.Given as goal
 
 -- what was taken and carried, and the rest, is all that there is
@@ -10,7 +10,7 @@ invariant-loop-line g l = record {
   after : IsAfter l.lines;
   part : has 10 l.carry.items ≡ false;
   listed : l.lines.joint.listed ≡ l.fn.lines.joint.listed;
-  fed : fed l.lines l.carry.items ++ l.rest ≡ fed l.fn.lines l.fn.carry.items ++ l.piece;
+  fed : fed_lines l.lines l.carry.items ++ l.rest ≡ fed_lines l.fn.lines l.fn.carry.items ++ l.piece;
   adds : Adds l.fn.lines.joint.listed l.fn.lines.given.lines l.lines.given.lines Took (g.O.Sink.state l.fn.out)
       (g.O.Sink.state l.out);
 }

@@ -1,5 +1,5 @@
 use Rattle.std.proofs.Common.{◌∙◌, ap, inr, sym}
-use Rattle.xc_tools.specs.inner.Joining.{reached}
+use Rattle.xc_tools.specs.inner.Joining.{stand_reached}
 use Rattle.xc_tools.proofs.JoinLemmas.Reading.{ends-as}
 use Rattle.xc_tools.proofs.joining.join_all.Goals as goal
 
@@ -14,7 +14,7 @@ returns g c =
         read.all,
         read.after.whole,
         read.part,
-        ap (λ b. reached b c.feed_all.new.lines.given.lines) (sym read.listed) ∙ read.after.stands,
+        ap (λ b. stand_reached b c.feed_all.new.lines.given.lines) (sym read.listed) ∙ read.after.stands,
         ends-as _ _ _ c.deref.ensures.value c.end_text.ensures.ends,
         read.adds,
       );

@@ -1,7 +1,7 @@
 use Rattle.std.proofs.Common.{◌∙◌, ap}
 use Rattle.std.proofs.lemmas.Result.{err_from_is_err_and}
 use Rattle.xc_list.specs.Texts.{Took}
-use Rattle.xc_tools.specs.inner.Joining.{reached}
+use Rattle.xc_tools.specs.inner.Joining.{stand_reached}
 use Rattle.xc_tools.proofs.JoinLemmas.Reading.{adds-more, refused, stands-more, unwritten, whole-more}
 use Rattle.xc_tools.proofs.joining.take_line.Goals as goal
 
@@ -21,8 +21,8 @@ returns-in_err-write_act-clause-stops g c =
 
 pub returns-clause-after : goal.returns-clause-after
 returns-clause-after g c = record {
-  stands = ap (λ b. reached b c.after.result.lines) c.take.ensures.listed
-      ∙ ap (reached c.args.lines.now.joint.listed) c.after.ensures
+  stands = ap (λ b. stand_reached b c.after.result.lines) c.take.ensures.listed
+      ∙ ap (stand_reached c.args.lines.now.joint.listed) c.after.ensures
       ∙ stands-more c.args.lines.now.joint.listed c.args.lines.now.given.lines c.args.line.now _
       c.requires.after.stands ∙ ap (λ r. r.0) c.in_ok-act.ensures.step;
   whole = rw c.after.ensures (whole-more _ c.args.line.now c.requires.after.whole c.requires.free);

@@ -3,7 +3,8 @@ use Rattle.std.proofs.lemmas.List.{reverse-append}
 use Rattle.xc_dance.specs.inner.Links.Columns.{Nodes}
 use Rattle.xc_dance.specs.inner.Links.Lent.{lent}
 use Rattle.xc_dance.specs.inner.Links.Span.{Span}
-use Rattle.xc_dance.specs.inner.Links.Steps.{unhidden, CanUnhideAll, CanUnhideNode, places, others, others_of, span_at}
+use Rattle.xc_dance.specs.inner.Links.Steps.{unhidden, CanUnhideAll, CanUnhideNode, places, other_nodes, others_of}
+use Rattle.xc_dance.specs.inner.Links.Steps.{span_at}
 use Rattle.xc_dance.proofs.LinkedTables.Walks.{places_none, reverse-places, CanAll-append, underway, step_can, step_on}
 use Rattle.xc_dance.proofs.LinkedTables.Walks.{Tells, tells, unhide_walk}
 use Rattle.xc_dance.proofs.Rounds.{Met, met}
@@ -11,7 +12,7 @@ use Rattle.xc_dance.proofs.links.steps.unhide.Goals as goal
 use Rattle.xc_dance.proofs.links.steps.unhide.Goals.{After-get_at, After-down_at}
 use Rattle.xc_dance.specs.declared.links.cells.nodes.TheConstants.{SPACER}
 
-both : (p first end : ℕ) → reverse (others p first end) ≡ reverse (places first p) ++ reverse (places (p + 1) end)
+both : (p first end : ℕ) → reverse (other_nodes p first end) ≡ reverse (places first p) ++ reverse (places (p + 1) end)
 both p first end = reverse-append (places (p + 1) end) (places first p)
 
 -- the walk down to the spacer

@@ -4,13 +4,13 @@ use Rattle.std.specs.Prelude.{Option}
 use Rattle.xc_input.specs.Problem.{Puzzle}
 use Rattle.xc_dance.specs.inner.Lists.Versions.{Versions}
 use Rattle.xc_dance.specs.inner.Lists.Taking.{list_at}
-use Rattle.xc_dance.specs.inner.Lists.Losing.{lose, is_kept, AreLists, lists_after}
+use Rattle.xc_dance.specs.inner.Lists.Losing.{lose, keeps_colour, AreLists, lists_after}
 use Rattle.xc_dance.proofs.MoveLemmas.Shortened.{lists_hold, list_after, length_numbers, lists_covered, lists_purified}
 use Rattle.xc_dance.proofs.lists.hide.hide_for.Goals as goal
 
 -- what is left of the lists without the options of item i that don't keep its colour
 abbrev taken : Puzzle → List Move → ℕ → Option ℕ → List (List ℕ) → List (List ℕ)
-taken p t i kept l = lose t i (filter (λ o. not (is_kept p i kept o)) (list_at l (i - 1))) l
+taken p t i kept l = lose t i (filter (λ o. not (keeps_colour p i kept o)) (list_at l (i - 1))) l
 
 held : (p : Puzzle) (t : List Move) (l : List (List ℕ)) → l ≡ lists_after p t → AreLists p l
 held p t l is = subst (λ (k : List (List ℕ)). AreLists p k) (sym is) (lists_hold p t)

@@ -4,12 +4,12 @@ use Rattle.std.specs.Prelude.{Option}
 use Rattle.xc_input.specs.Problem.{Puzzle}
 use Rattle.std.proofs.lemmas.List.{take_more}
 use Rattle.xc_dance.specs.inner.Lists.Taking.{list_at}
-use Rattle.xc_dance.specs.inner.Lists.Losing.{is_kept}
+use Rattle.xc_dance.specs.inner.Lists.Losing.{keeps_colour}
 use Rattle.xc_dance.proofs.LiveLists.OptionsLost.{lose_none, lose_more, length-lose_from, lists-lose_from, read_option}
 use Rattle.xc_dance.proofs.lists.hide.hide_options.Goals as goal
 
 abbrev gone : Puzzle → ℕ → Option ℕ → List ℕ → List ℕ
-gone p i kept os = filter (λ o. not (is_kept p i kept o)) os
+gone p i kept os = filter (λ o. not (keeps_colour p i kept o)) os
 
 pub loop-at-init : goal.loop-at-init
 loop-at-init c = grind (arith, lose_none)

@@ -1,6 +1,6 @@
 use Rattle.std.proofs.Common.{arith, ◌∙◌, ap, refl, length, []}
 use Rattle.xc_input.specs.Tokens.{tokens}
-use Rattle.xc_input.specs.inner.Stages.{option_checks, whole_checks, context}
+use Rattle.xc_input.specs.inner.Stages.{staged_option_checks, whole_checks, context}
 use Rattle.xc_input.specs.inner.Builders.{sheet_of_builder}
 use Rattle.xc_input.specs.inner.Stored.{key_names}
 use Rattle.xc_input.proofs.FaultLemmas.Checks.{stopped, items-length}
@@ -10,7 +10,8 @@ use Rattle.xc_input.proofs.builder.ProblemBuilder.take_option.Goals as goal
 
 pub returns-in_err-option_line-clause-judged : goal.returns-in_err-option_line-clause-judged
 returns-in_err-option_line-clause-judged c =
-    stopped (option_checks (context c.args.kind (key_names c.args.self.now.names.keys) c.args.self.now.primary) []
+    stopped (staged_option_checks (context c.args.kind (key_names c.args.self.now.names.keys) c.args.self.now.primary)
+    []
     (tokens c.args.line.now)) (whole_checks (sheet_of_builder c.args.self.now) c.args.line.now) c.from_residual.result
     c.in_err-option_line.field-0.0 c.from_residual.ensures.1
     (content-is c.args.kind c.args.line.now c.requires.sound c.requires.started) c.in_err-option_line.ensures.judged

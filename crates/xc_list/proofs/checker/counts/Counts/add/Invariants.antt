@@ -1,5 +1,5 @@
 use Rattle.std.proofs.Common.{ℕ, suc, ◌≡◌, ◌+◌, ◌^◌, ◌<◌, drop, length, get_or}
-use Rattle.xc_list.specs.inner.CoverCounts.{added, coloured, short_of}
+use Rattle.xc_list.specs.inner.CoverCounts.{added, colours_after, short_of}
 use Rattle.xc_list.proofs.CheckLemmas.HeldItems.{held}
 use Rattle.xc_list.proofs.checker.counts.Counts.add.Given as goal
 
@@ -7,7 +7,8 @@ use Rattle.xc_list.proofs.checker.counts.Counts.add.Given as goal
 abbrev pub invariant-loop-u : goal.invariant-loop-u
 invariant-loop-u l = record {
   times : added (drop l.u-index l.uses) l.self.times.items ≡ added l.uses l.initial.self.times.items;
-  colours : coloured (drop l.u-index l.uses) l.self.colours.items ≡ coloured l.uses l.initial.self.colours.items;
+  colours : colours_after (drop l.u-index l.uses) l.self.colours.items
+      ≡ colours_after l.uses l.initial.self.colours.items;
   asked : l.self.asked ≡ l.initial.self.asked;
   short : l.self.short ≡ short_of l.bounds l.self.times.items;
   items : length l.self.times.items ≡ length l.initial.self.times.items;

@@ -1,6 +1,6 @@
 use Rattle.std.proofs.Common.{◌∙◌, ap, ℕ}
 use Rattle.std.proofs.lemmas.List.{map-append}
-use Rattle.xc_list.specs.inner.CoverCounts.{added, coloured}
+use Rattle.xc_list.specs.inner.CoverCounts.{added, colours_after}
 use Rattle.xc_list.proofs.CheckLemmas.CountedClasses.{uses_in-take}
 use Rattle.std.proofs.lemmas.Grind.{common_steps}
 use Rattle.std.proofs.Common.{arith, ◌≢◌, get_or}
@@ -36,7 +36,8 @@ loop-class-preserved c =
     let read = (c.loop-class.invariant.few (get_or c.args.chosen.now i 0)).1 in
     record {
       times = c.add.ensures.times ∙ rw (more, map-append, raised-append) (ap (added us) c.loop-class.invariant.times);
-      colours = c.add.ensures.colours ∙ rw (more, coloured-append) (ap (coloured us) c.loop-class.invariant.colours);
+      colours = c.add.ensures.colours ∙ rw (more, coloured-append)
+          (ap (colours_after us) c.loop-class.invariant.colours);
       asked = grind (arith, common_steps);
       short = c.add.ensures.short;
       items = grind (arith, length-raised);
