@@ -1,6 +1,6 @@
 //! What is there for callers: sources, items and options in order, names and colours of uses.
 use fixtures::{COLOURED, SEVEN, on_problem, on_source};
-use xc_input::law::are_equal;
+use xc_input::laws::are_equal;
 use xc_input::{Bounds, FaultKind, InputError, Kind, Problem, Seed, SliceSource, Use, place_in};
 
 #[test]

@@ -16,6 +16,6 @@ pub mod Lines
 pub mod Calls
 pub mod Readings
 pub mod Pieces
-pub mod Law
+pub mod Laws
 pub mod Worked
 pub mod inner

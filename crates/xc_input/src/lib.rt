@@ -23,7 +23,7 @@ mod given;
 mod guess;
 mod item_line;
 mod kind;
-pub mod law;
+pub mod laws;
 mod limits;
 mod line_error;
 mod names;

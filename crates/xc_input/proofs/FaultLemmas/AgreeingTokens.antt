@@ -8,7 +8,7 @@ use Rattle.xc_input.specs.declared.faulty.FaultyToken.{FaultyToken}
 use Rattle.xc_input.specs.Faults.{first, checks_of_each, context_of, token_checks}
 use Rattle.xc_input.specs.FaultyTokens.{IsAtFault, IsFaulty}
 use Rattle.xc_input.specs.FirstFault.{content, content_checks, line_checks, line_number}
-use Rattle.xc_input.specs.Law.{TokensAgree}
+use Rattle.xc_input.specs.Laws.{TokensAgree}
 use Rattle.xc_input.specs.Tokens.{tokens, parts}
 use Rattle.xc_input.proofs.FaultLemmas.FirstChecks.{first-front, first-each}
 

@@ -1,7 +1,7 @@
 //! What holds of every text.
 
 ghost use Rattle.std.specs.Prelude.{◌≡◌, ◌↔◌, IsTrue};
-ghost use Rattle.xc_input.specs.Law.{FaultlessStand, StandForOne, StandAlso, TokensAgree};
+ghost use Rattle.xc_input.specs.Laws.{FaultlessStand, StandForOne, StandAlso, TokensAgree};
 ghost use Rattle.xc_input.specs.declared.kind.Kind.TheVariants.{Plain, Colours, Bounds};
 
 use crate::{FaultKind, InputError, Kind, Seed, Use};

@@ -2,7 +2,7 @@ use Rattle.std.proofs.Common.{arith}
 use Rattle.xc_input.proofs.GrammarLemmas.SheetGrammar.{named_of}
 use Rattle.xc_input.specs.inner.Stages.{stage_of}
 use Rattle.xc_input.proofs.FaultLemmas.FirstFaults.{faultless-stands, stands-only}
-use Rattle.xc_input.proofs.law.fault_or_problem.Goals as goal
+use Rattle.xc_input.proofs.laws.fault_or_problem.Goals as goal
 
 pub returns-clause-stands : goal.returns-clause-stands
 returns-clause-stands c = λ kind lines. (
