@@ -7,3 +7,4 @@ pub mod FaultLemmas
 pub mod GrammarLemmas
 pub mod ValidLemmas
 pub mod OptionLemmas
+pub mod WrittenTexts

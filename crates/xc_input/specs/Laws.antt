@@ -1,8 +1,14 @@
 -- Each list of lines has a first fault or stands for one problem, and a token at fault has the fault of its line.
 -- What stands for one stands for it as each kind that allows more.
-use Rattle.std.specs.Prelude.{◌≡◌, ◌↔◌, ◌+◌, ℕ, List, [], ◌∷◌, ◌++◌, None, Some, length, slice_get}
+use Rattle.std.specs.Prelude.{◌≡◌, ◌↔◌, ◌+◌, ℕ, List, [], ◌∷◌, ◌++◌, None, Some, length, slice_get, map}
+use Rattle.std.specs.Prelude.{flat_map, unwrap_or}
 use Rattle.xc_input.specs.declared.kind.Kind.{Kind}
-use Rattle.xc_input.specs.Named.{Named}
+use Rattle.xc_input.specs.declared.kind.Kind.TheVariants.{Bounds}
+use Rattle.xc_input.specs.declared.problem.Use.{Use}
+use Rattle.xc_input.specs.Problem.{numbered_get}
+use Rattle.xc_input.specs.Sheets.{Written, colours_of}
+use Rattle.xc_input.specs.Lines.{lines_of}
+use Rattle.xc_input.specs.Named.{Named, IsSound}
 use Rattle.xc_input.specs.declared.faulty.FaultyToken.{FaultyToken}
 use Rattle.xc_input.specs.FaultyTokens.{IsFaultyToken}
 use Rattle.xc_input.specs.FirstFault.{line_number, content, line_fault, first_fault}
@@ -28,3 +34,20 @@ abbrev pub TokensAgree : Type 0
 TokensAgree = (kind : Kind) (lines : List (List ℕ)) (line : List ℕ) (t : FaultyToken) → line_fault kind lines ≡ None
     → IsFaultyToken kind (slice_get (content lines) 0) line t
     → line_fault kind (lines ++ line ∷ []) ≡ Some (line_number (length lines + 1), t.kind)
+
+-- a use as an option line writes it
+abbrev pub written_use : List (List ℕ) → Use → Written
+written_use colours u = record { item = u.item; colour = unwrap_or (numbered_get colours u.colour) [] }
+
+-- the colours are those of the uses, each where it is met first
+abbrev pub AreMetInOrder : Named → Type 0
+AreMetInOrder a = a.colours ≡ colours_of (map (written_use a.colours) (flat_map (λ us. us) a.puzzle.options))
+
+-- Each sound problem has a text, if its colours are numbered as its uses meet them.
+abbrev pub HaveTexts : Type 0
+HaveTexts = (a : Named) → IsSound a → AreMetInOrder a → (text : List ℕ) × StandsFor Bounds (lines_of text) a []
+
+-- The colours of each problem that lines stand for are numbered so.
+abbrev pub StandInOrder : Type 0
+StandInOrder = (kind : Kind) (lines : List (List ℕ)) (named : Named) (ignored : List ℕ)
+    → StandsFor kind lines named ignored → AreMetInOrder named

@@ -1,0 +1,7 @@
+-- Each sound problem has a text: its items and options, written down.
+pub mod Spaced
+pub mod Numerals
+pub mod ItemLine
+pub mod OptionLines
+pub mod Lines
+pub mod ColourOrder

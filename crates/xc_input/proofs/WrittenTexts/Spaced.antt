@@ -1,0 +1,82 @@
+-- Words with a space before each: the tokens of such a line are these words.
+use Rattle.std.proofs.Common.{◌≡◌, ℕ, ◌<◌, ◌+◌, List, [], ◌∷◌, ◌++◌, true, false, length, refl, ap, ◌∙◌, arith}
+use Rattle.std.proofs.Common.{filter, take, drop, flat_map, nat_lt, nat_eq}
+use Rattle.std.specs.List.{AllByRecursion as Each, list_any, slice_split, position_or_len}
+use Rattle.std.specs.List.{before_first, after_first}
+use Rattle.std.proofs.Math.Seq.{take-append_seam, drop-append-add}
+use Rattle.std.proofs.lemmas.Bool.Decides.{nat_tests}
+use Rattle.std.proofs.lemmas.List.Folds.{list_any-append}
+use Prim.Native.Char.{code}
+use Rattle.xc_input.specs.Tokens.{is_space, tokens, parts, split_bars, is_bar, is_skipped}
+use Rattle.xc_input.specs.Words.{has}
+
+-- bytes, none of which is white space, a NUL byte or a line feed
+pub record IsWord (w : List ℕ) : Type 0 where
+  pub some : 0 < length w
+  pub no_space : list_any is_space w ≡ false
+  pub no_nul : has 0 w ≡ false
+  pub no_feed : has 10 w ≡ false
+
+-- a space before each word
+abbrev pub spaced : List (List ℕ) → List ℕ
+spaced [] = []
+spaced (w ∷ ws) = code " " ∷ w ++ spaced ws
+
+-- a word at the front
+split-front : (w rest : List ℕ) (ws : List (List ℕ)) → list_any is_space w ≡ false
+    → slice_split is_space rest ≡ [] ∷ ws → slice_split is_space (w ++ rest) ≡ w ∷ ws
+split-front [] rest ws h e = e
+split-front (b ∷ w) rest ws h e = grind (arith, nat_tests, split-front w rest ws)
+
+split-spaced : (ws : List (List ℕ)) → Each IsWord ws → slice_split is_space (spaced ws) ≡ [] ∷ ws
+split-spaced [] a = refl
+split-spaced (w ∷ ws) a =
+    let rest = split-front w (spaced ws) ws a.0.no_space (split-spaced ws a.1) in grind (arith, nat_tests)
+
+some-words : (ws : List (List ℕ)) → Each IsWord ws → filter (λ w. nat_lt 0 (length w)) ws ≡ ws
+some-words [] a = refl
+some-words (w ∷ ws) a = grind (arith, nat_tests, some-words ws a.1, a.0.some)
+
+pub tokens-spaced : (ws : List (List ℕ)) → Each IsWord ws → tokens (spaced ws) ≡ ws
+tokens-spaced ws a = grind (arith, nat_tests, split-spaced ws a, some-words ws a)
+
+-- no word has the byte, nor is it a space
+pub lacks-spaced : (b : ℕ) (ws : List (List ℕ)) → nat_eq (code " ") b ≡ false → Each (λ w. has b w ≡ false) ws
+    → has b (spaced ws) ≡ false
+lacks-spaced b [] h a = refl
+lacks-spaced b (w ∷ ws) h a =
+    grind (arith, nat_tests, lacks-spaced b ws h a.1, list_any-append (λ x. nat_eq x b) w (spaced ws))
+
+-- a word that no bar begins is one part, and so is a bar
+abbrev pub IsPart : List ℕ → Type 0
+IsPart w = split_bars w ≡ w ∷ []
+
+parts-of : (ws : List (List ℕ)) → Each IsPart ws → flat_map split_bars ws ≡ ws
+parts-of [] a = refl
+parts-of (w ∷ ws) a = grind (arith, parts-of ws a.1, a.0)
+
+pub parts-spaced : (ws : List (List ℕ)) → Each IsWord ws → Each IsPart ws → parts (spaced ws) ≡ ws
+parts-spaced ws a b = grind (arith, tokens-spaced ws a, parts-of ws b)
+
+pub no_bar-part : (w : List ℕ) → 0 < length w → is_bar w ≡ false → IsPart w
+no_bar-part [] h e = absurd (omega (arith, h))
+no_bar-part (b ∷ bs) h e = grind (arith, nat_tests)
+
+bar-place : (ps qs : List (List ℕ)) (bar : List ℕ) → Each (λ p. is_bar p ≡ false) ps → is_bar bar ≡ true
+    → position_or_len is_bar (ps ++ bar ∷ qs) ≡ length ps
+bar-place [] qs bar a e = grind (arith, e)
+bar-place (p ∷ ps) qs bar a e = grind (arith, nat_tests, bar-place ps qs bar a.1 e, a.0)
+
+-- the parts before a bar and after it
+pub cut-at_bar : (ps qs : List (List ℕ)) (bar : List ℕ) → Each (λ p. is_bar p ≡ false) ps → is_bar bar ≡ true
+    → (before_first is_bar (ps ++ bar ∷ qs) ≡ ps) × (after_first is_bar (ps ++ bar ∷ qs) ≡ qs)
+cut-at_bar ps qs bar a e =
+    let at = bar-place ps qs bar a e in (
+      ap (λ n. take n (ps ++ bar ∷ qs)) at ∙ take-append_seam ps (bar ∷ qs),
+      ap (λ n. drop (n + 1) (ps ++ bar ∷ qs)) at ∙ drop-append-add ps (bar ∷ qs) 1,
+    )
+
+-- a line whose first word no bar begins is neither blank nor a comment
+pub shown-spaced : (w : List ℕ) (ws : List (List ℕ)) → Each IsWord (w ∷ ws) → is_bar w ≡ false
+    → is_skipped (spaced (w ∷ ws)) ≡ false
+shown-spaced w ws a e = grind (arith, tokens-spaced (w ∷ ws) a, e)
