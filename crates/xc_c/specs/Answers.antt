@@ -12,16 +12,16 @@ use Rattle.xc_search.specs.Cover.{members, EachMemberCovers, EachCoverIsListedOn
 use Rattle.xc_list.specs.Output.{output}
 use Rattle.xc_c.specs.Numbers.{kind_by_number, faults}
 
--- a fault is told by its status, 3, its line and its number; that there is none by zeros
+-- a fault is reported with status 3, its line and its number; no fault with zeros
 abbrev pub IsTold : Option (ℕ × FaultKind) → ℕ → ℕ → ℕ → Type 0
 IsTold None status line fault = (status ≡ 0) × (line ≡ 0) × (fault ≡ 0)
 IsTold (Some found) status line fault = (status ≡ 3) × (line ≡ found.0) × (numbered_get faults fault ≡ Some found.1)
 
--- nothing is told, at this status
+-- nothing is reported, at this status
 abbrev pub IsUntold : ℕ → ℕ → ℕ → ℕ → Type 0
 IsUntold why status line fault = (status ≡ why) × (line ≡ 0) × (fault ≡ 0)
 
--- The first fault of a text is told, or that it has none; at 5 the number is of no kind, and at 4 memory was wanting.
+-- The first fault of a text is reported, or that it has none; at 5 the number is of no kind, and at 4 memory ran out.
 abbrev pub TellsFault : ℕ → List ℕ → ℕ → ℕ → ℕ → Type 0
 TellsFault number text status line fault = MatchOption (kind_by_number number) (IsUntold 5 status line fault)
     (λ kind. IsUntold 4 status line fault ⊎ IsTold (first_fault kind (lines_of text)) status line fault)
@@ -37,7 +37,7 @@ pub record IsSearched (kind : Kind) (text : List ℕ) (says : Named → Type 0) 
   pub said : says named
 
 -- What a search of a text answers: this is so of its problem; or nothing came of it, at status 5 since the number is of
--- no kind, at 3 since the text has a fault, at 4 for want of memory.
+-- no kind, at 3 since the text has a fault, at 4 for lack of memory.
 abbrev pub Searches : ℕ → List ℕ → ℕ → Type 0 → (Named → Type 0) → Type 0
 Searches number text status nothing says = MatchOption (kind_by_number number) ((status ≡ 5) × nothing) (λ kind.
     ((status ≡ 3) × (first_fault kind (lines_of text) ≢ None) × nothing) ⊎ ((status ≡ 4) × nothing)

@@ -1,4 +1,4 @@
--- The moves of a level of a search, and where an option stands.
+-- The moves of a level of a search, and where an option's nodes are.
 use Rattle.std.specs.Prelude.{ℕ, ◌+◌, ◌-◌, ◌<◌, ◌≤◌, ◌≡◌, ◌⊎◌, ◌==◌, nat_le, Option, Some, None, option_map, unwrap_or}
 use Rattle.std.specs.Prelude.{slice_get, List, [], ◌∷◌, ◌++◌, length, take, drop, if◌then◌else◌, All, Contains}
 use Rattle.xc_input.specs.UsePlaces.{place_in}
@@ -40,16 +40,16 @@ number_of (spacer n) = n
 number_of (used n u) = n
 number_of _ = 0
 
--- the option whose node stands at place q of item i's list; none at the item's own node
+-- the option whose node is at place q of item i's list; none at the item's own node
 abbrev pub option_at : Puzzle → ℕ → ℕ → Option ℕ
 option_at p i q = if q == i then None else Some (unwrap_or (option_map number_of (slice_get (layout p) q)) 0)
 
--- option x is in the list of item i after moves t, and its node stands at place q; item i's own node for x = 0
+-- option x is in the list of item i after moves t, and its node is at place q; item i's own node for x = 0
 pub record IsListedAt (p : Puzzle) (t : List Move) (i x q : ℕ) : Type 0 where
   pub listed : (x ≡ 0) ⊎ Contains (listed_numbers p t i) x
   pub at : q ≡ link_place p i x
 
--- option x uses item i, and its node stands at place q
+-- option x uses item i, and its node is at place q
 pub record IsUseAt (p : Puzzle) (i x q : ℕ) : Type 0 where
   pub known : IsOption p x
   pub holds : place_in i (uses_of p x) < length (uses_of p x)

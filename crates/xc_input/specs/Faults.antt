@@ -20,7 +20,7 @@ abbrev pub first : {A : Type 0} → List (A × Bool) → Option A
 first [] = None
 first (c ∷ cs) = (if c.1 then Some c.0 else first cs)
 
--- the checks of each in turn, by those before it, behind some
+-- the checks of each in turn, by those before it, after some
 abbrev pub checks_of_each : {A B : Type 0} → (List A → A → List B) → List A → List A → List B
 checks_of_each checks before [] = []
 checks_of_each checks before (x ∷ xs) = checks before x ++ checks_of_each checks (before ++ x ∷ []) xs
@@ -35,7 +35,7 @@ abbrev pub is_bounds : Kind → Bool
 is_bounds Bounds = true
 is_bounds _ = false
 
--- a name has bytes, not too many, none of which is a colon or a bar
+-- a name has bytes, not too many, and neither a colon nor a bar
 abbrev pub name_checks : List ℕ → List (FaultKind × Bool)
 name_checks name =
     (EmptyName, nat_lt (length name) 1) ∷ (NameTooLong, nat_lt longest_name (length name)) ∷
@@ -47,7 +47,7 @@ name_checks name =
 abbrev pub has_prefix : Kind → List ℕ → Bool
 has_prefix kind token = is_bounds kind && has (code "|") token
 
--- the name of a token, behind its prefix
+-- the name of a token, after its prefix
 abbrev pub name_of : Kind → List ℕ → List ℕ
 name_of kind token = (if has_prefix kind token then after (code "|") token else token)
 
@@ -68,7 +68,7 @@ abbrev pub bound_checks : Kind → Bool → List ℕ → List (FaultKind × Bool
 bound_checks kind secondary token =
     (if has_prefix kind token then prefix_checks (before (code "|") token) secondary else [])
 
--- the checks of a token that is no bar, behind items with these names
+-- the checks of a token that is no bar, after items with these names
 abbrev pub item_checks : Kind → List (List ℕ) → Bool → List ℕ → List (FaultKind × Bool)
 item_checks kind names secondary token =
     bound_checks kind secondary token ++ (name_checks (name_of kind token) ++
@@ -79,7 +79,7 @@ item_checks kind names secondary token =
 abbrev pub item_names : Kind → List (List ℕ) → List (List ℕ)
 item_names kind parts = map (name_of kind) (filter (λ part. not (is_bar part)) parts)
 
--- the checks of a bar or another part, behind these parts
+-- the checks of a bar or another part, after these parts
 abbrev pub part_checks : Kind → List (List ℕ) → List ℕ → List (FaultKind × Bool)
 part_checks kind before part =
     let barred = list_any is_bar before in
@@ -106,7 +106,7 @@ item_of c token = unwrap_or (place c.names (before (code ":") token)) 0 + 1
 abbrev pub is_bad_colour : List ℕ → Bool
 is_bad_colour colour = nat_lt (length colour) 1 || nat_lt longest_colour (length colour)
 
--- the checks of a token, behind these tokens
+-- the checks of a token, after these tokens
 abbrev pub token_checks : Context → List (List ℕ) → List ℕ → List (FaultKind × Bool)
 token_checks c others token =
     let name = before (code ":") token in

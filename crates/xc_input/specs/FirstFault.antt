@@ -27,18 +27,18 @@ is_kept c line = list_any (λ token. nat_le (item_of c token) c.primaries) (toke
 abbrev pub kept_uses : Context → List (List ℕ) → ℕ
 kept_uses c lines = sum_by (λ line. length (tokens line)) (filter (is_kept c) lines)
 
--- the checks of an option line, behind these
+-- the checks of an option line, after these
 abbrev pub option_checks : Context → List (List ℕ) → List ℕ → List (FaultKind × Bool)
 option_checks c options line =
     checks_of_each (token_checks c) [] (tokens line)
     ++ (TooManyUses, is_kept c line && nat_lt most_uses (kept_uses c options + length (tokens line))) ∷ []
 
--- the checks of a line with content, behind these
+-- the checks of a line with content, after these
 abbrev pub content_checks : Kind → List (List ℕ) → List ℕ → List (FaultKind × Bool)
 content_checks kind [] line = checks_of_each (part_checks kind) [] (parts line)
 content_checks kind (items ∷ options) line = option_checks (context_of kind (parts items)) options line
 
--- the checks of a line, behind these, with its number
+-- the checks of a line, after these, with its number
 abbrev pub line_checks : Kind → List (List ℕ) → List ℕ → List ((ℕ × FaultKind) × Bool)
 line_checks kind lines line =
     let checks = (NulByte, has 0 line) ∷ (if is_skipped line then [] else content_checks kind (content lines) line) in

@@ -14,7 +14,7 @@ use Rattle.xc_input.specs.FaultyTokens.{IsFaultyToken}
 use Rattle.xc_input.specs.FirstFault.{line_number, content, line_fault, first_fault}
 use Rattle.xc_input.specs.Text.{StandsFor}
 
--- lines have no fault exactly where they stand for a problem
+-- lines have no fault exactly if they stand for a problem
 abbrev pub FaultlessStand : Type 0
 FaultlessStand = (kind : Kind) (lines : List (List ℕ)) → (first_fault kind lines ≡ None)
     ↔ ((named : Named) × (ignored : List ℕ) × StandsFor kind lines named ignored)

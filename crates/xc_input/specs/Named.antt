@@ -18,7 +18,7 @@ pub record Named : Type 0 where
 abbrev pub AreColoursKnown : List (List ℕ) → List (List Use) → Type 0
 AreColoursKnown colours options = All (λ us. All (λ u. u.colour ≤ length colours) us) options
 
--- a use whose name and colour can be told
+-- a use whose item and colour have a name
 abbrev pub IsKnownUse : Named → Use → Type 0
 IsKnownUse a u = IsItem a.puzzle u.item × (u.colour ≤ length a.colours)
 
@@ -39,7 +39,7 @@ pub record IsUnbroken (bytes : List ℕ) : Type 0 where
   pub no_nul : has 0 bytes ≡ false
   pub no_feed : has 10 bytes ≡ false
 
--- each item has a name of its own, and no colour stands twice
+-- each item has a name of its own, and no colour occurs twice
 pub record IsWellNamed (a : Named) : Type 0 where
   pub count : length a.names ≡ item_count a.puzzle
   pub names : All IsName a.names

@@ -14,14 +14,14 @@ use Rattle.xc_input.specs.FirstFault.{line_fault}
 use Rattle.xc_input.specs.Words.{has}
 
 -- A source: how many of its reads failed, up to the counter's last value; at most how many bytes it may still give; the
--- bytes that it will give, where it tells them; and what each read gave so far, in order, nothing at the end.
+-- bytes that it will give, if they are known; and what each read gave so far, in order, nothing at the end.
 pub record SourceState : Type 0 where
   pub failures : ℕ
   pub limit : ℕ
   pub rest : Option (List ℕ)
   pub given : List (List ℕ)
 
--- Reads gave these bytes, each of them some; and if the source told its bytes, these were the first of them.
+-- Reads gave these bytes, each of them some; and if the source's bytes were known, these were the first.
 pub record Gave (old new : SourceState) (bytes : List ℕ) : Type 0 where
   pub told : Consumes old.rest new.rest bytes
   pub pieces : List (List ℕ)
@@ -29,7 +29,7 @@ pub record Gave (old new : SourceState) (bytes : List ℕ) : Type 0 where
   pub added : new.given ≡ old.given ++ pieces
   pub whole : flat_map (λ piece. piece) pieces ≡ bytes
 
--- Reads gave these bytes, none failed, and then one gave nothing; and if the source told its bytes, these were all.
+-- Reads gave these bytes, none failed, and then one gave nothing; and if its bytes were known, these were all.
 pub record GaveAll (old new : SourceState) (bytes : List ℕ) : Type 0 where
   pub no_failure : new.failures ≡ old.failures
   pub told : IfSome old.rest (λ rest. rest ≡ bytes)
@@ -56,8 +56,8 @@ pub record GaveFaultless (kind : Kind) (old new : SourceState) : Type 0 where
   pub partial : has (code "\n") part ≡ false
 
 -- Why a source gave no problem: a text with this first fault, and its end, or a part after which each text has it; a
--- read that failed; or want of memory, before the end or behind a last line that no line feed ends, and at most one
--- read behind lines without a fault.
+-- read that failed; or lack of memory, before the end or after a last line that no line feed ends, and at most one
+-- read after lines without a fault.
 abbrev pub IsPart : Kind → SourceState → SourceState → InputError → Type 0
 IsPart kind old new (Fault line fault) = (bytes : List ℕ) × ((GaveAll old new bytes
     × IsFirstFault kind bytes line fault) ⊎ (Gave old new bytes × (new.failures ≡ old.failures)

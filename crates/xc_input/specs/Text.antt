@@ -33,7 +33,7 @@ IsBounded kind secondary token e =
 abbrev pub IsEntry : Kind → Bool → List ℕ → Entry → Type 0
 IsEntry kind secondary token e = IsName e.name × (IsBare secondary token e ⊎ IsBounded kind secondary token e)
 
--- Parts of the item line stand for the items of this problem: those before the first bar for primary ones, those behind
+-- Parts of the item line stand for the items of this problem: those before the first bar for primary ones, those after
 -- it for secondary ones. (Another bar stands for none: no name has one.)
 pub record AreItems (kind : Kind) (parts : List (List ℕ)) (named : Named) : Type 0 where
   pub primary : List Entry

@@ -1,4 +1,4 @@
--- Where an item stands among the uses of an option.
+-- Where an item is among the uses of an option.
 use Rattle.std.specs.Prelude.{ℕ, ◌==◌, List}
 use Rattle.std.specs.List.{position_or_len}
 use Rattle.xc_input.specs.declared.problem.Use.{Use}

@@ -65,7 +65,7 @@ abbrev pub commented : List (List ℕ)
 commented =
     (codes "| test" ++ 13 ∷ []) ∷ (13 ∷ []) ∷ (codes "A | x" ++ 13 ∷ []) ∷ (codes "x" ++ 13 ∷ []) ∷ codes "A x" ∷ []
 
--- two options give x the same colour, and one between them another
+-- two options have the same colour for x, and one between them another
 abbrev pub coloured : List (List ℕ)
 coloured = codes "A B | x" ∷ codes "A x:red" ∷ codes "B x:green" ∷ codes "B x:red" ∷ []
 

@@ -1,4 +1,4 @@
--- Choices that can be told.
+-- Choices whose names are known.
 use Rattle.std.specs.Prelude.{◌≡◌, true, IfSome, is_some}
 use Rattle.xc_search.specs.declared.choice.Choice.{Choice}
 use Rattle.xc_input.specs.Problem.{Puzzle, IsPrimary, IsOption, uses_of, colour_in}

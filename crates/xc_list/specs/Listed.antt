@@ -34,7 +34,7 @@ abbrev pub is_none : Named → List (List ℕ) → Bool
 is_none p (a ∷ b ∷ []) = bytes_eq a (codes "null") && list_any (bytes_eq b) (take (primary_count p.puzzle) p.names)
 is_none p _ = false
 
--- the fault of line n, where a header stands before it or not: it has to be a header or behind one a choice line, whose
+-- the fault of line n, where a header is before it or not: it has to be a header or, after one, a choice line, whose
 -- body is known or of none
 abbrev pub fault_in_line : Named → Bool → ℕ → List ℕ → Option ListingFault
 fault_in_line p begun n line =
@@ -44,7 +44,7 @@ fault_in_line p begun n line =
       | Some words ↦ if is_known p words || is_none p words then None else Some (UnknownOption n)
     ]
 
--- The first fault of lines that stand behind n others. Only a first line has no header before it, for it has to be one.
+-- The first fault of lines that are after n others. Only a first line has no header before it, for it has to be one.
 abbrev pub fault_in_lines : Named → ℕ → List (List ℕ) → Option ListingFault
 fault_in_lines p n [] = None
 fault_in_lines p n (l ∷ lines) =
@@ -63,7 +63,7 @@ solutions_of (l ∷ lines) =
     let later = solutions_of lines in
     elim (header_number l) [ None ↦ later | Some n ↦ record { number = n; bodies = bodies } ∷ later ]
 
--- A listed solution is a cover: different options can be given to its choice lines, lines of none aside, to each one
+-- A listed solution is a cover: its choice lines, lines of none aside, can have different options, each one
 -- that its body stands for, so that their set is a cover.
 abbrev pub IsListedCover : Named → List (List (List ℕ)) → Type 0
 IsListedCover p bodies =
@@ -77,7 +77,7 @@ IsVerdictOn p s v = (v.number ≡ s.number) × (IsTrue v.cover ↔ IsListedCover
 abbrev pub AreVerdicts : Named → List (List ℕ) → List Verdict → Type 0
 AreVerdicts p lines vs = AllZip (IsVerdictOn p) (solutions_of lines) vs
 
--- an answer in place of verdicts: want of memory, or the first fault of all lines
+-- an answer in place of verdicts: lack of memory, or the first fault of all lines
 abbrev pub IsListingFault : Named → List (List ℕ) → ListingFault → Type 0
 IsListingFault p lines Memory = Unit {0}
 IsListingFault p lines fault = fault_in_lines p 0 lines ≡ Some fault

@@ -12,7 +12,7 @@ use Rattle.xc_list.specs.Settings.{long_number}
 abbrev pub words_in : List ℕ → List (List ℕ)
 words_in text = slice_split (λ b. b == byte " ") text
 
--- what stands before the text's last byte, where that is this one
+-- what is before the text's last byte, where that is this one
 abbrev pub before_last : ℕ → List ℕ → Option (List ℕ)
 before_last b text = if ends_with_byte b text then Some (take (length text - 1) text) else None
 

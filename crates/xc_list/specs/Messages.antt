@@ -1,4 +1,4 @@
--- What is told beside a listing.
+-- The messages beside a listing.
 use Rattle.std.specs.Prelude.{ℕ, List, ◌++◌, decimal, codes, ◌==◌, if◌then◌else◌}
 use Rattle.xc_list.specs.declared.runs.End.{End}
 use Rattle.xc_list.specs.declared.words.WordFault.{WordFault}
@@ -15,7 +15,7 @@ summary_text (Done n) = total_text n (codes ".\n")
 summary_text (Limit n) = total_text n (codes " (limit).\n")
 summary_text (WriteFailed n) = codes "Write failed at solution " ++ decimal n ++ codes ".\n"
 
--- the line for an ignored option, which stood on line n
+-- the line for an ignored option, which was on line n
 abbrev pub warning_text : ℕ → List ℕ
 warning_text n = codes "Option ignored (no primary items): line " ++ decimal n ++ codes "\n"
 

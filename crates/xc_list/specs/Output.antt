@@ -21,7 +21,7 @@ rotated_at k xs = drop k xs ++ take k xs
 abbrev pub from_item : ℕ → List Use → List Use
 from_item i us = rotated_at (place_in i us) us
 
--- the word of a use: its item's name, and its colour behind a colon
+-- the word of a use: its item's name, and its colour after a colon
 abbrev pub use_word : Named → Use → List ℕ
 use_word a u = bytes_at a.names u.item ++ (if u.colour == 0 then [] else codes ":" ++ bytes_at a.colours u.colour)
 

@@ -42,12 +42,12 @@ solutions_found (Done n) = n
 solutions_found (Limit n) = n
 solutions_found (WriteFailed n) = n
 
--- the ends of the search's tree that are left where a run ended: those behind the member that it had reached
+-- the ends of the search's tree that are left where a run ended: those after the member that it had reached
 abbrev pub ends_left : Puzzle → End → List Bool
 ends_left p (Done n) = []
 ends_left p end = ends_after (solutions_found end) (ends (whole p))
 
 -- A run that ended so took its dance from so many moves ever made to so many: no more, for each end of the search's
--- tree up to that member, than may stand at once.
+-- tree up to that member, than can be on the trail at once.
 abbrev pub RunMakesFew : Puzzle → ℕ → ℕ → End → Type 0
 RunMakesFew p old new end = new + room_for p * length (ends_left p end) ≤ old + room_for p * length (ends (whole p))

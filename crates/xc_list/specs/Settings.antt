@@ -1,4 +1,4 @@
--- What the words of a command line ask for.
+-- What the words of a command line mean.
 use Rattle.std.specs.Prelude.{ℕ, fold, ◌-◌, ◌^◌, List, [], ◌∷◌, ◌&&◌, ◌==◌, nat_lt, Option, Some, None, Result, Ok, Err}
 use Rattle.std.specs.Prelude.{if◌then◌else◌}
 use Rattle.std.specs.Char.{is_ascii_digit}
@@ -14,7 +14,7 @@ abbrev pub long_number : List ℕ → Option ℕ
 long_number [] = None
 long_number bs = if list_all is_ascii_digit bs && nat_lt (number bs) (2 ^ 64) then Some (number bs) else None
 
--- what is made of the number behind a word's letter; a bad one is a fault
+-- what is made of the number after a word's letter; a bad one is a fault
 abbrev pub read_number : ℕ → List ℕ → (ℕ → Result Words WordFault) → Result Words WordFault
 read_number place bs made = elim (long_number bs) [ None ↦ Err (BadNumber place) | Some n ↦ made n ]
 
@@ -27,7 +27,7 @@ read_word place w (b ∷ bs) =
     (λ n. if n == 0 then Err (ZeroLimit place) else Ok (record w { limit = n }))
     else Err (Unknown place)
 
--- What words ask for, one after another; the first faulty one ends it. With no word no solution is printed, and the
+-- What words mean, one after another; the first faulty one ends it. With no word no solution is printed, and the
 -- limit is the largest number.
 abbrev pub read_words : List (List ℕ) → Result Words WordFault
 read_words xs = fold (λ r word. elim r [ Ok w ↦ read_word word.0 w word.1 | Err e ↦ Err e ])

@@ -14,11 +14,11 @@ use Rattle.xc_list.specs.Texts.{Seen, SinkState, Took, BrokeOff}
 use Rattle.xc_list.specs.declared.spans.SpanFault.{SpanFault}
 use Rattle.xc_list.specs.declared.spans.SpanFault.TheVariants.{Memory, WriteFailed}
 
--- how many steps a run takes at most; 0 asks for no bound but the counter's
+-- how many steps a run takes at most; 0 means no bound but the counter's
 abbrev pub most_steps : ℕ → ℕ
 most_steps n = if n == 0 then 2 ^ 64 - 1 else n
 
--- A search of the span that is asked for stopped at this row, which comes after its first row and not after its end,
+-- A search of the wanted span stopped at this row, which comes after its first row and not after its end,
 -- since all steps were used or as many members passed as are counted.
 pub record StopsAt (asked : AskedSpan) (row : List ℕ) (went : Went) : Type 0 where
   pub later : precedes asked.from row ≡ true
@@ -31,7 +31,7 @@ abbrev pub GoesTo : Puzzle → AskedSpan → List ℕ → Option (List ℕ) → 
 GoesTo p asked row None went = (went.halt ≡ End) × (row ≡ asked.until)
 GoesTo p asked row (Some branches) went = StopsAt asked row went × (branches ≡ branches_along (whole p) row)
 
--- This is so of a sink and the text of the span up to where a search went, in no more steps than were asked for.
+-- This is so of a sink and the text of the span up to where a search went, in no more steps than the words allow.
 pub record OfSpan (a : Named) (asked : AskedSpan) (went : Went)
     (says : SinkState → SinkState → List ℕ → Type 0) (old new : SinkState) : Type 0 where
   pub row : List ℕ
@@ -41,7 +41,7 @@ pub record OfSpan (a : Named) (asked : AskedSpan) (went : Went)
   pub members : length (between a.puzzle asked.from (end_at row)) ≡ went.members
   pub said : says old new (span_text a asked.listed asked.from row branches went.steps)
 
--- What a run over a span answers: the sink took the text up to where it went; or it broke off in such a text; or, where
+-- What a run over a span returns: the sink took the text up to where it went; or it broke off in such a text; or, where
 -- there was no memory for the search, the sink wasn't touched.
 abbrev pub AnswersSpan : {S : Type 0} → Named → AskedSpan → Seen S SinkState → Seen S SinkState
     → Result Went SpanFault → Type 0

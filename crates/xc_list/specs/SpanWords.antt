@@ -1,4 +1,4 @@
--- What the words of a run over a span ask for.
+-- What the words of a run over a span mean.
 use Rattle.std.specs.Prelude.{ℕ, ◌^◌, ◌==◌, Bool, true, false, not, List, [], ◌∷◌, Option, Some, None, codes}
 use Rattle.std.specs.Prelude.{nat_lt, option_map, option_and_then, if◌then◌else◌, ◌&&◌, is_some}
 use Rattle.std.specs.List.{slice_split}
@@ -7,7 +7,7 @@ use Rattle.xc_search.specs.Spans.{precedes}
 use Rattle.xc_list.specs.Settings.{long_number}
 use Rattle.xc_list.specs.declared.span_words.SpanWords.{SpanWords}
 
--- What is asked of a run: whether solutions are listed, or else counted alone; how many steps it takes at most, with 0
+-- What a run is to do: whether solutions are listed, or else counted alone; how many steps it takes at most, with 0
 -- for no bound; the row at which the span begins; and the one before which it ends, with the empty row for the
 -- listing's end.
 pub record AskedSpan : Type 0 where
@@ -20,20 +20,20 @@ pub record AskedSpan : Type 0 where
 abbrev pub asked_of : SpanWords → AskedSpan
 asked_of w = record { listed = w.listed; steps = w.steps; from = w.from.items; until = w.until.items }
 
--- whether a word asks for a listing, or for a count alone
+-- whether a word means a listing, or a count alone
 abbrev pub listing_word : List ℕ → Option Bool
 listing_word w = if bytes_eq w (codes "m0") then Some false else if bytes_eq w (codes "m1") then Some true else None
 
--- the number of a row that digits tell, below 2^32
+-- the number of a row that digits mean, below 2^32
 abbrev pub row_number : List ℕ → Option ℕ
 row_number w = option_and_then (λ n. if nat_lt n (2 ^ 32) then Some n else None) (long_number w)
 
--- the numbers that texts tell, where each tells one
+-- the numbers that texts mean, if each means one
 abbrev pub row_numbers : List (List ℕ) → Option (List ℕ)
 row_numbers [] = Some []
 row_numbers (w ∷ ws) = option_and_then (λ n. option_map (λ row. n ∷ row) (row_numbers ws)) (row_number w)
 
--- the row that a word tells: numbers with points between, or a dash for the empty row
+-- the row that a word means: numbers with points between, or a dash for the empty row
 abbrev pub row_word : List ℕ → Option (List ℕ)
 row_word w = if bytes_eq w (codes "-") then Some [] else row_numbers (slice_split (λ b. b == byte ".") w)
 
@@ -47,7 +47,7 @@ abbrev pub asked_rows : Bool → ℕ → List ℕ → List ℕ → Option AskedS
 asked_rows listed steps from until =
     if is_span from until then Some (record { listed = listed; steps = steps; from = from; until = until }) else None
 
--- the span between the rows that two words tell
+-- the span between the rows that two words mean
 abbrev pub asked_words : Bool → ℕ → List ℕ → List ℕ → Option AskedSpan
 asked_words listed steps from until = option_and_then (λ (f : List ℕ).
     option_and_then (λ (u : List ℕ). asked_rows listed steps f u) (row_word until)) (row_word from)
@@ -57,7 +57,7 @@ abbrev pub take_memory : List (List ℕ) → Bool
 take_memory (m ∷ n ∷ from ∷ until ∷ []) = is_some (listing_word m) && is_some (long_number n)
 take_memory _ = false
 
--- what four words ask for: a listing or a count, the most steps, and the two rows
+-- what four words mean: a listing or a count, the most steps, and the two rows
 abbrev pub read_span_words : List (List ℕ) → Option AskedSpan
 read_span_words (m ∷ n ∷ from ∷ until ∷ []) = option_and_then (λ listed.
     option_and_then (λ steps. asked_words listed steps from until) (long_number n)) (listing_word m)

@@ -13,7 +13,7 @@ abbrev pub seen : {T Known : Type 0} → (T → Known) → T → Seen T Known
 seen state x = record { value = x; state = state x }
 
 -- A sink: how many of its writes and flushes failed, up to the counter's last value; whether its last call did; the
--- bytes that it took, where it tells them; whether it holds none of them back; and how often it was flushed.
+-- bytes that it took, if they are known; whether it holds none of them back; and how often it was flushed.
 pub record SinkState : Type 0 where
   pub failures : ℕ
   pub failed : Bool
@@ -36,7 +36,7 @@ pub record BrokeOff (old new : SinkState) (text : List ℕ) : Type 0 where
   pub begun : Appends old.taken new.taken (take many text)
   pub unflushed : new.flushes ≡ old.flushes
 
--- It took the text, or failed behind a beginning.
+-- It took the text, or failed after a beginning.
 abbrev pub WasTold : SinkState → SinkState → List ℕ → Type 0
 WasTold old new text = Took old new text ⊎ BrokeOff old new text
 

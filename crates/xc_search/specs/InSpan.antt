@@ -6,7 +6,7 @@ use Rattle.xc_search.specs.Listing.{Residual, Branch, branch_item, branches_of}
 use Rattle.xc_search.specs.Spans.{between}
 
 -- A search of a span of this problem's listing: the row from which on its members are left, if any are, the row before
--- which it ends, if not at the listing's end, the member at which it stands, as long as it does, how many moves the
+-- which it ends, if not at the listing's end, the member that it is at, as long as it is, how many moves the
 -- trail has room for, and how many were ever made on its dance.
 pub record InSpan : Type 0 where
   pub puzzle : Puzzle

@@ -1,11 +1,11 @@
--- The marks of a solution, by which its choices are told apart.
+-- The marks of a solution, by which two of its choices are known to be the same.
 use Rattle.std.specs.Prelude.{IfSome}
 use Rattle.xc_input.specs.Problem.{Puzzle, IsItem}
 use Rattle.xc_dance.specs.Commits.{IsUseAt, option_at}
 use Rattle.xc_search.specs.declared.choice.Choice.{Choice}
 use Rattle.xc_search.specs.declared.marks.Mark.{Mark}
 
--- the choice of a mark: its option is the one whose use of the item stands at the mark's place
+-- the choice of a mark: its option is the one whose use of the item is at the mark's place
 abbrev pub marked : Puzzle → Mark → Choice
 marked p m = record { item = m.item; option = option_at p m.item m.place; k = m.k; n = m.n }
 

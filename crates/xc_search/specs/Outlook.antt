@@ -4,7 +4,7 @@ use Rattle.xc_search.specs.declared.choice.Choice.{Choice}
 use Rattle.xc_input.specs.Problem.{Puzzle}
 use Rattle.xc_search.specs.Room.{room_for}
 
--- A search of this problem: the members still to come, the one that was reached last, as long as it stands, the ends of
+-- A search of this problem: the members still to come, the one reached last, as long as it is shown, the ends of
 -- its tree still to come, how many moves the trail has room for, and how many were ever made on its dance.
 pub record Outlook : Type 0 where
   pub puzzle : Puzzle
@@ -14,7 +14,7 @@ pub record Outlook : Type 0 where
   pub room : ℕ
   pub made : ℕ
 
--- From s to n it made at most so many moves for each end that it went over as may stand at once.
+-- From s to n it made, for each end that it went over, at most as many moves as can be on the trail at once.
 abbrev pub MakesFew : Outlook → Outlook → Type 0
 MakesFew s n = n.made + room_for s.puzzle * length n.ahead ≤ s.made + room_for s.puzzle * length s.ahead
 

@@ -2,7 +2,7 @@
 use Rattle.std.specs.Prelude.{Bool, true, false, ◌≡◌, List, [], ◌∷◌, MatchBool}
 use Rattle.xc_search.specs.declared.choice.Choice.{Choice}
 
--- f was called with each of these members in turn, until it answered false: whether none did, what is left behind the
+-- f was called with each of these members in turn, until it answered false: whether none did, what is left after the
 -- last one, and what is shown then, that one or nothing
 abbrev pub Visits : {F : Type 0} → (F → List Choice → Bool → F → Type 0) → F → List (List Choice) →
     Bool → List (List Choice) → List Choice → Type 0

@@ -78,7 +78,7 @@ abbrev pub OfTexts : Bool → (Named → List SearchedSpan → Type 0) → Sourc
 OfTexts listed says old new = (bytes : List ℕ) × ((GaveAll old new bytes × ForTexts listed says bytes)
     ⊎ (Gave old new bytes × ((more : List ℕ) → ForTexts listed says (bytes ++ more))))
 
--- 0: The source gave its end, the output took a text, and how many solutions there are was told. Where the input is the
+-- 0: The source gave its end, the output took a text, and the number of solutions was printed. Where the input is the
 -- texts of spans, these meet from the listing's beginning to its end, the text is the whole listing, if it is listed,
 -- and the number is that of its members.
 pub record IsJoined {O E : Type 0} (listed : Bool) (from to : SourceState) (old new : Sinks O E) : Type 0 where
@@ -103,18 +103,18 @@ pub record HasBegun (listed : Bool) (says : List SearchedSpan → Type 0) (input
 abbrev pub gap_text : List ℕ → List ℕ → List ℕ
 gap_text met next = codes "Gap: from " ++ met ++ codes " until " ++ next ++ codes ".\n"
 
--- the line for what isn't the text of a span, behind where it stands
+-- the line for what isn't the text of a span, after where it is
 abbrev pub no_text : List ℕ → ℕ → List ℕ
 no_text file line = file ++ codes "line " ++ decimal line ++ codes ": not the text of a span.\n"
 
--- What failed, and was told: a read; or a write of the output or its flush; or the last line broke off.
+-- What failed, and was reported: a read; or a write of the output or its flush; or the last line broke off.
 abbrev pub ToldFailure : {O E : Type 0} → SourceState → SourceState → Sinks O E → Sinks O E → Type 0
 ToldFailure from to old new = let told = WasTold old.err.state new.err.state in
     (Rose from.failures to.failures × told (codes "Read failed.\n"))
     ⊎ (Rose old.out.state.failures new.out.state.failures × told (codes "Write failed.\n"))
     ⊎ ((end : End) × BrokeOff old.err.state new.err.state (summary_text end))
 
--- What a run did that was asked for this, by its status. At 5 the spans don't meet, and at 2 the input is no texts.
+-- What a run did with this first word, by its status. At 5 the spans don't meet, and at 2 the input is no texts.
 abbrev pub DidJoin : {O E : Type 0} → Bool → ℕ → SourceState → SourceState → Sinks O E → Sinks O E → Type 0
 DidJoin listed status from to old new =
     let begun = λ (says : List SearchedSpan → Type 0). HasBegun listed says from to old.out.state new.out.state in
@@ -132,7 +132,7 @@ asked_join [] = None
 asked_join (word ∷ files) =
     if bytes_eq word (codes "m0") then Some false else if bytes_eq word (codes "m1") then Some true else None
 
--- What a run did, by its words and its status, which is 1 exactly where the first word is none of the two.
+-- What a run did, by its words and its status, which is 1 exactly if the first word is none of the two.
 abbrev pub DidJoinWords : {S O E : Type 0} → List (List ℕ) → ℕ → Seen S SourceState → Seen S SourceState
     → Sinks O E → Sinks O E → Type 0
 DidJoinWords words status from to old new = MatchOption (asked_join words)

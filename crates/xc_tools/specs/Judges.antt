@@ -23,13 +23,13 @@ numbered_kind word =
     else if bytes_eq word (codes "2") then Some Colours
     else if bytes_eq word (codes "3") then Some Bounds else None
 
--- the kind that the words ask for: those of a problem's file and perhaps a number
+-- the kind that the words mean: those of a problem's file and perhaps a number
 abbrev pub asked_kind : List (List ℕ) → Option Kind
 asked_kind (file ∷ []) = Some Bounds
 asked_kind (file ∷ number ∷ []) = numbered_kind number
 asked_kind _ = None
 
--- what is told of a listing that gets no verdicts
+-- the message for a listing that gets no verdicts
 abbrev pub listing_fault_text : ListingFault → List ℕ
 listing_fault_text (BadLine n) = codes "Listing line " ++ decimal n ++ codes ": bad line.\n"
 listing_fault_text (UnknownOption n) = codes "Listing line " ++ decimal n ++ codes ": unknown option.\n"
@@ -69,7 +69,7 @@ DidJudgeListing a status from to old new =
     ⊎ (Rose from.failures to.failures × IsRefused status old new (3, codes "Read failed.\n"))
     ⊎ ((to.failures ≡ from.failures) × IsRefused status old new (4, codes "Out of memory.\n"))
 
--- What a run of the judge did, by its words and its status, which is 1 exactly where the words ask for no kind. Where
+-- What a run of the judge did, by its words and its status, which is 1 exactly if the words mean no kind. Where
 -- there was no problem, the listing wasn't read.
 abbrev pub DidJudge : {P L O E : Type 0} → List (List ℕ) → ℕ → Seen P SourceState → Seen P SourceState
     → Seen L SourceState → Seen L SourceState → Sinks O E → Sinks O E → Type 0

@@ -13,17 +13,17 @@ use Rattle.xc_list.specs.Settings.{read_words}
 use Rattle.xc_list.specs.Texts.{Seen, SinkState, Took, BrokeOff, WasTold}
 use Rattle.xc_tools.specs.WholeRuns.{Sinks, TookAll, FailedBehind, IsRefused, ReadsProblem}
 
--- 0: the output was taken, and the last line was told. The members are covers, and each cover is the set of exactly one
--- of them.
+-- 0: the output was taken, and the last line was printed. The members are covers, and each cover is the set of exactly
+-- one of them.
 pub record IsComplete {O E : Type 0} (a : Named) (w : Words) (old new : Sinks O E) : Type 0 where
   pub output : TookAll old.out.state new.out.state (output a w.spacing w.limit)
   pub told : Took old.err.state new.err.state (summary_text (end_of a w.limit))
   pub right : EachMemberCovers a.puzzle
   pub complete : EachCoverIsListedOnce a.puzzle
 
--- What searching a problem did, by the status. 3: the output failed in a solution, whose number was told; or it was
--- taken whole and its flush failed, which was told; or all went well until the last line couldn't be told. 4: there was
--- no memory for the search.
+-- What searching a problem did, by the status. 3: the output failed in a solution, whose number was reported; or it was
+-- taken whole and its flush failed, which was reported; or all went well until the last line couldn't be printed. 4:
+-- there was no memory for the search.
 abbrev pub DidSearch : {O E : Type 0} → Named → Words → ℕ → Sinks O E → Sinks O E → Type 0
 DidSearch a w status old new = let text = output a w.spacing w.limit in
     let told = WasTold old.err.state new.err.state in
@@ -35,8 +35,8 @@ DidSearch a w status old new = let text = output a w.spacing w.limit in
     × BrokeOff old.err.state new.err.state (summary_text (end_of a w.limit)))
     ⊎ IsRefused status old new (4, codes "Out of memory.\n")
 
--- What solving a problem did: a warning couldn't be told, at 3, and the output wasn't touched; or the warnings were
--- told, and then it was searched.
+-- What solving a problem did: a warning couldn't be printed, at 3, and the output wasn't touched; or the warnings were
+-- printed, and then it was searched.
 abbrev pub DidWarnAndSearch : {O E : Type 0} → Words → ℕ → Sinks O E → Sinks O E → Named → List ℕ → Type 0
 DidWarnAndSearch w status old new a ignored =
     let warnings = flat_map warning_text ignored in
@@ -44,7 +44,7 @@ DidWarnAndSearch w status old new a ignored =
     ⊎ ((warned : Seen _ SinkState) × Took old.err.state warned.state warnings
     × DidSearch a w status (record old { err = warned }) new)
 
--- What a run did, by its words and its status, which is 1 exactly where the words have a fault.
+-- What a run did, by its words and its status, which is 1 exactly if the words have a fault.
 abbrev pub DidSolve : {S O E : Type 0} → Kind → List (List ℕ) → ℕ → Seen S SourceState → Seen S SourceState
     → Sinks O E → Sinks O E → Type 0
 DidSolve kind words status from to old new = MatchResult (read_words words)

@@ -11,7 +11,7 @@ use Rattle.xc_list.specs.Texts.{Seen}
 use Rattle.xc_tools.specs.Judges.{numbered_kind}
 use Rattle.xc_tools.specs.WholeRuns.{Sinks, Prints, IsRefused, ReadsProblem}
 
--- the kind of problem and the span that five words ask for
+-- the kind of problem and the span that five words mean
 abbrev pub asked_span : List (List ℕ) → Option (Kind × AskedSpan)
 asked_span [] = None
 asked_span (kind ∷ words) =
@@ -29,8 +29,8 @@ abbrev pub take_memory_of : List (List ℕ) → Bool
 take_memory_of [] = false
 take_memory_of (kind ∷ words) = is_some (numbered_kind kind) && take_memory words
 
--- What a run over a span did, by its words and its status: there was no memory to read them; or they ask for no span;
--- or it did what they ask for.
+-- What a run over a span did, by its words and its status: there was no memory to read them; or they mean no span;
+-- or it did what they mean.
 abbrev pub DidSpanWords : {S O E : Type 0} → List (List ℕ) → ℕ → Seen S SourceState → Seen S SourceState
     → Sinks O E → Sinks O E → Type 0
 DidSpanWords words status from to old new =

@@ -1,4 +1,5 @@
--- What the system is asked and answers, what the adapters of its streams tell, and when lines are passed on.
+-- The calls of the system and what they return, what is known of the adapters of its streams, and when lines are passed
+-- on.
 use Rattle.std.specs.Prelude.{ℕ, ◌+◌, ◌-◌, ◌/◌, ◌^◌, ◌<◌, ◌≡◌, ◌⊎◌, nat_eq, min, Bool, true, false, List, codes}
 use Rattle.std.specs.Prelude.{length, Result, Ok, Err, if◌then◌else◌}
 use Rattle.std.specs.List.{ends_with}
@@ -57,7 +58,7 @@ abbrev pub BrokeLast : Asked → Asked → Type 0
 BrokeLast old new = Rose old.failures new.failures × (new.last ≡ Failed)
     × ((new.flushes ≡ old.flushes) ⊎ (new.flushes ≡ one_more old.flushes))
 
--- whether a text ends behind a line feed
+-- whether a text ends after a line feed
 abbrev pub ends_line : List ℕ → Bool
 ends_line text = ends_with nat_eq text (codes "\n")
 

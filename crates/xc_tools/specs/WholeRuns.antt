@@ -33,15 +33,15 @@ pub record FailedBehind (old new : SinkState) (text : List ℕ) : Type 0 where
   pub taken : Appends old.taken new.taken text
   pub flushed_once : new.flushes ≡ old.flushes + 1
 
--- The output took this text and nothing was told, which has this status. Or a write of the text failed, or the flush
--- behind it, which was told and has status 3.
+-- The output took this text and nothing was reported, with this status. Or a write of the text failed, or the flush
+-- after it, which was reported and has status 3.
 abbrev pub Prints : {O E : Type 0} → ℕ → ℕ → Sinks O E → Sinks O E → List ℕ → Type 0
 Prints well status old new text =
     ((status ≡ well) × TookAll old.out.state new.out.state text × (new.err ≡ old.err))
     ⊎ ((status ≡ 3) × (BrokeOff old.out.state new.out.state text ⊎ FailedBehind old.out.state new.out.state text)
     × WasTold old.err.state new.err.state (codes "Write failed.\n"))
 
--- A run was refused, for a reason with this status and this line: the line was told, and the output wasn't touched.
+-- A run was refused, for a reason with this status and this line: the line was reported, and the output wasn't touched.
 pub record IsRefused {O E : Type 0} (status : ℕ) (old new : Sinks O E) (reason : ℕ × List ℕ) : Type 0 where
   pub is_status : status ≡ reason.0
   pub told : WasTold old.err.state new.err.state reason.1

@@ -41,7 +41,7 @@ row_of_line i = record { entries = map entry_of i.items.items; bar = i.bar }
 abbrev pub AreDistinct : List (List ℕ) → Type 0
 AreDistinct names = AllPairs (λ x y. x ≢ y) names
 
--- names without white space, no two of which are the same
+-- different names without white space
 pub record AreNames (names : List (List ℕ)) : Type 0 where
   pub named : All IsName names
   pub solid : All (λ name. list_any is_space name ≡ false) names
@@ -78,7 +78,7 @@ sheet_of_builder d = record {
   colours = key_names d.colours.keys;
 }
 
--- what the lines so far gave
+-- what the lines so far stand for
 abbrev pub stage_of_builder : ProblemBuilder → Stage
 stage_of_builder d = record { started = d.started; sheet = sheet_of_builder d; ignored = d.ignored.items }
 

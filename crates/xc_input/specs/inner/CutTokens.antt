@@ -13,12 +13,12 @@ pub record IsCutToken (names : List (List ℕ)) (text : List ℕ) (t : Token) : 
   pub colour : MatchOption t.colour (has (code ":") text ≡ false)
       (λ c. (has (code ":") text ≡ true) × (c.now ≡ after (code ":") text))
 
--- what stands behind a token's name is white space or nothing, or a colon and then the colour; and what is left
+-- what is after a token's name is white space or nothing, or a colon and then the colour; and what is left
 abbrev pub IsCutBehind : List ℕ → Token → List ℕ → Type 0
 IsCutBehind behind t rest = MatchOption t.colour (AtWhite behind × (rest ≡ behind))
     (λ c. (more : List ℕ) × (behind ≡ code ":" ∷ more) × (c.now ≡ word more) × (rest ≡ drop (length (word more)) more))
 
--- the first token of a line is cut so among these names, and what is left behind it
+-- the first token of a line is cut so among these names, and what is left after it
 abbrev pub StandsFirst : List (List ℕ) → List ℕ → Token → List ℕ → Type 0
 StandsFirst names line t rest =
     (text : List ℕ) × (tokens line ≡ text ∷ tokens rest) × (length rest < length line) × IsCutToken names text t

@@ -3,7 +3,7 @@ use Rattle.std.specs.Prelude.{◌≡◌, ℕ, List, [], ◌∷◌, ◌++◌, fal
 use Prim.Native.Char.{code}
 use Rattle.xc_input.specs.Words.{has}
 
--- lines, each with a line feed behind it
+-- lines, each with a line feed after it
 abbrev pub ended : List (List ℕ) → List ℕ
 ended [] = []
 ended (line ∷ lines) = line ++ code "\n" ∷ ended lines

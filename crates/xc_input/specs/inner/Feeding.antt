@@ -20,7 +20,7 @@ IsErrorOf kind lines e = IsErrorFor (line_fault kind lines) e
 abbrev pub IsEndOf : Kind → List (List ℕ) → InputError → Type 0
 IsEndOf kind lines e = IsErrorFor (first_fault kind lines) e
 
--- what a reader was given and what is carried on stands for these bytes
+-- the bytes of a reader's lines and of what is carried on
 abbrev pub fed : Reading → List ℕ → List ℕ
 fed reading carry = ended reading.lines ++ carry
 
@@ -35,7 +35,7 @@ pub record IsBetween (reading : Reading) (carry : List ℕ) : Type 0 where
 abbrev pub Spoils : Kind → List ℕ → InputError → Type 0
 Spoils kind bytes e = (more : List ℕ) → IsErrorOf kind (lines_of (bytes ++ more)) e
 
--- What an answer to a line that ends says. It stood behind what is carried on, and now this is left.
+-- What an answer to a line that ends says. It came after what is carried on, and this is left now.
 pub record Ended (old new : Reading) (carry end left : List ℕ) (r : Result (Unit {0}) InputError) : Type 0 where
   pub bytes : OnOk r (fed new left ≡ (fed old carry ++ end) ++ 10 ∷ [])
   pub state : OnOk r (IsBetween new left)

@@ -20,7 +20,7 @@ use Rattle.xc_input.specs.FirstFault.{line_number}
 
 -- AN ITEM LINE
 
--- the item of such a token
+-- the item of a token
 abbrev pub entry : Kind → Bool → List ℕ → Entry
 entry kind secondary token = record {
   name = name_of kind token;
@@ -29,24 +29,24 @@ entry kind secondary token = record {
   high = (if has_prefix kind token then number (bound_texts (before (code "|") token)).1 else 1);
 }
 
--- the items so far, and how many stood before the bar, if one was met
+-- the items so far, and how many were before the bar, if one was met
 pub record Row : Type 0 where
   pub entries : List Entry
   pub bar : Option ℕ
 
--- the checks of a bar or another part, behind such items
+-- the checks of a bar or another part, after such items
 abbrev pub staged_part_checks : Kind → Row → List ℕ → List (FaultKind × Bool)
 staged_part_checks kind row part =
     (if is_bar part then (TwoBars, is_some row.bar) ∷ []
     else item_checks kind (names_of row.entries) (is_some row.bar) part)
 
--- the items so far with such a part
+-- the items so far with a part
 abbrev pub with_part : Kind → Row → List ℕ → Row
 with_part kind row part =
     (if is_bar part then record row { bar = Some (length row.entries) }
     else record row { entries = row.entries ++ entry kind (is_some row.bar) part ∷ [] })
 
--- the checks of parts, behind such items
+-- the checks of parts, after such items
 abbrev pub row_checks : Kind → Row → List (List ℕ) → List (FaultKind × Bool)
 row_checks kind row [] = []
 row_checks kind row (part ∷ parts) = staged_part_checks kind row part ++ row_checks kind (with_part kind row part) parts
@@ -73,7 +73,7 @@ item_number names name = unwrap_or (place names name) 0 + 1
 abbrev pub written : List (List ℕ) → List ℕ → Written
 written names token = record { item = item_number names (before (code ":") token); colour = after (code ":") token }
 
--- the checks of a token, behind tokens with these items
+-- the checks of a token, after tokens with these items
 abbrev pub staged_token_checks : Context → List ℕ → List ℕ → List (FaultKind × Bool)
 staged_token_checks c seen token =
     let name = before (code ":") token in
@@ -84,7 +84,7 @@ staged_token_checks c seen token =
     (ColourOnPrimary, coloured && not (nat_lt c.primaries item)) ∷
     (BadColour, coloured && is_bad_colour (after (code ":") token)) ∷ [])
 
--- the checks of tokens, behind tokens with these items
+-- the checks of tokens, after tokens with these items
 abbrev pub staged_option_checks : Context → List ℕ → List (List ℕ) → List (FaultKind × Bool)
 staged_option_checks c seen [] = []
 staged_option_checks c seen (token ∷ tokens) =
@@ -93,7 +93,7 @@ staged_option_checks c seen (token ∷ tokens) =
 
 -- THE LINES
 
--- what the lines so far gave; before the item line the sheet is empty
+-- the state after the lines so far; before the item line the sheet is empty
 pub record Stage : Type 0 where
   pub started : Bool
   pub sheet : Sheet
@@ -112,7 +112,7 @@ with_row sheet row = record sheet { entries = row.entries; primaries = unwrap_or
 abbrev pub written_by : Sheet → List ℕ → List Written
 written_by sheet line = map (written (names_of sheet.entries)) (tokens line)
 
--- the check of an option line as a whole, behind those of its tokens
+-- the check of an option line as a whole, after those of its tokens
 abbrev pub whole_checks : Sheet → List ℕ → List (FaultKind × Bool)
 whole_checks sheet line =
     let kept = has_primary sheet.primaries (written_by sheet line) in
@@ -139,18 +139,18 @@ with_option n stage us =
     (if has_primary sheet.primaries us then record stage { started = true; sheet = more }
     else record stage { started = true; ignored = stage.ignored ++ n ∷ [] })
 
--- what the lines gave with one more, of this number
+-- the state after one more line, of this number
 abbrev pub with_line : Kind → ℕ → Stage → List ℕ → Stage
 with_line kind n stage line =
     (if is_skipped line then stage else
     (if stage.started then with_option n stage (written_by stage.sheet line)
     else record stage { started = true; sheet = with_row stage.sheet (row_with_parts kind no_row (parts line)) }))
 
--- what lines give, behind n lines that gave this
+-- the state after lines that come after n lines and this state
 abbrev pub stage_from : Kind → ℕ → Stage → List (List ℕ) → Stage
 stage_from kind n stage [] = stage
 stage_from kind n stage (line ∷ lines) = stage_from kind (n + 1) (with_line kind (line_number (n + 1)) stage line) lines
 
--- what the lines gave
+-- the state after the lines
 abbrev pub stage_of : Kind → List (List ℕ) → Stage
 stage_of kind lines = stage_from kind 0 no_stage lines

@@ -8,6 +8,6 @@ use Rattle.std.specs.declared.alloc.Global.{Global}
 abbrev pub key_names : List (Vec ℕ Global) → List (List ℕ)
 key_names keys = map (λ v. v.items) keys
 
--- the number of a name in a list, from 1, if it stands there
+-- the number of a name in a list, from 1, if it is there
 abbrev pub number_in : List (List ℕ) → List ℕ → Option ℕ
 number_in names name = option_map suc (place names name)

@@ -53,7 +53,7 @@ pub record AreAllTaken (all : List (List ℕ)) (s : Progress) : Type 0 where
   pub done : ℕ
   pub progress : IsProgress all done [] s
 
--- the verdict on the open solution, if there is one, stands behind the others
+-- the verdict on the open solution, if there is one, is after the others
 abbrev pub Closes : Progress → Progress → Type 0
 Closes old new = (vs : List Verdict) × (new.verdicts ≡ old.verdicts ++ vs)
     × ((bodies : List (List (List ℕ))) → AreChosen old.options bodies old.chosen

@@ -40,7 +40,7 @@ option_numbers p = range_with_len 1 (option_count p)
 abbrev pub class_size : Puzzle → List Use → ℕ
 class_size p class = count_by (λ o. same_uses class (class_at p o)) (option_numbers p)
 
--- Options, one for each choice line, that stand for their classes: no class is asked more often than it has options,
+-- Options, one for each choice line, that stand for their classes: no class is used more often than it has options,
 -- and the conditions of a cover hold of them as they are.
 pub record IsCoverOfClasses (p : Puzzle) (reps : List ℕ) : Type 0 where
   pub asked : (r : ℕ) → count_by (alike p r) reps ≤ count_by (alike p r) (option_numbers p)

@@ -1,4 +1,4 @@
--- No public clause cites this module. Counts over a listed solution. The item i stands at place i - 1.
+-- No public clause cites this module. Counts over a listed solution. The item i is at place i - 1.
 use Rattle.std.specs.Prelude.{ℕ, ◌+◌, ◌-◌, Bool, ◌&&◌, ◌||◌, ◌==◌, not, nat_le, nat_lt, List, [], ◌∷◌, length, map}
 use Rattle.std.specs.Prelude.{flat_map, Option, Some, None, slice_get, slice_set, slice_index, slice_index_or}
 use Rattle.std.specs.Prelude.{if◌then◌else◌}
@@ -72,7 +72,7 @@ abbrev pub is_met : List Bounds → List ℕ → List ℕ → Use → Bool
 is_met bounds ts cs u =
     allows_use (slice_get bounds (u.item - 1)) (slice_index ts (u.item - 1)) (slice_index cs (u.item - 1)) u.colour
 
--- whether a class is asked no more often than it has options, and its items agree
+-- whether a class is used no more often than it has options, and its items agree
 abbrev pub is_class_met : Classes → List Bounds → List ℕ → List ℕ → List ℕ → ℕ → Bool
 is_class_met b bounds ts cs asked k =
     nat_le (slice_index asked k) (class_size b.problem.puzzle (uses_at b.classes k))

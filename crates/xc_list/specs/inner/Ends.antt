@@ -12,7 +12,7 @@ use Rattle.xc_list.specs.declared.runs.End.TheVariants.{Done, Limit, WriteFailed
 abbrev pub printed_text : Named → ℕ → ℕ × List Choice → List ℕ
 printed_text a spacing nm = if is_printed spacing nm.0 then member_text a nm else []
 
--- A search stands at the member with this number: that is the one it shows, and those behind it are to come.
+-- A search is at the member with this number: that is the one it shows, and those after it are to come.
 abbrev pub StandsAt : List (List Choice) → ℕ → Outlook → Type 0
 StandsAt ms n s = (1 ≤ n → numbered_get ms n ≡ Some s.shown) × (s.to_come ≡ drop n ms)
 

@@ -1,4 +1,4 @@
--- No public clause cites this module. The texts of options laid out one behind another.
+-- No public clause cites this module. The texts of options laid out one after another.
 use Rattle.std.specs.Prelude.{ℕ, ◌≡◌, ◌≤◌, List, [], ◌∷◌, ◌++◌, length, map, flat_map}
 use Rattle.xc_list.specs.inner.LineParts.{use_text}
 use Rattle.xc_input.specs.declared.problem.Use.{Use}
@@ -9,12 +9,12 @@ use Rattle.xc_input.specs.Named.{Named}
 abbrev pub uses_text : Named → List Use → List ℕ
 uses_text a us = flat_map (use_text a) us
 
--- the texts of options one behind another, with the places where they start and at last the length
+-- the texts of options one after another, with the places where they start and at last the length
 pub record AreLaid (a : Named) (options : List (List Use)) (texts starts : List ℕ) : Type 0 where
   pub rising : AreStarts starts (length texts)
   pub parts : pieces starts texts ≡ map (uses_text a) options
 
--- the same with at least 16 bytes behind the texts, so that each of them can be read by 16 bytes
+-- the same with at least 16 bytes after the texts, so that each of them can be read by 16 bytes
 pub record ArePadded (a : Named) (options : List (List Use)) (texts starts : List ℕ) : Type 0 where
   pub laid : List ℕ
   pub padding : List ℕ

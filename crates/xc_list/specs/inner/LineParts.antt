@@ -4,7 +4,7 @@ use Rattle.xc_input.specs.declared.problem.Use.{Use}
 use Rattle.xc_input.specs.Named.{Named}
 use Rattle.xc_list.specs.Output.{bytes_at, use_word}
 
--- a colour behind a colon; nothing for colour 0
+-- a colour after a colon; nothing for colour 0
 abbrev pub colour_text : List (List ℕ) → ℕ → List ℕ
 colour_text colours c = if c == 0 then [] else codes ":" ++ bytes_at colours c
 

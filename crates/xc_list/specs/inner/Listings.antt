@@ -3,7 +3,7 @@ use Rattle.std.specs.Prelude.{ℕ, List, [], ◌∷◌}
 use Rattle.xc_list.specs.inner.ReadLines.{ReadLine, Header, Body, Other, read}
 use Rattle.xc_list.specs.Listed.{Solution}
 
--- bodies that stand before the first header, and the solutions behind them
+-- bodies that are before the first header, and the solutions after them
 pub record Listing : Type 0 where
   pub loose : List (List (List ℕ))
   pub solutions : List Solution

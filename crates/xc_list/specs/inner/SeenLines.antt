@@ -4,7 +4,7 @@ use Rattle.xc_list.specs.declared.checker.seen_lines.SeenLine.{SeenLine}
 use Rattle.xc_list.specs.inner.ReadLines.{Body, read}
 use Rattle.xc_list.specs.inner.Classes.{Classes, IsClassOfBody}
 
--- this line stands among those that were met, with this class
+-- this line is among those that were met, with this class
 abbrev pub IsFoundIn : List SeenLine → List ℕ → ℕ → Type 0
 IsFoundIn lines line class = (l : SeenLine) × Contains lines l × (l.line.items ≡ line) × (l.class ≡ Some class)
 

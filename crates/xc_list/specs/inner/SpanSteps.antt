@@ -16,7 +16,7 @@ use Rattle.xc_list.specs.SpanWords.{AskedSpan}
 use Rattle.xc_list.specs.SpanRuns.{OfSpan}
 use Rattle.xc_list.specs.Texts.{SinkState, Took, BrokeOff}
 
--- a number behind a point
+-- a number after a point
 abbrev pub dotted : ℕ → List ℕ
 dotted k = codes "." ++ decimal k
 
@@ -25,11 +25,11 @@ abbrev pub numbers_text : List ℕ → List ℕ
 numbers_text [] = []
 numbers_text (n ∷ row) = decimal n ++ flat_map dotted row
 
--- the number at a place of a row, behind a point where it isn't the first
+-- the number at a place of a row, after a point where it isn't the first
 abbrev pub text_at : ℕ → ℕ → List ℕ
 text_at place n = if place == 0 then decimal n else dotted n
 
--- the row at which a search stands, and how many branches each level has
+-- the row that a search is at, and how many branches each level has
 abbrev pub row_in : InSpan → List ℕ
 row_in s = unwrap_or s.row []
 
@@ -60,7 +60,7 @@ abbrev pub left_at : Puzzle → Option (List ℕ) → Option (List ℕ) → List
 left_at p until row = unwrap_or (option_map (λ row. between p row until) row) []
 
 -- A search of a span that ends before `until` went on from one row to another, by the first of the members that were
--- left. It came to the end; or it stopped at a later row, for want of steps or at the most members.
+-- left. It came to the end; or it stopped at a later row, since it had no more steps, or at the most members.
 pub record WentOn (p : Puzzle) (until from to : Option (List ℕ)) (most : ℕ) (went : Went) : Type 0 where
   pub passed : IfSome from (λ row. between p row (row_or_end to until) ≡ take went.members (left_at p until from))
   pub count : went.members ≤ length (left_at p until from)

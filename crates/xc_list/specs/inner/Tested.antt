@@ -6,7 +6,7 @@ use Rattle.xc_input.specs.declared.problem.Bounds.{Bounds}
 use Rattle.xc_input.specs.Problem.{Puzzle, bounds_at, colour_in, primary_count, uses_of}
 use Rattle.xc_search.specs.Cover.{times_held}
 
--- whether two options may give an item these colours, if the other one holds it
+-- whether two options may have these colours for an item, if the other one holds it
 abbrev pub is_colour_met : Option ℕ → ℕ → Bool
 is_colour_met (Some d) c = d == c && nat_lt 0 d
 is_colour_met None c = true

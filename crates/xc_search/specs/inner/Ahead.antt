@@ -25,7 +25,7 @@ abbrev pub times : ℕ → ℕ → ℕ
 times zero m = 0
 times (suc n) m = m + times n m
 
--- the work of what has this size, of which no item has more branches than that
+-- the work of what has this size, if no item has more branches than that
 unfoldable pub work_of : ℕ → ℕ
 work_of zero = 2
 work_of (suc d) = times (suc d) (suc (work_of d)) + 2
@@ -56,11 +56,11 @@ pub record GoesOn (d : Dancing) (ls : Levels) (down : Bool) (e : Dancing) (ks : 
   pub standing : IsStanding e.puzzle e.trail ks.levels below
   pub members : coming d.puzzle d.trail ls.levels down ≡ coming e.puzzle e.trail ks.levels below
 
--- the state once the moves of a branch at item i were made, of the option whose use stands at place q
+-- the state once the moves of a branch at item i were made, of the option whose use is at place q
 abbrev pub branched : Dancing → ℕ → ℕ → Dancing
 branched e i q = record e { trail = after_branch e.puzzle i (option_at e.puzzle i q) e.trail }
 
--- It entered such a branch, whose moves are still to be made: then it goes on with less work ahead.
+-- It entered a branch, whose moves are still to be made: then it goes on with less work ahead.
 pub record EntersBranch (d : Dancing) (ls : Levels) (down : Bool) (e : Dancing) (ks : Levels) (i q : ℕ) : Type 0 where
   pub can : CanBranch e.puzzle i (option_at e.puzzle i q) e.trail
   pub place : IsPlace e.puzzle i q
@@ -92,7 +92,7 @@ pub record EntersOver (d : Dancing) (ls : Levels) (m : ℕ) (e : Dancing) (ks : 
   pub over : GoesOver d ls m (branched e i q) ks n
   pub less : work_left (branched e i q) ks true < work_left d ls true
 
--- It passed over all, and stands at the next.
+-- It passed over all, and is at the next.
 pub record StandsOver (d : Dancing) (ls : Levels) (m : ℕ) (e : Dancing) (ks : Levels) (n : ℕ) : Type 0 where
   pub over : GoesOver d ls m e ks n
   pub none : n ≡ 0

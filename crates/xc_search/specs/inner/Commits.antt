@@ -7,7 +7,7 @@ use Rattle.xc_input.specs.Problem.{Puzzle, low_at, high_at}
 use Rattle.xc_dance.specs.Moves.{is_open, spends, AreLegal}
 use Rattle.xc_search.specs.Room.{room_for}
 
--- moves that may stand: they are legal, and a search has room for them
+-- moves that may be on the trail: they are legal, and a search has room for them
 pub record MayStand (p : Puzzle) (t : List Move) : Type 0 where
   pub legal : AreLegal p t
   pub room : length t ≤ room_for p
@@ -29,7 +29,7 @@ abbrev pub is_tweak : Move → Bool
 is_tweak (Tweak i) = true
 is_tweak _ = false
 
--- above the oldest n moves stands no tweak
+-- above the oldest n moves is no tweak
 unfoldable pub NoTweakAbove : ℕ → List Move → Type 0
 NoTweakAbove n [] = Unit {0}
 NoTweakAbove n (m ∷ t) = n ≤ length t → (is_tweak m ≡ false) × NoTweakAbove n t

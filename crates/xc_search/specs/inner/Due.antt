@@ -12,11 +12,11 @@ use Rattle.xc_search.specs.inner.Commits.{oldest}
 use Rattle.xc_search.specs.inner.Residual.{residual_of}
 use Rattle.xc_search.specs.inner.Levels.{Levels, branches_at}
 
--- the ends behind these branches
+-- the ends after these branches
 abbrev pub ends_of : List Branch → List Bool
 ends_of bs = flat_map (λ b. ends b.next) bs
 
--- the ends behind the branches of the levels that weren't begun
+-- the ends after the branches of the levels that weren't begun
 abbrev pub ends_behind : Puzzle → List Move → List Level → List Bool
 ends_behind p t [] = []
 ends_behind p t (l ∷ ls) =
@@ -27,7 +27,7 @@ abbrev pub ends_ahead : Puzzle → List Move → List Level → Bool → List Bo
 ends_ahead p t ls true = ends (residual_of p t) ++ ends_behind p t ls
 ends_ahead p t ls false = ends_behind p t ls
 
--- what is left takes no more than the moves that stand where it is a solution, and else what its ends may take
+-- what is left takes no more than the moves on the trail if it is a solution, and else what its ends may take
 abbrev pub here : Option Wanted → ℕ → ℕ → ℕ
 here None stand may = stand
 here (Some w) stand may = may
@@ -40,14 +40,14 @@ due d ls true = d.undone + (here (branch_item (residual_of d.puzzle d.trail)) (l
 due d ls false = d.undone + (length d.trail + room_for d.puzzle * length (ends_behind d.puzzle d.trail ls.levels))
 
 -- From levels ls in state d, where m solutions were to be passed over, it came to levels ks in state e, where n are:
--- the ends behind them are the same, and no more moves are due.
+-- the ends after them are the same, and no more moves are due.
 pub record Pays (d : Dancing) (ls : Levels) (down : Bool) (m : ℕ) (e : Dancing) (ks : Levels) (below : Bool) (n : ℕ) :
     Type 0 where
   pub ends : ends_after (suc m) (ends_ahead d.puzzle d.trail ls.levels down)
       ≡ ends_after (suc n) (ends_ahead e.puzzle e.trail ks.levels below)
   pub due : due e ks below ≤ due d ls down
 
--- It went over so many solutions: the ends behind them are left, and those before them paid for the moves.
+-- It went over so many solutions: the ends after them are left, and those before them paid for the moves.
 pub record PaysFor (d : Dancing) (ls : Levels) (down : Bool) (many : ℕ) (e : Dancing) (ks : Levels) : Type 0 where
   pub ends : ends_after many (ends_ahead d.puzzle d.trail ls.levels down)
       ≡ ends_ahead e.puzzle e.trail ks.levels false

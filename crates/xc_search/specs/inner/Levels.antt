@@ -85,7 +85,7 @@ options_at p t i = holding i (left p t)
 abbrev pub option_taken : Puzzle → Level → Option ℕ
 option_taken p l = option_at p l.item l.place
 
--- at place q of item i's list stands its option, or the item's own node
+-- at place q of item i's list is its option, or the item's own node
 abbrev pub IsPlace : Puzzle → ℕ → ℕ → Type 0
 IsPlace p i q = q ≡ link_place p i (unwrap_or (option_at p i q) 0)
 
@@ -94,7 +94,7 @@ pub record IsShown (p : Puzzle) (l : Level) : Type 0 where
   pub item : IsItem p l.item
   pub option : IfSome (option_taken p l) (λ x. IsUseAt p l.item x l.place)
 
--- A level that was begun on the moves u, below the moves t. Its base stands before a branch.
+-- A level that was begun on the moves u, below the moves t. Its base is before a branch.
 pub record IsLevelAt (p : Puzzle) (u t : List Move) (l : Level) : Type 0 where
   pub within : (l.mark ≤ l.base) × (l.base ≤ length t)
   pub node : IsNode p u l.item
@@ -136,23 +136,23 @@ choices_of p ls = map (chosen p) (reverse ls)
 unfoldable pub branches_at : Puzzle → List Move → ℕ → List Branch
 branches_at p t i = branches_of (residual_of p t) (wanted_at p t i)
 
--- the members of these branches, behind the choices before them
+-- the members of these branches, after the choices before them
 abbrev pub branch_members : List Choice → List Branch → List (List Choice)
 branch_members before bs = flat_map (λ b. map (λ m. before ++ b.choice ∷ m) (listing b.next)) bs
 
--- what the levels have still to give by the branches that weren't begun
+-- the members that are left at the levels, by the branches that weren't begun
 abbrev pub to_give : Puzzle → List Move → List Level → List (List Choice)
 to_give p t [] = []
 to_give p t (l ∷ ls) =
     branch_members (choices_of p ls) (drop l.begun (branches_at p (oldest l.mark t) l.item)) ++ to_give p
     (oldest l.mark t) ls
 
--- and before that, where what is left wasn't searched yet, what that gives
+-- and before those, if what is left wasn't searched yet, its members
 abbrev pub coming : Puzzle → List Move → List Level → Bool → List (List Choice)
 coming p t ls true = map (λ m. choices_of p ls ++ m) (listing (residual_of p t)) ++ to_give p t ls
 coming p t ls false = to_give p t ls
 
--- the levels stand, and what is left can be searched
+-- the levels are sound, and what is left can be searched
 pub record IsStanding (p : Puzzle) (t : List Move) (ls : List Level) (down : Bool) : Type 0 where
   pub stacked : AreStacked p t ls
   pub searchable : down ≡ true → IsSearchable p t
@@ -176,13 +176,13 @@ abbrev pub newest_begun : Begun → List Level → List Level
 newest_begun b [] = []
 newest_begun b (l ∷ ls) = begun_level b l ∷ ls
 
--- The moves of a level stand alone, and a branch wasn't begun yet.
+-- Only the moves of a level are there, and a branch wasn't begun yet.
 pub record MayBegin (p : Puzzle) (t : List Move) (l : Level) : Type 0 where
   pub level : IsLevel p t l
   pub whole : l.base ≡ length t
   pub more : l.begun < l.count
 
--- From level l on moves t a branch was begun, and level k stands on moves s.
+-- From level l on moves t a branch was begun, and level k is on moves s.
 pub record IsBegun (p : Puzzle) (t : List Move) (l : Level) (s : List Move) (k : Level) : Type 0 where
   pub branch : Branch
   pub at : slice_get (branches_at p (oldest l.mark t) l.item) l.begun ≡ Some branch
@@ -207,13 +207,13 @@ pub record IsOptionAt (p : Puzzle) (i o : ℕ) : Type 0 where
   pub holds : place_in i (uses_of p o) < length (uses_of p o)
   pub items : All (λ (u : Use). IsItem p u.item) (uses_of p o)
 
--- The moves of a branch can be made behind the moves t.
+-- The moves of a branch can be made after the moves t.
 pub record CanBranch (p : Puzzle) (i : ℕ) (o : Option ℕ) (t : List Move) : Type 0 where
   pub item : IsItem p i
   pub option : IfSome o (IsOptionAt p i)
   pub stands : MayStand p (after_branch p i o t)
 
--- From level l on moves t a branch was entered: once its moves stand behind the moves s, it was begun with level k.
+-- From level l on moves t a branch was entered: once its moves are after the moves s, it was begun with level k.
 pub record IsEntered (p : Puzzle) (t : List Move) (l : Level) (s : List Move) (k : Level) : Type 0 where
   pub can : CanBranch p k.item (option_taken p k) s
   pub begun : IsBegun p t l (after_branch p k.item (option_taken p k) s) k

@@ -56,6 +56,6 @@ KeepsPath d ls e ks = KeepsBy true d ls e ks
 abbrev pub numbers : List Level → List ℕ
 numbers ls = map (λ l. l.begun) (reverse ls)
 
--- levels ks stand at a later row than levels ls
+-- levels ks are at a later row than levels ls
 abbrev pub AreLater : Levels → Levels → Type 0
 AreLater ls ks = precedes (numbers ls.levels) (numbers ks.levels) ≡ true

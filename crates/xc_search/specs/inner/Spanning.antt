@@ -18,13 +18,13 @@ use Rattle.xc_search.specs.inner.Paths.{AreLed, AreLedBy, KeepsBy, AreLater, num
 abbrev pub row_at : Puzzle → List Level → List ℕ
 row_at p ls = row_of (choices_of p ls)
 
--- the row from which on the search goes on: that of the levels, or the one right behind it where it stands at a
+-- the row from which on the search goes on: that of the levels, or the one right after it where it is at a
 -- solution
 abbrev pub row_from : Puzzle → List Level → Bool → List ℕ
 row_from p ls true = row_at p ls
 row_from p ls false = row_at p ls ++ 0 ∷ []
 
--- The row of the levels comes before the end of a span, and so does all below them where so many levels stand.
+-- The row of the levels comes before the end of a span, and so does all below them if there are so many levels.
 pub record IsRest (until : Option (List ℕ)) (p : Puzzle) (ls : List Level) (last : ℕ) : Type 0 where
   pub before : is_before until (row_at p ls) ≡ true
   pub all : length ls ≡ last → (x : List ℕ) → is_before until (row_at p ls ++ x) ≡ true
@@ -37,7 +37,7 @@ pub record PassesOver (counts : Bool) (until : Option (List ℕ)) (m n : ℕ) (m
   pub before : AllByRecursion (λ x. is_before until (row_of x) ≡ true) passed
   pub count : counts ≡ true → m ≡ length passed + n
 
--- Nothing is left below the levels ls in state d, and the search stands at them, as levels ks, in state e.
+-- Nothing is left below the levels ls in state d, and the search is at them, as levels ks, in state e.
 pub record Falls (exact counts : Bool) (until : Option (List ℕ)) (d : Dancing) (ls : Levels) (m : ℕ) (e : Dancing)
     (ks : Levels) (n : ℕ) : Type 0 where
   pub still : (e ≡ record d { trail = e.trail; undone = e.undone }) × (ks ≡ ls)
@@ -73,7 +73,7 @@ pub record Ends (counts : Bool) (until : Option (List ℕ)) (d : Dancing) (ls : 
   pub ended : ks.levels ≡ []
   pub over : PassesOver counts until m n (coming d.puzzle d.trail ls.levels true) []
 
--- From levels ls in state d it began so many branches, and stands at levels ks in state e, where what is left wasn't
+-- From levels ls in state d it began so many branches, and is at levels ks in state e, where what is left wasn't
 -- looked at yet.
 pub record Stands (exact counts : Bool) (until : Option (List ℕ)) (d : Dancing) (ls : Levels) (m : ℕ) (e : Dancing)
     (ks : Levels) (n begun : ℕ) : Type 0 where
@@ -97,7 +97,7 @@ pub record RunsTo (exact counts : Bool) (until : Option (List ℕ)) (d : Dancing
   pub ended : stop ≡ Nothing → Ends counts until d ls m e ks n
   pub within : steps ≤ most
 
--- From the row of levels ls in state d it went back to the first level, and stands at that row or at the next one of
+-- From the row of levels ls in state d it went back to the first level, and is at that row or at the next one of
 -- the search's tree, with no member between. Or no such row was found, and no member was to come.
 pub record Settles (d : Dancing) (ls : Levels) (e : Dancing) (ks : Levels) (found : Bool) : Type 0 where
   pub still : (e ≡ record d { trail = e.trail; undone = e.undone }) × (ks ≡ record ls { levels = ks.levels })
@@ -127,7 +127,7 @@ pub record EndsSpan (d : Dancing) (ls : Levels) (m : ℕ) (until : Option (List 
   pub stacked : AreStacked e.puzzle e.trail ks.levels
   pub count : m ≡ n + length (between d.puzzle (row_at d.puzzle ls.levels) until)
 
--- It went on so: it stands at a member, ran out of steps, or came to the end.
+-- It went on so: it is at a member, ran out of steps, or came to the end.
 pub record RanTo (d : Dancing) (ls : Levels) (m most : ℕ) (until : Option (List ℕ)) (stop : Stop) (e : Dancing)
     (ks : Levels) (n steps : ℕ) : Type 0 where
   pub halts : (stop ≡ Member) ⊎ (stop ≡ Steps) → Halts until d ls m e ks n (most - steps)

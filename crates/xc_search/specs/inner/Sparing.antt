@@ -19,6 +19,6 @@ abbrev pub count_of_uses : List Numbered → ℕ
 count_of_uses [] = 0
 count_of_uses (o ∷ os) = length o.uses + count_of_uses os
 
--- The Spends that stand are no more than the uses of options that were taken and the items that were left out.
+-- The Spends on the trail are no more than the uses of options that were taken and the items that were left out.
 abbrev pub IsSparing : Puzzle → List Move → Type 0
 IsSparing p t = spendings t + length (open_items p t) + count_of_uses (left p t) ≤ use_count p.options + primary_count p

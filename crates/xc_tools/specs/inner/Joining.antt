@@ -15,7 +15,7 @@ use Rattle.xc_tools.specs.declared.span_lines.Refusal.{Refusal}
 use Rattle.xc_tools.specs.declared.span_lines.Refusal.TheVariants as refusals
 use Rattle.xc_tools.specs.inner.SpanLines.{Stand, goes, faulty, apart, stand_after, join_of, start, wrote}
 
--- what stands after lines from the beginning on
+-- the state after lines from the beginning on
 abbrev pub stand_reached : Bool → List (List ℕ) → Stand
 stand_reached listed lines = stand_after (goes (start listed)) lines
 
@@ -32,7 +32,7 @@ pub record IsAfter (l : Lines) : Type 0 where
   pub stands : stand_reached l.joint.listed l.given.lines ≡ goes (join_of l.joint)
   pub whole : AreWhole l.given.lines
 
--- This is so of a sink and what is written for the second lines behind the first.
+-- This is so of a sink and what is written for the second lines after the first.
 pub record Adds (listed : Bool) (before lines : List (List ℕ)) (says : SinkState → SinkState → List ℕ → Type 0)
     (old new : SinkState) : Type 0 where
   pub text : List ℕ
@@ -52,7 +52,7 @@ abbrev pub says_of : Stop → SinkState → SinkState → List ℕ → Type 0
 says_of WriteFailed old new text = BrokeOff old new text
 says_of _ old new text = Took old new text
 
--- Bytes began with lines of which the last one stopped a run, which had taken others before.
+-- Bytes began with lines; the last one stopped a run, which had taken the others.
 pub record StopsIn (listed : Bool) (before : List (List ℕ)) (bytes : List ℕ) (new : Joint) (out_old out_new : SinkState)
     (e : Stop) : Type 0 where
   pub lines : List (List ℕ)
@@ -68,7 +68,7 @@ stop_of refusals.NotText = NotText
 stop_of refusals.Gap = Gap
 stop_of refusals.Memory = Memory
 
--- Why reading stopped: a read failed behind what the source gave; or in lines that it gave.
+-- Why reading stopped: a read failed after what the source gave; or in lines that it gave.
 abbrev pub StopsReading : Bool → Joint → SourceState → SourceState → SinkState → SinkState → Stop → Type 0
 StopsReading listed new old_in new_in out_old out_new Device = (lines : List (List ℕ)) × (rest : List ℕ)
     × Gave old_in new_in (ended lines ++ rest) × AreWhole lines × Took out_old out_new (joined_text listed lines)
@@ -76,7 +76,7 @@ StopsReading listed new old_in new_in out_old out_new Device = (lines : List (Li
 StopsReading listed new old_in new_in out_old out_new e =
     (bytes : List ℕ) × Gave old_in new_in bytes × StopsIn listed [] bytes new out_old out_new e
 
--- what is said where the input ended, behind what is carried on
+-- what is said where the input ended, after what is carried on
 abbrev pub EndsAt : List ℕ → Joint → Joint → Result (Unit {0}) Stop → Type 0
 EndsAt carry old new (Ok u) = (carry ≡ []) × (old.finished ≡ true) × (old.found ≡ None) × (new ≡ old)
 EndsAt carry old new (Err NotText) = (carry ≡ [] → old.found ≡ None → ⊥)
@@ -84,7 +84,7 @@ EndsAt carry old new (Err Gap) = (carry ≡ []) × (old.finished ≡ false) × (
 EndsAt carry old new (Err Memory) = Unit {0}
 EndsAt carry old new (Err e) = ⊥
 
--- What joining all that a source gives came to: it stopped in reading; or the source gave its end behind lines and a
+-- What joining all that a source gives came to: it stopped in reading; or the source gave its end after lines and a
 -- part of one, and the run ended so.
 abbrev pub JoinsAll : Bool → Joint → SourceState → SourceState → SinkState → SinkState → Result (Unit {0}) Stop → Type 0
 JoinsAll listed new old_in new_in out_old out_new r =
@@ -93,12 +93,12 @@ JoinsAll listed new old_in new_in out_old out_new r =
     × AreWhole lines × (has 10 rest ≡ false) × (stand_reached listed lines ≡ goes (join_of old)) × EndsAt rest old new r
     × Took out_old out_new (joined_text listed lines))
 
--- how often the output failed behind a stop where that its write failed was told
+-- how often the output failed after a stop, if that its write failed was reported
 abbrev pub WriteFails : Stop → SinkState → SinkState → Type 0
 WriteFails WriteFailed old new = new.failures ≡ old.failures
 WriteFails _ old new = Rose old.failures new.failures
 
--- what was told of a run that stopped, by its status
+-- the message of a run that stopped, by its status
 abbrev pub ToldStop : Stop → ℕ → SinkState → SinkState → SinkState → SinkState → Type 0
 ToldStop stop status out_old out_new old new = ((status ≡ 2) × (stop ≡ NotText) × (file : List ℕ) × (line : ℕ)
     × WasTold old new

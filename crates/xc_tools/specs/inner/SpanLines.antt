@@ -25,13 +25,13 @@ pub record Join : Type 0 where
   pub total : ℕ
   pub full : Bool
 
--- what stands when lines were read: it goes on; a line was none of a text; or ends don't meet, these two
+-- the state after lines: it goes on; a line was none of a text; or ends don't meet, these two
 pub data Stand : Type 0 where
   goes : Join → Stand
   faulty : Stand
   apart : List ℕ → List ℕ → Stand
 
--- what the words of a record tell
+-- what the words of a record mean
 pub record Told : Type 0 where
   pub from : List ℕ
   pub until : List ℕ
@@ -60,13 +60,13 @@ recorded_solutions (s ∷ n ∷ t ∷ m ∷ []) =
     if bytes_eq s (codes "solutions") && bytes_eq t (codes "steps") && is_number n && is_number m then Some n else None
 recorded_solutions _ = None
 
--- the same behind the branches of a row, if they are told
+-- the same after the branches of a row, if they are reported
 abbrev pub counts_of : List (List ℕ) → Option (List ℕ)
 counts_of (o ∷ row ∷ rest) =
     if bytes_eq o (codes "of") && is_row row then recorded_solutions rest else recorded_solutions (o ∷ row ∷ rest)
 counts_of words = recorded_solutions words
 
--- what these words tell, if they are a record
+-- what these words mean, if they are a record
 abbrev pub record_of : List (List ℕ) → Option Told
 record_of (a ∷ from ∷ b ∷ until ∷ rest) =
     if bytes_eq a (codes "from") && bytes_eq b (codes "until") && is_row from && is_row until
@@ -155,7 +155,7 @@ join_of j = record {
   full = j.full;
 }
 
--- what a record tells
+-- what a record means
 abbrev pub told_of : Record → Told
 told_of r = record { from = r.from.now; until = r.until.now; solutions = r.solutions.now }
 
@@ -181,13 +181,13 @@ abbrev pub start : Bool → Join
 start listed =
     record { listed = listed; met = codes "-"; finished = false; found = None; total = 0; full = false }
 
--- what stands after a line, and what is written for it
+-- the state after a line, and what is written for it
 abbrev pub step : Stand → List ℕ → Stand × List ℕ
 step (goes s) line = by_line s line
 step faulty line = (faulty, [])
 step (apart met next) line = (apart met next, [])
 
--- what stands after these lines
+-- the state after these lines
 abbrev pub stand_after : Stand → List (List ℕ) → Stand
 stand_after stand [] = stand
 stand_after stand (line ∷ lines) = stand_after (step stand line).0 lines

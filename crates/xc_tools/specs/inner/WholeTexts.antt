@@ -4,7 +4,7 @@ use Rattle.xc_input.specs.Calls.{Rose}
 use Rattle.xc_tools.specs.declared.whole_text.TextError.{TextError}
 use Rattle.xc_tools.specs.declared.whole_text.TextError.TheVariants.{Device, Memory}
 
--- an answer by a failed read comes exactly where a read failed
+-- a failed read is returned exactly if a read failed
 abbrev pub IsCounted : {T : Type 0} → ℕ → ℕ → Result T TextError → Type 0
 IsCounted old new (Ok x) = new ≡ old
 IsCounted old new (Err Device) = Rose old new

@@ -8,7 +8,7 @@ use Rattle.xc_dance.specs.inner.Links.Laid.{HoldsItem}
 abbrev pub named : ℕ → Option ℕ
 named x = if x == 0 then None else Some x
 
--- a node of item i stands there
+-- a node of item i is there
 pub record IsNodeOf (p : Puzzle) (i place : ℕ) : Type 0 where
   pub number : ℕ
   pub name : HoldsItem p i number

@@ -38,7 +38,7 @@ fixed_down p unused = 0
 fixed_down p (own i) = 0
 fixed_down p (used o u) = 0
 
--- the number in the TOP cell of a node, a spacer's lying behind all others
+-- the number in the TOP cell of a node, a spacer's lying after all others
 abbrev pub top_in : (ℕ → Line) → Node → ℕ
 top_in ln unused = 0
 top_in ln (own i) = (ln i).len
@@ -69,12 +69,12 @@ nodes_from p ln col = record {
   color = map col (layout p);
 }
 
--- what stands above member o of item j's list, and last of it for 0
+-- what is above member o of item j's list, and last of it for 0
 abbrev pub up_of : Puzzle → List Move → ℕ → ℕ → ℕ
 up_of p t j zero = last_of 0 (listed_numbers p t j)
 up_of p t j (suc o) = above p t j (suc o)
 
--- what stands below member o of item j's list, and first of it for 0
+-- what is below member o of item j's list, and first of it for 0
 abbrev pub down_of : Puzzle → List Move → ℕ → ℕ → ℕ
 down_of p t j zero = first_of 0 (listed_numbers p t j)
 down_of p t j (suc o) = below_of p t j (suc o)

@@ -57,7 +57,7 @@ pub record ItemTable : Type 0 where
   pub cells : Items
   pub written : ℕ
 
--- the columns of nodes that are laid one behind another, and how many there are to be
+-- the columns of nodes that are laid one after another, and how many there are to be
 pub record Laying : Type 0 where
   pub count : ℕ
   pub nodes : Nodes

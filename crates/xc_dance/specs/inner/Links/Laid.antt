@@ -28,12 +28,12 @@ pub record HasSoundNodes (p : Puzzle) : Type 0 where
   pub coloured : (k o : ℕ) (u : Use) → slice_get (layout p) k ≡ Some (used o u)
       → colour_in (uses_of p o) u.item ≡ Some u.colour
 
--- each slot stands where its links say, and nothing else stands there
+-- each slot is where its links say, and nothing else is there
 pub record IsLaid (p : Puzzle) : Type 0 where
-  -- a slot stands at one place
+  -- a slot is at one place
   pub unique : (k : ℕ) (n : Node) (j x : ℕ) → slice_get (layout p) k ≡ Some n → slot_of n ≡ Some (j, x)
       → link_place p j x ≡ k
-  -- and each that there is stands there
+  -- and each that there is is there
   pub there : (j x : ℕ) → 0 < j → j ≤ item_count p → HoldsItem p j x → Placed p j x
   pub head : (j : ℕ) → 0 < j → j ≤ item_count p → slice_get (layout p) j ≡ Some (own j)
   pub nodes : HasSoundNodes p

@@ -1,5 +1,5 @@
--- No public clause cites this module. The other items of an option, cyclically from behind one of them, and the spans
--- in which their nodes stand.
+-- No public clause cites this module. The other items of an option, cyclically from after one of them, and the spans
+-- in which their nodes are.
 use Rattle.std.specs.Prelude.{ℕ, ◌+◌, ◌-◌, ◌<◌, ◌≤◌, ◌^◌, ◌≡◌, ◌==◌, true, Some, List, [], ◌∷◌, length, map, is_some}
 use Rattle.std.specs.Prelude.{slice_get, if◌then◌else◌}
 use Rattle.xc_input.specs.declared.problem.Use.{Use}
@@ -14,12 +14,12 @@ abbrev pub before_use : ℕ → List Use → List ℕ
 before_use i [] = []
 before_use i (u ∷ us) = if u.item == i then [] else u.item ∷ before_use i us
 
--- the items of the uses behind it
+-- the items of the uses after it
 abbrev pub behind_use : ℕ → List Use → List ℕ
 behind_use i [] = []
 behind_use i (u ∷ us) = if u.item == i then map (λ v. v.item) us else behind_use i us
 
--- option o stands in this span, between two spacers that lead to its ends, with the nodes of its other items round that
+-- option o is in this span, between two spacers that lead to its ends, with the nodes of its other items round that
 -- of item i
 pub record IsSpanOf (p : Puzzle) (o i : ℕ) (s : Span) : Type 0 where
   pub from : s.first ≤ link_place p i o

@@ -1,4 +1,4 @@
--- No public clause cites this module. Where the nodes of an option stand.
+-- No public clause cites this module. Where the nodes of an option are.
 use Rattle.std.specs.Prelude.{ℕ}
 
 -- from first to below end

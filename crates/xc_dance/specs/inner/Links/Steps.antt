@@ -72,7 +72,7 @@ CanHideAll = CanAll hidden CanHide
 abbrev pub places : ℕ → ℕ → List ℕ
 places a b = range_with_len a (b - a)
 
--- the other nodes of the option that stands from first to below end, cyclically from behind p
+-- the other nodes of the option from first to below end, cyclically from after p
 abbrev pub other_nodes : ℕ → ℕ → ℕ → List ℕ
 other_nodes p first end = places (p + 1) end ++ places first p
 
@@ -96,7 +96,7 @@ CanUnhideAll = CanAll unhidden CanUnhide
 abbrev pub unhide_costs : Nodes → List ℕ → ℕ
 unhide_costs = costs unhidden hide_cost
 
--- where the option of node p stands
+-- where the option of node p is
 abbrev pub span_at : List Span → ℕ → Span
 span_at spans p = get_or spans p (record { first = 0; end = 0 })
 
@@ -108,13 +108,13 @@ others_of spans p = other_nodes p (span_at spans p).first (span_at spans p).end
 abbrev pub hidden_node : List Span → Nodes → ℕ → Nodes
 hidden_node spans t p = fold hidden t (others_of spans p)
 
--- a spacer stands at z
+-- a spacer is at z
 pub record IsSpacer (t : Nodes) (z : ℕ) : Type 0 where
   pub size : HasSize t (length t.top)
   pub place : z < length t.top
   pub top : SPACER ≤ slice_index t.top z
 
--- hide(p) may be made: once the nodes behind p are hidden, the spacer behind them leads to the option's first node
+-- hide(p) may be made: once the nodes after p are hidden, the spacer after them leads to the option's first node
 pub record CanHideNode (spans : List Span) (t : Nodes) (p : ℕ) : Type 0 where
   pub steps : CanHideAll t (others_of spans p)
   pub within : p < (span_at spans p).end

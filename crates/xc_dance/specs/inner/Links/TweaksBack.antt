@@ -19,7 +19,7 @@ with_dlink t q v = record { top = t.top; ulink = t.ulink; dlink = slice_set t.dl
 abbrev pub with_top : Nodes → ℕ → ℕ → Nodes
 with_top t q v = record { top = slice_set t.top q v; ulink = t.ulink; dlink = t.dlink; color = t.color }
 
--- one step: node p's option is unhidden, unless its item is covered, and what stands below p has p above it
+-- one step: node p's option is unhidden, unless its item is covered, and what is below p has p above it
 abbrev pub brought_back : List Span → Bool → Nodes → ℕ → Nodes
 brought_back spans covered t p =
     with_ulink (unhidden_unless spans covered t p) (slice_index (unhidden_unless spans covered t p).dlink p) p
@@ -28,7 +28,7 @@ brought_back spans covered t p =
 abbrev pub bring_back_cost : List Span → Bool → Nodes → ℕ → ℕ
 bring_back_cost spans covered t p = 1 + (if covered then 0 else unhide_costs t (reverse (others_of spans p)))
 
--- such a step may be made at p
+-- this step may be made at p
 pub record CanBringBack (spans : List Span) (covered : Bool) (t : Nodes) (p : ℕ) : Type 0 where
   pub unhide : covered ≡ false → (p < length spans) × CanUnhideNode spans t p
   pub place : p < length (unhidden_unless spans covered t p).dlink

@@ -4,7 +4,7 @@ use Rattle.xc_input.specs.declared.problem.Use.{Use}
 use Rattle.xc_input.specs.Problem.{Puzzle, uses_of}
 use Rattle.xc_input.specs.UsePlaces.{place_in}
 
--- the uses of option x behind that of item i
+-- the uses of option x after that of item i
 abbrev pub uses_behind : Puzzle → ℕ → ℕ → List Use
 uses_behind p i x = drop (place_in i (uses_of p x) + 1) (uses_of p x)
 

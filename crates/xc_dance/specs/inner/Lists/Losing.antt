@@ -22,7 +22,7 @@ lose_from t j gone i (l ∷ ls) = (if not (i == j) && is_open i t then less gone
 abbrev pub lose : List Move → ℕ → List ℕ → List (List ℕ) → List (List ℕ)
 lose t j gone ls = lose_from t j gone 1 ls
 
--- the option gives item i the colour that is kept
+-- the option has for item i the colour that is kept
 abbrev pub keeps_colour : Puzzle → ℕ → Option ℕ → ℕ → Bool
 keeps_colour p i None o = false
 keeps_colour p i (Some c) o = not (is_other_colour c (colour_in (uses_of p o) i))

@@ -1,4 +1,4 @@
--- No public clause cites this module. What stands of an item after moves.
+-- No public clause cites this module. The state of an item after moves.
 use Rattle.std.specs.Prelude.{ℕ, ◌+◌, ◌<◌, ◌≡◌, ◌==◌, List, [], ◌∷◌, length, slice_index_or, if◌then◌else◌}
 use Rattle.xc_input.specs.Problem.{Puzzle, item_count, primary_count, high_at}
 use Rattle.xc_dance.specs.declared.dance.Move.{Move}
@@ -7,7 +7,7 @@ use Rattle.xc_dance.specs.declared.lists.item_states.ItemState.{ItemState}
 use Rattle.xc_dance.specs.declared.lists.item_states.ItemState.TheVariants.{Open, Covered, Purified}
 use Rattle.xc_dance.specs.Moves.{spends}
 
--- by the newest Cover or Purify of the item that stands
+-- by the newest Cover or Purify of the item on the trail
 abbrev pub state_of : ℕ → List Move → ItemState
 state_of i [] = Open
 state_of i (Cover j ∷ t) = if i == j then Covered else state_of i t

@@ -21,7 +21,7 @@ list_at lists k = slice_index_or lists k []
 abbrev pub less : List ℕ → List ℕ → List ℕ
 less gone ns = filter (λ n. not (list_any (λ g. g == n) gone)) ns
 
--- the number stands in its list again
+-- the number is in its list again
 abbrev pub put_back : Removed → List (List ℕ) → List (List ℕ)
 put_back e lists = slice_set lists e.list (insert (list_at lists e.list) e.place e.number)
 
@@ -51,7 +51,7 @@ HasRoom rooms e lists =
     (e.list < length lists) × (e.place ≤ length (list_at lists e.list))
     × (length (list_at lists e.list) < slice_index_or rooms e.list 0)
 
--- put back into the new lists it gives the old ones
+-- put back into the new lists it makes the old ones
 abbrev pub IsPutBack : List ℕ → Removed → List (List ℕ) → List (List ℕ) → Type 0
 IsPutBack rooms e new old = HasRoom rooms e new × (put_back e new ≡ old)
 
