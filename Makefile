@@ -37,7 +37,7 @@ test: ## the merge gate: proofs, wrong bodies, tests, programs
 	@$(MAKE) -s --no-print-directory bin
 	@sh tests/guide.sh docs/GUIDE.md
 	@sh tests/python.sh
-test-mutants: ## plant the wrong bodies of mutants/
+test-mutants: ## plant the wrong bodies of crates/*/mutants
 	@python3 tests/mutants.py
 test-hostile: ## the programs on hostile inputs
 	@python3 scripts/hostile/hostile.py
