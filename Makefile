@@ -60,7 +60,7 @@ pictures: ## draw the pictures of the pages
 	@scripts/pictures/pictures
 
 completion: ## write the completion for shells
-	@scripts/completion
+	@scripts/completion/completion.py
 
 believed: ## write docs/BELIEVED.md
 	@scripts/believed --page >docs/BELIEVED.md
