@@ -38,7 +38,7 @@ test: ## the merge gate: proofs, wrong bodies, tests, programs
 	@sh tests/guide.sh docs/GUIDE.md
 	@sh tests/python.sh
 test-mutants: ## plant the wrong bodies of crates/*/mutants
-	@python3 tests/mutants.py
+	@python3 tests/wrong_bodies.py
 test-hostile: ## the programs on hostile inputs
 	@python3 tests/hostile/programs.py
 test-python: ## the Python package, and 2,000 random problems
