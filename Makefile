@@ -37,18 +37,18 @@ test: ## the merge gate: proofs, wrong bodies, tests, programs
 	@$(MAKE) -s --no-print-directory bin
 	@sh tests/guide.sh docs/GUIDE.md
 	@sh tests/python.sh
-test-mutants: ## plant the wrong bodies of mutants/
-	@python3 tests/mutants.py
+test-mutants: ## plant the wrong bodies of crates/*/mutants
+	@python3 tests/wrong_bodies.py
 test-hostile: ## the programs on hostile inputs
-	@python3 scripts/hostile/hostile.py
+	@python3 tests/hostile/programs.py
 test-python: ## the Python package, and 2,000 random problems
 	@sh tests/python.sh && python3 python/tests/trial.py 2000 1
 test-hostile-python: ## the Python commands on hostile inputs
-	@python3 tests/hostile_python.py 5000 1
+	@python3 tests/hostile/python_commands.py 5000 1
 test-search: bin ## 500 searches by helgrothy search, with mishaps
-	@PATH=$$PWD/bin:$$PATH python3 tests/search.py 500 1
+	@PATH=$$PWD/bin:$$PATH python3 tests/search/search.py 500 1
 test-page: bin ## the pages in a headless Chromium
-	@PATH=$$PWD/bin:$$PATH python3 tests/page.py
+	@PATH=$$PWD/bin:$$PATH python3 tests/browser/page.py
 test-docs: bin ## the commands, pictures and tables of the pages
 	@sh tests/pages.sh . man/*.[15]
 	@scripts/pictures/pictures compare
@@ -60,7 +60,7 @@ pictures: ## draw the pictures of the pages
 	@scripts/pictures/pictures
 
 completion: ## write the completion for shells
-	@scripts/completion
+	@scripts/completion/completion.py
 
 believed: ## write docs/BELIEVED.md
 	@scripts/believed --page >docs/BELIEVED.md
@@ -180,12 +180,12 @@ release: dist deb wheel ## pack the archive, the Debian package and the wheel
 	cd dist && sha256sum helgrothy[-_]$(VERSION)* > SHA256SUMS
 
 test-bindings: lib ## the examples in C and Rust, and hostile calls
-	@sh tests/bindings.sh
+	@sh tests/bindings/bindings.sh
 test-install: bin ## an installation
-	@sh tests/install.sh
+	@sh tests/release/install.sh
 test-dist: dist ## the archive
-	@sh tests/dist.sh $(VERSION)
+	@sh tests/release/dist.sh $(VERSION)
 test-deb: deb ## the Debian package
-	@sh tests/deb.sh $(VERSION)
+	@sh tests/release/deb.sh $(VERSION)
 test-wheel: wheel ## the wheel
-	@sh tests/wheel.sh $(VERSION)
+	@sh tests/release/wheel.sh $(VERSION)

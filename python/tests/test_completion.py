@@ -7,8 +7,8 @@ import unittest
 TOP = os.path.dirname(os.path.dirname(os.path.dirname(os.path.abspath(__file__))))
 sys.path.append(os.path.join(TOP, "scripts"))
 
-from completing import shells  # noqa: E402
-from completing.commands import all_commands  # noqa: E402
+from completion import shells  # noqa: E402
+from completion.commands import all_commands  # noqa: E402
 
 from helgrothy.make import KINDS  # noqa: E402
 
@@ -17,7 +17,7 @@ class Completion(unittest.TestCase):
     def test_files_are_as_the_parsers_have_it(self):
         for name, text in shells.all_texts().items():
             with open(os.path.join(TOP, "release", f"completion.{name}"), encoding="utf-8") as file:
-                self.assertEqual(file.read(), text, f"scripts/completion makes {name} anew")
+                self.assertEqual(file.read(), text, f"`make completion` writes {name} anew")
 
     def test_what_is_known(self):
         commands = {command.path: command for command in all_commands()}

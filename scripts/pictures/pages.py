@@ -13,7 +13,7 @@ TOP = os.path.dirname(os.path.dirname(os.path.dirname(os.path.abspath(__file__))
 sys.path.insert(0, os.path.join(TOP, "tests"))
 sys.dont_write_bytecode = True
 
-from paging.browser import Browser, program  # noqa: E402
+from browser.chromium import Browser, program  # noqa: E402
 
 SCRIPT = os.path.join(TOP, "scripts", "helgrothy")
 LESSONS = """\

@@ -1,6 +1,6 @@
 /* Lets one read of standard input or one write to standard output fail: the call of the name FAIL, `read` or `write`,
    that has the number FAIL_AT, counted from 1, with the error FAIL_ERROR. Each of these calls is told in a line on the
-   descriptor FAIL_FD: how many bytes were asked of it, and what it gave, -1 where it failed. Preloaded by hostile.py. */
+   descriptor FAIL_FD: how many bytes were asked of it, and what it gave, -1 where it failed. Preloaded by programs.py. */
 #define _GNU_SOURCE
 #include <errno.h>
 #include <stdio.h>

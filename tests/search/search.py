@@ -19,8 +19,10 @@ import time
 import traceback
 from collections import Counter
 
-from searching import mishaps
-from searching.trial import Trial, Wrong
+sys.path.insert(0, os.path.dirname(os.path.dirname(os.path.abspath(__file__))))
+
+from search import mishaps  # noqa: E402
+from search.trial import Trial, Wrong  # noqa: E402
 
 PROGRAMS = ("dlx1", "dlx2", "dlx3", "dlx-span", "dlx-join", "helgrothy")
 

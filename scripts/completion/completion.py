@@ -1,16 +1,16 @@
 #!/usr/bin/env python3
-"""completion [compare]: writes release/completion.bash, .zsh and .fish, from the parsers of the commands.
+"""completion.py [compare]: writes release/completion.bash, .zsh and .fish, from the parsers of the commands.
 
 With the word `compare` it says which of them differ from what they ought to be, and nothing else.
 """
 import sys
 from pathlib import Path
 
-TOP = Path(__file__).resolve().parent.parent
+TOP = Path(__file__).resolve().parents[2]
 sys.dont_write_bytecode = True
 sys.path[:0] = [str(TOP / "python"), str(TOP / "scripts")]
 
-from completing import shells  # noqa: E402
+from completion import shells  # noqa: E402
 
 
 def main() -> int:
@@ -21,7 +21,7 @@ def main() -> int:
         if not compare:
             file.write_text(text)
         elif not file.exists() or file.read_text() != text:
-            print(f"{file.relative_to(TOP)} isn't as `scripts/completion` makes it")
+            print(f"{file.relative_to(TOP)} isn't as `make completion` writes it")
             differ = True
     return 1 if differ else 0
 

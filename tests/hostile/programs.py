@@ -1,5 +1,5 @@
 #!/usr/bin/env python3
-"""hostile.py [DIR]: tries the built programs on want of memory, on calls and streams that fail and on input made to hurt.
+"""programs.py [DIR]: tries the built programs on want of memory, on failing calls and streams, and on input made to hurt.
 
 DIR holds dlx1, dlx2, dlx3 and dlxcheck; without it they are taken from where `make test` leaves them. Each try that
 goes wrong is told in a line. The last line is `N passed, M failed`. Needs cc for the parts that refuse memory and let calls fail.

@@ -1,6 +1,6 @@
 #!/usr/bin/env python3
-"""Plants the wrong bodies of mutants/, or of the crates named, in copies of the libraries, where the prover has to
-refuse each by the goal that its line `# clause: FILE GOAL` names; with --gate those of must-fail/. Prints each that
+"""Plants the wrong bodies of crates/*/mutants, or of the crates named, in copies of the libraries, where the prover has
+to refuse each by the goal that its line `# clause: FILE GOAL` names; with --gate those of must-fail/. Prints each that
 isn't refused by it, with -v each one. The last line is `N passed, M failed`.
 
 A check takes ten seconds and more before its first function. So a dozen wrong bodies that change different functions
@@ -123,7 +123,7 @@ class Tree:
 
     def __init__(self, folder: str, source: Path = TOP) -> None:
         self.folder, self.is_ended = Path(folder) / "libraries", False
-        made = shutil.ignore_patterns("out", "must-fail")
+        made = shutil.ignore_patterns("out", "must-fail", "mutants")
         for name in LIBRARIES:
             shutil.copytree(source / "crates" / name, self.folder / "crates" / name, ignore=made)
         lines = (source / "crates.txt").read_text().splitlines(keepends=True)
@@ -184,7 +184,7 @@ def main() -> int:
     with tempfile.TemporaryDirectory() as folder:
         tree, runs = Tree(folder), []
         for crate in words.crates or LIBRARIES:
-            at = TOP / f"crates/{crate}/must-fail" if words.gate else TOP / f"mutants/{crate}"
+            at = TOP / "crates" / crate / ("must-fail" if words.gate else "mutants")
             edits = [read(crate, it) for it in sorted(at.glob("*.edit"))]
             if edits and tree.check(crate).returncode:
                 print(f"{crate} isn't proved as it stands", flush=True)

@@ -1,5 +1,5 @@
 /* Refuses growth number REFUSE, counted over malloc and realloc from 1, and says so by a byte on the descriptor
-   REFUSE_FD; a further byte there is a read behind it. Preloaded by hostile.py. */
+   REFUSE_FD; a further byte there is a read behind it. Preloaded by programs.py. */
 #include <stddef.h>
 #include <stdlib.h>
 #include <sys/syscall.h>

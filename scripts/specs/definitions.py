@@ -4,7 +4,7 @@ from collections.abc import Iterator, Sequence
 from dataclasses import dataclass, field
 from pathlib import Path
 
-from believing.entries import NAME, Entry, Key, Scope, joined
+from specs.entries import NAME, Entry, Key, Scope, joined
 
 HEAD = re.compile(rf"(?:(?:abbrev|unfoldable) (?:pub )?|(?:pub )?(?:record|data) )({NAME})")
 

@@ -5,8 +5,8 @@ import sys
 from collections import Counter, defaultdict
 from pathlib import Path
 
-from shortening.proofs import IMPORT, Proof, SIGNATURE, imports, named, proofs_of, words
-from shortening.trials import Change, Helper, Trial, Trials
+from proof_text import IMPORT, Proof, SIGNATURE, imports, named, proofs_of, words
+from shorter_forms import Change, Helper, Trial, Trials
 
 # More proofs than these keep a helper.
 MOST_USERS = 4

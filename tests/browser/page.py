@@ -14,11 +14,11 @@ import tempfile
 import time
 import unittest
 
-TOP = os.path.dirname(os.path.dirname(os.path.abspath(__file__)))
+TOP = os.path.dirname(os.path.dirname(os.path.dirname(os.path.abspath(__file__))))
 sys.path[:0] = [os.path.join(TOP, "python"), os.path.join(TOP, "tests")]
 sys.dont_write_bytecode = True
 
-from paging.browser import PATIENCE, Browser, program  # noqa: E402
+from browser.chromium import PATIENCE, Browser, program  # noqa: E402
 
 from helgrothy import Problem, make  # noqa: E402
 from helgrothy.page import forms  # noqa: E402

@@ -1,9 +1,9 @@
 """The page of what has to be believed of six calls."""
 from collections.abc import Iterable, Iterator, Sequence
 
-from believing.entries import Entry, Key, figures
-from believing.repository import Repository
-from believing.told import counted
+from specs.entries import Entry, Key, figures
+from specs.repository import Repository
+from specs.report import counted
 
 CALLS = ["solve", "judge", "run_over_links", "check", "solve_span", "join_spans"]
 

@@ -11,9 +11,9 @@ share="$empty/with space/share"
 cp tests/guide.sh tests/pages.sh "$empty/"
 (cd "$share/doc/helgrothy" && env -i HOME="$empty" PATH="$empty/with space/bin:/usr/bin:/bin" \
     PYTHONPATH="$share/helgrothy" PYTHONDONTWRITEBYTECODE=1 sh "$empty/pages.sh" . "$share"/man/man*/*)
-python3 tests/completion.py bash "$share/bash-completion/completions/dlx1"
-python3 tests/completion.py zsh "$share/zsh/site-functions/_helgrothy"
-python3 tests/completion.py fish "$share/fish/vendor_completions.d/helgrothy.fish"
+python3 tests/release/completion.py bash "$share/bash-completion/completions/dlx1"
+python3 tests/release/completion.py zsh "$share/zsh/site-functions/_helgrothy"
+python3 tests/release/completion.py fish "$share/fish/vendor_completions.d/helgrothy.fish"
 MAKEFLAGS= make -s uninstall PREFIX="$empty/with space"
 left=$(find "$empty/with space" ! -type d)
 [ -z "$left" ] || { echo "left behind: $left"; exit 1; }

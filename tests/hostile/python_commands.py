@@ -1,5 +1,5 @@
 #!/usr/bin/env python3
-"""hostile_python.py [TRIES [SEED]]: tries the commands of the Python package on what is made to hurt them.
+"""python_commands.py [TRIES [SEED]]: tries the commands of the Python package on what is made to hurt them.
 
 Texts, listings, tables, patterns, words and folders of searches of all kinds, by a seed, so that the same tries come
 again. Of each try: no traceback, no end by want of memory, an answer in time, a status that the manual has, no byte on
@@ -32,7 +32,7 @@ import urllib.parse
 import xml.etree.ElementTree
 from unittest import mock
 
-TOP = os.path.dirname(os.path.dirname(os.path.abspath(__file__)))
+TOP = os.path.dirname(os.path.dirname(os.path.dirname(os.path.abspath(__file__))))
 sys.path.insert(0, os.path.join(TOP, "python"))
 
 from helgrothy import __main__ as commands  # noqa: E402

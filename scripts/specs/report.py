@@ -1,9 +1,9 @@
-"""What is told of the calls: their figures, all that one reaches, and what is wrong with the definitions."""
+"""What is reported of the calls: their figures, all that one reaches, and what is wrong with the definitions."""
 from collections.abc import Iterator
 
-from believing.definitions import is_table
-from believing.entries import Entry, Figures, figures
-from believing.repository import Repository
+from specs.definitions import is_table
+from specs.entries import Entry, Figures, figures
+from specs.repository import Repository
 
 LONGEST = 12
 WIDEST = 120

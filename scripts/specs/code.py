@@ -5,8 +5,8 @@ from dataclasses import dataclass
 from pathlib import Path
 from typing import Optional
 
-from believing.definitions import bound_in, without_labels
-from believing.entries import STRING, Entry, Key, Scope
+from specs.definitions import bound_in, without_labels
+from specs.entries import STRING, Entry, Key, Scope
 
 DECLARATION = r"(pub(\(crate\))? )?(extern \"C\" )?(fn|struct|enum|trait|impl|ghost|const|type|use|mod)\b"
 

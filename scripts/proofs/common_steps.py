@@ -2,8 +2,8 @@
 import re
 from pathlib import Path
 
-from shortening.proofs import SIGNATURE
-from shortening.rounds import Crate, without_unused
+from proof_text import SIGNATURE
+from rounds import Crate, without_unused
 
 STEPS = "common_steps"
 ERROR = re.compile(r"^\./(proofs/[^:\n]*\.antt):(\d+):\d+: error: (?!.*not checked:)", re.MULTILINE)
@@ -23,7 +23,7 @@ def declaration(lines: list[str], number: int) -> range:
 
 
 def set_plain(crate: Crate, kept: set[tuple[Path, int]]) -> int:
-    """Writes the files so, but for the lines that are kept, and answers how many lines changed."""
+    """Writes the files so, but for the lines that are kept, and returns how many lines changed."""
     count = 0
     for file, lines in crate.lines.items():
         changed = [
@@ -35,12 +35,12 @@ def set_plain(crate: Crate, kept: set[tuple[Path, int]]) -> int:
     return count
 
 
-def make_plain(crate: Crate, jobs: int) -> int:
-    """Leaves the common steps out of each search of a crate that passes so, and answers of how many lines."""
+def without_common_steps(crate: Crate, jobs: int) -> int:
+    """Leaves the common steps out of each search of a crate that passes so, and returns of how many lines."""
     kept: set[tuple[Path, int]] = set()
     while count := set_plain(crate, kept):
-        stands, told = crate.check(jobs)
-        if stands:
+        passes, told = crate.check(jobs)
+        if passes:
             break
         before = len(kept)
         for match in ERROR.finditer(told):

@@ -3,9 +3,9 @@ import re
 from collections.abc import Iterable, Iterator, Sequence
 from pathlib import Path
 
-from believing.code import Code, exports, read_source
-from believing.definitions import Module, cited_by_definition, read_crate
-from believing.entries import Entry, Key
+from specs.code import Code, exports, read_source
+from specs.definitions import Module, cited_by_definition, read_crate
+from specs.entries import Entry, Key
 
 # The constructors of std that definitions match on and that begin with a small letter.
 STD_CONSTRUCTORS = {"zero", "suc", "true", "false"}

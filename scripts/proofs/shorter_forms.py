@@ -4,7 +4,7 @@ from collections.abc import Iterator
 from dataclasses import dataclass
 from pathlib import Path
 
-from shortening.proofs import NAME, Clause, Proof, closing, is_balanced, named
+from proof_text import NAME, Clause, Proof, closing, is_balanced, named
 
 WIDTH = 118
 TACTIC = re.compile(r"\s*(grind|omega|cc|search|simp|hlevel)\b")

@@ -1,0 +1,1 @@
+"""The pages of solutions in a headless Chromium."""

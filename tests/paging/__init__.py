@@ -1,1 +1,0 @@
-"""What the test of pages is made of."""
