@@ -1,6 +1,7 @@
 //! Each fault of a line, its words, and the token at fault.
 use fixtures::read;
 use std::alloc::Global;
+use std::test::Fail;
 use xc_input::{FaultKind, FaultyToken, InputError, Kind, Reader, Seed, faulty_token};
 
 /// A fault, as the error that a refused text gives.
@@ -54,10 +55,13 @@ const OF_ITEM_LINES: [(Kind, &[u8], u64, FaultKind); 26] = [
 ];
 
 #[test]
-fn faults_of_item_lines(rt: HostRuntime) {
-    for (kind, text, line, fault) in &OF_ITEM_LINES {
-        assert!(rt; has_fault(rt.alloc(), *kind, text, *line, *fault));
+fn faults_of_item_lines(rt: HostRuntime) -> Result<(), Fail> {
+    for (row, (kind, text, line, fault)) in OF_ITEM_LINES.iter().enumerate() {
+        if !has_fault(rt.alloc(), *kind, text, *line, *fault) {
+            return Err(Fail::new(format_args!("row {row}")));
+        }
     }
+    Ok(())
 }
 
 /// Texts with a fault in an option line, and its number.
@@ -102,10 +106,13 @@ const OF_OPTION_LINES: [(Kind, &[u8], u64, FaultKind); 17] = [
 ];
 
 #[test]
-fn faults_of_option_lines(rt: HostRuntime) {
-    for (kind, text, line, fault) in &OF_OPTION_LINES {
-        assert!(rt; has_fault(rt.alloc(), *kind, text, *line, *fault));
+fn faults_of_option_lines(rt: HostRuntime) -> Result<(), Fail> {
+    for (row, (kind, text, line, fault)) in OF_OPTION_LINES.iter().enumerate() {
+        if !has_fault(rt.alloc(), *kind, text, *line, *fault) {
+            return Err(Fail::new(format_args!("row {row}")));
+        }
     }
+    Ok(())
 }
 
 /// A line in three pieces: what stands before the token at fault, the token, and what stands behind it.
@@ -207,11 +214,14 @@ const CUT_ITEM_LINES: [(Kind, &[u8], &[u8], &[u8], &[u8], FaultKind); 9] = [
 ];
 
 #[test]
-fn tokens_at_fault_in_item_lines(rt: HostRuntime) {
-    for (kind, line, before, token, behind, fault) in &CUT_ITEM_LINES {
+fn tokens_at_fault_in_item_lines(rt: HostRuntime) -> Result<(), Fail> {
+    for (row, (kind, line, before, token, behind, fault)) in CUT_ITEM_LINES.iter().enumerate() {
         let cut: Cut = [*before, *token, *behind];
-        assert!(rt; is_at_fault(rt.alloc(), *kind, None, line, cut, *fault));
+        if !is_at_fault(rt.alloc(), *kind, None, line, cut, *fault) {
+            return Err(Fail::new(format_args!("row {row}")));
+        }
     }
+    Ok(())
 }
 
 /// Option lines, and how the token at fault cuts them.
@@ -299,11 +309,14 @@ const CUT_OPTION_LINES: [(Kind, &[u8], &[u8], &[u8], &[u8], FaultKind); 10] = [
 ];
 
 #[test]
-fn tokens_at_fault_in_option_lines(rt: HostRuntime) {
-    for (kind, line, before, token, behind, fault) in &CUT_OPTION_LINES {
+fn tokens_at_fault_in_option_lines(rt: HostRuntime) -> Result<(), Fail> {
+    for (row, (kind, line, before, token, behind, fault)) in CUT_OPTION_LINES.iter().enumerate() {
         let cut: Cut = [*before, *token, *behind];
-        assert!(rt; is_at_fault(rt.alloc(), *kind, Some(b"A B C | x"), line, cut, *fault));
+        if !is_at_fault(rt.alloc(), *kind, Some(b"A B C | x"), line, cut, *fault) {
+            return Err(Fail::new(format_args!("row {row}")));
+        }
     }
+    Ok(())
 }
 
 /// Item lines without a token at fault.
@@ -322,13 +335,23 @@ fn is_none_at_fault(alloc: Global, items: Option<&[u8]>, line: &[u8]) -> bool {
 }
 
 #[test]
-fn no_token_at_fault(rt: HostRuntime) {
-    for line in &ITEM_LINES {
-        assert!(rt; is_none_at_fault(rt.alloc(), None, *line));
+fn no_token_at_fault_in_item_lines(rt: HostRuntime) -> Result<(), Fail> {
+    for (row, line) in ITEM_LINES.iter().enumerate() {
+        if !is_none_at_fault(rt.alloc(), None, *line) {
+            return Err(Fail::new(format_args!("row {row}")));
+        }
     }
-    for (items, line) in &LINES_BEHIND {
-        assert!(rt; is_none_at_fault(rt.alloc(), Some(*items), *line));
+    Ok(())
+}
+
+#[test]
+fn no_token_at_fault_in_lines_behind(rt: HostRuntime) -> Result<(), Fail> {
+    for (row, (items, line)) in LINES_BEHIND.iter().enumerate() {
+        if !is_none_at_fault(rt.alloc(), Some(*items), *line) {
+            return Err(Fail::new(format_args!("row {row}")));
+        }
     }
+    Ok(())
 }
 
 /// Whether a reader that took an item line refuses each further line for an unknown item in line 2.
@@ -376,8 +399,11 @@ fn has_words(alloc: Global, kind: FaultKind, wanted: &str) -> bool {
 }
 
 #[test]
-fn texts_of_faults(rt: HostRuntime) {
-    for (kind, wanted) in &WORDS {
-        assert!(rt; has_words(rt.alloc(), *kind, *wanted));
+fn texts_of_faults(rt: HostRuntime) -> Result<(), Fail> {
+    for (row, (kind, wanted)) in WORDS.iter().enumerate() {
+        if !has_words(rt.alloc(), *kind, *wanted) {
+            return Err(Fail::new(format_args!("row {row}")));
+        }
     }
+    Ok(())
 }

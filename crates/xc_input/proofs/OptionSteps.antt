@@ -80,6 +80,10 @@ module _ {kind : Kind} {names : List (List ℕ)} {primary : ℕ} {line : List (L
       pub behind_all : map (written names) line ≡ b.us
       behind_all = b.split ∙ ap (λ ts. b.us ++ map (written names) ts) none ∙ append-nil b.us
 
+      pub all_judged : first (staged_option_checks (context kind names primary) [] line) ≡ None
+      all_judged = b.decided ∙ ap (λ ts. first (staged_option_checks (context kind names primary) (items_of b.us) ts))
+          none
+
       pub all_added : uses ≡ old ++ numbered met (map (written names) line)
       all_added = b.added ∙ ap (λ us. old ++ numbered met us) (sym behind_all)
 

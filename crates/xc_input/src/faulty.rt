@@ -10,12 +10,12 @@ ghost use Rattle.xc_input.specs.inner.Fronts.{StandsBefore};
 ghost use Rattle.xc_input.specs.inner.Builders.{AreNames, AreMarks, IsItemTable, row_of_line};
 ghost use Rattle.xc_input.specs.inner.Stored.{key_names};
 
-use crate::builder::no_marks;
 use crate::item_line::{ItemLine, item_line};
 use crate::line_error::LineError;
 use crate::names::NameSet;
 use crate::option_line::use_of;
 use crate::seed::Seed;
+use crate::tables::no_marks;
 use crate::tokens::{has_byte, is_skipped_line, looked_up, next_part, next_word};
 use crate::{FaultKind, Kind};
 use std::alloc::{AllocError, Global};

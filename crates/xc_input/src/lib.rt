@@ -36,6 +36,7 @@ mod seed;
 mod seeded;
 mod slice_source;
 mod source;
+mod tables;
 mod tokens;
 mod use_places;
 pub mod worked;

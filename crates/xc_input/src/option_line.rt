@@ -11,18 +11,17 @@ ghost use Rattle.xc_input.specs.inner.ColourNumbers.{numbered, use_behind};
 ghost use Rattle.xc_input.specs.Limits.{most_items, most_uses};
 ghost use Rattle.xc_input.specs.declared.fault.FaultKind.TheVariants.{UnknownItem};
 ghost use Rattle.xc_input.specs.Named.{IsName};
-ghost use Rattle.xc_input.specs.inner.Builders.{AreNames, AreDistinct, Judged, written_of, AreMarks, IsMarkable};
+ghost use Rattle.xc_input.specs.inner.Builders.{AreTables, AreSameItems, AreDistinct, Judged, AreMarks, IsMarkable};
+ghost use Rattle.xc_input.specs.inner.Builders.{written_of};
 ghost use Rattle.xc_input.specs.inner.CutTokens.{IsCutToken};
-ghost use Rattle.xc_input.specs.inner.GuessedWords.{AreWords};
 ghost use Rattle.xc_input.specs.inner.Stored.{key_names};
 
 use crate::colours::number_colour;
-use crate::guess::{ColourGuesses, Guesses};
 use crate::item_line::name_fault;
 use crate::limits::LONGEST_COLOUR;
 use crate::line_error::LineError;
-use crate::names::NameSet;
 use crate::problem::Use;
+use crate::tables::Tables;
 use crate::tokens::{Token, next_token};
 use crate::{FaultKind, Kind};
 use std::alloc::Global;
@@ -100,72 +99,59 @@ pub fn use_of<'a>(
     Ok(WrittenUse { item, colour })
 }
 
-/// Adds a use, with its colour by number: a new one where the colour wasn't met yet.
-fn add_use(
-    alloc: Global,
-    colours: &mut NameSet,
-    guesses: &mut ColourGuesses,
-    uses: &mut Vec<Use>,
-    written: WrittenUse,
-) -> Result<(), LineError>
-    requires few { length (key_names colours.old.keys) ≤ most_uses + most_items }
-    requires distinct { AreDistinct (key_names colours.old.keys) }
-    ensures judged { Judged None result }
-    ensures added { OnOk result
-        (uses.new.items ≡ uses.old.items ++ use_behind (key_names colours.old.keys) (written_of written.entry) ∷ []) }
-    ensures colours { OnOk result
-        (key_names colours.new.keys ≡ with_colour (key_names colours.old.keys) written.entry.colour.now) }
-    ensures distinct { OnOk result (AreDistinct (key_names colours.new.keys)) }
-{
-    let item = written.item;
-    let colour = number_colour(alloc, colours, guesses, written.colour)?;
-    uses.push(Use { item, colour })?;
-    Ok(())
-}
-
-/// Adds the uses of an option line, and tells its first fault. No item is marked before it, nor behind it.
-pub fn option_line(
-    alloc: Global,
-    kind: Kind,
-    names: &NameSet,
-    guesses: &Guesses,
-    primary: u32,
-    marks: &mut [bool],
-    colours: &mut NameSet,
-    colour_guesses: &mut ColourGuesses,
-    uses: &mut Vec<Use>,
-    line: &[u8],
-) -> Result<(), LineError>
-    requires few { length names.now.keys ≤ most_items }
-    requires named { AreNames (key_names names.now.keys) }
-    requires words { AreWords (key_names names.now.keys) guesses.now.words.items }
-    requires marks { length marks.old ≡ length names.now.keys }
-    requires unmarked { AreMarks marks.old [] }
-    requires few_uses { length uses.old.items ≤ most_uses }
-    requires few_colours { length (key_names colours.old.keys) ≤ length uses.old.items }
-    requires distinct { AreDistinct (key_names colours.old.keys) }
-    ensures judged { Judged (first
-        (staged_option_checks (context kind (key_names names.now.keys) primary) [] (tokens line.now))) result }
-    ensures uses { OnOk result
-        (uses.new.items ≡ uses.old.items ++ numbered (key_names colours.old.keys)
-        (map (written (key_names names.now.keys)) (tokens line.now))) }
-    ensures colours { OnOk result
-        (key_names colours.new.keys ≡ with_uses (key_names colours.old.keys)
-        (map (written (key_names names.now.keys)) (tokens line.now))) }
-    ensures few_colours { OnOk result (length (key_names colours.new.keys) ≤ length uses.new.items) }
-    ensures distinct { OnOk result (AreDistinct (key_names colours.new.keys)) }
-    ensures unmarked { OnOk result (AreMarks marks.new []) }
-{
-    let start = uses.len();
-    let mut rest = line;
-    while let Some((token, others)) = next_token(names, guesses, rest) {
-        let written = use_of(kind, primary, marks, token)?;
-        marks[written.item as usize - 1] = true;
-        add_use(alloc, colours, colour_guesses, uses, written)?;
-        rest = others;
+impl Tables {
+    /// Adds the uses of an option line, or returns its first fault. No item is marked before it, nor after it.
+    pub fn option_line(&mut self, alloc: Global, kind: Kind, line: &[u8]) -> Result<(), LineError>
+        requires sound { AreTables self.old }
+        requires few_uses { length self.old.uses.items ≤ most_uses }
+        ensures judged { Judged (first
+            (staged_option_checks (context kind (key_names self.old.names.keys) self.old.primary) [] (tokens line.now)))
+            result }
+        ensures sound { OnOk result (AreTables self.new) }
+        ensures uses { OnOk result
+            (self.new.uses.items ≡ self.old.uses.items ++ numbered (key_names self.old.colours.keys)
+            (map (written (key_names self.old.names.keys)) (tokens line.now))) }
+        ensures colours { OnOk result
+            (key_names self.new.colours.keys ≡ with_uses (key_names self.old.colours.keys)
+            (map (written (key_names self.old.names.keys)) (tokens line.now))) }
+        ensures same { AreSameItems self.old self.new }
+    {
+        let start = self.uses.len();
+        let mut rest = line;
+        while let Some((token, others)) = next_token(&self.names, &self.guesses, rest) {
+            let written = use_of(kind, self.primary, &self.marks, token)?;
+            self.marks[written.item as usize - 1] = true;
+            self.add_use(alloc, written)?;
+            rest = others;
+        }
+        clear(&mut self.marks, &self.uses[start..]);
+        Ok(())
     }
-    clear(marks, &uses[start..]);
-    Ok(())
+
+    /// Adds a use, with its colour by number: a new one where the colour wasn't met yet.
+    fn add_use(&mut self, alloc: Global, written: WrittenUse) -> Result<(), LineError>
+        requires few { length (key_names self.old.colours.keys) ≤ most_uses + most_items }
+        requires distinct { AreDistinct (key_names self.old.colours.keys) }
+        ensures judged { Judged None result }
+        ensures added { OnOk result
+            (self.new.uses.items ≡ self.old.uses.items ++ use_behind (key_names self.old.colours.keys)
+            (written_of written.entry) ∷ []) }
+        ensures colours { OnOk result
+            (key_names self.new.colours.keys ≡ with_colour (key_names self.old.colours.keys) written.entry.colour.now) }
+        ensures distinct { OnOk result (AreDistinct (key_names self.new.colours.keys)) }
+        ensures marks { self.new.marks ≡ self.old.marks }
+        ensures same { AreSameItems self.old self.new }
+    {
+        let item = written.item;
+        let colour = number_colour(
+            alloc,
+            &mut self.colours,
+            &mut self.colour_guesses,
+            written.colour,
+        )?;
+        self.uses.push(Use { item, colour })?;
+        Ok(())
+    }
 }
 
 /// Takes the marks of the items of these uses away.

@@ -83,7 +83,7 @@ fn feed_all<S: Source>(
 // `xc_tools/src/whole_text.rt` has the same: six lines twice are less than a public call that has nothing to do with
 // problems.
 fn buffer(alloc: Global) -> Result<Vec<u8>, AllocError>
-    ensures { IfOk result (λ v. length v.items ≡ 65536) }
+    ensures { IfOk result (λ v. length v.items ≡ PIECE) }
 {
     vec![in alloc; 0; PIECE]
 }

@@ -50,7 +50,7 @@ impl Model for Reader {
 
     ghost view = { λ r. record {
       kind = r.kind;
-      seed = hasher_of r.builder.names;
+      seed = hasher_of r.builder.tables.names;
       lines = r.given.lines;
       error = r.error;
     } };

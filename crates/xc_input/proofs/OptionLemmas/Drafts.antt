@@ -1,6 +1,6 @@
 -- Steps of a draft.
 use Rattle.std.proofs.Common.{◌≡◌, ℕ, ◌+◌, ◌-◌, ◌<◌, ◌≤◌, List, [], ◌∷◌, ◌++◌, None, Some, Bool, true, false}
-use Rattle.std.proofs.Common.{nat_le, nat_lt, length, map, take, drop, ap, ◌∙◌, sym, subst}
+use Rattle.std.proofs.Common.{nat_le, nat_lt, length, map, take, drop, ap, ◌∙◌, sym, true≢false, refl, unwrap_or}
 use Rattle.std.proofs.Common.{arith, Vec, Global, length-append}
 use Rattle.std.proofs.Math.Seq.{take-append_seam, drop-append_seam}
 use Rattle.xc_input.proofs.OptionLemmas.Colours.{last-position, first_met, primary-numbered}
@@ -13,6 +13,11 @@ use Rattle.xc_input.specs.declared.fault.FaultKind.{FaultKind}
 use Rattle.xc_input.specs.declared.fault.FaultKind.TheVariants.{TooManyUses}
 use Rattle.xc_input.specs.declared.problem.Use.{Use}
 use Rattle.xc_input.specs.declared.builder.ProblemBuilder.{ProblemBuilder}
+use Rattle.xc_input.specs.declared.tables.Tables.{Tables}
+use Rattle.xc_input.specs.declared.item_line.ItemLine.{ItemLine}
+use Rattle.xc_input.specs.declared.seed.Seed.{Seed}
+use Rattle.indexmap.specs.IndexSet.{IndexSet}
+use Rattle.xc_input.specs.inner.Sheets.{names_of}
 use Rattle.xc_input.specs.Words.{place}
 use Rattle.xc_input.specs.Tokens.{tokens}
 use Rattle.std.specs.List.{list_any}
@@ -20,11 +25,10 @@ use Rattle.xc_input.specs.Sheets.{Written, colour_number}
 use Rattle.xc_input.specs.inner.Sheets.{with_uses}
 use Rattle.xc_input.specs.Faults.{first, has_primary}
 use Rattle.xc_input.specs.inner.Stages.{staged_option_checks, context, written, staged_content_checks}
-use Rattle.xc_input.specs.inner.Stages.{with_option, written_by}
+use Rattle.xc_input.specs.inner.Stages.{with_option, with_row, written_by}
 use Rattle.xc_input.specs.Limits.{most_uses}
-use Rattle.xc_input.specs.inner.Builders.{AreMarks, AreDistinct, IsBuilder, stage_of_builder}
-use Rattle.xc_input.specs.inner.Vectors.{AreOptionStarts}
-use Rattle.xc_input.specs.inner.Builders.{sheet_of_builder}
+use Rattle.xc_input.specs.inner.Builders.{AreTables, AreSameItems, IsBuilder, IsItemTable, entry_of, row_of_line}
+use Rattle.xc_input.specs.inner.Builders.{sheet_of_builder, stage_of_builder}
 use Rattle.xc_input.specs.inner.Stored.{key_names}
 use Rattle.xc_input.specs.inner.Flat.{pieces}
 use Rattle.std.proofs.lemmas.List.{length-map, take-map, take_rest}
@@ -41,12 +45,55 @@ pub new-number : (old new : List (List ℕ)) (colour : List ℕ) (n : ℕ) → 0
 new-number old new [] n h e f g = absurd (omega arith)
 new-number old new (b ∷ bs) n h e f g = grind (arith, nat_tests, last-position, bytes_eq-Decides)
 
+empty : {A : Type 0} (xs : List A) → length xs ≤ 0 → xs ≡ []
+empty [] h = refl
+empty (x ∷ xs) h = absurd (omega (arith, h))
+
+-- the item line was taken
+pub begun : {d : ProblemBuilder} → IsBuilder d → d.started ≡ false → (row : ItemLine) → IsItemTable row
+    → {tables : Tables} → AreTables tables → tables.names ≡ row.names
+    → tables.primary ≡ unwrap_or row.bar (length row.items.items) → tables.colours.keys ≡ [] → tables.uses.items ≡ []
+    → {starts : Vec ℕ Global} → starts.items ≡ 0 ∷ []
+    → IsBuilder (record d { started = true; items = row.items; tables = tables; starts = starts })
+    × (stage_of_builder (record d { started = true; items = row.items; tables = tables; starts = starts }) ≡ record {
+      started = true;
+      sheet = with_row (sheet_of_builder d) (row_of_line row);
+      ignored = d.ignored.items;
+    })
+begun {d} s f row table {tables} sound names primary colours uses {starts} at =
+    let first : tables.primary ≡ unwrap_or row.bar (length (map entry_of row.items.items)) =
+    primary ∙ ap (unwrap_or row.bar) (sym (length-map row.items.items entry_of)) in
+    let none : pieces starts.items tables.uses.items ≡ pieces d.starts.items d.tables.uses.items =
+    ap (λ l. pieces l tables.uses.items) at ∙ sym (ap (λ l. pieces l d.tables.uses.items) (s.unstarted f).0) in
+    let few : length (key_names d.tables.colours.keys) ≤ 0 =
+    omega (arith, s.tables.few_colours, ap length (s.unstarted f).1) in
+    let unmet : key_names tables.colours.keys ≡ key_names d.tables.colours.keys =
+    ap key_names colours ∙ sym (empty (key_names d.tables.colours.keys) few) in (
+      record {
+        names = ap (λ n. key_names n.keys) names ∙ table.0;
+        tables = sound;
+        few_uses = omega (arith, ap length uses);
+        starts = λ _. rw (at, uses) (refl, refl);
+        unstarted = λ g. absurd (true≢false g);
+      },
+      λ i. record {
+        started = true;
+        sheet = record {
+          entries = map entry_of row.items.items;
+          primaries = first i;
+          options = none i;
+          colours = unmet i;
+        };
+        ignored = d.ignored.items;
+      },
+    )
+
 module _ (kind : Kind) {d : ProblemBuilder} (line : List ℕ) (s : IsBuilder d) (t : d.started ≡ true) where
   abbrev us : List Written
-  us = map (written (key_names d.names.keys)) (tokens line)
+  us = map (written (key_names d.tables.names.keys)) (tokens line)
 
   abbrev checks : List (FaultKind × Bool)
-  checks = staged_option_checks (context kind (key_names d.names.keys) d.primary) [] (tokens line)
+  checks = staged_option_checks (context kind (key_names d.tables.names.keys) d.tables.primary) [] (tokens line)
 
   abbrev fault : Option FaultKind
   fault = first (staged_content_checks kind (stage_of_builder d) line)
@@ -60,16 +107,16 @@ module _ (kind : Kind) {d : ProblemBuilder} (line : List ℕ) (s : IsBuilder d) 
 
   -- the uses with those of the line, and the test whether one of these is primary
   module _ {new all : List Use} {start : ℕ} {b : Bool}
-      (uses : new ≡ d.uses.items ++ numbered (key_names d.colours.keys) us)
-      (p : b ≡ list_any (λ u. nat_le u.item d.primary) (take (length all - start) (drop start all))) (e : all ≡ new)
-      (f : start ≡ length d.uses.items) where
-    kept : has_primary d.primary (written_by (sheet_of_builder d) line) ≡ b
+      (uses : new ≡ d.tables.uses.items ++ numbered (key_names d.tables.colours.keys) us)
+      (p : b ≡ list_any (λ u. nat_le u.item d.tables.primary) (take (length all - start) (drop start all)))
+      (e : all ≡ new) (f : start ≡ length d.tables.uses.items) where
+    kept : has_primary d.tables.primary (written_by (sheet_of_builder d) line) ≡ b
     kept = grind (arith, by-parts, take_rest, drop-append_seam, primary-numbered)
 
     -- where the checks of the tokens let the line pass, that of the whole line decides
     judged : first checks ≡ None → fault ≡ (if b && nat_lt most_uses (length new) then Some TooManyUses else None)
     judged ok =
-        let count : use_count (pieces d.starts.items d.uses.items) + length (tokens line) ≡ length new =
+        let count : use_count (pieces d.starts.items d.tables.uses.items) + length (tokens line) ≡ length new =
         grind (arith, all-uses, s.starts, length-map, length-append, numbered-length) in
         content-is ∙ first-back checks (whole_checks (sheet_of_builder d) line) ok ∙ rw (kept, count)
 
@@ -88,40 +135,58 @@ module _ (kind : Kind) {d : ProblemBuilder} (line : List ℕ) (s : IsBuilder d) 
     IsTaken count d' = IsBuilder d'
         × (stage_of_builder d' ≡ with_option count (stage_of_builder d) (written_by (sheet_of_builder d) line))
 
-    -- and the colours with those of the line, and the marks when they are taken away
-    module _ (count : ℕ) (d' : ProblemBuilder) (begun : d'.started ≡ true)
-        (same : d' ≡ record d' { names = d.names; items = d.items; primary = d.primary; guesses = d.guesses })
-        (met : List (Vec ℕ Global)) (colours : key_names met ≡ with_uses (key_names d.colours.keys) us)
-        {marks : List Bool} (back : d'.marks.items ≡ marks) (all_marks : length marks ≡ length d.items.items)
-        (unmarked : AreMarks marks []) where
-      sound : AreOptionStarts d'.starts.items d'.uses.items → length d'.uses.items ≤ most_uses
-          → length (key_names d'.colours.keys) ≤ length d'.uses.items → AreDistinct (key_names d'.colours.keys)
-          → IsBuilder d'
-      sound starts few_uses few_colours distinct =
-          let all = ap length back ∙ all_marks in
-          let none : AreMarks d'.marks.items [] = rw back unmarked in
-          subst IsBuilder (sym same) (search arith)
+    -- and the tables with the uses and colours of the line
+    module _ (count : ℕ) {tables : Tables} (same : AreSameItems d.tables tables) (sound : AreTables tables)
+        (all_uses : tables.uses.items ≡ new)
+        (colours : key_names tables.colours.keys ≡ with_uses (key_names d.tables.colours.keys) us) where
+      names : key_names tables.names.keys ≡ names_of (map entry_of d.items.items)
+      names = ap (λ n. key_names n.keys) same.names ∙ s.names
 
-      pub taken : b ≡ true → d'.uses.items ≡ new → d'.colours.keys ≡ met → d'.ignored.items ≡ d.ignored.items
-          → length (key_names met) ≤ length new → AreDistinct (key_names met) → length new ≤ most_uses → {n : ℕ}
-          → n ≡ length new → d'.starts.items ≡ d.starts.items ++ n ∷ [] → IsTaken count d'
-      taken e all keys ignored few distinct room {n} l starts =
-          let cs = key_names d.colours.keys in
-          let cut = option-more d.starts.items d.uses.items (numbered cs us) n (s.starts t)
-          (l ∙ ap length uses ∙ length-append d.uses.items (numbered cs us)) in
+      pub taken : b ≡ true → {n : ℕ} → n ≡ length new → n ≤ most_uses → {starts : Vec ℕ Global}
+          → starts.items ≡ d.starts.items ++ n ∷ [] → IsTaken count (record d { tables = tables; starts = starts })
+      taken e {n} l room {starts} at =
+          let cs = key_names d.tables.colours.keys in
+          let cut = option-more d.starts.items d.tables.uses.items (numbered cs us) n (s.starts t)
+          (l ∙ ap length uses ∙ length-append d.tables.uses.items (numbered cs us)) in
           let parts = by-parts in (
-            sound (rw (starts, all, uses) cut.0) (rw all room) (rw (keys, all) few) (rw keys distinct),
-            ap stage_of_builder same ∙ rw (kept, e) (cc),
+            record {
+              names = names;
+              tables = sound;
+              few_uses = omega (arith, ap length all_uses, l, room);
+              starts = λ _. rw (at, all_uses, uses) cut.0;
+              unstarted = λ f. absurd (true≢false (sym t ∙ f));
+            },
+            rw (kept, e, same.primary) (cc),
           )
 
-      pub left-out : b ≡ false → d'.uses.items ≡ take start new → {m : ℕ} → d'.colours.keys ≡ take m met
-          → m ≡ length d.colours.keys → d'.starts.items ≡ d.starts.items
-          → d'.ignored.items ≡ d.ignored.items ++ count ∷ [] → IsTaken count d'
-      left-out e cut {m} keys n starts ignored =
-          let old : d'.uses.items ≡ d.uses.items = grind (arith, take-append_seam) in
-          let first = first_met (key_names d.colours.keys) us in
-          let known : key_names d'.colours.keys ≡ key_names d.colours.keys = grind (arith, length-map, take-map) in (
-            sound (rw (starts, old) (s.starts t)) (rw old s.few_uses) (rw (old, known) s.few_colours)
-                (rw known s.distinct_colours),
-            ap stage_of_builder same ∙ rw (kept, e) (cc),
+      pub left-out : b ≡ false → {kept_uses : Vec Use Global} → kept_uses.items ≡ take start new
+          → {kept_colours : IndexSet (Vec ℕ Global) Seed}
+          → {m : ℕ} → kept_colours.keys ≡ take m tables.colours.keys
+          → m ≡ length d.tables.colours.keys → {ignored : Vec ℕ Global}
+          → ignored.items ≡ d.ignored.items ++ count ∷ []
+          → IsTaken count (record d {
+            tables = record tables { uses = kept_uses; colours = kept_colours };
+            ignored = ignored;
+          })
+      left-out e {kept_uses} cut {kept_colours} {m} keys n {ignored} more =
+          let old : kept_uses.items ≡ d.tables.uses.items = grind (arith, take-append_seam) in
+          let first = first_met (key_names d.tables.colours.keys) us in
+          let known : key_names kept_colours.keys ≡ key_names d.tables.colours.keys =
+          grind (arith, length-map, take-map) in (
+            record {
+              names = names;
+              tables = record {
+                named = sound.named;
+                few_items = sound.few_items;
+                words = sound.words;
+                marks = sound.marks;
+                unmarked = sound.unmarked;
+                few_colours = rw (old, known) s.tables.few_colours;
+                distinct_colours = rw known s.tables.distinct_colours;
+              };
+              few_uses = rw old s.few_uses;
+              starts = λ f. rw old (s.starts f);
+              unstarted = λ f. absurd (true≢false (sym t ∙ f));
+            },
+            rw (kept, e, same.primary) (cc),
           )

@@ -1,7 +1,6 @@
 -- Marks at the items of a line.
-use Rattle.std.proofs.Math.Seq.{take-append_seam}
 use Rattle.std.proofs.Common.{◌≡◌, ℕ, zero, suc, ◌+◌, ◌-◌, ◌<◌, ◌≤◌, List, [], ◌∷◌, ◌++◌, Bool, true, false}
-use Rattle.std.proofs.Common.{true≢false, nat_eq, length, map, get_or, set, take, drop, refl, ap}
+use Rattle.std.proofs.Common.{true≢false, nat_eq, length, map, get_or, set, refl, ap}
 use Rattle.std.proofs.Common.{arith, length-set, Some, position}
 use Rattle.std.proofs.lemmas.Bool.Decides.{nat_tests}
 use Rattle.std.proofs.Math.Bool.{or-true}
@@ -49,8 +48,3 @@ pub mark-at : (marks : List Bool) (names : List (List ℕ)) (name : List ℕ) (s
     → AreMarks marks seen → length marks ≡ length names → position (bytes_eq name) names ≡ Some place
     → get_or marks place false ≡ list_any (λ i. nat_eq i (place + 1)) seen
 mark-at marks names name seen place are count e = grind (arith, nat_tests, in-range (bytes_eq name) names place e)
-
--- marks that were written through a slice
-pub written-back : (n : ℕ) (new old : List Bool) → length new ≡ length old → n ≡ length old
-    → take n (new ++ drop (length new) old) ≡ new
-written-back n new old e f = grind (arith, take-append_seam)

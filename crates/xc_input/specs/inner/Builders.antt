@@ -1,5 +1,5 @@
 -- No public clause cites this module. What the parts of the reader hold, in the words of the grammar.
-use Rattle.std.specs.Prelude.{◌≡◌, ◌≢◌, ℕ, ◌+◌, ◌<◌, ◌≤◌, Bool, true, false, nat_eq, List, [], ◌∷◌, Option, None, Some}
+use Rattle.std.specs.Prelude.{◌≡◌, ◌≢◌, ℕ, ◌+◌, ◌<◌, ◌≤◌, Bool, true, false, nat_eq, List, [], Option, None, Some}
 use Rattle.std.specs.Prelude.{Result, Ok, Err, All, AllPairs, map, drop, length, get_or}
 use Rattle.std.specs.List.{list_any}
 use Rattle.xc_input.specs.declared.problem.Item.{Item}
@@ -11,7 +11,7 @@ use Rattle.xc_input.specs.declared.line_error.LineError.{LineError}
 use Rattle.xc_input.specs.declared.line_error.LineError.TheVariants.{Fault, Memory}
 use Rattle.xc_input.specs.declared.option_line.WrittenUse.{WrittenUse}
 use Rattle.xc_input.specs.declared.builder.ProblemBuilder.{ProblemBuilder}
-use Rattle.xc_input.specs.declared.builder.Tables.{Tables}
+use Rattle.xc_input.specs.declared.tables.Tables.{Tables}
 use Rattle.xc_input.specs.Named.{Named, IsName, IsSound}
 use Rattle.xc_input.specs.Tokens.{is_space}
 use Rattle.xc_input.specs.inner.Flat.{pieces}
@@ -69,51 +69,55 @@ AreMarks marks seen = (k : ℕ) → k < length marks → get_or marks k false �
 abbrev pub IsMarkable : ℕ → ℕ → Type 0
 IsMarkable n i = (1 ≤ i) × (i ≤ n)
 
+-- the tables of an option line's items and colours, when none is marked
+pub record AreTables (t : Tables) : Type 0 where
+  pub named : AreNames (key_names t.names.keys)
+  pub few_items : length t.names.keys ≤ most_items
+  pub words : AreWords (key_names t.names.keys) t.guesses.words.items
+  pub marks : length t.marks.items ≡ length t.names.keys
+  pub unmarked : AreMarks t.marks.items []
+  pub few_colours : length (key_names t.colours.keys) ≤ length t.uses.items
+  pub distinct_colours : AreDistinct (key_names t.colours.keys)
+
+-- the tables are of the same items
+pub record AreSameItems (t u : Tables) : Type 0 where
+  pub names : u.names ≡ t.names
+  pub guesses : u.guesses ≡ t.guesses
+  pub primary : u.primary ≡ t.primary
+
 -- what the lines so far wrote down
 abbrev pub sheet_of_builder : ProblemBuilder → Sheet
 sheet_of_builder d = record {
   entries = map entry_of d.items.items;
-  primaries = d.primary;
-  options = pieces d.starts.items d.uses.items;
-  colours = key_names d.colours.keys;
+  primaries = d.tables.primary;
+  options = pieces d.starts.items d.tables.uses.items;
+  colours = key_names d.tables.colours.keys;
 }
 
 -- what the lines so far stand for
 abbrev pub stage_of_builder : ProblemBuilder → Stage
 stage_of_builder d = record { started = d.started; sheet = sheet_of_builder d; ignored = d.ignored.items }
 
--- the tables of a draft agree
+-- the parts of a draft agree
 pub record IsBuilder (d : ProblemBuilder) : Type 0 where
-  pub names : key_names d.names.keys ≡ names_of (map entry_of d.items.items)
-  pub named : AreNames (key_names d.names.keys)
-  pub few_items : length d.items.items ≤ most_items
-  pub starts : d.started ≡ true → AreOptionStarts d.starts.items d.uses.items
-  pub unstarted : d.started ≡ false → (d.starts.items ≡ []) × (d.uses.items ≡ [])
-  pub few_uses : length d.uses.items ≤ most_uses
-  pub marks : length d.marks.items ≡ length d.items.items
-  pub unmarked : AreMarks d.marks.items []
-  pub few_colours : length (key_names d.colours.keys) ≤ length d.uses.items
-  pub distinct_colours : AreDistinct (key_names d.colours.keys)
-  pub words : AreWords (key_names d.names.keys) d.guesses.words.items
+  pub names : key_names d.tables.names.keys ≡ names_of (map entry_of d.items.items)
+  pub tables : AreTables d.tables
+  pub few_uses : length d.tables.uses.items ≤ most_uses
+  pub starts : d.started ≡ true → AreOptionStarts d.starts.items d.tables.uses.items
+  pub unstarted : d.started ≡ false → (d.starts.items ≡ []) × (d.tables.uses.items ≡ [])
 
 -- the problem that it holds
 abbrev pub named_by : ProblemBuilder → Named
-named_by d = named_from d.items.items d.primary d.uses.items d.starts.items d.colours.keys
+named_by d =
+    named_from d.items.items d.tables.primary d.tables.uses.items d.starts.items d.tables.colours.keys
 
 -- its parts make up a sound problem
 pub record IsReadable (d : ProblemBuilder) : Type 0 where
-  pub names : key_names d.names.keys ≡ map (λ x. x.name.items) d.items.items
-  pub primary : d.primary ≤ length d.items.items
-  pub secondary : All IsOptional (drop d.primary d.items.items)
-  pub starts : AreOptionStarts d.starts.items d.uses.items
+  pub names : key_names d.tables.names.keys ≡ map (λ x. x.name.items) d.items.items
+  pub primary : d.tables.primary ≤ length d.items.items
+  pub secondary : All IsOptional (drop d.tables.primary d.items.items)
+  pub starts : AreOptionStarts d.starts.items d.tables.uses.items
   pub sound : IsSound (named_by d)
-
--- what is kept beside these items before any option
-pub record AreTablesFor (row : ItemLine) (t : Tables) : Type 0 where
-  pub marks : length t.marks.items ≡ length row.items.items
-  pub unmarked : AreMarks t.marks.items []
-  pub starts : t.starts.items ≡ 0 ∷ []
-  pub words : AreWords (key_names row.names.keys) t.guesses.words.items
 
 -- the error of the line of this number
 abbrev pub error_at : ℕ → LineError → InputError

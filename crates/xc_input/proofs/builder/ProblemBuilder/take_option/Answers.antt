@@ -1,56 +1,54 @@
-use Rattle.std.proofs.Common.{arith, ◌∙◌, ap, refl, length, []}
+use Rattle.std.proofs.Common.{arith, ◌∙◌, refl, []}
 use Rattle.xc_input.specs.Tokens.{tokens}
 use Rattle.xc_input.specs.inner.Stages.{staged_option_checks, whole_checks, context}
 use Rattle.xc_input.specs.inner.Builders.{sheet_of_builder}
 use Rattle.xc_input.specs.inner.Stored.{key_names}
 use Rattle.xc_input.proofs.FaultLemmas.Checks.{stopped, items-length}
-use Rattle.xc_input.proofs.OptionLemmas.Marks.{written-back}
 use Rattle.xc_input.proofs.OptionLemmas.Drafts.{content-is, no-primary, too-long, fits, taken, left-out}
 use Rattle.xc_input.proofs.builder.ProblemBuilder.take_option.Goals as goal
 
 pub returns-in_err-option_line-clause-judged : goal.returns-in_err-option_line-clause-judged
 returns-in_err-option_line-clause-judged c =
-    stopped (staged_option_checks (context c.args.kind (key_names c.args.self.now.names.keys) c.args.self.now.primary)
-    []
-    (tokens c.args.line.now)) (whole_checks (sheet_of_builder c.args.self.now) c.args.line.now) c.from_residual.result
+    let d = c.args.self.now in
+    stopped (staged_option_checks (context c.args.kind (key_names d.tables.names.keys) d.tables.primary) []
+    (tokens c.args.line.now)) (whole_checks (sheet_of_builder d) c.args.line.now) c.from_residual.result
     c.in_err-option_line.field-0.0 c.from_residual.ensures.1
     (content-is c.args.kind c.args.line.now c.requires.sound c.requires.started) c.in_err-option_line.ensures.judged
 
 pub returns-then-not-has_primary_use-clause-judged : goal.returns-then-not-has_primary_use-clause-judged
 returns-then-not-has_primary_use-clause-judged c =
-    no-primary c.args.kind c.args.line.now c.requires.sound c.requires.started c.in_ok-option_line.ensures.uses
-    c.has_primary_use.ensures c.deref.ensures.value (c.len-start.ensures ∙ items-length c.args.self.now.uses)
-    c.in_ok-option_line.ensures.judged c.if-not-has_primary_use.true
+    let o = c.in_ok-option_line.ensures in
+    no-primary c.args.kind c.args.line.now c.requires.sound c.requires.started o.uses
+    (rw o.same.primary at c.has_primary_use.ensures) c.deref.ensures.value
+    (c.len-start.ensures ∙ items-length c.args.self.now.tables.uses) o.judged c.if-not-has_primary_use.true
 
 pub returns-then-not-has_primary_use-clause-taken : goal.returns-then-not-has_primary_use-clause-taken
 returns-then-not-has_primary_use-clause-taken c =
-    left-out c.args.kind c.args.line.now c.requires.sound c.requires.started c.in_ok-option_line.ensures.uses
-    c.has_primary_use.ensures c.deref.ensures.value (c.len-start.ensures ∙ items-length c.args.self.now.uses)
-    c.args.count _ c.requires.started refl _ c.in_ok-option_line.ensures.colours
-    (grind (arith, written-back, items-length))
-    (c.option_line.auto.marks ∙ ap length c.deref_mut.ensures.value ∙ c.requires.sound.marks)
-    c.in_ok-option_line.ensures.unmarked c.if-not-has_primary_use.true c.truncate.ensures.items
-    c.truncate-then-not-has_primary_use.ensures.keys c.len-met.ensures.len refl
-    (rw c.in_ok-push.was at c.push.ensures.items)
+    let o = c.in_ok-option_line.ensures in
+    left-out c.args.kind c.args.line.now c.requires.sound c.requires.started o.uses
+    (rw o.same.primary at c.has_primary_use.ensures) c.deref.ensures.value
+    (c.len-start.ensures ∙ items-length c.args.self.now.tables.uses) c.args.count o.same o.sound refl o.colours
+    c.if-not-has_primary_use.true c.truncate.ensures.items c.truncate-then-not-has_primary_use.ensures.keys
+    c.len-met.ensures.len (rw c.in_ok-push.was at c.push.ensures.items)
 
 pub returns-then-len-gt-MOST_USES-clause-judged : goal.returns-then-len-gt-MOST_USES-clause-judged
 returns-then-len-gt-MOST_USES-clause-judged c =
-    too-long c.args.kind c.args.line.now c.requires.sound c.requires.started c.in_ok-option_line.ensures.uses
-    c.has_primary_use.ensures c.deref.ensures.value (c.len-start.ensures ∙ items-length c.args.self.now.uses)
-    c.in_ok-option_line.ensures.judged (c.len.ensures ∙ items-length c.option_line.new.uses)
-    c.if-not-has_primary_use.false c.if-len-gt-MOST_USES.true
+    let o = c.in_ok-option_line.ensures in
+    too-long c.args.kind c.args.line.now c.requires.sound c.requires.started o.uses
+    (rw o.same.primary at c.has_primary_use.ensures) c.deref.ensures.value
+    (c.len-start.ensures ∙ items-length c.args.self.now.tables.uses) o.judged
+    (c.len.ensures ∙ items-length c.option_line.new.self.uses) c.if-not-has_primary_use.false
+    c.if-len-gt-MOST_USES.true
 
 pub returns-clause-judged : goal.returns-clause-judged
 returns-clause-judged c = grind (arith, fits, items-length)
 
 pub returns-clause-taken : goal.returns-clause-taken
 returns-clause-taken c =
-    taken c.args.kind c.args.line.now c.requires.sound c.requires.started c.in_ok-option_line.ensures.uses
-    c.has_primary_use.ensures c.deref.ensures.value (c.len-start.ensures ∙ items-length c.args.self.now.uses)
-    c.args.count _ c.requires.started refl _ c.in_ok-option_line.ensures.colours
-    (grind (arith, written-back, items-length))
-    (c.option_line.auto.marks ∙ ap length c.deref_mut.ensures.value ∙ c.requires.sound.marks)
-    c.in_ok-option_line.ensures.unmarked c.if-not-has_primary_use.false refl refl refl
-    c.in_ok-option_line.ensures.few_colours c.in_ok-option_line.ensures.distinct
-    (omega (arith, c.len.ensures, items-length c.option_line.new.uses, c.if-len-gt-MOST_USES.false))
-    (c.len-2.ensures ∙ items-length c.option_line.new.uses) (rw c.in_ok-push-2.was at c.push-2.ensures.items)
+    let o = c.in_ok-option_line.ensures in
+    taken c.args.kind c.args.line.now c.requires.sound c.requires.started o.uses
+    (rw o.same.primary at c.has_primary_use.ensures) c.deref.ensures.value
+    (c.len-start.ensures ∙ items-length c.args.self.now.tables.uses) c.args.count o.same o.sound refl o.colours
+    c.if-not-has_primary_use.false (c.len-2.ensures ∙ items-length c.option_line.new.self.uses)
+    (omega (arith, c.len.ensures, c.len-2.ensures, c.if-len-gt-MOST_USES.false))
+    (rw c.in_ok-push-2.was at c.push-2.ensures.items)

@@ -1,0 +1,75 @@
+use Rattle.xc_input.proofs.OptionLemmas.Marks.{unmarked-few}
+use Rattle.std.proofs.Common.{◌∙◌, ap, arith, append-nil, refl, ◌++◌, ◌∷◌, []}
+use Rattle.std.proofs.lemmas.List.{length-map, take_rest}
+use Rattle.xc_input.specs.Faults.{first}
+use Rattle.xc_input.specs.Tokens.{tokens}
+use Rattle.xc_input.specs.declared.line_error.LineError.TheVariants.{Fault}
+use Rattle.xc_input.specs.inner.Stages.{context, staged_token_checks, staged_option_checks, written}
+use Rattle.xc_input.specs.inner.Builders.{items_of}
+use Rattle.xc_input.specs.inner.Stored.{key_names}
+use Rattle.xc_input.proofs.FaultLemmas.Checks.{stopped, items-length}
+use Rattle.xc_input.proofs.OptionSteps.{behind_few, behind_more, all_added, all_judged, late_marked}
+use Rattle.xc_input.proofs.tables.Tables.option_line.Goals as goal
+
+pub loop-token-init : goal.loop-token-init
+loop-token-init c = record {
+  same = record { names = refl; guesses = refl; primary = refl };
+  named = c.requires.sound.named;
+  few_items = c.requires.sound.few_items;
+  words = c.requires.sound.words;
+  behind = grind (arith, length-map, unmarked-few, append-nil);
+}
+
+pub returns-in_err-written-clause-judged : goal.returns-in_err-written-clause-judged
+returns-in_err-written-clause-judged c =
+    let i = c.loop-token.invariant in
+    let b = i.behind in
+    let lent = c.deref.ensures.value in
+    let known = context c.args.kind (key_names c.loop-token.self.names.keys) c.loop-token.self.primary in
+    rw (← i.same.names, ← i.same.primary) (stopped (staged_token_checks known (items_of b.us) c.in-Some.ensures.0)
+    (staged_option_checks known (items_of b.us ++ (written known.names c.in-Some.ensures.0).item ∷ [])
+    (tokens c.in-Some.others.now)) c.from_residual.result (Fault c.in_err-written.field-0.0) c.from_residual.ensures.1
+    (b.decided ∙ ap (λ ts. first (staged_option_checks known (items_of b.us) ts)) c.in-Some.ensures.1)
+    (c.in_err-written.ensures.judged known.names c.in-Some.ensures.0 (items_of b.us) i.named.named
+    (rw lent b.count) c.in-Some.ensures.3 (rw lent b.marked)))
+
+pub add_use-requires-clause-few : goal.add_use-requires-clause-few
+add_use-requires-clause-few c = behind_few c.loop-token.invariant.behind c.requires.few_uses
+
+pub loop-token-preserved : goal.loop-token-preserved
+loop-token-preserved c =
+    let i = c.loop-token.invariant in
+    let b = i.behind in
+    let lent = c.deref.ensures.value in
+    let is =
+    c.in_ok-written.ensures.judged (key_names c.loop-token.self.names.keys) c.in-Some.ensures.0 (items_of b.us)
+    i.named.named (rw lent b.count) c.in-Some.ensures.3 (rw lent b.marked) in
+    let more = c.in_ok-add_use.ensures in
+    record {
+      same = record {
+        names = more.same.names ∙ i.same.names;
+        guesses = more.same.guesses ∙ i.same.guesses;
+        primary = more.same.primary ∙ i.same.primary;
+      };
+      named = rw more.same.names i.named;
+      few_items = rw more.same.names i.few_items;
+      words = rw (more.same.names, more.same.guesses) i.words;
+      behind = rw (more.same.names, more.same.primary, more.marks) (behind_more b c.in-Some.ensures.1 is
+          (rw lent at c.in_ok-written.ensures.within) (rw lent at c.in_ok-written.ensures.unmarked) more.added
+          more.colours more.distinct);
+    }
+
+pub clear-requires-clause-marked : goal.clear-requires-clause-marked
+clear-requires-clause-marked c =
+    let start = c.len-start.ensures ∙ items-length c.args.self.now.uses in
+    grind (arith, take_rest c.deref-2.result.now c.len-start.result, late_marked c.loop-token.invariant.behind)
+
+pub returns-clause-judged : goal.returns-clause-judged
+returns-clause-judged c =
+    let i = c.loop-token.invariant in
+    rw (← i.same.names, ← i.same.primary) (all_judged i.behind c.in_default.ensures)
+
+pub returns-clause-uses : goal.returns-clause-uses
+returns-clause-uses c =
+    let i = c.loop-token.invariant in
+    rw (← i.same.names) (all_added i.behind c.in_default.ensures)

@@ -1,0 +1,22 @@
+use Rattle.std.proofs.Common.{length, ◌≤◌}
+use Rattle.xc_input.specs.Limits.{most_items}
+use Rattle.xc_input.specs.Tokens.{tokens}
+use Rattle.xc_input.specs.inner.Builders.{AreNames, AreSameItems}
+use Rattle.xc_input.specs.inner.GuessedWords.{AreWords}
+use Rattle.xc_input.specs.inner.Stored.{key_names}
+use Rattle.xc_input.proofs.OptionSteps.{IsBehind}
+use Rattle.xc_input.proofs.tables.Tables.option_line.Given as goal
+
+abbrev pub invariant-loop-token : goal.invariant-loop-token
+invariant-loop-token l = record {
+  same : AreSameItems l.fn.self l.self;
+  named : AreNames (key_names l.self.names.keys);
+  few_items : length l.self.names.keys ≤ most_items;
+  words : AreWords (key_names l.self.names.keys) l.self.guesses.words.items;
+  behind : IsBehind l.kind (key_names l.self.names.keys) l.self.primary (tokens l.line) (tokens l.rest)
+      (key_names l.fn.self.colours.keys) l.fn.self.uses.items l.self.marks.items (key_names l.self.colours.keys)
+      l.self.uses.items;
+}
+
+abbrev pub decreases-loop-token : goal.decreases-loop-token
+decreases-loop-token l = length l.rest

@@ -1,0 +1,80 @@
+//! What option lines are read by.
+
+ghost use Rattle.std.specs.Prelude.{◌≡◌, ◌≤◌, [], false, IfOk, length};
+ghost use Rattle.xc_input.specs.Limits.{most_items};
+ghost use Rattle.xc_input.specs.inner.Builders.{AreNames, AreMarks, AreTables};
+ghost use Rattle.xc_input.specs.inner.Stored.{key_names};
+ghost use Rattle.indexmap.specs.IndexSet.{hasher_of};
+
+use crate::guess::{ColourGuesses, Guesses};
+use crate::names::{NameSet, no_names};
+use crate::problem::Use;
+use crate::seed::Seed;
+use std::alloc::{AllocError, Global};
+
+/// What option lines are read by, and the uses that they gave. A mark for each item says whether the line has it yet.
+#[derive(Drop)]
+pub struct Tables {
+    pub names: NameSet,
+    pub guesses: Guesses,
+    pub primary: u32,
+    pub marks: Vec<bool>,
+    pub colours: NameSet,
+    pub colour_guesses: ColourGuesses,
+    pub uses: Vec<Use>,
+}
+
+impl Tables {
+    /// Those of no items.
+    pub fn none(alloc: Global, seed: Seed) -> Tables
+        ensures sound { AreTables result }
+        ensures names { result.names.keys ≡ [] }
+        ensures seed { hasher_of result.names ≡ seed }
+        ensures primary { result.primary ≡ 0 }
+        ensures colours { result.colours.keys ≡ [] }
+        ensures uses { result.uses.items ≡ [] }
+    {
+        Tables {
+            names: no_names(alloc, seed),
+            guesses: Guesses::none(alloc),
+            primary: 0,
+            marks: Vec::new(alloc),
+            colours: no_names(alloc, seed),
+            colour_guesses: ColourGuesses::none(alloc),
+            uses: Vec::new(alloc),
+        }
+    }
+
+    /// Those of these items before any option.
+    pub fn new(alloc: Global, names: NameSet, primary: u32) -> Result<Tables, AllocError>
+        requires few { length names.keys ≤ most_items }
+        requires named { AreNames (key_names names.keys) }
+        ensures sound { IfOk result (λ t. AreTables t) }
+        ensures names { IfOk result (λ t. t.names ≡ names) }
+        ensures primary { IfOk result (λ t. t.primary ≡ primary) }
+        ensures colours { IfOk result (λ t. t.colours.keys ≡ []) }
+        ensures uses { IfOk result (λ t. t.uses.items ≡ []) }
+    {
+        let guesses = Guesses::new(alloc, &names)?;
+        let colour_guesses = ColourGuesses::new(alloc)?;
+        let marks = no_marks(alloc, names.len())?;
+        let colours = no_names(alloc, *names.hasher());
+        Ok(Tables {
+            names,
+            guesses,
+            primary,
+            marks,
+            colours,
+            colour_guesses,
+            uses: Vec::new(alloc),
+        })
+    }
+}
+
+/// So many items, none of them marked.
+pub fn no_marks(alloc: Global, count: usize) -> Result<Vec<bool>, AllocError>
+    ensures count { IfOk result (λ v. length v.items ≡ count) }
+    ensures unmarked { IfOk result (λ v. AreMarks v.items []) }
+{
+    vec![in alloc; false; count]
+}
