@@ -48,7 +48,7 @@ impl Model for Fixed {
 }
 
 impl Fixed {
-    #[tactic(auto, using(crate::proofs::LinkedTables::FittedLemmas::known_fit))]
+    #[tactic(auto, using(crate::proofs::LinkedTables::Laid::FittedLemmas::known_fit))]
     pub(crate) fn new(alloc: Global, problem: &Problem) -> Result<Fixed, AllocError>
         ensures value { IfOk result (λ f. f ≡ problem.now.puzzle) }
         ensures valid { IsValid problem.now.puzzle }

@@ -8,7 +8,7 @@ use std::alloc::{AllocError, Global};
 use xc_input::Problem;
 
 /// How many nodes there are.
-#[tactic(auto, using(crate::proofs::LinkedTables::PlaceLemmas::option_place))]
+#[tactic(auto, using(crate::proofs::LinkedTables::Laid::PlaceLemmas::option_place))]
 pub(crate) fn node_count(problem: &Problem) -> u32
     requires { IsWithinLimits problem.now.puzzle }
     ensures { result ≡ length (layout problem.now.puzzle) }

@@ -1,6 +1,6 @@
 use Rattle.std.proofs.Common.{arith}
-use Rattle.xc_dance.proofs.LinkedTables.Walks.{follow_here, follow_on, follow_end}
-use Rattle.xc_dance.proofs.LinkedTables.UnmarkedNodes.{back_unmarked}
+use Rattle.xc_dance.proofs.LinkedTables.Lines.Walks.{follow_here, follow_on, follow_end}
+use Rattle.xc_dance.proofs.LinkedTables.Cells.UnmarkedNodes.{back_unmarked}
 use Rattle.xc_dance.proofs.links.walks.unhide_list.Goals as goal
 
 pub come_back-count-requires-clause-can : goal.come_back-count-requires-clause-can
