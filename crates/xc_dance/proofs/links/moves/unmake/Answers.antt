@@ -1,5 +1,5 @@
 use Rattle.std.proofs.Common.{arith}
-use Rattle.xc_dance.proofs.links.unmake.Goals as goal
+use Rattle.xc_dance.proofs.links.moves.unmake.Goals as goal
 
 pub returns-in-Purify-clause-nodes : goal.returns-in-Purify-clause-nodes
 returns-in-Purify-clause-nodes c = rw c.in-Purify.is c.unpurify.ensures.done
