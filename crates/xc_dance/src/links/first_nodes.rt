@@ -8,7 +8,7 @@ ghost use Rattle.xc_dance.specs.Fields.{spacer_place};
 ghost use Rattle.xc_dance.specs.inner.Links.FirstNodes.{laid_to, blanks};
 
 use crate::links::cells::{Nodes, SPACER};
-use crate::links::options::node_count;
+use crate::links::node_counts::node_count;
 use crate::links::rows::{Row, Rows};
 use std::alloc::{AllocError, Global};
 use xc_input::Problem;

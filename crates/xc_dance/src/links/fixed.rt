@@ -8,7 +8,7 @@ ghost use Rattle.xc_dance.specs.inner.Links.OptionSpans.{spans_of};
 ghost use Rattle.xc_dance.specs.inner.Links.Unmarked.{IsPlain};
 
 use crate::links::known::Known;
-use crate::links::options::option_starts;
+use crate::links::node_counts::option_starts;
 use crate::links::spans::Spans;
 use std::alloc::{AllocError, Global};
 use std::marker::Model;

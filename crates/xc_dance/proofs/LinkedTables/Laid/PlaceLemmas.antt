@@ -170,6 +170,11 @@ layout_len p =
 pub layout_small : (p : Puzzle) → IsWithinLimits p → length (layout p) ≤ 20100002
 layout_small p limits = grind (arith, take-length, layout_len, sizes)
 
+-- by the counts of items, options and uses
+pub counted_nodes : (p : Puzzle) → IsWithinLimits p → (length (layout p) ≤ 20100002)
+    × (length (layout p) ≡ item_count p + 2 + option_count p + use_count p.options)
+counted_nodes p limits = grind (arith, take-length, layout_len, layout_small, sizes)
+
 -- a spacer's place is among them
 pub place_within : (p : Puzzle) (o : ℕ) → o ≤ option_count p → spacer_place p o < length (layout p)
 place_within p o le = omega (arith, layout_len p, place_grows p o (option_count p) le)

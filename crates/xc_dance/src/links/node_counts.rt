@@ -7,17 +7,14 @@ ghost use Rattle.xc_dance.specs.inner.Links.OptionPlaces.{starts_of};
 use std::alloc::{AllocError, Global};
 use xc_input::Problem;
 
-/// How many nodes there are.
-#[tactic(auto, using(crate::proofs::LinkedTables::Laid::PlaceLemmas::option_place))]
+/// How many nodes there are: the unused one, one for each item and each use, the first spacer, and one behind each
+/// option.
+#[tactic(auto, using(crate::proofs::LinkedTables::Laid::PlaceLemmas::counted_nodes))]
 pub(crate) fn node_count(problem: &Problem) -> u32
     requires { IsWithinLimits problem.now.puzzle }
     ensures { result ≡ length (layout problem.now.puzzle) }
 {
-    let mut count = problem.items() + 2;
-    for o in 0..problem.options() {
-        count += problem.option(o + 1).len() as u32 + 1;
-    }
-    count
+    problem.items() + 2 + problem.options() + problem.uses() as u32
 }
 
 /// Where the nodes of each option start.
