@@ -27,7 +27,7 @@ use Rattle.xc_dance.specs.Fields.{last_of, ring_of}
 use Rattle.xc_dance.specs.inner.Links.Cells.{top_in, ulink_in, dlink_in, color_in, fixed_up, fixed_down}
 use Rattle.xc_dance.specs.inner.Links.ItemCells.{llink_at, rlink_at}
 use Rattle.xc_dance.specs.inner.Links.FirstItems.{linked_to, bound_to}
-use Rattle.xc_dance.proofs.LinkedTables.Laid.PlaceLemmas.{head_is, place_next, range_get}
+use Rattle.xc_dance.proofs.LinkedTables.Laid.PlaceLemmas.{head_is, option_place, place_next, range_get}
 use Rattle.xc_dance.proofs.LinkedTables.Rings.RingStep.{same_items}
 use Rattle.xc_dance.proofs.LinkedTables.Lines.Sweep.{last_below-more, last_of-more, stay_all}
 use Rattle.xc_dance.specs.declared.links.cells.nodes.TheConstants.{SPACER}
@@ -86,6 +86,11 @@ up_next p o = let s : suc o ≡ o + 1 = omega arith in ap (λ n. fixed_up p (spa
 pub down_next : (p : Puzzle) (o : ℕ) (us : List Use) → o < option_count p → slice_get p.options o ≡ Some us
     → spacer_place p o + length us ≡ fixed_down p (spacer o)
 down_next p o us lt e = grind (arith, lt-ltb, place_next)
+
+-- of an option's nodes and the spacers round them
+pub ruleset spacer_above = (option_place, up_next)
+
+pub ruleset spacer_below = (option_place, down_next)
 
 -- ---- the rows
 
