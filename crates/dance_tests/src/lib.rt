@@ -6,9 +6,8 @@
 #[cfg(test)]
 mod callers;
 
-// Helpers.
-#[cfg(test)]
-mod keepers;
+// Helpers. They are proved without the tests too, as what `must-fail/` plants is.
+pub mod keepers;
 
 // Memory, ample and wanting.
 #[cfg(test)]

@@ -6,7 +6,7 @@ use Rattle.xc_input.specs.declared.problem.Use.{Use}
 use Rattle.xc_dance.specs.Commits.{CanStand, after_uses}
 use Rattle.xc_dance.specs.Cost.{HasWritten}
 use Rattle.xc_dance.specs.Linked.{Linked}
-use Rattle.xc_dance.proofs.LinkedTables.Along.{IsAlong, IsNext, top_at, MayCommit, Commits}
+use Rattle.xc_dance.proofs.LinkedTables.Answers.Along.{IsAlong, IsNext, top_at, MayCommit, Commits}
 
 -- Of an option x that Held tells of, the uses vs x stand from place off x on: those before place q were committed, so
 -- state s became now.

@@ -1,35 +1,16 @@
 -- The linked tables after moves.
-pub mod Sweep
-pub mod LinkColumns
-pub mod GoodLines
-pub mod OneOption
-pub mod OneList
-pub mod OtherItems
-pub mod RingStep
-pub mod MoveStep
-pub mod RingLemmas
-pub mod Turned
-pub mod TopCells
-pub mod LaidLemmas
-pub mod FittedLemmas
-pub mod Walks
-pub mod MarkedNodes
-pub mod Leaving
-pub mod UnmarkedNodes
-pub mod HideMoves
-pub mod NodeOptions
-pub mod TweakStep
-pub mod Regained
-pub mod BringBack
-pub mod TweaksBack
-pub mod UndoTweaks
-pub mod PlaceLemmas
-pub mod Spacers
-pub mod FirstTables
-pub mod EnteredNodes
-pub mod SameTables
-pub mod UsePlaces
-pub mod CommitLemmas
-pub mod Along
-pub mod PassedOptions
-pub mod ListedPlaces
+
+-- where nodes are, and how the first tables come to be
+pub mod Laid
+-- one item's list as a line: its members leave and come back
+pub mod Lines
+-- the ring of the open items
+pub mod Rings
+-- one write to a column, and which nodes are marked
+pub mod Cells
+-- Cover, Spend and Purify: from one node table to the next, and back
+pub mod Moves
+-- the same of Tweak, and of many at once
+pub mod Tweaks
+-- what the tables return to a search
+pub mod Answers

@@ -1,12 +1,12 @@
 -- A walk round an option, for hide and unhide: to its spacer, and from where that leads on to the node of the start.
-use Rattle.xc_dance.proofs.LinkedTables.Walks.{costs-append, Kind}
+use Rattle.xc_dance.proofs.LinkedTables.Lines.Walks.{costs-append, Kind}
 use Rattle.std.proofs.Common.{arith}
 use Rattle.std.proofs.lemmas.Grind.{common_steps}
 use Rattle.std.proofs.Common.{◌≡◌, ℕ, ◌+◌, ◌≤◌, List, ◌++◌, fold, get_or}
 use Rattle.xc_dance.specs.inner.Links.Columns.{Nodes}
 use Rattle.xc_dance.specs.declared.links.cells.nodes.TheConstants.{SPACER}
 use Rattle.xc_dance.specs.inner.Links.Walks.{costs, CanAll}
-use Rattle.xc_dance.proofs.LinkedTables.Walks.{CanAll-append, Underway, steps_end, Reached, Tells}
+use Rattle.xc_dance.proofs.LinkedTables.Lines.Walks.{CanAll-append, Underway, steps_end, Reached, Tells}
 
 -- the spacer was met: the steps that are left may be made, and lead to the end of all
 pub record Met (k : Kind) (t0 : Nodes) (all : List ℕ) (t : Nodes) (n : ℕ) (left : List ℕ) : Type 0 where

@@ -1,15 +1,17 @@
 //! Keepers with the room that a search needs.
 ghost use Rattle.std.specs.Prelude.{◌≡◌, ◌+◌, ◌*◌, [], IfOk};
-ghost use Rattle.xc_input.specs.Problem.{item_count, use_count};
+ghost use Rattle.xc_input.specs.Problem.{IsValid, item_count, use_count};
 ghost use Rattle.xc_dance.specs.Linked.{dancing_of};
 
 use crate::{Links, Lists, Memory};
 use std::alloc::Global;
 use xc_input::Problem;
 
-/// Twice the items and twice the uses: no search of the problem has more moves on its trail at once.
-fn room_for_search(problem: &Problem) -> usize
-    ensures { result ≡ 2 * item_count problem.now.puzzle + 2 * use_count problem.now.puzzle.options }
+/// How many moves a search of the problem has on its trail at most: twice the items and twice the uses. It is public,
+/// so that a caller can give a dance the room that a search asks for.
+pub fn most_moves(problem: &Problem) -> usize
+    ensures value { result ≡ 2 * item_count problem.now.puzzle + 2 * use_count problem.now.puzzle.options }
+    ensures valid { IsValid problem.now.puzzle }
 {
     2 * problem.items() as usize + 2 * problem.uses()
 }
@@ -25,7 +27,7 @@ impl Links {
           undone = 0;
         }) }
     {
-        Links::new(alloc, problem, room_for_search(problem))
+        Links::new(alloc, problem, most_moves(problem))
     }
 }
 
@@ -40,6 +42,6 @@ impl Lists {
           undone = 0;
         }) }
     {
-        Lists::new(alloc, problem, room_for_search(problem))
+        Lists::new(alloc, problem, most_moves(problem))
     }
 }

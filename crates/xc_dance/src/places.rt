@@ -19,7 +19,7 @@ pub(crate) fn node_place(problem: &Problem, i: u32, o: u32) -> u32
 
 /// The place of the first node of option `o`: behind the items' own nodes, a spacer, and the nodes of each option
 /// before it, with the spacer behind them.
-#[tactic(auto, using(crate::proofs::LinkedTables::PlaceLemmas::option_place))]
+#[tactic(auto, using(crate::proofs::LinkedTables::Laid::PlaceLemmas::option_place))]
 fn first_place(problem: &Problem, o: u32) -> u32
     requires { IsOption problem.now.puzzle o }
     ensures { result ≡ start_at problem.now.puzzle (o - 1) }
@@ -32,7 +32,7 @@ fn first_place(problem: &Problem, o: u32) -> u32
 }
 
 /// The option whose node stands at this place: the first one with the spacer behind it further on.
-#[tactic(auto, using(crate::proofs::LinkedTables::PlaceLemmas::option_place))]
+#[tactic(auto, using(crate::proofs::LinkedTables::Laid::PlaceLemmas::option_place))]
 pub(crate) fn number_at(problem: &Problem, place: u32) -> u32
     requires { (i x : ℕ) × IsUseAt problem.now.puzzle i x place }
     ensures { (i x : ℕ) → IsUseAt problem.now.puzzle i x place → result ≡ x }

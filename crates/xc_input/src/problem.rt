@@ -2,7 +2,7 @@
 //! that none is made for that alone.
 
 ghost use Rattle.std.specs.Prelude.{◌≡◌, ◌≢◌, ◌<◌, ◌≤◌, ℕ, suc, length, map, drop, take, sum_by, option_map, Some, All};
-ghost use Rattle.std.specs.Prelude.{IfSome, IfNone};
+ghost use Rattle.std.specs.Prelude.{IfSome, IfNone, IfOk};
 ghost use Rattle.xc_input.specs.Problem.{IsValid, IsWithinLimits, IsSoundOption, AreSoundBounds, primary_count};
 ghost use Rattle.xc_input.specs.Problem.{item_count, option_count, IsItem, numbered_get, bounds_at, IsPrimary};
 ghost use Rattle.xc_input.specs.Problem.{IsSecondary, use_count, IsOption};
@@ -16,6 +16,7 @@ ghost use Rattle.xc_input.specs.inner.Stored.{key_names};
 use crate::names::{NameSet, number_of_name};
 use crate::options::Options;
 use crate::seed::Seed;
+use std::alloc::{AllocError, Global};
 use std::fmt;
 use std::marker::Model;
 
@@ -153,6 +154,17 @@ impl Problem {
             (drop (primary_count self.now.puzzle) result.now) }
     {
         self.items.as_slice()
+    }
+
+    /// The bounds of the primary items, in order.
+    pub fn primary_bounds(&self, alloc: Global) -> Result<Vec<Bounds>, AllocError>
+        ensures { IfOk result (λ v. v.items ≡ self.now.puzzle.bounds) }
+    {
+        let mut bounds = Vec::new(alloc);
+        for i in 0..self.primary() {
+            bounds.push(self.item(i + 1).bounds())?;
+        }
+        Ok(bounds)
     }
 
     /// The options in order, each as its uses.

@@ -1,19 +1,9 @@
-//! How many moves and levels a search has at most.
+//! How many levels a search has at most.
 ghost use Rattle.std.specs.Prelude.{◌≡◌, ◌<◌, true};
 ghost use Rattle.xc_input.specs.Problem.{IsValid};
-ghost use Rattle.xc_search.specs.Room.{room_for};
 ghost use Rattle.xc_search.specs.inner.MostLevels.{high_total, most_levels, primary_uses, IsOnce, IsEven};
 
 use xc_input::{Problem, Use};
-
-/// How many moves a search of the problem has on its trail at most: twice the items and twice the uses. It is public,
-/// so that a caller can give a dance the room that a search asks for.
-pub fn most_moves(problem: &Problem) -> usize
-    ensures value { result ≡ room_for problem.now.puzzle }
-    ensures valid { IsValid problem.now.puzzle }
-{
-    2 * problem.items() as usize + 2 * problem.uses()
-}
 
 /// How often the primary items can be spent in all.
 fn count_spends(problem: &Problem) -> usize

@@ -4,7 +4,7 @@ use Rattle.std.proofs.Common.{sym, subst, ◌∙◌, arith, eqb-true}
 use Rattle.std.specs.List.{AllByRecursion}
 use Rattle.std.proofs.lemmas.Bool.{eqb-false, false≢true}
 use Rattle.xc_dance.specs.Fields.{is_in}
-use Rattle.xc_dance.proofs.LinkedTables.Sweep.{Rises, not_in, in_above, is_in-first, is_in-other}
+use Rattle.xc_dance.proofs.LinkedTables.Lines.Sweep.{Rises, not_in, in_above, is_in-first, is_in-other}
 
 pub element_of : (P : ℕ → Type 0) (x : ℕ) (xs : List ℕ) → AllByRecursion P xs → is_in x xs ≡ true → P x
 element_of P x [] a e = absurd (false≢true e)

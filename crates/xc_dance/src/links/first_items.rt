@@ -10,7 +10,7 @@ use std::alloc::{AllocError, Global};
 use xc_input::Problem;
 
 /// The item table before any move.
-#[tactic(auto, using(crate::proofs::LinkedTables::FirstTables::item_columns))]
+#[tactic(auto, using(crate::proofs::LinkedTables::Laid::FirstTables::item_columns))]
 pub(crate) fn first_items(alloc: Global, problem: &Problem) -> Result<Items, AllocError>
     requires { IsValid problem.now.puzzle }
     ensures { IfOk result (λ t. t.cells ≡ items_after problem.now.puzzle []) }
@@ -22,7 +22,7 @@ pub(crate) fn first_items(alloc: Global, problem: &Problem) -> Result<Items, All
 }
 
 /// Links the items with their rings' heads.
-#[tactic(auto, using(crate::proofs::LinkedTables::FirstTables::item_columns))]
+#[tactic(auto, using(crate::proofs::LinkedTables::Laid::FirstTables::item_columns))]
 fn link_rings(items: &mut Items, problem: &Problem)
     requires { items.old.cells ≡ linked_to problem.now.puzzle 0 }
     ensures { items.new.cells ≡ linked_to problem.now.puzzle (item_count problem.now.puzzle + 2) }

@@ -8,7 +8,7 @@ ghost use Rattle.xc_dance.specs.Fields.{spacer_place};
 ghost use Rattle.xc_dance.specs.inner.Links.FirstNodes.{laid_to, blanks};
 
 use crate::links::cells::{Nodes, SPACER};
-use crate::links::options::node_count;
+use crate::links::node_counts::node_count;
 use crate::links::rows::{Row, Rows};
 use std::alloc::{AllocError, Global};
 use xc_input::Problem;
@@ -46,7 +46,7 @@ fn lay_items(rows: &mut Rows, problem: &Problem)
 
 /// Lays the options' nodes and the spacers round them. A use's node leads to its item's own node
 /// alone.
-#[tactic(auto, using(crate::proofs::LinkedTables::PlaceLemmas::option_place, crate::proofs::LinkedTables::FirstTables::up_next))]
+#[tactic(auto, using(crate::proofs::LinkedTables::Laid::FirstTables::spacer_above))]
 fn lay_options(rows: &mut Rows, problem: &Problem)
     requires limits { IsWithinLimits problem.now.puzzle }
     requires before { rows.old ≡ laid_to problem.now.puzzle (item_count problem.now.puzzle + 1) }
@@ -83,7 +83,7 @@ fn lay_spacer(rows: &mut Rows, problem: &Problem, o: u32, place: u32, above: u32
 }
 
 /// The last node of the option behind the spacer behind option `o`; 0 if there is none.
-#[tactic(auto, using(crate::proofs::LinkedTables::PlaceLemmas::option_place, crate::proofs::LinkedTables::FirstTables::down_next))]
+#[tactic(auto, using(crate::proofs::LinkedTables::Laid::FirstTables::spacer_below))]
 fn last_node(problem: &Problem, o: u32, place: u32) -> u32
     requires limits { IsWithinLimits problem.now.puzzle }
     requires option { o ≤ option_count problem.now.puzzle }

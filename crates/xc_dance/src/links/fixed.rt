@@ -8,7 +8,7 @@ ghost use Rattle.xc_dance.specs.inner.Links.OptionSpans.{spans_of};
 ghost use Rattle.xc_dance.specs.inner.Links.Unmarked.{IsPlain};
 
 use crate::links::known::Known;
-use crate::links::options::option_starts;
+use crate::links::node_counts::option_starts;
 use crate::links::spans::Spans;
 use std::alloc::{AllocError, Global};
 use std::marker::Model;
@@ -48,7 +48,7 @@ impl Model for Fixed {
 }
 
 impl Fixed {
-    #[tactic(auto, using(crate::proofs::LinkedTables::FittedLemmas::known_fit))]
+    #[tactic(auto, using(crate::proofs::LinkedTables::Laid::FittedLemmas::known_fit))]
     pub(crate) fn new(alloc: Global, problem: &Problem) -> Result<Fixed, AllocError>
         ensures value { IfOk result (λ f. f ≡ problem.now.puzzle) }
         ensures valid { IsValid problem.now.puzzle }

@@ -48,7 +48,7 @@ impl CoverCounter {
         ensures { IfOk result (λ t. t ≡ record
             { bounds = problem.now.puzzle.bounds; items = item_count problem.now.puzzle; classes = classes }) }
     {
-        let bounds = primary_bounds(alloc, problem)?;
+        let bounds = problem.primary_bounds(alloc)?;
         let needed = needed(&bounds);
         let counts = Counts::new(alloc, problem.items() as usize, classes)?;
         Ok(CoverCounter {
@@ -73,17 +73,6 @@ impl CoverCounter {
         self.counts.clear(options, chosen);
         cover
     }
-}
-
-/// The bounds of the primary items.
-fn primary_bounds(alloc: Global, problem: &Problem) -> Result<Vec<Bounds>, AllocError>
-    ensures { IfOk result (λ v. v.items ≡ problem.now.puzzle.bounds) }
-{
-    let mut bounds = Vec::new(alloc);
-    for i in 0..problem.primary() {
-        bounds.push(problem.item(i + 1).bounds())?;
-    }
-    Ok(bounds)
 }
 
 /// How many items have to be held at all.

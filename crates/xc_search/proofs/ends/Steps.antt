@@ -13,7 +13,7 @@ use Rattle.xc_input.proofs.lists.Members.{IsIn, each_in}
 use Rattle.xc_input.proofs.lists.Places.{drop_at}
 use Rattle.xc_dance.specs.Dancing.{Dancing}
 use Rattle.xc_dance.specs.Commits.{option_at, after_spend}
-use Rattle.xc_dance.proofs.LinkedTables.FirstTables.{low_most}
+use Rattle.xc_dance.proofs.LinkedTables.Laid.FirstTables.{low_most}
 use Rattle.xc_search.specs.Listing.{Wanted, branch_item, branch_count, branches_of, listing}
 use Rattle.xc_search.specs.Room.{room_for}
 use Rattle.xc_search.specs.Ends.{ends, ends_after}

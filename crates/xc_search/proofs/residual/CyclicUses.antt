@@ -11,7 +11,7 @@ use Rattle.xc_search.proofs.residual.PickedByUses.{is_wanted, spend_uses, all_st
 use Rattle.std.proofs.lemmas.List.{take-append-drop}
 use Rattle.std.proofs.lemmas.Option.{slice_get_within}
 use Rattle.xc_input.proofs.lists.Places.{drop_at}
-use Rattle.xc_dance.proofs.LinkedTables.PlaceLemmas.{held_use}
+use Rattle.xc_dance.proofs.LinkedTables.Laid.PlaceLemmas.{held_use}
 use Rattle.xc_input.proofs.lists.Filters.{filter_both, map-same}
 use Rattle.std.proofs.Math.Bool.{and_comm, or_comm}
 use Rattle.std.proofs.lemmas.List.Folds.{list_all-append}

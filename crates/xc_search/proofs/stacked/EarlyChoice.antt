@@ -2,7 +2,7 @@
 use Rattle.std.proofs.Common.{ℕ, Bool, true, false, List, Option, Some, sym, ap, ◌∙◌, arith, inl, inr}
 use Rattle.xc_dance.specs.declared.dance.Move.{Move}
 use Rattle.xc_dance.specs.Moves.{AreLegal}
-use Rattle.xc_dance.proofs.LinkedTables.FirstTables.{low_most}
+use Rattle.xc_dance.proofs.LinkedTables.Laid.FirstTables.{low_most}
 use Rattle.xc_input.specs.Problem.{Puzzle, IsValid}
 use Rattle.xc_input.proofs.lists.Members.{each_in}
 use Rattle.xc_search.specs.Residuals.{wanted_at}

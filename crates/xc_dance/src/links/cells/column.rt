@@ -91,7 +91,7 @@ impl Column {
 
     /// Writes one cell.
     #[inline(always)]
-    #[tactic(auto, using(crate::proofs::LinkedTables::LinkColumns::one_written))]
+    #[tactic(auto, using(crate::proofs::LinkedTables::Cells::LinkColumns::one_written))]
     pub(crate) fn set(&mut self, place: u32, value: u32)
         requires { place < length (values self.old.cells.items) }
         ensures value { values self.new.cells.items ≡ slice_set (values self.old.cells.items) place value }

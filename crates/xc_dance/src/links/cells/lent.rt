@@ -103,7 +103,7 @@ impl CellsMut<'_> {
 
     /// The same by an index.
     #[inline(always)]
-    #[tactic(auto, using(crate::proofs::LinkedTables::LinkColumns::one_written))]
+    #[tactic(auto, using(crate::proofs::LinkedTables::Cells::LinkColumns::one_written))]
     pub(crate) fn set_at(&mut self, place: usize, value: u32)
         requires { place < length (values self.old.cells.now) }
         ensures value { values self.new.cells.now ≡ slice_set (values self.old.cells.now) place value }
@@ -165,7 +165,7 @@ impl LinksMut<'_> {
 
     /// The same by an index.
     #[inline(always)]
-    #[tactic(auto, using(crate::proofs::LinkedTables::LinkColumns::one_written))]
+    #[tactic(auto, using(crate::proofs::LinkedTables::Cells::LinkColumns::one_written))]
     pub(crate) fn set_up_at(&mut self, place: usize, value: u32)
         requires { place < length (ups self.old.links.now) }
         ensures up { ups self.new.links.now ≡ slice_set (ups self.old.links.now) place value }
@@ -190,7 +190,7 @@ impl LinksMut<'_> {
 
     /// The same by an index.
     #[inline(always)]
-    #[tactic(auto, using(crate::proofs::LinkedTables::LinkColumns::one_written))]
+    #[tactic(auto, using(crate::proofs::LinkedTables::Cells::LinkColumns::one_written))]
     pub(crate) fn set_down_at(&mut self, place: usize, value: u32)
         requires { place < length (downs self.old.links.now) }
         ensures down { downs self.new.links.now ≡ slice_set (downs self.old.links.now) place value }

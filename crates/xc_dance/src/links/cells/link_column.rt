@@ -57,7 +57,7 @@ impl LinkColumn {
 
     /// Writes where the link at a place leads upwards.
     #[inline(always)]
-    #[tactic(auto, using(crate::proofs::LinkedTables::LinkColumns::one_written))]
+    #[tactic(auto, using(crate::proofs::LinkedTables::Cells::LinkColumns::one_written))]
     pub(crate) fn set_up(&mut self, place: u32, value: u32)
         requires { place < length (ups self.old.links.items) }
         ensures up { ups self.new.links.items ≡ slice_set (ups self.old.links.items) place value }
@@ -69,7 +69,7 @@ impl LinkColumn {
 
     /// Writes where the link at a place leads downwards.
     #[inline(always)]
-    #[tactic(auto, using(crate::proofs::LinkedTables::LinkColumns::one_written))]
+    #[tactic(auto, using(crate::proofs::LinkedTables::Cells::LinkColumns::one_written))]
     pub(crate) fn set_down(&mut self, place: u32, value: u32)
         requires { place < length (downs self.old.links.items) }
         ensures down { downs self.new.links.items ≡ slice_set (downs self.old.links.items) place value }

@@ -8,10 +8,10 @@ ghost use Rattle.xc_dance.specs.inner.Links.ListWalks.{left_node, back_node, wal
 ghost use Rattle.xc_dance.specs.inner.Links.ListWalks.{CanUnhideList};
 
 use crate::links::cells::{Cell, CellsMut, Column, Link, LinkColumn, LinksMut};
+use crate::links::list_walks::{hide_list, unhide_list};
 use crate::links::spans::Spans;
 use crate::links::steps::{relink, unlink};
 use crate::links::tweaks::{bring_back, hide_unless, unhide_unless};
-use crate::links::walks::{hide_list, unhide_list};
 use std::alloc::{AllocError, Global};
 use std::marker::Model;
 

@@ -1,4 +1,4 @@
-use Rattle.xc_dance.proofs.LinkedTables.Along.{along_first, before_at, Leads, leads, IsNext, nodes_told, whole}
+use Rattle.xc_dance.proofs.LinkedTables.Answers.Along.{along_first, before_at, Leads, leads, IsNext, nodes_told, whole}
 use Rattle.std.proofs.Common.{◌≡◌, ◌-◌, ℕ, get_or, ap, ◌∙◌, arith, refl}
 use Rattle.std.proofs.lemmas.List.{length-map}
 use Rattle.xc_dance.specs.inner.Links.Columns.{Nodes}

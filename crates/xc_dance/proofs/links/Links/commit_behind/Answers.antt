@@ -8,7 +8,8 @@ use Rattle.xc_dance.specs.Linked.{Linked}
 use Rattle.xc_dance.specs.inner.Links.Cells.{nodes_after}
 use Rattle.xc_dance.specs.inner.Links.Laid.{IsLaid}
 use Rattle.xc_dance.specs.inner.Links.UseNodes.{uses_behind}
-use Rattle.xc_dance.proofs.LinkedTables.Along.{along_first, Behind, behind_at, IsNext, top_at, nodes_told, whole}
+use Rattle.xc_dance.proofs.LinkedTables.Answers.Along.{along_first, Behind, behind_at, IsNext, top_at, nodes_told}
+use Rattle.xc_dance.proofs.LinkedTables.Answers.Along.{whole}
 use Rattle.xc_dance.proofs.Committing.{may, one_more}
 use Rattle.xc_dance.proofs.links.Links.commit_behind.Goals as goal
 use Rattle.xc_dance.proofs.links.Links.commit_behind.Goals.{After-self, After-self-in-loop-self}

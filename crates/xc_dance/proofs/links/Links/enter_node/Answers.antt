@@ -11,7 +11,7 @@ use Rattle.xc_dance.specs.Dancing.{Dancing}
 use Rattle.xc_dance.specs.Linked.{Linked}
 use Rattle.xc_dance.specs.Moves.{is_open}
 use Rattle.xc_dance.specs.Fields.{layout, used}
-use Rattle.xc_dance.proofs.LinkedTables.CommitLemmas.{use_item, colour_within, committed_open, still_covers}
+use Rattle.xc_dance.proofs.LinkedTables.Answers.CommitLemmas.{use_item, colour_within, committed_open, still_covers}
 use Rattle.xc_dance.proofs.links.Links.enter_node.Goals as goal
 use Rattle.xc_dance.proofs.links.Links.enter_node.Goals.{After-self}
 

@@ -1,6 +1,6 @@
 use Rattle.std.proofs.Common.{arith}
 use Rattle.std.proofs.lemmas.Grind.{common_steps}
-use Rattle.xc_dance.proofs.LinkedTables.FirstTables.{left_is}
+use Rattle.xc_dance.proofs.LinkedTables.Laid.FirstTables.{left_is}
 use Rattle.xc_dance.proofs.links.first_items.first_left.Goals as goal
 
 pub returns-then-i-eq0 : goal.returns-then-i-eq0

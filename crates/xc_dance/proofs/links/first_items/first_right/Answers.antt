@@ -1,6 +1,6 @@
 use Rattle.std.proofs.Common.{arith}
 use Rattle.std.proofs.lemmas.Grind.{common_steps}
-use Rattle.xc_dance.proofs.LinkedTables.FirstTables.{right_is}
+use Rattle.xc_dance.proofs.LinkedTables.Laid.FirstTables.{right_is}
 use Rattle.xc_dance.proofs.links.first_items.first_right.Goals as goal
 
 pub returns-then-i-primary : goal.returns-then-i-primary

@@ -1,6 +1,6 @@
-use Rattle.xc_dance.proofs.LinkedTables.EnteredNodes.{nodes_same}
-use Rattle.xc_dance.proofs.LinkedTables.EnteredNodes.{held_none}
-use Rattle.xc_dance.proofs.LinkedTables.EnteredNodes.{spacer_step}
+use Rattle.xc_dance.proofs.LinkedTables.Laid.EnteredNodes.{nodes_same}
+use Rattle.xc_dance.proofs.LinkedTables.Laid.EnteredNodes.{held_none}
+use Rattle.xc_dance.proofs.LinkedTables.Laid.EnteredNodes.{spacer_step}
 use Rattle.std.proofs.Common.{arith, ◌≡◌, ◌≤◌, ◌<◌, ◌∙◌, ◌+◌, ap, take, Some, [], ℕ}
 use Rattle.std.proofs.lemmas.Grind.{common_steps}
 use Rattle.std.specs.Prelude.{slice_get, slice_index}
@@ -12,9 +12,9 @@ use Rattle.xc_dance.specs.inner.Links.Laid.{IsFit}
 use Rattle.xc_dance.specs.inner.Links.Cells.{nodes_from, color_in}
 use Rattle.xc_dance.specs.inner.Links.FirstNodes.{entered}
 use Rattle.std.proofs.lemmas.Option.{slice_get-get_or}
-use Rattle.xc_dance.proofs.LinkedTables.EnteredNodes.{lines_of, UseStep, use_step, spacer_top}
-use Rattle.xc_dance.proofs.LinkedTables.EnteredNodes.{all_entered}
-use Rattle.xc_dance.proofs.LinkedTables.PlaceLemmas.{is_at}
+use Rattle.xc_dance.proofs.LinkedTables.Laid.EnteredNodes.{lines_of, UseStep, use_step, spacer_top}
+use Rattle.xc_dance.proofs.LinkedTables.Laid.EnteredNodes.{all_entered}
+use Rattle.xc_dance.proofs.LinkedTables.Laid.PlaceLemmas.{is_at}
 use Rattle.xc_dance.proofs.links.first_nodes.link_uses.Goals as goal
 use Rattle.xc_dance.proofs.links.first_nodes.link_uses.Goals.{Then-top-lt-SPACER, then-top-lt-SPACER}
 use Rattle.xc_dance.proofs.links.first_nodes.link_uses.Goals.{else-top-lt-SPACER}

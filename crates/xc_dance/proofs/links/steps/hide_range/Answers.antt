@@ -1,5 +1,5 @@
 use Rattle.std.proofs.Common.{arith}
-use Rattle.xc_dance.proofs.LinkedTables.Walks.{places_more, step_can, step_on}
+use Rattle.xc_dance.proofs.LinkedTables.Lines.Walks.{places_more, step_can, step_on}
 use Rattle.xc_dance.proofs.links.steps.hide_range.Goals as goal
 
 pub hide_one-count-requires-clause-can : goal.hide_one-count-requires-clause-can

@@ -1,5 +1,5 @@
 use Rattle.std.proofs.Common.{arith}
-use Rattle.xc_dance.proofs.LinkedTables.Walks.{last_first, step_can, step_on}
+use Rattle.xc_dance.proofs.LinkedTables.Lines.Walks.{last_first, step_can, step_on}
 use Rattle.xc_dance.proofs.links.steps.unhide_range.Goals as goal
 
 pub unhide_one-count-requires-clause-can : goal.unhide_one-count-requires-clause-can

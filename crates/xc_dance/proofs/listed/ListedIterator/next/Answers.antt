@@ -1,5 +1,5 @@
 use Rattle.std.proofs.Common.{sym, ◌∙◌, arith}
-use Rattle.xc_dance.proofs.LinkedTables.NodeOptions.{next_contained}
+use Rattle.xc_dance.proofs.LinkedTables.Answers.NodeOptions.{next_contained}
 use Rattle.xc_dance.specs.Moves.{listed_numbers}
 use Rattle.xc_dance.proofs.MoveLemmas.ListLemmas.{next_above-split, next_above-none}
 use Rattle.xc_dance.proofs.MoveLemmas.Shortened.{rises_listed}

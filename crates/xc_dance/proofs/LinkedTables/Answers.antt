@@ -1,0 +1,4 @@
+pub mod NodeOptions
+pub mod UsePlaces
+pub mod CommitLemmas
+pub mod Along

@@ -1,0 +1,5 @@
+pub mod LinkColumns
+pub mod TopCells
+pub mod MarkedNodes
+pub mod UnmarkedNodes
+pub mod SameTables

@@ -1,0 +1,5 @@
+pub mod Sweep
+pub mod GoodLines
+pub mod OneList
+pub mod Walks
+pub mod Regained

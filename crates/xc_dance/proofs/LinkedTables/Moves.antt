@@ -1,0 +1,5 @@
+pub mod OneOption
+pub mod OtherItems
+pub mod MoveStep
+pub mod Leaving
+pub mod HideMoves

@@ -1,0 +1,3 @@
+pub mod RingStep
+pub mod RingLemmas
+pub mod Turned

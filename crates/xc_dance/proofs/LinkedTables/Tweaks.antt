@@ -1,0 +1,4 @@
+pub mod TweakStep
+pub mod BringBack
+pub mod TweaksBack
+pub mod UndoTweaks
