@@ -19,6 +19,21 @@ pub struct Mark {
     pub n: u32,
 }
 
+impl Mark {
+    /// The mark of a level's newest branch.
+    #[inline(always)]
+    pub(crate) fn of(level: &Level) -> Mark
+        ensures { result ≡ mark_of level.now }
+    {
+        Mark {
+            item: level.item,
+            place: level.place,
+            k: level.begun,
+            n: level.count,
+        }
+    }
+}
+
 /// The marks of a solution that are still to be read.
 #[derive(Drop)]
 pub struct Marks<'w> {
@@ -54,12 +69,7 @@ impl<'w> Marks<'w> {
             [] => None,
             [level, behind @ ..] => {
                 self.levels = behind;
-                Some(Mark {
-                    item: level.item,
-                    place: level.place,
-                    k: level.begun,
-                    n: level.count,
-                })
+                Some(Mark::of(level))
             }
         }
     }

@@ -121,7 +121,7 @@ fn put_choices<'s, 'a, D: Dance>(
     }
     let mut rest = levels;
     while let [level, behind @ ..] = rest {
-        choices.push_reserved(position.choice_of(level));
+        choices.push_reserved(position.newest_choice(level));
         rest = behind;
     }
     (choices, ())

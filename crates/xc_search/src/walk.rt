@@ -220,7 +220,7 @@ impl<'w, 'a, D: Dance> Solution<'w, 'a, D> {
             [] => None,
             [level, behind @ ..] => {
                 self.levels = behind;
-                Some(self.position.choice_of(level))
+                Some(self.position.newest_choice(level))
             }
         }
     }

@@ -173,23 +173,13 @@ impl<'a, D: Dance> Position<'a, D> {
         self.dance.option_of(self.problem, i, place)
     }
 
-    /// The newest branch of a level.
+    /// The choice of the newest branch of a level.
     #[inline(always)]
-    pub fn choice_of(&self, level: &Level) -> Choice
+    pub fn newest_choice(&self, level: &Level) -> Choice
         requires { IsShown self.now.puzzle level.now }
         ensures { result ≡ chosen self.now.puzzle level.now }
     {
-        let option = if level.place == level.item {
-            None
-        } else {
-            Some(self.option_of(level.item, level.place))
-        };
-        Choice {
-            item: level.item,
-            option,
-            k: level.begun,
-            n: level.count,
-        }
+        self.choice_at(Mark::of(level))
     }
 
     /// The choice of a mark.
