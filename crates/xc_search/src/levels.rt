@@ -107,9 +107,9 @@ fn end_level<D: Dance>(position: &mut Position<D>, level: &Level)
     position.undo_to(level.mark);
 }
 
-/// The number behind `k`, which is below `many`.
+/// The number after `k`, which is below `many`.
 #[inline(always)]
-fn behind(k: u32, many: u32) -> u32
+fn number_after(k: u32, many: u32) -> u32
     requires { k < many }
     ensures { result ≡ k + 1 }
 {
@@ -126,7 +126,7 @@ fn enter_next<D: Dance>(position: &mut Position<D>, level: &Level) -> Begun
         position.new.trail (begun_level result level.now) }
 {
     position.undo_to(level.base);
-    position.enter(level, behind(level.begun, level.count))
+    position.enter(level, number_after(level.begun, level.count))
 }
 
 /// Enters the next branch of the newest level that has one, and ends the levels above it. None where no level has
@@ -178,11 +178,11 @@ pub enum Next {
 
 /// Passes over all that is left, with no move, where its solutions are known to be no more than are to be passed over.
 #[inline(always)]
-pub fn pass_last<D: Dance>(position: &Position<D>, more: &mut u64) -> bool
+pub fn skip_rest<D: Dance>(position: &Position<D>, more: &mut u64) -> bool
     requires { IsSearchable position.now.puzzle position.now.trail }
-    ensures passed { result ≡ true →
+    ensures skipped { result ≡ true →
         more.old ≡ more.new + length (listing (residual_of position.now.puzzle position.now.trail)) }
-    ensures not_passed { result ≡ false → more.new ≡ more.old }
+    ensures not_skipped { result ≡ false → more.new ≡ more.old }
 {
     let Some(left) = position.last_choices() else {
         return false;
@@ -221,7 +221,7 @@ fn go_below<D: Dance>(
     ensures back_pays { result ≡ Below.Nothing →
         Pays position.old stack.old true more.old position.new stack.new false more.new }
 {
-    if stack.levels().len() == *last && pass_last(position, more) {
+    if stack.levels().len() == *last && skip_rest(position, more) {
         return Below::Nothing;
     }
     let next = position.choose_early();
@@ -242,7 +242,7 @@ fn go_below<D: Dance>(
 /// Enters the next branch, a first one where what is left has any. A solution is passed over where `more` are to be,
 /// and is one of them.
 #[inline(always)]
-fn go_on<D: Dance>(
+fn enter_branch<D: Dance>(
     position: &mut Position<D>,
     stack: &mut Stack,
     more: &mut u64,
@@ -292,7 +292,7 @@ pub fn advance<D: Dance>(position: &mut Position<D>, stack: &mut Stack, many: u6
     let mut more = many;
     let mut last = usize::MAX;
     loop {
-        match go_on(position, stack, &mut more, &mut last) {
+        match enter_branch(position, stack, &mut more, &mut last) {
             Next::Branch(entered) => position.commit_branch(entered.item, entered.place as u32),
             Next::Solution => return None,
             Next::Nothing => return Some(more),

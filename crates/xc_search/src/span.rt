@@ -50,11 +50,11 @@ pub struct RowNumber {
 }
 
 /// The number at this place of the row of these levels, the oldest first, or of the one right behind it.
-fn number_of(levels: &[Level], down: bool, place: usize) -> Option<RowNumber>
+fn number_of(levels: &[Level], unsearched: bool, place: usize) -> Option<RowNumber>
     ensures number { option_map (λ x. x.k) result ≡ slice_get
-        (if down then map (λ l. l.begun) levels.now else map (λ l. l.begun) levels.now ++ 0 ∷ []) place }
+        (if unsearched then map (λ l. l.begun) levels.now else map (λ l. l.begun) levels.now ++ 0 ∷ []) place }
     ensures branches { option_map (λ x. x.n) result ≡ slice_get
-        (if down then map (λ l. l.count) levels.now else map (λ l. l.count) levels.now ++ 0 ∷ []) place }
+        (if unsearched then map (λ l. l.count) levels.now else map (λ l. l.count) levels.now ++ 0 ∷ []) place }
     ensures near { IsSome result → place ≤ length levels.now }
 {
     match levels.get(place) {
@@ -62,7 +62,7 @@ fn number_of(levels: &[Level], down: bool, place: usize) -> Option<RowNumber>
             k: level.begun,
             n: level.count,
         }),
-        None if place == levels.len() && !down => Some(RowNumber { k: 0, n: 0 }),
+        None if place == levels.len() && !unsearched => Some(RowNumber { k: 0, n: 0 }),
         None => None,
     }
 }
@@ -74,7 +74,7 @@ fn number_of(levels: &[Level], down: bool, place: usize) -> Option<RowNumber>
 pub struct Span<'a, D: Dance> {
     state: State<'a, D>,
     /// What is left wasn't looked at yet. Else it stands at a solution.
-    down: bool,
+    unsearched: bool,
     /// No member of the span is left.
     ended: bool,
     until: Option<&'a [u32]>,
@@ -98,7 +98,7 @@ impl<'a, D: Dance> Model for Span<'a, D> {
 
     ghost view = { λ s. record {
       puzzle = s.state.position.puzzle;
-      row = if s.ended then None else Some (row_from s.state.position.puzzle s.state.stack.levels s.down);
+      row = if s.ended then None else Some (row_from s.state.position.puzzle s.state.stack.levels s.unsearched);
       until = option_map (λ u. u.now) s.until;
       shown = s.choices.items;
       room = s.state.position.room;
@@ -109,7 +109,7 @@ impl<'a, D: Dance> Model for Span<'a, D> {
       stacked : AreStacked s.state.position.puzzle s.state.position.trail s.state.stack.levels;
       led : s.ended ≡ false → AreLed s.state.position.puzzle [] s.state.position.trail s.state.stack.levels;
       standing : s.ended ≡ false → IsStanding s.state.position.puzzle s.state.position.trail s.state.stack.levels true;
-      solved : s.ended ≡ false → s.down ≡ false →
+      solved : s.ended ≡ false → s.unsearched ≡ false →
           IsSolved s.state.position.puzzle s.state.position.trail s.state.stack.levels;
       before : s.ended ≡ false →
           is_before (option_map (λ u. u.now) s.until) (row_at s.state.position.puzzle s.state.stack.levels) ≡ true;
@@ -165,7 +165,7 @@ impl<'a, D: Dance> Span<'a, D> {
         let within = is_before(state.stack.levels(), until);
         Ok(Span {
             state,
-            down: true,
+            unsearched: true,
             ended: !reached || !within,
             until,
             choices,
@@ -234,12 +234,12 @@ impl<'a, D: Dance> Span<'a, D> {
             };
         }
         // Where it stands at a solution, it finds that one again.
-        let over = if self.down { many - 1 } else { many };
+        let over = if self.unsearched { many - 1 } else { many };
         let ran = go_over(&mut self.state, &mut self.numbers, self.until, over, steps);
         let taken = steps - ran.steps;
         match ran.stop {
             Stop::Member => {
-                self.down = false;
+                self.unsearched = false;
                 let state = &self.state;
                 state.stack.show(&[], &state.position, &mut self.choices);
                 Went {
@@ -258,7 +258,7 @@ impl<'a, D: Dance> Span<'a, D> {
                 }
             }
             Stop::Steps => {
-                self.down = true;
+                self.unsearched = true;
                 self.choices.clear();
                 Went {
                     halt: Halt::Steps,
@@ -289,7 +289,7 @@ impl<'a, D: Dance> Span<'a, D> {
                 n: level.count,
             });
         }
-        if !self.down {
+        if !self.unsearched {
             row.push_reserved(RowNumber { k: 0, n: 0 });
         }
         Ok(row)
@@ -307,7 +307,7 @@ impl<'a, D: Dance> Span<'a, D> {
         if self.ended {
             return None;
         }
-        number_of(self.state.stack.levels(), self.down, place)
+        number_of(self.state.stack.levels(), self.unsearched, place)
     }
 
     /// Undoes every move, makes none, and gives the dance back, after any answer of `go_on`.
@@ -321,7 +321,7 @@ impl<'a, D: Dance> Span<'a, D> {
     {
         let Span {
             state,
-            down: _,
+            unsearched: _,
             ended: _,
             until: _,
             choices: _,

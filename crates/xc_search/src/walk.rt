@@ -34,13 +34,13 @@ pub struct Walk<'a, D: Dance> {
 }
 
 /// Where a walk stands.
-// It has no model, so that the contract of `passed` names its fields.
+// It has no model, so that the contract of `run_on` names its fields.
 #[derive(Drop)]
 struct Standing<'a, D: Dance> {
     position: Position<'a, D>,
     stack: Stack,
     /// What is left wasn't searched yet.
-    down: bool,
+    unsearched: bool,
     /// By how many solutions it went on last. It is handed back here, and not beside the rest: else the whole would be
     /// copied once more.
     passed: u64,
@@ -59,16 +59,17 @@ impl<'a, D: Dance> Model for Walk<'a, D> {
 
     ghost view = { λ s. let at = s.standing in record {
       puzzle = at.position.puzzle;
-      to_come = coming at.position.puzzle at.position.trail at.stack.levels at.down;
+      to_come = coming at.position.puzzle at.position.trail at.stack.levels at.unsearched;
       shown = choices_of at.position.puzzle at.stack.levels;
-      ahead = ends_ahead at.position.puzzle at.position.trail at.stack.levels at.down;
+      ahead = ends_ahead at.position.puzzle at.position.trail at.stack.levels at.unsearched;
       room = at.position.room;
       made = moves_made at.position;
     } };
 
     ghost invariant = { λ s. let at = s.standing in record {
-      standing : IsStanding at.position.puzzle at.position.trail at.stack.levels at.down;
-      solved : at.down ≡ false → at.stack.levels ≢ [] → IsSolved at.position.puzzle at.position.trail at.stack.levels;
+      standing : IsStanding at.position.puzzle at.position.trail at.stack.levels at.unsearched;
+      solved : at.unsearched ≡ false → at.stack.levels ≢ [] →
+          IsSolved at.position.puzzle at.position.trail at.stack.levels;
       levels_fit : at.stack.room ≡ most_levels at.position.puzzle;
     } };
 }
@@ -100,7 +101,7 @@ impl<'a, D: Dance> Walk<'a, D> {
             standing: Standing {
                 position: Position::new(dance, problem),
                 stack,
-                down: true,
+                unsearched: true,
                 passed: 0,
             },
         })
@@ -165,7 +166,7 @@ impl<'a, D: Dance> Walk<'a, D> {
         if standing.has_ended() {
             return 0;
         }
-        replace_with(standing, many, Standing::passed);
+        replace_with(standing, many, Standing::run_on);
         standing.passed
     }
 
@@ -181,7 +182,7 @@ impl<'a, D: Dance> Walk<'a, D> {
         let Standing {
             mut position,
             mut stack,
-            down: _,
+            unsearched: _,
             passed: _,
         } = self.standing;
         unwind(&mut position, &mut stack);
@@ -227,7 +228,7 @@ impl<'w, 'a, D: Dance> Solution<'w, 'a, D> {
 }
 
 impl<'a, D: Dance> Standing<'a, D> {
-    ghost use Rattle.xc_search.specs.inner.Ahead.{Passed, IsSolved};
+    ghost use Rattle.xc_search.specs.inner.Ahead.{WentBy, IsSolved};
     ghost use Rattle.xc_search.specs.inner.Due.{PaysFor};
     ghost use Rattle.xc_search.specs.inner.Levels.{IsStanding};
     ghost use Rattle.xc_search.specs.inner.MostLevels.{most_levels};
@@ -235,10 +236,10 @@ impl<'a, D: Dance> Standing<'a, D> {
     /// Whether no level stands, and what is left was searched.
     #[inline(always)]
     fn has_ended(&self) -> bool
-        ensures ended { result ≡ true → (self.now.down ≡ false) × (self.now.stack.levels ≡ []) }
-        ensures goes_on { result ≡ false → self.now.down ≡ false → self.now.stack.levels ≢ [] }
+        ensures ended { result ≡ true → (self.now.unsearched ≡ false) × (self.now.stack.levels ≡ []) }
+        ensures goes_on { result ≡ false → self.now.unsearched ≡ false → self.now.stack.levels ≢ [] }
     {
-        !self.down && self.stack.top().is_none()
+        !self.unsearched && self.stack.top().is_none()
     }
 
     /// Goes on by so many solutions, or over all where fewer are left, and tells by how many. It takes the search by
@@ -247,24 +248,25 @@ impl<'a, D: Dance> Standing<'a, D> {
     // It holds while no address of the state leaves the loop: what stands out of line there takes slices, and all else
     // asks to be inlined.
     #[inline(never)]
-    fn passed(self, many: u64) -> (Standing<'a, D>, ())
+    fn run_on(self, many: u64) -> (Standing<'a, D>, ())
         requires some { 0 < many }
         requires standing { IsStanding self.position.puzzle self.position.trail self.stack.levels true }
-        requires solved { self.down ≡ false → IsSolved self.position.puzzle self.position.trail self.stack.levels }
+        requires solved { self.unsearched ≡ false →
+            IsSolved self.position.puzzle self.position.trail self.stack.levels }
         requires levels_fit { most_levels self.position.puzzle ≤ self.stack.room }
-        ensures passed { Passed self.entry.position self.entry.stack self.entry.down many result.0.passed
-            result.0.position result.0.stack result.0.down }
-        ensures pays { PaysFor self.entry.position self.entry.stack self.entry.down many
+        ensures went { WentBy self.entry.position self.entry.stack self.entry.unsearched many result.0.passed
+            result.0.position result.0.stack result.0.unsearched }
+        ensures pays { PaysFor self.entry.position self.entry.stack self.entry.unsearched many
             result.0.position result.0.stack }
     {
         let Standing {
             mut position,
             mut stack,
-            down,
+            unsearched,
             passed: _,
         } = self;
         // Where it stands at a solution, it finds that one again.
-        let more = if down { many - 1 } else { many };
+        let more = if unsearched { many - 1 } else { many };
         let passed = match advance(&mut position, &mut stack, more) {
             None => many,
             Some(more) => fewer(many, more),
@@ -273,7 +275,7 @@ impl<'a, D: Dance> Standing<'a, D> {
             Standing {
                 position,
                 stack,
-                down: false,
+                unsearched: false,
                 passed,
             },
             (),
