@@ -7,7 +7,7 @@ ghost use Rattle.xc_search.specs.inner.MostLevels.{high_total, most_levels, prim
 use xc_input::{Problem, Use};
 
 /// How many moves a search of the problem has on its trail at most: twice the items and twice the uses. It is public,
-/// so that a caller can give a dance the room that a search asks for.
+/// so that a caller can give a dance the room that a search requires.
 pub fn most_moves(problem: &Problem) -> usize
     ensures value { result ≡ room_for problem.now.puzzle }
     ensures valid { IsValid problem.now.puzzle }

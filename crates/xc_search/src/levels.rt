@@ -21,16 +21,16 @@ use crate::stack::Stack;
 use xc_dance::Dance;
 
 /// A branch that was entered, and whose moves are still to be made: in the search's loop at one place, since a large
-/// function is taken in only where one call of it stands.
+/// function is taken in only where there is one call of it.
 #[derive(Clone, Copy)]
 pub struct Entered {
     pub item: u32,
-    /// Where the option that it takes stands in the item's list; `item`, where it takes none. An index, since the
+    /// The place in the item's list of the option that it takes; `item`, where it takes none. An index, since the
     /// compiler would pack two numbers of 32 bits into one word and take them apart again.
     pub place: usize,
 }
 
-/// What stands below the levels.
+/// What is below the levels.
 #[derive(Clone, Copy)]
 pub enum Below {
     /// A branch of another level, which was entered.
@@ -100,7 +100,7 @@ fn end_level<D: Dance>(position: &mut Position<D>, level: &Level)
     } }
 {
     if level.tweaks > 0 {
-        // Not set apart, though rare, as by a call that takes the state by value and gives it back.
+        // Not set apart, though rare, as by a call that takes the state by value and returns it.
         position.undo_to(level.base);
         position.undo_tweaks(level.tweaks as usize);
     }
@@ -176,7 +176,7 @@ pub enum Next {
     Nothing,
 }
 
-/// Passes over all that is left, with no move, where its solutions are known to be no more than are to be passed over.
+/// Skips all that is left, with no move, where its solutions are known to be no more than are to be passed over.
 #[inline(always)]
 pub fn skip_rest<D: Dance>(position: &Position<D>, more: &mut u64) -> bool
     requires { IsSearchable position.now.puzzle position.now.trail }
@@ -196,8 +196,8 @@ pub fn skip_rest<D: Dance>(position: &Position<D>, more: &mut u64) -> bool
 }
 
 /// Goes below the levels: enters a first branch where what is left has any. A solution is passed over where `more` are
-/// to be, and is one of them. `last` is how many levels stood where the last choice led to a solution: where as many
-/// stand again, the solutions may be counted at once.
+/// to be, and is one of them. `last` is how many levels there were where the last choice led to a solution: where
+/// there are as many again, the solutions may be counted at once.
 #[inline(always)]
 fn go_below<D: Dance>(
     position: &mut Position<D>,
@@ -275,9 +275,9 @@ fn enter_branch<D: Dance>(
     }
 }
 
-/// Passes over so many solutions and stands at the next. Where there is none, all levels have ended, and it tells how
-/// many were not there to be passed over. A search that stands at a solution finds that one again, as the first.
-// One loop for all of them, which at each turn first asks for what is below, so that no flag tells whether that was
+/// Passes over so many solutions and stops at the next. Where there is none, all levels have ended, and it returns how
+/// many were not there to be passed over. A search that is at a solution finds that one again, as the first.
+// One loop for all of them, which at each turn first looks at what is below, so that no flag says whether that was
 // searched.
 // No wish to be inlined: its one call is, and then after what it calls was taken in.
 pub fn advance<D: Dance>(position: &mut Position<D>, stack: &mut Stack, many: u64) -> Option<u64>
@@ -300,7 +300,7 @@ pub fn advance<D: Dance>(position: &mut Position<D>, stack: &mut Stack, many: u6
     }
 }
 
-/// Ends every level, the newest first, and undoes what still stands.
+/// Ends every level, the newest first, and undoes the moves that are left.
 // A level ends as in `end_level`: written out here, so that the search's loop has the one call of that and takes it in.
 #[inline(never)]
 pub fn unwind<D: Dance>(position: &mut Position<D>, stack: &mut Stack)

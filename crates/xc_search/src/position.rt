@@ -17,7 +17,7 @@ use xc_dance::Dance;
 use xc_input::Problem;
 
 /// A dance with the problem that it is of. Its trail has room for each search of the problem. Both are known of it, so
-/// no step asks for them or hands them on.
+/// no step requires them or hands them on.
 #[derive(Drop)]
 pub struct Position<'a, D: Dance> {
     dance: D,
@@ -63,7 +63,7 @@ impl<'a, D: Dance> Position<'a, D> {
         }
     }
 
-    /// The dance, for what it answers.
+    /// The dance, for its questions.
     #[inline(always)]
     pub fn dance(&self) -> &D
         ensures { D.state result.now ≡ self.now }
@@ -71,7 +71,7 @@ impl<'a, D: Dance> Position<'a, D> {
         &self.dance
     }
 
-    /// The dance back.
+    /// Returns the dance.
     pub fn into_dance(self) -> D
         ensures { D.state result ≡ self.entry }
     {
@@ -135,7 +135,7 @@ impl<'a, D: Dance> Position<'a, D> {
         Some(self.dance.len(first))
     }
 
-    /// How many moves stand.
+    /// How many moves are on the trail.
     #[inline(always)]
     pub fn height(&self) -> usize
         ensures { result ≡ length self.now.trail }

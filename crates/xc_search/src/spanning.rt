@@ -21,8 +21,8 @@ use crate::stack::Stack;
 use core::mem::replace_with;
 use xc_dance::Dance;
 
-/// Passes over all that is left below the levels, with no move: where the run begins behind it, or where it is known to
-/// be no more than is to be passed over.
+/// Skips all that is left below the levels, with no move: where the run begins after it, or where it is known to be no
+/// more than is to be passed over.
 #[inline(always)]
 fn skip_below<D: Dance>(position: &Position<D>, skips: bool, more: &mut u64) -> bool
     requires { IsSearchable position.now.puzzle position.now.trail }
@@ -48,8 +48,8 @@ fn choose_by<D: Dance>(position: &Position<D>, early: bool) -> Option<(u32, usiz
 }
 
 /// Goes below the levels: enters a first branch where what is left has any. A solution is passed over where `more` are
-/// to be, and is one of them. `last` is how many levels stood where the last choice led to a solution: where as many
-/// stand again, and all that is left comes before the row `until`, the solutions may be counted at once.
+/// to be, and is one of them. `last` is how many levels there were where the last choice led to a solution: where
+/// there are as many again, and all that is left comes before the row `until`, the solutions may be counted at once.
 #[inline(always)]
 fn go_below<D: Dance>(
     position: &mut Position<D>,
@@ -124,7 +124,7 @@ fn enter_branch<D: Dance>(
     }
 }
 
-/// Where a search of a span stands.
+/// The state of a search of a span.
 // It has no model, so that the contract of `run_on` names its fields.
 #[derive(Drop)]
 pub struct State<'a, D: Dance> {
@@ -132,12 +132,12 @@ pub struct State<'a, D: Dance> {
     pub stack: Stack,
 }
 
-/// What a run is to do: to pass over so many members of a span that ends before `until`, and to stand at the next,
+/// What a run is to do: to pass over so many members of a span that ends before `until`, and to stop at the next,
 /// unless that takes more than so many branches to begin.
 #[derive(Clone, Copy)]
 pub struct Task<'u> {
     pub until: Option<&'u [u32]>,
-    /// It begins behind what is left below the levels, all of which comes before `until` and isn't counted.
+    /// It begins after what is left below the levels, all of which comes before `until` and isn't counted.
     pub skips: bool,
     /// It may branch on another item than the branch item where what is left has no members.
     pub early: bool,
@@ -214,7 +214,7 @@ fn run<'u, D: Dance>(position: &mut Position<D>, stack: &mut Stack, task: Task<'
     } = task;
     let mut more = over;
     let mut steps = steps;
-    // Where it begins behind what is left, that is asked at once.
+    // Where it begins after what is left, that is looked at first.
     let levels = stack.levels();
     let mut last = if skips { levels.len() } else { usize::MAX };
     while steps > 0 {
@@ -292,7 +292,7 @@ pub fn reach<'a, D: Dance>(state: &mut State<'a, D>, from: &[u32]) -> bool
     }
 }
 
-/// Puts the numbers of the levels' row in the place of those that stand in `row`.
+/// Puts the numbers of the levels' row in the place of those in `row`.
 fn note_row(levels: &[Level], row: &mut Vec<u32>)
     requires { length levels.now ≤ vec_capacity row.old }
     ensures items { row.new.items ≡ map (λ l. l.begun) levels.now }
@@ -305,7 +305,7 @@ fn note_row(levels: &[Level], row: &mut Vec<u32>)
 }
 
 /// Goes back to the first level, and from there to the row of the levels by branch items alone, or to the next one that
-/// the search's tree has. No member stands between. False where it has none. `row` is memory for that row.
+/// the search's tree has. No member is between. False where it has none. `row` is memory for that row.
 fn settle<'a, D: Dance>(state: &mut State<'a, D>, row: &mut Vec<u32>) -> bool
     requires standing { IsStanding state.old.position.puzzle state.old.position.trail state.old.stack.levels true }
     requires levels_fit { most_levels state.old.position.puzzle ≤ state.old.stack.room }
@@ -319,7 +319,7 @@ fn settle<'a, D: Dance>(state: &mut State<'a, D>, row: &mut Vec<u32>) -> bool
     reach(state, row)
 }
 
-/// Passes over so many members of a span that ends before `until`, and stands at the next, unless that takes more than
+/// Passes over so many members of a span that ends before `until`, and stops at the next, unless that takes more than
 /// so many branches to begin. `row` is memory for a row of the levels.
 // A branch that an early choice led to is none of the search's tree, so where it runs out of steps it goes back.
 pub fn go_over<'a, 'u, D: Dance>(

@@ -26,14 +26,14 @@ use xc_input::Problem;
 
 /// A walk over the solutions of a problem, over a dance of that problem, whose moves it makes and undoes. It stands for
 /// the members of the problem's listing that are still to come, and at one of them. It is what `Search` goes by, and
-/// keeps no choices: `solution` reads them where it stands. It may be let go as it stands, where its dance may; `close`
-/// gives the dance back.
+/// keeps no choices: `solution` reads them from the levels. It may be dropped at any time, where its dance may; `close`
+/// returns the dance.
 #[derive(Drop)]
 pub struct Walk<'a, D: Dance> {
     standing: Standing<'a, D>,
 }
 
-/// Where a walk stands.
+/// The state of a walk.
 // It has no model, so that the contract of `run_on` names its fields.
 #[derive(Drop)]
 struct Standing<'a, D: Dance> {
@@ -41,7 +41,7 @@ struct Standing<'a, D: Dance> {
     stack: Stack,
     /// What is left wasn't searched yet.
     unsearched: bool,
-    /// By how many solutions it went on last. It is handed back here, and not beside the rest: else the whole would be
+    /// By how many solutions it went on last. It is returned here, and not beside the rest: else the whole would be
     /// copied once more.
     passed: u64,
 }
@@ -107,7 +107,7 @@ impl<'a, D: Dance> Walk<'a, D> {
         })
     }
 
-    /// The choices of the solution at which the walk stands, from the first level down; none where it stands at none.
+    /// The choices of the solution that the walk is at, from the first level down; none where it is at none.
     #[inline(always)]
     pub fn solution(&self) -> Solution<'_, 'a, D>
         ensures { result ≡ self.now.shown }
@@ -136,7 +136,7 @@ impl<'a, D: Dance> Walk<'a, D> {
         self.standing.position.choice_at(mark)
     }
 
-    /// Puts the choices of `solution` in the place of those that stand in `shown`.
+    /// Puts the choices of `solution` in the place of those in `shown`.
     pub(crate) fn show(&self, shown: &mut Vec<Choice>)
         requires { most_levels self.now.puzzle ≤ vec_capacity shown.old }
         ensures items { shown.new.items ≡ self.now.shown }
@@ -146,7 +146,7 @@ impl<'a, D: Dance> Walk<'a, D> {
         standing.stack.show(&[], &standing.position, shown);
     }
 
-    /// Goes on by so many solutions, or over all where fewer are left, and answers by how many. It then stands at the
+    /// Goes on by so many solutions, or over all where fewer are left, and returns by how many. It is then at the
     /// last one; at none where fewer were left.
     pub fn pass(&mut self, many: u64) -> u64
         ensures went { self.new ≡ record self.old {
@@ -158,7 +158,7 @@ impl<'a, D: Dance> Walk<'a, D> {
         ensures moves { MakesFew self.old self.new }
         ensures count { result ≡ min many (length self.old.to_come) }
     {
-        // Told apart here, and not in the loop's function.
+        // Tested here, and not in the loop's function.
         if many == 0 {
             return 0;
         }
@@ -170,7 +170,7 @@ impl<'a, D: Dance> Walk<'a, D> {
         standing.passed
     }
 
-    /// Undoes every move, makes none, and gives the dance back, after any answer of `pass`.
+    /// Undoes every move, makes none, and returns the dance, after any result of `pass`.
     pub fn close(self) -> D
         ensures { D.state result ≡ record {
           puzzle = self.entry.puzzle;
@@ -210,7 +210,7 @@ impl<'w, 'a, D: Dance> Model for Solution<'w, 'a, D> {
 }
 
 impl<'w, 'a, D: Dance> Solution<'w, 'a, D> {
-    /// The next choice; None behind the last. So none is stored, which with what a search of its own choices stores
+    /// The next choice; None after the last. So none is stored, which with what a search of its own choices stores
     /// took 0.88 of what it takes to print a short solution.
     #[inline(always)]
     pub fn next(&mut self) -> Option<Choice>
@@ -219,8 +219,8 @@ impl<'w, 'a, D: Dance> Solution<'w, 'a, D> {
     {
         match self.levels {
             [] => None,
-            [level, behind @ ..] => {
-                self.levels = behind;
+            [level, rest @ ..] => {
+                self.levels = rest;
                 Some(self.position.newest_choice(level))
             }
         }
@@ -233,7 +233,7 @@ impl<'a, D: Dance> Standing<'a, D> {
     ghost use Rattle.xc_search.specs.inner.Levels.{IsStanding};
     ghost use Rattle.xc_search.specs.inner.MostLevels.{most_levels};
 
-    /// Whether no level stands, and what is left was searched.
+    /// Whether no level is left, and what is left was searched.
     #[inline(always)]
     fn has_ended(&self) -> bool
         ensures ended { result ≡ true → (self.now.unsearched ≡ false) × (self.now.stack.levels ≡ []) }
@@ -242,10 +242,10 @@ impl<'a, D: Dance> Standing<'a, D> {
         !self.unsearched && self.stack.top().is_none()
     }
 
-    /// Goes on by so many solutions, or over all where fewer are left, and tells by how many. It takes the search by
+    /// Goes on by so many solutions, or over all where fewer are left, and notes by how many. It takes the search by
     /// value, so that its loop holds the bases and lengths of all tables as values of its own: behind a reference each
     /// would be loaded anew after each write to a table.
-    // It holds while no address of the state leaves the loop: what stands out of line there takes slices, and all else
+    // It holds while no address of the state leaves the loop: what is out of line there takes slices, and all else
     // asks to be inlined.
     #[inline(never)]
     fn run_on(self, many: u64) -> (Standing<'a, D>, ())
@@ -265,7 +265,7 @@ impl<'a, D: Dance> Standing<'a, D> {
             unsearched,
             passed: _,
         } = self;
-        // Where it stands at a solution, it finds that one again.
+        // Where it is at a solution, it finds that one again.
         let more = if unsearched { many - 1 } else { many };
         let passed = match advance(&mut position, &mut stack, more) {
             None => many,

@@ -67,7 +67,7 @@ impl<'a, D: Dance> Position<'a, D> {
         self.dance.node_below(self.problem, i, place)
     }
 
-    /// Where the option that the next branch of a level takes stands in the item's list; the level's item, where it
+    /// The place in the item's list of the option that the next branch of a level takes; the level's item, where it
     /// takes none.
     #[inline(always)]
     fn next_place(&self, level: &Level) -> u32
@@ -80,8 +80,7 @@ impl<'a, D: Dance> Position<'a, D> {
         self.node_below(level.item, above)
     }
 
-    /// Tweaks the item of a level, unless its list is walked, and gives the number of tweaks that
-    /// stand.
+    /// Tweaks the item of a level, unless its list is walked, and returns the number of its tweaks.
     #[inline(always)]
     fn tweak(&mut self, level: &Level) -> u32
         requires ready { MayBegin self.old.puzzle self.old.trail level.now }
@@ -163,7 +162,7 @@ impl<'a, D: Dance> Position<'a, D> {
         }
     }
 
-    /// The option whose use of the item stands at a place.
+    /// The option whose use of the item is at a place.
     #[inline(always)]
     fn option_of(&self, i: u32, place: u32) -> u32
         requires item { IsItem self.now.puzzle i }

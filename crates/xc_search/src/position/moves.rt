@@ -31,7 +31,7 @@ impl<'a, D: Dance> Position<'a, D> {
         self.dance.undo();
     }
 
-    /// Undoes moves until only the oldest `mark` stand.
+    /// Undoes moves until only the oldest `mark` are left.
     #[inline(always)]
     pub fn undo_to(&mut self, mark: usize)
         requires within { mark ≤ length self.old.trail }
@@ -46,7 +46,7 @@ impl<'a, D: Dance> Position<'a, D> {
         }
     }
 
-    /// Undoes the newest `k` moves, tweaks of one item, below which stands no other tweak.
+    /// Undoes the newest `k` moves, tweaks of one item, below which there is no other tweak.
     #[inline(always)]
     pub fn undo_tweaks(&mut self, k: usize)
         requires tweaks { AreTweaks k self.old.trail }
@@ -56,7 +56,7 @@ impl<'a, D: Dance> Position<'a, D> {
         self.dance.undo_tweaks(k);
     }
 
-    /// Undoes what stands below no level: nothing, since a search begins on a dance without moves.
+    /// Undoes the moves below the first level: none, since a search begins on a dance without moves.
     #[inline(always)]
     pub fn undo_rest(&mut self)
         ensures { self.new ≡ record self.old { trail = []; undone = moves_made self.old } }
@@ -90,7 +90,7 @@ impl<'a, D: Dance> Position<'a, D> {
         }
     }
 
-    /// Commits the other uses of the option whose use of the item stands at a place.
+    /// Commits the other uses of the option whose use of the item is at a place.
     #[inline(always)]
     pub fn commit(&mut self, i: u32, place: u32)
         requires item { IsItem self.old.puzzle i }
