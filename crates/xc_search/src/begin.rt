@@ -20,7 +20,7 @@ pub struct NoSearch<D> {
 }
 
 impl<D> NoSearch<D> {
-    /// The dance back.
+    /// Returns the dance.
     pub fn into_dance(self) -> D
         ensures { result ≡ self.dance }
     {

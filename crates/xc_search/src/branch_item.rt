@@ -99,7 +99,7 @@ fn choose_early_by<D: Dance>(dance: &D, problem: &Problem, once: bool) -> Option
     Some((found.item, found.branches as usize))
 }
 
-/// An item without branches, of the next few open items behind item `i`.
+/// An item without branches, of the next few open items after item `i`.
 #[inline(always)]
 fn without_branches<D: Dance>(dance: &D, problem: &Problem, i: u32, once: bool) -> Option<u32>
     requires same { (D.state dance.now).puzzle ≡ problem.now.puzzle }

@@ -51,14 +51,14 @@ pub fn equal_choices(a: &Choice, b: &Choice) -> bool
     a == b
 }
 
-/// Two answers of `next` are equal exactly if they are the same.
+/// Two results of `next` are equal exactly if they are the same.
 pub fn equal_steps(a: &Step, b: &Step) -> bool
     ensures { result ≡ true ↔ a.now ≡ b.now }
 {
     a == b
 }
 
-/// Two answers of `go_on` are equal exactly if they are the same.
+/// Two results of `go_on` are equal exactly if they are the same.
 pub fn equal_ways(a: &Went, b: &Went) -> bool
     ensures { result ≡ true ↔ a.now ≡ b.now }
 {
@@ -72,7 +72,7 @@ pub fn equal_row_numbers(a: &RowNumber, b: &RowNumber) -> bool
     a == b
 }
 
-/// The members of a listing stand in the order of their rows.
+/// The members of a listing are in the order of their rows.
 pub fn rows_rise()
     ensures { (p : Puzzle) → AllPairs (λ a b. precedes (row_of a) (row_of b) ≡ true) (members p) }
 {}

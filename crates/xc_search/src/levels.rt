@@ -21,16 +21,16 @@ use crate::stack::Stack;
 use xc_dance::Dance;
 
 /// A branch that was entered, and whose moves are still to be made: in the search's loop at one place, since a large
-/// function is taken in only where one call of it stands.
+/// function is taken in only where there is one call of it.
 #[derive(Clone, Copy)]
 pub struct Entered {
     pub item: u32,
-    /// Where the option that it takes stands in the item's list; `item`, where it takes none. An index, since the
+    /// The place in the item's list of the option that it takes; `item`, where it takes none. An index, since the
     /// compiler would pack two numbers of 32 bits into one word and take them apart again.
     pub place: usize,
 }
 
-/// What stands below the levels.
+/// What is below the levels.
 #[derive(Clone, Copy)]
 pub enum Below {
     /// A branch of another level, which was entered.
@@ -100,16 +100,16 @@ fn end_level<D: Dance>(position: &mut Position<D>, level: &Level)
     } }
 {
     if level.tweaks > 0 {
-        // Not set apart, though rare, as by a call that takes the state by value and gives it back.
+        // Not set apart, though rare, as by a call that takes the state by value and returns it.
         position.undo_to(level.base);
         position.undo_tweaks(level.tweaks as usize);
     }
     position.undo_to(level.mark);
 }
 
-/// The number behind `k`, which is below `many`.
+/// The number after `k`, which is below `many`.
 #[inline(always)]
-fn behind(k: u32, many: u32) -> u32
+fn number_after(k: u32, many: u32) -> u32
     requires { k < many }
     ensures { result ≡ k + 1 }
 {
@@ -126,7 +126,7 @@ fn enter_next<D: Dance>(position: &mut Position<D>, level: &Level) -> Begun
         position.new.trail (begun_level result level.now) }
 {
     position.undo_to(level.base);
-    position.enter(level, behind(level.begun, level.count))
+    position.enter(level, number_after(level.begun, level.count))
 }
 
 /// Enters the next branch of the newest level that has one, and ends the levels above it. None where no level has
@@ -176,13 +176,13 @@ pub enum Next {
     Nothing,
 }
 
-/// Passes over all that is left, with no move, where its solutions are known to be no more than are to be passed over.
+/// Skips all that is left, with no move, where its solutions are known to be no more than are to be passed over.
 #[inline(always)]
-pub fn pass_last<D: Dance>(position: &Position<D>, more: &mut u64) -> bool
+pub fn skip_rest<D: Dance>(position: &Position<D>, more: &mut u64) -> bool
     requires { IsSearchable position.now.puzzle position.now.trail }
-    ensures passed { result ≡ true →
+    ensures skipped { result ≡ true →
         more.old ≡ more.new + length (listing (residual_of position.now.puzzle position.now.trail)) }
-    ensures not_passed { result ≡ false → more.new ≡ more.old }
+    ensures not_skipped { result ≡ false → more.new ≡ more.old }
 {
     let Some(left) = position.last_choices() else {
         return false;
@@ -196,8 +196,8 @@ pub fn pass_last<D: Dance>(position: &Position<D>, more: &mut u64) -> bool
 }
 
 /// Goes below the levels: enters a first branch where what is left has any. A solution is passed over where `more` are
-/// to be, and is one of them. `last` is how many levels stood where the last choice led to a solution: where as many
-/// stand again, the solutions may be counted at once.
+/// to be, and is one of them. `last` is how many levels there were where the last choice led to a solution: where
+/// there are as many again, the solutions may be counted at once.
 #[inline(always)]
 fn go_below<D: Dance>(
     position: &mut Position<D>,
@@ -221,7 +221,7 @@ fn go_below<D: Dance>(
     ensures back_pays { result ≡ Below.Nothing →
         Pays position.old stack.old true more.old position.new stack.new false more.new }
 {
-    if stack.levels().len() == *last && pass_last(position, more) {
+    if stack.levels().len() == *last && skip_rest(position, more) {
         return Below::Nothing;
     }
     let next = position.choose_early();
@@ -242,7 +242,7 @@ fn go_below<D: Dance>(
 /// Enters the next branch, a first one where what is left has any. A solution is passed over where `more` are to be,
 /// and is one of them.
 #[inline(always)]
-fn go_on<D: Dance>(
+fn enter_branch<D: Dance>(
     position: &mut Position<D>,
     stack: &mut Stack,
     more: &mut u64,
@@ -275,9 +275,9 @@ fn go_on<D: Dance>(
     }
 }
 
-/// Passes over so many solutions and stands at the next. Where there is none, all levels have ended, and it tells how
-/// many were not there to be passed over. A search that stands at a solution finds that one again, as the first.
-// One loop for all of them, which at each turn first asks for what is below, so that no flag tells whether that was
+/// Passes over so many solutions and stops at the next. Where there is none, all levels have ended, and it returns how
+/// many were not there to be passed over. A search that is at a solution finds that one again, as the first.
+// One loop for all of them, which at each turn first looks at what is below, so that no flag says whether that was
 // searched.
 // No wish to be inlined: its one call is, and then after what it calls was taken in.
 pub fn advance<D: Dance>(position: &mut Position<D>, stack: &mut Stack, many: u64) -> Option<u64>
@@ -292,7 +292,7 @@ pub fn advance<D: Dance>(position: &mut Position<D>, stack: &mut Stack, many: u6
     let mut more = many;
     let mut last = usize::MAX;
     loop {
-        match go_on(position, stack, &mut more, &mut last) {
+        match enter_branch(position, stack, &mut more, &mut last) {
             Next::Branch(entered) => position.commit_branch(entered.item, entered.place as u32),
             Next::Solution => return None,
             Next::Nothing => return Some(more),
@@ -300,7 +300,7 @@ pub fn advance<D: Dance>(position: &mut Position<D>, stack: &mut Stack, many: u6
     }
 }
 
-/// Ends every level, the newest first, and undoes what still stands.
+/// Ends every level, the newest first, and undoes the moves that are left.
 // A level ends as in `end_level`: written out here, so that the search's loop has the one call of that and takes it in.
 #[inline(never)]
 pub fn unwind<D: Dance>(position: &mut Position<D>, stack: &mut Stack)

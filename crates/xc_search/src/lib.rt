@@ -26,7 +26,6 @@ mod search;
 mod span;
 mod spanning;
 mod stack;
-mod steps;
 mod visiting;
 mod walk;
 

@@ -1,22 +1,37 @@
-//! The levels of a solution, by which their choices are told apart.
+//! Marks, by which the choices of a solution are compared.
 ghost use Rattle.std.specs.Prelude.{◌≡◌, [], ◌∷◌, IfSome, IsNone, map};
 ghost use Rattle.xc_search.specs.inner.Levels.{mark_of};
 
 use crate::level::Level;
 use std::marker::Model;
 
-/// What tells the choice of a level. Levels of one problem with the same marks have the same choices, so a caller that
-/// knows the choice of a mark need not ask for it again.
+/// What determines the choice of a level. Levels of one problem with the same marks have the same choices, so a caller
+/// that knows the choice of a mark need not compute it again.
 #[derive(Clone, Copy, Debug, PartialEq, Eq)]
 pub struct Mark {
     /// The branch item.
     pub item: u32,
-    /// Where the option that is taken stands in the item's list; `item`, where none is.
+    /// The place in the item's list of the option that is taken; `item`, where none is.
     pub place: u32,
     /// The branch, from 1 to `n`.
     pub k: u32,
     /// The number of branches.
     pub n: u32,
+}
+
+impl Mark {
+    /// The mark of a level's newest branch.
+    #[inline(always)]
+    pub(crate) fn of(level: &Level) -> Mark
+        ensures { result ≡ mark_of level.now }
+    {
+        Mark {
+            item: level.item,
+            place: level.place,
+            k: level.begun,
+            n: level.count,
+        }
+    }
 }
 
 /// The marks of a solution that are still to be read.
@@ -44,7 +59,7 @@ impl<'w> Marks<'w> {
         Marks { levels }
     }
 
-    /// The next mark; None behind the last.
+    /// The next mark; None after the last.
     #[inline(always)]
     pub fn next(&mut self) -> Option<Mark>
         ensures some { IfSome result (λ m. self.old ≡ m ∷ self.new) }
@@ -52,14 +67,9 @@ impl<'w> Marks<'w> {
     {
         match self.levels {
             [] => None,
-            [level, behind @ ..] => {
-                self.levels = behind;
-                Some(Mark {
-                    item: level.item,
-                    place: level.place,
-                    k: level.begun,
-                    n: level.count,
-                })
+            [level, rest @ ..] => {
+                self.levels = rest;
+                Some(Mark::of(level))
             }
         }
     }

@@ -12,8 +12,8 @@ use crate::search::{Search, Step};
 use xc_dance::Dance;
 
 impl<'a, D: Dance> Search<'a, D> {
-    /// Goes on to the next solution, and gives its choices, from the first level down; None where no
-    /// solution is left, then and at each later call.
+    /// Goes on to the next solution, and returns its choices, from the first level down; None where no solution is
+    /// left, then and at each later call.
     pub fn next_solution(&mut self) -> Option<&[Choice]>
         ensures value { option_map (λ choices. choices.now) result ≡ slice_get self.old.to_come 0 }
         // The search is then as `pass` of one solution leaves it.

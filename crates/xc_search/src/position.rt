@@ -1,11 +1,5 @@
 //! A dance of a problem, as the search goes over it.
-ghost use Rattle.std.specs.Prelude.{ℕ, ◌≡◌, ◌+◌, ◌-◌, ◌<◌, ◌≤◌, [], ◌∷◌, length, drop, true, IfSome, ◌^◌};
-ghost use Rattle.xc_dance.specs.Dancing.{moves_made};
-ghost use Rattle.xc_input.specs.Problem.{IsItem};
-ghost use Rattle.xc_dance.specs.Fields.{link_place, first_above};
-ghost use Rattle.xc_dance.specs.Commits.{IsListedAt, IsUseAt, after_option, option_at};
-ghost use Rattle.xc_search.specs.inner.Commits.{MayStand, NoTweakAbove};
-ghost use Rattle.xc_dance.specs.Moves.{IsLegal, AreTweaks, listed_numbers, next_above};
+ghost use Rattle.std.specs.Prelude.{◌≡◌, ◌<◌, ◌≤◌, length, true, IfSome, ◌^◌};
 ghost use Rattle.xc_search.specs.Residuals.{wanted_after, choice_after};
 ghost use Rattle.xc_search.specs.Room.{room_for};
 ghost use Rattle.xc_search.specs.inner.Levels.{AreAllWanted, IsEarlyChoice, IsSearchable};
@@ -13,14 +7,17 @@ ghost use Rattle.xc_search.specs.Listing.{listing};
 ghost use Rattle.xc_search.specs.inner.Residual.{residual_of};
 ghost use Rattle.xc_search.specs.inner.MostLevels.{IsOnce};
 
+mod branches;
+mod moves;
+
 use crate::branch_item::{choose_early, choose_next, first_of_open};
 use crate::counts::{even_size, is_once};
 use std::marker::Model;
-use xc_dance::{Dance, Move};
+use xc_dance::Dance;
 use xc_input::Problem;
 
 /// A dance with the problem that it is of. Its trail has room for each search of the problem. Both are known of it, so
-/// no step asks for them or hands them on.
+/// no step requires them or hands them on.
 #[derive(Drop)]
 pub struct Position<'a, D: Dance> {
     dance: D,
@@ -66,7 +63,7 @@ impl<'a, D: Dance> Position<'a, D> {
         }
     }
 
-    /// The dance, for what it answers.
+    /// The dance, for its questions.
     #[inline(always)]
     pub fn dance(&self) -> &D
         ensures { D.state result.now ≡ self.now }
@@ -74,7 +71,7 @@ impl<'a, D: Dance> Position<'a, D> {
         &self.dance
     }
 
-    /// The dance back.
+    /// Returns the dance.
     pub fn into_dance(self) -> D
         ensures { D.state result ≡ self.entry }
     {
@@ -138,86 +135,11 @@ impl<'a, D: Dance> Position<'a, D> {
         Some(self.dance.len(first))
     }
 
-    /// How many moves stand.
+    /// How many moves are on the trail.
     #[inline(always)]
     pub fn height(&self) -> usize
         ensures { result ≡ length self.now.trail }
     {
         self.dance.moves().len()
-    }
-
-    /// Makes a move that is legal and that a search of the problem has room for.
-    #[inline(always)]
-    pub fn make(&mut self, m: Move)
-        requires legal { IsLegal self.old.puzzle self.old.trail m }
-        requires room { length self.old.trail < room_for self.old.puzzle }
-        ensures { self.new ≡ record self.old { trail = m ∷ self.old.trail } }
-    {
-        self.dance.make(m);
-    }
-
-    /// Undoes the newest move. There must be one, and it is no tweak: those of a level come off at once.
-    #[inline(always)]
-    pub fn undo(&mut self)
-        requires some { 0 < length self.old.trail }
-        requires other { NoTweakAbove (length self.old.trail - 1) self.old.trail }
-        ensures { self.new ≡ record self.old { trail = drop 1 self.old.trail; undone = self.old.undone + 1 } }
-    {
-        self.dance.undo();
-    }
-
-    /// Undoes what stands below no level: nothing, since a search begins on a dance without moves.
-    #[inline(always)]
-    pub fn undo_rest(&mut self)
-        ensures { self.new ≡ record self.old { trail = []; undone = moves_made self.old } }
-    {
-        while self.height() > 0 {
-            self.dance.undo();
-        }
-    }
-
-    /// The place of the node below the one at a place of the item's list.
-    #[inline(always)]
-    pub fn node_below(&self, i: u32, place: u32) -> u32
-        requires item { IsItem self.now.puzzle i }
-        requires place { (x : ℕ) × IsListedAt self.now.puzzle self.now.trail i x place }
-        ensures place { (x : ℕ) → IsListedAt self.now.puzzle self.now.trail i x place →
-            result ≡ link_place self.now.puzzle i (first_above 0 x (listed_numbers self.now.puzzle self.now.trail i)) }
-        ensures option { (x : ℕ) → IsListedAt self.now.puzzle self.now.trail i x place →
-            option_at self.now.puzzle i result ≡ next_above x (listed_numbers self.now.puzzle self.now.trail i) }
-    {
-        self.dance.node_below(self.problem, i, place)
-    }
-
-    /// The option whose use of the item stands at a place.
-    #[inline(always)]
-    pub fn option_of(&self, i: u32, place: u32) -> u32
-        requires item { IsItem self.now.puzzle i }
-        requires place { (x : ℕ) × IsUseAt self.now.puzzle i x place }
-        ensures { (x : ℕ) → IsUseAt self.now.puzzle i x place → result ≡ x }
-    {
-        self.dance.option_of(self.problem, i, place)
-    }
-
-    /// Commits the other uses of the option whose use of the item stands at a place.
-    #[inline(always)]
-    pub fn commit(&mut self, i: u32, place: u32)
-        requires item { IsItem self.old.puzzle i }
-        requires can { (x : ℕ) × IsUseAt self.old.puzzle i x place
-            × MayStand self.old.puzzle (after_option self.old.puzzle i x self.old.trail) }
-        ensures { (x : ℕ) → IsUseAt self.old.puzzle i x place →
-            self.new ≡ record self.old { trail = after_option self.old.puzzle i x self.old.trail } }
-    {
-        self.dance.commit(self.problem, i, place);
-    }
-
-    /// Undoes the newest `k` moves, tweaks of one item, below which stands no other tweak.
-    #[inline(always)]
-    pub fn undo_tweaks(&mut self, k: usize)
-        requires tweaks { AreTweaks k self.old.trail }
-        requires all { NoTweakAbove (length self.old.trail - k - 1) (drop k self.old.trail) }
-        ensures { self.new ≡ record self.old { trail = drop k self.old.trail; undone = self.old.undone + k } }
-    {
-        self.dance.undo_tweaks(k);
     }
 }

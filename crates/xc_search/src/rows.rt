@@ -4,7 +4,7 @@ ghost use Rattle.xc_search.specs.Spans.{precedes, is_before};
 
 use crate::level::Level;
 
-/// How the row of levels stands to another row.
+/// How the row of levels compares to another row.
 #[derive(Clone, Copy)]
 pub enum Place {
     /// It comes before it, as does each row that it begins.
@@ -15,7 +15,7 @@ pub enum Place {
     Reached,
 }
 
-/// How the row of these levels, the oldest first, stands to another row.
+/// How the row of these levels, the oldest first, compares to another row.
 #[inline(always)]
 pub fn place_of(levels: &[Level], row: &[u32]) -> Place
     ensures before { result ≡ Place.Before →

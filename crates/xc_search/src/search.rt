@@ -16,7 +16,7 @@ use std::marker::Model;
 use xc_dance::{Dance, Memory};
 use xc_input::Problem;
 
-/// An answer of `Search::next`.
+/// A result of `Search::next`.
 #[derive(Clone, Copy, Debug, PartialEq, Eq)]
 pub enum Step {
     /// Another solution was reached.
@@ -26,8 +26,8 @@ pub enum Step {
 }
 
 /// A search for all solutions of a problem, over a dance of that problem, whose moves it makes and
-/// undoes. It stands for the members of the problem's listing that are still to come. It may be let go
-/// as it stands, where its dance may; `close` gives the dance back.
+/// undoes. It stands for the members of the problem's listing that are still to come. It may be dropped
+/// at any time, where its dance may; `close` returns the dance.
 #[derive(Drop)]
 pub struct Search<'a, D: Dance> {
     walk: Walk<'a, D>,
@@ -49,7 +49,7 @@ impl<'a, D: Dance> Model for Search<'a, D> {
 impl<'a, D: Dance> Search<'a, D> {
     /// Begins a search over a dance that has no moves and room for `2 * items + 2 * uses` of them.
     /// All memory is taken here: where there is none, the dance comes back as it was.
-    // Before the first move, so that a search answers `Solution` or `Done` and nothing else, and want of memory means
+    // Before the first move, so that `next` returns `Solution` or `Done` and nothing else, and want of memory means
     // that nothing was written.
     pub fn new(alloc: Global, dance: D, problem: &'a Problem) -> Result<Search<'a, D>, (D, Memory)>
         requires same { (D.state dance).puzzle ≡ problem.now.puzzle }
@@ -83,7 +83,7 @@ impl<'a, D: Dance> Search<'a, D> {
         &self.choices
     }
 
-    /// Goes on to the next solution, which `choices` then gives. After `Done` it answers `Done`
+    /// Goes on to the next solution, which `choices` then returns. After `Done` it returns `Done`
     /// again.
     pub fn next(&mut self) -> Step
         ensures still { self.new ≡ record self.old {
@@ -103,8 +103,8 @@ impl<'a, D: Dance> Search<'a, D> {
         }
     }
 
-    /// Goes on by so many solutions, or over all where fewer are left, and answers by how many.
-    /// `choices` then gives those of the last one; none where fewer were left.
+    /// Goes on by so many solutions, or over all where fewer are left, and returns by how many.
+    /// `choices` then returns those of the last one; none where fewer were left.
     pub fn pass(&mut self, many: u64) -> u64
         ensures went { self.new ≡ record self.old {
           to_come = drop many self.old.to_come;
@@ -124,7 +124,7 @@ impl<'a, D: Dance> Search<'a, D> {
         passed
     }
 
-    /// Undoes every move, makes none, and gives the dance back, after any answer of `next`.
+    /// Undoes every move, makes none, and returns the dance, after any result of `next`.
     pub fn close(self) -> D
         ensures { D.state result ≡ record {
           puzzle = self.entry.puzzle;

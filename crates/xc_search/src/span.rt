@@ -24,11 +24,11 @@ use xc_input::Problem;
 /// Where a search of a span halted.
 #[derive(Clone, Copy, Debug, PartialEq, Eq)]
 pub enum Halt {
-    /// It went on by as many members as it was to, and stands at the last of them.
+    /// It went on by as many members as it was to, and is at the last of them.
     Member,
     /// No member of the span is left.
     End,
-    /// It ran out of steps, and stands between two branches.
+    /// It ran out of steps, and is between two branches.
     Steps,
 }
 
@@ -49,12 +49,12 @@ pub struct RowNumber {
     pub n: u32,
 }
 
-/// The number at this place of the row of these levels, the oldest first, or of the one right behind it.
-fn number_of(levels: &[Level], down: bool, place: usize) -> Option<RowNumber>
+/// The number at this place of the row of these levels, the oldest first, or of the one right after it.
+fn number_of(levels: &[Level], unsearched: bool, place: usize) -> Option<RowNumber>
     ensures number { option_map (λ x. x.k) result ≡ slice_get
-        (if down then map (λ l. l.begun) levels.now else map (λ l. l.begun) levels.now ++ 0 ∷ []) place }
+        (if unsearched then map (λ l. l.begun) levels.now else map (λ l. l.begun) levels.now ++ 0 ∷ []) place }
     ensures branches { option_map (λ x. x.n) result ≡ slice_get
-        (if down then map (λ l. l.count) levels.now else map (λ l. l.count) levels.now ++ 0 ∷ []) place }
+        (if unsearched then map (λ l. l.count) levels.now else map (λ l. l.count) levels.now ++ 0 ∷ []) place }
     ensures near { IsSome result → place ≤ length levels.now }
 {
     match levels.get(place) {
@@ -62,19 +62,19 @@ fn number_of(levels: &[Level], down: bool, place: usize) -> Option<RowNumber>
             k: level.begun,
             n: level.count,
         }),
-        None if place == levels.len() && !down => Some(RowNumber { k: 0, n: 0 }),
+        None if place == levels.len() && !unsearched => Some(RowNumber { k: 0, n: 0 }),
         None => None,
     }
 }
 
-/// A search of a span of a problem's listing, over a dance of that problem, whose moves it makes and undoes. It stands
-/// at a row of numbers, and for the members of the span from that row on. It may be let go as it stands, where its
-/// dance may; `close` gives the dance back.
+/// A search of a span of a problem's listing, over a dance of that problem, whose moves it makes and undoes. It is at
+/// a row of numbers, and stands for the members of the span from that row on. It may be dropped at any time, where its
+/// dance may; `close` returns the dance.
 #[derive(Drop)]
 pub struct Span<'a, D: Dance> {
     state: State<'a, D>,
-    /// What is left wasn't looked at yet. Else it stands at a solution.
-    down: bool,
+    /// What is left wasn't searched yet. Else it is at a solution.
+    unsearched: bool,
     /// No member of the span is left.
     ended: bool,
     until: Option<&'a [u32]>,
@@ -98,7 +98,7 @@ impl<'a, D: Dance> Model for Span<'a, D> {
 
     ghost view = { λ s. record {
       puzzle = s.state.position.puzzle;
-      row = if s.ended then None else Some (row_from s.state.position.puzzle s.state.stack.levels s.down);
+      row = if s.ended then None else Some (row_from s.state.position.puzzle s.state.stack.levels s.unsearched);
       until = option_map (λ u. u.now) s.until;
       shown = s.choices.items;
       room = s.state.position.room;
@@ -109,7 +109,7 @@ impl<'a, D: Dance> Model for Span<'a, D> {
       stacked : AreStacked s.state.position.puzzle s.state.position.trail s.state.stack.levels;
       led : s.ended ≡ false → AreLed s.state.position.puzzle [] s.state.position.trail s.state.stack.levels;
       standing : s.ended ≡ false → IsStanding s.state.position.puzzle s.state.position.trail s.state.stack.levels true;
-      solved : s.ended ≡ false → s.down ≡ false →
+      solved : s.ended ≡ false → s.unsearched ≡ false →
           IsSolved s.state.position.puzzle s.state.position.trail s.state.stack.levels;
       before : s.ended ≡ false →
           is_before (option_map (λ u. u.now) s.until) (row_at s.state.position.puzzle s.state.stack.levels) ≡ true;
@@ -165,7 +165,7 @@ impl<'a, D: Dance> Span<'a, D> {
         let within = is_before(state.stack.levels(), until);
         Ok(Span {
             state,
-            down: true,
+            unsearched: true,
             ended: !reached || !within,
             until,
             choices,
@@ -182,8 +182,8 @@ impl<'a, D: Dance> Span<'a, D> {
 
     /// Goes on by so many members and at most so many steps, each a branch that is begun. It may run out of steps
     /// between any two branches, and not at members alone. Some branches that it begins lead to no member and are none
-    /// of the search's tree: where it stands at one of these and has no more steps, it goes on to the tree's next row.
-    /// After `End` it answers `End` again.
+    /// of the search's tree: where it is at one of these and has no more steps, it goes on to the tree's next row.
+    /// After `End` it returns `End` again.
     pub fn go_on(&mut self, many: u64, steps: u64) -> Went
         ensures still { self.new ≡ record self.old
             { row = self.new.row; shown = self.new.shown; made = self.new.made } }
@@ -204,7 +204,7 @@ impl<'a, D: Dance> Span<'a, D> {
         ensures fewer { 0 < many → result.halt ≡ Halt.End → result.members < many }
         ensures stays { steps ≡ 0 → self.new.row ≡ self.old.row }
 
-        // The row where it halted isn't behind the span's end, and comes before it where it ran out of steps.
+        // The row where it halted isn't after the span's end, and comes before it where it ran out of steps.
         ensures stands { (result.halt ≡ Halt.Member) ⊎ (result.halt ≡ Halt.Steps) → IsSomeAnd self.new.row (λ row.
             IfSome self.new.until (λ until. precedes until row ≡ false)) }
         ensures before { 0 < steps → result.halt ≡ Halt.Steps → IfSome self.new.row (λ row.
@@ -233,13 +233,13 @@ impl<'a, D: Dance> Span<'a, D> {
                 steps: 0,
             };
         }
-        // Where it stands at a solution, it finds that one again.
-        let over = if self.down { many - 1 } else { many };
+        // Where it is at a solution, it finds that one again.
+        let over = if self.unsearched { many - 1 } else { many };
         let ran = go_over(&mut self.state, &mut self.numbers, self.until, over, steps);
         let taken = steps - ran.steps;
         match ran.stop {
             Stop::Member => {
-                self.down = false;
+                self.unsearched = false;
                 let state = &self.state;
                 state.stack.show(&[], &state.position, &mut self.choices);
                 Went {
@@ -258,7 +258,7 @@ impl<'a, D: Dance> Span<'a, D> {
                 }
             }
             Stop::Steps => {
-                self.down = true;
+                self.unsearched = true;
                 self.choices.clear();
                 Went {
                     halt: Halt::Steps,
@@ -269,8 +269,8 @@ impl<'a, D: Dance> Span<'a, D> {
         }
     }
 
-    /// The row at which it stands, each number with the number of branches of its level; none after `End`. The members
-    /// of the span from this row on are those that are left. At a member that was passed it is the row right behind
+    /// The row that it is at, each number with the number of branches of its level; none after `End`. The members
+    /// of the span from this row on are those that are left. At a member that was passed it is the row right after
     /// that one's, which ends with 0 of 0 branches.
     pub fn row(&self, alloc: Global) -> Result<Vec<RowNumber>, AllocError>
         ensures numbers { IfOk result (λ row. IfSome self.now.row (λ numbers. map (λ x. x.k) row.items ≡ numbers)) }
@@ -289,14 +289,14 @@ impl<'a, D: Dance> Span<'a, D> {
                 n: level.count,
             });
         }
-        if !self.down {
+        if !self.unsearched {
             row.push_reserved(RowNumber { k: 0, n: 0 });
         }
         Ok(row)
     }
 
-    /// The number at this place of the row at which it stands, from 0 for the first level, with the number of branches
-    /// of its level; none behind the last one, and after `End`.
+    /// The number at this place of the row that it is at, from 0 for the first level, with the number of branches
+    /// of its level; none after the last one, and after `End`.
     pub fn number_at(&self, place: usize) -> Option<RowNumber>
         ensures number { option_map (λ x. x.k) result
             ≡ option_and_then (λ row. slice_get row place) self.now.row }
@@ -307,10 +307,10 @@ impl<'a, D: Dance> Span<'a, D> {
         if self.ended {
             return None;
         }
-        number_of(self.state.stack.levels(), self.down, place)
+        number_of(self.state.stack.levels(), self.unsearched, place)
     }
 
-    /// Undoes every move, makes none, and gives the dance back, after any answer of `go_on`.
+    /// Undoes every move, makes none, and returns the dance, after any result of `go_on`.
     pub fn close(self) -> D
         ensures { D.state result ≡ record {
           puzzle = self.entry.puzzle;
@@ -321,7 +321,7 @@ impl<'a, D: Dance> Span<'a, D> {
     {
         let Span {
             state,
-            down: _,
+            unsearched: _,
             ended: _,
             until: _,
             choices: _,

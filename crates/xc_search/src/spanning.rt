@@ -14,23 +14,23 @@ ghost use Rattle.xc_search.specs.inner.Spanning.{Enters, Ends, Falls, IsRest, Ru
 ghost use Rattle.xc_search.specs.declared.levels.Entered.{Entered};
 
 use crate::level::Level;
-use crate::levels::{Below, Next, deepen, pass_last, resume, unwind};
+use crate::levels::{Below, Next, deepen, resume, skip_rest, unwind};
 use crate::position::Position;
 use crate::rows::{Place, is_before, place_of};
 use crate::stack::Stack;
 use core::mem::replace_with;
 use xc_dance::Dance;
 
-/// Passes over all that is left below the levels, with no move: where the run begins behind it, or where it is known to
-/// be no more than is to be passed over.
+/// Skips all that is left below the levels, with no move: where the run begins after it, or where it is known to be no
+/// more than is to be passed over.
 #[inline(always)]
-fn pass_below<D: Dance>(position: &Position<D>, behind: bool, more: &mut u64) -> bool
+fn skip_below<D: Dance>(position: &Position<D>, skips: bool, more: &mut u64) -> bool
     requires { IsSearchable position.now.puzzle position.now.trail }
-    ensures passed { result ≡ true → not behind ≡ true →
+    ensures skipped { result ≡ true → not skips ≡ true →
         more.old ≡ more.new + length (listing (residual_of position.now.puzzle position.now.trail)) }
-    ensures not_passed { result ≡ false → more.new ≡ more.old }
+    ensures not_skipped { result ≡ false → more.new ≡ more.old }
 {
-    behind || pass_last(position, more)
+    skips || skip_rest(position, more)
 }
 
 /// An item to branch on: the branch item, unless an early choice is to be made.
@@ -48,13 +48,13 @@ fn choose_by<D: Dance>(position: &Position<D>, early: bool) -> Option<(u32, usiz
 }
 
 /// Goes below the levels: enters a first branch where what is left has any. A solution is passed over where `more` are
-/// to be, and is one of them. `last` is how many levels stood where the last choice led to a solution: where as many
-/// stand again, and all that is left comes before the row `until`, the solutions may be counted at once.
+/// to be, and is one of them. `last` is how many levels there were where the last choice led to a solution: where
+/// there are as many again, and all that is left comes before the row `until`, the solutions may be counted at once.
 #[inline(always)]
 fn go_below<D: Dance>(
     position: &mut Position<D>,
     stack: &mut Stack,
-    behind: bool,
+    skips: bool,
     early: bool,
     more: &mut u64,
     last: &mut usize,
@@ -62,17 +62,17 @@ fn go_below<D: Dance>(
     requires standing { IsStanding position.old.puzzle position.old.trail stack.old.levels true }
     requires levels_fit { most_levels position.old.puzzle ≤ stack.old.room }
     ensures entered { (b : Entered) → result ≡ Below.Branch b → (until : Option (List ℕ)) →
-        IsRest until position.old.puzzle stack.old.levels last.old → Enters (not early) (not behind) until
+        IsRest until position.old.puzzle stack.old.levels last.old → Enters (not early) (not skips) until
         position.old stack.old more.old position.new stack.new more.new b.item b.place }
     ensures near { (b : Entered) → result ≡ Below.Branch b → b.place < 2 ^ 32 }
     ensures same { result ≡ Below.Solution →
         (position.new ≡ position.old) × (stack.new ≡ stack.old) × (more.old ≡ 0) × (more.new ≡ 0) }
     ensures solved { result ≡ Below.Solution → IsSolved position.old.puzzle position.old.trail stack.old.levels }
     ensures back { result ≡ Below.Nothing → (until : Option (List ℕ)) →
-        IsRest until position.old.puzzle stack.old.levels last.old → Falls (not early) (not behind) until
+        IsRest until position.old.puzzle stack.old.levels last.old → Falls (not early) (not skips) until
         position.old stack.old more.old position.new stack.new more.new }
 {
-    if stack.levels().len() == *last && pass_below(position, behind, more) {
+    if stack.levels().len() == *last && skip_below(position, skips, more) {
         return Below::Nothing;
     }
     let next = choose_by(position, early);
@@ -95,7 +95,7 @@ fn go_below<D: Dance>(
 fn enter_branch<D: Dance>(
     position: &mut Position<D>,
     stack: &mut Stack,
-    behind: bool,
+    skips: bool,
     early: bool,
     more: &mut u64,
     last: &mut usize,
@@ -103,17 +103,17 @@ fn enter_branch<D: Dance>(
     requires standing { IsStanding position.old.puzzle position.old.trail stack.old.levels true }
     requires levels_fit { most_levels position.old.puzzle ≤ stack.old.room }
     ensures entered { (b : Entered) → result ≡ Next.Branch b → (until : Option (List ℕ)) →
-        IsRest until position.old.puzzle stack.old.levels last.old → Enters (not early) (not behind) until
+        IsRest until position.old.puzzle stack.old.levels last.old → Enters (not early) (not skips) until
         position.old stack.old more.old position.new stack.new more.new b.item b.place }
     ensures near { (b : Entered) → result ≡ Next.Branch b → b.place < 2 ^ 32 }
     ensures same { result ≡ Next.Solution →
         (position.new ≡ position.old) × (stack.new ≡ stack.old) × (more.old ≡ 0) × (more.new ≡ 0) }
     ensures solved { result ≡ Next.Solution → IsSolved position.old.puzzle position.old.trail stack.old.levels }
     ensures done { result ≡ Next.Nothing → (until : Option (List ℕ)) →
-        IsRest until position.old.puzzle stack.old.levels last.old → Ends (not behind) until
+        IsRest until position.old.puzzle stack.old.levels last.old → Ends (not skips) until
         position.old stack.old more.old position.new stack.new more.new }
 {
-    match go_below(position, stack, behind, early, more, last) {
+    match go_below(position, stack, skips, early, more, last) {
         Below::Branch(entered) => return Next::Branch(entered),
         Below::Solution => return Next::Solution,
         Below::Nothing => {}
@@ -124,7 +124,7 @@ fn enter_branch<D: Dance>(
     }
 }
 
-/// Where a search of a span stands.
+/// The state of a search of a span.
 // It has no model, so that the contract of `run_on` names its fields.
 #[derive(Drop)]
 pub struct State<'a, D: Dance> {
@@ -132,13 +132,13 @@ pub struct State<'a, D: Dance> {
     pub stack: Stack,
 }
 
-/// What a run is to do: to pass over so many members of a span that ends before `until`, and to stand at the next,
+/// What a run is to do: to pass over so many members of a span that ends before `until`, and to stop at the next,
 /// unless that takes more than so many branches to begin.
 #[derive(Clone, Copy)]
 pub struct Task<'u> {
     pub until: Option<&'u [u32]>,
-    /// It begins behind what is left below the levels, all of which comes before `until` and isn't counted.
-    pub behind: bool,
+    /// It begins after what is left below the levels, all of which comes before `until` and isn't counted.
+    pub skips: bool,
     /// It may branch on another item than the branch item where what is left has no members.
     pub early: bool,
     pub over: u64,
@@ -177,9 +177,9 @@ pub fn run_on<'a, 'u, D: Dance>(state: State<'a, D>, task: Task<'u>) -> (State<'
     requires led { AreLedBy (not task.early) state.position.puzzle [] state.position.trail state.stack.levels }
     requires before { is_before (option_map (λ u. u.now) task.until)
         (row_at state.position.puzzle state.stack.levels) ≡ true }
-    requires behind { task.behind ≡ true → (x : List ℕ) → is_before (option_map (λ u. u.now) task.until)
+    requires skips { task.skips ≡ true → (x : List ℕ) → is_before (option_map (λ u. u.now) task.until)
         (row_at state.position.puzzle state.stack.levels ++ x) ≡ true }
-    ensures { RunsTo (not task.entry.early) (not task.entry.behind) (option_map (λ u. u.now) task.entry.until)
+    ensures { RunsTo (not task.entry.early) (not task.entry.skips) (option_map (λ u. u.now) task.entry.until)
         state.entry.position state.entry.stack task.entry.over task.entry.steps
         result.1.stop result.0.position result.0.stack result.1.more result.1.steps }
 {
@@ -199,26 +199,26 @@ fn run<'u, D: Dance>(position: &mut Position<D>, stack: &mut Stack, task: Task<'
     requires led { AreLedBy (not task.early) position.old.puzzle [] position.old.trail stack.old.levels }
     requires before { is_before (option_map (λ u. u.now) task.until) (row_at position.old.puzzle stack.old.levels)
         ≡ true }
-    requires behind { task.behind ≡ true → (x : List ℕ) → is_before (option_map (λ u. u.now) task.until)
+    requires skips { task.skips ≡ true → (x : List ℕ) → is_before (option_map (λ u. u.now) task.until)
         (row_at position.old.puzzle stack.old.levels ++ x) ≡ true }
-    ensures { RunsTo (not task.entry.early) (not task.entry.behind) (option_map (λ u. u.now) task.entry.until)
+    ensures { RunsTo (not task.entry.early) (not task.entry.skips) (option_map (λ u. u.now) task.entry.until)
         position.old stack.old task.entry.over task.entry.steps
         result.stop position.new stack.new result.more result.steps }
 {
     let Task {
         until,
-        behind,
+        skips,
         early,
         over,
         steps,
     } = task;
     let mut more = over;
     let mut steps = steps;
-    // Where it begins behind what is left, that is asked at once.
+    // Where it begins after what is left, that is looked at first.
     let levels = stack.levels();
-    let mut last = if behind { levels.len() } else { usize::MAX };
+    let mut last = if skips { levels.len() } else { usize::MAX };
     while steps > 0 {
-        match enter_branch(position, stack, behind, early, &mut more, &mut last) {
+        match enter_branch(position, stack, skips, early, &mut more, &mut last) {
             Next::Branch(entered) => position.commit_branch(entered.item, entered.place as u32),
             Next::Solution => return halted(Stop::Member, more, steps),
             Next::Nothing => return halted(Stop::Nothing, more, steps),
@@ -272,7 +272,7 @@ pub fn reach<'a, D: Dance>(state: &mut State<'a, D>, from: &[u32]) -> bool
         (coming state.old.position.puzzle state.old.position.trail state.old.stack.levels true) ≡ [] }
 {
     loop {
-        let behind = match place_of(state.stack.levels(), from) {
+        let skips = match place_of(state.stack.levels(), from) {
             Place::Reached => return true,
             Place::Before => true,
             Place::Begins => false,
@@ -280,7 +280,7 @@ pub fn reach<'a, D: Dance>(state: &mut State<'a, D>, from: &[u32]) -> bool
         // One step passes over no more than one member that is counted.
         let task = Task {
             until: Some(from),
-            behind,
+            skips,
             early: false,
             over: 1,
             steps: 1,
@@ -292,7 +292,7 @@ pub fn reach<'a, D: Dance>(state: &mut State<'a, D>, from: &[u32]) -> bool
     }
 }
 
-/// Puts the numbers of the levels' row in the place of those that stand in `row`.
+/// Puts the numbers of the levels' row in the place of those in `row`.
 fn note_row(levels: &[Level], row: &mut Vec<u32>)
     requires { length levels.now ≤ vec_capacity row.old }
     ensures items { row.new.items ≡ map (λ l. l.begun) levels.now }
@@ -305,7 +305,7 @@ fn note_row(levels: &[Level], row: &mut Vec<u32>)
 }
 
 /// Goes back to the first level, and from there to the row of the levels by branch items alone, or to the next one that
-/// the search's tree has. No member stands between. False where it has none. `row` is memory for that row.
+/// the search's tree has. No member is between. False where it has none. `row` is memory for that row.
 fn settle<'a, D: Dance>(state: &mut State<'a, D>, row: &mut Vec<u32>) -> bool
     requires standing { IsStanding state.old.position.puzzle state.old.position.trail state.old.stack.levels true }
     requires levels_fit { most_levels state.old.position.puzzle ≤ state.old.stack.room }
@@ -319,7 +319,7 @@ fn settle<'a, D: Dance>(state: &mut State<'a, D>, row: &mut Vec<u32>) -> bool
     reach(state, row)
 }
 
-/// Passes over so many members of a span that ends before `until`, and stands at the next, unless that takes more than
+/// Passes over so many members of a span that ends before `until`, and stops at the next, unless that takes more than
 /// so many branches to begin. `row` is memory for a row of the levels.
 // A branch that an early choice led to is none of the search's tree, so where it runs out of steps it goes back.
 pub fn go_over<'a, 'u, D: Dance>(
@@ -342,7 +342,7 @@ pub fn go_over<'a, 'u, D: Dance>(
 {
     let task = Task {
         until,
-        behind: false,
+        skips: false,
         early: true,
         over,
         steps,

@@ -63,7 +63,7 @@ impl Stack {
         self.levels.last()
     }
 
-    /// Notes the branch that the newest level began, where the level stands.
+    /// Notes the branch that the newest level began, in place.
     #[inline(always)]
     pub fn note_branch(&mut self, branch: Begun)
         requires { 0 < length self.old.levels }
@@ -90,7 +90,7 @@ impl Stack {
         &self.levels
     }
 
-    /// Puts choices, and behind them the levels', in the place of those that stand in `shown`. It is called where a
+    /// Puts choices, and after them the levels', in the place of those in `shown`. It is called where a
     /// search stops: choices that are kept in step with the levels take stores which a count never reads.
     pub fn show<D: Dance>(&self, before: &[Choice], position: &Position<D>, shown: &mut Vec<Choice>)
         requires shown { All (IsShown position.now.puzzle) self.now.levels }
@@ -102,7 +102,7 @@ impl Stack {
     }
 }
 
-/// Choices, and behind them the levels', in the place of those that stand.
+/// Choices, and after them the levels', in the place of those that were there.
 // They come and go by value, so that their length is stored once, and the levels are taken off the front of a slice, so
 // that none is sought by its number.
 fn put_choices<'s, 'a, D: Dance>(
@@ -120,9 +120,9 @@ fn put_choices<'s, 'a, D: Dance>(
         choices.push_reserved(*choice);
     }
     let mut rest = levels;
-    while let [level, behind @ ..] = rest {
-        choices.push_reserved(position.choice_of(level));
-        rest = behind;
+    while let [level, older @ ..] = rest {
+        choices.push_reserved(position.newest_choice(level));
+        rest = older;
     }
     (choices, ())
 }

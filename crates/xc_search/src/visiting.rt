@@ -9,8 +9,8 @@ use crate::search::{Search, Step};
 use xc_dance::Dance;
 
 impl<'a, D: Dance> Search<'a, D> {
-    /// Calls `visit` with the choices of each solution to come, in turn, until it answers false. It is
-    /// true where no call did, and then no solution is left; else the search stands at the last one.
+    /// Calls `visit` with the choices of each solution to come, in turn, until it returns false. It is
+    /// true where no call did, and then no solution is left; else the search is at the last one.
     // With what the closure was called can be said over its states alone: so the contract goes from one to the next,
     // by `Visits`.
     pub fn for_each<F: FnMut(&[Choice]) -> bool>(&mut self, mut visit: F) -> bool

@@ -26,22 +26,22 @@ use xc_input::Problem;
 
 /// A walk over the solutions of a problem, over a dance of that problem, whose moves it makes and undoes. It stands for
 /// the members of the problem's listing that are still to come, and at one of them. It is what `Search` goes by, and
-/// keeps no choices: `solution` reads them where it stands. It may be let go as it stands, where its dance may; `close`
-/// gives the dance back.
+/// keeps no choices: `solution` reads them from the levels. It may be dropped at any time, where its dance may; `close`
+/// returns the dance.
 #[derive(Drop)]
 pub struct Walk<'a, D: Dance> {
     standing: Standing<'a, D>,
 }
 
-/// Where a walk stands.
-// It has no model, so that the contract of `passed` names its fields.
+/// The state of a walk.
+// It has no model, so that the contract of `run_on` names its fields.
 #[derive(Drop)]
 struct Standing<'a, D: Dance> {
     position: Position<'a, D>,
     stack: Stack,
     /// What is left wasn't searched yet.
-    down: bool,
-    /// By how many solutions it went on last. It is handed back here, and not beside the rest: else the whole would be
+    unsearched: bool,
+    /// By how many solutions it went on last. It is returned here, and not beside the rest: else the whole would be
     /// copied once more.
     passed: u64,
 }
@@ -59,16 +59,17 @@ impl<'a, D: Dance> Model for Walk<'a, D> {
 
     ghost view = { λ s. let at = s.standing in record {
       puzzle = at.position.puzzle;
-      to_come = coming at.position.puzzle at.position.trail at.stack.levels at.down;
+      to_come = coming at.position.puzzle at.position.trail at.stack.levels at.unsearched;
       shown = choices_of at.position.puzzle at.stack.levels;
-      ahead = ends_ahead at.position.puzzle at.position.trail at.stack.levels at.down;
+      ahead = ends_ahead at.position.puzzle at.position.trail at.stack.levels at.unsearched;
       room = at.position.room;
       made = moves_made at.position;
     } };
 
     ghost invariant = { λ s. let at = s.standing in record {
-      standing : IsStanding at.position.puzzle at.position.trail at.stack.levels at.down;
-      solved : at.down ≡ false → at.stack.levels ≢ [] → IsSolved at.position.puzzle at.position.trail at.stack.levels;
+      standing : IsStanding at.position.puzzle at.position.trail at.stack.levels at.unsearched;
+      solved : at.unsearched ≡ false → at.stack.levels ≢ [] →
+          IsSolved at.position.puzzle at.position.trail at.stack.levels;
       levels_fit : at.stack.room ≡ most_levels at.position.puzzle;
     } };
 }
@@ -100,13 +101,13 @@ impl<'a, D: Dance> Walk<'a, D> {
             standing: Standing {
                 position: Position::new(dance, problem),
                 stack,
-                down: true,
+                unsearched: true,
                 passed: 0,
             },
         })
     }
 
-    /// The choices of the solution at which the walk stands, from the first level down; none where it stands at none.
+    /// The choices of the solution that the walk is at, from the first level down; none where it is at none.
     #[inline(always)]
     pub fn solution(&self) -> Solution<'_, 'a, D>
         ensures { result ≡ self.now.shown }
@@ -135,7 +136,7 @@ impl<'a, D: Dance> Walk<'a, D> {
         self.standing.position.choice_at(mark)
     }
 
-    /// Puts the choices of `solution` in the place of those that stand in `shown`.
+    /// Puts the choices of `solution` in the place of those in `shown`.
     pub(crate) fn show(&self, shown: &mut Vec<Choice>)
         requires { most_levels self.now.puzzle ≤ vec_capacity shown.old }
         ensures items { shown.new.items ≡ self.now.shown }
@@ -145,7 +146,7 @@ impl<'a, D: Dance> Walk<'a, D> {
         standing.stack.show(&[], &standing.position, shown);
     }
 
-    /// Goes on by so many solutions, or over all where fewer are left, and answers by how many. It then stands at the
+    /// Goes on by so many solutions, or over all where fewer are left, and returns by how many. It is then at the
     /// last one; at none where fewer were left.
     pub fn pass(&mut self, many: u64) -> u64
         ensures went { self.new ≡ record self.old {
@@ -157,7 +158,7 @@ impl<'a, D: Dance> Walk<'a, D> {
         ensures moves { MakesFew self.old self.new }
         ensures count { result ≡ min many (length self.old.to_come) }
     {
-        // Told apart here, and not in the loop's function.
+        // Tested here, and not in the loop's function.
         if many == 0 {
             return 0;
         }
@@ -165,11 +166,11 @@ impl<'a, D: Dance> Walk<'a, D> {
         if standing.has_ended() {
             return 0;
         }
-        replace_with(standing, many, Standing::passed);
+        replace_with(standing, many, Standing::run_on);
         standing.passed
     }
 
-    /// Undoes every move, makes none, and gives the dance back, after any answer of `pass`.
+    /// Undoes every move, makes none, and returns the dance, after any result of `pass`.
     pub fn close(self) -> D
         ensures { D.state result ≡ record {
           puzzle = self.entry.puzzle;
@@ -181,7 +182,7 @@ impl<'a, D: Dance> Walk<'a, D> {
         let Standing {
             mut position,
             mut stack,
-            down: _,
+            unsearched: _,
             passed: _,
         } = self.standing;
         unwind(&mut position, &mut stack);
@@ -209,7 +210,7 @@ impl<'w, 'a, D: Dance> Model for Solution<'w, 'a, D> {
 }
 
 impl<'w, 'a, D: Dance> Solution<'w, 'a, D> {
-    /// The next choice; None behind the last. So none is stored, which with what a search of its own choices stores
+    /// The next choice; None after the last. So none is stored, which with what a search of its own choices stores
     /// took 0.88 of what it takes to print a short solution.
     #[inline(always)]
     pub fn next(&mut self) -> Option<Choice>
@@ -218,53 +219,54 @@ impl<'w, 'a, D: Dance> Solution<'w, 'a, D> {
     {
         match self.levels {
             [] => None,
-            [level, behind @ ..] => {
-                self.levels = behind;
-                Some(self.position.choice_of(level))
+            [level, rest @ ..] => {
+                self.levels = rest;
+                Some(self.position.newest_choice(level))
             }
         }
     }
 }
 
 impl<'a, D: Dance> Standing<'a, D> {
-    ghost use Rattle.xc_search.specs.inner.Ahead.{Passed, IsSolved};
+    ghost use Rattle.xc_search.specs.inner.Ahead.{WentBy, IsSolved};
     ghost use Rattle.xc_search.specs.inner.Due.{PaysFor};
     ghost use Rattle.xc_search.specs.inner.Levels.{IsStanding};
     ghost use Rattle.xc_search.specs.inner.MostLevels.{most_levels};
 
-    /// Whether no level stands, and what is left was searched.
+    /// Whether no level is left, and what is left was searched.
     #[inline(always)]
     fn has_ended(&self) -> bool
-        ensures ended { result ≡ true → (self.now.down ≡ false) × (self.now.stack.levels ≡ []) }
-        ensures goes_on { result ≡ false → self.now.down ≡ false → self.now.stack.levels ≢ [] }
+        ensures ended { result ≡ true → (self.now.unsearched ≡ false) × (self.now.stack.levels ≡ []) }
+        ensures goes_on { result ≡ false → self.now.unsearched ≡ false → self.now.stack.levels ≢ [] }
     {
-        !self.down && self.stack.top().is_none()
+        !self.unsearched && self.stack.top().is_none()
     }
 
-    /// Goes on by so many solutions, or over all where fewer are left, and tells by how many. It takes the search by
+    /// Goes on by so many solutions, or over all where fewer are left, and notes by how many. It takes the search by
     /// value, so that its loop holds the bases and lengths of all tables as values of its own: behind a reference each
     /// would be loaded anew after each write to a table.
-    // It holds while no address of the state leaves the loop: what stands out of line there takes slices, and all else
+    // It holds while no address of the state leaves the loop: what is out of line there takes slices, and all else
     // asks to be inlined.
     #[inline(never)]
-    fn passed(self, many: u64) -> (Standing<'a, D>, ())
+    fn run_on(self, many: u64) -> (Standing<'a, D>, ())
         requires some { 0 < many }
         requires standing { IsStanding self.position.puzzle self.position.trail self.stack.levels true }
-        requires solved { self.down ≡ false → IsSolved self.position.puzzle self.position.trail self.stack.levels }
+        requires solved { self.unsearched ≡ false →
+            IsSolved self.position.puzzle self.position.trail self.stack.levels }
         requires levels_fit { most_levels self.position.puzzle ≤ self.stack.room }
-        ensures passed { Passed self.entry.position self.entry.stack self.entry.down many result.0.passed
-            result.0.position result.0.stack result.0.down }
-        ensures pays { PaysFor self.entry.position self.entry.stack self.entry.down many
+        ensures went { WentBy self.entry.position self.entry.stack self.entry.unsearched many result.0.passed
+            result.0.position result.0.stack result.0.unsearched }
+        ensures pays { PaysFor self.entry.position self.entry.stack self.entry.unsearched many
             result.0.position result.0.stack }
     {
         let Standing {
             mut position,
             mut stack,
-            down,
+            unsearched,
             passed: _,
         } = self;
-        // Where it stands at a solution, it finds that one again.
-        let more = if down { many - 1 } else { many };
+        // Where it is at a solution, it finds that one again.
+        let more = if unsearched { many - 1 } else { many };
         let passed = match advance(&mut position, &mut stack, more) {
             None => many,
             Some(more) => fewer(many, more),
@@ -273,7 +275,7 @@ impl<'a, D: Dance> Standing<'a, D> {
             Standing {
                 position,
                 stack,
-                down: false,
+                unsearched: false,
                 passed,
             },
             (),

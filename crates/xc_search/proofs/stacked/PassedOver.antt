@@ -11,7 +11,7 @@ use Rattle.xc_input.specs.Problem.{Puzzle}
 use Rattle.xc_dance.specs.declared.dance.Move.{Move}
 use Rattle.xc_search.specs.declared.level.Level.{Level}
 use Rattle.xc_search.specs.inner.Levels.{Levels, IsStanding, coming, choices_of}
-use Rattle.xc_search.specs.inner.Ahead.{IsSolved, StandsOver, EndsOver, WentOver, WentPast, Passed}
+use Rattle.xc_search.specs.inner.Ahead.{IsSolved, StandsOver, EndsOver, WentOver, WentPast, WentBy}
 use Rattle.xc_search.proofs.stacked.NextLevel.{solution}
 use Rattle.xc_search.proofs.Cases.{by_number}
 use Rattle.std.proofs.lemmas.List.{drop-drop, drop_all}
@@ -104,7 +104,7 @@ past many made o = record o {
   made = made;
 }
 
-module _ {d e : Dancing} {ls ks : Levels} {down below : Bool} {many n : ℕ} (p : Passed d ls down many n e ks below)
+module _ {d e : Dancing} {ls ks : Levels} {down below : Bool} {many n : ℕ} (p : WentBy d ls down many n e ks below)
     (q : PaysFor d ls down many e ks)
   where
     pub outlook_passed : (o : Outlook) → outlook d ls down ≡ o

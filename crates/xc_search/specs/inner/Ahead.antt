@@ -128,7 +128,7 @@ pub record WentPast (d : Dancing) (ls : Levels) (down : Bool) (n : ℕ) (e : Dan
   pub count : n ≡ length (coming d.puzzle d.trail ls.levels down)
 
 -- It was to go over so many members, and went over n. What is left was searched then.
-pub record Passed (d : Dancing) (ls : Levels) (down : Bool) (many n : ℕ) (e : Dancing) (ks : Levels) (below : Bool) :
+pub record WentBy (d : Dancing) (ls : Levels) (down : Bool) (many n : ℕ) (e : Dancing) (ks : Levels) (below : Bool) :
     Type 0 where
   pub within : n ≤ many
   pub over : n ≡ many → WentOver d ls down many e ks

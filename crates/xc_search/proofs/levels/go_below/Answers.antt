@@ -5,12 +5,12 @@ use Rattle.xc_search.proofs.stacked.NextLevel.{solution}
 use Rattle.xc_search.proofs.ends.Steps.{Pays-refl, pays_over, pays_one}
 use Rattle.xc_search.proofs.levels.go_below.Goals as goal
 use Rattle.xc_search.proofs.levels.go_below.Goals.{After-choose_early-next}
-use Rattle.xc_search.proofs.levels.go_below.Goals.{else-levels-last-via-then-levels-last+else-pass_last}
+use Rattle.xc_search.proofs.levels.go_below.Goals.{else-levels-last-via-then-levels-last+else-skip_rest}
 use Rattle.xc_search.proofs.levels.go_below.Goals.{else-levels-last-via-else-levels-last}
 
-pub returns-then-pass_last-clause-back : goal.returns-then-pass_last-clause-back
-returns-then-pass_last-clause-back g c _ =
-    falls_over _ _ _ _ c.requires.standing (c.pass_last.ensures.passed c.if-pass_last.true)
+pub returns-then-skip_rest-clause-back : goal.returns-then-skip_rest-clause-back
+returns-then-skip_rest-clause-back g c _ =
+    falls_over _ _ _ _ c.requires.standing (c.skip_rest.ensures.skipped c.if-skip_rest.true)
 
 pub deepen-requires-clause-next : goal.deepen-requires-clause-next
 deepen-requires-clause-next g c =
@@ -20,8 +20,8 @@ deepen-requires-clause-next g c =
 -- where the last choice wasn't counted, as many are to be passed over
 as_many : (g : _) (c : After-choose_early-next g) → c.else-levels-last.more ≡ c.args.more.now
 as_many g c = elim c.else-levels-last.branch [
-  | else-levels-last-via-then-levels-last+else-pass_last w ↦
-      w.more-is ∙ w.pass_last.ensures.not_passed w.if-pass_last.false
+  | else-levels-last-via-then-levels-last+else-skip_rest w ↦
+      w.more-is ∙ w.skip_rest.ensures.not_skipped w.if-skip_rest.false
   | else-levels-last-via-else-levels-last w ↦ w.more-is
 ]
 
@@ -40,9 +40,9 @@ returns-else-more-eq0-clause-back g c _ =
     rw (here.0, here.1) (passes_one d c.args.stack.now _ _ c.requires.standing one
     (omega (arith, same, c.if-more-eq0.false)))
 
-pub returns-then-pass_last-clause-back_pays : goal.returns-then-pass_last-clause-back_pays
-returns-then-pass_last-clause-back_pays g c _ =
-    pays_over _ _ _ _ (c.requires.standing.searchable refl) (c.pass_last.ensures.passed c.if-pass_last.true)
+pub returns-then-skip_rest-clause-back_pays : goal.returns-then-skip_rest-clause-back_pays
+returns-then-skip_rest-clause-back_pays g c _ =
+    pays_over _ _ _ _ (c.requires.standing.searchable refl) (c.skip_rest.ensures.skipped c.if-skip_rest.true)
 
 pub returns-in-Branch-clause-entered_pays : goal.returns-in-Branch-clause-entered_pays
 returns-in-Branch-clause-entered_pays g c b is =

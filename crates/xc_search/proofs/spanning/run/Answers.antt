@@ -7,16 +7,16 @@ use Rattle.xc_search.proofs.spans.Passing.{rest_of_all}
 use Rattle.xc_search.proofs.spans.Running.{stands_first}
 use Rattle.xc_search.proofs.spans.Runs.{runs_to_steps, runs_to_member, runs_to_end, runs_on, runs_to_row}
 use Rattle.xc_search.proofs.spanning.run.Goals as goal
-use Rattle.xc_search.proofs.spanning.run.Goals.{After-commit_branch, Joined-behind, then-behind, else-behind}
+use Rattle.xc_search.proofs.spanning.run.Goals.{After-commit_branch, Joined-skips, then-skips, else-skips}
 
 -- where it begins
-first_rest : (g : _) (c : Joined-behind g) → IsRest (option_map (λ u. u.now) c.args.task.until)
-    c.args.position.now.puzzle c.args.stack.now.levels c.if-behind.last
+first_rest : (g : _) (c : Joined-skips g) → IsRest (option_map (λ u. u.now) c.args.task.until)
+    c.args.position.now.puzzle c.args.stack.now.levels c.if-skips.last
 first_rest g c = record {
   before = c.requires.before;
-  all = elim c.if-behind.branch [
-    | then-behind w ↦ λ _ x. c.requires.behind w.if-behind.true x
-    | else-behind w ↦ λ h x. absurd (omega (
+  all = elim c.if-skips.branch [
+    | then-skips w ↦ λ _ x. c.requires.skips w.if-skips.true x
+    | else-skips w ↦ λ h x. absurd (omega (
       arith,
       h,
       w.last-is,
@@ -28,9 +28,9 @@ first_rest g c = record {
 
 pub loop-steps-init : goal.loop-steps-init
 loop-steps-init g c = record {
-  stands = stands_first (not c.args.task.early) (not c.args.task.behind) _ _ _ _ c.requires.standing c.requires.led
+  stands = stands_first (not c.args.task.early) (not c.args.task.skips) _ _ _ _ c.requires.standing c.requires.led
       _ (omega arith);
-  rest = first_rest g (goal.at.loop-steps-init g c).Joined-behind;
+  rest = first_rest g (goal.at.loop-steps-init g c).Joined-skips;
   same = refl;
   within = omega arith;
 }
@@ -44,7 +44,7 @@ commit_branch-requires-clause-place g c =
     (c.enter_branch.ensures.entered c.in-Branch.entered c.in-Branch.is _ c.loop-steps.invariant.rest).place
 
 -- a branch was begun
-begins : (g : _) (c : After-commit_branch g) → BeginsBranch (not c.args.task.early) (not c.args.task.behind)
+begins : (g : _) (c : After-commit_branch g) → BeginsBranch (not c.args.task.early) (not c.args.task.skips)
     (option_map (λ u. u.now) c.args.task.until) c.loop-steps.position c.loop-steps.stack c.loop-steps.more
     c.commit_branch.new.self c.enter_branch.new.stack c.enter_branch.new.more
 begins g c =

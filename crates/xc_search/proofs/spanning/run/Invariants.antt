@@ -5,7 +5,7 @@ use Rattle.xc_search.proofs.spanning.run.Given as goal
 
 abbrev pub invariant-loop-steps : goal.invariant-loop-steps
 invariant-loop-steps g l = record {
-  stands : Stands (not l.early) (not l.behind) (option_map (λ u. u.now) l.initial.until) l.initial.position
+  stands : Stands (not l.early) (not l.skips) (option_map (λ u. u.now) l.initial.until) l.initial.position
       l.initial.stack
       l.initial.more l.position l.stack l.more (l.initial.steps - l.steps);
   rest : IsRest (option_map (λ u. u.now) l.initial.until) l.position.puzzle l.stack.levels l.last;

@@ -17,7 +17,7 @@ loop-rest-preserved g c =
     let put = c.push_reserved-in-len1-up.ensures in
     record {
       items = one_put (chosen c.args.shown.2.now.puzzle) c.loop-rest.choices.items c.loop-rest.rest.now
-          c.in-len1-up.len_at_least _ _ _ _ put.items c.choice_of.ensures c.loop-rest.invariant.items;
+          c.in-len1-up.len_at_least _ _ _ _ put.items c.newest_choice.ensures c.loop-rest.invariant.items;
       capacity = put.capacity ∙ c.loop-rest.invariant.capacity;
       shown = all_behind (IsShown c.args.shown.2.now.puzzle) c.loop-rest.rest.now c.loop-rest.invariant.shown;
     }

@@ -36,7 +36,7 @@ returns-then-steps-eq0-clause-count g c = told_none c.args.self.now _ _ _ _ _ _ 
 
 at : (g : _) (c : After-go_over-ran g)
     → IsAt c.self.inside.state.position.puzzle c.self.inside.state.position.trail
-    c.self.inside.state.stack.levels c.self.inside.down
+    c.self.inside.state.stack.levels c.self.inside.unsearched
 at g c = record { led = c.self.invariant.led c.if-self.false; solved = c.self.invariant.solved c.if-self.false }
 
 -- the end of a span isn't before the row from which on a search goes on
@@ -45,7 +45,7 @@ end_not_from : (until : Option (List ℕ)) (p : Puzzle) (ls : List Level) (down 
 end_not_from until p ls true h = end_not_before until (row_at p ls) h
 end_not_from until p ls false h = end_not_right_behind until (row_at p ls) h
 
-over : (g : _) (c : After-go_over-ran g) → c.if-self-2.over ≡ over_first c.args.many c.self.inside.down
+over : (g : _) (c : After-go_over-ran g) → c.if-self-2.over ≡ over_first c.args.many c.self.inside.unsearched
 over g c = elim c.if-self-2.branch [
   | then-self-2 w ↦ w.over-is ∙ ap (over_first c.args.many) (sym w.if-self-2.true)
   | else-self-2 w ↦ w.over-is ∙ ap (over_first c.args.many) (sym w.if-self-2.false)
@@ -61,7 +61,7 @@ module _ (g : _) (c : After-go_over-ran g) where
   -- where it stands
   stands : (c.go_over-ran.result.stop ≡ Member) ⊎ (c.go_over-ran.result.stop ≡ Steps) →
       Halts until c.self.inside.state.position c.self.inside.state.stack (over_first c.args.many
-      c.self.inside.down)
+      c.self.inside.unsearched)
       c.go_over-ran.new.state.position c.go_over-ran.new.state.stack c.go_over-ran.result.more
       (c.args.steps - c.go_over-ran.result.steps)
   stands h = rw (over g c) at (c.go_over-ran.ensures.ran.halts h)
@@ -81,7 +81,7 @@ module _ (g : _) (c : After-go_over-ran g) where
     solved = rw (moved (inl h)) at (c.go_over-ran.ensures.ran.solved h).1
 
     to_member : Advances c.self.inside.state.position.puzzle
-        (row_from c.self.inside.state.position.puzzle c.self.inside.state.stack.levels c.self.inside.down) until
+        (row_from c.self.inside.state.position.puzzle c.self.inside.state.stack.levels c.self.inside.unsearched) until
         (row_from c.go_over-ran.new.state.position.puzzle c.go_over-ran.new.state.stack.levels false)
         c.args.many
     to_member =
@@ -89,8 +89,8 @@ module _ (g : _) (c : After-go_over-ran g) where
         (c.go_over-ran.ensures.ran.solved h).0)
 
     there : (was : List Choice) → shown_after c.args.many (between c.self.inside.state.position.puzzle
-        (row_from c.self.inside.state.position.puzzle c.self.inside.state.stack.levels c.self.inside.down) until) was
-        ≡ choices_of c.go_over-ran.new.state.position.puzzle c.go_over-ran.new.state.stack.levels
+        (row_from c.self.inside.state.position.puzzle c.self.inside.state.stack.levels c.self.inside.unsearched) until)
+        was ≡ choices_of c.go_over-ran.new.state.position.puzzle c.go_over-ran.new.state.stack.levels
     there was =
         rw (moved (inl h)) (shown_there (at g c) (stands (inl h)) (some g c) until (before (inl h)) solved
         (c.go_over-ran.ensures.ran.solved h).0 was)
@@ -104,7 +104,7 @@ module _ (g : _) (c : After-go_over-ran g) where
     fewer = still_more (at g c) (stands (inr h)) (some g c) taken
 
     to_row : Advances c.self.inside.state.position.puzzle
-        (row_from c.self.inside.state.position.puzzle c.self.inside.state.stack.levels c.self.inside.down) until
+        (row_from c.self.inside.state.position.puzzle c.self.inside.state.stack.levels c.self.inside.unsearched) until
         (row_from c.go_over-ran.new.state.position.puzzle c.go_over-ran.new.state.stack.levels true)
         (c.args.many - 1 - c.go_over-ran.result.more)
     to_row = rw (moved (inr h)) (ran_out (at g c) (stands (inr h)) (some g c) until (before (inr h)) taken)
@@ -112,12 +112,12 @@ module _ (g : _) (c : After-go_over-ran g) where
   -- or to the end
   module _ (h : (c.go_over-ran.result.stop ≡ Row) ⊎ (c.go_over-ran.result.stop ≡ Nothing)) where
     ends : EndsSpan c.self.inside.state.position c.self.inside.state.stack
-        (over_first c.args.many c.self.inside.down) until
+        (over_first c.args.many c.self.inside.unsearched) until
         c.go_over-ran.new.state.position c.go_over-ran.new.state.stack c.go_over-ran.result.more
     ends = rw (over g c) at (c.go_over-ran.ensures.ran.ended h)
 
     to_end : (c.go_over-ran.result.more < c.args.many) × (length (between c.self.inside.state.position.puzzle
-        (row_from c.self.inside.state.position.puzzle c.self.inside.state.stack.levels c.self.inside.down) until)
+        (row_from c.self.inside.state.position.puzzle c.self.inside.state.stack.levels c.self.inside.unsearched) until)
         ≡ c.args.many - 1 - c.go_over-ran.result.more)
     to_end = at_end (at g c) ends (some g c) (c.self.invariant.before c.if-self.false)
 
@@ -200,13 +200,13 @@ pub returns-then-many-eq0-clause-stands : goal.returns-then-many-eq0-clause-stan
 returns-then-many-eq0-clause-stands g c _ =
     let s = c.self.inside in
     rw (← c.self.view_is) (rw c.if-self.false (end_not_from (option_map (λ u. u.now) s.until) s.state.position.puzzle
-    s.state.stack.levels s.down (c.self.invariant.before c.if-self.false)))
+    s.state.stack.levels s.unsearched (c.self.invariant.before c.if-self.false)))
 
 pub returns-then-steps-eq0-clause-stands : goal.returns-then-steps-eq0-clause-stands
 returns-then-steps-eq0-clause-stands g c _ =
     let s = c.self.inside in
     rw c.if-self.false (end_not_from (option_map (λ u. u.now) s.until) s.state.position.puzzle s.state.stack.levels
-    s.down (c.self.invariant.before c.if-self.false))
+    s.unsearched (c.self.invariant.before c.if-self.false))
 
 pub returns-in-Member-clause-stands : goal.returns-in-Member-clause-stands
 returns-in-Member-clause-stands g c _ =

@@ -13,7 +13,7 @@ returns-clause-number g c =
     let ls = s.stack.levels in
     rw (← c.self.view_is) (rw c.if-self.false
     (c.number_of.ensures.number
-    ∙ ap (λ (xs : List ℕ). slice_get xs c.args.place) (numbers_told s.position.puzzle ls c.self.inside.down _
+    ∙ ap (λ (xs : List ℕ). slice_get xs c.args.place) (numbers_told s.position.puzzle ls c.self.inside.unsearched _
     (row_levels s.position.puzzle c.levels.result.now ls c.levels.ensures.levels))))
 
 pub returns-clause-branches : goal.returns-clause-branches
@@ -23,7 +23,7 @@ returns-clause-branches g c =
     rw (← c.self.view_is) (rw c.if-self.false
     (c.number_of.ensures.branches
     ∙ ap (λ (xs : List ℕ). slice_get xs c.args.place) (branches_told s.position.puzzle s.position.trail ls
-    c.self.inside.down _ c.self.invariant.stacked (c.self.invariant.led c.if-self.false)
+    c.self.inside.unsearched _ c.self.invariant.stacked (c.self.invariant.led c.if-self.false)
     (c.self.invariant.solved c.if-self.false)
     (ap (map (λ (l : Level). l.count))
     (sym (reverse-reverse c.levels.result.now) ∙ ap reverse c.levels.ensures.levels)))))

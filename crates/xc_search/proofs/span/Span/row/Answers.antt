@@ -29,7 +29,7 @@ module _ (g : _) (c : Joined-not-self g) where
   told : (f : RowNumber → ℕ) (h : Level → ℕ) → f (record { k = 0; n = 0 }) ≡ 0
       → map f c.loop-level.row.items ≡ map h (take c.loop-level.level-index c.levels-levels.result.now) →
       map f c.if-not-self.row.items
-      ≡ cond c.self.inside.down (map h c.levels-levels.result.now) (map h c.levels-levels.result.now ++ 0 ∷ [])
+      ≡ cond c.self.inside.unsearched (map h c.levels-levels.result.now) (map h c.levels-levels.result.now ++ 0 ∷ [])
   told f h zero is = elim c.if-not-self.branch [
     | then-not-self w ↦
         let items = ap (λ (v : Vec RowNumber Global). map f v.items) w.row-is
@@ -42,17 +42,17 @@ module _ (g : _) (c : Joined-not-self g) where
         rw w.if-not-self.false items
   ]
 
-  numbers : map (λ (x : RowNumber). x.k) c.if-not-self.row.items ≡ row_from p ls c.self.inside.down
+  numbers : map (λ (x : RowNumber). x.k) c.if-not-self.row.items ≡ row_from p ls c.self.inside.unsearched
   numbers =
       told (λ (x : RowNumber). x.k) (λ (l : Level). l.begun) refl c.loop-level.invariant.numbers
-      ∙ numbers_told p ls c.self.inside.down _
+      ∙ numbers_told p ls c.self.inside.unsearched _
       (row_levels p c.levels-levels.result.now ls c.levels-levels.ensures.levels)
 
   branches : map (λ (x : RowNumber). x.n) c.if-not-self.row.items
-      ≡ branches_along (whole p) (row_from p ls c.self.inside.down)
+      ≡ branches_along (whole p) (row_from p ls c.self.inside.unsearched)
   branches =
       told (λ (x : RowNumber). x.n) (λ (l : Level). l.count) refl c.loop-level.invariant.branches
-      ∙ branches_told p c.self.inside.state.position.trail ls c.self.inside.down _ c.self.invariant.stacked
+      ∙ branches_told p c.self.inside.state.position.trail ls c.self.inside.unsearched _ c.self.invariant.stacked
       (c.self.invariant.led c.if-self.false) (c.self.invariant.solved c.if-self.false)
       (ap (map (λ (l : Level). l.count))
       (sym (reverse-reverse c.levels-levels.result.now) ∙ ap reverse c.levels-levels.ensures.levels))

@@ -4,7 +4,7 @@ use Rattle.xc_search.specs.declared.levels.Below.TheVariants.{Branch}
 use Rattle.xc_search.specs.declared.levels.Next.TheVariants as next
 use Rattle.xc_search.proofs.stacked.CountedOver.{enters_back, ends_back}
 use Rattle.xc_search.proofs.ends.Steps.{Pays-trans}
-use Rattle.xc_search.proofs.levels.go_on.Goals as goal
+use Rattle.xc_search.proofs.levels.enter_branch.Goals as goal
 
 same_entered : (a b : Entered) → next.Branch a ≡ next.Branch b → a ≡ b
 same_entered a b is = cc is
