@@ -3,6 +3,7 @@ ghost use Rattle.std.specs.Prelude.{◌≡◌, ◌+◌, ◌<◌, ◌≤◌, [], 
 ghost use Rattle.std.specs.Prelude.{IfSome, true};
 ghost use Rattle.xc_input.specs.Named.{Named};
 ghost use Rattle.xc_list.specs.inner.Pages.{AreKept, held_text};
+ghost use Rattle.xc_list.specs.declared.page.TheConstants.{LINES, PADDING, ROOM};
 
 use itoa::write_digits;
 use std::marker::Model;
@@ -12,8 +13,11 @@ use xc_search::Mark;
 /// How many bytes a page has.
 pub const ROOM: usize = 4096;
 
-/// Where lines start, behind the header.
+/// Where lines start, after the header.
 pub const LINES: usize = 22;
+
+/// How many bytes a short text is copied by, and how many there are after the laid out texts, so that it can be.
+pub const PADDING: usize = 16;
 
 /// How many lines of a solution a page keeps at most.
 const KEPT: usize = 64;
@@ -37,12 +41,13 @@ pub struct Kept {
 impl Model for Kept {
     ghost use Rattle.std.specs.Prelude.{◌≡◌, ◌≤◌, List, length, take};
     ghost use Rattle.xc_list.specs.declared.page.Line.{Line};
+    ghost use Rattle.xc_list.specs.declared.page.TheConstants.{KEPT};
 
     ghost Value = { List Line };
 
     ghost view = { λ k. take k.count k.lines };
 
-    ghost invariant = { λ k. (k.count ≤ 64) × (length k.lines ≡ 64) };
+    ghost invariant = { λ k. (k.count ≤ KEPT) × (length k.lines ≡ KEPT) };
 }
 
 impl Kept {
@@ -130,13 +135,13 @@ pub struct Held {
 /// behind it is overwritten later.
 #[inline(always)]
 pub fn put_part(page: &mut [u8], at: usize, text: &[u8], from: usize, count: usize)
-    requires room { at + count + 16 ≤ length page.old }
-    requires padded { from + count + 16 ≤ length text.now }
+    requires room { at + count + PADDING ≤ length page.old }
+    requires padded { from + count + PADDING ≤ length text.now }
     ensures put { take (at + count) page.new ≡ take at page.old ++ take count (drop from text.now) }
     ensures size { length page.new ≡ length page.old }
 {
-    if count <= 16 {
-        Simd::<u8, 16>::from_slice(&text[from..]).copy_to_slice(&mut page[at..]);
+    if count <= PADDING {
+        Simd::<u8, PADDING>::from_slice(&text[from..]).copy_to_slice(&mut page[at..]);
     } else {
         page[at..at + count].copy_from_slice(&text[from..from + count]);
     }
@@ -156,14 +161,14 @@ pub fn put_bytes(page: &mut [u8], at: usize, bytes: &[u8])
 /// the text starts.
 #[inline(always)]
 pub fn put_header(page: &mut [u8], number: u64) -> Held
-    requires { length page.old ≡ 4096 }
+    requires { length page.old ≡ ROOM }
     ensures put { held_text page.new result.from result.to ≡ decimal number ++ codes ":\n" }
-    ensures size { length page.new ≡ 4096 }
-    ensures held { (result.from ≤ result.to) × (result.to ≡ 22) }
-    ensures behind { drop 22 page.new ≡ drop 22 page.old }
+    ensures size { length page.new ≡ ROOM }
+    ensures held { (result.from ≤ result.to) × (result.to ≡ LINES) }
+    ensures behind { drop LINES page.new ≡ drop LINES page.old }
 {
     page[20] = b':';
     page[21] = b'\n';
     let from = write_digits(number, page, 20);
-    Held { from, to: 22 }
+    Held { from, to: LINES }
 }

@@ -8,6 +8,7 @@ ghost use Rattle.xc_list.specs.inner.LineParts.{branch_text};
 ghost use Rattle.xc_list.specs.inner.Pages.{IsPut, held_text, AreKept, MatchMark, lines_end};
 ghost use Rattle.xc_search.specs.Marks.{marked, IsMark};
 ghost use Rattle.xc_list.specs.Known.{IsKnownChoice};
+ghost use Rattle.xc_list.specs.declared.page.TheConstants.{LINES, PADDING, ROOM};
 
 use crate::bodies::{Bodies, LaidOut};
 use crate::page::{Held, Kept, LINES, Line, Page, put_bytes, put_header};
@@ -177,9 +178,9 @@ pub fn write_member<S: Sink>(
 /// and the branch one or two; none else.
 #[inline(always)]
 fn put_long_branch(page: &mut [u8], at: usize, k: u32, n: u32) -> Option<usize>
-    requires { at + 16 ≤ length page.old }
+    requires { at + PADDING ≤ length page.old }
     ensures put { IfSome result (λ to. take to page.new ≡ take at page.old ++ branch_text k n) }
-    ensures end { IfSome result (λ to. (at ≤ to) × (to ≤ at + 16)) }
+    ensures end { IfSome result (λ to. (at ≤ to) × (to ≤ at + PADDING)) }
     ensures none { IsNone result → page.new ≡ page.old }
     ensures size { length page.new ≡ length page.old }
 {
@@ -200,9 +201,9 @@ fn put_long_branch(page: &mut [u8], at: usize, k: u32, n: u32) -> Option<usize>
 /// or more, or the branch more than their number.
 #[inline(always)]
 fn put_branch(page: &mut [u8], at: usize, k: u32, n: u32) -> Option<usize>
-    requires { at + 16 ≤ length page.old }
+    requires { at + PADDING ≤ length page.old }
     ensures put { IfSome result (λ to. take to page.new ≡ take at page.old ++ branch_text k n) }
-    ensures end { IfSome result (λ to. (at ≤ to) × (to ≤ at + 16)) }
+    ensures end { IfSome result (λ to. (at ≤ to) × (to ≤ at + PADDING)) }
     ensures none { IsNone result → page.new ≡ page.old }
     ensures size { length page.new ≡ length page.old }
 {
@@ -221,11 +222,11 @@ fn put_branch(page: &mut [u8], at: usize, k: u32, n: u32) -> Option<usize>
 #[inline(always)]
 fn put_choice(laid: &LaidOut, choice: Choice, page: &mut [u8], at: usize) -> Option<usize>
     requires known { IsKnownChoice laid.now.puzzle choice }
-    requires room { (at ≤ 4096) × (length page.old ≡ 4096) }
+    requires room { (at ≤ ROOM) × (length page.old ≡ ROOM) }
     ensures put { IfSome result (λ to. take to page.new ≡ take at page.old ++ choice_text laid.now choice) }
-    ensures end { IfSome result (λ to. (at ≤ to) × (to ≤ 4096)) }
+    ensures end { IfSome result (λ to. (at ≤ to) × (to ≤ ROOM)) }
     ensures none { IsNone result → take at page.new ≡ take at page.old }
-    ensures size { length page.new ≡ 4096 }
+    ensures size { length page.new ≡ ROOM }
 {
     let Some(o) = choice.option else {
         return None;
@@ -268,12 +269,12 @@ fn put_line<S: Sink>(
 ) -> Result<Held, SinkFault>
     requires same { laid.now ≡ bodies.now }
     requires known { IsKnownChoice bodies.now.puzzle choice }
-    requires size { length page.old ≡ 4096 }
-    requires within { (held.from ≤ held.to) × (held.to ≤ 4096) }
+    requires size { length page.old ≡ ROOM }
+    requires within { (held.from ≤ held.to) × (held.to ≤ ROOM) }
     ensures put { IsPut (S.state sink.old) (S.state sink.new) (held_text page.old held.from held.to)
         result page.new (choice_text bodies.now choice) }
-    ensures within { IfOk result (λ h. (h.from ≤ h.to) × (h.to ≤ 4096)) }
-    ensures size { length page.new ≡ 4096 }
+    ensures within { IfOk result (λ h. (h.from ≤ h.to) × (h.to ≤ ROOM)) }
+    ensures size { length page.new ≡ ROOM }
 {
     if let Some(to) = put_choice(laid, choice, page, held.to) {
         return Ok(Held {
@@ -298,12 +299,12 @@ fn put_lines<'a, D: Dance, S: Sink>(
 ) -> Result<Held, SinkFault>
     requires same { laid.now ≡ bodies.now }
     requires known { All (IsKnownChoice bodies.now.puzzle) walk.now.shown }
-    requires size { length page.old ≡ 4096 }
-    requires within { (start.from ≤ start.to) × (start.to ≤ 4096) }
+    requires size { length page.old ≡ ROOM }
+    requires within { (start.from ≤ start.to) × (start.to ≤ ROOM) }
     ensures put { IsPut (S.state sink.old) (S.state sink.new) (held_text page.old start.from start.to)
         result page.new (flat_map (choice_text bodies.now) walk.now.shown) }
-    ensures within { IfOk result (λ h. (h.from ≤ h.to) × (h.to ≤ 4096)) }
-    ensures size { length page.new ≡ 4096 }
+    ensures within { IfOk result (λ h. (h.from ≤ h.to) × (h.to ≤ ROOM)) }
+    ensures size { length page.new ≡ ROOM }
 {
     let mut held = start;
     let mut choices = walk.solution();
@@ -358,10 +359,10 @@ fn write_long<'a, D: Dance, S: Sink>(
     sink: &mut S,
 ) -> Result<(), SinkFault>
     requires known { All (IsKnownChoice bodies.now.puzzle) walk.now.shown }
-    requires size { length page.old ≡ 4096 }
+    requires size { length page.old ≡ ROOM }
     ensures written { Writes (S.state sink.old) (S.state sink.new)
         result (member_text bodies.now (number, walk.now.shown)) }
-    ensures size { length page.new ≡ 4096 }
+    ensures size { length page.new ≡ ROOM }
 {
     let Some(laid) = bodies.laid() else {
         return write_in_pieces(number, walk, bodies, sink);
@@ -389,12 +390,12 @@ fn keep_line<'a, D: Dance>(
     requires kept { AreKept laid.now text.old kept.old }
     requires done { done ≤ length kept.old }
     requires at { at ≡ lines_end laid.now (take done kept.old) }
-    requires size { length text.old ≡ 4096 }
+    requires size { length text.old ≡ ROOM }
     ensures kept { IfSome result (λ _. AreKept laid.now text.new kept.new) }
     ensures stands { IfSome result (λ _. MatchMark (done + 1) kept.new (take done kept.old) mark) }
     ensures end { IfSome result (λ to. to ≡ lines_end laid.now (take (done + 1) kept.new)) }
-    ensures header { IfSome result (λ _. take 22 text.new ≡ take 22 text.old) }
-    ensures size { length text.new ≡ 4096 }
+    ensures header { IfSome result (λ _. take LINES text.new ≡ take LINES text.old) }
+    ensures size { length text.new ≡ ROOM }
 {
     if let Some(end) = kept.end_of(done, mark) {
         return Some(end);
@@ -419,12 +420,12 @@ fn keep_lines<'a, D: Dance>(
     requires same { walk.now.puzzle ≡ laid.now.puzzle }
     requires known { All (IsKnownChoice laid.now.puzzle) walk.now.shown }
     requires kept { AreKept laid.now text.old kept.old }
-    requires size { length text.old ≡ 4096 }
+    requires size { length text.old ≡ ROOM }
     ensures kept { IfSome result (λ _. AreKept laid.now text.new kept.new) }
     ensures put { IfSome result (λ to. take to text.new
-        ≡ take 22 text.old ++ flat_map (choice_text laid.now) walk.now.shown) }
-    ensures end { IfSome result (λ to. (22 ≤ to) × (to ≤ 4096)) }
-    ensures size { length text.new ≡ 4096 }
+        ≡ take LINES text.old ++ flat_map (choice_text laid.now) walk.now.shown) }
+    ensures end { IfSome result (λ to. (LINES ≤ to) × (to ≤ ROOM)) }
+    ensures size { length text.new ≡ ROOM }
 {
     let mut at = LINES;
     let mut done = 0;
