@@ -14,7 +14,7 @@ use crate::bodies::{Bodies, LaidOut};
 use crate::page::{Held, Kept, LINES, Line, Page, put_bytes, put_header};
 use crate::sink::Sink;
 use crate::uses::write_name;
-use crate::write::{SinkFault, write_all, write_number, write_numbered};
+use crate::write::{SinkFault, write_all, write_number, write_two_numbers};
 use xc_dance::Dance;
 use xc_input::Problem;
 use xc_search::{Choice, Mark, Walk};
@@ -102,9 +102,7 @@ fn two_digits_of_two_digits(k: u8, n: u8) -> [u8; 12]
 fn write_branch_in_pieces<S: Sink>(k: u32, n: u32, sink: &mut S) -> Result<(), SinkFault>
     ensures { Writes (S.state sink.old) (S.state sink.new) result (branch_text k n) }
 {
-    write_numbered(sink, b" (", k as u64, b" of ")?;
-    write_number(sink, n as u64)?;
-    write_all(sink, b")\n")
+    write_two_numbers(sink, b" (", k as u64, b" of ", n as u64, b")\n")
 }
 
 /// Writes branch and number of branches where one has two digits or more, to the end of the line.

@@ -15,7 +15,7 @@ use crate::bodies::Bodies;
 use crate::print::write_member;
 use crate::sink::Sink;
 use crate::span_words::SpanWords;
-use crate::write::{SinkFault, write_all, write_number, write_numbered};
+use crate::write::{SinkFault, write_all, write_number, write_two_numbers};
 use std::alloc::Global;
 use xc_dance::{Dance, Links};
 use xc_input::Problem;
@@ -123,9 +123,14 @@ fn write_until<'a, D: Dance, S: Sink>(
 fn write_counts<S: Sink>(went: &Went, sink: &mut S) -> Result<(), SinkFault>
     ensures { Writes (S.state sink.old) (S.state sink.new) result (counts_text went.now) }
 {
-    write_numbered(sink, b" solutions ", went.members, b" steps ")?;
-    write_number(sink, went.steps)?;
-    write_all(sink, b"\n")
+    write_two_numbers(
+        sink,
+        b" solutions ",
+        went.members,
+        b" steps ",
+        went.steps,
+        b"\n",
+    )
 }
 
 /// Writes where a span begins.
