@@ -219,40 +219,6 @@ fn put_cut(
     at + count
 }
 
-/// Puts the text of an option on a page, cut before an item's use, the part behind the cut first; none
-/// where there is no room for it and a little more.
-#[inline(always)]
-fn put_text(
-    problem: &Problem,
-    layout: &Layout,
-    item: u32,
-    o: u32,
-    page: &mut [u8],
-    at: usize,
-) -> Option<usize>
-    requires laid { ArePadded problem.now problem.now.puzzle.options layout.now.texts.items layout.now.starts.items }
-    requires firsts { layout.now.firsts.items ≡ map first_item problem.now.puzzle.options }
-    requires known { IsOption problem.now.puzzle o }
-    requires room { (at ≤ ROOM) × (length page.old ≡ ROOM) }
-    ensures put { IfSome result (λ to. take to page.new ≡ take at page.old
-        ++ flat_map (use_text problem.now) (from_item item (uses_of problem.now.puzzle o))) }
-    ensures end { IfSome result (λ to. (at ≤ to) × (to + PADDING ≤ ROOM)) }
-    ensures none { IsNone result → page.new ≡ page.old }
-    ensures size { length page.new ≡ ROOM }
-{
-    let (from, count) = span_of(problem, layout, o);
-    // A short text is stored with bytes after it, and the line's end follows.
-    if at + count + PADDING > ROOM {
-        return None;
-    }
-    let first = layout.firsts[o as usize - 1];
-    if first == item {
-        put_part(page, at, &layout.texts, from, count);
-        return Some(at + count);
-    }
-    Some(put_cut(problem, layout, item, o, page, at))
-}
-
 /// The text of an option, cut before an item's use.
 #[inline(always)]
 fn cut_text<'a>(problem: &Problem, layout: &'a Layout, item: u32, o: u32) -> (&'a [u8], &'a [u8])
@@ -301,13 +267,23 @@ impl<'a> Bodies<'a> {
     }
 
     /// Options that are laid out if there is memory for it.
-    pub fn laid_out(alloc: Global, problem: &'a Problem) -> Bodies<'a>
+    fn laid_out(alloc: Global, problem: &'a Problem) -> Bodies<'a>
         ensures { result ≡ problem.now }
     {
         Bodies {
             problem,
             layout: lay_out(alloc, problem).ok(),
         }
+    }
+
+    /// Options that are laid out if many are printed.
+    pub fn for_printing(alloc: Global, problem: &'a Problem, many: bool) -> Bodies<'a>
+        ensures { result ≡ problem.now }
+    {
+        if many {
+            return Bodies::laid_out(alloc, problem);
+        }
+        Bodies::plain(problem)
     }
 
     /// The problem whose options these are.
@@ -382,6 +358,16 @@ impl<'b> LaidOut<'b> {
         ensures none { IsNone result → page.new ≡ page.old }
         ensures size { length page.new ≡ ROOM }
     {
-        put_text(self.problem, self.layout, item, o, page, at)
+        let (from, count) = span_of(self.problem, self.layout, o);
+        // A short text is stored with bytes after it, and the line's end follows.
+        if at + count + PADDING > ROOM {
+            return None;
+        }
+        let first = self.layout.firsts[o as usize - 1];
+        if first == item {
+            put_part(page, at, &self.layout.texts, from, count);
+            return Some(at + count);
+        }
+        Some(put_cut(self.problem, self.layout, item, o, page, at))
     }
 }

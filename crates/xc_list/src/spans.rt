@@ -295,16 +295,6 @@ fn write_span<'a, D: Dance, S: Sink>(
     Ok(went)
 }
 
-/// The options of a problem, laid out if solutions are listed.
-fn bodies_for<'a>(alloc: Global, problem: &'a Problem, listed: bool) -> Bodies<'a>
-    ensures { result ≡ problem.now }
-{
-    if listed {
-        return Bodies::laid_out(alloc, problem);
-    }
-    Bodies::plain(problem)
-}
-
 /// Searches the span that the words ask for, over a dance that has no moves and room for `2 * items + 2 * uses` of
 /// them, and writes it: where it begins and its solutions, numbered from 1, if they are listed, and then its record,
 /// which tells where it begins and up to which row the search went, how many solutions stand between these, and how
@@ -331,7 +321,7 @@ pub fn list_span_over<D: Dance, S: Sink>(
         Ok(span) => span,
         Err((dance, _)) => return (dance, Err(SpanFault::Memory)),
     };
-    let bodies = bodies_for(alloc, problem, words.listed);
+    let bodies = Bodies::for_printing(alloc, problem, words.listed);
     let wrote = write_span(&mut span, &bodies, words, sink);
     let dance = span.close();
     match wrote {
