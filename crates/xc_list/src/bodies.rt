@@ -20,8 +20,8 @@ use std::marker::Model;
 use xc_dance::Memory;
 use xc_input::{Problem, Use};
 
-/// The texts of options one behind another, with the places where they start and at last the length of
-/// all, and behind them a few bytes more.
+/// The texts of options one after another, with the places where they start and at last the length of
+/// all, and after them a few bytes more.
 #[derive(Drop)]
 struct Layout {
     texts: Vec<u8>,
@@ -163,7 +163,7 @@ fn lay_out(alloc: Global, problem: &Problem) -> Result<Layout, Memory>
     })
 }
 
-/// Where the text of an option stands among the texts, and how long it is.
+/// Where the text of an option starts among the texts, and how long it is.
 #[inline(always)]
 fn span_of(problem: &Problem, layout: &Layout, o: u32) -> (usize, usize)
     requires laid { ArePadded problem.now problem.now.puzzle.options layout.now.texts.items layout.now.starts.items }
@@ -189,7 +189,7 @@ fn text_of<'a>(problem: &Problem, layout: &'a Layout, o: u32) -> &'a [u8]
     &layout.texts[from..from + count]
 }
 
-/// Puts the text of an option on a page, cut before an item's use, the part behind the cut first.
+/// Puts the text of an option on a page, cut before an item's use, the part after the cut first.
 // Out of line, since in most lines the branch item's use is the first: among the values of those this left too few in
 // registers.
 #[inline(never)]

@@ -13,6 +13,7 @@
 
 mod bodies;
 mod checker;
+mod choices;
 mod cover_test;
 pub mod laws;
 mod line;

@@ -12,7 +12,8 @@ ghost use Rattle.xc_list.specs.inner.SpanSteps.{dotted, numbers_text, text_at, r
 ghost use Rattle.xc_list.specs.inner.SpanSteps.{counts_text, told_text, WentOn, BeginsAt, written_text, SpanWritten};
 
 use crate::bodies::Bodies;
-use crate::print::write_member;
+use crate::page::ROOM;
+use crate::print::write_afresh;
 use crate::sink::Sink;
 use crate::span_words::SpanWords;
 use crate::write::{SinkFault, write_all, write_number, write_two_numbers};
@@ -177,12 +178,13 @@ fn write_each<'a, D: Dance, S: Sink>(
         (members_text bodies.now (take went.members (left_of span.old))))
         (λ _. BrokeOff (S.state sink.old) (S.state sink.new) (members_text bodies.now (left_of span.old))) }
 {
+    let mut page = [0; ROOM];
     let mut steps = 0;
     for members in 0..u64::MAX {
         let went = span.go_on(1, most - steps);
         steps += went.steps;
         match went.halt {
-            Halt::Member => write_member(members + 1, span.choices(), bodies, sink)?,
+            Halt::Member => { write_afresh(members + 1, span.choices(), bodies, &mut page, sink)? }
             halt => {
                 return Ok(Went {
                     halt,
