@@ -1,4 +1,4 @@
-//! A page, on which a text is put together before the sink is asked to take it.
+//! A page, on which a text is put together before it is written to the sink.
 ghost use Rattle.std.specs.Prelude.{◌≡◌, ◌+◌, ◌<◌, ◌≤◌, [], ◌∷◌, ◌++◌, length, take, drop, decimal, codes};
 ghost use Rattle.std.specs.Prelude.{IfSome, true};
 ghost use Rattle.xc_input.specs.Named.{Named};
@@ -22,16 +22,16 @@ pub const PADDING: usize = 16;
 /// How many lines of a solution a page keeps at most.
 const KEPT: usize = 64;
 
-/// A line that stands on a page.
+/// A line on a page.
 #[derive(Clone, Copy)]
 pub struct Line {
-    /// Of what choice it is.
+    /// The mark of its choice.
     pub mark: Mark,
     /// Where it ends.
     pub end: usize,
 }
 
-/// The lines that stand on a page one behind another.
+/// The lines on a page, one after another.
 #[derive(Drop)]
 pub struct Kept {
     lines: [Line; KEPT],
@@ -67,7 +67,7 @@ impl Kept {
         }
     }
 
-    /// Where the line behind the first `done` ends, if it is the mark's.
+    /// Where the line after the first `done` ends, if it is the mark's.
     #[inline(always)]
     pub fn end_of(&self, done: usize, mark: Mark) -> Option<usize>
         ensures within { IfSome result (λ _. done < length self.now) }
@@ -83,7 +83,7 @@ impl Kept {
         None
     }
 
-    /// Puts a line behind the first `done`, in place of those that stand there, and says whether there was room.
+    /// Puts a line after the first `done`, in place of those that follow, and returns whether there was room.
     #[inline(always)]
     pub fn put(&mut self, done: usize, line: Line) -> bool
         requires { done ≤ length self.old }
@@ -97,7 +97,7 @@ impl Kept {
         true
     }
 
-    /// Lets all lines go.
+    /// Drops all lines.
     pub fn clear(&mut self)
         ensures { self.new ≡ [] }
     {
@@ -113,7 +113,7 @@ pub struct Page {
 }
 
 impl Page {
-    /// A page on which no line stands.
+    /// A page without lines.
     pub fn new() -> Page
         ensures { (a : Named) → AreKept a result.text result.kept }
     {
@@ -131,8 +131,8 @@ pub struct Held {
     pub to: usize,
 }
 
-/// Puts a part of a text on a page. A short one is one load and one store of 16 bytes: what they put
-/// behind it is overwritten later.
+/// Puts a part of a text on a page. A short one is copied by one load and one store of `PADDING` bytes; the bytes
+/// after it are overwritten later.
 #[inline(always)]
 pub fn put_part(page: &mut [u8], at: usize, text: &[u8], from: usize, count: usize)
     requires room { at + count + PADDING ≤ length page.old }
@@ -157,7 +157,7 @@ pub fn put_bytes(page: &mut [u8], at: usize, bytes: &[u8])
     page[at..at + bytes.len()].copy_from_slice(bytes);
 }
 
-/// Puts the header of a solution on an empty page. Its digits are put to end at a place, and tell where
+/// Puts the header of a solution on an empty page. Its digits end at a fixed place, so their number decides where
 /// the text starts.
 #[inline(always)]
 pub fn put_header(page: &mut [u8], number: u64) -> Held
