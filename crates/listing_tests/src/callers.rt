@@ -1,9 +1,10 @@
-//! What is there for callers: a growing sink, the count by an end, and the test of a set of options.
+//! What is there for callers: a growing sink, the count by an end, the test of a set of options, and equal values.
 use fixtures::{ALONE, COLOURED, SEVEN, SEVEN_LISTING, THREE_ALIKE, on_problem, problem};
 use std::alloc::Global;
 use std::test::Fail;
 use xc_input::Kind;
-use xc_list::{End, Sink, VecSink, Words, is_cover, run, write_all};
+use xc_list::{End, ListingFault, Sink, SpanFault, VecSink, Verdict, WordFault, Words};
+use xc_list::{is_cover, laws, run, write_all};
 
 /// Lists all solutions of a text, and tells how the run ended.
 fn list_into(alloc: Global, text: &[u8], words: Words, sink: &mut VecSink) -> Result<End, Fail> {
@@ -64,4 +65,28 @@ fn sets_that_are_covers(rt: HostRuntime) {
     );
     assert!(rt; divides(alloc, Kind::Colours, COLOURED, &[&[2, 4]], &[&[1, 5]]));
     assert!(rt; divides(alloc, Kind::Bounds, ALONE, &[&[], &[2, 1]], &[&[1, 1]]));
+}
+
+#[test]
+fn equal_ends_and_verdicts(rt: HostRuntime) {
+    assert!(rt; laws::equal_ends(&End::Done(1), &End::Done(1)));
+    assert!(rt; !laws::equal_ends(&End::Done(1), &End::Limit(1)));
+    let verdict = |cover| Verdict { number: 1, cover };
+    assert!(rt; laws::equal_verdicts(&verdict(true), &verdict(true)));
+    assert!(rt; !laws::equal_verdicts(&verdict(true), &verdict(false)));
+    let words = |limit| Words { spacing: 1, limit };
+    assert!(rt; laws::equal_words(&words(2), &words(2)) && !laws::equal_words(&words(2), &words(3)));
+}
+
+#[test]
+fn equal_faults(rt: HostRuntime) {
+    let unknown = WordFault::Unknown(1);
+    assert!(rt; laws::equal_word_faults(&unknown, &WordFault::Unknown(1)));
+    assert!(rt; !laws::equal_word_faults(&unknown, &WordFault::BadNumber(1)));
+    let bad = ListingFault::BadLine(1);
+    assert!(rt; laws::equal_listing_faults(&bad, &ListingFault::BadLine(1)));
+    assert!(rt; !laws::equal_listing_faults(&bad, &ListingFault::BadLine(2)));
+    let failed = SpanFault::WriteFailed;
+    assert!(rt; laws::equal_span_faults(&failed, &SpanFault::WriteFailed));
+    assert!(rt; !laws::equal_span_faults(&failed, &SpanFault::Memory));
 }

@@ -7,6 +7,7 @@ use Rattle.std.proofs.lemmas.List.{take-take, drop-take, length-take-le, take-ap
 use Rattle.std.proofs.Math.Seq.{take-append_seam, take-append-add, drop-append_seam}
 use Rattle.xc_list.proofs.Writing.{one_more as one_text_more}
 use Rattle.xc_input.specs.Named.{Named}
+use Rattle.xc_list.specs.declared.page.TheConstants.{LINES, ROOM}
 use Rattle.xc_list.specs.declared.page.Line.{Line}
 use Rattle.xc_input.specs.Problem.{Puzzle}
 use Rattle.xc_search.specs.declared.choice.Choice.{Choice}
@@ -38,59 +39,59 @@ ends_at a (suc d) at (x ∷ xs) l h e =
     grind (arith, common_steps, ends_at a d x.end xs l h.1 rest, h.0)
 
 -- where the line behind the first of them ends
-pub ends_there : (a : Named) (d : ℕ) (ls : List Line) (l : Line) → AreEnds a 22 ls
+pub ends_there : (a : Named) (d : ℕ) (ls : List Line) (l : Line) → AreEnds a LINES ls
     → take (d + 1) ls ≡ take d ls ++ l ∷ [] → l.end ≡ lines_end a (take (d + 1) ls)
 ends_there a d ls l h e =
     let next : d + 1 ≡ suc d = omega arith in
-    rw next (ends_at a d 22 ls l h (rw next at e))
+    rw next (ends_at a d LINES ls l h (rw next at e))
 
 -- the text of the first lines that stand
 first_text : (a : Named) (page : List ℕ) (ls : List Line) (d : ℕ) → AreKept a page ls
-    → take (length (flat_map (line_text a) (take d ls))) (drop 22 page) ≡ flat_map (line_text a) (take d ls)
+    → take (length (flat_map (line_text a) (take d ls))) (drop LINES page) ≡ flat_map (line_text a) (take d ls)
 first_text a page ls d k =
     let whole : flat_map (line_text a) ls ≡ flat_map (line_text a) (take d ls) ++ flat_map (line_text a) (drop d ls) =
     grind (arith, common_steps, take-append-drop d ls) in
     let seam = take-append_seam (flat_map (line_text a) (take d ls)) (flat_map (line_text a) (drop d ls)) in
     let cut = take-take (length (flat_map (line_text a) (take d ls))) (length (flat_map (line_text a) ls))
-    (drop 22 page)
+    (drop LINES page)
     (grind (arith, common_steps, whole)) in
     sym cut ∙ ap (take (length (flat_map (line_text a) (take d ls)))) (k.text ∙ whole) ∙ seam
 
 -- where they end is on the page
-pub first_fits : (a : Named) (page : List ℕ) (ls : List Line) (d : ℕ) → AreKept a page ls → length page ≡ 4096
-    → lines_end a (take d ls) ≤ 4096
+pub first_fits : (a : Named) (page : List ℕ) (ls : List Line) (d : ℕ) → AreKept a page ls → length page ≡ ROOM
+    → lines_end a (take d ls) ≤ ROOM
 first_fits a page ls d k size = grind (arith, common_steps, ap length (first_text a page ls d k))
 
-front_and_text : (page text : List ℕ) → 22 ≤ length page → take (length text) (drop 22 page) ≡ text
-    → take (22 + length text) page ≡ take 22 page ++ text
+front_and_text : (page text : List ℕ) → LINES ≤ length page → take (length text) (drop LINES page) ≡ text
+    → take (LINES + length text) page ≡ take LINES page ++ text
 front_and_text page text long e =
-    let whole = take-append-drop 22 page in
-    ap (take (22 + length text)) (sym whole)
-    ∙ ap (λ n. take (n + length text) (take 22 page ++ drop 22 page)) (sym (length-take-le 22 page long))
-    ∙ take-append-add (take 22 page) (drop 22 page) (length text) ∙ ap (λ t. take 22 page ++ t) e
+    let whole = take-append-drop LINES page in
+    ap (take (LINES + length text)) (sym whole)
+    ∙ ap (λ n. take (n + length text) (take LINES page ++ drop LINES page)) (sym (length-take-le LINES page long))
+    ∙ take-append-add (take LINES page) (drop LINES page) (length text) ∙ ap (λ t. take LINES page ++ t) e
 
-front_stays : (page more text : List ℕ) (end : ℕ) → 22 ≤ end → 22 ≤ length page → take end more ≡ take 22 page ++ text
-    → take 22 more ≡ take 22 page
+front_stays : (page more text : List ℕ) (end : ℕ) → LINES ≤ end → LINES ≤ length page
+    → take end more ≡ take LINES page ++ text → take LINES more ≡ take LINES page
 front_stays page more text end far long e =
-    sym (take-take 22 end more far) ∙ ap (take 22) e
-    ∙ take-append-le 22 (take 22 page) text (rw (length-take-le 22 page long) (omega arith))
-    ∙ take-take 22 22 page (omega arith)
+    sym (take-take LINES end more far) ∙ ap (take LINES) e
+    ∙ take-append-le LINES (take LINES page) text (rw (length-take-le LINES page long) (omega arith))
+    ∙ take-take LINES LINES page (omega arith)
 
-text_behind : (page more text : List ℕ) (end : ℕ) → end ≡ 22 + length text → 22 ≤ length page
-    → take end more ≡ take 22 page ++ text → take (length text) (drop 22 more) ≡ text
+text_behind : (page more text : List ℕ) (end : ℕ) → end ≡ LINES + length text → LINES ≤ length page
+    → take end more ≡ take LINES page ++ text → take (length text) (drop LINES more) ≡ text
 text_behind page more text end there long e =
-    sym (drop-take 22 (length text) more) ∙ ap (λ n. drop 22 (take n more)) (sym there) ∙ ap (drop 22) e
-    ∙ grind (arith, drop-append_seam (take 22 page) text, length-take-le 22 page long)
+    sym (drop-take LINES (length text) more) ∙ ap (λ n. drop LINES (take n more)) (sym there) ∙ ap (drop LINES) e
+    ∙ grind (arith, drop-append_seam (take LINES page) text, length-take-le LINES page long)
 
 -- up to there the page has the header and their text
-up_to_end : (a : Named) (page : List ℕ) (ls : List Line) (d : ℕ) → AreKept a page ls → length page ≡ 4096
-    → take (lines_end a (take d ls)) page ≡ take 22 page ++ flat_map (line_text a) (take d ls)
+up_to_end : (a : Named) (page : List ℕ) (ls : List Line) (d : ℕ) → AreKept a page ls → length page ≡ ROOM
+    → take (lines_end a (take d ls)) page ≡ take LINES page ++ flat_map (line_text a) (take d ls)
 up_to_end a page ls d k size =
     front_and_text page (flat_map (line_text a) (take d ls)) (omega (arith, size)) (first_text a page ls d k)
 
 -- a line that was put behind the first of them stands, and they
 module _ (a : Named) (page more : List ℕ) (ls : List Line) (l : Line) (d : ℕ) (k : AreKept a page ls)
-    (few : d ≤ length ls) (size : length page ≡ 4096) (same : length more ≡ 4096) (room : l.end ≤ 4096)
+    (few : d ≤ length ls) (size : length page ≡ ROOM) (same : length more ≡ ROOM) (room : l.end ≤ ROOM)
     (put : take l.end more ≡ take (lines_end a (take d ls)) page ++ line_text a l) where
   abbrev both : List ℕ
   both = flat_map (line_text a) (take d ls ++ l ∷ [])
@@ -98,35 +99,35 @@ module _ (a : Named) (page more : List ℕ) (ls : List Line) (l : Line) (d : ℕ
   text_is : both ≡ flat_map (line_text a) (take d ls) ++ line_text a l
   text_is = one_text_more (line_text a) (take d ls) l
 
-  line : take l.end more ≡ take 22 page ++ both
+  line : take l.end more ≡ take LINES page ++ both
   line = put ∙ ap (λ t. t ++ line_text a l) (up_to_end a page ls d k size)
-      ∙ append_assoc (take 22 page) (flat_map (line_text a) (take d ls)) (line_text a l)
-      ∙ ap (λ t. take 22 page ++ t) (sym text_is)
+      ∙ append_assoc (take LINES page) (flat_map (line_text a) (take d ls)) (line_text a l)
+      ∙ ap (λ t. take LINES page ++ t) (sym text_is)
 
   put_end : l.end ≡ lines_end a (take d ls ++ l ∷ [])
   put_end = grind (arith, common_steps, ap length line)
 
-  put_header : take 22 more ≡ take 22 page
+  put_header : take LINES more ≡ take LINES page
   put_header = front_stays page more both l.end (omega (arith, put_end)) (omega (arith, size)) line
 
   put_kept : AreKept a more (take d ls ++ l ∷ [])
   put_kept = record {
     text = text_behind page more both l.end put_end (omega (arith, size)) line;
-    ends = ends_put a d 22 ls l k.ends few (grind (arith, common_steps, put_end, ap length text_is));
+    ends = ends_put a d LINES ls l k.ends few (grind (arith, common_steps, put_end, ap length text_is));
   }
 
   stands : AreKept a more (take d ls ++ l ∷ []) × (l.end ≡ lines_end a (take (d + 1) (take d ls ++ l ∷ [])))
-      × (take 22 more ≡ take 22 page)
+      × (take LINES more ≡ take LINES page)
   stands =
       let all : take (d + 1) (take d ls ++ l ∷ []) ≡ take d ls ++ l ∷ [] = grind (arith, common_steps) in
       (put_kept, rw all put_end, put_header)
 
 -- the line of a mark that was put behind the first of them
 pub line_stands : (a : Named) (p : Puzzle) (page more : List ℕ) (ls new : List Line) (m : Mark) (c : Choice)
-    (d at end : ℕ) → AreKept a page ls → d ≤ length ls → at ≡ lines_end a (take d ls) → length page ≡ 4096
-    → length more ≡ 4096 → end ≤ 4096 → p ≡ a.puzzle → c ≡ marked p m → take end more ≡ take at page ++ choice_text a c
+    (d at end : ℕ) → AreKept a page ls → d ≤ length ls → at ≡ lines_end a (take d ls) → length page ≡ ROOM
+    → length more ≡ ROOM → end ≤ ROOM → p ≡ a.puzzle → c ≡ marked p m → take end more ≡ take at page ++ choice_text a c
     → new ≡ take d ls ++ record { mark = m; end = end } ∷ []
-    → AreKept a more new × (end ≡ lines_end a (take (d + 1) new)) × (take 22 more ≡ take 22 page)
+    → AreKept a more new × (end ≡ lines_end a (take (d + 1) new)) × (take LINES more ≡ take LINES page)
 line_stands a p page more ls new m c d at end k few there size same room of_a of_m put e =
     let is : c ≡ marked a.puzzle m = of_m ∙ ap (λ q. marked q m) of_a in
     let line : take end more ≡ take (lines_end a (take d ls)) page ++ choice_text a (marked a.puzzle m) =
@@ -150,21 +151,22 @@ texts_of a (l ∷ ls) = ap (λ t. line_text a l ++ t) (texts_of a ls)
 
 -- all lines of a solution stand
 pub all_stand : (a : Named) (page first : List ℕ) (ls : List Line) (d at : ℕ) (marks : List Mark) (all : List Choice)
-    → AreKept a page ls → length page ≡ 4096 → at ≡ lines_end a (take d ls) → take 22 page ≡ take 22 first
+    → AreKept a page ls → length page ≡ ROOM → at ≡ lines_end a (take d ls) → take LINES page ≡ take LINES first
     → choices_of a (take d ls) ++ map (marked a.puzzle) marks ≡ all → marks ≡ []
-    → (take at page ≡ take 22 first ++ flat_map (choice_text a) all) × (22 ≤ at) × (at ≤ 4096)
+    → (take at page ≡ take LINES first ++ flat_map (choice_text a) all) × (LINES ≤ at) × (at ≤ ROOM)
 all_stand a page first ls d at marks all k size there same whole none =
     let texts : flat_map (line_text a) (take d ls) ≡ flat_map (choice_text a) all =
     sym (texts_of a (take d ls)) ∙ ap (flat_map (choice_text a)) (grind (arith, common_steps, whole, none)) in
     let front = up_to_end a page ls d k size in
-    let text : take at page ≡ take 22 first ++ flat_map (choice_text a) all =
+    let text : take at page ≡ take LINES first ++ flat_map (choice_text a) all =
     ap (λ n. take n page) there ∙ front ∙ ap (λ t. t ++ flat_map (line_text a) (take d ls)) same
-    ∙ ap (λ t. take 22 first ++ t) texts in
+    ∙ ap (λ t. take LINES first ++ t) texts in
     (text, omega (arith, there), rw there (first_fits a page ls d k size))
 
 -- a solution's lines stand behind its header
 pub solution_held : (page more lines header : List ℕ) (from to end : ℕ) → held_text page from to ≡ header → from ≤ to
-    → to ≡ 22 → length page ≡ 4096 → take end more ≡ take 22 page ++ lines → held_text more from end ≡ header ++ lines
+    → to ≡ LINES → length page ≡ ROOM → take end more ≡ take LINES page ++ lines
+    → held_text more from end ≡ header ++ lines
 solution_held page more lines header from to end held within there size e =
     held_more page more lines from to end within (omega (arith, there, size))
     (e ∙ ap (λ n. take n page ++ lines) (sym there)) ∙ ap (λ t. t ++ lines) held

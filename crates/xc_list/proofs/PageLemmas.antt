@@ -13,6 +13,7 @@ use lib.Lanes.{put_chunk, chunk}
 use Rattle.std.specs.Prelude.{flat_map}
 use Rattle.xc_list.specs.Texts.{SinkState, Took, BrokeOff}
 use Rattle.xc_list.specs.inner.Pages.{Puts, held_text}
+use Rattle.xc_list.specs.declared.page.TheConstants.{ROOM}
 use Rattle.xc_list.proofs.Writing.{one_more, then_took, then_broke, took_nothing, broke_before}
 use Rattle.std.proofs.lemmas.Grind.{common_steps}
 use Rattle.xc_input.proofs.TokenLemmas.Separators.{COLON}
@@ -60,14 +61,14 @@ short_put page text at from count few room long =
     let front = take-append-add (take at page) (chunk from 16 text) count in
     cc (length-take-le at page (omega (arith, room)), take-take count 16 (drop from text) few)
 
-colon_line : (page : List ℕ) → length page ≡ 4096
+colon_line : (page : List ℕ) → length page ≡ ROOM
     → take 2 (drop 20 (slice_set (slice_set page 20 COLON) 21 10)) ≡ COLON ∷ 10 ∷ []
 colon_line page size =
     let feed = drop-set-add 20 (slice_set page 20 COLON) 1 10 in
     cc (drop-set page 20 COLON (omega (arith, size)), drop-cons page 21 0 (omega (arith, size)))
 
 -- digits that end at the place of the colon
-pub header_held : (page put digits : List ℕ) (from : ℕ) → length page ≡ 4096 → from + length digits ≡ 20
+pub header_held : (page put digits : List ℕ) (from : ℕ) → length page ≡ ROOM → from + length digits ≡ 20
     → drop from put ≡ digits ++ drop 20 (slice_set (slice_set page 20 COLON) 21 10)
     → held_text put from 22 ≡ digits ++ COLON ∷ 10 ∷ []
 header_held page put digits from size ends e =

@@ -9,8 +9,9 @@ ghost use Rattle.xc_list.specs.Texts.{Writes};
 ghost use Rattle.xc_list.specs.Output.{from_item};
 ghost use Rattle.xc_list.specs.inner.LineParts.{use_text};
 ghost use Rattle.xc_list.specs.inner.Layout.{AreLaid, ArePadded, first_item, uses_text};
+ghost use Rattle.xc_list.specs.declared.page.TheConstants.{PADDING, ROOM};
 
-use crate::page::{ROOM, put_part};
+use crate::page::{PADDING, ROOM, put_part};
 use crate::sink::{Sink, Tray};
 use crate::uses::{colour_of, name_of, uses_at, write_option, write_uses};
 use crate::write::{SinkFault, write_all};
@@ -19,8 +20,8 @@ use std::marker::Model;
 use xc_dance::Memory;
 use xc_input::{Problem, Use};
 
-/// The texts of options one behind another, with the places where they start and at last the length of
-/// all, and behind them a few bytes more.
+/// The texts of options one after another, with the places where they start and at last the length of
+/// all, and after them a few bytes more.
 #[derive(Drop)]
 struct Layout {
     texts: Vec<u8>,
@@ -138,9 +139,6 @@ fn items_of_first_uses(alloc: Global, problem: &Problem) -> Result<Vec<u32>, Mem
     Ok(firsts)
 }
 
-/// How many bytes stand behind the texts, so that a short one can be read at once.
-const PADDING: usize = 16;
-
 /// The texts of a problem's options, if there is memory for them.
 fn lay_out(alloc: Global, problem: &Problem) -> Result<Layout, Memory>
     ensures laid { IfOk result (λ l. ArePadded problem.now problem.now.puzzle.options l.texts.items l.starts.items) }
@@ -165,14 +163,14 @@ fn lay_out(alloc: Global, problem: &Problem) -> Result<Layout, Memory>
     })
 }
 
-/// Where the text of an option stands among the texts, and how long it is.
+/// Where the text of an option starts among the texts, and how long it is.
 #[inline(always)]
 fn span_of(problem: &Problem, layout: &Layout, o: u32) -> (usize, usize)
     requires laid { ArePadded problem.now problem.now.puzzle.options layout.now.texts.items layout.now.starts.items }
     requires known { IsOption problem.now.puzzle o }
     ensures text { take result.1 (drop result.0 layout.now.texts.items)
         ≡ uses_text problem.now (uses_of problem.now.puzzle o) }
-    ensures within { result.0 + result.1 + 16 ≤ length layout.now.texts.items }
+    ensures within { result.0 + result.1 + PADDING ≤ length layout.now.texts.items }
     ensures few { result.0 + result.1 < 2 ^ 32 }
 {
     let from = layout.starts[o as usize - 1] as usize;
@@ -191,7 +189,7 @@ fn text_of<'a>(problem: &Problem, layout: &'a Layout, o: u32) -> &'a [u8]
     &layout.texts[from..from + count]
 }
 
-/// Puts the text of an option on a page, cut before an item's use, the part behind the cut first.
+/// Puts the text of an option on a page, cut before an item's use, the part after the cut first.
 // Out of line, since in most lines the branch item's use is the first: among the values of those this left too few in
 // registers.
 #[inline(never)]
@@ -205,12 +203,12 @@ fn put_cut(
 ) -> usize
     requires laid { ArePadded problem.now problem.now.puzzle.options layout.now.texts.items layout.now.starts.items }
     requires known { IsOption problem.now.puzzle o }
-    requires room { (at + length (uses_text problem.now (uses_of problem.now.puzzle o)) + 16 ≤ 4096)
-        × (length page.old ≡ 4096) }
+    requires room { (at + length (uses_text problem.now (uses_of problem.now.puzzle o)) + PADDING ≤ ROOM)
+        × (length page.old ≡ ROOM) }
     ensures put { take result page.new ≡ take at page.old
         ++ flat_map (use_text problem.now) (from_item item (uses_of problem.now.puzzle o)) }
-    ensures end { (at ≤ result) × (result + 16 ≤ 4096) }
-    ensures size { length page.new ≡ 4096 }
+    ensures end { (at ≤ result) × (result + PADDING ≤ ROOM) }
+    ensures size { length page.new ≡ ROOM }
 {
     let (from, count) = span_of(problem, layout, o);
     let place = place_in_text(problem, uses_at(problem, o), item);
@@ -219,40 +217,6 @@ fn put_cut(
         put_part(page, at + (count - place), &layout.texts, from, place);
     }
     at + count
-}
-
-/// Puts the text of an option on a page, cut before an item's use, the part behind the cut first; none
-/// where there is no room for it and a little more.
-#[inline(always)]
-fn put_text(
-    problem: &Problem,
-    layout: &Layout,
-    item: u32,
-    o: u32,
-    page: &mut [u8],
-    at: usize,
-) -> Option<usize>
-    requires laid { ArePadded problem.now problem.now.puzzle.options layout.now.texts.items layout.now.starts.items }
-    requires firsts { layout.now.firsts.items ≡ map first_item problem.now.puzzle.options }
-    requires known { IsOption problem.now.puzzle o }
-    requires room { (at ≤ 4096) × (length page.old ≡ 4096) }
-    ensures put { IfSome result (λ to. take to page.new ≡ take at page.old
-        ++ flat_map (use_text problem.now) (from_item item (uses_of problem.now.puzzle o))) }
-    ensures end { IfSome result (λ to. (at ≤ to) × (to + 16 ≤ 4096)) }
-    ensures none { IsNone result → page.new ≡ page.old }
-    ensures size { length page.new ≡ 4096 }
-{
-    let (from, count) = span_of(problem, layout, o);
-    // 16 bytes more: a short text is stored with bytes behind it, and the line's end follows.
-    if at + count + 16 > ROOM {
-        return None;
-    }
-    let first = layout.firsts[o as usize - 1];
-    if first == item {
-        put_part(page, at, &layout.texts, from, count);
-        return Some(at + count);
-    }
-    Some(put_cut(problem, layout, item, o, page, at))
 }
 
 /// The text of an option, cut before an item's use.
@@ -303,13 +267,23 @@ impl<'a> Bodies<'a> {
     }
 
     /// Options that are laid out if there is memory for it.
-    pub fn laid_out(alloc: Global, problem: &'a Problem) -> Bodies<'a>
+    fn laid_out(alloc: Global, problem: &'a Problem) -> Bodies<'a>
         ensures { result ≡ problem.now }
     {
         Bodies {
             problem,
             layout: lay_out(alloc, problem).ok(),
         }
+    }
+
+    /// Options that are laid out if many are printed.
+    pub fn for_printing(alloc: Global, problem: &'a Problem, many: bool) -> Bodies<'a>
+        ensures { result ≡ problem.now }
+    {
+        if many {
+            return Bodies::laid_out(alloc, problem);
+        }
+        Bodies::plain(problem)
     }
 
     /// The problem whose options these are.
@@ -377,13 +351,23 @@ impl<'b> LaidOut<'b> {
     #[inline(always)]
     pub fn put_option(&self, item: u32, o: u32, page: &mut [u8], at: usize) -> Option<usize>
         requires known { IsOption self.now.puzzle o }
-        requires room { (at ≤ 4096) × (length page.old ≡ 4096) }
+        requires room { (at ≤ ROOM) × (length page.old ≡ ROOM) }
         ensures put { IfSome result (λ to. take to page.new ≡ take at page.old
             ++ flat_map (use_text self.now) (from_item item (uses_of self.now.puzzle o))) }
-        ensures end { IfSome result (λ to. (at ≤ to) × (to + 16 ≤ 4096)) }
+        ensures end { IfSome result (λ to. (at ≤ to) × (to + PADDING ≤ ROOM)) }
         ensures none { IsNone result → page.new ≡ page.old }
-        ensures size { length page.new ≡ 4096 }
+        ensures size { length page.new ≡ ROOM }
     {
-        put_text(self.problem, self.layout, item, o, page, at)
+        let (from, count) = span_of(self.problem, self.layout, o);
+        // A short text is stored with bytes after it, and the line's end follows.
+        if at + count + PADDING > ROOM {
+            return None;
+        }
+        let first = self.layout.firsts[o as usize - 1];
+        if first == item {
+            put_part(page, at, &self.layout.texts, from, count);
+            return Some(at + count);
+        }
+        Some(put_cut(self.problem, self.layout, item, o, page, at))
     }
 }

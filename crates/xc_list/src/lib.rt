@@ -13,7 +13,8 @@
 
 mod bodies;
 mod checker;
-mod cover;
+mod choices;
+mod cover_test;
 pub mod laws;
 mod line;
 mod messages;
@@ -29,7 +30,7 @@ mod words;
 mod write;
 
 pub use checker::{ListingFault, Verdict, check};
-pub use cover::is_cover;
+pub use cover_test::is_cover;
 pub use line::write_line;
 pub use messages::{summary, warnings, word_fault};
 pub use print::write_solution;

@@ -1,8 +1,9 @@
-//! A page, on which a text is put together before the sink is asked to take it.
+//! A page, on which a text is put together before it is written to the sink.
 ghost use Rattle.std.specs.Prelude.{◌≡◌, ◌+◌, ◌<◌, ◌≤◌, [], ◌∷◌, ◌++◌, length, take, drop, decimal, codes};
 ghost use Rattle.std.specs.Prelude.{IfSome, true};
 ghost use Rattle.xc_input.specs.Named.{Named};
 ghost use Rattle.xc_list.specs.inner.Pages.{AreKept, held_text};
+ghost use Rattle.xc_list.specs.declared.page.TheConstants.{LINES, PADDING, ROOM};
 
 use itoa::write_digits;
 use std::marker::Model;
@@ -12,22 +13,25 @@ use xc_search::Mark;
 /// How many bytes a page has.
 pub const ROOM: usize = 4096;
 
-/// Where lines start, behind the header.
+/// Where lines start, after the header.
 pub const LINES: usize = 22;
+
+/// How many bytes a short text is copied by, and how many there are after the laid out texts, so that it can be.
+pub const PADDING: usize = 16;
 
 /// How many lines of a solution a page keeps at most.
 const KEPT: usize = 64;
 
-/// A line that stands on a page.
+/// A line on a page.
 #[derive(Clone, Copy)]
 pub struct Line {
-    /// Of what choice it is.
+    /// The mark of its choice.
     pub mark: Mark,
     /// Where it ends.
     pub end: usize,
 }
 
-/// The lines that stand on a page one behind another.
+/// The lines on a page, one after another.
 #[derive(Drop)]
 pub struct Kept {
     lines: [Line; KEPT],
@@ -37,12 +41,13 @@ pub struct Kept {
 impl Model for Kept {
     ghost use Rattle.std.specs.Prelude.{◌≡◌, ◌≤◌, List, length, take};
     ghost use Rattle.xc_list.specs.declared.page.Line.{Line};
+    ghost use Rattle.xc_list.specs.declared.page.TheConstants.{KEPT};
 
     ghost Value = { List Line };
 
     ghost view = { λ k. take k.count k.lines };
 
-    ghost invariant = { λ k. (k.count ≤ 64) × (length k.lines ≡ 64) };
+    ghost invariant = { λ k. (k.count ≤ KEPT) × (length k.lines ≡ KEPT) };
 }
 
 impl Kept {
@@ -62,7 +67,7 @@ impl Kept {
         }
     }
 
-    /// Where the line behind the first `done` ends, if it is the mark's.
+    /// Where the line after the first `done` ends, if it is the mark's.
     #[inline(always)]
     pub fn end_of(&self, done: usize, mark: Mark) -> Option<usize>
         ensures within { IfSome result (λ _. done < length self.now) }
@@ -78,7 +83,7 @@ impl Kept {
         None
     }
 
-    /// Puts a line behind the first `done`, in place of those that stand there, and says whether there was room.
+    /// Puts a line after the first `done`, in place of those that follow, and returns whether there was room.
     #[inline(always)]
     pub fn put(&mut self, done: usize, line: Line) -> bool
         requires { done ≤ length self.old }
@@ -92,7 +97,7 @@ impl Kept {
         true
     }
 
-    /// Lets all lines go.
+    /// Drops all lines.
     pub fn clear(&mut self)
         ensures { self.new ≡ [] }
     {
@@ -108,7 +113,7 @@ pub struct Page {
 }
 
 impl Page {
-    /// A page on which no line stands.
+    /// A page without lines.
     pub fn new() -> Page
         ensures { (a : Named) → AreKept a result.text result.kept }
     {
@@ -126,17 +131,17 @@ pub struct Held {
     pub to: usize,
 }
 
-/// Puts a part of a text on a page. A short one is one load and one store of 16 bytes: what they put
-/// behind it is overwritten later.
+/// Puts a part of a text on a page. A short one is copied by one load and one store of `PADDING` bytes; the bytes
+/// after it are overwritten later.
 #[inline(always)]
 pub fn put_part(page: &mut [u8], at: usize, text: &[u8], from: usize, count: usize)
-    requires room { at + count + 16 ≤ length page.old }
-    requires padded { from + count + 16 ≤ length text.now }
+    requires room { at + count + PADDING ≤ length page.old }
+    requires padded { from + count + PADDING ≤ length text.now }
     ensures put { take (at + count) page.new ≡ take at page.old ++ take count (drop from text.now) }
     ensures size { length page.new ≡ length page.old }
 {
-    if count <= 16 {
-        Simd::<u8, 16>::from_slice(&text[from..]).copy_to_slice(&mut page[at..]);
+    if count <= PADDING {
+        Simd::<u8, PADDING>::from_slice(&text[from..]).copy_to_slice(&mut page[at..]);
     } else {
         page[at..at + count].copy_from_slice(&text[from..from + count]);
     }
@@ -152,18 +157,18 @@ pub fn put_bytes(page: &mut [u8], at: usize, bytes: &[u8])
     page[at..at + bytes.len()].copy_from_slice(bytes);
 }
 
-/// Puts the header of a solution on an empty page. Its digits are put to end at a place, and tell where
+/// Puts the header of a solution on an empty page. Its digits end at a fixed place, so their number decides where
 /// the text starts.
 #[inline(always)]
 pub fn put_header(page: &mut [u8], number: u64) -> Held
-    requires { length page.old ≡ 4096 }
+    requires { length page.old ≡ ROOM }
     ensures put { held_text page.new result.from result.to ≡ decimal number ++ codes ":\n" }
-    ensures size { length page.new ≡ 4096 }
-    ensures held { (result.from ≤ result.to) × (result.to ≡ 22) }
-    ensures behind { drop 22 page.new ≡ drop 22 page.old }
+    ensures size { length page.new ≡ ROOM }
+    ensures held { (result.from ≤ result.to) × (result.to ≡ LINES) }
+    ensures behind { drop LINES page.new ≡ drop LINES page.old }
 {
     page[20] = b':';
     page[21] = b'\n';
     let from = write_digits(number, page, 20);
-    Held { from, to: 22 }
+    Held { from, to: LINES }
 }

@@ -8,12 +8,14 @@ ghost use Rattle.xc_list.specs.inner.LineParts.{branch_text};
 ghost use Rattle.xc_list.specs.inner.Pages.{IsPut, held_text, AreKept, MatchMark, lines_end};
 ghost use Rattle.xc_search.specs.Marks.{marked, IsMark};
 ghost use Rattle.xc_list.specs.Known.{IsKnownChoice};
+ghost use Rattle.xc_list.specs.declared.page.TheConstants.{LINES, PADDING, ROOM};
 
 use crate::bodies::{Bodies, LaidOut};
+use crate::choices::Choices;
 use crate::page::{Held, Kept, LINES, Line, Page, put_bytes, put_header};
 use crate::sink::Sink;
 use crate::uses::write_name;
-use crate::write::{SinkFault, write_all, write_number, write_numbered};
+use crate::write::{SinkFault, write_all, write_number, write_two_numbers};
 use xc_dance::Dance;
 use xc_input::Problem;
 use xc_search::{Choice, Mark, Walk};
@@ -101,9 +103,7 @@ fn two_digits_of_two_digits(k: u8, n: u8) -> [u8; 12]
 fn write_branch_in_pieces<S: Sink>(k: u32, n: u32, sink: &mut S) -> Result<(), SinkFault>
     ensures { Writes (S.state sink.old) (S.state sink.new) result (branch_text k n) }
 {
-    write_numbered(sink, b" (", k as u64, b" of ")?;
-    write_number(sink, n as u64)?;
-    write_all(sink, b")\n")
+    write_two_numbers(sink, b" (", k as u64, b" of ", n as u64, b")\n")
 }
 
 /// Writes branch and number of branches where one has two digits or more, to the end of the line.
@@ -142,44 +142,13 @@ fn write_choice<S: Sink>(bodies: &Bodies, choice: &Choice, sink: &mut S) -> Resu
     write_branch(choice.k, choice.n, sink)
 }
 
-fn write_choices<S: Sink>(
-    bodies: &Bodies,
-    choices: &[Choice],
-    sink: &mut S,
-) -> Result<(), SinkFault>
-    requires { All (IsKnownChoice bodies.now.puzzle) choices.now }
-    ensures { Writes (S.state sink.old) (S.state sink.new)
-        result (flat_map (choice_text bodies.now) choices.now) }
-{
-    for choice in choices {
-        write_choice(bodies, choice, sink)?;
-    }
-    Ok(())
-}
-
-/// Writes a solution: its number, and a line for each choice.
-pub fn write_member<S: Sink>(
-    number: u64,
-    choices: &[Choice],
-    bodies: &Bodies,
-    sink: &mut S,
-) -> Result<(), SinkFault>
-    requires { All (IsKnownChoice bodies.now.puzzle) choices.now }
-    ensures { Writes (S.state sink.old) (S.state sink.new)
-        result (member_text bodies.now (number, choices.now)) }
-{
-    write_number(sink, number)?;
-    write_all(sink, b":\n")?;
-    write_choices(bodies, choices, sink)
-}
-
 /// Puts branch and number of branches on a page, to the end of the line, where the number has two digits
 /// and the branch one or two; none else.
 #[inline(always)]
 fn put_long_branch(page: &mut [u8], at: usize, k: u32, n: u32) -> Option<usize>
-    requires { at + 16 ≤ length page.old }
+    requires { at + PADDING ≤ length page.old }
     ensures put { IfSome result (λ to. take to page.new ≡ take at page.old ++ branch_text k n) }
-    ensures end { IfSome result (λ to. (at ≤ to) × (to ≤ at + 16)) }
+    ensures end { IfSome result (λ to. (at ≤ to) × (to ≤ at + PADDING)) }
     ensures none { IsNone result → page.new ≡ page.old }
     ensures size { length page.new ≡ length page.old }
 {
@@ -200,9 +169,9 @@ fn put_long_branch(page: &mut [u8], at: usize, k: u32, n: u32) -> Option<usize>
 /// or more, or the branch more than their number.
 #[inline(always)]
 fn put_branch(page: &mut [u8], at: usize, k: u32, n: u32) -> Option<usize>
-    requires { at + 16 ≤ length page.old }
+    requires { at + PADDING ≤ length page.old }
     ensures put { IfSome result (λ to. take to page.new ≡ take at page.old ++ branch_text k n) }
-    ensures end { IfSome result (λ to. (at ≤ to) × (to ≤ at + 16)) }
+    ensures end { IfSome result (λ to. (at ≤ to) × (to ≤ at + PADDING)) }
     ensures none { IsNone result → page.new ≡ page.old }
     ensures size { length page.new ≡ length page.old }
 {
@@ -221,11 +190,11 @@ fn put_branch(page: &mut [u8], at: usize, k: u32, n: u32) -> Option<usize>
 #[inline(always)]
 fn put_choice(laid: &LaidOut, choice: Choice, page: &mut [u8], at: usize) -> Option<usize>
     requires known { IsKnownChoice laid.now.puzzle choice }
-    requires room { (at ≤ 4096) × (length page.old ≡ 4096) }
+    requires room { (at ≤ ROOM) × (length page.old ≡ ROOM) }
     ensures put { IfSome result (λ to. take to page.new ≡ take at page.old ++ choice_text laid.now choice) }
-    ensures end { IfSome result (λ to. (at ≤ to) × (to ≤ 4096)) }
+    ensures end { IfSome result (λ to. (at ≤ to) × (to ≤ ROOM)) }
     ensures none { IsNone result → take at page.new ≡ take at page.old }
-    ensures size { length page.new ≡ 4096 }
+    ensures size { length page.new ≡ ROOM }
 {
     let Some(o) = choice.option else {
         return None;
@@ -256,7 +225,7 @@ fn write_past<S: Sink>(
     write_choice(bodies, &Choice { item, option, k, n }, sink)
 }
 
-/// Puts the line of a choice behind what a page holds, or writes both.
+/// Puts the line of a choice after what a page holds, or writes both.
 #[inline(always)]
 fn put_line<S: Sink>(
     bodies: &Bodies,
@@ -268,12 +237,12 @@ fn put_line<S: Sink>(
 ) -> Result<Held, SinkFault>
     requires same { laid.now ≡ bodies.now }
     requires known { IsKnownChoice bodies.now.puzzle choice }
-    requires size { length page.old ≡ 4096 }
-    requires within { (held.from ≤ held.to) × (held.to ≤ 4096) }
+    requires size { length page.old ≡ ROOM }
+    requires within { (held.from ≤ held.to) × (held.to ≤ ROOM) }
     ensures put { IsPut (S.state sink.old) (S.state sink.new) (held_text page.old held.from held.to)
         result page.new (choice_text bodies.now choice) }
-    ensures within { IfOk result (λ h. (h.from ≤ h.to) × (h.to ≤ 4096)) }
-    ensures size { length page.new ≡ 4096 }
+    ensures within { IfOk result (λ h. (h.from ≤ h.to) × (h.to ≤ ROOM)) }
+    ensures size { length page.new ≡ ROOM }
 {
     if let Some(to) = put_choice(laid, choice, page, held.to) {
         return Ok(Held {
@@ -286,68 +255,93 @@ fn put_line<S: Sink>(
     Ok(Held { from: 0, to: 0 })
 }
 
-/// Puts the lines of a solution behind what a page holds.
+/// Puts the lines of a solution after what a page holds.
 #[inline(always)]
-fn put_lines<'a, D: Dance, S: Sink>(
+fn put_lines<C: Choices + Drop, S: Sink>(
     bodies: &Bodies,
     laid: &LaidOut,
-    walk: &Walk<'a, D>,
+    solution: C,
     page: &mut [u8],
     start: Held,
     sink: &mut S,
 ) -> Result<Held, SinkFault>
     requires same { laid.now ≡ bodies.now }
-    requires known { All (IsKnownChoice bodies.now.puzzle) walk.now.shown }
-    requires size { length page.old ≡ 4096 }
-    requires within { (start.from ≤ start.to) × (start.to ≤ 4096) }
+    requires known { All (IsKnownChoice bodies.now.puzzle) (C.left solution) }
+    requires size { length page.old ≡ ROOM }
+    requires within { (start.from ≤ start.to) × (start.to ≤ ROOM) }
     ensures put { IsPut (S.state sink.old) (S.state sink.new) (held_text page.old start.from start.to)
-        result page.new (flat_map (choice_text bodies.now) walk.now.shown) }
-    ensures within { IfOk result (λ h. (h.from ≤ h.to) × (h.to ≤ 4096)) }
-    ensures size { length page.new ≡ 4096 }
+        result page.new (flat_map (choice_text bodies.now) (C.left solution)) }
+    ensures within { IfOk result (λ h. (h.from ≤ h.to) × (h.to ≤ ROOM)) }
+    ensures size { length page.new ≡ ROOM }
 {
     let mut held = start;
-    let mut choices = walk.solution();
-    while let Some(choice) = choices.next() {
+    let mut choices = solution;
+    while let Some(choice) = choices.next_choice() {
         let next = put_line(bodies, laid, choice, page, held, sink)?;
         held = next;
     }
     Ok(held)
 }
 
-/// Writes a line for each choice of the solution at which a walk stands.
-fn write_lines<'a, D: Dance, S: Sink>(
-    walk: &Walk<'a, D>,
+/// Writes a line for each choice of a solution.
+#[inline(always)]
+fn write_lines<C: Choices + Drop, S: Sink>(
+    solution: C,
     bodies: &Bodies,
     sink: &mut S,
 ) -> Result<(), SinkFault>
-    requires { All (IsKnownChoice bodies.now.puzzle) walk.now.shown }
+    requires { All (IsKnownChoice bodies.now.puzzle) (C.left solution) }
     ensures { Writes (S.state sink.old) (S.state sink.new)
-        result (flat_map (choice_text bodies.now) walk.now.shown) }
+        result (flat_map (choice_text bodies.now) (C.left solution)) }
 {
-    let mut choices = walk.solution();
-    while let Some(choice) = choices.next() {
+    let mut choices = solution;
+    while let Some(choice) = choices.next_choice() {
         write_choice(bodies, &choice, sink)?;
     }
     Ok(())
 }
 
-/// Writes the solution at which a walk stands piece by piece: its number, and a line for each choice.
-fn write_in_pieces<'a, D: Dance, S: Sink>(
+/// Writes a solution piece by piece: its number, and a line for each choice.
+#[inline(always)]
+fn write_in_pieces<C: Choices + Drop, S: Sink>(
     number: u64,
-    walk: &Walk<'a, D>,
+    solution: C,
     bodies: &Bodies,
     sink: &mut S,
 ) -> Result<(), SinkFault>
-    requires { All (IsKnownChoice bodies.now.puzzle) walk.now.shown }
+    requires { All (IsKnownChoice bodies.now.puzzle) (C.left solution) }
     ensures { Writes (S.state sink.old) (S.state sink.new)
-        result (member_text bodies.now (number, walk.now.shown)) }
+        result (member_text bodies.now (number, C.left solution)) }
 {
     write_number(sink, number)?;
     write_all(sink, b":\n")?;
-    write_lines(walk, bodies, sink)
+    write_lines(solution, bodies, sink)
 }
 
-/// Writes the solution at which a walk stands, and lets the sink take what a page holds where there is no more room.
+/// Writes a solution by a page of which no line is kept. Where a line isn't put, what the page holds is written first.
+#[inline(always)]
+pub fn write_afresh<C: Choices + Drop, S: Sink>(
+    number: u64,
+    solution: C,
+    bodies: &Bodies,
+    page: &mut [u8],
+    sink: &mut S,
+) -> Result<(), SinkFault>
+    requires known { All (IsKnownChoice bodies.now.puzzle) (C.left solution) }
+    requires size { length page.old ≡ ROOM }
+    ensures written { Writes (S.state sink.old) (S.state sink.new)
+        result (member_text bodies.now (number, C.left solution)) }
+    ensures size { length page.new ≡ ROOM }
+{
+    let Some(laid) = bodies.laid() else {
+        return write_in_pieces(number, solution, bodies, sink);
+    };
+    let header = put_header(page, number);
+    let held = put_lines(bodies, &laid, solution, page, header, sink)?;
+    write_all(sink, &page[held.from..held.to])
+}
+
+/// Calls `write_afresh` with the solution that a walk shows.
 // Out of line: few solutions are as long.
 #[inline(never)]
 fn write_long<'a, D: Dance, S: Sink>(
@@ -358,21 +352,16 @@ fn write_long<'a, D: Dance, S: Sink>(
     sink: &mut S,
 ) -> Result<(), SinkFault>
     requires known { All (IsKnownChoice bodies.now.puzzle) walk.now.shown }
-    requires size { length page.old ≡ 4096 }
+    requires size { length page.old ≡ ROOM }
     ensures written { Writes (S.state sink.old) (S.state sink.new)
         result (member_text bodies.now (number, walk.now.shown)) }
-    ensures size { length page.new ≡ 4096 }
+    ensures size { length page.new ≡ ROOM }
 {
-    let Some(laid) = bodies.laid() else {
-        return write_in_pieces(number, walk, bodies, sink);
-    };
-    let header = put_header(page, number);
-    let held = put_lines(bodies, &laid, walk, page, header, sink)?;
-    write_all(sink, &page[held.from..held.to])
+    write_afresh(number, walk.solution(), bodies, page, sink)
 }
 
-/// Keeps the line of a mark that stands on a page behind the first `done`, or puts it there, and answers where it ends;
-/// none where it isn't put.
+/// Keeps the line of a mark if it is on the page after the first `done` lines, else puts it there, and returns where it
+/// ends; none where it isn't put.
 #[inline(always)]
 fn keep_line<'a, D: Dance>(
     laid: &LaidOut,
@@ -389,12 +378,12 @@ fn keep_line<'a, D: Dance>(
     requires kept { AreKept laid.now text.old kept.old }
     requires done { done ≤ length kept.old }
     requires at { at ≡ lines_end laid.now (take done kept.old) }
-    requires size { length text.old ≡ 4096 }
+    requires size { length text.old ≡ ROOM }
     ensures kept { IfSome result (λ _. AreKept laid.now text.new kept.new) }
     ensures stands { IfSome result (λ _. MatchMark (done + 1) kept.new (take done kept.old) mark) }
     ensures end { IfSome result (λ to. to ≡ lines_end laid.now (take (done + 1) kept.new)) }
-    ensures header { IfSome result (λ _. take 22 text.new ≡ take 22 text.old) }
-    ensures size { length text.new ≡ 4096 }
+    ensures header { IfSome result (λ _. take LINES text.new ≡ take LINES text.old) }
+    ensures size { length text.new ≡ ROOM }
 {
     if let Some(end) = kept.end_of(done, mark) {
         return Some(end);
@@ -407,7 +396,7 @@ fn keep_line<'a, D: Dance>(
     }
 }
 
-/// Puts the lines of a solution on a page, where those that stand there at their places are kept, and answers where
+/// Puts the lines of a solution on a page, where those that are at their places already are kept, and returns where
 /// they end; none where one isn't put.
 #[inline(always)]
 fn keep_lines<'a, D: Dance>(
@@ -419,12 +408,12 @@ fn keep_lines<'a, D: Dance>(
     requires same { walk.now.puzzle ≡ laid.now.puzzle }
     requires known { All (IsKnownChoice laid.now.puzzle) walk.now.shown }
     requires kept { AreKept laid.now text.old kept.old }
-    requires size { length text.old ≡ 4096 }
+    requires size { length text.old ≡ ROOM }
     ensures kept { IfSome result (λ _. AreKept laid.now text.new kept.new) }
     ensures put { IfSome result (λ to. take to text.new
-        ≡ take 22 text.old ++ flat_map (choice_text laid.now) walk.now.shown) }
-    ensures end { IfSome result (λ to. (22 ≤ to) × (to ≤ 4096)) }
-    ensures size { length text.new ≡ 4096 }
+        ≡ take LINES text.old ++ flat_map (choice_text laid.now) walk.now.shown) }
+    ensures end { IfSome result (λ to. (LINES ≤ to) × (to ≤ ROOM)) }
+    ensures size { length text.new ≡ ROOM }
 {
     let mut at = LINES;
     let mut done = 0;
@@ -436,11 +425,11 @@ fn keep_lines<'a, D: Dance>(
     Some(at)
 }
 
-/// Writes the solution at which a walk stands as `write_member` does, but where options are laid out puts its lines
-/// together on a page and lets the sink take them at once. The lines that stand on the page from the last solution are
-/// kept.
+/// Writes the solution that a walk shows. Where options are laid out, its lines are put together on a page and written
+/// at once, and the lines that are on the page from the last solution are kept.
 // Out of line: among the search's values too few would be left in registers. It takes the walk and not a `Solution`,
-// which holds its address: the compiler would then copy the walk once more at each call of `pass`.
+// which holds its address: the compiler would then copy the walk once more at each call of `pass`. So nothing that
+// takes a `Solution` is out of line.
 #[inline(never)]
 pub fn write_by_page<'a, D: Dance, S: Sink>(
     number: u64,
@@ -478,5 +467,5 @@ pub fn write_solution<S: Sink>(
     ensures { Writes (S.state sink.old) (S.state sink.new)
         result (member_text problem.now (number, choices.now)) }
 {
-    write_member(number, choices, &Bodies::plain(problem), sink)
+    write_in_pieces(number, choices, &Bodies::plain(problem), sink)
 }

@@ -144,16 +144,6 @@ fn prints_many(problem: &Problem, words: &Words) -> bool {
     choices > 0 && choices >= u64::from(problem.options())
 }
 
-/// The options of a problem, laid out if many are printed.
-fn bodies_for<'a>(alloc: Global, problem: &'a Problem, words: &Words) -> Bodies<'a>
-    ensures { result ≡ problem.now }
-{
-    if prints_many(problem, words) {
-        return Bodies::laid_out(alloc, problem);
-    }
-    Bodies::plain(problem)
-}
-
 /// Searches for the solutions, writes the listing as far as the words ask for it, unwinds, and
 /// gives the dance back with no moves. Want of memory is met before the first move alone.
 /// Each member of the listing is a cover, and each cover is the set of exactly one member.
@@ -178,7 +168,7 @@ pub fn run_over<D: Dance, S: Sink>(
 {
     match Walk::new(alloc, dance, problem) {
         Ok(mut walk) => {
-            let bodies = bodies_for(alloc, problem, &words);
+            let bodies = Bodies::for_printing(alloc, problem, prints_many(problem, &words));
             let end = write_members(&mut walk, &bodies, &words, sink);
             (walk.close(), Ok(end))
         }

@@ -12,10 +12,11 @@ ghost use Rattle.xc_list.specs.inner.SpanSteps.{dotted, numbers_text, text_at, r
 ghost use Rattle.xc_list.specs.inner.SpanSteps.{counts_text, told_text, WentOn, BeginsAt, written_text, SpanWritten};
 
 use crate::bodies::Bodies;
-use crate::print::write_member;
+use crate::page::ROOM;
+use crate::print::write_afresh;
 use crate::sink::Sink;
 use crate::span_words::SpanWords;
-use crate::write::{SinkFault, write_all, write_number, write_numbered};
+use crate::write::{SinkFault, write_all, write_number, write_two_numbers};
 use std::alloc::Global;
 use xc_dance::{Dance, Links};
 use xc_input::Problem;
@@ -123,9 +124,14 @@ fn write_until<'a, D: Dance, S: Sink>(
 fn write_counts<S: Sink>(went: &Went, sink: &mut S) -> Result<(), SinkFault>
     ensures { Writes (S.state sink.old) (S.state sink.new) result (counts_text went.now) }
 {
-    write_numbered(sink, b" solutions ", went.members, b" steps ")?;
-    write_number(sink, went.steps)?;
-    write_all(sink, b"\n")
+    write_two_numbers(
+        sink,
+        b" solutions ",
+        went.members,
+        b" steps ",
+        went.steps,
+        b"\n",
+    )
 }
 
 /// Writes where a span begins.
@@ -172,12 +178,13 @@ fn write_each<'a, D: Dance, S: Sink>(
         (members_text bodies.now (take went.members (left_of span.old))))
         (λ _. BrokeOff (S.state sink.old) (S.state sink.new) (members_text bodies.now (left_of span.old))) }
 {
+    let mut page = [0; ROOM];
     let mut steps = 0;
     for members in 0..u64::MAX {
         let went = span.go_on(1, most - steps);
         steps += went.steps;
         match went.halt {
-            Halt::Member => write_member(members + 1, span.choices(), bodies, sink)?,
+            Halt::Member => { write_afresh(members + 1, span.choices(), bodies, &mut page, sink)? }
             halt => {
                 return Ok(Went {
                     halt,
@@ -290,16 +297,6 @@ fn write_span<'a, D: Dance, S: Sink>(
     Ok(went)
 }
 
-/// The options of a problem, laid out if solutions are listed.
-fn bodies_for<'a>(alloc: Global, problem: &'a Problem, listed: bool) -> Bodies<'a>
-    ensures { result ≡ problem.now }
-{
-    if listed {
-        return Bodies::laid_out(alloc, problem);
-    }
-    Bodies::plain(problem)
-}
-
 /// Searches the span that the words ask for, over a dance that has no moves and room for `2 * items + 2 * uses` of
 /// them, and writes it: where it begins and its solutions, numbered from 1, if they are listed, and then its record,
 /// which tells where it begins and up to which row the search went, how many solutions stand between these, and how
@@ -326,7 +323,7 @@ pub fn list_span_over<D: Dance, S: Sink>(
         Ok(span) => span,
         Err((dance, _)) => return (dance, Err(SpanFault::Memory)),
     };
-    let bodies = bodies_for(alloc, problem, words.listed);
+    let bodies = Bodies::for_printing(alloc, problem, words.listed);
     let wrote = write_span(&mut span, &bodies, words, sink);
     let dance = span.close();
     match wrote {

@@ -67,7 +67,7 @@ pub fn write_number<S: Sink>(sink: &mut S, n: u64) -> Result<(), SinkFault>
 }
 
 /// Writes a number in decimal between two texts.
-pub fn write_numbered<S: Sink>(
+fn write_numbered<S: Sink>(
     sink: &mut S,
     before: &[u8],
     n: u64,
@@ -78,4 +78,21 @@ pub fn write_numbered<S: Sink>(
     write_all(sink, before)?;
     write_number(sink, n)?;
     write_all(sink, behind)
+}
+
+/// Writes two numbers in decimal, with a text before, one between and one after them.
+pub fn write_two_numbers<S: Sink>(
+    sink: &mut S,
+    before: &[u8],
+    n: u64,
+    between: &[u8],
+    m: u64,
+    after: &[u8],
+) -> Result<(), SinkFault>
+    ensures { Writes (S.state sink.old) (S.state sink.new)
+        result (before.now ++ decimal n ++ between.now ++ decimal m ++ after.now) }
+{
+    write_numbered(sink, before, n, between)?;
+    write_number(sink, m)?;
+    write_all(sink, after)
 }

@@ -10,6 +10,7 @@ use Rattle.std.proofs.lemmas.Bool.Decides.{nat_tests}
 use Rattle.std.proofs.Math.Seq.{take-append_seam, drop-append_seam}
 use Rattle.std.proofs.lemmas.List.{drop-append-le, drop-take, drop-drop}
 use Rattle.std.proofs.lemmas.List.{take-take, length-take, length-map, map-append, take-append-drop}
+use Rattle.xc_list.specs.declared.page.TheConstants.{PADDING}
 use Rattle.xc_list.specs.inner.LineParts.{use_text}
 use Rattle.std.proofs.Common.{ℕ, zero, suc, ◌≡◌, ◌+◌, ◌-◌, ◌≤◌, List, ◌∷◌, ◌++◌, length, map, take, drop}
 use Rattle.std.proofs.Common.{get_or, Some, refl, sym, ap, ◌∙◌, arith, length-append, length-drop}
@@ -62,10 +63,10 @@ laid_more a os us texts more (x ∷ starts) n l e f =
     let part = pieces-snoc _ _ _ _ _ l.rising (f ∙ ap length e ∙ length-append texts (uses_text a us)) in
     rw e (record { rising = part.0; parts = rw (part.1, l.parts, map-append) refl })
 
--- the text between two starts that were read, where 16 bytes more stand behind the texts
+-- the text between two starts that were read, where a few bytes more come after the texts
 pub padded_part : (a : Named) (os : List (List Use)) (texts starts : List ℕ) (o x y : ℕ) → ArePadded a os texts starts
     → (1 ≤ o) × (o ≤ length os) → x ≡ get_or starts (o - 1) x → y ≡ get_or starts o y
-    → (x ≤ y) × (y + 16 ≤ length texts)
+    → (x ≤ y) × (y + PADDING ≤ length texts)
     × (take (y - x) (drop x texts) ≡ uses_text a (unwrap_or (numbered_get os o) []))
 padded_part a os texts starts o x y p known e f =
     let l = p.are_laid in
@@ -76,7 +77,7 @@ padded_part a os texts starts o x y p known e f =
     let text = ap (λ ts. numbered_get ts o) l.parts ∙ numbered-map (uses_text a) os o known in
     grind (arith, common_steps)
 
-pub span-length : (texts : List ℕ) (from count : ℕ) → from + count + 16 ≤ length texts
+pub span-length : (texts : List ℕ) (from count : ℕ) → from + count + PADDING ≤ length texts
     → length (take count (drop from texts)) ≡ count
 span-length texts from count h = omega (arith, length-take count (drop from texts), length-drop from texts, h)
 
@@ -84,7 +85,8 @@ span-length texts from count h = omega (arith, length-take count (drop from text
 -- where an item's use starts in a text
 module _ (a : Named) (item : ℕ) (us : List Use) (texts : List ℕ) (from count place : ℕ)
     (text : take count (drop from texts) ≡ uses_text a us)
-    (there : place ≡ length (uses_text a (take (place_in item us) us))) (h : from + count + 16 ≤ length texts) where
+    (there : place ≡ length (uses_text a (take (place_in item us) us)))
+    (h : from + count + PADDING ≤ length texts) where
   pub cut_in_span : place ≤ count
   cut_in_span = omega (arith, cut_within a item us text there, span-length texts from count h)
 

@@ -4,6 +4,7 @@ use Rattle.xc_list.specs.inner.LineParts.{use_text}
 use Rattle.xc_input.specs.declared.problem.Use.{Use}
 use Rattle.xc_input.specs.inner.Flat.{pieces, AreStarts}
 use Rattle.xc_input.specs.Named.{Named}
+use Rattle.xc_list.specs.declared.page.TheConstants.{PADDING}
 
 -- the text of an option's uses in file order
 abbrev pub uses_text : Named → List Use → List ℕ
@@ -14,11 +15,11 @@ pub record AreLaid (a : Named) (options : List (List Use)) (texts starts : List 
   pub rising : AreStarts starts (length texts)
   pub parts : pieces starts texts ≡ map (uses_text a) options
 
--- the same with at least 16 bytes after the texts, so that each of them can be read by 16 bytes
+-- the same with a few bytes after the texts, so that a short one can be read at once
 pub record ArePadded (a : Named) (options : List (List Use)) (texts starts : List ℕ) : Type 0 where
   pub laid : List ℕ
   pub padding : List ℕ
-  pub long : 16 ≤ length padding
+  pub long : PADDING ≤ length padding
   pub whole : texts ≡ laid ++ padding
   pub are_laid : AreLaid a options laid starts
 

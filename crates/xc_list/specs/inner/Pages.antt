@@ -7,6 +7,7 @@ use Rattle.xc_list.specs.Output.{choice_text}
 use Rattle.xc_list.specs.declared.page.Line.{Line}
 use Rattle.xc_list.specs.Texts.{SinkState, Took, BrokeOff}
 use Rattle.xc_list.specs.declared.page.Held.{Held}
+use Rattle.xc_list.specs.declared.page.TheConstants.{LINES}
 
 -- what a page holds between two places
 abbrev pub held_text : List ℕ → ℕ → ℕ → List ℕ
@@ -30,7 +31,7 @@ line_text a l = choice_text a (marked a.puzzle l.mark)
 
 -- where lines end that are on a page after the header's place
 abbrev pub lines_end : Named → List Line → ℕ
-lines_end a ls = 22 + length (flat_map (line_text a) ls)
+lines_end a ls = LINES + length (flat_map (line_text a) ls)
 
 -- each line says where it ends, the first of them after a place
 abbrev pub AreEnds : Named → ℕ → List Line → Type 0
@@ -39,8 +40,8 @@ AreEnds a at (l ∷ ls) = (l.end ≡ at + length (line_text a l)) × AreEnds a l
 
 -- Lines are on a page after the header's place, and each says where it ends.
 pub record AreKept (a : Named) (page : List ℕ) (ls : List Line) : Type 0 where
-  pub text : take (length (flat_map (line_text a) ls)) (drop 22 page) ≡ flat_map (line_text a) ls
-  pub ends : AreEnds a 22 ls
+  pub text : take (length (flat_map (line_text a) ls)) (drop LINES page) ≡ flat_map (line_text a) ls
+  pub ends : AreEnds a LINES ls
 
 -- the first n of the lines are these and the mark's
 pub record MatchMark (n : ℕ) (ls before : List Line) (m : Mark) : Type 0 where

@@ -3,6 +3,7 @@ use Rattle.std.specs.Prelude.{All, map}
 use Rattle.xc_search.specs.Marks.{marked, IsMark}
 use Rattle.xc_list.specs.Known.{IsKnownChoice}
 use Rattle.xc_list.specs.inner.Pages.{AreKept, lines_end}
+use Rattle.xc_list.specs.declared.page.TheConstants.{LINES, ROOM}
 use Rattle.xc_list.proofs.print.keep_lines.Given as goal
 
 -- the lines of the marks before those that are left stand
@@ -15,8 +16,8 @@ invariant-loop-mark g l = record {
       ≡ l.fn.walk.shown;
   right : All (IsMark l.laid.puzzle) l.marks;
   known : All (IsKnownChoice l.laid.puzzle) (map (marked l.laid.puzzle) l.marks);
-  header : take 22 l.text ≡ take 22 l.fn.text;
-  size : length l.text ≡ 4096;
+  header : take LINES l.text ≡ take LINES l.fn.text;
+  size : length l.text ≡ ROOM;
 }
 
 abbrev pub decreases-loop-mark : goal.decreases-loop-mark

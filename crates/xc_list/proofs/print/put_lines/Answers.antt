@@ -1,5 +1,5 @@
 use Rattle.xc_list.proofs.Writing.{if_failed}
-use Rattle.std.proofs.Common.{sym, append-nil, []}
+use Rattle.std.proofs.Common.{arith, sym, refl, append-nil, []}
 use Rattle.std.proofs.lemmas.List.Elements.{All-tail}
 use Rattle.xc_list.specs.Known.{IsKnownChoice}
 use Rattle.xc_list.proofs.PageLemmas.{line_put, lines_broke, puts_held}
@@ -7,11 +7,15 @@ use Rattle.xc_list.proofs.print.put_lines.Goals as goal
 
 pub loop-choice-init : goal.loop-choice-init
 loop-choice-init g c = record {
-  put = record { done = []; whole = c.solution-choices.ensures; puts = puts_held _ _ _ [] (sym (append-nil _)) };
-  known = rw c.solution-choices.ensures c.requires.known;
+  put = record { done = []; whole = refl; puts = puts_held _ _ _ [] (sym (append-nil _)) };
+  known = c.requires.known;
   within = c.requires.within;
   size = c.requires.size;
 }
+
+pub put_line-requires-clause-known : goal.put_line-requires-clause-known
+put_line-requires-clause-known g c =
+    (rw c.in-Some.ensures.some at c.loop-choice.invariant.known) 0 c.in-Some.choice (omega arith)
 
 pub loop-choice-preserved : goal.loop-choice-preserved
 loop-choice-preserved g c = record {

@@ -1,7 +1,4 @@
-use Rattle.xc_list.proofs.Writing.{then_writes}
-use Rattle.std.proofs.Common.{arith}
-use Rattle.std.proofs.lemmas.Slice.{between_is}
 use Rattle.xc_list.proofs.print.write_long.Goals as goal
 
 pub returns-clause-written : goal.returns-clause-written
-returns-clause-written g c = grind (arith, between_is, then_writes)
+returns-clause-written g c = rw c.solution.ensures at c.write_afresh.ensures.written

@@ -32,19 +32,19 @@ pub loop-members-init : goal.loop-members-init
 loop-members-init g c =
     record { still = refl; ahead = none_passed _ _ _ _; taken = took_nothing _ }
 
-pub write_member-requires : goal.write_member-requires
-write_member-requires g c =
-    rw c.choices.ensures (holds_next _ _ (next g (goal.at.write_member-requires g c).After-go_on-went
+pub write_afresh-requires-clause-known : goal.write_afresh-requires-clause-known
+write_afresh-requires-clause-known g c =
+    rw c.choices.ensures (holds_next _ _ (next g (goal.at.write_afresh-requires-clause-known g c).After-go_on-went
     c.in-Member.is)
     (All (IsKnownChoice c.args.bodies.now.puzzle)) c.requires.known)
 
-pub returns-in_err-write_member-in-Member-clause-wrote :
-    goal.returns-in_err-write_member-in-Member-clause-wrote
-returns-in_err-write_member-in-Member-clause-wrote g c =
-    let at = next g (goal.at.returns-in_err-write_member-in-Member-clause-wrote g c).After-go_on-went c.in-Member.is in
+pub returns-in_err-write_afresh-in-Member-clause-wrote :
+    goal.returns-in_err-write_afresh-in-Member-clause-wrote
+returns-in_err-write_afresh-in-Member-clause-wrote g c =
+    let at = next g (goal.at.returns-in_err-write_afresh-in-Member-clause-wrote g c).After-go_on-went c.in-Member.is in
     if_failed _ _ c.from_residual.ensures.0
     (texts_broke_all (member_text c.args.bodies.now) (left_of c.args.span.now) c.loop-members.members at
-    c.loop-members.invariant.taken (rw c.choices.ensures at c.in_err-write_member-in-Member.ensures))
+    c.loop-members.invariant.taken (rw c.choices.ensures at c.in_err-write_afresh-in-Member.ensures.written))
 
 pub returns-in_default : goal.returns-in_default
 returns-in_default g c =
@@ -66,7 +66,7 @@ pub loop-members-preserved : goal.loop-members-preserved
 loop-members-preserved g c =
     let at = (goal.at.loop-members-preserved g c).After-go_on-went in
     let ms = left_of c.args.span.now in
-    let text = rw c.choices.ensures at c.in_ok-write_member-in-Member.ensures in
+    let text = rw c.choices.ensures at c.in_ok-write_afresh-in-Member.ensures.written in
     record {
       still = still_on c.args.span.now c.loop-members.span c.go_on-went.new.self c.loop-members.invariant.still
           c.go_on-went.ensures.still;

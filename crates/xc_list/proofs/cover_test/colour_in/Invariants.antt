@@ -1,6 +1,6 @@
 use Rattle.std.proofs.Common.{◌≡◌, drop}
 use Rattle.xc_input.specs.Problem.{colour_in}
-use Rattle.xc_list.proofs.cover.colour_in.Given as goal
+use Rattle.xc_list.proofs.cover_test.colour_in.Given as goal
 
 -- no use so far is of the item
 abbrev pub invariant-loop-u : goal.invariant-loop-u

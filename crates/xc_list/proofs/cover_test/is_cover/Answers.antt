@@ -1,6 +1,6 @@
 use Rattle.std.proofs.Common.{refl, ◌∙◌, sym}
 use Rattle.xc_list.proofs.CheckLemmas.TestedCovers.{cover_from_tests, tests_of_cover}
-use Rattle.xc_list.proofs.cover.is_cover.Goals as goal
+use Rattle.xc_list.proofs.cover_test.is_cover.Goals as goal
 
 pub returns-then-are_held_within : goal.returns-then-are_held_within
 returns-then-are_held_within c =

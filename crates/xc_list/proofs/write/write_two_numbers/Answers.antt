@@ -1,5 +1,5 @@
 use Rattle.xc_list.proofs.Writing.{then_took, then_broke, broke_before, then_writes, failed}
-use Rattle.xc_list.proofs.print.write_branch_in_pieces.Goals as goal
+use Rattle.xc_list.proofs.write.write_two_numbers.Goals as goal
 
 pub returns-in_err-write_numbered : goal.returns-in_err-write_numbered
 returns-in_err-write_numbered g c =

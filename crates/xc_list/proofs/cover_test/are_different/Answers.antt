@@ -9,7 +9,7 @@ use Rattle.std.proofs.Common.{arith}
 use Rattle.std.proofs.Common.{◌≢◌, refl, subst, sym}
 use Rattle.std.proofs.lemmas.List.{nil_from_length}
 use Rattle.xc_input.proofs.lists.EachTwo.{EachTwo, each_two_from_AllPairs, AllPairs-from_each_two}
-use Rattle.xc_list.proofs.cover.are_different.Goals as goal
+use Rattle.xc_list.proofs.cover_test.are_different.Goals as goal
 
 pub returns-then-contains : goal.returns-then-contains
 returns-then-contains c = grind (arith, each_two_from_AllPairs, in-any, each_in, eqb-true)

@@ -1,6 +1,6 @@
 use Rattle.std.proofs.Common.{◌≢◌, length}
 use Rattle.xc_input.proofs.lists.EachTwo.{EachTwo}
-use Rattle.xc_list.proofs.cover.are_different.Given as goal
+use Rattle.xc_list.proofs.cover_test.are_different.Given as goal
 
 -- those that are left are different exactly where all are
 abbrev pub invariant-loop-first : goal.invariant-loop-first
