@@ -1,17 +1,21 @@
 //! A tally that only proofs read. It takes no memory, and its functions do nothing at run time.
-ghost use Rattle.std.specs.Prelude.{◌≡◌, ℕ, ◌+◌};
-ghost use Rattle.std.specs.Borrow.{ftrue};
+ghost use Rattle.std.specs.Prelude.{◌≡◌, ◌+◌};
 
 use std::marker::Model;
+use xc_input::Noted;
 
 /// How often something was done, as a cell written or a sink flushed. A clause reads it as `count`.
 #[derive(Drop)]
 pub struct Tally {
-    pub ghost count: { ℕ },
+    noted: Noted<usize>,
 }
 
 impl Model for Tally {
-    ghost also_owns = { λ _. ftrue };
+    ghost use Rattle.xc_dance.specs.Counted.{Counted};
+
+    ghost Value = { Counted };
+
+    ghost view = { λ a. record { count = a.noted.value } };
 }
 
 impl Tally {
@@ -19,22 +23,26 @@ impl Tally {
     pub fn new() -> Tally
         ensures { result.count ≡ 0 }
     {
-        Tally {}
+        Tally {
+            noted: Noted::of(&()),
+        }
     }
 
     /// Once more.
     #[inline(always)]
-    pub fn one_more(_before: &Tally) -> Tally
-        ensures { result.count ≡ _before.now.count + 1 }
+    pub fn one_more(before: &Tally) -> Tally
+        ensures { result.count ≡ before.now.count + 1 }
     {
-        Tally {}
+        Tally::more(before, &1)
     }
 
     /// So many times more.
     #[inline(always)]
-    pub fn more(_before: &Tally, _times: &usize) -> Tally
-        ensures { result.count ≡ _before.now.count + _times.now }
+    pub fn more(before: &Tally, times: &usize) -> Tally
+        ensures { result.count ≡ before.now.count + times.now }
     {
-        Tally {}
+        Tally {
+            noted: Noted::of(&(before, times)),
+        }
     }
 }

@@ -13,6 +13,10 @@ use Rattle.xc_input.specs.Text.{StandsFor}
 use Rattle.xc_input.specs.FirstFault.{line_fault}
 use Rattle.xc_input.specs.Words.{has}
 
+-- The lines, or other pieces of text, that were given so far, in order.
+pub record GivenLines : Type 0 where
+  pub lines : List (List ℕ)
+
 -- A source: how many of its reads failed, up to the counter's last value; at most how many bytes it may still give; the
 -- bytes that it will give, if they are known; and what each read gave so far, in order, nothing at the end.
 pub record SourceState : Type 0 where

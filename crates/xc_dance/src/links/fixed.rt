@@ -7,17 +7,17 @@ ghost use Rattle.xc_dance.specs.inner.Links.OptionPlaces.{start_at};
 ghost use Rattle.xc_dance.specs.inner.Links.OptionSpans.{spans_of};
 ghost use Rattle.xc_dance.specs.inner.Links.Unmarked.{IsPlain};
 
-use crate::links::known::Known;
 use crate::links::node_counts::option_starts;
 use crate::links::spans::Spans;
 use std::alloc::{AllocError, Global};
 use std::marker::Model;
+use std::snapshot::Snapshot;
 use xc_input::Problem;
 
 /// The fixed tables of a problem. To contracts they are the problem itself.
 #[derive(Drop)]
 pub(crate) struct Fixed {
-    known: Known,
+    known: Snapshot<Problem>,
     spans: Spans,
     items: u32,
     primary: u32,
@@ -36,14 +36,14 @@ impl Model for Fixed {
 
     ghost Value = { Puzzle };
 
-    ghost view = { λ a. a.known.puzzle };
+    ghost view = { λ a. a.known.value.puzzle };
 
     ghost invariant = { λ a. record {
-      spans : a.spans ≡ spans_of a.known.puzzle;
-      items : a.items ≡ item_count a.known.puzzle;
-      primary : a.primary ≡ primary_count a.known.puzzle;
-      coloured : a.coloured ≡ false → IsPlain a.known.puzzle;
-      starts : a.starts.items ≡ starts_of a.known.puzzle;
+      spans : a.spans ≡ spans_of a.known.value.puzzle;
+      items : a.items ≡ item_count a.known.value.puzzle;
+      primary : a.primary ≡ primary_count a.known.value.puzzle;
+      coloured : a.coloured ≡ false → IsPlain a.known.value.puzzle;
+      starts : a.starts.items ≡ starts_of a.known.value.puzzle;
     } };
 }
 
@@ -58,7 +58,7 @@ impl Fixed {
         let items = problem.items();
         let starts = option_starts(alloc, problem)?;
         Ok(Fixed {
-            known: Known::of(problem),
+            known: Snapshot::of(problem),
             spans: Spans::of(problem),
             items,
             primary: problem.primary(),

@@ -3,14 +3,14 @@
 ghost use Rattle.std.specs.Prelude.{◌≡◌};
 ghost use Rattle.xc_dance.specs.inner.Links.OptionSpans.{spans_of};
 
-use crate::links::known::Known;
 use std::marker::Model;
+use std::snapshot::Snapshot;
 use xc_input::Problem;
 
 /// The spans of a problem's nodes. A clause sees the list of them.
 #[derive(Drop)]
 pub(crate) struct Spans {
-    known: Known,
+    known: Snapshot<Problem>,
 }
 
 impl Model for Spans {
@@ -20,7 +20,7 @@ impl Model for Spans {
 
     ghost Value = { List Span };
 
-    ghost view = { λ a. spans_of a.known.puzzle };
+    ghost view = { λ a. spans_of a.known.value.puzzle };
 }
 
 impl Spans {
@@ -28,7 +28,7 @@ impl Spans {
         ensures { result ≡ spans_of problem.now.puzzle }
     {
         Spans {
-            known: Known::of(problem),
+            known: Snapshot::of(problem),
         }
     }
 }

@@ -21,15 +21,15 @@ returns-in_err-write_act-clause-stops g c =
 
 pub returns-clause-after : goal.returns-clause-after
 returns-clause-after g c = record {
-  stands = ap (λ b. stand_reached b c.after.result.lines) c.take.ensures.listed
-      ∙ ap (stand_reached c.args.lines.now.joint.listed) c.after.ensures
+  stands = ap (λ b. stand_reached b c.after-lines.result.lines) c.take.ensures.listed
+      ∙ ap (stand_reached c.args.lines.now.joint.listed) c.after-lines.ensures
       ∙ stands-more c.args.lines.now.joint.listed c.args.lines.now.given.lines c.args.line.now _
       c.requires.after.stands ∙ ap (λ r. r.0) c.in_ok-act.ensures.step;
-  whole = rw c.after.ensures (whole-more _ c.args.line.now c.requires.after.whole c.requires.free);
+  whole = rw c.after-lines.ensures (whole-more _ c.args.line.now c.requires.after.whole c.requires.free);
 }
 
 pub returns-clause-adds : goal.returns-clause-adds
 returns-clause-adds g c =
-    rw c.after.ensures (adds-more c.args.lines.now.joint.listed c.args.lines.now.given.lines c.args.line.now _
+    rw c.after-lines.ensures (adds-more c.args.lines.now.joint.listed c.args.lines.now.given.lines c.args.line.now _
     c.requires.after.stands Took _ _ _ _ c.in_ok-act.ensures.step
     (c.in_ok-write_act.ensures c.args.line.now c.requires.with_feed))

@@ -6,17 +6,18 @@ use Rattle.xc_input.proofs.LineLemmas.TextLines.{whole-more}
 use Rattle.xc_input.proofs.reader.Reader.line.Goals as goal
 
 pub returns-in-Some-clause-state : goal.returns-in-Some-clause-state
-returns-in-Some-clause-state c = stays _ _ _ _ _ _ c.after.ensures c.in-Some.is c.self.invariant.1
+returns-in-Some-clause-state c = stays _ _ _ _ _ _ c.after-self-inside.ensures c.in-Some.is c.self.invariant.1
 
 pub invariant_of-self : goal.invariant_of-self
 invariant_of-self c = grind (arith, counts, stays, whole-more)
 
 pub returns-in-Err-clause-state : goal.returns-in-Err-clause-state
 returns-in-Err-clause-state c =
-    subst (IsErrorOf c.self.inside.kind c.after.result.lines) (sym c.at_line-error.ensures)
-    (fails c.self.inside.kind _ _ _ c.after.ensures _ c.in_default.is c.self.invariant.1 c.self.inside.builder
+    let after = c.after-self-inside in
+    subst (IsErrorOf c.self.inside.kind after.result.lines) (sym c.at_line-error.ensures)
+    (fails c.self.inside.kind _ _ _ after.ensures _ c.in_default.is c.self.invariant.1 c.self.inside.builder
     c.self.invariant.2 _ c.in-Err.e (Unit {0})
-    (counts _ _ _ _ _ c.after.ensures c.self.invariant.0 c.saturating_add-self-inside.ensures) c.in-Err.ensures.judged)
+    (counts _ _ _ _ _ after.ensures c.self.invariant.0 c.saturating_add-self-inside.ensures) c.in-Err.ensures.judged)
 
 pub invariant_of-self-in-Err : goal.invariant_of-self-in-Err
 invariant_of-self-in-Err c = grind (arith, counts, returns-in-Err-clause-state c, whole-more)
