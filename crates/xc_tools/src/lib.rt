@@ -18,6 +18,7 @@ mod lazy_file;
 mod located;
 mod messages;
 mod outgoing;
+mod piece;
 mod seeding;
 mod solving;
 mod span_lines;
