@@ -5,15 +5,15 @@ use std::alloc::AllocError;
 use std::io::IsTerminal;
 use std::process::ExitCode;
 use xc_tools::{
-    Direct, Outgoing, asked_join, closed_stream, join_spans, out_of_memory, random_seed,
-    span_files, words,
+    Direct, Outgoing, asked_join, closed_stream, exit_code, join_spans, random_seed, span_files,
+    words,
 };
 
 fn main(rt: HostRuntime) -> ExitCode {
-    ExitCode::from(run(&rt).unwrap_or_else(|_| out_of_memory(&mut Direct::new(rt.stderr()))))
+    exit_code(&rt, run(&rt))
 }
 
-/// Joins the texts of the named files or of standard input, and gives the status. Right words are followed by
+/// Joins the texts of the named files or of standard input, and returns the status. Right words are followed by
 /// a look at the standard streams: a file would take the number of a closed one.
 fn run(rt: &HostRuntime) -> Result<u8, AllocError> {
     let mut out = Outgoing::new(rt.alloc(), rt.stdout(), rt.stdout().is_terminal())?;

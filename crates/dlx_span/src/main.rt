@@ -4,13 +4,13 @@
 use std::alloc::AllocError;
 use std::io::IsTerminal;
 use std::process::ExitCode;
-use xc_tools::{Direct, Incoming, Outgoing, out_of_memory, random_seed, solve_span, words};
+use xc_tools::{Direct, Incoming, Outgoing, exit_code, random_seed, solve_span, words};
 
 fn main(rt: HostRuntime) -> ExitCode {
-    ExitCode::from(run(&rt).unwrap_or_else(|_| out_of_memory(&mut Direct::new(rt.stderr()))))
+    exit_code(&rt, run(&rt))
 }
 
-/// Writes the span that the words ask for of the problem on standard input, and gives the status.
+/// Writes the span that the words ask for of the problem on standard input, and returns the status.
 fn run(rt: &HostRuntime) -> Result<u8, AllocError> {
     let words = words(rt)?;
     let by_line = rt.stdout().is_terminal();

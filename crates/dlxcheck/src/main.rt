@@ -5,20 +5,20 @@ use std::alloc::AllocError;
 use std::io::IsTerminal;
 use std::process::ExitCode;
 use xc_tools::{
-    Direct, Incoming, Outgoing, asked_kind, closed_stream, judge, named_file, out_of_memory,
+    Direct, Incoming, Outgoing, asked_kind, closed_stream, exit_code, judge, named_file,
     random_seed, words,
 };
 
 fn main(rt: HostRuntime) -> ExitCode {
-    ExitCode::from(run(&rt).unwrap_or_else(|_| out_of_memory(&mut Direct::new(rt.stderr()))))
+    exit_code(&rt, run(&rt))
 }
 
-/// Judges the listing on standard input, and gives the status. Right words are followed by a look at the
+/// Judges the listing on standard input, and returns the status. Right words are followed by a look at the
 /// standard streams: the problem's file would take the number of a closed one.
 fn run(rt: &HostRuntime) -> Result<u8, AllocError> {
     let seed = random_seed(rt);
     let mut listing = Incoming::new(Some(rt.stdin()), seed);
-    // Taken before the words are judged: where there is no memory for it the status is 4, whatever they are.
+    // Taken before the words are judged: without memory for it the status is 4, whatever they are.
     let mut out = Outgoing::new(rt.alloc(), rt.stdout(), rt.stdout().is_terminal())?;
     let mut err = Direct::new(rt.stderr());
     let words = words(rt)?;

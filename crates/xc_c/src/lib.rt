@@ -17,7 +17,7 @@ mod tests;
 mod texts;
 
 use crate::numbers::{
-    DONE, FAULT, LIMIT, NO_KIND, NO_MEMORY, error_status, fault_number, numbered_kind,
+    DONE, FAULT, LIMIT, NO_KIND, NO_MEMORY, error_status, fault_number, kind_by_number,
 };
 use crate::texts::{count_solutions, first_fault, list_solutions};
 use std::alloc::Global;
@@ -44,7 +44,7 @@ pub extern "C" fn helgrothy_fault(
 {
     *line = 0;
     *fault = 0;
-    let Some(kind) = numbered_kind(kind) else {
+    let Some(kind) = kind_by_number(kind) else {
         return NO_KIND;
     };
     match first_fault(alloc, kind, text) {
@@ -70,7 +70,7 @@ pub extern "C" fn helgrothy_count(
     ensures { Searches kind text.now result (count.new ≡ 0) (Counts limit result count.new) }
 {
     *count = 0;
-    let Some(kind) = numbered_kind(kind) else {
+    let Some(kind) = kind_by_number(kind) else {
         return NO_KIND;
     };
     match count_solutions(alloc, kind, text, limit) {
@@ -99,7 +99,7 @@ pub extern "C" fn helgrothy_list(
         (Lists spacing limit buffer.old buffer.new result used.new) }
 {
     *used = 0;
-    let Some(kind) = numbered_kind(kind) else {
+    let Some(kind) = kind_by_number(kind) else {
         return NO_KIND;
     };
     let words = Words { spacing, limit };

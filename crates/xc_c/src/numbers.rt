@@ -20,7 +20,7 @@ pub(crate) const NO_MEMORY: u32 = 4;
 pub(crate) const NO_KIND: u32 = 5;
 
 /// The kind of a number.
-pub(crate) fn numbered_kind(number: u32) -> Option<Kind>
+pub(crate) fn kind_by_number(number: u32) -> Option<Kind>
     ensures { result ≡ kind_by_number number }
 {
     match number {

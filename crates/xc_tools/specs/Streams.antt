@@ -5,6 +5,7 @@ use Rattle.std.specs.Prelude.{length, Result, Ok, Err, if◌then◌else◌}
 use Rattle.std.specs.List.{ends_with}
 use Rattle.xc_input.specs.Calls.{one_more, counted, Rose}
 use Rattle.xc_tools.specs.declared.system.Answer.{Answer}
+use Rattle.xc_tools.specs.declared.system.System.{System}
 use Rattle.xc_tools.specs.declared.system.Answer.TheVariants.{Whole, Part, Flushed, Failed}
 
 -- Calls of the system: how many were made, how many of them failed and how many were flushes, up to the counters' last
@@ -14,6 +15,10 @@ pub record Asked : Type 0 where
   pub failures : ℕ
   pub flushes : ℕ
   pub last : Answer
+
+-- the calls of a stream of std
+abbrev pub calls_of : {T : Type 0} → System T → Asked
+calls_of s = record { calls = s.calls; failures = s.failures; flushes = s.flushes; last = s.last }
 
 -- whether a call failed
 abbrev pub is_failure : Answer → Bool

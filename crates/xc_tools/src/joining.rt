@@ -18,6 +18,7 @@ ghost use Rattle.xc_tools.specs.inner.Joining.{StopsReading, ToldStop};
 ghost use Rattle.xc_tools.specs.inner.SpanLines.{act_text};
 
 use crate::located::Located;
+use crate::piece::buffer;
 use crate::solving::finish;
 use crate::span_lines::{Act, Joint, Refusal, put_word};
 use crate::status::{
@@ -29,9 +30,6 @@ use itoa::Buffer;
 use std::alloc::{AllocError, Global};
 use xc_input::{Given, ReadFailed};
 use xc_list::{End, Sink, SinkFault, write_all, write_line};
-
-/// How many bytes are asked of a source at once.
-const PIECE: usize = 65536;
 
 /// Why no more is read.
 #[derive(Clone, Copy)]
@@ -209,13 +207,6 @@ fn feed<O: Sink>(
     }
     carry.extend_from_slice(rest)?;
     Ok(())
-}
-
-/// A buffer of zeros.
-fn buffer(alloc: Global) -> Result<Vec<u8>, AllocError>
-    ensures { IfOk result (λ v. length v.items ≡ 65536) }
-{
-    vec![in alloc; 0; PIECE]
 }
 
 /// Takes all that the source gives.

@@ -11,7 +11,7 @@ ghost use Rattle.xc_tools.specs.WholeRuns.{sinks, Prints};
 ghost use Rattle.xc_tools.specs.Judges.{asked_kind, numbered_kind, verdict_text, HasVerdicts};
 ghost use Rattle.xc_tools.specs.Judges.{DidJudgeListing, DidJudge};
 
-use crate::messages::{listing_fault, no_problem};
+use crate::failures::{listing_fault, no_problem};
 use crate::status::{
     BAD_INPUT, BAD_WORDS, COMPLETE, FAILED, NO_MEMORY, NOT_ALL_COVERS, flushed, out_of_memory,
     refuse, write_failed,

@@ -13,7 +13,7 @@ ghost use Rattle.xc_input.specs.Pieces.{IsWhole};
 ghost use Rattle.xc_tools.specs.Solves.{DidSearch, DidWarnAndSearch, DidSolve};
 ghost use Rattle.xc_tools.specs.WholeRuns.{sinks};
 
-use crate::messages::no_problem;
+use crate::failures::no_problem;
 use crate::status::{BAD_WORDS, COMPLETE, FAILED, flushed, out_of_memory};
 use std::alloc::Global;
 use xc_dance::Memory;

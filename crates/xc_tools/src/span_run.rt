@@ -5,8 +5,8 @@ ghost use Rattle.xc_list.specs.Texts.{seen, WasTold};
 ghost use Rattle.xc_tools.specs.WholeRuns.{sinks};
 ghost use Rattle.xc_tools.specs.SpanRuns.{asked_span, take_memory_of, DidSpan, DidSpanWords};
 
+use crate::failures::no_problem;
 use crate::judging::numbered_kind;
-use crate::messages::no_problem;
 use crate::status::{BAD_WORDS, COMPLETE, flushed, out_of_memory, refuse, write_failed};
 use std::alloc::{AllocError, Global};
 use xc_input::{Kind, Problem, Source, read_problem};

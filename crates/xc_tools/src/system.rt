@@ -1,7 +1,7 @@
 //! What the system is asked for its streams, and what it answers.
 ghost use Rattle.std.specs.Prelude.{◌≡◌, ◌≤◌, ℕ, List, Option, length, IfOk};
 ghost use Rattle.std.specs.Io.KnownBytes.{Keeps, ReadConsumes, WriteAppends};
-ghost use Rattle.xc_tools.specs.Streams.{Asked, answered, flushed, write_answer, answer_of};
+ghost use Rattle.xc_tools.specs.Streams.{Asked, answered, calls_of, flushed, write_answer, answer_of};
 ghost use Rattle.xc_tools.specs.inner.TakenAnswers.{taken_answer};
 ghost use Rattle.xc_tools.specs.declared.system.Answer.{Answer};
 ghost use Rattle.xc_tools.specs.declared.system.Answer.TheVariants.{Whole, Flushed};
@@ -95,18 +95,7 @@ impl<T: Drop> System<T> {
     /// Counts a read or a write.
     fn count(&mut self, answer: Answer)
         ensures stream { self.new.stream ≡ self.old.stream }
-        ensures asked { record {
-          calls = self.new.calls;
-          failures = self.new.failures;
-          flushes = self.new.flushes;
-          last = self.new.last;
-        }
-            ≡ answered answer (record {
-              calls = self.old.calls;
-              failures = self.old.failures;
-              flushes = self.old.flushes;
-              last = self.old.last;
-            }) }
+        ensures asked { calls_of self.new ≡ answered answer (calls_of self.old) }
     {
         self.calls = self.calls.saturating_add(1);
         if answer == Answer::Failed {
@@ -118,18 +107,7 @@ impl<T: Drop> System<T> {
     /// Counts a flush.
     fn count_flush(&mut self, answer: Answer)
         ensures stream { self.new.stream ≡ self.old.stream }
-        ensures asked { record {
-          calls = self.new.calls;
-          failures = self.new.failures;
-          flushes = self.new.flushes;
-          last = self.new.last;
-        }
-            ≡ flushed answer (record {
-              calls = self.old.calls;
-              failures = self.old.failures;
-              flushes = self.old.flushes;
-              last = self.old.last;
-            }) }
+        ensures asked { calls_of self.new ≡ flushed answer (calls_of self.old) }
     {
         self.count(answer);
         self.flushes = self.flushes.saturating_add(1);
@@ -139,7 +117,7 @@ impl<T: Drop> System<T> {
 impl<R: Read + Drop> SystemReader for System<R> {
     ghost remaining = { λ s. R.remaining s.stream };
 
-    ghost asked = { λ s. record { calls = s.calls; failures = s.failures; flushes = s.flushes; last = s.last } };
+    ghost asked = { λ s. calls_of s };
 
     fn read(&mut self, buf: &mut [u8]) -> Result<usize, ReadFailed> {
         match self.stream.read(buf) {
@@ -171,7 +149,7 @@ fn taken_answer(taken: usize, given: usize) -> Answer
 impl<W: Write + Drop> SystemWriter for System<W> {
     ghost contents = { λ s. W.contents s.stream };
 
-    ghost asked = { λ s. record { calls = s.calls; failures = s.failures; flushes = s.flushes; last = s.last } };
+    ghost asked = { λ s. calls_of s };
 
     fn write(&mut self, bytes: &[u8]) -> Result<usize, WriteFailed> {
         match self.stream.write(bytes) {

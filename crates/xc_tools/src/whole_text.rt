@@ -1,14 +1,12 @@
 //! Reads a whole text.
-ghost use Rattle.std.specs.Prelude.{◌≡◌, length, IfOk};
+ghost use Rattle.std.specs.Prelude.{◌≡◌, IfOk};
 ghost use Rattle.xc_input.specs.Pieces.{GaveAll};
 ghost use Rattle.xc_tools.specs.inner.WholeTexts.{IsCounted};
 ghost use Rattle.xc_tools.specs.declared.whole_text.TextError.TheVariants.{Device, Memory};
 
+use crate::piece::buffer;
 use std::alloc::{AllocError, Global};
 use xc_input::{ReadFailed, Source};
-
-/// How many bytes are asked of a source at once.
-const PIECE: usize = 65536;
 
 /// Why a text was not read.
 // Its two conversions are as those of `InputError`: that one has faults too, which reading a whole text can't answer.
@@ -49,12 +47,4 @@ pub(crate) fn read_text<S: Source>(alloc: Global, source: &mut S) -> Result<Vec<
         }
         text.extend_from_slice(&buf[..n])?;
     }
-}
-
-/// A buffer of zeros.
-// As in `xc_input/src/read.rt`, where it isn't public: six lines twice are less than a call more for those who use it.
-fn buffer(alloc: Global) -> Result<Vec<u8>, AllocError>
-    ensures { IfOk result (λ v. length v.items ≡ 65536) }
-{
-    vec![in alloc; 0; PIECE]
 }

@@ -2,8 +2,8 @@
 use Rattle.std.proofs.Common.{◌≡◌, ℕ, suc, ◌+◌, ◌^◌, ◌<◌, ◌⊎◌, inl, inr, Bool, true, false, List, []}
 use Rattle.std.proofs.Common.{◌∷◌}
 use Rattle.std.proofs.Common.{◌++◌, Option, None, Some, length, flat_map, refl, sym, ap, ◌∙◌, arith, append_assoc}
-use Rattle.std.proofs.Common.{append-nil, zero-add, min, subst, length-append}
-use Rattle.std.specs.Prelude.{IfSome, codes, if◌then◌else◌}
+use Rattle.std.proofs.Common.{append-nil, zero-add, subst, length-append}
+use Rattle.std.specs.Prelude.{IfSome, codes}
 use Rattle.std.specs.List.{AllByRecursion}
 use Rattle.std.specs.Str.{bytes_eq}
 use Rattle.std.proofs.lemmas.Slice.Eq.{bytes_eq-Decides}
@@ -17,18 +17,18 @@ use Rattle.xc_search.specs.Cover.{members}
 use Rattle.xc_search.specs.Spans.{between}
 use Rattle.xc_search.proofs.Cases.{by_bool}
 use Rattle.xc_search.proofs.spans.Rising.{all_between, keep_none, spans_meet}
-use Rattle.xc_list.specs.SpanTexts.{most_counted}
 use Rattle.xc_list.specs.Output.{member_text}
 use Rattle.xc_list.specs.ListingLines.{words_in}
 use Rattle.xc_list.specs.SpanTexts.{end_at, row_text}
 use Rattle.xc_tools.specs.Joins.{AreSmall, DoMeet, IsSpan, SearchedSpan, members_of}
 use Rattle.xc_tools.specs.inner.SpanLines.{Join, Stand, Told, goes, faulty, apart, stand_after, by_heading, by_line}
 use Rattle.xc_tools.specs.inner.SpanLines.{by_record}
-use Rattle.xc_tools.specs.inner.SpanLines.{closed, heading_of, meets, record_of, saturating_number, wrote}
+use Rattle.xc_tools.specs.inner.SpanLines.{heading_of, meets, record_of, wrote}
 use Rattle.xc_tools.proofs.JoinLemmas.SpanWords.{AreShort, AreShortIf, dash_or_digits, heading_line, heading-read}
 use Rattle.xc_tools.proofs.JoinLemmas.SpanWords.{record_line, record-read, rows-same, same}
 use Rattle.xc_tools.proofs.JoinLemmas.SpanRuns.{IsShort, after-append, is_last, listed_from, listed_part}
-use Rattle.xc_tools.proofs.JoinLemmas.SpanRuns.{rest_at, run-span, shown, span_lines, wrote-append}
+use Rattle.xc_tools.proofs.JoinLemmas.SpanRuns.{heading-read-so, record-read-so, rest_at, run-span, shown, span_lines}
+use Rattle.xc_tools.proofs.JoinLemmas.SpanRuns.{wrote-append}
 
 -- ---- spans with small numbers
 
@@ -57,24 +57,11 @@ wrote-apart m n (l ∷ ls) = wrote-apart m n ls
 
 heading-apart : (s : Join) (words : List (List ℕ)) (row : List ℕ) → heading_of words ≡ Some row → meets s row ≡ false
     → by_heading s words ≡ (apart s.met row, [])
-heading-apart s words row e m =
-    ap (λ o. elim o [
-      | None ↦ (faulty, [])
-      | Some r ↦ if meets s r then (goes (record s { found = Some 0 }), []) else (apart s.met r, [])
-    ]) e ∙ rw m refl
+heading-apart s words row e m = heading-read-so s words row e ∙ rw m refl
 
 record-apart : (s : Join) (words : List (List ℕ)) (t : Told) → record_of words ≡ Some t → meets s t.from ≡ false
     → by_record s words ≡ (apart s.met t.from, [])
-record-apart s words t e m =
-    ap (λ o. elim o [
-      | None ↦ (faulty, [])
-      | Some r ↦
-          if meets s r.from
-          then (
-            goes (closed (record s { total = min most_counted (s.total + saturating_number r.solutions) }) r.until),
-            [],
-          ) else (apart s.met r.from, [])
-    ]) e ∙ rw m refl
+record-apart s words t e m = record-read-so s words t e ∙ rw m refl
 
 -- these lines lead to a gap, and nothing is written for them
 abbrev IsGap : Stand → List (List ℕ) → Type 0

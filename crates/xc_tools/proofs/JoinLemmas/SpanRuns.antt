@@ -193,13 +193,18 @@ abbrev pub is_last : List ℕ → Bool
 is_last until = bytes_eq (row_text until) (codes "-")
 
 -- what a heading or a record does that was read
-heading-step : (s : Join) (words : List (List ℕ)) (row : List ℕ) → heading_of words ≡ Some row → meets s row ≡ true
-    → by_heading s words ≡ (goes (record s { found = Some 0 }), [])
-heading-step s words row e m =
+pub heading-read-so : (s : Join) (words : List (List ℕ)) (row : List ℕ) → heading_of words ≡ Some row
+    → by_heading s words
+    ≡ (if meets s row then (goes (record s { found = Some 0 }), []) else (apart s.met row, []))
+heading-read-so s words row e =
     ap (λ o. elim o [
       | None ↦ (faulty, [])
       | Some r ↦ if meets s r then (goes (record s { found = Some 0 }), []) else (apart s.met r, [])
-    ]) e ∙ rw m refl
+    ]) e
+
+heading-step : (s : Join) (words : List (List ℕ)) (row : List ℕ) → heading_of words ≡ Some row → meets s row ≡ true
+    → by_heading s words ≡ (goes (record s { found = Some 0 }), [])
+heading-step s words row e m = heading-read-so s words row e ∙ rw m refl
 
 last-step : (s : Join) (k : ℕ) (words : List (List ℕ)) (t : Told) → record_of words ≡ Some t
     → bytes_eq t.from s.met ≡ true → bytes_eq t.solutions (decimal k) ≡ true
@@ -212,10 +217,12 @@ last-step s k words t e m c =
           else (faulty, [])
     ]) e ∙ rw (m, c) refl
 
-record-step : (s : Join) (words : List (List ℕ)) (t : Told) → record_of words ≡ Some t → meets s t.from ≡ true
+pub record-read-so : (s : Join) (words : List (List ℕ)) (t : Told) → record_of words ≡ Some t
     → by_record s words
-    ≡ (goes (closed (record s { total = min most_counted (s.total + saturating_number t.solutions) }) t.until), [])
-record-step s words t e m =
+    ≡ (if meets s t.from
+    then (goes (closed (record s { total = min most_counted (s.total + saturating_number t.solutions) }) t.until), [])
+    else (apart s.met t.from, []))
+record-read-so s words t e =
     ap (λ o. elim o [
       | None ↦ (faulty, [])
       | Some r ↦
@@ -224,7 +231,12 @@ record-step s words t e m =
             goes (closed (record s { total = min most_counted (s.total + saturating_number r.solutions) }) r.until),
             [],
           ) else (apart s.met r.from, [])
-    ]) e ∙ rw m refl
+    ]) e
+
+record-step : (s : Join) (words : List (List ℕ)) (t : Told) → record_of words ≡ Some t → meets s t.from ≡ true
+    → by_record s words
+    ≡ (goes (closed (record s { total = min most_counted (s.total + saturating_number t.solutions) }) t.until), [])
+record-step s words t e m = record-read-so s words t e ∙ rw m refl
 
 run-heading : (row : List ℕ) (n : ℕ) → AreShort row
     → Runs (goes (rest_at true false row n)) (heading_line row ∷ []) (goes (mid row 0 n)) []

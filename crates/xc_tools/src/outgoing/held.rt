@@ -17,14 +17,15 @@ pub(crate) struct Held {
 
 impl Model for Held {
     ghost use Rattle.std.specs.Prelude.{◌≡◌, ◌≤◌, ℕ, List, length, take};
+    ghost use Rattle.xc_tools.specs.declared.outgoing.held.TheConstants.{ROOM};
 
     ghost Value = { List ℕ };
 
     ghost view = { λ h. take h.len h.buffer.items };
 
     ghost invariant = { λ h. record {
-      size : length h.buffer.items ≡ 65536;
-      within : h.len ≤ 65536;
+      size : length h.buffer.items ≡ ROOM;
+      within : h.len ≤ ROOM;
     } };
 }
 
@@ -43,7 +44,7 @@ impl Held {
     #[inline(always)]
     pub(crate) fn len(&self) -> usize
         ensures value { result ≡ length self.now }
-        ensures bound { result ≤ 65536 }
+        ensures bound { result ≤ ROOM }
     {
         self.len
     }
@@ -58,7 +59,7 @@ impl Held {
     /// Adds bytes for which there is room.
     #[inline(always)]
     pub(crate) fn append(&mut self, bytes: &[u8])
-        requires { length self.old + length bytes.now ≤ 65536 }
+        requires { length self.old + length bytes.now ≤ ROOM }
         ensures { self.new ≡ self.old ++ bytes.now }
     {
         put(&mut self.buffer, self.len, bytes);

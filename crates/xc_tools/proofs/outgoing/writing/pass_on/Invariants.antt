@@ -1,6 +1,6 @@
 use Rattle.std.proofs.Common.{◌≡◌, ◌≤◌, ◌-◌, length, take}
 use Rattle.std.specs.Io.KnownBytes.{Appends}
-use Rattle.xc_tools.proofs.outgoing.pass_on.Given as goal
+use Rattle.xc_tools.proofs.outgoing.writing.pass_on.Given as goal
 
 -- what stands before the place was passed on, and no call failed
 abbrev pub invariant-loop-place : goal.invariant-loop-place

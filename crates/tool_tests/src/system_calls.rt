@@ -4,6 +4,7 @@ ghost use Rattle.std.specs.Prelude.{◌≡◌, ◌≤◌, length, IfOk};
 use fixtures::{SEVEN, gathered, on_one};
 use std::alloc::Global;
 use std::io::{Read, Write};
+use std::test::Fail;
 use xc_input::{Kind, Seed, Source};
 use xc_list::{Sink, Tray};
 use xc_tools::{Direct, Incoming, Outgoing, solve};
@@ -62,12 +63,15 @@ fn successful_reads<S: Source>(source: &mut S) -> u64 {
 }
 
 #[test]
-fn a_read_that_fails_once(rt: HostRuntime) {
+fn a_read_that_fails_once() -> Result<(), Fail> {
     for n in 1..4 {
         let mut reader = FailsOnce::at(n);
-        assert!(rt; successful_reads(&mut Incoming::new(Some(&mut reader), Seed::FIXED)) == n - 1);
-        assert!(rt; reader.calls == n);
+        let reads = successful_reads(&mut Incoming::new(Some(&mut reader), Seed::FIXED));
+        if reads != n - 1 || reader.calls != n {
+            return Err(Fail::new(format_args!("call {n}")));
+        }
     }
+    Ok(())
 }
 
 /// Makes five calls of a sink, the last of them a flush, and counts those that succeed.
@@ -93,16 +97,18 @@ fn has_successes(alloc: Global, writer: &mut FailsOnce, many: u64) -> bool {
 }
 
 #[test]
-fn a_write_that_fails_once(rt: HostRuntime) {
+fn a_write_that_fails_once(rt: HostRuntime) -> Result<(), Fail> {
     for n in 1..6 {
         let mut direct = FailsOnce::at(n);
-        assert!(rt; successes(&mut Direct::new(&mut direct)) == n - 1);
-        assert!(rt; direct.calls == n);
-
+        if successes(&mut Direct::new(&mut direct)) != n - 1 || direct.calls != n {
+            return Err(Fail::new(format_args!("direct, call {n}")));
+        }
         let mut by_line = FailsOnce::at(n);
-        assert!(rt; has_successes(rt.alloc(), &mut by_line, n - 1));
-        assert!(rt; by_line.calls == n);
+        if !has_successes(rt.alloc(), &mut by_line, n - 1) || by_line.calls != n {
+            return Err(Fail::new(format_args!("by lines, call {n}")));
+        }
     }
+    Ok(())
 }
 
 /// Whether of five flushes those before this one succeed, and no other.
@@ -124,16 +130,18 @@ fn holding_fails_from(alloc: Global, writer: &mut FailsOnce, n: u64) -> bool {
 }
 
 #[test]
-fn a_flush_that_fails_once(rt: HostRuntime) {
+fn a_flush_that_fails_once(rt: HostRuntime) -> Result<(), Fail> {
     for n in 1..4 {
         let mut direct = FailsOnce::at(n);
-        assert!(rt; fails_from(&mut Direct::new(&mut direct), n));
-        assert!(rt; direct.calls == n);
-
+        if !fails_from(&mut Direct::new(&mut direct), n) || direct.calls != n {
+            return Err(Fail::new(format_args!("direct, call {n}")));
+        }
         let mut held = FailsOnce::at(n);
-        assert!(rt; holding_fails_from(rt.alloc(), &mut held, n));
-        assert!(rt; held.calls == n);
+        if !holding_fails_from(rt.alloc(), &mut held, n) || held.calls != n {
+            return Err(Fail::new(format_args!("held, call {n}")));
+        }
     }
+    Ok(())
 }
 
 /// The status of a run whose output goes to this writer.
@@ -189,8 +197,11 @@ const ENDS: [(&[u8], bool, u64, u8, u64, &[u8]); 6] = [
 ];
 
 #[test]
-fn a_run_whose_output_fails_once(rt: HostRuntime) {
-    for (text, by_line, n, status, calls, told) in &ENDS {
-        assert!(rt; ends_so(rt.alloc(), text, *by_line, *n, *status, *calls, told));
+fn a_run_whose_output_fails_once(rt: HostRuntime) -> Result<(), Fail> {
+    for (row, (text, by_line, n, status, calls, told)) in ENDS.iter().enumerate() {
+        if !ends_so(rt.alloc(), text, *by_line, *n, *status, *calls, told) {
+            return Err(Fail::new(format_args!("row {row}")));
+        }
     }
+    Ok(())
 }

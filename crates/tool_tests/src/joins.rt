@@ -2,6 +2,7 @@
 use crate::told::run_gives;
 use fixtures::{THREE_LISTING, gathered};
 use std::alloc::Global;
+use std::test::Fail;
 use xc_input::Feed;
 use xc_list::Tray;
 use xc_tools::join_spans;
@@ -51,10 +52,13 @@ const JOINED: [(&[&[u8]], &[u8], &[u8], &[u8]); 5] = [
 ];
 
 #[test]
-fn joined_texts(rt: HostRuntime) {
-    for (words, text, out, err) in &JOINED {
-        assert!(rt; joins(rt.alloc(), words, text, 0, out, err));
+fn joined_texts(rt: HostRuntime) -> Result<(), Fail> {
+    for (row, (words, text, out, err)) in JOINED.iter().enumerate() {
+        if !joins(rt.alloc(), words, text, 0, out, err) {
+            return Err(Fail::new(format_args!("row {row}")));
+        }
     }
+    Ok(())
 }
 
 const USAGE: &[u8] = b"Usage: dlx-join m0|m1 [FILE..]\n";
@@ -92,10 +96,13 @@ const GAPS: [(&[u8], &[u8], &[u8]); 6] = [
 ];
 
 #[test]
-fn ends_that_do_not_meet(rt: HostRuntime) {
-    for (text, out, err) in &GAPS {
-        assert!(rt; joins(rt.alloc(), &[b"m1"], text, 5, out, err));
+fn ends_that_do_not_meet(rt: HostRuntime) -> Result<(), Fail> {
+    for (row, (text, out, err)) in GAPS.iter().enumerate() {
+        if !joins(rt.alloc(), &[b"m1"], text, 5, out, err) {
+            return Err(Fail::new(format_args!("row {row}")));
+        }
     }
+    Ok(())
 }
 
 /// What isn't the texts of listed spans, and the line that is told.
@@ -148,10 +155,13 @@ fn listed_of(text: &[u8]) -> &'static [u8] {
 }
 
 #[test]
-fn damaged_texts(rt: HostRuntime) {
-    for (text, line) in &DAMAGED {
-        assert!(rt; is_damaged(rt.alloc(), text, line));
+fn damaged_texts(rt: HostRuntime) -> Result<(), Fail> {
+    for (row, (text, line)) in DAMAGED.iter().enumerate() {
+        if !is_damaged(rt.alloc(), text, line) {
+            return Err(Fail::new(format_args!("row {row}")));
+        }
     }
+    Ok(())
 }
 
 /// The status of a run of which the read of this number fails, over a sink that takes so many bytes.

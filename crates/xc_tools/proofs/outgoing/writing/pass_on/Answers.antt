@@ -2,7 +2,7 @@ use Rattle.std.proofs.Math.Seq.{take-add}
 use Rattle.xc_list.proofs.TextLemmas.{appends_more}
 use Rattle.std.proofs.Common.{arith}
 use Rattle.std.proofs.lemmas.Grind.{common_steps}
-use Rattle.xc_tools.proofs.outgoing.pass_on.Goals as goal
+use Rattle.xc_tools.proofs.outgoing.writing.pass_on.Goals as goal
 
 pub loop-place-preserved : goal.loop-place-preserved
 loop-place-preserved g c = grind (arith, common_steps, take-add, appends_more)

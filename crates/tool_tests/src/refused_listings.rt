@@ -40,20 +40,21 @@ const FAULTS: [(&[u8], &[u8]); 20] = [
 ];
 
 #[test]
-fn faults_of_listings(rt: HostRuntime) {
-    for (listing, message) in &FAULTS {
-        assert!(rt;
-            judge_tells(
-                rt.alloc(),
-                Kind::Colours,
-                COLOURED,
-                listing,
-                2,
-                b"",
-                message
-            )
-        );
+fn faults_of_listings(rt: HostRuntime) -> Result<(), Fail> {
+    for (row, (listing, message)) in FAULTS.iter().enumerate() {
+        if !judge_tells(
+            rt.alloc(),
+            Kind::Colours,
+            COLOURED,
+            listing,
+            2,
+            b"",
+            message,
+        ) {
+            return Err(Fail::new(format_args!("row {row}")));
+        }
     }
+    Ok(())
 }
 
 const HELD_TWICE: [&[u8]; 2] = [b"2|A\nA\nA\n", b"2|A\nA\nA\nA\n"];
@@ -62,12 +63,15 @@ const HELD_TWICE: [&[u8]; 2] = [b"2|A\nA\nA\n", b"2|A\nA\nA\nA\n"];
 const NO_HEADERS: [&[u8]; 3] = [b"x\n", b" A (1 of 1)\n", b"000000000000000000001:\n"];
 
 #[test]
-fn first_lines_that_are_no_header(rt: HostRuntime) {
+fn first_lines_that_are_no_header(rt: HostRuntime) -> Result<(), Fail> {
     for problem in &HELD_TWICE {
-        for listing in &NO_HEADERS {
-            assert!(rt; judge_tells(rt.alloc(), Kind::Bounds, problem, listing, 2, b"", BAD_1));
+        for (row, listing) in NO_HEADERS.iter().enumerate() {
+            if !judge_tells(rt.alloc(), Kind::Bounds, problem, listing, 2, b"", BAD_1) {
+                return Err(Fail::new(format_args!("row {row}")));
+            }
         }
     }
+    Ok(())
 }
 
 #[test]
@@ -80,11 +84,18 @@ fn faults_of_problems_come_first(rt: HostRuntime) {
 const WRONG: [&[&[u8]]; 4] = [&[], &[b"p", b"4"], &[b"p", b""], &[b"p", b"1", b"1"]];
 
 #[test]
-fn words_of_the_judge(rt: HostRuntime) {
+fn words_of_the_judge(rt: HostRuntime) -> Result<(), Fail> {
     let usage: &[u8] = b"Usage: dlxcheck PROBLEM [1|2|3]\n";
-    for words in &WRONG {
-        assert!(rt; judge_gives(rt.alloc(), *words, b"A\nA\n", b"", 4096, 1, b"", usage));
+    for (row, words) in WRONG.iter().enumerate() {
+        if !judge_gives(rt.alloc(), *words, b"A\nA\n", b"", 4096, 1, b"", usage) {
+            return Err(Fail::new(format_args!("row {row}")));
+        }
     }
+    Ok(())
+}
+
+#[test]
+fn without_a_kind_the_judge_reads_bounds(rt: HostRuntime) {
     let no_cover = b"1: not a cover\n";
     assert!(rt;
         judge_gives(
@@ -101,7 +112,7 @@ fn words_of_the_judge(rt: HostRuntime) {
 }
 
 #[test]
-fn a_listing_cut_at_each_byte(rt: HostRuntime) {
+fn a_listing_cut_at_each_byte(rt: HostRuntime) -> Result<(), Fail> {
     let cover: &[u8] = b"1: cover\n";
     let no_cover: &[u8] = b"1: not a cover\n";
     for cut in 0..40 {
@@ -115,18 +126,19 @@ fn a_listing_cut_at_each_byte(rt: HostRuntime) {
             _ => (0, cover, b""),
         };
         let part = &COLOURED_LISTING[..cut];
-        assert!(rt;
-            judge_tells(
-                rt.alloc(),
-                Kind::Colours,
-                COLOURED,
-                part,
-                status,
-                verdicts,
-                message
-            )
-        );
+        if !judge_tells(
+            rt.alloc(),
+            Kind::Colours,
+            COLOURED,
+            part,
+            status,
+            verdicts,
+            message,
+        ) {
+            return Err(Fail::new(format_args!("cut {cut}")));
+        }
     }
+    Ok(())
 }
 
 #[test]

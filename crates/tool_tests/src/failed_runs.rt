@@ -3,6 +3,7 @@ ghost use Rattle.std.specs.Prelude.{None, false};
 
 use fixtures::{COLOURED, COLOURED_LISTING, SEVEN, SEVEN_LISTING, gathered, on_one};
 use std::alloc::Global;
+use std::test::Fail;
 use xc_input::{Feed, Kind};
 use xc_list::{Flushes, Sink, Tray, WriteFailed};
 use xc_tools::{judge, solve};
@@ -78,10 +79,13 @@ const FAILING: [(Failing, usize); 3] = [
 ];
 
 #[test]
-fn reads_and_writes_that_fail(rt: HostRuntime) {
-    for (run, heard) in &FAILING {
-        assert!(rt; fails_so(rt.alloc(), run, *heard));
+fn reads_and_writes_that_fail(rt: HostRuntime) -> Result<(), Fail> {
+    for (row, (run, heard)) in FAILING.iter().enumerate() {
+        if !fails_so(rt.alloc(), run, *heard) {
+            return Err(Fail::new(format_args!("row {row}")));
+        }
     }
+    Ok(())
 }
 
 /// The status of `judge` by these words.
@@ -135,10 +139,13 @@ const JUDGE_FAILING: [([Option<u64>; 2], usize, &[u8], &[u8]); 3] = [
 ];
 
 #[test]
-fn reads_and_writes_of_the_judge_that_fail(rt: HostRuntime) {
-    for (fails_at, room, verdicts, told) in &JUDGE_FAILING {
-        assert!(rt; judge_fails_so(rt.alloc(), *fails_at, *room, verdicts, told));
+fn reads_and_writes_of_the_judge_that_fail(rt: HostRuntime) -> Result<(), Fail> {
+    for (row, (fails_at, room, verdicts, told)) in JUDGE_FAILING.iter().enumerate() {
+        if !judge_fails_so(rt.alloc(), *fails_at, *room, verdicts, told) {
+            return Err(Fail::new(format_args!("row {row}")));
+        }
     }
+    Ok(())
 }
 
 /// Takes all bytes, and fails at each flush.

@@ -1,5 +1,5 @@
 use Rattle.std.proofs.Common.{rules}
-use Rattle.xc_tools.proofs.outgoing.OutgoingSink.flush.Goals as goal
+use Rattle.xc_tools.proofs.outgoing.writing.OutgoingSink.flush.Goals as goal
 
 pub returns-clause-settled : goal.returns-clause-settled
 returns-clause-settled g c = search rules

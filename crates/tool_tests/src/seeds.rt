@@ -89,13 +89,16 @@ fn is_read_by(alloc: Global, text: &[u8], seed: Seed) -> bool {
 }
 
 #[test]
-fn each_seed_reads_the_same(rt: HostRuntime) {
+fn each_seed_reads_the_same(rt: HostRuntime) -> Result<(), Fail> {
     let text = b"a b | x y\na x:red\nb y:green x:red\n";
     let other = Seed::new(0x0123_4567_89ab_cdef_fedc_ba98_7654_3210);
     assert!(rt; other != Seed::FIXED);
-    for &seed in &[Seed::FIXED, other, Seed::new(0)] {
-        assert!(rt; is_read_by(rt.alloc(), text, seed));
+    for (row, &seed) in [Seed::FIXED, other, Seed::new(0)].iter().enumerate() {
+        if !is_read_by(rt.alloc(), text, seed) {
+            return Err(Fail::new(format_args!("row {row}")));
+        }
     }
+    Ok(())
 }
 
 #[test]
@@ -152,16 +155,21 @@ fn is_solved_and_judged(alloc: Global, seed: Seed) -> bool {
     })
 }
 
+/// Whether a problem that is read by a seed has it.
+fn has_seed(alloc: Global, seed: Seed) -> bool {
+    let mut source = Incoming::new(Some(SEVEN), seed);
+    on_source(alloc, Kind::Plain, &mut source, |read| {
+        read.problem.seed() == seed
+    })
+}
+
 #[test]
-fn the_same_by_each_seed(rt: HostRuntime) {
+fn the_same_by_each_seed(rt: HostRuntime) -> Result<(), Fail> {
     for keys in &[0, 1, 12_345, u128::MAX] {
         let seed = Seed::new(*keys);
-        let mut source = Incoming::new(Some(SEVEN), seed);
-        assert!(rt;
-            on_source(rt.alloc(), Kind::Plain, &mut source, |read| {
-                read.problem.seed() == seed
-            })
-        );
-        assert!(rt; is_solved_and_judged(rt.alloc(), seed));
+        if !has_seed(rt.alloc(), seed) || !is_solved_and_judged(rt.alloc(), seed) {
+            return Err(Fail::new(format_args!("keys {keys}")));
+        }
     }
+    Ok(())
 }

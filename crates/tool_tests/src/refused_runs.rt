@@ -2,17 +2,21 @@
 use crate::told::solve_tells;
 use fixtures::on_one;
 use std::alloc::{AllocError, Global};
+use std::test::Fail;
 use xc_input::Kind;
 
 #[test]
-fn no_items(rt: HostRuntime) {
+fn no_items(rt: HostRuntime) -> Result<(), Fail> {
     let rows: [(&[u8], &[u8]); 2] = [
         (b"", b"Line 1: no items.\n"),
         (b"| hi\n", b"Line 2: no items.\n"),
     ];
-    for (text, message) in &rows {
-        assert!(rt; solve_tells(rt.alloc(), Kind::Plain, &[b"m1"], text, 2, b"", message));
+    for (row, (text, message)) in rows.iter().enumerate() {
+        if !solve_tells(rt.alloc(), Kind::Plain, &[b"m1"], text, 2, b"", message) {
+            return Err(Fail::new(format_args!("row {row}")));
+        }
     }
+    Ok(())
 }
 
 /// Words that a solver refuses, and what it says of them.
@@ -26,10 +30,13 @@ const WORDS: [(&[&[u8]], &[u8]); 6] = [
 ];
 
 #[test]
-fn words_come_before_the_input(rt: HostRuntime) {
-    for (words, message) in &WORDS {
-        assert!(rt; solve_tells(rt.alloc(), Kind::Plain, words, b"", 1, b"", message));
+fn words_come_before_the_input(rt: HostRuntime) -> Result<(), Fail> {
+    for (row, (words, message)) in WORDS.iter().enumerate() {
+        if !solve_tells(rt.alloc(), Kind::Plain, words, b"", 1, b"", message) {
+            return Err(Fail::new(format_args!("row {row}")));
+        }
     }
+    Ok(())
 }
 
 /// Texts that a solver refuses, and what it says of their first fault.
@@ -98,14 +105,17 @@ const FAULTS: [(Kind, &[u8], &[u8]); 25] = [
 ];
 
 #[test]
-fn faults(rt: HostRuntime) {
-    for (kind, text, message) in &FAULTS {
-        assert!(rt; solve_tells(rt.alloc(), *kind, &[b"m1"], text, 2, b"", message));
+fn faults(rt: HostRuntime) -> Result<(), Fail> {
+    for (row, (kind, text, message)) in FAULTS.iter().enumerate() {
+        if !solve_tells(rt.alloc(), *kind, &[b"m1"], text, 2, b"", message) {
+            return Err(Fail::new(format_args!("row {row}")));
+        }
     }
+    Ok(())
 }
 
 #[test]
-fn a_text_cut_at_each_byte(rt: HostRuntime) {
+fn a_text_cut_at_each_byte(rt: HostRuntime) -> Result<(), Fail> {
     let text = b"A B\nA B A\n";
     let none: &[u8] = b"Altogether 0 solutions.\n";
     let fault: &[u8] = b"Line 2: item repeated in option.\n";
@@ -117,18 +127,19 @@ fn a_text_cut_at_each_byte(rt: HostRuntime) {
             _ => (2, b"", fault),
         };
         let part = &text[..cut];
-        assert!(rt;
-            solve_tells(
-                rt.alloc(),
-                Kind::Plain,
-                &[b"m1"],
-                part,
-                status,
-                listing,
-                message
-            )
-        );
+        if !solve_tells(
+            rt.alloc(),
+            Kind::Plain,
+            &[b"m1"],
+            part,
+            status,
+            listing,
+            message,
+        ) {
+            return Err(Fail::new(format_args!("cut {cut}")));
+        }
     }
+    Ok(())
 }
 
 /// A text with a thousand times the same byte in its midst.
@@ -175,8 +186,11 @@ const TOO_LONG: [(Kind, &[u8], u8, &[u8], &[u8]); 4] = [
 ];
 
 #[test]
-fn tokens_of_a_thousand_bytes(rt: HostRuntime) {
-    for (kind, before, byte, behind, message) in &TOO_LONG {
-        assert!(rt; is_refused(rt.alloc(), *kind, before, *byte, behind, message));
+fn tokens_of_a_thousand_bytes(rt: HostRuntime) -> Result<(), Fail> {
+    for (row, (kind, before, byte, behind, message)) in TOO_LONG.iter().enumerate() {
+        if !is_refused(rt.alloc(), *kind, before, *byte, behind, message) {
+            return Err(Fail::new(format_args!("row {row}")));
+        }
     }
+    Ok(())
 }

@@ -1,6 +1,7 @@
 //! Verdicts.
 use crate::told::judge_tells;
 use fixtures::{COLOURED, COLOURED_LISTING, NULL, NULL_LISTING, THREE_ALIKE};
+use std::test::Fail;
 use xc_input::Kind;
 
 const TWO: &[u8] = b"2|A\nA\nA\n";
@@ -86,8 +87,11 @@ const VERDICTS: [(Kind, &[u8], &[u8], u8, &[u8]); 14] = [
 ];
 
 #[test]
-fn verdicts(rt: HostRuntime) {
-    for (kind, problem, listing, status, verdicts) in &VERDICTS {
-        assert!(rt; judge_tells(rt.alloc(), *kind, problem, listing, *status, verdicts, b""));
+fn verdicts(rt: HostRuntime) -> Result<(), Fail> {
+    for (row, (kind, problem, listing, status, verdicts)) in VERDICTS.iter().enumerate() {
+        if !judge_tells(rt.alloc(), *kind, problem, listing, *status, verdicts, b"") {
+            return Err(Fail::new(format_args!("row {row}")));
+        }
     }
+    Ok(())
 }

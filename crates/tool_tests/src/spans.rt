@@ -2,6 +2,7 @@
 use crate::told::{Told, run_gives};
 use fixtures::{SEVEN, THREE_ALIKE, TWICE, gathered, on_one};
 use std::alloc::{AllocError, Global};
+use std::test::Fail;
 use xc_input::Feed;
 use xc_list::Tray;
 use xc_tools::solve_span;
@@ -46,10 +47,13 @@ const SPANS: [(&[&[u8]], &[u8], &[u8]); 4] = [
 ];
 
 #[test]
-fn spans_of_small_problems(rt: HostRuntime) {
-    for (words, text, told) in &SPANS {
-        assert!(rt; span_gives(rt.alloc(), words, text, 0, told, b""));
+fn spans_of_small_problems(rt: HostRuntime) -> Result<(), Fail> {
+    for (row, (words, text, told)) in SPANS.iter().enumerate() {
+        if !span_gives(rt.alloc(), words, text, 0, told, b"") {
+            return Err(Fail::new(format_args!("row {row}")));
+        }
     }
+    Ok(())
 }
 
 const USAGE: &[u8] = b"Usage: dlx-span 1|2|3 m0|m1 STEPS FROM UNTIL\n";
@@ -71,10 +75,13 @@ const REFUSED: [(&[&[u8]], &[u8], u8, &[u8]); 7] = [
 ];
 
 #[test]
-fn spans_that_are_refused(rt: HostRuntime) {
-    for (words, text, status, message) in &REFUSED {
-        assert!(rt; span_gives(rt.alloc(), words, text, *status, b"", message));
+fn spans_that_are_refused(rt: HostRuntime) -> Result<(), Fail> {
+    for (row, (words, text, status, message)) in REFUSED.iter().enumerate() {
+        if !span_gives(rt.alloc(), words, text, *status, b"", message) {
+            return Err(Fail::new(format_args!("row {row}")));
+        }
     }
+    Ok(())
 }
 
 /// Runs `solve_span` over a text that is read so many bytes at a time, of which a read may fail.

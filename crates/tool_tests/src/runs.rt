@@ -4,6 +4,7 @@ use fixtures::{
     ALONE, ALONE_LISTING, COLOURED, COLOURED_LISTING, NULL, NULL_LISTING, SEVEN, SEVEN_LISTING,
     THREE_ALIKE, THREE_LISTING, TWICE, TWICE_LISTING,
 };
+use std::test::Fail;
 use xc_input::Kind;
 
 #[test]
@@ -40,10 +41,13 @@ const SPACED: [(&[&[u8]], &[u8], &[u8]); 4] = [
 ];
 
 #[test]
-fn spacing_and_limit(rt: HostRuntime) {
-    for (words, listing, end) in &SPACED {
-        assert!(rt; solve_tells(rt.alloc(), Kind::Plain, words, THREE_ALIKE, 0, listing, end));
+fn spacing_and_limit(rt: HostRuntime) -> Result<(), Fail> {
+    for (row, (words, listing, end)) in SPACED.iter().enumerate() {
+        if !solve_tells(rt.alloc(), Kind::Plain, words, THREE_ALIKE, 0, listing, end) {
+            return Err(Fail::new(format_args!("row {row}")));
+        }
     }
+    Ok(())
 }
 
 #[test]
@@ -81,10 +85,13 @@ const SECONDARY: [(Kind, &[u8], &[u8], &[u8]); 4] = [
 ];
 
 #[test]
-fn secondary_items(rt: HostRuntime) {
-    for (kind, text, listing, messages) in &SECONDARY {
-        assert!(rt; solve_tells(rt.alloc(), *kind, &[b"m1"], text, 0, listing, messages));
+fn secondary_items(rt: HostRuntime) -> Result<(), Fail> {
+    for (row, (kind, text, listing, messages)) in SECONDARY.iter().enumerate() {
+        if !solve_tells(rt.alloc(), *kind, &[b"m1"], text, 0, listing, messages) {
+            return Err(Fail::new(format_args!("row {row}")));
+        }
     }
+    Ok(())
 }
 
 /// Problems with colours, their listings and the messages.
@@ -128,10 +135,13 @@ const COLOURS: [(Kind, &[u8], &[u8], &[u8]); 6] = [
 ];
 
 #[test]
-fn colours(rt: HostRuntime) {
-    for (kind, text, listing, messages) in &COLOURS {
-        assert!(rt; solve_tells(rt.alloc(), *kind, &[b"m1"], text, 0, listing, messages));
+fn colours(rt: HostRuntime) -> Result<(), Fail> {
+    for (row, (kind, text, listing, messages)) in COLOURS.iter().enumerate() {
+        if !solve_tells(rt.alloc(), *kind, &[b"m1"], text, 0, listing, messages) {
+            return Err(Fail::new(format_args!("row {row}")));
+        }
     }
+    Ok(())
 }
 
 /// Problems with bounds, their listings and the messages.
@@ -187,10 +197,13 @@ const BOUNDS: [(Kind, &[u8], &[u8], &[u8]); 8] = [
 ];
 
 #[test]
-fn bounds(rt: HostRuntime) {
-    for (kind, text, listing, messages) in &BOUNDS {
-        assert!(rt; solve_tells(rt.alloc(), *kind, &[b"m1"], text, 0, listing, messages));
+fn bounds(rt: HostRuntime) -> Result<(), Fail> {
+    for (row, (kind, text, listing, messages)) in BOUNDS.iter().enumerate() {
+        if !solve_tells(rt.alloc(), *kind, &[b"m1"], text, 0, listing, messages) {
+            return Err(Fail::new(format_args!("row {row}")));
+        }
     }
+    Ok(())
 }
 
 // A line of an option that begins with this name may stand for no option too: the judge finds that one of

@@ -1,0 +1,40 @@
+//! Programs over the command line and the standard streams.
+ghost use Rattle.std.specs.Prelude.{◌≡◌, MatchResult};
+ghost use Rattle.std.specs.Process.{exit_status};
+
+use crate::arguments::words;
+use crate::direct::Direct;
+use crate::incoming::Incoming;
+use crate::outgoing::Outgoing;
+use crate::seeding::random_seed;
+use crate::solving::solve;
+use crate::status::out_of_memory;
+use std::alloc::AllocError;
+use std::io::IsTerminal;
+use std::process::ExitCode;
+use xc_input::Kind;
+
+/// The exit code of a program with this status, or 4, which is reported, if there was no memory for its words and streams.
+pub fn exit_code(rt: &HostRuntime, status: Result<u8, AllocError>) -> ExitCode
+    ensures { MatchResult status (λ s. exit_status result ≡ s) (λ _. exit_status result ≡ 4) }
+{
+    match status {
+        Ok(status) => ExitCode::from(status),
+        Err(AllocError) => ExitCode::from(out_of_memory(&mut Direct::new(rt.stderr()))),
+    }
+}
+
+/// Solves what comes on standard input, and returns the status.
+fn solve_input(rt: &HostRuntime, kind: Kind) -> Result<u8, AllocError> {
+    let mut input = Incoming::new(Some(rt.stdin()), random_seed(rt));
+    // Taken before the words are judged: without memory for it the status is 4, whatever they are.
+    let mut out = Outgoing::new(rt.alloc(), rt.stdout(), rt.stdout().is_terminal())?;
+    let mut err = Direct::new(rt.stderr());
+    let words = words(rt)?;
+    Ok(solve(rt.alloc(), kind, &words, &mut input, &mut out, &mut err))
+}
+
+/// A whole solver of one kind of problem.
+pub fn run_solver(rt: &HostRuntime, kind: Kind) -> ExitCode {
+    exit_code(rt, solve_input(rt, kind))
+}
