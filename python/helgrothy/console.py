@@ -16,8 +16,7 @@ from typing import Any
 
 from .errors import HelgrothyError, OutOfTime, reason_of
 from .programs import end_all
-from .shown import shown
-from .syntax import bytes_of
+from .shown import bytes_of, shown
 
 # No legal problem that names each item as short as it can is longer, and more isn't read.
 _MOST_TEXT = 1 << 30

@@ -20,7 +20,7 @@ from . import answers, export, sat
 from .errors import AnswerFault, OutOfTime, ProgramFailed, TableFault
 from .problem import Problem
 from .programs import Run
-from .syntax import bytes_of
+from .shown import bytes_of
 
 Option = TypeVar("Option", bound=Any)
 Cost = Union[int, float, Fraction]

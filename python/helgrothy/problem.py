@@ -17,8 +17,9 @@ from .errors import ListingFault, NoPicture, OutOfTime, ProblemFault, ProgramFai
 from .listing import Decoder, Listed, Null, Step, branch_of
 from .names import codes, colour_names, item_names
 from .programs import Ending, Run
+from .shown import bytes_of, text_of
 from .solution import Solution
-from .syntax import MOST_ITEMS, MOST_USES, ONCE, Bounds, Sheet, bounds_fault, bytes_of, read, text_of
+from .syntax import MOST_ITEMS, MOST_USES, ONCE, Bounds, Sheet, bounds_fault, read
 
 if TYPE_CHECKING:
     from concurrent.futures import Executor
