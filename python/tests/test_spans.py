@@ -12,7 +12,6 @@ import tempfile
 import threading
 import unittest
 from concurrent.futures import Executor, Future, ProcessPoolExecutor, ThreadPoolExecutor
-from dataclasses import replace
 from unittest import mock
 
 from helgrothy import ListingFault, OutOfTime, Problem, ProgramFailed, ProgramNotFound, SearchFault, make, programs
@@ -84,9 +83,9 @@ class Rows(unittest.TestCase):
                 self.assertEqual((one.until, one.ends), (other.start, other.begins))
                 self.assertLess(one.start, other.start)
             self.assertTrue(until is None or pieces[-1].start < until)
-        self.assertEqual([piece.start for piece in cut(replace(WHOLE, start=(1,)), (8,), 4)], [(1,), (3,), (5,), (7,)])
-        self.assertEqual(len(cut(replace(WHOLE, start=(1, 1)), (2, 3), 9)), 4)
-        self.assertEqual(len(cut(replace(WHOLE, start=(1,)), (1,), 9)), 1)
+        self.assertEqual([piece.start for piece in cut(WHOLE._replace(start=(1,)), (8,), 4)], [(1,), (3,), (5,), (7,)])
+        self.assertEqual(len(cut(WHOLE._replace(start=(1, 1)), (2, 3), 9)), 4)
+        self.assertEqual(len(cut(WHOLE._replace(start=(1,)), (1,), 9)), 1)
 
     def test_gaps(self):
         self.assertEqual(folders.gaps([]), [WHOLE])
@@ -179,7 +178,7 @@ class Texts(unittest.TestCase):
             for _ in range(20):
                 problem = problem_of(rng, kind)
                 told = whole(kind, problem)[1].splitlines()[:-1]
-                found = [f"Option ignored (no primary items): line {line}" for line in text.ignored(problem, kind)]
+                found = [f"Option ignored (no primary items): line {line}" for line in text.ignored(problem)]
                 self.assertEqual(found, told)
 
 
@@ -474,12 +473,11 @@ class Folders(unittest.TestCase):
         """Workers get the text that was compared, and no name of a file that another one may write."""
         path = os.path.join(self.path, "problem.dlx")
 
-        def submit(task):
+        def submit(task, done):
             with open(path, "wb") as file:
                 file.write(b"A\nA\n")
-            future: Future = Future()
-            future.set_result(span.run(task))
-            return future
+            done(span.run(task))
+            return lambda: None
 
         with Folder(self.path, self.job) as folder:
             self.assertTrue(Loop(self.job, submit, lambda: 1, folder.keep, None).search(folder.todo()))

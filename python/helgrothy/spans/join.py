@@ -8,8 +8,7 @@ import signal
 import subprocess
 import threading
 from collections.abc import Callable, Iterable
-from dataclasses import dataclass
-from types import TracebackType
+from typing import TYPE_CHECKING, NamedTuple
 
 from .. import console
 from ..errors import ProgramFailed
@@ -17,13 +16,15 @@ from ..guard import let_go, start
 from ..programs import find
 from .rows import Until
 
+if TYPE_CHECKING:
+    from types import TracebackType
+
 PROGRAM = "dlx-join"
 _CHUNK = 1 << 18
 _LAST_LINE = re.compile(r"Altogether (\d+) solutions?\.\n?\Z")
 
 
-@dataclass(frozen=True)
-class Ending:
+class Ending(NamedTuple):
     """How dlx-join ended, and what it said on standard error."""
 
     status: int
@@ -44,7 +45,7 @@ class Join:
         # The row until which texts were given.
         self.at: Until = ()
         self._process = start(
-            [str(find(PROGRAM)), "m1" if listed else "m0"], stdin=subprocess.PIPE, stdout=out, stderr=subprocess.PIPE
+            [find(PROGRAM), "m1" if listed else "m0"], stdin=subprocess.PIPE, stdout=out, stderr=subprocess.PIPE
         )
         self._threads: list[threading.Thread] = []
         self._begin(self._feed)
