@@ -136,30 +136,38 @@ class Records(unittest.TestCase):
 class Paces(unittest.TestCase):
     def test_steps_follow_the_speed(self):
         pace = Pace(0)
-        few = pace.steps(0.0, float("inf"))
-        pace.took(few, 0.004, 50)
+        few = pace.steps(0.0, None, float("inf"))
+        pace.took(few, 0.002 + few / 500_000, 50)
         for _ in range(30):
-            steps = pace.steps(1.0, float("inf"))
-            pace.took(steps, 0.004 + steps / 500_000, 50)
-        self.assertAlmostEqual(pace.steps(1.0, float("inf")) / 500_000, 0.1, delta=0.02)
-        self.assertAlmostEqual(pace.steps(16.0, float("inf")) / 500_000, 1.0, delta=0.1)
-        self.assertAlmostEqual(pace.steps(1e6, float("inf")) / 500_000, 10, delta=1)
-        self.assertLessEqual(pace.steps(1e6, 0.5) / 500_000, 0.6)
-        self.assertEqual(pace.steps(1e6, -1.0), 1)
+            steps = pace.steps(1.0, None, float("inf"))
+            pace.took(steps, 0.002 + steps / 500_000, 50)
+
+        def seconds(elapsed, rest, left=float("inf")):
+            return pace.steps(elapsed, rest, left) / 500_000
+
+        # A third of the time that it has taken, where nothing is known of the rest, and else a quarter of that.
+        self.assertAlmostEqual(seconds(3.0, None), 1.0, delta=0.1)
+        self.assertAlmostEqual(seconds(3.0, 100.0), 1.0, delta=0.1)
+        self.assertAlmostEqual(seconds(3.0, 2.0), 0.5, delta=0.05)
+        self.assertAlmostEqual(seconds(10.0, 0.0), 0.5, delta=0.05)
+        self.assertAlmostEqual(seconds(0.0, None), 0.1, delta=0.01)
+        self.assertAlmostEqual(seconds(1e6, 1e6), 10, delta=1)
+        self.assertLessEqual(seconds(1e6, 1e6, 0.5), 0.6)
+        self.assertEqual(pace.steps(1e6, None, -1.0), 1)
 
     def test_a_slow_start(self):
         pace = Pace(0)
         for _ in range(30):
-            steps = pace.steps(0.1, float("inf"))
+            steps = pace.steps(0.1, None, float("inf"))
             pace.took(steps, 2.0 + steps / 500_000, 50)
-        self.assertGreater(pace.steps(0.1, float("inf")) / 500_000, 20)
+        self.assertGreater(pace.steps(0.1, None, float("inf")) / 500_000, 20)
 
     def test_texts_that_are_too_long(self):
         pace = Pace(1000)
         pace.took(100, 0.001, 100)
-        self.assertLessEqual(pace.steps(1.0, 1.0), 500)
+        self.assertLessEqual(pace.steps(1.0, None, 1.0), 500)
         pace.was_too_long(400)
-        self.assertLessEqual(pace.steps(1.0, 1.0), 50)
+        self.assertLessEqual(pace.steps(1.0, None, 1.0), 50)
 
 
 class Texts(unittest.TestCase):

@@ -18,7 +18,7 @@ from typing import TYPE_CHECKING, NamedTuple, Union
 from .. import __version__
 from ..errors import HelgrothyError, ProgramFailed, ProgramNotFound, SearchFault, reason_of
 from . import record as records
-from .pace import Pace
+from .pace import SHORTEST, Pace
 from .rows import Span, cut, place, word_of
 from .span import Ran, Task, run
 
@@ -169,10 +169,16 @@ class Loop:
 
     def progress(self) -> Progress:
         seconds = time.monotonic() - self._begun
-        done, left = self.share - self._share_before, max(1 - self.share, 0.0)
         at_work = min(len(self._runs), self._workers())
-        time_left = seconds * left / done if done >= _LEAST_SHARE else None
-        return Progress(min(self.share, 1.0), self.solutions, seconds, time_left, at_work)
+        return Progress(min(self.share, 1.0), self.solutions, seconds, self._time_left(seconds), at_work)
+
+    def _time_left(self, elapsed: float) -> float | None:
+        return self._time_of(max(1 - self.share, 0.0), elapsed)
+
+    def _time_of(self, share: float, elapsed: float) -> float | None:
+        """How long such a share of the tree is likely to take all workers, where anything is known of that."""
+        done = self.share - self._share_before
+        return elapsed * share / done if done >= _LEAST_SHARE else None
 
     def _put(self, todo: _Todo) -> None:
         # The earliest comes first, so that a listing comes in its order and few spans wait to be joined.
@@ -183,7 +189,8 @@ class Loop:
         while self._ready and len(self._runs) < most:
             todo = heapq.heappop(self._ready)[2]
             now = time.monotonic()
-            steps = self._pace.steps(now - self._begun, self._deadline - now) * todo.factor
+            elapsed = now - self._begun
+            steps = self._pace.steps(elapsed, self._time_left(elapsed), self._deadline - now) * todo.factor
             is_deep = todo.factor > 1
             task = Task(
                 kind=self._job.kind,
@@ -238,9 +245,19 @@ class Loop:
         at = min(max(place(stop, record.branches), span.begins), span.ends)
         self._done(Kept(Span(span.start, stop, span.begins, at), ran.text, record.solutions, ran.seconds))
         rest = Span(stop, span.until, at, span.ends)
-        missing = _AHEAD * self._workers() - len(self._runs) - len(self._ready)
-        for piece in cut(rest, record.branches, max(missing, 1)):
+        for piece in cut(rest, record.branches, self._pieces(rest)):
             self._put(_Todo(piece))
+
+    def _pieces(self, rest: Span) -> int:
+        """Into how many pieces what a run left is cut: as many as keep the workers at work for a while."""
+        workers = self._workers()
+        waiting = workers - len(self._runs) - len(self._ready)
+        missing = waiting + (_AHEAD - 1) * workers
+        seconds = self._time_of(rest.ends - rest.begins, time.monotonic() - self._begun)
+        if seconds is not None:
+            # Near the end a piece for each worker that waits is enough: to begin a run takes longer than small ones.
+            missing = max(min(missing, int(seconds * workers / SHORTEST)), waiting)
+        return max(missing, 1)
 
     def _done(self, kept: Kept) -> None:
         self.share += kept.span.ends - kept.span.begins
