@@ -8,7 +8,6 @@ from collections import Counter
 from collections.abc import Callable, Generator, Hashable, Iterable, Iterator, Mapping, Sequence
 from functools import partial
 from numbers import Integral
-from types import TracebackType
 from typing import IO, TYPE_CHECKING, Any, Generic, NoReturn, Optional, TypeVar, Union
 
 from . import listing as listings
@@ -643,9 +642,7 @@ class Solutions(Generic[Option]):
     def __enter__(self) -> Solutions[Option]:
         return self
 
-    def __exit__(
-        self, kind: type[BaseException] | None, error: BaseException | None, trace: TracebackType | None
-    ) -> None:
+    def __exit__(self, *_: object) -> None:
         self.close()
 
 

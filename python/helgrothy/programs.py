@@ -16,12 +16,9 @@ import subprocess
 import time
 from collections.abc import Iterable, Iterator, Sequence
 from contextlib import contextmanager
-from typing import IO, TYPE_CHECKING
+from typing import IO
 
 from .errors import OutOfTime, ProgramFailed, ProgramNotFound
-
-if TYPE_CHECKING:
-    from types import TracebackType
 
 PROGRAMS = ("dlx1", "dlx2", "dlx3", "dlxcheck", "dlx-span", "dlx-join")
 VARIABLE = "HELGROTHY_BIN"
@@ -127,9 +124,7 @@ class Run:
     def __enter__(self) -> Run:
         return self
 
-    def __exit__(
-        self, kind: type[BaseException] | None, error: BaseException | None, trace: TracebackType | None
-    ) -> None:
+    def __exit__(self, *_: object) -> None:
         if self._process.poll() is None:
             self._process.kill()
             self._process.wait()

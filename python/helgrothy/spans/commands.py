@@ -93,7 +93,7 @@ def _add_program(parser: argparse.ArgumentParser) -> None:
 def _search(arguments: argparse.Namespace) -> int:
     if arguments.problem == "-" and arguments.folder is None:
         raise SearchFault("a problem from standard input needs --folder, where what is done is kept")
-    _end_by_signals()
+    console.end_by_signals()
     problem = console.read(arguments.problem)
     job = Job(problem, _kind(arguments, problem), arguments.list)
     path = arguments.folder or f"{arguments.problem}.search"
@@ -294,7 +294,7 @@ def _add_rows(commands: Any) -> None:
         description="Prints rows at which a search may be cut, rising, for queues that run programs and nothing else: "
         "dlx-span searches between two of them, and dlx-join puts the texts together. It takes about a second.",
     )
-    parser.add_argument("problem", nargs="?", default="-", metavar="PROBLEM", help="a file (default: standard input)")
+    console.add_problem(parser)
     parser.add_argument("--count", type=console.positive, default=100, metavar="N", help="up to N rows (default: 100)")
     _add_program(parser)
     parser.set_defaults(command=_rows)
@@ -357,14 +357,3 @@ def run_progress() -> NoReturn:
 
 def _kind(arguments: argparse.Namespace, problem: bytes) -> int:
     return int(arguments.program[-1]) if arguments.program else kind_of(problem)
-
-
-def _end_by_signals() -> None:
-    """A command that is ended says that it goes on, and takes its programs along."""
-    for number in (signal.SIGTERM, signal.SIGHUP):
-        if signal.getsignal(number) is signal.SIG_DFL:
-            signal.signal(number, _end)
-
-
-def _end(number: int, _: object) -> NoReturn:
-    sys.exit(128 + number)

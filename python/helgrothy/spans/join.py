@@ -8,16 +8,13 @@ import signal
 import subprocess
 import threading
 from collections.abc import Callable, Iterable
-from typing import TYPE_CHECKING, NamedTuple
+from typing import NamedTuple
 
 from .. import console
 from ..errors import ProgramFailed
 from ..guard import let_go, start
 from ..programs import find
 from .rows import Until
-
-if TYPE_CHECKING:
-    from types import TracebackType
 
 PROGRAM = "dlx-join"
 _CHUNK = 1 << 18
@@ -82,9 +79,7 @@ class Join:
     def __enter__(self) -> Join:
         return self
 
-    def __exit__(
-        self, kind: type[BaseException] | None, error: BaseException | None, trace: TracebackType | None
-    ) -> None:
+    def __exit__(self, *_: object) -> None:
         self._texts.put(None)
         self._process.kill()
         self._process.wait()

@@ -17,7 +17,6 @@ from .span import Stop, Task, run
 
 if TYPE_CHECKING:
     from concurrent.futures import Executor
-    from types import TracebackType
 
 # So many seconds a scheduler may take to answer.
 _PATIENCE = 30
@@ -50,9 +49,7 @@ class Workers:
     def __enter__(self) -> Workers:
         return self
 
-    def __exit__(
-        self, kind: type[BaseException] | None, error: BaseException | None, trace: TracebackType | None
-    ) -> None:
+    def __exit__(self, *_: object) -> None:
         self.close()
 
     def close(self) -> None:
