@@ -145,11 +145,11 @@ class Paces(unittest.TestCase):
         def seconds(elapsed, rest, left=float("inf")):
             return pace.steps(elapsed, rest, left) / 500_000
 
-        # A third of the time that it has taken, where nothing is known of the rest, and else a quarter of that.
-        self.assertAlmostEqual(seconds(3.0, None), 1.0, delta=0.1)
-        self.assertAlmostEqual(seconds(3.0, 100.0), 1.0, delta=0.1)
-        self.assertAlmostEqual(seconds(3.0, 2.0), 0.5, delta=0.05)
-        self.assertAlmostEqual(seconds(10.0, 0.0), 0.5, delta=0.05)
+        # Half of the time that it has taken, where nothing is known of the rest, and else a third of that.
+        self.assertAlmostEqual(seconds(2.0, None), 1.0, delta=0.1)
+        self.assertAlmostEqual(seconds(2.0, 100.0), 1.0, delta=0.1)
+        self.assertAlmostEqual(seconds(2.0, 1.5), 0.5, delta=0.05)
+        self.assertAlmostEqual(seconds(6.0, 0.0), 0.5, delta=0.05)
         self.assertAlmostEqual(seconds(0.0, None), 0.1, delta=0.01)
         self.assertAlmostEqual(seconds(1e6, 1e6), 10, delta=1)
         self.assertLessEqual(seconds(1e6, 1e6, 0.5), 0.6)
