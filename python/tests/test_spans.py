@@ -293,6 +293,15 @@ class Loops(unittest.TestCase):
             joined = subprocess.run([programs.find("dlx-join"), "m1"], input=listing, capture_output=True)
             self.assertEqual(joined.stdout, whole(1, problem, "m1")[0])
 
+    def test_a_long_text_of_a_program_that_has_ended(self):
+        def read(process, _):
+            text = process.stdout.read()
+            os.waitid(os.P_PID, process.pid, os.WEXITED | os.WNOWAIT)
+            return text
+
+        with mock.patch.object(span, "_read", read):
+            self.assertTrue(span.run(span.Task(1, True, QUEENS, "-", "-", 0, 10)).is_too_long)
+
     def test_workers_of_another_version(self):
         with mock.patch.object(loop, "__version__", "0.0.9"), self.assertRaisesRegex(SearchFault, "version"):
             make.queens.problem(6).count(jobs=1)

@@ -88,11 +88,11 @@ def run(task: Task, stop: Stop | None = None) -> Ran:
         text = _read(process, task.most)
         is_too_long = bool(task.most) and len(text) > task.most
         if is_too_long:
-            process.kill()
+            _kill(process)
         else:
             told = process.stderr.read()
     except BaseException:
-        process.kill()
+        _kill(process)
         raise
     finally:
         status, seconds = _end(process, stop)
@@ -105,6 +105,11 @@ def run(task: Task, stop: Stop | None = None) -> Ran:
 
 def _start(command: list[str]) -> subprocess.Popen[bytes]:
     return start(command, stdin=subprocess.PIPE, stdout=subprocess.PIPE, stderr=subprocess.PIPE)
+
+
+def _kill(process: subprocess.Popen[bytes]) -> None:
+    # `Popen.kill` would wait for a program that has ended, and `_end` does.
+    os.kill(process.pid, signal.SIGKILL)
 
 
 def _read(process: subprocess.Popen[bytes], most: int) -> bytes:
