@@ -149,7 +149,7 @@ class Paces(unittest.TestCase):
         self.assertAlmostEqual(seconds(2.0, None), 1.0, delta=0.1)
         self.assertAlmostEqual(seconds(2.0, 100.0), 1.0, delta=0.1)
         self.assertAlmostEqual(seconds(2.0, 1.5), 0.5, delta=0.05)
-        self.assertAlmostEqual(seconds(6.0, 0.0), 0.5, delta=0.05)
+        self.assertAlmostEqual(seconds(20.0, 0.0), 0.5, delta=0.05)
         self.assertAlmostEqual(seconds(0.0, None), 0.1, delta=0.01)
         self.assertAlmostEqual(seconds(1e6, 1e6), 10, delta=1)
         self.assertLessEqual(seconds(1e6, 1e6, 0.5), 0.6)

@@ -11,7 +11,7 @@ _MOST_STEPS = 1 << 62
 # the time that the search has taken, within these bounds. So runs are few, and the last ones to end keep the others
 # waiting for a small share of the whole.
 _SHARE = 1 / 3
-_LEAST_SHARE, _MOST_SHARE = 1 / 12, 1 / 2
+_LEAST_SHARE, _MOST_SHARE = 1 / 40, 1 / 2
 SHORTEST, _LONGEST = 0.1, 10.0
 # To start a program and to read the problem takes at most about this share of a run.
 _START = 1 / 25
