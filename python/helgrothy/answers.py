@@ -12,7 +12,7 @@ from typing import Any
 
 from .errors import AnswerFault
 from .problem import Problem
-from .syntax import bytes_of, text_of
+from .shown import bytes_of, text_of
 
 _LITERAL = re.compile(r"(-?)x?([0-9]{1,18})\Z")
 _ATOM = re.compile(r"x\(([0-9]{1,18})\)\.?\Z")

@@ -127,7 +127,7 @@ def _add_solve(commands: Any) -> None:
         description="Solves a problem and draws its first solution, or prints its options where it has no picture. "
         "The last line, on standard error, says how many solutions there were.",
     )
-    parser.add_argument("problem", nargs="?", default="-", metavar="PROBLEM", help="a file (default: standard input)")
+    console.add_problem(parser)
     _add_solving(parser).add_argument(
         "--cost",
         metavar="COSTS",
@@ -484,7 +484,7 @@ def _add_lint(commands: Any) -> None:
         description="Tells each fault of a problem with its line and token, and what is no fault and yet often a slip: "
         "items in no option, equal options, bounds whose sums can't work. Status 1 says that there was something.",
     )
-    _add_problem(parser)
+    console.add_problem(parser)
     parser.add_argument("--for", dest="program", choices=["dlx1", "dlx2", "dlx3"], default="dlx3", help="default: dlx3")
     parser.set_defaults(command=_lint)
 
@@ -503,7 +503,7 @@ def _add_export(commands: Any) -> None:
         "for SAT solvers. Variable N takes option N; there are as many solutions.",
     )
     parser.add_argument("format", choices=sorted(FORMATS), help="the format")
-    _add_problem(parser)
+    console.add_problem(parser)
     parser.set_defaults(command=_export)
 
 
@@ -545,7 +545,7 @@ def _add_why(commands: Any) -> None:
         "than the items beside them allow, else as few as leaving out finds in the time, by the programs and, where it "
         "is on the path, by cadical or clasp. Status 1 says that there is a solution.",
     )
-    _add_problem(parser)
+    console.add_problem(parser)
     parser.add_argument("--seconds", type=seconds, default=10.0, metavar="S", help="the time (default: 10)")
     parser.set_defaults(command=_why)
 
@@ -563,10 +563,6 @@ def _why(arguments: argparse.Namespace) -> int:
 
 
 # ---- what commands have in common
-
-
-def _add_problem(parser: argparse.ArgumentParser) -> None:
-    parser.add_argument("problem", nargs="?", default="-", metavar="PROBLEM", help="a file (default: standard input)")
 
 
 def _problem(path: str) -> Problem[Any]:

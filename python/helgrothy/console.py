@@ -12,12 +12,11 @@ import threading
 import time
 from collections.abc import Callable, Iterable, Iterator
 from contextlib import contextmanager, suppress
-from typing import Any
+from typing import Any, NoReturn
 
 from .errors import HelgrothyError, OutOfTime, reason_of
 from .programs import end_all
-from .shown import shown
-from .syntax import bytes_of
+from .shown import bytes_of, shown
 
 # No legal problem that names each item as short as it can is longer, and more isn't read.
 _MOST_TEXT = 1 << 30
@@ -40,6 +39,11 @@ class Parser(argparse.ArgumentParser):
 
     def error(self, message: str) -> Any:
         super().error(shown(message))
+
+
+def add_problem(parser: argparse.ArgumentParser) -> None:
+    """The problem of a command, a file or standard input."""
+    parser.add_argument("problem", nargs="?", default="-", metavar="PROBLEM", help="a file (default: standard input)")
 
 
 def run(command: str, act: Callable[[], int], unread: int = 2) -> int:
@@ -75,6 +79,17 @@ def run(command: str, act: Callable[[], int], unread: int = 2) -> int:
         # Nobody can be told why.
         _drop(sys.stderr, 2)
     return 2
+
+
+def end_by_signals() -> None:
+    """A command that is ended by a signal leaves as it does at its end, and takes its programs along."""
+    for number in (signal.SIGTERM, signal.SIGHUP):
+        if signal.getsignal(number) is signal.SIG_DFL:
+            signal.signal(number, _end)
+
+
+def _end(number: int, _: object) -> NoReturn:
+    sys.exit(128 + number)
 
 
 def say(line: str) -> None:

@@ -16,11 +16,11 @@ from dataclasses import dataclass
 from fractions import Fraction
 from typing import Any, Generic, TypeVar, Union
 
-from . import answers, export, sat
+from . import answers, export, sat_solver
 from .errors import AnswerFault, OutOfTime, ProgramFailed, TableFault
 from .problem import Problem
 from .programs import Run
-from .syntax import bytes_of
+from .shown import bytes_of
 
 Option = TypeVar("Option", bound=Any)
 Cost = Union[int, float, Fraction]
@@ -79,7 +79,7 @@ def least(problem: Problem[Option], costs: Sequence[Cost], seconds: float | None
     exact = [Fraction(str(cost)) if isinstance(cost, float) else Fraction(cost) for cost in costs]
     unit = math.lcm(1, *(cost.denominator for cost in exact))
     whole = [int(cost * unit) for cost in exact]
-    path = sat.path_of("clasp")
+    path = sat_solver.path_of("clasp")
     if path is not None and sum(abs(cost) for cost in whole) <= _MOST_SUM and problem.options:
         search: Iterator[tuple[int, list[int]]] = _by_clasp(problem, whole, path, seconds)
         by = "clasp"

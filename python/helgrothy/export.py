@@ -1,4 +1,4 @@
-"""Problems for other solvers: for costs, or for a second opinion.
+"""Problems exported for other solvers, as answer set programs, OPB and DIMACS CNF: for costs, or a second opinion.
 
 Each has a variable x1, x2, .. for each option in its order, and as many solutions as the problem: what other
 variables there are follows from these.

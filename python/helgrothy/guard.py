@@ -56,7 +56,8 @@ class _Guard:
             os.close(self.pipe)
         self.pipe = -1
         if self.owner == os.getpid():
-            with suppress(subprocess.TimeoutExpired):
+            # A command whose work is done isn't stopped any more.
+            with suppress(subprocess.TimeoutExpired, KeyboardInterrupt, SystemExit):
                 self._shell.wait(1)
         self._shell.returncode = 0
         atexit.unregister(self.end)

@@ -13,7 +13,7 @@ from dataclasses import dataclass, field
 from typing import Generic, TypeVar, Union
 
 from .errors import ListingFault, UnknownChoice
-from .syntax import text_of
+from .shown import text_of
 
 Option = TypeVar("Option")
 S = TypeVar("S")

@@ -7,7 +7,8 @@ import re
 import string
 from collections.abc import Callable, Hashable, Iterable, Iterator
 
-from .syntax import MOST_COLOUR, MOST_NAME, bytes_of, name_fault, text_of
+from .shown import bytes_of, text_of
+from .syntax import MOST_COLOUR, MOST_NAME, name_fault
 
 # What isn't in a name, halves of characters among it, which no text has as bytes; `text_of` uses \udc80 to \udcff.
 _NOT_IN_NAME = re.compile(r"[\s:|\0\ud800-\udc7f\udd00-\udfff]+", re.ASCII)

@@ -8,7 +8,6 @@ from collections import Counter
 from collections.abc import Callable, Generator, Hashable, Iterable, Iterator, Mapping, Sequence
 from functools import partial
 from numbers import Integral
-from types import TracebackType
 from typing import IO, TYPE_CHECKING, Any, Generic, NoReturn, Optional, TypeVar, Union
 
 from . import listing as listings
@@ -17,8 +16,9 @@ from .errors import ListingFault, NoPicture, OutOfTime, ProblemFault, ProgramFai
 from .listing import Decoder, Listed, Null, Step, branch_of
 from .names import codes, colour_names, item_names
 from .programs import Ending, Run
+from .shown import bytes_of, text_of
 from .solution import Solution
-from .syntax import MOST_ITEMS, MOST_USES, ONCE, Bounds, Sheet, bounds_fault, bytes_of, read, text_of
+from .syntax import MOST_ITEMS, MOST_USES, ONCE, Bounds, Sheet, bounds_fault, read
 
 if TYPE_CHECKING:
     from concurrent.futures import Executor
@@ -642,9 +642,7 @@ class Solutions(Generic[Option]):
     def __enter__(self) -> Solutions[Option]:
         return self
 
-    def __exit__(
-        self, kind: type[BaseException] | None, error: BaseException | None, trace: TracebackType | None
-    ) -> None:
+    def __exit__(self, *_: object) -> None:
         self.close()
 
 

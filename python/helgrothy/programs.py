@@ -13,12 +13,9 @@ import select
 import signal
 import stat
 import subprocess
-import tempfile
 import time
 from collections.abc import Iterable, Iterator, Sequence
 from contextlib import contextmanager
-from pathlib import Path
-from types import TracebackType
 from typing import IO
 
 from .errors import OutOfTime, ProgramFailed, ProgramNotFound
@@ -31,30 +28,29 @@ _LONGEST = 1e9
 _LAST_LINE = re.compile(r"Altogether (\d+) solutions?( \(limit\))?\.\Z")
 
 
-def folders(program: str) -> list[Path]:
+def folders(program: str) -> list[str]:
     """The folders in which a program is looked for before the path, in their order."""
     # No link is followed: the programs are beside the package as it is named.
-    package = Path(os.path.abspath(__file__)).parent
-    top = package.parent.parent
-    given = [Path(folder) for folder in os.environ.get(VARIABLE, "").split(os.pathsep) if folder]
-    beside = [package / "bin"]
+    package = os.path.dirname(os.path.abspath(__file__))
+    top = os.path.dirname(os.path.dirname(package))
+    given = [folder for folder in os.environ.get(VARIABLE, "").split(os.pathsep) if folder]
+    beside = [os.path.join(package, "bin")]
     # Anybody may make a `bin` beside a package that lies in a folder of /tmp.
     if _is_anybodys(package) or not _is_anybodys(top):
-        beside += [top / "bin", top / "crates" / program / "out"]
+        beside += [os.path.join(top, "bin"), os.path.join(top, "crates", program, "out")]
     return given + beside
 
 
-def _is_anybodys(folder: Path) -> bool:
+def _is_anybodys(folder: str) -> bool:
     """Whether all users may write into a folder."""
-    return bool(folder.stat().st_mode & stat.S_IWOTH)
+    return bool(os.stat(folder).st_mode & stat.S_IWOTH)
 
 
-def find(program: str) -> Path:
+def find(program: str) -> str:
     """The path of a program. Raises `ProgramNotFound`."""
-    on_path = [Path(folder) for folder in os.environ.get("PATH", os.defpath).split(os.pathsep) if os.path.isabs(folder)]
+    on_path = [folder for folder in os.environ.get("PATH", os.defpath).split(os.pathsep) if os.path.isabs(folder)]
     for folder in [*folders(program), *on_path]:
-        path = folder / program
-        # `Path.is_file` raises an exception for a folder that this user may not look into.
+        path = os.path.join(folder, program)
         if os.path.isfile(path) and os.access(path, os.X_OK):
             return path
     raise ProgramNotFound(f"{program} is neither beside the package nor on the path; name its folder by {VARIABLE}")
@@ -107,8 +103,11 @@ class Run:
         words: Sequence[str],
         text: Iterable[bytes],
         seconds: float | None = None,
-        path: str | Path | None = None,
+        path: str | None = None,
     ) -> None:
+        # A search in spans needs none of what this loads.
+        import tempfile
+
         path = find(program) if path is None else path
         self.program = program
         self._deadline = None if seconds is None else time.monotonic() + min(seconds, _LONGEST)
@@ -125,9 +124,7 @@ class Run:
     def __enter__(self) -> Run:
         return self
 
-    def __exit__(
-        self, kind: type[BaseException] | None, error: BaseException | None, trace: TracebackType | None
-    ) -> None:
+    def __exit__(self, *_: object) -> None:
         if self._process.poll() is None:
             self._process.kill()
             self._process.wait()

@@ -3,6 +3,15 @@
 from __future__ import annotations
 
 
+def text_of(raw: bytes) -> str:
+    """Bytes as text; those that aren't UTF-8 come back as they were by `bytes_of`."""
+    return raw.decode("utf-8", "surrogateescape")
+
+
+def bytes_of(text: str) -> bytes:
+    return text.encode("utf-8", "surrogateescape")
+
+
 def shown(text: str) -> str:
     r"""The text with an escape (\x1b, \u202e) for each character that isn't printed, and each byte that isn't UTF-8."""
     return text if text.isprintable() else "".join(map(_shown, text))

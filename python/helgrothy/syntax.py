@@ -14,6 +14,7 @@ from dataclasses import dataclass, field
 from typing import NamedTuple
 
 from .errors import ProblemFault
+from .shown import text_of
 
 MOST_ITEMS = 100_000
 MOST_USES = 10_000_000
@@ -30,7 +31,8 @@ _MOST_NEAR = 20_000
 _BOUND = re.compile(rb"([0-9]{1,9})(?::([0-9]{1,9}))?\Z")
 
 
-# A pair to those who give bounds and read them; all other records are dataclasses.
+# A pair to those who give bounds and read them. Other records are dataclasses, but for those of `spans`: a short search
+# would wait for what `dataclasses` loads as long as for its first spans.
 class Bounds(NamedTuple):
     """How often a primary item is to be held: at least `low` and at most `high` times."""
 
@@ -70,15 +72,6 @@ class Sheet:
     faults: list[ProblemFault] = field(default_factory=list)
     # Whether there were so many faults that the text wasn't read on.
     is_cut: bool = False
-
-
-def text_of(raw: bytes) -> str:
-    """Bytes as text; those that aren't UTF-8 come back as they were by `bytes_of`."""
-    return raw.decode("utf-8", "surrogateescape")
-
-
-def bytes_of(text: str) -> bytes:
-    return text.encode("utf-8", "surrogateescape")
 
 
 def name_fault(name: bytes) -> str | None:

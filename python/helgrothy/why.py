@@ -13,7 +13,7 @@ from collections.abc import Callable, Hashable, Iterator
 from dataclasses import dataclass
 from typing import Any
 
-from . import sat
+from . import sat_solver
 from .errors import OutOfTime
 from .problem import Problem
 from .sums import Count, Sums
@@ -46,7 +46,7 @@ class Conflict:
         yield " ".join(["can't all be held:", *map(problem.name, self.items)])
         if self.sums is not None:
             yield self.sums.text(problem.name)
-        if self.by in sat.SOLVERS:
+        if self.by in sat_solver.SOLVERS:
             yield f"{self.by} says so; dlx{problem.kind} came to no end in the time"
         if self.is_least and len(self.items) > 1:
             yield "without any one of them the others can be held"
@@ -119,8 +119,8 @@ class _Question:
         self._most = most
         self._answers: list[tuple[str, _Answer]] = [(f"dlx{problem.kind}", self._searched)]
         # A problem whose clauses would take too long to write is left to the programs.
-        is_small = sat.writing_seconds(problem) < (deadline - time.monotonic()) / 2
-        self._solver = sat.solver() if is_small else None
+        is_small = sat_solver.writing_seconds(problem) < (deadline - time.monotonic()) / 2
+        self._solver = sat_solver.find() if is_small else None
         self.is_sure = True
         self.by = ""
 
@@ -178,7 +178,7 @@ class _Question:
                 # The clauses are written where the program didn't answer at once.
                 name, command = self._solver
                 self._solver = None
-                self._answers.append((name, sat.Clauses(self._problem, command).has_solution))
+                self._answers.append((name, sat_solver.Solver(self._problem, command).has_solution))
 
     def _searched(self, kept: set[Hashable], seconds: float) -> bool:
         problem = self._problem

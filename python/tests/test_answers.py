@@ -1,11 +1,10 @@
 """Answers of other solvers come back as the solutions that they are."""
 
-import os
 import shutil
 import subprocess
-import tempfile
 import unittest
 
+from folders import InFolder
 from test_commands import run
 
 from helgrothy import AnswerFault, Problem, make
@@ -15,18 +14,7 @@ from helgrothy.export import FORMATS
 PAIR = Problem("abc", options=["ab", "c", "a", "bc"])
 
 
-class Answers(unittest.TestCase):
-    def setUp(self) -> None:
-        folder = tempfile.TemporaryDirectory()
-        self.addCleanup(folder.cleanup)
-        self.folder = folder.name
-
-    def file(self, name: str, text: str) -> str:
-        path = os.path.join(self.folder, name)
-        with open(path, "w") as file:
-            file.write(text)
-        return path
-
+class Answers(InFolder):
     def read(self, solver, text, problem=PAIR):
         return list(solutions(solver, problem, text.encode().splitlines(keepends=True)))
 

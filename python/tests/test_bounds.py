@@ -12,7 +12,7 @@ import unittest
 import xml.etree.ElementTree
 from unittest import mock
 
-from helgrothy import NoPicture, OutOfTime, Problem, console, make, programs, sat, syntax
+from helgrothy import NoPicture, OutOfTime, Problem, console, make, programs, sat_solver, syntax
 from helgrothy.draw import Cell, Pattern, Picture
 from helgrothy.lint import lint
 from helgrothy.shown import shown
@@ -280,7 +280,7 @@ class Time(unittest.TestCase):
             signal.pthread_kill(threading.get_ident(), signal.SIGALRM)
             return begun[-1]
 
-        clauses = sat.Clauses(make.langford.problem(4), [programs.find("dlx1"), "t0"])
+        clauses = sat_solver.Solver(make.langford.problem(4), [programs.find("dlx1"), "t0"])
         for act in (make.langford.problem(14).count, lambda: clauses.has_solution(set(), 100)):
             with mock.patch.object(subprocess, "Popen", slow):
                 with self.assertRaises(OutOfTime), console.limited(1000):

@@ -6,9 +6,9 @@ import os
 import re
 import subprocess
 import sys
-import tempfile
-import unittest
 from unittest import mock
+
+from folders import InFolder
 
 from helgrothy import OutOfTime, commands, make, sums, why
 from helgrothy.__main__ import main
@@ -45,18 +45,7 @@ def run_until(told: str, *words: str, given: str = ""):
     return done
 
 
-class Commands(unittest.TestCase):
-    def setUp(self) -> None:
-        folder = tempfile.TemporaryDirectory()
-        self.addCleanup(folder.cleanup)
-        self.folder = folder.name
-
-    def file(self, name: str, text: str) -> str:
-        path = os.path.join(self.folder, name)
-        with open(path, "w") as file:
-            file.write(text)
-        return path
-
+class Commands(InFolder):
     def test_make_solve_and_draw(self):
         status, text, _ = run("make", "queens", "4")
         self.assertEqual((status, text), (0, make.queens.problem(4).text))

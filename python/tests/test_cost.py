@@ -12,14 +12,14 @@ from unittest import mock
 from problems import problem_of
 from test_commands import run
 
-from helgrothy import Problem, TableFault, cost, make, sat
+from helgrothy import Problem, TableFault, cost, make, sat_solver
 
 SOLVERS = ["clasp", "dlx3"] if shutil.which("clasp") else ["dlx3"]
 
 
 def least(problem, costs, by, seconds=None):
     """The least by one of the ways."""
-    with mock.patch.object(sat, "path_of", lambda name: shutil.which(name) if by == "clasp" else None):
+    with mock.patch.object(sat_solver, "path_of", lambda name: shutil.which(name) if by == "clasp" else None):
         return cost.least(problem, costs, seconds)
 
 
@@ -106,7 +106,7 @@ class Cost(unittest.TestCase):
             def solve(costs, *words, given="A B\nA\nB\nA B\nA\n"):
                 with open(path, "w") as file:
                     file.write(costs)
-                with mock.patch.object(sat, "path_of", lambda name: None):
+                with mock.patch.object(sat_solver, "path_of", lambda name: None):
                     return run("solve", "--cost", path, *words, given=given)
 
             self.assertEqual(solve("5 1.5 7 3.25"), (0, "B\nA\n", "The least cost is 4.75.\n"))

@@ -1,12 +1,11 @@
 """Test designs: all that has to come together does, known numbers of designs, as few tests as are known, bad tables."""
 
 import itertools
-import os
-import tempfile
 import unittest
 
 from helgrothy import OutOfTime, Problem, make
 from helgrothy.make import fewest
+from folders import InFolder
 from test_commands import run, run_until
 
 FACTORS = """\
@@ -61,15 +60,7 @@ def rows_of(problem, solution):
     return [[picture.cells[r, c].label or None for c in range(columns)] for r in range(rows)]
 
 
-class Designs(unittest.TestCase):
-    def file(self, name: str, text: str) -> str:
-        folder = tempfile.TemporaryDirectory()
-        self.addCleanup(folder.cleanup)
-        path = os.path.join(folder.name, name)
-        with open(path, "w") as file:
-            file.write(text)
-        return path
-
+class Designs(InFolder):
     def test_all_comes_together(self):
         for levels, tests, strength in (("3,3,3,2,2,2", 9, 2), ("2^10", 6, 2), ("2^6", 12, 3), ("4,3,2", 4, 1), ("3^4", 9, 2)):
             with self.subTest(levels=levels, strength=strength):

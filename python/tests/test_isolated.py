@@ -6,7 +6,6 @@ import subprocess
 import sys
 import tempfile
 import unittest
-from pathlib import Path
 from unittest import mock
 
 from helgrothy import Problem, ProgramNotFound, programs
@@ -129,9 +128,9 @@ class Isolated(unittest.TestCase):
         package = self.file("python/helgrothy/programs.py", "")
         os.chmod(os.path.dirname(os.path.dirname(package)), 0o755)
         with mock.patch.object(programs, "__file__", package):
-            self.assertNotIn(Path(self.folder, "bin"), programs.folders("dlx1"))
+            self.assertNotIn(os.path.join(self.folder, "bin"), programs.folders("dlx1"))
             os.chmod(self.folder, 0o755)
-            self.assertIn(Path(self.folder, "bin"), programs.folders("dlx1"))
+            self.assertIn(os.path.join(self.folder, "bin"), programs.folders("dlx1"))
 
     def test_no_package_that_anybody_may_put_there_is_loaded(self):
         with open(SCRIPT) as file:

@@ -1,7 +1,5 @@
 """Polycubes: known numbers of pieces and of solutions, pictures, and bad pictures of pieces and boxes."""
 
-import os
-import tempfile
 import unittest
 import xml.etree.ElementTree as ElementTree
 
@@ -9,6 +7,7 @@ from helgrothy import NoPicture, Problem, make
 from helgrothy.make import polycubes
 from helgrothy.make.cubes import SETS
 from helgrothy.turns import images
+from folders import InFolder
 from test_commands import run
 
 # Bad pieces and boxes, each with the sentence that says what is wrong.
@@ -34,18 +33,7 @@ BAD = (
 )
 
 
-class Polycubes(unittest.TestCase):
-    def setUp(self) -> None:
-        folder = tempfile.TemporaryDirectory()
-        self.addCleanup(folder.cleanup)
-        self.folder = folder.name
-
-    def file(self, name: str, text: str) -> str:
-        path = os.path.join(self.folder, name)
-        with open(path, "w") as file:
-            file.write(text)
-        return path
-
+class Polycubes(InFolder):
     def test_known_numbers_of_pieces(self):
         """8 tetracubes and 29 pentacubes where mirror images are two (OEIS A000162), 7 and 23 else (A038119)."""
         for name, size, count, mirrored in (("tetracubes", 4, 8, 7), ("pentacubes", 5, 29, 23), ("soma", None, 7, 6)):

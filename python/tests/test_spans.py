@@ -12,7 +12,6 @@ import tempfile
 import threading
 import unittest
 from concurrent.futures import Executor, Future, ProcessPoolExecutor, ThreadPoolExecutor
-from dataclasses import replace
 from unittest import mock
 
 from helgrothy import ListingFault, OutOfTime, Problem, ProgramFailed, ProgramNotFound, SearchFault, make, programs
@@ -84,9 +83,9 @@ class Rows(unittest.TestCase):
                 self.assertEqual((one.until, one.ends), (other.start, other.begins))
                 self.assertLess(one.start, other.start)
             self.assertTrue(until is None or pieces[-1].start < until)
-        self.assertEqual([piece.start for piece in cut(replace(WHOLE, start=(1,)), (8,), 4)], [(1,), (3,), (5,), (7,)])
-        self.assertEqual(len(cut(replace(WHOLE, start=(1, 1)), (2, 3), 9)), 4)
-        self.assertEqual(len(cut(replace(WHOLE, start=(1,)), (1,), 9)), 1)
+        self.assertEqual([piece.start for piece in cut(WHOLE._replace(start=(1,)), (8,), 4)], [(1,), (3,), (5,), (7,)])
+        self.assertEqual(len(cut(WHOLE._replace(start=(1, 1)), (2, 3), 9)), 4)
+        self.assertEqual(len(cut(WHOLE._replace(start=(1,)), (1,), 9)), 1)
 
     def test_gaps(self):
         self.assertEqual(folders.gaps([]), [WHOLE])
@@ -137,30 +136,38 @@ class Records(unittest.TestCase):
 class Paces(unittest.TestCase):
     def test_steps_follow_the_speed(self):
         pace = Pace(0)
-        few = pace.steps(0.0, float("inf"))
-        pace.took(few, 0.004, 50)
+        few = pace.steps(0.0, None, float("inf"))
+        pace.took(few, 0.002 + few / 500_000, 50)
         for _ in range(30):
-            steps = pace.steps(1.0, float("inf"))
-            pace.took(steps, 0.004 + steps / 500_000, 50)
-        self.assertAlmostEqual(pace.steps(1.0, float("inf")) / 500_000, 0.1, delta=0.02)
-        self.assertAlmostEqual(pace.steps(16.0, float("inf")) / 500_000, 1.0, delta=0.1)
-        self.assertAlmostEqual(pace.steps(1e6, float("inf")) / 500_000, 10, delta=1)
-        self.assertLessEqual(pace.steps(1e6, 0.5) / 500_000, 0.6)
-        self.assertEqual(pace.steps(1e6, -1.0), 1)
+            steps = pace.steps(1.0, None, float("inf"))
+            pace.took(steps, 0.002 + steps / 500_000, 50)
+
+        def seconds(elapsed, rest, left=float("inf")):
+            return pace.steps(elapsed, rest, left) / 500_000
+
+        # Half of the time that it has taken, where nothing is known of the rest, and else a third of that.
+        self.assertAlmostEqual(seconds(2.0, None), 1.0, delta=0.1)
+        self.assertAlmostEqual(seconds(2.0, 100.0), 1.0, delta=0.1)
+        self.assertAlmostEqual(seconds(2.0, 1.5), 0.5, delta=0.05)
+        self.assertAlmostEqual(seconds(20.0, 0.0), 0.5, delta=0.05)
+        self.assertAlmostEqual(seconds(0.0, None), 0.1, delta=0.01)
+        self.assertAlmostEqual(seconds(1e6, 1e6), 10, delta=1)
+        self.assertLessEqual(seconds(1e6, 1e6, 0.5), 0.6)
+        self.assertEqual(pace.steps(1e6, None, -1.0), 1)
 
     def test_a_slow_start(self):
         pace = Pace(0)
         for _ in range(30):
-            steps = pace.steps(0.1, float("inf"))
+            steps = pace.steps(0.1, None, float("inf"))
             pace.took(steps, 2.0 + steps / 500_000, 50)
-        self.assertGreater(pace.steps(0.1, float("inf")) / 500_000, 20)
+        self.assertGreater(pace.steps(0.1, None, float("inf")) / 500_000, 20)
 
     def test_texts_that_are_too_long(self):
         pace = Pace(1000)
         pace.took(100, 0.001, 100)
-        self.assertLessEqual(pace.steps(1.0, 1.0), 500)
+        self.assertLessEqual(pace.steps(1.0, None, 1.0), 500)
         pace.was_too_long(400)
-        self.assertLessEqual(pace.steps(1.0, 1.0), 50)
+        self.assertLessEqual(pace.steps(1.0, None, 1.0), 50)
 
 
 class Texts(unittest.TestCase):
@@ -179,7 +186,7 @@ class Texts(unittest.TestCase):
             for _ in range(20):
                 problem = problem_of(rng, kind)
                 told = whole(kind, problem)[1].splitlines()[:-1]
-                found = [f"Option ignored (no primary items): line {line}" for line in text.ignored(problem, kind)]
+                found = [f"Option ignored (no primary items): line {line}" for line in text.ignored(problem)]
                 self.assertEqual(found, told)
 
 
@@ -285,6 +292,15 @@ class Loops(unittest.TestCase):
             listing = b"".join(kept.text for _, kept in sorted(found.items()))
             joined = subprocess.run([programs.find("dlx-join"), "m1"], input=listing, capture_output=True)
             self.assertEqual(joined.stdout, whole(1, problem, "m1")[0])
+
+    def test_a_long_text_of_a_program_that_has_ended(self):
+        def read(process, _):
+            text = process.stdout.read()
+            os.waitid(os.P_PID, process.pid, os.WEXITED | os.WNOWAIT)
+            return text
+
+        with mock.patch.object(span, "_read", read):
+            self.assertTrue(span.run(span.Task(1, True, QUEENS, "-", "-", 0, 10)).is_too_long)
 
     def test_workers_of_another_version(self):
         with mock.patch.object(loop, "__version__", "0.0.9"), self.assertRaisesRegex(SearchFault, "version"):
@@ -474,12 +490,11 @@ class Folders(unittest.TestCase):
         """Workers get the text that was compared, and no name of a file that another one may write."""
         path = os.path.join(self.path, "problem.dlx")
 
-        def submit(task):
+        def submit(task, done):
             with open(path, "wb") as file:
                 file.write(b"A\nA\n")
-            future: Future = Future()
-            future.set_result(span.run(task))
-            return future
+            done(span.run(task))
+            return lambda: None
 
         with Folder(self.path, self.job) as folder:
             self.assertTrue(Loop(self.job, submit, lambda: 1, folder.keep, None).search(folder.todo()))

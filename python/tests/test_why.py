@@ -9,7 +9,7 @@ import time
 import unittest
 from unittest import mock
 
-from helgrothy import OutOfTime, Problem, make, sat, watch, why
+from helgrothy import OutOfTime, Problem, make, sat_solver, watch, why
 from helgrothy.matching import Matching
 from helgrothy.sums import Count, Sums, search
 
@@ -175,7 +175,7 @@ class Conflicts(unittest.TestCase):
         self.assertEqual(len(told), 1)
 
 
-SOLVERS = [name for name in sat.SOLVERS if sat.shutil.which(name)]
+SOLVERS = [name for name in sat_solver.SOLVERS if sat_solver.shutil.which(name)]
 
 
 class Solvers(unittest.TestCase):
@@ -195,9 +195,9 @@ class Solvers(unittest.TestCase):
             }
             wanted = Problem(relaxed, "x", options).count() > 0
             for name in SOLVERS:
-                command = [sat.shutil.which(name), *sat.SOLVERS[name]]
+                command = [sat_solver.shutil.which(name), *sat_solver.SOLVERS[name]]
                 with self.subTest(name=name, problem=problem.text, kept=kept):
-                    self.assertEqual(sat.Clauses(problem, command).has_solution(kept, 9), wanted)
+                    self.assertEqual(sat_solver.Solver(problem, command).has_solution(kept, 9), wanted)
 
     @unittest.skipUnless(SOLVERS, "needs cadical or clasp")
     def test_where_the_programs_come_to_no_end(self):
@@ -219,8 +219,8 @@ class Solvers(unittest.TestCase):
                 file.write("#!/bin/sh\nexit 1\n")
             os.chmod(wrong, stat.S_IRWXU)
             with mock.patch.dict(os.environ, PATH=folder):
-                self.assertEqual(sat.solver(), ("cadical", [wrong, "-q", "-n"]))
+                self.assertEqual(sat_solver.find(), ("cadical", [wrong, "-q", "-n"]))
                 with self.assertRaises(OutOfTime):
                     why.find(make.langford.problem(14), 0.5)
             with mock.patch.dict(os.environ, PATH=os.path.relpath(folder)):
-                self.assertIsNone(sat.solver())
+                self.assertIsNone(sat_solver.find())

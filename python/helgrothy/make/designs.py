@@ -12,7 +12,8 @@ from typing import Optional
 from ..errors import TableFault
 from ..names import colour_names
 from ..problem import Problem
-from ..syntax import MOST_USES, bytes_of
+from ..shown import bytes_of
+from ..syntax import MOST_USES
 from .kind import check_items, numbered
 
 Option = dict[Hashable, Optional[str]]

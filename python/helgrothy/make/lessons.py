@@ -19,7 +19,8 @@ from dataclasses import dataclass, field
 from typing import NoReturn
 
 from ..errors import TableFault
-from ..syntax import MOST_NAME, MOST_USES, Nearest, bytes_of
+from ..shown import bytes_of
+from ..syntax import MOST_NAME, MOST_USES, Nearest
 
 # What each kind of line has in its cells.
 _CELLS = {

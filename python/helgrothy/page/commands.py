@@ -4,11 +4,9 @@ from __future__ import annotations
 
 import argparse
 import json
-import signal
-import sys
-from typing import Any, NoReturn
+from typing import Any
 
-from ..console import say, write
+from ..console import end_by_signals, say, write
 from ..programs import find
 from .forms import forms
 
@@ -39,9 +37,7 @@ def _page(arguments: argparse.Namespace) -> int:
     from .server import Server
 
     find("dlx1")
-    for number in (signal.SIGTERM, signal.SIGHUP):
-        if signal.getsignal(number) is signal.SIG_DFL:
-            signal.signal(number, _end)
+    end_by_signals()
     server = Server(arguments.port, json.dumps(forms()))
     try:
         write([f"{server.address}\n"])
@@ -50,7 +46,3 @@ def _page(arguments: argparse.Namespace) -> int:
     finally:
         server.close()
     return 0
-
-
-def _end(number: int, _: object) -> NoReturn:
-    sys.exit(128 + number)

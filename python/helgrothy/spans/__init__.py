@@ -6,14 +6,17 @@
 from __future__ import annotations
 
 import time
-from concurrent.futures import Executor
+from typing import TYPE_CHECKING
 
 from ..errors import OutOfTime
 from .join import count as joined
 from .join import number_of
-from .loop import Job, Kept, Loop, Progress, Tell
+from .loop import Job, Kept, Loop, Progress, Tell, submitting
 from .rows import WHOLE, Row, Until
 from .workers import Own, Workers, executor_jobs, processors
+
+if TYPE_CHECKING:
+    from concurrent.futures import Executor
 
 __all__ = ["Progress", "count"]
 
@@ -35,10 +38,13 @@ def count(
     def keep(kept: Kept) -> None:
         found[kept.span.start] = kept
 
-    workers = Own(jobs or processors()) if executor is None else Workers(executor, jobs or executor_jobs(executor))
+    if executor is None:
+        workers: Workers = Own(jobs or processors())
+    else:
+        workers = Workers(submitting(executor), jobs or executor_jobs(executor))
     begun = time.monotonic()
     with workers:
-        loop = Loop(Job(problem, kind, listed=False), workers.submit, workers.count, keep, progress)
+        loop = Loop(Job(problem, kind, listed=False), workers.submit, workers.count, keep, progress, workers.ahead)
         is_done = loop.search([WHOLE], seconds)
     if not is_done:
         error = OutOfTime(f"the search took longer than {time.monotonic() - begun:.3g} seconds")

@@ -10,7 +10,7 @@ import argparse
 import signal
 import subprocess
 import sys
-from collections.abc import Sequence
+from collections.abc import Callable, Sequence
 from typing import Any, NoReturn
 
 from .. import __version__, console
@@ -30,8 +30,6 @@ from .text import ignored, kind_of
 from .workers import Dask, Own, Workers, processors
 
 NOT_DONE = 6
-# The commands that `add` adds.
-NAMES = ("search", "status", "result", "rows")
 _PROGRAMS = ("dlx1", "dlx2", "dlx3")
 _SEARCH = "helgrothy search"
 # The fault of a problem.
@@ -39,13 +37,14 @@ _BAD_PROBLEM = 2
 
 
 def main(words: Sequence[str]) -> int:
-    """Does what the words of one of these commands say, and gives its status."""
+    """Does what words say of which the first is one of these commands, and gives its status."""
     return console.run("helgrothy", lambda: _act(words), unread=0)
 
 
 def _act(words: Sequence[str]) -> int:
     parser = console.Parser(prog="helgrothy")
-    add(parser.add_subparsers(metavar="COMMAND", required=True))
+    # The other commands' parsers take as long as this one's.
+    _ADDS[words[0]](parser.add_subparsers(metavar="COMMAND", required=True))
     arguments = parser.parse_args(words)
     status: int = arguments.command(arguments)
     return status
@@ -53,10 +52,8 @@ def _act(words: Sequence[str]) -> int:
 
 def add(commands: Any) -> None:
     """The commands, for the parser of `helgrothy`."""
-    _add_search(commands)
-    _add_status(commands)
-    _add_result(commands)
-    _add_rows(commands)
+    for add_one in _ADDS.values():
+        add_one(commands)
 
 
 # ---- search
@@ -96,7 +93,7 @@ def _add_program(parser: argparse.ArgumentParser) -> None:
 def _search(arguments: argparse.Namespace) -> int:
     if arguments.problem == "-" and arguments.folder is None:
         raise SearchFault("a problem from standard input needs --folder, where what is done is kept")
-    _end_by_signals()
+    console.end_by_signals()
     problem = console.read(arguments.problem)
     job = Job(problem, _kind(arguments, problem), arguments.list)
     path = arguments.folder or f"{arguments.problem}.search"
@@ -109,7 +106,7 @@ def _search(arguments: argparse.Namespace) -> int:
     with Folder(path, job) as folder:
         # What is damaged is told before anything is printed.
         folder.check()
-        for line in ignored(problem, job.kind):
+        for line in ignored(problem):
             console.say(f"Option ignored (no primary items): line {line}")
         status = _Searching(folder, job, arguments).run()
         if status == 0 and arguments.folder is None:
@@ -159,7 +156,7 @@ class _Searching:
         if not todo:
             return 0
         with self._workers() as workers:
-            self._loop = Loop(self._job, workers.submit, workers.count, self._keep, self._tell)
+            self._loop = Loop(self._job, workers.submit, workers.count, self._keep, self._tell, workers.ahead)
             self._loop.done_before(self._folder.share, self._folder.solutions)
             try:
                 is_done = self._loop.search(list(todo), self._arguments.most)
@@ -274,7 +271,7 @@ def _result(arguments: argparse.Namespace) -> int:
             raise SearchFault(f"{folder.path}: it is of a search that counts solutions; search with --list")
         # A listing is printed where all files are whole.
         folder.check()
-        lines = ignored(folder.problem(), int(folder.about.program[-1]))
+        lines = ignored(folder.problem())
         for line in lines:
             console.say(f"Option ignored (no primary items): line {line}")
         out = subprocess.DEVNULL if not arguments.list else subprocess.PIPE if sys.stdout.isatty() else None
@@ -297,7 +294,7 @@ def _add_rows(commands: Any) -> None:
         description="Prints rows at which a search may be cut, rising, for queues that run programs and nothing else: "
         "dlx-span searches between two of them, and dlx-join puts the texts together. It takes about a second.",
     )
-    parser.add_argument("problem", nargs="?", default="-", metavar="PROBLEM", help="a file (default: standard input)")
+    console.add_problem(parser)
     parser.add_argument("--count", type=console.positive, default=100, metavar="N", help="up to N rows (default: 100)")
     _add_program(parser)
     parser.set_defaults(command=_rows)
@@ -311,6 +308,16 @@ def _rows(arguments: argparse.Namespace) -> int:
         return _failed(error)
     console.write(f"{word_of(row)}\n" for row in found)
     return 0
+
+
+_ADDS: dict[str, Callable[[Any], None]] = {
+    "search": _add_search,
+    "status": _add_status,
+    "result": _add_result,
+    "rows": _add_rows,
+}
+# The commands that `add` adds.
+NAMES = tuple(_ADDS)
 
 
 # ---- dlx-progress
@@ -350,14 +357,3 @@ def run_progress() -> NoReturn:
 
 def _kind(arguments: argparse.Namespace, problem: bytes) -> int:
     return int(arguments.program[-1]) if arguments.program else kind_of(problem)
-
-
-def _end_by_signals() -> None:
-    """A command that is ended says that it goes on, and takes its programs along."""
-    for number in (signal.SIGTERM, signal.SIGHUP):
-        if signal.getsignal(number) is signal.SIG_DFL:
-            signal.signal(number, _end)
-
-
-def _end(number: int, _: object) -> NoReturn:
-    sys.exit(128 + number)

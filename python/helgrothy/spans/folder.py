@@ -22,9 +22,8 @@ import stat
 import time
 from collections.abc import Callable, Iterable, Iterator
 from contextlib import suppress
-from dataclasses import dataclass
 from functools import partial
-from typing import IO
+from typing import IO, NamedTuple
 
 from .. import __version__
 from ..errors import SearchFault
@@ -51,8 +50,7 @@ _MOST_WAITING = 1 << 24
 _HOLD_TRIES, _HOLD_WAIT = 5, 0.05
 
 
-@dataclass(frozen=True)
-class Entry:
+class Entry(NamedTuple):
     """A file of spans: its path, where it begins and ends, and what it has."""
 
     path: str
@@ -63,8 +61,7 @@ class Entry:
     digest: bytes
 
 
-@dataclass(frozen=True)
-class About:
+class About(NamedTuple):
     """What is searched."""
 
     version: str
@@ -81,7 +78,7 @@ class About:
         return self.words == "m1"
 
     def text(self) -> bytes:
-        told = "".join(f"{name} {value}\n" for name, value in vars(self).items())
+        told = "".join(f"{name} {value}\n" for name, value in self._asdict().items())
         told = f"{_FORM}\n{told}"
         return f"{told}digest {hashlib.sha256(told.encode()).hexdigest()}\n".encode()
 

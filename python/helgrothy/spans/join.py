@@ -8,8 +8,7 @@ import signal
 import subprocess
 import threading
 from collections.abc import Callable, Iterable
-from dataclasses import dataclass
-from types import TracebackType
+from typing import NamedTuple
 
 from .. import console
 from ..errors import ProgramFailed
@@ -22,8 +21,7 @@ _CHUNK = 1 << 18
 _LAST_LINE = re.compile(r"Altogether (\d+) solutions?\.\n?\Z")
 
 
-@dataclass(frozen=True)
-class Ending:
+class Ending(NamedTuple):
     """How dlx-join ended, and what it said on standard error."""
 
     status: int
@@ -44,7 +42,7 @@ class Join:
         # The row until which texts were given.
         self.at: Until = ()
         self._process = start(
-            [str(find(PROGRAM)), "m1" if listed else "m0"], stdin=subprocess.PIPE, stdout=out, stderr=subprocess.PIPE
+            [find(PROGRAM), "m1" if listed else "m0"], stdin=subprocess.PIPE, stdout=out, stderr=subprocess.PIPE
         )
         self._threads: list[threading.Thread] = []
         self._begin(self._feed)
@@ -81,9 +79,7 @@ class Join:
     def __enter__(self) -> Join:
         return self
 
-    def __exit__(
-        self, kind: type[BaseException] | None, error: BaseException | None, trace: TracebackType | None
-    ) -> None:
+    def __exit__(self, *_: object) -> None:
         self._texts.put(None)
         self._process.kill()
         self._process.wait()

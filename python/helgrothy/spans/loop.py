@@ -12,18 +12,20 @@ import itertools
 import queue
 import time
 from collections.abc import Callable
-from concurrent.futures import CancelledError, Executor, Future
-from dataclasses import dataclass, replace
 from functools import partial
+from typing import TYPE_CHECKING, NamedTuple, Union
 
 from .. import __version__
 from ..errors import HelgrothyError, ProgramFailed, ProgramNotFound, SearchFault, reason_of
 from . import record as records
-from .pace import Pace
+from .pace import SHORTEST, Pace
 from .rows import Span, cut, place, word_of
 from .span import Ran, Task, run
 
-# Spans on their way for each worker, so that none waits for its next.
+if TYPE_CHECKING:
+    from concurrent.futures import Executor, Future
+
+# Spans that are on their way or ready for each worker, so that none waits for its next.
 _AHEAD = 2
 # A span is given up after so many runs that failed.
 _TRIES = 5
@@ -39,8 +41,7 @@ _TICK = 0.1
 _LEAST_SHARE = 0.001
 
 
-@dataclass(frozen=True)
-class Kept:
+class Kept(NamedTuple):
     """A span that is done: its text or some texts one after another, and what that took of a processor."""
 
     span: Span
@@ -49,8 +50,7 @@ class Kept:
     seconds: float
 
 
-@dataclass(frozen=True)
-class Progress:
+class Progress(NamedTuple):
     """How far a search is.
 
     share: of the tree, if all branches of a level are taken to be equally large. seconds: since it began or went on.
@@ -69,8 +69,7 @@ class Progress:
         return f"{done}   {clock(self.seconds)}{left}   {self.at_work} at work"
 
 
-@dataclass(frozen=True)
-class Job:
+class Job(NamedTuple):
     """What is searched: a problem's text, the program for it, and whether the solutions are listed."""
 
     problem: bytes
@@ -78,11 +77,11 @@ class Job:
     listed: bool
 
 
-@dataclass(frozen=True)
-class _Todo:
+class _Todo(NamedTuple):
     """A span to be searched; how often that failed, and by how much more steps it is tried.
 
-    is_deep: the row at which a run stopped was too long for a word, so that no bound is put to the text.
+    With a factor of more than 1 the row at which a run stopped was too long for a word, so that no bound is put to the
+    text.
     """
 
     span: Span
@@ -92,27 +91,40 @@ class _Todo:
 
 Keep = Callable[[Kept], None]
 Tell = Callable[[Progress], object]
-Submit = Callable[[Task], "Future[Ran]"]
+# What came of a task: what its run printed, or what it failed with.
+Outcome = Union[Ran, BaseException]
+# Hands a task to a worker, which calls with what came of it, in any thread; gives a call that cancels the task.
+Submit = Callable[[Task, Callable[[Outcome], object]], Callable[[], object]]
 
 
 class Loop:
     """A search of spans.
 
-    submit: hands a task to a worker. workers: how many there are. keep: takes each span that is done. tell: is told
-    how far the search is, some times a second.
+    workers: how many there are. keep: takes each span that is done. tell: is told how far the search is, some times a
+    second. ahead: so many tasks are handed out for each worker.
     """
 
-    def __init__(self, job: Job, submit: Submit, workers: Callable[[], int], keep: Keep, tell: Tell | None) -> None:
+    def __init__(
+        self,
+        job: Job,
+        submit: Submit,
+        workers: Callable[[], int],
+        keep: Keep,
+        tell: Tell | None,
+        ahead: int = _AHEAD,
+    ) -> None:
         self._job = job
         self._submit = submit
         self._workers = workers
         self._keep = keep
         self._tell = tell
+        self._ahead = ahead
         self._pace = Pace(MOST_TEXT if job.listed else 0)
         self._ready: list[tuple[tuple[int, ...], int, _Todo]] = []
         self._number = itertools.count()
-        self._came: queue.SimpleQueue[tuple[Future[Ran], _Todo, int] | None] = queue.SimpleQueue()
-        self._runs: dict[Future[Ran], _Todo] = {}
+        self._came: queue.SimpleQueue[tuple[int, Outcome] | None] = queue.SimpleQueue()
+        # Of each run by its number what it searches, by how many steps, and what cancels it.
+        self._runs: dict[int, tuple[_Todo, int, Callable[[], object]]] = {}
         self._begun = time.monotonic()
         self._deadline = float("inf")
         self._share_before = 0.0
@@ -152,26 +164,33 @@ class Loop:
                     self._tell(self.progress())
             return True
         finally:
-            for future in list(self._runs):
-                future.cancel()
+            for _, _, cancel in self._runs.values():
+                cancel()
 
     def progress(self) -> Progress:
         seconds = time.monotonic() - self._begun
-        done, left = self.share - self._share_before, max(1 - self.share, 0.0)
         at_work = min(len(self._runs), self._workers())
-        time_left = seconds * left / done if done >= _LEAST_SHARE else None
-        return Progress(min(self.share, 1.0), self.solutions, seconds, time_left, at_work)
+        return Progress(min(self.share, 1.0), self.solutions, seconds, self._time_left(seconds), at_work)
+
+    def _time_left(self, elapsed: float) -> float | None:
+        return self._time_of(max(1 - self.share, 0.0), elapsed)
+
+    def _time_of(self, share: float, elapsed: float) -> float | None:
+        """How long such a share of the tree is likely to take all workers, where anything is known of that."""
+        done = self.share - self._share_before
+        return elapsed * share / done if done >= _LEAST_SHARE else None
 
     def _put(self, todo: _Todo) -> None:
         # The earliest comes first, so that a listing comes in its order and few spans wait to be joined.
         heapq.heappush(self._ready, (todo.span.start, next(self._number), todo))
 
     def _hand_out(self) -> None:
-        most = _AHEAD * self._workers()
+        most = self._ahead * self._workers()
         while self._ready and len(self._runs) < most:
             todo = heapq.heappop(self._ready)[2]
             now = time.monotonic()
-            steps = self._pace.steps(now - self._begun, self._deadline - now) * todo.factor
+            elapsed = now - self._begun
+            steps = self._pace.steps(elapsed, self._time_left(elapsed), self._deadline - now) * todo.factor
             is_deep = todo.factor > 1
             task = Task(
                 kind=self._job.kind,
@@ -182,41 +201,35 @@ class Loop:
                 steps=0 if todo.factor > _MOST_FACTOR else steps,
                 most=MOST_TEXT if self._job.listed and steps > 1 and not is_deep else 0,
             )
-            future = self._submit(task)
-            self._runs[future] = todo
-            future.add_done_callback(partial(self._come, todo=todo, steps=steps))
+            number = next(self._number)
+            self._runs[number] = (todo, steps, self._submit(task, partial(self._come, number)))
 
-    def _come(self, future: Future[Ran], todo: _Todo, steps: int) -> None:
-        self._came.put((future, todo, steps))
+    def _come(self, number: int, outcome: Outcome) -> None:
+        self._came.put((number, outcome))
 
     def _take(self, seconds: float) -> None:
         """Takes what has come back, or waits so long for the first."""
         try:
             came = self._came.get(timeout=seconds)
             while True:
-                if came is not None and self._runs.pop(came[0], None) is not None:
-                    self._take_one(*came)
+                if came is not None:
+                    number, outcome = came
+                    todo, steps, _ = self._runs.pop(number)
+                    self._take_one(outcome, todo, steps)
                 came = self._came.get_nowait()
         except queue.Empty:
             pass
 
-    def _take_one(self, future: Future[Ran], todo: _Todo, steps: int) -> None:
-        try:
-            ran = future.result()
-            if ran.version != __version__:
-                raise SearchFault(f"a worker has version {ran.version} of this package, and here is {__version__}")
-        except (ProgramNotFound, SearchFault):
-            raise
-        except (Exception, CancelledError) as error:
-            if isinstance(error, ProgramFailed) and error.status in (1, 2) or todo.failed + 1 == _TRIES:
-                raise error if isinstance(error, HelgrothyError) else _fault(error) from None
-            self._put(replace(todo, failed=todo.failed + 1))
-            return
-        if ran.is_too_long:
+    def _take_one(self, outcome: Outcome, todo: _Todo, steps: int) -> None:
+        if isinstance(outcome, BaseException):
+            self._put(_once_more(todo, outcome))
+        elif outcome.version != __version__:
+            raise SearchFault(f"a worker has version {outcome.version} of this package, and here is {__version__}")
+        elif outcome.is_too_long:
             self._pace.was_too_long(steps)
             self._put(todo)
-            return
-        self._take_text(todo, ran)
+        else:
+            self._take_text(todo, outcome)
 
     def _take_text(self, todo: _Todo, ran: Ran) -> None:
         span = todo.span
@@ -226,15 +239,25 @@ class Loop:
             self._done(Kept(span, ran.text, record.solutions, ran.seconds))
             return
         if len(word_of(record.until)) > _LONGEST_WORD:
-            self._put(replace(todo, factor=todo.factor * _MORE))
+            self._put(todo._replace(factor=todo.factor * _MORE))
             return
         stop = record.until or ()
         at = min(max(place(stop, record.branches), span.begins), span.ends)
         self._done(Kept(Span(span.start, stop, span.begins, at), ran.text, record.solutions, ran.seconds))
         rest = Span(stop, span.until, at, span.ends)
-        missing = _AHEAD * self._workers() - len(self._runs) - len(self._ready)
-        for piece in cut(rest, record.branches, max(missing, 1)):
+        for piece in cut(rest, record.branches, self._pieces(rest)):
             self._put(_Todo(piece))
+
+    def _pieces(self, rest: Span) -> int:
+        """Into how many pieces what a run left is cut: as many as keep the workers at work for a while."""
+        workers = self._workers()
+        waiting = workers - len(self._runs) - len(self._ready)
+        missing = waiting + (_AHEAD - 1) * workers
+        seconds = self._time_of(rest.ends - rest.begins, time.monotonic() - self._begun)
+        if seconds is not None:
+            # Near the end a piece for each worker that waits is enough: to begin a run takes longer than small ones.
+            missing = max(min(missing, int(seconds * workers / SHORTEST)), waiting)
+        return max(missing, 1)
 
     def _done(self, kept: Kept) -> None:
         self.share += kept.span.ends - kept.span.begins
@@ -245,10 +268,28 @@ class Loop:
 def submitting(executor: Executor) -> Submit:
     """What hands tasks to an executor. Only the package has to be where the workers are, and the program."""
 
-    def submit(task: Task) -> Future[Ran]:
-        return executor.submit(run, task)
+    def submit(task: Task, done: Callable[[Outcome], object]) -> Callable[[], object]:
+        future = executor.submit(run, task)
+        future.add_done_callback(lambda ended: done(_outcome(ended)))
+        return future.cancel
 
     return submit
+
+
+def _outcome(future: Future[Ran]) -> Outcome:
+    try:
+        return future.result()
+    except BaseException as error:
+        return error
+
+
+def _once_more(todo: _Todo, error: BaseException) -> _Todo:
+    """What is to be searched again, after a run that failed. Raises the error where that would be in vain."""
+    if not isinstance(error, Exception) or isinstance(error, (ProgramNotFound, SearchFault)):
+        raise error
+    if isinstance(error, ProgramFailed) and error.status in (1, 2) or todo.failed + 1 == _TRIES:
+        raise error if isinstance(error, HelgrothyError) else _fault(error) from None
+    return todo._replace(failed=todo.failed + 1)
 
 
 def percent(share: float) -> str:

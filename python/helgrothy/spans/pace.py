@@ -3,14 +3,16 @@
 from __future__ import annotations
 
 # The first run takes so many, and tells the numbers of branches by which the rest is cut.
-_FIRST = 2_000
+_FIRST = 5_000
 # Before anything was measured, steps of a second.
 _GUESS = 1_000_000.0
 _MOST_STEPS = 1 << 62
-# A run takes this share of the time that the search has taken, within these bounds. So the last ones to end keep the
-# others waiting for a small share of the whole, and there are never too many.
-_SHARE = 1 / 16
-_SHORTEST, _LONGEST = 0.04, 10.0
+# A run takes this share of what each worker has left, as far as that is known, and at least and at most such shares of
+# the time that the search has taken, within these bounds. So runs are few, and the last ones to end keep the others
+# waiting for a small share of the whole.
+_SHARE = 1 / 3
+_LEAST_SHARE, _MOST_SHARE = 1 / 40, 1 / 2
+SHORTEST, _LONGEST = 0.1, 10.0
 # To start a program and to read the problem takes at most about this share of a run.
 _START = 1 / 25
 # What was measured counts for less with each run.
@@ -24,25 +26,35 @@ class Pace:
         self._most = most
         self._steps = 0.0
         self._seconds = 0.0
-        self._start = float("inf")
+        # The steps and seconds of the shortest run.
+        self._least: tuple[int, float] | None = None
         self._bytes_a_step = 0.0
 
-    def steps(self, elapsed: float, left: float) -> int:
-        """The steps of a run that begins now, where the search may take so many seconds more."""
-        if self._start == float("inf"):
+    def steps(self, elapsed: float, rest: float | None, left: float) -> int:
+        """The steps of a run that begins now.
+
+        rest: how long the search is likely to take yet, None where nothing is known. left: how long it may take.
+        """
+        if self._least is None:
             return _FIRST
         rate = self._steps / self._seconds if self._seconds > 0 and self._steps > 0 else _GUESS
-        wanted = min(max(elapsed * _SHARE, _SHORTEST), _LONGEST)
-        steps = rate * max(min(max(wanted, self._start / _START), left), 0.0)
+        wanted = elapsed * _MOST_SHARE
+        if rest is not None:
+            wanted = max(min(wanted, rest * _SHARE), elapsed * _LEAST_SHARE)
+        wanted = min(max(wanted, SHORTEST), _LONGEST)
+        least_steps, least_seconds = self._least
+        start = least_seconds - least_steps / rate
+        steps = rate * max(min(max(wanted, start / _START), left), 0.0)
         if self._most and self._bytes_a_step > 0:
             steps = min(steps, self._most / 2 / self._bytes_a_step)
         return int(min(max(steps, 1), _MOST_STEPS))
 
     def took(self, steps: int, seconds: float, size: int) -> None:
         """A run took so many steps and seconds of a processor, and printed so many bytes."""
-        self._start = min(self._start, seconds)
+        if self._least is None or seconds < self._least[1]:
+            self._least = steps, seconds
         self._steps = _FADES * self._steps + steps
-        self._seconds = _FADES * self._seconds + max(seconds - self._start, seconds / 10)
+        self._seconds = _FADES * self._seconds + seconds
         if steps:
             self._bytes_a_step = max(_FADES * self._bytes_a_step, size / steps)
 

@@ -7,7 +7,7 @@ import time
 from collections.abc import Callable, Iterable, Iterator
 
 from ..errors import ListingFault
-from ..syntax import text_of
+from ..shown import text_of
 from .rows import place
 
 _HEADER = re.compile(rb"([0-9]{1,20}):\n?\Z")

@@ -3,7 +3,7 @@
 from __future__ import annotations
 
 import re
-from dataclasses import dataclass
+from typing import NamedTuple
 
 from ..errors import SearchFault
 from .rows import Row, Span, Until, precedes, read, read_until, word_of
@@ -14,8 +14,7 @@ _LINE = rb"from %s until %s(?: of %s)? solutions %s steps %s\n\Z" % (_ROW, _ROW,
 _RECORD = re.compile(_LINE)
 
 
-@dataclass(frozen=True)
-class Record:
+class Record(NamedTuple):
     """What a run did: it searched from a row until another one.
 
     `branches` are those of each level of the row where it stopped for want of steps; none where it did the whole.

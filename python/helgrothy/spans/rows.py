@@ -7,8 +7,7 @@ its end. Of a tree whose branches of a level are taken to be equally large, a ro
 from __future__ import annotations
 
 import re
-from dataclasses import dataclass
-from typing import Optional
+from typing import NamedTuple, Optional
 
 from ..errors import SearchFault
 
@@ -22,8 +21,7 @@ _WORD = re.compile(r"[0-9]+(?:\.[0-9]+)*\Z")
 _MANY_DIGITS = re.compile(r"0*[1-9][0-9]{10}")
 
 
-@dataclass(frozen=True)
-class Span:
+class Span(NamedTuple):
     """The members from a row on and before another one; `begins` and `ends` are the places of the two rows."""
 
     start: Row

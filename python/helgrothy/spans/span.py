@@ -7,7 +7,7 @@ import signal
 import subprocess
 import threading
 from contextlib import suppress
-from dataclasses import dataclass
+from typing import NamedTuple
 
 from .. import __version__
 from ..errors import ProgramFailed
@@ -18,8 +18,7 @@ PROGRAM = "dlx-span"
 _CHUNK = 1 << 20
 
 
-@dataclass(frozen=True)
-class Task:
+class Task(NamedTuple):
     """A span to search: of which problem and by which program, from where until where, and at most so many steps.
 
     No text of more than `most` bytes comes back, if it isn't 0; the run is then ended.
@@ -34,8 +33,7 @@ class Task:
     most: int
 
 
-@dataclass(frozen=True)
-class Ran:
+class Ran(NamedTuple):
     """What a run printed (nothing where that was too long), and what it took of a processor."""
 
     text: bytes
@@ -77,7 +75,7 @@ class Stop:
 def run(task: Task, stop: Stop | None = None) -> Ran:
     """Searches a span. Raises `ProgramNotFound`, `ProgramFailed` and `OSError`."""
     listed = "m1" if task.listed else "m0"
-    command = [str(find(PROGRAM)), str(task.kind), listed, str(task.steps), task.start, task.until]
+    command = [find(PROGRAM), str(task.kind), listed, str(task.steps), task.start, task.until]
     process = _start(command) if stop is None else stop.start(command)
     if process is None:
         raise ProgramFailed(PROGRAM, -signal.SIGKILL, "stopped")
@@ -90,11 +88,11 @@ def run(task: Task, stop: Stop | None = None) -> Ran:
         text = _read(process, task.most)
         is_too_long = bool(task.most) and len(text) > task.most
         if is_too_long:
-            process.kill()
+            _kill(process)
         else:
             told = process.stderr.read()
     except BaseException:
-        process.kill()
+        _kill(process)
         raise
     finally:
         status, seconds = _end(process, stop)
@@ -107,6 +105,11 @@ def run(task: Task, stop: Stop | None = None) -> Ran:
 
 def _start(command: list[str]) -> subprocess.Popen[bytes]:
     return start(command, stdin=subprocess.PIPE, stdout=subprocess.PIPE, stderr=subprocess.PIPE)
+
+
+def _kill(process: subprocess.Popen[bytes]) -> None:
+    # `Popen.kill` would wait for a program that has ended, and `_end` does.
+    os.kill(process.pid, signal.SIGKILL)
 
 
 def _read(process: subprocess.Popen[bytes], most: int) -> bytes:

@@ -6,8 +6,7 @@ The programs judge the text; what is told here of a text with a fault is nothing
 from __future__ import annotations
 
 from collections.abc import Iterator
-
-from ..syntax import read
+from itertools import takewhile
 
 
 def kind_of(problem: bytes) -> int:
@@ -18,12 +17,14 @@ def kind_of(problem: bytes) -> int:
     return 2 if any(b":" in line for _, line in options) else 1
 
 
-def ignored(problem: bytes, kind: int) -> list[int]:
-    """The lines of options without a primary item. Asks that the text has no fault for the program dlx`kind`."""
+def ignored(problem: bytes) -> list[int]:
+    """The lines of options without a primary item. Asks that the text has no fault."""
     items, options = _lines(problem)
     if b"|" not in items:
         return []
-    primary = {name.encode("utf-8", "surrogateescape") for name, item in read(items, kind).items.items() if item.bounds}
+    # A bar within a token ends the bounds of a primary item; one at the beginning comes before the secondary items.
+    tokens = takewhile(lambda token: not token.startswith(b"|"), items.split())
+    primary = {token.rpartition(b"|")[2] for token in tokens}
     return [number for number, line in options if primary.isdisjoint(line.split())]
 
 

@@ -2,18 +2,21 @@
 
 from __future__ import annotations
 
-import importlib
-import inspect
-import logging
 import os
+import queue
+import sys
+import threading
 import time
-from concurrent.futures import Executor, Future, ThreadPoolExecutor
-from types import TracebackType
-from typing import Any
+from collections.abc import Callable
+from importlib import import_module
+from typing import TYPE_CHECKING, Any
 
 from ..errors import SearchFault
-from .loop import submitting
-from .span import Ran, Stop, Task, run
+from .loop import Outcome, Submit, submitting
+from .span import Stop, Task, run
+
+if TYPE_CHECKING:
+    from concurrent.futures import Executor
 
 # So many seconds a scheduler may take to answer.
 _PATIENCE = 30
@@ -26,14 +29,19 @@ def processors() -> int:
 
 
 class Workers:
-    """Those of an executor. As a context manager it lets nothing go on that it began here."""
+    """Those to whom `submit` hands tasks. As a context manager it lets nothing go on that it began here.
 
-    def __init__(self, executor: Executor, jobs: int) -> None:
-        self._submit = submitting(executor)
+    ahead: so many tasks for each worker keep all of them at work.
+    """
+
+    ahead = 2
+
+    def __init__(self, submit: Submit, jobs: int) -> None:
+        self._submit = submit
         self._jobs = jobs
 
-    def submit(self, task: Task) -> Future[Ran]:
-        return self._submit(task)
+    def submit(self, task: Task, done: Callable[[Outcome], object]) -> Callable[[], object]:
+        return self._submit(task, done)
 
     def count(self) -> int:
         return self._jobs
@@ -41,9 +49,7 @@ class Workers:
     def __enter__(self) -> Workers:
         return self
 
-    def __exit__(
-        self, kind: type[BaseException] | None, error: BaseException | None, trace: TracebackType | None
-    ) -> None:
+    def __exit__(self, *_: object) -> None:
         self.close()
 
     def close(self) -> None:
@@ -51,19 +57,52 @@ class Workers:
 
 
 class Own(Workers):
-    """So many processors of this machine: a thread for each, which waits for its program."""
+    """So many processors of this machine: a thread for each, which waits for its program.
+
+    They aren't those of an executor, whose module loads much that a short search would wait for.
+    """
+
+    # A worker has its next task at once.
+    ahead = 1
 
     def __init__(self, jobs: int) -> None:
+        super().__init__(self._hand, jobs)
         self._stop = Stop()
-        self._executor = ThreadPoolExecutor(jobs)
-        super().__init__(self._executor, jobs)
+        self._tasks: queue.SimpleQueue[tuple[Task, Callable[[Outcome], object]] | None] = queue.SimpleQueue()
+        self._threads: list[threading.Thread] = []
 
-    def submit(self, task: Task) -> Future[Ran]:
-        return self._executor.submit(run, task, self._stop)
+    def _hand(self, task: Task, done: Callable[[Outcome], object]) -> Callable[[], object]:
+        self._tasks.put((task, done))
+        if len(self._threads) < self._jobs:
+            thread = threading.Thread(target=self._work, daemon=True)
+            thread.start()
+            self._threads.append(thread)
+        return _nothing
+
+    def _work(self) -> None:
+        while True:
+            given = self._tasks.get()
+            if given is None:
+                return
+            task, done = given
+            outcome: Outcome
+            try:
+                outcome = run(task, self._stop)
+            except BaseException as error:
+                outcome = error
+            done(outcome)
 
     def close(self) -> None:
+        # What waits yet fails at once.
         self._stop.set()
-        self._executor.shutdown(wait=True, cancel_futures=True)
+        for _ in self._threads:
+            self._tasks.put(None)
+        for thread in self._threads:
+            thread.join()
+
+
+def _nothing() -> None:
+    """What cancels a task of this machine: `close` ends all of them."""
 
 
 class Dask(Workers):
@@ -73,8 +112,15 @@ class Dask(Workers):
     """
 
     def __init__(self, address: str) -> None:
+        import logging
+
+        if sys.flags.no_site:
+            # The command is started without the folders of other packages.
+            import site
+
+            site.main()
         try:
-            distributed: Any = importlib.import_module("distributed")
+            distributed: Any = import_module("distributed")
         except ImportError:
             raise SearchFault("--dask needs Dask's package distributed (python3-distributed of Debian)") from None
         # What it would tell of lost workers on standard error isn't of the listing's messages.
@@ -87,11 +133,11 @@ class Dask(Workers):
             raise SearchFault(f"no scheduler of Dask answers at {address}: {error}") from None
         self._known = 1
         self._looked = -_SELDOM
-        super().__init__(self._client.get_executor(pure=False), 1)
+        super().__init__(submitting(self._client.get_executor(pure=False)), 1)
 
-    def submit(self, task: Task) -> Future[Ran]:
+    def submit(self, task: Task, done: Callable[[Outcome], object]) -> Callable[[], object]:
         try:
-            return super().submit(task)
+            return super().submit(task, done)
         except Exception as error:
             raise SearchFault(f"Dask takes no more work: {error}") from None
 
@@ -129,6 +175,8 @@ def _address(address: str) -> dict[str, str]:
 
 def _takes_number(scheduler_info: Any) -> bool:
     """Whether Dask names a few workers alone where it isn't asked for all."""
+    import inspect
+
     return "n_workers" in inspect.signature(scheduler_info).parameters
 
 

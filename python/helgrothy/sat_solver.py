@@ -25,7 +25,7 @@ _NONE = 20
 _WRITING_SECONDS = 1.3e-5
 
 
-def solver() -> tuple[str, list[str]] | None:
+def find() -> tuple[str, list[str]] | None:
     """The name of the first solver that the path has, and its command."""
     for name, words in SOLVERS.items():
         path = path_of(name)
@@ -46,8 +46,8 @@ def writing_seconds(problem: Problem[Any]) -> float:
     return _WRITING_SECONDS * sum(1 for option in problem.options for _ in problem.pairs(option))
 
 
-class Clauses:
-    """A problem for a SAT solver: which primary items are to be held is told with each question."""
+class Solver:
+    """A SAT solver for one problem: which primary items are to be held is told with each question."""
 
     def __init__(self, problem: Problem[Any], command: list[str]) -> None:
         self._command = command
