@@ -45,7 +45,7 @@ fn are_shown(alloc: Global, links: &Links, problem: &Problem, wanted: &str) -> b
     shown.is_ok_and(|shown| shown.as_str() == wanted)
 }
 
-/// Whether a problem and tables of seven items behind a move are shown so.
+/// Whether a problem and tables of seven items after a move are shown so.
 fn are_shown_behind_a_move(alloc: Global, problem: &Problem, wanted: &str) -> bool {
     let links = after(links(alloc, Kind::Plain, SEVEN, 1), &[Move::Cover(1)]);
     on_one(links, |links| are_shown(alloc, links, problem, wanted))

@@ -1,4 +1,4 @@
-//! Moves to a solution and back, over both keepers: what stands after each move stands again before its
+//! Moves to a solution and back, over both keepers: what is there after each move is there again before its
 //! undoing.
 ghost use Rattle.std.specs.Prelude.{◌≡◌};
 ghost use Rattle.xc_input.specs.Problem.{IsItem};
@@ -11,7 +11,7 @@ use fixtures::{COLOURED, TWICE, on_one};
 use xc_dance::{Dance, Links, Move};
 use xc_input::Kind;
 
-/// A move, its cost in linked tables, and what stands after it: the lists of all items, and the
+/// A move, its cost in linked tables, and what is there after it: the lists of all items, and the
 /// open primary items.
 struct Step {
     made: Move,
@@ -105,7 +105,7 @@ fn is_at<D: Dance>(dance: &D, last: u32, step: &Step) -> bool
     are_lists(dance, last, step.lists) && are_open(dance, step.open)
 }
 
-/// Makes the moves of the steps, and looks at what stands after each.
+/// Makes the moves of the steps, and looks at what is there after each.
 fn forth<D: Dance>(dance: &mut D, last: u32, steps: &[Step], counts: bool) -> bool
     requires { IsItem (D.state dance.old).puzzle last }
     ensures { (D.state dance.new).puzzle ≡ (D.state dance.old).puzzle }
@@ -118,7 +118,7 @@ fn forth<D: Dance>(dance: &mut D, last: u32, steps: &[Step], counts: bool) -> bo
     true
 }
 
-/// Undoes the moves of the steps, and looks at what stands before each undoing.
+/// Undoes the moves of the steps, and looks at what is before each undoing.
 fn back<D: Dance>(dance: &mut D, last: u32, steps: &[Step], counts: bool) -> bool
     requires { IsItem (D.state dance.old).puzzle last }
     ensures { (D.state dance.new).puzzle ≡ (D.state dance.old).puzzle }
@@ -132,7 +132,7 @@ fn back<D: Dance>(dance: &mut D, last: u32, steps: &[Step], counts: bool) -> boo
 }
 
 /// Goes to the solution of the problem with colours and back. `counts` says whether this keeper
-/// tells its costs.
+/// returns its costs.
 fn to_a_solution_and_back<D: Dance>(dance: &mut D, counts: bool) -> bool {
     dance.can(&Move::Cover(5))
         && are_lists(dance, 5, &FIRST)

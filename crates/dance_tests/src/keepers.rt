@@ -54,7 +54,7 @@ pub fn make<D: Dance>(dance: &mut D, m: Move) -> Option<u64>
     }
 }
 
-/// Undoes the newest move and answers its cost; None where no move stands.
+/// Undoes the newest move and returns its cost; None if there is no move.
 pub fn undo<D: Dance>(dance: &mut D) -> Option<u64>
     ensures { (D.state dance.new).puzzle ≡ (D.state dance.old).puzzle }
 {
@@ -126,12 +126,12 @@ pub fn are_open<D: Dance>(dance: &D, wanted: &[u32]) -> bool {
     next.is_none()
 }
 
-/// Whether the two are the same, whichever is asked.
+/// Whether the two are the same, whichever is compared.
 pub fn alike(links: &Links, other: &Links) -> bool {
     links.same(other) && other.same(links)
 }
 
-/// Whether the two aren't the same, whichever is asked.
+/// Whether the two aren't the same, whichever is compared.
 pub fn unlike(links: &Links, other: &Links) -> bool {
     !links.same(other) && !other.same(links)
 }

@@ -9,7 +9,7 @@ mod callers;
 // Helpers. They are proved without the tests too, as what `must-fail/` plants is.
 pub mod keepers;
 
-// Memory, ample and wanting.
+// Memory, ample and scarce.
 #[cfg(test)]
 mod ample;
 #[cfg(test)]

@@ -1,4 +1,4 @@
-//! Want of memory.
+//! Lack of memory.
 use crate::keepers::{links, lists};
 use fixtures::{SEVEN, SMALL, on_none, on_problem};
 use xc_dance::{Links, Lists};

@@ -5,7 +5,7 @@ use fixtures::{ALONE, COLOURED, TWICE};
 use xc_dance::{Field, Links, Move};
 use xc_input::Kind;
 
-/// A cell and what stands in it.
+/// A cell and what is in it.
 #[derive(Clone, Copy)]
 struct Cell(Field, u32, i64);
 
@@ -135,14 +135,14 @@ fn cells_that_tweaks_change(rt: HostRuntime) {
     assert!(rt; on_two(links, spent, tweak));
 }
 
-/// What differs after two Spends and a Cover of the item that stands alone.
+/// What differs after two Spends and a Cover of the item that is alone.
 const CLOSED: [Cell; 3] = [
     Cell(Field::Bound, 1, 0),
     Cell(Field::Llink, 0, 0),
     Cell(Field::Rlink, 0, 0),
 ];
 
-/// Whether the list of the item that stands alone is linked through both its options.
+/// Whether the list of the item that is alone is linked through both its options.
 fn is_linked(links: &Links) -> bool {
     links.cell(Field::Dlink, 1) == Some(3)
         && links.cell(Field::Ulink, 5) == Some(3)

@@ -10,7 +10,7 @@ fn main(rt: HostRuntime) -> ExitCode {
     exit_code(&rt, run(&rt))
 }
 
-/// Writes the span that the words ask for of the problem on standard input, and returns the status.
+/// Writes the span that the words mean of the problem on standard input, and returns the status.
 fn run(rt: &HostRuntime) -> Result<u8, AllocError> {
     let words = words(rt)?;
     let by_line = rt.stdout().is_terminal();

@@ -6,7 +6,7 @@ use xc_input::Kind;
 use xc_list::{End, ListingFault, Sink, SpanFault, VecSink, Verdict, WordFault, Words};
 use xc_list::{is_cover, laws, run, write_all};
 
-/// Lists all solutions of a text, and tells how the run ended.
+/// Lists all solutions of a text, and reports how the run ended.
 fn list_into(alloc: Global, text: &[u8], words: Words, sink: &mut VecSink) -> Result<End, Fail> {
     let problem = problem(alloc, Kind::Plain, text)?;
     Ok(run(alloc, &problem, words, sink)?)

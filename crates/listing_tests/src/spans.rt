@@ -1,10 +1,10 @@
-//! Spans of listings, and the words that ask for them.
+//! Spans of listings, and the words that mean them.
 use fixtures::{THREE_ALIKE, TWICE, gathered, on_none, on_one, on_problem};
 use std::alloc::Global;
 use xc_input::{Kind, Problem};
 use xc_list::{SpanFault, SpanWords, Tray, VecSink, list_span};
 
-/// What words ask for; None where there is no memory.
+/// What words mean; None where there is no memory.
 fn asked(alloc: Global, words: &[&[u8]]) -> Option<Option<SpanWords>> {
     let all = gathered(alloc, words).ok()?;
     SpanWords::read(alloc, &all).ok()
@@ -16,7 +16,7 @@ fn is_written(alloc: Global, problem: &Problem, words: &SpanWords, wanted: &[u8]
     list_span(alloc, problem, words, &mut sink).is_ok() && sink.bytes() == wanted
 }
 
-/// Whether the span that words ask for is written so, of the problem of a text.
+/// Whether the span that words mean is written so, of the problem of a text.
 fn are_written(alloc: Global, kind: Kind, text: &[u8], words: &[&[u8]], wanted: &[u8]) -> bool {
     on_problem(alloc, kind, text, |problem| {
         match asked(alloc, words) {
@@ -100,7 +100,7 @@ fn spans_that_break_off(rt: HostRuntime) {
     assert!(rt; breaks_off_at(rt.alloc(), 80));
 }
 
-/// Words that ask for no span.
+/// Words that mean no span.
 const REFUSED: [&[&[u8]]; 12] = [
     &[],
     &[b"m1", b"0", b"-"],

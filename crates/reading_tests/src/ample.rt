@@ -4,7 +4,7 @@ use std::alloc::Global;
 use std::test::Fail;
 use xc_input::Kind;
 
-/// An item behind many spaces, and an option.
+/// An item after many spaces, and an option.
 fn behind_spaces(alloc: Global, spaces: usize) -> Result<Vec<u8>, Fail> {
     let mut text = vec![in alloc; b' '; spaces]?;
     text.extend_from_slice(b"A\nA\n")?;

@@ -4,7 +4,7 @@ use std::alloc::Global;
 use std::test::Fail;
 use xc_input::{FaultKind, Feed, InputError, Kind, read_problem};
 
-/// What reading a text gives whose read number `call` fails. A read gives so many bytes.
+/// What reading a text returns whose read number `call` fails. A read returns so many bytes.
 fn refusal(alloc: Global, text: &[u8], step: usize, call: u64) -> Option<InputError> {
     read_problem(
         alloc,

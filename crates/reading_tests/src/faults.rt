@@ -4,7 +4,7 @@ use std::alloc::Global;
 use std::test::Fail;
 use xc_input::{FaultKind, FaultyToken, InputError, Kind, Reader, Seed, faulty_token};
 
-/// A fault, as the error that a refused text gives.
+/// A fault, as the error that a refused text returns.
 pub fn fault(line: u64, kind: FaultKind) -> Option<InputError> {
     Some(InputError::Fault { line, kind })
 }
@@ -115,7 +115,7 @@ fn faults_of_option_lines(rt: HostRuntime) -> Result<(), Fail> {
     Ok(())
 }
 
-/// A line in three pieces: what stands before the token at fault, the token, and what stands behind it.
+/// A line in three pieces: what is before the token at fault, the token, and what is after it.
 type Cut = [&'static [u8]; 3];
 
 /// Whether the token that is at fault cuts a line so.
@@ -322,7 +322,7 @@ fn tokens_at_fault_in_option_lines(rt: HostRuntime) -> Result<(), Fail> {
 /// Item lines without a token at fault.
 const ITEM_LINES: [&[u8]; 3] = [b"A B | x", b"| A A", b"A A \0"];
 
-/// Item lines, and lines behind them without a token at fault.
+/// Item lines, and lines after them without a token at fault.
 const LINES_BEHIND: [(&[u8], &[u8]); 4] = [
     (b"A B", b"B A"),
     (b"A B", b"A A \0"),

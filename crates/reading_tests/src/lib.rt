@@ -1,4 +1,4 @@
-//! Tests of reading: of problems, of each fault of a text, and of want of memory. They use public calls
+//! Tests of reading: of problems, of each fault of a text, and of lack of memory. They use public calls
 //! alone. The gate tries them beside the proofs of the libraries that they don't use.
 #![tactic(auto)]
 
@@ -6,7 +6,7 @@
 #[cfg(test)]
 mod callers;
 
-// Memory, ample and wanting.
+// Memory, ample and scarce.
 #[cfg(test)]
 mod ample;
 #[cfg(test)]

@@ -1,11 +1,11 @@
-//! Want of memory.
+//! Lack of memory.
 use fixtures::SEVEN;
 use xc_input::{Feed, InputError, Kind, Read, ReadFailed, Reader, Source, read_problem};
 
 const LINES: [&[u8]; 3] = [b"A B | x", b"A x:red", b"B x:red"];
 
-/// Whether a reader takes these lines, up to one that it refuses for want of memory, as all behind it.
-/// `refused` tells whether there is one.
+/// Whether a reader takes these lines, up to one that it refuses for lack of memory, as all after it.
+/// `refused` says whether there is one.
 fn takes_or_wants_memory(reader: &mut Reader, refused: &mut bool) -> bool {
     for line in &LINES {
         match reader.line(*line) {
@@ -18,7 +18,7 @@ fn takes_or_wants_memory(reader: &mut Reader, refused: &mut bool) -> bool {
     true
 }
 
-/// Whether a reader ends so: with two options, or with want of memory where a line was refused.
+/// Whether a reader ends so: with two options, or with lack of memory where a line was refused.
 fn ends_so(read: &Result<Read, InputError>, refused: bool) -> bool {
     match read {
         Ok(read) => !refused && read.problem.options() == 2,
@@ -34,7 +34,7 @@ fn answers_or_wants_memory(rt: HostRuntime) {
     assert!(rt; ends_so(&reader.finish(), refused));
 }
 
-/// A source that counts the bytes that it gave.
+/// A source that counts the bytes that it returned.
 #[derive(Drop)]
 struct Counted<'a> {
     feed: Feed<'a>,
@@ -51,7 +51,7 @@ impl<'a> Source for Counted<'a> {
     }
 }
 
-/// Whether an answer is right behind so many bytes of the seven items: with want of memory the buffer was
+/// Whether an answer is right after so many bytes of the seven items: with lack of memory the buffer was
 /// refused, and nothing is read, or a later growth was, and the whole text was read before.
 fn is_right(answer: &Result<Read, InputError>, bytes: usize) -> bool {
     match answer {

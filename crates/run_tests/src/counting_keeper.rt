@@ -118,7 +118,7 @@ fn counted_search(alloc: Global, problem: &Problem) -> Option<Search<Counting>> 
     Search::new(alloc, Counting { links, calls: NONE }, problem).ok()
 }
 
-/// The calls of a search that is asked so often for its next solution, and closed.
+/// The calls of a search that goes on so often to its next solution, and closed.
 fn calls_of_steps(alloc: Global, problem: &Problem, steps: usize) -> Option<Calls> {
     let mut search = counted_search(alloc, problem)?;
     for _step in 0..steps {

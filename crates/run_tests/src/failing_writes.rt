@@ -7,7 +7,7 @@ use std::test::Fail;
 use xc_input::Kind;
 use xc_list::{End, Words};
 
-/// Fails unless runs into a sink that takes so many bytes, one by one, give as many of the listing and end
+/// Fails unless runs into a sink that takes so many bytes, one by one, write as many of the listing and end
 /// so, over both keepers, whether the next write fails or takes nothing.
 fn breaks_off(
     alloc: Global,

@@ -1,5 +1,5 @@
 //! Tests of runs over live lists, over linked tables and over a keeper that counts: what they list, how they
-//! end, and which moves they make. They use public calls alone, so they stand on top, where no library is
+//! end, and which moves they make. They use public calls alone, so they are on top, where no library is
 //! proved a second time for them.
 #![tactic(auto)]
 

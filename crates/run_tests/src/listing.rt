@@ -11,7 +11,7 @@ use std::test::Fail;
 use xc_input::{Kind, Problem};
 use xc_list::{End, Tray, Words, run};
 
-/// What is asked of a worked problem.
+/// What a run over a worked problem is to do.
 #[derive(Clone, Copy)]
 pub struct Row<'a> {
     pub kind: Kind,
@@ -145,7 +145,7 @@ fn up_to_twice(rt: HostRuntime) -> Result<(), Fail> {
     all(rt.alloc(), Kind::Bounds, ALONE, ALONE_LISTING, 4)
 }
 
-// Lines that stay from one solution to the next, and some that are written anew behind others, in solutions of four, of
+// Lines that stay from one solution to the next, and some that are written anew after others, in solutions of four, of
 // three and of two choices.
 #[test]
 fn lines_that_stay(rt: HostRuntime) -> Result<(), Fail> {
@@ -176,7 +176,7 @@ fn both_options(rt: HostRuntime) -> Result<(), Fail> {
     all(rt.alloc(), Kind::Bounds, b"2|A\nA\nA\n", listing, 1)
 }
 
-/// An option whose primary item stands last, and eleven that colour an item which stands first.
+/// An option whose primary item is last, and eleven that colour an item which is first.
 fn long_names(alloc: Global) -> Result<Vec<u8>, Fail> {
     let mut text = Vec::from_slice(alloc, b"a_rather_long_name z | its_colour y\ny:b z\n")?;
     for colour in b"abcdefghijk" {

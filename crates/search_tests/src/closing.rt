@@ -1,4 +1,4 @@
-//! A search that is closed after any number of steps gives its tables as they were built.
+//! A search that is closed after any number of steps returns its tables as they were built.
 ghost use Rattle.std.specs.Prelude.{◌≡◌, ◌+◌, ◌≤◌};
 
 use fixtures::{ALONE, COLOURED, TWICE, on_one, on_problem};
@@ -7,7 +7,7 @@ use xc_dance::Links;
 use xc_input::{Kind, Problem};
 use xc_search::{Search, Step, most_moves};
 
-/// Goes on for some steps. The answer says how many solutions that gave.
+/// Goes on for some steps. Returns how many solutions that found.
 fn go_on(search: &mut Search<Links>, steps: usize) -> usize
     ensures { result ≤ steps }
 {
@@ -36,7 +36,7 @@ fn search<'a>(alloc: Global, problem: &'a Problem) -> Option<Search<'a, Links>> 
     Search::new(alloc, links, problem).ok()
 }
 
-/// Whether a search that is closed after some steps saw so many solutions, and gives the tables
+/// Whether a search that is closed after some steps saw so many solutions, and returns the tables
 /// as they were built.
 fn closes(alloc: Global, problem: &Problem, steps: usize, solutions: usize) -> bool {
     let Some(mut search) = search(alloc, problem) else {
@@ -46,7 +46,7 @@ fn closes(alloc: Global, problem: &Problem, steps: usize, solutions: usize) -> b
     are_as_built(alloc, problem, search.close()) && found == solutions
 }
 
-/// Whether a search that is closed gives the tables as they were built, after each number of steps
+/// Whether a search that is closed returns the tables as they were built, after each number of steps
 /// to the end, one past it, and one more.
 fn closes_at_each_step(alloc: Global, problem: &Problem, solutions: u8) -> bool {
     let solutions = solutions as usize;
@@ -58,7 +58,7 @@ fn closes_at_each_step(alloc: Global, problem: &Problem, solutions: u8) -> bool 
     true
 }
 
-/// Whether the searches of a text have at most so many moves, and give their tables as they were built.
+/// Whether the searches of a text have at most so many moves, and return their tables as they were built.
 fn all_close(alloc: Global, kind: Kind, text: &[u8], moves: usize, solutions: u8) -> bool {
     on_problem(alloc, kind, text, |problem| {
         closes_at_each_step(alloc, problem, solutions) && most_moves(problem) == moves

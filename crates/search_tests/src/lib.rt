@@ -1,5 +1,5 @@
-//! Tests of searches and of searches of spans. They use public calls alone. The gate tries them beside the proofs of the
-//! libraries that they don't use.
+//! Tests of searches and of searches of spans. They use public calls alone. The gate tries them beside the proofs of
+//! the libraries that they don't use.
 #![tactic(auto)]
 
 // What is there for callers.

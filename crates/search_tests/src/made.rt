@@ -5,7 +5,7 @@ use xc_dance::{Dance, Lists};
 use xc_input::{Kind, Problem};
 use xc_search::{Choice, Search, Span, Walk, most_moves};
 
-/// Once `a x` is taken, `b` to `h` have one branch each and `i` none, seven items behind the first of these.
+/// Once `a x` is taken, `b` to `h` have one branch each and `i` none, seven items after the first of these.
 const FAR_DEAD_END: &[u8] =
     b"a b c d e f g h i x\na i\na x\ni x\nb\nb x\nc\nc x\nd\nd x\ne\ne x\nf\nf x\ng\ng x\nh\nh x\n";
 
@@ -25,7 +25,7 @@ pub fn search<'a>(alloc: Global, problem: &'a Problem) -> Option<Search<'a, List
     Search::new(alloc, lists, problem).ok()
 }
 
-/// Whether lists were handed back without moves. That they are let go is proved here, and not in each test.
+/// Whether lists were handed back without moves. That they are dropped is proved here, and not in each test.
 pub fn are_undone(lists: Lists) -> bool {
     lists.moves().is_empty()
 }

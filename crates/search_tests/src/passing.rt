@@ -1,4 +1,4 @@
-//! Passes over many solutions, of which the last choices are counted at once.
+//! Passes over many solutions, whose last choices are counted at once.
 use crate::made::{are_undone, search};
 use fixtures::on_problem;
 use std::alloc::Global;
@@ -23,7 +23,7 @@ fn steps(search: &mut Search<Lists>, many: u64) -> u64 {
     many
 }
 
-/// Whether a pass, behind another one, ends where as many single steps end, and goes on as they do.
+/// Whether a pass, after another one, ends where as many single steps end, and goes on as they do.
 fn ends_alike(
     passed: &mut Search<Lists>,
     stepped: &mut Search<Lists>,

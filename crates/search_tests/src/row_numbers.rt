@@ -1,4 +1,4 @@
-//! The numbers of the row at which a search of a span stands, one by one.
+//! The numbers of the row that a search of a span is at, one by one.
 use crate::made::span;
 use fixtures::{SEVEN, on_one, on_problem};
 use std::alloc::Global;
@@ -16,7 +16,7 @@ fn are_numbers(span: &Span<Lists>, wanted: &[(u32, u32)]) -> bool {
     span.number_at(wanted.len()).is_none() && span.number_at(usize::MAX).is_none()
 }
 
-/// Whether it tells them at the beginning, between branches, at a solution and at the end.
+/// Whether it returns them at the beginning, between branches, at a solution and at the end.
 fn tells_rows(span: &mut Span<Lists>) -> bool {
     let mut so = are_numbers(span, &[]);
     span.go_on(1, 1);

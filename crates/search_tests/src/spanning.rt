@@ -189,7 +189,7 @@ fn numbers_of(alloc: Global, row: &[RowNumber]) -> Option<Vec<u32>> {
     row.iter().map(|number| number.k).collect(alloc).ok()
 }
 
-/// The row at which a search of a span stands.
+/// The row that a search of a span is at.
 fn row_of(alloc: Global, span: &Span<Lists>) -> Option<Vec<u32>> {
     let row = span.row(alloc).ok()?;
     numbers_of(alloc, &row)
@@ -223,7 +223,7 @@ fn goes_from(
     if are_undone(span.close()) { leg } else { None }
 }
 
-/// Whether searches that each begin at the row that the one before told have all members of a search to come.
+/// Whether searches that each begin at the row that the one before returned have all members of a search to come.
 fn starts_anew(alloc: Global, problem: &Problem, whole: &mut Search<Lists>) -> bool {
     let mut from = Vec::new(alloc);
     for _ in 0..1000 {
@@ -265,7 +265,7 @@ fn went(
         }
 }
 
-/// Whether a search of a span stands at this row, each number with that of its level's branches.
+/// Whether a search of a span is at this row, each number with that of its level's branches.
 fn stands_at(alloc: Global, span: &Span<Lists>, wanted: &[(u32, u32)]) -> bool {
     match span.row(alloc) {
         Ok(row) => {
@@ -279,8 +279,8 @@ fn stands_at(alloc: Global, span: &Span<Lists>, wanted: &[(u32, u32)]) -> bool {
     }
 }
 
-/// Whether a search goes over the one cover of seven items. It is in the second of two branches of the first item; below
-/// the first there is one branch, which leaves an item without options.
+/// Whether a search goes over the one cover of seven items. It is in the second of two branches of the first item;
+/// below the first there is one branch, which leaves an item without options.
 fn goes_over_one(alloc: Global, span: &mut Span<Lists>) -> bool {
     stands_at(alloc, span, &[])
         && went(span, 1, 0, Halt::Steps, 0, 0)

@@ -5,7 +5,7 @@ use xc_dance::Lists;
 use xc_input::Kind;
 use xc_search::{Choice, Walk};
 
-/// Whether a walk stands at the solution of these choices.
+/// Whether a walk is at the solution of these choices.
 fn stands_at(walk: &Walk<Lists>, wanted: &[Choice]) -> bool {
     let mut choices = walk.solution();
     for choice in wanted {
@@ -30,7 +30,7 @@ fn is_marked(walk: &Walk<Lists>, wanted: &[Choice]) -> bool {
     marks.next().is_none()
 }
 
-/// Whether a walk stands at no solution, then at this one alone, and then at none.
+/// Whether a walk is at no solution, then at this one alone, and then at none.
 fn passes_over_one(walk: &mut Walk<Lists>, wanted: &[Choice]) -> bool {
     stands_at(walk, &[])
         && walk.pass(1) == 1

@@ -5,7 +5,7 @@ use xc_input::{Feed, Seed};
 use xc_list::Tray;
 use xc_tools::{closed_stream, judge, named_file};
 
-/// Whether an open stream is taken for one, and nothing is told.
+/// Whether an open stream is taken for one, and nothing is reported.
 fn is_open(rt: &HostRuntime, err: &mut Tray) -> bool {
     let open = rt.stdout();
     closed_stream(&open, &open, &open, err).is_none() && err.bytes().is_empty()
@@ -21,7 +21,7 @@ fn streams_that_are_open(rt: HostRuntime) {
     );
 }
 
-/// Whether the judge of a file that isn't there, over an empty listing, tells that a read failed.
+/// Whether the judge of a file that isn't there, over an empty listing, reports that a read failed.
 fn fails_to_read(rt: &HostRuntime, told: &mut Told) -> bool {
     let Ok(words) = gathered(rt.alloc(), &[b"data/missing.dlx"]) else {
         return false;

@@ -8,7 +8,7 @@ use xc_input::{Feed, Kind};
 use xc_list::{Flushes, Sink, Tray, WriteFailed};
 use xc_tools::{judge, solve};
 
-/// The status of `solve` on a text, of which the read of this number fails.
+/// The status of `solve` on a text whose read of this number fails.
 fn solved<O: Sink, E: Sink>(
     alloc: Global,
     text: &[u8],
@@ -21,7 +21,7 @@ fn solved<O: Sink, E: Sink>(
     Some(solve(alloc, Kind::Plain, &words, &mut input, out, err))
 }
 
-/// A run of which a read fails, or a write behind so many bytes, and what it lists and tells.
+/// A run that fails at a read, or at a write after so many bytes, and what it lists and reports.
 #[derive(Clone, Copy)]
 struct Failing {
     fails_at: Option<u64>,
@@ -38,7 +38,7 @@ fn lists_so(alloc: Global, run: &Failing, err: &mut Tray) -> bool {
     solved(alloc, SEVEN, run.fails_at, &mut out, err) == Some(3) && out.bytes() == run.listed
 }
 
-/// Whether it lists so, with status 3, and tells so where this much of its messages is taken.
+/// Whether it lists so, with status 3, and reports so where this much of its messages is taken.
 fn fails_so(alloc: Global, run: &Failing, heard: usize) -> bool {
     let Ok(mut err) = Tray::new(alloc, 1, heard, heard == 0) else {
         return false;
@@ -46,7 +46,7 @@ fn fails_so(alloc: Global, run: &Failing, heard: usize) -> bool {
     lists_so(alloc, run, &mut err) && err.bytes() == run.told
 }
 
-/// Runs of which a read or a write fails, and how much of their messages is taken: of the last one, which lists
+/// Runs that fail at a read or a write, and how much of their messages is taken: of the last one, which lists
 /// all, nothing.
 const FAILING: [(Failing, usize); 3] = [
     (
@@ -194,7 +194,7 @@ impl Sink for Unflushed {
     }
 }
 
-/// Whether the one call that failed was the flush, behind this text.
+/// Whether the one call that failed was the flush, after this text.
 fn is_unflushed(out: &Unflushed, text: &[u8]) -> bool {
     out.bytes.as_slice() == text && out.failures == 1 && out.failed
 }

@@ -7,7 +7,7 @@ use xc_input::Feed;
 use xc_list::Tray;
 use xc_tools::join_spans;
 
-/// Whether `join_spans` tells this of a text.
+/// Whether `join_spans` reports this of a text.
 fn joins(alloc: Global, words: &[&[u8]], text: &[u8], status: u8, out: &[u8], err: &[u8]) -> bool {
     let program = |words: &[Vec<u8>], input: &mut Feed, out: &mut Tray, err: &mut Tray| {
         join_spans(alloc, words, input, out, err)
@@ -15,14 +15,14 @@ fn joins(alloc: Global, words: &[&[u8]], text: &[u8], status: u8, out: &[u8], er
     run_gives(alloc, words, text, program, status, out, err)
 }
 
-/// Three equal options in two spans, of which the search of the first stopped.
+/// Three equal options in two spans; the search of the first stopped.
 const LISTED: &[u8] =
     b"from -\n1:\n A (1 of 3)\nfrom - until 2 of 3 solutions 1 steps 1\nfrom 2\n1:\n A (2 of 3)\n2:\n A (3 of 3)\nfrom 2 until - solutions 2 steps 2\n";
 
 const COUNTED: &[u8] =
     b"from - until 2 of 3 solutions 1 steps 1\nfrom 2 until - solutions 2 steps 2\n";
 
-/// Words and texts that are joined, and what is listed and told.
+/// Words and texts that are joined, and what is listed and reported.
 const JOINED: [(&[&[u8]], &[u8], &[u8], &[u8]); 5] = [
     (
         &[b"m1"],
@@ -69,7 +69,7 @@ fn other_words(rt: HostRuntime) {
     assert!(rt; joins(rt.alloc(), &[b"m2"], LISTED, 1, b"", USAGE));
 }
 
-/// Texts whose ends don't meet, what is listed of them and which gap is told.
+/// Texts whose ends don't meet, what is listed of them and which gap is reported.
 const GAPS: [(&[u8], &[u8], &[u8]); 6] = [
     (b"", b"", b"Gap: from - until -.\n"),
     (b"from 2\n", b"", b"Gap: from - until 2.\n"),
@@ -105,7 +105,7 @@ fn ends_that_do_not_meet(rt: HostRuntime) -> Result<(), Fail> {
     Ok(())
 }
 
-/// What isn't the texts of listed spans, and the line that is told.
+/// What isn't the texts of listed spans, and the line that is reported.
 const DAMAGED: [(&[u8], &[u8]); 14] = [
     (b"from - until - solutions 0 steps 1\n", b"line 1"),
     (b"1:\n", b"line 1"),
@@ -129,7 +129,7 @@ const DAMAGED: [(&[u8], &[u8]); 14] = [
     (b"from -\nfrom - until 2 solutions 0 steps 1 \n", b"line 2"),
 ];
 
-/// Whether a text is refused with its line, of which the message begins so.
+/// Whether a text is refused with its line, by a message that begins so.
 fn is_damaged(alloc: Global, text: &[u8], line: &[u8]) -> bool {
     let Ok(mut wanted) = gathered(alloc, &[line]) else {
         return false;
@@ -164,7 +164,7 @@ fn damaged_texts(rt: HostRuntime) -> Result<(), Fail> {
     Ok(())
 }
 
-/// The status of a run of which the read of this number fails, over a sink that takes so many bytes.
+/// The status of a run whose read of this number fails, over a sink that takes so many bytes.
 fn status_of(alloc: Global, fails_at: Option<u64>, room: usize) -> Option<u8> {
     let words = gathered(alloc, &[b"m1"]).ok()?;
     let mut input = Feed::new(LISTED, 7, fails_at);

@@ -5,7 +5,7 @@ use std::alloc::Global;
 use std::test::Fail;
 use xc_input::Kind;
 
-/// So many items, the n-th of which the n-th option holds alone.
+/// So many items; the n-th option holds the n-th alone.
 fn each_alone(alloc: Global, items: u32) -> Result<String, Fail> {
     let mut text = String::new(alloc);
     for i in 0..items {

@@ -1,5 +1,5 @@
 //! Tests of whole runs, of the judge and of the system's streams. They use public calls alone, so they
-//! are above the libraries, none of which is proved a second time for them.
+//! are above the libraries, which aren't proved a second time for them.
 #![tactic(auto)]
 
 // Helpers.

@@ -171,7 +171,7 @@ fn is_refused(
     })
 }
 
-/// A kind, what stands before a token of a thousand times a byte and behind it, and what is said of the fault.
+/// A kind, what is before a token of a thousand times a byte and after it, and what is said of the fault.
 const TOO_LONG: [(Kind, &[u8], u8, &[u8], &[u8]); 4] = [
     (Kind::Plain, b"", b'a', b"", b"Line 1: name too long.\n"),
     (Kind::Plain, b"A\n", b'a', b"", b"Line 2: name too long.\n"),

@@ -26,7 +26,7 @@ fn text_of_one_hash(alloc: Global) -> Result<Vec<u8>, Fail> {
     Ok(text)
 }
 
-/// Whether the names are told apart.
+/// Whether the names are known apart.
 fn are_three(problem: &Problem) -> bool {
     if problem.items() != 3 || problem.options() != 3 {
         return false;

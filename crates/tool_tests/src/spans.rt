@@ -7,7 +7,7 @@ use xc_input::Feed;
 use xc_list::Tray;
 use xc_tools::solve_span;
 
-/// Whether `solve_span` tells this of a problem.
+/// Whether `solve_span` reports this of a problem.
 fn span_gives(
     alloc: Global,
     words: &[&[u8]],
@@ -84,7 +84,7 @@ fn spans_that_are_refused(rt: HostRuntime) -> Result<(), Fail> {
     Ok(())
 }
 
-/// Runs `solve_span` over a text that is read so many bytes at a time, of which a read may fail.
+/// Runs `solve_span` over a text that is read so many bytes at a time, where a read may fail.
 fn run(
     alloc: Global,
     words: &[&[u8]],

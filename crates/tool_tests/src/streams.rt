@@ -35,7 +35,7 @@ impl Write for Narrow {
     }
 }
 
-/// More than twice what a sink holds back, no 65536 bytes of which are like the next.
+/// More than twice what a sink holds back; no 65536 bytes are like the next.
 fn long_text(alloc: Global) -> Result<Vec<u8>, Fail> {
     let mut text = Vec::new(alloc);
     for i in 0..150_000u32 {
@@ -48,7 +48,7 @@ fn writes_and_flushes<S: Sink>(sink: &mut S, text: &[u8]) -> bool {
     write_all(sink, text).is_ok() && sink.flush().is_ok()
 }
 
-/// Whether a writer took the text, with one flush behind it.
+/// Whether a writer took the text, with one flush after it.
 fn took(writer: &Narrow, text: &[u8]) -> bool {
     writer.bytes.as_slice() == text && writer.flushes == 1
 }

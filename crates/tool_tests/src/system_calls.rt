@@ -1,4 +1,4 @@
-//! A stream of which one call fails: the adapters ask no more of it.
+//! A stream that fails at one call: the adapters don't call it again.
 ghost use Rattle.std.specs.Prelude.{◌≡◌, ◌≤◌, length, IfOk};
 
 use fixtures::{SEVEN, gathered, on_one};
@@ -9,7 +9,7 @@ use xc_input::{Kind, Seed, Source};
 use xc_list::{Sink, Tray};
 use xc_tools::{Direct, Incoming, Outgoing, solve};
 
-/// Counts its calls, and fails at one of them and at no other. It takes and gives a byte at a call.
+/// Counts its calls, and fails at one of them and at no other. It takes and returns a byte at a call.
 #[derive(Drop)]
 struct FailsOnce {
     calls: u64,
@@ -158,7 +158,7 @@ fn solved(
     Some(solve(alloc, Kind::Plain, &words, &mut input, &mut out, err))
 }
 
-/// Whether a run whose output fails at the n-th call has this status, makes so many calls and tells this.
+/// Whether a run whose output fails at the n-th call has this status, makes so many calls and reports this.
 fn ends_so(
     alloc: Global,
     text: &[u8],

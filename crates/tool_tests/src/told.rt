@@ -1,11 +1,11 @@
-//! What whole runs tell.
+//! What whole runs report.
 use fixtures::{gathered, on_one};
 use std::alloc::{AllocError, Global};
 use xc_input::{Feed, Kind};
 use xc_list::Tray;
 use xc_tools::{judge, solve};
 
-/// What a program tells: its status, its listing and its messages.
+/// What a program reports: its status, its listing and its messages.
 #[derive(Drop)]
 pub struct Told {
     pub status: u8,
@@ -25,7 +25,7 @@ impl Told {
         })
     }
 
-    /// Whether this was told.
+    /// Whether this was reported.
     pub fn is(&self, status: u8, out: &[u8], err: &[u8]) -> bool {
         self.status == status && self.out.bytes() == out && self.err.bytes() == err
     }
@@ -93,7 +93,7 @@ impl Told {
     }
 }
 
-/// Whether a program tells this of a text that is read a hundred bytes at a time.
+/// Whether a program reports this of a text that is read a hundred bytes at a time.
 pub fn run_gives<F: Fn(&[Vec<u8>], &mut Feed, &mut Tray, &mut Tray) -> u8>(
     alloc: Global,
     words: &[&[u8]],
@@ -113,7 +113,7 @@ pub fn run_gives<F: Fn(&[Vec<u8>], &mut Feed, &mut Tray, &mut Tray) -> u8>(
     }
 }
 
-/// Whether `solve` tells this of a text that is read, and whose answers are taken, so many bytes at a time.
+/// Whether `solve` reports this of a text that is read, and whose answers are taken, so many bytes at a time.
 fn solve_gives_by(
     alloc: Global,
     kind: Kind,
@@ -129,7 +129,7 @@ fn solve_gives_by(
     })
 }
 
-/// Whether `solve` tells this, by steps of one byte as by large ones.
+/// Whether `solve` reports this, by steps of one byte as by large ones.
 pub fn solve_gives(
     alloc: Global,
     kind: Kind,
@@ -143,7 +143,7 @@ pub fn solve_gives(
         && solve_gives_by(alloc, kind, words, text, 4096, status, out, err)
 }
 
-/// Whether `solve` tells this, and the judge finds nothing but covers in what it lists.
+/// Whether `solve` reports this, and the judge finds nothing but covers in what it lists.
 pub fn solve_tells(
     alloc: Global,
     kind: Kind,
@@ -174,7 +174,7 @@ fn finds_covers(alloc: Global, kind: Kind, problem: &[u8], listing: &[u8]) -> bo
     })
 }
 
-/// Whether `judge` by these words tells this of texts that are read, and whose answers are taken, so many bytes
+/// Whether `judge` by these words reports this of texts that are read, and whose answers are taken, so many bytes
 /// at a time.
 pub fn judge_gives(
     alloc: Global,
@@ -191,7 +191,7 @@ pub fn judge_gives(
     })
 }
 
-/// Whether `judge` tells this, by steps of one byte as by large ones.
+/// Whether `judge` reports this, by steps of one byte as by large ones.
 pub fn judge_tells(
     alloc: Global,
     kind: Kind,

@@ -1,6 +1,6 @@
 //! Exact cover problems for C, and for all that calls C: calls on numbers and bytes, whose header is
 //! `bindings/c/helgrothy.h`. Each answers a status: 0 where all was done, 1 where a search met its
-//! limit, 2 where a listing is longer than its buffer, 3 for a text with a fault, 4 for want of memory,
+//! limit, 2 where a listing is longer than its buffer, 3 for a text with a fault, 4 for lack of memory,
 //! 5 for a number of no kind. Names are hashed by the fixed seed.
 //!
 //! A call keeps nothing: no handle to a search and the problem that it borrows can be both exported and proved

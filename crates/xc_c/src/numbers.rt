@@ -1,4 +1,4 @@
-//! The numbers by which kinds, faults and statuses are told, since an enum doesn't cross to C.
+//! The numbers by which kinds, faults and statuses are reported, since an enum doesn't cross to C.
 ghost use Rattle.std.specs.Prelude.{◌≡◌, Some};
 ghost use Rattle.xc_input.specs.Problem.{numbered_get};
 ghost use Rattle.xc_c.specs.Numbers.{faults, kind_by_number};

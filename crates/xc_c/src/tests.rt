@@ -1,4 +1,4 @@
-//! Tests of the calls for C. They stand here, since no crate may depend on a static library.
+//! Tests of the calls for C. They are here, since no crate may depend on a static library.
 use crate::{helgrothy_count, helgrothy_fault, helgrothy_list, helgrothy_version};
 use std::alloc::Global;
 

@@ -81,7 +81,7 @@ fn fill(buffer: &mut [u8], bytes: &[u8]) -> usize
 }
 
 /// The status of a run that came to this end, and wrote so many bytes for a buffer with this room;
-/// none where a write failed for want of memory.
+/// none where a write failed for lack of memory.
 fn listing_status(end: End, length: usize, room: usize) -> Option<u32>
     ensures { result ≡ listing_status end length room }
 {
@@ -94,7 +94,7 @@ fn listing_status(end: End, length: usize, room: usize) -> Option<u32>
     }
 }
 
-/// Lists the solutions of a problem into a buffer, and gives the status and the number of bytes.
+/// Lists the solutions of a problem into a buffer, and returns the status and the number of bytes.
 /// Without memory the buffer stays as it was.
 fn list_problem(
     alloc: Global,

@@ -8,7 +8,7 @@ use std::alloc::Global;
 use xc_input::Problem;
 
 /// How many moves a search of the problem has on its trail at most: twice the items and twice the uses. It is public,
-/// so that a caller can give a dance the room that a search asks for.
+/// so that a caller can give a dance the room that a search requires.
 pub fn most_moves(problem: &Problem) -> usize
     ensures value { result ≡ 2 * item_count problem.now.puzzle + 2 * use_count problem.now.puzzle.options }
     ensures valid { IsValid problem.now.puzzle }

@@ -8,7 +8,7 @@ use crate::dance::Dance;
 use std::marker::Model;
 
 /// The options of an item's list that are still to come, by their numbers, in file order. The dance is
-/// lent meanwhile, so no move is made; a search, which moves at each option, goes by `node_below`.
+/// borrowed meanwhile, so no move is made; a search, which moves at each option, goes by `node_below`.
 #[derive(Drop)]
 pub struct Listed<'a, D: Dance> {
     dance: &'a D,
@@ -34,7 +34,7 @@ impl<'a, D: Dance> Model for Listed<'a, D> {
     } };
 }
 
-/// The options of the item's list, as it stands.
+/// The options of the item's list, as it is.
 pub fn list_of<'a, D: Dance>(dance: &'a D, i: u32) -> Listed<'a, D>
     requires { IsItem (D.state dance.now).puzzle i }
     ensures { result ≡ listed_numbers (D.state dance.now).puzzle (D.state dance.now).trail i }

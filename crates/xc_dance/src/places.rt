@@ -1,4 +1,4 @@
-//! Where the nodes of options stand, by the problem alone, for a keeper that has no nodes.
+//! Where the nodes of options are, by the problem alone, for a keeper that has no nodes.
 ghost use Rattle.std.specs.Prelude.{ℕ, ◌≡◌, ◌<◌, ◌-◌, length};
 ghost use Rattle.xc_input.specs.Problem.{IsOption, uses_of};
 ghost use Rattle.xc_dance.specs.Fields.{link_place};
@@ -17,8 +17,8 @@ pub(crate) fn node_place(problem: &Problem, i: u32, o: u32) -> u32
     first_place(problem, o) + place_in(problem.option(o), i) as u32
 }
 
-/// The place of the first node of option `o`: behind the items' own nodes, a spacer, and the nodes of each option
-/// before it, with the spacer behind them.
+/// The place of the first node of option `o`: after the items' own nodes, a spacer, and the nodes of each option
+/// before it, with the spacer after them.
 #[tactic(auto, using(crate::proofs::LinkedTables::Laid::PlaceLemmas::option_place))]
 fn first_place(problem: &Problem, o: u32) -> u32
     requires { IsOption problem.now.puzzle o }
@@ -31,7 +31,7 @@ fn first_place(problem: &Problem, o: u32) -> u32
     place
 }
 
-/// The option whose node stands at this place: the first one with the spacer behind it further on.
+/// The option whose node is at this place: the first one with the spacer after it further on.
 #[tactic(auto, using(crate::proofs::LinkedTables::Laid::PlaceLemmas::option_place))]
 pub(crate) fn number_at(problem: &Problem, place: u32) -> u32
     requires { (i x : ℕ) × IsUseAt problem.now.puzzle i x place }

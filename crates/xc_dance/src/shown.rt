@@ -1,4 +1,4 @@
-//! What `{:?}` shows of a keeper: how many moves stand, and the room. Its tables aren't shown.
+//! What `{:?}` shows of a keeper: how many moves are on the trail, and the room. Its tables aren't shown.
 ghost use Rattle.std.specs.Prelude.{◌++◌, codes, length};
 ghost use Rattle.std.specs.Fmt.{decimal};
 

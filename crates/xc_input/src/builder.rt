@@ -22,7 +22,7 @@ use crate::tokens::{has_byte, is_skipped_line};
 use crate::{FaultKind, Kind};
 use std::alloc::Global;
 
-/// What the lines so far gave.
+/// The state after the lines so far.
 #[derive(Drop)]
 pub struct ProblemBuilder {
     pub started: bool,
@@ -48,7 +48,7 @@ impl ProblemBuilder {
         }
     }
 
-    /// The problem that the lines gave, and the numbers of the ignored ones.
+    /// The problem of the lines, and the numbers of the ignored ones.
     pub fn finish(self) -> Read
         requires { IsReadable self }
         ensures problem { result.problem ≡ named_by self }

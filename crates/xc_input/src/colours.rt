@@ -13,7 +13,7 @@ use crate::names::{NameSet, add_name, place_of};
 use std::alloc::Global;
 
 /// The place of a colour, if it is the one that was guessed. Most have one byte, by which they are guessed. No colour
-/// stands twice, so one at the guessed place has no other.
+/// occurs twice, so one at the guessed place has no other.
 #[inline(always)]
 fn guessed_colour(colours: &NameSet, guesses: &ColourGuesses, colour: &[u8]) -> Option<usize>
     requires { AreDistinct (key_names colours.now.keys) }

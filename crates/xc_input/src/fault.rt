@@ -24,18 +24,18 @@ pub enum FaultKind {
     BadByteInName,
     /// An earlier item has this name.
     RepeatedName,
-    /// A bar stands earlier in the item line.
+    /// A bar occurs earlier in the item line.
     TwoBars,
-    /// What stands before an item's `|` is neither a number nor two numbers parted by `:`, each of one
+    /// What is before an item's `|` is neither a number nor two numbers parted by `:`, each of one
     /// to nine digits.
     BadBound,
     /// The upper bound is 0 or below the lower one.
     BoundOrder,
-    /// An item behind the bar has bounds.
+    /// An item after the bar has bounds.
     BoundOnSecondary,
     /// No item has this name.
     UnknownItem,
-    /// The item stands earlier in this option.
+    /// The item occurs earlier in this option.
     RepeatedInOption,
     /// A colour on a primary item.
     ColourOnPrimary,

@@ -21,20 +21,20 @@ use crate::{FaultKind, Kind};
 use std::alloc::{AllocError, Global};
 
 /// A token that is at fault. Its line is `before`, `token` and `behind`, one after another: the token alone would not
-/// tell its place, since the same bytes may stand in a line twice.
+/// show its place, since the same bytes may be in a line twice.
 #[derive(Clone, Copy, Debug, PartialEq, Eq)]
 pub struct FaultyToken<'a> {
-    /// What stands before the token, so that the token's place in the line is this length.
+    /// What is before the token, so that the token's place in the line is this length.
     pub before: &'a [u8],
     /// The token: an item with its bounds, a bar, or a use with its colour.
     pub token: &'a [u8],
-    /// What stands behind it.
+    /// What is after it.
     pub behind: &'a [u8],
     /// What is wrong with it.
     pub kind: FaultKind,
 }
 
-/// The first token of a line that is at fault: of an option line behind the line of these `items`, or
+/// The first token of a line that is at fault: of an option line after the line of these `items`, or
 /// of the item line where there is none yet. `None` where no token is at fault: the line may have no
 /// fault, or one that is none of a token's (`NoItems`, `NulByte`, `TooManyUses`); it may be blank or a
 /// comment; or the line of `items` may have a fault itself. Names hash by the seed.
@@ -92,7 +92,7 @@ fn faulty_behind<'a>(
     Ok(None)
 }
 
-/// The first token of an option line that is at fault, behind an item line.
+/// The first token of an option line that is at fault, after an item line.
 fn faulty_use<'a>(
     alloc: Global,
     seed: Seed,
@@ -138,7 +138,7 @@ fn faulty_among<'a>(
     None
 }
 
-/// A token with its fault, as it stands in its line before what is left.
+/// A token with its fault, as it is in its line before what is left.
 fn cut_out<'a>(
     line: &'a [u8],
     token: &'a [u8],

@@ -90,7 +90,7 @@ impl ColourGuesses {
         }
     }
 
-    /// The place that was learned last for such a colour.
+    /// The place that was learned last for a colour of this hash.
     pub fn learned(&self, colour: &[u8]) -> usize {
         self.place(self.number(colour))
     }
@@ -129,7 +129,7 @@ fn words_of(alloc: Global, names: &NameSet) -> Result<Vec<u64>, AllocError>
     Ok(words)
 }
 
-/// A table of places, where a place stands at the number of its name.
+/// A table of places, where a place is at the number of its name.
 fn places_of(alloc: Global, names: &NameSet, words: &[u64]) -> Result<Vec<u32>, AllocError> {
     let few = names.len().min(MOST_ITEMS);
     let mut places = vec![in alloc; 0; (few * 16).min(1 << 18)]?;
@@ -176,7 +176,7 @@ pub fn short_word(text: &[u8]) -> Option<(u64, usize)>
     Some((front_number(first, n), n))
 }
 
-/// The number of as many of the first eight bytes of a text, which are given as a number.
+/// The number of as many of the first eight bytes of a text, which come as a number.
 #[inline(always)]
 fn front_number(first: u64, n: usize) -> u64
     requires { n ≤ 7 }
@@ -270,7 +270,7 @@ fn few_bytes(text: &[u8]) -> u64 {
     number
 }
 
-/// The lowest bit that is set stands at the first byte of a word that is a colon or at most a space.
+/// The lowest bit that is set is at the first byte of a word that is a colon or at most a space.
 #[inline]
 fn end_bits(word: u64) -> u64 {
     let colons = word ^ 0x3a3a_3a3a_3a3a_3a3a;
@@ -285,7 +285,7 @@ fn bits_below(bits: u64) -> u64 {
     (bits ^ bits.wrapping_sub(1)) >> 8
 }
 
-/// How many bytes stand below that of the lowest bit; eight where there is none.
+/// How many bytes are below that of the lowest bit; eight where there is none.
 #[inline]
 fn bytes_below(bits: u64) -> usize
     ensures { result ≤ 8 }

@@ -21,7 +21,7 @@ use crate::tokens::{cut_at, next_part};
 use crate::{FaultKind, Kind};
 use std::alloc::Global;
 
-/// The items of a line, and how many stand before its bar.
+/// The items of a line, and how many are before its bar.
 #[derive(Drop)]
 pub struct ItemLine {
     pub names: NameSet,

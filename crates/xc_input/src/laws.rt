@@ -29,7 +29,7 @@ pub fn problems_have_texts()
     ensures order { StandInOrder }
 {}
 
-/// The token that `faulty_token` finds in a line has the fault that a reader tells of the line, behind lines without a
+/// The token that `faulty_token` finds in a line has the fault that a reader reports of the line, after lines without a
 /// fault.
 pub fn tokens_agree()
     ensures { TokensAgree }

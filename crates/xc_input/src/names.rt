@@ -40,7 +40,7 @@ pub fn number_of_name(names: &NameSet, name: &[u8]) -> Option<u32>
     Some(place as u32 + 1)
 }
 
-/// Adds a new name, and gives its place.
+/// Adds a new name, and returns its place.
 #[inline(never)]
 pub fn add_name(alloc: Global, names: &mut NameSet, name: &[u8]) -> Result<usize, LineError>
     requires { place (map (λ v. v.items) names.old.keys) name.now ≡ None }

@@ -58,7 +58,7 @@ fn fault_of_unknown(name: &[u8]) -> FaultKind
     name_fault(name).unwrap_or(FaultKind::UnknownItem)
 }
 
-/// The use of a token, behind uses of the marked items, or its first fault. Its tests go in the order of a list,
+/// The use of a token, after uses of the marked items, or its first fault. Its tests go in the order of a list,
 /// `token_checks` of `specs/Faults.antt`: the order is data there, and this is proved against it.
 pub fn use_of<'a>(
     kind: Kind,

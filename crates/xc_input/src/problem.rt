@@ -1,4 +1,4 @@
-//! A problem as it was read. That it is sound its model alone doesn't show: most calls tell it beside their answers, so
+//! A problem as it was read. Its model alone doesn't show that it is sound: most calls ensure that as well, so
 //! that none is made for that alone.
 
 ghost use Rattle.std.specs.Prelude.{◌≡◌, ◌≢◌, ◌<◌, ◌≤◌, ℕ, suc, length, map, drop, take, sum_by, option_map, Some, All};
@@ -54,7 +54,7 @@ pub struct Use {
     pub colour: u32,
 }
 
-/// A problem. Items, options and colours have numbers from 1. Most of its calls tell beside their
+/// A problem. Items, options and colours have numbers from 1. Most of its calls ensure beside their
 /// answer that the whole problem is sound (`whole`).
 #[derive(Drop)]
 pub struct Problem {
@@ -146,7 +146,7 @@ impl Problem {
         &self.items[i as usize - 1]
     }
 
-    /// The items in order: the one of number `i` stands at place `i - 1`.
+    /// The items in order: the one of number `i` is at place `i - 1`.
     pub fn all_items(&self) -> &[Item]
         ensures names { map (λ x. x.name.items) result.now ≡ self.now.names }
         ensures bounds { map bounds_of (take (primary_count self.now.puzzle) result.now) ≡ self.now.puzzle.bounds }

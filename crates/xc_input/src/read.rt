@@ -14,7 +14,7 @@ use crate::tokens::cut_at;
 use crate::{InputError, Kind};
 use std::alloc::{AllocError, Global};
 
-/// How many bytes are asked of a source at once.
+/// How many bytes are read from a source at once.
 const PIECE: usize = 65536;
 
 /// Reads the source to its end, or to the first error. Names are hashed by the source's seed, and what
@@ -35,7 +35,7 @@ pub fn read_problem<S: Source>(
     read_through(source, store.as_mut_slice(), &mut carry, reader)
 }
 
-/// Reads the source by this reader, which was given nothing.
+/// Reads the source by this reader, which took no line yet.
 // What owns the reader has few ways out, since the drop of all that it holds is proved at each.
 fn read_through<S: Source>(
     source: &mut S,
@@ -55,7 +55,7 @@ fn read_through<S: Source>(
     end_text(reader, carry.as_slice())
 }
 
-/// Hands on all that the source gives, a piece at a time.
+/// Passes on all that comes from the source, a piece at a time.
 fn feed_all<S: Source>(
     source: &mut S,
     buf: &mut [u8],
@@ -105,7 +105,7 @@ fn feed(reader: &mut Reader, carry: &mut Vec<u8>, piece: &[u8]) -> Result<(), In
     Ok(())
 }
 
-/// The first line that ends in a piece, and what is left behind it.
+/// The first line that ends in a piece, and what is left after it.
 fn next_line(piece: &[u8]) -> Option<(&[u8], &[u8])>
     ensures { MatchOption result (has 10 piece.now ≡ false)
         (λ p. (piece.now ≡ p.0.now ++ 10 ∷ p.1.now) × (has 10 p.0.now ≡ false)) }
@@ -130,7 +130,7 @@ fn end_line(reader: &mut Reader, carry: &mut Vec<u8>, end: &[u8]) -> Result<(), 
     outcome
 }
 
-/// Takes the last line, where the text doesn't end behind a line feed.
+/// Takes the last line, where the text doesn't end after a line feed.
 fn end_text(mut reader: Reader, carry: &[u8]) -> Result<Read, InputError>
     requires { IsBetween reader carry.now }
     ensures valid { IfOk result (λ r. IsSound r.problem) }

@@ -89,8 +89,8 @@ impl Reader {
         }
     }
 
-    /// Takes one line, without its line feed. The first fault of the text is told with its line, or
-    /// want of memory; each later call tells the same again.
+    /// Takes one line, without its line feed. The first fault of the text is reported with its line, or
+    /// lack of memory; each later call returns the same again.
     pub fn line(&mut self, line: &[u8]) -> Result<(), InputError>
         requires { has 10 line.now ≡ false }
         ensures kind { self.new.kind ≡ self.old.kind }
@@ -147,7 +147,7 @@ impl Reader {
     }
 }
 
-/// Its kind, how many lines it was given, and its error. Names and the seed aren't shown.
+/// Its kind, how many lines it took, and its error. Names and the seed aren't shown.
 impl fmt::Debug for Reader {
     fn fmt<W: fmt::Write>(&self, f: &mut fmt::Formatter<W>) -> fmt::Result {
         let kind = self.kind;

@@ -32,7 +32,7 @@ impl Seed {
     }
 }
 
-// In place of std's `RandomState`, which can't be given fixed keys.
+// In place of std's `RandomState`, which can't have fixed keys.
 impl BuildHasher for Seed {
     type Hasher = FoldingHasher;
 

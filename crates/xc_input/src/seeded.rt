@@ -7,8 +7,8 @@ ghost use Rattle.xc_input.specs.Calls.{counted};
 use crate::seed::Seed;
 use crate::source::{ReadFailed, Source};
 
-/// A source whose names hash by a given seed, whatever seed the source inside tells. All else is the
-/// source's. Who wraps a source of another kind, and would forget to hand its seed on, wraps the
+/// A source whose names hash by this seed, whatever seed the source inside has. All else is the
+/// source's. If you wrap a source of another kind, which would forget to pass its seed on, wrap the
 /// whole in this.
 #[derive(Drop)]
 pub struct Seeded<S> {

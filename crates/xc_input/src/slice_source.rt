@@ -10,9 +10,9 @@ use crate::seed::Seed;
 use crate::source::{ReadFailed, Source};
 use std::fmt;
 
-/// A source over bytes that are in memory. Each read gives as many of them as the buffer has room
-/// for, and none fails. It tells its bytes.
-/// A type of its own, since contracts ask what a source gave, which a `&[u8]` alone can't tell.
+/// A source over bytes that are in memory. Each read returns as many of them as the buffer has room
+/// for, and none fails. Contracts know its bytes.
+/// A type of its own, since contracts need the bytes that were read, which a `&[u8]` alone doesn't keep.
 #[derive(Drop)]
 pub struct SliceSource<'a> {
     left: &'a [u8],
@@ -64,7 +64,7 @@ impl<'a> Source for SliceSource<'a> {
             self.new.given.lines ≡ self.old.given.lines ++ take n buf.new ∷ []) }
         ensures given_kept { OnErr result (self.new.given.lines ≡ self.old.given.lines) }
 
-        // No call fails, and each gives as much as it may.
+        // No call fails, and each returns as much as it may.
         ensures succeeds { IsOk result }
         ensures gives { IfOk result (λ n. n ≡ min (length self.old.left.now) (length buf.old)) }
         ensures seed { self.new.seed ≡ self.old.seed }

@@ -18,7 +18,7 @@ pub struct ReadFailed;
 
 /// Where bytes come from.
 pub trait Source {
-    /// What is known of it: its failures, how much it may still give, and what it gave.
+    /// What contracts know of it: its failures, how many bytes may still come, and which came.
     ghost state: { Self → SourceState };
 
     /// Reads into the front of the buffer, and says how many bytes. 0 is the end of the input.
@@ -32,16 +32,16 @@ pub trait Source {
         ensures given { IfOk result (λ n. (state self.new).given ≡ (state self.old).given ++ take n buf.new ∷ []) }
         ensures given_kept { OnErr result ((state self.new).given ≡ (state self.old).given) };
 
-    /// The seed by which the names that it gives are hashed: the fixed one, unless the source says
+    /// The seed by which the names in its text are hashed: the fixed one, unless the source says
     /// otherwise, as those of the programs do, whose texts may be written to be slow.
-    // The source tells it, since who makes it knows where its text comes from. Provided, since to ask for it would
-    // break the sources that callers have; `Seeded` gives one to any of them.
+    // The source has it, since whoever makes it knows where its text comes from. Provided, since to require it would
+    // break the sources that callers have; `Seeded` adds one to any of them.
     fn seed(&self) -> Seed {
         Seed::FIXED
     }
 }
 
-/// A source over memory. It tells its bytes.
+/// A source over memory. Contracts know its bytes.
 #[derive(Drop)]
 pub struct Feed<'a> {
     left: &'a [u8],
@@ -53,7 +53,7 @@ pub struct Feed<'a> {
 }
 
 impl<'a> Feed<'a> {
-    /// It gives at most `step` bytes at a call, and the call numbered `fail_at`, from 1, fails; none
+    /// It returns at most `step` bytes at a call, and the call numbered `fail_at`, from 1, fails; none
     /// does for `None` or 0.
     pub fn new(bytes: &'a [u8], step: usize, fail_at: Option<u64>) -> Feed<'a>
         requires { 0 < step }
@@ -109,7 +109,7 @@ impl<'a> Source for Feed<'a> {
             self.new.given.lines ≡ self.old.given.lines ++ take n buf.new ∷ []) }
         ensures given_kept { OnErr result (self.new.given.lines ≡ self.old.given.lines) }
 
-        // The call that is to fail does, and no other; the others give as much as they may.
+        // The call that is to fail does, and no other; the others return as much as they may.
         ensures fails { IsErr result ↔ (self.old.calls_to_failure ≡ Some 1) }
         ensures gives { IfOk result (λ n.
             n ≡ min (min (length self.old.left.now) self.old.step) (length buf.old)) }

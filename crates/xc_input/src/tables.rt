@@ -12,7 +12,7 @@ use crate::problem::Use;
 use crate::seed::Seed;
 use std::alloc::{AllocError, Global};
 
-/// What option lines are read by, and the uses that they gave. A mark for each item says whether the line has it yet.
+/// What option lines are read by, and the uses so far. A mark for each item says whether the line has it yet.
 #[derive(Drop)]
 pub struct Tables {
     pub names: NameSet,

@@ -25,7 +25,7 @@ pub fn is_white(b: u8) -> bool
     b == b' ' || b == b'\t' || b == 11 || b == 12 || b == b'\r'
 }
 
-/// What stands behind leading white space.
+/// What is after leading white space.
 pub fn skip_white(line: &[u8]) -> &[u8]
     ensures { result.now ≡ drop_white line.now }
 {
@@ -49,7 +49,7 @@ pub fn is_skipped_line(line: &[u8]) -> bool
     }
 }
 
-/// How many bytes stand before the first white space.
+/// How many bytes are before the first white space.
 #[inline(never)]
 fn word_len(line: &[u8]) -> usize
     ensures value { result ≡ length (word line.now) }
@@ -75,7 +75,7 @@ fn colour_len(text: &[u8]) -> usize
     }
 }
 
-/// What stands behind the name of this place and length, where a text begins with it.
+/// What is after the name of this place and length, where a text begins with it.
 #[inline]
 fn behind_name<'a>(names: &NameSet, at: usize, n: usize, text: &'a [u8]) -> Option<&'a [u8]>
     requires { AreNames (key_names names.now.keys) }
@@ -93,7 +93,7 @@ fn behind_name<'a>(names: &NameSet, at: usize, n: usize, text: &'a [u8]) -> Opti
 }
 
 /// A token of an option line, cut at its first colon: its name, the place of the name if it has one,
-/// and the colour behind the colon if there is one.
+/// and the colour after the colon if there is one.
 #[derive(Clone, Copy)]
 pub struct Token<'a> {
     pub name: &'a [u8],
@@ -101,8 +101,8 @@ pub struct Token<'a> {
     pub colour: Option<&'a [u8]>,
 }
 
-/// A token that begins with the name of a place, and what is left behind it: none where what stands
-/// behind the name goes on without a colon. So the name of a coloured use is guessed too: reading such uses took half
+/// A token that begins with the name of a place, and what is left after it: none where what is there
+/// after the name goes on without a colon. So the name of a coloured use is guessed too: reading such uses took half
 /// as many instructions more when it was looked up.
 #[inline]
 fn cut_behind<'a>(name: &'a [u8], at: usize, behind: &'a [u8]) -> Option<(Token<'a>, &'a [u8])>
@@ -139,7 +139,7 @@ pub fn looked_up<'a>(names: &NameSet, token: &'a [u8]) -> Token<'a>
 }
 
 /// The token that a text begins with, where its name is a short one that the guesses know, and what is left
-/// behind it. Two numbers are compared, and no bytes.
+/// after it. Two numbers are compared, and no bytes.
 #[inline(always)]
 fn known_token<'a>(guesses: &Guesses, text: &'a [u8]) -> Option<(Token<'a>, &'a [u8])>
     ensures { (names : List (List ℕ)) → AreNames names → AreWords names guesses.now.words.items
@@ -150,7 +150,7 @@ fn known_token<'a>(guesses: &Guesses, text: &'a [u8]) -> Option<(Token<'a>, &'a 
     cut_behind(&text[..n], at, &text[n..])
 }
 
-/// The first token, cut at its colon, and what is left behind it.
+/// The first token, cut at its colon, and what is left after it.
 #[inline(always)]
 pub fn next_token<'a>(
     names: &NameSet,
@@ -203,7 +203,7 @@ fn other_token<'a>(
     Some((looked_up(names, token), others))
 }
 
-/// The first token as it stands in the line, and what is left behind it.
+/// The first token as it is in the line, and what is left after it.
 pub fn next_word(line: &[u8]) -> Option<(&[u8], &[u8])>
     ensures { MatchOption result (tokens line.now ≡ []) (λ p. (tokens line.now ≡ p.0.now ∷ tokens p.1.now)
         × (length p.1.now < length line.now) × StandsBefore line.now p.0.now p.1.now) }
@@ -215,7 +215,7 @@ pub fn next_word(line: &[u8]) -> Option<(&[u8], &[u8])>
     Some(rest.split_at(word_len(rest)))
 }
 
-/// The first part of an item line, a bar or another token, and what is left behind it.
+/// The first part of an item line, a bar or another token, and what is left after it.
 pub fn next_part(line: &[u8]) -> Option<(&[u8], &[u8])>
     ensures { MatchOption result (parts line.now ≡ []) (λ p. (parts line.now ≡ p.0.now ∷ parts p.1.now)
         × (length p.1.now < length line.now) × StandsBefore line.now p.0.now p.1.now) }
@@ -230,14 +230,14 @@ pub fn next_part(line: &[u8]) -> Option<(&[u8], &[u8])>
     Some(rest.split_at(word_len(rest)))
 }
 
-/// Whether a byte stands in a list.
+/// Whether a byte is in a list.
 pub fn has_byte(bytes: &[u8], byte: u8) -> bool
     ensures { result ≡ has byte bytes.now }
 {
     bytes.find_byte(byte).is_some()
 }
 
-/// What stands before and behind the first such byte: all and nothing where there is none.
+/// What is before and after the first such byte: all and nothing where there is none.
 pub fn cut_at(bytes: &[u8], byte: u8) -> (&[u8], Option<&[u8]>)
     ensures front { result.0.now ≡ before byte bytes.now }
     ensures back { MatchOption result.1 (has byte bytes.now ≡ false)

@@ -1,4 +1,4 @@
-//! Where an item stands among the uses of an option.
+//! Where an item is among the uses of an option.
 ghost use Rattle.std.specs.Prelude.{◌≡◌, ◌≤◌, length};
 ghost use Rattle.xc_input.specs.UsePlaces.{place_in};
 

@@ -323,7 +323,7 @@ impl<'a> Bodies<'a> {
     }
 }
 
-/// The options of a problem that are laid out, told once for all lines of a page.
+/// The options of a problem that are laid out, looked up once for all lines of a page.
 #[derive(Drop)]
 pub struct LaidOut<'b> {
     problem: &'b Problem,

@@ -8,8 +8,8 @@ ghost use Rattle.xc_list.specs.inner.Tested.{is_use_met, are_uses_met, do_agree,
 use xc_input::{Problem, Use};
 
 /// Whether options with these numbers are a cover of the problem: each is one of the problem's, none
-/// stands twice, each primary item is held as often as its bounds say, and two options that hold the
-/// same secondary item give it the same colour. It takes no memory, and reads the uses of the options
+/// occurs twice, each primary item is held as often as its bounds say, and two options that hold the
+/// same secondary item agree on its colour. It takes no memory, and reads the uses of the options
 /// once for each primary item and once for each option. So it answers yes or no and nothing else; `check`, which
 /// counts, judges many large sets faster.
 pub fn is_cover(problem: &Problem, options: &[u32]) -> bool
@@ -30,7 +30,7 @@ fn are_options(problem: &Problem, options: &[u32]) -> bool
     options.iter().all(|o| 1 <= *o && *o <= many)
 }
 
-/// Whether no number stands twice.
+/// Whether no number occurs twice.
 fn are_different(options: &[u32]) -> bool
     ensures { IsTrue result ↔ AllPairs (λ a b. a ≢ b) options.now }
 {
@@ -44,7 +44,7 @@ fn are_different(options: &[u32]) -> bool
     true
 }
 
-/// The colour that uses give an item, 0 for none, if they hold it.
+/// The colour of an item in uses, 0 for none, if they hold it.
 fn colour_in(uses: &[Use], item: u32) -> Option<u32>
     ensures { result ≡ colour_in uses.now item }
 {

@@ -30,7 +30,7 @@ pub fn equal_verdicts(a: &Verdict, b: &Verdict) -> bool
     a == b
 }
 
-/// What two commands ask for is equal exactly if it is the same.
+/// What two commands mean is equal exactly if it is the same.
 pub fn equal_words(a: &Words, b: &Words) -> bool
     ensures { result ≡ true ↔ a.now ≡ b.now }
 {
@@ -71,7 +71,7 @@ pub fn worked_texts()
     ensures met { summary_text (Limit 12) ≡ codes "Altogether 12 solutions (limit).\n" }
 {}
 
-/// What words ask for.
+/// What words mean.
 pub fn worked_words()
     ensures none { read_words [] ≡ Ok (record { spacing = 0; limit = 2 ^ 64 - 1 }) }
     ensures last_holds { read_words (codes "m1" ∷ codes "t007" ∷ codes "m3" ∷ [])
@@ -82,7 +82,7 @@ pub fn worked_words()
     ensures large { read_words (codes "t18446744073709551616" ∷ []) ≡ Err (BadNumber 1) }
 {}
 
-/// A row is told by its text, so two rows that have one text are one row.
+/// A row is known by its text, so two rows that have one text are one row.
 pub fn rows_by_texts()
     ensures { (row : List ℕ) → All (λ n. n < 2 ^ 32) row → row_word (row_text row) ≡ Some row }
 {}

@@ -21,7 +21,7 @@ fn joined(before: &[u8], number: &[u8], behind: &[&[u8]]) -> Option<ArrayVec<u8,
     Some(line)
 }
 
-/// Puts parts behind what a line has, where they fit.
+/// Puts parts after what a line has, where they fit.
 fn add_parts(line: &mut ArrayVec<u8, LINE>, parts: &[&[u8]]) -> Option<()>
     ensures { IfSome result (λ _. line.new.items ≡ line.old.items ++ flat_map (λ part. part.now) parts.now) }
 {
@@ -41,7 +41,7 @@ fn write_parts<S: Sink>(sink: &mut S, parts: &[&[u8]]) -> Result<(), SinkFault>
     Ok(())
 }
 
-/// Writes a line with a number behind its first text. A line of at most 128 bytes goes out by one call
+/// Writes a line with a number after its first text. A line of at most 128 bytes goes out by one call
 /// of a sink that takes it whole, so that programs that share a standard error don't mix their lines.
 pub fn write_line<S: Sink>(
     sink: &mut S,

@@ -318,7 +318,7 @@ fn write_in_pieces<C: Choices + Drop, S: Sink>(
     write_lines(solution, bodies, sink)
 }
 
-/// Writes a solution by a page of which no line is kept. Where a line isn't put, what the page holds is written first.
+/// Writes a solution by a page that keeps no line. Where a line isn't put, what the page holds is written first.
 #[inline(always)]
 pub fn write_afresh<C: Choices + Drop, S: Sink>(
     number: u64,

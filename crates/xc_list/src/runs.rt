@@ -56,7 +56,7 @@ fn is_printed(spacing: u64, number: u64) -> bool
     spacing == 1 || spacing != 0 && number % spacing == 0
 }
 
-/// Writes the solution at which a walk stands if its number is one to print.
+/// Writes the solution that a walk is at if its number is one to print.
 fn write_printed<'a, D: Dance, S: Sink>(
     spacing: u64,
     number: u64,
@@ -79,7 +79,7 @@ fn write_printed<'a, D: Dance, S: Sink>(
     }
 }
 
-/// How many solutions on from `found` the next one to print stands; where the limit comes before
+/// How many solutions on from `found` the next one to print is; where the limit comes before
 /// it, how many are left up to the limit. So a count is one call of `pass`, whose loop keeps its state in registers.
 fn steps_to_printed(spacing: u64, found: u64, limit: u64) -> u64
     requires { found < limit }
@@ -144,8 +144,8 @@ fn prints_many(problem: &Problem, words: &Words) -> bool {
     choices > 0 && choices >= u64::from(problem.options())
 }
 
-/// Searches for the solutions, writes the listing as far as the words ask for it, unwinds, and
-/// gives the dance back with no moves. Want of memory is met before the first move alone.
+/// Searches for the solutions, writes the listing as far as the words say, unwinds, and
+/// returns the dance with no moves. Lack of memory is met before the first move alone.
 /// Each member of the listing is a cover, and each cover is the set of exactly one member.
 pub fn run_over<D: Dance, S: Sink>(
     alloc: Global,
@@ -176,8 +176,8 @@ pub fn run_over<D: Dance, S: Sink>(
     }
 }
 
-/// Does what `run_over` does over linked tables of its own, and gives them back beside the answer.
-/// However the run ended, by exhaustion, by its limit, at a failed write or for want of memory: each
+/// Does what `run_over` does over linked tables of its own, and returns them beside the answer.
+/// However the run ended, by exhaustion, by its limit, at a failed write or for lack of memory: each
 /// field of the tables is as it was built. Fails with nothing written where there was no memory for
 /// them.
 pub fn run_over_links<S: Sink>(
@@ -198,7 +198,7 @@ pub fn run_over_links<S: Sink>(
     Ok(run_over(alloc, links, problem, words, sink))
 }
 
-/// Does what `run_over_links` does, and lets the tables go. Want of memory is answered with nothing
+/// Does what `run_over_links` does, and lets the tables go. Lack of memory is answered with nothing
 /// written.
 pub fn run<S: Sink>(
     alloc: Global,

@@ -41,7 +41,7 @@ pub trait Sink {
         ensures flushes { (state self.new).flushes ≡ (state self.old).flushes + 1 };
 }
 
-/// A sink over memory. It tells the bytes that it took.
+/// A sink over memory. Contracts know the bytes that it took.
 #[derive(Drop)]
 pub struct Tray {
     bytes: Vec<u8>,

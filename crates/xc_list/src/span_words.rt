@@ -9,7 +9,7 @@ ghost use Rattle.xc_list.specs.SpanWords.{asked_rows, asked_words, read_span_wor
 use crate::words::long_number;
 use std::alloc::{AllocError, Global};
 
-/// What is asked of a run over a span. A row is the numbers of a member's branches, from the first level down, or any
+/// What a run over a span is to do. A row is the numbers of a member's branches, from the first level down, or any
 /// other numbers; a row that begins another comes before it.
 #[derive(Drop)]
 pub struct SpanWords {
@@ -23,7 +23,7 @@ pub struct SpanWords {
     pub until: Vec<u32>,
 }
 
-/// Whether a word asks for a listing, or for a count alone.
+/// Whether a word means a listing, or a count alone.
 fn listing_word(word: &[u8]) -> Option<bool>
     ensures { result ≡ listing_word word.now }
 {
@@ -34,14 +34,14 @@ fn listing_word(word: &[u8]) -> Option<bool>
     }
 }
 
-/// The number of a row that digits tell.
+/// The number of a row that digits mean.
 fn row_number(digits: &[u8]) -> Option<u32>
     ensures { result ≡ row_number digits.now }
 {
     u32::try_from(long_number(digits)?).ok()
 }
 
-/// The numbers that texts tell, where each tells one.
+/// The numbers that texts mean, if each means one.
 fn row_numbers(alloc: Global, texts: &[&[u8]]) -> Result<Option<Vec<u32>>, AllocError>
     ensures { IfOk result (λ found. option_map (λ row. row.items) found ≡ row_numbers (map (λ w. w.now) texts.now)) }
 {
@@ -55,14 +55,14 @@ fn row_numbers(alloc: Global, texts: &[&[u8]]) -> Result<Option<Vec<u32>>, Alloc
     Ok(Some(row))
 }
 
-/// What stands between the points of a word.
+/// What is between the points of a word.
 fn parts(alloc: Global, word: &[u8]) -> Result<Vec<&[u8]>, AllocError>
     ensures { IfOk result (λ parts. map (λ w. w.now) parts.items ≡ slice_split (λ b. b == 46) word.now) }
 {
     word.split(|b| *b == b'.').collect(alloc)
 }
 
-/// The row that a word tells: numbers with points between, or `-` for the empty row.
+/// The row that a word means: numbers with points between, or `-` for the empty row.
 fn row_word(alloc: Global, word: &[u8]) -> Result<Option<Vec<u32>>, AllocError>
     ensures { IfOk result (λ found. option_map (λ row. row.items) found ≡ row_word word.now) }
 {
@@ -98,7 +98,7 @@ fn is_span(from: &[u32], until: &[u32]) -> bool
     until.is_empty() || !precedes(until, from)
 }
 
-/// What is asked of a span between rows, if it is one.
+/// What a run over the span between two rows is to do, if it is a span.
 fn with_rows(listed: bool, steps: u64, from: Vec<u32>, until: Vec<u32>) -> Option<SpanWords>
     ensures { option_map asked_of result ≡ asked_rows listed steps from.items until.items }
 {
@@ -113,7 +113,7 @@ fn with_rows(listed: bool, steps: u64, from: Vec<u32>, until: Vec<u32>) -> Optio
     })
 }
 
-/// What is asked of the span between the rows that two words tell.
+/// What a run over the span between the rows that two words mean is to do.
 fn with_words(
     alloc: Global,
     listed: bool,
@@ -134,7 +134,7 @@ fn with_words(
 }
 
 impl SpanWords {
-    /// What words ask for: `m1` for a listing or `m0` for a count alone, the most steps, 0 for no bound, the row at
+    /// What words mean: `m1` for a listing or `m0` for a count alone, the most steps, 0 for no bound, the row at
     /// which the span begins, and the one before which it ends. A row is numbers with points between, as `3.1.7`; as
     /// the first row `-` is the beginning of the listing, as the second its end. None for other words, and where the
     /// second row comes before the first.

@@ -22,7 +22,7 @@ use xc_dance::{Dance, Links};
 use xc_input::Problem;
 use xc_search::{Halt, Span, Went, most_moves};
 
-/// Why a span wasn't told.
+/// Why a span wasn't listed.
 #[derive(Clone, Copy, Debug, PartialEq, Eq)]
 pub enum SpanFault {
     /// There was no memory for its search.
@@ -31,7 +31,7 @@ pub enum SpanFault {
     WriteFailed,
 }
 
-/// Writes a number of a row behind a point.
+/// Writes a number of a row after a point.
 fn write_dotted<S: Sink>(n: u32, sink: &mut S) -> Result<(), SinkFault>
     ensures { Writes (S.state sink.old) (S.state sink.new) result (dotted n) }
 {
@@ -39,7 +39,7 @@ fn write_dotted<S: Sink>(n: u32, sink: &mut S) -> Result<(), SinkFault>
     write_number(sink, n as u64)
 }
 
-/// Writes the numbers of a row behind its first one.
+/// Writes the numbers of a row after its first one.
 fn write_numbers<S: Sink>(numbers: &[u32], sink: &mut S) -> Result<(), SinkFault>
     ensures { Writes (S.state sink.old) (S.state sink.new) result (flat_map dotted numbers.now) }
 {
@@ -60,7 +60,7 @@ fn write_row<S: Sink>(row: &[u32], sink: &mut S) -> Result<(), SinkFault>
     write_numbers(numbers, sink)
 }
 
-/// Writes the number at a place of a row, behind a point where it isn't the first.
+/// Writes the number at a place of a row, after a point where it isn't the first.
 fn write_at<S: Sink>(place: usize, n: u32, sink: &mut S) -> Result<(), SinkFault>
     ensures { Writes (S.state sink.old) (S.state sink.new) result (text_at place n) }
 {
@@ -70,7 +70,7 @@ fn write_at<S: Sink>(place: usize, n: u32, sink: &mut S) -> Result<(), SinkFault
     write_dotted(n, sink)
 }
 
-/// Writes the numbers of the row at which a search stands.
+/// Writes the numbers of the row that a search is at.
 fn write_reached<'a, D: Dance, S: Sink>(span: &Span<'a, D>, sink: &mut S) -> Result<(), SinkFault>
     ensures { Writes (S.state sink.old) (S.state sink.new) result (numbers_text (row_in span.now)) }
 {
@@ -82,7 +82,7 @@ fn write_reached<'a, D: Dance, S: Sink>(span: &Span<'a, D>, sink: &mut S) -> Res
     Ok(())
 }
 
-/// Writes how many branches each level has of the row at which a search stands.
+/// Writes how many branches each level has of the row that a search is at.
 fn write_branches<'a, D: Dance, S: Sink>(span: &Span<'a, D>, sink: &mut S) -> Result<(), SinkFault>
     ensures { Writes (S.state sink.old) (S.state sink.new) result (numbers_text (branches_in span.now)) }
 {
@@ -241,7 +241,7 @@ fn count<'a, D: Dance>(span: &mut Span<'a, D>, most: u64) -> Went
     span.go_on(u64::MAX, most)
 }
 
-/// Goes on as far as the words ask for, writes the listing if it is asked for, and answers how far it went.
+/// Goes on as far as the words allow, writes the listing if it is wanted, and returns how far it went.
 fn write_members<'a, D: Dance, S: Sink>(
     span: &mut Span<'a, D>,
     bodies: &Bodies,
@@ -297,9 +297,9 @@ fn write_span<'a, D: Dance, S: Sink>(
     Ok(went)
 }
 
-/// Searches the span that the words ask for, over a dance that has no moves and room for `2 * items + 2 * uses` of
+/// Searches the span that the words mean, over a dance that has no moves and room for `2 * items + 2 * uses` of
 /// them, and writes it: where it begins and its solutions, numbered from 1, if they are listed, and then its record,
-/// which tells where it begins and up to which row the search went, how many solutions stand between these, and how
+/// which says where it begins and up to which row the search went, how many solutions are between these, and how
 /// many steps it took. The search goes to the span's end unless it uses all steps before, or passes 2^64 - 1 solutions;
 /// then the record has the number of branches of each level too. Answers how far it went.
 ///

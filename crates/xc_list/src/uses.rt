@@ -64,7 +64,7 @@ fn write_use<S: Sink>(problem: &Problem, u: &Use, sink: &mut S) -> Result<(), Si
     write_colour(problem, u.colour, sink)
 }
 
-/// Writes uses, each behind a space.
+/// Writes uses, each after a space.
 pub fn write_uses<S: Sink>(problem: &Problem, uses: &[Use], sink: &mut S) -> Result<(), SinkFault>
     requires { All (IsKnownUse problem.now) uses.now }
     ensures { Writes (S.state sink.old) (S.state sink.new) result (flat_map (use_text problem.now) uses.now) }

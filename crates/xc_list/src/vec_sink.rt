@@ -9,9 +9,9 @@ use crate::sink::{Sink, WriteFailed};
 use std::alloc::Global;
 use std::fmt;
 
-/// A sink over memory that grows as it is written to. It tells the bytes that it took. A write takes
+/// A sink over memory that grows as it is written to. Contracts know the bytes that it took. A write takes
 /// all of its bytes, or fails where there is no memory for them, and takes none.
-/// A type of its own, since contracts ask how often a sink failed and was flushed, which a `Vec<u8>` alone can't tell.
+/// A type of its own, since contracts need how often a sink failed and was flushed, which a `Vec<u8>` doesn't keep.
 #[derive(Drop)]
 pub struct VecSink {
     bytes: Vec<u8>,

@@ -4,7 +4,7 @@ ghost use Rattle.xc_list.specs.Settings.{long_number, read_word, read_words};
 
 use thiserror::Error;
 
-/// What is asked for: print each solution whose number is a multiple of `spacing`, none where that
+/// What a run is to do: print each solution whose number is a multiple of `spacing`, none where that
 /// is 0, and stop after `limit` solutions.
 #[derive(Clone, Copy, Debug, PartialEq, Eq)]
 pub struct Words {
@@ -23,7 +23,7 @@ pub enum WordFault {
     ZeroLimit(usize),
 }
 
-/// The number that stands here in decimal.
+/// The number that is here in decimal.
 pub(crate) fn long_number(bytes: &[u8]) -> Option<u64>
     ensures { result ≡ long_number bytes.now }
 {
@@ -64,7 +64,7 @@ fn read_word(place: usize, words: Words, word: &[u8]) -> Result<Words, WordFault
     }
 }
 
-/// What no words ask for: no solution is printed, and no limit met.
+/// What no words mean: no solution is printed, and no limit met.
 impl Default for Words {
     fn default() -> Words
         ensures { read_words [] ≡ Ok result }
@@ -77,7 +77,7 @@ impl Default for Words {
 }
 
 impl Words {
-    /// What the words ask for, or the first faulty one.
+    /// What the words mean, or the first faulty one.
     pub fn read(words: &[Vec<u8>]) -> Result<Words, WordFault>
         ensures { result ≡ read_words (map (λ w. w.items) words.now) }
     {

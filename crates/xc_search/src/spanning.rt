@@ -137,7 +137,7 @@ pub struct State<'a, D: Dance> {
 #[derive(Clone, Copy)]
 pub struct Task<'u> {
     pub until: Option<&'u [u32]>,
-    /// It begins after what is left below the levels, all of which comes before `until` and isn't counted.
+    /// It begins after what is left below the levels, which all comes before `until` and isn't counted.
     pub skips: bool,
     /// It may branch on another item than the branch item where what is left has no members.
     pub early: bool,
@@ -150,7 +150,7 @@ pub struct Task<'u> {
 pub enum Stop {
     /// At a member.
     Member,
-    /// Between two branches, for want of steps.
+    /// Between two branches, since it has no more steps.
     Steps,
     /// At a branch whose row doesn't come before `until`.
     Row,
@@ -166,7 +166,7 @@ pub struct Ran {
     pub steps: u64,
 }
 
-/// Does what a task says. It takes the state by value, as a walk's loop does: behind a reference the bases and lengths
+/// Does what a task says. It takes the state by value, as a walk's loop does: through a reference the bases and lengths
 /// of all tables would be loaded anew after each write to one.
 // The way to a row goes by it too, step by step, so that the search's loop has the one call of each large function and
 // takes it in.

@@ -77,7 +77,7 @@ impl<'a, D: Dance> Model for Walk<'a, D> {
 impl<'a, D: Dance> Walk<'a, D> {
     /// Begins a walk over a dance that has no moves and room for `2 * items + 2 * uses` of them.
     /// All memory is taken here: where there is none, the dance comes back as it was.
-    // Before the first move, so that want of memory means that nothing was written.
+    // Before the first move, so that lack of memory means that nothing was written.
     pub fn new(alloc: Global, dance: D, problem: &'a Problem) -> Result<Walk<'a, D>, (D, Memory)>
         requires same { (D.state dance).puzzle ≡ problem.now.puzzle }
         requires none { (D.state dance).trail ≡ [] }
@@ -243,10 +243,10 @@ impl<'a, D: Dance> Standing<'a, D> {
     }
 
     /// Goes on by so many solutions, or over all where fewer are left, and notes by how many. It takes the search by
-    /// value, so that its loop holds the bases and lengths of all tables as values of its own: behind a reference each
+    /// value, so that its loop holds the bases and lengths of all tables as values of its own: through a reference each
     /// would be loaded anew after each write to a table.
     // It holds while no address of the state leaves the loop: what is out of line there takes slices, and all else
-    // asks to be inlined.
+    // has `inline(always)`.
     #[inline(never)]
     fn run_on(self, many: u64) -> (Standing<'a, D>, ())
         requires some { 0 < many }

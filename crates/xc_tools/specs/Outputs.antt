@@ -1,5 +1,6 @@
 -- What a write to an output that holds bytes back does.
-use Rattle.std.specs.Prelude.{ℕ, ◌≡◌, ◌<◌, ◌≤◌, ◌+◌, ◌⊎◌, List, Option, Result, MatchResult, IfOk, IsErr, IsTrue, length}
+use Rattle.std.specs.Prelude.{ℕ, ◌≡◌, ◌<◌, ◌≤◌, ◌+◌, ◌⊎◌, List, Option, Result, MatchResult, IfOk, IsErr, IsTrue}
+use Rattle.std.specs.Prelude.{length}
 use Rattle.std.specs.Prelude.{take}
 use Rattle.std.specs.Io.KnownBytes.{append_known, WriteAppends}
 use Rattle.xc_input.specs.Calls.{counted, is_failed_write}

@@ -19,7 +19,7 @@ const USUAL: usize = 256;
 /// The words of a command line.
 // In place of `Env`, whose contract doesn't say which word a call puts there.
 pub trait Arguments {
-    /// The words, the program's name first, where they are told.
+    /// The words, the program's name first, where they are reported.
     ghost told: { Self → Option (List (List ℕ)) };
 
     /// Puts the word at this place into the front of a buffer, and says how long it is.
@@ -28,7 +28,7 @@ pub trait Arguments {
         ensures word { IfSome (told self.now) (λ words. IsWordAt words place buf.new result) };
 }
 
-/// Those of the system, which tells contracts no words.
+/// Those of the system, whose words contracts don't know.
 #[derive(Drop)]
 pub struct CommandLine<'a, R: Env> {
     rt: &'a R,
@@ -66,8 +66,8 @@ fn word<A: Arguments>(
     Err(AllocError)
 }
 
-/// The words behind the first one, which is the program's name, in order and each whole. One that isn't UTF-8 is
-/// answered as want of memory.
+/// The words after the first one, which is the program's name, in order and each whole. One that isn't UTF-8 is
+/// answered as lack of memory.
 pub fn read_words<A: Arguments>(alloc: Global, arguments: &A) -> Result<Vec<Vec<u8>>, AllocError>
     ensures all { IfOk result (λ read. IfSome (A.told arguments.now)
         (λ words. map (λ w. w.items) read.items ≡ drop 1 words)) }
@@ -86,7 +86,7 @@ pub fn read_words<A: Arguments>(alloc: Global, arguments: &A) -> Result<Vec<Vec<
     Err(AllocError)
 }
 
-/// The words behind the program's name, by their bytes: `read_words` of the system's. They are asked for one by one:
+/// The words after the program's name, by their bytes: `read_words` of the system's. They are fetched one by one:
 /// `env::args` would fail as a whole where the program's name isn't UTF-8.
 pub fn words<R: Env + AllocGlobal>(rt: &R) -> Result<Vec<Vec<u8>>, AllocError>
     ensures utf8 { IfOk result (λ read. All (λ w. IsUtf8 w.items) read.items) }

@@ -11,8 +11,8 @@ fn is_open<F: AsFd>(stream: &F) -> bool {
     stream.as_fd().try_clone_to_owned().is_ok()
 }
 
-/// Looks whether the standard streams are open, tells of one that is closed, and gives the status of
-/// that: 3. A program that opens a file asks this first: the file would take the number of the closed
+/// Looks whether the standard streams are open, reports one that is closed, and returns the status of
+/// that: 3. A program that opens a file calls this first: the file would take the number of the closed
 /// stream, and would be read and written in its place.
 pub fn closed_stream<I: AsFd, O: AsFd, D: AsFd, E: Sink>(
     input: &I,

@@ -9,7 +9,7 @@ use crate::system::{System, SystemWriter};
 use std::io::Write;
 use xc_list::{Flushes, Sink, WriteFailed};
 
-/// A writer of the system as a sink that passes on each text at once. After a failure nothing is asked
+/// A writer of the system as a sink that passes on each text at once. After a failure nothing is called
 /// of it.
 #[derive(Drop)]
 pub struct Direct<W: SystemWriter + Drop> {
@@ -76,7 +76,7 @@ impl<W: SystemWriter + Drop> Sink for Direct<W> {
         ensures bytes { WriteAppends (W.contents self.old.writer) (W.contents self.new.writer) result bytes.now }
         ensures flushes { self.new.flushes.count ≡ self.old.flushes.count }
 
-        // The system is asked once, and its answer is this one's; after a failure it isn't asked.
+        // The system is called once, and its result is this one's; after a failure it isn't called.
         ensures asked { self.old.failures ≡ 0 →
             W.asked self.new.writer ≡ answered (write_answer result bytes.now) (W.asked self.old.writer) }
         ensures closed { 0 < self.old.failures → IsErr result × (self.new.writer ≡ self.old.writer) }

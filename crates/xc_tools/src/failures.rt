@@ -1,4 +1,4 @@
-//! What is told where no problem was read.
+//! What is reported where no problem was read.
 ghost use Rattle.std.specs.Prelude.{◌≡◌, ◌++◌, OnErr, IsTrue, codes, decimal};
 ghost use Rattle.xc_list.specs.Texts.{Writes, WasTold};
 ghost use Rattle.xc_input.specs.FaultTexts.{fault_text};
@@ -39,7 +39,7 @@ fn error_status(error: &InputError) -> u8
     }
 }
 
-/// Tells why no problem was read, as far as that goes, and gives the status of that.
+/// Reports why no problem was read, as far as that goes, and returns its status.
 pub(crate) fn no_problem<E: Sink>(error: &InputError, err: &mut E) -> u8
     ensures status { result ≡ (no_problem error.now).0 }
     ensures told { WasTold (E.state err.old) (E.state err.new) ((no_problem error.now).1) }

@@ -11,7 +11,7 @@ use crate::system::{System, SystemReader};
 use std::io::Read;
 use xc_input::{Given, ReadFailed, Seed, Source};
 
-/// A reader of the system as a source, or what could not be opened. After a failure nothing is asked
+/// A reader of the system as a source, or what could not be opened. After a failure nothing is called
 /// of it.
 #[derive(Drop)]
 pub struct Incoming<R: SystemReader + Drop> {
@@ -100,15 +100,15 @@ impl<R: SystemReader + Drop> Source for Incoming<R> {
         ensures given { IfOk result (λ n. self.new.given.lines ≡ self.old.given.lines ++ take n buf.new ∷ []) }
         ensures given_kept { OnErr result (self.new.given.lines ≡ self.old.given.lines) }
 
-        // What was not opened fails, and so does a reader that gave all that may be given, and one that
-        // failed before: nothing is asked of it then. Else it is asked once, and its answer is this one's.
+        // What was not opened fails, and so does a reader that has read all that it may, and one that
+        // failed before: it isn't called then. Else it is called once, and its result is this one's.
         ensures missing { self.old.reader ≡ None → IsErr result }
         ensures spent { self.old.left ≡ 0 → IsErr result × (self.new.reader ≡ self.old.reader) }
         ensures closed { 0 < self.old.failures → IsErr result × (self.new.reader ≡ self.old.reader) }
         ensures asked { self.old.failures ≡ 0 → 0 < self.old.left → option_map R.asked self.new.reader
             ≡ option_map (answered (answer_of Whole result)) (option_map R.asked self.old.reader) }
     {
-        // A failure isn't tried again, nor is EINTR, which a socket with a time limit gives where a stopped program
+        // A failure isn't tried again, nor is EINTR, which a socket with a time limit returns where a stopped program
         // goes on.
         if self.failures > 0 || self.left == 0 {
             return Err(self.fail());

@@ -90,7 +90,7 @@ pub(crate) struct Lines {
     begun: u64,
 }
 
-/// Writes what is to be written for a line, which is given with its line feed.
+/// Writes what is to be written for a line, which comes with its line feed.
 fn write_act<O: Sink>(act: Act, with_feed: &[u8], out: &mut O) -> Result<(), SinkFault>
     ensures { (line : List ℕ) → with_feed.now ≡ line ++ 10 ∷ [] →
         Writes (O.state out.old) (O.state out.new) result (act_text act line) }
@@ -102,7 +102,7 @@ fn write_act<O: Sink>(act: Act, with_feed: &[u8], out: &mut O) -> Result<(), Sin
     }
 }
 
-/// Takes a line, given without and with its line feed.
+/// Takes a line, without and with its line feed.
 fn take_line<O: Sink>(
     alloc: Global,
     lines: &mut Lines,
@@ -172,7 +172,7 @@ fn end_line<O: Sink>(
     outcome
 }
 
-/// The first line that ends in a piece, without and with its line feed, and what is left behind it.
+/// The first line that ends in a piece, without and with its line feed, and what is left after it.
 fn next_line(piece: &[u8]) -> Option<(&[u8], &[u8], &[u8])>
     ensures { MatchOption result (has 10 piece.now ≡ false)
         (λ p. (piece.now ≡ p.1.now ++ p.2.now) × (p.1.now ≡ p.0.now ++ 10 ∷ []) × (has 10 p.0.now ≡ false)) }
@@ -209,7 +209,7 @@ fn feed<O: Sink>(
     Ok(())
 }
 
-/// Takes all that the source gives.
+/// Takes all that comes from the source.
 fn feed_all<S: Located, O: Sink>(
     alloc: Global,
     lines: &mut Lines,
@@ -257,7 +257,7 @@ fn end_text(lines: &mut Lines, carry: &[u8]) -> Result<(), Stop>
     Ok(())
 }
 
-/// What is told of ends that don't meet.
+/// What is reported of ends that don't meet.
 fn gap_text(alloc: Global, joint: &Joint) -> Result<Vec<u8>, AllocError>
     ensures { IfOk result (λ text. text.items ≡ gap_text joint.now.met.items joint.now.next.items) }
 {
@@ -279,7 +279,7 @@ fn put_name(text: &mut Vec<u8>, file: Option<&[u8]>) -> Result<(), AllocError> {
     Ok(())
 }
 
-/// What is told of a line that isn't one of a span's text.
+/// What is reported of a line that isn't one of a span's text.
 fn fault_text(alloc: Global, file: Option<&[u8]>, line: u64) -> Result<Vec<u8>, AllocError>
     ensures { IfOk result (λ text. (front : List ℕ) × (text.items ≡ no_text front line)) }
 {
@@ -291,7 +291,7 @@ fn fault_text(alloc: Global, file: Option<&[u8]>, line: u64) -> Result<Vec<u8>, 
     Ok(text)
 }
 
-/// Flushes the output and tells a text, where there is memory for it.
+/// Flushes the output and reports a text, if there is memory for it.
 fn tell<O: Sink, E: Sink>(
     status: u8,
     text: Result<Vec<u8>, AllocError>,
@@ -339,7 +339,7 @@ fn join_all<S: Located, O: Sink>(
     end_text(lines, &carry)
 }
 
-/// Tells why no more was read.
+/// Reports why no more was read.
 fn tell_stop<S: Located, O: Sink, E: Sink>(
     alloc: Global,
     stop: Stop,
@@ -381,7 +381,7 @@ fn first_lines(joint: Joint) -> Lines
     }
 }
 
-/// Joins the texts that a source gives.
+/// Joins the texts that come from a source.
 fn join_input<S: Located, O: Sink, E: Sink>(
     alloc: Global,
     listed: bool,
@@ -402,7 +402,7 @@ fn join_input<S: Located, O: Sink, E: Sink>(
     }
 }
 
-/// What words ask for: `m1` for listings, `m0` for records alone.
+/// What words mean: `m1` for listings, `m0` for records alone.
 pub fn asked_join(words: &[Vec<u8>]) -> Option<bool>
     ensures { result ≡ asked_join (map (λ w. w.items) words.now) }
 {
@@ -416,9 +416,9 @@ pub fn asked_join(words: &[Vec<u8>]) -> Option<bool>
 /// A whole run that joins spans: reads the texts that `dlx-span` writes, one after another, looks whether
 /// each begins where the one before it ended, from the beginning of the listing to its end, and writes the
 /// solutions to `out`, numbered anew, and how many there are to `err`. The words are `m1` for listings or
-/// `m0` for records alone, and then the names of files, which aren't looked at here. It gives the status: 0
+/// `m0` for records alone, and then the names of files, which aren't looked at here. It returns the status: 0
 /// where the listing is complete, 1 for other words, 2 for what isn't the text of a span, 3 where a read or
-/// a write failed, 4 where memory was wanting, 5 where the ends don't meet.
+/// a write failed, 4 if memory ran out, 5 where the ends don't meet.
 pub fn join_spans<S: Located, O: Sink, E: Sink>(
     alloc: Global,
     words: &[Vec<u8>],

@@ -33,7 +33,7 @@ pub(crate) fn numbered_kind(word: &[u8]) -> Option<Kind>
     }
 }
 
-/// The kind of problem that the words ask for, if they are right.
+/// The kind of problem that the words mean, if they are right.
 pub fn asked_kind(words: &[Vec<u8>]) -> Option<Kind>
     ensures { result ≡ asked_kind (map (λ w. w.items) words.now) }
 {
@@ -64,7 +64,7 @@ fn write_verdicts<S: Sink>(verdicts: &[Verdict], sink: &mut S) -> Result<(), Sin
     Ok(())
 }
 
-/// The status where these verdicts were told.
+/// The status after these verdicts were printed.
 fn judged_status(verdicts: &[Verdict]) -> u8
     ensures only { (result ≡ 0) ⊎ (result ≡ 5) }
     ensures value { result ≡ (if list_all (λ v. v.cover) verdicts.now then 0 else 5) }
@@ -124,9 +124,9 @@ fn judge_listing<L: Source, O: Sink, E: Sink>(
 /// A whole run of the judge: reads the words, then the problem, then the listing, judges each
 /// solution of it, and writes the verdicts to `out` and what is wrong to `err`. The words are the
 /// name of the problem's file, which is not looked at here, and perhaps `1`, `2` or `3` for the
-/// program that the problem is written for. It gives the status: 0 where each solution is a cover, 5
+/// program that the problem is written for. It returns the status: 0 where each solution is a cover, 5
 /// where one is not, 1 for other words, 2 for a fault of the problem or the listing, 3 where a read
-/// or a write failed, 4 where memory was wanting. Names are hashed by the problem's seed.
+/// or a write failed, 4 if memory ran out. Names are hashed by the problem's seed.
 pub fn judge<P: Source, L: Source, O: Sink, E: Sink>(
     alloc: Global,
     words: &[Vec<u8>],

@@ -6,7 +6,7 @@ ghost use Rattle.std.specs.Io.KnownBytes.{ReadConsumes};
 use std::fs::{self, Files};
 use std::io::{self, Read};
 
-/// A file by its path. It is opened at the first read, so that who asks nothing of it doesn't wait for it.
+/// A file by its path. It is opened at the first read, so that a run that doesn't read it doesn't wait for it.
 #[derive(Drop)]
 pub struct NamedFile<'a, R: Files> {
     rt: &'a R,

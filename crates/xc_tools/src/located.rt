@@ -11,10 +11,10 @@ pub struct Place<'a> {
     pub line: u64,
 }
 
-/// A source that tells from which place a line came.
+/// A source that knows from which place a line came.
 pub trait Located: Source {
     /// The place of the line with this number, from 1, among all lines that were read, or of the end of the
-    /// file in which the line `begun` stands, where that is another file.
+    /// file that has the line `begun`, where that is another file.
     fn place(&self, begun: u64, line: u64) -> Place<'_>;
 }
 

@@ -13,7 +13,7 @@ use std::io::Write;
 use xc_list::Flushes;
 
 /// A writer of the system as a sink that holds some bytes back until it is flushed. The first failure
-/// of the system is its own at that call, and after it nothing is asked of the system.
+/// of the system is its own at that call, and after it the system isn't called.
 ///
 /// A line that ends is passed on at once, with all that is held back, where that is at least an eighth
 /// of what was passed on before. So the first lines of a slow run appear when they are written, and a

@@ -1,4 +1,4 @@
-//! What is asked of a source at once.
+//! How much is read from a source at once.
 ghost use Rattle.std.specs.Prelude.{◌≡◌, length, IfOk};
 
 use std::alloc::{AllocError, Global};

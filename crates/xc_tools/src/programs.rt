@@ -14,7 +14,8 @@ use std::io::IsTerminal;
 use std::process::ExitCode;
 use xc_input::Kind;
 
-/// The exit code of a program with this status, or 4, which is reported, if there was no memory for its words and streams.
+/// The exit code of a program with this status, or 4, which is reported, if there was no memory for its words and
+/// streams.
 pub fn exit_code(rt: &HostRuntime, status: Result<u8, AllocError>) -> ExitCode
     ensures { MatchResult status (λ s. exit_status result ≡ s) (λ _. exit_status result ≡ 4) }
 {

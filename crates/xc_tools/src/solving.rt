@@ -20,7 +20,7 @@ use xc_dance::Memory;
 use xc_input::{Kind, Problem, Read, Source, read_problem};
 use xc_list::{End, Sink, Words, run, summary, warnings, word_fault};
 
-/// Flushes the output, and tells the end of a complete run.
+/// Flushes the output, and reports the end of a complete run.
 pub(crate) fn finish<O: Sink, E: Sink>(end: &End, out: &mut O, err: &mut E) -> u8
     ensures kept { Keeps (O.state out.old).taken (O.state out.new).taken }
     ensures flushed_once { (O.state out.new).flushes ≡ (O.state out.old).flushes + 1 }
@@ -42,7 +42,7 @@ pub(crate) fn finish<O: Sink, E: Sink>(end: &End, out: &mut O, err: &mut E) -> u
     }
 }
 
-/// Tells at which solution a write failed, as far as that goes, and gives the status of that: 3.
+/// Reports at which solution a write failed, as far as that goes, and returns its status: 3.
 fn tell_failed_write<E: Sink>(solution: u64, err: &mut E) -> u8
     ensures status { result ≡ 3 }
     ensures told { WasTold (E.state err.old) (E.state err.new) (summary_text (WriteFailed solution)) }
@@ -51,7 +51,7 @@ fn tell_failed_write<E: Sink>(solution: u64, err: &mut E) -> u8
     FAILED
 }
 
-/// Searches a problem, and tells how that ended.
+/// Searches a problem, and reports how that ended.
 fn solve_problem<O: Sink, E: Sink>(
     alloc: Global,
     problem: &Problem,
@@ -70,7 +70,7 @@ fn solve_problem<O: Sink, E: Sink>(
     }
 }
 
-/// Tells the ignored options, and searches the problem.
+/// Reports the ignored options, and searches the problem.
 fn solve_read<O: Sink, E: Sink>(
     alloc: Global,
     read: &Read,
@@ -89,9 +89,9 @@ fn solve_read<O: Sink, E: Sink>(
 }
 
 /// A whole run: reads the words, then the problem, searches it, and writes the listing to `out` and
-/// the messages to `err`. It gives the status: 0 where the run was complete or met its limit, 1 for
-/// a bad word, 2 for a fault of the input, 3 where a read or a write failed, 4 where memory was
-/// wanting. Names are hashed by the input's seed.
+/// the messages to `err`. It returns the status: 0 where the run was complete or met its limit, 1 for
+/// a bad word, 2 for a fault of the input, 3 where a read or a write failed, 4 if memory ran
+/// out. Names are hashed by the input's seed.
 pub fn solve<S: Source, O: Sink, E: Sink>(
     alloc: Global,
     kind: Kind,

@@ -44,7 +44,7 @@ impl From<AllocError> for Refusal {
     }
 }
 
-/// What the record of a span tells, by its words.
+/// What the record of a span means, by its words.
 #[derive(Clone, Copy)]
 struct Record<'a> {
     from: &'a [u8],
@@ -67,7 +67,7 @@ pub(crate) struct Joint {
     pub total: u64,
     /// There are more, which aren't listed.
     pub full: bool,
-    /// Where the text behind a gap begins.
+    /// Where the text after a gap begins.
     pub next: Vec<u8>,
 }
 
@@ -134,7 +134,7 @@ fn begins_with(line: &[u8], byte: u8) -> bool
     }
 }
 
-/// What stands before a colon, where that is the line's last byte.
+/// What is before a colon, where that is the line's last byte.
 fn before_colon(line: &[u8]) -> Option<&[u8]>
     ensures { option_map (λ front. front.now) result ≡ before_last (byte ":") line.now }
 {
@@ -173,7 +173,7 @@ fn are_counts(solutions: &[u8], n: &[u8], steps: &[u8], m: &[u8]) -> bool
         && is_number(m)
 }
 
-/// How many solutions the last words of a record tell.
+/// How many solutions the last words of a record mean.
 fn solutions_of<'a>(words: &[&'a [u8]]) -> Option<&'a [u8]>
     ensures { option_map (λ n. n.now) result ≡ recorded_solutions (map (λ w. w.now) words.now) }
 {
@@ -189,7 +189,7 @@ fn solutions_of<'a>(words: &[&'a [u8]]) -> Option<&'a [u8]>
     }
 }
 
-/// The same of words that may tell the branches of a row before that.
+/// The same of words that may have the branches of a row before that.
 fn counts_of<'a>(words: &[&'a [u8]]) -> Option<&'a [u8]>
     ensures { option_map (λ n. n.now) result ≡ counts_of (map (λ w. w.now) words.now) }
 {
@@ -199,7 +199,7 @@ fn counts_of<'a>(words: &[&'a [u8]]) -> Option<&'a [u8]>
     }
 }
 
-/// What these words tell, if they are a record.
+/// What these words mean, if they are a record.
 fn record_of<'a>(words: &[&'a [u8]]) -> Option<Record<'a>>
     ensures { option_map told_of result ≡ record_of (map (λ w. w.now) words.now) }
 {

@@ -12,7 +12,7 @@ use std::alloc::{AllocError, Global};
 use xc_input::{Kind, Problem, Source, read_problem};
 use xc_list::{Sink, SpanFault, SpanWords, list_span};
 
-/// Tells which words there are.
+/// Reports which words there are.
 fn refuse_words<E: Sink>(err: &mut E) -> u8
     ensures status { result ≡ 1 }
     ensures told { WasTold (E.state err.old) (E.state err.new)
@@ -25,7 +25,7 @@ fn refuse_words<E: Sink>(err: &mut E) -> u8
     )
 }
 
-/// Searches a span of a problem's listing, and tells how that ended.
+/// Searches a span of a problem's listing, and reports how that ended.
 fn search_problem<O: Sink, E: Sink>(
     alloc: Global,
     problem: &Problem,
@@ -46,7 +46,7 @@ fn search_problem<O: Sink, E: Sink>(
     }
 }
 
-/// The kind of problem and the span that words ask for, if they are right.
+/// The kind of problem and the span that words mean, if they are right.
 fn asked_span(alloc: Global, words: &[Vec<u8>]) -> Result<Option<(Kind, SpanWords)>, AllocError>
     ensures asked { IfOk result (λ found. option_map (λ asked. (asked.0, asked_of asked.1)) found
         ≡ asked_span (map (λ w. w.items) words.now)) }
@@ -68,9 +68,9 @@ fn asked_span(alloc: Global, words: &[Vec<u8>]) -> Result<Option<(Kind, SpanWord
 /// the words name, and writes it to `out` and what is wrong to `err`. The words are `1`, `2` or `3`
 /// for the program that the problem is written for, `m1` for a listing or `m0` for a count alone, the
 /// most steps, 0 for no bound, the row at which the span begins, and the one before which it ends. It
-/// gives the status: 0 where the record was written, whether or not the search went to the span's
+/// returns the status: 0 where the record was written, whether or not the search went to the span's
 /// end, 1 for other words, 2 for a fault of the problem, 3 where a read or a write failed, 4 where
-/// memory was wanting. Names are hashed by the input's seed.
+/// memory ran out. Names are hashed by the input's seed.
 pub fn solve_span<S: Source, O: Sink, E: Sink>(
     alloc: Global,
     words: &[Vec<u8>],

@@ -17,7 +17,7 @@ struct Ending {
     cut: bool,
 }
 
-/// The named files as one text, each opened when it is reached and closed behind its end; standard input
+/// The named files as one text, each opened when it is reached and closed after its end; standard input
 /// where no file is named.
 #[derive(Drop)]
 pub struct SpanFiles<'a, R: Files, I: Read + Drop> {
@@ -94,7 +94,7 @@ impl<'a, R: Files, I: Read + Drop> SpanFiles<'a, R, I> {
         Ok(n)
     }
 
-    /// The file of a line, by its number from 0, how many lines stand before it, and how many it has, the
+    /// The file of a line, by its number from 0, how many lines are before it, and how many it has, the
     /// last one with or without a line feed.
     fn file_of(&self, line: u64) -> (usize, u64, u64) {
         let mut before = 0;

@@ -21,7 +21,7 @@ pub(crate) const NOT_ALL_COVERS: u8 = 5;
 /// The ends of spans don't meet.
 pub(crate) const GAP: u8 = 5;
 
-/// Writes a line in place of the last one, as far as that goes, and gives its status.
+/// Writes a line in place of the last one, as far as that goes, and returns its status.
 pub(crate) fn refuse<E: Sink>(status: u8, text: &[u8], err: &mut E) -> u8
     ensures status { result ≡ status }
     ensures told { WasTold (E.state err.old) (E.state err.new) text.now }
@@ -30,7 +30,7 @@ pub(crate) fn refuse<E: Sink>(status: u8, text: &[u8], err: &mut E) -> u8
     status
 }
 
-/// Tells that memory is out, and gives the status of that: 4.
+/// Reports that memory is out, and returns its status: 4.
 pub fn out_of_memory<E: Sink>(err: &mut E) -> u8
     ensures status { result ≡ 4 }
     ensures told { WasTold (E.state err.old) (E.state err.new) (codes "Out of memory.\n") }
@@ -38,7 +38,7 @@ pub fn out_of_memory<E: Sink>(err: &mut E) -> u8
     refuse(NO_MEMORY, b"Out of memory.\n", err)
 }
 
-/// Tells that a write failed, and gives the status of that: 3.
+/// Reports that a write failed, and returns its status: 3.
 pub(crate) fn write_failed<E: Sink>(err: &mut E) -> u8
     ensures status { result ≡ 3 }
     ensures told { WasTold (E.state err.old) (E.state err.new) (codes "Write failed.\n") }
@@ -46,7 +46,7 @@ pub(crate) fn write_failed<E: Sink>(err: &mut E) -> u8
     refuse(FAILED, b"Write failed.\n", err)
 }
 
-/// Flushes the output; where that fails, tells it, and gives the status of that: 3.
+/// Flushes the output; where that fails, reports it, and returns its status: 3.
 pub(crate) fn flushed<O: Sink, E: Sink>(out: &mut O, err: &mut E) -> Result<(), u8>
     ensures kept { Keeps (O.state out.old).taken (O.state out.new).taken }
     ensures flushed_once { (O.state out.new).flushes ≡ (O.state out.old).flushes + 1 }
@@ -62,7 +62,7 @@ pub(crate) fn flushed<O: Sink, E: Sink>(out: &mut O, err: &mut E) -> Result<(), 
     }
 }
 
-/// Flushes the output, and then does what `refuse` does; where the flush fails, tells that, and gives the
+/// Flushes the output, and then does what `refuse` does; where the flush fails, reports that, and returns the
 /// status of that: 3.
 pub(crate) fn flush_and_refuse<O: Sink, E: Sink>(
     status: u8,

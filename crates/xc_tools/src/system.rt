@@ -1,4 +1,4 @@
-//! What the system is asked for its streams, and what it answers.
+//! The calls of the system for its streams, and what they return.
 ghost use Rattle.std.specs.Prelude.{◌≡◌, ◌≤◌, ℕ, List, Option, length, IfOk};
 ghost use Rattle.std.specs.Io.KnownBytes.{Keeps, ReadConsumes, WriteAppends};
 ghost use Rattle.xc_tools.specs.Streams.{Asked, answered, calls_of, flushed, write_answer, answer_of};
@@ -13,7 +13,7 @@ use xc_list::WriteFailed;
 /// What the system answers one call.
 #[derive(Clone, Copy, Debug, PartialEq, Eq)]
 pub enum Answer {
-    /// All that was asked: a write took all bytes, or a read came back.
+    /// All of it: a write took all bytes, or a read came back.
     Whole,
     /// A write took a beginning of the bytes.
     Part,
@@ -23,23 +23,23 @@ pub enum Answer {
     Failed,
 }
 
-/// What a source asks of the system. Each call is counted with its answer, since std's contracts say what
+/// The calls of a source to the system. Each is counted with its result, since std's contracts say what
 /// a call did and not that it was made: over them a read that is tried again would be proved.
 pub trait SystemReader {
-    /// The bytes that reads will give, where they are known.
+    /// The bytes that reads will return, where they are known.
     ghost remaining: { Self → Option (List ℕ) };
 
     /// The calls that were made.
     ghost asked: { Self → Asked };
 
-    /// Asks for bytes, once.
+    /// Reads bytes, once.
     fn read(&mut self, buf: &mut [u8]) -> Result<usize, ReadFailed>
         ensures bound { IfOk result (λ n. n ≤ length buf.new) }
         ensures bytes { ReadConsumes (remaining self.old) (remaining self.new) result buf.new }
         ensures asked { asked self.new ≡ answered (answer_of Whole result) (asked self.old) };
 }
 
-/// What a sink asks of the system. Each call is counted with its answer.
+/// The calls of a sink to the system. Each is counted with its result.
 pub trait SystemWriter {
     /// The bytes that were taken, where they are known.
     ghost contents: { Self → Option (List ℕ) };
@@ -47,13 +47,13 @@ pub trait SystemWriter {
     /// The calls that were made.
     ghost asked: { Self → Asked };
 
-    /// Asks to take bytes, once.
+    /// Writes bytes, once.
     fn write(&mut self, bytes: &[u8]) -> Result<usize, WriteFailed>
         ensures bound { IfOk result (λ n. n ≤ length bytes.now) }
         ensures bytes { WriteAppends (contents self.old) (contents self.new) result bytes.now }
         ensures asked { asked self.new ≡ answered (write_answer result bytes.now) (asked self.old) };
 
-    /// Asks to flush what was written, once.
+    /// Flushes what was written, once.
     fn flush(&mut self) -> Result<(), WriteFailed>
         ensures bytes { Keeps (contents self.old) (contents self.new) }
         ensures asked { asked self.new ≡ flushed (answer_of Flushed result) (asked self.old) };
@@ -70,7 +70,7 @@ pub struct System<T: Drop> {
 }
 
 impl<T: Drop> System<T> {
-    /// A stream of which nothing was asked.
+    /// A stream that wasn't called yet.
     pub fn new(stream: T) -> System<T>
         ensures stream { result.stream ≡ stream }
         ensures calls { result.calls ≡ 0 }

@@ -32,7 +32,7 @@ impl From<AllocError> for TextError {
     }
 }
 
-/// All that a source gives.
+/// All that comes from a source.
 pub(crate) fn read_text<S: Source>(alloc: Global, source: &mut S) -> Result<Vec<u8>, TextError>
     ensures whole { IfOk result (λ text. GaveAll (S.state source.old) (S.state source.new) text.items) }
     ensures counted { IsCounted (S.state source.old).failures (S.state source.new).failures result }

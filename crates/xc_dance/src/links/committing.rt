@@ -16,7 +16,7 @@ use crate::links::cells::SPACER;
 impl Links {
     ghost use Rattle.xc_dance.specs.Linked.{dancing_of};
 
-    /// Spends a primary item, and tells whether nothing is left of its bound.
+    /// Spends a primary item, and returns whether nothing is left of its bound.
     #[inline(always)]
     fn spend_last(&mut self, j: u32) -> bool
         requires item { IsPrimary self.old.puzzle j }
@@ -30,7 +30,7 @@ impl Links {
         self.bound(j) == 0
     }
 
-    /// Purifies an open secondary item where the use has a colour, and tells whether it has none.
+    /// Purifies an open secondary item where the use has a colour, and returns whether it has none.
     #[inline(always)]
     fn purify_coloured(&mut self, j: u32, colour: u32) -> bool
         requires item { IsSecondary self.old.puzzle j }
@@ -49,7 +49,7 @@ impl Links {
         false
     }
 
-    /// Commits the use of item `j` whose node is `q` as far as to a Cover of the item, and tells whether that is still
+    /// Commits the use of item `j` whose node is `q` as far as to a Cover of the item, and says whether that is still
     /// to be made: so one copy of its walk serves all uses.
     fn enter_node(&mut self, q: u32, j: u32) -> bool
         requires node { (o : ℕ) × ((u : Use) × (slice_get (layout self.old.puzzle) q ≡ Some (used o u)) × (u.item ≡ j)
@@ -86,8 +86,8 @@ impl Links {
         }
     }
 
-    /// Commits the uses of an option behind that of item `i`, whose node stands at `place`, and tells where the spacer
-    /// behind them stands.
+    /// Commits the uses of an option after that of item `i`, whose node is at `place`, and returns where the spacer
+    /// after them is.
     #[inline(always)]
     pub(crate) fn commit_behind(&mut self, i: u32, place: u32) -> u32
         requires { (x : ℕ) × IsUseAt self.old.puzzle i x place
@@ -100,7 +100,7 @@ impl Links {
         ensures written { HasWritten self.old self.new }
         ensures memory { self.new.capacity ≡ self.old.capacity }
     {
-        // Of the tables it is known that a place stands behind that of a node.
+        // Of the tables it is known that a place is after that of a node.
         let _ = &self.nodes;
         let mut q = place + 1;
         while self.nodes.top(q) < SPACER {
@@ -111,7 +111,7 @@ impl Links {
         q
     }
 
-    /// Commits the uses before it. ULINK of the spacer, which stands at `end`, leads to the first one.
+    /// Commits the uses before it. ULINK of the spacer, which is at `end`, leads to the first one.
     #[inline(always)]
     pub(crate) fn commit_before(&mut self, i: u32, place: u32, end: u32)
         requires can { (x : ℕ) × IsUseAt self.old.puzzle i x place

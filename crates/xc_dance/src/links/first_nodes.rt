@@ -63,7 +63,7 @@ fn lay_options(rows: &mut Rows, problem: &Problem)
     lay_spacer(rows, problem, problem.options(), place, above);
 }
 
-/// Lays the spacer behind option `o`, whose first node is `above`.
+/// Lays the spacer after option `o`, whose first node is `above`.
 fn lay_spacer(rows: &mut Rows, problem: &Problem, o: u32, place: u32, above: u32)
     requires limits { IsWithinLimits problem.now.puzzle }
     requires option { o ≤ option_count problem.now.puzzle }
@@ -82,7 +82,7 @@ fn lay_spacer(rows: &mut Rows, problem: &Problem, o: u32, place: u32, above: u32
     rows.lay(row);
 }
 
-/// The last node of the option behind the spacer behind option `o`; 0 if there is none.
+/// The last node of the option after the spacer after option `o`; 0 if there is none.
 #[tactic(auto, using(crate::proofs::LinkedTables::Laid::FirstTables::spacer_below))]
 fn last_node(problem: &Problem, o: u32, place: u32) -> u32
     requires limits { IsWithinLimits problem.now.puzzle }

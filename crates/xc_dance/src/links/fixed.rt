@@ -1,4 +1,4 @@
-//! What no move changes: the counts of the items, and where the nodes of the options stand.
+//! What no move changes: the counts of the items, and where the nodes of the options are.
 ghost use Rattle.std.specs.Prelude.{◌≡◌, false, ◌-◌, ◌≤◌, ◌↔◌, IsTrue, IfOk};
 ghost use Rattle.xc_input.specs.Problem.{IsValid, IsWithinLimits, IsItem, IsPrimary, IsSecondary, item_count};
 ghost use Rattle.xc_input.specs.Problem.{primary_count, IsOption};
@@ -112,7 +112,7 @@ impl Fixed {
         self.coloured
     }
 
-    /// Where the option of each node stands; an empty span for what is no use.
+    /// Where the option of each node is; an empty span for what is no use.
     #[inline(always)]
     pub(crate) fn spans(&self) -> &Spans
         ensures { result.now ≡ spans_of self.now }

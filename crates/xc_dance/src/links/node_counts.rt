@@ -7,7 +7,7 @@ ghost use Rattle.xc_dance.specs.inner.Links.OptionPlaces.{starts_of};
 use std::alloc::{AllocError, Global};
 use xc_input::Problem;
 
-/// How many nodes there are: the unused one, one for each item and each use, the first spacer, and one behind each
+/// How many nodes there are: the unused one, one for each item and each use, the first spacer, and one after each
 /// option.
 #[tactic(auto, using(crate::proofs::LinkedTables::Laid::PlaceLemmas::counted_nodes))]
 pub(crate) fn node_count(problem: &Problem) -> u32

@@ -1,11 +1,11 @@
-//! Nodes that are laid one behind another, as the node table is built.
+//! Nodes that are laid one after another, as the node table is built.
 ghost use Rattle.std.specs.Prelude.{◌≡◌, ◌<◌, length, IfOk};
 
 use crate::links::cells::{Column, LinkColumn, Nodes};
 use std::alloc::{AllocError, Global};
 use std::marker::Model;
 
-/// What stands in the cells of a node.
+/// What is in the cells of a node.
 #[derive(Clone, Copy, Drop)]
 pub(crate) struct Row {
     pub(crate) top: u32,
@@ -14,7 +14,7 @@ pub(crate) struct Row {
     pub(crate) color: u32,
 }
 
-/// Nodes that are laid one behind another. There is room for all of them.
+/// Nodes that are laid one after another. There is room for all of them.
 #[derive(Drop)]
 pub(crate) struct Rows {
     count: usize,

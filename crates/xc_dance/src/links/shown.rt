@@ -21,7 +21,7 @@ impl Links {
             && same_numbers(&self.taken, &other.taken)
     }
 
-    /// What stands in a cell; None where there is no such cell.
+    /// What is in a cell; None where there is no such cell.
     pub fn cell(&self, field: Field, place: u32) -> Option<i64>
         ensures { result ≡ field_of self.now.puzzle self.now.trail field place }
     {
@@ -46,7 +46,7 @@ impl Links {
             Field::Ulink => natural(self.nodes.read_ulink(place)),
             Field::Dlink => natural(self.nodes.read_dlink(place)),
             Field::Color => {
-                // An item's own node shows its cell as it stands, so a colour that is the mark's number needs no rule.
+                // An item's own node shows its cell as it is, so a colour that is the mark's number needs no rule.
                 if place <= self.fixed.items() {
                     natural(self.nodes.read_color(place))
                 } else {
@@ -69,7 +69,7 @@ fn same_numbers(numbers: &[u32], others: &[u32]) -> bool
     numbers == others
 }
 
-/// A cell as it stands.
+/// A cell as it is.
 fn natural(cell: Option<u32>) -> Option<i64>
     ensures { result ≡ option_map (λ v. pos v) cell }
 {

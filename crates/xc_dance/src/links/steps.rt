@@ -56,8 +56,8 @@ pub(crate) fn relink(top: &mut CellsMut<'_>, links: &mut LinksMut<'_>, color: &C
     top.set_at(i, count + 1);
 }
 
-/// A step of hide. `marks` tells whether a node of an option may be marked. It is a constant where this is inlined, so
-/// that two loops stand, one without the test.
+/// A step of hide. `marks` says whether a node of an option may be marked. It is a constant where this is inlined, so
+/// that there are two loops, one without the test.
 #[inline(always)]
 fn hide_one(
     top: &mut CellsMut<'_>,
@@ -109,7 +109,7 @@ fn hide_range(
 }
 
 /// Hides the other nodes of the option of node p, as hide, (13), does, and hide' of Algorithm C, which passes over
-/// marked nodes: from behind p to the spacer, which leads to the option's first node, and from there to before p.
+/// marked nodes: from after p to the spacer, which leads to the option's first node, and from there to before p.
 #[inline(always)]
 pub(crate) fn hide(
     top: &mut CellsMut<'_>,

@@ -1,4 +1,4 @@
-//! Tweaks: the option of a first node is hidden and comes back, alone or with those that were tweaked off behind it.
+//! Tweaks: the option of a first node is hidden and comes back, alone or with those that were tweaked off after it.
 ghost use Rattle.std.specs.Prelude.{◌≡◌, ℕ, ◌+◌, ◌*◌, ◌<◌, ◌≤◌, ◌^◌, length, fold, reverse, false, if◌then◌else◌};
 ghost use Rattle.xc_dance.specs.inner.Links.Columns.{values};
 ghost use Rattle.xc_dance.specs.inner.Links.Lent.{lent, lent_writes, IsRow, IsLinkRow};
@@ -105,7 +105,7 @@ pub(crate) fn unhide_unless(
 }
 
 /// One step down nodes that come back: the option of node p is put back, unless its item is covered, and what
-/// stands below p has p above it.
+/// is below p has p above it.
 #[inline(always)]
 fn bring_back_one(
     top: &mut CellsMut<'_>,

@@ -38,7 +38,7 @@ fn tweak(standing: &Trail, live: &mut OptionLists, item: u32)
     live.take_out(item - 1, first);
 }
 
-/// Every open item but `item` loses the options of `item`'s list, but those that give it the
+/// Every open item but `item` loses the options of `item`'s list, but those that have for it the
 /// colour kept.
 fn hide_options(standing: &Trail, live: &mut OptionLists, item: u32, kept: Option<u32>)
     requires item { IsItem standing.now.puzzle item }
@@ -93,7 +93,7 @@ fn loses(standing: &Trail, item: u32, hider: u32) -> bool
     item != hider && standing.is_open(item)
 }
 
-/// Whether the option gives the item the colour kept.
+/// Whether the option has for the item the colour that is kept.
 fn keeps(table: &Table, item: u32, kept: Option<u32>, option: u32) -> bool
     requires { IsOption table.now option }
     ensures { result ≡ keeps_colour table.now item kept option }

@@ -1,4 +1,4 @@
-//! What the moves that stand make of the items.
+//! What the moves on the trail make of the items.
 ghost use Rattle.std.specs.Prelude.{IfOk, []};
 ghost use Rattle.xc_dance.specs.inner.Lists.States.{AreStates, AreLeft};
 

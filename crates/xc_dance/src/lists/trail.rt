@@ -1,4 +1,4 @@
-//! The moves that stand, with what they make of the items.
+//! The moves on the trail, with what they make of the items.
 ghost use Rattle.std.specs.Prelude.{◌≡◌, ◌+◌, ◌<◌, ◌≤◌, ◌↔◌, [], ◌∷◌, length, drop, reverse, is_some, IsTrue, IfOk};
 ghost use Rattle.xc_input.specs.Problem.{IsItem, IsPrimary, IsWithinLimits, high_at};
 ghost use Rattle.xc_dance.specs.Moves.{IsLegal, is_open, purified, spends, next_above, open_items};
@@ -11,7 +11,7 @@ use std::alloc::{AllocError, Global};
 use std::marker::Model;
 use xc_input::Problem;
 
-/// The moves that stand, with the problem that they are made on.
+/// The moves on the trail, with the problem that they are made on.
 #[derive(Drop)]
 pub(crate) struct Trail {
     table: Table,

@@ -8,7 +8,7 @@ ghost use Rattle.xc_dance.specs.inner.Lists.Taking.{still_taken, HasRoom, IsPutB
 use std::alloc::{AllocError, Global};
 use std::marker::Model;
 
-/// A number that was taken out of a list, and the place where it stood.
+/// A number that was taken out of a list, and the place where it was.
 #[derive(Clone, Copy)]
 struct Removed {
     place: usize,
@@ -16,7 +16,7 @@ struct Removed {
     number: u32,
 }
 
-/// Lists of option numbers, which are told by their places from 0 on. They lose numbers, and can
+/// Lists of option numbers, which are named by their places from 0 on. They lose numbers, and can
 /// go back to how they were at each mark.
 #[derive(Drop)]
 pub(crate) struct OptionLists {
@@ -113,7 +113,7 @@ impl OptionLists {
     }
 }
 
-/// How many numbers there are, if a `usize` can tell.
+/// How many numbers there are, if a `usize` can hold that.
 fn total(lists: &[Vec<u32>]) -> Option<usize>
     ensures { IfSome result (λ n. n ≡ sum_by length (numbers_of lists.now)) }
 {
@@ -124,7 +124,7 @@ fn total(lists: &[Vec<u32>]) -> Option<usize>
     Some(numbers)
 }
 
-/// Takes the number out of the list, if it is there, and tells the place where it stood.
+/// Takes the number out of the list, if it is there, and returns the place where it was.
 fn remove(lists: &mut Vec<Vec<u32>>, list: u32, number: u32) -> Option<usize>
     requires list { list < length lists.old.items }
     requires rises { Rises 0 (list_at (numbers_of lists.old.items) list) }

@@ -12,8 +12,8 @@ use crate::checker::option_index::OptionIndex;
 use std::alloc::{AllocError, Global};
 use xc_input::{Bounds, Use};
 
-/// How often items are held and classes are asked, by their places, and the colours that items were
-/// given last.
+/// How often items are held and classes are used, by their places, and the colours that items had
+/// last.
 #[derive(Drop)]
 pub(crate) struct Counts {
     times: Vec<usize>,
@@ -124,7 +124,7 @@ impl Counts {
         }
     }
 
-    /// Whether a class is asked no more often than it has options, and the counts agree with its uses.
+    /// Whether a class is used no more often than it has options, and the counts agree with its uses.
     fn is_class_met(&self, bounds: &[Bounds], options: &OptionIndex, class: usize) -> bool
         requires times { length self.now.times.items ≡ item_count options.now.problem.puzzle }
         requires colours { length self.now.colours.items ≡ item_count options.now.problem.puzzle }
@@ -136,7 +136,7 @@ impl Counts {
         self.asked[class] <= options.size(class) && self.are_met(bounds, options.uses(class))
     }
 
-    /// Whether each of these classes is asked no more often than it has options, and the counts agree with its uses.
+    /// Whether each of these classes is used no more often than it has options, and the counts agree with its uses.
     fn are_classes_met(&self, bounds: &[Bounds], options: &OptionIndex, chosen: &[usize]) -> bool
         requires times { length self.now.times.items ≡ item_count options.now.problem.puzzle }
         requires colours { length self.now.colours.items ≡ item_count options.now.problem.puzzle }

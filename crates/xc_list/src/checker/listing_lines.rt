@@ -34,7 +34,7 @@ pub fn cut_first(text: &[u8], byte: u8) -> Option<(&[u8], &[u8])>
     Some((&text[..k], &text[k + 1..]))
 }
 
-/// The first line of a text, and what is left behind it.
+/// The first line of a text, and what is left after it.
 pub fn cut_line(text: &[u8]) -> (&[u8], &[u8])
     requires { 0 < length text.now }
     ensures lines { lines_of text.now ≡ result.0.now ∷ lines_of result.1.now }
@@ -46,7 +46,7 @@ pub fn cut_line(text: &[u8]) -> (&[u8], &[u8])
     }
 }
 
-/// The first word of a text whose words single spaces part, and what is left behind that space.
+/// The first word of a text whose words single spaces part, and what is left after that space.
 pub fn cut_word(text: &[u8]) -> (&[u8], Option<&[u8]>)
     ensures { MatchOption result.1 (words_in text.now ≡ result.0.now ∷ [])
         (λ rest. (words_in text.now ≡ result.0.now ∷ words_in rest.now) × (length rest.now < length text.now)) }
@@ -57,7 +57,7 @@ pub fn cut_word(text: &[u8]) -> (&[u8], Option<&[u8]>)
     }
 }
 
-/// What stands before a last byte, where that is the text's last.
+/// What is before a last byte, where that is the text's last.
 fn before_last(text: &[u8], byte: u8) -> Option<&[u8]>
     ensures { option_map (λ front. front.now) result ≡ before_last byte text.now }
 {
@@ -177,7 +177,7 @@ fn cut_last_word(text: &[u8]) -> Option<(&[u8], &[u8])>
     Some((&text[..k], &text[k + 1..]))
 }
 
-/// What stands before the last three words of at least four.
+/// What is before the last three words of at least four.
 fn body_of_words(text: &[u8]) -> Option<&[u8]>
     ensures { option_map (λ body. words_in body.now) result ≡ body_of_words (words_in text.now) }
 {

@@ -15,7 +15,7 @@ pub(crate) struct SeenLine {
 }
 
 impl SeenLine {
-    /// Puts a line in place of what stood here; nothing, where there is no memory for it.
+    /// Puts a line in place of what was here; nothing, if there is no memory for it.
     fn put(&mut self, line: &[u8], class: usize)
         ensures { IsBlankOr line.now class self.new }
     {
@@ -27,7 +27,7 @@ impl SeenLine {
     }
 }
 
-/// Lines that were met, each at the place that its bytes tell. A later line takes an earlier one's
+/// Lines that were met, each at the place that its bytes determine. A later line takes an earlier one's
 /// place.
 #[derive(Drop)]
 pub(crate) struct SeenLines {

@@ -66,7 +66,7 @@ impl Held {
         self.len += bytes.len();
     }
 
-    /// Lets go of the first bytes, and moves the rest to the front.
+    /// Drops the first bytes, and moves the rest to the front.
     pub(crate) fn remove_front(&mut self, count: usize)
         requires { count ≤ length self.old }
         ensures { self.new ≡ drop count self.old }
@@ -75,7 +75,7 @@ impl Held {
         self.len -= count;
     }
 
-    /// Lets go of the last bytes.
+    /// Drops the last bytes.
     pub(crate) fn remove_back(&mut self, count: usize)
         requires { count ≤ length self.old }
         ensures { self.new ≡ take (length self.old - count) self.old }

@@ -1,4 +1,4 @@
-//! The cells of a column as they are lent to a walk: a pointer and a length, which stay in registers there. Those of a
+//! The cells of a column as a walk borrows them: a pointer and a length, which stay in registers there. Those of a
 //! column would be loaded anew after every write.
 ghost use Rattle.std.specs.Prelude.{◌≡◌, ◌+◌, ◌<◌, length, slice_index, slice_set};
 ghost use Rattle.xc_dance.specs.inner.Links.Columns.{values, writes, ups, downs, link_writes};
@@ -6,18 +6,18 @@ ghost use Rattle.xc_dance.specs.inner.Links.Lent.{IsRow, IsLinkRow};
 
 use crate::links::cells::{Cell, Link};
 
-/// The cells of a column, lent to a walk that reads them.
+/// The cells of a column, borrowed by a walk that reads them.
 #[derive(Clone, Copy, Drop)]
 pub(crate) struct Cells<'a> {
     pub(super) cells: &'a [Cell],
 }
 
-/// The cells of a column, lent to a walk that writes them.
+/// The cells of a column, borrowed by a walk that writes them.
 pub(crate) struct CellsMut<'a> {
     pub(super) cells: &'a mut [Cell],
 }
 
-/// The links of all nodes, lent to a walk.
+/// The links of all nodes, borrowed by a walk.
 pub(crate) struct LinksMut<'a> {
     pub(super) links: &'a mut [Link],
 }

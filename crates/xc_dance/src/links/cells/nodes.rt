@@ -18,7 +18,7 @@ use std::marker::Model;
 /// The colour of a marked node.
 pub(crate) const MARK: u32 = 0xffff_ffff;
 
-/// The number that a spacer's TOP is kept behind. TOP of every other node is below it.
+/// The least TOP of a spacer: this and its number. TOP of every other node is below it.
 pub(crate) const SPACER: u32 = 0x8000_0000;
 
 /// The nodes, of sixteen bytes each: four cells of 32 bits, so that more of them stay near the processor. Their links
@@ -204,7 +204,7 @@ impl Nodes {
         unhide_list(&mut top, &mut links, &mut color, spans, i, None, false)
     }
 
-    /// Purifies item i with the colour c, as Algorithm C does. The colour stands at the item's own node, so that it can
+    /// Purifies item i with the colour c, as Algorithm C does. The colour is at the item's own node, so that it can
     /// be read whether an item is purified.
     #[inline(always)]
     pub(crate) fn purify(&mut self, spans: &Spans, i: u32, c: u32) -> u64
@@ -233,7 +233,7 @@ impl Nodes {
         let links = self.links.links.as_mut_slice();
         let color = self.color.cells.as_mut_slice();
         let count = unhide_among_marks(top, links, color, spans, i, Some(c));
-        // 0 again, so that an item is open exactly where it is in its ring and this cell is 0.
+        // 0 again, so that an item is open exactly if it is in its ring and this cell is 0.
         self.color.set(i, 0);
         count + 1
     }
@@ -309,7 +309,7 @@ impl Nodes {
     }
 }
 
-/// `hide_list` with the test for marks, out of line: callers stay small. It takes slices, and not cells that are lent:
+/// `hide_list` with the test for marks, out of line: callers stay small. It takes slices, and not borrowed cells:
 /// then the search's loop holds the lengths of the columns as values, and the compiler spills fewer of the others.
 #[cold]
 #[inline(never)]
