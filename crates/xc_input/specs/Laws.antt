@@ -43,11 +43,7 @@ written_use colours u = record { item = u.item; colour = unwrap_or (numbered_get
 abbrev pub AreMetInOrder : Named → Type 0
 AreMetInOrder a = a.colours ≡ colours_of (map (written_use a.colours) (flat_map (λ us. us) a.puzzle.options))
 
--- Each sound problem has a text, if its colours are numbered as its uses meet them.
+-- A problem is sound, and its colours are numbered so, exactly if some text stands for it.
 abbrev pub HaveTexts : Type 0
-HaveTexts = (a : Named) → IsSound a → AreMetInOrder a → (text : List ℕ) × StandsFor Bounds (lines_of text) a []
-
--- The colours of each problem that lines stand for are numbered so.
-abbrev pub StandInOrder : Type 0
-StandInOrder = (kind : Kind) (lines : List (List ℕ)) (named : Named) (ignored : List ℕ)
-    → StandsFor kind lines named ignored → AreMetInOrder named
+HaveTexts = (a : Named) → (IsSound a × AreMetInOrder a)
+    ↔ ((text : List ℕ) × (ignored : List ℕ) × StandsFor Bounds (lines_of text) a ignored)

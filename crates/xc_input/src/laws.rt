@@ -2,7 +2,7 @@
 
 ghost use Rattle.std.specs.Prelude.{◌≡◌, ◌↔◌, IsTrue};
 ghost use Rattle.xc_input.specs.Laws.{FaultlessStand, StandForOne, StandAlso, TokensAgree};
-ghost use Rattle.xc_input.specs.Laws.{HaveTexts, StandInOrder};
+ghost use Rattle.xc_input.specs.Laws.{HaveTexts};
 ghost use Rattle.xc_input.specs.declared.kind.Kind.TheVariants.{Plain, Colours, Bounds};
 
 use crate::{FaultKind, InputError, Kind, Seed, Use};
@@ -22,11 +22,10 @@ pub fn kinds_that_allow_more()
     ensures colours_as_bounds { StandAlso Colours Bounds }
 {}
 
-/// Each sound problem whose colours are numbered as its uses meet them has a text that stands for it. The colours of
-/// each problem that was read are numbered so. So neither the grammar nor `IsSound` is narrower than meant.
+/// A problem is sound, and its colours are numbered as its uses meet them, exactly if some text stands for it. So neither
+/// the grammar nor `IsSound` is narrower or wider than meant.
 pub fn problems_have_texts()
-    ensures texts { HaveTexts }
-    ensures order { StandInOrder }
+    ensures { HaveTexts }
 {}
 
 /// The token that `faulty_token` finds in a line has the fault that a reader reports of the line, after lines without a

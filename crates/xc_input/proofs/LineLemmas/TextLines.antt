@@ -1,7 +1,8 @@
 -- What a text's lines are, once some of them were handed on.
 use Rattle.xc_input.proofs.lists.EachElement.{each-append}
 use Rattle.std.proofs.Common.{◌≡◌, ◌≢◌, ℕ, ◌<◌, List, [], ◌∷◌, ◌++◌, true, false, nat_eq, Result, Ok}
-use Rattle.std.proofs.Common.{Err, length, refl, sym, ap, ◌∙◌, subst, append_assoc, append-nil, arith}
+use Rattle.std.proofs.Common.{Err, length, refl, sym, ap, ◌∙◌, subst, append_assoc, append-nil, arith, if◌then◌else◌}
+use Rattle.std.specs.List.{onto_first}
 use Rattle.std.proofs.lemmas.Bool.Decides.{nat_tests}
 use Rattle.std.proofs.lemmas.List.Folds.{list_any-append}
 use Rattle.std.specs.Result.{result_err}
@@ -90,3 +91,16 @@ ends old new carry end whole left r b l f k g e s n =
       state = tt;
       err = rw (← k) (Spoils-ended new.kind new.lines x _ w a s);
     }
+
+onto-whole : (b : ℕ) (ls : List (List ℕ)) → nat_eq b 10 ≡ false → AreWhole ls → AreWhole (onto_first b ls)
+onto-whole b [] h w = (grind (arith, nat_tests, h), tt)
+onto-whole b (l ∷ ls) h w = (grind (arith, nat_tests, h, w.0), w.1)
+
+-- no line of a text has a line feed in it
+pub lines_of-whole : (bs : List ℕ) → AreWhole (lines_of bs)
+lines_of-whole [] = tt
+lines_of-whole (b ∷ bs) =
+    elim (nat_eq b 10) as (λ t. nat_eq b 10 ≡ t → AreWhole (if t then [] ∷ lines_of bs else onto_first b (lines_of bs))) [
+      | true ↦ λ e. (refl, lines_of-whole bs)
+      | false ↦ λ e. onto-whole b (lines_of bs) e (lines_of-whole bs)
+    ] refl

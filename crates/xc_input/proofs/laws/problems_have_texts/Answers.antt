@@ -1,9 +1,17 @@
+use Rattle.std.proofs.Common.{[]}
+use Rattle.xc_input.specs.Lines.{lines_of}
+use Rattle.xc_input.specs.declared.kind.Kind.TheVariants.{Bounds}
+use Rattle.xc_input.proofs.LineLemmas.TextLines.{lines_of-whole}
+use Rattle.xc_input.proofs.ValidLemmas.ValidTexts.{sound}
 use Rattle.xc_input.proofs.WrittenTexts.Lines.{has-text}
 use Rattle.xc_input.proofs.WrittenTexts.ColourOrder.{in-order}
 use Rattle.xc_input.proofs.laws.problems_have_texts.Goals as goal
 
-pub returns-clause-texts : goal.returns-clause-texts
-returns-clause-texts c = has-text
-
-pub returns-clause-order : goal.returns-clause-order
-returns-clause-order c = in-order
+pub returns : goal.returns
+returns c = λ a. (
+  λ h. let t = has-text a h.0 h.1 in (t.0, [], t.1),
+  λ t. (
+    sound Bounds (lines_of t.0) a t.1 t.2 (lines_of-whole t.0),
+    in-order Bounds (lines_of t.0) a t.1 t.2,
+  ),
+)
