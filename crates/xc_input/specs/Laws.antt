@@ -1,12 +1,10 @@
 -- Each list of lines has a first fault or stands for one problem, and a token at fault has the fault of its line.
 -- What stands for one stands for it as each kind that allows more.
-use Rattle.std.specs.Prelude.{◌≡◌, ◌↔◌, ◌+◌, ℕ, List, [], ◌∷◌, ◌++◌, None, Some, length, slice_get, map}
-use Rattle.std.specs.Prelude.{flat_map, unwrap_or}
+use Rattle.std.specs.Prelude.{◌≡◌, ◌↔◌, ◌+◌, ℕ, List, [], ◌∷◌, ◌++◌, None, Some, length, slice_get}
+use Rattle.std.specs.Prelude.{flat_map}
 use Rattle.xc_input.specs.declared.kind.Kind.{Kind}
 use Rattle.xc_input.specs.declared.kind.Kind.TheVariants.{Bounds}
-use Rattle.xc_input.specs.declared.problem.Use.{Use}
-use Rattle.xc_input.specs.Problem.{numbered_get}
-use Rattle.xc_input.specs.Sheets.{Written, colours_of}
+use Rattle.xc_input.specs.Sheets.{Written, colours_of, number_uses}
 use Rattle.xc_input.specs.Lines.{lines_of}
 use Rattle.xc_input.specs.Named.{Named, IsSound}
 use Rattle.xc_input.specs.declared.faulty.FaultyToken.{FaultyToken}
@@ -35,13 +33,10 @@ TokensAgree = (kind : Kind) (lines : List (List ℕ)) (line : List ℕ) (t : Fau
     → IsFaultyToken kind (slice_get (content lines) 0) line t
     → line_fault kind (lines ++ line ∷ []) ≡ Some (line_number (length lines + 1), t.kind)
 
--- a use as an option line writes it
-abbrev pub written_use : List (List ℕ) → Use → Written
-written_use colours u = record { item = u.item; colour = unwrap_or (numbered_get colours u.colour) [] }
-
--- the colours are those of the uses, each where it is met first
+-- the colours of a problem are those of uses that stand for its own, each where it is met first
 abbrev pub AreMetInOrder : Named → Type 0
-AreMetInOrder a = a.colours ≡ colours_of (map (written_use a.colours) (flat_map (λ us. us) a.puzzle.options))
+AreMetInOrder a = (us : List Written) × (a.colours ≡ colours_of us)
+    × (number_uses a.colours us ≡ flat_map (λ us. us) a.puzzle.options)
 
 -- A problem is sound, and its colours are numbered so, exactly if some text stands for it.
 abbrev pub HaveTexts : Type 0

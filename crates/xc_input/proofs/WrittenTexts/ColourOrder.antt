@@ -13,10 +13,14 @@ use Rattle.xc_input.specs.Problem.{numbered_get}
 use Rattle.xc_input.specs.Named.{Named}
 use Rattle.xc_input.specs.Sheets.{Written, with_colour, colours_of, colour_number, number_uses}
 use Rattle.xc_input.specs.Text.{StandsFor}
-use Rattle.xc_input.specs.Laws.{written_use, AreMetInOrder}
+use Rattle.xc_input.specs.Laws.{AreMetInOrder}
+use Rattle.xc_input.specs.declared.problem.Use.{Use}
 use Rattle.xc_input.specs.inner.Sheets.{with_uses}
-use Rattle.xc_input.proofs.lists.EachElement.{each_front}
 use Rattle.xc_input.proofs.OptionLemmas.Colours.{Knows, met, kept}
+
+-- a use as an option line writes it
+abbrev pub written_use : List (List ℕ) → Use → Written
+written_use colours u = record { item = u.item; colour = unwrap_or (numbered_get colours u.colour) [] }
 
 all-known : (cs : List (List ℕ)) (us : List Written) → Each (λ u. Knows (with_uses cs us) u.colour) us
 all-known cs [] = tt
@@ -40,21 +44,25 @@ uses-back cs [] g = refl
 uses-back cs (u ∷ us) g = λ i.
     (record { item = u.item; colour = known-back cs u.colour g.0 i }) ∷ uses-back cs us g.1 i
 
-options-back : (cs : List (List ℕ)) (os : List (List Written)) → Each (λ u. Knows cs u.colour) (flat_map (λ us. us) os)
-    → map (written_use cs) (flat_map (λ us. us) (map (number_uses cs) os)) ≡ flat_map (λ us. us) os
-options-back cs [] g = refl
-options-back cs (us ∷ os) g =
-    let parts = each_front (λ u. Knows cs u.colour) us (flat_map (λ us. us) os) g in
-    map-append (written_use cs) (number_uses cs us) (flat_map (λ us. us) (map (number_uses cs) os))
-    ∙ (λ i. uses-back cs us parts.0 i ++ options-back cs os parts.1 i)
+-- the uses of options that are written so are numbered as the options are
+flat-numbers : (cs : List (List ℕ)) (os : List (List Written)) → number_uses cs (flat_map (λ us. us) os)
+    ≡ flat_map (λ us. us) (map (number_uses cs) os)
+flat-numbers cs [] = refl
+flat-numbers cs (us ∷ os) =
+    map-append _ us (flat_map (λ us. us) os) ∙ ap (λ t. number_uses cs us ++ t) (flat-numbers cs os)
 
 pub in-order : (kind : Kind) (lines : List (List ℕ)) (a : Named) (ignored : List ℕ) → StandsFor kind lines a ignored
     → AreMetInOrder a
-in-order kind lines a ignored s =
-    let o = s.options in
-    let known : Each (λ u. Knows a.colours u.colour) (flat_map (λ us. us) o.kept) =
-    subst (λ cs. Each (λ u. Knows cs u.colour) (flat_map (λ us. us) o.kept)) (sym o.colours)
-    (all-known [] (flat_map (λ us. us) o.kept)) in
-    let same = ap (λ os. map (written_use a.colours) (flat_map (λ us. us) os)) o.numbered
-    ∙ options-back a.colours o.kept known in
-    o.colours ∙ ap colours_of (sym same)
+in-order kind lines a ignored s = let o = s.options in (
+  flat_map (λ us. us) o.kept,
+  o.colours,
+  flat-numbers a.colours o.kept ∙ ap (λ os. flat_map (λ us. us) os) (sym o.numbered),
+)
+
+-- and then they are those of the problem's uses as lines write them
+pub met-by-uses : (a : Named) → AreMetInOrder a
+    → a.colours ≡ colours_of (map (written_use a.colours) (flat_map (λ us. us) a.puzzle.options))
+met-by-uses a m =
+    let known : Each (λ u. Knows a.colours u.colour) m.0 =
+    subst (λ cs. Each (λ u. Knows cs u.colour) m.0) (sym m.1) (all-known [] m.0) in
+    m.1 ∙ ap colours_of (sym (ap (λ us. map (written_use a.colours) us) (sym m.2) ∙ uses-back a.colours m.0 known))

@@ -18,7 +18,8 @@ use Rattle.xc_input.specs.Sheets.{Written, number_uses, colours_of}
 use Rattle.xc_input.specs.Faults.{has_primary}
 use Rattle.xc_input.specs.FirstFault.{line_number}
 use Rattle.xc_input.specs.Text.{IsEntry, IsOptionLine, IsUse, StandsFor, AreItems, AreOptions}
-use Rattle.xc_input.specs.Laws.{written_use, AreMetInOrder}
+use Rattle.xc_input.specs.Laws.{AreMetInOrder}
+use Rattle.xc_input.proofs.WrittenTexts.ColourOrder.{written_use, met-by-uses}
 use Rattle.xc_input.specs.inner.EndedLines.{AreWhole, ended}
 use Rattle.xc_input.proofs.LineLemmas.TextLines.{lines_of-all}
 use Rattle.xc_input.specs.declared.problem.Bounds.{Bounds}
@@ -140,7 +141,7 @@ options-stand a s met w = let os = a.puzzle.options in record {
   kept = map (λ us. map (written_use a.colours) us) os;
   are_kept = all-kept a 2 os w;
   few = omega (arith, few-uses a os, s.limits.uses);
-  colours = met ∙ ap colours_of (flat-uses a os);
+  colours = met-by-uses a met ∙ ap colours_of (flat-uses a os);
   numbered = options-back a s os w;
 }
 

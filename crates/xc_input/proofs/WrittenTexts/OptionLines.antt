@@ -16,7 +16,7 @@ use Rattle.xc_input.specs.Named.{Named, IsName, IsColour, IsUnbroken, IsSound}
 use Rattle.xc_input.specs.Sheets.{colour_number, number_uses}
 use Rattle.xc_input.specs.Faults.{Context}
 use Rattle.xc_input.specs.Text.{IsUse}
-use Rattle.xc_input.specs.Laws.{written_use}
+use Rattle.xc_input.proofs.WrittenTexts.ColourOrder.{written_use}
 use Rattle.xc_input.proofs.TokenLemmas.TableNames.{distinct-place}
 use Rattle.xc_input.proofs.WrittenTexts.Spaced.{IsWord}
 use Rattle.xc_input.proofs.WrittenTexts.ItemLine.{front-bar}
