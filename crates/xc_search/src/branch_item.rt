@@ -60,8 +60,8 @@ pub fn choose_next<D: Dance>(dance: &D, problem: &Problem, once: bool) -> Option
     Some((found.item, found.branches as usize))
 }
 
-/// How many more open items are asked for their branches once one with a single branch was found: most dead ends are
-/// near.
+/// How many more open items are searched for one without branches once one with a single branch was found: most dead
+/// ends are near.
 const FURTHER: u32 = 6;
 
 /// An item to branch on, which may be another than the branch item where some item has no branches: then what is left
@@ -148,7 +148,7 @@ fn branches_of<D: Dance>(dance: &D, problem: &Problem, i: u32, once: bool) -> u3
 
 /// The first item with the fewest branches, up to the first with at most `enough` of them: with 0 the branch item.
 // Over the linked tables, where each item is held once, a turn of the loop has two loads: the next open item and its
-// length. No bounds check is left. Whether the branches are few enough is asked where a new minimum is found, which is
+// length. No bounds check is left. Whether the branches are few enough is tested where a new minimum is found, which is
 // seldom, and not at each turn.
 #[inline(always)]
 fn first_fewest<D: Dance>(dance: &D, problem: &Problem, once: bool, enough: u32) -> Option<Fewest>
