@@ -60,8 +60,8 @@ pub fn choose_next<D: Dance>(dance: &D, problem: &Problem, once: bool) -> Option
     Some((found.item, found.branches as usize))
 }
 
-/// How many more open items have their branches looked at once one with a single branch was found: most dead ends are
-/// near.
+/// How many more open items are searched for one without branches once one with a single branch was found: most dead
+/// ends are near.
 const FURTHER: u32 = 6;
 
 /// An item to branch on, which may be another than the branch item where some item has no branches: then what is left

@@ -17,7 +17,7 @@ use xc_dance::Dance;
 use xc_input::Problem;
 
 /// A dance with the problem that it is of. Its trail has room for each search of the problem. Both are known of it, so
-/// no step requires them or hands them on.
+/// no step requires them.
 #[derive(Drop)]
 pub struct Position<'a, D: Dance> {
     dance: D,

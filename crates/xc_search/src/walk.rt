@@ -246,7 +246,7 @@ impl<'a, D: Dance> Standing<'a, D> {
     /// value, so that its loop holds the bases and lengths of all tables as values of its own: through a reference each
     /// would be loaded anew after each write to a table.
     // It holds while no address of the state leaves the loop: what is out of line there takes slices, and all else
-    // has `inline(always)`.
+    // is inlined by its attribute.
     #[inline(never)]
     fn run_on(self, many: u64) -> (Standing<'a, D>, ())
         requires some { 0 < many }

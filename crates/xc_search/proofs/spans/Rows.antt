@@ -48,26 +48,14 @@ before_not_before (x ∷ a) (y ∷ b) (z ∷ c) e f = elim (before_first x y a b
   ]
 ]
 
--- b not before a, and b before c
-pub not_before_before : (a b c : List ℕ) → precedes b a ≡ false → precedes b c ≡ true → precedes a c ≡ true
-not_before_before a b [] e f = absurd (cc f)
-not_before_before [] b (z ∷ c) e f = refl
-not_before_before (x ∷ a) [] (z ∷ c) e f = absurd (cc e)
-not_before_before (x ∷ a) (y ∷ b) (z ∷ c) e f = elim (behind_first y x b a e) [
-  | inl h ↦ elim (before_first y z b c f) [
-    | inl k ↦ less_before x z a c (omega (arith, h, k))
-    | inr k ↦ less_before x z a c (omega (arith, h, k.0))
-  ]
-  | inr h ↦ elim (before_first y z b c f) [
-    | inl k ↦ less_before x z a c (omega (arith, h.0, k))
-    | inr k ↦ same_before x z a c (omega (arith, h.0, k.0)) (not_before_before a b c h.1 k.1)
-  ]
-]
-
 -- neither b before a, nor c before b
 pub not_before : (a b c : List ℕ) → precedes b a ≡ false → precedes c b ≡ false → precedes c a ≡ false
 not_before a b c e f = by_bool (precedes c a)
     (λ h. absurd (cc (before_not_before c a b h e))) (λ h. h)
+
+-- b not before a, and b before c
+pub not_before_before : (a b c : List ℕ) → precedes b a ≡ false → precedes b c ≡ true → precedes a c ≡ true
+not_before_before a b c e f = by_bool (precedes a c) (λ h. h) (λ h. absurd (cc (not_before c a b h e, f)))
 
 pub before_either_way : (a b : List ℕ) → precedes a b ≡ true → precedes b a ≡ false
 before_either_way a [] e = absurd (cc e)
