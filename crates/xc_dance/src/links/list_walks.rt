@@ -1,5 +1,5 @@
-//! Walks down the list of an item and back up, for Cover and Purify: what a Purify hides is decided here. The nodes of a
-//! colour that is kept are marked on the way, the options of the others hidden.
+//! Walks down the list of an item and back up, for Cover and Purify: what a Purify hides is decided here. The nodes of
+//! a colour that is kept are marked on the way, the options of the others hidden.
 ghost use Rattle.std.specs.Prelude.{◌≡◌, ℕ, ◌+◌, ◌-◌, ◌*◌, ◌<◌, ◌≤◌, ◌^◌, length, slice_index, fold, None, false};
 ghost use Rattle.xc_dance.specs.inner.Links.Columns.{values};
 ghost use Rattle.xc_dance.specs.inner.Links.Lent.{lent_all, all_writes, IsRow, IsLinkRow};
