@@ -54,8 +54,7 @@ pub record IsJudged {O E : Type 0} (a : Named) (status : ℕ) (from to : SourceS
       (flat_map verdict_text verdicts)
 
 -- 2: the listing has a first fault.
-pub record IsFaultyListing {O E : Type 0} (a : Named) (status : ℕ) (from to : SourceState)
-    (old new : Sinks O E) : Type 0 where
+pub record HasFault {O E : Type 0} (a : Named) (status : ℕ) (from to : SourceState) (old new : Sinks O E) : Type 0 where
   pub listing : List ℕ
   pub gave : GaveAll from to listing
   pub fault : ListingFault
@@ -65,7 +64,7 @@ pub record IsFaultyListing {O E : Type 0} (a : Named) (status : ℕ) (from to : 
 -- What judging a listing of a problem did: it has verdicts or a fault; or a read of it failed; or there was no memory.
 abbrev pub DidJudgeListing : {O E : Type 0} → Named → ℕ → SourceState → SourceState → Sinks O E → Sinks O E → Type 0
 DidJudgeListing a status from to old new =
-    IsJudged a status from to old new ⊎ IsFaultyListing a status from to old new
+    IsJudged a status from to old new ⊎ HasFault a status from to old new
     ⊎ (Rose from.failures to.failures × IsRefused status old new (3, codes "Read failed.\n"))
     ⊎ ((to.failures ≡ from.failures) × IsRefused status old new (4, codes "Out of memory.\n"))
 
