@@ -3,8 +3,10 @@ use fixtures::{ALONE, COLOURED, SEVEN, SEVEN_LISTING, THREE_ALIKE, on_problem, p
 use std::alloc::Global;
 use std::test::Fail;
 use xc_input::Kind;
-use xc_list::{End, ListingFault, Sink, SpanFault, VecSink, Verdict, WordFault, Words};
-use xc_list::{is_cover, laws, run, write_all};
+use xc_list::{
+    End, ListingFault, Sink, SpanFault, VecSink, Verdict, WordFault, Words, is_cover, laws, run,
+    write_all,
+};
 
 /// Lists all solutions of a text, and reports how the run ended.
 fn list_into(alloc: Global, text: &[u8], words: Words, sink: &mut VecSink) -> Result<End, Fail> {
@@ -75,7 +77,9 @@ fn equal_ends_and_verdicts(rt: HostRuntime) {
     assert!(rt; laws::equal_verdicts(&verdict(true), &verdict(true)));
     assert!(rt; !laws::equal_verdicts(&verdict(true), &verdict(false)));
     let words = |limit| Words { spacing: 1, limit };
-    assert!(rt; laws::equal_words(&words(2), &words(2)) && !laws::equal_words(&words(2), &words(3)));
+    assert!(rt;
+        laws::equal_words(&words(2), &words(2)) && !laws::equal_words(&words(2), &words(3))
+    );
 }
 
 #[test]
