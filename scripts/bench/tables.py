@@ -2,9 +2,9 @@
 """tables.py [--unproved] [--no-times] [--page PAGE] [WORD..]: the tables of docs/BENCH.md, instructions first.
 
 The marks in C are built, and ours are the programs that `make all` built or, where one of them isn't there and with
---unproved, builds without proofs, which take half a minute each; the first line tells which. Then come the tables of
-instructions, which are steady, and those of times from bench.py, which gets the words behind, as --core 3. All that is
-made stands in scripts/bench/out. With --page the tables take the places of those with the same heads in a page.
+--unproved, builds without proofs, which take half a minute each; the first line says which. Then come the tables of
+instructions, which are steady, and those of times from bench.py, which gets the other words, as --core 3. All that is
+made is in scripts/bench/out. With --page the tables take the places of those with the same heads in a page.
 """
 
 from __future__ import annotations

@@ -1,4 +1,4 @@
-"""Rounds of trials: a copy of the repository, trials beside its proofs, and a check that tells which of them pass."""
+"""Rounds of trials: a copy of the repository, trials beside its proofs, and a check that shows which of them pass."""
 import re
 import subprocess
 import sys

@@ -175,7 +175,7 @@ def read_member(member: Block, header: str, file: SourceFile, scope: Scope) -> t
 
 
 class Code:
-    """What stands in the crates' sources: functions, methods, types, traits and impls."""
+    """What is in the crates' sources: functions, methods, types, traits and impls."""
 
     def __init__(self) -> None:
         self.entries: list[Entry] = []

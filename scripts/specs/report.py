@@ -28,7 +28,7 @@ def table(repository: Repository) -> Iterator[str]:
 
 
 def sums_by_crate(repository: Repository) -> Iterator[str]:
-    """What the public calls reach, by where it stands, and all that stands there."""
+    """What the public calls reach, by files, and all that is in these files."""
     reached = repository.reached(repository.calls)
     row = "{:46} {:>11} {:>6} {:>8} {:>6} {:>9} {:>6}"
     yield row.format("reached from the public calls", "definitions", "lines", "worked", "lines", "in specs", "lines")
@@ -40,7 +40,7 @@ def sums_by_crate(repository: Repository) -> Iterator[str]:
 
 
 def all_of(repository: Repository, call: Entry) -> Iterator[str]:
-    """A call, and all that its contract reaches, as it stands in the sources."""
+    """A call, and all that its contract reaches, as it is in the sources."""
     reached = repository.reached([call])
     yield f"==== {call.name}: {counted(figures(reached))}"
     yield ""

@@ -37,7 +37,7 @@ class Repository:
             one.cites = [key for key in homes if key in self.entries and key != one.key]
 
     def home(self, key: Key) -> Key:
-        """Where a definition stands that a module may only hand on; a constructor's data type."""
+        """The home of a definition that a module may only pass on; a constructor's data type."""
         module = self.modules.get(key[0])
         if module is None or key in self.entries:
             return key
@@ -63,12 +63,12 @@ class Repository:
         return whole or of_type or methods
 
     def code_in_order(self, entries: Iterable[Entry]) -> list[Entry]:
-        """What of these stands in the code: the lowest crate first, by files."""
+        """Those of these that are in the code: the lowest crate first, by files."""
         code = [one for one in entries if not one.is_definition]
         return sorted(code, key=lambda one: (self.crates.index(one.key[0]), one.path, one.line))
 
     def definitions_in_order(self, entries: Sequence[Entry]) -> list[tuple[Module, list[Entry]]]:
-        """Definitions by files, each file behind those that it stands on, the lowest crate first."""
+        """Definitions by files, each file after those that it uses, the lowest crate first."""
         by_path: dict[str, list[Entry]] = {}
         for one in sorted(entries, key=lambda entry: entry.line):
             if one.is_definition:
@@ -79,7 +79,7 @@ class Repository:
         return [(self.files[path], by_path[path]) for path in order]
 
     def put_behind(self, path: str, by_path: dict[str, list[Entry]], order: list[str]) -> None:
-        """Puts a file behind those that its definitions cite."""
+        """Puts a file after those that its definitions cite."""
         if path in order or path not in by_path:
             return
         below = [self.entries[key].path for one in by_path[path] for key in one.cites]
