@@ -67,9 +67,13 @@ def read(crate: str, path: Path) -> Edit:
 
 
 def owner(header: str) -> str:
-    """What the checker calls the methods' place: `FeedSource` for `impl<'a> Source for Feed<'a> {`, and
-    `Outgoing+System+W` for `impl<W: Write> Outgoing<System<W>> {`.
+    """What the checker calls the methods' place: `FeedSource` for `impl<'a> Source for Feed<'a> {`,
+    `InputErrorFromReadFailed` for `impl From<ReadFailed> for InputError {`, and `Outgoing+System+W` for
+    `impl<W: Write> Outgoing<System<W>> {`.
     """
+    converted = re.match(r"impl (\w+)<(\w+)> for (\w+) {", header)
+    if converted:
+        return converted[3] + converted[1] + converted[2]
     nested = re.match(r"impl<.*> (\w+<\w+<\w+>>) {", header)
     if nested:
         return "+".join(re.findall(r"\w+", nested[1]))
