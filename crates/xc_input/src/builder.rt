@@ -1,12 +1,14 @@
 //! The problem while it is read.
 
-ghost use Rattle.std.specs.Prelude.{◌≡◌, true, false, nat_le, OnOk};
+ghost use Rattle.std.specs.Prelude.{◌≡◌, ◌≢◌, ◌||◌, true, false, nat_le, OnOk, Some};
 ghost use Rattle.std.specs.List.{list_any};
+ghost use Rattle.std.specs.Result.{result_err};
+ghost use Rattle.xc_input.specs.Words.{has};
 ghost use Rattle.xc_input.specs.Faults.{first};
 ghost use Rattle.xc_input.specs.inner.Stages.{row_checks, no_row, row_with_parts, staged_line_checks};
 ghost use Rattle.xc_input.specs.inner.Stages.{staged_content_checks, with_line};
 ghost use Rattle.xc_input.specs.inner.Stages.{with_option, written_by, no_stage, with_row};
-ghost use Rattle.xc_input.specs.Tokens.{parts};
+ghost use Rattle.xc_input.specs.Tokens.{parts, is_skipped};
 ghost use Rattle.xc_input.specs.inner.Builders.{Judged, IsBuilder};
 ghost use Rattle.xc_input.specs.inner.Builders.{stage_of_builder, sheet_of_builder, named_by, IsReadable};
 ghost use Rattle.indexmap.specs.IndexSet.{hasher_of};
@@ -89,6 +91,7 @@ impl ProblemBuilder {
         ensures taken { OnOk result
             (IsBuilder self.new × (stage_of_builder self.new ≡ with_line kind count (stage_of_builder self.old)
             line.now)) }
+        ensures no_memory { (has 0 line.now || is_skipped line.now) ≡ true → result_err result ≢ Some LineError.Memory }
         ensures seed { hasher_of self.new.tables.names ≡ hasher_of self.old.tables.names }
     {
         if has_byte(line, 0) {

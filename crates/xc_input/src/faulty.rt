@@ -1,7 +1,9 @@
 //! Which token of a line is at fault.
 
-ghost use Rattle.std.specs.Prelude.{◌≡◌, ◌++◌, ◌≤◌, [], ℕ, List, length, None, IfOk, option_map};
-ghost use Rattle.xc_input.specs.Tokens.{tokens, parts};
+ghost use Rattle.std.specs.Prelude.{◌≡◌, ◌++◌, ◌≤◌, ◌||◌, [], ℕ, List, length, None, Ok, IfOk, option_map};
+ghost use Rattle.std.specs.Prelude.{true};
+ghost use Rattle.xc_input.specs.Tokens.{tokens, parts, is_skipped};
+ghost use Rattle.xc_input.specs.Words.{has};
 ghost use Rattle.xc_input.specs.Faults.{first, checks_of_each, part_checks, token_checks, context_of};
 ghost use Rattle.xc_input.specs.FaultyTokens.{IsAtFault, IsFaulty, IsFaultyToken, Tells};
 ghost use Rattle.xc_input.specs.Limits.{most_items};
@@ -46,7 +48,8 @@ pub fn faulty_token<'a>(
     items: Option<&[u8]>,
     line: &'a [u8],
 ) -> Result<Option<FaultyToken<'a>>, AllocError>
-    ensures { IfOk result (Tells (IsFaultyToken kind (option_map (λ bytes. bytes.now) items.entry) line.now)) }
+    ensures faulty { IfOk result (Tells (IsFaultyToken kind (option_map (λ bytes. bytes.now) items.entry) line.now)) }
+    ensures no_memory { (has 0 line.now || is_skipped line.now) ≡ true → result ≡ Ok None }
 {
     if has_byte(line, 0) || is_skipped_line(line) {
         return Ok(None);

@@ -22,8 +22,8 @@ pub fn kinds_that_allow_more()
     ensures colours_as_bounds { StandAlso Colours Bounds }
 {}
 
-/// A problem is sound, and its colours are numbered as its uses meet them, exactly if some text stands for it. So neither
-/// the grammar nor `IsSound` is narrower or wider than meant.
+/// A problem is sound, and its colours are numbered as its uses meet them, exactly if some text stands for it. So
+/// neither the grammar nor `IsSound` is narrower or wider than meant.
 pub fn problems_have_texts()
     ensures { HaveTexts }
 {}

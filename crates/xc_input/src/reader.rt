@@ -1,12 +1,14 @@
 //! A reader that is fed line by line.
 
 ghost use Rattle.std.specs.Prelude.{◌≡◌, ◌≢◌, IfOk, IfErr, ℕ, List, ◌++◌, [], ◌∷◌, None, Some, IfSome, false};
+ghost use Rattle.std.specs.Prelude.{◌||◌, true};
 ghost use Rattle.std.specs.Result.{result_err};
 ghost use Rattle.xc_input.specs.Readings.{IsErrorFor, IsStateOf};
 ghost use Rattle.xc_input.specs.FirstFault.{first_fault};
 ghost use Rattle.xc_input.specs.inner.Builders.{error_at};
 ghost use Rattle.xc_input.specs.Named.{Named, IsSound};
 ghost use Rattle.xc_input.specs.Words.{has};
+ghost use Rattle.xc_input.specs.Tokens.{is_skipped};
 ghost use Rattle.xc_input.specs.Text.{StandsFor};
 
 use crate::builder::ProblemBuilder;
@@ -90,7 +92,8 @@ impl Reader {
     }
 
     /// Takes one line, without its line feed. The first fault of the text is reported with its line, or
-    /// lack of memory; each later call returns the same again.
+    /// lack of memory; each later call returns the same again. A line that is blank, a comment or has a NUL
+    /// byte takes no memory.
     pub fn line(&mut self, line: &[u8]) -> Result<(), InputError>
         requires { has 10 line.now ≡ false }
         ensures kind { self.new.kind ≡ self.old.kind }
@@ -98,6 +101,8 @@ impl Reader {
         ensures given { self.new.lines ≡ self.old.lines ++ line.now ∷ [] }
         ensures error { self.new.error ≡ result_err result }
         ensures state { IsStateOf self.new.kind self.new.lines (result_err result) }
+        ensures no_memory { (has 0 line.now || is_skipped line.now) ≡ true → result_err result ≡ Some InputError.Memory
+            → self.old.error ≡ Some InputError.Memory }
         ensures same { IfSome self.old.error (λ e. result_err result ≡ Some e) }
     {
         self.given = Given::after(&self.given, line);

@@ -4,8 +4,8 @@ use Rattle.xc_input.specs.FaultyTokens.{IsFaultyToken, Tells}
 use Rattle.xc_input.proofs.FaultyLemmas.{ok-tells-same}
 use Rattle.xc_input.proofs.faulty.faulty_token.Goals as goal
 
-pub returns-in-Some : goal.returns-in-Some
-returns-in-Some c =
+pub returns-in-Some-clause-faulty : goal.returns-in-Some-clause-faulty
+returns-in-Some-clause-faulty c =
     let full = sym c.has_byte.ensures ∙ c.if-has_byte.false in
     let told = sym c.is_skipped_line.ensures ∙ c.if-is_skipped_line.false in
     subst (λ (o : Option (List ℕ)). IfOk c.faulty_use.result (Tells (IsFaultyToken c.args.kind o c.args.line.now)))
