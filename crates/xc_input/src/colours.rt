@@ -20,13 +20,13 @@ fn guessed_colour(colours: &NameSet, guesses: &ColourGuesses, colour: &[u8]) -> 
     ensures { IfSome result (λ at. place (key_names colours.now.keys) colour.now ≡ Some at) }
 {
     if let [byte] = colour {
-        let at = guesses.learned_byte(*byte);
+        let at = guesses.learned(*byte as usize);
         return match colours.get_index(at)?.as_slice() {
             [known] if *known == *byte => Some(at),
             _ => None,
         };
     }
-    let at = guesses.learned(colour);
+    let at = guesses.learned(guesses.number(colour));
     if colours.get_index(at)?.as_slice() == colour {
         return Some(at);
     }
@@ -39,7 +39,8 @@ fn found_colour(colours: &NameSet, guesses: &mut ColourGuesses, colour: &[u8]) -
     ensures { result ≡ place (key_names colours.now.keys) colour.now }
 {
     let place = place_of(colours, colour)?;
-    guesses.learn(colour, place);
+    let number = guesses.number(colour);
+    guesses.learn(number, place);
     Some(place)
 }
 

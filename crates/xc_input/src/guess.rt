@@ -5,7 +5,9 @@
 //! names of a problem are short and few beside their uses, so most guesses are right. A name of up to
 //! seven bytes is known by its number alone.
 
-ghost use Rattle.std.specs.Prelude.{◌≡◌, ◌≤◌, ◌+◌, ◌*◌, ◌%◌, ◌^◌, [], Some, IfOk, IfSome, length, take, slice_get};
+ghost use Rattle.std.specs.Prelude.{◌≡◌, ◌<◌, ◌≤◌, ◌↔◌, ℕ, ◌+◌, ◌*◌, ◌%◌, ◌^◌, [], ◌∷◌, Some, IfOk, IfSome, length};
+ghost use Rattle.std.specs.Prelude.{take, slice_get, slice_set, unwrap_or, min, replicate, All};
+ghost use Rattle.xc_input.specs.Limits.{most_uses};
 ghost use Rattle.xc_input.specs.inner.GuessedWords.{word_number, IsWordOf, AreWords};
 ghost use Rattle.xc_input.specs.inner.Stored.{key_names};
 
@@ -23,7 +25,8 @@ pub struct Guesses {
 impl Guesses {
     /// For no names.
     pub fn none(alloc: Global) -> Guesses
-        ensures { result.words.items ≡ [] }
+        ensures words { result.words.items ≡ [] }
+        ensures places { result.places.items ≡ [] }
     {
         Guesses {
             places: Vec::new(alloc),
@@ -33,32 +36,41 @@ impl Guesses {
 
     /// For these names.
     pub fn new(alloc: Global, names: &NameSet) -> Result<Guesses, AllocError>
-        ensures { IfOk result (λ g. AreWords (key_names names.now.keys) g.words.items) }
+        ensures words { IfOk result (λ g. AreWords (key_names names.now.keys) g.words.items) }
+        ensures places { IfOk result (λ g. All (λ at. at < length names.now.keys) g.places.items) }
     {
         let words = words_of(alloc, names)?;
         let places = places_of(alloc, names, words.as_slice())?;
         Ok(Guesses { places, words })
     }
 
-    /// The place of the name of this number.
+    /// The number that a word, or the front of a longer name, has in the table.
     #[inline(always)]
-    pub fn known(&self, word: u64) -> Option<usize>
-        ensures { IfSome result (λ at. slice_get self.now.words.items at ≡ Some word) }
+    pub fn number(&self, bytes: u64) -> usize
+        ensures { 0 < length self.now.places.items → result < length self.now.places.items }
     {
-        let at = *self.places.get(number(word, self.places.len()))? as usize;
+        number(bytes, self.places.len())
+    }
+
+    /// The place that the table has at a number, if the name of that place is this word.
+    #[inline(always)]
+    pub fn known(&self, number: usize, word: u64) -> Option<usize>
+        ensures { (at : ℕ) → (result ≡ Some at) ↔ ((slice_get self.now.places.items number ≡ Some at)
+            × (slice_get self.now.words.items at ≡ Some word)) }
+    {
+        let at = *self.places.get(number)? as usize;
         if *self.words.get(at)? != word {
             return None;
         }
         Some(at)
     }
 
-    /// The place and the length of the name of more than seven bytes that a text may begin with.
-    pub fn guess(&self, text: &[u8]) -> (usize, usize) {
-        let (bytes, len) = long_word(text);
-        match self.places.get(number(bytes, self.places.len())) {
-            Some(place) => (*place as usize, len),
-            None => (0, len),
-        }
+    /// The place that the table has at a number, 0 where there is no such number.
+    #[inline(always)]
+    pub fn guess(&self, number: usize) -> usize
+        ensures { result ≡ unwrap_or (slice_get self.now.places.items number) 0 }
+    {
+        place_at(&self.places, number)
     }
 }
 
@@ -70,51 +82,59 @@ pub struct ColourGuesses {
 
 impl ColourGuesses {
     /// For no colours.
-    pub fn none(alloc: Global) -> ColourGuesses {
+    pub fn none(alloc: Global) -> ColourGuesses
+        ensures { result.places.items ≡ [] }
+    {
         ColourGuesses {
             places: Vec::new(alloc),
         }
     }
 
     /// For colours that are still to be met. The table has a fixed size, and learns a colour when it is met again.
-    pub fn new(alloc: Global) -> Result<ColourGuesses, AllocError> {
+    pub fn new(alloc: Global) -> Result<ColourGuesses, AllocError>
+        ensures { IfOk result (λ g. g.places.items ≡ replicate 4096 0) }
+    {
         let places = vec![in alloc; 0; 4096]?;
         Ok(ColourGuesses { places })
     }
 
-    /// Guesses this place for the colour from now on.
-    pub fn learn(&mut self, colour: &[u8], place: usize) {
-        let number = self.number(colour);
+    /// Guesses this place for the colours of this number from now on, if the table has it.
+    pub fn learn(&mut self, number: usize, place: usize)
+        ensures { self.new.places.items ≡ slice_set self.old.places.items number (min place most_uses) }
+    {
         if let Some(known) = self.places.get_mut(number) {
             *known = place.min(MOST_USES) as u32;
         }
     }
 
-    /// The place that was learned last for a colour of this hash.
-    pub fn learned(&self, colour: &[u8]) -> usize {
-        self.place(self.number(colour))
-    }
-
-    /// The place that was learned last for the colour of this byte.
+    /// The place that was learned last for a colour of this number, 0 where none was or there is no such number.
     #[inline(always)]
-    pub fn learned_byte(&self, byte: u8) -> usize {
-        self.place(byte as usize)
+    pub fn learned(&self, number: usize) -> usize
+        ensures { result ≡ unwrap_or (slice_get self.now.places.items number) 0 }
+    {
+        place_at(&self.places, number)
     }
 
-    #[inline(always)]
-    fn place(&self, number: usize) -> usize {
-        match self.places.get(number) {
-            Some(place) => *place as usize,
-            None => 0,
-        }
-    }
-
-    /// The number of a colour: the byte itself where it has one.
-    fn number(&self, colour: &[u8]) -> usize {
+    /// The number that a colour has in the table: the byte itself where it has one.
+    pub fn number(&self, colour: &[u8]) -> usize
+        ensures byte { (byte : ℕ) → colour.now ≡ byte ∷ [] → result ≡ byte }
+        ensures within { 256 ≤ length self.now.places.items → result < length self.now.places.items }
+    {
         match colour {
             [a] => *a as usize,
             _ => number(first_bytes(colour), self.places.len()),
         }
+    }
+}
+
+/// The place that a table has at a number, 0 where there is no such number.
+#[inline(always)]
+fn place_at(places: &[u32], number: usize) -> usize
+    ensures { result ≡ unwrap_or (slice_get places.now number) 0 }
+{
+    match places.get(number) {
+        Some(place) => *place as usize,
+        None => 0,
     }
 }
 
@@ -130,7 +150,9 @@ fn words_of(alloc: Global, names: &NameSet) -> Result<Vec<u64>, AllocError>
 }
 
 /// A table of places, where a place is at the number of its name.
-fn places_of(alloc: Global, names: &NameSet, words: &[u64]) -> Result<Vec<u32>, AllocError> {
+fn places_of(alloc: Global, names: &NameSet, words: &[u64]) -> Result<Vec<u32>, AllocError>
+    ensures { IfOk result (λ v. All (λ at. at < length names.now.keys) v.items) }
+{
     let few = names.len().min(MOST_ITEMS);
     let mut places = vec![in alloc; 0; (few * 16).min(1 << 18)]?;
     for i in 0..few {
@@ -149,10 +171,12 @@ fn places_of(alloc: Global, names: &NameSet, words: &[u64]) -> Result<Vec<u32>, 
     Ok(places)
 }
 
-/// A number below the size, for the bytes of a word: the high bits of a product with an odd number
+/// A number below the size, if that isn't 0, for the bytes of a word: the high bits of a product with an odd number
 /// of mixed bits, scaled to the size.
 #[inline]
-fn number(bytes: u64, size: usize) -> usize {
+fn number(bytes: u64, size: usize) -> usize
+    ensures { 0 < size → result < size }
+{
     let product = bytes.wrapping_mul(0x9e37_79b9_7f4a_7c15);
     ((product >> 32).wrapping_mul(size as u64) >> 32) as usize
 }
@@ -226,7 +250,7 @@ fn word_of(bytes: &[u8]) -> u64
 /// The bytes at the front of a text of more than seven, before its first colon or byte that is at most a
 /// space, as many as a name has at most, as a number, and how many they are.
 #[inline(never)]
-fn long_word(text: &[u8]) -> (u64, usize) {
+pub fn long_word(text: &[u8]) -> (u64, usize) {
     let mut number = first_bytes(text);
     let mut len = 8;
     for at in 1..LONGEST_NAME / 8 {

@@ -1,7 +1,7 @@
 //! A source over bytes that are in memory.
 
-ghost use Rattle.std.specs.Prelude.{◌≡◌, ◌+◌, ◌<◌, ◌≤◌, [], ◌∷◌, ◌++◌, take, Some, length, min, IfOk, IsOk, OnErr};
-ghost use Rattle.std.specs.Prelude.{is_err};
+ghost use Rattle.std.specs.Prelude.{◌≡◌, ◌+◌, ◌<◌, ◌≤◌, [], ◌∷◌, ◌++◌, take, drop, Some, length, min, IfOk, IsOk};
+ghost use Rattle.std.specs.Prelude.{OnErr, is_err};
 ghost use Rattle.std.specs.Io.KnownBytes.{ReadConsumes};
 ghost use Rattle.xc_input.specs.Calls.{counted};
 
@@ -64,9 +64,10 @@ impl<'a> Source for SliceSource<'a> {
             self.new.given.lines ≡ self.old.given.lines ++ take n buf.new ∷ []) }
         ensures given_kept { OnErr result (self.new.given.lines ≡ self.old.given.lines) }
 
-        // No call fails, and each returns as much as it may.
+        // No call fails, and each returns as much as it may, and leaves the buffer after that as it was.
         ensures succeeds { IsOk result }
         ensures gives { IfOk result (λ n. n ≡ min (length self.old.left.now) (length buf.old)) }
+        ensures after { IfOk result (λ n. drop n buf.new ≡ drop n buf.old) }
         ensures seed { self.new.seed ≡ self.old.seed }
     {
         let all = self.left;

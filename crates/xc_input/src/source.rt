@@ -1,6 +1,6 @@
 //! Where bytes come from.
 
-ghost use Rattle.std.specs.Prelude.{◌≡◌, ◌+◌, ◌-◌, ◌<◌, ◌≤◌, ◌↔◌, ℕ, List, [], ◌∷◌, ◌++◌, take, Option, Some, length};
+ghost use Rattle.std.specs.Prelude.{◌≡◌, ◌+◌, ◌-◌, ◌<◌, ◌≤◌, ◌↔◌, ℕ, List, [], ◌∷◌, ◌++◌, take, drop, Option, Some, length};
 ghost use Rattle.std.specs.Prelude.{min, IfOk, IsErr, IsTrue, OnErr, is_err};
 ghost use Rattle.std.specs.Io.KnownBytes.{ReadConsumes};
 ghost use Rattle.xc_input.specs.Calls.{counted, fewer_calls};
@@ -115,6 +115,10 @@ impl<'a> Source for Feed<'a> {
             n ≡ min (min (length self.old.left.now) self.old.step) (length buf.old)) }
         ensures nearer { self.new.calls_to_failure ≡ fewer_calls self.old.calls_to_failure }
         ensures step { self.new.step ≡ self.old.step }
+
+        // What the buffer has after the bytes that a call gives stays as it was, and so does all of it at a failure.
+        ensures after { IfOk result (λ n. drop n buf.new ≡ drop n buf.old) }
+        ensures buf_kept { OnErr result (buf.new ≡ buf.old) }
     {
         if self.fails_now() {
             self.failures = self.failures.saturating_add(1);

@@ -11,7 +11,7 @@ ghost use Rattle.xc_input.specs.inner.CutTokens.{IsCutToken, IsCutBehind, Stands
 ghost use Rattle.xc_input.specs.inner.GuessedWords.{AreWords};
 ghost use Rattle.xc_input.specs.inner.Stored.{key_names};
 
-use crate::guess::{Guesses, short_word};
+use crate::guess::{Guesses, long_word, short_word};
 use crate::names::{NameSet, place_of};
 use bstr::ByteSlice;
 
@@ -146,7 +146,7 @@ fn known_token<'a>(guesses: &Guesses, text: &'a [u8]) -> Option<(Token<'a>, &'a 
         → IfSome result (λ p. StandsFirst names text.now p.0 p.1.now) }
 {
     let (word, n) = short_word(text)?;
-    let at = guesses.known(word)?;
+    let at = guesses.known(guesses.number(word), word)?;
     cut_behind(&text[..n], at, &text[n..])
 }
 
@@ -193,7 +193,8 @@ fn other_token<'a>(
     if let Some(cut) = known_token(guesses, rest) {
         return Some(cut);
     }
-    let (at, n) = guesses.guess(rest);
+    let (bytes, n) = long_word(rest);
+    let at = guesses.guess(guesses.number(bytes));
     if let Some(behind) = behind_name(names, at, n, rest) {
         if let Some(cut) = cut_behind(&rest[..n], at, behind) {
             return Some(cut);

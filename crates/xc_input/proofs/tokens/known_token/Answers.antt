@@ -1,4 +1,4 @@
-use Rattle.std.proofs.Common.{◌-◌, length, drop, arith, rules}
+use Rattle.std.proofs.Common.{◌-◌, length, drop, arith, rules, refl}
 use Rattle.std.proofs.lemmas.List.{length-drop, take_all}
 use Rattle.xc_input.proofs.TokenLemmas.KnownTokens.{known-first}
 use Rattle.xc_input.proofs.tokens.known_token.Goals as goal
@@ -9,4 +9,4 @@ returns c = λ names all words.
     let n = c.in_ok-word.n in
     known-first names c.args.guesses.now.words.items text _ n c.in_ok-at.at c.in_ok-word.word all words (search rules)
     (take_all (length text - n) (drop n text) (omega (arith, length-drop n text))) c.in_ok-word.ensures.0
-    c.in_ok-word.ensures.1 c.in_ok-at.ensures c.cut_behind.result c.cut_behind.ensures.name c.cut_behind.ensures.cut
+    c.in_ok-word.ensures.1 ((c.in_ok-at.ensures c.in_ok-at.at).0 refl).1 c.cut_behind.result c.cut_behind.ensures.name c.cut_behind.ensures.cut

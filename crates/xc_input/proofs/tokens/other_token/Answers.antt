@@ -13,8 +13,8 @@ returns-then-is_empty c = no-token c.args.line.now _ c.skip_white-rest.ensures (
 pub returns-in-Some-cut_behind : goal.returns-in-Some-cut_behind
 returns-in-Some-cut_behind c =
     let known = c.in-Some-behind_name.ensures in
-    let whole = sym (take-append-drop c.guess-at.result.1 c.skip_white-rest.result.now)
-    ∙ ap (λ back. take c.guess-at.result.1 c.skip_white-rest.result.now ++ back) (sym known.1) in
+    let whole = sym (take-append-drop c.long_word-bytes.result.1 c.skip_white-rest.result.now)
+    ∙ ap (λ back. take c.long_word-bytes.result.1 c.skip_white-rest.result.now ++ back) (sym known.1) in
     cut-token _ _ _ _ _ _ _ c.in-Some-cut_behind.cut.0 c.requires.names c.skip_white-rest.ensures
     (grind (arith, c.if-is_empty.false, c.is_empty.ensures)) whole known.2 c.in-Some-cut_behind.ensures.name.0
     c.in-Some-cut_behind.ensures.name.1 c.in-Some-cut_behind.ensures.cut
