@@ -1,7 +1,7 @@
 //! Where bytes come from.
 
-ghost use Rattle.std.specs.Prelude.{◌≡◌, ◌+◌, ◌-◌, ◌<◌, ◌≤◌, ◌↔◌, ℕ, List, [], ◌∷◌, ◌++◌, take, drop, Option, Some, length};
-ghost use Rattle.std.specs.Prelude.{min, IfOk, IsErr, IsTrue, OnErr, is_err};
+ghost use Rattle.std.specs.Prelude.{◌≡◌, ◌+◌, ◌-◌, ◌<◌, ◌≤◌, ◌↔◌, ℕ, List, [], ◌∷◌, ◌++◌, take, drop, Option, Some};
+ghost use Rattle.std.specs.Prelude.{length, min, IfOk, IsErr, IsTrue, OnErr, is_err};
 ghost use Rattle.std.specs.Io.KnownBytes.{ReadConsumes};
 ghost use Rattle.xc_input.specs.Calls.{counted, fewer_calls};
 ghost use Rattle.xc_input.specs.Pieces.{SourceState};

@@ -7,6 +7,7 @@ pub returns : goal.returns
 returns c = λ names all words.
     let text = c.args.text.now in
     let n = c.in_ok-word.n in
+    let known = (c.in_ok-at.ensures c.in_ok-at.at).0 refl in
     known-first names c.args.guesses.now.words.items text _ n c.in_ok-at.at c.in_ok-word.word all words (search rules)
     (take_all (length text - n) (drop n text) (omega (arith, length-drop n text))) c.in_ok-word.ensures.0
-    c.in_ok-word.ensures.1 ((c.in_ok-at.ensures c.in_ok-at.at).0 refl).1 c.cut_behind.result c.cut_behind.ensures.name c.cut_behind.ensures.cut
+    c.in_ok-word.ensures.1 known.1 c.cut_behind.result c.cut_behind.ensures.name c.cut_behind.ensures.cut
