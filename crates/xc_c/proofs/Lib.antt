@@ -1,1 +1,2 @@
 mod Listings
+mod TextLines

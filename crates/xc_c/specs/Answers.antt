@@ -1,11 +1,11 @@
 -- What the calls answer.
-use Rattle.std.specs.Prelude.{◌≡◌, ◌≢◌, ◌⊎◌, ℕ, List, ◌++◌, length, take, drop, min, nat_lt, Option, None, Some}
+use Rattle.std.specs.Prelude.{◌≡◌, ◌≢◌, ◌⊎◌, ℕ, List, [], ◌++◌, length, take, drop, min, nat_lt, Option, None, Some}
 use Rattle.std.specs.Prelude.{MatchOption, if◌then◌else◌}
 use Rattle.xc_input.specs.declared.kind.Kind.{Kind}
 use Rattle.xc_input.specs.declared.fault.FaultKind.{FaultKind}
 use Rattle.xc_input.specs.Problem.{numbered_get}
 use Rattle.xc_input.specs.Lines.{lines_of}
-use Rattle.xc_input.specs.FirstFault.{first_fault}
+use Rattle.xc_input.specs.FirstFault.{content, first_fault}
 use Rattle.xc_input.specs.Named.{Named}
 use Rattle.xc_input.specs.Text.{StandsFor}
 use Rattle.xc_search.specs.Cover.{members, EachMemberCovers, EachCoverIsListedOnce}
@@ -21,10 +21,12 @@ IsTold (Some found) status line fault = (status ≡ 3) × (line ≡ found.0) × 
 abbrev pub IsUntold : ℕ → ℕ → ℕ → ℕ → Type 0
 IsUntold why status line fault = (status ≡ why) × (line ≡ 0) × (fault ≡ 0)
 
--- The first fault of a text is reported, or that it has none; at 5 the number is of no kind, and at 4 memory ran out.
+-- The first fault of a text is reported, or that it has none; at 5 the number is of no kind, and at 4 memory ran out,
+-- which it never does where each line is blank or a comment.
 abbrev pub TellsFault : ℕ → List ℕ → ℕ → ℕ → ℕ → Type 0
-TellsFault number text status line fault = MatchOption (kind_by_number number) (IsUntold 5 status line fault)
-    (λ kind. IsUntold 4 status line fault ⊎ IsTold (first_fault kind (lines_of text)) status line fault)
+TellsFault number text status line fault = MatchOption (kind_by_number number) (IsUntold 5 status line fault) (λ kind.
+    ((content (lines_of text) ≢ []) × IsUntold 4 status line fault)
+    ⊎ IsTold (first_fault kind (lines_of text)) status line fault)
 
 -- A text of this kind stands for a problem, each of whose solutions is a cover, and each of whose covers is one
 -- solution; and this is so of it.
@@ -37,11 +39,11 @@ pub record IsSearched (kind : Kind) (text : List ℕ) (says : Named → Type 0) 
   pub said : says named
 
 -- What a search of a text answers: this is so of its problem; or nothing came of it, at status 5 since the number is of
--- no kind, at 3 since the text has a fault, at 4 for lack of memory.
+-- no kind, at 3 since the text has a fault, at 4 for lack of memory, where a line is neither blank nor a comment.
 abbrev pub Searches : ℕ → List ℕ → ℕ → Type 0 → (Named → Type 0) → Type 0
 Searches number text status nothing says = MatchOption (kind_by_number number) ((status ≡ 5) × nothing) (λ kind.
-    ((status ≡ 3) × (first_fault kind (lines_of text) ≢ None) × nothing) ⊎ ((status ≡ 4) × nothing)
-    ⊎ IsSearched kind text says)
+    ((status ≡ 3) × (first_fault kind (lines_of text) ≢ None) × nothing)
+    ⊎ ((status ≡ 4) × (content (lines_of text) ≢ []) × nothing) ⊎ IsSearched kind text says)
 
 -- the status of a search that came to its end: 1 where it met the limit, else 0
 abbrev pub end_status : Named → ℕ → ℕ

@@ -30,6 +30,8 @@ fn first_faults(rt: HostRuntime) {
     assert!(rt; fault_of(alloc, 2, b"a | b\na b:c\n") == (0, 0, 0));
     assert!(rt; fault_of(alloc, 1, b"") == (3, 1, 1));
     assert!(rt; fault_of(alloc, 1, b"a b\nc\n") == (3, 2, 11));
+    assert!(rt; fault_of(alloc, 1, b"a b\n\nc") == (3, 3, 11));
+    assert!(rt; fault_of(alloc, 1, b"| a b\n\n") == (3, 3, 1));
     assert!(rt; fault_of(alloc, 0, SEVEN) == (5, 0, 0));
 }
 

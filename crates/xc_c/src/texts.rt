@@ -1,27 +1,65 @@
 //! Problems out of texts in memory.
-ghost use Rattle.std.specs.Prelude.{◌≡◌, IfOk, IfErr, OnErr, OnOk, length, min};
+ghost use Rattle.std.specs.Prelude.{◌≡◌, ◌≢◌, ◌<◌, [], ◌∷◌, false, None, IfOk, IfErr, OnErr, OnOk, length, min};
+ghost use Rattle.xc_input.specs.Words.{has};
 ghost use Rattle.xc_input.specs.Readings.{IsErrorFor};
 ghost use Rattle.xc_input.specs.Lines.{lines_of};
-ghost use Rattle.xc_input.specs.FirstFault.{first_fault};
+ghost use Rattle.xc_input.specs.FirstFault.{content, first_fault};
 ghost use Rattle.xc_input.specs.Text.{StandsFor};
 ghost use Rattle.xc_search.specs.Cover.{members, EachMemberCovers, EachCoverIsListedOnce};
 ghost use Rattle.xc_c.specs.Answers.{IsFilled, IsSearched, Lists};
 ghost use Rattle.xc_c.specs.inner.Statuses.{listing_status};
 
 use crate::numbers::{DONE, LIMIT, NO_ROOM};
+use bstr::ByteSlice;
 use std::alloc::Global;
 use xc_dance::{Links, Memory};
-use xc_input::{FaultKind, InputError, Kind, Problem, Read, SliceSource, read_problem};
+use xc_input::{FaultKind, InputError, Kind, Problem, Read, Reader};
 use xc_list::{End, Tray, Words, run};
 use xc_search::Search;
 
+/// The first line of a text, and what is left after it.
+// `xc_list/src/checker/listing_lines.rt` has the same, since it isn't public.
+fn cut_line(text: &[u8]) -> (&[u8], &[u8])
+    requires { 0 < length text.now }
+    ensures lines { lines_of text.now ≡ result.0.now ∷ lines_of result.1.now }
+    ensures whole { has 10 result.0.now ≡ false }
+    ensures shorter { length result.1.now < length text.now }
+{
+    match text.find_byte(b'\n') {
+        Some(k) => (&text[..k], &text[k + 1..]),
+        None => (text, &[]),
+    }
+}
+
+/// Hands the lines of a text to a reader that took none yet.
+fn take_lines(reader: &mut Reader, text: &[u8]) -> Result<(), InputError>
+    requires none { reader.old.lines ≡ [] }
+    requires no_error { reader.old.error ≡ None }
+    ensures kind { reader.new.kind ≡ reader.old.kind }
+    ensures lines { OnOk result (reader.new.lines ≡ lines_of text.now) }
+    ensures no_error { OnOk result (reader.new.error ≡ None) }
+    ensures error { IfErr result (IsErrorFor (first_fault reader.old.kind (lines_of text.now))) }
+    ensures memory { IfErr result (λ e. e ≡ InputError.Memory → content (lines_of text.now) ≢ []) }
+{
+    let mut rest = text;
+    while !rest.is_empty() {
+        let (line, others) = cut_line(rest);
+        reader.line(line)?;
+        rest = others;
+    }
+    Ok(())
+}
+
 /// What a text stands for, or its first fault, or that there was no memory.
+// Not by `read_problem`, whose buffer takes memory also for a text without content.
 pub(crate) fn read_text(alloc: Global, kind: Kind, text: &[u8]) -> Result<Read, InputError>
     ensures problem { IfOk result (λ r. StandsFor kind (lines_of text.now) r.problem r.ignored.items) }
     ensures error { IfErr result (IsErrorFor (first_fault kind (lines_of text.now))) }
+    ensures memory { IfErr result (λ e. e ≡ InputError.Memory → content (lines_of text.now) ≢ []) }
 {
-    let mut source = SliceSource::new(text);
-    read_problem(alloc, kind, &mut source)
+    let mut reader = Reader::new(alloc, kind);
+    take_lines(&mut reader, text)?;
+    reader.finish()
 }
 
 /// The first fault of a text, with its line.
@@ -30,7 +68,8 @@ pub(crate) fn first_fault(
     kind: Kind,
     text: &[u8],
 ) -> Result<Option<(u64, FaultKind)>, Memory>
-    ensures { IfOk result (λ found. found ≡ first_fault kind (lines_of text.now)) }
+    ensures found { IfOk result (λ found. found ≡ first_fault kind (lines_of text.now)) }
+    ensures memory { OnErr result (content (lines_of text.now) ≢ []) }
 {
     let Err(error) = read_text(alloc, kind, text) else {
         return Ok(None);
@@ -62,6 +101,7 @@ pub(crate) fn count_solutions(
     ensures count { IfOk result (λ count. IsSearched kind text.now
         (λ a. count ≡ min limit (length (members a.puzzle)))) }
     ensures error { IfErr result (IsErrorFor (first_fault kind (lines_of text.now))) }
+    ensures memory { IfErr result (λ e. e ≡ InputError.Memory → content (lines_of text.now) ≢ []) }
 {
     let read = read_text(alloc, kind, text)?;
     match count_members(alloc, &read.problem, limit) {
@@ -129,6 +169,7 @@ pub(crate) fn list_solutions(
     ensures listing { IfOk result (λ r. IsSearched kind text.now
         (Lists words.spacing words.limit buffer.old buffer.new r.0 r.1)) }
     ensures error { IfErr result (IsErrorFor (first_fault kind (lines_of text.now))) }
+    ensures memory { IfErr result (λ e. e ≡ InputError.Memory → content (lines_of text.now) ≢ []) }
     ensures kept { OnErr result (buffer.new ≡ buffer.old) }
 {
     let problem = read_text(alloc, kind, text)?.problem;
