@@ -1,10 +1,12 @@
 //! The seed that hashes names: what is read is the same by each.
+ghost use Rattle.std.specs.Prelude.{Some};
+
 use crate::told::Told;
 use fixtures::{SEVEN, SEVEN_LISTING, gathered, has_option, on_one, on_read, on_source};
 use std::alloc::{AllocError, Global};
 use std::test::Fail;
 use xc_input::{Feed, Kind, Problem, ReadFailed, Reader, Seed, Seeded, SliceSource, Source};
-use xc_tools::{Incoming, judge, solve};
+use xc_tools::{Incoming, RandomBytes, judge, random_seed, solve};
 
 /// Names of one hash in base 257 modulo 2^64, and an option of each.
 const ONE_HASH: [&[u8]; 3] = [
@@ -161,6 +163,36 @@ fn has_seed(alloc: Global, seed: Seed) -> bool {
     on_source(alloc, Kind::Plain, &mut source, |read| {
         read.problem.seed() == seed
     })
+}
+
+/// A source of these bytes, or of none.
+#[derive(Clone, Copy)]
+struct Bytes {
+    given: Option<[u8; 16]>,
+}
+
+impl RandomBytes for Bytes {
+    ghost given = { λ s. Some s.given };
+
+    fn fill(&self, bytes: &mut [u8; 16]) -> std::io::Result<()> {
+        match self.given {
+            Some(given) => {
+                *bytes = given;
+                Ok(())
+            }
+            None => Err(std::io::Error::from(std::io::ErrorKind::WouldBlock)),
+        }
+    }
+}
+
+#[test]
+fn a_seed_of_given_bytes(rt: HostRuntime) {
+    let counted = [0, 1, 2, 3, 4, 5, 6, 7, 8, 9, 10, 11, 12, 13, 14, 15];
+    let given = Bytes {
+        given: Some(counted),
+    };
+    assert!(rt; random_seed(&given) == Seed::new(0x0f0e_0d0c_0b0a_0908_0706_0504_0302_0100));
+    assert!(rt; random_seed(&Bytes { given: None }) == Seed::FIXED);
 }
 
 #[test]

@@ -40,7 +40,7 @@ pub use lazy_file::NamedFile;
 pub use located::{Located, Place};
 pub use outgoing::Outgoing;
 pub use programs::{exit_code, run_solver};
-pub use seeding::random_seed;
+pub use seeding::{RandomBytes, random_seed};
 pub use solving::solve;
 pub use span_run::solve_span;
 pub use span_source::{SpanFiles, span_files};
