@@ -1,9 +1,13 @@
 //! Streams that are closed, and a file that isn't there.
+ghost use Rattle.std.specs.Prelude.{Some};
+
 use crate::told::Told;
 use fixtures::{gathered, on_one};
+use std::alloc::Global;
+use std::test::Fail;
 use xc_input::{Feed, Seed};
 use xc_list::Tray;
-use xc_tools::{closed_stream, judge, named_file};
+use xc_tools::{StandardStream, closed_stream, judge, named_file};
 
 /// Whether an open stream is taken for one, and nothing is reported.
 fn is_open(rt: &HostRuntime, err: &mut Tray) -> bool {
@@ -11,14 +15,58 @@ fn is_open(rt: &HostRuntime, err: &mut Tray) -> bool {
     closed_stream(&open, &open, &open, err).is_none() && err.bytes().is_empty()
 }
 
+/// A stream that is open or closed.
+#[derive(Clone, Copy)]
+struct Stream {
+    open: bool,
+}
+
+impl StandardStream for Stream {
+    ghost opened = { λ s. Some s.open };
+
+    fn is_open(&self) -> bool {
+        self.open
+    }
+}
+
+/// Whether this is reported of input, output and messages that are open or closed, with status 3 unless it is nothing.
+fn is_told(alloc: Global, open: [bool; 3], told: &[u8]) -> bool {
+    let wanted = if told.is_empty() { None } else { Some(3) };
+    on_one(Tray::new(alloc, 100, 100, false).ok(), |err| {
+        let status = closed_stream(
+            &Stream { open: open[0] },
+            &Stream { open: open[1] },
+            &Stream { open: open[2] },
+            err,
+        );
+        status == wanted && err.bytes() == told
+    })
+}
+
+/// Whether input, output and messages are open, and what is reported.
+const CLOSED: [([bool; 3], &[u8]); 6] = [
+    ([true, true, true], b""),
+    ([false, true, true], b"Read failed.\n"),
+    ([false, false, false], b"Read failed.\n"),
+    ([true, false, true], b"Write failed.\n"),
+    ([true, true, false], b"Write failed.\n"),
+    ([true, false, false], b"Write failed.\n"),
+];
+
 #[test]
-fn streams_that_are_open(rt: HostRuntime) {
+fn streams_that_are_open_or_closed(rt: HostRuntime) -> Result<(), Fail> {
     assert!(rt;
         on_one(
             Tray::new(rt.alloc(), 100, 100, false).ok(),
             |err| is_open(&rt, err)
         )
     );
+    for (row, (open, told)) in CLOSED.iter().enumerate() {
+        if !is_told(rt.alloc(), *open, *told) {
+            return Err(Fail::new(format_args!("row {row}")));
+        }
+    }
+    Ok(())
 }
 
 /// Whether the judge of a file that isn't there, over an empty listing, reports that a read failed.

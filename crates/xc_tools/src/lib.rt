@@ -30,7 +30,7 @@ mod system;
 mod whole_text;
 
 pub use arguments::{Arguments, CommandLine, named_file, read_words, words};
-pub use closed_streams::closed_stream;
+pub use closed_streams::{StandardStream, closed_stream};
 pub use direct::Direct;
 pub use failures::{input_error, listing_fault};
 pub use incoming::Incoming;
