@@ -1,4 +1,4 @@
-//! A stream that fails at one call: the adapters don't call it again.
+//! What the adapters ask of a stream, and one that fails at one call: they don't call it again.
 ghost use Rattle.std.specs.Prelude.{◌≡◌, ◌≤◌, length, IfOk};
 
 use fixtures::{SEVEN, gathered, on_one};
@@ -72,6 +72,13 @@ fn a_read_that_fails_once() -> Result<(), Fail> {
         }
     }
     Ok(())
+}
+
+#[test]
+fn a_read_asks_for_all_that_has_room(rt: HostRuntime) {
+    let text = [b'a'; 100];
+    let mut source = Incoming::new(Some(&text[..]), Seed::FIXED);
+    assert!(rt; source.read(&mut [0; 64]) == Ok(64) && source.read(&mut [0; 64]) == Ok(36));
 }
 
 /// Makes five calls of a sink, the last of them a flush, and counts those that succeed.
