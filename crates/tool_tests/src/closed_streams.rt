@@ -30,13 +30,13 @@ impl StandardStream for Stream {
 }
 
 /// Whether this is reported of input, output and messages that are open or closed, with status 3 unless it is nothing.
-fn is_told(alloc: Global, open: [bool; 3], told: &[u8]) -> bool {
+fn is_told(alloc: Global, opened: [bool; 3], told: &[u8]) -> bool {
     let wanted = if told.is_empty() { None } else { Some(3) };
     on_one(Tray::new(alloc, 100, 100, false).ok(), |err| {
         let status = closed_stream(
-            &Stream { open: open[0] },
-            &Stream { open: open[1] },
-            &Stream { open: open[2] },
+            &Stream { open: opened[0] },
+            &Stream { open: opened[1] },
+            &Stream { open: opened[2] },
             err,
         );
         status == wanted && err.bytes() == told
