@@ -1,3 +1,4 @@
+pub mod Cases
 pub mod OptionSteps
 pub mod lists
 pub mod FaultyLemmas

@@ -1,6 +1,6 @@
 -- A row is told by its text.
 use Rattle.std.proofs.Common.{ℕ, ◌≡◌, ◌^◌, ◌<◌, true, false, List, [], ◌∷◌, ◌++◌, Some, length, map, refl, ap, ◌∙◌}
-use Rattle.std.proofs.Common.{flat_map, append-nil, rules, arith}
+use Rattle.std.proofs.Common.{flat_map, append-nil, arith}
 use Rattle.std.specs.Prelude.{All, ◌==◌, codes, decimal}
 use Rattle.std.specs.Char.{is_ascii_digit}
 use Rattle.std.specs.List.{AllByRecursion, list_all, slice_split}
@@ -9,15 +9,11 @@ use Rattle.std.proofs.lemmas.Bool.Decides.{nat_tests}
 use Rattle.std.proofs.lemmas.Fmt.{decimal_nonempty, digits_value-decimal, digits_decimal}
 use Rattle.std.proofs.lemmas.List.Elements.{All-from_recursion, recursion_from_All}
 use Rattle.std.proofs.lemmas.List.Splits.{slice_split_none, slice_split_at}
-use Rattle.std.proofs.lemmas.Str.Parse.{IsNumeralModel, numerals_by_fold}
-use Rattle.xc_input.proofs.TokenLemmas.DecimalValues.{value_from}
+use Rattle.xc_input.proofs.WrittenTexts.Numerals.{digits_read}
 use Rattle.xc_list.proofs.Digits.{some_digits}
 use Rattle.xc_list.specs.Settings.{long_number}
 use Rattle.xc_list.specs.SpanTexts.{row_text}
 use Rattle.xc_list.specs.SpanWords.{row_number, row_numbers, row_word}
-
-digits_read : IsNumeralModel (λ ds. list_all is_ascii_digit ds ≡ true) (value_from 0)
-digits_read = numerals_by_fold _ (search rules) value_from (search rules)
 
 -- ---- one number
 

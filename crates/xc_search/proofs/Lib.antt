@@ -1,4 +1,3 @@
-pub mod Cases
 pub mod completeness
 pub mod ends
 pub mod listing

@@ -9,7 +9,7 @@ use Rattle.xc_input.specs.contracts.fault.FaultKind.{the_type}
 use Rattle.xc_input.specs.declared.fault.FaultKind.{FaultKind}
 use Rattle.xc_input.specs.declared.kind.Kind.TheVariants.{Plain}
 use Rattle.xc_input.specs.Faults.{first, checks_of_each, name_checks, item_checks}
-use Rattle.xc_input.proofs.FaultLemmas.BooleanTests.{by-test}
+use Rattle.xc_input.proofs.Cases.{by_bool}
 
 -- the test of this fault among checks
 abbrev pub test : FaultKind → List (FaultKind × Bool) → Bool
@@ -20,7 +20,7 @@ test k (c ∷ cs) = (if sameb the_type k c.0 then c.1 else test k cs)
 pub fails : (cs : List (FaultKind × Bool)) → first cs ≡ None → (k : FaultKind) → test k cs ≡ false
 fails [] e k = refl
 fails ((a, true) ∷ cs) e k = absurd (cc)
-fails ((a, false) ∷ cs) e k = by-test (sameb the_type k a) (λ s. rw s) (λ s. rw s (fails cs e k))
+fails ((a, false) ∷ cs) e k = by_bool (sameb the_type k a) (λ s. rw s) (λ s. rw s (fails cs e k))
 
 -- a check that holds among the first ones
 pub first-front : {A : Type 0} (a b : List (A × Bool)) (k : A) → first a ≡ Some k → first (a ++ b) ≡ Some k

@@ -15,7 +15,7 @@ use Rattle.xc_input.specs.FirstFault.{line_number, content, line_checks, line_fa
 use Rattle.xc_input.specs.Named.{Named}
 use Rattle.xc_input.specs.Text.{StandsFor}
 use Rattle.xc_input.specs.inner.Stages.{Stage, stage_of, staged_line_checks as stage_checks}
-use Rattle.xc_input.proofs.FaultLemmas.BooleanTests.{by-test}
+use Rattle.xc_input.proofs.Cases.{by_bool}
 use Rattle.xc_input.proofs.FaultLemmas.FirstChecks.{first-each}
 use Rattle.xc_input.proofs.GrammarLemmas.ClearLines.{AreClear, lines-clear, first-numbered, checks_of}
 use Rattle.xc_input.proofs.GrammarLemmas.StageLemmas.{stage_by, stage-by, content_from, plain, plain-content}
@@ -48,7 +48,7 @@ started-is kind lines = ap (λ (st : Stage). st.started) (stage-by kind lines) �
     of-content : (k : ℕ) (lines : List (List ℕ)) → (stage_by kind (content_from k lines)).started
         ≡ not (list_all is_skipped lines)
     of-content k [] = refl
-    of-content k (line ∷ lines) = by-test (is_skipped line) (λ f. rw f (of-content (k + 1) lines)) (λ f. rw f)
+    of-content k (line ∷ lines) = by_bool (is_skipped line) (λ f. rw f (of-content (k + 1) lines)) (λ f. rw f)
 
 -- the fault of a whole text is that of its lines, or that the item line isn't there
 pub first_fault-is : (kind : Kind) (lines : List (List ℕ)) → first_fault kind lines

@@ -28,7 +28,7 @@ use Rattle.xc_input.specs.FirstFault.{line_number, content, is_kept, kept_uses, 
 use Rattle.xc_input.specs.FirstFault.{line_checks, line_fault}
 use Rattle.xc_input.specs.Text.{IsEntry, IsUse}
 use Rattle.xc_input.specs.inner.Stages.{entry, staged_token_checks, context, written, item_number}
-use Rattle.xc_input.proofs.FaultLemmas.BooleanTests.{by-test}
+use Rattle.xc_input.proofs.Cases.{by_bool}
 use Rattle.xc_input.proofs.FaultLemmas.Checks.{some-is}
 use Rattle.xc_input.proofs.FaultLemmas.FirstChecks.{fails, none-append, clear-each}
 use Rattle.xc_input.proofs.GrammarLemmas.NoFault.{solid, cut-is, no-cut, cut-at, item-clear}
@@ -56,14 +56,14 @@ new-name (m ∷ ns) n = grind (arith, nat_tests, bytes_eq-Decides n m, new-name 
 before-snoc : (ps : List (List ℕ)) (p : List ℕ) → before_first is_bar (ps ++ p ∷ [])
     ≡ before_first is_bar ps ++ (if list_any is_bar ps || is_bar p then [] else p ∷ [])
 before-snoc [] p = before-cons p [] (is_bar p) refl
-before-snoc (q ∷ ps) p = by-test (is_bar q)
+before-snoc (q ∷ ps) p = by_bool (is_bar q)
     (λ f. rw (before-cons q (ps ++ p ∷ []) true f, before-cons q ps true f, f))
     (λ f. rw (before-cons q (ps ++ p ∷ []) false f, before-cons q ps false f, f, before-snoc ps p))
 
 after-snoc : (ps : List (List ℕ)) (p : List ℕ) → after_first is_bar (ps ++ p ∷ [])
     ≡ after_first is_bar ps ++ (if list_any is_bar ps then p ∷ [] else [])
-after-snoc [] p = by-test (is_bar p) (λ f. after-cons p [] true f) (λ f. after-cons p [] false f)
-after-snoc (q ∷ ps) p = grind (arith, by-test, after-cons, after-snoc ps p)
+after-snoc [] p = by_bool (is_bar p) (λ f. after-cons p [] true f) (λ f. after-cons p [] false f)
+after-snoc (q ∷ ps) p = grind (arith, by_bool, after-cons, after-snoc ps p)
 
 pub names-snoc : (kind : Kind) (before : List (List ℕ)) (p : List ℕ)
     → item_names kind (before ++ p ∷ []) ≡ item_names kind before ++ (if is_bar p then [] else name_of kind p ∷ [])
@@ -84,7 +84,7 @@ module _ (kind : Kind) (earlier : List (List ℕ)) (p : List ℕ) where
 
   side-more : (F : Bool → List ℕ → Type 0) → is_bar p ≡ false
       → Sides F (earlier ++ p ∷ []) ↔ (Sides F earlier × F (list_any is_bar earlier) p)
-  side-more F f = rw (before-snoc earlier p, after-snoc earlier p, f) (by-test (list_any is_bar earlier)
+  side-more F f = rw (before-snoc earlier p, after-snoc earlier p, f) (by_bool (list_any is_bar earlier)
       (λ b. let s = each-snoc (F true) (after_first is_bar earlier) p in
       rw (b, append-nil) (λ a. (let e = s.0 a.1 in ((a.0, e.0), e.1)), λ h. (h.0.0, s.1 (h.0.1, h.1))))
       (λ b. let s = each-snoc (F false) (before_first is_bar earlier) p in
@@ -92,7 +92,7 @@ module _ (kind : Kind) (earlier : List (List ℕ)) (p : List ℕ) where
 
   bar-more : (F : Bool → List ℕ → Type 0) → is_bar p ≡ true → (F true p → false ≡ true)
       → Sides F (earlier ++ p ∷ []) ↔ (Sides F earlier × (list_any is_bar earlier ≡ false))
-  bar-more F f never = rw (before-snoc earlier p, after-snoc earlier p, f) (by-test (list_any is_bar earlier)
+  bar-more F f never = rw (before-snoc earlier p, after-snoc earlier p, f) (by_bool (list_any is_bar earlier)
       (λ b. let s = each-snoc (F true) (after_first is_bar earlier) p in
       rw b (λ a. absurd (let e = never (s.0 a.1).1 in cc), λ h. absurd (let e = h.1 in cc)))
       (λ b. rw (b, append-nil, append-nil) (λ a. (a, refl), λ h. h.0)))
@@ -103,7 +103,7 @@ module _ (kind : Kind) (earlier : List (List ℕ)) (p : List ℕ) where
       let barred = list_any is_bar earlier in
       let names = item_names kind earlier in
       let stands : Bool → List ℕ → Type 0 = λ sec p. IsEntry kind sec p (entry kind sec p) in
-      by-test (is_bar p)
+      by_bool (is_bar p)
       (λ f. let s = bar-more stands f (λ e. sym (no-bar kind p _ e) ∙ f) in
       let n : item_names kind (earlier ++ p ∷ []) ≡ names = names-snoc kind earlier p ∙ rw f (append-nil names) in
       rw (n, f) (
@@ -232,8 +232,8 @@ line-clear kind earlier line =
     let content_more = filter-append (λ l. not (is_skipped l)) earlier (line ∷ []) in
     let nul_more = list_any-append (has 0) earlier (line ∷ []) in
     let n : ℕ = line_number (length earlier + 1) in
-    rw (content_more, nul_more, first-numbered n (checks_of kind (content earlier) line)) (by-test (has 0 line)
-    (λ z. rw z (grind (arith, or_parts))) (λ z. by-test (is_skipped line)
+    rw (content_more, nul_more, first-numbered n (checks_of kind (content earlier) line)) (by_bool (has 0 line)
+    (λ z. rw z (grind (arith, or_parts))) (λ z. by_bool (is_skipped line)
     (λ f. rw (z, f) (simp (append-nil, or-false) (λ a. (a, refl), λ h. h.0)))
     (λ f. let c = content-clear kind (content earlier) line in
     let m = none-numbered n (first (content_checks kind (content earlier) line)) in

@@ -26,7 +26,7 @@ use Rattle.xc_input.specs.inner.Stages.{written_by}
 use Rattle.xc_input.specs.inner.Stages.{Stage, no_stage, with_option, with_row, stage_from, stage_of}
 use Rattle.xc_input.specs.inner.Stages.{staged_part_checks as row_part_checks, staged_option_checks as tokens_checks}
 use Rattle.xc_input.specs.inner.Stages.{staged_content_checks as stage_content}
-use Rattle.xc_input.proofs.FaultLemmas.BooleanTests.{by-test}
+use Rattle.xc_input.proofs.Cases.{by_bool}
 use Rattle.xc_input.proofs.GrammarLemmas.ClearLines.{StandFor, AreClear, names-snoc}
 use Rattle.xc_input.proofs.OptionLemmas.Colours.{with_uses-append, number-later}
 use Rattle.xc_input.proofs.OptionLemmas.Items.{before-cons, after-cons, no-bar}
@@ -47,7 +47,7 @@ row-checks {kind} part r = grind (arith)
 pub row-more : {kind : Kind} {row : Row} {others : List (List ℕ)} (part : List ℕ) → IsRowOf kind row others
     → IsRowOf kind (with_part kind row part) (others ++ part ∷ [])
 row-more {kind} {row} {others} part r =
-    grind (arith, names-snoc, list_any-append, by-test, append-nil, or-true, map-snoc, is_some, or-false)
+    grind (arith, names-snoc, list_any-append, by_bool, append-nil, or-true, map-snoc, is_some, or-false)
 
 pub parts-checked : {kind : Kind} (ps : List (List ℕ)) {row : Row} {before : List (List ℕ)} → IsRowOf kind row before
     → row_checks kind row ps ≡ checks_of_each (part_checks kind) before ps
@@ -80,7 +80,7 @@ row-is : (kind : Kind) (es : List Entry) (ps : List (List ℕ)) → StandFor kin
     → ((row_with_parts kind (R es None) ps).entries ≡ es ++ items_in kind ps)
     × (P (row_with_parts kind (R es None) ps) ≡ length es + length (before_first is_bar ps))
 row-is kind es [] a = (sym (append-nil es), omega arith)
-row-is kind es (p ∷ ps) a = by-test (is_bar p)
+row-is kind es (p ∷ ps) a = by_bool (is_bar p)
     (λ f. let r = row-behind kind es (length es) ps (rw (after-cons p ps true f) at a) in
     rw (after-cons p ps true f, before-cons p ps true f) (grind (arith, r)))
     (λ f. let r = row-is kind (es ++ entry kind false p ∷ []) ps (rw (after-cons p ps false f) at a) in
@@ -165,7 +165,7 @@ with_content kind stage l =
 stage-content : (kind : Kind) (n : ℕ) (stage : Stage) (lines : List (List ℕ))
     → stage_from kind n stage lines ≡ fold (with_content kind) stage (content_from (n + 1) lines)
 stage-content kind n stage [] = refl
-stage-content kind n stage (line ∷ lines) = by-test (is_skipped line)
+stage-content kind n stage (line ∷ lines) = by_bool (is_skipped line)
     (λ f. rw f (stage-content kind (n + 1) stage lines))
     (λ f. rw f (stage-content kind (n + 1) (with_content kind stage (n + 1, line)) lines))
 
@@ -178,7 +178,7 @@ stage-behind : (kind : Kind) (sheet : Sheet) (ignored : List ℕ) (ls : List (�
 stage-behind kind sheet ignored [] = grind (arith, append-nil)
 stage-behind kind sheet ignored (l ∷ ls) =
     let us = written_by sheet l.1 in
-    let with_one = with_kept-more sheet us (kept_in (said kind sheet) ls) in by-test (has_primary sheet.primaries us)
+    let with_one = with_kept-more sheet us (kept_in (said kind sheet) ls) in by_bool (has_primary sheet.primaries us)
     (λ g. rw g (grind (arith, stage-behind kind (more sheet us) ignored ls)))
     (λ g. rw g (grind (arith, append_assoc, stage-behind kind sheet (ignored ++ line_number l.0 ∷ []) ls)))
 
@@ -217,7 +217,7 @@ pub kept-count : (c : Context) (ls : List (ℕ × List ℕ)) → kept_uses c (pl
 kept-count c [] = refl
 kept-count c (l ∷ ls) =
     let later = kept-count c ls in
-    grind (arith, common_steps, nat_tests, written, kept-is, by-test, length-append, length-map, sum_by-cons, plain)
+    grind (arith, common_steps, nat_tests, written, kept-is, by_bool, length-append, length-map, sum_by-cons, plain)
 
 -- how many uses options have
 pub all-counted : (cs : List (List ℕ)) (uss : List (List Written))

@@ -24,7 +24,7 @@ pub whole-more : (old new : List (List ℕ)) (line : List ℕ) → new ≡ old +
     → AreWhole new
 whole-more old new line e w l = subst AreWhole (sym e) (each-append (λ l. has 10 l ≡ false) old (line ∷ []) w (l, tt))
 
-ended-append : (ls ms : List (List ℕ)) → ended (ls ++ ms) ≡ ended ls ++ ended ms
+pub ended-append : (ls ms : List (List ℕ)) → ended (ls ++ ms) ≡ ended ls ++ ended ms
 ended-append [] ms = refl
 ended-append (l ∷ ls) ms = grind (arith, ended-append ls ms, append_assoc l (10 ∷ ended ls) (ended ms))
 

@@ -1,5 +1,6 @@
 -- A colour keeps the number that it has where it is met first.
-use Rattle.std.proofs.Common.{◌≡◌, ℕ, ◌+◌, ◌<◌, ◌≤◌, List, [], ◌∷◌, ◌++◌, Option, None, Some, Bool, true, false}
+use Rattle.xc_input.proofs.Cases.{by_option}
+use Rattle.std.proofs.Common.{◌≡◌, ℕ, ◌+◌, ◌<◌, ◌≤◌, List, [], ◌∷◌, ◌++◌, None, Some, Bool, true, false}
 use Rattle.std.proofs.Common.{◌||◌, nat_le}
 use Rattle.std.proofs.Common.{length, take, append-nil, append_assoc, refl}
 use Rattle.std.proofs.Common.{sym, ap, ◌∙◌, length-append, arith}
@@ -39,22 +40,17 @@ abbrev pub Knows : List (List ℕ) → List ℕ → Type 0
 Knows cs [] = Unit {0}
 Knows cs (b ∷ bs) = (i : ℕ) × (place cs (b ∷ bs) ≡ Some i)
 
--- a place is none, or there is one
-pub by-place : {A : Type 0} (o : Option ℕ) → (o ≡ None → A) → ((i : ℕ) → o ≡ Some i → A) → A
-by-place None new old = new refl
-by-place (Some i) new old = old i refl
-
 pub met : (cs : List (List ℕ)) (c : List ℕ) → Knows (with_colour cs c) c
 met cs [] = tt
 met cs (b ∷ bs) =
-    let same = (bytes_eq-Decides (b ∷ bs) (b ∷ bs)).1 refl in by-place (place cs (b ∷ bs))
+    let same = (bytes_eq-Decides (b ∷ bs) (b ∷ bs)).1 refl in by_option (place cs (b ∷ bs))
     (λ e. rw e (length cs, last-position (bytes_eq (b ∷ bs)) cs (b ∷ bs) e same)) (λ i e. rw e (i, e))
 
 knows-more : (cs : List (List ℕ)) (d c : List ℕ) → Knows cs c → Knows (with_colour cs d) c
     × (colour_number (with_colour cs d) c ≡ colour_number cs c)
 knows-more cs [] c k = (k, refl)
 knows-more cs (b ∷ bs) [] k = (tt, refl)
-knows-more cs (b ∷ bs) (x ∷ xs) k = grind (arith, by-place, place, or-len-stays, length-append)
+knows-more cs (b ∷ bs) (x ∷ xs) k = grind (arith, by_option, place, or-len-stays, length-append)
 
 pub kept : (cs : List (List ℕ)) (us : List Written) (c : List ℕ) → Knows cs c
     → Knows (with_uses cs us) c × (colour_number (with_uses cs us) c ≡ colour_number cs c)
@@ -95,7 +91,7 @@ numbered-more cs us u = grind (arith, number-later cs us (u ∷ []), with_uses-a
 -- at most one colour more
 pub colours_more : (cs : List (List ℕ)) (c : List ℕ) → length (with_colour cs c) ≤ length cs + 1
 colours_more cs [] = omega arith
-colours_more cs (b ∷ bs) = grind (arith, by-place, place, length-append)
+colours_more cs (b ∷ bs) = grind (arith, by_option, place, length-append)
 
 -- the colours that were met stand first
 pub first_met : (cs : List (List ℕ)) (us : List Written) → take (length cs) (with_uses cs us) ≡ cs
@@ -104,7 +100,7 @@ first_met cs us = let m = more us cs in ap (take (length cs)) m.1 ∙ take-appen
     new_or_not : (cs : List (List ℕ)) (c : List ℕ) → (d : List (List ℕ)) × (with_colour cs c ≡ cs ++ d)
     new_or_not cs [] = ([], sym (append-nil cs))
     new_or_not cs (b ∷ bs) =
-        by-place (place cs (b ∷ bs)) (λ e. rw e ((b ∷ bs) ∷ [], refl)) (λ i e. rw e ([], sym (append-nil cs)))
+        by_option (place cs (b ∷ bs)) (λ e. rw e ((b ∷ bs) ∷ [], refl)) (λ i e. rw e ([], sym (append-nil cs)))
 
     more : (us : List Written) (cs : List (List ℕ)) → (d : List (List ℕ)) × (with_uses cs us ≡ cs ++ d)
     more [] cs = ([], sym (append-nil cs))

@@ -1,16 +1,15 @@
 -- The first bar among the parts of an item line.
-use Rattle.std.proofs.Common.{◌≡◌, ℕ, suc, ◌+◌, List, [], ◌∷◌, None, Bool, true}
+use Rattle.std.proofs.Common.{◌≡◌, ℕ, suc, ◌+◌, List, [], ◌∷◌, Bool, true}
 use Rattle.std.proofs.Common.{false, cond, not, nat_eq, take, refl}
 use Rattle.std.proofs.Common.{ap, ◌∙◌, arith, if◌then◌else◌}
 use Rattle.std.proofs.Common.{inl, inr}
 use Rattle.std.proofs.lemmas.Bool.Decides.{nat_tests}
-use Rattle.std.specs.List.{list_any, position, position_or_len, before_first, after_first}
+use Rattle.std.specs.List.{position_or_len, before_first, after_first}
 use Rattle.xc_input.specs.declared.kind.Kind.{Kind}
 use Rattle.xc_input.specs.Words.{has}
 use Rattle.xc_input.specs.Tokens.{is_bar}
 use Rattle.xc_input.specs.Sheets.{Entry}
 use Rattle.xc_input.specs.Text.{IsEntry}
-use Rattle.xc_input.proofs.FaultLemmas.Checks.{last-place}
 use Rattle.std.proofs.lemmas.Bool.{or_parts}
 use Rattle.xc_input.proofs.TokenLemmas.Separators.{BAR}
 
@@ -33,7 +32,3 @@ named (x ∷ xs) name e h = (or_parts (nat_eq x BAR) (has BAR xs) (ap (has BAR) 
 pub no-bar : (kind : Kind) (p : List ℕ) (e : Entry) → IsEntry kind true p e → is_bar p ≡ false
 no-bar kind p e (name, inl h) = named p e.name h.0 name.no_bar
 no-bar kind p e (name, inr h) = let f : true ≡ false = h.2 in absurd (cc)
-
--- a place in a list that there is not
-pub absent-is : {A : Type 0} (p : A → Bool) (xs : List A) → list_any p xs ≡ false → position p xs ≡ None
-absent-is p xs h = grind (arith, nat_tests, last-place p xs h)

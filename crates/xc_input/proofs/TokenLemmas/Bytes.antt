@@ -1,5 +1,5 @@
 -- Where a byte stands in a list.
-use Rattle.xc_input.proofs.FaultLemmas.BooleanTests.{by-test}
+use Rattle.xc_input.proofs.Cases.{by_bool}
 use Rattle.std.proofs.lemmas.List.{length-append}
 use Rattle.std.proofs.Common.{filter, zero, ◌≡◌, ℕ, suc, ◌+◌, ◌<◌, ◌≤◌, List, [], ◌∷◌, ◌++◌, None, Some}
 use Rattle.std.proofs.Common.{Bool, length, get_or, take, drop, refl, sym, ap, ◌∙◌, arith, map}
@@ -109,7 +109,7 @@ drop-word (b ∷ bs) = grind (arith, drop-word bs)
 drop_white-front : (xs : List ℕ) → (front : List ℕ) × (xs ≡ front ++ drop_white xs)
 drop_white-front [] = ([], refl)
 drop_white-front (b ∷ bs) = let r = drop_white-front bs in
-    by-test (is_space b) (λ f. rw f (b ∷ r.0, ap (λ ys. b ∷ ys) r.1)) (λ f. rw f ([], refl))
+    by_bool (is_space b) (λ f. rw f (b ∷ r.0, ap (λ ys. b ∷ ys) r.1)) (λ f. rw f ([], refl))
 
 -- where a line is cut behind its leading white space, the front stands before the back
 cut-stands : (line rest front back : List ℕ) (n : ℕ) → rest ≡ drop_white line → front ≡ take n rest

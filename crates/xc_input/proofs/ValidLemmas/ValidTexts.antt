@@ -42,9 +42,9 @@ use Rattle.xc_input.proofs.lists.EachTwo.{EachTwo, EachTwo-map, AllPairs-from_ea
 use Rattle.xc_input.proofs.TokenLemmas.DecimalValues.{value_from}
 use Rattle.xc_input.proofs.TokenLemmas.TableNames.{apart}
 use Rattle.xc_input.proofs.TokenLemmas.Unbroken.{unbroken-tokens, unbroken-parts, unbroken-behind}
-use Rattle.xc_input.proofs.OptionLemmas.Colours.{Knows, by-place, met, kept, in-range, colours_more, primary-numbered}
+use Rattle.xc_input.proofs.OptionLemmas.Colours.{Knows, met, kept, in-range, colours_more, primary-numbered}
 use Rattle.xc_input.proofs.OptionLemmas.Items.{before-cons}
-use Rattle.xc_input.proofs.FaultLemmas.BooleanTests.{by-test}
+use Rattle.xc_input.proofs.Cases.{by_bool, by_option}
 use Rattle.xc_input.proofs.GrammarLemmas.StageLemmas.{flat, all-counted}
 use Rattle.std.proofs.Common.{◌⊎◌, nat_lt, take}
 use Rattle.std.specs.List.{slice_split}
@@ -92,7 +92,7 @@ some-primary : (ts : List (List ℕ)) → Each (λ t. nat_lt 0 (length t) ≡ tr
     → 1 ≤ length (before_first is_bar (flat_map split_bars ts))
 some-primary [] a f = absurd (cc)
 some-primary ([] ∷ ts) a f = absurd (let e : false ≡ true = a.0 in cc)
-some-primary ((b ∷ bs) ∷ ts) a f = grind (arith, common_steps, nat_tests, by-test, before-cons)
+some-primary ((b ∷ bs) ∷ ts) a f = grind (arith, common_steps, nat_tests, by_bool, before-cons)
 
 -- USES AND COLOURS
 -- a colour that stands in a text
@@ -116,7 +116,7 @@ good-more cs (b ∷ bs) (inl e) g = absurd (cc)
 good-more cs (b ∷ bs) (inr k) g =
     let x = b ∷ bs in
     let new = all_pairs_push (λ x y. x ≢ y) cs x g.2 in
-    by-place (place cs (b ∷ bs))
+    by_option (place cs (b ∷ bs))
     (λ e. rw e (All-push IsColour cs x g.0 k.0, All-push IsUnbroken cs x g.1 k.1, new (apart cs x e))) (λ i e. rw e g)
 
 good-colours : (c : Context) (us : List Written) (cs : List (List ℕ)) → Each (IsGoodUse c) us → AreGood cs

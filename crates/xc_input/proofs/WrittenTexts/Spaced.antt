@@ -1,5 +1,5 @@
 -- Words with a space before each: the tokens of such a line are these words.
-use Rattle.std.proofs.Common.{◌≡◌, ℕ, ◌<◌, ◌+◌, List, [], ◌∷◌, ◌++◌, true, false, length, refl, ap, ◌∙◌, arith}
+use Rattle.std.proofs.Common.{◌≡◌, ℕ, ◌<◌, ◌+◌, List, [], ◌∷◌, ◌++◌, Bool, true, false, length, refl, ap, ◌∙◌, arith}
 use Rattle.std.proofs.Common.{filter, take, drop, flat_map, nat_lt, nat_eq}
 use Rattle.std.specs.List.{AllByRecursion as Each, list_any, slice_split, position_or_len}
 use Rattle.std.specs.List.{before_first, after_first}
@@ -23,15 +23,15 @@ spaced [] = []
 spaced (w ∷ ws) = code " " ∷ w ++ spaced ws
 
 -- a word at the front
-split-front : (w rest : List ℕ) (ws : List (List ℕ)) → list_any is_space w ≡ false
-    → slice_split is_space rest ≡ [] ∷ ws → slice_split is_space (w ++ rest) ≡ w ∷ ws
-split-front [] rest ws h e = e
-split-front (b ∷ w) rest ws h e = grind (arith, nat_tests, split-front w rest ws)
+pub split-front : (p : ℕ → Bool) (w rest : List ℕ) (ws : List (List ℕ)) → list_any p w ≡ false
+    → slice_split p rest ≡ [] ∷ ws → slice_split p (w ++ rest) ≡ w ∷ ws
+split-front p [] rest ws h e = e
+split-front p (b ∷ w) rest ws h e = grind (arith, nat_tests, split-front p w rest ws)
 
 split-spaced : (ws : List (List ℕ)) → Each IsWord ws → slice_split is_space (spaced ws) ≡ [] ∷ ws
 split-spaced [] a = refl
 split-spaced (w ∷ ws) a =
-    let rest = split-front w (spaced ws) ws a.0.no_space (split-spaced ws a.1) in grind (arith, nat_tests)
+    let rest = split-front is_space w (spaced ws) ws a.0.no_space (split-spaced ws a.1) in grind (arith, nat_tests)
 
 some-words : (ws : List (List ℕ)) → Each IsWord ws → filter (λ w. nat_lt 0 (length w)) ws ≡ ws
 some-words [] a = refl

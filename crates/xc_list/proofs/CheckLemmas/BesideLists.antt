@@ -2,9 +2,9 @@
 use Rattle.std.proofs.Common.{[], arith}
 use Rattle.std.proofs.Common.{◌≡◌, Bool, true, List, ◌∷◌, ◌++◌}
 use Rattle.std.specs.List.{AllZip, list_all}
-use Rattle.std.proofs.lemmas.List.Sums.{AllPass-from_list_all, list_all-from_AllPass}
-use Rattle.std.proofs.lemmas.List.Elements.{All-from_recursion, All-contains}
-use Rattle.xc_input.proofs.lists.Members.{IsIn, each_from, contains-in}
+use Rattle.std.proofs.lemmas.List.Sums.{AllPass-from_list_all}
+use Rattle.std.proofs.lemmas.List.Elements.{All-contains}
+use Rattle.xc_input.proofs.lists.Members.{IsIn, contains-in}
 
 -- ---- place by place
 
@@ -29,11 +29,6 @@ AllZip-append R xs xs' ys ys' z later =
     by_pairs R (λ vs ws. AllZip R (vs ++ xs') (ws ++ ys')) later (λ v w vs ws h rest. (h, rest)) xs ys z
 
 -- ---- tests of each element
-
-pub each-passes : {X : Type 0} (f : X → Bool) (xs : List X) → ((x : X) → IsIn xs x → f x ≡ true)
-    → list_all f xs ≡ true
-each-passes f xs h =
-    list_all-from_AllPass f xs (All-from_recursion (λ x. f x ≡ true) xs (each_from (λ x. f x ≡ true) xs h))
 
 pub passes-at : {X : Type 0} (f : X → Bool) (xs : List X) (x : X) → list_all f xs ≡ true → IsIn xs x → f x ≡ true
 passes-at f xs x h k = All-contains (λ x. f x ≡ true) xs x (AllPass-from_list_all f xs h) (contains-in xs x k)

@@ -1,4 +1,5 @@
 -- What the counts of a solution say: they agree exactly where options of its classes are a cover of their classes.
+use Rattle.xc_input.proofs.lists.Members.{list_all-each}
 use Rattle.xc_input.proofs.lists.Members.{map-in, filter-in}
 use Rattle.xc_input.proofs.lists.EachElement.{each-append}
 use Rattle.std.proofs.lemmas.Option.{get_or_from_slice_get}
@@ -29,7 +30,7 @@ use Rattle.xc_list.proofs.CheckLemmas.GatheredColours.{gathered, length-gathered
 use Rattle.xc_list.proofs.CheckLemmas.GatheredColours.{agree-gathered}
 use Rattle.xc_list.proofs.CheckLemmas.LastColours.{given, length-given, coloured-at, given-gathered}
 use Rattle.xc_list.proofs.CheckLemmas.LastColours.{given-each, agrees_with, Fits, agrees-fits}
-use Rattle.xc_list.proofs.CheckLemmas.BesideLists.{by_pairs, each-passes, passes-at}
+use Rattle.xc_list.proofs.CheckLemmas.BesideLists.{by_pairs, passes-at}
 use Rattle.std.proofs.lemmas.List.Folds.{list_all-append}
 use Rattle.std.specs.List.{flat_map}
 use Rattle.xc_input.specs.Problem.{Puzzle}
@@ -104,7 +105,7 @@ module _ (b : Classes) (cs ks reps : List ℕ) (s : IsSolution b cs ks reps) whe
       (each_from _ us (λ u m e. sym (met_one k u l e) ∙ passes-at meets us u met m))))
 
   met_from_fits : ((k : ℕ) → k < item_count p → Fits (slice_get p.bounds k) (colours_of k)) → list_all meets us ≡ true
-  met_from_fits fits = each-passes meets us (λ u m.
+  met_from_fits fits = list_all-each meets us (λ u m.
       let known = each_in _ _ _ items m in
       let k = u.item - 1 in
       let l : k < item_count p = omega (arith, known) in

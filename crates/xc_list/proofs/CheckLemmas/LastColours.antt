@@ -24,7 +24,7 @@ use Rattle.xc_list.proofs.CheckLemmas.ListedNumbers.{last_or}
 use Rattle.xc_list.proofs.CheckLemmas.HeldItems.{AreItems, held}
 use Rattle.std.proofs.lemmas.Option.{get_or_from_slice_get}
 use Rattle.xc_list.proofs.CheckLemmas.BesideLists.{by_pairs}
-use Rattle.xc_search.proofs.Cases.{by_option}
+use Rattle.xc_input.proofs.Cases.{by_option}
 use Rattle.std.specs.List.{cons_option}
 use Rattle.std.specs.Prelude.{◌↔◌}
 use Rattle.std.proofs.lemmas.Bool.{leb-true, le-leb}

@@ -1,4 +1,5 @@
 -- Options are a cover exactly where the tests of its conditions say so.
+use Rattle.xc_input.proofs.lists.Members.{list_all-each}
 use Rattle.std.proofs.Common.{[], ℕ, zero, suc, ◌≡◌, ◌≢◌, ◌+◌, ◌<◌, ◌≤◌, Bool, true, false, List, ◌∷◌}
 use Rattle.std.proofs.Common.{Option, Some, None, refl, ap, add-one, arith, inl, inr, eqb-true, eq-eqb}
 use Rattle.std.proofs.Common.{ne_eqb}
@@ -14,7 +15,7 @@ use Rattle.xc_search.specs.Cover.{IsCover, times_held}
 use Rattle.xc_input.proofs.FaultLemmas.BooleanTests.{and_left}
 use Rattle.std.proofs.lemmas.Option.{slice_get_within}
 use Rattle.xc_input.proofs.lists.Members.{IsIn, each_in, in-contains, contains-in}
-use Rattle.xc_list.proofs.CheckLemmas.BesideLists.{each-passes, passes-at}
+use Rattle.xc_list.proofs.CheckLemmas.BesideLists.{passes-at}
 use Rattle.xc_list.specs.inner.Tested.{is_colour_met, is_use_met, do_agree, is_held_within}
 use Rattle.xc_list.proofs.CheckLemmas.DecidedByClasses.{option-sound, option-differs}
 use Rattle.xc_list.proofs.CheckLemmas.Rotations.{DifferInItems}
@@ -58,7 +59,7 @@ agree : (p : Puzzle) → IsValid p → (a b : ℕ) → IsOption p a →
     ((i c d : ℕ) → a ≢ b → IsSecondary p i → colour_in (uses_of p a) i ≡ Some c → colour_in (uses_of p b) i ≡ Some d
     → (c ≡ d) × (0 < c)) → do_agree p a b ≡ true
 agree p v a b known h =
-    or_else _ _ (λ e. each-passes _ _
+    or_else _ _ (λ e. list_all-each _ _
     (λ u k. met u k (λ z. let t = eq-eqb a b z in cc)))
   where
     differ : DifferInItems (uses_of p a)
@@ -98,6 +99,6 @@ cover_from_tests p s known apart held all = record {
 pub tests_of_cover : (p : Puzzle) → IsValid p → (s : List ℕ) → IsCover p s
     → list_all (λ a. list_all (do_agree p a) s) s ≡ true
 tests_of_cover p v s c =
-    each-passes (λ a. list_all (do_agree p a) s) s (λ a in_a. each-passes (do_agree p a) s (λ b in_b.
+    list_all-each (λ a. list_all (do_agree p a) s) s (λ a in_a. list_all-each (do_agree p a) s (λ b in_b.
     agree p v a b (each_in (IsOption p) s a (recursion_from_All (IsOption p) s c.known) in_a)
     (λ i x y other second e f. c.agree a b i x y (contains-in s a in_a) (contains-in s b in_b) other second e f)))

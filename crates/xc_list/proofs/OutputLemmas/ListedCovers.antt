@@ -18,7 +18,7 @@ use Rattle.std.specs.List.{AllByRecursion}
 use Rattle.xc_input.specs.Named.{Named, IsSound}
 use Rattle.xc_input.specs.Lines.{lines_of}
 use Rattle.xc_search.specs.declared.choice.Choice.{Choice}
-use Rattle.xc_search.proofs.Cases.{by_option}
+use Rattle.xc_input.proofs.Cases.{by_option}
 use Rattle.xc_search.specs.Cover.{IsCover, options_of, members}
 use Rattle.xc_search.proofs.completeness.Covering.{each_member_covers}
 use Rattle.xc_list.specs.Output.{is_printed, output}

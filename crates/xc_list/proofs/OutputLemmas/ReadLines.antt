@@ -1,13 +1,10 @@
 -- What the lines of an output are read as.
 use Rattle.std.proofs.Common.{[], sym}
-use Rattle.std.proofs.lemmas.Str.Parse.{IsNumeralModel, numerals_by_fold}
-use Rattle.std.proofs.lemmas.Fmt.{decimal_nonempty, digits_value-decimal, digits_decimal}
+use Rattle.std.proofs.lemmas.Fmt.{decimal_nonempty, digits_value-decimal}
 use Rattle.std.proofs.Common.{flat_map}
-use Rattle.std.proofs.Common.{rules}
-use Rattle.std.proofs.Common.{◌≡◌, ℕ, ◌^◌, ◌<◌, ◌≤◌, Bool, true, false}
+use Rattle.std.proofs.Common.{◌≡◌, ℕ, ◌^◌, ◌<◌, ◌≤◌, true, false}
 use Rattle.std.proofs.Common.{List, ◌∷◌, ◌++◌, None, Some, length, refl, ap, ◌∙◌}
 use Rattle.std.proofs.Common.{arith}
-use Rattle.xc_input.proofs.TokenLemmas.DecimalValues.{value_from}
 use Rattle.std.specs.Prelude.{codes, decimal}
 use Rattle.std.specs.List.{list_all, list_any}
 use Rattle.std.proofs.lemmas.Bool.Decides.{nat_tests}
@@ -17,29 +14,13 @@ use Rattle.xc_input.proofs.lists.EachElement.{each-append}
 use Rattle.std.specs.List.{AllByRecursion}
 use Rattle.xc_input.specs.Words.{has}
 use Rattle.xc_input.specs.Tokens.{is_space}
-use Rattle.std.specs.Char.{is_ascii_digit}
 use Rattle.xc_list.proofs.CheckLemmas.CutBodies.{last_byte, before_three}
 use Rattle.xc_list.proofs.Digits.{some_digits}
+use Rattle.xc_input.proofs.WrittenTexts.Numerals.{are_digits-decimal, digits, digits_read, lacks-decimal}
 use Rattle.xc_list.specs.ListingLines.{words_in, before_last, header_number, is_word}
 use Rattle.xc_list.specs.ListingLines.{is_ending, body_of_words}
-use Rattle.xc_input.specs.Words.{are_digits}
 use Rattle.xc_list.specs.inner.ReadLines.{Header, Body, read}
 use Rattle.xc_input.proofs.TokenLemmas.Separators.{COLON}
-
--- ---- digits
-
--- digits, and the number that they stand for: so a number in decimal is known to be read
-digits_read : IsNumeralModel (λ ds. list_all is_ascii_digit ds ≡ true) (value_from 0)
-digits_read = numerals_by_fold _ (search rules) value_from (search rules)
-
--- a number below 10 ^ k has at most k digits
-pub are_digits-decimal : (k n : ℕ) → 0 < k → n < 10 ^ k → n < 2 ^ 64 → are_digits k (decimal n) ≡ true
-are_digits-decimal k n h l m = grind (arith, decimal_nonempty, length-decimal-le, digits_decimal, digits_read)
-
-lacks : (p q : ℕ → Bool) → ((b : ℕ) → p b ≡ true → q b ≡ false) → (bs : List ℕ) → list_all p bs ≡ true
-    → list_any q bs ≡ false
-lacks p q apart [] h = refl
-lacks p q apart (b ∷ bs) h = grind (arith, nat_tests, apart b, lacks p q apart bs)
 
 -- ---- headers
 
@@ -50,7 +31,7 @@ pub read-header : (n : ℕ) → n < 2 ^ 64 → read (decimal n ++ codes ":") ≡
 read-header n h =
     let short = length-decimal-le 20 n (omega arith) (omega (arith, h)) h in
     let value = digits_value-decimal digits_read n h in
-    let digits = digits_decimal digits_read n h in
+    let all = digits n h in
     let some = some_digits (decimal n) (decimal_nonempty n h) in
     grind (arith, nat_tests, before_last-last COLON (decimal n))
 
@@ -93,7 +74,7 @@ abbrev pub ending_words : ℕ → ℕ → List (List ℕ)
 ending_words k n = (codes "(" ++ decimal k) ∷ codes "of" ∷ (decimal n ++ codes ")") ∷ []
 
 pub plain-decimal : (n : ℕ) → n < 2 ^ 64 → IsPlain (decimal n)
-plain-decimal n h = grind (arith, decimal_nonempty, lacks, digits_decimal, digits_read)
+plain-decimal n h = grind (arith, decimal_nonempty, lacks-decimal)
 
 pub plain-append : (v w : List ℕ) → IsPlain v → list_any is_space w ≡ false → has 10 w ≡ false → IsPlain (v ++ w)
 plain-append v w plain space feed = grind (arith, common_steps, plain.some, plain.no_space, plain.no_feed)

@@ -24,7 +24,7 @@ use Rattle.xc_search.specs.inner.Levels.{Levels, IsSearchable, IsNode, AreStacke
 use Rattle.xc_search.specs.inner.Levels.{IsEarlyChoice, branches_at, after_branch, begun_level, newest_begun}
 use Rattle.xc_search.specs.inner.Ahead.{branched}
 use Rattle.xc_search.specs.inner.Due.{ends_of, ends_behind, ends_ahead, here, Pays}
-use Rattle.xc_search.proofs.Cases.{mapped_none}
+use Rattle.xc_input.proofs.Cases.{mapped_none}
 use Rattle.xc_search.proofs.ends.Tree.{some_end, ends_dead, ends_branches, ends_early, solutions, as_many_solutions}
 use Rattle.xc_search.proofs.ends.Tree.{after_all}
 use Rattle.xc_search.proofs.listing.BranchLists.{branches_end}

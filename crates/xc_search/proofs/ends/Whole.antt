@@ -11,7 +11,7 @@ use Rattle.xc_search.specs.inner.Residual.{residual_of}
 use Rattle.xc_search.specs.inner.Levels.{Levels, IsSearchable}
 use Rattle.xc_search.specs.inner.Ahead.{IsSolved}
 use Rattle.xc_search.specs.inner.Due.{ends_behind, ends_ahead, due, Pays, PaysFor}
-use Rattle.xc_search.proofs.Cases.{mapped_none}
+use Rattle.xc_input.proofs.Cases.{mapped_none}
 use Rattle.xc_search.proofs.ends.Tree.{ends_at}
 use Rattle.xc_search.proofs.ends.Steps.{may, here_at, room_in, due_within}
 use Rattle.xc_search.proofs.residual.BranchItemLeft.{choice_is_branch_item}

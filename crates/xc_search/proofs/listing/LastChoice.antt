@@ -13,7 +13,7 @@ use Rattle.xc_search.proofs.listing.BranchLists.{takes, length-takes}
 use Rattle.xc_search.proofs.listing.EachBranch.{behind, IsBranchOf, takes_one, takes_none, in-branches, no_items_left}
 use Rattle.xc_search.proofs.listing.EachBranch.{branch_item-in}
 use Rattle.xc_search.proofs.listing.Unrolled.{listing_at}
-use Rattle.xc_search.proofs.Cases.{by_option}
+use Rattle.xc_input.proofs.Cases.{by_option}
 use Rattle.xc_search.specs.inner.Residual.{take_branch}
 
 pub record IsLast (r : Residual) : Type 0 where

@@ -29,7 +29,7 @@ use Rattle.xc_search.proofs.moves.LegalTweaks.{left_closed, left_off, off_others
 use Rattle.xc_input.proofs.lists.EachElement.{each_weaker, each_passes, each_at, each_turned, each_both}
 use Rattle.xc_search.proofs.residual.OptionUses.{Apart, AreApart, apart_sym, apart_from_pairs}
 use Rattle.xc_search.proofs.listing.Numbering.{IsOption}
-use Rattle.xc_search.proofs.Cases.{by_bool}
+use Rattle.xc_input.proofs.Cases.{by_bool}
 use Rattle.xc_input.specs.Problem.{uses_of}
 
 -- ---- an option is taken

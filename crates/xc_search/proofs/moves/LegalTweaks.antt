@@ -20,17 +20,17 @@ use Rattle.xc_search.specs.inner.Commits.{tweaked}
 use Rattle.xc_search.specs.inner.Levels.{IsNode}
 use Rattle.xc_dance.proofs.MoveLemmas.OpenLists.{listed_open, left_rises, without_first}
 use Rattle.xc_dance.proofs.MoveLemmas.OptionsRise.{rises_filter}
-use Rattle.xc_dance.proofs.MoveLemmas.ListLemmas.{Rises, numbers}
+use Rattle.xc_dance.proofs.MoveLemmas.ListLemmas.{Rises, numbers, primary_pure}
 use Rattle.xc_search.proofs.residual.PickedByUses.{commit_use, as_residual}
 use Rattle.xc_search.proofs.residual.ReadyUses.{found_wanted, opening_commits, spent_self}
-use Rattle.xc_search.proofs.residual.LeftAreReady.{has_left, primary_pure}
+use Rattle.xc_search.proofs.residual.LeftAreReady.{has_left}
 use Rattle.xc_search.proofs.residual.CyclicUses.{cut}
 use Rattle.xc_input.proofs.lists.EachElement.{each_of_all}
 use Rattle.xc_input.proofs.lists.Filters.{filter_both, keep_all}
 use Rattle.xc_input.proofs.FaultLemmas.BooleanTests.{only_rest}
 use Rattle.xc_input.proofs.lists.Places.{drop_one}
 use Rattle.xc_input.proofs.lists.Members.{in-filter, in-slice_get, each_from}
-use Rattle.xc_search.proofs.Cases.{by_bool, by_number}
+use Rattle.xc_input.proofs.Cases.{by_bool, by_number}
 use Rattle.xc_search.proofs.residual.NumberedOnce.{above_in}
 
 -- ---- what tweaks leave as it was

@@ -1,7 +1,7 @@
 -- Moves among which no tweak stands.
 use Rattle.std.proofs.Common.{ℕ, zero, suc, ◌≡◌, ◌-◌, ◌<◌, false, List, [], ◌∷◌, length, drop, refl, subst}
 use Rattle.std.proofs.Common.{sym, arith, leb, leb-true, leb-false, Option, None, Some}
-use Rattle.xc_search.proofs.Cases.{by_bool}
+use Rattle.xc_input.proofs.Cases.{by_bool}
 use Rattle.xc_input.specs.declared.problem.Use.{Use}
 use Rattle.xc_dance.specs.declared.dance.Move.{Move}
 use Rattle.xc_input.specs.Problem.{Puzzle, uses_of}

@@ -1,4 +1,5 @@
 -- Where each option holds as many primary items as are open, each option that is left holds all of them.
+use Rattle.xc_dance.proofs.MoveLemmas.ListLemmas.{primary_pure}
 use Rattle.std.proofs.Common.{ℕ, zero, suc, ◌≡◌, ◌+◌, ◌<◌, ◌≤◌, Bool, true, false, eqb, List, [], ◌∷◌, length, filter}
 use Rattle.std.proofs.Common.{None, subst, refl, sym, ap, ◌∙◌, arith, eqb-true, ne_eqb, leb-true}
 use Rattle.std.proofs.lemmas.Bool.{leb-false, eqb-false}
@@ -21,12 +22,12 @@ use Rattle.xc_search.specs.Residuals.{wanted_at}
 use Rattle.xc_search.specs.inner.Residual.{residual_of}
 use Rattle.xc_search.specs.inner.Levels.{IsSearchable}
 use Rattle.xc_search.specs.inner.MostLevels.{primary_uses, IsEven}
-use Rattle.xc_search.proofs.Cases.{by_bool}
+use Rattle.xc_input.proofs.Cases.{by_bool}
 use Rattle.xc_search.proofs.listing.LastChoice.{IsLast, last_members}
 use Rattle.xc_search.proofs.listing.Numbering.{numbered_at}
 use Rattle.xc_search.proofs.residual.EachMove.{in_range}
 use Rattle.xc_search.proofs.residual.FirstFewest.{once_more}
-use Rattle.xc_search.proofs.residual.LeftAreReady.{left_options, open_if, primary_pure}
+use Rattle.xc_search.proofs.residual.LeftAreReady.{left_options, open_if}
 use Rattle.xc_search.proofs.residual.OptionUses.{AreApart, apart_from_pairs}
 use Rattle.xc_search.proofs.stacked.NextLevel.{open_in}
 

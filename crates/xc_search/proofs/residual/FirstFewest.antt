@@ -18,7 +18,7 @@ use Rattle.xc_dance.specs.Moves.{next_above, is_open, open_items, spends, IsOpen
 use Rattle.xc_search.specs.Residuals.{wanted_at, wanted_after, branches_after, choice_after}
 use Rattle.xc_dance.specs.inner.Lists.Rising.{Rises}
 use Rattle.xc_dance.proofs.MoveLemmas.ListLemmas.{Rises-range, Rises-filter, above_all, next_above-split}
-use Rattle.xc_dance.proofs.MoveLemmas.ListLemmas.{next_above-none, next_above-gt, found_open}
+use Rattle.xc_dance.proofs.MoveLemmas.ListLemmas.{next_above-none, next_above-gt, next_open}
 
 -- of these items and w the first with the fewest branches
 abbrev best_from : Puzzle → List Move → Wanted → List ℕ → Wanted
@@ -27,9 +27,6 @@ best_from p t w is =
 
 pub open_rises : (p : Puzzle) (t : List Move) → Rises 0 (open_items p t)
 open_rises p t = grind (arith, Rises-filter, is_open, Rises-range)
-
-pub next_open : (p : Puzzle) (t : List Move) (n k : ℕ) → next_above n (open_items p t) ≡ Some k → IsOpenPrimary p t k
-next_open p t n k e = grind (arith, found_open t n k 1 (primary_count p) e)
 
 -- w is the best up to item n: with it and the open items behind n the branch item is found
 abbrev IsBest : Puzzle → List Move → Wanted → ℕ → Type 0

@@ -1,4 +1,5 @@
 -- The uses of an option that is left are ready to be committed.
+use Rattle.xc_dance.proofs.MoveLemmas.ListLemmas.{primary_pure}
 use Rattle.xc_search.specs.inner.Levels.{AreAllWanted}
 use Rattle.std.proofs.Common.{ℕ, ◌≡◌, ◌<◌, ◌≤◌, Bool, true, false, leb, List, []}
 use Rattle.std.proofs.Common.{◌∷◌, filter, find, Some, None, refl, ap, ◌∙◌, arith, subst, eqb-true, ltb-true}
@@ -21,7 +22,7 @@ use Rattle.xc_search.proofs.residual.ReadyUses.{Ready, secondary, same_colour, f
 use Rattle.xc_input.proofs.lists.EachElement.{each_at, each_both}
 use Rattle.xc_search.proofs.residual.OptionUses.{apart_from_pairs, own_colours}
 use Rattle.xc_search.proofs.listing.Numbering.{IsOption, is_option}
-use Rattle.xc_search.proofs.Cases.{by_bool, by_option}
+use Rattle.xc_input.proofs.Cases.{by_bool, by_option}
 use Rattle.xc_input.proofs.lists.EachElement.{each-filter}
 use Rattle.xc_input.proofs.lists.Members.{each_from}
 
@@ -38,15 +39,6 @@ open_if j (m ∷ t) c q = grind (arith, open_if j t)
 closed_if : (j d : ℕ) (t : List Move) → purified j t ≡ Some d → is_open j t ≡ false
 closed_if j d [] q = cc
 closed_if j d (m ∷ t) q = grind (arith, closed_if j d t)
-
--- only a secondary item is purified
-pub purified_second : (p : Puzzle) (j d : ℕ) (t : List Move) → AreLegal p t → purified j t ≡ Some d
-    → primary_count p < j
-purified_second p j d [] l q = cc
-purified_second p j d (m ∷ t) l q = grind (arith, purified_second p j d t, eqb-true)
-
-pub primary_pure : (p : Puzzle) (j : ℕ) (t : List Move) → AreLegal p t → j ≤ primary_count p → purified j t ≡ None
-primary_pure p j t l h = grind (arith, by_option, purified_second)
 
 found_holds : (P : Wanted → Type 0) (q : Wanted → Bool) (ws : List Wanted) (w : Wanted) → AllByRecursion P ws
     → find q ws ≡ Some w → P w

@@ -13,7 +13,7 @@ use Rattle.xc_input.proofs.lists.Filters.{filter_both, keep_all}
 use Rattle.xc_input.proofs.lists.EachElement.{each_of_all}
 use Rattle.std.proofs.lemmas.List.{map-id}
 use Rattle.std.proofs.lemmas.List.Elements.{filter_agree}
-use Rattle.xc_search.proofs.Cases.{by_bool}
+use Rattle.xc_input.proofs.Cases.{by_bool}
 use Rattle.xc_search.proofs.residual.OptionUses.{AreApart}
 use Rattle.xc_search.specs.inner.Residual.{item_left}
 

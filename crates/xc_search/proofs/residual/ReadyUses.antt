@@ -26,7 +26,7 @@ use Rattle.xc_dance.proofs.MoveLemmas.LeftOptions.{left_agrees}
 use Rattle.xc_input.proofs.lists.EachElement.{each_weaker, each-map, each_of_all, each_both, each-filter}
 use Rattle.xc_input.proofs.lists.Filters.{filter_same, keep_all}
 use Rattle.xc_search.proofs.residual.OptionUses.{AreApart, apart_sym}
-use Rattle.xc_search.proofs.Cases.{by_bool, by_option}
+use Rattle.xc_input.proofs.Cases.{by_bool, by_option}
 
 pub data Ready (p : Puzzle) (t : List Move) (u : Use) : Type 0 where
   primary : IsPrimary p u.item → is_open u.item t ≡ true → spends u.item t < high_at p u.item → Ready p t u

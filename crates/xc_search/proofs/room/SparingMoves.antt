@@ -22,7 +22,7 @@ use Rattle.std.proofs.lemmas.List.{length-map}
 use Rattle.std.proofs.lemmas.List.FromFn.{length-range_with_len}
 use Rattle.xc_search.proofs.moves.BranchMoves.{Taken}
 use Rattle.xc_search.proofs.moves.LegalTweaks.{kept_tweaked}
-use Rattle.xc_search.proofs.Cases.{by_bool, by_number}
+use Rattle.xc_input.proofs.Cases.{by_bool, by_number}
 
 -- ---- Spends of the moves
 

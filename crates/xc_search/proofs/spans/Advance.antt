@@ -19,7 +19,7 @@ use Rattle.xc_search.specs.inner.Levels.{Levels, choices_of, coming, to_give}
 use Rattle.xc_search.specs.inner.Ahead.{IsSolved}
 use Rattle.xc_search.specs.inner.Paths.{AreLed}
 use Rattle.xc_search.specs.inner.Spanning.{row_at, row_from, Halts, EndsSpan}
-use Rattle.xc_search.proofs.Cases.{by_bool, by_number, mapped_none}
+use Rattle.xc_input.proofs.Cases.{by_bool, by_number, mapped_none}
 use Rattle.xc_search.proofs.residual.BranchItemLeft.{choice_is_branch_item}
 use Rattle.xc_search.proofs.listing.Unrolled.{listing_at}
 use Rattle.xc_search.proofs.stacked.NextLevel.{solution}

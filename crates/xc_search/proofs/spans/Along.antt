@@ -16,7 +16,7 @@ use Rattle.xc_search.specs.inner.Levels.{AreStacked, choices_of, chosen}
 use Rattle.xc_search.specs.inner.Ahead.{IsSolved}
 use Rattle.xc_search.specs.inner.Paths.{AreLed}
 use Rattle.xc_search.specs.inner.Spanning.{row_at, row_from}
-use Rattle.xc_search.proofs.Cases.{by_option, by_number, mapped_none}
+use Rattle.xc_input.proofs.Cases.{by_option, by_number, mapped_none}
 use Rattle.xc_search.proofs.listing.BranchLists.{branch_takes, branch_none, branches_end}
 use Rattle.xc_search.proofs.residual.BranchItemLeft.{choice_is_branch_item}
 use Rattle.xc_search.proofs.stacked.BegunComesFirst.{choices_more}

@@ -3,7 +3,7 @@ use Rattle.std.proofs.Common.{ℕ, ◌≡◌, ◌<◌, Bool, true, false, List, 
 use Rattle.xc_dance.specs.Dancing.{Dancing}
 use Rattle.xc_search.specs.inner.Residual.{residual_of}
 use Rattle.xc_search.specs.inner.Levels.{Levels, IsStanding, coming}
-use Rattle.xc_search.specs.inner.Ahead.{EntersBranch, GoesOn, IsDone, branched, work_left}
+use Rattle.xc_search.specs.inner.Ahead.{EntersBranch, IsDone, branched}
 use Rattle.xc_search.specs.inner.Paths.{KeepsBy, AreLater}
 use Rattle.xc_search.specs.inner.Spanning.{Enters, Ends, Falls, PassesOver}
 use Rattle.xc_search.proofs.stacked.LessWork.{some_work}
@@ -21,18 +21,6 @@ falls_over x c until d ls m n s over = record {
   path = λ u a. a;
   less = omega (arith, some_work (residual_of d.puzzle d.trail));
   over = over;
-}
-
--- nothing is left below
-pub falls_back : {d e : Dancing} {ls ks : Levels} (x c : Bool) (until : Option (List ℕ)) (m : ℕ)
-    → ks ≡ ls → GoesOn d ls true e ks false → work_left e ks false < work_left d ls true → KeepsBy x d ls e ks
-    → Falls x c until d ls m e ks m
-falls_back x c until m same on fewer path = record {
-  still = (on.still.0, same);
-  standing = on.standing;
-  path = path;
-  less = omega (arith, fewer);
-  over = over_none c until m _ _ on.members;
 }
 
 -- a branch below is entered

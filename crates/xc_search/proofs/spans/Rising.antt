@@ -13,7 +13,7 @@ use Rattle.xc_input.proofs.lists.EachTwo.{EachTwo, EachTwo-map, EachTwo-flat_map
 use Rattle.xc_input.proofs.lists.Members.{IsIn, each_from, in-map, slice_get-in}
 use Rattle.xc_input.proofs.lists.EachElement.{each_weaker}
 use Rattle.xc_input.proofs.lists.Filters.{filter_same, keep_all}
-use Rattle.xc_search.proofs.Cases.{by_bool}
+use Rattle.xc_input.proofs.Cases.{by_bool}
 use Rattle.xc_search.proofs.listing.BranchLists.{number_at}
 use Rattle.xc_search.proofs.listing.BranchesLess.{by_branches}
 use Rattle.xc_search.proofs.listing.Unrolled.{listing_at}

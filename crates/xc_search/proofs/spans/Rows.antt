@@ -2,7 +2,7 @@
 use Rattle.std.proofs.lemmas.Bool.Decides.{nat_tests}
 use Rattle.std.proofs.Common.{ℕ, ◌≡◌, ◌<◌, true, false, List, [], ◌∷◌, ◌++◌, refl, arith, ◌⊎◌, inl, inr}
 use Rattle.xc_search.specs.Spans.{precedes}
-use Rattle.xc_search.proofs.Cases.{by_bool}
+use Rattle.xc_input.proofs.Cases.{by_bool}
 
 -- the first numbers decide, or the rest where they are the same
 pub before_first : (x y : ℕ) (a b : List ℕ) → precedes (x ∷ a) (y ∷ b) ≡ true →

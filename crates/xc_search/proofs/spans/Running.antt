@@ -16,7 +16,7 @@ use Rattle.xc_search.specs.inner.Paths.{AreLed, AreLedBy, AreLater}
 use Rattle.xc_search.specs.inner.Spanning.{row_at, BeginsBranch, Ends, PassesOver, Stands, EndsSpan}
 use Rattle.xc_input.proofs.lists.EachElement.{each_of_all}
 use Rattle.xc_input.proofs.lists.Filters.{filter_both}
-use Rattle.xc_search.proofs.Cases.{by_bool, by_number}
+use Rattle.xc_input.proofs.Cases.{by_bool, by_number}
 use Rattle.xc_search.proofs.spans.Rows.{not_before}
 use Rattle.xc_search.proofs.spans.Rising.{is_within, keep_none}
 use Rattle.xc_search.proofs.spans.Lies.{lies_from, led_lies}

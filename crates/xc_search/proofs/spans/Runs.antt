@@ -14,7 +14,7 @@ use Rattle.xc_search.specs.inner.Paths.{AreLed, numbers}
 use Rattle.xc_search.specs.inner.Spanning.{row_at, BeginsBranch, Ends, PassesOver, Stands, RunsTo, RanTo, Halts}
 use Rattle.xc_search.specs.inner.Spanning.{EndsSpan}
 use Rattle.xc_search.specs.inner.Spanning.{Settles}
-use Rattle.xc_search.proofs.Cases.{by_number}
+use Rattle.xc_input.proofs.Cases.{by_number}
 use Rattle.xc_search.proofs.spans.Rows.{before_not_before}
 use Rattle.xc_search.proofs.spans.Running.{stands_more, ends_on, ends_span, ends_at_row, ends_all, none_before}
 use Rattle.xc_search.proofs.spans.Advance.{solved_alone}

@@ -6,7 +6,7 @@ use Rattle.xc_search.specs.inner.Sizes.{size_of}
 use Rattle.xc_search.specs.inner.Ahead.{cost, times, work_of, work}
 use Rattle.xc_input.proofs.lists.EachElement.{each_weaker}
 use Rattle.xc_input.proofs.lists.Members.{IsIn}
-use Rattle.xc_search.proofs.Cases.{by_number}
+use Rattle.xc_input.proofs.Cases.{by_number}
 use Rattle.xc_search.proofs.listing.BranchesLess.{each_less, less_items}
 use Rattle.xc_search.proofs.listing.BranchLists.{few_branches}
 

@@ -33,7 +33,7 @@ use Rattle.xc_search.specs.inner.Levels.{MayBegin, IsEntered, begun_level, after
 use Rattle.xc_search.specs.declared.level.Begun.{Begun}
 use Rattle.xc_search.proofs.stacked.NextLevel.{tweaked_at, ground_is}
 use Rattle.xc_search.proofs.room.FewMoves.{has_room}
-use Rattle.xc_search.proofs.Cases.{mapped_some}
+use Rattle.xc_input.proofs.Cases.{mapped_some}
 use Rattle.xc_dance.specs.Moves.{IsLegal}
 use Rattle.xc_dance.specs.declared.dance.Move.TheVariants.{Tweak}
 use Rattle.std.proofs.Common.{Option}
@@ -41,7 +41,7 @@ use Rattle.std.specs.Prelude.{IfSome, is_some}
 use Rattle.xc_input.proofs.lists.Places.{not_some}
 use Rattle.xc_search.specs.Listing.{Branch}
 use Rattle.xc_search.specs.inner.Levels.{IsSearchable, IsOptionAt, branches_at}
-use Rattle.xc_search.proofs.Cases.{by_option}
+use Rattle.xc_input.proofs.Cases.{by_option}
 
 ext_tweaked : (m i : ℕ) (s : List Move) → Extends (tweaked m i s) s
 ext_tweaked zero i s = ext_none

@@ -5,7 +5,7 @@ use Rattle.std.proofs.Common.{length, map, drop, Some, None, refl, sym, ap, â—Œâ
 use Rattle.std.proofs.Common.{eq-eqb, length-drop}
 use Rattle.std.specs.Prelude.{Bool, find, flat_map, unwrap_or}
 use Rattle.std.proofs.Common.{inl, inr}
-use Rattle.xc_search.proofs.Cases.{by_bool, by_option}
+use Rattle.xc_input.proofs.Cases.{by_bool, by_option}
 use Rattle.std.specs.List.{range_with_len}
 use Rattle.xc_input.specs.declared.problem.Use.{Use}
 use Rattle.xc_search.specs.declared.choice.Choice.{Choice}
@@ -35,7 +35,7 @@ use Rattle.xc_search.proofs.moves.OldestMoves.{oldest_all, oldest-drop}
 use Rattle.xc_search.proofs.moves.NoTweaks.{none_above}
 use Rattle.xc_search.proofs.stacked.LessWork.{less_work}
 use Rattle.xc_input.proofs.lists.Filters.{map-map}
-use Rattle.xc_search.proofs.Cases.{mapped_none, mapped_some}
+use Rattle.xc_input.proofs.Cases.{mapped_none, mapped_some}
 use Rattle.xc_search.specs.inner.Commits.{tweaked}
 use Rattle.xc_search.specs.inner.Levels.{IsLevel, after_branch}
 use Rattle.std.proofs.Common.{Option}

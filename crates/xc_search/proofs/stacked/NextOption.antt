@@ -18,7 +18,7 @@ use Rattle.xc_dance.proofs.MoveLemmas.OptionsRise.{rises_filter}
 use Rattle.xc_dance.proofs.MoveLemmas.ListLemmas.{Rises, Rises-weaker, numbers}
 use Rattle.xc_search.proofs.moves.LegalTweaks.{listed_branch}
 use Rattle.xc_input.proofs.lists.Places.{not_some}
-use Rattle.xc_search.proofs.Cases.{by_bool, by_option, mapped_some}
+use Rattle.xc_input.proofs.Cases.{by_bool, by_option, mapped_some}
 use Rattle.xc_search.specs.inner.Levels.{MayBegin}
 
 abbrev number_of : Numbered → ℕ

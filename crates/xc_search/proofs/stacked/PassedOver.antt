@@ -13,10 +13,10 @@ use Rattle.xc_search.specs.declared.level.Level.{Level}
 use Rattle.xc_search.specs.inner.Levels.{Levels, IsStanding, coming, choices_of}
 use Rattle.xc_search.specs.inner.Ahead.{IsSolved, StandsOver, EndsOver, WentOver, WentPast, WentBy}
 use Rattle.xc_search.proofs.stacked.NextLevel.{solution}
-use Rattle.xc_search.proofs.Cases.{by_number}
+use Rattle.xc_input.proofs.Cases.{by_number}
 use Rattle.std.proofs.lemmas.List.{drop-drop, drop_all}
 use Rattle.xc_search.specs.inner.Levels.{AreStacked}
-use Rattle.xc_search.proofs.Cases.{by_bool}
+use Rattle.xc_input.proofs.Cases.{by_bool}
 use Rattle.std.specs.Prelude.{nat_lt}
 
 rest_behind : {X : Type 0} (n : ℕ) (ms : List X) (m : X) (rest : List X) → drop n ms ≡ m ∷ rest → rest ≡ drop (n + 1) ms

@@ -15,7 +15,7 @@ use Rattle.std.specs.Prelude.{map}
 use Rattle.std.proofs.Common.{◌≡◌}
 use Rattle.xc_input.proofs.lists.EachElement.{each_front}
 use Rattle.xc_search.proofs.moves.BranchMoves as branch
-use Rattle.xc_search.proofs.Cases.{by_option}
+use Rattle.xc_input.proofs.Cases.{by_option}
 use Rattle.xc_search.proofs.stacked.NextOption.{last_taken}
 
 level_shown : (p : Puzzle) (u t : List Move) (l : Level) → IsLevelAt p u t l → IsShown p l

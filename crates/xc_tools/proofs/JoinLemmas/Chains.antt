@@ -15,7 +15,7 @@ use Rattle.xc_input.specs.Problem.{Puzzle}
 use Rattle.xc_search.specs.declared.choice.Choice.{Choice}
 use Rattle.xc_search.specs.Cover.{members}
 use Rattle.xc_search.specs.Spans.{between}
-use Rattle.xc_search.proofs.Cases.{by_bool}
+use Rattle.xc_input.proofs.Cases.{by_bool}
 use Rattle.xc_search.proofs.spans.Rising.{all_between, keep_none, spans_meet}
 use Rattle.xc_list.specs.Output.{member_text}
 use Rattle.xc_list.specs.ListingLines.{words_in}

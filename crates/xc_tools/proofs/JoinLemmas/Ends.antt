@@ -24,7 +24,8 @@ use Rattle.xc_tools.specs.Joins.{AreTexts, DoMeet, IsBeginning, IsSpan, Searched
 use Rattle.xc_tools.specs.inner.SpanLines.{Join, Stand, goes, faulty, apart, stand_after, start, wrote}
 use Rattle.xc_tools.proofs.JoinLemmas.SpanRuns.{after-append, listed_from, listed_part, rest_at, span_lines}
 use Rattle.xc_tools.proofs.JoinLemmas.SpanRuns.{wrote-append}
-use Rattle.xc_tools.proofs.JoinLemmas.SpanLines.{ended-append, texts-ended, whole-append, whole-span}
+use Rattle.xc_input.proofs.LineLemmas.TextLines.{ended-append}
+use Rattle.xc_tools.proofs.JoinLemmas.SpanLines.{texts-ended, whole-append, whole-span}
 use Rattle.xc_tools.proofs.JoinLemmas.Chains.{IsEarly, all_lines, after-apart, chain, short-span, so_far-none}
 
 -- ---- the whole listing

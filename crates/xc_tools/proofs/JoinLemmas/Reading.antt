@@ -21,7 +21,8 @@ use Rattle.xc_input.specs.Pieces.{SourceState, Gave}
 use Rattle.std.proofs.Math.Seq.{take-append-add}
 use Rattle.std.proofs.lemmas.List.{length-take}
 use Rattle.xc_tools.proofs.JoinLemmas.SpanRuns.{after-append, wrote-append}
-use Rattle.xc_tools.proofs.JoinLemmas.SpanLines.{ended-append, whole-append}
+use Rattle.xc_input.proofs.LineLemmas.TextLines.{ended-append}
+use Rattle.xc_tools.proofs.JoinLemmas.SpanLines.{whole-append}
 
 -- ---- one line more
 

@@ -10,7 +10,7 @@ use Rattle.xc_input.specs.Problem.{IsOption, IsPrimary, colour_in, uses_of}
 use Rattle.xc_input.specs.UsePlaces.{place_in}
 use Rattle.xc_input.specs.Words.{has}
 use Rattle.xc_input.specs.inner.EndedLines.{ended, AreWhole}
-use Rattle.xc_input.proofs.LineLemmas.TextLines.{lacks-append}
+use Rattle.xc_input.proofs.LineLemmas.TextLines.{ended-append, lacks-append}
 use Rattle.xc_input.proofs.ValidLemmas.Known.{known_option}
 use Rattle.xc_input.proofs.lists.EachElement.{each-append, each-map, each_weaker}
 use Rattle.xc_input.proofs.lists.Members.{IsIn}
@@ -31,10 +31,6 @@ use Rattle.xc_tools.proofs.JoinLemmas.SpanWords.{heading_line, record_line}
 use Rattle.xc_tools.proofs.JoinLemmas.SpanRuns.{IsShort, listing_lines, span_lines}
 
 -- ---- the text
-
-pub ended-append : (ls ms : List (List ℕ)) → ended (ls ++ ms) ≡ ended ls ++ ended ms
-ended-append [] ms = refl
-ended-append (l ∷ ls) ms = grind (arith, ended-append ls ms, append_assoc l (10 ∷ ended ls) (ended ms))
 
 ended-members : (a : Named) (nms : List (ℕ × List Choice)) → flat_map (member_text a) nms ≡ ended (output_lines a nms)
 ended-members a [] = refl

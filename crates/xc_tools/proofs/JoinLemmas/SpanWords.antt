@@ -1,6 +1,6 @@
 -- The words of headings and records.
-use Rattle.std.proofs.Common.{rules, ◌≡◌, ℕ, ◌^◌, ◌<◌, Bool, true, false, List, [], ◌∷◌, ◌++◌, Option, None, Some}
-use Rattle.std.proofs.Common.{flat_map, refl, sym, ap, ◌∙◌, arith, map}
+use Rattle.std.proofs.Common.{◌≡◌, ℕ, ◌^◌, ◌<◌, Bool, true, false, List, [], ◌∷◌, ◌++◌, Option, None, Some}
+use Rattle.std.proofs.Common.{append-nil, flat_map, refl, sym, ap, ◌∙◌, arith, map}
 use Rattle.std.specs.Prelude.{◌==◌, codes, decimal, nat_eq}
 use Rattle.xc_input.specs.Words.{has}
 use Rattle.xc_input.proofs.LineLemmas.TextLines.{lacks-append}
@@ -9,43 +9,21 @@ use Rattle.std.specs.List.{AllByRecursion, list_all, list_any, slice_split}
 use Rattle.std.specs.Str.{byte, bytes_eq}
 use Rattle.std.proofs.lemmas.Bool.Decides.{nat_tests}
 use Rattle.std.proofs.lemmas.Bool.{or_from}
-use Rattle.std.proofs.lemmas.Fmt.{decimal_injective, decimal_nonempty, digits_decimal}
+use Rattle.std.proofs.lemmas.Fmt.{decimal_injective, decimal_nonempty}
 use Rattle.std.proofs.lemmas.List.Folds.{list_any-append}
 use Rattle.std.proofs.lemmas.Slice.Eq.{bytes_eq-Decides}
-use Rattle.std.proofs.lemmas.Str.Parse.{IsNumeralModel, numerals_by_fold}
-use Rattle.xc_input.proofs.TokenLemmas.DecimalValues.{value_from}
+use Rattle.xc_input.proofs.WrittenTexts.Numerals.{digits, lacks-decimal}
+use Rattle.xc_input.proofs.WrittenTexts.Spaced.{split-front}
 use Rattle.xc_list.specs.ListingLines.{words_in}
 use Rattle.xc_list.specs.SpanTexts.{row_text, branches_text}
-use Rattle.xc_tools.specs.inner.SpanLines.{heading_of, is_number, is_row, record_of, recorded_solutions}
+use Rattle.xc_tools.specs.inner.SpanLines.{heading_of, is_number, is_row, record_of}
 
 -- ---- digits
-
-pub digits_read : IsNumeralModel (λ ds. list_all is_ascii_digit ds ≡ true) (value_from 0)
-digits_read = numerals_by_fold _ (search rules) value_from (search rules)
-
-pub digits : (n : ℕ) → n < 2 ^ 64 → list_all is_ascii_digit (decimal n) ≡ true
-digits n h = digits_decimal digits_read n h
-
--- digits are none of another kind of byte
-pub lacks : (p q : ℕ → Bool) → ((b : ℕ) → p b ≡ true → q b ≡ false) → (bs : List ℕ) → list_all p bs ≡ true
-    → list_any q bs ≡ false
-lacks p q apart [] h = refl
-lacks p q apart (b ∷ bs) h = grind (arith, nat_tests, apart b, lacks p q apart bs)
 
 pub is_number-decimal : (n : ℕ) → n < 2 ^ 64 → is_number (decimal n) ≡ true
 is_number-decimal n h = grind (arith, nat_tests, decimal_nonempty n h, digits n h)
 
 -- ---- parts
-
--- a part at the front
-split-front : (p : ℕ → Bool) (w rest : List ℕ) (ws : List (List ℕ)) → list_any p w ≡ false
-    → slice_split p rest ≡ [] ∷ ws → slice_split p (w ++ rest) ≡ w ∷ ws
-split-front p [] rest ws h e = e
-split-front p (b ∷ w) rest ws h e = grind (arith, nat_tests, split-front p w rest ws)
-
-split-none : (p : ℕ → Bool) (w : List ℕ) → list_any p w ≡ false → slice_split p w ≡ w ∷ []
-split-none p [] h = refl
-split-none p (b ∷ w) h = grind (arith, nat_tests, split-none p w)
 
 abbrev pub is_blank : ℕ → Bool
 is_blank b = b == byte " "
@@ -58,7 +36,7 @@ pub word-then : (w rest : List ℕ) → list_any is_blank w ≡ false → words_
 word-then w rest h = split-front is_blank w (32 ∷ rest) (words_in rest) h refl
 
 pub word-last : (w : List ℕ) → list_any is_blank w ≡ false → words_in w ≡ w ∷ []
-word-last w h = split-none is_blank w h
+word-last w h = ap words_in (sym (append-nil w)) ∙ split-front is_blank w [] [] h refl
 
 -- ---- rows
 
@@ -70,7 +48,7 @@ lacks-more : (q : ℕ → Bool) → ((b : ℕ) → is_ascii_digit b ≡ true →
     → AreShort row → list_any q (flat_map (λ k. codes "." ++ decimal k) row) ≡ false
 lacks-more q apart point [] small = refl
 lacks-more q apart point (n ∷ row) small =
-    let first = lacks is_ascii_digit q apart (decimal n) (digits n small.0) in
+    let first = lacks-decimal q apart n small.0 in
     let rest = lacks-more q apart point row small.1 in
     rw (list_any-append q (codes "." ++ decimal n) (flat_map (λ k. codes "." ++ decimal k) row))
     (or_from (list_any q (codes "." ++ decimal n)) (list_any q (flat_map (λ k. codes "." ++ decimal k) row))
@@ -80,7 +58,7 @@ pub lacks-row : (q : ℕ → Bool) → ((b : ℕ) → is_ascii_digit b ≡ true 
     → (row : List ℕ) → AreShort row → list_any q (row_text row) ≡ false
 lacks-row q apart point dash [] small = or_from (q 45) false dash refl
 lacks-row q apart point dash (n ∷ row) small =
-    let first = lacks is_ascii_digit q apart (decimal n) (digits n small.0) in
+    let first = lacks-decimal q apart n small.0 in
     let rest = lacks-more q apart point row small.1 in
     rw (list_any-append q (decimal n) (flat_map (λ k. codes "." ++ decimal k) row))
     (or_from (list_any q (decimal n)) (list_any q (flat_map (λ k. codes "." ++ decimal k) row)) first rest)
@@ -88,11 +66,10 @@ lacks-row q apart point dash (n ∷ row) small =
 numbers-more : (n : ℕ) (row : List ℕ) → n < 2 ^ 64 → AreShort row
     → slice_split is_point (decimal n ++ flat_map (λ k. codes "." ++ decimal k) row) ≡ map decimal (n ∷ row)
 numbers-more n [] h small =
-    split-front is_point (decimal n) [] [] (lacks is_ascii_digit is_point (λ b d. grind (arith, nat_tests)) (decimal n)
-    (digits n h)) refl
+    split-front is_point (decimal n) [] [] (lacks-decimal is_point (λ b d. grind (arith, nat_tests)) n h) refl
 numbers-more n (k ∷ row) h small =
-    split-front is_point (decimal n) _ _ (lacks is_ascii_digit is_point (λ b d. grind (arith, nat_tests)) (decimal n)
-    (digits n h)) (ap (λ ws. [] ∷ ws) (numbers-more k row small.0 small.1))
+    split-front is_point (decimal n) _ _ (lacks-decimal is_point (λ b d. grind (arith, nat_tests)) n h)
+    (ap (λ ws. [] ∷ ws) (numbers-more k row small.0 small.1))
 
 all-numbers : (row : List ℕ) → AreShort row → list_all is_number (map decimal row) ≡ true
 all-numbers [] small = refl
@@ -110,7 +87,7 @@ pub blank-row : (row : List ℕ) → AreShort row → list_any is_blank (row_tex
 blank-row row small = lacks-row is_blank apart-blank refl refl row small
 
 pub blank-decimal : (n : ℕ) → n < 2 ^ 64 → list_any is_blank (decimal n) ≡ false
-blank-decimal n h = lacks is_ascii_digit is_blank apart-blank (decimal n) (digits n h)
+blank-decimal n h = lacks-decimal is_blank apart-blank n h
 
 -- ---- headings and records
 
@@ -142,10 +119,6 @@ words-counts : (n steps : ℕ) → n < 2 ^ 64 → steps < 2 ^ 64 → words_in (c
 words-counts n steps h k =
     ap (λ ws. codes "solutions" ∷ ws) (word-then (decimal n) (codes "steps " ++ decimal steps) (blank-decimal n h)
     ∙ ap (λ ws. decimal n ∷ codes "steps" ∷ ws) (word-last (decimal steps) (blank-decimal steps k)))
-
-solutions-read : (n steps : ℕ) → n < 2 ^ 64 → steps < 2 ^ 64 → recorded_solutions (counts_words n steps)
-    ≡ Some (decimal n)
-solutions-read n steps h k = rw (is_number-decimal n h, is_number-decimal steps k) refl
 
 -- the words from the end of a span on
 module _ (until : List ℕ) (n steps : ℕ) (u : AreShort until) (h : n < 2 ^ 64) (k : steps < 2 ^ 64) where
@@ -202,7 +175,7 @@ pub feed-row : (row : List ℕ) → AreShort row → has 10 (row_text row) ≡ f
 feed-row row short = lacks-row (λ b. nat_eq b 10) apart-feed refl refl row short
 
 pub feed-decimal : (n : ℕ) → n < 2 ^ 64 → has 10 (decimal n) ≡ false
-feed-decimal n h = lacks is_ascii_digit (λ b. nat_eq b 10) apart-feed (decimal n) (digits n h)
+feed-decimal n h = lacks-decimal (λ b. nat_eq b 10) apart-feed n h
 
 feed-branches : (branches : Option (List ℕ)) → AreShortIf branches → has 10 (branches_text branches) ≡ false
 feed-branches None b = refl

@@ -22,7 +22,7 @@ use Rattle.xc_dance.specs.inner.Links.ItemCells.{items_after, rlink_at}
 use Rattle.xc_dance.specs.inner.Links.Laid.{IsLaid, HoldsItem}
 use Rattle.xc_dance.specs.inner.Links.Answered.{named, IsNodeOf}
 use Rattle.xc_dance.specs.inner.Links.OptionPlaces.{start_at}
-use Rattle.xc_dance.proofs.MoveLemmas.ListLemmas.{next_above-gt, Rises-filter, Rises-range}
+use Rattle.xc_dance.proofs.MoveLemmas.ListLemmas.{next_above-gt, primary_pure, Rises-filter, Rises-range}
 use Rattle.xc_dance.proofs.LinkedTables.Cells.LinkColumns.{get_map, get_down}
 use Rattle.xc_dance.proofs.LinkedTables.Rings.RingStep.{row_get, row_len, right_now}
 use Rattle.xc_dance.proofs.MoveLemmas.StateLemmas.{open_or_covered, open_uncovered}
@@ -62,11 +62,6 @@ above_named n xs = grind (arith, ne_eqb, next_above-gt)
 
 -- ---- open primary items
 
-primary_unpurified : (p : Puzzle) (t : List Move) (i : ℕ) → AreLegal p t → i ≤ primary_count p → purified i t ≡ None
-primary_unpurified p [] i legal le = grind (arith, ne_eqb)
-primary_unpurified p (Purify j c ∷ t) i legal le = grind (arith, ne_eqb, primary_unpurified p t i legal.1 le)
-primary_unpurified p (_ ∷ t) i legal le = grind (arith, ne_eqb, primary_unpurified p t i legal.1 le)
-
 same_filter : (f g : ℕ → Bool) (a n : ℕ) → ((k : ℕ) → k < a + n → f k ≡ g k)
     → filter f (range_with_len a n) ≡ filter g (range_with_len a n)
 same_filter f g a zero h = refl
@@ -76,7 +71,7 @@ same_filter f g a (suc n) h =
 -- the first ring's items are the open primary ones
 pub ring_open : (p : Puzzle) (t : List Move) (i : ℕ) → AreLegal p t → i ≤ primary_count p
     → ring_of p t i ≡ open_items p t
-ring_open p t i legal le = grind (arith, le-leb, open_or_covered, primary_unpurified, same_filter)
+ring_open p t i legal le = grind (arith, le-leb, open_or_covered, primary_pure, same_filter)
 
 -- ---- the node by which an option uses an item, the option of a node, and the links downwards by option numbers
 

@@ -1,11 +1,12 @@
-use Rattle.std.proofs.Common.{ℕ, ◌≡◌, ◌<◌, ◌≤◌, List, [], ◌∷◌, ◌++◌, length, refl, ap, subst, ◌∙◌, arith}
-use Rattle.std.proofs.Common.{length-append, lt-ltb, le-ltb}
+use Rattle.std.proofs.Common.{ℕ, ◌≡◌, ◌<◌, ◌≤◌, List, [], ◌∷◌, ◌++◌, length, ap, subst, ◌∙◌, arith}
+use Rattle.std.proofs.Common.{length-append, le-ltb}
 use Rattle.std.specs.Prelude.{slice_get}
 use Rattle.std.specs.List.{AllByRecursion}
 use Rattle.xc_input.proofs.lists.EachTwo.{EachTwo, AllPairs-from_each_two}
 use Rattle.xc_dance.specs.Moves.{listed_numbers, next_above}
 use Rattle.xc_dance.specs.inner.Lists.Rising.{Rises}
 use Rattle.xc_dance.proofs.MoveLemmas.ListLemmas.{Rises-weaker}
+use Rattle.xc_dance.proofs.MoveLemmas.NextPlaces.{next_first}
 use Rattle.xc_dance.proofs.MoveLemmas.Shortened.{rises_listed}
 use Rattle.xc_dance.proofs.laws.lists_rise.Goals as goal
 
@@ -17,18 +18,13 @@ each_two : (n : ℕ) (xs : List ℕ) → Rises n xs → EachTwo (λ m k. m < k) 
 each_two n [] r = (tt, tt)
 each_two n (x ∷ xs) r = (each_above n (x ∷ xs) r, each_two x xs r.1)
 
--- above the number before a list that rises is its head
-head : (n : ℕ) (xs : List ℕ) → Rises n xs → next_above n xs ≡ slice_get xs 0
-head n [] r = refl
-head n (x ∷ xs) r = grind (arith, lt-ltb)
-
 -- a number of a list that rises is not below its head, and the next one above it stands behind it
 next : (m o : ℕ) (xs front back : List ℕ) → Rises m xs → m ∷ xs ≡ front ++ o ∷ back
     → (m ≤ o) × (next_above o xs ≡ slice_get back 0)
 next m o xs [] back r e =
     let same : m ≡ o = cc in
     let rest : xs ≡ back = cc in
-    let first = head m xs r ∙ ap (λ ys. slice_get ys 0) rest in
+    let first = next_first m xs r ∙ ap (λ ys. slice_get ys 0) rest in
     (omega (arith, same), subst (λ k. next_above k xs ≡ slice_get back 0) same first)
 next m o [] (y ∷ front) back r e =
     absurd (let l = simp length-append at (ap length e) in omega (arith, l))

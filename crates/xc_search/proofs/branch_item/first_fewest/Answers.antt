@@ -1,5 +1,6 @@
 use Rattle.std.proofs.Common.{arith, sym, inl}
-use Rattle.xc_search.proofs.residual.FirstFewest.{WalksTo, next_open, once_more, choice_none, nearer}
+use Rattle.xc_search.proofs.residual.FirstFewest.{WalksTo, once_more, choice_none, nearer}
+use Rattle.xc_dance.proofs.MoveLemmas.ListLemmas.{next_open}
 use Rattle.xc_search.proofs.residual.FirstFewest.{walk_first, walk_on, walk_none, walk_enough, walk_ends}
 use Rattle.xc_search.proofs.branch_item.first_fewest.Goals as goal
 use Rattle.xc_search.proofs.branch_item.first_fewest.Goals.{After-branches_of-branches, Then-n-branches}
