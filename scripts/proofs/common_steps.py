@@ -26,6 +26,8 @@ def set_plain(crate: Crate, kept: set[tuple[Path, int]]) -> int:
     """Writes the files so, but for the lines that are kept, and returns how many lines changed."""
     count = 0
     for file, lines in crate.lines.items():
+        if not crate.is_tried(file):
+            continue
         changed = [
             line if (file, at) in kept or re.match(r"\s*(pub |unfoldable )*use ", line) else plain(line)
             for at, line in enumerate(lines)

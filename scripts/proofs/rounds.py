@@ -29,9 +29,13 @@ OF_A_FILE = re.compile(
 class Crate:
     """The proofs of a crate in a copy of the repository."""
 
-    def __init__(self, top: Path, name: str) -> None:
+    def __init__(self, top: Path, name: str, only: list[str]) -> None:
         self.top, self.name, self.folder = top, name, top / "crates" / name
+        self.only = [self.folder / "proofs" / file for file in only or ["."]]
         self.read()
+
+    def is_tried(self, file: Path) -> bool:
+        return any(file.is_relative_to(place) for place in self.only)
 
     def read(self) -> None:
         self.lines = {file: file.read_text().split("\n") for file in sorted(self.folder.glob("proofs/**/*.antt"))}
@@ -82,6 +86,8 @@ class Crate:
         lemmas, helpers = self.lemmas(), self.helpers()
         found: list[Trial] = []
         for file, proofs in self.proofs.items():
+            if not self.is_tried(file):
+                continue
             known = set(imports(self.lines[file])) | {proof.name for proof in proofs}
             reach = {helper.proof.name: known | self.offered(helper.proof, file) for helper in helpers.values()}
             for proof in proofs:
