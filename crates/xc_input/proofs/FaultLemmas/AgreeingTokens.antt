@@ -21,11 +21,7 @@ numbered n ((a, false) ∷ cs) k e = numbered n cs k e
 
 at_fault : {cut : List ℕ → List (List ℕ)} (checks : List (List ℕ) → List ℕ → List (FaultKind × Bool)) {line : List ℕ}
     (t : FaultyToken) → IsAtFault cut checks line t → first (checks_of_each checks [] (cut line)) ≡ Some t.kind
-at_fault {cut = cut} checks t h =
-    let rest = cut t.behind.now in
-    rw h.order (first-each checks h.others (t.token.now ∷ rest) h.faultless
-    ∙ first-front (checks h.others t.token.now) (checks_of_each checks (h.others ++ t.token.now ∷ []) rest) t.kind
-    h.fault)
+at_fault {cut = cut} checks t h = grind (arith, first-each, first-front)
 
 content_fault : (kind : Kind) (lines : List (List ℕ)) (line : List ℕ) (t : FaultyToken)
     → IsFaulty kind (slice_get lines 0) line t → first (content_checks kind lines line) ≡ Some t.kind

@@ -1,7 +1,7 @@
 -- What a source gave, piece after piece.
 use Rattle.std.proofs.lemmas.Bool.Decides.{nat_tests}
-use Rattle.std.proofs.Common.{◌≡◌, ℕ, ◌<◌, List, [], ◌∷◌, ◌++◌, None, Some, Result, Ok, Err, IfOk}
-use Rattle.std.proofs.Common.{ap, ◌∙◌, IfErr, length, refl, sym, subst, append_assoc, append-nil, arith, inl, inr}
+use Rattle.std.proofs.Common.{◌≡◌, ℕ, ◌<◌, List, [], ◌∷◌, ◌++◌, Some, Result, Ok, Err, IfOk}
+use Rattle.std.proofs.Common.{◌∙◌, IfErr, length, refl, sym, append_assoc, append-nil, arith, inl, inr}
 use Rattle.xc_input.proofs.LineLemmas.TextLines.{last-of-part, lines_of-all}
 use Rattle.xc_input.specs.inner.EndedLines.{ended}
 use Rattle.std.specs.Result.{result_err}
@@ -14,36 +14,22 @@ use Rattle.xc_input.specs.declared.reader.Read.{Read}
 use Rattle.xc_input.specs.Readings.{Reading}
 use Rattle.xc_input.specs.inner.Feeding.{fed, IsBetween, Spoils, EndsAs}
 use Rattle.xc_input.specs.Lines.{lines_of}
-use Rattle.xc_input.specs.FirstFault.{line_fault}
 use Rattle.xc_input.specs.Pieces.{SourceState, Gave, GaveAll, GaveFaultless, IsOpen, IsWhole, IsPart}
 use Rattle.xc_input.proofs.LineLemmas.Reading.{error-ends}
 
 -- one read more gave some bytes
 pub gave_more : (a b c : SourceState) (bytes piece : List ℕ) → Gave a b bytes → 0 < length piece
     → Consumes b.rest c.rest piece → c.given ≡ b.given ++ piece ∷ [] → Gave a c (bytes ++ piece)
-gave_more a b c bytes piece g some told e = record {
-  told = grind (arith, common_steps, append_assoc);
-  pieces = g.pieces ++ piece ∷ [];
-  some = grind (arith, common_steps);
-  added = e ∙ ap (λ l. l ++ piece ∷ []) g.added ∙ append_assoc a.given g.pieces (piece ∷ []);
-  whole = grind (arith, flat_map-append, append-nil);
-}
+gave_more a b c bytes piece g some told e = grind (arith, common_steps, append_assoc, flat_map-append, append-nil)
 
 -- nothing was given yet
 pub gave_none : (a : SourceState) → Gave a a []
-gave_none a = grind (arith, common_steps, append-nil)
+gave_none a = grind (arith, append-nil)
 
 -- what a reader was given has no fault, where no error is known
 pub faultless : (kind : Kind) (reading : Reading) (carry : List ℕ) {a b : SourceState} → reading.kind ≡ kind
     → IsBetween reading carry → Gave a b (fed reading carry) → GaveFaultless kind a b
-faultless kind reading carry is between gave = record {
-  front = ended reading.lines;
-  part = carry;
-  gave = gave;
-  no_fault = subst (λ k. line_fault k (lines_of (ended reading.lines)) ≡ None) is
-      (rw (lines_of-all reading.lines between.whole) between.no_fault);
-  partial = between.partial;
-}
+faultless kind reading carry is between gave = grind (arith, ended, lines_of-all)
 
 -- want of memory before the first read
 pub part-none : (kind : Kind) (a : SourceState) → IsPart kind a a Memory

@@ -1,6 +1,6 @@
 -- What a text's lines are, once some of them were handed on.
 use Rattle.xc_input.proofs.lists.EachElement.{each-append}
-use Rattle.std.proofs.Common.{◌≡◌, ◌≢◌, ℕ, ◌<◌, List, [], ◌∷◌, ◌++◌, Bool, true, false, nat_eq, Result, Ok}
+use Rattle.std.proofs.Common.{◌≡◌, ◌≢◌, ℕ, ◌<◌, List, [], ◌∷◌, ◌++◌, true, false, nat_eq, Result, Ok}
 use Rattle.std.proofs.Common.{Err, length, refl, sym, ap, ◌∙◌, subst, append_assoc, append-nil, arith, if◌then◌else◌}
 use Rattle.std.specs.List.{onto_first}
 use Rattle.std.proofs.lemmas.Bool.Decides.{nat_tests}
@@ -99,9 +99,4 @@ onto-whole b (l ∷ ls) h w = (grind (arith, nat_tests, h, w.0), w.1)
 -- no line of a text has a line feed in it
 pub lines_of-whole : (bs : List ℕ) → AreWhole (lines_of bs)
 lines_of-whole [] = tt
-lines_of-whole (b ∷ bs) =
-    let cut = λ (t : Bool). if t then [] ∷ lines_of bs else onto_first b (lines_of bs) in
-    elim (nat_eq b 10) as (λ t. nat_eq b 10 ≡ t → AreWhole (cut t)) [
-      | true ↦ λ e. (refl, lines_of-whole bs)
-      | false ↦ λ e. onto-whole b (lines_of bs) e (lines_of-whole bs)
-    ] refl
+lines_of-whole (b ∷ bs) = grind (arith, onto-whole, lines_of-whole bs)

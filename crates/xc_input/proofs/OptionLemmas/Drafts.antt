@@ -61,32 +61,7 @@ pub begun : {d : ProblemBuilder} → IsBuilder d → d.started ≡ false → (ro
       ignored = d.ignored.items;
     })
 begun {d} s f row table {tables} sound names primary colours uses {starts} at =
-    let first : tables.primary ≡ unwrap_or row.bar (length (map entry_of row.items.items)) =
-    primary ∙ ap (unwrap_or row.bar) (sym (length-map row.items.items entry_of)) in
-    let none : pieces starts.items tables.uses.items ≡ pieces d.starts.items d.tables.uses.items =
-    ap (λ l. pieces l tables.uses.items) at ∙ sym (ap (λ l. pieces l d.tables.uses.items) (s.unstarted f).0) in
-    let few : length (key_names d.tables.colours.keys) ≤ 0 =
-    omega (arith, s.tables.few_colours, ap length (s.unstarted f).1) in
-    let unmet : key_names tables.colours.keys ≡ key_names d.tables.colours.keys =
-    ap key_names colours ∙ sym (empty (key_names d.tables.colours.keys) few) in (
-      record {
-        names = ap (λ n. key_names n.keys) names ∙ table.0;
-        tables = sound;
-        few_uses = omega (arith, ap length uses);
-        starts = λ _. rw (at, uses) (refl, refl);
-        unstarted = λ g. absurd (true≢false g);
-      },
-      λ i. record {
-        started = true;
-        sheet = record {
-          entries = map entry_of row.items.items;
-          primaries = first i;
-          options = none i;
-          colours = unmet i;
-        };
-        ignored = d.ignored.items;
-      },
-    )
+    grind (arith, length-map, pieces, empty)
 
 module _ (kind : Kind) {d : ProblemBuilder} (line : List ℕ) (s : IsBuilder d) (t : d.started ≡ true) where
   abbrev us : List Written

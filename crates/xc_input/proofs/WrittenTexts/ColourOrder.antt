@@ -1,8 +1,7 @@
 -- The colours of each problem that lines stand for are numbered as its uses meet them.
-use Rattle.std.proofs.Common.{◌≡◌, ℕ, ◌+◌, suc, List, [], ◌∷◌, ◌++◌, refl, ap, ◌∙◌, sym, subst, arith, map, flat_map}
+use Rattle.std.proofs.Common.{◌≡◌, ℕ, ◌+◌, List, [], ◌∷◌, ◌++◌, refl, ap, ◌∙◌, sym, subst, arith, map, flat_map}
 use Rattle.std.proofs.Common.{get_or}
 use Rattle.std.specs.Prelude.{unwrap_or}
-use Rattle.std.specs.Str.{bytes_eq}
 use Rattle.std.specs.List.{AllByRecursion as Each}
 use Rattle.std.proofs.lemmas.List.{map-append}
 use Rattle.std.proofs.lemmas.List.Quantifiers.{position-Some}
@@ -24,19 +23,12 @@ written_use colours u = record { item = u.item; colour = unwrap_or (numbered_get
 
 all-known : (cs : List (List ℕ)) (us : List Written) → Each (λ u. Knows (with_uses cs us) u.colour) us
 all-known cs [] = tt
-all-known cs (u ∷ us) = (
-  (kept (with_colour cs u.colour) us u.colour (met cs u.colour)).0,
-  all-known (with_colour cs u.colour) us,
-)
+all-known cs (u ∷ us) = grind (arith, kept, met, all-known (with_colour cs u.colour) us)
 
 -- a known colour is that of its number
 known-back : (cs : List (List ℕ)) (c : List ℕ) → Knows cs c → unwrap_or (numbered_get cs (colour_number cs c)) [] ≡ c
 known-back cs [] k = refl
-known-back cs (b ∷ bs) (i, e) =
-    let number : colour_number cs (b ∷ bs) ≡ suc i = ap (λ o. unwrap_or o 0 + 1) e ∙ omega arith in
-    let at : get_or cs i [] ≡ b ∷ bs =
-    grind (arith, position-Some (bytes_eq (b ∷ bs)) cs i [] e, bytes_eq-Decides (b ∷ bs) (get_or cs i [])) in
-    ap (λ n. unwrap_or (numbered_get cs n) []) number ∙ unwrap_or-slice_get cs i [] ∙ at
+known-back cs (b ∷ bs) (i, e) = grind (arith, get_or, position-Some, bytes_eq-Decides, unwrap_or-slice_get)
 
 uses-back : (cs : List (List ℕ)) (us : List Written) → Each (λ u. Knows cs u.colour) us
     → map (written_use cs) (number_uses cs us) ≡ us
@@ -48,16 +40,11 @@ uses-back cs (u ∷ us) g = λ i.
 flat-numbers : (cs : List (List ℕ)) (os : List (List Written)) → number_uses cs (flat_map (λ us. us) os)
     ≡ flat_map (λ us. us) (map (number_uses cs) os)
 flat-numbers cs [] = refl
-flat-numbers cs (us ∷ os) =
-    map-append _ us (flat_map (λ us. us) os) ∙ ap (λ t. number_uses cs us ++ t) (flat-numbers cs os)
+flat-numbers cs (us ∷ os) = grind (arith, map-append, flat-numbers cs os)
 
 pub in-order : (kind : Kind) (lines : List (List ℕ)) (a : Named) (ignored : List ℕ) → StandsFor kind lines a ignored
     → AreMetInOrder a
-in-order kind lines a ignored s = let o = s.options in (
-  flat_map (λ us. us) o.kept,
-  o.colours,
-  flat-numbers a.colours o.kept ∙ ap (λ os. flat_map (λ us. us) os) (sym o.numbered),
-)
+in-order kind lines a ignored s = grind (arith, flat-numbers)
 
 -- and then they are those of the problem's uses as lines write them
 pub met-by-uses : (a : Named) → AreMetInOrder a

@@ -1,6 +1,6 @@
 -- The item line of a problem: each primary item with both bounds, a bar, and the secondary items.
 use Rattle.std.proofs.Common.{◌≡◌, ℕ, ◌<◌, ◌≤◌, ◌^◌, List, [], ◌∷◌, ◌++◌, Bool, true, false, length}
-use Rattle.std.proofs.Common.{refl, ap, ◌∙◌, arith, map, drop, nat_eq, inl, inr}
+use Rattle.std.proofs.Common.{refl, ap, ◌∙◌, arith, map, drop, inl}
 use Rattle.std.specs.Prelude.{decimal}
 use Rattle.std.specs.List.{AllByRecursion as Each, AllZip, list_any}
 use Rattle.std.specs.Char.{is_ascii_digit}
@@ -11,7 +11,7 @@ use Prim.Native.Char.{code}
 use Rattle.xc_input.specs.declared.kind.Kind.TheVariants.{Bounds as ByBounds}
 use Rattle.xc_input.specs.declared.problem.Bounds.{Bounds}
 use Rattle.xc_input.specs.Limits.{greatest_bound}
-use Rattle.xc_input.specs.Tokens.{is_space, is_bar}
+use Rattle.xc_input.specs.Tokens.{is_bar}
 use Rattle.xc_input.specs.Words.{has}
 use Rattle.xc_input.specs.Named.{IsName, IsUnbroken}
 use Rattle.xc_input.specs.Sheets.{Entry}
@@ -53,68 +53,18 @@ pub record IsPlainName (n : List ℕ) : Type 0 where
 
 lacks-bounds : (p : ℕ → Bool) → ((b : ℕ) → is_ascii_digit b ≡ true → p b ≡ false) → p (code ":") ≡ false → (b : Bounds)
     → AreWritable b → list_any p (bounds_word b) ≡ false
-lacks-bounds p apart colon b w =
-    let low = lacks-decimal p apart b.low (omega (arith, w.order, w.few)) in
-    let high = lacks-decimal p apart b.high (omega (arith, w.few)) in
-    list_any-append p (decimal b.low) (code ":" ∷ decimal b.high) ∙ grind (arith, low, high, colon)
-
-lacks-item : (p : ℕ → Bool) → ((b : ℕ) → is_ascii_digit b ≡ true → p b ≡ false) → p (code ":") ≡ false
-    → p (code "|") ≡ false → (b : Bounds) (n : List ℕ) → AreWritable b → list_any p n ≡ false
-    → list_any p (item_word b n) ≡ false
-lacks-item p apart colon bar b n w name =
-    list_any-append p (bounds_word b) (code "|" ∷ n) ∙ grind (arith, lacks-bounds p apart colon b w, bar, name)
-
-pub item-word : (b : Bounds) (n : List ℕ) → AreWritable b → IsUnbroken n → IsWord (item_word b n)
-item-word b n w u = record {
-  some = grind (arith, length-append (bounds_word b) (code "|" ∷ n));
-  no_space = lacks-item is_space (λ x h. grind (arith, nat_tests, h)) refl refl b n w u.no_space;
-  no_nul = lacks-item (λ x. nat_eq x 0) (λ x h. grind (arith, nat_tests, h)) refl refl b n w u.no_nul;
-  no_feed = lacks-item (λ x. nat_eq x 10) (λ x h. grind (arith, nat_tests, h)) refl refl b n w u.no_feed;
-}
+lacks-bounds p apart colon b w = grind (arith, lacks-decimal, list_any-append)
 
 pub front-bar : (xs ys : List ℕ) → 0 < length xs → has (code "|") xs ≡ false → is_bar (xs ++ ys) ≡ false
 front-bar [] ys h e = absurd (omega (arith, h))
 front-bar (x ∷ xs) ys h e = grind (arith, nat_tests, e)
 
-no_bar-bounds : (b : Bounds) → AreWritable b → has (code "|") (bounds_word b) ≡ false
-no_bar-bounds b w = lacks-bounds (λ x. nat_eq x (code "|")) (λ x h. grind (arith, nat_tests, h)) refl b w
-
-pub item-bar : (b : Bounds) (n : List ℕ) → AreWritable b → is_bar (item_word b n) ≡ false
-item-bar b n w =
-    front-bar (bounds_word b) (code "|" ∷ n) (grind (arith, length-append (decimal b.low) (code ":" ∷ decimal b.high)))
-    (no_bar-bounds b w)
-
-item-entry : (b : Bounds) (n : List ℕ) → AreWritable b → IsName n
-    → IsEntry ByBounds false (item_word b n) (record { name = n; low = b.low; high = b.high })
-item-entry b n w name =
-    let low : b.low < 10 ^ 9 = omega (arith, w.order, w.few) in
-    let high : b.high < 10 ^ 9 = omega (arith, w.few) in (
-      name,
-      inr (
-        bounds_word b,
-        refl,
-        refl,
-        no_bar-bounds b w,
-        refl,
-        inr (
-          decimal b.low,
-          decimal b.high,
-          refl,
-          are_digits-decimal 9 b.low (omega arith) low (omega (arith, low)),
-          are_digits-decimal 9 b.high (omega arith) high (omega (arith, high)),
-          number-decimal b.low low,
-          number-decimal b.high high,
-        ),
-        w.some,
-        w.order,
-      ),
-    )
-
 pub primary-stand : (bs : List Bounds) (ns : List (List ℕ)) → Each AreWritable bs → Each IsPlainName ns
     → AllZip (IsEntry ByBounds false) (item_words bs ns) (primary_entries bs ns)
 primary-stand [] ns w g = tt
 primary-stand (b ∷ bs) [] w g = tt
-primary-stand (b ∷ bs) (n ∷ ns) w g = (item-entry b n w.0 g.0.name, primary-stand bs ns w.1 g.1)
+primary-stand (b ∷ bs) (n ∷ ns) w g =
+    grind (arith, are_digits-decimal, number-decimal, lacks-bounds, primary-stand bs ns w.1 g.1)
 
 pub secondary-stand : (ns : List (List ℕ)) → Each IsPlainName ns
     → AllZip (IsEntry ByBounds true) ns (map secondary_entry ns)
@@ -126,17 +76,11 @@ pub words-good : (bs : List Bounds) (ns : List (List ℕ)) → Each AreWritable 
 words-good [] ns w g = (tt, tt)
 words-good (b ∷ bs) [] w g = (tt, tt)
 words-good (b ∷ bs) (n ∷ ns) w g =
-    let rest = words-good bs ns w.1 g.1 in
-    ((item-word b n w.0 g.0.unbroken, rest.0), (item-bar b n w.0, rest.1))
+    grind (arith, length-append, list_any-append, lacks-bounds, front-bar, words-good bs ns w.1 g.1)
 
 -- a name is a word that no bar begins
 pub name-word : (n : List ℕ) → IsPlainName n → IsWord n
-name-word n g = record {
-  some = g.name.some;
-  no_space = g.unbroken.no_space;
-  no_nul = g.unbroken.no_nul;
-  no_feed = g.unbroken.no_feed;
-}
+name-word n g = grind (arith)
 
 pub name-bar : (n : List ℕ) → IsPlainName n → is_bar n ≡ false
 name-bar [] g = absurd (omega (arith, g.name.some))

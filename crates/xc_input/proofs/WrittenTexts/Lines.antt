@@ -1,4 +1,5 @@
 -- The lines of a problem, and that they stand for it.
+use Rattle.std.proofs.lemmas.Grind.{common_steps}
 use Rattle.std.proofs.Common.{◌≡◌, ◌≢◌, ℕ, zero, suc, ◌<◌, ◌≤◌, ◌+◌, List, [], ◌∷◌, ◌++◌, true, false, not, length}
 use Rattle.std.proofs.Common.{refl, ap, ◌∙◌, sym, arith, map, filter, flat_map, drop, subst, get_or}
 use Rattle.std.specs.Prelude.{codes}
@@ -27,8 +28,7 @@ use Rattle.xc_input.proofs.lists.EachElement.{each-append, each-map, each_weaker
 use Rattle.xc_input.proofs.lists.EachTwo.{AllPairs-from_each_two, each_two_from_AllPairs, EachTwo-map}
 use Rattle.xc_input.proofs.WrittenTexts.Spaced.{IsWord, IsPart, spaced, tokens-spaced, parts-spaced, lacks-spaced}
 use Rattle.xc_input.proofs.WrittenTexts.Spaced.{cut-at_bar}
-use Rattle.xc_input.proofs.WrittenTexts.Spaced.{shown-spaced}
-use Rattle.xc_input.proofs.WrittenTexts.ItemLine.{AreWritable, IsPlainName, item_words, primary_entries}
+use Rattle.xc_input.proofs.WrittenTexts.ItemLine.{IsPlainName, item_words, primary_entries}
 use Rattle.xc_input.proofs.WrittenTexts.ItemLine.{secondary_entry}
 use Rattle.xc_input.proofs.WrittenTexts.ItemLine.{primary-stand, secondary-stand, words-good, words-parts, name-word}
 use Rattle.xc_input.proofs.WrittenTexts.ItemLine.{name-bar}
@@ -54,9 +54,6 @@ pub record IsWritten (a : Named) (us : List Use) : Type 0 where
   pub uses : Each (IsWritable a) us
 
 -- ---- options
-tokens-of : (a : Named) → IsSound a → (us : List Use) → Each (IsWritable a) us → Each (IsTokenOf a) us
-tokens-of a s us w = each_weaker _ _ us (token-of a s) w
-
 words-of : (a : Named) (us : List Use) → Each (IsTokenOf a) us → Each IsWord (option_words a us)
 words-of a us g = each-map IsWord _ us (each_weaker _ _ us (λ u t. t.word) g)
 
@@ -71,10 +68,9 @@ Differ u v = u.item ≢ v.item
 option-stands : (a : Named) → IsSound a → (k : ℕ) (us : List Use) → IsWritten a us
     → IsOptionLine (context_of a) (k, spaced (option_words a us)) (line_number k, map (written_use a.colours) us)
 option-stands a s k us w =
-    let good = tokens-of a s us w.uses in (
+    let good = each_weaker _ _ us (token-of a s) w.uses in (
       refl,
-      subst (λ ts. AllZip (IsUse (context_of a)) ts (map (written_use a.colours) us))
-          (sym (tokens-spaced (option_words a us) (words-of a us good))) (zip-uses a us good),
+      grind (arith, tokens-spaced, words-of, zip-uses),
       AllPairs-from_each_two Differ _ (EachTwo-map Differ (written_use a.colours) us
           (each_two_from_AllPairs (λ u v. u.item ≢ v.item) us w.option.distinct)),
     )
@@ -93,25 +89,19 @@ primary-at : (a : Named) (us : List Use) (k : ℕ) (x : Use) → k < length us �
     → x.item ≤ length a.puzzle.bounds
     → has_primary (length a.puzzle.bounds) (map (written_use a.colours) us) ≡ true
 primary-at a [] k x h e p = absurd (omega (arith, h))
-primary-at a (u ∷ us) zero x h e p =
-    let item : u.item ≡ x.item = ap (λ (y : Use). y.item) e in grind (arith, nat_tests, item, p)
+primary-at a (u ∷ us) zero x h e p = grind (arith)
 primary-at a (u ∷ us) (suc k) x h e p = grind (arith, nat_tests, primary-at a us k x (omega (arith, h)) e p)
-
-has-primary : (a : Named) (us : List Use) → IsWritten a us
-    → has_primary (length a.puzzle.bounds) (map (written_use a.colours) us) ≡ true
-has-primary a us w =
-    let one = w.option.one_primary in primary-at a us one.0 one.1 one.2 one.3 one.4
 
 none-ignored : (a : Named) (k : ℕ) (os : List (List Use)) → Each (IsWritten a) os
     → [] ≡ map (λ o. o.0) (filter (λ o. not (has_primary (length a.puzzle.bounds) o.1)) (stated a k os))
 none-ignored a k [] w = refl
-none-ignored a k (us ∷ os) w = grind (arith, nat_tests, has-primary a us w.0, none-ignored a (k + 1) os w.1)
+none-ignored a k (us ∷ os) w = grind (arith, primary-at, none-ignored a (k + 1) os w.1)
 
 all-kept : (a : Named) (k : ℕ) (os : List (List Use)) → Each (IsWritten a) os
     → map (λ us. map (written_use a.colours) us) os
     ≡ map (λ o. o.1) (filter (λ o. has_primary (length a.puzzle.bounds) o.1) (stated a k os))
 all-kept a k [] w = refl
-all-kept a k (us ∷ os) w = grind (arith, nat_tests, has-primary a us w.0, all-kept a (k + 1) os w.1)
+all-kept a k (us ∷ os) w = grind (arith, primary-at, all-kept a (k + 1) os w.1)
 
 few-uses : (a : Named) (os : List (List Use))
     → length (flat_map (λ us. us) (map (λ us. map (written_use a.colours) us) os)) ≡ use_count os
@@ -123,9 +113,7 @@ few-uses a (us ∷ os) =
 flat-uses : (a : Named) (os : List (List Use)) → map (written_use a.colours) (flat_map (λ us. us) os)
     ≡ flat_map (λ us. us) (map (λ us. map (written_use a.colours) us) os)
 flat-uses a [] = refl
-flat-uses a (us ∷ os) =
-    map-append (written_use a.colours) us (flat_map (λ us. us) os)
-    ∙ ap (λ t. map (written_use a.colours) us ++ t) (flat-uses a os)
+flat-uses a (us ∷ os) = grind (arith, map-append, flat-uses a os)
 
 options-back : (a : Named) → IsSound a → (os : List (List Use)) → Each (IsWritten a) os
     → os ≡ map (number_uses a.colours) (map (λ us. map (written_use a.colours) us) os)
@@ -146,18 +134,8 @@ options-stand a s met w = let os = a.puzzle.options in record {
 }
 
 -- ---- items
-written-bounds : (a : Named) → IsSound a → Each AreWritable a.puzzle.bounds
-written-bounds a s = recursion_from_All AreWritable a.puzzle.bounds (λ k d h. record {
-  order = (s.valid.bounds k d h).0;
-  some = (s.valid.bounds k d h).1;
-  few = s.limits.bounds k d h;
-})
-
 plain-names : (a : Named) → IsSound a → Each IsPlainName a.names
-plain-names a s = recursion_from_All IsPlainName a.names (λ k d h. record {
-  name = s.named.names k d h;
-  unbroken = s.named.unbroken_names k d h;
-})
+plain-names a s = grind (arith, recursion_from_All)
 
 each-drop : {X : Type 0} (P : X → Type 0) (n : ℕ) (xs : List X) → Each P xs → Each P (drop n xs)
 each-drop P zero xs a = a
@@ -175,13 +153,10 @@ record ItemWords (a : Named) : Type 0 where
 item-line : (a : Named) → IsSound a → ItemWords a
 item-line a s =
     let bs = a.puzzle.bounds in let rest = each-drop IsPlainName (length bs) a.names (plain-names a s) in
-    let front = words-good bs a.names (written-bounds a s) (plain-names a s) in
+    let front = words-good bs a.names (grind (arith, recursion_from_All)) (plain-names a s) in
     let back = each_weaker IsPlainName IsWord (drop (length bs) a.names) name-word rest in
-    let no_bar = each_weaker IsPlainName (λ w. is_bar w ≡ false) (drop (length bs) a.names) name-bar rest in record {
-      words = each-append IsWord _ _ front.0 (bar-word, back);
-      parts = each-append IsPart _ _ (words-parts _ front.0 front.1) (refl, words-parts _ back no_bar);
-      front = front.1;
-    }
+    let no_bar = each_weaker IsPlainName (λ w. is_bar w ≡ false) (drop (length bs) a.names) name-bar rest in
+    grind (arith, each-append, bar-word, words-parts)
 
 items-stand : (a : Named) → IsSound a → AreItems ByBounds (parts (spaced (line_words a))) a
 items-stand a s =
@@ -192,8 +167,7 @@ items-stand a s =
     subst (λ ps. AreItems ByBounds ps a) (sym same) (record {
       primary = primary_entries bs ns;
       secondary = map secondary_entry rest;
-      before_bar = subst (λ ps. AllZip (IsEntry ByBounds false) ps (primary_entries bs ns)) (sym cut.0)
-          (primary-stand bs ns (written-bounds a s) (plain-names a s));
+      before_bar = grind (arith, primary-stand, recursion_from_All, plain-names);
       behind_bar = subst (λ ps. AllZip (IsEntry ByBounds true) ps (map secondary_entry rest)) (sym cut.1)
           (secondary-stand rest (each-drop IsPlainName (length bs) ns (plain-names a s)));
       names = names-back bs ns long;
@@ -217,24 +191,17 @@ record IsClear (line : List ℕ) : Type 0 where
   no_nul : has 0 line ≡ false
   no_feed : has 10 line ≡ false
 
-clear-words : (w : List ℕ) (ws : List (List ℕ)) → Each IsWord (w ∷ ws) → is_bar w ≡ false → IsClear (spaced (w ∷ ws))
-clear-words w ws g e = record {
-  shown = shown-spaced w ws g e;
-  no_nul = lacks-spaced 0 (w ∷ ws) refl (each_weaker IsWord _ (w ∷ ws) (λ x k. k.no_nul) g);
-  no_feed = lacks-spaced 10 (w ∷ ws) refl (each_weaker IsWord _ (w ∷ ws) (λ x k. k.no_feed) g);
-}
-
 clear-option : (a : Named) (us : List Use) → Each (IsTokenOf a) us → 0 < length us
     → IsClear (spaced (option_words a us))
 clear-option a [] g h = absurd (omega (arith, h))
-clear-option a (u ∷ us) g h = clear-words _ (option_words a us) (words-of a (u ∷ us) g) g.0.no_bar
+clear-option a (u ∷ us) g h = grind (arith, common_steps, words-of, lacks-spaced, each_weaker, tokens-spaced)
 
 clear-items : (a : Named) (bs : List Bounds) (ns qs : List (List ℕ)) → 0 < length bs → length bs ≤ length ns
     → Each IsWord (item_words bs ns ++ qs) → Each (λ w. is_bar w ≡ false) (item_words bs ns)
     → IsClear (spaced (item_words bs ns ++ qs))
 clear-items a [] ns qs h l g e = absurd (omega (arith, h))
 clear-items a (b ∷ bs) [] qs h l g e = absurd (omega (arith, l))
-clear-items a (b ∷ bs) (n ∷ ns) qs h l g e = clear-words _ (item_words bs ns ++ qs) g e.0
+clear-items a (b ∷ bs) (n ∷ ns) qs h l g e = grind (arith, common_steps, lacks-spaced, each_weaker, tokens-spaced)
 
 some-uses : (a : Named) (us : List Use) → IsWritten a us → 0 < length us
 some-uses a us w = let one = w.option.one_primary in omega (arith, one.2)
@@ -243,16 +210,10 @@ clear-options : (a : Named) → IsSound a → (os : List (List Use)) → Each (I
     → Each IsClear (lines_from a os)
 clear-options a s [] w = tt
 clear-options a s (us ∷ os) w =
-    (clear-option a us (tokens-of a s us w.0.uses) (some-uses a us w.0), clear-options a s os w.1)
+    (clear-option a us (each_weaker _ _ us (token-of a s) w.0.uses) (some-uses a us w.0), clear-options a s os w.1)
 
 clear-lines : (a : Named) → IsSound a → Each IsClear (lines_for a)
-clear-lines a s =
-    let w = item-line a s in
-    let long : length a.puzzle.bounds ≤ length a.names = omega (arith, s.named.count) in (
-      clear-items a a.puzzle.bounds a.names (codes "|" ∷ drop (length a.puzzle.bounds) a.names) s.valid.one_primary long
-          w.words w.front,
-      clear-options a s a.puzzle.options (options-written a s),
-    )
+clear-lines a s = grind (arith, item-line, clear-items, clear-options, options-written)
 
 numbered : (k : ℕ) (lines : List (List ℕ)) → Each IsClear lines
     → filter (λ line. not (is_skipped line.1)) (enumerate_from k lines) ≡ enumerate_from k lines

@@ -1,6 +1,7 @@
 -- The option lines of a problem: each use by its item's name, and its colour after a colon.
+use Rattle.std.proofs.lemmas.Grind.{common_steps}
 use Rattle.std.proofs.Common.{◌≡◌, ℕ, zero, suc, ◌<◌, ◌≤◌, ◌+◌, List, [], ◌∷◌, ◌++◌, Bool, false, length, Some}
-use Rattle.std.proofs.Common.{refl, ap, ◌∙◌, sym, arith, map, nat_eq, inl, inr, get_or, subst}
+use Rattle.std.proofs.Common.{refl, ap, ◌∙◌, sym, arith, map, inl, inr, get_or, subst}
 use Rattle.std.specs.Prelude.{unwrap_or, slice_get}
 use Rattle.std.specs.List.{AllByRecursion as Each, list_any}
 use Rattle.std.proofs.lemmas.List.{append-nil, length-append}
@@ -9,7 +10,7 @@ use Rattle.std.proofs.lemmas.Option.{slice_get-get_or, unwrap_or-slice_get}
 use Prim.Native.Char.{code}
 use Rattle.xc_input.specs.declared.kind.Kind.TheVariants.{Bounds as ByBounds}
 use Rattle.xc_input.specs.declared.problem.Use.{Use}
-use Rattle.xc_input.specs.Tokens.{is_space, is_bar}
+use Rattle.xc_input.specs.Tokens.{is_bar}
 use Rattle.xc_input.specs.Words.{place}
 use Rattle.xc_input.specs.Problem.{numbered_get, item_count, primary_count, IsSoundUse}
 use Rattle.xc_input.specs.Named.{Named, IsName, IsColour, IsUnbroken, IsSound}
@@ -43,21 +44,14 @@ name-at : (a : Named) → IsSound a → (k : ℕ) → suc k ≤ item_count a.puz
     × (place a.names (get_or a.names k []) ≡ Some k) × IsUnbroken (get_or a.names k [])
 name-at a s k within =
     let w = s.named in let inside : k < length a.names = omega (arith, w.count, within) in
-    let at = slice_get-get_or a.names k [] inside in
-    let found = distinct-place a.names (get_or a.names k []) k w.distinct at in
-    (at, w.names k [] inside, found, w.unbroken_names k [] inside)
+    grind (arith, slice_get-get_or a.names k [] inside, distinct-place, get_or a.names k [])
 
 colour-at : (a : Named) → IsSound a → (j : ℕ) → suc j ≤ length a.colours
     → (slice_get a.colours j ≡ Some (get_or a.colours j [])) × IsColour (get_or a.colours j [])
     × (place a.colours (get_or a.colours j []) ≡ Some j) × IsUnbroken (get_or a.colours j [])
 colour-at a s j within =
     let w = s.named in let inside : j < length a.colours = omega (arith, within) in
-    let at = slice_get-get_or a.colours j [] inside in (
-      at,
-      w.colours j [] inside,
-      distinct-place a.colours (get_or a.colours j []) j w.distinct_colours at,
-      w.unbroken_colours j [] inside,
-    )
+    grind (arith, slice_get-get_or a.colours j [] inside, distinct-place, get_or a.colours j [])
 
 -- a colour's number is that of what a line writes for it
 number-back : (a : Named) → IsSound a → (c : ℕ) → c ≤ length a.colours
@@ -121,18 +115,12 @@ lacks-tail p colon n (b ∷ bs) e f = list_any-append p n (code ":" ∷ b ∷ bs
 
 -- what the name and the colour of a use lack, and the colon, its token lacks
 plain-word : (n cs : List ℕ) → IsName n → IsUnbroken n → IsUnbroken cs → IsWord (n ++ colour_tail cs)
-plain-word n cs name u v = record {
-  some = grind (arith, length-append n (colour_tail cs), name.some);
-  no_space = lacks-tail is_space refl n cs u.no_space v.no_space;
-  no_nul = lacks-tail (λ x. nat_eq x 0) refl n cs u.no_nul v.no_nul;
-  no_feed = lacks-tail (λ x. nat_eq x 10) refl n cs u.no_feed v.no_feed;
-}
+plain-word n cs name u v = grind (arith, length-append, lacks-tail)
 
 colour-unbroken : (a : Named) → IsSound a → (c : ℕ) → c ≤ length a.colours
     → IsUnbroken (unwrap_or (numbered_get a.colours c) [])
 colour-unbroken a s zero h = record { no_space = refl; no_nul = refl; no_feed = refl }
-colour-unbroken a s (suc j) h =
-    subst IsUnbroken (sym (unwrap_or-slice_get a.colours j [])) (colour-at a s j h).3
+colour-unbroken a s (suc j) h = grind (arith, unwrap_or-slice_get, colour-at)
 
 -- The token of a use is a word that no bar begins, and stands for the use.
 pub record IsTokenOf (a : Named) (u : Use) : Type 0 where
@@ -144,13 +132,7 @@ by-numbers : (a : Named) → IsSound a → (i c : ℕ) → IsWritable a (record 
     → IsTokenOf a (record { item = i; colour = c })
 by-numbers a s zero c w = absurd (omega (arith, w.0.0.0))
 by-numbers a s (suc k) c w =
-    let known = name-at a s k w.0.0.1 in let cs = unwrap_or (numbered_get a.colours c) [] in
-    let same = sym (unwrap_or-slice_get a.names k []) in
-    let name : IsName (unwrap_or (slice_get a.names k) []) = subst IsName same known.1 in record {
-      stands = use-of a s k c w.0.0.1 w.1 w.0.1;
-      word = plain-word _ cs name (subst IsUnbroken same known.3) (colour-unbroken a s c w.1);
-      no_bar = front-bar _ (colour_tail cs) name.some name.no_bar;
-    }
+    grind (arith, common_steps, name-at, unwrap_or-slice_get, use-of, plain-word, colour-unbroken, front-bar)
 
 pub token-of : (a : Named) → IsSound a → (u : Use) → IsWritable a u → IsTokenOf a u
 token-of a s u w = by-numbers a s u.item u.colour w

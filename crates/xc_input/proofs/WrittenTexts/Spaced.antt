@@ -1,13 +1,13 @@
 -- Words with a space before each: the tokens of such a line are these words.
-use Rattle.std.proofs.Common.{◌≡◌, ℕ, ◌<◌, ◌+◌, List, [], ◌∷◌, ◌++◌, Bool, true, false, length, refl, ap, ◌∙◌, arith}
-use Rattle.std.proofs.Common.{filter, take, drop, flat_map, nat_lt, nat_eq}
+use Rattle.std.proofs.Common.{◌≡◌, ℕ, ◌<◌, ◌+◌, List, [], ◌∷◌, ◌++◌, Bool, true, false, length, refl, ◌∙◌, arith}
+use Rattle.std.proofs.Common.{filter, flat_map, nat_lt, nat_eq}
 use Rattle.std.specs.List.{AllByRecursion as Each, list_any, slice_split, position_or_len}
 use Rattle.std.specs.List.{before_first, after_first}
 use Rattle.std.proofs.Math.Seq.{take-append_seam, drop-append-add}
 use Rattle.std.proofs.lemmas.Bool.Decides.{nat_tests}
 use Rattle.std.proofs.lemmas.List.Folds.{list_any-append}
 use Prim.Native.Char.{code}
-use Rattle.xc_input.specs.Tokens.{is_space, tokens, parts, split_bars, is_bar, is_skipped}
+use Rattle.xc_input.specs.Tokens.{is_space, tokens, parts, split_bars, is_bar}
 use Rattle.xc_input.specs.Words.{has}
 
 -- bytes, none of which is white space, a NUL byte or a line feed
@@ -30,8 +30,7 @@ split-front p (b ∷ w) rest ws h e = grind (arith, nat_tests, split-front p w r
 
 split-spaced : (ws : List (List ℕ)) → Each IsWord ws → slice_split is_space (spaced ws) ≡ [] ∷ ws
 split-spaced [] a = refl
-split-spaced (w ∷ ws) a =
-    let rest = split-front is_space w (spaced ws) ws a.0.no_space (split-spaced ws a.1) in grind (arith, nat_tests)
+split-spaced (w ∷ ws) a = grind (arith, split-front, split-spaced ws a.1)
 
 some-words : (ws : List (List ℕ)) → Each IsWord ws → filter (λ w. nat_lt 0 (length w)) ws ≡ ws
 some-words [] a = refl
@@ -44,8 +43,7 @@ tokens-spaced ws a = grind (arith, nat_tests, split-spaced ws a, some-words ws a
 pub lacks-spaced : (b : ℕ) (ws : List (List ℕ)) → nat_eq (code " ") b ≡ false → Each (λ w. has b w ≡ false) ws
     → has b (spaced ws) ≡ false
 lacks-spaced b [] h a = refl
-lacks-spaced b (w ∷ ws) h a =
-    grind (arith, nat_tests, lacks-spaced b ws h a.1, list_any-append (λ x. nat_eq x b) w (spaced ws))
+lacks-spaced b (w ∷ ws) h a = grind (arith, list_any-append, lacks-spaced b ws h a.1)
 
 -- a word that no bar begins is one part, and so is a bar
 abbrev pub IsPart : List ℕ → Type 0
@@ -70,13 +68,4 @@ bar-place (p ∷ ps) qs bar a e = grind (arith, nat_tests, bar-place ps qs bar a
 -- the parts before a bar and after it
 pub cut-at_bar : (ps qs : List (List ℕ)) (bar : List ℕ) → Each (λ p. is_bar p ≡ false) ps → is_bar bar ≡ true
     → (before_first is_bar (ps ++ bar ∷ qs) ≡ ps) × (after_first is_bar (ps ++ bar ∷ qs) ≡ qs)
-cut-at_bar ps qs bar a e =
-    let at = bar-place ps qs bar a e in (
-      ap (λ n. take n (ps ++ bar ∷ qs)) at ∙ take-append_seam ps (bar ∷ qs),
-      ap (λ n. drop (n + 1) (ps ++ bar ∷ qs)) at ∙ drop-append-add ps (bar ∷ qs) 1,
-    )
-
--- a line whose first word no bar begins is neither blank nor a comment
-pub shown-spaced : (w : List ℕ) (ws : List (List ℕ)) → Each IsWord (w ∷ ws) → is_bar w ≡ false
-    → is_skipped (spaced (w ∷ ws)) ≡ false
-shown-spaced w ws a e = grind (arith, tokens-spaced (w ∷ ws) a, e)
+cut-at_bar ps qs bar a e = grind (arith, bar-place, take-append_seam, drop-append-add)

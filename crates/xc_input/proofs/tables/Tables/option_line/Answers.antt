@@ -1,5 +1,6 @@
+use Rattle.std.proofs.lemmas.Grind.{common_steps}
 use Rattle.xc_input.proofs.OptionLemmas.Marks.{unmarked-few}
-use Rattle.std.proofs.Common.{◌∙◌, ap, arith, append-nil, refl, ◌++◌, ◌∷◌, []}
+use Rattle.std.proofs.Common.{◌∙◌, ap, arith, append-nil, ◌++◌, ◌∷◌, []}
 use Rattle.std.proofs.lemmas.List.{length-map, take_rest}
 use Rattle.xc_input.specs.Faults.{first}
 use Rattle.xc_input.specs.Tokens.{tokens}
@@ -7,18 +8,12 @@ use Rattle.xc_input.specs.declared.line_error.LineError.TheVariants.{Fault}
 use Rattle.xc_input.specs.inner.Stages.{context, staged_token_checks, staged_option_checks, written}
 use Rattle.xc_input.specs.inner.Builders.{items_of}
 use Rattle.xc_input.specs.inner.Stored.{key_names}
-use Rattle.xc_input.proofs.FaultLemmas.Checks.{stopped, items-length}
+use Rattle.xc_input.proofs.FaultLemmas.Checks.{stopped}
 use Rattle.xc_input.proofs.OptionSteps.{behind_few, behind_more, all_added, all_judged, late_marked}
 use Rattle.xc_input.proofs.tables.Tables.option_line.Goals as goal
 
 pub loop-token-init : goal.loop-token-init
-loop-token-init c = record {
-  same = record { names = refl; guesses = refl; primary = refl };
-  named = c.requires.sound.named;
-  few_items = c.requires.sound.few_items;
-  words = c.requires.sound.words;
-  behind = grind (arith, length-map, unmarked-few, append-nil);
-}
+loop-token-init c = grind (arith, length-map, unmarked-few, append-nil)
 
 pub returns-in_err-written-clause-judged : goal.returns-in_err-written-clause-judged
 returns-in_err-written-clause-judged c =
@@ -46,11 +41,7 @@ loop-token-preserved c =
     i.named.named (rw lent b.count) c.in-Some.ensures.3 (rw lent b.marked) in
     let more = c.in_ok-add_use.ensures in
     record {
-      same = record {
-        names = more.same.names ∙ i.same.names;
-        guesses = more.same.guesses ∙ i.same.guesses;
-        primary = more.same.primary ∙ i.same.primary;
-      };
+      same = grind arith;
       named = rw more.same.names i.named;
       few_items = rw more.same.names i.few_items;
       words = rw (more.same.names, more.same.guesses) i.words;
@@ -61,15 +52,10 @@ loop-token-preserved c =
 
 pub clear-requires-clause-marked : goal.clear-requires-clause-marked
 clear-requires-clause-marked c =
-    let start = c.len-start.ensures ∙ items-length c.args.self.now.uses in
     grind (arith, take_rest c.deref-2.result.now c.len-start.result, late_marked c.loop-token.invariant.behind)
 
 pub returns-clause-judged : goal.returns-clause-judged
-returns-clause-judged c =
-    let i = c.loop-token.invariant in
-    rw (← i.same.names, ← i.same.primary) (all_judged i.behind c.in_default.ensures)
+returns-clause-judged c = grind (arith, all_judged)
 
 pub returns-clause-uses : goal.returns-clause-uses
-returns-clause-uses c =
-    let i = c.loop-token.invariant in
-    rw (← i.same.names) (all_added i.behind c.in_default.ensures)
+returns-clause-uses c = grind (arith, common_steps, all_added)
