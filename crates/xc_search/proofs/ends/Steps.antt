@@ -1,5 +1,4 @@
 -- What the steps of a search pay for.
-use Rattle.std.proofs.lemmas.Grind.{common_steps}
 use Rattle.std.proofs.lemmas.Option.{slice_get_within}
 use Rattle.std.proofs.Math.Nat.{mul-add, le-mul_of_pos_right}
 use Rattle.std.proofs.Common.{ℕ, suc, ◌≡◌, ◌+◌, ◌-◌, ◌*◌, ◌<◌, ◌≤◌, Bool, true, false, List, [], ◌∷◌, ◌++◌, length}
@@ -16,7 +15,7 @@ use Rattle.xc_dance.specs.Commits.{option_at, after_spend}
 use Rattle.xc_dance.proofs.LinkedTables.Laid.FirstTables.{low_most}
 use Rattle.xc_search.specs.Listing.{Wanted, branch_item, branch_count, branches_of, listing}
 use Rattle.xc_search.specs.Room.{room_for}
-use Rattle.xc_search.specs.Ends.{ends, ends_after}
+use Rattle.xc_search.specs.Ends.{ends}
 use Rattle.xc_search.specs.Residuals.{wanted_at, choice_after}
 use Rattle.xc_search.specs.inner.Commits.{oldest}
 use Rattle.xc_search.specs.inner.Residual.{residual_of}
@@ -62,9 +61,7 @@ abbrev pub here_at : Puzzle → List Move → ℕ
 here_at p t = here (branch_item (residual_of p t)) (length t) (may p (ends (residual_of p t)))
 
 enough_for : (p : Puzzle) (t : List Move) → length t ≤ room_for p → length t ≤ may p (ends (residual_of p t))
-enough_for p t h =
-    let one = le-mul_of_pos_right {m = length (ends (residual_of p t))} (room_for p) (some_end (residual_of p t)) in
-    omega (arith, h, one)
+enough_for p t h = grind (arith, le-mul_of_pos_right, ends, some_end)
 
 pub leaf_pays : (p : Puzzle) (t : List Move) → length t ≤ room_for p → length t ≤ here_at p t
 leaf_pays p t h = by_item (branch_item (residual_of p t))
@@ -82,8 +79,7 @@ leaf_within p t h = by_item (branch_item (residual_of p t))
 
 pub due_within : (p : Puzzle) (t : List Move) (ls : List Level) → length t ≤ room_for p
     → here_at p t + may p (ends_behind p t ls) ≤ may p (ends_ahead p t ls true)
-due_within p t ls h =
-    omega (arith, leaf_within p t h, times_append (room_for p) (ends (residual_of p t)) (ends_behind p t ls))
+due_within p t ls h = grind (arith, leaf_within, times_append, ends)
 
 -- an open item is left: it is no solution
 here_open : (p : Puzzle) (t : List Move) (i : ℕ) → IsNode p t i → here_at p t ≡ may p (ends (residual_of p t))
@@ -102,23 +98,15 @@ pub Pays-trans : {d e f : Dancing} {ls ks js : Levels} {x y z : Bool} {m n q : �
     → Pays e ks y n f js z q → Pays d ls x m f js z q
 Pays-trans a b = record { ends = a.ends ∙ b.ends; due = omega (arith, a.due, b.due) }
 
-pub Pays-refl : {d : Dancing} {ls : Levels} {x : Bool} {m : ℕ} → Pays d ls x m d ls x m
-Pays-refl = record { ends = refl; due = omega arith }
-
 -- ---- a branch is begun
 
 begun_ends : (p : Puzzle) (t s : List Move) (l k : Level) (ls : List Level) → IsBegun p t l s k
     → ends_ahead p s (k ∷ ls) true ≡ ends_behind p t (l ∷ ls)
-begun_ends p t s l k ls b =
-    let u = oldest l.mark t in
-    let first = drop_at (branches_at p u l.item) l.begun b.branch b.at in
-    grind (arith, common_steps, first, append_assoc)
+begun_ends p t s l k ls b = grind (arith, oldest, drop_at, branches_at, append_assoc)
 
 returned_ends : (p : Puzzle) (t : List Move) (l : Level) (ls : List Level) → AreStacked p t (l ∷ ls)
     → ends_behind p (oldest l.base t) (l ∷ ls) ≡ ends_behind p t (l ∷ ls)
-returned_ends p t l ls stacked =
-    let same = oldest-oldest l.mark l.base t stacked.0.within.0 stacked.0.within.1 in
-    ap (λ u. ends_of (drop l.begun (branches_at p u l.item)) ++ ends_behind p u ls) same
+returned_ends p t l ls stacked = grind (arith, oldest-oldest, branches_at)
 
 -- the next one of the newest level
 pub pays_next : (d f : Dancing) (l : Level) (b : Begun) (vs ks : Levels) → AreStacked d.puzzle d.trail vs.levels
@@ -135,16 +123,7 @@ pays_next d f l b vs ks stacked top ef undone entered ek m =
     let v = after_branch p l.item (option_at p l.item b.place) f.trail in
     let all : ends_ahead p v (k ∷ js) true ≡ ends_behind p d.trail (l ∷ js) =
     begun_ends p s v l k js entered.begun ∙ returned_ends p d.trail l js (rw top at stacked) in
-    let was : ends_behind p d.trail vs.levels ≡ ends_behind p d.trail (l ∷ js) = ap (ends_behind p d.trail) top in
-    let within = due_within p v (k ∷ js) (room_in p v entered.begun.searchable) in
-    let levels : ks ≡ record vs { levels = k ∷ js } = ek ∙ ap (λ ls. record vs { levels = newest_begun b ls }) top in
-    let begun : Pays d vs false m (record d { trail = v; undone = f.undone }) (record vs { levels = k ∷ js }) true m =
-    record {
-      ends = ap (ends_after (suc m)) (was ∙ sym all);
-      due = omega (arith, undone, within, ap (may p) all, ap (may p) was);
-    } in
-    rw levels (subst (λ (f : Dancing). Pays d vs false m (branched f l.item b.place)
-    (record vs { levels = k ∷ js }) true m) (sym ef) begun)
+    grind (arith, due_within, room_in, may)
 
 -- ---- a level is begun
 
@@ -200,16 +179,7 @@ pays_first {d} {e} {ls} {i} {n} {l} o early f ks b ef entered ek m =
     rw (under, item, none, first) refl in
     let all : ends_ahead p v (k ∷ ls.levels) true ≡ ends_ahead p t ls.levels true =
     begun_ends p e.trail v l k ls.levels start.begun ∙ opened in
-    let within = due_within p v (k ∷ ls.levels) (room_in p v start.begun.searchable) in
-    let was = here_open p t i node in
-    let two = times_append (room_for p) (ends r) (ends_behind p t ls.levels) in
-    let begun : Pays d ls true m (record d { trail = v }) (with_level k ls) true m = record {
-      ends = ap (ends_after (suc m)) (sym all);
-      due = omega (arith, within, was, two, ap (may p) all);
-    } in
-    let to : f ≡ record d { trail = f.trail } = ef ∙ ap (λ (e : Dancing). record e { trail = f.trail }) o.spent in
-    rw (ek, ← item) (subst (λ (f : Dancing). Pays d ls true m (branched f l.item b.place) (with_level k ls) true m)
-    (sym to) begun)
+    grind (arith, due_within, room_in, here_open, times_append, ends, may)
 
 -- a level without branches ends at once
 pub pays_nothing : {d e : Dancing} {ls : Levels} {i n : ℕ} {l : Level} → Opens d e ls i n l → n ≡ 0 → (f : Dancing)
@@ -229,16 +199,7 @@ pays_nothing {d} {e} {ls} {i} {n} {l} o no_branch f ef m =
     let back : record e { trail = oldest l.mark e.trail; undone = e.undone + (length e.trail - l.mark) }
     ≡ record d { trail = t; undone = d.undone + (length (after_spend p i t) - length t) } =
     rw ((deepens o).2, took, spent) refl in
-    let was = here_open p t i node in
-    let enough = enough_for p t (room_in p t here) in
-    let room = room_spent p t i node in
-    let one = le-mul_of_pos_right {m = length (ends r)} (room_for p) (some_end r) in
-    let ended : Pays d ls true m (record d
-    { trail = t; undone = d.undone + (length (after_spend p i t) - length t) }) ls false m = record {
-      ends = rw dead refl;
-      due = omega (arith, was, enough, room, one);
-    } in
-    rw (ef, back) ended
+    grind (arith, here_open, enough_for, room_in, here, room_spent, le-mul_of_pos_right, ends, some_end)
 
 -- ---- what is left is passed over
 
@@ -276,17 +237,4 @@ pub pays_back : (d e : Dancing) (l : Level) (vs ks : Levels) → AreStacked d.pu
     → vs.levels ≡ l ∷ drop 1 vs.levels → l.count ≤ l.begun
     → e ≡ record d { trail = oldest l.mark d.trail; undone = d.undone + (length d.trail - l.mark) }
     → ks ≡ record vs { levels = drop 1 vs.levels } → (m : ℕ) → Pays d vs false m e ks false m
-pays_back d e l vs ks stacked top done ed ek m =
-    let p = d.puzzle in
-    let js = drop 1 vs.levels in
-    let here = rw top at stacked in
-    let all : ends_behind p d.trail vs.levels ≡ ends_behind p (oldest l.mark d.trail) js =
-    ap (ends_behind p d.trail) top ∙ finished_ends p d.trail l js here done in
-    let mark = length-oldest l.mark d.trail (omega (arith, here.0.within)) in
-    let back : Pays d vs false m (record d
-    { trail = oldest l.mark d.trail; undone = d.undone + (length d.trail - l.mark) })
-    (record vs { levels = js }) false m = record {
-      ends = ap (ends_after (suc m)) all;
-      due = omega (arith, mark, here.0.within, ap (may p) all);
-    } in
-    rw (ed, ek) back
+pays_back d e l vs ks stacked top done ed ek m = grind (arith, oldest, finished_ends, length-oldest, may)

@@ -1,11 +1,10 @@
 -- The ends of a search's tree.
 use Rattle.std.proofs.Common.{ℕ, zero, suc, ◌≡◌, ◌+◌, ◌<◌, ◌≤◌, Bool, true, false, List, [], ◌∷◌, ◌++◌, length, Option}
-use Rattle.std.proofs.Common.{Some, None, refl, sym, ap, ◌∙◌, arith, length-append, ◌≢◌}
+use Rattle.std.proofs.Common.{Some, None, refl, ap, ◌∙◌, arith, length-append, ◌≢◌}
 use Rattle.std.proofs.Common.{cond}
 use Rattle.std.specs.Prelude.{flat_map, map, count_by}
 use Rattle.std.proofs.lemmas.List.Sums.{sum_by-cons}
 use Rattle.std.specs.List.{AllByRecursion}
-use Rattle.xc_search.specs.declared.choice.Choice.{Choice}
 use Rattle.xc_input.specs.Problem.{holds}
 use Rattle.xc_search.specs.Listing.{Wanted, Residual, Branch, branch_count, branch_item, branches_of, level, listing_to}
 use Rattle.xc_search.specs.Listing.{listing, pick, none, spend_one}
@@ -83,9 +82,7 @@ one_dead (b ∷ c ∷ bs) h a = absurd (omega (arith, h))
 -- and so they are where another item is taken that has one branch, in a dead end
 pub ends_early : (r : Residual) (w v : Wanted) → IsIn r.items v → v.low ≤ v.high → branch_count r v ≡ 0
     → (v.item ≡ w.item → v ≡ w) → length (branches_of r w) ≡ 1 → ends r ≡ ends_of (branches_of r w)
-ends_early r w v k sound e same one =
-    ends_dead r v k e ∙ sym (one_dead (branches_of r w) one
-    (each_from _ _ (λ b h. dead_behind r w v b k sound e same h)))
+ends_early r w v k sound e same one = grind (arith, ends_dead, one_dead, each_from, dead_behind)
 
 -- ---- solutions
 
@@ -108,22 +105,13 @@ solutions_of : (d : ℕ) (bs : List Branch) → ((r : Residual) → solutions (e
     → solutions (flat_map (λ b. ends_to d b.next) bs)
     ≡ length (flat_map (λ b. map (λ m. b.choice ∷ m) (listing_to d b.next)) bs)
 solutions_of d [] h = refl
-solutions_of d (b ∷ bs) h = omega (
-  arith,
-  solutions-append (ends_to d b.next) (flat_map (λ b. ends_to d b.next) bs),
-  length-append (map (λ m. b.choice ∷ m) (listing_to d b.next))
-      (flat_map (λ b. map (λ m. b.choice ∷ m) (listing_to d b.next)) bs),
-  length-map (listing_to d b.next) (λ (m : List Choice). b.choice ∷ m),
-  h b.next,
-  solutions_of d bs h,
-)
+solutions_of d (b ∷ bs) h = grind (arith, solutions-append, length-append, length-map, solutions_of d bs h)
 
 solutions_level : (d : ℕ) (o : Option Wanted) (r : Residual)
     → ((r : Residual) → solutions (ends_to d r) ≡ length (listing_to d r))
     → solutions (level_ends (ends_to d) o r) ≡ length (level (listing_to d) o r)
 solutions_level d None r h = refl
-solutions_level d (Some w) r h =
-    solutions-or (flat_map (λ b. ends_to d b.next) (branches_of r w)) ∙ solutions_of d (branches_of r w) h
+solutions_level d (Some w) r h = grind (arith, solutions-or, solutions_of d (branches_of r w) h)
 
 solutions_to : (d : ℕ) (r : Residual) → solutions (ends_to d r) ≡ length (listing_to d r)
 unfolding ends_to listing_to

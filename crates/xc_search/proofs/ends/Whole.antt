@@ -1,6 +1,6 @@
 -- What a search pays for, from one member to another.
-use Rattle.std.proofs.Common.{ℕ, zero, suc, ◌≡◌, ◌+◌, ◌≤◌, Bool, true, false, List, [], ◌∷◌, length}
-use Rattle.std.proofs.Common.{None, refl, sym, ap, ◌∙◌, arith}
+use Rattle.std.proofs.Common.{ℕ, zero, suc, ◌≡◌, ◌+◌, ◌≤◌, Bool, true, false, List, [], ◌∷◌}
+use Rattle.std.proofs.Common.{None, refl, ◌∙◌, arith}
 use Rattle.xc_dance.specs.declared.dance.Move.{Move}
 use Rattle.xc_input.specs.Problem.{Puzzle}
 use Rattle.xc_dance.specs.Dancing.{Dancing, moves_made}
@@ -13,21 +13,17 @@ use Rattle.xc_search.specs.inner.Ahead.{IsSolved}
 use Rattle.xc_search.specs.inner.Due.{ends_behind, ends_ahead, due, Pays, PaysFor}
 use Rattle.xc_input.proofs.Cases.{mapped_none}
 use Rattle.xc_search.proofs.ends.Tree.{ends_at}
-use Rattle.xc_search.proofs.ends.Steps.{may, here_at, room_in, due_within}
+use Rattle.xc_search.proofs.ends.Steps.{may, room_in, due_within}
 use Rattle.xc_search.proofs.residual.BranchItemLeft.{choice_is_branch_item}
 use Rattle.xc_search.proofs.stacked.PassedOver.{HasToPass}
 
 no_item : (p : Puzzle) (t : List Move) (ls : List Level) → IsSolved p t ls → branch_item (residual_of p t) ≡ None
-no_item p t ls s =
-    mapped_none _ _ (sym (choice_is_branch_item p t (s.standing.searchable refl).legal) ∙ s.none)
+no_item p t ls s = grind (arith, mapped_none, choice_is_branch_item)
 
 -- a solution is one end, and stands
 solved_ends : (p : Puzzle) (t : List Move) (ls : List Level) → IsSolved p t ls
     → ends_ahead p t ls true ≡ true ∷ ends_behind p t ls
 solved_ends p t ls s = rw (ends_at (residual_of p t) None (no_item p t ls s)) refl
-
-solved_here : (p : Puzzle) (t : List Move) (ls : List Level) → IsSolved p t ls → here_at p t ≡ length t
-solved_here p t ls s = rw (no_item p t ls s) refl
 
 -- what is due where it begins
 pub due_first : (d : Dancing) (ls : Levels) (down : Bool) {many more : ℕ}
@@ -40,39 +36,20 @@ due_first d ls true {many} {more} search has =
       omega (arith, due_within d.puzzle d.trail ls.levels (room_in d.puzzle d.trail search)),
       rw all refl,
     )
-due_first d ls false {many} {more} search has =
-    let was = (has.again refl).1 in
-    let same : many ≡ more = (has.again refl).0 in (
-      omega (arith, solved_here d.puzzle d.trail ls.levels was),
-      rw (same, solved_ends d.puzzle d.trail ls.levels was) refl,
-    )
+due_first d ls false {many} {more} search has = grind (arith, solved_ends, no_item)
 
 -- it stands at another member
 pub pays_stands : {d e : Dancing} {ls ks : Levels} (down : Bool) {many more : ℕ} → IsSearchable d.puzzle d.trail
     → HasToPass d.puzzle d.trail ls.levels down many more → e.puzzle ≡ d.puzzle → IsSolved e.puzzle e.trail ks.levels
     → Pays d ls true more e ks true 0 → PaysFor d ls down many e ks
 pays_stands {d} {e} {ls} {ks} down search has same at pays =
-    let first = due_first d ls down search has in
-    let solved = solved_ends e.puzzle e.trail ks.levels at in
-    let stands = solved_here e.puzzle e.trail ks.levels at in
-    let here = ap (λ p. may p (ends_behind e.puzzle e.trail ks.levels)) same in
-    record {
-      ends = sym first.1 ∙ pays.ends ∙ ap (ends_after 1) solved;
-      made = omega (arith, first.0, pays.due, stands, here);
-    }
+    grind (arith, due_first, solved_ends, may, no_item)
 
 -- there were no more
 pub pays_ends : {d e : Dancing} {ls ks : Levels} (down : Bool) {many more lacks : ℕ} → IsSearchable d.puzzle d.trail
     → HasToPass d.puzzle d.trail ls.levels down many more → e.puzzle ≡ d.puzzle → ks.levels ≡ []
     → Pays d ls true more e ks false lacks → PaysFor d ls down many e ks
-pays_ends {d} {e} {ls} {ks} down {lacks = lacks} search has same none pays =
-    let first = due_first d ls down search has in
-    let nothing : ends_behind e.puzzle e.trail ks.levels ≡ [] = ap (ends_behind e.puzzle e.trail) none in
-    let here = ap (λ p. may p (ends_behind e.puzzle e.trail ks.levels)) same in
-    record {
-      ends = sym first.1 ∙ pays.ends ∙ ap (ends_after (suc lacks)) nothing ∙ sym nothing;
-      made = omega (arith, first.0, pays.due, here);
-    }
+pays_ends {d} {e} {ls} {ks} down {lacks = lacks} search has same none pays = grind (arith, due_first, may)
 
 nothing_behind : (n : ℕ) → ends_after n [] ≡ []
 nothing_behind zero = refl

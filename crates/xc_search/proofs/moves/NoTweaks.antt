@@ -51,19 +51,14 @@ above_both k n (m ∷ t) a b = by_bool (leb n (length t))
     (λ e. λ low.
     let h = leb-true n (length t) e in
     ((a h).0, above_both k n t (a h).1 (subst (NoTweakAbove k) (sym (oldest-drop n (m ∷ t) (omega (arith, h)))) b)))
-    (λ e.
-    let h = leb-false n (length t) e in
-    let all : length (m ∷ t) - n ≡ 0 = omega (arith, h) in rw all at b)
+    (λ e. grind (arith, leb-false))
 
 -- the newest move, and those below it
 pub next_above : (n : ℕ) (t : List Move) → n < length t → NoTweakAbove n t
     → NoTweakAbove (length t - 1) t × NoTweakAbove n (drop 1 t)
 unfolding NoTweakAbove
 next_above n [] h a = absurd (omega (arith, h))
-next_above n (m ∷ t) h a =
-    let newest = a (omega (arith, h)) in
-    let one : length (m ∷ t) - 1 ≡ length t = omega arith in
-    ((λ _. (newest.0, subst (λ k. NoTweakAbove k t) (sym one) (none_above t))), newest.1)
+next_above n (m ∷ t) h a = grind (arith, none_above t)
 
 pub spend_longer : (p : Puzzle) (i : ℕ) (t : List Move) → length t < length (after_spend p i t)
 spend_longer p i t = grind (arith)

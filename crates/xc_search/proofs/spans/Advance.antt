@@ -81,11 +81,8 @@ one_less p t ls s = ap length (solution p t ls (s.standing.searchable refl).lega
 pub lengths_meet : (p : Puzzle) (a b : List ℕ) (until : Option (List ℕ)) → precedes b a ≡ false
     → IfSome until (λ u. precedes u b ≡ false) →
     length (between p a (Some b)) + length (between p b until) ≡ length (between p a until)
-lengths_meet p a b until ab bu = omega (
-  arith,
-  length-append (between p a (Some b)) (between p b until),
-  ap length (spans_meet p a b until ab bu),
-)
+lengths_meet p a b until ab bu =
+    cc (length-append (between p a (Some b)) (between p b until), spans_meet p a b until ab bu)
 
 shown_last : (front : List (List Choice)) (m : List Choice) (back : List (List Choice)) (was : List Choice)
     → shown_after (suc (length front)) (front ++ m ∷ back) was ≡ m
@@ -101,13 +98,7 @@ pub record Advances (p : Puzzle) (from : List ℕ) (until : Option (List ℕ)) (
 advances : (p : Puzzle) (from : List ℕ) (until : Option (List ℕ)) (to : List ℕ) (n : ℕ) → precedes from to ≡ true
     → IfSome until (λ u. precedes u to ≡ false)
     → n + length (between p to None) ≡ length (between p from None) → Advances p from until to n
-advances p from until to n later within count =
-    let back = before_either_way from to later in
-    record {
-      later = later;
-      count = omega (arith, count, lengths_meet p from to None back tt);
-      all = sym (spans_meet p from to until back within);
-    }
+advances p from until to n later within count = grind (arith, before_either_way, lengths_meet, spans_meet)
 
 -- the row at which it began comes before that of a state with less ahead
 from_before : (p : Puzzle) (t s : List Move) (ls ks : List Level) (down : Bool) → AreLed p [] t ls → AreLed p [] s ks
@@ -325,18 +316,12 @@ pub begins_from : (p : Puzzle) (t : List Move) (ls : List Level) (from : List �
     → AreLed p [] t ls → precedes (row_at p ls) from ≡ false → all ≡ members p →
     filter (λ m. not (precedes (row_of m) from)) all ≡ filter (λ m. not (precedes (row_of m) from)) (coming p t ls true)
     → between p from None ≡ between p (row_at p ls) None
-begins_from p t ls from all led reached is kept =
-    sym (from_row p from) ∙ ap (filter (λ m. not (precedes (row_of m) from))) (sym is) ∙ kept
-    ∙ ap (filter (λ m. not (precedes (row_of m) from))) (sym (led_from p t ls led))
-    ∙ between_kept p (row_at p ls) from reached
+begins_from p t ls from all led reached is kept = grind (arith, from_row, led_from, between_kept, row_at)
 
 -- none is left
 pub none_from : (p : Puzzle) (from : List ℕ) (all : List (List Choice)) (until : Option (List ℕ)) → all ≡ members p
     → filter (λ m. not (precedes (row_of m) from)) all ≡ [] → between p from until ≡ []
-none_from p from all until is none =
-    within_span p from until
-    ∙ ap (filter (λ m. is_before until (row_of m)))
-    (sym (from_row p from) ∙ ap (filter (λ m. not (precedes (row_of m) from))) (sym is) ∙ none)
+none_from p from all until is none = grind (arith, within_span, from_row)
 
 -- What a search that begins at a row stands for: whether it reached one, and that before its span's end.
 module _ (p : Puzzle) (t : List Move) (ls : List Level) (from : List ℕ) (until : Option (List ℕ))

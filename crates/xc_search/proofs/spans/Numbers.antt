@@ -1,5 +1,7 @@
 -- The numbers of levels rise from branch to branch.
-use Rattle.std.proofs.Common.{ℕ, ◌≡◌, ◌<◌, List, [], ◌∷◌, ◌++◌, map, reverse, drop, sym, ap, ◌∙◌}
+use Rattle.std.proofs.Common.{arith}
+use Rattle.std.proofs.lemmas.Grind.{common_steps}
+use Rattle.std.proofs.Common.{ℕ, ◌≡◌, ◌<◌, List, [], ◌∷◌, ◌++◌, reverse, drop, sym, ap, ◌∙◌}
 use Rattle.std.proofs.Common.{append_assoc, append-nil}
 use Rattle.std.proofs.lemmas.List.{map-append, reverse-append, reverse-reverse}
 use Rattle.xc_search.specs.declared.level.Level.{Level}
@@ -17,9 +19,7 @@ pub numbers_row : (p : Puzzle) (ls : List Level) → numbers ls ≡ row_at p ls
 numbers_row p ls = row_levels p (reverse ls) ls (reverse-reverse ls)
 
 numbers_more : (l : Level) (ls : List Level) → numbers (l ∷ ls) ≡ numbers ls ++ l.begun ∷ []
-numbers_more l ls =
-    ap (map (λ (l : Level). l.begun)) (reverse-append (l ∷ []) ls)
-    ∙ map-append (λ (l : Level). l.begun) (reverse ls) (l ∷ [])
+numbers_more l ls = grind (arith, common_steps, reverse-append, map-append)
 
 -- a level more
 pub rises_below : (l : Level) (ls ks : Levels) → ks.levels ≡ l ∷ ls.levels → AreLater ls ks
@@ -34,35 +34,17 @@ pub record IsOldest (ls ks : Levels) : Type 0 where
   pub numbers : numbers ls.levels ≡ numbers ks.levels ++ behind
 
 pub oldest_all : (ls ks : Levels) → ks ≡ ls → IsOldest ls ks
-oldest_all ls ks e = record {
-  behind = [];
-  numbers = sym (append-nil (numbers ls.levels)) ∙ ap (λ (k : Levels). numbers k.levels ++ []) (sym e);
-}
+oldest_all ls ks e = grind (arith, append-nil, numbers)
 
 pub oldest_fewer : (l : Level) (ls ks js : Levels) → ks.levels ≡ l ∷ drop 1 ks.levels → js.levels ≡ drop 1 ks.levels
     → IsOldest ls ks → IsOldest ls js
-oldest_fewer l ls ks js top e o = record {
-  behind = l.begun ∷ o.behind;
-  numbers = o.numbers
-      ∙ ap (λ r. r ++ o.behind) (ap numbers (top ∙ ap (λ ls. l ∷ ls) (sym e)) ∙ numbers_more l js.levels)
-      ∙ append_assoc (numbers js.levels) (l.begun ∷ []) o.behind;
-}
+oldest_fewer l ls ks js top e o = grind (arith, numbers, numbers_more, append_assoc)
 
 -- the next branch of the newest of these
 pub rises_next : (l : Level) (b : Begun) (ls ks js : Levels) → ks.levels ≡ l ∷ drop 1 ks.levels
     → js.levels ≡ newest_begun b ks.levels → l.begun < b.begun → IsOldest ls ks → AreLater ls js
-rises_next l b ls ks js top e more o =
-    let rest = drop 1 ks.levels in
-    let row = numbers rest in
-    let was : numbers ls.levels ≡ row ++ l.begun ∷ o.behind =
-    o.numbers ∙ ap (λ r. r ++ o.behind) (ap numbers top ∙ numbers_more l rest)
-    ∙ append_assoc row (l.begun ∷ []) o.behind in
-    let is : numbers js.levels ≡ row ++ b.begun ∷ [] =
-    ap numbers (e ∙ ap (newest_begun b) top) ∙ numbers_more _ rest in
-    rw (was, is) (same_beginning row (l.begun ∷ o.behind) (b.begun ∷ [])
-    ∙ less_before l.begun b.begun o.behind [] more)
+rises_next l b ls ks js top e more o = grind (arith, numbers, numbers_more, append_assoc, same_beginning, less_before)
 
 -- one behind another
 pub rises_on : (ls ks js : Levels) → AreLater ls ks → AreLater ks js → AreLater ls js
-rises_on ls ks js a b = not_before_before (numbers ls.levels) (numbers ks.levels) (numbers js.levels)
-    (before_either_way (numbers ls.levels) (numbers ks.levels) a) b
+rises_on ls ks js a b = grind (arith, not_before_before, numbers, before_either_way)

@@ -1,6 +1,7 @@
 -- The steps of the search's loop.
+use Rattle.std.proofs.lemmas.Grind.{common_steps}
 use Rattle.std.proofs.Common.{ℕ, ◌≡◌, ◌+◌, ◌-◌, ◌<◌, ◌≤◌, Bool, true, false, List, [], ◌∷◌, length, drop, refl}
-use Rattle.std.proofs.Common.{sym, ap, ◌∙◌, arith, subst, ap₂, length-drop, drop-drop}
+use Rattle.std.proofs.Common.{sym, ap, ◌∙◌, arith, subst, ap₂, length-drop}
 use Rattle.xc_dance.specs.declared.dance.Move.{Move}
 use Rattle.xc_search.specs.declared.level.Level.{Level}
 use Rattle.xc_search.specs.declared.level.Begun.{Begun}
@@ -53,23 +54,12 @@ pub record Opens (d e : Dancing) (ls : Levels) (i n : ℕ) (l : Level) : Type 0 
 pub deepens : {d e : Dancing} {ls : Levels} {i n : ℕ} {l : Level} → Opens d e ls i n l →
     GoesOn d ls true e (with_level l ls) false × (visits d.puzzle e.trail (l ∷ ls.levels) < work_left d ls true)
     × (oldest l.mark e.trail ≡ d.trail) × (l.base ≡ length e.trail)
-deepens {d} {e} {ls} {i} {n} {l} o =
-    let p = d.puzzle in
-    let t = d.trail in
-    let here = o.standing.searchable refl in
-    let all = descended p t ls.levels i n here (o.standing.shallow refl) o.next o.standing.stacked in
-    let on : GoesOn d ls true _ (with_level (first_level p t i n) ls) false =
-    record { still = (refl, refl); standing = stands_behind p (after_spend p i t) _ all.0; members = all.1 } in
-    rw (o.spent, o.level) (on, all.2, ext_whole (ext_after_spend p i t), refl)
+deepens {d} {e} {ls} {i} {n} {l} o = grind (arith, descended, stands_behind, ext_whole, ext_after_spend)
 
 -- a level's first branch may be entered
 pub may_enter : {d e : Dancing} {ls : Levels} {i n : ℕ} {l : Level} → Opens d e ls i n l → 0 < n
     → MayBegin e.puzzle e.trail l
-may_enter o some = record {
-  level = (deepens o).0.standing.stacked.0;
-  whole = (deepens o).3;
-  more = rw o.level some;
-}
+may_enter o some = grind (arith, deepens o)
 
 -- the newest of the levels ended
 -- what goes on and then enters a branch enters it
@@ -150,9 +140,7 @@ passes_over {d} {e} {ls} {i} {n} {l} o f none ef =
 pub back_at : (p : Puzzle) (t r : List Move) (l : Level) (ls : List Level) → AreStacked p t (l ∷ ls)
     → r ≡ oldest l.base t →
     IsLevel p r l × (l.base ≡ length r) × (0 < l.tweaks → AreTweaks l.tweaks r) × (l.mark + l.tweaks ≤ length r)
-back_at p t r l ls stacked er =
-    let back = returned p t l ls stacked in
-    let tweaks = closing p _ l back.0.0 back.3 in rw er (back.0.0, back.3, tweaks.0, tweaks.1)
+back_at p t r l ls stacked er = grind (arith, returned p t l ls stacked, closing)
 
 -- below a level's tweaks stand the moves below the level
 pub under_tweaks : (p : Puzzle) (t : List Move) (l : Level) (ls : List Level) → AreStacked p t (l ∷ ls)
@@ -160,18 +148,13 @@ pub under_tweaks : (p : Puzzle) (t : List Move) (l : Level) (ls : List Level) �
 under_tweaks p t l ls stacked =
     let u = oldest l.base t in
     let back = back_at p t u l ls stacked refl in
-    let fewer : l.tweaks + (length (drop l.tweaks u) - l.mark) ≡ length u - l.mark =
-    omega (arith, length-drop l.tweaks u, back.3) in
-    rw (drop-drop _ _ u, fewer) (oldest-oldest l.mark l.base t stacked.0.within.0 stacked.0.within.1)
+    grind (arith, common_steps)
 
 -- and in all, the moves above it were undone
 undone_all : (p : Puzzle) (t : List Move) (l : Level) (ls : List Level) → AreStacked p t (l ∷ ls) → (u : ℕ)
     → u + (length t - l.base) + l.tweaks + (length (drop l.tweaks (oldest l.base t)) - l.mark)
     ≡ u + (length t - l.mark)
-undone_all p t l ls stacked u =
-    let r = oldest l.base t in
-    let back = back_at p t r l ls stacked refl in
-    omega (arith, length-drop l.tweaks r, back.1, back.3, stacked.0.within)
+undone_all p t l ls stacked u = grind (arith, oldest, back_at, length-drop)
 
 pub ended_level : (p : Puzzle) (d : Dancing) (l : Level) (ls : List Level) → AreStacked p d.trail (l ∷ ls) → record d {
   trail = oldest l.mark (drop l.tweaks (oldest l.base d.trail));
@@ -187,15 +170,4 @@ pub unwound : (d e n : Dancing) (l : Level) (vs ks : Levels) → e ≡ record d 
     → n ≡ record e { trail = oldest l.mark e.trail; undone = e.undone + (length e.trail - l.mark) }
     → ks ≡ record vs { levels = drop 1 vs.levels } → (n ≡ record d { trail = n.trail; undone = n.undone })
     × (moves_made n ≡ moves_made d) × AreStacked n.puzzle n.trail ks.levels
-unwound d e n l vs ks still made stacked top en ek =
-    let here = rw top at stacked in
-    let t = oldest l.mark e.trail in
-    let u : ℕ = e.undone + (length e.trail - l.mark) in
-    let mark = length-oldest l.mark e.trail (omega (arith, here.0.within)) in
-    let back : (record e { trail = t; undone = u } ≡ record d { trail = t; undone = u })
-    × (u + length t ≡ moves_made d) × AreStacked e.puzzle t (drop 1 vs.levels) = (
-      ap (λ (e : Dancing). record e { trail = t; undone = u }) still,
-      omega (arith, mark, made, here.0.within),
-      here.2,
-    ) in
-    rw (en, ek) back
+unwound d e n l vs ks still made stacked top en ek = grind (arith, oldest, length-oldest)

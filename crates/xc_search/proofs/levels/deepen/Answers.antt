@@ -1,8 +1,5 @@
-use Rattle.std.proofs.Common.{arith, ap, sym, length, ◌≡◌, refl}
-use Rattle.xc_dance.specs.Dancing.{Dancing}
-use Rattle.xc_search.specs.declared.level.Level.{Level}
+use Rattle.std.proofs.Common.{arith, ◌≡◌, refl}
 use Rattle.xc_search.proofs.moves.NoTweaks.{plain_above, plain_after_spend}
-use Rattle.xc_search.specs.inner.Levels.{Levels, MayBranch}
 use Rattle.xc_search.proofs.stacked.Depth.{depth_at}
 use Rattle.xc_search.proofs.stacked.EarlyChoice.{chosen_leads}
 use Rattle.xc_search.proofs.stacked.LoopSteps.{Opens, node_at, deepens, may_enter, enters_first}
@@ -17,10 +14,6 @@ use Rattle.xc_search.specs.declared.levels.Below.TheVariants.{Branch}
 same_branch : (a b : Entered) → Branch a ≡ Branch b → a ≡ b
 same_branch a b is = cc
 
-may_branch : (g : _) (c : In-Some g)
-    → MayBranch c.args.position.now.puzzle c.args.position.now.trail c.in-Some.item c.in-Some.count
-may_branch g c = rw c.in-Some.is at c.requires.next.some
-
 opened : (g : _) (c : After-descend-level g) → Opens c.args.position.now c.descend-level.new.self c.args.stack.now
     c.in-Some.item c.in-Some.count c.descend-level.result
 opened g c = grind (arith)
@@ -29,36 +22,16 @@ pub returns-in_default-clause-solved : goal.returns-in_default-clause-solved
 returns-in_default-clause-solved g c _ = c.requires.next.none c.in_default.is
 
 pub descend-level-requires : goal.descend-level-requires
-descend-level-requires g c =
-    node_at _ _ _ _ _ c.requires.standing (may_branch g (goal.at.descend-level-requires g c).In-Some)
+descend-level-requires g c = grind (arith, node_at)
 
 pub push-requires : goal.push-requires
-push-requires g c =
-    let o = opened g (goal.at.push-requires g c).After-descend-level in
-    let s = c.args.position.now in
-    omega (
-      arith,
-      c.requires.levels_fit,
-      depth_at s.puzzle s.trail c.args.stack.now.levels _ o.standing.stacked
-          (o.standing.shallow refl) (node_at _ _ _ _ _ o.standing o.next),
-    )
+push-requires g c = grind (arith, opened, depth_at, node_at)
 
 pub undo_to-requires : goal.undo_to-requires
-undo_to-requires g c =
-    let o = opened g (goal.at.undo_to-requires g c).After-descend-level in
-    let s = c.args.position.now in
-    let spent = ap (λ (d : Dancing). d.trail) o.spent in
-    let mark : length s.trail ≡ c.descend-level.result.mark = sym (ap (λ (l : Level). l.mark) o.level) in
-    let plain = plain_above (plain_after_spend s.puzzle c.in-Some.item s.trail) in
-    record {
-      within = grind (arith, deepens, opened);
-      other = rw (← mark, spent) plain;
-    }
+undo_to-requires g c = grind (arith, opened, plain_above, plain_after_spend, deepens)
 
 pub returns-then-count-eq0-clause-nothing : goal.returns-then-count-eq0-clause-nothing
-returns-then-count-eq0-clause-nothing g c _ =
-    (passes_over (opened g (goal.at.returns-then-count-eq0-clause-nothing g c).After-descend-level)
-    c.undo_to.new.self c.if-count-eq0.true c.undo_to.ensures).0
+returns-then-count-eq0-clause-nothing g c _ = grind (arith, passes_over, opened)
 
 pub returns-then-count-eq0-clause-fewer : goal.returns-then-count-eq0-clause-fewer
 returns-then-count-eq0-clause-fewer g c _ =
@@ -66,9 +39,7 @@ returns-then-count-eq0-clause-fewer g c _ =
     c.undo_to.new.self c.if-count-eq0.true c.undo_to.ensures).1
 
 pub returns-then-count-eq0-clause-path : goal.returns-then-count-eq0-clause-path
-returns-then-count-eq0-clause-path g c _ =
-    (passes_over (opened g (goal.at.returns-then-count-eq0-clause-path g c).After-descend-level)
-    c.undo_to.new.self c.if-count-eq0.true c.undo_to.ensures).2
+returns-then-count-eq0-clause-path g c _ = grind (arith, passes_over, opened)
 
 pub enter-branch-requires : goal.enter-branch-requires
 enter-branch-requires g c =
@@ -83,8 +54,7 @@ returns-clause-deeper g c b is =
     c.enter-branch.ensures.entered (rw c.begin_level.ensures at c.push.ensures)).0
 
 pub returns-clause-deeper_row : goal.returns-clause-deeper_row
-returns-clause-deeper_row g c _ _ =
-    rises_below _ c.args.stack.now c.push.new.self (ap (λ (s : Levels). s.levels) c.push.ensures)
+returns-clause-deeper_row g c _ _ = grind (arith, rises_below)
 
 pub returns-clause-deeper_path : goal.returns-clause-deeper_path
 returns-clause-deeper_path g c b is x chose =

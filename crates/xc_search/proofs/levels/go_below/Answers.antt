@@ -1,29 +1,21 @@
+use Rattle.std.proofs.lemmas.Grind.{common_steps}
 use Rattle.std.proofs.Common.{arith, ◌≡◌, ◌∙◌, refl}
 use Rattle.xc_search.proofs.stacked.CountedOver.{enters_below, falls_over, passes_one}
 use Rattle.xc_search.proofs.stacked.EarlyChoice.{early_next}
 use Rattle.xc_search.proofs.stacked.NextLevel.{solution}
-use Rattle.xc_search.proofs.ends.Steps.{Pays-refl, pays_over, pays_one}
+use Rattle.xc_search.proofs.ends.Steps.{pays_over, pays_one}
 use Rattle.xc_search.proofs.levels.go_below.Goals as goal
 use Rattle.xc_search.proofs.levels.go_below.Goals.{After-choose_early-next}
-use Rattle.xc_search.proofs.levels.go_below.Goals.{else-levels-last-via-then-levels-last+else-skip_rest}
-use Rattle.xc_search.proofs.levels.go_below.Goals.{else-levels-last-via-else-levels-last}
 
 pub returns-then-skip_rest-clause-back : goal.returns-then-skip_rest-clause-back
-returns-then-skip_rest-clause-back g c _ =
-    falls_over _ _ _ _ c.requires.standing (c.skip_rest.ensures.skipped c.if-skip_rest.true)
+returns-then-skip_rest-clause-back g c _ = grind (arith, common_steps, falls_over)
 
 pub deepen-requires-clause-next : goal.deepen-requires-clause-next
-deepen-requires-clause-next g c =
-    let here = c.requires.standing.searchable refl in
-    early_next _ _ _ here.valid here.legal c.choose_early-next.ensures.choice
+deepen-requires-clause-next g c = grind (arith, early_next)
 
 -- where the last choice wasn't counted, as many are to be passed over
 as_many : (g : _) (c : After-choose_early-next g) → c.else-levels-last.more ≡ c.args.more.now
-as_many g c = elim c.else-levels-last.branch [
-  | else-levels-last-via-then-levels-last+else-skip_rest w ↦
-      w.more-is ∙ w.skip_rest.ensures.not_skipped w.if-skip_rest.false
-  | else-levels-last-via-else-levels-last w ↦ w.more-is
-]
+as_many g c = grind (arith)
 
 pub returns-in-Branch-clause-entered : goal.returns-in-Branch-clause-entered
 returns-in-Branch-clause-entered g c b is =
@@ -31,14 +23,7 @@ returns-in-Branch-clause-entered g c b is =
     (enters_below c.args.more.now (c.deepen.ensures.deeper b (c.in-Branch.is ∙ is)))
 
 pub returns-else-more-eq0-clause-back : goal.returns-else-more-eq0-clause-back
-returns-else-more-eq0-clause-back g c _ =
-    let same = as_many g (goal.at.returns-else-more-eq0-clause-back g c).After-choose_early-next in
-    let d = c.args.position.now in
-    let here = c.deepen.ensures.same c.in-Solution.is in
-    let none = c.deepen.ensures.solved c.in-Solution.is in
-    let one = solution d.puzzle d.trail c.args.stack.now.levels (c.requires.standing.searchable refl).legal none in
-    rw (here.0, here.1) (passes_one d c.args.stack.now _ _ c.requires.standing one
-    (omega (arith, same, c.if-more-eq0.false)))
+returns-else-more-eq0-clause-back g c _ = grind (arith, as_many, solution, passes_one)
 
 pub returns-then-skip_rest-clause-back_pays : goal.returns-then-skip_rest-clause-back_pays
 returns-then-skip_rest-clause-back_pays g c _ =
@@ -55,14 +40,7 @@ returns-in-Nothing-clause-back_pays g c _ =
     (c.deepen.ensures.nothing_pays c.in-Nothing.is c.args.more.now)
 
 pub returns-then-more-eq0-clause-stands_pays : goal.returns-then-more-eq0-clause-stands_pays
-returns-then-more-eq0-clause-stands_pays g c _ =
-    let here = c.deepen.ensures.same c.in-Solution.is in
-    rw (here.0, here.1, as_many g (goal.at.returns-then-more-eq0-clause-stands_pays g c).After-choose_early-next)
-    Pays-refl
+returns-then-more-eq0-clause-stands_pays g c _ = grind (arith, as_many)
 
 pub returns-else-more-eq0-clause-back_pays : goal.returns-else-more-eq0-clause-back_pays
-returns-else-more-eq0-clause-back_pays g c _ =
-    let same = as_many g (goal.at.returns-else-more-eq0-clause-back_pays g c).After-choose_early-next in
-    let here = c.deepen.ensures.same c.in-Solution.is in
-    rw (here.0, here.1) (pays_one c.args.position.now c.args.stack.now _ _ (c.requires.standing.searchable refl)
-    (c.deepen.ensures.solved c.in-Solution.is) (omega (arith, same, c.if-more-eq0.false)))
+returns-else-more-eq0-clause-back_pays g c _ = grind (arith, as_many, pays_one)

@@ -1,31 +1,23 @@
 use Rattle.xc_search.proofs.stacked.BackAtLevel.{finished}
-use Rattle.std.proofs.Common.{◌<◌, ◌≤◌, ◌∷◌, drop, false, refl, ap, arith}
+use Rattle.std.proofs.Common.{◌<◌, ◌≤◌, ◌∷◌, drop, false, ap, arith}
 use Rattle.xc_search.specs.inner.Levels.{Levels, AreStacked}
 use Rattle.xc_search.specs.inner.Ahead.{GoesOn, visits}
-use Rattle.xc_search.proofs.stacked.Led.{keeps_back}
 use Rattle.xc_search.proofs.stacked.LoopSteps.{GoesOn-trans, goes_on_to}
 use Rattle.xc_search.proofs.spans.Numbers.{oldest_all, oldest_fewer, rises_next}
-use Rattle.xc_search.proofs.ends.Steps.{Pays-trans, Pays-refl, pays_next, pays_back}
+use Rattle.xc_search.proofs.ends.Steps.{Pays-trans, pays_next, pays_back}
 use Rattle.xc_search.proofs.levels.resume.Goals as goal
 use Rattle.xc_search.proofs.levels.resume.Goals.{In-Some, After-pop}
 use Rattle.xc_search.proofs.stacked.LoopSteps.{enters_next}
 
 pub loop-level-init : goal.loop-level-init
-loop-level-init g c = record {
-  goes_on = grind (arith);
-  path = λ x u a. a;
-  oldest = oldest_all _ _ refl;
-  pays = λ m. Pays-refl;
-  less = omega arith;
-}
+loop-level-init g c = grind (arith, oldest_all)
 
 stacked : (g : _) (c : In-Some g) → AreStacked c.loop-level.position.puzzle c.loop-level.position.trail
     (c.in-Some.level.now ∷ drop 1 c.loop-level.stack.levels)
 stacked g c = rw c.in-Some.ensures.some at c.loop-level.invariant.goes_on.standing.stacked
 
 pub enter_next-branch-requires-clause-stacked : goal.enter_next-branch-requires-clause-stacked
-enter_next-branch-requires-clause-stacked g c =
-    (_, stacked g (goal.at.enter_next-branch-requires-clause-stacked g c).In-Some)
+enter_next-branch-requires-clause-stacked g c = grind (arith, stacked)
 
 pub enter_next-branch-requires-clause-more : goal.enter_next-branch-requires-clause-more
 enter_next-branch-requires-clause-more g c = c.if-level.true
@@ -52,11 +44,7 @@ returns-then-level-clause-resumed_path g c = λ x u a.
     (rw c.in-Some.ensures.some at (c.loop-level.invariant.path x u a)).1
 
 pub returns-then-level-clause-resumed_row : goal.returns-then-level-clause-resumed_row
-returns-then-level-clause-resumed_row g c =
-    rises_next c.in-Some.level.now c.enter_next-branch.result c.args.stack.now c.loop-level.stack
-    c.note_branch.new.self c.in-Some.ensures.some
-    (ap (λ (s : Levels). s.levels) c.note_branch.ensures)
-    (omega (arith, c.enter_next-branch.ensures.entered.begun.begun)) c.loop-level.invariant.oldest
+returns-then-level-clause-resumed_row g c = grind (arith, rises_next)
 
 pub loop-level-smaller : goal.loop-level-smaller
 loop-level-smaller g c = (back g c).1
@@ -67,8 +55,7 @@ loop-level-preserved g c =
     let ended : c.in-Some.level.now.count ≤ c.in-Some.level.now.begun = omega (arith, c.if-level.false) in
     record {
       goes_on = GoesOn-trans _ _ _ _ _ _ _ _ _ is.goes_on (back g c).0;
-      path = λ x u a. keeps_back x c.loop-level.position c.end_level.new.position c.in-Some.level.now c.loop-level.stack
-          c.pop.new.self c.in-Some.ensures.some c.end_level.ensures c.pop.ensures u (is.path x u a);
+      path = λ x u a. (grind arith);
       oldest = oldest_fewer c.in-Some.level.now _ _ _ c.in-Some.ensures.some
           (ap (λ (s : Levels). s.levels) c.pop.ensures) is.oldest;
       pays = λ m. Pays-trans (is.pays m) (pays_back c.loop-level.position c.end_level.new.position

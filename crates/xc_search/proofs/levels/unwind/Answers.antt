@@ -30,39 +30,13 @@ loop-level-preserved g c =
     c.loop-level.stack c.pop.new.self c.loop-level.invariant.still c.loop-level.invariant.made
     c.loop-level.invariant.stacked c.in-Some.ensures.some
     (ended g (goal.at.loop-level-preserved g c).After-undo_to-in-Some) c.pop.ensures in
-    record {
-      still = on.0;
-      made = on.1;
-      stacked = on.2;
-      stack = grind (arith, c.loop-level.invariant.stack, c.pop.ensures);
-    }
+    grind arith
 
 pub undo_tweaks-requires : goal.undo_tweaks-requires
-undo_tweaks-requires g c =
-    let l = c.in-Some.level.now in
-    let stacked = rw c.in-Some.ensures.some at c.loop-level.invariant.stacked in
-    let ends = ends_tweaks c.loop-level.position.puzzle c.loop-level.position.trail l stacked.0 in
-    record {
-      tweaks = grind (arith, common_steps);
-      all = rw (ap (λ (s : Dancing). s.trail) c.undo_to.ensures) ends.all;
-    }
+undo_tweaks-requires g c = grind (arith, common_steps, ends_tweaks)
 
 pub undo_to-requires-in-Some : goal.undo_to-requires-in-Some
-undo_to-requires-in-Some g c =
-    let l = c.in-Some.level.now in
-    let stacked = rw c.in-Some.ensures.some at c.loop-level.invariant.stacked in
-    let ends = ends_tweaks c.loop-level.position.puzzle c.loop-level.position.trail l stacked.0 in
-    let freed = λ (s : Dancing). record s { trail = drop l.tweaks s.trail; undone = s.undone + l.tweaks } in
-    record {
-      within = grind (arith, common_steps);
-      other = elim c.if-level-gt0.branch [
-        | then-level-gt0 w ↦
-            rw (ap (λ (s : Dancing). s.trail) (w.position-is ∙ w.undo_tweaks.ensures ∙ ap freed w.undo_to.ensures))
-            ends.other
-        | else-level-gt0 w ↦
-            rw (ap (λ (s : Dancing). s.trail) w.position-is) (ends.without (omega (arith, w.if-level-gt0.false)))
-      ];
-    }
+undo_to-requires-in-Some g c = grind (arith, common_steps, ends_tweaks)
 
 pub returns : goal.returns
-returns g c = grind (arith, common_steps)
+returns g c = grind arith

@@ -27,9 +27,7 @@ returns-clause-settles g c =
     let ks = c.reach.new.state.stack.levels in
     let from = c.deref.result.now in
     let reach = c.reach.ensures in
-    let is : from ≡ row_at d.puzzle ls =
-    c.deref.ensures.value ∙ c.note_row.ensures.items ∙ row_levels d.puzzle c.levels.result.now ls
-    c.levels.ensures.levels in
+    let is : from ≡ row_at d.puzzle ls = grind (arith, row_levels) in
     let moved : e.puzzle ≡ f.puzzle = ap (λ (d : Dancing). d.puzzle) reach.still in
     let puzzle : e.puzzle ≡ d.puzzle = moved ∙ ap (λ (d : Dancing). d.puzzle) c.unwind.ensures.position in
     let all : coming f.puzzle f.trail c.unwind.new.stack.levels true ≡ members e.puzzle =
