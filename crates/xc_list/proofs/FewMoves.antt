@@ -1,5 +1,5 @@
 -- How many moves a search has made once it went on.
-use Rattle.std.proofs.Common.{ℕ, ◌≡◌, ◌+◌, ◌*◌, ◌≤◌, Bool, List, length, ap, ◌∙◌, arith, subst}
+use Rattle.std.proofs.Common.{ℕ, ◌≡◌, ◌+◌, ◌*◌, ◌≤◌, length, ◌∙◌, arith}
 use Rattle.xc_input.specs.Problem.{Puzzle}
 use Rattle.xc_search.specs.Ends.{ends, ends_after}
 use Rattle.xc_search.specs.Listing.{whole}
@@ -12,8 +12,4 @@ pub few_on : (p : Puzzle) (o w : Outlook) (start k n : ℕ) → o.puzzle ≡ p �
     → o.made + room_for p * length o.ahead ≤ start + room_for p * length (ends (whole p)) → MakesFew o w
     → w.ahead ≡ ends_after n o.ahead → w.made + room_for p * length (ends_after (k + n) (ends (whole p)))
     ≤ start + room_for p * length (ends (whole p))
-few_on p o w start k n same at before few to =
-    let es = ends (whole p) in
-    let ahead : w.ahead ≡ ends_after (k + n) es = to ∙ ap (ends_after n) at ∙ ends_on k n es in
-    let fewer = subst (λ q. w.made + room_for q * length w.ahead ≤ o.made + room_for q * length o.ahead) same few in
-    omega (arith, fewer, before, ap (λ (xs : List Bool). room_for p * length xs) ahead)
+few_on p o w start k n same at before few to = grind (arith, ends, whole, ends_on)

@@ -5,7 +5,6 @@ use Rattle.std.specs.Prelude.{flat_map, map}
 use Rattle.std.proofs.lemmas.Grind.{common_steps}
 use Rattle.std.proofs.lemmas.List.{take-take, drop-take, length-take-le, take-append-drop, take-append-le}
 use Rattle.std.proofs.Math.Seq.{take-append_seam, take-append-add, drop-append_seam}
-use Rattle.xc_list.proofs.Writing.{one_more as one_text_more}
 use Rattle.xc_input.specs.Named.{Named}
 use Rattle.xc_list.specs.declared.page.TheConstants.{LINES, ROOM}
 use Rattle.xc_list.specs.declared.page.Line.{Line}
@@ -14,8 +13,7 @@ use Rattle.xc_search.specs.declared.choice.Choice.{Choice}
 use Rattle.xc_search.specs.declared.marks.Mark.{Mark}
 use Rattle.xc_search.specs.Marks.{marked}
 use Rattle.xc_list.specs.Output.{choice_text}
-use Rattle.xc_list.specs.inner.Pages.{AreEnds, AreKept, MatchMark, lines_end, held_text, line_text}
-use Rattle.xc_list.proofs.PageLemmas.{held_more}
+use Rattle.xc_list.specs.inner.Pages.{AreEnds, AreKept, MatchMark, lines_end, line_text}
 
 -- no lines stand on any page
 pub kept_none : (a : Named) (page : List ℕ) → AreKept a page []
@@ -41,9 +39,7 @@ ends_at a (suc d) at (x ∷ xs) l h e =
 -- where the line behind the first of them ends
 pub ends_there : (a : Named) (d : ℕ) (ls : List Line) (l : Line) → AreEnds a LINES ls
     → take (d + 1) ls ≡ take d ls ++ l ∷ [] → l.end ≡ lines_end a (take (d + 1) ls)
-ends_there a d ls l h e =
-    let next : d + 1 ≡ suc d = omega arith in
-    rw next (ends_at a d LINES ls l h (rw next at e))
+ends_there a d ls l h e = grind (arith, ends_at)
 
 -- the text of the first lines that stand
 first_text : (a : Named) (page : List ℕ) (ls : List Line) (d : ℕ) → AreKept a page ls
@@ -52,10 +48,7 @@ first_text a page ls d k =
     let whole : flat_map (line_text a) ls ≡ flat_map (line_text a) (take d ls) ++ flat_map (line_text a) (drop d ls) =
     grind (arith, common_steps, take-append-drop d ls) in
     let seam = take-append_seam (flat_map (line_text a) (take d ls)) (flat_map (line_text a) (drop d ls)) in
-    let cut = take-take (length (flat_map (line_text a) (take d ls))) (length (flat_map (line_text a) ls))
-    (drop LINES page)
-    (grind (arith, common_steps, whole)) in
-    sym cut ∙ ap (take (length (flat_map (line_text a) (take d ls)))) (k.text ∙ whole) ∙ seam
+    grind (arith, common_steps)
 
 -- where they end is on the page
 pub first_fits : (a : Named) (page : List ℕ) (ls : List Line) (d : ℕ) → AreKept a page ls → length page ≡ ROOM
@@ -66,9 +59,7 @@ front_and_text : (page text : List ℕ) → LINES ≤ length page → take (leng
     → take (LINES + length text) page ≡ take LINES page ++ text
 front_and_text page text long e =
     let whole = take-append-drop LINES page in
-    ap (take (LINES + length text)) (sym whole)
-    ∙ ap (λ n. take (n + length text) (take LINES page ++ drop LINES page)) (sym (length-take-le LINES page long))
-    ∙ take-append-add (take LINES page) (drop LINES page) (length text) ∙ ap (λ t. take LINES page ++ t) e
+    cc (length-take-le LINES page long, take-append-add (take LINES page) (drop LINES page) (length text))
 
 front_stays : (page more text : List ℕ) (end : ℕ) → LINES ≤ end → LINES ≤ length page
     → take end more ≡ take LINES page ++ text → take LINES more ≡ take LINES page
@@ -80,8 +71,7 @@ front_stays page more text end far long e =
 text_behind : (page more text : List ℕ) (end : ℕ) → end ≡ LINES + length text → LINES ≤ length page
     → take end more ≡ take LINES page ++ text → take (length text) (drop LINES more) ≡ text
 text_behind page more text end there long e =
-    sym (drop-take LINES (length text) more) ∙ ap (λ n. drop LINES (take n more)) (sym there) ∙ ap (drop LINES) e
-    ∙ grind (arith, drop-append_seam (take LINES page) text, length-take-le LINES page long)
+    cc (drop-take LINES (length text) more, drop-append_seam (take LINES page) text, length-take-le LINES page long)
 
 -- up to there the page has the header and their text
 up_to_end : (a : Named) (page : List ℕ) (ls : List Line) (d : ℕ) → AreKept a page ls → length page ≡ ROOM
@@ -96,13 +86,8 @@ module _ (a : Named) (page more : List ℕ) (ls : List Line) (l : Line) (d : ℕ
   abbrev both : List ℕ
   both = flat_map (line_text a) (take d ls ++ l ∷ [])
 
-  text_is : both ≡ flat_map (line_text a) (take d ls) ++ line_text a l
-  text_is = one_text_more (line_text a) (take d ls) l
-
   line : take l.end more ≡ take LINES page ++ both
-  line = put ∙ ap (λ t. t ++ line_text a l) (up_to_end a page ls d k size)
-      ∙ append_assoc (take LINES page) (flat_map (line_text a) (take d ls)) (line_text a l)
-      ∙ ap (λ t. take LINES page ++ t) (sym text_is)
+  line = grind (arith, common_steps, up_to_end, append_assoc)
 
   put_end : l.end ≡ lines_end a (take d ls ++ l ∷ [])
   put_end = grind (arith, common_steps, ap length line)
@@ -111,16 +96,11 @@ module _ (a : Named) (page more : List ℕ) (ls : List Line) (l : Line) (d : ℕ
   put_header = front_stays page more both l.end (omega (arith, put_end)) (omega (arith, size)) line
 
   put_kept : AreKept a more (take d ls ++ l ∷ [])
-  put_kept = record {
-    text = text_behind page more both l.end put_end (omega (arith, size)) line;
-    ends = ends_put a d LINES ls l k.ends few (grind (arith, common_steps, put_end, ap length text_is));
-  }
+  put_kept = grind (arith, common_steps, text_behind, both, put_end, line, ends_put)
 
   stands : AreKept a more (take d ls ++ l ∷ []) × (l.end ≡ lines_end a (take (d + 1) (take d ls ++ l ∷ [])))
       × (take LINES more ≡ take LINES page)
-  stands =
-      let all : take (d + 1) (take d ls ++ l ∷ []) ≡ take d ls ++ l ∷ [] = grind (arith, common_steps) in
-      (put_kept, rw all put_end, put_header)
+  stands = grind (arith, common_steps, put_kept, put_end, put_header)
 
 -- the line of a mark that was put behind the first of them
 pub line_stands : (a : Named) (p : Puzzle) (page more : List ℕ) (ls new : List Line) (m : Mark) (c : Choice)
@@ -155,18 +135,4 @@ pub all_stand : (a : Named) (page first : List ℕ) (ls : List Line) (d at : ℕ
     → choices_of a (take d ls) ++ map (marked a.puzzle) marks ≡ all → marks ≡ []
     → (take at page ≡ take LINES first ++ flat_map (choice_text a) all) × (LINES ≤ at) × (at ≤ ROOM)
 all_stand a page first ls d at marks all k size there same whole none =
-    let texts : flat_map (line_text a) (take d ls) ≡ flat_map (choice_text a) all =
-    sym (texts_of a (take d ls)) ∙ ap (flat_map (choice_text a)) (grind (arith, common_steps, whole, none)) in
-    let front = up_to_end a page ls d k size in
-    let text : take at page ≡ take LINES first ++ flat_map (choice_text a) all =
-    ap (λ n. take n page) there ∙ front ∙ ap (λ t. t ++ flat_map (line_text a) (take d ls)) same
-    ∙ ap (λ t. take LINES first ++ t) texts in
-    (text, omega (arith, there), rw there (first_fits a page ls d k size))
-
--- a solution's lines stand behind its header
-pub solution_held : (page more lines header : List ℕ) (from to end : ℕ) → held_text page from to ≡ header → from ≤ to
-    → to ≡ LINES → length page ≡ ROOM → take end more ≡ take LINES page ++ lines
-    → held_text more from end ≡ header ++ lines
-solution_held page more lines header from to end held within there size e =
-    held_more page more lines from to end within (omega (arith, there, size))
-    (e ∙ ap (λ n. take n page ++ lines) (sym there)) ∙ ap (λ t. t ++ lines) held
+    grind (arith, common_steps, texts_of, up_to_end, first_fits)

@@ -59,15 +59,7 @@ pub reaches : (a : Named) (spacing k n : ℕ) (o p : Outlook) → o.to_come ≡ 
 reaches a spacing k n o p come went some enough silent =
     let ms = members a.puzzle in
     let next = next_of o.to_come (n - 1) (omega (arith, some, enough)) in
-    let same : (n - 1) + 1 ≡ n = omega (arith, some) in
-    record {
-      last = k + (n - 1);
-      number = omega (arith, some);
-      next = grind (arith, shown_next, drop-drop);
-      same =
-          output_silent a spacing k (n - 1) (omega (arith, enough, some, ap length come, length-drop k ms))
-          (λ j from below. silent j from (omega (arith, below, some)));
-    }
+    grind (arith, shown_next, drop-drop, output_silent, length-drop)
 
 -- all members were passed over
 pub ends : (a : Named) (spacing limit k n passed : ℕ) {x y : SinkState} → k ≤ length (members a.puzzle)
@@ -75,14 +67,7 @@ pub ends : (a : Named) (spacing limit k n passed : ℕ) {x y : SinkState} → k 
     → Took x y (output a spacing k) → IsRun a spacing limit x y (Done (k + passed))
 ends a spacing limit k n passed {x = x} {y = y} within all less few silent so_far =
     let end : k + passed ≡ length (members a.puzzle) = omega (arith, all, within, length-drop k (members a.puzzle)) in
-    let below : k + passed < limit = omega (arith, less, few) in
-    let same = output_silent a spacing k passed (omega (arith, end))
-    (λ j from below. silent j from (omega (arith, below, less))) in
-    let all = texts_all (printed_text a spacing) (members a.puzzle) (k + passed) limit (omega (arith, end))
-    (omega (arith, below)) in
-    let whole : output a spacing limit ≡ output a spacing k =
-    cc (all, output_texts a spacing (k + passed), output_texts a spacing limit, same) in
-    (cc (end, lt-ltb (k + passed) limit below), rw whole so_far)
+    grind (arith, common_steps, output_silent, texts_all, output_texts, lt-ltb)
 
 module _ {a : Named} {spacing k t : ℕ} {o : Outlook} (to : Reaches a spacing k t o) where
   pub stands : StandsAt (members a.puzzle) t o

@@ -14,7 +14,7 @@ use Rattle.std.specs.Prelude.{flat_map}
 use Rattle.xc_list.specs.Texts.{SinkState, Took, BrokeOff}
 use Rattle.xc_list.specs.inner.Pages.{Puts, held_text}
 use Rattle.xc_list.specs.declared.page.TheConstants.{ROOM}
-use Rattle.xc_list.proofs.Writing.{one_more, then_took, then_broke, took_nothing, broke_before}
+use Rattle.xc_list.proofs.Writing.{one_more, then_took, then_broke, broke_before}
 use Rattle.std.proofs.lemmas.Grind.{common_steps}
 use Rattle.xc_input.proofs.TokenLemmas.Separators.{COLON}
 
@@ -22,10 +22,6 @@ use Rattle.xc_input.proofs.TokenLemmas.Separators.{COLON}
 pub held_more : (page more text : List ℕ) (from to end : ℕ) → from ≤ to → to ≤ length page
     → take end more ≡ take to page ++ text → held_text more from end ≡ held_text page from to ++ text
 held_more page more text from to end h l e = grind (arith, length-take, drop-append-le)
-
--- and the sink was not asked
-pub puts_held : (s : SinkState) (before after text : List ℕ) → after ≡ before ++ text → Puts s s before after text
-puts_held s before after text e = record { front = []; took = took_nothing s; whole = sym e }
 
 -- the texts of the front of a list were put, up to where the rest begins
 pub record PutsFront (a b : SinkState) {X : Type 0} (before held : List ℕ) (f : X → List ℕ) (rest all : List X) : Type 0

@@ -308,16 +308,3 @@ pub halts : (h : Halt) → (h ≡ Member → ⊥) → (h ≡ End) ⊎ (h ≡ Ste
 halts Member e = absurd (e refl)
 halts End e = inl refl
 halts Steps e = inr refl
-
--- of a search that went on from another's row
-pub still_on : (f o n : InSpan) → o ≡ record f { row = o.row; shown = o.shown; made = o.made }
-    → n ≡ record o { row = n.row; shown = n.shown; made = n.made }
-    → n ≡ record f { row = n.row; shown = n.shown; made = n.made }
-still_on f o n e h = h ∙ ap (λ (s : InSpan). record s { row = n.row; shown = n.shown; made = n.made }) e
-
-pub called_on : (f o n : InSpan) (many steps : ℕ) (w : Went)
-    → o ≡ record f { row = o.row; shown = o.shown; made = o.made }
-    → Called o.puzzle o.until o.row n.row o.shown n.shown many steps w
-    → Called f.puzzle f.until o.row n.row o.shown n.shown many steps w
-called_on f o n many steps w e c =
-    subst (λ (s : InSpan). Called s.puzzle s.until o.row n.row o.shown n.shown many steps w) e c

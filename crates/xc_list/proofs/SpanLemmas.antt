@@ -63,10 +63,6 @@ pub number_in : (s : InSpan) (i n : ℕ) → Some n ≡ option_and_then (λ row.
     → slice_get (row_in s) i ≡ Some n
 number_in s i n e = sym (e ∙ in_row s.row i)
 
-pub no_number : (s : InSpan) (i : ℕ) → None ≡ option_and_then (λ row. slice_get row i) s.row
-    → slice_get (row_in s) i ≡ None
-no_number s i e = sym (e ∙ in_row s.row i)
-
 pub branches_at : (s : InSpan) (i n : ℕ)
     → Some n ≡ option_and_then (λ row. slice_get (branches_along (whole s.puzzle) row) i) s.row
     → slice_get (branches_in s) i ≡ Some n
@@ -90,9 +86,6 @@ numbers_behind (k ∷ row) i h = grind (arith, common_steps, append_assoc, dotte
 
 module _ (row : List ℕ) (i n : ℕ) (e : slice_get row i ≡ Some n) {x y z : SinkState}
     (so_far : Took x y (numbers_text (take i row))) where
-  pub took_next : Took y z (text_at i n) → Took x z (numbers_text (take (i + 1) row))
-  took_next t = subst (Took x z) (sym (numbers_next row i n e)) (then_took so_far t)
-
   pub broke_next : BrokeOff y z (text_at i n) → BrokeOff x z (numbers_text row)
   broke_next b =
       subst (BrokeOff x z) (sym (numbers_behind row i (slice_get_within row i n e) ∙ ap

@@ -1,18 +1,12 @@
 -- The words of a choice line.
 use Rattle.std.proofs.lemmas.Grind.{common_steps}
 use Rattle.std.proofs.Common.{[], ◌≡◌, ℕ, ◌<◌, Bool, true, false, not, ◌&&◌, nat_eq}
-use Rattle.std.proofs.Common.{List, ◌∷◌, ◌++◌, length, Some, None, refl}
-use Rattle.std.proofs.Common.{arith, length-append, if◌then◌else◌}
+use Rattle.std.proofs.Common.{List, ◌∷◌, ◌++◌, length, Some, refl}
+use Rattle.std.proofs.Common.{arith, if◌then◌else◌}
 use Rattle.std.specs.List.{list_all, list_any, onto_first}
 use Rattle.std.proofs.lemmas.Bool.Decides.{nat_tests}
-use Rattle.std.proofs.Math.Seq.{take-append_seam, get_or-append_seam}
 use Rattle.xc_input.specs.Tokens.{is_space}
-use Rattle.xc_list.specs.ListingLines.{words_in, before_last, is_word, is_ending, body_of_words}
-
--- LAST BYTES
-pub last_byte : (b x : ℕ) (front : List ℕ) → before_last b (front ++ x ∷ [])
-    ≡ (if nat_eq x b then Some front else None)
-last_byte b x front = grind (arith, common_steps, nat_tests, length-append, get_or-append_seam, take-append_seam)
+use Rattle.xc_list.specs.ListingLines.{words_in, is_word, is_ending, body_of_words}
 
 -- WORDS OF A TEXT
 -- whether what is left of words is words; fresh: no byte of the first one was seen

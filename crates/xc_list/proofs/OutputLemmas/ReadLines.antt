@@ -1,4 +1,7 @@
 -- What the lines of an output are read as.
+use Rattle.std.proofs.Common.{length-append}
+use Rattle.std.proofs.Math.Seq.{get_or-append_seam}
+use Rattle.std.proofs.Math.Seq.{take-append_seam}
 use Rattle.std.proofs.Common.{[], sym}
 use Rattle.std.proofs.lemmas.Fmt.{decimal_nonempty, digits_value-decimal}
 use Rattle.std.proofs.Common.{flat_map}
@@ -14,26 +17,23 @@ use Rattle.xc_input.proofs.lists.EachElement.{each-append}
 use Rattle.std.specs.List.{AllByRecursion}
 use Rattle.xc_input.specs.Words.{has}
 use Rattle.xc_input.specs.Tokens.{is_space}
-use Rattle.xc_list.proofs.CheckLemmas.CutBodies.{last_byte, before_three}
+use Rattle.xc_list.proofs.CheckLemmas.CutBodies.{before_three}
 use Rattle.xc_list.proofs.Digits.{some_digits}
 use Rattle.xc_input.proofs.WrittenTexts.Numerals.{are_digits-decimal, digits, digits_read, lacks-decimal}
 use Rattle.xc_list.specs.ListingLines.{words_in, before_last, header_number, is_word}
 use Rattle.xc_list.specs.ListingLines.{is_ending, body_of_words}
 use Rattle.xc_list.specs.inner.ReadLines.{Header, Body, read}
-use Rattle.xc_input.proofs.TokenLemmas.Separators.{COLON}
 
 -- ---- headers
 
 pub before_last-last : (b : ℕ) (front : List ℕ) → before_last b (front ++ b ∷ []) ≡ Some front
-before_last-last b front = grind (arith, nat_tests, last_byte)
+before_last-last b front = grind (arith, common_steps, length-append, get_or-append_seam, take-append_seam)
 
 pub read-header : (n : ℕ) → n < 2 ^ 64 → read (decimal n ++ codes ":") ≡ Header n
 read-header n h =
     let short = length-decimal-le 20 n (omega arith) (omega (arith, h)) h in
     let value = digits_value-decimal digits_read n h in
-    let all = digits n h in
-    let some = some_digits (decimal n) (decimal_nonempty n h) in
-    grind (arith, nat_tests, before_last-last COLON (decimal n))
+    grind (arith, digits, some_digits, decimal_nonempty, before_last-last)
 
 -- ---- words
 
@@ -73,19 +73,11 @@ no_feed-spaced (w ∷ ws) plain = grind (arith, common_steps, plain.0.no_feed, n
 abbrev pub ending_words : ℕ → ℕ → List (List ℕ)
 ending_words k n = (codes "(" ++ decimal k) ∷ codes "of" ∷ (decimal n ++ codes ")") ∷ []
 
-pub plain-decimal : (n : ℕ) → n < 2 ^ 64 → IsPlain (decimal n)
-plain-decimal n h = grind (arith, decimal_nonempty, lacks-decimal)
-
 pub plain-append : (v w : List ℕ) → IsPlain v → list_any is_space w ≡ false → has 10 w ≡ false → IsPlain (v ++ w)
 plain-append v w plain space feed = grind (arith, common_steps, plain.some, plain.no_space, plain.no_feed)
 
 plain-ending : (k n : ℕ) → k < 2 ^ 64 → n < 2 ^ 64 → AllByRecursion IsPlain (ending_words k n)
-plain-ending k n h l =
-    let digits = plain-decimal k h in
-    let opening : IsPlain (codes "(") = record { some = omega arith; no_space = refl; no_feed = refl } in
-    let middle : IsPlain (codes "of") = record { some = omega arith; no_space = refl; no_feed = refl } in
-    let closing = plain-append (decimal n) (codes ")") (plain-decimal n l) refl refl in
-    (plain-append (codes "(") (decimal k) opening digits.no_space digits.no_feed, (middle, (closing, tt)))
+plain-ending k n h l = grind (arith, common_steps, plain-append, decimal_nonempty, lacks-decimal)
 
 is_ending-words : (k n : ℕ) → k < 10 ^ 10 → n < 10 ^ 10 → is_ending (ending_words k n) ≡ true
 is_ending-words k n h l = grind (arith, nat_tests, are_digits-decimal, before_last-last)
@@ -104,10 +96,8 @@ read-choice (w ∷ body) k n some plain h l =
     let is : body_of_words (words_in (w ++ spaced (body ++ ending_words k n))) ≡ Some (w ∷ body) =
     ap body_of_words (words_in-spaced w (body ++ ending_words k n) all)
     ∙ sym (before_three ((w ∷ body) ++ ending_words k n) (w ∷ body) (ending_words k n) (omega arith) refl refl
-    (are_words ((w ∷ body) ++ ending_words k n) all) (is_ending-words k n h l)) in (
-      grind (arith, nat_tests, no_header (w ++ spaced (body ++ ending_words k n)), is),
-      no_feed-spaced ((w ∷ body) ++ ending_words k n) all,
-    )
+    (are_words ((w ∷ body) ++ ending_words k n) all) (is_ending-words k n h l)) in
+    grind (arith, common_steps, no_header, no_feed-spaced)
 
 pub no_feed-header : (n : ℕ) → n < 2 ^ 64 → has 10 (decimal n ++ codes ":") ≡ false
-no_feed-header n h = (plain-append (decimal n) (codes ":") (plain-decimal n h) refl refl).no_feed
+no_feed-header n h = grind (arith, common_steps, plain-append, decimal_nonempty, lacks-decimal)

@@ -1,14 +1,12 @@
+use Rattle.std.proofs.Common.{arith}
 use Rattle.xc_list.proofs.KeptLines.{ends_there, first_fits, line_stands}
 use Rattle.xc_list.proofs.print.keep_line.Goals as goal
 
 pub returns-in-Some-clause-end : goal.returns-in-Some-clause-end
-returns-in-Some-clause-end g c =
-    ends_there c.args.laid.now c.args.done c.args.kept.now (record { mark = c.args.mark; end = c.in-Some.end })
-    c.requires.kept.ends c.in-Some.ensures.line
+returns-in-Some-clause-end g c = grind (arith, ends_there)
 
 pub put_choice-requires-clause-room : goal.put_choice-requires-clause-room
-put_choice-requires-clause-room g c =
-    (rw c.requires.at (first_fits _ _ c.args.kept.now c.args.done c.requires.kept c.requires.size), c.requires.size)
+put_choice-requires-clause-room g c = grind (arith, first_fits)
 
 pub returns-then-put-clause-kept : goal.returns-then-put-clause-kept
 returns-then-put-clause-kept g c =

@@ -1,3 +1,4 @@
+use Rattle.std.proofs.lemmas.Grind.{common_steps}
 use Rattle.std.proofs.Common.{arith, refl, ◌∙◌}
 use Rattle.std.proofs.lemmas.List.Elements.{All-tail}
 use Rattle.xc_search.specs.Marks.{marked, IsMark}
@@ -19,8 +20,7 @@ loop-mark-preserved g c = record {
   kept = c.in_ok-at.ensures.kept;
   done = c.in_ok-at.ensures.stands.within;
   at = c.in_ok-at.ensures.end;
-  whole = one_more c.args.laid.now _ _ _ _ _ _ _ c.in_ok-at.ensures.stands c.in-Some.ensures.some
-      c.loop-mark.invariant.whole;
+  whole = grind (arith, common_steps, one_more);
   right = All-tail (IsMark c.args.laid.now.puzzle) c.in-Some.mark _
       (rw c.in-Some.ensures.some at c.loop-mark.invariant.right);
   known = All-tail (IsKnownChoice c.args.laid.now.puzzle) (marked c.args.laid.now.puzzle c.in-Some.mark) _
@@ -30,10 +30,7 @@ loop-mark-preserved g c = record {
 }
 
 pub returns-clause-put : goal.returns-clause-put
-returns-clause-put g c =
-    (all_stand c.args.laid.now _ _ _ _ _ _ _ c.loop-mark.invariant.kept c.loop-mark.invariant.size
-    c.loop-mark.invariant.at c.loop-mark.invariant.header c.loop-mark.invariant.whole
-    (c.in_default.ensures.none refl)).0
+returns-clause-put g c = grind (arith, all_stand)
 
 pub returns-clause-end : goal.returns-clause-end
 returns-clause-end g c =

@@ -1,12 +1,13 @@
+use Rattle.xc_list.proofs.Writing.{took_nothing}
 use Rattle.xc_list.proofs.Writing.{if_failed}
 use Rattle.xc_list.proofs.PageLemmas.{puts_out}
 use Rattle.std.proofs.Common.{arith, refl}
 use Rattle.std.proofs.lemmas.Slice.{between_is}
-use Rattle.xc_list.proofs.PageLemmas.{held_more, puts_held}
+use Rattle.xc_list.proofs.PageLemmas.{held_more}
 use Rattle.xc_list.proofs.print.put_line.Goals as goal
 
 pub returns-in-Some-clause-put : goal.returns-in-Some-clause-put
-returns-in-Some-clause-put g c = grind (arith, puts_held, held_more)
+returns-in-Some-clause-put g c = grind (arith, took_nothing, held_more)
 
 pub returns-in_err-write_past-clause-put : goal.returns-in_err-write_past-clause-put
 returns-in_err-write_past-clause-put g c = grind (arith, if_failed, between_is)

@@ -1,13 +1,15 @@
+use Rattle.std.proofs.lemmas.Grind.{common_steps}
+use Rattle.xc_list.proofs.Writing.{took_nothing}
 use Rattle.xc_list.proofs.Writing.{if_failed}
-use Rattle.std.proofs.Common.{arith, sym, refl, append-nil, []}
+use Rattle.std.proofs.Common.{arith, refl, []}
 use Rattle.std.proofs.lemmas.List.Elements.{All-tail}
 use Rattle.xc_list.specs.Known.{IsKnownChoice}
-use Rattle.xc_list.proofs.PageLemmas.{line_put, lines_broke, puts_held}
+use Rattle.xc_list.proofs.PageLemmas.{line_put, lines_broke}
 use Rattle.xc_list.proofs.print.put_lines.Goals as goal
 
 pub loop-choice-init : goal.loop-choice-init
 loop-choice-init g c = record {
-  put = record { done = []; whole = refl; puts = puts_held _ _ _ [] (sym (append-nil _)) };
+  put = record { done = []; whole = refl; puts = (grind (arith, common_steps, took_nothing)) };
   known = c.requires.known;
   within = c.requires.within;
   size = c.requires.size;

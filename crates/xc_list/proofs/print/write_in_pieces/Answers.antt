@@ -1,15 +1,13 @@
+use Rattle.std.proofs.Common.{arith}
 use Rattle.xc_list.proofs.Writing.{then_took, then_broke, broke_before, then_writes, failed}
 use Rattle.xc_list.proofs.print.write_in_pieces.Goals as goal
 
 pub returns-in_err-write_number : goal.returns-in_err-write_number
-returns-in_err-write_number g c =
-    failed _ c.from_residual.ensures.0 (broke_before _ (broke_before _ c.in_err-write_number.ensures))
+returns-in_err-write_number g c = grind (arith, failed, broke_before)
 
 pub returns-in_err-write_all : goal.returns-in_err-write_all
-returns-in_err-write_all g c = failed _ c.from_residual-in_err-write_all.ensures.0
-    (broke_before _ (then_broke c.in_ok-write_number.ensures c.in_err-write_all.ensures))
+returns-in_err-write_all g c = grind (arith, failed, broke_before, then_broke)
 
 pub returns : goal.returns
 returns g c =
-    then_writes _ _ c.write_lines.result (then_took c.in_ok-write_number.ensures c.in_ok-write_all.ensures)
-    c.write_lines.ensures
+    grind (arith, then_writes, then_took c.in_ok-write_number.ensures c.in_ok-write_all.ensures)

@@ -58,8 +58,7 @@ loop-found-preserved g c =
     let to = at g (goal.at.loop-found-preserved g c).After-pass-passed c.if-passed-steps.false in
     record {
       still = rw (c.pass-passed.ensures.went, c.loop-found.invariant.still);
-      ahead = rw (c.pass-passed.ensures.went, c.loop-found.invariant.ahead)
-          (ends_on c.loop-found.found c.steps_to_printed-steps.result _);
+      ahead = grind (arith, ends_on);
       moves = grind (arith, c.pass-passed.ensures.moves, c.loop-found.invariant.moves, c.loop-found.invariant.still);
       shown = (stands to).0;
       come = (stands to).1;
@@ -70,6 +69,4 @@ loop-found-preserved g c =
     }
 
 pub returns-clause-run : goal.returns-clause-run
-returns-clause-run g c =
-    let all = le_antisymm c.loop-found.invariant.below c.loop-found-test.false in
-    (rw (le-ltb _ _ (rw all at c.loop-found.invariant.within)), rw all at c.loop-found.invariant.taken)
+returns-clause-run g c = grind (arith, le_antisymm, le-ltb, at)

@@ -1,9 +1,12 @@
+use Rattle.std.proofs.lemmas.Grind.{common_steps}
+use Rattle.xc_list.proofs.SpanLemmas.{numbers_next}
+use Rattle.xc_list.proofs.Writing.{then_took}
 use Rattle.std.proofs.Common.{◌≡◌, Some, arith}
 use Rattle.std.specs.Prelude.{slice_get}
 use Rattle.std.proofs.lemmas.Option.{slice_get_within}
 use Rattle.xc_list.specs.inner.SpanSteps.{branches_in}
 use Rattle.xc_list.proofs.Writing.{failed}
-use Rattle.xc_list.proofs.SpanLemmas.{branches_at, no_branches, took_next, broke_next, took_all}
+use Rattle.xc_list.proofs.SpanLemmas.{branches_at, no_branches, broke_next, took_all}
 use Rattle.xc_list.proofs.spans.write_branches.Goals as goal
 use Rattle.xc_list.proofs.spans.write_branches.Goals.{In-Some}
 
@@ -11,25 +14,13 @@ at : (g : _) (c : In-Some g) → slice_get (branches_in c.args.span.now) c.loop-
 at g c = branches_at c.args.span.now _ _ c.in-Some.ensures.branches
 
 pub returns-in_err-write_at : goal.returns-in_err-write_at
-returns-in_err-write_at g c =
-    failed _ c.from_residual.ensures.0 (broke_next (branches_in c.args.span.now) _ _
-    (at g (goal.at.returns-in_err-write_at g c).In-Some) c.loop-number.invariant.taken c.in_err-write_at.ensures)
+returns-in_err-write_at g c = grind (arith, failed, broke_next, at)
 
 pub loop-number-smaller : goal.loop-number-smaller
-loop-number-smaller g c =
-    let near = slice_get_within (branches_in c.args.span.now) _ _ (at g (goal.at.loop-number-smaller g c).In-Some) in
-    omega (arith, near)
+loop-number-smaller g c = grind (arith, slice_get_within, at)
 
 pub loop-number-preserved : goal.loop-number-preserved
-loop-number-preserved g c =
-    let here = at g (goal.at.loop-number-preserved g c).In-Some in
-    record {
-      taken = took_next (branches_in c.args.span.now) _ _ here c.loop-number.invariant.taken c.in_ok-write_at.ensures;
-      within = omega (arith, slice_get_within (branches_in c.args.span.now) _ _ here);
-    }
+loop-number-preserved g c = grind (arith, common_steps, at, slice_get_within, numbers_next, then_took)
 
 pub returns : goal.returns
-returns g c =
-    let none = no_branches c.args.span.now _ (rw c.in_default.is at c.number_at.ensures.branches) in
-    took_all (branches_in c.args.span.now) _ none
-    c.loop-number.invariant.within c.loop-number.invariant.taken
+returns g c = grind (arith, no_branches, at, took_all)

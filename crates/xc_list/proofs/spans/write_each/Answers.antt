@@ -8,7 +8,7 @@ use Rattle.xc_list.specs.inner.SpanSteps.{left_at}
 use Rattle.xc_list.proofs.Outputs.{texts_next, holds_next}
 use Rattle.xc_list.proofs.SpanLemmas.{texts_broke_all}
 use Rattle.xc_list.proofs.Writing.{took_nothing, then_took, if_failed}
-use Rattle.xc_list.proofs.SpanGoing.{Called, none_passed, called, called_on, still_on, to_member, to_end, to_steps}
+use Rattle.xc_list.proofs.SpanGoing.{Called, none_passed, called, to_member, to_end, to_steps}
 use Rattle.xc_list.proofs.SpanGoing.{at_most_members, halts}
 use Rattle.xc_list.proofs.spans.write_each.Goals as goal
 use Rattle.xc_list.proofs.spans.write_each.Goals.{After-go_on-went}
@@ -16,11 +16,7 @@ use Rattle.xc_list.proofs.spans.write_each.Goals.{After-go_on-went}
 went : (g : _) (c : After-go_on-went g)
     → Called c.args.span.now.puzzle c.args.span.now.until c.loop-members.span.row c.go_on-went.new.self.row
     c.loop-members.span.shown c.go_on-went.new.self.shown 1 (c.args.most - c.loop-members.steps) c.go_on-went.result
-went g c =
-    let e = c.go_on-went.ensures in
-    called_on c.args.span.now c.loop-members.span c.go_on-went.new.self _ _ _ c.loop-members.invariant.still
-    (called c.loop-members.span c.go_on-went.new.self _ _ _ e.still e.passed e.count e.later e.member e.end e.ran_out
-    e.within e.ended e.fewer e.stays e.stands)
+went g c = grind (arith, called)
 
 next : (g : _) (c : After-go_on-went g) → c.go_on-went.result.halt ≡ Member
     → drop c.loop-members.members (left_of c.args.span.now)
@@ -51,8 +47,7 @@ returns-in_default g c =
     let went = went g (goal.at.returns-in_default g c).After-go_on-went in
     let ahead = c.loop-members.invariant.ahead in
     record {
-      still = still_on c.args.span.now c.loop-members.span c.go_on-went.new.self c.loop-members.invariant.still
-          c.go_on-went.ensures.still;
+      still = (grind arith);
       wrote = (
         elim (halts c.go_on-went.result.halt c.in_default.not-Member) [
           | inl is ↦ to_end _ _ _ _ _ _ _ _ _ _ _ ahead went is
@@ -68,8 +63,7 @@ loop-members-preserved g c =
     let ms = left_of c.args.span.now in
     let text = rw c.choices.ensures at c.in_ok-write_afresh-in-Member.ensures.written in
     record {
-      still = still_on c.args.span.now c.loop-members.span c.go_on-went.new.self c.loop-members.invariant.still
-          c.go_on-went.ensures.still;
+      still = (grind arith);
       ahead = (to_member _ _ _ _ _ _ _ _ _ _ _ c.loop-members.invariant.ahead (went g at)
           c.in-Member.is).1;
       taken = rw (texts_next (member_text c.args.bodies.now) ms c.loop-members.members (next g at c.in-Member.is))

@@ -1,9 +1,12 @@
+use Rattle.std.proofs.lemmas.Grind.{common_steps}
+use Rattle.xc_list.proofs.SpanLemmas.{numbers_next}
+use Rattle.xc_list.proofs.Writing.{then_took}
 use Rattle.std.proofs.Common.{◌≡◌, Some, arith}
 use Rattle.std.specs.Prelude.{slice_get}
 use Rattle.std.proofs.lemmas.Option.{slice_get_within}
 use Rattle.xc_list.specs.inner.SpanSteps.{row_in}
 use Rattle.xc_list.proofs.Writing.{failed}
-use Rattle.xc_list.proofs.SpanLemmas.{number_in, no_number, took_next, broke_next, took_all}
+use Rattle.xc_list.proofs.SpanLemmas.{number_in, broke_next, took_all}
 use Rattle.xc_list.proofs.spans.write_reached.Goals as goal
 use Rattle.xc_list.proofs.spans.write_reached.Goals.{In-Some}
 
@@ -11,24 +14,13 @@ at : (g : _) (c : In-Some g) → slice_get (row_in c.args.span.now) c.loop-numbe
 at g c = number_in c.args.span.now _ _ c.in-Some.ensures.number
 
 pub returns-in_err-write_at : goal.returns-in_err-write_at
-returns-in_err-write_at g c =
-    failed _ c.from_residual.ensures.0 (broke_next (row_in c.args.span.now) _ _
-    (at g (goal.at.returns-in_err-write_at g c).In-Some) c.loop-number.invariant.taken c.in_err-write_at.ensures)
+returns-in_err-write_at g c = grind (arith, failed, broke_next, at)
 
 pub loop-number-smaller : goal.loop-number-smaller
-loop-number-smaller g c =
-    let near = slice_get_within (row_in c.args.span.now) _ _ (at g (goal.at.loop-number-smaller g c).In-Some) in
-    omega (arith, near)
+loop-number-smaller g c = grind (arith, slice_get_within, at)
 
 pub loop-number-preserved : goal.loop-number-preserved
-loop-number-preserved g c =
-    let here = at g (goal.at.loop-number-preserved g c).In-Some in
-    record {
-      taken = took_next (row_in c.args.span.now) _ _ here c.loop-number.invariant.taken c.in_ok-write_at.ensures;
-      within = omega (arith, slice_get_within (row_in c.args.span.now) _ _ here);
-    }
+loop-number-preserved g c = grind (arith, common_steps, at, slice_get_within, numbers_next, then_took)
 
 pub returns : goal.returns
-returns g c =
-    took_all (row_in c.args.span.now) _ (no_number c.args.span.now _ (rw c.in_default.is at c.number_at.ensures.number))
-    c.loop-number.invariant.within c.loop-number.invariant.taken
+returns g c = grind (arith, took_all, at)
