@@ -1,11 +1,9 @@
 -- What a whole run did, step by step.
-use Rattle.std.proofs.lemmas.Grind.{common_steps}
 use Rattle.xc_list.proofs.Outputs.{stopped_broke}
 use Rattle.std.proofs.Math.Seq.{take-length}
 use Rattle.std.proofs.KnownBytes.{Keeps-refl}
-use Rattle.std.proofs.Common.{◌≡◌, ◌⊎◌, ℕ, ◌+◌, List, [], length, sym, subst, inl, inr}
+use Rattle.std.proofs.Common.{◌≡◌, ◌⊎◌, ℕ, ◌+◌, List, length, sym, subst, inl, inr}
 use Rattle.std.proofs.Common.{arith}
-use Rattle.std.proofs.lemmas.Bool.Decides.{nat_tests}
 use Rattle.std.specs.Prelude.{codes, IsTrue}
 use Rattle.std.specs.Io.KnownBytes.{Appends, Keeps}
 use Rattle.xc_input.specs.Calls.{Rose}
@@ -20,18 +18,14 @@ use Rattle.xc_list.specs.Texts.{Seen, SinkState, Took, BrokeOff, WasTold, Begins
 use Rattle.xc_list.proofs.TextLemmas.{appends_kept}
 use Rattle.xc_list.proofs.Writing.{took_nothing}
 use Rattle.xc_tools.specs.Solves.{DidSearch, DidWarnAndSearch}
-use Rattle.xc_tools.specs.WholeRuns.{Sinks, TookAll, FailedBehind}
+use Rattle.xc_tools.specs.WholeRuns.{Sinks, TookAll}
 
 -- a text was taken, and a flush behind it called
 module _ {old mid : SinkState} {text : List ℕ} (new : SinkState) (took : Took old mid text)
     (kept : Keeps mid.taken new.taken) (flushed : new.flushes ≡ mid.flushes + 1) where
-  -- it failed
-  pub failed_behind : Rose mid.failures new.failures → IsTrue new.failed → FailedBehind old new text
-  failed_behind rose last = grind (arith, nat_tests, appends_kept)
-
   -- it didn't
   pub took_all : new.failures ≡ mid.failures → IsTrue new.settled → TookAll old new text
-  took_all same settled = grind (arith, common_steps, appends_kept)
+  took_all same settled = grind (arith, appends_kept)
 
 -- the flush and the last line, behind the whole output
 module _ {O E : Type 0} (a : Named) (w : Words) (old new : Sinks O E) {mid : SinkState} {end : End}
@@ -51,8 +45,7 @@ module _ {O E : Type 0} (a : Named) (w : Words) (old new : Sinks O E) {mid : Sin
       → DidSearch a w status old new
   finished (inl h) =
       inl (h.0, record { output = all h.1 h.2; told = rw (← is) h.3; right = right; complete = complete })
-  finished (inr (inl h)) =
-      inr (inr (inl (h.0, failed_behind new.out.state took kept flushed h.1 h.2, h.3)))
+  finished (inr (inl h)) = grind (arith, appends_kept)
   finished (inr (inr h)) = inr (inr (inr (inl (h.0, all h.1 h.2, rw (← is) h.3))))
 
 -- ---- what the output took, whatever the status
@@ -63,10 +56,6 @@ same_keeps x y e = subst (λ z. Keeps x.state.taken z.state.taken) (sym e) (Keep
 pub whole_begins : (x y : SinkState) (text : List ℕ) → Appends x.taken y.taken text → Begins x y text
 whole_begins x y text h = (length text, subst (Appends x.taken y.taken) (sym (take-length text)) h)
 
--- nothing of a text was taken
-none_begins : {O : Type 0} (x y : Seen O SinkState) (text : List ℕ) → y ≡ x → Begins x.state y.state text
-none_begins x y text e = (0, subst (λ z. Appends x.state.taken z.state.taken []) (sym e) (took_nothing x.state).whole)
-
 search_begins : {O E : Type 0} (a : Named) (w : Words) (status : ℕ) (old new : Sinks O E)
     → DidSearch a w status old new → Begins old.out.state new.out.state (output a w.spacing w.limit)
 search_begins a w status old new (inl h) = whole_begins old.out.state new.out.state _ h.1.output.whole
@@ -74,9 +63,9 @@ search_begins a w status old new (inr (inl h)) =
     let broke = stopped_broke a w.spacing w.limit h.1 h.2 in (broke.many, broke.begun)
 search_begins a w status old new (inr (inr (inl h))) = whole_begins old.out.state new.out.state _ h.1.taken
 search_begins a w status old new (inr (inr (inr (inl h)))) = whole_begins old.out.state new.out.state _ h.1.whole
-search_begins a w status old new (inr (inr (inr (inr h)))) = none_begins old.out new.out _ h.unwritten
+search_begins a w status old new (inr (inr (inr (inr h)))) = grind (arith, took_nothing)
 
 pub warned_begins : {O E : Type 0} (a : Named) (ignored : List ℕ) (w : Words) (status : ℕ) (old new : Sinks O E)
     → DidWarnAndSearch w status old new a ignored → Begins old.out.state new.out.state (output a w.spacing w.limit)
-warned_begins a ignored w status old new (inl h) = none_begins old.out new.out _ h.2
+warned_begins a ignored w status old new (inl h) = grind (arith, took_nothing)
 warned_begins a ignored w status old new (inr h) = search_begins a w status (record old { err = h.0 }) new h.2

@@ -1,4 +1,6 @@
 -- How a run over a span ends where the flush behind its text fails.
+use Rattle.std.proofs.Common.{arith}
+use Rattle.xc_list.proofs.TextLemmas.{appends_kept}
 use Rattle.std.proofs.Common.{ℕ, ◌≡◌, ◌+◌, inl, inr}
 use Rattle.std.specs.Prelude.{IsTrue, codes}
 use Rattle.std.specs.Io.KnownBytes.{Keeps}
@@ -10,7 +12,6 @@ use Rattle.xc_list.specs.SpanWords.{AskedSpan}
 use Rattle.xc_list.specs.Texts.{SinkState, Took, WasTold}
 use Rattle.xc_tools.specs.WholeRuns.{Sinks}
 use Rattle.xc_tools.specs.SpanRuns.{DidSpan}
-use Rattle.xc_tools.proofs.RunLemmas.{failed_behind}
 
 -- the text of a span was taken, and then the flush failed, which was told
 pub span_unflushed : {O E : Type 0} {a : Named} {asked : AskedSpan} {went : Went} {old : Sinks O E} {mid : SinkState}
@@ -27,6 +28,6 @@ span_unflushed {went = went} new of kept flushed h = inl (
     goes = of.goes;
     few = of.few;
     members = of.members;
-    said = inr (h.0, inr (failed_behind new.out.state of.said kept flushed h.1 h.2), h.3);
+    said = inr (h.0, inr (grind (arith, appends_kept)), h.3);
   },
 )

@@ -1,5 +1,5 @@
 -- The words of a command line, as far as they were taken.
-use Rattle.std.proofs.Common.{◌≡◌, ◌∙◌, ◌≤◌, ◌+◌, ℕ, List, [], ◌∷◌, ◌++◌, Option, None, Some, IfSome, ap, arith}
+use Rattle.std.proofs.Common.{◌≡◌, ◌∙◌, ◌≤◌, ◌+◌, ℕ, List, [], ◌∷◌, ◌++◌, Option, None, Some, IfSome, arith}
 use Rattle.std.proofs.Common.{drop, take, map, refl, sym, subst}
 use Rattle.std.specs.Prelude.{slice_get, Result, Ok, Err, MatchResult, is_err, false, All, zero, suc}
 use Rattle.std.proofs.lemmas.List.Elements.{All-append}
@@ -20,11 +20,7 @@ pub one_word_more : {V : Type 0} (bytes : V → List ℕ) (t : Option (List (Lis
     → IfSome t (λ ws. map bytes after ≡ drop 1 (take (place + 1) ws))
 one_word_more bytes None before after place v some e is at = tt
 one_word_more bytes (Some ws) before after place v some e is at =
-    let within = slice_get_within ws place (bytes v) (sym at) in
-    let many = length-take-le place ws (omega (arith, within)) in
-    rw e (map-append bytes before (v ∷ []) ∙ ap (λ l. l ++ bytes v ∷ []) is
-    ∙ sym (ap (λ l. drop 1 l) (take_more-get ws place (bytes v) (sym at))
-    ∙ drop-append-le 1 (take place ws) (bytes v ∷ []) (omega (arith, many, some))))
+    grind (arith, slice_get_within, length-take-le, map-append, take_more-get, drop-append-le)
 
 -- what a test of bytes says of them where it has no error
 pub passed_test : {A E U : Type 0} (P : A → Type 0) (Q : E → Type 0) (r : Result A E) → MatchResult r (λ x. P x × U) Q

@@ -1,8 +1,8 @@
 -- What the lines of the texts of spans come to, one text after another.
-use Rattle.std.proofs.Common.{◌≡◌, ℕ, suc, ◌+◌, ◌^◌, ◌<◌, ◌⊎◌, inl, inr, Bool, true, false, List, []}
+use Rattle.std.proofs.Common.{◌≡◌, ℕ, ◌+◌, ◌^◌, ◌<◌, ◌⊎◌, inl, inr, Bool, true, false, List, []}
 use Rattle.std.proofs.Common.{◌∷◌}
 use Rattle.std.proofs.Common.{◌++◌, Option, None, Some, length, flat_map, refl, sym, ap, ◌∙◌, arith, append_assoc}
-use Rattle.std.proofs.Common.{append-nil, zero-add, subst, length-append}
+use Rattle.std.proofs.Common.{append-nil, subst, length-append}
 use Rattle.std.specs.Prelude.{IfSome, codes}
 use Rattle.std.specs.List.{AllByRecursion}
 use Rattle.std.specs.Str.{bytes_eq}
@@ -17,7 +17,6 @@ use Rattle.xc_search.specs.Cover.{members}
 use Rattle.xc_search.specs.Spans.{between}
 use Rattle.xc_input.proofs.Cases.{by_bool}
 use Rattle.xc_search.proofs.spans.Rising.{all_between, keep_none, spans_meet}
-use Rattle.xc_list.specs.Output.{member_text}
 use Rattle.xc_list.specs.ListingLines.{words_in}
 use Rattle.xc_list.specs.SpanTexts.{end_at, row_text}
 use Rattle.xc_tools.specs.Joins.{AreSmall, DoMeet, IsSpan, SearchedSpan, members_of}
@@ -37,13 +36,7 @@ short-if None h = tt
 short-if (Some row) h = recursion_from_All (λ n. n < 2 ^ 64) row h
 
 pub short-span : (a : Named) (s : SearchedSpan) → IsSpan a s → IsShort a s
-short-span a s h = record {
-  from = recursion_from_All (λ n. n < 2 ^ 64) s.from h.from;
-  until = recursion_from_All (λ n. n < 2 ^ 64) s.until h.until;
-  branches = short-if s.branches h.branches;
-  steps = h.steps;
-  few = h.few;
-}
+short-span a s h = grind (arith, recursion_from_All, short-if)
 
 -- ---- a gap
 
@@ -109,16 +102,11 @@ so_far-span a s h = spans_meet a.puzzle [] s.from (end_at s.until) refl h.forwar
 from-append : (a : Named) (n : ℕ) (xs ys : List (List Choice))
     → listed_from a n (xs ++ ys) ≡ listed_from a n xs ++ listed_from a (n + length xs) ys
 from-append a n [] ys = let e : n ≡ n + 0 = omega arith in ap (λ k. listed_from a k ys) e
-from-append a n (x ∷ xs) ys =
-    let e : n + 1 + length xs ≡ n + suc (length xs) = omega arith in
-    ap (λ t. shown (n + 1) (member_text a (n + 1, x)) ++ t) (from-append a (n + 1) xs ys
-    ∙ ap (λ k. listed_from a (n + 1) xs ++ listed_from a k ys) e)
-    ∙ sym (append_assoc (shown (n + 1) (member_text a (n + 1, x))) (listed_from a (n + 1) xs) _)
+from-append a n (x ∷ xs) ys = grind (arith, shown, append_assoc, from-append a (n + 1) xs ys)
 
 part-append : (listed : Bool) (a : Named) (xs ys : List (List Choice))
     → listed_part listed a 0 xs ++ listed_part listed a (length xs) ys ≡ listed_part listed a 0 (xs ++ ys)
-part-append true a xs ys =
-    sym (from-append a 0 xs ys ∙ ap (λ k. listed_from a 0 xs ++ listed_from a k ys) (zero-add (length xs)))
+part-append true a xs ys = grind (arith, from-append)
 part-append false a xs ys = refl
 
 -- ---- a chain
@@ -221,20 +209,7 @@ module _ (a : Named) (listed : Bool) where
         h.1,
         joined-text a listed (so_far a.puzzle s.from) (members_of a s) (so_far a.puzzle (n ∷ u)) more e ∙ h.2,
       )
-  behind-span s spans n u last e st more (inr h) =
-      let text = listed_part listed a (length (so_far a.puzzle s.from)) (members_of a s) in
-      let tail = h.2.0 in
-      inr (
-        λ meet. h.0 (subst (MeetBehind spans) last meet.1),
-        h.1,
-        (
-          tail,
-          ap (λ t. listed_part listed a 0 (so_far a.puzzle s.from) ++ t) (append_assoc text more tail)
-              ∙ joined-text a listed (so_far a.puzzle s.from) (members_of a s) (so_far a.puzzle (n ∷ u)) (more
-              ++ tail) e
-              ∙ h.2.1,
-        ),
-      )
+  behind-span s spans n u last e st more (inr h) = grind (arith, append_assoc, joined-text)
 
   -- the first span of a chain, and then the others
   go-on : (s : SearchedSpan) (spans : List SearchedSpan) (j k : ℕ) → IsShort a s → j ≡ length (so_far a.puzzle s.from)
@@ -244,20 +219,7 @@ module _ (a : Named) (listed : Bool) where
       ++ wrote (goes (rest_at listed (is_last s.until) s.until k)) (all_lines a listed spans))
       → P (stand_after (goes (rest_at listed false s.from j)) (all_lines a listed (s ∷ spans)))
       (wrote (goes (rest_at listed false s.from j)) (all_lines a listed (s ∷ spans)))
-  go-on s spans j k h e f P rest =
-      let first = goes (rest_at listed false s.from j) in
-      let lines = span_lines a listed s in
-      let others = all_lines a listed spans in
-      let run = run-span a listed s j k h f in
-      let stands : stand_after first (lines ++ others)
-      ≡ stand_after (goes (rest_at listed (is_last s.until) s.until k)) others =
-      after-append first lines others ∙ ap (λ z. stand_after z others) run.stands in
-      let says : wrote first (lines ++ others) ≡ listed_part listed a j (members_of a s)
-      ++ wrote (goes (rest_at listed (is_last s.until) s.until k)) others =
-      wrote-append first lines others ∙ ap (λ z. wrote first lines ++ wrote z others) run.stands
-      ∙ ap (λ t. t ++ wrote (goes (rest_at listed (is_last s.until) s.until k)) others) run.says in
-      subst (λ z. P z (wrote first (lines ++ others))) (sym stands)
-      (subst (P (stand_after (goes (rest_at listed (is_last s.until) s.until k)) others)) (sym says) rest)
+  go-on s spans j k h e f P rest = grind (arith, goes, run-span, is_last, after-append, wrote-append)
 
   -- it goes on by where the first one ends
   by-end : (s : SearchedSpan) (spans : List SearchedSpan) (k : ℕ) (until : List ℕ) → s.until ≡ until → IsSpan a s
@@ -269,12 +231,7 @@ module _ (a : Named) (listed : Bool) where
       (all_lines a listed spans))
       (listed_part listed a (length (so_far a.puzzle s.from)) (members_of a s)
       ++ wrote (goes (rest_at listed (is_last until) until k)) (all_lines a listed spans))
-  by-end s spans k [] e is each f later =
-      let p = a.puzzle in
-      let all : so_far p s.from ++ members_of a s ≡ members p =
-      so_far-span a s is ∙ ap (λ u. between p [] (end_at u)) e ∙ all_between p in
-      let count : k ≡ length (members p) = f ∙ sym (length-append (so_far p s.from) (members_of a s)) ∙ ap length all in
-      behind-last s spans k each all count e _ refl
+  by-end s spans k [] e is each f later = grind (arith, so_far-span, all_between, length-append, behind-last)
   by-end s spans k (n ∷ u) e is each f later =
       let p = a.puzzle in
       let short = subst AreShort e (short-span a s is).until in

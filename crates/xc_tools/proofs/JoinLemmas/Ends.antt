@@ -2,7 +2,7 @@
 use Rattle.std.proofs.Common.{◌≡◌, ℕ, suc, ◌+◌, ◌≤◌, ◌⊎◌, inl, inr, Bool, true, false, List, [], ◌∷◌}
 use Rattle.std.proofs.Common.{◌++◌}
 use Rattle.std.proofs.Common.{Option, None, Some, length, flat_map, refl, sym, ap, ◌∙◌, arith, append_assoc}
-use Rattle.std.proofs.Common.{min, nat_lt, subst, take, filter, zero, length-append}
+use Rattle.std.proofs.Common.{min, subst, take, filter, zero, length-append}
 use Rattle.std.specs.Prelude.{◌==◌, if◌then◌else◌}
 use Rattle.std.specs.List.{AllByRecursion, enumerate_from}
 use Rattle.std.proofs.lemmas.Bool.Decides.{nat_tests}
@@ -22,7 +22,7 @@ use Rattle.xc_list.specs.Runs.{end_of}
 use Rattle.xc_list.specs.declared.runs.End.TheVariants.{Done, Limit}
 use Rattle.xc_tools.specs.Joins.{AreTexts, DoMeet, IsBeginning, IsSpan, SearchedSpan, joined}
 use Rattle.xc_tools.specs.inner.SpanLines.{Join, Stand, goes, faulty, apart, stand_after, start, wrote}
-use Rattle.xc_tools.proofs.JoinLemmas.SpanRuns.{after-append, listed_from, listed_part, rest_at, span_lines}
+use Rattle.xc_tools.proofs.JoinLemmas.SpanRuns.{after-append, listed_from, listed_part, rest_at}
 use Rattle.xc_tools.proofs.JoinLemmas.SpanRuns.{wrote-append}
 use Rattle.xc_input.proofs.LineLemmas.TextLines.{ended-append}
 use Rattle.xc_tools.proofs.JoinLemmas.SpanLines.{texts-ended, whole-append, whole-span}
@@ -32,12 +32,7 @@ use Rattle.xc_tools.proofs.JoinLemmas.Chains.{IsEarly, all_lines, after-apart, c
 
 past_most : (n : ℕ) (a : Named) (ms : List (List Choice)) → most_counted ≤ n → listed_from a n ms ≡ []
 past_most n a [] h = refl
-past_most n a (m ∷ ms) h =
-    let high : nat_lt most_counted (n + 1) ≡ true = grind (arith, nat_tests) in
-    rw high (past_most (n + 1) a ms (omega (arith, h)))
-
-all_printed : (n : ℕ) → is_printed 1 n ≡ true
-all_printed n = grind (arith, nat_tests)
+past_most n a (m ∷ ms) h = grind (arith, past_most (n + 1) a ms (omega (arith, h)))
 
 abbrev printed_from : Named → ℕ → ℕ → List (List Choice) → List ℕ
 printed_from a n most ms =
@@ -49,9 +44,7 @@ from-printed a [] n zero e = refl
 from-printed a [] n (suc most) e = refl
 from-printed a (m ∷ ms) n zero e = past_most n a (m ∷ ms) (omega (arith, e))
 from-printed a (m ∷ ms) n (suc most) e =
-    let low : nat_lt most_counted (n + 1) ≡ false = grind (arith, nat_tests) in
-    rw (low, all_printed (n + 1)) (ap (λ t. member_text a (n + 1, m) ++ t) (from-printed a ms (n + 1) most
-    (omega (arith, e))))
+    grind (arith, from-printed a ms (n + 1) most (omega (arith, e)))
 
 joined-is : (a : Named) (listed : Bool) → listed_part listed a 0 (members a.puzzle) ≡ joined a listed
 joined-is a true = from-printed a (members a.puzzle) 0 most_counted refl
@@ -96,9 +89,7 @@ module _ (a : Named) (listed : Bool) (sound : IsSound a) where
   whole-texts : (spans : List SearchedSpan) → AllByRecursion (IsSpan a) spans → AreWhole (all_lines a listed spans)
   whole-texts [] each = tt
   whole-texts (s ∷ spans) each =
-      whole-append (span_lines a listed s) (all_lines a listed spans)
-      (whole-span a sound listed s (short-span a s each.0) (each_from _ _ (λ m i. (in-filter _ _ m i).0)))
-      (whole-texts spans each.1)
+      grind (arith, whole-append, whole-span, short-span, each_from, in-filter, whole-texts spans each.1)
 
 module _ (a : Named) (listed : Bool) (sound : IsSound a) (spans : List SearchedSpan) (text : List ℕ)
     (are : AreTexts a listed spans text) where

@@ -1,6 +1,6 @@
 -- Lines of spans' texts that are read one after another.
 use Rattle.std.proofs.Common.{◌≡◌, ℕ, ◌+◌, ◌-◌, ◌<◌, Bool, false, List, [], ◌∷◌, ◌++◌, Result}
-use Rattle.std.proofs.Common.{length, refl, sym, ap, ◌∙◌, arith, append_assoc, append-nil, subst, take}
+use Rattle.std.proofs.Common.{length, refl, ap, ◌∙◌, arith, append_assoc, append-nil, subst, take}
 use Rattle.std.proofs.Common.{length-append}
 use Rattle.std.proofs.lemmas.Grind.{common_steps}
 use Rattle.xc_input.specs.Words.{has}
@@ -16,7 +16,6 @@ use Rattle.xc_tools.specs.declared.span_lines.Refusal.TheVariants as refusals
 use Rattle.xc_tools.specs.inner.SpanLines.{Join, Stand, goes, faulty, apart, by_line, start, step}
 use Rattle.xc_tools.specs.inner.SpanLines.{RefusesLine}
 use Rattle.xc_tools.specs.inner.Joining.{Adds, EndsAt, StopsIn, StopsReading, stand_reached, says_of, stop_of}
-use Rattle.xc_tools.specs.inner.Joining.{joined_text}
 use Rattle.xc_input.specs.Pieces.{SourceState, Gave}
 use Rattle.std.proofs.Math.Seq.{take-append-add}
 use Rattle.std.proofs.lemmas.List.{length-take}
@@ -30,51 +29,28 @@ module _ (listed : Bool) (ls : List (List ℕ)) (line : List ℕ) (s : Join) (e 
   pub stands-more : stand_reached listed (ls ++ line ∷ []) ≡ (by_line s line).0
   stands-more = after-append (goes (start listed)) ls (line ∷ []) ∙ ap (λ z. (step z line).0) e
 
-  pub written-more : joined_text listed (ls ++ line ∷ []) ≡ joined_text listed ls ++ (by_line s line).1
-  written-more =
-      wrote-append (goes (start listed)) ls (line ∷ [])
-      ∙ ap (λ z. joined_text listed ls ++ ((step z line).1 ++ [])) e
-      ∙ ap (λ t. joined_text listed ls ++ t) (append-nil (by_line s line).1)
-
   pub adds-more : (R : SinkState → SinkState → List ℕ → Type 0) (x y : SinkState) (st : Stand) (text : List ℕ)
       → by_line s line ≡ (st, text) → R x y text → Adds listed ls (ls ++ line ∷ []) R x y
-  adds-more R x y st text f said = record {
-    text = text;
-    more = written-more ∙ ap (λ r. joined_text listed ls ++ r.1) f;
-    said = said;
-  }
+  adds-more R x y st text f said = grind (arith, wrote-append, goes, start, step, append-nil, by_line)
 
 pub whole-more : (ls : List (List ℕ)) (line : List ℕ) → AreWhole ls → has 10 line ≡ false → AreWhole (ls ++ line ∷ [])
 whole-more ls line w f = whole-append ls (line ∷ []) w (f, tt)
-
-pub adds-none : (listed : Bool) (ls : List (List ℕ)) (x : SinkState) → Adds listed ls ls Took x x
-adds-none listed ls x = record { text = []; more = sym (append-nil (joined_text listed ls)); said = took_nothing x }
 
 -- ---- a line that stops the run
 
 -- before it, for want of memory
 pub stops-before : (listed : Bool) (ls : List (List ℕ)) (rest bytes : List ℕ) (new : Joint) (x : SinkState)
     → AreWhole ls → bytes ≡ ended ls ++ rest → StopsIn listed ls bytes new x x Memory
-stops-before listed ls rest bytes new x w e = record {
-  lines = ls;
-  rest = rest;
-  front = e;
-  whole = w;
-  last = tt;
-  adds = adds-none listed ls x;
-}
+stops-before listed ls rest bytes new x w e = grind (arith, append-nil, took_nothing)
 
 module _ (listed : Bool) (ls : List (List ℕ)) (line : List ℕ) (s : Join) (e : stand_reached listed ls ≡ goes s)
     (w : AreWhole ls) (f : has 10 line ≡ false) (new : Joint) (x : SinkState) where
-  front-line : ended ls ++ (line ++ 10 ∷ []) ≡ ended (ls ++ line ∷ []) ++ []
-  front-line = sym (ended-append ls (line ∷ [])) ∙ sym (append-nil (ended (ls ++ line ∷ [])))
-
   pub refused : (r : Refusal) → RefusesLine r new (by_line s line)
       → StopsIn listed ls (ended ls ++ (line ++ 10 ∷ [])) new x x (stop_of r)
   refused refusals.NotText is = record {
     lines = ls ++ line ∷ [];
     rest = [];
-    front = front-line;
+    front = grind (arith, ended-append, append-nil, ended);
     whole = whole-more ls line w f;
     last = stands-more listed ls line s e ∙ ap (λ r. r.0) is;
     adds = adds-more listed ls line s e Took x x faulty [] is (took_nothing x);
@@ -82,7 +58,7 @@ module _ (listed : Bool) (ls : List (List ℕ)) (line : List ℕ) (s : Join) (e 
   refused refusals.Gap is = record {
     lines = ls ++ line ∷ [];
     rest = [];
-    front = front-line;
+    front = grind (arith, ended-append, append-nil, ended);
     whole = whole-more ls line w f;
     last = stands-more listed ls line s e ∙ ap (λ r. r.0) is;
     adds = adds-more listed ls line s e Took x x (apart new.met.items new.next.items) [] is (took_nothing x);
@@ -94,7 +70,7 @@ module _ (listed : Bool) (ls : List (List ℕ)) (line : List ℕ) (s : Join) (e 
   unwritten y st text is broke = record {
     lines = ls ++ line ∷ [];
     rest = [];
-    front = front-line;
+    front = grind (arith, ended-append, append-nil, ended);
     whole = whole-more ls line w f;
     last = tt;
     adds = adds-more listed ls line s e BrokeOff x y st text is broke;
@@ -104,22 +80,11 @@ module _ (listed : Bool) (ls : List (List ℕ)) (line : List ℕ) (s : Join) (e 
 
 pub stops-more : (listed : Bool) (before : List (List ℕ)) (bytes more all : List ℕ) (new : Joint) (x y : SinkState)
     (e : Stop) → all ≡ bytes ++ more → StopsIn listed before bytes new x y e → StopsIn listed before all new x y e
-stops-more listed before bytes more all new x y e is h = record {
-  lines = h.lines;
-  rest = h.rest ++ more;
-  front = is ∙ ap (λ bs. bs ++ more) h.front ∙ append_assoc (ended h.lines) h.rest more;
-  whole = h.whole;
-  last = h.last;
-  adds = h.adds;
-}
+stops-more listed before bytes more all new x y e is h = grind (arith, append_assoc, ended)
 
 pub adds-then : (listed : Bool) (a b c : List (List ℕ)) (x y z : SinkState) → Adds listed a b Took x y
     → Adds listed b c Took y z → Adds listed a c Took x z
-adds-then listed a b c x y z p q = record {
-  text = p.text ++ q.text;
-  more = q.more ∙ ap (λ t. t ++ q.text) p.more ∙ append_assoc (joined_text listed a) p.text q.text;
-  said = then_took p.said q.said;
-}
+adds-then listed a b c x y z p q = grind (arith, append_assoc, then_took)
 
 says-then : (e : Stop) (x y z : SinkState) (s t : List ℕ) → Took x y s → says_of e y z t → says_of e x z (s ++ t)
 says-then NotText x y z s t p q = then_took p q
@@ -130,18 +95,7 @@ says-then WriteFailed x y z s t p q = then_broke p q
 
 pub stops-then : (listed : Bool) (a b : List (List ℕ)) (bytes : List ℕ) (new : Joint) (x y z : SinkState) (e : Stop)
     → Adds listed a b Took x y → StopsIn listed b bytes new y z e → StopsIn listed a bytes new x z e
-stops-then listed a b bytes new x y z e p h = record {
-  lines = h.lines;
-  rest = h.rest;
-  front = h.front;
-  whole = h.whole;
-  last = h.last;
-  adds = record {
-    text = p.text ++ h.adds.text;
-    more = h.adds.more ∙ ap (λ t. t ++ h.adds.text) p.more ∙ append_assoc (joined_text listed a) p.text h.adds.text;
-    said = says-then e x y z p.text h.adds.text p.said h.adds.said;
-  };
-}
+stops-then listed a b bytes new x y z e p h = grind (arith, append_assoc, says-then)
 
 -- what stands before a last byte
 pub before_end : (whole front : List ℕ) (b : ℕ) → whole ≡ front ++ b ∷ [] → take (length whole - 1) whole ≡ front
@@ -150,27 +104,19 @@ before_end whole front b e = grind (arith, common_steps, length-append front (b 
 -- a list cut behind a byte
 pub cut_behind : (xs ys : List ℕ) (k b : ℕ) → k < length xs → xs ≡ take k xs ++ b ∷ ys
     → (xs ≡ take (k + 1) xs ++ ys) × (take (k + 1) xs ≡ take k xs ++ b ∷ [])
-cut_behind xs ys k b h e =
-    let front = take k xs in
-    let size : k + 1 ≡ length front + 1 = omega (arith, length-take k xs, h) in
-    let first : take (k + 1) xs ≡ front ++ b ∷ [] =
-    ap (λ n. take n xs) size ∙ ap (take (length front + 1)) e ∙ take-append-add front (b ∷ ys) 1 in
-    (e ∙ sym (append_assoc front (b ∷ []) ys) ∙ ap (λ t. t ++ ys) (sym first), first)
+cut_behind xs ys k b h e = grind (arith, common_steps, length-take, take-append-add, append_assoc)
 
 -- ---- a line that was carried on
 
 module _ (carry line whole : List ℕ) (e : whole ≡ carry ++ (line ++ 10 ∷ [])) where
-  carried : whole ≡ (carry ++ line) ++ 10 ∷ []
-  carried = e ∙ sym (append_assoc carry line (10 ∷ []))
-
   pub before-feed : take (length whole - 1) whole ≡ carry ++ line
-  before-feed = before_end whole (carry ++ line) 10 carried
+  before-feed = grind (arith, before_end, append_assoc)
 
   pub free-before : has 10 carry ≡ false → has 10 line ≡ false → has 10 (take (length whole - 1) whole) ≡ false
   free-before p q = ap (has 10) before-feed ∙ lacks-append 10 carry line p q
 
   pub feed-behind : whole ≡ take (length whole - 1) whole ++ 10 ∷ []
-  feed-behind = carried ∙ ap (λ t. t ++ 10 ∷ []) (sym before-feed)
+  feed-behind = grind (arith, before-feed, append_assoc)
 
 -- ---- why reading stopped
 
@@ -186,24 +132,17 @@ stops-reading listed new a b x y bytes WriteFailed g h = (bytes, g, h)
 pub fed-line : (old new : List (List ℕ)) (carry line left with_feed others : List ℕ) → new ≡ old ++ (carry ++ line) ∷ []
     → left ≡ [] → with_feed ≡ line ++ 10 ∷ []
     → (ended new ++ left) ++ others ≡ (ended old ++ carry) ++ (with_feed ++ others)
-fed-line old new carry line left with_feed others e n w =
-    let last : ended new ++ left ≡ (ended old ++ carry) ++ with_feed =
-    ap (λ t. ended new ++ t) n ∙ append-nil (ended new) ∙ ap ended e ∙ ended-append old ((carry ++ line) ∷ [])
-    ∙ ap (λ t. ended old ++ t) (append_assoc carry line (10 ∷ []) ∙ ap (λ t. carry ++ t) (sym w))
-    ∙ sym (append_assoc (ended old) carry with_feed) in
-    ap (λ t. t ++ others) last ∙ append_assoc (ended old ++ carry) with_feed others
+fed-line old new carry line left with_feed others e n w = grind (arith, ended, append-nil, ended-append, append_assoc)
 
 -- the same told in another way
 pub stops-as : {before : List (List ℕ)} {bytes : List ℕ} {new : Joint} {x y : SinkState} {e : Stop} {b c : Bool} → b ≡ c
     → StopsIn b before bytes new x y e → StopsIn c before bytes new x y e
-stops-as {before = before} {bytes = bytes} {new = new} {x = x} {y = y} {e = e} is h =
-    subst (λ b. StopsIn b before bytes new x y e) is h
+stops-as {before = before} {bytes = bytes} {new = new} {x = x} {y = y} {e = e} is h = grind (arith)
 
 pub stops-from : {a b : List (List ℕ)} {bytes : List ℕ} {new : Joint} {x y : SinkState} {e : Stop} {listed : Bool}
     → a ≡ b
     → StopsIn listed a bytes new x y e → StopsIn listed b bytes new x y e
-stops-from {bytes = bytes} {new = new} {x = x} {y = y} {e = e} {listed = listed} is h =
-    subst (λ b. StopsIn listed b bytes new x y e) is h
+stops-from {bytes = bytes} {new = new} {x = x} {y = y} {e = e} {listed = listed} is h = grind (arith)
 
 pub adds-as : {before lines : List (List ℕ)} {x y : SinkState} {b c : Bool} → b ≡ c
     → Adds b before lines Took x y → Adds c before lines Took x y

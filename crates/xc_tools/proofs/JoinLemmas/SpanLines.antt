@@ -1,8 +1,9 @@
 -- A span's text is made of its lines.
+use Rattle.std.proofs.lemmas.Grind.{common_steps}
 use Rattle.std.proofs.Common.{◌≡◌, ℕ, ◌+◌, ◌^◌, ◌<◌, ◌≤◌, Bool, true, false, List, [], ◌∷◌, ◌++◌, Option, None, Some}
 use Rattle.std.proofs.Common.{zero, suc}
 use Rattle.std.proofs.Common.{length, flat_map, refl, arith, append_assoc, map}
-use Rattle.std.specs.Prelude.{MatchOption, codes, decimal, is_some}
+use Rattle.std.specs.Prelude.{MatchOption, is_some}
 use Rattle.std.specs.List.{AllByRecursion, enumerate_from}
 use Rattle.std.proofs.lemmas.List.Elements.{recursion_from_All}
 use Rattle.xc_input.specs.Named.{Named, IsKnownUse, IsSound}
@@ -17,53 +18,37 @@ use Rattle.xc_input.proofs.lists.Members.{IsIn}
 use Rattle.xc_search.specs.declared.choice.Choice.{Choice}
 use Rattle.xc_search.specs.Cover.{members}
 use Rattle.xc_list.specs.Output.{member_text}
-use Rattle.xc_list.specs.SpanTexts.{record_text, row_text}
+use Rattle.xc_list.specs.SpanTexts.{record_text}
 use Rattle.xc_list.proofs.CheckLemmas.BodiesOfClasses.{All-turned}
 use Rattle.xc_list.proofs.CheckLemmas.ListedNumbers.{numbered_some}
 use Rattle.xc_list.proofs.OutputLemmas.ChoiceBodies.{body_words, plain-name, plain-use}
 use Rattle.xc_list.proofs.OutputLemmas.KnownMembers.{AreCounted, IsCounted, member_counted}
-use Rattle.xc_list.proofs.OutputLemmas.OutputLines.{choice_line, choice_words, member-ended}
+use Rattle.xc_list.proofs.OutputLemmas.OutputLines.{choice_line, member-ended}
 use Rattle.xc_list.proofs.OutputLemmas.OutputLines.{member_lines, output_lines}
-use Rattle.xc_list.proofs.OutputLemmas.ReadLines.{ending_words, no_feed-header, spaced}
+use Rattle.xc_list.proofs.OutputLemmas.ReadLines.{no_feed-header, spaced}
 use Rattle.xc_tools.specs.Joins.{SearchedSpan, members_of, text_of}
 use Rattle.xc_tools.proofs.JoinLemmas.SpanWords.{feed-decimal, feed-heading, feed-record}
-use Rattle.xc_tools.proofs.JoinLemmas.SpanWords.{heading_line, record_line}
+use Rattle.xc_tools.proofs.JoinLemmas.SpanWords.{record_line}
 use Rattle.xc_tools.proofs.JoinLemmas.SpanRuns.{IsShort, listing_lines, span_lines}
 
 -- ---- the text
 
 ended-members : (a : Named) (nms : List (ℕ × List Choice)) → flat_map (member_text a) nms ≡ ended (output_lines a nms)
 ended-members a [] = refl
-ended-members a (nm ∷ nms) =
-    cc (member-ended a nm, ended-members a nms, ended-append (member_lines a nm) (output_lines a nms))
+ended-members a (nm ∷ nms) = grind (arith, common_steps, member-ended, ended-append, ended-members a nms)
 
 record-ended : (from until : List ℕ) (branches : Option (List ℕ)) (n steps : ℕ)
     → record_text from until branches n steps ≡ record_line from until branches n steps ++ 10 ∷ []
 record-ended from until branches n steps = simp append_assoc
 
-listing-ended : (a : Named) (row : List ℕ) (nms : List (ℕ × List Choice))
-    → codes "from " ++ row_text row ++ codes "\n" ++ flat_map (member_text a) nms
-    ≡ heading_line row ++ 10 ∷ ended (output_lines a nms)
-listing-ended a row nms = rw (← ended-members a nms) (simp append_assoc)
-
 pub text-ended : (a : Named) (listed : Bool) (s : SearchedSpan) → text_of a listed s ≡ ended (span_lines a listed s)
-text-ended a true s =
-    let ms = members_of a s in
-    let end = record-ended s.from s.until s.branches (length ms) s.steps in
-    let lines = listing-ended a s.from (enumerate_from 1 ms) in
-    let last = record_line s.from s.until s.branches (length ms) s.steps in
-    let all = ended-append (listing_lines a true s.from ms) (last ∷ []) in cc (end, lines, all)
+text-ended a true s = grind (arith, record-ended, ended-append, ended-members, append_assoc)
 text-ended a false s = record-ended s.from s.until s.branches (length (members_of a s)) s.steps
 
 pub texts-ended : (a : Named) (listed : Bool) (spans : List SearchedSpan)
     → flat_map (text_of a listed) spans ≡ ended (flat_map (span_lines a listed) spans)
 texts-ended a listed [] = refl
-texts-ended a listed (s ∷ spans) =
-    cc (
-      text-ended a listed s,
-      texts-ended a listed spans,
-      ended-append (span_lines a listed s) (flat_map (span_lines a listed) spans),
-    )
+texts-ended a listed (s ∷ spans) = grind (arith, text-ended, ended-append, texts-ended a listed spans)
 
 -- ---- no line feeds inside
 
@@ -73,9 +58,6 @@ IsFree w = has 10 w ≡ false
 free-spaced : (ws : List (List ℕ)) → AllByRecursion IsFree ws → has 10 (spaced ws) ≡ false
 free-spaced [] all = refl
 free-spaced (w ∷ ws) all = lacks-append 10 w (spaced ws) all.0 (free-spaced ws all.1)
-
-free-ending : (k n : ℕ) → k < 2 ^ 64 → n < 2 ^ 64 → AllByRecursion IsFree (ending_words k n)
-free-ending k n h l = (feed-decimal k h, (refl, (lacks-append 10 (decimal n) (codes ")") (feed-decimal n l) refl, tt)))
 
 module _ (a : Named) (sound : IsSound a) where
   free-body : (i : ℕ) (o : Option ℕ) → IsPrimary a.puzzle i → MatchOption o (Unit {0}) (λ o. IsOption a.puzzle o
@@ -90,11 +72,7 @@ module _ (a : Named) (sound : IsSound a) where
       (refl, ((plain-name a sound (suc j) (primary.0, omega (arith, primary.1))).no_feed, tt))
 
   free-choice : (c : Choice) → IsCounted a.puzzle c → has 10 (choice_line a c) ≡ false
-  free-choice c h =
-      let few = sound.limits.options in
-      free-spaced (choice_words a c ++ ending_words c.k c.n)
-      (each-append _ (choice_words a c) (ending_words c.k c.n) (free-body c.item c.option h.known.0 h.known.1)
-      (free-ending c.k c.n (omega (arith, h.k, few)) (omega (arith, h.n, few))))
+  free-choice c h = grind (arith, free-spaced, each-append, free-body, feed-decimal, lacks-append)
 
   whole-choices : (m : List Choice) → AreCounted a.puzzle m → AreWhole (map (choice_line a) m)
   whole-choices [] all = tt

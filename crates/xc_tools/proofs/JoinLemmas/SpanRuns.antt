@@ -1,7 +1,8 @@
 -- What the lines of a span's text come to.
+use Rattle.std.proofs.lemmas.Grind.{common_steps}
 use Rattle.std.proofs.Common.{◌≡◌, ℕ, ◌+◌, ◌-◌, ◌^◌, ◌<◌, ◌≤◌, ◌⊎◌, inl, inr, Bool, true, false, List, []}
 use Rattle.std.proofs.Common.{◌∷◌}
-use Rattle.std.proofs.Common.{◌++◌, Option, None, Some, length, flat_map, refl, sym, ap, ◌∙◌, arith, append_assoc}
+use Rattle.std.proofs.Common.{◌++◌, Option, None, Some, length, flat_map, refl, ap, ◌∙◌, arith, append_assoc}
 use Rattle.std.proofs.Common.{append-nil, map, min, nat_lt}
 use Rattle.std.specs.Prelude.{◌==◌, ◌&&◌, codes, decimal, if◌then◌else◌}
 use Rattle.std.specs.Char.{is_ascii_digit}
@@ -20,10 +21,10 @@ use Rattle.xc_list.specs.SpanTexts.{most_counted}
 use Rattle.xc_list.specs.Output.{choice_text, member_text}
 use Rattle.xc_list.specs.ListingLines.{words_in}
 use Rattle.xc_list.specs.SpanTexts.{row_text}
-use Rattle.xc_list.proofs.OutputLemmas.OutputLines.{choice-ended, choice_line, choice_words, header_line}
+use Rattle.xc_list.proofs.OutputLemmas.OutputLines.{choice-ended, choice_line, header_line}
 use Rattle.xc_list.proofs.OutputLemmas.OutputLines.{member_lines, output_lines}
 use Rattle.xc_list.proofs.OutputLemmas.ReadLines.{before_last-last, ending_words, spaced}
-use Rattle.xc_tools.specs.inner.SpanLines.{Join, Stand, goes, faulty, apart, stand_after, begins_with, by_header}
+use Rattle.xc_tools.specs.inner.SpanLines.{Join, Stand, goes, apart, stand_after, begins_with, by_header}
 use Rattle.xc_tools.specs.inner.SpanLines.{by_line}
 use Rattle.xc_tools.specs.inner.SpanLines.{Told, by_heading, by_last, by_record, closed, heading_of, is_header, meets}
 use Rattle.xc_tools.specs.inner.SpanLines.{record_of, saturating_number, step, wrote}
@@ -45,27 +46,16 @@ after-append s (x ∷ xs) ys = after-append (step s x).0 xs ys
 
 pub wrote-append : (s : Stand) (xs ys : List (List ℕ)) → wrote s (xs ++ ys) ≡ wrote s xs ++ wrote (stand_after s xs) ys
 wrote-append s [] ys = refl
-wrote-append s (x ∷ xs) ys =
-    ap (λ t. (step s x).1 ++ t) (wrote-append (step s x).0 xs ys)
-    ∙ sym (append_assoc (step s x).1 (wrote (step s x).0 xs) (wrote (stand_after (step s x).0 xs) ys))
-
-pub runs-none : (s : Stand) → Runs s [] s []
-runs-none s = record { stands = refl; says = refl }
+wrote-append s (x ∷ xs) ys = grind (arith, step, append_assoc, wrote-append (step s x).0 xs ys)
 
 pub runs-append : {a b c : Stand} {xs ys : List (List ℕ)} {s t : List ℕ} → Runs a xs b s → Runs b ys c t
     → Runs a (xs ++ ys) c (s ++ t)
-runs-append {a = a} {b = b} {c = c} {xs = xs} {ys = ys} {s = s} {t = t} p q = record {
-  stands = after-append a xs ys ∙ ap (λ z. stand_after z ys) p.stands ∙ q.stands;
-  says = wrote-append a xs ys ∙ ap (λ z. wrote a xs ++ wrote z ys) p.stands ∙ cc (p.says, q.says);
-}
+runs-append {a = a} {b = b} {c = c} {xs = xs} {ys = ys} {s = s} {t = t} p q =
+    grind (arith, after-append, wrote-append)
 
 pub runs-line : (s : Join) (line : List ℕ) (new : Stand) (text : List ℕ) → by_line s line ≡ (new, text)
     → Runs (goes s) (line ∷ []) new text
-runs-line s line new text e = record {
-  stands = ap (λ r. r.0) e;
-  says = append-nil (by_line s line).1 ∙ ap
-      (λ r. r.1) e;
-}
+runs-line s line new text e = grind (arith, append-nil, by_line)
 
 -- ---- lines of solutions
 
@@ -87,9 +77,6 @@ shown n text = if nat_lt most_counted n then [] else text
 pub shown-append : (n : ℕ) (s t : List ℕ) → shown n s ++ shown n t ≡ shown n (s ++ t)
 shown-append n s t = grind (arith, nat_tests)
 
-shown-none : (n : ℕ) → shown n [] ≡ []
-shown-none n = grind (arith, nat_tests)
-
 choice-spaced : (ws : List (List ℕ)) (k n : ℕ) → begins_with 32 (spaced (ws ++ ending_words k n)) ≡ true
 choice-spaced [] k n = refl
 choice-spaced (w ∷ ws) k n = refl
@@ -101,15 +88,11 @@ runs-is p e = record { stands = p.stands; says = p.says ∙ e }
 module _ (a : Named) (row : List ℕ) where
   run-choice : (k n : ℕ) → 0 < k → (c : Choice)
       → Runs (goes (mid row k n)) (choice_line a c ∷ []) (goes (mid row k n)) (shown n (choice_text a c))
-  run-choice k n h c =
-      let first = choice-spaced (choice_words a c) c.k c.n in
-      let some : nat_lt 0 k ≡ true = grind (arith, nat_tests) in
-      runs-is (runs-line (mid row k n) (choice_line a c) (goes (mid row k n)) (shown n (choice_line a c ++ 10 ∷ []))
-      (rw (first, some) refl)) (ap (shown n) (sym (choice-ended a c)))
+  run-choice k n h c = grind (arith, common_steps, choice-spaced, runs-is, runs-line, goes, shown, choice-ended)
 
   run-choices : (k n : ℕ) → 0 < k → (m : List Choice)
       → Runs (goes (mid row k n)) (map (choice_line a) m) (goes (mid row k n)) (shown n (flat_map (choice_text a) m))
-  run-choices k n h [] = runs-is (runs-none (goes (mid row k n))) (sym (shown-none n))
+  run-choices k n h [] = grind (arith, runs-is, goes)
   run-choices k n h (c ∷ m) =
       runs-is (runs-append (run-choice k n h c) (run-choices k n h m))
       (shown-append n (choice_text a c) (flat_map (choice_text a) m))
@@ -120,9 +103,7 @@ not_spaced [] rest h l = absurd (omega (arith, l))
 not_spaced (d ∷ ds) rest h l = grind (arith, nat_tests)
 
 header-yes : (k : ℕ) → k < 2 ^ 64 → is_header k (header_line k) ≡ true
-header-yes k h =
-    ap (λ o. elim o [ None ↦ false | Some front ↦ bytes_eq front (decimal k) ]) (before_last-last 58 (decimal k))
-    ∙ same (decimal k)
+header-yes k h = grind (arith, before_last-last, same)
 
 by_header-mid : (row : List ℕ) (k n : ℕ) → by_header (mid row k n) (k + 1)
     ≡ (goes (mid row (k + 1) (n + 1)), shown (n + 1) (decimal (n + 1) ++ codes ":\n"))
@@ -148,11 +129,7 @@ module _ (a : Named) (row : List ℕ) where
   run-header : (k n : ℕ) → k < most_counted → Runs (goes (mid row k n)) (header_line (k + 1) ∷ [])
       (goes (mid row (k + 1) (n + 1))) (shown (n + 1) (decimal (n + 1) ++ codes ":\n"))
   run-header k n h =
-      let small : k + 1 < 2 ^ 64 = omega (arith, h) in
-      let first = not_spaced (decimal (k + 1)) (codes ":") (digits (k + 1) small) (decimal_nonempty (k + 1) small) in
-      let few : nat_lt k most_counted ≡ true = grind (arith, nat_tests) in
-      runs-line (mid row k n) (header_line (k + 1)) _ _
-      (rw (first.0, first.1, few, header-yes (k + 1) small) (by_header-mid row k n))
+      grind (arith, common_steps, not_spaced, digits, decimal_nonempty, runs-line, header-yes, by_header-mid row k n)
 
   run-member : (k n : ℕ) → k < most_counted → (m : List Choice)
       → Runs (goes (mid row k n)) (member_lines a (k + 1, m)) (goes (mid row (k + 1) (n + 1)))
@@ -169,10 +146,7 @@ listed_from a n (m ∷ ms) = shown (n + 1) (member_text a (n + 1, m)) ++ listed_
 run-members : (a : Named) (row : List ℕ) (k n i j : ℕ) (ms : List (List Choice)) → k + length ms ≤ most_counted
     → i ≡ k + length ms → j ≡ n + length ms
     → Runs (goes (mid row k n)) (output_lines a (enumerate_from (k + 1) ms)) (goes (mid row i j)) (listed_from a n ms)
-run-members a row k n i j [] h e f =
-    let ik : k ≡ i = omega (arith, e) in
-    let jn : n ≡ j = omega (arith, f) in
-    record { stands = cc (ik, jn); says = refl }
+run-members a row k n i j [] h e f = grind (arith)
 run-members a row k n i j (m ∷ ms) h e f =
     runs-append (run-member a row k n (omega (arith, h)) m)
     (run-members a row (k + 1) (n + 1) i j ms (omega (arith, h)) (omega (arith, e)) (omega (arith, f)))
@@ -197,42 +171,19 @@ is_last until = bytes_eq (row_text until) (codes "-")
 pub heading-read-so : (s : Join) (words : List (List ℕ)) (row : List ℕ) → heading_of words ≡ Some row
     → by_heading s words
     ≡ (if meets s row then (goes (record s { found = Some 0 }), []) else (apart s.met row, []))
-heading-read-so s words row e =
-    ap (λ o. elim o [
-      | None ↦ (faulty, [])
-      | Some r ↦ if meets s r then (goes (record s { found = Some 0 }), []) else (apart s.met r, [])
-    ]) e
-
-heading-step : (s : Join) (words : List (List ℕ)) (row : List ℕ) → heading_of words ≡ Some row → meets s row ≡ true
-    → by_heading s words ≡ (goes (record s { found = Some 0 }), [])
-heading-step s words row e m = heading-read-so s words row e ∙ rw m refl
+heading-read-so s words row e = grind (arith, meets, goes, apart)
 
 last-step : (s : Join) (k : ℕ) (words : List (List ℕ)) (t : Told) → record_of words ≡ Some t
     → bytes_eq t.from s.met ≡ true → bytes_eq t.solutions (decimal k) ≡ true
     → by_last s k words ≡ (goes (closed s t.until), [])
-last-step s k words t e m c =
-    ap (λ o. elim o [
-      | None ↦ (faulty, [])
-      | Some r ↦
-          if bytes_eq r.from s.met && bytes_eq r.solutions (decimal k) then (goes (closed s r.until), [])
-          else (faulty, [])
-    ]) e ∙ rw (m, c) refl
+last-step s k words t e m c = grind (arith, goes, closed)
 
 pub record-read-so : (s : Join) (words : List (List ℕ)) (t : Told) → record_of words ≡ Some t
     → by_record s words
     ≡ (if meets s t.from
     then (goes (closed (record s { total = min most_counted (s.total + saturating_number t.solutions) }) t.until), [])
     else (apart s.met t.from, []))
-record-read-so s words t e =
-    ap (λ o. elim o [
-      | None ↦ (faulty, [])
-      | Some r ↦
-          if meets s r.from
-          then (
-            goes (closed (record s { total = min most_counted (s.total + saturating_number r.solutions) }) r.until),
-            [],
-          ) else (apart s.met r.from, [])
-    ]) e
+record-read-so s words t e = grind (arith, meets, goes, closed, apart)
 
 record-step : (s : Join) (words : List (List ℕ)) (t : Told) → record_of words ≡ Some t → meets s t.from ≡ true
     → by_record s words
@@ -241,10 +192,7 @@ record-step s words t e m = record-read-so s words t e ∙ rw m refl
 
 run-heading : (row : List ℕ) (n : ℕ) → AreShort row
     → Runs (goes (rest_at true false row n)) (heading_line row ∷ []) (goes (mid row 0 n)) []
-run-heading row n short =
-    runs-line (rest_at true false row n) (heading_line row) (goes (mid row 0 n)) []
-    (heading-step (rest_at true false row n) (words_in (heading_line row)) (row_text row) (heading-read row short)
-    (same (row_text row)))
+run-heading row n short = grind (arith, runs-line, goes, heading-read, same, heading-read-so)
 
 sat-from : (bs : List ℕ) (v w : ℕ) → w ≡ min most_counted v
     → fold (λ n b. min most_counted (min most_counted (n * 10) + (b - byte "0"))) w bs ≡ min most_counted

@@ -1,4 +1,5 @@
 -- What is known of spans where a run stopped.
+use Rattle.std.proofs.Common.{arith}
 use Rattle.std.proofs.Common.{◌≡◌, ◌⊎◌, inl, inr, ℕ, ◌+◌, Bool, false, List, [], ◌++◌, Result}
 use Rattle.std.proofs.Common.{Ok, Err}
 use Rattle.std.proofs.Common.{refl, sym, ap, ◌∙◌, append_assoc, append-nil, subst, take}
@@ -161,9 +162,7 @@ module _ (listed : Bool) (new : Joint) (a b : SourceState) (x y z : SinkState) (
   }
 
   pub stopped : (e : Stop) → JoinsAll listed new a b x y (Err e) → HasBegun listed (so_at e) a b x z
-  stopped e (inl h) =
-      let is : e ≡ h.0 = cc (h.1) in
-      subst (λ s. HasBegun listed (so_at s) a b x z) (sym is) (stopped-reading h.0 h.2)
+  stopped e (inl h) = grind (arith, stopped-reading)
   stopped e (inr h) = stopped-ending e h.0 h.1 h.2 h.3 h.4 h.5 h.6 h.7 h.8
 
 pub begun-weaker : (listed : Bool) (says says' : List SearchedSpan → Type 0) (a b : SourceState) (x y : SinkState)
@@ -208,8 +207,7 @@ module _ (listed : Bool) (new : Joint) (a b : SourceState) (x y : SinkState) whe
   out-at-end WriteFailed rest old text ends took = absurd ends
 
   out-failed : (e : Stop) → JoinsAll listed new a b x y (Err e) → OutFailed e x y
-  out-failed e (inl h) =
-      let is : e ≡ h.0 = cc (h.1) in subst (λ s. OutFailed s x y) (sym is) (out-in-reading h.0 h.2)
+  out-failed e (inl h) = grind (arith, out-in-reading)
   out-failed e (inr h) = out-at-end e h.1 h.2 (joined_text listed h.0) h.7 h.8
 
   all-failed : (e : Stop) (z : SinkState) → OutFailed e x y → WriteFails e y z → Rose x.failures z.failures
@@ -220,9 +218,7 @@ module _ (listed : Bool) (new : Joint) (a b : SourceState) (x y : SinkState) whe
   all-failed WriteFailed z rose same = same ∙ rose
 
   read-failed : (e : Stop) → e ≡ Device → JoinsAll listed new a b x y (Err e) → Rose a.failures b.failures
-  read-failed e at (inl h) =
-      let is : e ≡ h.0 = cc (h.1) in
-      (subst (λ s. StopsReading listed new a b x y s) (sym is ∙ at) h.2).5
+  read-failed e at (inl h) = grind (arith)
   read-failed e at (inr h) = absurd (subst (λ s. EndsAt h.1 h.2 new (Err s)) at h.7)
 
 any : (stop : Stop) (spans : List SearchedSpan) → so_at stop spans → Unit {0}

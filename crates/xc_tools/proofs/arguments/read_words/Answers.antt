@@ -1,14 +1,10 @@
 use Rattle.std.proofs.Common.{arith}
-use Rattle.std.proofs.lemmas.Grind.{common_steps}
 use Rattle.std.specs.Str.{IsUtf8}
 use Rattle.xc_tools.proofs.WordLemmas.{no_word, one_word_more, passed_test, all_more}
 use Rattle.xc_tools.proofs.arguments.read_words.Goals as goal
 
 pub loop-place-init : goal.loop-place-init
-loop-place-init g c = record {
-  all = rw c.new-words.ensures.items (no_word (g.A.Arguments.told c.args.arguments.now));
-  utf8 = grind (arith, common_steps);
-}
+loop-place-init g c = grind (arith, no_word)
 
 pub loop-place-preserved : goal.loop-place-preserved
 loop-place-preserved g c = record {
