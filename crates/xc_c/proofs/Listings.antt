@@ -1,10 +1,9 @@
 -- What a buffer holds behind a run whose text was put into it.
 use Rattle.std.proofs.Common.{◌≡◌, ℕ, ◌<◌, ◌≤◌, Bool, true, false, List, [], ◌++◌, Option}
-use Rattle.std.proofs.Common.{None, Some, length, drop, refl, sym, ap, arith, subst, nat_lt, lt-ltb}
+use Rattle.std.proofs.Common.{None, Some, length, refl, arith, nat_lt, lt-ltb}
 use Rattle.std.specs.Prelude.{if◌then◌else◌}
 use Rattle.std.proofs.lemmas.List.{length-append}
 use Rattle.std.specs.Io.KnownBytes.{Appends}
-use Rattle.std.proofs.lemmas.Bool.Decides.{nat_tests}
 use Rattle.std.proofs.lemmas.Grind.{common_steps}
 use Rattle.xc_input.specs.Named.{Named}
 use Rattle.xc_list.specs.Output.{output}
@@ -14,7 +13,7 @@ use Rattle.xc_list.specs.declared.runs.End.{End}
 use Rattle.xc_list.specs.declared.runs.End.TheVariants.{Done, Limit, WriteFailed}
 use Rattle.xc_list.proofs.Outputs.{stopped_broke}
 use Rattle.std.proofs.lemmas.List.{take-append-drop, length-drop}
-use Rattle.xc_c.specs.Answers.{IsFilled, Lists, end_status}
+use Rattle.xc_c.specs.Answers.{IsFilled, Lists}
 use Rattle.xc_c.specs.inner.Statuses.{listing_status}
 
 -- from nothing to these bytes by this text
@@ -30,17 +29,8 @@ stopped_short : (a : Named) (spacing limit t : ℕ) (x z : SinkState) (xs : List
     → z.taken ≡ Some xs → StoppedAt a spacing limit t x z → IsShort xs (output a spacing limit)
 stopped_short a spacing limit t x z xs e f s =
     let text = output a spacing limit in
-    let broke = stopped_broke a spacing limit t s in (
-      drop broke.many text,
-      rw (all_of e f broke.begun) (sym (take-append-drop broke.many text)),
-      omega (arith, broke.part, length-drop broke.many text),
-    )
-
--- a beginning that is as long as the buffer fills it as the whole would
-fills_as_whole : (xs text buf new : List ℕ) (used : ℕ) → IsShort xs text → length buf ≤ length xs
-    → IsFilled xs buf new used → IsFilled text buf new used
-fills_as_whole xs text buf new used s h f =
-    (grind (arith, common_steps, s.1, s.2, f.0), omega (arith, ap length s.1, length-append xs s.0, h, f.1))
+    let broke = stopped_broke a spacing limit t s in
+    grind (arith, all_of e f broke.begun, take-append-drop broke.many text, length-drop broke.many text)
 
 status_of : (below : Bool) (found limit length room s : ℕ)
     → listing_status (if below then Done found else Limit limit) length room ≡ Some s
@@ -52,20 +42,13 @@ module _ (a : Named) (spacing limit : ℕ) (xs buf new : List ℕ) (used s : ℕ
   -- the end of a run that was not stopped
   whole : (end : End) → xs ≡ output a spacing limit → end ≡ end_of a limit
       → listing_status end (length xs) (length buf) ≡ Some s → Lists spacing limit buf new s used a
-  whole end e is st =
-      let says = λ (xs : List ℕ). s ≡ (if nat_lt (length buf) (length xs) then 2 else end_status a limit) in
-      subst (λ xs. IsFilled xs buf new used × says xs) e (fill, status_of _ _ limit _ _ s (rw is at st))
+  whole end e is st = grind (arith, status_of)
 
   -- the end of one that was, since there was no room
   cut_off : (less : Bool) → nat_lt (length xs) (length buf) ≡ less → IsShort xs (output a spacing limit)
       → (if less then None else Some 2) ≡ Some s → Lists spacing limit buf new s used a
   cut_off true is short st = absurd (cc st)
-  cut_off false is short st =
-      let long : length buf ≤ length xs = grind (arith, nat_tests) in
-      let over : nat_lt (length buf) (length (output a spacing limit)) ≡ true =
-      lt-ltb _ _ (omega (arith, ap length short.1, length-append xs short.0, short.2, long)) in
-      let two : s ≡ 2 = cc st in
-      (fills_as_whole xs (output a spacing limit) buf new used short long fill, rw over two)
+  cut_off false is short st = grind (arith, common_steps, lt-ltb, length-append)
 
   -- what was put into the buffer, by the run's end
   pub listed : (x z : SinkState) (end : End) → IsRun a spacing limit x z end → x.taken ≡ Some [] → z.taken ≡ Some xs

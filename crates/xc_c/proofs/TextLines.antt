@@ -1,12 +1,9 @@
 -- What an error or a line says of a text.
-use Rattle.std.proofs.Common.{◌≡◌, ◌≢◌, ℕ, List, [], ◌∷◌, ◌++◌, true, false, ◌||◌, Option, Some, None, refl, sym, ap}
-use Rattle.std.proofs.Common.{subst, arith}
+use Rattle.std.proofs.Common.{◌≡◌, ◌≢◌, ℕ, List, [], ◌∷◌, ◌++◌, true, false, ◌||◌, Some, None, refl}
+use Rattle.std.proofs.Common.{arith}
 use Rattle.std.specs.List.{list_all}
-use Rattle.std.proofs.lemmas.Bool.Decides.{nat_tests}
 use Rattle.xc_input.specs.declared.kind.Kind.{Kind}
 use Rattle.xc_input.specs.declared.fault.InputError.{InputError}
-use Rattle.xc_input.specs.declared.fault.InputError.TheVariants.{Memory}
-use Rattle.xc_input.specs.Words.{has}
 use Rattle.xc_input.specs.Tokens.{is_skipped}
 use Rattle.xc_input.specs.FirstFault.{content, first_fault}
 use Rattle.xc_input.specs.Readings.{IsErrorFor, IsStateOf}
@@ -16,19 +13,12 @@ use Rattle.xc_input.proofs.LineLemmas.Reading.{IsErrorOf-more, error-ends}
 pub error-of-text : (kind : Kind) (lines more all : List (List ℕ)) (e : InputError) → all ≡ lines ++ more
     → IsStateOf kind lines (Some e) → IsErrorFor (first_fault kind all) e
 error-of-text kind lines more all e f h =
-    subst (λ ls. IsErrorFor (first_fault kind ls) e) (sym f)
-    (error-ends kind (lines ++ more) e (IsErrorOf-more kind lines more e h))
+    grind (arith, error-ends kind (lines ++ more) e (IsErrorOf-more kind lines more e h))
 
 -- a line with content among others
 pub has-content : (xs ys : List (List ℕ)) (line : List ℕ) → is_skipped line ≡ false → content (xs ++ line ∷ ys) ≢ []
 has-content [] ys line h = grind (arith, h)
 has-content (x ∷ xs) ys line h = grind (arith, has-content xs ys line h)
-
--- a line at which memory runs out, where it hadn't before
-pub out-of-memory : (line : List ℕ) (before : Option InputError) (e : InputError)
-    → ((has 0 line || is_skipped line) ≡ true → Some e ≡ Some Memory → before ≡ Some Memory) → before ≡ None
-    → e ≡ Memory → is_skipped line ≡ false
-out-of-memory line before e h none is = grind (arith, nat_tests, ap (λ (x : InputError). Some x) is)
 
 -- lines without content
 all-skipped : (lines : List (List ℕ)) → content lines ≡ [] → list_all is_skipped lines ≡ true

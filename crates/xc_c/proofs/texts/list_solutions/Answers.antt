@@ -1,9 +1,7 @@
-use Rattle.xc_input.specs.Lines.{lines_of}
+use Rattle.std.proofs.Common.{arith}
 use Rattle.xc_input.proofs.FaultLemmas.FirstFaults.{stands-only}
 use Rattle.xc_c.proofs.TextLines.{faultless-content}
 use Rattle.xc_c.proofs.texts.list_solutions.Goals as goal
 
 pub returns-clause-memory : goal.returns-clause-memory
-returns-clause-memory c =
-    let lines = lines_of c.args.text.now in
-    λ is. faultless-content c.args.kind lines (stands-only c.args.kind lines _ _ c.in_ok-problem.ensures.problem).0
+returns-clause-memory c = grind (arith, faultless-content, stands-only)
