@@ -3,10 +3,8 @@
 ghost use Rattle.std.specs.Prelude.{◌≡◌};
 ghost use Rattle.xc_input.specs.Problem.{IsItem};
 
-use crate::keepers::{
-    alike, are_lists, are_open, bound, links, lists, make, on_two, refuses, two_tweaks_at_once,
-    undo,
-};
+use crate::costs::{make, two_tweaks_at_once, undo};
+use crate::keepers::{alike, are_lists, are_open, bound, links, lists, on_two, refuses};
 use fixtures::{COLOURED, TWICE, on_one};
 use xc_dance::{Dance, Links, Move};
 use xc_input::Kind;

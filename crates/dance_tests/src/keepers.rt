@@ -1,7 +1,8 @@
-//! Keepers, and moves on them.
-ghost use Rattle.std.specs.Prelude.{◌≡◌, ◌∷◌, ◌⊎◌, IsSome, OnOk};
+//! Keepers, and what they show.
+ghost use Rattle.std.specs.Prelude.{◌⊎◌, OnOk};
 ghost use Rattle.xc_input.specs.Problem.{IsItem};
 
+use crate::costs::make;
 use fixtures::read;
 use std::alloc::Global;
 use xc_dance::{Dance, Links, Lists, Move};
@@ -31,7 +32,7 @@ pub fn on_two<D: Drop, F: Fn(&mut D, &D) -> bool>(
     }
 }
 
-/// The keeper after these moves; None where one of them is illegal.
+/// The keeper after these moves; None if one of them is illegal.
 pub fn after<D: Dance + Drop>(made: Option<D>, moves: &[Move]) -> Option<D> {
     let mut dance = made?;
     for m in moves {
@@ -40,40 +41,7 @@ pub fn after<D: Dance + Drop>(made: Option<D>, moves: &[Move]) -> Option<D> {
     Some(dance)
 }
 
-/// Makes the move and answers its cost; None where it is illegal or there is no room.
-pub fn make<D: Dance>(dance: &mut D, m: Move) -> Option<u64>
-    ensures made { IsSome result → (D.state dance.new).trail ≡ m ∷ (D.state dance.old).trail }
-    ensures problem { (D.state dance.new).puzzle ≡ (D.state dance.old).puzzle }
-{
-    if !dance.can(&m) {
-        return None;
-    }
-    match dance.apply(m) {
-        Ok(count) => Some(count.0),
-        Err(_) => None,
-    }
-}
-
-/// Undoes the newest move and returns its cost; None if there is no move.
-pub fn undo<D: Dance>(dance: &mut D) -> Option<u64>
-    ensures { (D.state dance.new).puzzle ≡ (D.state dance.old).puzzle }
-{
-    if dance.moves().is_empty() {
-        return None;
-    }
-    Some(dance.undo().0)
-}
-
-/// Makes two tweaks of the item and undoes them at once. Answers the three costs.
-pub fn two_tweaks_at_once<D: Dance>(dance: &mut D, i: u32) -> Option<[u64; 3]>
-    ensures { (D.state dance.new).puzzle ≡ (D.state dance.old).puzzle }
-{
-    let first = make(dance, Move::Tweak(i))?;
-    let second = make(dance, Move::Tweak(i))?;
-    Some([first, second, dance.undo_tweaks(2).0])
-}
-
-/// What is left of the upper bound of a primary item; None where nothing is, or for another item.
+/// What is left of the upper bound of a primary item; None if nothing is, or for another item.
 pub fn bound<D: Dance>(dance: &D, i: u32) -> Option<u32> {
     if dance.can(&Move::Spend(i)) {
         Some(dance.bound(i))

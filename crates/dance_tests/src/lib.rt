@@ -6,8 +6,10 @@
 #[cfg(test)]
 mod callers;
 
-// Helpers. They are proved without the tests too, as what `must-fail/` plants is.
-pub mod keepers;
+// Helpers. Those that `must-fail/` changes are proved without the tests too.
+pub mod costs;
+#[cfg(test)]
+mod keepers;
 
 // Memory, ample and scarce.
 #[cfg(test)]

@@ -1,5 +1,6 @@
 //! The cells of linked tables that moves change, and what they cost.
-use crate::keepers::{after, alike, bound, links, make, on_two, two_tweaks_at_once, undo, unlike};
+use crate::costs::{make, two_tweaks_at_once, undo};
+use crate::keepers::{after, alike, bound, links, on_two, unlike};
 use crate::tables::{FIELDS, PLACES};
 use fixtures::{ALONE, COLOURED, TWICE};
 use xc_dance::{Field, Links, Move};

@@ -2,7 +2,7 @@ use Rattle.std.proofs.Common.{◌≡◌, ◌∷◌, ℕ, List, arith, refl, subs
 use Rattle.xc_dance.specs.declared.dance.Move.{Move}
 use Rattle.xc_dance.specs.declared.dance.Move.TheVariants.{Tweak}
 use Rattle.xc_dance.specs.Moves.{AreTweaks}
-use Rattle.dance_tests.proofs.keepers.two_tweaks_at_once.Goals as goal
+use Rattle.dance_tests.proofs.costs.two_tweaks_at_once.Goals as goal
 
 two_tweaks : (i : ℕ) (s t : List Move) → s ≡ Tweak i ∷ Tweak i ∷ t → AreTweaks 2 s
 two_tweaks i s t e = subst (AreTweaks 2) (sym e) (omega arith, omega arith, (i, refl))
