@@ -1,5 +1,6 @@
 //! Exact cover problems, read, searched and judged: what a caller needs of the libraries, under one name.
-//! The three programs below are in `examples.rt` too, where they are run. Each is over a problem as it was read:
+//! The three programs below are in `examples.rt` of `tool_tests` too, where they are run. Each is over a problem as it
+//! was read:
 //!
 //! ```text
 //! let problem = read_problem(alloc, Kind::Bounds, &mut SliceSource::new(text))?.problem;
@@ -41,9 +42,6 @@
 //! }
 //! ```
 #![tactic(auto)]
-
-#[cfg(test)]
-mod examples;
 
 pub use xc_dance::{Count, Dance, Full, Links, Listed, Lists, Memory, Move, list_of};
 pub use xc_input::{

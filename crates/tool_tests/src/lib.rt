@@ -1,6 +1,10 @@
-//! Tests of whole runs, of the judge and of the system's streams. They use public calls alone, so they
-//! are above the libraries, which aren't proved a second time for them.
+//! Tests of whole runs, of the judge, of the system's streams and of the examples of `helgrothy`. They use public calls
+//! alone, so they are above the libraries, which aren't proved a second time for them.
 #![tactic(auto)]
+
+// What is there for callers.
+#[cfg(test)]
+mod examples;
 
 // Helpers.
 #[cfg(test)]

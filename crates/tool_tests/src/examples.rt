@@ -1,5 +1,7 @@
-//! The programs of the crate's head, as they are run.
-use crate::{Kind, Links, Problem, Search, SliceSource, VecSink, Words, check, read_problem, run};
+//! The programs of the first page of `helgrothy`, as they are run.
+use helgrothy::{
+    Kind, Links, Problem, Search, SliceSource, VecSink, Words, check, read_problem, run,
+};
 use std::alloc::Global;
 use std::test::Fail;
 
@@ -47,7 +49,7 @@ fn are_right_of_the_text(alloc: Global) -> Result<bool, Fail> {
 }
 
 #[test]
-fn the_programs_of_the_head(rt: HostRuntime) -> Result<(), Fail> {
+fn the_programs_of_the_first_page(rt: HostRuntime) -> Result<(), Fail> {
     assert!(rt; are_right_of_the_text(rt.alloc())?);
     Ok(())
 }
