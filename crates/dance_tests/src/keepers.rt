@@ -1,5 +1,4 @@
 //! Keepers, and what they show.
-ghost use Rattle.std.specs.Prelude.{◌⊎◌, OnOk};
 ghost use Rattle.xc_input.specs.Problem.{IsItem};
 
 use crate::costs::make;
