@@ -1,15 +1,30 @@
-//! Tests of what is written beside runs over a keeper: lines and solutions, and what is there for callers. They use
-//! public calls alone, so they are on top, where no library is proved a second time for them.
+//! Tests of listings: runs over live lists, over linked tables and over a keeper that counts, what they list, how they
+//! end and which moves they make; lines and solutions; and what is there for callers. They use public calls alone, so
+//! they are on top, where no library is proved a second time for them.
 #![tactic(auto)]
 
-// What is there for callers.
+// Helpers.
 #[cfg(test)]
-mod callers;
+mod ends;
 
-// Listings.
+// What runs list, and how they end.
+#[cfg(test)]
+mod failing_writes;
+#[cfg(test)]
+mod listing;
+
+// The calls that runs make.
+#[cfg(test)]
+mod counting_keeper;
+
+// Lines, solutions and spans.
 #[cfg(test)]
 mod lines;
 #[cfg(test)]
 mod spans;
 #[cfg(test)]
 mod written;
+
+// What is there for callers.
+#[cfg(test)]
+mod callers;
