@@ -18,7 +18,7 @@ use Rattle.xc_dance.specs.Moves.{next_above, is_open, open_items, spends, IsOpen
 use Rattle.xc_search.specs.Residuals.{wanted_at, wanted_after, branches_after, choice_after}
 use Rattle.xc_dance.specs.inner.Lists.Rising.{Rises}
 use Rattle.xc_dance.proofs.MoveLemmas.ListLemmas.{Rises-range, Rises-filter, above_all, next_above-split}
-use Rattle.xc_dance.proofs.MoveLemmas.ListLemmas.{next_above-none, next_above-gt, next_open}
+use Rattle.xc_dance.proofs.MoveLemmas.ListLemmas.{next_above-none, next_above-gt, next_above-open}
 
 -- of these items and w the first with the fewest branches
 abbrev best_from : Puzzle → List Move → Wanted → List ℕ → Wanted
@@ -45,7 +45,7 @@ pub walk_first : (p : Puzzle) (t : List Move) (k count : ℕ) → next_above 0 (
 walk_first p t k count e counted =
     let all = sym (above_all 0 (open_items p t) (open_rises p t)) ∙ next_above-split 0 0 k _ (open_rises p t) e in
     let best = ap (λ is. first_least (branches_after p t) (map (wanted_at p t) is)) all in
-    grind (arith, next_open p t 0 k e, best)
+    grind (arith, next_above-open p t 0 k e, best)
 
 -- one item more
 pub walk_on : (p : Puzzle) (t : List Move) (i best n k count : ℕ) → WalksTo p t i best n
@@ -53,7 +53,7 @@ pub walk_on : (p : Puzzle) (t : List Move) (i best n k count : ℕ) → WalksTo 
     (count < best → WalksTo p t k count k) × (best ≤ count → WalksTo p t i best k)
 walk_on p t i best n k count at e counted =
     let rest = next_above-split 0 n k (open_items p t) (open_rises p t) e in
-    grind (arith, rest, next_open p t n k e, lt-ltb, le-ltb)
+    grind (arith, rest, next_above-open p t n k e, lt-ltb, le-ltb)
 
 pub choice_none : (p : Puzzle) (t : List Move) → next_above 0 (open_items p t) ≡ None → choice_after p t ≡ None
 choice_none p t e = grind (arith, above_all 0 (open_items p t) (open_rises p t), next_above-none 0 (open_items p t) e)
@@ -107,7 +107,7 @@ walk_enough p t i count n at few =
 -- the next open item stands further on
 pub nearer : (p : Puzzle) (t : List Move) (n k : ℕ) → next_above n (open_items p t) ≡ Some k
     → primary_count p - k < primary_count p - n
-nearer p t n k e = omega (arith, next_above-gt n k (open_items p t) e, next_open p t n k e)
+nearer p t n k e = omega (arith, next_above-gt n k (open_items p t) e, next_above-open p t n k e)
 
 -- where each is to be held once, an open item is to be held once more
 pub once_more : (p : Puzzle) (t : List Move) (i : ℕ) → IsOnce p × AreAllWanted (wanted_after p t) → IsOpenPrimary p t i
@@ -124,13 +124,13 @@ pub record CountsTo (p : Puzzle) (t : List Move) (n seen : ℕ) : Type 0 where
 pub count_first : (p : Puzzle) (t : List Move) (k : ℕ) → next_above 0 (open_items p t) ≡ Some k → CountsTo p t k 1
 count_first p t k e =
     let all = sym (above_all 0 (open_items p t) (open_rises p t)) ∙ next_above-split 0 0 k _ (open_rises p t) e in
-    record { at_open = next_open p t 0 k e; counted = omega (arith, ap length all) }
+    record { at_open = next_above-open p t 0 k e; counted = omega (arith, ap length all) }
 
 pub count_on : (p : Puzzle) (t : List Move) (n k seen : ℕ) → CountsTo p t n seen
     → next_above n (open_items p t) ≡ Some k
     → CountsTo p t k (seen + 1)
 count_on p t n k seen at e = record {
-  at_open = next_open p t n k e;
+  at_open = next_above-open p t n k e;
   counted = omega (arith, at.counted, ap length (next_above-split 0 n k (open_items p t) (open_rises p t) e));
 }
 

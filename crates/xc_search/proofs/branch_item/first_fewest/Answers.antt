@@ -1,6 +1,6 @@
 use Rattle.std.proofs.Common.{arith, sym, inl}
 use Rattle.xc_search.proofs.residual.FirstFewest.{WalksTo, once_more, choice_none, nearer}
-use Rattle.xc_dance.proofs.MoveLemmas.ListLemmas.{next_open}
+use Rattle.xc_dance.proofs.MoveLemmas.ListLemmas.{next_above-open}
 use Rattle.xc_search.proofs.residual.FirstFewest.{walk_first, walk_on, walk_none, walk_enough, walk_ends}
 use Rattle.xc_search.proofs.branch_item.first_fewest.Goals as goal
 use Rattle.xc_search.proofs.branch_item.first_fewest.Goals.{After-branches_of-branches, Then-n-branches}
@@ -10,11 +10,11 @@ returns-in_err-item-clause-none g c _ = grind (arith, choice_none)
 
 pub branches_of-branches-requires-clause-open : goal.branches_of-branches-requires-clause-open
 branches_of-branches-requires-clause-open g c =
-    next_open c.args.problem.now.puzzle (g.D.Dance.state c.args.dance.now).trail 0 c.in_ok-item.item
+    next_above-open c.args.problem.now.puzzle (g.D.Dance.state c.args.dance.now).trail 0 c.in_ok-item.item
     (sym (rw c.requires.same at c.in_ok-item.ensures))
 
 pub branches_of-branches-requires-clause-once : goal.branches_of-branches-requires-clause-once
-branches_of-branches-requires-clause-once g c h = grind (arith, once_more, next_open)
+branches_of-branches-requires-clause-once g c h = grind (arith, once_more, next_above-open)
 
 first : (g : _) (c : After-branches_of-branches g) → WalksTo c.args.problem.now.puzzle
     (g.D.Dance.state c.args.dance.now).trail c.in_ok-item.item c.branches_of-branches.result c.in_ok-item.item
@@ -40,11 +40,11 @@ loop-next-init g c = first g (goal.at.loop-next-init g c).After-branches_of-bran
 
 pub branches_of-n-requires-clause-open : goal.branches_of-n-requires-clause-open
 branches_of-n-requires-clause-open g c =
-    next_open c.args.problem.now.puzzle (g.D.Dance.state c.args.dance.now).trail c.loop-next.at c.in-Some.next
+    next_above-open c.args.problem.now.puzzle (g.D.Dance.state c.args.dance.now).trail c.loop-next.at c.in-Some.next
     (sym (rw c.requires.same at c.in-Some.ensures))
 
 pub branches_of-n-requires-clause-once : goal.branches_of-n-requires-clause-once
-branches_of-n-requires-clause-once g c h = grind (arith, once_more, next_open)
+branches_of-n-requires-clause-once g c h = grind (arith, once_more, next_above-open)
 
 nearer_to : (g : _) (c : Then-n-branches g) → WalksTo c.args.problem.now.puzzle
     (g.D.Dance.state c.args.dance.now).trail c.in-Some.next c.branches_of-n.result c.in-Some.next

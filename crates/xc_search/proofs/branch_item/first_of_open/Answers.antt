@@ -1,6 +1,6 @@
 use Rattle.std.proofs.Common.{arith, sym}
 use Rattle.xc_search.proofs.residual.FirstFewest.{count_first, count_on, count_ends}
-use Rattle.xc_dance.proofs.MoveLemmas.ListLemmas.{next_open}
+use Rattle.xc_dance.proofs.MoveLemmas.ListLemmas.{next_above-open}
 use Rattle.xc_search.proofs.branch_item.first_of_open.Goals as goal
 
 pub loop-seen-init : goal.loop-seen-init
@@ -17,8 +17,8 @@ loop-seen-preserved g c = record {
 
 pub returns-in-None-clause-open : goal.returns-in-None-clause-open
 returns-in-None-clause-open g c =
-    next_open (g.D.Dance.state c.args.dance.now).puzzle (g.D.Dance.state c.args.dance.now).trail 0 c.in_ok-first.first
-    (sym c.in_ok-first.ensures)
+    next_above-open (g.D.Dance.state c.args.dance.now).puzzle (g.D.Dance.state c.args.dance.now).trail 0
+    c.in_ok-first.first (sym c.in_ok-first.ensures)
 
 pub returns-in-None-clause-many : goal.returns-in-None-clause-many
 returns-in-None-clause-many g c =

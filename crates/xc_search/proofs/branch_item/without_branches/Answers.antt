@@ -1,14 +1,14 @@
 use Rattle.std.proofs.Common.{sym}
 use Rattle.xc_dance.specs.Moves.{IsOpenPrimary}
 use Rattle.xc_search.proofs.residual.FirstFewest.{once_more}
-use Rattle.xc_dance.proofs.MoveLemmas.ListLemmas.{next_open}
+use Rattle.xc_dance.proofs.MoveLemmas.ListLemmas.{next_above-open}
 use Rattle.xc_search.proofs.branch_item.without_branches.Goals as goal
 use Rattle.xc_search.proofs.branch_item.without_branches.Goals.{In_ok-at}
 
 opens : (g : _) (c : In_ok-at g)
     → IsOpenPrimary c.args.problem.now.puzzle (g.D.Dance.state c.args.dance.now).trail c.in_ok-at.at
 opens g c =
-    next_open c.args.problem.now.puzzle (g.D.Dance.state c.args.dance.now).trail c.loop.at c.in_ok-at.at
+    next_above-open c.args.problem.now.puzzle (g.D.Dance.state c.args.dance.now).trail c.loop.at c.in_ok-at.at
     (sym (rw c.requires.same at c.in_ok-at.ensures))
 
 pub branches_of-requires-clause-open : goal.branches_of-requires-clause-open
