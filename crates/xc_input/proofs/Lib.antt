@@ -8,4 +8,5 @@ pub mod FaultLemmas
 pub mod GrammarLemmas
 pub mod ValidLemmas
 pub mod OptionLemmas
+pub mod Numerals
 pub mod WrittenTexts

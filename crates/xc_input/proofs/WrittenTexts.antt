@@ -1,6 +1,5 @@
 -- Each sound problem has a text: its items and options, written down.
 pub mod Spaced
-pub mod Numerals
 pub mod ItemLine
 pub mod OptionLines
 pub mod Lines

@@ -1,6 +1,6 @@
 -- A row is told by its text.
 use Rattle.std.proofs.lemmas.Grind.{common_steps}
-use Rattle.std.proofs.Common.{ℕ, ◌≡◌, ◌^◌, ◌<◌, true, false, List, [], ◌∷◌, ◌++◌, Some, length, map, refl, ◌∙◌}
+use Rattle.std.proofs.Common.{ℕ, ◌≡◌, ◌^◌, ◌<◌, true, false, List, [], ◌∷◌, ◌++◌, Some, length, map, refl}
 use Rattle.std.proofs.Common.{flat_map, append-nil, arith}
 use Rattle.std.specs.Prelude.{All, ◌==◌, codes, decimal}
 use Rattle.std.specs.Char.{is_ascii_digit}
@@ -10,7 +10,7 @@ use Rattle.std.proofs.lemmas.Bool.Decides.{nat_tests}
 use Rattle.std.proofs.lemmas.Fmt.{decimal_nonempty, digits_value-decimal, digits_decimal}
 use Rattle.std.proofs.lemmas.List.Elements.{recursion_from_All}
 use Rattle.std.proofs.lemmas.List.Splits.{slice_split_none, slice_split_at}
-use Rattle.xc_input.proofs.WrittenTexts.Numerals.{digits_read}
+use Rattle.xc_input.proofs.Numerals.{digits_read}
 use Rattle.xc_list.proofs.Digits.{some_digits}
 use Rattle.xc_list.specs.Settings.{long_number}
 use Rattle.xc_list.specs.SpanTexts.{row_text}

@@ -1,6 +1,6 @@
 -- The item line of a problem: each primary item with both bounds, a bar, and the secondary items.
-use Rattle.std.proofs.Common.{◌≡◌, ℕ, ◌<◌, ◌≤◌, ◌^◌, List, [], ◌∷◌, ◌++◌, Bool, true, false, length}
-use Rattle.std.proofs.Common.{refl, ap, ◌∙◌, arith, map, drop, inl}
+use Rattle.std.proofs.Common.{◌≡◌, ℕ, ◌<◌, ◌≤◌, List, [], ◌∷◌, ◌++◌, Bool, true, false, length}
+use Rattle.std.proofs.Common.{refl, ap, arith, map, drop, inl}
 use Rattle.std.specs.Prelude.{decimal}
 use Rattle.std.specs.List.{AllByRecursion as Each, AllZip, list_any}
 use Rattle.std.specs.Char.{is_ascii_digit}
@@ -17,7 +17,7 @@ use Rattle.xc_input.specs.Named.{IsName, IsUnbroken}
 use Rattle.xc_input.specs.Sheets.{Entry}
 use Rattle.xc_input.specs.Text.{IsEntry}
 use Rattle.xc_input.proofs.WrittenTexts.Spaced.{IsWord, IsPart, no_bar-part}
-use Rattle.xc_input.proofs.WrittenTexts.Numerals.{number-decimal, are_digits-decimal, lacks-decimal}
+use Rattle.xc_input.proofs.Numerals.{number-decimal, are_digits-decimal, lacks-decimal}
 
 -- the bounds of an item, and a bar and its name after them
 abbrev pub bounds_word : Bounds → List ℕ

@@ -19,7 +19,7 @@ use Rattle.xc_input.specs.Words.{has}
 use Rattle.xc_input.specs.Tokens.{is_space}
 use Rattle.xc_list.proofs.CheckLemmas.CutBodies.{before_three}
 use Rattle.xc_list.proofs.Digits.{some_digits}
-use Rattle.xc_input.proofs.WrittenTexts.Numerals.{are_digits-decimal, digits, digits_read, lacks-decimal}
+use Rattle.xc_input.proofs.Numerals.{are_digits-decimal, digits, digits_read, lacks-decimal}
 use Rattle.xc_list.specs.ListingLines.{words_in, before_last, header_number, is_word}
 use Rattle.xc_list.specs.ListingLines.{is_ending, body_of_words}
 use Rattle.xc_list.specs.inner.ReadLines.{Header, Body, read}

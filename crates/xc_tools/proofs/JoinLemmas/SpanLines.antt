@@ -1,6 +1,6 @@
 -- A span's text is made of its lines.
 use Rattle.std.proofs.lemmas.Grind.{common_steps}
-use Rattle.std.proofs.Common.{◌≡◌, ℕ, ◌+◌, ◌^◌, ◌<◌, ◌≤◌, Bool, true, false, List, [], ◌∷◌, ◌++◌, Option, None, Some}
+use Rattle.std.proofs.Common.{◌≡◌, ℕ, ◌+◌, ◌^◌, ◌≤◌, Bool, true, false, List, [], ◌∷◌, ◌++◌, Option, None, Some}
 use Rattle.std.proofs.Common.{zero, suc}
 use Rattle.std.proofs.Common.{length, flat_map, refl, arith, append_assoc, map}
 use Rattle.std.specs.Prelude.{MatchOption, is_some}

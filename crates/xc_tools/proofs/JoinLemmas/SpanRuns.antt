@@ -28,7 +28,7 @@ use Rattle.xc_tools.specs.inner.SpanLines.{Join, Stand, goes, apart, stand_after
 use Rattle.xc_tools.specs.inner.SpanLines.{by_line}
 use Rattle.xc_tools.specs.inner.SpanLines.{Told, by_heading, by_last, by_record, closed, heading_of, is_header, meets}
 use Rattle.xc_tools.specs.inner.SpanLines.{record_of, saturating_number, step, wrote}
-use Rattle.xc_input.proofs.WrittenTexts.Numerals.{digits, digits_read}
+use Rattle.xc_input.proofs.Numerals.{digits, digits_read}
 use Rattle.xc_tools.proofs.JoinLemmas.SpanWords.{AreShort, AreShortIf, heading_line, heading-read}
 use Rattle.xc_tools.proofs.JoinLemmas.SpanWords.{record_line}
 use Rattle.xc_tools.proofs.JoinLemmas.SpanWords.{record-read, same}

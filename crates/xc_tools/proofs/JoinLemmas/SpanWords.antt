@@ -12,7 +12,7 @@ use Rattle.std.proofs.lemmas.Bool.{or_from}
 use Rattle.std.proofs.lemmas.Fmt.{decimal_injective, decimal_nonempty}
 use Rattle.std.proofs.lemmas.List.Folds.{list_any-append}
 use Rattle.std.proofs.lemmas.Slice.Eq.{bytes_eq-Decides}
-use Rattle.xc_input.proofs.WrittenTexts.Numerals.{digits, lacks-decimal}
+use Rattle.xc_input.proofs.Numerals.{digits, lacks-decimal}
 use Rattle.xc_input.proofs.WrittenTexts.Spaced.{split-front}
 use Rattle.xc_list.specs.ListingLines.{words_in}
 use Rattle.xc_list.specs.SpanTexts.{row_text, branches_text}
