@@ -9,7 +9,7 @@ use Rattle.xc_list.proofs.print.put_lines.Goals as goal
 
 pub loop-choice-init : goal.loop-choice-init
 loop-choice-init g c = record {
-  put = record { done = []; whole = refl; puts = (grind (arith, common_steps, took_nothing)) };
+  put = record { done = []; whole = refl; puts = grind (arith, common_steps, took_nothing) };
   known = c.requires.known;
   within = c.requires.within;
   size = c.requires.size;

@@ -47,7 +47,7 @@ returns-in_default g c =
     let went = went g (goal.at.returns-in_default g c).After-go_on-went in
     let ahead = c.loop-members.invariant.ahead in
     record {
-      still = (grind arith);
+      still = grind arith;
       wrote = (
         elim (halts c.go_on-went.result.halt c.in_default.not-Member) [
           | inl is ↦ to_end _ _ _ _ _ _ _ _ _ _ _ ahead went is
@@ -63,7 +63,7 @@ loop-members-preserved g c =
     let ms = left_of c.args.span.now in
     let text = rw c.choices.ensures at c.in_ok-write_afresh-in-Member.ensures.written in
     record {
-      still = (grind arith);
+      still = grind arith;
       ahead = (to_member _ _ _ _ _ _ _ _ _ _ _ c.loop-members.invariant.ahead (went g at)
           c.in-Member.is).1;
       taken = rw (texts_next (member_text c.args.bodies.now) ms c.loop-members.members (next g at c.in-Member.is))

@@ -55,7 +55,7 @@ loop-level-preserved g c =
     let ended : c.in-Some.level.now.count ≤ c.in-Some.level.now.begun = omega (arith, c.if-level.false) in
     record {
       goes_on = GoesOn-trans _ _ _ _ _ _ _ _ _ is.goes_on (back g c).0;
-      path = λ x u a. (grind arith);
+      path = λ x u a. grind arith;
       oldest = oldest_fewer c.in-Some.level.now _ _ _ c.in-Some.ensures.some
           (ap (λ (s : Levels). s.levels) c.pop.ensures) is.oldest;
       pays = λ m. Pays-trans (is.pays m) (pays_back c.loop-level.position c.end_level.new.position
