@@ -1,5 +1,5 @@
 -- How many moves a search has made once it went on.
-use Rattle.std.proofs.Common.{ℕ, ◌≡◌, ◌+◌, ◌*◌, ◌≤◌, length, ◌∙◌, arith}
+use Rattle.std.proofs.Common.{ℕ, ◌≡◌, ◌+◌, ◌*◌, ◌≤◌, length, arith}
 use Rattle.xc_input.specs.Problem.{Puzzle}
 use Rattle.xc_search.specs.Ends.{ends, ends_after}
 use Rattle.xc_search.specs.Listing.{whole}

@@ -1,6 +1,6 @@
 -- How far a run over a span comes, and what it wrote.
 use Rattle.std.specs.Prelude.{ℕ, ◌^◌, ◌-◌, ◌≤◌, ◌≡◌, ◌⊎◌, ◌==◌, false, List, Option, Some, None, IfSome, length}
-use Rattle.std.specs.Prelude.{[], true, Result, Ok, Err, if◌then◌else◌}
+use Rattle.std.specs.Prelude.{true, Result, Ok, Err, if◌then◌else◌}
 use Rattle.xc_input.specs.Problem.{Puzzle}
 use Rattle.xc_input.specs.Named.{Named}
 use Rattle.xc_search.specs.Listing.{whole}

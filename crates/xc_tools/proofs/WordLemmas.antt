@@ -1,5 +1,5 @@
 -- The words of a command line, as far as they were taken.
-use Rattle.std.proofs.Common.{◌≡◌, ◌∙◌, ◌≤◌, ◌+◌, ℕ, List, [], ◌∷◌, ◌++◌, Option, None, Some, IfSome, arith}
+use Rattle.std.proofs.Common.{◌≡◌, ◌≤◌, ◌+◌, ℕ, List, [], ◌∷◌, ◌++◌, Option, None, Some, IfSome, arith}
 use Rattle.std.proofs.Common.{drop, take, map, refl, sym, subst}
 use Rattle.std.specs.Prelude.{slice_get, Result, Ok, Err, MatchResult, is_err, false, All, zero, suc}
 use Rattle.std.proofs.lemmas.List.Elements.{All-append}

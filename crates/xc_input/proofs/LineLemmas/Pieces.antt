@@ -1,7 +1,7 @@
 -- What a source gave, piece after piece.
 use Rattle.std.proofs.lemmas.Bool.Decides.{nat_tests}
 use Rattle.std.proofs.Common.{◌≡◌, ℕ, ◌<◌, List, [], ◌∷◌, ◌++◌, Some, Result, Ok, Err, IfOk}
-use Rattle.std.proofs.Common.{◌∙◌, IfErr, length, refl, sym, append_assoc, append-nil, arith, inl, inr}
+use Rattle.std.proofs.Common.{IfErr, length, refl, sym, append_assoc, append-nil, arith, inl, inr}
 use Rattle.xc_input.proofs.LineLemmas.TextLines.{last-of-part, lines_of-all}
 use Rattle.xc_input.specs.inner.EndedLines.{ended}
 use Rattle.std.specs.Result.{result_err}

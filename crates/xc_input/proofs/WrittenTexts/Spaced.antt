@@ -1,5 +1,5 @@
 -- Words with a space before each: the tokens of such a line are these words.
-use Rattle.std.proofs.Common.{◌≡◌, ℕ, ◌<◌, ◌+◌, List, [], ◌∷◌, ◌++◌, Bool, true, false, length, refl, ◌∙◌, arith}
+use Rattle.std.proofs.Common.{◌≡◌, ℕ, ◌<◌, List, [], ◌∷◌, ◌++◌, Bool, true, false, length, refl, arith}
 use Rattle.std.proofs.Common.{filter, flat_map, nat_lt, nat_eq}
 use Rattle.std.specs.List.{AllByRecursion as Each, list_any, slice_split, position_or_len}
 use Rattle.std.specs.List.{before_first, after_first}

@@ -1,6 +1,6 @@
 -- What a search pays for, from one member to another.
 use Rattle.std.proofs.Common.{ℕ, zero, suc, ◌≡◌, ◌+◌, ◌≤◌, Bool, true, false, List, [], ◌∷◌}
-use Rattle.std.proofs.Common.{None, refl, ◌∙◌, arith}
+use Rattle.std.proofs.Common.{None, refl, arith}
 use Rattle.xc_dance.specs.declared.dance.Move.{Move}
 use Rattle.xc_input.specs.Problem.{Puzzle}
 use Rattle.xc_dance.specs.Dancing.{Dancing, moves_made}

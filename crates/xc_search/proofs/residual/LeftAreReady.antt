@@ -1,7 +1,7 @@
 -- The uses of an option that is left are ready to be committed.
 use Rattle.xc_dance.proofs.MoveLemmas.ListLemmas.{primary_pure}
 use Rattle.xc_search.specs.inner.Levels.{AreAllWanted}
-use Rattle.std.proofs.Common.{ℕ, ◌≡◌, ◌<◌, ◌≤◌, Bool, true, false, leb, List, []}
+use Rattle.std.proofs.Common.{ℕ, ◌≡◌, ◌<◌, Bool, true, false, leb, List, []}
 use Rattle.std.proofs.Common.{◌∷◌, filter, find, Some, None, refl, ap, ◌∙◌, arith, subst, eqb-true, ltb-true}
 use Rattle.std.proofs.Common.{leb-true}
 use Rattle.std.proofs.lemmas.Bool.{leb-false}

@@ -1,5 +1,5 @@
 -- The steps of a search of a span.
-use Rattle.std.proofs.Common.{ℕ, ◌≡◌, ◌<◌, Bool, true, false, List, Option, refl, arith}
+use Rattle.std.proofs.Common.{ℕ, Bool, true, false, List, Option, refl, arith}
 use Rattle.xc_dance.specs.Dancing.{Dancing}
 use Rattle.xc_search.specs.inner.Residual.{residual_of}
 use Rattle.xc_search.specs.inner.Levels.{Levels, IsStanding, coming}

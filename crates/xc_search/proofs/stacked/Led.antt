@@ -1,5 +1,5 @@
 -- The levels of a search lead to where it stands.
-use Rattle.std.proofs.Common.{◌≡◌, ◌+◌, ◌-◌, Bool, List, ◌∷◌, arith}
+use Rattle.std.proofs.Common.{Bool, List, ◌∷◌, arith}
 use Rattle.xc_dance.specs.declared.dance.Move.{Move}
 use Rattle.xc_search.specs.declared.level.Level.{Level}
 use Rattle.xc_input.specs.Problem.{Puzzle}

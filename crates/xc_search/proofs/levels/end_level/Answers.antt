@@ -1,4 +1,4 @@
-use Rattle.std.proofs.Common.{arith, ◌+◌, ◌-◌, ◌∙◌}
+use Rattle.std.proofs.Common.{arith}
 use Rattle.xc_search.specs.inner.Commits.{oldest}
 use Rattle.xc_search.proofs.stacked.LoopSteps.{ended_level}
 use Rattle.xc_search.proofs.stacked.BackAtLevel.{ends_tweaks}
