@@ -1,7 +1,6 @@
 //! What is there for callers: the room of a search, and searches with no counting.
-use fixtures::{SEVEN, THREE_ALIKE, on_problem};
+use fixtures::{SEVEN, THREE_ALIKE, on_one, on_problem};
 use std::alloc::{AllocError, Global};
-use std::test::Fail;
 use xc_dance::{Dance, Links, Lists, Memory};
 use xc_input::{Kind, Problem};
 use xc_search::{Choice, Halt, RowNumber, Search, Step, Went, laws, most_moves};
@@ -112,16 +111,22 @@ fn passed_in_all(alloc: Global, problem: &Problem) -> Option<u64> {
     Some(passed)
 }
 
+/// Whether a search passes over as many solutions as one item has equal options.
+fn passes_over_all(alloc: Global, text: &[u8], options: u64) -> bool {
+    on_problem(alloc, Kind::Plain, text, |problem| {
+        passed_in_all(alloc, problem) == Some(options)
+    })
+}
+
 #[test]
-fn a_search_of_many_options(rt: HostRuntime) -> Result<(), Fail> {
+fn a_search_of_many_options(rt: HostRuntime) {
     let alloc = rt.alloc();
-    let text = all_alike(alloc, 20_000)?;
     assert!(rt;
-        on_problem(alloc, Kind::Plain, &text, |problem| {
-            passed_in_all(alloc, problem) == Some(20_000)
-        })
+        on_one(
+            all_alike(alloc, 20_000).ok(),
+            |text| passes_over_all(alloc, text, 20_000)
+        )
     );
-    Ok(())
 }
 
 /// A choice of branch `k` of two.
