@@ -31,7 +31,7 @@ help:
 
 run: dlx1 ## build dlx1 and solve examples/seven.dlx
 	bin/dlx1 m1 < examples/seven.dlx
-test: ## the merge gate: proofs, wrong bodies, tests, programs
+test: bin ## the merge gate: proofs, wrong bodies, tests, programs
 	@sh tests/gate.sh
 	@sh tests/statuses.sh
 	@$(MAKE) -s --no-print-directory bin
@@ -80,17 +80,24 @@ test-bench: ## test the scripts that measure
 	@python3 scripts/bench/test_bench.py
 
 # What was built of these sources, here or by the gate, is taken as it is.
-all: bin ## build all programs, from nothing about a quarter of an hour
+all: ## build all programs, from nothing about a quarter of an hour
 	@scripts/build $(PROGRAMS) $(SPAN_CRATES)
-$(PROGRAMS) $(SPAN_CRATES): bin
+	@$(MAKE) -s --no-print-directory bin
+$(PROGRAMS) $(SPAN_CRATES):
 	@scripts/build $@
+	@$(MAKE) -s --no-print-directory bin
 
-# `bin` has links to the programs and scripts, by the names that they have when installed.
-bin: ## link the programs and scripts
+# `bin` has the scripts, and the programs that are built, by the names that they have when installed. They are copies:
+# `rt ci` refuses a tree with links in its folders. A program that is running is replaced, not written into.
+bin: ## copy the programs and scripts to bin
 	@mkdir -p bin
-	@for program in $(PROGRAMS); do ln -sfn ../crates/$$program/out/$$program bin/$$program || exit 1; done
-	@for name in $(SPANS); do ln -sfn ../crates/dlx_$$name/out/dlx_$$name bin/dlx-$$name || exit 1; done
-	@for script in dlx-progress helgrothy; do ln -sfn ../scripts/helgrothy bin/$$script || exit 1; done
+	@find bin -type l -exec rm {} +
+	@copy() { \
+	    [ ! -e "$$1" ] || cmp -s "$$1" "bin/$$2" || { cp "$$1" "bin/.$$2.new" && mv -f "bin/.$$2.new" "bin/$$2"; }; \
+	}; \
+	for program in $(PROGRAMS); do copy crates/$$program/out/$$program $$program || exit 1; done; \
+	for name in $(SPANS); do copy crates/dlx_$$name/out/dlx_$$name dlx-$$name || exit 1; done; \
+	for script in dlx-progress helgrothy; do copy scripts/helgrothy $$script || exit 1; done
 
 # The library for C is the crate with the toolchain's three calls of malloc, in one object that tells no other names, as
 # an archive and as a shared library.
@@ -109,6 +116,7 @@ copy = find -L $(1) -type f ! -name '*.pyc' -exec sh -c \
     'for file; do install -D -m 644 "$$file" "$(2)/$$file" || exit 1; done' copy {} +
 
 install: bin install-lib ## install under PREFIX, in DESTDIR
+	@for command in $(COMMANDS); do [ -x bin/$$command ] || { echo "bin/$$command isn't built: run make all" >&2; exit 1; }; done
 	install -d "$(DESTDIR)$(bindir)" "$(DESTDIR)$(mandir)/man1" "$(DESTDIR)$(mandir)/man5" "$(DESTDIR)$(completiondir)"
 	for command in $(COMMANDS); do install -m 755 bin/$$command "$(DESTDIR)$(bindir)/" || exit 1; done
 	for page in man/*.[15]; do \

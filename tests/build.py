@@ -77,7 +77,8 @@ class Whole(unittest.TestCase):
         self.top = Path(tempfile.mkdtemp())
         self.addCleanup(shutil.rmtree, self.top)
         (self.top / "scripts").mkdir()
-        shutil.copy(TOP / "scripts" / "build", self.top / "scripts")
+        for name in ("build", "helgrothy"):
+            shutil.copy(TOP / "scripts" / name, self.top / "scripts")
         for name in ("Makefile", "VERSION", "crates.txt"):
             shutil.copy(TOP / name, self.top)
         for crate in (TOP / "crates").iterdir():
@@ -104,7 +105,27 @@ class Whole(unittest.TestCase):
         # A line for each library, one for the programs, and one for each of them.
         self.assertEqual(len(told), len(self.calls()) + 1)
         self.assertLessEqual(len(told), 40)
-        self.assertTrue((self.top / "bin" / "dlx-span").exists())
+        # The gate takes no links in the tree, and has the programs' own folders for itself while it runs.
+        for name in ("dlx1", "dlx-span", "helgrothy"):
+            self.assertTrue((self.top / "bin" / name).is_file() and not (self.top / "bin" / name).is_symlink())
+            self.assertTrue(os.access(self.top / "bin" / name, os.X_OK))
+
+    def test_bin_has_what_was_built_last_and_no_links(self) -> None:
+        self.make()
+        (self.top / "crates" / "dlx_join" / "out" / "dlx_join").write_text("another program")
+        (self.top / "bin" / "dlx1").unlink()
+        (self.top / "bin" / "dlx1").symlink_to("../crates/dlx1/out/dlx1")
+        (self.top / "bin" / "left").symlink_to("nowhere")
+        subprocess.run(["make", "-s", "bin"], cwd=self.top, check=True, env={**os.environ, "MAKEFLAGS": ""})
+        self.assertEqual((self.top / "bin" / "dlx-join").read_text(), "another program")
+        self.assertEqual([it for it in (self.top / "bin").iterdir() if it.is_symlink()], [])
+        self.assertTrue((self.top / "bin" / "dlx1").is_file())
+
+    def test_nothing_is_installed_before_it_is_built(self) -> None:
+        words = ["make", "install", f"DESTDIR={self.top / 'to'}"]
+        ran = subprocess.run(words, cwd=self.top, capture_output=True, text=True, env={**os.environ, "MAKEFLAGS": ""})
+        self.assertIn("bin/dlx1 isn't built: run make all\n", ran.stderr)
+        self.assertFalse((self.top / "to").exists())
 
     def test_behind_the_gate_nothing_is_built(self) -> None:
         names = ["dlx1", "dlx2", "dlx3", "dlxcheck", "dlx_span", "dlx_join"]
