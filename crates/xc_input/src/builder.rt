@@ -40,6 +40,7 @@ impl ProblemBuilder {
         ensures sound { IsBuilder result }
         ensures stage { stage_of_builder result ≡ no_stage }
         ensures seed { hasher_of result.tables.names ≡ seed }
+        ensures colour_seed { hasher_of result.tables.colours ≡ seed }
     {
         ProblemBuilder {
             started: false,
@@ -93,6 +94,7 @@ impl ProblemBuilder {
             line.now)) }
         ensures no_memory { (has 0 line.now || is_skipped line.now) ≡ true → result_err result ≢ Some LineError.Memory }
         ensures seed { hasher_of self.new.tables.names ≡ hasher_of self.old.tables.names }
+        ensures colour_seed { hasher_of self.new.tables.colours ≡ hasher_of self.old.tables.colours }
     {
         if has_byte(line, 0) {
             return Err(LineError::Fault(FaultKind::NulByte));
@@ -120,6 +122,7 @@ impl ProblemBuilder {
               ignored = self.old.ignored.items;
             })) }
         ensures seed { hasher_of self.new.tables.names ≡ hasher_of self.old.tables.names }
+        ensures colour_seed { hasher_of self.new.tables.colours ≡ hasher_of self.old.tables.colours }
     {
         let row = item_line(alloc, *self.tables.names.hasher(), kind, line)?;
         let starts = vec![in alloc; 0]?;
@@ -147,6 +150,7 @@ impl ProblemBuilder {
             (IsBuilder self.new × (stage_of_builder self.new ≡ with_option count (stage_of_builder self.old)
             (written_by (sheet_of_builder self.old) line.now))) }
         ensures seed { hasher_of self.new.tables.names ≡ hasher_of self.old.tables.names }
+        ensures colour_seed { hasher_of self.new.tables.colours ≡ hasher_of self.old.tables.colours }
     {
         let start = self.tables.uses.len();
         let met = self.tables.colours.len();

@@ -6,6 +6,7 @@ ghost use Rattle.xc_input.specs.Sheets.{with_colour, colour_number};
 ghost use Rattle.xc_input.specs.Words.{place};
 ghost use Rattle.xc_input.specs.inner.Builders.{Judged, AreDistinct};
 ghost use Rattle.xc_input.specs.inner.Stored.{key_names};
+ghost use Rattle.indexmap.specs.IndexSet.{hasher_of};
 
 use crate::guess::ColourGuesses;
 use crate::line_error::LineError;
@@ -69,6 +70,7 @@ pub fn number_colour(
     ensures colours { OnOk result (key_names colours.new.keys ≡ with_colour (key_names colours.old.keys) colour.now) }
     ensures distinct { OnOk result (AreDistinct (key_names colours.new.keys)) }
     ensures number { IfOk result (λ n. n ≡ colour_number (key_names colours.new.keys) colour.now) }
+    ensures seed { hasher_of colours.new ≡ hasher_of colours.old }
 {
     if colour.is_empty() {
         return Ok(0);

@@ -15,6 +15,7 @@ ghost use Rattle.xc_input.specs.inner.Builders.{AreTables, AreSameItems, AreDist
 ghost use Rattle.xc_input.specs.inner.Builders.{written_of};
 ghost use Rattle.xc_input.specs.inner.CutTokens.{IsCutToken};
 ghost use Rattle.xc_input.specs.inner.Stored.{key_names};
+ghost use Rattle.indexmap.specs.IndexSet.{hasher_of};
 
 use crate::colours::number_colour;
 use crate::item_line::name_fault;
@@ -115,6 +116,7 @@ impl Tables {
             (key_names self.new.colours.keys ≡ with_uses (key_names self.old.colours.keys)
             (map (written (key_names self.old.names.keys)) (tokens line.now))) }
         ensures same { AreSameItems self.old self.new }
+        ensures colour_seed { hasher_of self.new.colours ≡ hasher_of self.old.colours }
     {
         let start = self.uses.len();
         let mut rest = line;
@@ -141,6 +143,7 @@ impl Tables {
         ensures distinct { OnOk result (AreDistinct (key_names self.new.colours.keys)) }
         ensures marks { self.new.marks ≡ self.old.marks }
         ensures same { AreSameItems self.old self.new }
+        ensures colour_seed { hasher_of self.new.colours ≡ hasher_of self.old.colours }
     {
         let item = written.item;
         let colour = number_colour(

@@ -12,6 +12,7 @@ ghost use Rattle.xc_input.specs.inner.Vectors.{IsOptional, AreOptionStarts, name
 ghost use Rattle.xc_input.specs.Named.{Named, AreColoursKnown, IsKnownUse, IsWellNamed, IsName, IsColour, IsSound};
 ghost use Rattle.xc_input.specs.Words.{place};
 ghost use Rattle.xc_input.specs.inner.Stored.{key_names};
+ghost use Rattle.indexmap.specs.IndexSet.{hasher_of};
 
 use crate::names::{NameSet, number_of_name};
 use crate::options::Options;
@@ -72,6 +73,7 @@ impl Model for Problem {
     ghost use Rattle.xc_input.specs.Named.{Named, IsSound};
     ghost use Rattle.xc_input.specs.inner.Vectors.{IsOptional, AreOptionStarts, named_from};
     ghost use Rattle.xc_input.specs.inner.Stored.{key_names};
+    ghost use Rattle.indexmap.specs.IndexSet.{hasher_of};
 
     ghost Value = { Named };
 
@@ -83,6 +85,7 @@ impl Model for Problem {
       secondary : All IsOptional (drop p.primary p.items.items);
       starts : AreOptionStarts p.starts.items p.uses.items;
       sound : IsSound (named_from p.items.items p.primary p.uses.items p.starts.items p.colours.keys);
+      seed : hasher_of p.colours ≡ hasher_of p.names;
     } };
 }
 
@@ -100,6 +103,7 @@ impl Problem {
         requires secondary { All IsOptional (drop primary items.items) }
         requires starts { AreOptionStarts starts.items uses.items }
         requires sound { IsSound (named_from items.items primary uses.items starts.items colours.keys) }
+        requires seed { hasher_of colours ≡ hasher_of names }
         ensures { result ≡ named_from items.items primary uses.items starts.items colours.keys }
     {
         Problem {

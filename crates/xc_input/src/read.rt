@@ -17,8 +17,8 @@ use std::alloc::{AllocError, Global};
 /// How many bytes are read from a source at once.
 const PIECE: usize = 65536;
 
-/// Reads the source to its end, or to the first error. Names are hashed by the source's seed, and what
-/// is read is the same by each.
+/// Reads the source to its end, or to the first error. Names and colours are hashed by the source's
+/// seed, and what is read is the same by each.
 pub fn read_problem<S: Source>(
     alloc: Global,
     kind: Kind,

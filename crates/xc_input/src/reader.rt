@@ -52,7 +52,7 @@ impl Model for Reader {
 
     ghost view = { λ r. record {
       kind = r.kind;
-      seed = hasher_of r.builder.tables.names;
+      seeds = (hasher_of r.builder.tables.names, hasher_of r.builder.tables.colours);
       lines = r.given.lines;
       error = r.error;
     } };
@@ -67,7 +67,7 @@ impl Reader {
     /// A reader whose tables hash by the fixed seed.
     pub fn new(alloc: Global, kind: Kind) -> Reader
         ensures kind { result.kind ≡ kind }
-        ensures seed { result.seed ≡ Seed.FIXED }
+        ensures seeds { result.seeds ≡ (Seed.FIXED, Seed.FIXED) }
         ensures lines { result.lines ≡ [] }
         ensures error { result.error ≡ None }
     {
@@ -77,7 +77,7 @@ impl Reader {
     /// A reader whose tables hash by this seed. What it reads is the same by each seed.
     pub fn with_seed(alloc: Global, kind: Kind, seed: Seed) -> Reader
         ensures kind { result.kind ≡ kind }
-        ensures seed { result.seed ≡ seed }
+        ensures seeds { result.seeds ≡ (seed, seed) }
         ensures lines { result.lines ≡ [] }
         ensures error { result.error ≡ None }
     {
@@ -97,7 +97,7 @@ impl Reader {
     pub fn line(&mut self, line: &[u8]) -> Result<(), InputError>
         requires { has 10 line.now ≡ false }
         ensures kind { self.new.kind ≡ self.old.kind }
-        ensures seed { self.new.seed ≡ self.old.seed }
+        ensures seeds { self.new.seeds ≡ self.old.seeds }
         ensures given { self.new.lines ≡ self.old.lines ++ line.now ∷ [] }
         ensures error { self.new.error ≡ result_err result }
         ensures state { IsStateOf self.new.kind self.new.lines (result_err result) }

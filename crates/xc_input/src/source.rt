@@ -32,8 +32,8 @@ pub trait Source {
         ensures given { IfOk result (λ n. (state self.new).given ≡ (state self.old).given ++ take n buf.new ∷ []) }
         ensures given_kept { OnErr result ((state self.new).given ≡ (state self.old).given) };
 
-    /// The seed by which the names in its text are hashed: the fixed one, unless the source says
-    /// otherwise, as those of the programs do, whose texts may be written to be slow.
+    /// The seed by which the names and colours in its text are hashed: the fixed one, unless the source
+    /// says otherwise, as those of the programs do, whose texts may be written to be slow.
     // The source has it, since whoever makes it knows where its text comes from. Provided, since to require it would
     // break the sources that callers have; `Seeded` adds one to any of them.
     fn seed(&self) -> Seed {

@@ -32,6 +32,7 @@ impl Tables {
         ensures seed { hasher_of result.names ≡ seed }
         ensures primary { result.primary ≡ 0 }
         ensures colours { result.colours.keys ≡ [] }
+        ensures colour_seed { hasher_of result.colours ≡ seed }
         ensures uses { result.uses.items ≡ [] }
     {
         Tables {
@@ -53,6 +54,7 @@ impl Tables {
         ensures names { IfOk result (λ t. t.names ≡ names) }
         ensures primary { IfOk result (λ t. t.primary ≡ primary) }
         ensures colours { IfOk result (λ t. t.colours.keys ≡ []) }
+        ensures colour_seed { IfOk result (λ t. hasher_of t.colours ≡ hasher_of names) }
         ensures uses { IfOk result (λ t. t.uses.items ≡ []) }
     {
         let guesses = Guesses::new(alloc, &names)?;

@@ -37,8 +37,8 @@ refutes kind lines Memory h f p ig s = absurd (f refl)
 by-builder : (d : ProblemBuilder) → named_of (sheet_of_builder d) ≡ named_by d
 by-builder d = grind (arith, item-names, length-map, take-map, map-map, nat_tests)
 
-module _ {v : Reading} {kind : Kind} {seed : Seed} {lines : List (List ℕ)} {o : Option InputError}
-    (is : v ≡ record { kind = kind; seed = seed; lines = lines; error = o }) (h : IsStateOf kind lines o) where
+module _ {v : Reading} {kind : Kind} {seeds : Seed × Seed} {lines : List (List ℕ)} {o : Option InputError}
+    (is : v ≡ record { kind = kind; seeds = seeds; lines = lines; error = o }) (h : IsStateOf kind lines o) where
   -- what a reading stands for, its lines do
   StandsFor-given : {p : Named} {ig : List ℕ} → StandsFor v.kind v.lines p ig → StandsFor kind lines p ig
   StandsFor-given {p} {ig} = subst (λ (r : Reading). StandsFor r.kind r.lines p ig) is
@@ -80,4 +80,5 @@ module _ {v : Reading} {kind : Kind} {seed : Seed} {lines : List (List ℕ)} {o 
           let names = whole.0.names ∙ item-names d.items.items in
           let items = behind-bounds kind d.items.items stood.0 in
           let starts = whole.0.starts g in
-          let holds = is-sound w in search
+          let holds = is-sound w in
+          let seed = whole.0.tables.seed in search

@@ -16,7 +16,7 @@ use Rattle.xc_input.specs.declared.builder.ProblemBuilder.{ProblemBuilder}
 use Rattle.xc_input.specs.declared.tables.Tables.{Tables}
 use Rattle.xc_input.specs.declared.item_line.ItemLine.{ItemLine}
 use Rattle.xc_input.specs.declared.seed.Seed.{Seed}
-use Rattle.indexmap.specs.IndexSet.{IndexSet}
+use Rattle.indexmap.specs.IndexSet.{IndexSet, hasher_of}
 use Rattle.xc_input.specs.inner.Sheets.{names_of}
 use Rattle.xc_input.specs.Words.{place}
 use Rattle.xc_input.specs.Tokens.{tokens}
@@ -136,6 +136,7 @@ module _ (kind : Kind) {d : ProblemBuilder} (line : List ℕ) (s : IsBuilder d) 
 
       pub left-out : b ≡ false → {kept_uses : Vec Use Global} → kept_uses.items ≡ take start new
           → {kept_colours : IndexSet (Vec ℕ Global) Seed}
+          → hasher_of kept_colours ≡ hasher_of tables.colours
           → {m : ℕ} → kept_colours.keys ≡ take m tables.colours.keys
           → m ≡ length d.tables.colours.keys → {ignored : Vec ℕ Global}
           → ignored.items ≡ d.ignored.items ++ count ∷ []
@@ -143,7 +144,7 @@ module _ (kind : Kind) {d : ProblemBuilder} (line : List ℕ) (s : IsBuilder d) 
             tables = record tables { uses = kept_uses; colours = kept_colours };
             ignored = ignored;
           })
-      left-out e {kept_uses} cut {kept_colours} {m} keys n {ignored} more =
+      left-out e {kept_uses} cut {kept_colours} seed {m} keys n {ignored} more =
           let old : kept_uses.items ≡ d.tables.uses.items = grind (arith, take-append_seam) in
           let first = first_met (key_names d.tables.colours.keys) us in
           let known : key_names kept_colours.keys ≡ key_names d.tables.colours.keys =
@@ -158,6 +159,7 @@ module _ (kind : Kind) {d : ProblemBuilder} (line : List ℕ) (s : IsBuilder d) 
                 unmarked = sound.unmarked;
                 few_colours = rw (old, known) s.tables.few_colours;
                 distinct_colours = rw known s.tables.distinct_colours;
+                seed = seed ∙ sound.seed;
               };
               few_uses = rw old s.few_uses;
               starts = λ f. rw old (s.starts f);

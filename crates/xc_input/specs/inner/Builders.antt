@@ -22,6 +22,7 @@ use Rattle.xc_input.specs.inner.Stages.{Stage, Row}
 use Rattle.xc_input.specs.Sheets.{Entry, Written}
 use Rattle.xc_input.specs.inner.Sheets.{Sheet, names_of}
 use Rattle.xc_input.specs.Limits.{most_items, most_uses}
+use Rattle.indexmap.specs.IndexSet.{hasher_of}
 
 -- the answer to what has this first fault
 abbrev pub Judged : {T : Type 0} → Option FaultKind → Result T LineError → Type 0
@@ -78,6 +79,7 @@ pub record AreTables (t : Tables) : Type 0 where
   pub unmarked : AreMarks t.marks.items []
   pub few_colours : length (key_names t.colours.keys) ≤ length t.uses.items
   pub distinct_colours : AreDistinct (key_names t.colours.keys)
+  pub seed : hasher_of t.colours ≡ hasher_of t.names
 
 -- the tables are of the same items
 pub record AreSameItems (t u : Tables) : Type 0 where
@@ -118,6 +120,7 @@ pub record IsReadable (d : ProblemBuilder) : Type 0 where
   pub secondary : All IsOptional (drop d.tables.primary d.items.items)
   pub starts : AreOptionStarts d.starts.items d.tables.uses.items
   pub sound : IsSound (named_by d)
+  pub seed : hasher_of d.tables.colours ≡ hasher_of d.tables.names
 
 -- the error of the line of this number
 abbrev pub error_at : ℕ → LineError → InputError

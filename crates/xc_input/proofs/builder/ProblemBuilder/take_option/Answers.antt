@@ -28,8 +28,8 @@ returns-then-not-has_primary_use-clause-taken c =
     left-out c.args.kind c.args.line.now c.requires.sound c.requires.started o.uses
     (rw o.same.primary at c.has_primary_use.ensures) c.deref.ensures.value
     (c.len-start.ensures ∙ items-length c.args.self.now.tables.uses) c.args.count o.same o.sound refl o.colours
-    c.if-not-has_primary_use.true c.truncate.ensures.items c.truncate-then-not-has_primary_use.ensures.keys
-    c.len-met.ensures.len (rw c.in_ok-push.was at c.push.ensures.items)
+    c.if-not-has_primary_use.true c.truncate.ensures.items c.truncate-then-not-has_primary_use.ensures.room.1
+    c.truncate-then-not-has_primary_use.ensures.keys c.len-met.ensures.len (rw c.in_ok-push.was at c.push.ensures.items)
 
 pub returns-then-len-gt-MOST_USES-clause-judged : goal.returns-then-len-gt-MOST_USES-clause-judged
 returns-then-len-gt-MOST_USES-clause-judged c =

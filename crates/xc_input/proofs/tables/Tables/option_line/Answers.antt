@@ -45,6 +45,7 @@ loop-token-preserved c =
       named = rw more.same.names i.named;
       few_items = rw more.same.names i.few_items;
       words = rw (more.same.names, more.same.guesses) i.words;
+      colour_seed = more.colour_seed ∙ i.colour_seed;
       behind = rw (more.same.names, more.same.primary, more.marks) (behind_more b c.in-Some.ensures.1 is
           (rw lent at c.in_ok-written.ensures.within) (rw lent at c.in_ok-written.ensures.unmarked) more.added
           more.colours more.distinct);

@@ -1,10 +1,11 @@
-use Rattle.std.proofs.Common.{length, ◌≤◌}
+use Rattle.std.proofs.Common.{◌≡◌, length, ◌≤◌}
 use Rattle.xc_input.specs.Limits.{most_items}
 use Rattle.xc_input.specs.Tokens.{tokens}
 use Rattle.xc_input.specs.inner.Builders.{AreNames, AreSameItems}
 use Rattle.xc_input.specs.inner.GuessedWords.{AreWords}
 use Rattle.xc_input.specs.inner.Stored.{key_names}
 use Rattle.xc_input.proofs.OptionSteps.{IsBehind}
+use Rattle.indexmap.specs.IndexSet.{hasher_of}
 use Rattle.xc_input.proofs.tables.Tables.option_line.Given as goal
 
 abbrev pub invariant-loop-token : goal.invariant-loop-token
@@ -13,6 +14,7 @@ invariant-loop-token l = record {
   named : AreNames (key_names l.self.names.keys);
   few_items : length l.self.names.keys ≤ most_items;
   words : AreWords (key_names l.self.names.keys) l.self.guesses.words.items;
+  colour_seed : hasher_of l.self.colours ≡ hasher_of l.fn.self.colours;
   behind : IsBehind l.kind (key_names l.self.names.keys) l.self.primary (tokens l.line) (tokens l.rest)
       (key_names l.fn.self.colours.keys) l.fn.self.uses.items l.self.marks.items (key_names l.self.colours.keys)
       l.self.uses.items;
