@@ -1,19 +1,22 @@
 #!/usr/bin/env python3
 """programs.py [DIR]: tries the built programs on want of memory, on failing calls and streams, and on input made to hurt.
 
-DIR holds dlx1, dlx2, dlx3 and dlxcheck; without it they are taken from where `make test` leaves them. Each try that
-goes wrong is told in a line. The last line is `N passed, M failed`. Needs cc for the parts that refuse memory and let calls fail.
+DIR holds dlx1, dlx2, dlx3, dlxcheck and dlx-span; without it they are taken from where `make test` leaves them. Each
+try that goes wrong is told in a line. The last line is `N passed, M failed`. Needs cc for the parts that refuse memory
+and let calls fail.
 """
 import errno
 import fcntl
 import os
-import random
 import select
 import socket
 import subprocess
 import sys
 import tempfile
 import time
+from pathlib import Path
+
+from collisions import MOST, ratios
 
 HERE = os.path.dirname(os.path.abspath(__file__))
 TOP = os.path.dirname(os.path.dirname(HERE))
@@ -267,37 +270,10 @@ def seen_at_once():
         tell(seen == solution and is_searching, f"a solution before a long search, into {what}: {seen[:80]!r}")
 
 
-def alike_in_base_257(count):
-    """Names of 32 bytes that are one number in base 257, modulo 2^64: a hash by that number puts them in one place."""
-    zero = [1]  # a polynomial with small coefficients that 2^64 divides at 257: 256 divides 257 - 1, and so on
-    for power in (1, 1, 2, 2, 4, 4, 8):
-        zero = [(zero[k - power] if k >= power else 0) - (zero[k] if k < len(zero) else 0) for k in range(len(zero) + power)]
-    names, some = set(), random.Random(1)
-    while len(names) < count:
-        name = [150] * 32
-        for shift in range(33 - len(zero)):
-            times = some.choice((-2, -1, 0, 1, 2))
-            for k, factor in enumerate(zero):
-                name[shift + k] += times * factor
-        if all(96 < byte < 256 and byte != 124 for byte in name):
-            names.add(bytes(name))
-    return sorted(names)
-
-
-def chosen_names():
-    """Names that were chosen to have one hash are read in at most three times the time of names by chance."""
-    def least(names):
-        text, times = b" ".join(names) + b"\nunknown\n", []
-        for _ in range(7):
-            start = time.perf_counter()
-            run(["dlx1"], text)
-            times.append(time.perf_counter() - start)
-        return min(times)
-
-    some = random.Random(2)
-    chance = [bytes(some.choice(b"abcdefghijklmnopqrstuvwxyz") for _ in range(32)) for _ in range(60000)]
-    chosen, usual = least(alike_in_base_257(60000)), least(chance)
-    tell(chosen <= 3 * usual, f"names of one hash: {chosen / usual:.1f} times the time of others")
+def chosen_words():
+    """Names and colours that collide under the fixed seed are read in at most three times the time of words by chance."""
+    for what, ratio in ratios(Path(PROGRAMS) if PROGRAMS else None):
+        tell(ratio <= MOST, f"{what} that collide under the fixed seed: {ratio:.1f} times the time of others")
 
 
 def cut_at_each_byte():
@@ -404,7 +380,7 @@ def main():
     with tempfile.TemporaryDirectory(prefix="hostile-") as folder:
         for part in (want_of_memory, failing_calls, listing_cut_at_each_byte, deep, streams):
             part(folder)
-        for part in (lines_in_one_write, seen_at_once, chosen_names, large_inputs, long_tokens, cut_at_each_byte):
+        for part in (lines_in_one_write, seen_at_once, chosen_words, large_inputs, long_tokens, cut_at_each_byte):
             part()
     print(f"{tried['passed']} passed, {tried['failed']} failed")
     return 1 if tried["failed"] else 0

@@ -4,38 +4,41 @@ ghost use Rattle.std.specs.Prelude.{Some};
 use crate::told::Told;
 use fixtures::{SEVEN, SEVEN_LISTING, gathered, has_option, on_one, on_read, on_source};
 use std::alloc::{AllocError, Global};
+use std::hash::BuildHasher;
 use std::test::Fail;
 use xc_input::{Feed, Kind, Problem, ReadFailed, Reader, Seed, Seeded, SliceSource, Source};
 use xc_tools::{Incoming, RandomBytes, judge, random_seed, solve};
 
-/// Names of one hash in base 257 modulo 2^64, and an option of each.
-const ONE_HASH: [&[u8]; 3] = [
-    b"\x94\x96\x9e\x96\x8e\x98\x8d\x90\xaf\x93\x89\xb2\x7f\x80\xc3v\x8a\xcch\x92\xc4p\x9b\xac{\x9b\xa1\x8e\x97\x98\x95\x96",
-    b"\x94\x96\x9e\x96\x8e\x99\x8c\x8c\xb3\x97\x85\xb2\x7f\x84\xbdt\x96\xb0t\xb6\xa0}\xaa\x80\x8b\xab\x91\x9a\x9b\x8e\x95\x98",
-    b"\x94\x96\x9e\x96\x8e\x99\x8e\x88\xab\xab\x8b\x92\x90\x86\x9c\xa2\x9e\x88\x90\xb6\x82\x81\xb2\x88\x93\xaf\x87\x8a\xa0\x98\x94\x96",
-];
+/// Names whose hashes by the fixed seed are one in the 32 bits that a table takes.
+const ONE_HASH: [&[u8]; 3] = [b"zywtca", b"wiigga", b"vnqsna"];
 
-/// These names as items, and an option of each.
-fn text_of_one_hash(alloc: Global) -> Result<Vec<u8>, Fail> {
-    let mut text = Vec::new(alloc);
-    for separator in &[b" ", b"\n"] {
-        for name in &ONE_HASH {
-            text.extend_from_slice(*name)?;
-            text.extend_from_slice(*separator)?;
+/// These names as items and as colours, with an option of each.
+const TEXT_OF_ONE_HASH: &[u8] =
+    b"zywtca wiigga vnqsna | x\nzywtca x:zywtca\nwiigga x:wiigga\nvnqsna x:vnqsna\n";
+
+#[test]
+fn names_have_one_hash(rt: HostRuntime) -> Result<(), Fail> {
+    for (row, name) in ONE_HASH.iter().enumerate() {
+        let hash = Seed::FIXED.hash_one(*name);
+        // `tests/hostile/collisions.py` hashes as this does: it has the same number.
+        if (hash ^ (hash >> 32)) & 0xffff_ffff != 0x636b_03c0 {
+            return Err(Fail::new(format_args!("row {row}")));
         }
-        text.push(b'\n')?;
     }
-    Ok(text)
+    Ok(())
 }
 
-/// Whether the names are known apart.
+/// Whether the names and colours are known apart.
 fn are_three(problem: &Problem) -> bool {
-    if problem.items() != 3 || problem.options() != 3 {
+    if problem.items() != 4 || problem.options() != 3 || problem.colours() != 3 {
         return false;
     }
     for i in 1..4u32 {
-        let found = problem.find(ONE_HASH[i as usize - 1]);
-        if found != Some(i) || !has_option(problem, i, &[(i, 0)]) {
+        let name = ONE_HASH[i as usize - 1];
+        if problem.find(name) != Some(i) || problem.find_colour(name) != Some(i) {
+            return false;
+        }
+        if !has_option(problem, i, &[(i, 0), (4, i)]) {
             return false;
         }
     }
@@ -43,14 +46,12 @@ fn are_three(problem: &Problem) -> bool {
 }
 
 #[test]
-fn names_of_one_hash(rt: HostRuntime) -> Result<(), Fail> {
-    let text = text_of_one_hash(rt.alloc())?;
+fn names_of_one_hash(rt: HostRuntime) {
     assert!(rt;
-        on_read(rt.alloc(), Kind::Plain, &text, 65536, |read| {
+        on_read(rt.alloc(), Kind::Colours, TEXT_OF_ONE_HASH, 65536, |read| {
             are_three(&read.problem)
         })
     );
-    Ok(())
 }
 
 /// A source around another, which passes its calls on and forgets its seed.
