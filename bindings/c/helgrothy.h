@@ -4,7 +4,11 @@
    `text` and `buffer` point to `length` and `room` bytes, and no pointer is NULL, also where there are no bytes. No two
    of the things pointed to overlap, and nothing else writes to them during a call. Nothing is kept of them. A call
    takes memory by malloc and has given it back when it returns. Calls may be made by several threads at once, and not
-   in a signal handler. */
+   in a signal handler.
+
+   `seed` is the number by which a call hashes names and colours; the answer is the same by each. Where others may have
+   written the text it should be random, as of getrandom(&seed, sizeof seed, 0): by a seed that they know they could
+   choose names that are slow to look up. Else 0 will do. */
 #ifndef HELGROTHY_H
 #define HELGROTHY_H
 
@@ -35,7 +39,8 @@ uint32_t helgrothy_version(void);
 
 /* The first fault of a text: the number of its line, from 1, and its own, as in the table of docs/INPUT.md. Both are 0
    where the answer isn't HELGROTHY_FAULT; HELGROTHY_DONE says that there is none. */
-uint32_t helgrothy_fault(uint32_t kind, const void *text, size_t length, uint64_t *line, uint32_t *fault);
+uint32_t helgrothy_fault(uint32_t kind, const void *text, size_t length, uint64_t seed, uint64_t *line,
+                         uint32_t *fault);
 
 /* A fault in words by its number, as the programs print it behind the number of the line. It is never NULL. */
 static inline const char *helgrothy_fault_text(uint32_t fault) {
@@ -63,13 +68,14 @@ static inline const char *helgrothy_fault_text(uint32_t fault) {
 }
 
 /* How many solutions there are, up to the limit; 0 where nothing was searched. */
-uint32_t helgrothy_count(uint32_t kind, const void *text, size_t length, uint64_t limit, uint64_t *count);
+uint32_t helgrothy_count(uint32_t kind, const void *text, size_t length, uint64_t seed, uint64_t limit,
+                         uint64_t *count);
 
 /* The listing, as the programs print it: each solution whose number `spacing` divides, none for 0, up to the limit. Its
    first bytes stand in the buffer, as many as `used` says; the rest of the buffer is as it was. It takes as much memory
    again as the buffer has room. */
-uint32_t helgrothy_list(uint32_t kind, const void *text, size_t length, uint64_t spacing, uint64_t limit,
-                        void *buffer, size_t room, size_t *used);
+uint32_t helgrothy_list(uint32_t kind, const void *text, size_t length, uint64_t seed, uint64_t spacing,
+                        uint64_t limit, void *buffer, size_t room, size_t *used);
 
 #ifdef __cplusplus
 }

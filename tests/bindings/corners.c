@@ -34,10 +34,11 @@ static int wrong;
 static const char seven[] = "a b c d e f g\nc e\na d g\nb c f\na d f\nb g\nd e g\n";
 static const char listing[] = "1:\n a d f (2 of 2)\n b g (1 of 1)\n c e (1 of 1)\n";
 enum { LISTED = sizeof listing - 1 };
+static uint64_t seed;
 
 static uint32_t list(uint32_t kind, uint64_t limit, char *buffer, size_t room, size_t *used) {
     memset(buffer, '#', 2 * LISTED);
-    return helgrothy_list(kind, seven, strlen(seven), 1, limit, buffer, room, used);
+    return helgrothy_list(kind, seven, strlen(seven), seed, 1, limit, buffer, room, used);
 }
 
 static int is(const char *buffer, size_t used) {
@@ -50,8 +51,9 @@ static void faulty(uint32_t kind, const char *text, uint64_t line_wanted, uint32
     uint64_t line = 9, count = 9;
     uint32_t fault = 9;
     uint32_t status = wanted ? HELGROTHY_FAULT : HELGROTHY_DONE;
-    EXPECT(helgrothy_fault(kind, text, strlen(text), &line, &fault) == status && line == line_wanted && fault == wanted);
-    EXPECT(!wanted || (helgrothy_count(kind, text, strlen(text), 9, &count) == HELGROTHY_FAULT && count == 0));
+    EXPECT(helgrothy_fault(kind, text, strlen(text), seed, &line, &fault) == status && line == line_wanted
+           && fault == wanted);
+    EXPECT(!wanted || (helgrothy_count(kind, text, strlen(text), seed, 9, &count) == HELGROTHY_FAULT && count == 0));
 }
 
 int main(void) {
@@ -67,22 +69,24 @@ int main(void) {
     EXPECT(strcmp(helgrothy_fault_text(0), "no fault") == 0);
     EXPECT(strcmp(helgrothy_fault_text(UINT32_MAX), "unknown fault") == 0);
 
+    uint64_t seeds[] = {0, UINT64_MAX, 12345};
     for (uint32_t kind = HELGROTHY_PLAIN; kind <= HELGROTHY_BOUNDS; kind++) {
+        seed = seeds[kind - 1];
         for (size_t room = 0; room < LISTED; room++)
             EXPECT(list(kind, 2, buffer, room, &used) == HELGROTHY_NO_ROOM && used == room && is(buffer, room));
         for (size_t room = LISTED; room <= 2 * LISTED; room++)
             EXPECT(list(kind, 2, buffer, room, &used) == HELGROTHY_DONE && used == LISTED && is(buffer, LISTED));
         EXPECT(list(kind, 1, buffer, LISTED, &used) == HELGROTHY_LIMIT && used == LISTED && is(buffer, LISTED));
         EXPECT(list(kind, 0, buffer, 0, &used) == HELGROTHY_LIMIT && used == 0 && is(buffer, 0));
-        EXPECT(helgrothy_count(kind, seven, strlen(seven), 2, &count) == HELGROTHY_DONE && count == 1);
-        EXPECT(helgrothy_count(kind, seven, strlen(seven), 1, &count) == HELGROTHY_LIMIT && count == 1);
+        EXPECT(helgrothy_count(kind, seven, strlen(seven), seed, 2, &count) == HELGROTHY_DONE && count == 1);
+        EXPECT(helgrothy_count(kind, seven, strlen(seven), seed, 1, &count) == HELGROTHY_LIMIT && count == 1);
     }
 
     uint32_t none[] = {0, 4, UINT32_MAX};
     for (int i = 0; i < 3; i++) {
         EXPECT(list(none[i], 2, buffer, LISTED, &used) == HELGROTHY_NO_KIND && used == 0 && is(buffer, 0));
-        EXPECT(helgrothy_count(none[i], seven, strlen(seven), 2, &count) == HELGROTHY_NO_KIND && count == 0);
-        EXPECT(helgrothy_fault(none[i], seven, 0, &line, &fault) == HELGROTHY_NO_KIND && line == 0 && fault == 0);
+        EXPECT(helgrothy_count(none[i], seven, strlen(seven), seed, 2, &count) == HELGROTHY_NO_KIND && count == 0);
+        EXPECT(helgrothy_fault(none[i], seven, 0, seed, &line, &fault) == HELGROTHY_NO_KIND && line == 0 && fault == 0);
     }
 
     faulty(HELGROTHY_PLAIN, seven, 0, 0);
@@ -101,7 +105,8 @@ int main(void) {
     faulty(HELGROTHY_COLOURS, "A | x\nA:1", 2, 13);
     faulty(HELGROTHY_COLOURS, "A | x\nA x:", 2, 14);
     faulty(HELGROTHY_PLAIN, "A | x\nA x:1", 2, 15);
-    EXPECT(helgrothy_fault(HELGROTHY_PLAIN, "A\0B", 3, &line, &fault) == HELGROTHY_FAULT && line == 1 && fault == 2);
+    EXPECT(helgrothy_fault(HELGROTHY_PLAIN, "A\0B", 3, seed, &line, &fault) == HELGROTHY_FAULT && line == 1
+           && fault == 2);
 
     /* Each allocation fails in turn: the call answers so and did nothing, or as ever. All memory is given back. */
     uint32_t status = HELGROTHY_NO_MEMORY;
@@ -115,13 +120,13 @@ int main(void) {
     EXPECT(failing > 9);
     for (status = HELGROTHY_NO_MEMORY, failing = 1; status == HELGROTHY_NO_MEMORY || asked >= failing; failing++) {
         asked = 0;
-        status = helgrothy_count(HELGROTHY_PLAIN, seven, strlen(seven), 2, &count);
+        status = helgrothy_count(HELGROTHY_PLAIN, seven, strlen(seven), seed, 2, &count);
         EXPECT(status == HELGROTHY_NO_MEMORY ? count == 0 : status == HELGROTHY_DONE && count == 1);
         EXPECT(held == 0);
     }
     for (status = HELGROTHY_NO_MEMORY, failing = 1; status == HELGROTHY_NO_MEMORY || asked >= failing; failing++) {
         asked = 0;
-        status = helgrothy_fault(HELGROTHY_PLAIN, "A\nB", 3, &line, &fault);
+        status = helgrothy_fault(HELGROTHY_PLAIN, "A\nB", 3, seed, &line, &fault);
         EXPECT(status == HELGROTHY_NO_MEMORY ? line == 0 && fault == 0
                : status == HELGROTHY_FAULT && line == 2 && fault == 11);
         EXPECT(held == 0);

@@ -1,12 +1,19 @@
 #!/usr/bin/env python3
-"""Loads the shared library for C by ctypes, whose path is the first word: counts, lists, and asks for a fault."""
+"""Loads the shared library for C by ctypes, whose path is the first word: counts, lists, and asks for a fault. Reads
+names that collide under the fixed seed by that one, which is slow, and by a random one.
+"""
 
 from __future__ import annotations
 
 import ctypes
+import secrets
 import sys
+import time
 from ctypes import CFUNCTYPE, POINTER, byref, c_char_p, c_size_t, c_uint32, c_uint64, c_void_p
 from pathlib import Path
+
+sys.path.insert(0, "tests/hostile")
+from collisions import WORDS, by_chance, colliding, of_names  # noqa: E402
 
 PLAIN, BOUNDS = 1, 3
 DONE, LIMIT, NO_ROOM, FAULT = 0, 1, 2, 3
@@ -14,7 +21,7 @@ SEVEN = b"a b c d e f g\nc e\na d g\nb c f\na d f\nb g\nd e g\n"
 LISTING = b"1:\n a d f (2 of 2)\n b g (1 of 1)\n c e (1 of 1)\n"
 
 library = ctypes.CDLL(sys.argv[1])
-TEXT = (c_uint32, c_char_p, c_size_t)
+TEXT = (c_uint32, c_char_p, c_size_t, c_uint64)
 helgrothy_version = CFUNCTYPE(c_uint32)(("helgrothy_version", library))
 helgrothy_fault = CFUNCTYPE(c_uint32, *TEXT, POINTER(c_uint64), POINTER(c_uint32))(("helgrothy_fault", library))
 helgrothy_count = CFUNCTYPE(c_uint32, *TEXT, c_uint64, POINTER(c_uint64))(("helgrothy_count", library))
@@ -25,21 +32,31 @@ helgrothy_list = CFUNCTYPE(c_uint32, *TEXT, c_uint64, c_uint64, c_void_p, c_size
 
 def counted(kind: int, text: bytes, limit: int) -> tuple[int, int]:
     number = c_uint64()
-    status = helgrothy_count(kind, text, len(text), limit, byref(number))
+    status = helgrothy_count(kind, text, len(text), secrets.randbits(64), limit, byref(number))
     return status, number.value
 
 
 def listed(kind: int, text: bytes, room: int) -> tuple[int, bytes]:
     buffer = ctypes.create_string_buffer(room)
     used = c_size_t()
-    status = helgrothy_list(kind, text, len(text), 1, 10, buffer, room, byref(used))
+    status = helgrothy_list(kind, text, len(text), secrets.randbits(64), 1, 10, buffer, room, byref(used))
     return status, buffer.raw[: used.value]
 
 
-def first_fault(kind: int, text: bytes) -> tuple[int, int, int]:
+def first_fault(kind: int, text: bytes, seed: int) -> tuple[int, int, int]:
     line, fault = c_uint64(), c_uint32()
-    status = helgrothy_fault(kind, text, len(text), byref(line), byref(fault))
+    status = helgrothy_fault(kind, text, len(text), seed, byref(line), byref(fault))
     return status, line.value, fault.value
+
+
+def seconds(names: list[bytes], seed: int) -> float:
+    """The least time of a processor that reading these took of some, by a seed."""
+    text, least = of_names(names), float("inf")
+    for _ in range(7):
+        begun = time.process_time()
+        assert first_fault(PLAIN, text, seed) == (FAULT, len(names) + 2, 11)
+        least = min(least, time.process_time() - begun)
+    return least
 
 
 major, minor, patch = map(int, Path("VERSION").read_text().split("."))
@@ -49,5 +66,9 @@ assert counted(BOUNDS, b"2:3|a\n" + b"a\n" * 20, 1000000) == (DONE, 190 + 1140)
 assert counted(BOUNDS, b"2:3|a\n" + b"a\n" * 20, 1000) == (LIMIT, 1000)
 assert listed(PLAIN, SEVEN, 1000) == (DONE, LISTING)
 assert listed(PLAIN, SEVEN, 10) == (NO_ROOM, LISTING[:10])
-assert first_fault(PLAIN, SEVEN) == (DONE, 0, 0)
-assert first_fault(PLAIN, b"a b\na c\n") == (FAULT, 2, 11)
+assert first_fault(PLAIN, SEVEN, secrets.randbits(64)) == (DONE, 0, 0)
+assert first_fault(PLAIN, b"a b\na c\n", 0) == (FAULT, 2, 11)
+
+collide = seconds(colliding(WORDS), 0)
+assert collide > 3 * seconds(by_chance(WORDS), 0)
+assert collide > 3 * seconds(colliding(WORDS), secrets.randbits(64))

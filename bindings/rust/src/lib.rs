@@ -1,16 +1,26 @@
-//! Exact cover problems, by the calls of `helgrothy.h`, which says what they do.
+//! Exact cover problems, by the calls of `helgrothy.h`, which says what they do. Each call has a random seed.
 
+use std::collections::hash_map::RandomState;
 use std::ffi::c_void;
 use std::fmt;
+use std::hash::{BuildHasher, Hasher};
 
 #[link(name = "helgrothy", kind = "static")]
 unsafe extern "C" {
-    fn helgrothy_fault(kind: u32, text: *const c_void, length: usize, line: &mut u64, fault: &mut u32) -> u32;
-    fn helgrothy_count(kind: u32, text: *const c_void, length: usize, limit: u64, count: &mut u64) -> u32;
+    fn helgrothy_fault(
+        kind: u32,
+        text: *const c_void,
+        length: usize,
+        seed: u64,
+        line: &mut u64,
+        fault: &mut u32,
+    ) -> u32;
+    fn helgrothy_count(kind: u32, text: *const c_void, length: usize, seed: u64, limit: u64, count: &mut u64) -> u32;
     fn helgrothy_list(
         kind: u32,
         text: *const c_void,
         length: usize,
+        seed: u64,
         spacing: u64,
         limit: u64,
         buffer: *mut c_void,
@@ -93,10 +103,15 @@ fn ended(kind: Kind, text: &[u8], status: u32) -> Result<End, Error> {
     }
 }
 
+/// A random number, by which no names can be chosen to be slow to look up.
+fn seed() -> u64 {
+    RandomState::new().build_hasher().finish()
+}
+
 /// The first fault of a text, as an error.
 pub fn fault(kind: Kind, text: &[u8]) -> Result<(), Error> {
     let (mut line, mut number) = (0, 0);
-    match unsafe { helgrothy_fault(kind as u32, text.as_ptr().cast(), text.len(), &mut line, &mut number) } {
+    match unsafe { helgrothy_fault(kind as u32, text.as_ptr().cast(), text.len(), seed(), &mut line, &mut number) } {
         0 => Ok(()),
         3 => Err(Error::Fault { line, number }),
         _ => Err(Error::Memory),
@@ -106,7 +121,7 @@ pub fn fault(kind: Kind, text: &[u8]) -> Result<(), Error> {
 /// How many solutions there are, up to a limit.
 pub fn count(kind: Kind, text: &[u8], limit: u64) -> Result<(u64, End), Error> {
     let mut count = 0;
-    let status = unsafe { helgrothy_count(kind as u32, text.as_ptr().cast(), text.len(), limit, &mut count) };
+    let status = unsafe { helgrothy_count(kind as u32, text.as_ptr().cast(), text.len(), seed(), limit, &mut count) };
     Ok((count, ended(kind, text, status)?))
 }
 
@@ -115,7 +130,7 @@ pub fn list(kind: Kind, text: &[u8], spacing: u64, limit: u64, buffer: &mut [u8]
     let (start, room) = (buffer.as_mut_ptr().cast(), buffer.len());
     let mut used = 0;
     let status = unsafe {
-        helgrothy_list(kind as u32, text.as_ptr().cast(), text.len(), spacing, limit, start, room, &mut used)
+        helgrothy_list(kind as u32, text.as_ptr().cast(), text.len(), seed(), spacing, limit, start, room, &mut used)
     };
     Ok((used, ended(kind, text, status)?))
 }

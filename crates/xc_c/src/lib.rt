@@ -1,7 +1,8 @@
 //! Exact cover problems for C, and for all that calls C: calls on numbers and bytes, whose header is
 //! `bindings/c/helgrothy.h`. Each answers a status: 0 where all was done, 1 where a search met its
 //! limit, 2 where a listing is longer than its buffer, 3 for a text with a fault, 4 for lack of memory,
-//! 5 for a number of no kind. Names are hashed by the fixed seed.
+//! 5 for a number of no kind. Names and colours are hashed by the seed, and the answer is the same by
+//! each.
 //!
 //! A call keeps nothing: no handle to a search and the problem that it borrows can be both exported and proved
 //! (`docs/DECISIONS.md`).
@@ -12,6 +13,7 @@ ghost use Rattle.xc_c.specs.Answers.{Counts, Lists, Searches, TellsFault};
 ghost use Rattle.xc_c.specs.Numbers.{version_number};
 
 mod numbers;
+mod seeds;
 #[cfg(test)]
 mod tests;
 mod texts;
@@ -19,6 +21,7 @@ mod texts;
 use crate::numbers::{
     DONE, FAULT, LIMIT, NO_KIND, NO_MEMORY, error_status, fault_number, kind_by_number,
 };
+use crate::seeds::seed_by_number;
 use crate::texts::{count_solutions, first_fault, list_solutions};
 use std::alloc::Global;
 use xc_list::Words;
@@ -37,6 +40,7 @@ pub extern "C" fn helgrothy_fault(
     alloc: Global,
     kind: u32,
     text: &[u8],
+    seed: u64,
     line: &mut u64,
     fault: &mut u32,
 ) -> u32
@@ -47,7 +51,7 @@ pub extern "C" fn helgrothy_fault(
     let Some(kind) = kind_by_number(kind) else {
         return NO_KIND;
     };
-    match first_fault(alloc, kind, text) {
+    match first_fault(alloc, kind, text, seed_by_number(seed)) {
         Ok(None) => DONE,
         Ok(Some((at, kind))) => {
             *line = at;
@@ -64,6 +68,7 @@ pub extern "C" fn helgrothy_count(
     alloc: Global,
     kind: u32,
     text: &[u8],
+    seed: u64,
     limit: u64,
     count: &mut u64,
 ) -> u32
@@ -73,7 +78,7 @@ pub extern "C" fn helgrothy_count(
     let Some(kind) = kind_by_number(kind) else {
         return NO_KIND;
     };
-    match count_solutions(alloc, kind, text, limit) {
+    match count_solutions(alloc, kind, text, seed_by_number(seed), limit) {
         Ok(found) => {
             *count = found;
             if found < limit { DONE } else { LIMIT }
@@ -90,6 +95,7 @@ pub extern "C" fn helgrothy_list(
     alloc: Global,
     kind: u32,
     text: &[u8],
+    seed: u64,
     spacing: u64,
     limit: u64,
     buffer: &mut [u8],
@@ -103,7 +109,7 @@ pub extern "C" fn helgrothy_list(
         return NO_KIND;
     };
     let words = Words { spacing, limit };
-    match list_solutions(alloc, kind, text, words, buffer) {
+    match list_solutions(alloc, kind, text, seed_by_number(seed), words, buffer) {
         Ok((status, bytes)) => {
             *used = bytes;
             status

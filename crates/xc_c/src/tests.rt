@@ -2,6 +2,9 @@
 use crate::{helgrothy_count, helgrothy_fault, helgrothy_list, helgrothy_version};
 use std::alloc::Global;
 
+/// A seed; 0 is the fixed one.
+const SEED: u64 = 12_345;
+
 const SEVEN: &[u8] = b"a b c d e f g\nc e\na d g\nb c f\na d f\nb g\nd e g\n";
 
 const SEVEN_LISTING: &[u8] = b"1:\n a d f (2 of 2)\n b g (1 of 1)\n c e (1 of 1)\n";
@@ -19,7 +22,7 @@ fn the_version(rt: HostRuntime) {
 fn fault_of(alloc: Global, kind: u32, text: &[u8]) -> (u32, u64, u32) {
     let mut line = 9;
     let mut fault = 9;
-    let status = helgrothy_fault(alloc, kind, text, &mut line, &mut fault);
+    let status = helgrothy_fault(alloc, kind, text, SEED, &mut line, &mut fault);
     (status, line, fault)
 }
 
@@ -35,11 +38,16 @@ fn first_faults(rt: HostRuntime) {
     assert!(rt; fault_of(alloc, 0, SEVEN) == (5, 0, 0));
 }
 
-/// The status and the count.
-fn count_of(alloc: Global, kind: u32, text: &[u8], limit: u64) -> (u32, u64) {
+/// The status and the count, by a seed.
+fn count_by(alloc: Global, seed: u64, kind: u32, text: &[u8], limit: u64) -> (u32, u64) {
     let mut count = 9;
-    let status = helgrothy_count(alloc, kind, text, limit, &mut count);
+    let status = helgrothy_count(alloc, kind, text, seed, limit, &mut count);
     (status, count)
+}
+
+/// The same by `SEED`.
+fn count_of(alloc: Global, kind: u32, text: &[u8], limit: u64) -> (u32, u64) {
+    count_by(alloc, SEED, kind, text, limit)
 }
 
 #[test]
@@ -50,6 +58,8 @@ fn counts(rt: HostRuntime) {
     assert!(rt; count_of(alloc, 1, THREE_ALIKE, 3) == (1, 3));
     assert!(rt; count_of(alloc, 1, b"a b\nc\n", 1) == (3, 0));
     assert!(rt; count_of(alloc, 4, SEVEN, 1) == (5, 0));
+    assert!(rt; count_by(alloc, 0, 1, SEVEN, 2) == (0, 1));
+    assert!(rt; count_by(alloc, u64::MAX, 1, SEVEN, 2) == (0, 1));
 }
 
 /// Whether a listing into a buffer of zeros of this length has this status and these bytes, and leaves the rest.
@@ -58,7 +68,7 @@ fn lists(alloc: Global, text: &[u8], limit: u64, room: usize, status: u32, listi
         return false;
     };
     let mut used = 9;
-    let told = helgrothy_list(alloc, 1, text, 1, limit, buffer.as_mut_slice(), &mut used);
+    let told = helgrothy_list(alloc, 1, text, SEED, 1, limit, buffer.as_mut_slice(), &mut used);
     told == status
         && used == listing.len()
         && buffer.starts_with(listing)

@@ -13,7 +13,7 @@ use crate::numbers::{DONE, LIMIT, NO_ROOM};
 use bstr::ByteSlice;
 use std::alloc::Global;
 use xc_dance::{Links, Memory};
-use xc_input::{FaultKind, InputError, Kind, Problem, Read, Reader};
+use xc_input::{FaultKind, InputError, Kind, Problem, Read, Reader, Seed};
 use xc_list::{End, Tray, Words, run};
 use xc_search::Search;
 
@@ -52,12 +52,17 @@ fn take_lines(reader: &mut Reader, text: &[u8]) -> Result<(), InputError>
 
 /// What a text stands for, or its first fault, or that there was no memory.
 // Not by `read_problem`, whose buffer takes memory also for a text without content.
-pub(crate) fn read_text(alloc: Global, kind: Kind, text: &[u8]) -> Result<Read, InputError>
+pub(crate) fn read_text(
+    alloc: Global,
+    kind: Kind,
+    text: &[u8],
+    seed: Seed,
+) -> Result<Read, InputError>
     ensures problem { IfOk result (λ r. StandsFor kind (lines_of text.now) r.problem r.ignored.items) }
     ensures error { IfErr result (IsErrorFor (first_fault kind (lines_of text.now))) }
     ensures memory { IfErr result (λ e. e ≡ InputError.Memory → content (lines_of text.now) ≢ []) }
 {
-    let mut reader = Reader::new(alloc, kind);
+    let mut reader = Reader::with_seed(alloc, kind, seed);
     take_lines(&mut reader, text)?;
     reader.finish()
 }
@@ -67,11 +72,12 @@ pub(crate) fn first_fault(
     alloc: Global,
     kind: Kind,
     text: &[u8],
+    seed: Seed,
 ) -> Result<Option<(u64, FaultKind)>, Memory>
     ensures found { IfOk result (λ found. found ≡ first_fault kind (lines_of text.now)) }
     ensures memory { OnErr result (content (lines_of text.now) ≢ []) }
 {
-    let Err(error) = read_text(alloc, kind, text) else {
+    let Err(error) = read_text(alloc, kind, text, seed) else {
         return Ok(None);
     };
     match error {
@@ -96,6 +102,7 @@ pub(crate) fn count_solutions(
     alloc: Global,
     kind: Kind,
     text: &[u8],
+    seed: Seed,
     limit: u64,
 ) -> Result<u64, InputError>
     ensures count { IfOk result (λ count. IsSearched kind text.now
@@ -103,7 +110,7 @@ pub(crate) fn count_solutions(
     ensures error { IfErr result (IsErrorFor (first_fault kind (lines_of text.now))) }
     ensures memory { IfErr result (λ e. e ≡ InputError.Memory → content (lines_of text.now) ≢ []) }
 {
-    let read = read_text(alloc, kind, text)?;
+    let read = read_text(alloc, kind, text, seed)?;
     match count_members(alloc, &read.problem, limit) {
         Ok(count) => Ok(count),
         Err(_) => Err(InputError::Memory),
@@ -163,6 +170,7 @@ pub(crate) fn list_solutions(
     alloc: Global,
     kind: Kind,
     text: &[u8],
+    seed: Seed,
     words: Words,
     buffer: &mut [u8],
 ) -> Result<(u32, usize), InputError>
@@ -172,7 +180,7 @@ pub(crate) fn list_solutions(
     ensures memory { IfErr result (λ e. e ≡ InputError.Memory → content (lines_of text.now) ≢ []) }
     ensures kept { OnErr result (buffer.new ≡ buffer.old) }
 {
-    let problem = read_text(alloc, kind, text)?.problem;
+    let problem = read_text(alloc, kind, text, seed)?.problem;
     match list_problem(alloc, &problem, words, buffer) {
         Ok(listed) => Ok(listed),
         Err(_) => Err(InputError::Memory),
