@@ -1,6 +1,6 @@
 #!/bin/sh
-# The statuses of the programs that `rt ci` built, on what each refuses. No contract stands on a `main`,
-# and a stored run shows one input. Prints what differs, and nothing else.
+# The statuses of the programs that `rt ci` built, on what each refuses, and which file `dlx-join` names. No contract
+# stands on a `main` or on files, and a stored run shows one input. Prints what differs, and nothing else.
 # A problem without colours or bounds is of every kind, so only a refused text tells which kind a program reads.
 cd "$(dirname "$0")/.." || exit 1
 differ=0
@@ -14,6 +14,18 @@ expect() {
     status=$?
     if [ "$status" != "$wanted" ]; then
         echo "$program $*: status $status, not $wanted"
+        differ=1
+    fi
+}
+
+# tells MESSAGE PROGRAM WORD..: a run over standard input, whose messages are this line
+tells() {
+    wanted=$1
+    program=crates/$2/out/$2
+    shift 2
+    told=$(timeout 60 "$program" "$@" 2>&1 >/dev/null)
+    if [ "$told" != "$wanted" ]; then
+        echo "$program $*: $told, not $wanted"
         differ=1
     fi
 }
@@ -54,4 +66,22 @@ END
 expect 5 dlx_join m0 </dev/null
 expect 1 dlx_join m2 </dev/null
 expect 3 dlx_join m0 missing.span </dev/null
+folder=$(mktemp -d) || exit 1
+first=$folder/first
+printf 'from - until 2 solutions 1 steps 1\n' >"$first"
+printf 'from 3 until - solutions 1 steps 1\n' >"$folder/third"
+printf 'from 2 until 3 solutions 1 steps 1\n\n' >"$folder/damaged"
+printf 'from -' >"$folder/cut"
+printf 'from -\n' >"$folder/open"
+: >"$folder/empty"
+tells 'standard input: line 1: gap from - until 3.' dlx_join m0 <"$folder/third"
+tells 'standard input: read failed.' dlx_join m0 <"$folder"
+tells "$folder: read failed." dlx_join m0 "$first" "$folder" "$first" </dev/null
+tells "$folder/missing: read failed." dlx_join m0 "$first" "$folder/missing" "$first" </dev/null
+tells "$folder/third: line 1: gap from 2 until 3." dlx_join m0 "$folder/empty" "$first" "$folder/third" </dev/null
+tells "$first: line 2: gap from 2 until -." dlx_join m0 "$first" </dev/null
+tells "$folder/damaged: line 2: not the text of a span." dlx_join m0 "$first" "$folder/damaged" </dev/null
+tells "$folder/cut: line 1: not the text of a span." dlx_join m1 "$folder/cut" "$first" </dev/null
+tells "$folder/open: line 2: not the text of a span." dlx_join m1 "$folder/open" "$folder/third" </dev/null
+rm -r "$folder"
 exit $differ

@@ -1,6 +1,6 @@
 //! Texts of spans that are joined.
 use crate::told::run_gives;
-use fixtures::{THREE_LISTING, gathered};
+use fixtures::{THREE_LISTING, gathered, on_one};
 use std::alloc::Global;
 use std::test::Fail;
 use xc_input::Feed;
@@ -71,27 +71,31 @@ fn other_words(rt: HostRuntime) {
 
 /// Texts whose ends don't meet, what is listed of them and which gap is reported.
 const GAPS: [(&[u8], &[u8], &[u8]); 6] = [
-    (b"", b"", b"Gap: from - until -.\n"),
-    (b"from 2\n", b"", b"Gap: from - until 2.\n"),
+    (b"", b"", b"standard input: line 1: gap from - until -.\n"),
+    (
+        b"from 2\n",
+        b"",
+        b"standard input: line 1: gap from - until 2.\n",
+    ),
     (
         b"from -\n1:\n A (1 of 3)\nfrom - until 2 solutions 1 steps 1\n",
         b"1:\n A (1 of 3)\n",
-        b"Gap: from 2 until -.\n",
+        b"standard input: line 5: gap from 2 until -.\n",
     ),
     (
         b"from -\n1:\n A (1 of 3)\nfrom - until 2 solutions 1 steps 1\nfrom 3\n",
         b"1:\n A (1 of 3)\n",
-        b"Gap: from 2 until 3.\n",
+        b"standard input: line 5: gap from 2 until 3.\n",
     ),
     (
         b"from -\nfrom - until 2 solutions 0 steps 1\nfrom -\n",
         b"",
-        b"Gap: from 2 until -.\n",
+        b"standard input: line 3: gap from 2 until -.\n",
     ),
     (
         b"from -\nfrom - until - solutions 0 steps 1\nfrom -\n",
         b"",
-        b"Gap: from - until -.\n",
+        b"standard input: line 3: gap from - until -.\n",
     ),
 ];
 
@@ -131,19 +135,10 @@ const DAMAGED: [(&[u8], &[u8]); 14] = [
 
 /// Whether a text is refused with its line, by a message that begins so.
 fn is_damaged(alloc: Global, text: &[u8], line: &[u8]) -> bool {
-    let Ok(mut wanted) = gathered(alloc, &[line]) else {
-        return false;
-    };
-    let Some(mut wanted) = wanted.pop() else {
-        return false;
-    };
-    if wanted
-        .extend_from_slice(b": not the text of a span.\n")
-        .is_err()
-    {
-        return false;
-    }
-    joins(alloc, &[b"m1"], text, 2, listed_of(text), &wanted)
+    let parts: [&[u8]; 3] = [b"standard input: ", line, b": not the text of a span.\n"];
+    on_one(parts.concat(alloc).ok(), |wanted| {
+        joins(alloc, &[b"m1"], text, 2, listed_of(text), wanted)
+    })
 }
 
 /// What is listed of these texts: what their first solution has, if it is whole.
@@ -164,6 +159,44 @@ fn damaged_texts(rt: HostRuntime) -> Result<(), Fail> {
     Ok(())
 }
 
+/// Names of files, each as messages show it.
+const NAMES: [(&[u8], &[u8]); 6] = [
+    (b"found/1 ~.span", b"found/1 ~.span"),
+    (b"\x1b]0;x\x07", b"\\x1b]0;x\\x07"),
+    (b"a\nb", b"a\\x0ab"),
+    (b"\x7f\xc2\x9b1m", b"\\x7f\\xc2\\x9b1m"),
+    (b"\xff\x00\x1f ~", b"\\xff\\x00\\x1f ~"),
+    (b"\\x1b", b"\\x5cx1b"),
+];
+
+/// Whether the messages about a file of this name begin so.
+fn are_named(alloc: Global, name: &[u8], shown: &[u8]) -> bool {
+    let gap: [&[u8]; 2] = [shown, b": line 1: gap from - until 2.\n"];
+    let damaged: [&[u8]; 2] = [shown, b": line 1: not the text of a span.\n"];
+    on_one(gap.concat(alloc).ok(), |wanted| {
+        joins(
+            alloc,
+            &[b"m0", name],
+            b"from 2 until - solutions 1 steps 1\n",
+            5,
+            b"",
+            wanted,
+        )
+    }) && on_one(damaged.concat(alloc).ok(), |wanted| {
+        joins(alloc, &[b"m0", name, b"other"], b"from\n", 2, b"", wanted)
+    })
+}
+
+#[test]
+fn shown_names(rt: HostRuntime) -> Result<(), Fail> {
+    for (row, (name, shown)) in NAMES.iter().enumerate() {
+        if !are_named(rt.alloc(), name, shown) {
+            return Err(Fail::new(format_args!("row {row}")));
+        }
+    }
+    Ok(())
+}
+
 /// The status of a run whose read of this number fails, over a sink that takes so many bytes.
 fn status_of(alloc: Global, fails_at: Option<u64>, room: usize) -> Option<u8> {
     let words = gathered(alloc, &[b"m1"]).ok()?;
@@ -171,6 +204,26 @@ fn status_of(alloc: Global, fails_at: Option<u64>, room: usize) -> Option<u8> {
     let mut out = Tray::new(alloc, 3, room, false).ok()?;
     let mut err = Tray::new(alloc, 100, 100, false).ok()?;
     Some(join_spans(alloc, &words, &mut input, &mut out, &mut err))
+}
+
+/// Whether a run by these words reports this of its first read, which fails.
+fn fails_at_once(alloc: Global, words: &[&[u8]], err: &[u8]) -> bool {
+    let program = |words: &[Vec<u8>], _: &mut Feed, out: &mut Tray, err: &mut Tray| {
+        join_spans(alloc, words, &mut Feed::new(b"", 1, Some(1)), out, err)
+    };
+    run_gives(alloc, words, b"", program, 3, b"", err)
+}
+
+#[test]
+fn failed_reads(rt: HostRuntime) {
+    assert!(rt; fails_at_once(rt.alloc(), &[b"m0"], b"standard input: read failed.\n"));
+    assert!(rt;
+        fails_at_once(
+            rt.alloc(),
+            &[b"m0", b"\x1bc", b"b"],
+            b"\\x1bc: read failed.\n"
+        )
+    );
 }
 
 #[test]

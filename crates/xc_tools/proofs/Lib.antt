@@ -1,5 +1,6 @@
 pub mod JoinLemmas
 pub mod JudgeLemmas
+pub mod NameLemmas
 pub mod RunLemmas
 pub mod SpanEnds
 pub mod StreamLemmas

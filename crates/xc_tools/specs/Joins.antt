@@ -1,7 +1,7 @@
 -- What a whole run that joins spans does.
 use Rattle.std.specs.Prelude.{ℕ, ◌^◌, ◌<◌, ◌≡◌, ◌⊎◌, All, Bool, true, false, List, [], ◌∷◌, ◌++◌, length, Option, Some}
 use Rattle.std.specs.Prelude.{None}
-use Rattle.std.specs.Prelude.{IfSome, MatchOption, flat_map, codes, decimal, if◌then◌else◌}
+use Rattle.std.specs.Prelude.{IfSome, MatchOption, drop, flat_map, codes, decimal, if◌then◌else◌}
 use Rattle.std.specs.Io.KnownBytes.{Appends}
 use Rattle.std.specs.Str.{bytes_eq}
 use Rattle.xc_input.specs.Calls.{Rose}
@@ -16,6 +16,7 @@ use Rattle.xc_list.specs.Runs.{end_of}
 use Rattle.xc_list.specs.SpanTexts.{end_at, span_text}
 use Rattle.xc_list.specs.Texts.{Seen, SinkState, Took, BrokeOff, WasTold}
 use Rattle.xc_list.specs.declared.runs.End.{End}
+use Rattle.xc_tools.specs.ShownNames.{source_text, OfSource}
 use Rattle.xc_tools.specs.WholeRuns.{Sinks, TookAll, IsRefused}
 
 -- A span as it was searched: its first row; the one before which it ends, where the empty row stands for the listing's
@@ -99,32 +100,44 @@ pub record HasBegun (listed : Bool) (says : List SearchedSpan → Type 0) (input
   pub taken : Appends out_old.taken out_new.taken text
   pub of : OfTexts listed (λ a spans. IsBeginning text (joined a listed) × says spans) input_old input_new
 
--- the line for ends that don't meet
-abbrev pub gap_text : List ℕ → List ℕ → List ℕ
-gap_text met next = codes "Gap: from " ++ met ++ codes " until " ++ next ++ codes ".\n"
+-- the front of a message about a line of a file, or of standard input
+abbrev pub at_line : Option (List ℕ) → ℕ → List ℕ
+at_line file line = source_text file ++ codes "line " ++ decimal line ++ codes ": "
 
--- the line for what isn't the text of a span, after where it is
-abbrev pub no_text : List ℕ → ℕ → List ℕ
-no_text file line = file ++ codes "line " ++ decimal line ++ codes ": not the text of a span.\n"
+-- the message about ends that don't meet
+abbrev pub gap_text : Option (List ℕ) → ℕ → List ℕ → List ℕ → List ℕ
+gap_text file line met next =
+    at_line file line ++ codes "gap from " ++ met ++ codes " until " ++ next ++ codes ".\n"
 
--- What failed, and was reported: a read; or a write of the output or its flush; or the last line broke off.
-abbrev pub ToldFailure : {O E : Type 0} → SourceState → SourceState → Sinks O E → Sinks O E → Type 0
-ToldFailure from to old new = let told = WasTold old.err.state new.err.state in
-    (Rose from.failures to.failures × told (codes "Read failed.\n"))
+-- the message about what isn't the text of a span
+abbrev pub no_text : Option (List ℕ) → ℕ → List ℕ
+no_text file line = at_line file line ++ codes "not the text of a span.\n"
+
+-- the message about a failed read
+abbrev pub unread_text : Option (List ℕ) → List ℕ
+unread_text file = source_text file ++ codes "read failed.\n"
+
+-- What failed, and was reported: a read of a file or of standard input; or a write of the output or its flush; or the
+-- last line broke off.
+abbrev pub ToldFailure : {O E : Type 0} → List (List ℕ) → SourceState → SourceState → Sinks O E → Sinks O E → Type 0
+ToldFailure files from to old new = let told = WasTold old.err.state new.err.state in
+    (Rose from.failures to.failures × OfSource files (λ file. told (unread_text file)))
     ⊎ (Rose old.out.state.failures new.out.state.failures × told (codes "Write failed.\n"))
     ⊎ ((end : End) × BrokeOff old.err.state new.err.state (summary_text end))
 
--- What a run did with this first word, by its status. At 5 the spans don't meet, and at 2 the input is no texts.
-abbrev pub DidJoin : {O E : Type 0} → Bool → ℕ → SourceState → SourceState → Sinks O E → Sinks O E → Type 0
-DidJoin listed status from to old new =
+-- What a run did with this first word and these files, by its status. At 5 the spans don't meet, and at 2 the input is
+-- no texts.
+abbrev pub DidJoin : {O E : Type 0} → Bool → List (List ℕ) → ℕ → SourceState → SourceState → Sinks O E → Sinks O E
+    → Type 0
+DidJoin listed files status from to old new =
     let begun = λ (says : List SearchedSpan → Type 0). HasBegun listed says from to old.out.state new.out.state in
     let told = WasTold old.err.state new.err.state in
     ((status ≡ 0) × IsJoined listed from to old new)
-    ⊎ ((status ≡ 2) × begun (λ _. ⊥) × (file : List ℕ) × (line : ℕ) × told (no_text file line))
-    ⊎ ((status ≡ 3) × begun (λ _. Unit {0}) × ToldFailure from to old new)
+    ⊎ ((status ≡ 2) × begun (λ _. ⊥) × OfSource files (λ file. (line : ℕ) × told (no_text file line)))
+    ⊎ ((status ≡ 3) × begun (λ _. Unit {0}) × ToldFailure files from to old new)
     ⊎ ((status ≡ 4) × begun (λ _. Unit {0}) × told (codes "Out of memory.\n"))
-    ⊎ ((status ≡ 5) × begun (λ spans. DoMeet [] spans → ⊥) × (met : List ℕ) × (next : List ℕ) × told
-    (gap_text met next))
+    ⊎ ((status ≡ 5) × begun (λ spans. DoMeet [] spans → ⊥)
+    × OfSource files (λ file. (line : ℕ) × (met : List ℕ) × (next : List ℕ) × told (gap_text file line met next)))
 
 -- whether texts are listings, by the first word
 abbrev pub asked_join : List (List ℕ) → Option Bool
@@ -137,4 +150,4 @@ abbrev pub DidJoinWords : {S O E : Type 0} → List (List ℕ) → ℕ → Seen 
     → Sinks O E → Sinks O E → Type 0
 DidJoinWords words status from to old new = MatchOption (asked_join words)
     ((to ≡ from) × IsRefused status old new (1, codes "Usage: dlx-join m0|m1 [FILE..]\n"))
-    (λ listed. DidJoin listed status from.state to.state old new)
+    (λ listed. DidJoin listed (drop 1 words) status from.state to.state old new)

@@ -2,6 +2,7 @@ pub mod Arguments
 pub mod Joins
 pub mod Judges
 pub mod Outputs
+pub mod ShownNames
 pub mod Solves
 pub mod SpanRuns
 pub mod Streams

@@ -1,6 +1,6 @@
 //! A whole run that joins the texts of spans.
-ghost use Rattle.std.specs.Prelude.{◌≡◌, ◌<◌, ◌++◌, ◌∷◌, [], ℕ, List, false, length, codes, decimal, IfErr, IfOk, OnOk};
-ghost use Rattle.std.specs.Prelude.{◌⊎◌, ◌==◌, IsOkAnd, MatchOption, map, if◌then◌else◌};
+ghost use Rattle.std.specs.Prelude.{◌≡◌, ◌<◌, ◌++◌, ◌∷◌, [], ℕ, List, false, length, codes, IfErr, IfOk, OnOk};
+ghost use Rattle.std.specs.Prelude.{◌⊎◌, ◌==◌, IsOkAnd, MatchOption, drop, map, option_copied, if◌then◌else◌};
 ghost use Rattle.std.specs.Io.KnownBytes.{Keeps};
 ghost use Rattle.xc_list.specs.SpanTexts.{most_counted};
 ghost use Rattle.xc_list.specs.declared.runs.End.TheVariants.{Done, Limit};
@@ -9,7 +9,7 @@ ghost use Rattle.xc_input.specs.Pieces.{GaveAll};
 ghost use Rattle.xc_input.specs.Words.{has};
 ghost use Rattle.xc_input.specs.inner.EndedLines.{ended};
 ghost use Rattle.xc_list.specs.Texts.{seen, Took, WasTold, Writes};
-ghost use Rattle.xc_tools.specs.Joins.{asked_join, gap_text, no_text, DidJoin, DidJoinWords};
+ghost use Rattle.xc_tools.specs.Joins.{asked_join, gap_text, at_line, no_text, unread_text, DidJoin, DidJoinWords};
 ghost use Rattle.xc_tools.specs.WholeRuns.{sinks};
 ghost use Rattle.xc_tools.specs.declared.joining.Stop.TheVariants.{Device, Memory, WriteFailed};
 ghost use Rattle.xc_tools.specs.inner.Joining.{joined_text, fed_lines, stop_of, Adds, EndsAt, IsAfter, JoinsAll};
@@ -19,6 +19,7 @@ ghost use Rattle.xc_tools.specs.inner.SpanLines.{act_text};
 
 use crate::located::Located;
 use crate::piece::buffer;
+use crate::shown_names::{source_at, source_text};
 use crate::solving::finish;
 use crate::span_lines::{Act, Joint, Refusal, put_word};
 use crate::status::{
@@ -251,18 +252,36 @@ fn end_text(lines: &mut Lines, carry: &[u8]) -> Result<(), Stop>
         return Err(Stop::NotText);
     }
     if !lines.joint.finished {
+        count_line(lines);
         put_word(&mut lines.joint.next, b"-")?;
         return Err(Stop::Gap);
     }
     Ok(())
 }
 
-/// What is reported of ends that don't meet.
-fn gap_text(alloc: Global, joint: &Joint) -> Result<Vec<u8>, AllocError>
-    ensures { IfOk result (λ text. text.items ≡ gap_text joint.now.met.items joint.now.next.items) }
+/// The front of a message about a line.
+fn at_line(alloc: Global, file: Option<&[u8]>, line: u64) -> Result<Vec<u8>, AllocError>
+    ensures { IfOk result (λ text. text.items ≡ at_line (option_copied file.entry) line) }
 {
-    let mut text = Vec::new(alloc);
-    text.extend_from_slice(b"Gap: from ")?;
+    let mut text = source_text(alloc, file)?;
+    text.extend_from_slice(b"line ")?;
+    text.extend_from_slice(Buffer::new().format(line).as_bytes())?;
+    text.extend_from_slice(b": ")?;
+    Ok(text)
+}
+
+/// What is reported of ends that don't meet.
+fn gap_text(
+    alloc: Global,
+    file: Option<&[u8]>,
+    line: u64,
+    joint: &Joint,
+) -> Result<Vec<u8>, AllocError>
+    ensures { IfOk result (λ text. text.items
+        ≡ gap_text (option_copied file.entry) line joint.now.met.items joint.now.next.items) }
+{
+    let mut text = at_line(alloc, file, line)?;
+    text.extend_from_slice(b"gap from ")?;
     text.extend_from_slice(&joint.met)?;
     text.extend_from_slice(b" until ")?;
     text.extend_from_slice(&joint.next)?;
@@ -270,24 +289,21 @@ fn gap_text(alloc: Global, joint: &Joint) -> Result<Vec<u8>, AllocError>
     Ok(text)
 }
 
-/// A file's name in front of a message, where there is one.
-fn put_name(text: &mut Vec<u8>, file: Option<&[u8]>) -> Result<(), AllocError> {
-    if let Some(name) = file {
-        text.extend_from_slice(name)?;
-        text.extend_from_slice(b": ")?;
-    }
-    Ok(())
-}
-
 /// What is reported of a line that isn't one of a span's text.
 fn fault_text(alloc: Global, file: Option<&[u8]>, line: u64) -> Result<Vec<u8>, AllocError>
-    ensures { IfOk result (λ text. (front : List ℕ) × (text.items ≡ no_text front line)) }
+    ensures { IfOk result (λ text. text.items ≡ no_text (option_copied file.entry) line) }
 {
-    let mut text = Vec::new(alloc);
-    put_name(&mut text, file)?;
-    text.extend_from_slice(b"line ")?;
-    text.extend_from_slice(Buffer::new().format(line).as_bytes())?;
-    text.extend_from_slice(b": not the text of a span.\n")?;
+    let mut text = at_line(alloc, file, line)?;
+    text.extend_from_slice(b"not the text of a span.\n")?;
+    Ok(text)
+}
+
+/// What is reported of a failed read.
+fn unread_text(alloc: Global, file: Option<&[u8]>) -> Result<Vec<u8>, AllocError>
+    ensures { IfOk result (λ text. text.items ≡ unread_text (option_copied file.entry)) }
+{
+    let mut text = source_text(alloc, file)?;
+    text.extend_from_slice(b"read failed.\n")?;
     Ok(text)
 }
 
@@ -343,26 +359,30 @@ fn join_all<S: Located, O: Sink>(
 fn tell_stop<S: Located, O: Sink, E: Sink>(
     alloc: Global,
     stop: Stop,
+    files: &[Vec<u8>],
     lines: &Lines,
     input: &S,
     out: &mut O,
     err: &mut E,
 ) -> u8
     ensures kept { Keeps (O.state out.old).taken (O.state out.new).taken }
-    ensures did { ToldStop stop result (O.state out.old) (O.state out.new) (E.state err.old) (E.state err.new) }
+    ensures did { ToldStop (map (λ w. w.items) files.now) stop result
+        (O.state out.old) (O.state out.new) (E.state err.old) (E.state err.new) }
 {
+    let place = input.place(lines.begun, lines.taken);
+    let file = source_at(files, place.file);
     match stop {
-        Stop::NotText => {
-            let place = input.place(lines.begun, lines.taken);
-            tell(
-                BAD_INPUT,
-                fault_text(alloc, place.file, place.line),
-                out,
-                err,
-            )
+        Stop::NotText => tell(BAD_INPUT, fault_text(alloc, file, place.line), out, err),
+        Stop::Gap => tell(
+            GAP,
+            gap_text(alloc, file, place.line, &lines.joint),
+            out,
+            err,
+        ),
+        Stop::Device => {
+            let unread = source_at(files, input.reading());
+            tell(FAILED, unread_text(alloc, unread), out, err)
         }
-        Stop::Gap => tell(GAP, gap_text(alloc, &lines.joint), out, err),
-        Stop::Device => flush_and_refuse(FAILED, b"Read failed.\n", out, err),
         Stop::Memory => flush_and_refuse(NO_MEMORY, b"Out of memory.\n", out, err),
         Stop::WriteFailed => write_failed(err),
     }
@@ -385,11 +405,12 @@ fn first_lines(joint: Joint) -> Lines
 fn join_input<S: Located, O: Sink, E: Sink>(
     alloc: Global,
     listed: bool,
+    files: &[Vec<u8>],
     input: &mut S,
     out: &mut O,
     err: &mut E,
 ) -> u8
-    ensures did { DidJoin listed result (S.Source.state input.old) (S.Source.state input.new)
+    ensures did { DidJoin listed (map (λ w. w.items) files.now) result (S.Source.state input.old) (S.Source.state input.new)
         (sinks O.state E.state out.old err.old) (sinks O.state E.state out.new err.new) }
 {
     let Ok(joint) = Joint::new(alloc, listed) else {
@@ -398,7 +419,17 @@ fn join_input<S: Located, O: Sink, E: Sink>(
     let mut lines = first_lines(joint);
     match join_all(alloc, &mut lines, input, out) {
         Ok(()) => finish(&end_of_total(lines.joint.total), out, err),
-        Err(stop) => tell_stop(alloc, stop, &lines, input, out, err),
+        Err(stop) => tell_stop(alloc, stop, files, &lines, input, out, err),
+    }
+}
+
+/// The words after the first one.
+fn named_files(words: &[Vec<u8>]) -> &[Vec<u8>]
+    ensures { result.now ≡ drop 1 words.now }
+{
+    match words {
+        [] => &[],
+        [_, files @ ..] => files,
     }
 }
 
@@ -416,9 +447,9 @@ pub fn asked_join(words: &[Vec<u8>]) -> Option<bool>
 /// A whole run that joins spans: reads the texts that `dlx-span` writes, one after another, looks whether
 /// each begins where the one before it ended, from the beginning of the listing to its end, and writes the
 /// solutions to `out`, numbered anew, and how many there are to `err`. The words are `m1` for listings or
-/// `m0` for records alone, and then the names of files, which aren't looked at here. It returns the status: 0
-/// where the listing is complete, 1 for other words, 2 for what isn't the text of a span, 3 where a read or
-/// a write failed, 4 if memory ran out, 5 where the ends don't meet.
+/// `m0` for records alone, and then the names of the input's files, for messages. It returns the status: 0 where
+/// the listing is complete, 1 for other words, 2 for what isn't the text of a span, 3 where a read or a write
+/// failed, 4 if memory ran out, 5 where the ends don't meet.
 pub fn join_spans<S: Located, O: Sink, E: Sink>(
     alloc: Global,
     words: &[Vec<u8>],
@@ -431,7 +462,7 @@ pub fn join_spans<S: Located, O: Sink, E: Sink>(
         (sinks O.state E.state out.old err.old) (sinks O.state E.state out.new err.new) }
 {
     match asked_join(words) {
-        Some(listed) => join_input(alloc, listed, input, out, err),
+        Some(listed) => join_input(alloc, listed, named_files(words), input, out, err),
         None => refuse(BAD_WORDS, b"Usage: dlx-join m0|m1 [FILE..]\n", err),
     }
 }

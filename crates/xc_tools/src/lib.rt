@@ -21,6 +21,7 @@ mod outgoing;
 mod piece;
 mod programs;
 mod seeding;
+mod shown_names;
 mod solving;
 mod span_lines;
 mod span_run;

@@ -24,9 +24,9 @@ pub struct SpanFiles<'a, R: Files, I: Read + Drop> {
     rt: &'a R,
     names: &'a [Vec<u8>],
     stdin: I,
-    /// The open file, and how many were opened.
+    /// The open file, and how many were reached.
     file: Option<R::File>,
-    opened: usize,
+    reached: usize,
     /// The ends of the files that were read.
     ends: Vec<Ending>,
     /// What was read up to now.
@@ -46,7 +46,7 @@ impl<'a, R: Files, I: Read + Drop> SpanFiles<'a, R, I> {
             names,
             stdin,
             file: None,
-            opened: 0,
+            reached: 0,
             ends: Vec::with_capacity(alloc, names.len())?,
             read: Ending {
                 feeds: 0,
@@ -69,12 +69,12 @@ impl<'a, R: Files, I: Read + Drop> SpanFiles<'a, R, I> {
 
     /// Opens the next file, if there is one.
     fn open_next(&mut self) -> io::Result<bool> {
-        let Some(name) = self.names.get(self.opened) else {
+        let Some(name) = self.names.get(self.reached) else {
             return Ok(false);
         };
+        self.reached += 1;
         let path = str::from_utf8(name).unwrap_or("");
         self.file = Some(fs::open(self.rt, path)?);
-        self.opened += 1;
         Ok(true)
     }
 
@@ -129,9 +129,9 @@ impl<'a, R: Files, I: Read + Drop> Read for SpanFiles<'a, R, I> {
 }
 
 impl<'a, R: Files, I: Read + Drop> Located for Incoming<System<SpanFiles<'a, R, I>>> {
-    fn place(&self, begun: u64, line: u64) -> Place<'_> {
+    fn place(&self, begun: u64, line: u64) -> Place {
         let Some(files) = self.stream() else {
-            return Place { file: None, line };
+            return Place { file: 0, line };
         };
         let (first, before, feeds) = files.file_of(begun);
         let (other, others, _) = files.file_of(line);
@@ -140,9 +140,13 @@ impl<'a, R: Files, I: Read + Drop> Located for Incoming<System<SpanFiles<'a, R, 
         } else {
             feeds.saturating_sub(before).saturating_add(1)
         };
-        Place {
-            file: files.names.get(first).map(|name| name.as_slice()),
-            line,
+        Place { file: first, line }
+    }
+
+    fn reading(&self) -> usize {
+        match self.stream() {
+            Some(files) => files.reached.saturating_sub(1),
+            None => 0,
         }
     }
 }

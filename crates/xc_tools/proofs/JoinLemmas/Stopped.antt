@@ -226,33 +226,29 @@ any stop spans h = tt
 
 -- a run that stopped, by what was told
 pub run-stopped : {O E : Type 0} (listed : Bool) (new : Joint) (y : SinkState) (status : ℕ) (stop : Stop)
-    (i j : SourceState) (from to : Sinks O E)
+    (i j : SourceState) (from to : Sinks O E) (files : List (List ℕ))
     → JoinsAll listed new i j from.out.state y (Err stop) → Keeps y.taken to.out.state.taken
-    → ToldStop stop status y to.out.state from.err.state to.err.state → DidJoin listed status i j from to
-run-stopped listed new y status stop i j from to h kept (inl t) =
+    → ToldStop files stop status y to.out.state from.err.state to.err.state → DidJoin listed files status i j from to
+run-stopped listed new y status stop i j from to files h kept (inl t) =
     let begun = stopped listed new i j from.out.state y to.out.state kept stop h in
     inr (inl (
       t.0,
       begun-weaker listed (so_at stop) (λ _. ⊥) _ _ _ _
           (λ spans q. subst (λ s. so_at s spans) t.1 q) begun,
       t.2,
-      t.3,
-      t.4,
     ))
-run-stopped listed new y status stop i j from to h kept (inr (inl t)) =
+run-stopped listed new y status stop i j from to files h kept (inr (inl t)) =
     let begun = stopped listed new i j from.out.state y to.out.state kept stop h in
     inr (inr (inr (inr (
       t.0,
       begun-weaker listed (so_at stop) (λ spans. DoMeet [] spans → ⊥) _ _ _ _
           (λ spans q. subst (λ s. so_at s spans) t.1 q) begun,
       t.2,
-      t.3,
-      t.4,
     ))))
-run-stopped listed new y status stop i j from to h kept (inr (inr (inl t))) =
+run-stopped listed new y status stop i j from to files h kept (inr (inr (inl t))) =
     let begun = stopped listed new i j from.out.state y to.out.state kept stop h in
     inr (inr (inr (inl (t.0, begun-weaker listed (so_at stop) (λ _. Unit {0}) _ _ _ _ (any stop) begun, t.1))))
-run-stopped listed new y status stop i j from to h kept (inr (inr (inr (inl t)))) =
+run-stopped listed new y status stop i j from to files h kept (inr (inr (inr (inl t)))) =
     let begun = stopped listed new i j from.out.state y to.out.state kept stop h in
     let rose = read-failed listed new i j from.out.state y stop t.1 h in
     inr (inr (inl (
@@ -260,7 +256,7 @@ run-stopped listed new y status stop i j from to h kept (inr (inr (inr (inl t)))
       begun-weaker listed (so_at stop) (λ _. Unit {0}) _ _ _ _ (any stop) begun,
       inl (rose, t.2),
     )))
-run-stopped listed new y status stop i j from to h kept (inr (inr (inr (inr t)))) =
+run-stopped listed new y status stop i j from to files h kept (inr (inr (inr (inr t)))) =
     let begun = stopped listed new i j from.out.state y to.out.state kept stop h in
     let out = out-failed listed new i j from.out.state y stop h in
     let rose = all-failed listed new i j from.out.state y stop to.out.state out t.1 in
@@ -271,7 +267,7 @@ run-stopped listed new y status stop i j from to h kept (inr (inr (inr (inr t)))
     )))
 
 -- a run that came to the end of the input
-module _ {O E : Type 0} (listed : Bool) (status : ℕ) (i j : SourceState) (from to : Sinks O E) (y : SinkState)
+module _ {O E : Type 0} (listed : Bool) (status : ℕ) (i j : SourceState) (from to : Sinks O E) (files : List (List ℕ)) (y : SinkState)
     (ls : List (List ℕ)) (rest : List ℕ) (old new : Joint) (g : GaveAll i j (ended ls ++ rest)) (w : AreWhole ls)
     (free : has 10 rest ≡ false) (at : stand_reached listed ls
     ≡ goes (join_of old)) (ends : EndsAt rest old new (Ok tt))
@@ -293,7 +289,7 @@ module _ {O E : Type 0} (listed : Bool) (status : ℕ) (i j : SourceState) (from
       ⊎ ((status ≡ 3) × Rose y.failures to.out.state.failures × IsTrue to.out.state.failed
       × WasTold from.err.state to.err.state (codes "Write failed.\n"))
       ⊎ ((status ≡ 3) × (to.out.state.failures ≡ y.failures) × IsTrue to.out.state.settled
-      × BrokeOff from.err.state to.err.state (summary_text end)) → DidJoin listed status i j from to
+      × BrokeOff from.err.state to.err.state (summary_text end)) → DidJoin listed files status i j from to
   whole-run (inl h) = inl (
     h.0,
     record {
@@ -318,7 +314,7 @@ module _ {O E : Type 0} (listed : Bool) (status : ℕ) (i j : SourceState) (from
   whole-run (inr (inr h)) = inr (inr (inl (h.0, begun-whole, inr (inr (end, h.3)))))
 
 pub run-ended : {O E : Type 0} (listed : Bool) (new : Joint) (y : SinkState) (status : ℕ)
-    (i j : SourceState) (from to : Sinks O E) (end : End) (u : Unit {0})
+    (i j : SourceState) (from to : Sinks O E) (files : List (List ℕ)) (end : End) (u : Unit {0})
     → JoinsAll listed new i j from.out.state y (Ok u)
     → end ≡ (if new.total == most_counted then Limit new.total else Done new.total)
     → Keeps y.taken to.out.state.taken → to.out.state.flushes ≡ y.flushes + 1
@@ -327,7 +323,7 @@ pub run-ended : {O E : Type 0} (listed : Bool) (new : Joint) (y : SinkState) (st
     ⊎ ((status ≡ 3) × Rose y.failures to.out.state.failures × IsTrue to.out.state.failed
     × WasTold from.err.state to.err.state (codes "Write failed.\n"))
     ⊎ ((status ≡ 3) × (to.out.state.failures ≡ y.failures) × IsTrue to.out.state.settled
-    × BrokeOff from.err.state to.err.state (summary_text end)) → DidJoin listed status i j from to
-run-ended listed new y status i j from to end u (inl h) is kept flushed did = absurd (cc h.1)
-run-ended listed new y status i j from to end u (inr h) is kept flushed did =
-    whole-run listed status i j from to y h.0 h.1 h.2 new h.3 h.4 h.5 h.6 h.7 h.8 kept flushed end is did
+    × BrokeOff from.err.state to.err.state (summary_text end)) → DidJoin listed files status i j from to
+run-ended listed new y status i j from to files end u (inl h) is kept flushed did = absurd (cc h.1)
+run-ended listed new y status i j from to files end u (inr h) is kept flushed did =
+    whole-run listed status i j from to files y h.0 h.1 h.2 new h.3 h.4 h.5 h.6 h.7 h.8 kept flushed end is did

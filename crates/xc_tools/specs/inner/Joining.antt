@@ -5,7 +5,8 @@ use Rattle.xc_input.specs.Words.{has}
 use Rattle.xc_input.specs.inner.EndedLines.{ended, AreWhole}
 use Rattle.xc_input.specs.Pieces.{SourceState, Gave, GaveAll}
 use Rattle.xc_list.specs.Texts.{SinkState, Took, BrokeOff, WasTold}
-use Rattle.xc_tools.specs.Joins.{gap_text, no_text}
+use Rattle.xc_tools.specs.Joins.{gap_text, no_text, unread_text}
+use Rattle.xc_tools.specs.ShownNames.{OfSource}
 use Rattle.std.specs.Prelude.{codes}
 use Rattle.xc_tools.specs.declared.joining.Lines.{Lines}
 use Rattle.xc_tools.specs.declared.joining.Stop.{Stop}
@@ -99,11 +100,11 @@ WriteFails WriteFailed old new = new.failures ≡ old.failures
 WriteFails _ old new = Rose old.failures new.failures
 
 -- the message of a run that stopped, by its status
-abbrev pub ToldStop : Stop → ℕ → SinkState → SinkState → SinkState → SinkState → Type 0
-ToldStop stop status out_old out_new old new = ((status ≡ 2) × (stop ≡ NotText) × (file : List ℕ) × (line : ℕ)
-    × WasTold old new
-    (no_text file line))
-    ⊎ ((status ≡ 5) × (stop ≡ Gap) × (met : List ℕ) × (next : List ℕ) × WasTold old new (gap_text met next))
-    ⊎ ((status ≡ 4) × WasTold old new (codes "Out of memory.\n"))
-    ⊎ ((status ≡ 3) × (stop ≡ Device) × WasTold old new (codes "Read failed.\n"))
-    ⊎ ((status ≡ 3) × WriteFails stop out_old out_new × WasTold old new (codes "Write failed.\n"))
+abbrev pub ToldStop : List (List ℕ) → Stop → ℕ → SinkState → SinkState → SinkState → SinkState → Type 0
+ToldStop files stop status out_old out_new old new = let told = WasTold old new in
+    ((status ≡ 2) × (stop ≡ NotText) × OfSource files (λ file. (line : ℕ) × told (no_text file line)))
+    ⊎ ((status ≡ 5) × (stop ≡ Gap)
+    × OfSource files (λ file. (line : ℕ) × (met : List ℕ) × (next : List ℕ) × told (gap_text file line met next)))
+    ⊎ ((status ≡ 4) × told (codes "Out of memory.\n"))
+    ⊎ ((status ≡ 3) × (stop ≡ Device) × OfSource files (λ file. told (unread_text file)))
+    ⊎ ((status ≡ 3) × WriteFails stop out_old out_new × told (codes "Write failed.\n"))

@@ -8,7 +8,7 @@ pub returns-in-Ok-join_all : goal.returns-in-Ok-join_all
 returns-in-Ok-join_all g c = record {
   did = run-ended c.args.listed c.join_all.new.lines.joint (g.O.Sink.state c.join_all.new.out) c.finish.result
       _ _ (sinks g.O.Sink.state g.E.Sink.state c.args.out.now c.args.err.now)
-      (sinks g.O.Sink.state g.E.Sink.state c.finish.new.out c.finish.new.err) _ _
+      (sinks g.O.Sink.state g.E.Sink.state c.finish.new.out c.finish.new.err) _ _ _
       (joins-as _ (ap (λ j. j.listed) c.first_lines-lines.ensures.joint ∙ ap (λ (j : Join). j.listed) c.in-Ok.ensures)
       c.in-Ok-join_all.ensures.joins) c.end_of_total.ensures c.finish.ensures.kept c.finish.ensures.flushed_once
       c.finish.ensures.did;
@@ -19,7 +19,7 @@ returns g c = record {
   did = run-stopped c.args.listed c.join_all.new.lines.joint (g.O.Sink.state c.join_all.new.out) c.tell_stop.result
       c.in-Err.stop
       _ _ (sinks g.O.Sink.state g.E.Sink.state c.args.out.now c.args.err.now)
-      (sinks g.O.Sink.state g.E.Sink.state c.tell_stop.new.out c.tell_stop.new.err)
+      (sinks g.O.Sink.state g.E.Sink.state c.tell_stop.new.out c.tell_stop.new.err) _
       (joins-as _ (ap (λ j. j.listed) c.first_lines-lines.ensures.joint ∙ ap (λ (j : Join). j.listed) c.in-Ok.ensures)
       c.in-Err.ensures.joins) c.tell_stop.ensures.kept c.tell_stop.ensures.did;
 }
