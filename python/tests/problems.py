@@ -1,5 +1,6 @@
 """Random problems of all kinds, as texts."""
 
+import math
 import random
 
 COLOURS = ["a", "b", "red", "x:y", "|"]
@@ -30,3 +31,24 @@ def problem_of(rng: random.Random, kind: int, items: int = 7, options: int = 18,
         if rng.random() < 0.05:
             lines.append(rng.choice(["", "| i0 is a comment"]))
     return ("\n".join(lines) + rng.choice(["\n", "\n", ""])).encode()
+
+
+def narrow(rng: random.Random, queens: int) -> bytes:
+    """A problem whose solutions are those of some queens, in a narrow place of its tree.
+
+    Some items before them have up to 11 branches, of which all but one lead nowhere. So each solution is the last of
+    more branches than the numbers of a processor tell apart.
+    """
+    gates = []
+    while math.prod(gates) < 10 ** rng.uniform(13.5, 30):
+        gates.append(rng.randint(2, 11))
+    primary = [f"{name}{n}" for names, count in (("gz", len(gates)), ("rc", queens)) for name in names for n in range(count)]
+    secondary = [f"y{n}" for n in range(len(gates))] + [f"{name}{n}" for name in "ab" for n in range(2 * queens)]
+    lines = [" ".join([*primary, "|", *secondary])]
+    for n, branches in enumerate(gates):
+        good = rng.randrange(branches)
+        lines += [f"g{n} z{n}" if branch == good else f"g{n} y{n}" for branch in range(branches)]
+        # More than any gate has, so that the gate is the branch item.
+        lines += [f"z{n} y{n}"] * 12
+    lines += [f"r{x} c{y} a{x + y} b{x - y + queens}" for x in range(queens) for y in range(queens)]
+    return ("\n".join(lines) + "\n").encode()

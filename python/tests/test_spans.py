@@ -22,10 +22,11 @@ from helgrothy.spans.commands import NOT_DONE, progress_main
 from helgrothy.spans.folder import Folder
 from helgrothy.spans.loop import Job, Kept, Loop
 from helgrothy.spans.pace import Pace
-from helgrothy.spans.rows import WHOLE, Span, cut, read, word_of
-from tests.problems import problem_of
+from helgrothy.spans.rows import PARTS, WHOLE, Span, cut, place, read, share_of, word_of
+from tests.problems import narrow, problem_of
 
 QUEENS = make.queens.problem(7).text.encode()
+FIFTH = PARTS // 5
 
 
 def whole(kind: int, problem: bytes, *words: str):
@@ -64,7 +65,40 @@ class Rows(unittest.TestCase):
         found = sorted(tuple(rng.randint(1, n) for n in branches[: rng.randint(0, 4)]) for _ in range(200))
         places = [rows.place(row, branches) for row in found]
         self.assertEqual(places, sorted(places))
-        self.assertEqual((places[0], max(places) < 1), (0.0, True))
+        self.assertEqual((places[0], max(places) < PARTS), (0, True))
+        # Branches that there aren't have no parts.
+        self.assertEqual([place((k, 1), (3, 4)) for k in (0, 1, 2, 3, 4, 9)], [0, 0, PARTS // 3, 2 * PARTS // 3, PARTS, PARTS])
+
+    def test_places_are_exact(self):
+        """Where the places of the pieces of a span stand nearer to one another than the numbers of a processor do."""
+        rng = random.Random(11)
+        for _ in range(2000):
+            branches = tuple(rng.randint(1, 10) for _ in range(rng.randint(16, 30)))
+            start = tuple(rng.randint(1, n) for n in branches)
+            level = rng.randint(len(start) // 2, len(start) - 1)
+            until = (*start[:level], rng.randint(start[level], branches[level]) + 1)
+            narrow = Span(start, until, place(start, branches), place(until, branches))
+            pieces = cut(narrow, branches, rng.choice([2, 8, 64]))
+            places = [piece.begins for piece in pieces] + [narrow.ends]
+            self.assertEqual(places, sorted(set(places)))
+            self.assertEqual(places, [place(piece.start, branches) for piece in pieces] + [place(until, branches)])
+
+    def test_places_are_cheap(self):
+        """Of rows of many levels, which meet no other way; of what no number of parts can tell, nothing is told."""
+        branches = (1,) * 20_000 + (2,) * 20_000
+        start = (1,) * len(branches)
+        deep = Span(start, (*start[:-1], 2), place(start, branches), place((*start[:-1], 2), branches))
+        self.assertEqual((deep.begins, deep.ends), (0, 0))
+        pieces = cut(deep._replace(until=(*start[:-2], 2)), branches, 8)
+        self.assertEqual([piece.until for piece in pieces], [(*start[:-1], 2), (*start[:-2], 2)])
+        self.assertEqual({piece.begins for piece in pieces}, {0})
+
+    def test_shares(self):
+        self.assertEqual([share_of(PARTS // 4), share_of(0), share_of(-1)], [0.25, 0.0, 0.0])
+        for parts in (PARTS - 1, PARTS, PARTS + 1):
+            self.assertLess(share_of(parts), 1)
+            self.assertEqual(loop.percent(share_of(parts)), "99.9 %")
+            self.assertEqual(loop.percent(share_of(parts, is_done=True)), "100 %")
 
     def test_cut(self):
         """Pieces meet, rise and are as many as can be."""
@@ -76,7 +110,7 @@ class Rows(unittest.TestCase):
             if until is not None and until <= start:
                 continue
             wanted = rng.randint(1, 20)
-            pieces = cut(Span(start, until, 0.0, 0.1), branches, wanted)
+            pieces = cut(Span(start, until, 0, PARTS), branches, wanted)
             self.assertLessEqual(len(pieces), wanted)
             self.assertEqual((pieces[0].start, pieces[-1].until), (start, until))
             for one, other in zip(pieces, pieces[1:]):
@@ -89,9 +123,9 @@ class Rows(unittest.TestCase):
 
     def test_gaps(self):
         self.assertEqual(folders.gaps([]), [WHOLE])
-        done = [Span((), (2,), 0, 0.5), Span((3,), (4,), 0.6, 0.7)]
-        self.assertEqual(folders.gaps(done), [Span((2,), (3,), 0.5, 0.6), Span((4,), None, 0.7, 1.0)])
-        self.assertEqual(folders.gaps([*done, Span((4,), None, 0.7, 1.0)]), [Span((2,), (3,), 0.5, 0.6)])
+        done = [Span((), (2,), 0, 50), Span((3,), (4,), 60, 70)]
+        self.assertEqual(folders.gaps(done), [Span((2,), (3,), 50, 60), Span((4,), None, 70, PARTS)])
+        self.assertEqual(folders.gaps([*done, Span((4,), None, 70, PARTS)]), [Span((2,), (3,), 50, 60)])
 
     def test_rows_that_cut(self):
         rng = random.Random(3)
@@ -106,7 +140,7 @@ class Rows(unittest.TestCase):
 
 class Records(unittest.TestCase):
     def test_what_is_refused(self):
-        part = Span((3,), (4, 1), 0.0, 1.0)
+        part = Span((3,), (4, 1), 0, PARTS)
         right = [
             (b"from 3 until 4.1 solutions 7 steps 9\n", False, ((4, 1), (), 7)),
             (b"from 3 until 3.2.1 of 8.9.2 solutions 0 steps 9\n", False, ((3, 2, 1), (8, 9, 2), 0)),
@@ -268,8 +302,8 @@ class Loops(unittest.TestCase):
     def test_random_cuts_give_the_listing(self):
         """Any number of steps, and any order in which spans come back."""
         rng = random.Random(7)
-        for kind, _ in itertools.product((1, 2, 3), range(6)):
-            problem = problem_of(rng, kind)
+        for kind, number in itertools.product((1, 2, 3), range(7)):
+            problem = problem_of(rng, kind) if number else narrow(rng, 5)
             found = {}
             with mock.patch.object(Pace, "steps", lambda *_: rng.randint(1, 9)):
                 job = Job(problem, kind, listed=True)
@@ -279,7 +313,7 @@ class Loops(unittest.TestCase):
             listing = b"".join(kept.text for _, kept in sorted(found.items()))
             joined = subprocess.run([programs.find("dlx-join"), "m1"], input=listing, capture_output=True)
             self.assertEqual((joined.returncode, joined.stdout), (0, whole(kind, problem, "m1")[0]), joined.stderr)
-            self.assertAlmostEqual(search.share, 1.0)
+            self.assertEqual(search.parts, PARTS)
 
     def test_long_texts_and_long_rows(self):
         problem = make.queens.problem(6).text.encode()
@@ -329,11 +363,11 @@ class Folders(unittest.TestCase):
         """Some spans that are done, of which the second is left."""
         job = job or self.job
         with Folder(self.path, job) as folder:
-            for start, until, begins, ends in (((), (2,), 0, 0.2), ((3,), (4,), 0.4, 0.6), ((4,), None, 0.6, 1)):
+            for start, until, at, ends in (((), (2,), 0, FIFTH), ((3,), (4,), 2 * FIFTH, 3 * FIFTH), ((4,), None, 3 * FIFTH, PARTS)):
                 task = span.Task(1, job.listed, QUEENS, word_of(start), word_of(until), 0, 0)
                 ran = span.run(task)
-                told = record.of_text(ran.text, Span(start, until, begins, ends), job.listed)
-                folder.keep(Kept(Span(start, until, begins, ends), ran.text, told.solutions, 0.5))
+                told = record.of_text(ran.text, Span(start, until, at, ends), job.listed)
+                folder.keep(Kept(Span(start, until, at, ends), ran.text, told.solutions, 0.5))
                 if flushes > 1:
                     folder.flush()
             folder.flush()
@@ -342,8 +376,8 @@ class Folders(unittest.TestCase):
     def test_files_follow_one_another(self):
         self.assertEqual(len(self.fill()), 2)
         with Folder(self.path, self.job) as folder:
-            self.assertEqual(folder.todo(), [Span((2,), (3,), 0.2, 0.4)])
-            self.assertAlmostEqual(folder.share, 0.8)
+            self.assertEqual(folder.todo(), [Span((2,), (3,), FIFTH, 2 * FIFTH)])
+            self.assertEqual(folder.parts, PARTS - FIFTH)
             self.assertEqual(folder.seconds, 1.5)
             folder.check()
             gap = folder.todo()[0]
@@ -356,6 +390,29 @@ class Folders(unittest.TestCase):
             self.assertEqual(len(list(folder.chain())), 1)
             folder.remove()
         self.assertFalse(os.path.exists(self.path))
+
+    def test_no_file_is_refused_for_its_places(self):
+        self.fill()
+        with Folder(self.path, self.job) as folder:
+            ran = span.run(span.Task(1, False, QUEENS, "2", "3", 0, 0))
+            solutions = record.of_text(ran.text, folder.todo()[0], False).solutions
+            folder.keep(Kept(Span((2,), (3,), 2 * FIFTH, FIFTH), ran.text, solutions, 0.5))
+            folder.flush()
+        with Folder(self.path, is_read=True) as folder:
+            folder.check()
+            self.assertEqual((folder.todo(), folder.solutions), ([], 40))
+
+    def test_what_is_left_is_not_100_percent(self):
+        """Also if it is too little for a number."""
+        with Folder(self.path, self.job) as folder:
+            folder.keep(Kept(Span((), (2, 1), 0, FIFTH), b"", 0, 0.5))
+            folder.flush()
+            folder.keep(Kept(Span((2, 1, 1), None, FIFTH, PARTS), b"", 0, 0.5))
+            folder.flush()
+        out = io.StringIO()
+        with contextlib.redirect_stdout(out), mock.patch("helgrothy.console.write", lambda lines: out.writelines(lines)):
+            self.assertEqual(main(["status", self.path]), 0)
+        self.assertIn("99.9 % done", out.getvalue())
 
     def test_a_listing_stays_in_files(self):
         self.assertEqual(len(self.fill(Job(QUEENS, 1, True), flushes=3)), 3)
@@ -372,6 +429,20 @@ class Folders(unittest.TestCase):
         told = "of version 0.1.0"
         with mock.patch.object(folders, "__version__", "0.0.9"), self.assertRaisesRegex(SearchFault, told):
             Folder(self.path, self.job)
+
+    def test_a_folder_of_another_form(self):
+        """As an earlier version wrote it, whose number may be the same."""
+        self.fill()
+        path = os.path.join(self.path, "search")
+        with open(path) as file:
+            right = file.read()
+        for first in ("helgrothy search", "helgrothy search, form 1", "helgrothy search, form 3"):
+            with open(path, "w") as file:
+                file.write(right.replace(right.partition("\n")[0], first))
+            for how in ({"job": self.job}, {"is_read": True}):
+                with self.assertRaisesRegex(SearchFault, f"{self.path}: it is of a version that wrote other files"):
+                    Folder(self.path, **how)
+        self.assertEqual(sorted(os.listdir(self.path))[-3:], ["lock", "problem.dlx", "search"])
 
     def test_one_command_holds_it(self):
         with Folder(self.path, self.job):
@@ -441,7 +512,7 @@ class Folders(unittest.TestCase):
         name = self.fill()[0]
         shutil.copy(os.path.join(self.path, name), os.path.join(self.path, "00000077.span"))
         with Folder(self.path, self.job) as folder:
-            self.assertAlmostEqual(folder.share, 0.8)
+            self.assertEqual(folder.parts, PARTS - FIFTH)
 
     def test_what_is_no_file(self):
         name = os.path.join(self.path, self.fill()[0])
@@ -469,7 +540,7 @@ class Folders(unittest.TestCase):
                 file.write(b"[" * 100_000)
         with Folder(self.path, self.job) as folder:
             folder.check()
-            self.assertAlmostEqual(folder.share, 0.8)
+            self.assertEqual(folder.parts, PARTS - FIFTH)
 
     def test_heads_of_another_form(self):
         """As another version might write them: a word more, a word less, and words of another kind."""
@@ -628,6 +699,8 @@ class Progress(unittest.TestCase):
         told = []
         progress.follow(listing, told.append, 0)
         self.assertEqual(len(told), 2)
+        progress.follow([b"1:\n", b" a (99999 of 99999)\n"], told.append, 0)
+        self.assertRegex(told[-1], "solution 1, 99.99% of the tree")
         digits = [line % (b"9" * 400) for line in (b" a (1 of %s)\n", b" a (%s of 1)\n", b"%s:\n")]
         for line in (b"x\n", b" a (0 of 2)\n", b" a (3 of 2)\n", b"0:\n", b" a (1 of 0)\n", *digits):
             with self.assertRaises(ListingFault):

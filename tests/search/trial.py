@@ -15,7 +15,7 @@ sys.path[:0] = [os.path.join(TOP, "python"), os.path.join(TOP, "python", "tests"
 os.environ["PYTHONDONTWRITEBYTECODE"] = "1"
 
 from helgrothy.make import langford, queens  # noqa: E402
-from problems import problem_of  # noqa: E402
+from problems import narrow, problem_of  # noqa: E402
 
 NOT_DONE, CANT, STOPPED = 6, 2, (129, 130, 131, 143, -1, -2, -3, -9, -15)
 # So many seconds a command may take.
@@ -71,6 +71,8 @@ class Trial:
     def some_problem(self):
         """A kind and a text, of up to some seconds of a search."""
         rng = self.rng
+        if rng.random() < 0.15:
+            return rng.choice([1, 2, 3]), narrow(rng, rng.randint(6, 8))
         if rng.random() < 0.5:
             made = queens.problem(rng.randint(8, 10)) if rng.random() < 0.7 else langford.problem(rng.choice([7, 8]))
             text = made.text.encode()

@@ -23,7 +23,7 @@ from .join import Ending, Join
 from .join import count as joined
 from .loop import Job, Kept, Loop, percent
 from .progress import duration, follow
-from .rows import WHOLE, Span, word_of
+from .rows import WHOLE, Span, share_of, word_of
 from .show import Shown
 from .span import Task, run
 from .text import ignored, kind_of
@@ -123,13 +123,13 @@ class _Searching:
         self._arguments = arguments
         self._shown = Shown(job.listed)
         self._join: Join | None = None
-        self._share = folder.share
+        self._parts = folder.parts
         self._loop: Loop | None = None
 
     def run(self) -> int:
         todo = self._folder.todo()
-        if todo and self._share > 0:
-            console.say(f"goes on at {percent(self._share)} ({self._folder.solutions:,} solutions)")
+        if todo and self._folder.entries:
+            console.say(f"goes on at {self._percent()} ({self._folder.solutions:,} solutions)")
         try:
             if not self._job.listed:
                 return self._search(todo) or self._end(joined(self._folder.texts()))
@@ -157,12 +157,12 @@ class _Searching:
             return 0
         with self._workers() as workers:
             self._loop = Loop(self._job, workers.submit, workers.count, self._keep, self._tell, workers.ahead)
-            self._loop.done_before(self._folder.share, self._folder.solutions)
+            self._loop.done_before(self._folder.parts, self._folder.solutions)
             try:
                 is_done = self._loop.search(list(todo), self._arguments.most)
             finally:
                 # What is done is kept, whatever came.
-                self._share = self._loop.share
+                self._parts = self._loop.parts
                 self._folder.flush()
         self._give()
         if not is_done:
@@ -200,7 +200,11 @@ class _Searching:
 
     def _tell_stop(self, why: str) -> None:
         self._shown.clear()
-        console.say(f"helgrothy: {why}: {percent(self._share)}; the same command goes on ({self._folder.path})")
+        console.say(f"helgrothy: {why}: {self._percent()}; the same command goes on ({self._folder.path})")
+
+    def _percent(self) -> str:
+        """How much is done of a search that isn't done."""
+        return percent(share_of(self._parts))
 
 
 def _failed(error: ProgramFailed) -> int:
@@ -238,7 +242,7 @@ def _add_status(commands: Any) -> None:
 
 def _status(arguments: argparse.Namespace) -> int:
     folder = Look(arguments.folder)
-    share = folder.share if folder.todo() else 1.0
+    share = share_of(folder.parts, is_done=not folder.todo())
     told = [f"{percent(share)} done: {folder.solutions:,} solutions, {duration(folder.seconds)} of a processor"]
     if 0 < share < 1:
         told.append(f"left: about {duration(folder.seconds * (1 - share) / share)} of a processor")

@@ -6,7 +6,7 @@ import heapq
 import time
 
 from . import record as records
-from .rows import Row, Span, place, word_of
+from .rows import PARTS, WHOLE, Row, place, word_of
 from .span import Task, run
 
 _SECONDS = 1.0
@@ -43,18 +43,18 @@ _ENOUGH = 4
 def _branches(problem: bytes, kind: int, row: Row, level: int) -> int:
     """The branches of the node at a row, or 0 where there is none or it is a solution."""
     task = Task(kind=kind, listed=False, problem=problem, start=word_of(row), until="-", steps=1, most=0)
-    record = records.of_text(run(task).text, Span(row, None, 0.0, 1.0), listed=False)
+    record = records.of_text(run(task).text, WHOLE._replace(start=row), listed=False)
     stop = record.until or ()
     return record.branches[level] if len(stop) > level and stop[:level] == row else 0
 
 
-def _even(edges: list[tuple[Row, float]], count: int) -> list[Row]:
+def _even(edges: list[tuple[Row, int]], count: int) -> list[Row]:
     """So many of the rows, whose places are as even as can be."""
     if len(edges) <= count:
         return [row for row, _ in edges]
     taken: list[Row] = []
     for number, (row, at) in enumerate(edges):
-        is_due = at >= (len(taken) + 1) / (count + 1)
+        is_due = at * (count + 1) >= (len(taken) + 1) * PARTS
         if len(taken) < count and (is_due or len(edges) - number <= count - len(taken)):
             taken.append(row)
     return taken

@@ -34,7 +34,9 @@ _SEARCH, _PROBLEM, _LOCK = "search", "problem.dlx", "lock"
 _SPAN = re.compile(r"([0-9]{8,12})\.span\Z")
 _LEFT = re.compile(r"(?:[0-9]{8,12}|search|problem\.dlx)\.tmp\Z")
 _HEAD = b"span "
-_FORM = "helgrothy search"
+_FORM = "helgrothy search, form 2"
+_OTHER_FORM = re.compile(r"helgrothy search(?:, form [0-9]{1,9})?\Z")
+_OTHERS = "it is of a version that wrote other files"
 # Neither a line with two rows nor that of the search is longer.
 _MOST_LINE = 1 << 20
 # A text of one step may be long; no more is read.
@@ -188,7 +190,9 @@ class Folder:
                 text = file.read(_MOST_LINE)
         except FileNotFoundError:
             raise SearchFault(f"{self.path}: it is no folder of a search") from None
-        lines = text.decode("utf-8", "replace").splitlines()
+        lines = text.decode("utf-8", "replace").splitlines() or [""]
+        if lines[0] != _FORM and _OTHER_FORM.match(lines[0]):
+            raise SearchFault(f"{self.path}: {_OTHERS}; remove it, or name another one by --folder")
         fields = [line.partition(" ")[2] for line in lines[1:5]]
         if len(fields) < 4:
             raise SearchFault(f"{path}: it is damaged")
@@ -259,7 +263,8 @@ class Folder:
         return gaps(entry.span for entry in sorted(self.entries.values(), key=_order))
 
     @property
-    def share(self) -> float:
+    def parts(self) -> int:
+        """What is done of the tree's parts."""
         return sum(entry.span.ends - entry.span.begins for entry in self.entries.values())
 
     @property
@@ -458,11 +463,12 @@ def _head(path: str, file: IO[bytes]) -> Entry:
     try:
         if not line.startswith(_HEAD) or not line.endswith(b"\n") or len(fields) != 8:
             raise ValueError
-        digest, start, until, *numbers = fields
-        begins, ends, seconds = (float(number) for number in (numbers[0], numbers[1], numbers[4]))
-        length, solutions = (_number(number) for number in numbers[2:4])
+        digest, start, until, *numbers, seconds_told = fields
+        begins, ends, length, solutions = map(_number, numbers)
+        seconds = float(seconds_told)
+        # The two places tell how far the search is, and nothing else.
         span = Span(read(start), read_until(until), begins, ends)
-        if not 0 <= begins <= ends <= 1 or not 0 <= seconds < math.inf or not precedes(span.start, span.until):
+        if not 0 <= seconds < math.inf or not precedes(span.start, span.until):
             raise ValueError
         if line != b"%s%s %s" % (_HEAD, digest.encode(), _fields(span, length, solutions, seconds)):
             raise ValueError
@@ -474,14 +480,14 @@ def _head(path: str, file: IO[bytes]) -> Entry:
 
 
 def _number(word: str) -> int:
-    if not re.match(r"[0-9]{1,40}\Z", word):
+    if not re.match(r"[0-9]{1,80}\Z", word):
         raise ValueError
     return int(word)
 
 
 def _fields(span: Span, length: int, solutions: int, seconds: float) -> bytes:
     rows = f"{word_of(span.start)} {word_of(span.until)}"
-    return f"{rows} {float(span.begins)!r} {float(span.ends)!r} {length} {solutions} {seconds!r}\n".encode()
+    return f"{rows} {span.begins} {span.ends} {length} {solutions} {seconds!r}\n".encode()
 
 
 def _order(entry: Entry) -> tuple[Row, bool, tuple[int, ...]]:

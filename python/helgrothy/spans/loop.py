@@ -19,7 +19,7 @@ from .. import __version__
 from ..errors import HelgrothyError, ProgramFailed, ProgramNotFound, SearchFault, reason_of
 from . import record as records
 from .pace import SHORTEST, Pace
-from .rows import Span, cut, place, word_of
+from .rows import PARTS, Span, cut, place, share_of, word_of
 from .span import Ran, Task, run
 
 if TYPE_CHECKING:
@@ -38,7 +38,7 @@ _MOST_FACTOR = 1 << 40
 MOST_TEXT = 1 << 24
 _TICK = 0.1
 # Before so much of a search is done nobody knows how long it takes.
-_LEAST_SHARE = 0.001
+_LEAST_PARTS = PARTS // 1000
 
 
 class Kept(NamedTuple):
@@ -53,8 +53,9 @@ class Kept(NamedTuple):
 class Progress(NamedTuple):
     """How far a search is.
 
-    share: of the tree, if all branches of a level are taken to be equally large. seconds: since it began or went on.
-    left: about how many seconds it takes yet, None where nothing is known. at_work: the spans that are searched.
+    share: of the tree, if all branches of a level are taken to be equally large; 1 when all is done, and not before.
+    seconds: since it began or went on. left: about how many seconds it takes yet, None where nothing is known. at_work:
+    the spans that are searched.
     """
 
     share: float
@@ -127,13 +128,14 @@ class Loop:
         self._runs: dict[int, tuple[_Todo, int, Callable[[], object]]] = {}
         self._begun = time.monotonic()
         self._deadline = float("inf")
-        self._share_before = 0.0
-        self.share = 0.0
+        self._parts_before = 0
+        # What is done of the tree's parts.
+        self.parts = 0
         self.solutions = 0
 
-    def done_before(self, share: float, solutions: int) -> None:
+    def done_before(self, parts: int, solutions: int) -> None:
         """What was done when the search goes on."""
-        self._share_before = self.share = share
+        self._parts_before = self.parts = parts
         self.solutions = solutions
 
     def wake(self) -> None:
@@ -170,15 +172,16 @@ class Loop:
     def progress(self) -> Progress:
         seconds = time.monotonic() - self._begun
         at_work = min(len(self._runs), self._workers())
-        return Progress(min(self.share, 1.0), self.solutions, seconds, self._time_left(seconds), at_work)
+        done = share_of(self.parts, is_done=not (self._ready or self._runs))
+        return Progress(done, self.solutions, seconds, self._time_left(seconds), at_work)
 
     def _time_left(self, elapsed: float) -> float | None:
-        return self._time_of(max(1 - self.share, 0.0), elapsed)
+        return self._time_of(max(PARTS - self.parts, 0), elapsed)
 
-    def _time_of(self, share: float, elapsed: float) -> float | None:
-        """How long such a share of the tree is likely to take all workers, where anything is known of that."""
-        done = self.share - self._share_before
-        return elapsed * share / done if done >= _LEAST_SHARE else None
+    def _time_of(self, parts: int, elapsed: float) -> float | None:
+        """How long so much of the tree is likely to take all workers, where anything is known of that."""
+        done = self.parts - self._parts_before
+        return elapsed * (parts / done) if done >= _LEAST_PARTS else None
 
     def _put(self, todo: _Todo) -> None:
         # The earliest comes first, so that a listing comes in its order and few spans wait to be joined.
@@ -260,7 +263,7 @@ class Loop:
         return max(missing, 1)
 
     def _done(self, kept: Kept) -> None:
-        self.share += kept.span.ends - kept.span.begins
+        self.parts += kept.span.ends - kept.span.begins
         self.solutions += kept.solutions
         self._keep(kept)
 
@@ -293,8 +296,8 @@ def _once_more(todo: _Todo, error: BaseException) -> _Todo:
 
 
 def percent(share: float) -> str:
-    # What isn't done isn't 100 %.
-    return f"{min(int(share * 1000) / 10, 99.9) if share < 1 else 100:g} %"
+    """A share, rounded down: what isn't done isn't 100 %."""
+    return f"{int(share * 1000) / 10:g} %"
 
 
 def clock(seconds: float) -> str:

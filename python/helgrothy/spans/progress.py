@@ -8,7 +8,7 @@ from collections.abc import Callable, Iterable, Iterator
 
 from ..errors import ListingFault
 from ..shown import text_of
-from .rows import place
+from .rows import place, share_of
 
 _HEADER = re.compile(rb"([0-9]{1,20}):\n?\Z")
 _CHOICE = re.compile(rb"\A .* \(([0-9]{1,10}) of ([0-9]{1,10})\)\n?\Z")
@@ -29,12 +29,12 @@ def shares(listing: Iterable[bytes]) -> Iterator[tuple[int, float]]:
             branches.append(int(choice.group(2)))
         elif header is not None and int(header.group(1)):
             if number:
-                yield number, place(tuple(row), tuple(branches))
+                yield number, share_of(place(tuple(row), tuple(branches)))
             number, row, branches = int(header.group(1)), [], []
         else:
             raise ListingFault(at, text_of(line.rstrip(b"\n")[:_LONGEST]), "bad line")
     if number:
-        yield number, place(tuple(row), tuple(branches))
+        yield number, share_of(place(tuple(row), tuple(branches)))
 
 
 def follow(listing: Iterable[bytes], tell: Callable[[str], object], every: float = 1.0) -> None:
@@ -61,4 +61,5 @@ def duration(seconds: float) -> str:
 
 def _told(number: int, share: float, seconds: float) -> str:
     left = f", about {duration(seconds * (1 / share - 1))} left" if share > 0 else ""
-    return f"{duration(seconds)}: solution {number}, {100 * share:.2f}% of the tree{left}"
+    # Rounded down: what isn't done isn't 100 %.
+    return f"{duration(seconds)}: solution {number}, {int(share * 10_000) / 100:.2f}% of the tree{left}"

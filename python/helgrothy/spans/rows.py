@@ -1,7 +1,11 @@
 """Rows of branch numbers: the number of each member's choices from the first level down.
 
 Rows stand in the order of a dictionary, as tuples of Python do. The empty row is the beginning of a listing; None is
-its end. Of a tree whose branches of a level are taken to be equally large, a row has a place from 0 to 1.
+its end.
+
+A tree has `PARTS` parts, and each branch of a node as many of the node's parts as any other one, give or take one. A
+row's place is the number of parts before it. The parts of a branch begin where those of the branch before it end, so
+places never fall from a row to a later one, however deep the rows are, and what is added up is exact.
 """
 
 from __future__ import annotations
@@ -15,8 +19,11 @@ Row = tuple[int, ...]
 Until = Optional[Row]
 
 MOST_NUMBER = (1 << 32) - 1
-# Of the pieces of a cut none is judged to be a smaller share of the whole than this.
-_LEAST_PIECE = 1 / 128
+PARTS = 1 << 256
+# What isn't done is no larger share.
+_NEARLY_ALL = 1 - 2**-53
+# A span isn't cut at a level whose branches are smaller than one such part of it.
+_LEAST_PIECE = 128
 _WORD = re.compile(r"[0-9]+(?:\.[0-9]+)*\Z")
 _MANY_DIGITS = re.compile(r"0*[1-9][0-9]{10}")
 
@@ -26,11 +33,11 @@ class Span(NamedTuple):
 
     start: Row
     until: Until
-    begins: float
-    ends: float
+    begins: int
+    ends: int
 
 
-WHOLE = Span((), None, 0.0, 1.0)
+WHOLE = Span((), None, 0, PARTS)
 
 
 def word_of(row: Until) -> str:
@@ -60,13 +67,30 @@ def precedes(row: Row, until: Until) -> bool:
     return until is None or row < until
 
 
-def place(row: Row, branches: Row) -> float:
-    """The share of the tree before a row, each of whose numbers stands beside the number of branches of its level."""
-    before, share = 0.0, 1.0
+def place(row: Row, branches: Row) -> int:
+    """The place of a row, each of whose numbers stands beside the number of branches of its level."""
+    begins, parts = 0, PARTS
     for k, n in zip(row, branches):
-        share /= max(n, 1)
-        before += max(k - 1, 0) * share
-    return min(before, 1.0)
+        begins, parts = _branch(begins, parts, k, n)
+    return begins
+
+
+def share_of(parts: int, is_done: bool = False) -> float:
+    """The share of the tree that so many parts are: 1 of what is done alone."""
+    return 1.0 if is_done else min(max(parts, 0) / PARTS, _NEARLY_ALL)
+
+
+def _branch(begins: int, parts: int, k: int, n: int) -> tuple[int, int]:
+    """Where branch k of a node's n begins and how many parts it has; a branch that there isn't has none."""
+    if k == n == 1:
+        return begins, parts
+    before = _before(parts, k, n)
+    return begins + before, _before(parts, k + 1, n) - before
+
+
+def _before(parts: int, k: int, n: int) -> int:
+    """How many of a node's parts stand before its branch k."""
+    return parts * min(max(k - 1, 0), n) // max(n, 1)
 
 
 def cut(span: Span, branches: Row, pieces: int) -> list[Span]:
@@ -74,30 +98,34 @@ def cut(span: Span, branches: Row, pieces: int) -> list[Span]:
 
     `branches` are those of the levels of the row at which it begins.
     """
-    found: list[tuple[Row, float]] = []
-    before, share = 0.0, 1.0
+    found: list[tuple[Row, int]] = []
+    begins, parts = 0, PARTS
+    # The row of the end, as long as it is that of the beginning.
+    end = span.until
     for level, (k, n) in enumerate(zip(span.start, branches)):
-        share /= max(n, 1)
         wanted = pieces - 1 - len(found)
-        if wanted <= 0 or share < _LEAST_PIECE * (span.ends - span.begins):
+        if wanted <= 0 or parts * _LEAST_PIECE < n * (span.ends - span.begins):
             break
-        last = _last_branch(span, level, n)
+        rows = [(*span.start[:level], branch) for branch in _some(k + 1, _last_branch(end, level, n), wanted)]
         # The highest levels' rows come last.
-        found[:0] = [
-            (span.start[:level] + (branch,), before + (branch - 1) * share) for branch in _some(k + 1, last, wanted)
-        ]
-        before += max(k - 1, 0) * share
+        found[:0] = [(row, _within(span, begins + _before(parts, row[level], n))) for row in rows]
+        begins, parts = _branch(begins, parts, k, n)
+        end = end if end is not None and end[level] == k else None
     edges = [(span.start, span.begins), *found]
-    ends: list[tuple[Until, float]] = [*found, (span.until, span.ends)]
+    ends: list[tuple[Until, int]] = [*found, (span.until, span.ends)]
     return [Span(start, until, begins, at) for (start, begins), (until, at) in zip(edges, ends)]
 
 
-def _last_branch(span: Span, level: int, branches: int) -> int:
-    """The last branch of a level of the first row that is begun before the span's end."""
-    until = span.until
-    if until is None or until[:level] != span.start[:level]:
+def _within(span: Span, at: int) -> int:
+    """A place that isn't out of a span, even if a program has told other branches of the same row before."""
+    return min(max(at, span.begins), span.ends)
+
+
+def _last_branch(end: Until, level: int, branches: int) -> int:
+    """The last branch of a level that is begun before the end; None if all are."""
+    if end is None:
         return branches
-    return min(branches, until[level] if len(until) > level + 1 else until[level] - 1)
+    return min(branches, end[level] if len(end) > level + 1 else end[level] - 1)
 
 
 def _some(first: int, last: int, most: int) -> list[int]:
