@@ -17,7 +17,7 @@ from unittest import mock
 from helgrothy import ListingFault, OutOfTime, Problem, ProgramFailed, ProgramNotFound, SearchFault, make, programs
 from helgrothy.__main__ import main
 from helgrothy.spans import folder as folders
-from helgrothy.spans import cuts, loop, progress, record, rows, show, span, text
+from helgrothy.spans import about, cuts, held, loop, progress, record, rows, show, span, text
 from helgrothy.spans.commands import NOT_DONE, progress_main
 from helgrothy.spans.folder import Folder
 from helgrothy.spans.loop import Job, Kept, Loop
@@ -255,6 +255,58 @@ class Reversed(Executor):
                 future.set_exception(error)
 
 
+def snapshot(folder):
+    """The files of a folder and what is in them."""
+    found = {}
+    for name in os.listdir(folder):
+        with open(os.path.join(folder, name), "rb") as file:
+            found[name] = file.read()
+    return found
+
+
+def killed(call: int, act) -> bool:
+    """Whether a process that does this makes so many calls of C from the modules of folders; there it is ended."""
+    child = os.fork()
+    if child:
+        return os.waitstatus_to_exitcode(os.waitpid(child, 0)[1]) == 9
+    made = 0
+
+    def count(frame, event, _):
+        nonlocal made
+        if event.startswith("c_") and frame.f_code.co_filename in (folders.__file__, held.__file__):
+            made += 1
+            if made > call:
+                os._exit(9)
+
+    sys.setprofile(count)
+    try:
+        act()
+    finally:
+        os._exit(0)
+
+
+@contextlib.contextmanager
+def belongs_to(path, user):
+    """A file or folder of another user, for this process."""
+    if os.geteuid() == 0:
+        os.chown(path, user, -1, follow_symlinks=False)
+        yield
+        os.chown(path, 0, -1, follow_symlinks=False)
+        return
+    own, right = os.stat_result, (os.stat, os.lstat, os.fstat)
+    there = os.lstat(path)
+
+    def changed(call):
+        def stat(*given, **named):
+            found = call(*given, **named)
+            return own((*found[:4], user, *found[5:])) if os.path.samestat(found, there) else found
+
+        return stat
+
+    with mock.patch.multiple(held.os, stat=changed(right[0]), lstat=changed(right[1]), fstat=changed(right[2])):
+        yield
+
+
 def taken(found, kept: Kept) -> None:
     found[kept.span.start] = kept
 
@@ -427,22 +479,30 @@ class Folders(unittest.TestCase):
             with self.assertRaisesRegex(SearchFault, f"{self.path}: it is of {what}"):
                 Folder(self.path, job)
         told = "of version 0.1.0"
-        with mock.patch.object(folders, "__version__", "0.0.9"), self.assertRaisesRegex(SearchFault, told):
+        with mock.patch.object(about, "__version__", "0.0.9"), self.assertRaisesRegex(SearchFault, told):
             Folder(self.path, self.job)
 
     def test_a_folder_of_another_form(self):
         """As an earlier version wrote it, whose number may be the same."""
         self.fill()
-        path = os.path.join(self.path, "search")
+        path = os.path.join(self.path, "helgrothy.search")
         with open(path) as file:
             right = file.read()
         for first in ("helgrothy search", "helgrothy search, form 1", "helgrothy search, form 3"):
             with open(path, "w") as file:
                 file.write(right.replace(right.partition("\n")[0], first))
             for how in ({"job": self.job}, {"is_read": True}):
-                with self.assertRaisesRegex(SearchFault, f"{self.path}: it is of a version that wrote other files"):
+                with self.assertRaisesRegex(SearchFault, f"{self.path}: another version made it, in another form"):
                     Folder(self.path, **how)
-        self.assertEqual(sorted(os.listdir(self.path))[-3:], ["lock", "problem.dlx", "search"])
+        # The first form had this name for it.
+        os.rename(path, os.path.join(self.path, "search"))
+        with open(os.path.join(self.path, "search"), "w") as file:
+            file.write(right.replace(right.partition("\n")[0], "helgrothy search"))
+        before = snapshot(self.path)
+        for how in ({"job": self.job}, {"is_read": True}):
+            with self.assertRaisesRegex(SearchFault, f"{self.path}: another version made it, in another form"):
+                Folder(self.path, **how)
+        self.assertEqual(snapshot(self.path), before)
 
     def test_one_command_holds_it(self):
         with Folder(self.path, self.job):
@@ -450,15 +510,187 @@ class Folders(unittest.TestCase):
                 Folder(self.path, self.job)
             with self.assertRaisesRegex(SearchFault, "another command is at work"):
                 Folder(self.path, is_read=True)
-            self.assertTrue(folders.is_at_work(self.path))
+            self.assertTrue(held.is_at_work(self.path))
             self.assertEqual(folders.Look(self.path).todo(), [WHOLE])
-        self.assertFalse(folders.is_at_work(self.path))
+        self.assertFalse(held.is_at_work(self.path))
         with Folder(self.path, is_read=True), Folder(self.path, is_read=True):
             pass
+
+    def test_a_folder_that_is_not_locked_is_left_as_it_was(self):
         error = OSError(37, "No locks available")
         told = "No locks available.*--folder"
+        for is_there in (False, True):
+            if is_there:
+                os.mkdir(self.path)
+            with mock.patch("fcntl.flock", side_effect=error), self.assertRaisesRegex(SearchFault, told):
+                Folder(self.path, self.job)
+            self.assertEqual(os.listdir(self.path) if is_there else os.path.exists(self.path), [] if is_there else False)
+        self.fill()
+        before = snapshot(self.path)
         with mock.patch("fcntl.flock", side_effect=error), self.assertRaisesRegex(SearchFault, told):
             Folder(self.path, self.job)
+        self.assertEqual(snapshot(self.path), before)
+
+    def test_two_that_begin_at_once(self):
+        """One of them gets the folder, and the others say so."""
+        for number in range(20):
+            path = f"{self.path}{number}"
+            if number % 2:
+                os.mkdir(path)
+            barrier, began, told = threading.Barrier(4), [], []
+
+            def begin():
+                barrier.wait()
+                try:
+                    began.append(Folder(path, self.job))
+                except SearchFault as error:
+                    told.append(str(error))
+
+            threads = [threading.Thread(target=begin) for _ in range(4)]
+            with mock.patch.object(held, "_WAIT", 0.005):
+                for thread in threads:
+                    thread.start()
+                for thread in threads:
+                    thread.join()
+            self.assertEqual((len(began), set(told)), (1, {f"{path}: another command is at work there"}))
+            began[0].close()
+            with Folder(path, self.job) as folder:
+                self.assertEqual(folder.problem(), QUEENS)
+
+    def test_a_command_that_is_killed_as_it_makes_a_folder(self):
+        """In whatever call it was, the same command takes the folder again."""
+        seen = set()
+        for _ in self.kills(lambda: Folder(self.path, self.job)):
+            seen.add(tuple(sorted(os.listdir(self.path))) if os.path.exists(self.path) else None)
+            self.goes_on()
+        first, second = "helgrothy.search", "problem.dlx"
+        self.assertEqual(seen, {None, (), (first,), (first, second), (first, f"{second}.helgrothy-new")})
+
+    def test_a_command_that_is_killed_as_it_removes_a_folder(self):
+        self.fill()
+        full = f"{self.path}.full"
+        shutil.move(self.path, full)
+        shutil.copytree(full, self.path)
+        for _ in self.kills(lambda: Folder(self.path, self.job).remove()):
+            self.goes_on()
+            shutil.copytree(full, self.path)
+
+    def kills(self, act):
+        """Has something done in a process that is killed, each time in another call."""
+        with mock.patch("os.fsync"):
+            for call in itertools.count():
+                if not killed(call, act):
+                    return
+                yield call
+
+    def goes_on(self):
+        with Folder(self.path, self.job) as folder:
+            folder.check()
+            folder.problem()
+            folder.remove()
+        self.assertFalse(os.path.exists(self.path))
+
+    def test_a_folder_that_can_not_be_made(self):
+        def fail(*_):
+            raise OSError(28, "No space left on device")
+
+        for name in ("os.fsync", "os.ftruncate"):
+            with mock.patch(name, fail), self.assertRaisesRegex(OSError, "No space left"):
+                Folder(self.path, self.job)
+            self.assertFalse(os.path.exists(self.path))
+            os.mkdir(self.path)
+            with mock.patch(name, fail), self.assertRaisesRegex(OSError, "No space left"):
+                Folder(self.path, self.job)
+            os.rmdir(self.path)
+
+    def test_folders_of_others_stay_as_they_are(self):
+        """With files whose names are like the command's own too."""
+        for names in (
+            ["thesis.tex", "20261128.tmp"],
+            ["12345678.tmp"],
+            ["search.tmp", "problem.dlx.tmp"],
+            ["problem.dlx"],
+            ["problem.dlx", "lock"],
+            ["lock"],
+            ["search"],
+            ["00000001.span"],
+            ["problem.dlx.helgrothy-new", "00000001.span.helgrothy-new"],
+            ["helgrothy.search"],
+            ["helgrothy.search", "thesis.tex"],
+        ):
+            with self.subTest(names=names):
+                shutil.rmtree(self.path, ignore_errors=True)
+                os.mkdir(self.path)
+                for name in names:
+                    with open(os.path.join(self.path, name), "w") as file:
+                        file.write(f"mine: {name}\n")
+                before = snapshot(self.path)
+                for how in ({"job": self.job}, {"is_read": True}):
+                    with self.assertRaisesRegex(SearchFault, f"{self.path}.*: it is (no folder of a search|damaged)"):
+                        Folder(self.path, **how)
+                    self.assertEqual(snapshot(self.path), before)
+
+    def test_files_of_others_in_a_folder_of_a_search(self):
+        self.fill()
+        mine = {name: b"mine" for name in ("20261128.tmp", "search.tmp", "problem.dlx.tmp", "lock", "search", "notes")}
+        other = self.path + ".other"
+        self.path, path = other, self.path
+        name = self.fill(Job(QUEENS, 1, listed=True), flushes=2)[-1]
+        self.path = path
+        for one, given in mine.items():
+            with open(os.path.join(self.path, one), "wb") as file:
+                file.write(given)
+        with open(os.path.join(other, name), "rb") as file:
+            # Of another search, and of what is done.
+            mine["00000099.span"] = file.read()
+        shutil.copy(os.path.join(other, name), os.path.join(self.path, "00000099.span"))
+        left = "00000003.span.helgrothy-new"
+        with open(os.path.join(self.path, left), "wb") as file:
+            file.write(b"span 12")
+        with Folder(self.path, self.job) as folder:
+            self.assertNotIn(left, os.listdir(self.path))
+            folder.remove()
+        self.assertEqual(snapshot(self.path), mine)
+
+    def test_a_problem_that_was_written_over_stays(self):
+        self.fill()
+        with open(os.path.join(self.path, "problem.dlx"), "wb") as file:
+            file.write(b"mine")
+        with Folder(self.path, self.job) as folder:
+            folder.remove()
+        self.assertEqual(snapshot(self.path), {"problem.dlx": b"mine"})
+
+    def test_folders_that_belong_to_others(self):
+        """In a place that the user hasn't chosen they aren't used, nor are others' files in a folder of one's own."""
+        self.fill()
+        name = max(name for name in os.listdir(self.path) if name.endswith(".span"))
+        paths = [self.path, *(os.path.join(self.path, name) for name in (name, "helgrothy.search"))]
+        for path in paths:
+            with self.subTest(path=path), belongs_to(path, 54321):
+                with self.assertRaisesRegex(SearchFault, f"{path}: it belongs to another user; name a folder by --folder"):
+                    Folder(self.path, self.job, is_own=True)
+                # One that is named is used whoever owns it.
+                Folder(self.path, self.job).close()
+                if os.geteuid() == 0:
+                    # So is that of who is behind sudo.
+                    with mock.patch.dict(os.environ, {"SUDO_UID": "54321"}):
+                        Folder(self.path, self.job, is_own=True).close()
+        Folder(self.path, self.job, is_own=True).close()
+        link = f"{self.path}.link"
+        os.symlink(self.path, link)
+        Folder(link, self.job, is_own=True).close()
+        with belongs_to(link, 54321), self.assertRaisesRegex(SearchFault, f"{link}: it belongs to another user"):
+            Folder(link, self.job, is_own=True)
+
+    def test_a_file_system_that_says_that_another_one_owns_all(self):
+        owners = held.Owners(is_own=True)
+        owners._users = {54321}
+        with self.assertRaisesRegex(SearchFault, "another user"):
+            os.mkdir(self.path)
+            held.Hold(self.path, owners)
+        os.rmdir(self.path)
+        # What was made just now is the user's.
+        held.Hold(self.path, owners).close()
 
     def test_strange_folders(self):
         with self.assertRaisesRegex(SearchFault, "no such folder"):
@@ -466,11 +698,6 @@ class Folders(unittest.TestCase):
         os.mkdir(self.path)
         with self.assertRaisesRegex(SearchFault, "no folder of a search"):
             Folder(self.path, is_read=True)
-        with open(os.path.join(self.path, "mine.txt"), "w"):
-            pass
-        with self.assertRaisesRegex(SearchFault, "it is no folder of a search, and isn't empty"):
-            Folder(self.path, self.job)
-        os.remove(os.path.join(self.path, "mine.txt"))
         with Folder(self.path, self.job) as folder:
             with open(os.path.join(self.path, "mine.txt"), "w"):
                 pass
@@ -534,7 +761,7 @@ class Folders(unittest.TestCase):
 
     def test_names_that_only_look_like_its_own(self):
         self.fill()
-        names = ["\u00b2.tmp", "\u00b2.span", "\u0661" * 8 + ".span", "9" * 60 + ".span", "1.span", "00000077.span.old"]
+        names = ["\u00b2.span", "\u0661" * 8 + ".span", "9" * 60 + ".span", "1.span", "00000077.span.old"]
         for name in [*names, "-00000077.span", "\udcff"]:
             with open(os.path.join(self.path, name), "wb") as file:
                 file.write(b"[" * 100_000)
@@ -605,6 +832,22 @@ class Commands(unittest.TestCase):
         status, printed, message = self.run_it("search", self.path, "--folder", folder)
         self.assertEqual((status, printed), (2, b""))
         self.assertIn("a search that lists solutions", message)
+
+    def test_the_folder_beside_the_problem_belongs_to_the_user(self):
+        folder, error = f"{self.path}.search", io.StringIO()
+        os.mkdir(folder)
+        with belongs_to(folder, 54321), contextlib.redirect_stderr(error):
+            self.assertEqual(main(["search", self.path]), 2)
+            self.assertIn(f"{folder}: it belongs to another user; name a folder by --folder", error.getvalue())
+            self.assertEqual(os.listdir(folder), [])
+            self.assertEqual(main(["search", self.path, "--folder", folder]), 0)
+
+    def test_folders_that_no_search_can_have(self):
+        for folder, told in (("/proc", "isn't empty"), ("/proc/self/x", "No such file"), ("", "No such file"), (self.path, "no folder")):
+            with self.subTest(folder=folder):
+                status, printed, error = self.run_it("search", self.path, "--folder", folder)
+                self.assertEqual((status, printed), (2, b""))
+                self.assertIn(told, error)
 
     def test_nothing_is_printed_of_what_is_damaged(self):
         listing, _ = whole(1, QUEENS, "m1")

@@ -440,7 +440,7 @@ class Try:
             os.remove(path)
             rng.choice([os.mkdir, os.mkfifo, lambda to: os.symlink("/dev/zero", to), lambda to: os.symlink(to, to)])(path)
         elif what == 1:
-            names = ["\u00b2.tmp", "00000001.tmp", "9" * 60 + ".span", "00000099.span", "\u0661" * 8 + ".span", "\udcff", "search.tmp"]
+            names = ["\u00b2.tmp", "9" * 60 + ".span", "00000099.span", "\u0661" * 8 + ".span", "\udcff", "00000001.span.helgrothy-new"]
             with contextlib.suppress(OSError), open(os.path.join(folder, rng.choice(names)), "xb") as file:
                 file.write(rng.choice([b"", b"span " * 100_000, b"span x - - 0 1 0 0 0\n", b"5", b"\xff", b"span \x1b[2J - - nan inf 1e5 -1 x\n"]))
         elif what == 2 and os.path.isfile(path):

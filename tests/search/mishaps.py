@@ -39,6 +39,61 @@ def command_is_killed(trial):
     trial.finish()
 
 
+def killed_as_it_begins(trial):
+    """In the moments in which the folder is made, as it is or an empty one that was there."""
+    for _ in range(8):
+        if trial.rng.random() < 0.3 and not os.path.lexists(trial.folder):
+            os.mkdir(trial.folder)
+        process = trial.start(trial.words())
+        until = time.monotonic() + 20
+        while not os.path.isdir(trial.folder) and process.poll() is None and time.monotonic() < until:
+            time.sleep(0.0005)
+        time.sleep(trial.rng.choice([0, trial.rng.uniform(0, 0.03)]))
+        trial.kill(process, signal.SIGKILL)
+        if trial.end(process, may_be_killed=True)[0] == 0:
+            return
+    trial.finish()
+
+
+def folders_of_others(trial):
+    """Files that a user may have, some with names like the command's own, stay as they are; so does the folder."""
+    if os.path.lexists(trial.folder):
+        raise Wrong("there is a folder already")
+    names = ["thesis.tex", "20261128.tmp", "search.tmp", "problem.dlx.tmp", "problem.dlx", "lock", "search", "notes",
+             "00000001.span", "00000001.tmp", "helgrothy", "helgrothy.search.old"]
+    os.mkdir(trial.folder)
+    for name in trial.rng.sample(names, trial.rng.randint(1, 4)):
+        with open(os.path.join(trial.folder, name), "wb") as file:
+            file.write(trial.rng.choice([b"", b"mine\n", b"span ", trial.text]))
+    before = contents(trial.folder)
+    trial.say(f"a folder of {', '.join(before)}")
+    status, printed, told = trial.end(trial.start(trial.words()))
+    if (status, printed) != (CANT, b"") or b"no folder of a search, and isn't empty" not in told:
+        raise Wrong(f"status {status} in another one's folder")
+    if contents(trial.folder) != before:
+        raise Wrong(f"the folder was {before} and is {contents(trial.folder)}")
+    # The same files in a folder of a search.
+    shutil.rmtree(trial.folder)
+    status = trial.some_way()
+    if status == 0 or not trial.has_begun():
+        return
+    mine = {name: text for name, text in before.items() if name not in ("problem.dlx", "00000001.span")}
+    for name, text in mine.items():
+        with open(os.path.join(trial.folder, name), "xb") as file:
+            file.write(text)
+    status, _, _ = trial.run()
+    if status != 0 or (contents(trial.folder) if mine else {}) != mine:
+        raise Wrong(f"status {status}; the user's files were {mine}")
+
+
+def contents(folder):
+    found = {}
+    for name in sorted(os.listdir(folder)):
+        with open(os.path.join(folder, name), "rb") as file:
+            found[name] = file.read()
+    return found
+
+
 def group_is_interrupted(trial):
     """As by ^C in a terminal."""
     process = trial.start(trial.words())
@@ -184,7 +239,7 @@ def problem_changes(trial):
         trial.write(trial.text)
     status = trial.end(process, may_be_killed=True)[0]
     if status != 0 and not is_put_back:
-        there = os.path.exists(os.path.join(trial.folder, "search"))
+        there = trial.has_begun()
         status, printed, told = trial.end(trial.start(trial.words())) if there else (CANT, b"", b"another problem")
         if there and (status != CANT or printed or b"another problem" not in told):
             raise Wrong("a changed problem goes on")
@@ -194,7 +249,7 @@ def problem_changes(trial):
 
 
 def other_words(trial):
-    if trial.some_way() == 0 or not os.path.exists(os.path.join(trial.folder, "search")):
+    if trial.some_way() == 0 or not trial.has_begun():
         return
     trial.listed = not trial.listed
     status, printed, told = trial.end(trial.start(trial.words()))
@@ -207,7 +262,7 @@ def other_words(trial):
 def files_are_damaged(trial):
     if trial.some_way() == 0 or not os.path.isdir(trial.folder):
         return
-    names = [os.path.join(trial.folder, name) for name in os.listdir(trial.folder) if name != "lock"]
+    names = [os.path.join(trial.folder, name) for name in os.listdir(trial.folder)]
     if not names:
         return trial.finish()
     for path in trial.rng.sample(names, min(len(names), trial.rng.choice([1, 1, 2]))):
@@ -429,6 +484,8 @@ NAMES = [
     "nothing",
     "seconds",
     "command_is_killed",
+    "killed_as_it_begins",
+    "folders_of_others",
     "group_is_interrupted",
     "workers_are_killed",
     "stopped_and_continued",

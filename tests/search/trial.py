@@ -200,6 +200,14 @@ class Trial:
             except OSError:
                 pass
 
+    def has_begun(self):
+        """Whether the folder is that of a search: its first file is whole."""
+        try:
+            with open(os.path.join(self.folder, "helgrothy.search"), "rb") as file:
+                return file.read().count(b"\n") == 6
+        except OSError:
+            return False
+
     def some_way(self):
         """A folder of a search that isn't done, or is by chance."""
         process = self.start(self.words())

@@ -17,7 +17,8 @@ from .. import __version__, console
 from ..errors import ProgramFailed, SearchFault
 from . import record as records
 from .cuts import rows
-from .folder import Folder, Look, is_at_work
+from .folder import Folder, Look
+from .held import is_at_work
 from .join import PROGRAM as JOIN
 from .join import Ending, Join
 from .join import count as joined
@@ -96,20 +97,21 @@ def _search(arguments: argparse.Namespace) -> int:
     console.end_by_signals()
     problem = console.read(arguments.problem)
     job = Job(problem, _kind(arguments, problem), arguments.list)
-    path = arguments.folder or f"{arguments.problem}.search"
+    is_beside = arguments.folder is None
+    path = f"{arguments.problem}.search" if is_beside else arguments.folder
     try:
         # The first steps tell whether the text has a fault, before there is a folder.
         first = run(Task(job.kind, listed=False, problem=problem, start="-", until="-", steps=1, most=0))
         records.of_text(first.text, WHOLE, listed=False)
     except ProgramFailed as error:
         return _failed(error)
-    with Folder(path, job) as folder:
+    with Folder(path, job, is_own=is_beside) as folder:
         # What is damaged is told before anything is printed.
         folder.check()
         for line in ignored(problem):
             console.say(f"Option ignored (no primary items): line {line}")
         status = _Searching(folder, job, arguments).run()
-        if status == 0 and arguments.folder is None:
+        if status == 0 and is_beside:
             folder.remove()
     return status
 

@@ -1,55 +1,46 @@
 """A folder of a search: what is done of it, so that it goes on after whatever ended it.
 
-    search              what is searched: version, program, words and the digest of the problem
+    helgrothy.search    what is searched: version, program, words and the digest of the problem; held by the one command
+                        that is at work (`held.py`)
     problem.dlx         the problem's text
-    lock                held by the one command that is at work
     00000017.span       spans that are done: a line of its digest and where it begins and ends, and texts of dlx-span
-    00000018.tmp        such a file as long as it is written
+    00000018.span.helgrothy-new    such a file as long as it is written
 
 A file of spans is written under another name, flushed to the disk, and renamed. Its digest is that of the search, of
-its line and its text: a file that was damaged, cut or is of another search is told by its name.
+its line and its text: a file that was damaged, cut or is of another search is told by its name. No file is taken away
+but what a command has made here: a file of spans that was read as such, one with a name that nothing else has, the
+problem as it was written.
 """
 
 from __future__ import annotations
 
-import errno
-import fcntl
 import hashlib
 import math
 import os
 import re
-import stat
 import time
 from collections.abc import Callable, Iterable, Iterator
 from contextlib import suppress
 from functools import partial
 from typing import IO, NamedTuple
 
-from .. import __version__
 from ..errors import SearchFault
+from .about import About, is_broken_off
+from .about import read as read_about
+from .held import MOST_LINE, SAFE, Hold, Owners, opened, to_disk
 from .loop import Job, Kept
 from .rows import WHOLE, Row, Span, Until, precedes, read, read_until, word_of
 
-_SEARCH, _PROBLEM, _LOCK = "search", "problem.dlx", "lock"
+_PROBLEM = "problem.dlx"
 _SPAN = re.compile(r"([0-9]{8,12})\.span\Z")
-_LEFT = re.compile(r"(?:[0-9]{8,12}|search|problem\.dlx)\.tmp\Z")
+_NEW = ".helgrothy-new"
+_LEFT = re.compile(r"(?:[0-9]{8,12}\.span|problem\.dlx)\.helgrothy-new\Z")
 _HEAD = b"span "
-_FORM = "helgrothy search, form 2"
-_OTHER_FORM = re.compile(r"helgrothy search(?:, form [0-9]{1,9})?\Z")
-_OTHERS = "it is of a version that wrote other files"
-# Neither a line with two rows nor that of the search is longer.
-_MOST_LINE = 1 << 20
-# A text of one step may be long; no more is read.
-_MOST_TEXT = 1 << 32
 # Files of counts are put together up to this size.
 _MOST_JOINED = 1 << 22
-# No link is followed, and nothing is waited for.
-_SAFE = os.O_NOFOLLOW | os.O_NONBLOCK | os.O_CLOEXEC
 # What is done is written so often: at first each half second, later each hundredth of the time.
 _OFTEN, _SELDOM, _SHARE = 0.5, 10.0, 1 / 100
 _MOST_WAITING = 1 << 24
-# Another command may look at the lock for a moment.
-_HOLD_TRIES, _HOLD_WAIT = 5, 0.05
 
 
 class Entry(NamedTuple):
@@ -63,92 +54,37 @@ class Entry(NamedTuple):
     digest: bytes
 
 
-class About(NamedTuple):
-    """What is searched."""
-
-    version: str
-    program: str
-    words: str
-    problem: str
-
-    @classmethod
-    def of(cls, job: Job) -> About:
-        return cls(__version__, f"dlx{job.kind}", "m1" if job.listed else "m0", hashlib.sha256(job.problem).hexdigest())
-
-    @property
-    def listed(self) -> bool:
-        return self.words == "m1"
-
-    def text(self) -> bytes:
-        told = "".join(f"{name} {value}\n" for name, value in self._asdict().items())
-        told = f"{_FORM}\n{told}"
-        return f"{told}digest {hashlib.sha256(told.encode()).hexdigest()}\n".encode()
-
-
 class Folder:
     """A folder that this command holds, or, with `is_read` only reads. As a context manager it is let go.
 
-    Raises `SearchFault` and `OSError`.
+    With `is_own` it has to be the user's own, with all files in it. Raises `SearchFault` and `OSError`.
     """
 
-    def __init__(self, path: str, job: Job | None = None, is_read: bool = False) -> None:
+    def __init__(self, path: str, job: Job | None = None, is_read: bool = False, is_own: bool = False) -> None:
         self.path = path
-        self._lock = -1
+        self._owners = Owners(is_own)
         self._begun = self._written = time.monotonic()
         self._waiting: dict[Row, Kept] = {}
         self._size = 0
         self.entries: dict[Row, Entry] = {}
         self._by_end: dict[Until, Row] = {}
+        # Files that begin within others, whose texts nobody has looked at.
+        self._spare: list[Entry] = []
         self._number = 0
+        self._held = self._hold(is_read)
         try:
-            self._hold(is_read, is_made=job is not None)
-            self.about = self._read_about() if job is None else self._open(job)
+            self.about = self._look() if job is None else self._open(job)
             self._key = hashlib.sha256(self.about.text()).digest()
             self._read_entries()
         except BaseException:
             self.close()
             raise
 
-    # ---- one command holds it
-
-    def _hold(self, is_read: bool, is_made: bool) -> None:
-        lock = self._name(_LOCK)
-        for _ in range(_HOLD_TRIES):
-            if is_made:
-                with suppress(FileExistsError):
-                    os.mkdir(self.path)
-            if not os.path.isdir(self.path):
-                is_there = os.path.lexists(self.path)
-                raise SearchFault(f"{self.path}: {'it is no folder' if is_there else 'no such folder'}")
-            try:
-                self._lock = os.open(lock, _SAFE | (os.O_RDONLY if is_read else os.O_RDWR | os.O_CREAT), 0o666)
-            except OSError as error:
-                if error.errno != errno.ENOENT:
-                    raise _refused(lock, error) from None
-                if is_read:
-                    # Nobody has ever held it.
-                    return
-                # Another command is done, and has taken it away.
-                continue
-            try:
-                fcntl.flock(self._lock, (fcntl.LOCK_SH if is_read else fcntl.LOCK_EX) | fcntl.LOCK_NB)
-                if _is_there(self._lock, lock):
-                    return
-            except BlockingIOError:
-                time.sleep(_HOLD_WAIT)
-            except OSError as error:
-                raise SearchFault(
-                    f"{lock}: it can't be locked ({error.strerror}), so two commands could be at work in one folder; "
-                    "--folder names one elsewhere"
-                ) from None
-            os.close(self._lock)
-            self._lock = -1
-        raise SearchFault(f"{self.path}: another command is at work there")
+    def _hold(self, is_read: bool) -> Hold:
+        return Hold(self.path, self._owners, is_read)
 
     def close(self) -> None:
-        if self._lock >= 0:
-            os.close(self._lock)
-            self._lock = -1
+        self._held.close()
 
     def __enter__(self) -> Folder:
         return self
@@ -158,55 +94,46 @@ class Folder:
 
     # ---- what is searched
 
+    def _look(self) -> About:
+        text = self._held.text()
+        if is_broken_off(text) and self._held.is_alone():
+            raise SearchFault(f"{self.path}: it is no folder of a search")
+        return read_about(text, self._held.name, self.path)
+
     def _open(self, job: Job) -> About:
         """The folder for this search, which is made where there is none."""
         about = About.of(job)
-        names = set(os.listdir(self.path))
-        for name in filter(_LEFT.match, names):
+        text = self._held.text()
+        if is_broken_off(text) and self._held.is_alone():
+            self._held.write(about.text())
+            to_disk(os.path.dirname(os.path.abspath(self.path)))
+        else:
+            self._compare(about, text)
+        for name in filter(_LEFT.match, os.listdir(self.path)):
             os.remove(self._name(name))
-        if _SEARCH not in names:
-            strange = {name for name in names if not _LEFT.match(name)} - {_LOCK, _PROBLEM}
-            if strange:
-                raise SearchFault(f"{self.path}: it is no folder of a search, and isn't empty")
+        if not os.path.lexists(self._name(_PROBLEM)):
             self._write(_PROBLEM, [job.problem])
-            self._write(_SEARCH, [about.text()])
-            _to_disk(os.path.dirname(os.path.abspath(self.path)))
-            return about
-        found = self._read_about()
+        return about
+
+    def _compare(self, about: About, text: bytes) -> None:
+        """Raises `SearchFault` where the folder isn't that of this search."""
+        if self._held.has_made_file:
+            # Something came in the moment in which it was made.
+            self._held.give_up()
+            raise SearchFault(f"{self.path}: it is no folder of a search, and isn't empty")
+        found = read_about(text, self._held.name, self.path)
         for is_same, what in (
-            (found.version == about.version, f"version {found.version}, and this is {about.version}"),
             (found.problem == about.problem, "another problem"),
             (found.program == about.program, f"the program {found.program}, not {about.program}"),
             (found.words == about.words, f"a search that {'lists' if found.listed else 'counts'} solutions"),
         ):
             if not is_same:
                 raise SearchFault(f"{self.path}: it is of {what}; remove it, or name another one by --folder")
-        return found
-
-    def _read_about(self) -> About:
-        path = self._name(_SEARCH)
-        try:
-            with opened(path) as file:
-                text = file.read(_MOST_LINE)
-        except FileNotFoundError:
-            raise SearchFault(f"{self.path}: it is no folder of a search") from None
-        lines = text.decode("utf-8", "replace").splitlines() or [""]
-        if lines[0] != _FORM and _OTHER_FORM.match(lines[0]):
-            raise SearchFault(f"{self.path}: {_OTHERS}; remove it, or name another one by --folder")
-        fields = [line.partition(" ")[2] for line in lines[1:5]]
-        if len(fields) < 4:
-            raise SearchFault(f"{path}: it is damaged")
-        about = About(*fields)
-        if about.version != __version__ and lines[0] == _FORM:
-            raise SearchFault(f"{self.path}: it is of version {about.version[:40]}, and this is {__version__}")
-        if about.text() != text or about.words not in ("m0", "m1") or about.program not in ("dlx1", "dlx2", "dlx3"):
-            raise SearchFault(f"{path}: it is damaged")
-        return about
 
     def problem(self) -> bytes:
         """The problem's text. Raises `SearchFault` where it isn't the one that is searched."""
         path = self._name(_PROBLEM)
-        with opened(path) as file:
+        with opened(path, self._owners) as file:
             text = file.read()
         if hashlib.sha256(text).hexdigest() != self.about.problem:
             raise SearchFault(f"{path}: it was changed")
@@ -225,10 +152,11 @@ class Folder:
                     found.append(self._entry(self._name(name)))
         for entry in arranged(found):
             self._take(entry)
+        self._spare = [entry for entry in found if self.entries.get(entry.span.start) is not entry]
 
     def _entry(self, path: str) -> Entry:
         try:
-            file = opened(path)
+            file = opened(path, self._owners)
         except SearchFault as error:
             raise SearchFault(f"{error}; without it the search goes on") from None
         with file:
@@ -245,7 +173,7 @@ class Folder:
 
     def text(self, entry: Entry) -> bytes:
         """The text of a file. Raises `SearchFault` where it isn't what was written."""
-        with opened(entry.path) as file:
+        with opened(entry.path, self._owners) as file:
             if _head(entry.path, file) != entry:
                 raise SearchFault(f"{entry.path}: it was changed")
             text = file.read(entry.length + 1)
@@ -344,9 +272,9 @@ class Folder:
 
     def _write(self, name: str, pieces: Iterable[bytes]) -> None:
         """A file of this name, whole or not at all."""
-        temporary = self._name(f"{name.partition('.span')[0]}.tmp")
+        temporary = self._name(f"{name}{_NEW}")
         try:
-            opened = os.open(temporary, os.O_WRONLY | os.O_CREAT | os.O_EXCL | _SAFE, 0o666)
+            opened = os.open(temporary, os.O_WRONLY | os.O_CREAT | os.O_EXCL | SAFE, 0o666)
             try:
                 with open(opened, "wb") as file:
                     file.writelines(pieces)
@@ -360,53 +288,32 @@ class Folder:
         except OSError as error:
             error.filename = error.filename or temporary
             raise
-        _to_disk(self.path)
+        to_disk(self.path)
 
     def remove(self) -> None:
         """Takes the folder away; what else lies in it stays, and the folder with it."""
         # In an order in which the search goes on, or begins anew, wherever this is broken off.
-        for name in os.listdir(self.path):
-            if _SPAN.match(name) or _LEFT.match(name):
-                os.remove(self._name(name))
-        for name in (_SEARCH, _PROBLEM, _LOCK):
+        for entry in self.entries.values():
             with suppress(FileNotFoundError):
-                os.remove(self._name(name))
-        with suppress(OSError):
-            os.rmdir(self.path)
+                os.remove(entry.path)
+        for entry in self._spare:
+            with suppress(FileNotFoundError, SearchFault):
+                self.text(entry)
+                os.remove(entry.path)
+        with suppress(FileNotFoundError, SearchFault):
+            self.problem()
+            os.remove(self._name(_PROBLEM))
+        self._held.remove()
 
     def _name(self, name: str) -> str:
         return os.path.join(self.path, name)
 
 
-def _is_there(held: int, path: str) -> bool:
-    """Whether an open file still has its name."""
-    try:
-        return os.path.samestat(os.fstat(held), os.stat(path, follow_symlinks=False))
-    except FileNotFoundError:
-        return False
-
-
-def is_at_work(path: str) -> bool:
-    """Whether a command holds a folder."""
-    try:
-        lock = os.open(os.path.join(path, _LOCK), os.O_RDONLY | _SAFE)
-    except OSError:
-        return False
-    try:
-        fcntl.flock(lock, fcntl.LOCK_SH | fcntl.LOCK_NB)
-    except OSError:
-        return True
-    finally:
-        os.close(lock)
-    return False
-
-
 class Look(Folder):
     """A folder that is looked at while another command may be at work there."""
 
-    def _hold(self, is_read: bool, is_made: bool) -> None:
-        if not os.path.isdir(self.path):
-            raise SearchFault(f"{self.path}: no such folder")
+    def _hold(self, is_read: bool) -> Hold:
+        return Hold(self.path, self._owners, is_looked_at=True)
 
 
 def arranged(entries: Iterable[Entry]) -> list[Entry]:
@@ -434,31 +341,9 @@ def gaps(spans: Iterable[Span]) -> list[Span]:
     return found
 
 
-def opened(path: str) -> IO[bytes]:
-    """A file that is read: no link, and nothing that is waited for or read without end. Raises `SearchFault`."""
-    try:
-        found = os.open(path, os.O_RDONLY | _SAFE)
-    except FileNotFoundError:
-        raise
-    except OSError as error:
-        raise _refused(path, error) from None
-    about = os.fstat(found)
-    if not stat.S_ISREG(about.st_mode):
-        os.close(found)
-        raise SearchFault(f"{path}: it is no file")
-    if about.st_size > _MOST_TEXT + _MOST_LINE:
-        os.close(found)
-        raise SearchFault(f"{path}: it has more than {_MOST_TEXT >> 20} MB")
-    return open(found, "rb")
-
-
-def _refused(path: str, error: OSError) -> SearchFault:
-    return SearchFault(f"{path}: {'it is a link' if error.errno == errno.ELOOP else error.strerror}")
-
-
 def _head(path: str, file: IO[bytes]) -> Entry:
     """The line of a file of spans. Raises `SearchFault`."""
-    line = file.readline(_MOST_LINE)
+    line = file.readline(MOST_LINE)
     fields = line[len(_HEAD) :].decode("ascii", "replace").split(" ")
     try:
         if not line.startswith(_HEAD) or not line.endswith(b"\n") or len(fields) != 8:
@@ -508,16 +393,3 @@ def _runs(waiting: list[Kept]) -> Iterator[list[Kept]]:
         size += len(kept.text)
     if run:
         yield run
-
-
-def _to_disk(folder: str) -> None:
-    """The names in a folder are written, where the system lets one."""
-    try:
-        opened = os.open(folder, os.O_RDONLY | os.O_CLOEXEC)
-    except OSError:
-        return
-    try:
-        with suppress(OSError):
-            os.fsync(opened)
-    finally:
-        os.close(opened)
