@@ -362,12 +362,12 @@ class Problem(Generic[Option]):
     ) -> int:
         """How many solutions there are, or `limit` where there are as many or more.
 
-        jobs: search by so many processors at once. executor: search by the workers of an executor of
+        jobs: search by up to so many processors at once. executor: search by the workers of an executor of
         `concurrent.futures`, such as Dask's, of which there are `jobs`. progress: is told now and then how far the
         search is. With any of these it is cut into spans, and there is no limit.
 
         Raises `ProgramNotFound`, `ProgramFailed` and, where it takes longer than `seconds`, `OutOfTime`, whose `found`
-        is then a number that was reached at least; with an executor also `SearchFault`.
+        is then a number that was reached at least; with workers also `SearchFault`, where these can't do it.
         """
         if jobs is not None or executor is not None or progress is not None:
             return self._count_spans(limit, seconds, jobs, executor, progress)

@@ -30,7 +30,8 @@ class Watch:
         self.has_told = False
 
     def __enter__(self) -> Watch:
-        with undisturbed():
+        # Where the system gives no thread for it the search goes on without.
+        with undisturbed(), suppress(RuntimeError):
             self._timer.start()
         return self
 

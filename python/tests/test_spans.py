@@ -4,7 +4,9 @@ import contextlib
 import io
 import itertools
 import os
+import queue
 import random
+import resource
 import shutil
 import subprocess
 import sys
@@ -17,7 +19,7 @@ from unittest import mock
 from helgrothy import ListingFault, OutOfTime, Problem, ProgramFailed, ProgramNotFound, SearchFault, make, programs
 from helgrothy.__main__ import main
 from helgrothy.spans import folder as folders
-from helgrothy.spans import about, cuts, held, loop, progress, record, rows, show, span, text
+from helgrothy.spans import about, cuts, held, join, loop, progress, record, rows, show, span, text, workers
 from helgrothy.spans.commands import NOT_DONE, progress_main
 from helgrothy.spans.folder import Folder
 from helgrothy.spans.loop import Job, Kept, Loop
@@ -357,7 +359,8 @@ class Loops(unittest.TestCase):
         for kind, number in itertools.product((1, 2, 3), range(7)):
             problem = problem_of(rng, kind) if number else narrow(rng, 5)
             found = {}
-            with mock.patch.object(Pace, "steps", lambda *_: rng.randint(1, 9)):
+            most = 9 if number else 60
+            with mock.patch.object(Pace, "steps", lambda *_: rng.randint(1, most)):
                 job = Job(problem, kind, listed=True)
                 executor = Reversed(0.05, rng.randint(1, 9))
                 search = Loop(job, loop.submitting(executor), lambda: 3, lambda kept: taken(found, kept), None)
@@ -402,6 +405,96 @@ class Loops(unittest.TestCase):
     def test_no_program(self):
         with mock.patch.object(span, "find", side_effect=ProgramNotFound("dlx-span")), self.assertRaises(ProgramNotFound):
             make.queens.problem(6).count(jobs=1)
+
+
+class FewWorkers(unittest.TestCase):
+    """Where the system gives fewer threads, processes or open files than workers were asked for."""
+
+    def setUp(self) -> None:
+        self.problem = make.queens.problem(8)
+        self.given = 0
+
+    def threads(self, most):
+        """So many threads are to be had at once."""
+        right, lock = threading.Thread.start, threading.Lock()
+
+        def start(thread):
+            with lock:
+                if sum(one.name.startswith("worker") for one in threading.enumerate()) >= most:
+                    raise RuntimeError("can't start new thread")
+                self.given += 1
+                thread.name = f"worker {self.given}"
+                right(thread)
+
+        return mock.patch.object(threading.Thread, "start", start)
+
+    def processes(self, most, error):
+        """So many programs run at once."""
+        right, lock, running = span._start, threading.Lock(), set()
+
+        def start(command):
+            with lock:
+                if len(running) >= most:
+                    raise error
+                process = right(command)
+                running.add(process.pid)
+                return process
+
+        def let_go(process):
+            with lock:
+                running.discard(process)
+
+        return mock.patch.multiple(span, _start=start, let_go=let_go)
+
+    def test_threads(self):
+        # The last one puts the texts together.
+        for most in (1, 2, 5):
+            with self.threads(most):
+                self.assertEqual(self.problem.count(jobs=4), 92)
+        with self.threads(0), self.assertRaisesRegex(SearchFault, "the system gives no more threads"):
+            self.problem.count(jobs=4)
+
+    def test_processes(self):
+        for error in (BlockingIOError(11, "Resource temporarily unavailable"), OSError(24, "Too many open files"), MemoryError()):
+            for most in (1, 2):
+                with self.processes(most, error), mock.patch.object(workers, "_PAUSE", 0.01):
+                    self.assertEqual(self.problem.count(jobs=4), 92)
+        with self.processes(0, error), mock.patch.object(workers, "_PAUSE", 0.01):
+            with self.assertRaisesRegex(SearchFault, "the workers: out of memory"):
+                self.problem.count(jobs=4)
+
+    def test_more_are_tried_later(self):
+        with workers.Own(4) as own:
+            came: queue.SimpleQueue = queue.SimpleQueue()
+            task = span.Task(1, False, QUEENS, "-", "-", 0, 0)
+            with self.threads(1):
+                for _ in range(2):
+                    own.submit(task, came.put)
+            self.assertEqual(own.count(), 1)
+            with mock.patch.object(workers.time, "monotonic", lambda: float("inf")):
+                self.assertEqual(own.count(), 2)
+            own.submit(task, came.put)
+            self.assertEqual({came.get(timeout=60).text for _ in range(3)}, {span.run(task).text})
+            self.assertEqual(own._working, 2)
+
+    def test_no_more_than_there_can_be(self):
+        self.assertEqual(self.problem.count(jobs=workers.MOST_JOBS), 92)
+        with self.assertRaisesRegex(ValueError, "jobs must be at most 4096"):
+            self.problem.count(jobs=workers.MOST_JOBS + 1)
+        with mock.patch("resource.getrlimit", return_value=(64, 64)):
+            self.assertEqual(workers.Own(50).count(), 10)
+
+    def test_a_join_without_threads_leaves_no_program(self):
+        begun = []
+        right = join.start
+
+        def start(*given, **named):
+            begun.append(right(*given, **named))
+            return begun[-1]
+
+        with self.threads(0), mock.patch.object(join, "start", start), self.assertRaisesRegex(SearchFault, "no more threads"):
+            join.Join(True)
+        self.assertIsNotNone(begun[0].returncode)
 
 
 class Folders(unittest.TestCase):
@@ -810,10 +903,12 @@ class Commands(unittest.TestCase):
         with open(self.path, "wb") as file:
             file.write(QUEENS)
 
-    def run_it(self, *words):
-        """A command as a process: its status, standard output and standard error."""
+    def run_it(self, *words, memory=None):
+        """A command as a process, perhaps of so much memory: its status, standard output and standard error."""
         package = os.path.dirname(os.path.dirname(os.path.abspath(__file__)))
-        done = subprocess.run([sys.executable, "-m", "helgrothy", *words], capture_output=True, cwd=package)
+        bound = None if memory is None else lambda: resource.setrlimit(resource.RLIMIT_AS, (memory, memory))
+        command = [sys.executable, "-m", "helgrothy", *words]
+        done = subprocess.run(command, capture_output=True, cwd=package, preexec_fn=bound)
         return done.returncode, done.stdout, done.stderr.decode()
 
     def test_search(self):
@@ -832,6 +927,16 @@ class Commands(unittest.TestCase):
         status, printed, message = self.run_it("search", self.path, "--folder", folder)
         self.assertEqual((status, printed), (2, b""))
         self.assertIn("a search that lists solutions", message)
+
+    def test_more_workers_than_there_is_memory_for(self):
+        with open(self.path, "wb") as file:
+            file.write(make.queens.problem(11).text.encode())
+        status, _, error = self.run_it("search", self.path, "--jobs", "50", memory=100 << 20)
+        self.assertEqual((status, error), (0, "Altogether 2680 solutions.\n"))
+        for jobs in ("4097", "18446744073709551615"):
+            status, printed, error = self.run_it("search", self.path, "--jobs", jobs)
+            self.assertEqual((status, printed), (2, b""))
+            self.assertIn(f"{jobs}: it has to be a number from 1 to 4096", error)
 
     def test_the_folder_beside_the_problem_belongs_to_the_user(self):
         folder, error = f"{self.path}.search", io.StringIO()

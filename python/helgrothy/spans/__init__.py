@@ -13,7 +13,7 @@ from .join import count as joined
 from .join import number_of
 from .loop import Job, Kept, Loop, Progress, Tell, submitting
 from .rows import WHOLE, Row, Until
-from .workers import Own, Workers, executor_jobs, processors
+from .workers import MOST_JOBS, Own, Workers, executor_jobs, processors
 
 if TYPE_CHECKING:
     from concurrent.futures import Executor
@@ -31,8 +31,11 @@ def count(
 ) -> int:
     """How many solutions a problem has, by so many processors or by an executor.
 
-    Raises `ProgramNotFound`, `ProgramFailed`, `SearchFault`, and `OutOfTime`, whose `found` is what was found by then.
+    Raises `ProgramNotFound`, `ProgramFailed`, `SearchFault`, and `OutOfTime`, whose `found` is what was found by then;
+    and `ValueError` for more processors than there can be.
     """
+    if executor is None and jobs is not None and jobs > MOST_JOBS:
+        raise ValueError(f"jobs must be at most {MOST_JOBS}")
     found: dict[Row, Kept] = {}
 
     def keep(kept: Kept) -> None:

@@ -28,7 +28,7 @@ from .rows import WHOLE, Span, share_of, word_of
 from .show import Shown
 from .span import Task, run
 from .text import ignored, kind_of
-from .workers import Dask, Own, Workers, processors
+from .workers import MOST_JOBS, Dask, Own, Workers, processors
 
 NOT_DONE = 6
 _PROGRAMS = ("dlx1", "dlx2", "dlx3")
@@ -73,7 +73,7 @@ def _add_search(commands: Any) -> None:
     parser.add_argument("problem", metavar="PROBLEM", help="a file, or - for standard input, which needs --folder")
     parser.add_argument("--list", action="store_true", help="list the solutions")
     workers = parser.add_mutually_exclusive_group()
-    workers.add_argument("--jobs", type=console.positive, metavar="N", help="so many processors (default: all)")
+    workers.add_argument("--jobs", type=_jobs, metavar="N", help="so many processors (default: all)")
     workers.add_argument("--dask", metavar="ADDRESS", help="the workers of Dask, by its address or file")
     parser.add_argument(
         "--seconds", dest="most", type=console.seconds, metavar="S", help="stop after S seconds, with status 6"
@@ -359,6 +359,13 @@ def run_progress() -> NoReturn:
 
 
 # ---- what commands have in common
+
+
+def _jobs(word: str) -> int:
+    """A number of workers, for a parser."""
+    if not word.isascii() or not word.isdigit() or len(word) > 20 or not 1 <= int(word) <= MOST_JOBS:
+        raise argparse.ArgumentTypeError(f"{word}: it has to be a number from 1 to {MOST_JOBS}")
+    return int(word)
 
 
 def _kind(arguments: argparse.Namespace, problem: bytes) -> int:

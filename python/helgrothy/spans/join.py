@@ -8,6 +8,8 @@ import signal
 import subprocess
 import threading
 from collections.abc import Callable, Iterable
+from contextlib import suppress
+from functools import partial
 from typing import NamedTuple
 
 from .. import console
@@ -15,6 +17,7 @@ from ..errors import ProgramFailed
 from ..guard import let_go, start
 from ..programs import find
 from .rows import Until
+from .threads import begin
 
 PROGRAM = "dlx-join"
 _CHUNK = 1 << 18
@@ -33,6 +36,8 @@ class Join:
 
     The solutions go to standard output, or nowhere with `out` as `subprocess.DEVNULL`. Texts are read by a thread of
     its own, so that nothing waits for who reads the listing. `wake` is called by that thread where it can't go on.
+
+    Raises `ProgramNotFound`, `SearchFault` and `OSError`.
     """
 
     def __init__(self, listed: bool, out: int | None = None, wake: Callable[[], None] = lambda: None) -> None:
@@ -45,14 +50,12 @@ class Join:
             [find(PROGRAM), "m1" if listed else "m0"], stdin=subprocess.PIPE, stdout=out, stderr=subprocess.PIPE
         )
         self._threads: list[threading.Thread] = []
-        self._begin(self._feed)
-        if out == subprocess.PIPE:
-            self._begin(self._print)
-
-    def _begin(self, act: Callable[[], None]) -> None:
-        thread = threading.Thread(target=self._try, args=(act,), daemon=True)
-        self._threads.append(thread)
-        thread.start()
+        try:
+            for act in (self._feed, self._print) if out == subprocess.PIPE else (self._feed,):
+                self._threads.append(begin(partial(self._try, act)))
+        except BaseException:
+            self._close()
+            raise
 
     def give(self, text: Callable[[], bytes], until: Until) -> None:
         """The next text, which is read when it is its turn."""
@@ -80,14 +83,18 @@ class Join:
         return self
 
     def __exit__(self, *_: object) -> None:
+        self._close()
+
+    def _close(self) -> None:
         self._texts.put(None)
         self._process.kill()
         self._process.wait()
         for thread in self._threads:
             thread.join()
-        for pipe in (self._process.stdout, self._process.stderr):
+        for pipe in (self._process.stdin, self._process.stdout, self._process.stderr):
             if pipe is not None:
-                pipe.close()
+                with suppress(OSError):
+                    pipe.close()
         let_go(self._process.pid)
 
     def _try(self, act: Callable[[], None]) -> None:

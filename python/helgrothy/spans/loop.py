@@ -310,5 +310,8 @@ def clock(seconds: float) -> str:
 
 
 def _fault(error: BaseException) -> SearchFault:
-    told = reason_of(error) if isinstance(error, OSError) else f"{type(error).__name__}: {error}"
+    if isinstance(error, MemoryError):
+        told = "out of memory"
+    else:
+        told = reason_of(error) if isinstance(error, OSError) else f"{type(error).__name__}: {error}"
     return SearchFault(f"the workers: {told}")

@@ -2,8 +2,10 @@
 
 from __future__ import annotations
 
+import errno
 import os
 import queue
+import resource
 import sys
 import threading
 import time
@@ -14,10 +16,19 @@ from typing import TYPE_CHECKING, Any
 from ..errors import SearchFault
 from .loop import Outcome, Submit, submitting
 from .span import Stop, Task, run
+from .threads import begin
 
 if TYPE_CHECKING:
     from concurrent.futures import Executor
 
+# More workers than any machine has processors aren't asked for.
+MOST_JOBS = 4096
+# What the system says where it gives no more processes, memory or open files, after how many seconds a worker more is
+# tried, and how long the last one waits.
+_LACKING = (errno.EAGAIN, errno.ENOMEM, errno.EMFILE, errno.ENFILE)
+_TRY_AGAIN, _PAUSE = 10.0, 0.2
+# A program that runs takes so many open files, and the command so many.
+_FILES, _OTHER_FILES = 3, 32
 # So many seconds a scheduler may take to answer.
 _PATIENCE = 30
 _SELDOM = 2.0
@@ -26,6 +37,12 @@ _SELDOM = 2.0
 def processors() -> int:
     """How many processors this process may use."""
     return len(os.sched_getaffinity(0)) if hasattr(os, "sched_getaffinity") else os.cpu_count() or 1
+
+
+def _most_by_files() -> int:
+    """For how many workers this process may open files."""
+    soft = resource.getrlimit(resource.RLIMIT_NOFILE)[0]
+    return MOST_JOBS if soft == resource.RLIM_INFINITY else max((soft - _OTHER_FILES) // _FILES, 1)
 
 
 class Workers:
@@ -57,7 +74,10 @@ class Workers:
 
 
 class Own(Workers):
-    """So many processors of this machine: a thread for each, which waits for its program.
+    """Up to so many processors of this machine: a thread for each, which waits for its program.
+
+    Where the system gives no more threads, processes or open files, fewer are at work, but at least one. Now and then
+    one more is tried. Raises `SearchFault` where there is no thread at all.
 
     They aren't those of an executor, whose module loads much that a short search would wait for.
     """
@@ -66,17 +86,35 @@ class Own(Workers):
     ahead = 1
 
     def __init__(self, jobs: int) -> None:
-        super().__init__(self._hand, jobs)
+        super().__init__(self._hand, min(jobs, _most_by_files()))
         self._stop = Stop()
         self._tasks: queue.SimpleQueue[tuple[Task, Callable[[Outcome], object]] | None] = queue.SimpleQueue()
         self._threads: list[threading.Thread] = []
+        self._lock = threading.Lock()
+        # The threads that are at work, and how many there may be.
+        self._working = 0
+        self._most = self._jobs
+        self._next_try = 0.0
+
+    def count(self) -> int:
+        with self._lock:
+            if self._most < self._jobs and time.monotonic() >= self._next_try:
+                self._most += 1
+                self._next_try = time.monotonic() + _TRY_AGAIN
+            return self._most
 
     def _hand(self, task: Task, done: Callable[[Outcome], object]) -> Callable[[], object]:
         self._tasks.put((task, done))
-        if len(self._threads) < self._jobs:
-            thread = threading.Thread(target=self._work, daemon=True)
-            thread.start()
-            self._threads.append(thread)
+        with self._lock:
+            is_new = self._working < self._most
+            self._working += is_new
+        if is_new:
+            self._threads = [thread for thread in self._threads if thread.is_alive()]
+            try:
+                self._threads.append(begin(self._work))
+            except SearchFault:
+                if not self._is_too_much():
+                    raise
         return _nothing
 
     def _work(self) -> None:
@@ -89,8 +127,24 @@ class Own(Workers):
             try:
                 outcome = run(task, self._stop)
             except BaseException as error:
+                if isinstance(error, MemoryError) or isinstance(error, OSError) and error.errno in _LACKING:
+                    if self._is_too_much():
+                        self._tasks.put(given)
+                        return
+                    # The last one has it tried again, when others may have ended.
+                    time.sleep(_PAUSE)
                 outcome = error
             done(outcome)
+
+    def _is_too_much(self) -> bool:
+        """Whether one that lacks something leaves the work to others, if there are any."""
+        with self._lock:
+            if self._working < 2:
+                return False
+            self._working -= 1
+            self._most = self._working
+            self._next_try = time.monotonic() + _TRY_AGAIN
+            return True
 
     def close(self) -> None:
         # What waits yet fails at once.
