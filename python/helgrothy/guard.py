@@ -48,7 +48,7 @@ class _Guard:
             raise
         finally:
             os.close(given)
-        atexit.register(self.end)
+        atexit.register(self._end_at_exit)
 
     def end(self) -> None:
         """Programs are told of no longer. Who began the shell waits for it, so that nothing of it is left."""
@@ -56,11 +56,16 @@ class _Guard:
             os.close(self.pipe)
         self.pipe = -1
         if self.owner == os.getpid():
-            # A command whose work is done isn't stopped any more.
             with suppress(subprocess.TimeoutExpired, KeyboardInterrupt, SystemExit):
                 self._shell.wait(1)
         self._shell.returncode = 0
-        atexit.unregister(self.end)
+        atexit.unregister(self._end_at_exit)
+
+    def _end_at_exit(self) -> None:
+        # A command whose work is done isn't stopped any more; what is broken off is done again.
+        for _ in range(2):
+            with suppress(KeyboardInterrupt, SystemExit):
+                self.end()
 
 
 _guard: _Guard | None = None

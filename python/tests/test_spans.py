@@ -16,7 +16,7 @@ import unittest
 from concurrent.futures import Executor, Future, ProcessPoolExecutor, ThreadPoolExecutor
 from unittest import mock
 
-from helgrothy import ListingFault, OutOfTime, Problem, ProgramFailed, ProgramNotFound, SearchFault, make, programs
+from helgrothy import ListingFault, OutOfTime, Problem, ProgramFailed, ProgramNotFound, SearchFault, guard, make, programs
 from helgrothy.__main__ import main
 from helgrothy.spans import folder as folders
 from helgrothy.spans import about, cuts, held, join, loop, progress, record, rows, show, span, text, workers
@@ -405,6 +405,24 @@ class Loops(unittest.TestCase):
     def test_no_program(self):
         with mock.patch.object(span, "find", side_effect=ProgramNotFound("dlx-span")), self.assertRaises(ProgramNotFound):
             make.queens.problem(6).count(jobs=1)
+
+
+class Guards(unittest.TestCase):
+    def test_an_interrupt_at_the_very_end(self):
+        """It isn't told: what there was to do is done."""
+        right, raised = os.close, []
+
+        def close(number):
+            if not raised:
+                raised.append(number)
+                raise KeyboardInterrupt
+            right(number)
+
+        one = guard._Guard()
+        with mock.patch("os.close", close):
+            one._end_at_exit()
+        self.assertEqual((one.pipe, one._shell.returncode), (-1, 0))
+        self.assertRaises(ProcessLookupError, os.kill, one._shell.pid, 0)
 
 
 class FewWorkers(unittest.TestCase):
