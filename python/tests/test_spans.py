@@ -926,7 +926,7 @@ class Commands(unittest.TestCase):
         package = os.path.dirname(os.path.dirname(os.path.abspath(__file__)))
         bound = None if memory is None else lambda: resource.setrlimit(resource.RLIMIT_AS, (memory, memory))
         command = [sys.executable, "-m", "helgrothy", *words]
-        done = subprocess.run(command, capture_output=True, cwd=package, preexec_fn=bound)
+        done = subprocess.run(command, capture_output=True, cwd=package, preexec_fn=bound, timeout=300)
         return done.returncode, done.stdout, done.stderr.decode()
 
     def test_search(self):
@@ -967,10 +967,10 @@ class Commands(unittest.TestCase):
 
     def test_folders_that_no_search_can_have(self):
         for folder, told in (("/proc", "isn't empty"), ("/proc/self/x", "No such file"), ("", "No such file"), (self.path, "no folder")):
-            with self.subTest(folder=folder):
-                status, printed, error = self.run_it("search", self.path, "--folder", folder)
-                self.assertEqual((status, printed), (2, b""))
-                self.assertIn(told, error)
+            error = io.StringIO()
+            with self.subTest(folder=folder), contextlib.redirect_stderr(error):
+                self.assertEqual(main(["search", self.path, "--folder", folder]), 2)
+                self.assertIn(told, error.getvalue())
 
     def test_nothing_is_printed_of_what_is_damaged(self):
         listing, _ = whole(1, QUEENS, "m1")
@@ -1009,6 +1009,15 @@ class Commands(unittest.TestCase):
         self.assertEqual(self.run_it("result", folder, "--list")[:2], (NOT_DONE, b""))
         line = r"\A[0-9.]+ % done: [0-9,]+ solutions, .*\nleft: about .*\n\Z"
         self.assertRegex(self.run_it("status", folder)[1].decode(), line)
+
+    def test_a_problem_that_does_not_come(self):
+        """The time that a command is given is for reading too."""
+        pipe, folder = f"{self.path}.pipe", f"{self.path}.found"
+        os.mkfifo(pipe)
+        told = f"helgrothy: not done in 0.5 seconds: {pipe} wasn't read by then\n"
+        words = ["search", pipe, "--folder", folder, "--seconds", "0.5"]
+        self.assertEqual(self.run_it(*words), (NOT_DONE, b"", told))
+        self.assertFalse(os.path.exists(folder))
 
     def test_faults(self):
         for given, kind, message in (

@@ -10,11 +10,12 @@ import argparse
 import signal
 import subprocess
 import sys
+import time
 from collections.abc import Callable, Sequence
 from typing import Any, NoReturn
 
 from .. import __version__, console
-from ..errors import ProgramFailed, SearchFault
+from ..errors import OutOfTime, ProgramFailed, SearchFault
 from . import record as records
 from .cuts import rows
 from .folder import Folder, Look
@@ -95,34 +96,47 @@ def _search(arguments: argparse.Namespace) -> int:
     if arguments.problem == "-" and arguments.folder is None:
         raise SearchFault("a problem from standard input needs --folder, where what is done is kept")
     console.end_by_signals()
-    problem = console.read(arguments.problem)
-    job = Job(problem, _kind(arguments, problem), arguments.list)
-    is_beside = arguments.folder is None
-    path = f"{arguments.problem}.search" if is_beside else arguments.folder
+    begun = time.monotonic()
     try:
-        # The first steps tell whether the text has a fault, before there is a folder.
-        first = run(Task(job.kind, listed=False, problem=problem, start="-", until="-", steps=1, most=0))
-        records.of_text(first.text, WHOLE, listed=False)
+        with console.limited(arguments.most):
+            job = _read_job(arguments)
     except ProgramFailed as error:
         return _failed(error)
+    except OutOfTime:
+        name = "standard input" if arguments.problem == "-" else arguments.problem
+        console.say(f"helgrothy: not done in {arguments.most:g} seconds: {name} wasn't read by then")
+        return NOT_DONE
+    is_beside = arguments.folder is None
+    path = f"{arguments.problem}.search" if is_beside else arguments.folder
     with Folder(path, job, is_own=is_beside) as folder:
         # What is damaged is told before anything is printed.
         folder.check()
-        for line in ignored(problem):
+        for line in ignored(job.problem):
             console.say(f"Option ignored (no primary items): line {line}")
-        status = _Searching(folder, job, arguments).run()
+        status = _Searching(folder, job, arguments, begun).run()
         if status == 0 and is_beside:
             folder.remove()
     return status
 
 
+def _read_job(arguments: argparse.Namespace) -> Job:
+    """What is to be searched. Raises `ProgramFailed` for a text with a fault, before there is a folder."""
+    problem = console.read(arguments.problem)
+    job = Job(problem, _kind(arguments, problem), arguments.list)
+    # The first step tells of a fault.
+    first = run(Task(job.kind, listed=False, problem=problem, start="-", until="-", steps=1, most=0))
+    records.of_text(first.text, WHOLE, listed=False)
+    return job
+
+
 class _Searching:
     """A search in a folder, from where it is to its end."""
 
-    def __init__(self, folder: Folder, job: Job, arguments: argparse.Namespace) -> None:
+    def __init__(self, folder: Folder, job: Job, arguments: argparse.Namespace, begun: float) -> None:
         self._folder = folder
         self._job = job
         self._arguments = arguments
+        self._deadline = None if arguments.most is None else begun + arguments.most
         self._shown = Shown(job.listed)
         self._join: Join | None = None
         self._parts = folder.parts
@@ -161,7 +175,7 @@ class _Searching:
             self._loop = Loop(self._job, workers.submit, workers.count, self._keep, self._tell, workers.ahead)
             self._loop.done_before(self._folder.parts, self._folder.solutions)
             try:
-                is_done = self._loop.search(list(todo), self._arguments.most)
+                is_done = self._loop.search(list(todo), self._seconds())
             finally:
                 # What is done is kept, whatever came.
                 self._parts = self._loop.parts
@@ -171,6 +185,10 @@ class _Searching:
             self._tell_stop(f"not done in {self._arguments.most:g} seconds")
             return NOT_DONE
         return 0
+
+    def _seconds(self) -> float | None:
+        """How long the search may take yet."""
+        return None if self._deadline is None else max(self._deadline - time.monotonic(), 0.0)
 
     def _workers(self) -> Workers:
         if self._arguments.dask is not None:
