@@ -6,11 +6,19 @@
     for solution in problem.solve():
         print(solution)
 
-`helgrothy.make` makes problems that people know, `helgrothy.draw` and `helgrothy.table` draw solutions,
-`helgrothy.data` writes them as JSON and CSV, `helgrothy.lint` looks for slips, `helgrothy.why` for conflicts,
-`helgrothy.export` writes problems for other solvers,
-and `helgrothy.answers` reads what they answer. `Problem.count(jobs=..)` searches by many processors.
-`python3 -m helgrothy --help` has the same as commands.
+The modules, which need no import of their own:
+
+    make      makes problems that people know, such as `make.sudoku.problem(..)`
+    draw      draws solutions as boards; `table` as tables
+    data      writes solutions as JSON and CSV
+    shuffle   gives solutions in a random order
+    symmetry  gives one solution of those that are images of each other
+    cost      finds the solution that costs least
+    lint      looks for slips in the text of a problem
+    why       says why a problem has no solution
+    export    writes problems for other solvers; `answers` reads what they answer
+
+`Problem.count(jobs=..)` searches by many processors. `python3 -m helgrothy --help` has the same as commands.
 """
 
 # First, since it says where the modules of all that follows may come from.
@@ -19,6 +27,7 @@ from importlib import import_module
 from typing import TYPE_CHECKING, Any
 
 if TYPE_CHECKING:
+    from . import answers, cost, data, draw, export, lint, make, shuffle, symmetry, table, why
     from .errors import (
         AnswerFault,
         Fault,
@@ -31,10 +40,12 @@ if TYPE_CHECKING:
         ProgramNotFound,
         SearchFault,
         TableFault,
+        UnknownChoice,
     )
     from .listing import Listed, Null, Step
     from .problem import Problem, Solutions
     from .solution import Solution
+    from .spans import Progress
     from .syntax import Bounds
 
 __version__ = "0.1.0"
@@ -52,29 +63,56 @@ __all__ = [
     "ProblemFault",
     "ProgramFailed",
     "ProgramNotFound",
+    "Progress",
     "SearchFault",
     "Solution",
     "Solutions",
     "Step",
     "TableFault",
+    "UnknownChoice",
+    "answers",
+    "cost",
+    "data",
+    "draw",
+    "export",
+    "lint",
+    "make",
+    "shuffle",
+    "symmetry",
+    "table",
+    "why",
 ]
 
-# Where the names that aren't errors come from. They are loaded when they are first used, so that a command waits for no
-# module that it doesn't need.
+# Where the names come from that are neither modules nor errors. All are loaded when they are first used, so that a
+# command waits for no module that it doesn't need.
 _HOMES = {
     "Bounds": "syntax",
     "Listed": "listing",
     "Null": "listing",
     "Problem": "problem",
+    "Progress": "spans",
     "Solution": "solution",
     "Solutions": "problem",
     "Step": "listing",
 }
 
 
-def __getattr__(name: str) -> Any:
+def _load(name: str) -> Any:
+    """The value of a name that isn't loaded yet."""
     if name not in __all__:
         raise AttributeError(f"module {__name__!r} has no attribute {name!r}")
+    if name.islower():
+        return import_module(f"{__name__}.{name}")
     value = getattr(import_module(f"{__name__}.{_HOMES.get(name, 'errors')}"), name)
     globals()[name] = value
     return value
+
+
+def _names() -> list[str]:
+    """The public names, whether they are loaded or not."""
+    return [*__all__, *(name for name in globals() if name[:2] == "__" and name not in ("__dir__", "__getattr__"))]
+
+
+# A checker of types knows the names from above, and finds those that aren't there.
+if not TYPE_CHECKING:
+    __dir__, __getattr__ = _names, _load

@@ -1,0 +1,63 @@
+"""What the package shows of itself: its names, to people, to completion and to checkers of types."""
+
+import ast
+import os
+import pydoc
+import re
+import rlcompleter
+import subprocess
+import sys
+import unittest
+
+import helgrothy
+
+PACKAGE = os.path.dirname(os.path.abspath(helgrothy.__file__))
+MODULES = {"answers", "cost", "data", "draw", "export", "lint", "make", "shuffle", "symmetry", "table", "why"}
+
+
+def fresh(code: str) -> "list[str]":
+    """The words that a Python of its own prints, which has loaded nothing of the package."""
+    how = {"env": {**os.environ, "PYTHONPATH": os.path.dirname(PACKAGE)}, "text": True, "check": True}
+    return subprocess.run([sys.executable, "-c", code], stdout=subprocess.PIPE, **how).stdout.split()
+
+
+class Names(unittest.TestCase):
+    def test_they_are_shown(self):
+        public = sorted(helgrothy.__all__)
+        self.assertEqual(sorted(name for name in dir(helgrothy) if not name.startswith("_")), public)
+        shown = fresh("import helgrothy; print(*dir(helgrothy))")
+        self.assertEqual(sorted(name for name in shown if not name.startswith("_")), public)
+        self.assertIn("__version__", shown)
+        completed = rlcompleter.Completer({"helgrothy": helgrothy}).attr_matches("helgrothy.")
+        self.assertEqual(sorted(word.partition(".")[2].strip("(") for word in completed), public)
+        help_of_all = pydoc.plain(pydoc.render_doc(helgrothy))
+        classes = {name for name in public if isinstance(getattr(helgrothy, name), type)}
+        self.assertEqual(set(re.findall(r"^    class (\w+)", help_of_all, re.MULTILINE)), classes)
+        self.assertNotIn("FUNCTIONS", help_of_all)
+
+    def test_they_are_there(self):
+        for name in helgrothy.__all__:
+            value = getattr(helgrothy, name)
+            self.assertEqual(getattr(value, "__name__", ""), f"helgrothy.{name}" if name in MODULES else name)
+        self.assertLess(MODULES, set(helgrothy.__all__))
+        code = "import helgrothy as hg; print(hg.make.queens.problem(6).count(), hg.draw.Pattern.__name__, hg.cost.least.__name__)"
+        self.assertEqual(fresh(code), ["4", "Pattern", "least"])
+        self.assertEqual(fresh("from helgrothy import *; print(make.__name__, Problem.__name__)"), ["helgrothy.make", "Problem"])
+        for wrong in ("Any", "problems", "console"):
+            with self.assertRaisesRegex(AttributeError, f"module 'helgrothy' has no attribute '{wrong}'"):
+                helgrothy._load(wrong)
+
+    def test_nothing_is_loaded_before_it_is_used(self):
+        code = "import sys, helgrothy; dir(helgrothy); print(*(name for name in sys.modules if 'helgrothy' in name))"
+        self.assertEqual(sorted(fresh(code)), ["helgrothy", "helgrothy.alone"])
+
+    def test_checkers_of_types_know_them(self):
+        with open(os.path.join(PACKAGE, "__init__.py"), encoding="utf-8") as file:
+            tree = ast.parse(file.read())
+        (block,) = (it for it in tree.body if isinstance(it, ast.If) and isinstance(it.test, ast.Name))
+        named = [it.name for part in block.body if isinstance(part, ast.ImportFrom) for it in part.names]
+        self.assertEqual(sorted(named), sorted(helgrothy.__all__))
+
+
+if __name__ == "__main__":
+    unittest.main()
