@@ -12,10 +12,12 @@ class HelgrothyError(Exception):
 
 
 class Fault(HelgrothyError, ValueError):
-    """A fault of a text: its line, counted from 1, the token that is wrong, the reason, and perhaps a hint.
+    """A fault of a text: its line, counted from 1, the token that is wrong, the reason, and perhaps a hint."""
 
-    `line` is 0 where the text has no line for it.
-    """
+    line: int
+    token: str
+    reason: str
+    hint: str
 
     def __init__(self, line: int, token: str, reason: str, hint: str = "") -> None:
         super().__init__(line, token, reason, hint)
@@ -25,13 +27,36 @@ class Fault(HelgrothyError, ValueError):
         self.hint = hint
 
     def __str__(self) -> str:
-        token = f"{shown(self.token)}: " if self.token else ""
         hint = f" ({shown(self.hint)})" if self.hint else ""
-        return f"line {self.line}: {token}{self.reason}{hint}"
+        return ": ".join([*self._where(), self.reason]) + hint
+
+    def _where(self) -> list[str]:
+        """The place and the token, as the message begins."""
+        return [f"line {self.line}", shown(self.token)] if self.token else [f"line {self.line}"]
 
 
 class ProblemFault(Fault):
-    """A fault of a problem. Its reason is the text that the programs have for it, as in docs/INPUT.md."""
+    """A fault of a problem. Its reason is the text that the programs have for it, as in docs/INPUT.md.
+
+    line: that of the text the problem was read from; 0 for a problem that was made in Python.
+    option: there the option that is at fault, by the number that `add_option` gives it; None where an item is, whose
+        text is the token, or where the problem as a whole is, without a token.
+    """
+
+    option: int | None
+
+    def __init__(self, line: int, token: str, reason: str, hint: str = "", option: int | None = None) -> None:
+        super().__init__(line, token, reason, hint)
+        self.args += (option,)
+        self.option = option
+
+    def _where(self) -> list[str]:
+        if self.line:
+            return super()._where()
+        token = [shown(self.token)] if self.token else []
+        if self.option is not None:
+            return [f"option {self.option}", *token]
+        return [f"item {one}" for one in token]
 
 
 class ListingFault(Fault):

@@ -57,8 +57,7 @@ class Problem(Generic[Option]):
     `pattern` may be set to a `Pattern` or a `Table` of `helgrothy.draw` and `helgrothy.table`, by which solutions are
     drawn from then on.
 
-    Raises `ProblemFault` where an item is unknown, twice in an option, named twice, and so on; its line is that of
-    `text`.
+    Raises `ProblemFault` where an item is unknown, twice in an option, named twice, and so on; it says in which option.
 
     >>> Problem("abc", options=["ab", "c", "a", "bc"]).count()
     2
@@ -77,10 +76,10 @@ class Problem(Generic[Option]):
         self.secondary: dict[Hashable, None] = {}
         self.options: Options[Option] = Options()
         self.pattern: Drawn | None = None
-        self._line = len(self.comments) + 1
         others = () if secondary is True else secondary
         for what, given in (("items", items), ("secondary", others), ("options", options)):
-            self._refuse(not isinstance(given, Iterable) and given is not False, given, f"bad {what}", "no iterable")
+            if not isinstance(given, Iterable) and given is not False:
+                raise _fault("", f"bad {what}", f"{given} is no iterable")
         self._takes_rest = secondary is True
         self._uses = 0
         self._colours: dict[Hashable, None] = {}
@@ -97,31 +96,21 @@ class Problem(Generic[Option]):
         pairs: Iterable[tuple[Hashable, BoundsLike]]
         pairs = items.items() if isinstance(items, Mapping) else ((item, None) for item in items)
         for item, bounds in pairs:
-            self._refuse(not _is_hashable(item), item, "bad name", _HASHABLE)
-            self._refuse(item in self.items, item, "name repeated")
-            self.items[item] = self._bounds(item, bounds)
+            self._check_name(item)
+            self.items[item] = _bounds(item, bounds)
         for item in secondary:
-            self._refuse(not _is_hashable(item), item, "bad name", _HASHABLE)
-            self._refuse(item in self.items or item in self.secondary, item, "name repeated")
+            self._check_name(item)
             self.secondary[item] = None
-        self._refuse(not self.items, "", "no items")
-        self._refuse(len(self.items) + len(self.secondary) > MOST_ITEMS, "", "too many items")
+        if not self.items:
+            raise _fault("", "no items")
+        if len(self.items) + len(self.secondary) > MOST_ITEMS:
+            raise _fault("", "too many items")
 
-    def _refuse(self, is_wrong: bool, token: object, reason: str, hint: str = "", option: int = 0) -> None:
-        if is_wrong:
-            raise ProblemFault(self._line + option, str(token), reason, hint)
-
-    def _bounds(self, item: Hashable, given: BoundsLike) -> Bounds:
-        if given is None:
-            return ONCE
-        pair: Any = (given, given) if isinstance(given, Integral) else given
-        is_pair = isinstance(pair, (tuple, list)) and len(pair) == 2 and all(isinstance(one, Integral) for one in pair)
-        hint = "bounds are None, a number or two; items is a mapping, whose values are bounds: list(items) has its keys"
-        self._refuse(not is_pair, item, "bad bound", hint)
-        low, high = map(int, pair)
-        reason = bounds_fault(low, high)
-        self._refuse(reason is not None, item, reason or "")
-        return Bounds(low, high)
+    def _check_name(self, item: Hashable) -> None:
+        if not _is_hashable(item):
+            raise _fault(item, "bad name", _HASHABLE)
+        if item in self.items or item in self.secondary:
+            raise _fault(item, "name repeated")
 
     def add_option(self, option: Option) -> int:
         """Adds an option behind the others; returns its number in `options`, from 0 on. Raises `ProblemFault`."""
@@ -129,20 +118,23 @@ class Problem(Generic[Option]):
         return len(self.options) - 1
 
     def _take(self, given: Option) -> None:
-        number = len(self.options) + 1
-        is_option = isinstance(given, Iterable)
-        self._refuse(not is_option, given, "bad option", "an option is an iterable of items, or a mapping", number)
+        number = len(self.options)
+        if not isinstance(given, Iterable):
+            raise _fault(given, "bad option", "an option is an iterable of items, or a mapping", number)
         # What can be gone through only once is kept as a tuple.
         option: Any = tuple(given) if isinstance(given, Iterator) else given
         try:
             rest, colours = self._check_option(option, number)
         except TypeError:
             for item, colour in self.pairs(option):
-                self._refuse(not _is_hashable(item), item, "unknown item", _HASHABLE, number)
-                self._refuse(not _is_hashable(colour), colour, "bad colour", _HASHABLE, number)
+                if not _is_hashable(item):
+                    raise _fault(item, "unknown item", _HASHABLE, number) from None
+                if not _is_hashable(colour):
+                    raise _fault(colour, "bad colour", _HASHABLE, number) from None
             raise
         if rest:
-            self._refuse(len(self.items) + len(self.secondary) + len(rest) > MOST_ITEMS, "", "too many items")
+            if len(self.items) + len(self.secondary) + len(rest) > MOST_ITEMS:
+                raise _fault("", "too many items", option=number)
             self.secondary.update(rest)
             self._item_names = None
         if any(colour not in self._colours for colour in colours):
@@ -157,22 +149,33 @@ class Problem(Generic[Option]):
         rest: dict[Hashable, None] = {}
         colours: dict[Hashable, None] = {}
         for item, colour in self.pairs(option):
-            if item not in self.items and item not in self.secondary:
-                hint = "a text is an option of its letters; split it" if isinstance(option, str) else ""
-                self._refuse(not self._takes_rest, item, "unknown item", hint, number)
+            is_primary = item in self.items
+            if not is_primary and item not in self.secondary:
+                if not self._takes_rest:
+                    raise _fault(item, "unknown item", self._hint(item, option), number)
                 rest[item] = None
-            self._refuse(item in seen, item, "item repeated in option", option=number)
-            self._refuse(colour is not None and item in self.items, item, "colour on a primary item", option=number)
-            seen.add(item)
-            has_primary = has_primary or item in self.items
+            if item in seen:
+                raise _fault(item, "item repeated in option", option=number)
             if colour is not None:
+                if is_primary:
+                    raise _fault(item, "colour on a primary item", option=number)
                 colours[colour] = None
+            seen.add(item)
+            has_primary = has_primary or is_primary
         if has_primary:
-            self._refuse(self._uses + len(seen) > MOST_USES, "", "too many uses", option=number)
+            if self._uses + len(seen) > MOST_USES:
+                raise _fault("", "too many uses", option=number)
             self._uses += len(seen)
         else:
             warnings.warn(f"option {number} has no primary item, so it is in no solution", stacklevel=4)
         return rest, colours
+
+    def _hint(self, item: Hashable, option: Option) -> str:
+        """What may have been meant by an unknown item."""
+        other = next((one for one in (*self.items, *self.secondary) if str(one) == str(item)), item)
+        if type(other) is not type(item):
+            return f"here of type {type(item).__name__}, among the items of type {type(other).__name__}"
+        return "a text is an option of its letters; split it" if isinstance(option, str) else ""
 
     @staticmethod
     def pairs(option: Iterable[Hashable]) -> Iterable[tuple[Hashable, Hashable | None]]:
@@ -259,8 +262,11 @@ class Problem(Generic[Option]):
             return {
                 names[item]: None if colour is None else colours[colour] for item, colour in self.pairs(option)
             }
-        except KeyError as error:
-            raise ProblemFault(0, str(error.args[0]), "unknown item or colour") from None
+        except KeyError:
+            item, colour = next((i, c) for i, c in self.pairs(option) if i not in names or c not in (None, *colours))
+            if item not in names:
+                raise _fault(item, "unknown item") from None
+            raise _fault(item, "unknown colour", str(colour)) from None
 
     def line(self, option: Iterable[Hashable]) -> str:
         """An option as a line of the problem's text. Raises `ProblemFault`."""
@@ -455,6 +461,26 @@ class Problem(Generic[Option]):
         return f"<Problem of {len(self.items)} + {len(self.secondary)} items and {len(self.options)} options>"
 
 
+def _fault(token: object, reason: str, hint: str = "", option: int | None = None) -> ProblemFault:
+    """The fault of what was given in Python: of an option, else of an item or of all."""
+    return ProblemFault(0, str(token), reason, hint, option)
+
+
+def _bounds(item: Hashable, given: BoundsLike) -> Bounds:
+    """The bounds of an item as they were given. Raises `ProblemFault`."""
+    if given is None:
+        return ONCE
+    pair: Any = (given, given) if isinstance(given, Integral) else given
+    if not (isinstance(pair, (tuple, list)) and len(pair) == 2 and all(isinstance(one, Integral) for one in pair)):
+        hint = "bounds are None, a number or two; items is a mapping, whose values are bounds: list(items) has its keys"
+        raise _fault(item, "bad bound", hint)
+    low, high = map(int, pair)
+    reason = bounds_fault(low, high)
+    if reason is not None:
+        raise _fault(item, reason)
+    return Bounds(low, high)
+
+
 def _comment_lines(comments: Iterable[str]) -> tuple[str, ...]:
     lines = tuple(line for text in comments for line in text.split("\n"))
     for number, line in enumerate(lines, 1):
@@ -463,7 +489,7 @@ def _comment_lines(comments: Iterable[str]) -> tuple[str, ...]:
         except UnicodeEncodeError:
             reason = "bad text"
         if reason is not None:
-            raise ProblemFault(number, "", reason)
+            raise _fault("", reason, f"line {number} of the comments")
     return lines
 
 

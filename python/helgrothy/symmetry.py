@@ -17,6 +17,7 @@ from typing import Any, TypeVar
 
 from .errors import NoPicture, OutOfTime
 from .problem import Problem
+from .shown import shown
 from .stream import Chosen, Stream, chosen
 from .syntax import ONCE
 from .turns import Cell, symmetries
@@ -27,6 +28,7 @@ Motion = tuple[int, ...]
 # The options that hold an item, apart by its colours (True without one), and its bounds.
 _Holders = tuple[frozenset[tuple[bool, frozenset[int]]], Hashable]
 _MOST_DIGITS = 9
+_MOST_TOLD = 60
 
 
 def motions(problem: Problem[Any], cell: str) -> list[Motion]:
@@ -44,7 +46,8 @@ def motions(problem: Problem[Any], cell: str) -> list[Motion]:
     places = {key: place for place, key in enumerate(keys)}
     if len(places) < len(keys):
         place = next(place for place, key in enumerate(keys) if places[key] != place)
-        raise NoPicture(f"options {place + 1} and {places[keys[place]] + 1} lie in the same cells and are alike")
+        line = shown(problem.line(problem.options[place]))
+        raise NoPicture(f"two options lie in the same cells and are alike: {line[:_MOST_TOLD]}")
     holders = _holders(problem)
     found: dict[Motion, None] = {}
     for symmetry in symmetries(region):

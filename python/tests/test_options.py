@@ -35,8 +35,8 @@ class Secondary(unittest.TestCase):
         self.assertEqual((problem.text, problem.kind, problem.count()), ("a b\na\nb\n", 1, 1))
         with self.assertRaises(ProblemFault) as raised:
             Problem("ab").add_option("ax")
-        self.assertEqual((raised.exception.line, raised.exception.token), (2, "x"))
-        with self.assertWarnsRegex(UserWarning, "option 3 has no primary item") as warned:
+        self.assertEqual((raised.exception.option, raised.exception.token), (0, "x"))
+        with self.assertWarnsRegex(UserWarning, "option 2 has no primary item") as warned:
             problem.add_option(["z"])
         self.assertEqual(warned.filename, __file__)
 
@@ -71,19 +71,19 @@ class Secondary(unittest.TestCase):
 class Faults(unittest.TestCase):
     def test_what_is_no_problem(self):
         for wanted, make_it in (
-            ((1, "a", "bad bound"), lambda: Problem({"a": 1.5})),
-            ((1, "a", "bad bound"), lambda: Problem({"a": "12"})),
-            ((1, "a", "bad bound"), lambda: Problem({"a": {1: 2}})),
-            ((2, "5", "bad option"), lambda: Problem("a", options=[5])),
-            ((3, "None", "bad option"), lambda: Problem("a", options=["a", None])),
-            ((2, "[1]", "unknown item"), lambda: Problem("a", options=[["a", [1]]])),
-            ((2, "[1]", "bad colour"), lambda: Problem("a", "x", [{"a": None, "x": [1]}])),
-            ((1, "[1]", "bad name"), lambda: Problem([[1]])),
-            ((1, "{}", "bad name"), lambda: Problem("a", [{}])),
+            ((None, "a", "bad bound"), lambda: Problem({"a": 1.5})),
+            ((None, "a", "bad bound"), lambda: Problem({"a": "12"})),
+            ((None, "a", "bad bound"), lambda: Problem({"a": {1: 2}})),
+            ((0, "5", "bad option"), lambda: Problem("a", options=[5])),
+            ((1, "None", "bad option"), lambda: Problem("a", options=["a", None])),
+            ((0, "[1]", "unknown item"), lambda: Problem("a", options=[["a", [1]]])),
+            ((0, "[1]", "bad colour"), lambda: Problem("a", "x", [{"a": None, "x": [1]}])),
+            ((None, "[1]", "bad name"), lambda: Problem([[1]])),
+            ((None, "{}", "bad name"), lambda: Problem("a", [{}])),
         ):
             with self.subTest(wanted=wanted), self.assertRaises(ProblemFault) as raised:
                 make_it()
-            self.assertEqual((raised.exception.line, raised.exception.token, raised.exception.reason), wanted)
+            self.assertEqual((raised.exception.option, raised.exception.token, raised.exception.reason), wanted)
 
     def test_values_that_were_meant_as_no_bounds(self):
         with self.assertRaises(ProblemFault) as raised:

@@ -160,7 +160,7 @@ class Solving(unittest.TestCase):
         self.assertEqual(list(Problem("a", "x", coloured).solve()), [[option] for option in coloured])
 
     def test_options_without_primary_items(self):
-        with self.assertWarnsRegex(UserWarning, "option 2 has no primary item"):
+        with self.assertWarnsRegex(UserWarning, "option 1 has no primary item"):
             problem = Problem("a", "x", ["ax", "x", ""])
         self.assertEqual(list(problem.solve()), [["ax"]])
 
@@ -265,27 +265,39 @@ class Judging(unittest.TestCase):
 
 class Faults(unittest.TestCase):
     def test_of_problems(self):
+        """In Python a fault has the number of an option or the name of an item, in a text a line."""
         for wanted, make_it in {
-            (2, "c", "unknown item"): lambda: Problem("ab", options=["ac"]),
-            (3, "a", "item repeated in option"): lambda: Problem("ab", options=["ab", "aa"]),
-            (2, "a", "colour on a primary item"): lambda: Problem("ab", options=[{"a": 1}]),
-            (1, "a", "name repeated"): lambda: Problem("aba"),
-            (2, "b", "name repeated"): lambda: Problem("ab", "b", comments=["one"]),
-            (1, "a", "bound order"): lambda: Problem({"a": (2, 1)}),
-            (1, "a", "bad bound"): lambda: Problem({"a": -1}),
-            (1, "", "no items"): lambda: Problem(""),
-            (2, "", "no items"): lambda: Problem.parse("| a b\n"),
-            (2, "B,", "unknown item"): lambda: Problem.parse("A B\nA B,\n"),
-            (1, "5", "bad items"): lambda: Problem(5),
-            (1, "5", "bad secondary"): lambda: Problem("a", 5),
-            (1, "None", "bad options"): lambda: Problem("a", options=None),
-            (2, "", "NUL byte"): lambda: Problem("a", comments=["one", "\0"]),
-            (1, "", "bad text"): lambda: Problem("a", comments=["\ud800"]),
+            ("option 0: c: unknown item", 0, 0, "c"): lambda: Problem("ab", options=[["a", "c"]]),
+            ("option 1: a: item repeated in option", 0, 1, "a"): lambda: Problem("ab", options=["ab", "aa"]),
+            ("option 0: a: colour on a primary item", 0, 0, "a"): lambda: Problem("ab", options=[{"a": 1}], comments=["one"]),
+            ("item a: name repeated", 0, None, "a"): lambda: Problem("aba"),
+            ("item b: name repeated", 0, None, "b"): lambda: Problem("ab", "b", comments=["one"]),
+            ("item a: bound order", 0, None, "a"): lambda: Problem({"a": (2, 1)}),
+            ("item a: bad bound", 0, None, "a"): lambda: Problem({"a": -1}),
+            ("no items", 0, None, ""): lambda: Problem(""),
+            ("line 2: no items", 2, None, ""): lambda: Problem.parse("| a b\n"),
+            ("line 2: B,: unknown item (is it B?)", 2, None, "B,"): lambda: Problem.parse("A B\nA B,\n"),
+            ("option 1: C: unknown item", 0, 1, "C"): lambda: Problem.parse("A B\nA B\n").add_option(["C"]),
+            ("bad items (5 is no iterable)", 0, None, ""): lambda: Problem(5),
+            ("bad secondary (5 is no iterable)", 0, None, ""): lambda: Problem("a", 5),
+            ("bad options (None is no iterable)", 0, None, ""): lambda: Problem("a", options=None),
+            ("NUL byte (line 2 of the comments)", 0, None, ""): lambda: Problem("a", comments=["one", "\0"]),
+            ("bad text (line 1 of the comments)", 0, None, ""): lambda: Problem("a", comments=["\ud800"]),
+            ("item b: unknown item", 0, None, "b"): lambda: Problem("a").line(["b"]),
+            ("item x: unknown colour (2)", 0, None, "x"): lambda: Problem("a", "x", [{"a": None, "x": 1}]).line({"x": 2}),
         }.items():
             with self.subTest(wanted=wanted), self.assertRaises(ProblemFault) as raised:
                 make_it()
             fault = raised.exception
-            self.assertEqual((fault.line, fault.token, fault.reason), wanted)
+            self.assertEqual((str(fault), fault.line, fault.option, fault.token), wanted)
+            again = pickle.loads(pickle.dumps(fault))
+            self.assertEqual((str(again), again.option, again.args), (str(fault), fault.option, fault.args))
+
+    def test_values_that_look_alike(self):
+        with self.assertRaises(ProblemFault) as raised:
+            Problem([1, 2], options=[[1], ["2"]])
+        told = "option 1: 2: unknown item (here of type str, among the items of type int)"
+        self.assertEqual(str(raised.exception), told)
 
     def test_of_programs(self):
         problem = Problem("a", options=["a"])

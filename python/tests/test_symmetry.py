@@ -101,6 +101,9 @@ class Symmetry(unittest.TestCase):
         ):  # fmt: skip
             with self.subTest(cell=cell), self.assertRaises(NoPicture):
                 symmetry.motions(Problem(["s1", "s2"], options=options), cell)
+        # By its line, since a command counts options from 1 on, and a caller from 0.
+        with self.assertRaisesRegex(NoPicture, "^two options lie in the same cells and are alike: s1 s2$"):
+            symmetry.motions(Problem(["s1", "s2"], options=[["s1", "s2"], ["s1", "s2"]]), r"s(\d)")
 
     def test_command(self):
         status, text, told = run("queens", "6", "--up-to-symmetry", "--all")
