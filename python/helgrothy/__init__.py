@@ -42,10 +42,11 @@ if TYPE_CHECKING:
         TableFault,
         UnknownChoice,
     )
-    from .listing import Listed, Null, Step
-    from .problem import Problem, Solutions
-    from .solution import Solution
+    from .listing import Null, Step
+    from .problem import Problem
+    from .solution import Listed, Solution
     from .spans import Progress
+    from .stream import Solutions
     from .syntax import Bounds
 
 __version__ = "0.1.0"
@@ -87,12 +88,12 @@ __all__ = [
 # command waits for no module that it doesn't need.
 _HOMES = {
     "Bounds": "syntax",
-    "Listed": "listing",
+    "Listed": "solution",
     "Null": "listing",
     "Problem": "problem",
     "Progress": "spans",
     "Solution": "solution",
-    "Solutions": "problem",
+    "Solutions": "stream",
     "Step": "listing",
 }
 

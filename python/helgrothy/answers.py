@@ -7,12 +7,17 @@ set program by a line of atoms, `x(1) x(5)`, for each answer. What else they say
 from __future__ import annotations
 
 import re
-from collections.abc import Iterable, Iterator, Sequence
-from typing import Any
+from collections.abc import Callable, Iterable, Iterator, Sequence
+from functools import partial
+from typing import Any, TypeVar
 
 from .errors import AnswerFault
 from .problem import Problem
 from .shown import bytes_of, text_of
+from .solution import Solution
+from .wire import OfNumbers
+
+Option = TypeVar("Option", bound=Any)
 
 _LITERAL = re.compile(r"(-?)x?([0-9]{1,18})\Z")
 _ATOM = re.compile(r"x\(([0-9]{1,18})\)\.?\Z")
@@ -31,13 +36,17 @@ _TOLD = {
 SOLVERS = tuple(_TOLD)
 
 
-def solutions(solver: str, problem: Problem[Any], lines: Iterable[bytes]) -> Iterator[list[int]]:
-    """The answers in what a solver printed: the places of the options that each takes, from 0 on.
+def solutions(solver: str, problem: Problem[Option], lines: Iterable[bytes]) -> Iterator[Solution[Option]]:
+    """The answers in what a solver printed, from its lines: the options that each takes.
 
     None comes where the solver says that there is none. Whether they are solutions isn't judged; `Problem.check` does.
     Raises `AnswerFault`.
     """
-    reader = _Reader(solver, problem)
+    give: Callable[[list[int]], Solution[Any]] = partial(Solution, OfNumbers(problem))
+    return map(give, _answers(_Reader(solver, problem), lines))
+
+
+def _answers(reader: _Reader, lines: Iterable[bytes]) -> Iterator[list[int]]:
     for number, line in enumerate(lines, 1):
         yield from reader.read(number, text_of(line).rstrip())
     yield from reader.end()

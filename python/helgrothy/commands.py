@@ -12,13 +12,11 @@ import time
 from collections.abc import Callable, Sequence
 from decimal import Decimal
 from fractions import Fraction
-from functools import partial
 from typing import Any
 
 from . import __version__, answers, console, cost, shuffle, symmetry, why
 from .console import Parser, limited, number, positive, seconds, write
 from .data import FORMATS as FORMS
-from .data import places_of
 from .draw import Drawing, drawing_of
 from .errors import HelgrothyError, NoPicture, OutOfTime, TableFault
 from .export import FORMATS
@@ -28,9 +26,9 @@ from .make import KINDS, kind_of
 from .make.kind import Found, Kind, read_text
 from .page import commands as pages
 from .page.file import MOST_SOLUTIONS, File
-from .problem import Problem, Solutions
+from .problem import Problem
 from .spans import commands as spans
-from .stream import Chosen, Stream
+from .stream import Solutions
 from .table import by_patterns
 from .watch import Watch
 
@@ -244,15 +242,14 @@ def _show(problem: Problem[Any], arguments: argparse.Namespace) -> int:
         with Watch(problem, console.say) as watch, solutions:
             for found in solutions:
                 watch.end()
-                options = found.options if isinstance(found, Chosen) else found
-                show(arguments.number or shown + 1, options, lambda _: found.numbers, lambda: found.steps)
+                show(arguments.number or shown + 1, found, lambda _: found.numbers, lambda: found.steps)
                 shown += 1
                 if page is not None and page.is_full:
                     break
                 if page is not None and time.monotonic() > last:
                     raise OutOfTime(f"it wasn't done in {arguments.seconds:g} seconds")
     except OutOfTime as error:
-        reached = max(error.found if isinstance(solutions, Stream) else error.found * number, shown)
+        reached = max(error.found, shown)
         if page is not None:
             write([page.text(reached, False, [f"{error}"])])
         return _fail(f"{error}; {_counted(reached)} till then")
@@ -273,7 +270,7 @@ def _search(
     limit: int | None,
     spacing: int,
     seconds: float | None,
-) -> tuple[Solutions[Any] | Stream[Any], str]:
+) -> tuple[Solutions[Any], str]:
     """The solutions that are asked for, and among what they are counted."""
     if arguments.shuffle is not None:
         return shuffle.solve(problem, arguments.shuffle, limit, spacing, seconds=seconds), ""
@@ -430,11 +427,10 @@ def _draw(arguments: argparse.Namespace) -> int:
     problem = _problem(arguments.problem)
     page = _page(problem, arguments)
     show = _showing(problem, arguments, None, page)
-    places = places_of(problem)
     shown = 0
     for listed in problem.listed(console.input_lines()):
         if arguments.number in (None, listed.number):
-            show(listed.number, listed.options(), places, partial(listed.steps, places))
+            show(listed.number, listed, lambda _: listed.numbers, lambda: listed.steps)
             shown += 1
             if arguments.svg or arguments.number or page is not None and page.is_full:
                 break
@@ -533,7 +529,7 @@ def _import(arguments: argparse.Namespace) -> int:
     problem = _problem(arguments.problem)
     shown = 0
     for shown, taken in enumerate(answers.solutions(arguments.solver, problem, console.input_lines()), 1):
-        console.write_bytes(answers.listing(problem, taken, shown))
+        console.write_bytes(answers.listing(problem, taken.numbers, shown))
     return 0 if shown else _fail(f"{arguments.solver} says that there is no solution", 1)
 
 

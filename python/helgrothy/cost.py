@@ -11,16 +11,18 @@ from __future__ import annotations
 import math
 import re
 import time
-from collections.abc import Hashable, Iterator, Sequence
-from dataclasses import dataclass
+from collections.abc import Generator, Hashable, Iterator, Sequence
+from contextlib import closing
 from fractions import Fraction
-from typing import Any, Generic, TypeVar, Union
+from typing import Any, TypeVar, Union
 
 from . import answers, export, sat_solver
 from .errors import AnswerFault, OutOfTime, ProgramFailed, TableFault
 from .problem import Problem
 from .programs import Run
 from .shown import bytes_of
+from .solution import Solution, Source
+from .wire import OfNumbers
 
 Option = TypeVar("Option", bound=Any)
 Cost = Union[int, float, Fraction]
@@ -33,18 +35,35 @@ _PARTS, _ROUNDS = 60, 8
 _MOST_BOUNDS = 30
 
 
-@dataclass(frozen=True)
-class Least(Generic[Option]):
-    """A solution: the places of its options, from 0 on, its options, what they cost, and who says that it is least."""
+class Least(Solution[Option]):
+    """The solution of least cost.
 
-    numbers: list[int]
-    options: list[Option]
+    cost: that of its options together. by: the program that found it, and proved it unless the time was over.
+    """
+
+    __slots__ = ("by", "cost")
+
+    by: str
     cost: Fraction
-    by: str = ""
+
+    def __init__(self, source: Source, numbers: Sequence[int], cost: Fraction, by: str) -> None:
+        super().__init__(source, numbers)
+        self.cost = cost
+        self.by = by
+
+    def __getstate__(self) -> dict[str, Any]:
+        return {**super().__getstate__(), "cost": self.cost, "by": self.by}
+
+    def __setstate__(self, state: dict[str, Any]) -> None:
+        super().__setstate__(state)
+        self.cost = state["cost"]
+        self.by = state["by"]
 
 
 class NotLeast(OutOfTime):
-    """The time was over before a solution was proved to be least. `best` is the cheapest one that was found."""
+    """The time was over before a solution was proved to be least. best: the cheapest one that was found, if any was."""
+
+    best: Least[Any] | None
 
     def __init__(self, best: Least[Any] | None) -> None:
         super().__init__("the time was over before a proof that no solution costs less")
@@ -85,11 +104,11 @@ def least(problem: Problem[Option], costs: Sequence[Cost], seconds: float | None
         by = "clasp"
     else:
         search, by = _by_bounds(problem, whole, seconds), "dlx3"
+    reader = OfNumbers(problem)
     best: Least[Option] | None = None
     try:
         for _, numbers in search:
-            options = [problem.options[number] for number in numbers]
-            best = Least(numbers, options, sum((exact[number] for number in numbers), Fraction(0)), by)
+            best = Least(reader, numbers, sum((exact[number] for number in numbers), Fraction(0)), by)
     except OutOfTime:
         raise NotLeast(None if best is None else _judged(problem, best)) from None
     return None if best is None else _judged(problem, best)
@@ -97,7 +116,7 @@ def least(problem: Problem[Option], costs: Sequence[Cost], seconds: float | None
 
 def _judged(problem: Problem[Option], found: Least[Option]) -> Least[Option]:
     """The solution, which dlxcheck has to take."""
-    if problem.check([found.options]) != [True]:
+    if problem.check([found]) != [True]:
         raise ProgramFailed(found.by, 0, "its answer is no solution, as dlxcheck judges it")
     return found
 
@@ -127,8 +146,8 @@ def _by_clasp(
                     yield line
 
         try:
-            for numbers in answers.solutions("clasp", problem, told()):
-                yield sum(costs[number] for number in numbers), numbers
+            for solution in answers.solutions("clasp", problem, told()):
+                yield sum(costs[number] for number in solution.numbers), solution.numbers
         except AnswerFault:
             raise run.failure() from None
         if not is_over:
@@ -151,11 +170,9 @@ def _by_bounds(
     while best is None or best * _PARTS > least:
         room = None if best is None else (best - 1) * _PARTS - least
         places = [place for place in order if room is None or surplus[place] <= room]
-        narrowed = problem.of_options(places) if room is None else _narrowed(problem, places, surplus, room)
         left = None if deadline is None else max(deadline - time.monotonic(), 0.0)
-        with narrowed.solve(seconds=left) as solutions:
-            for solution in solutions:
-                numbers = [places[number] for number in solution.numbers]
+        with closing(_among(problem, places, surplus, room, left)) as found:
+            for numbers in found:
                 cost = sum(costs[number] for number in numbers)
                 if best is None or cost < best:
                     best = cost
@@ -163,6 +180,18 @@ def _by_bounds(
                     break
             else:
                 return
+
+
+def _among(
+    problem: Problem[Any], places: Sequence[int], surplus: Sequence[int], room: int | None, seconds: float | None
+) -> Generator[list[int], None, None]:
+    """The solutions that have options of these places alone, as numbers, within the bounds where there is a room."""
+    if room is None:
+        with problem._search(places, seconds=seconds) as solutions:
+            yield from (solution.numbers for solution in solutions)
+    else:
+        with _narrowed(problem, places, surplus, room).solve(seconds=seconds) as narrowed:
+            yield from ([places[number] for number in solution.numbers] for solution in narrowed)
 
 
 def _surpluses(problem: Problem[Any], costs: Sequence[int]) -> tuple[list[int], int]:

@@ -20,12 +20,6 @@ Uses = Mapping[str, Optional[str]]
 _MOST_FILLED = 1_000
 
 
-def places_of(problem: Problem[Any]) -> Callable[[Iterable[Any]], list[int]]:
-    """What gives the places of a problem's own options, from 0 on; of one that is there twice the last."""
-    places = {id(option): place for place, option in enumerate(problem.options)}
-    return lambda options: [places[id(option)] for option in options]
-
-
 class Data(ABC):
     """A form of solutions. The options of a problem are written by their names, which are made once."""
 

@@ -101,9 +101,9 @@ class UnknownChoice(HelgrothyError, KeyError):
 
 
 class OutOfTime(HelgrothyError, TimeoutError):
-    """A run took longer than it was given. `found` says how many solutions it had told by then."""
+    """A run took longer than it was given. found: how many solutions it had found by then, also those left out."""
 
-    found = 0
+    found: int = 0
 
 
 class NoPicture(HelgrothyError, LookupError):

@@ -141,28 +141,15 @@ def last_number(text: bytes) -> int | None:
 
 
 @dataclass
-class Listed(Generic[Option]):
-    """A solution of a listing: the number in its header, its choices, and the line of each."""
+class Choices:
+    """A solution of a listing: the number in its header, its choices as numbers of options, and the line of each."""
 
     number: int
-    choices: list[Option | Null]
+    choices: list[int | Null] = field(default_factory=list)
     lines: list[bytes] = field(default_factory=list)
 
-    def options(self) -> list[Option]:
-        """The options, without the choices of none."""
-        return [choice for choice in self.choices if not isinstance(choice, Null)]
 
-    def steps(self, places: Callable[[Iterable[Option]], list[int]]) -> list[Step]:
-        """The steps of the search, by what gives the places of the problem's options."""
-        steps = []
-        for line, choice in zip(self.lines, self.choices):
-            item, branch, branches = branch_of(line, isinstance(choice, Null))
-            place = None if isinstance(choice, Null) else places([choice])[0]
-            steps.append(Step(text_of(item), place, branch, branches))
-        return steps
-
-
-def solutions(lines: Iterable[bytes], decode: Decoder[Option]) -> Iterator[Listed[Option]]:
+def solutions(lines: Iterable[bytes], decode: Decoder[int]) -> Iterator[Choices]:
     """The solutions of any listing, line by line. Raises `ListingFault`."""
     listed = None
     for number, line in enumerate(lines, 1):
@@ -171,7 +158,7 @@ def solutions(lines: Iterable[bytes], decode: Decoder[Option]) -> Iterator[Liste
         if header is not None:
             if listed is not None:
                 yield listed
-            listed = Listed(int(header.group(1)), [])
+            listed = Choices(int(header.group(1)))
         elif listed is None or _CHOICE.match(line) is None:
             raise ListingFault(number, text_of(line), "bad line", _hint(line))
         else:

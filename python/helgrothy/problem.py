@@ -2,6 +2,7 @@
 
 from __future__ import annotations
 
+import io
 import tempfile
 import warnings
 from collections import Counter
@@ -11,14 +12,15 @@ from numbers import Integral
 from typing import IO, TYPE_CHECKING, Any, Generic, NoReturn, Optional, TypeVar, Union
 
 from . import listing as listings
-from .alike import Alike, Branches
 from .errors import ListingFault, NoPicture, OutOfTime, ProblemFault, ProgramFailed
-from .listing import Decoder, Listed, Null, Step, branch_of
-from .names import codes, colour_names, item_names
+from .listing import Null
+from .names import colour_names, item_names
 from .programs import Ending, Run
 from .shown import bytes_of, text_of
-from .solution import Solution
+from .solution import Listed, Solution
+from .stream import Outcome, Solutions, check_numbers, sooner
 from .syntax import MOST_ITEMS, MOST_USES, ONCE, Bounds, Sheet, bounds_fault, read
+from .wire import OfListing, Wire
 
 if TYPE_CHECKING:
     from concurrent.futures import Executor
@@ -31,9 +33,6 @@ if TYPE_CHECKING:
 
 Uses = Mapping[Hashable, Optional[Hashable]]
 _HASHABLE = "items and colours are hashable"
-# A notebook shows so many solutions at most, which may take so long.
-_MOST_PICTURES = 24
-_MOST_SECONDS = 5.0
 # One of so many solutions is printed where they are counted for a time.
 _NUMBERED = 1000
 Option = TypeVar("Option", bound=Iterable[Hashable])
@@ -81,7 +80,7 @@ class Problem(Generic[Option]):
             if not isinstance(given, Iterable) and given is not False:
                 raise _fault("", f"bad {what}", f"{given} is no iterable")
         self._takes_rest = secondary is True
-        self._uses = 0
+        self._use_count = 0
         self._colours: dict[Hashable, None] = {}
         # Names of items and colours are made when they are first asked for.
         self._item_names: dict[Hashable, str] | None = None
@@ -163,9 +162,9 @@ class Problem(Generic[Option]):
             seen.add(item)
             has_primary = has_primary or is_primary
         if has_primary:
-            if self._uses + len(seen) > MOST_USES:
+            if self._use_count + len(seen) > MOST_USES:
                 raise _fault("", "too many uses", option=number)
-            self._uses += len(seen)
+            self._use_count += len(seen)
         else:
             warnings.warn(f"option {number} has no primary item, so it is in no solution", stacklevel=4)
         return rest, colours
@@ -205,20 +204,8 @@ class Problem(Generic[Option]):
         # The reader has looked at the options.
         for option in sheet.options:
             list.append(problem.options, option.uses)
-            problem._uses += len(option.uses)
+            problem._use_count += len(option.uses)
             problem._colours.update((colour, None) for colour in option.uses.values() if colour is not None)
-        return problem
-
-    def of_options(self, places: Iterable[int]) -> Problem[Option]:
-        """The problem with the options of these places alone, in this order."""
-        problem: Problem[Option] = Problem(self.items, list(self.secondary), comments=self.comments)
-        for place in places:
-            option = self.options[place]
-            list.append(problem.options, option)
-            for _, colour in self.pairs(option):
-                problem._uses += 1
-                if colour is not None:
-                    problem._colours[colour] = None
         return problem
 
     @property
@@ -302,41 +289,44 @@ class Problem(Generic[Option]):
         A `Solution` is read when it is first touched. Nothing but one is held in memory, and the program ends where
         the caller stops. Raises `ProgramNotFound`, `ProgramFailed` and `OutOfTime`.
         """
-        words = _words(limit, spacing)
-        if spacing < 1:
-            raise ValueError("spacing must be at least 1")
-        outcome = _Outcome()
+        return self._search(None, limit, spacing, nulls, seconds)
 
-        def first(most: int) -> Solutions[Option]:
-            few = most if limit is None else min(limit, most * spacing)
-            return self.solve(few, spacing, seconds=_MOST_SECONDS if seconds is None else min(seconds, _MOST_SECONDS))
+    def _search(
+        self,
+        places: Sequence[int] | None = None,
+        limit: int | None = None,
+        spacing: int = 1,
+        nulls: bool = False,
+        seconds: float | None = None,
+    ) -> Solutions[Option]:
+        """The solutions that have options of these places alone, searched in their order."""
+        check_numbers(limit, spacing)
 
-        return Solutions(self._stream(outcome, words, nulls, seconds), outcome, first)
+        def begin(outcome: Outcome) -> Generator[Solution[Option], None, None]:
+            wire = Wire(self, nulls, places)
+            give: Callable[[bytes], Solution[Any]] = partial(Solution, wire)
+            with Run(f"dlx{self.kind}", _words(limit, spacing), _ended(wire.lines), seconds) as run:
+                try:
+                    is_cut = yield from listings.stream(
+                        run.chunks(), give, lambda lines: self._is_whole(wire.all(lines)), outcome.count
+                    )
+                    ending = Ending(run)
+                except OutOfTime as error:
+                    error.found = outcome.found * spacing
+                    raise
+                if is_cut:
+                    raise run.failure()
+                outcome.end(ending.total, ending.complete)
 
-    def _stream(
-        self, outcome: _Outcome, words: list[str], nulls: bool, seconds: float | None
-    ) -> Generator[Solution[Any], None, None]:
-        wire = _Wire(self)
+        def again(most: float) -> Solutions[Option]:
+            return self._search(places, limit, spacing, nulls, sooner(seconds, most))
 
-        def is_whole(lines: bytes) -> bool:
-            return self._is_whole(wire.read(lines))
+        return Solutions(begin, again)
 
-        give = partial(Solution, _Source(self, wire, nulls))
-        with Run(f"dlx{self.kind}", words, _ended(wire.lines), seconds) as run:
-            try:
-                is_cut = yield from listings.stream(run.chunks(), give, is_whole, outcome.count)
-                ending = Ending(run)
-            except OutOfTime as error:
-                error.found = outcome.found
-                raise
-            if is_cut:
-                raise run.failure()
-            outcome.ending = ending
-
-    def wire(self) -> tuple[Iterator[bytes], Callable[[bytes], Solution[Any]]]:
-        """The problem for a program, with names as short as can be, and what makes solutions of the lines it prints."""
-        wire = _Wire(self)
-        return _ended(wire.lines), partial(Solution, _Source(self, wire, False))
+    def _wire(self, places: Sequence[int]) -> tuple[Iterator[bytes], Callable[[bytes], Solution[Any]]]:
+        """The options of these places for a program, and what makes solutions of the lines that it prints."""
+        wire = Wire(self, places=places)
+        return _ended(wire.lines), partial(Solution, wire)
 
     def _is_whole(self, choices: Iterable[Option | Null]) -> bool:
         """Whether choices are all of a solution: no primary item is left."""
@@ -348,14 +338,20 @@ class Problem(Generic[Option]):
                 held.update(item for item in choice if item in self.items)
         return all(held[item] >= bounds.high for item, bounds in self.items.items())
 
-    def listed(self, lines: Iterable[bytes]) -> Iterator[Listed[Option]]:
-        """The solutions of a listing of the problem's text, from its lines. Raises `ListingFault`.
+    def listed(
+        self, listing: str | bytes | Iterable[str] | Iterable[bytes], *, nulls: bool = False
+    ) -> Iterator[Listed[Option]]:
+        """The solutions of a listing of the problem's text, one by one, each with the number of its header.
 
-        Where options are alike their lines are too, and the last of them stands for all.
+        The listing is text as the programs print it, or its lines, such as a file gives them. nulls: have the choices
+        of none in the lists, as `Null`. Whether these are solutions isn't judged. Where options are alike their lines
+        are too, and the last of them stands for all. Raises `ListingFault`.
         """
-        options = {listings.turned(bytes_of(self.line(option))): option for option in self.options}
-        items = {bytes_of(self._names[item]): item for item in self.items}
-        return listings.solutions(lines, Decoder(options, items))
+        text = bytes_of(listing) if isinstance(listing, str) else listing
+        lines: Iterable[Any] = io.BytesIO(text) if isinstance(text, bytes) else text
+        reader = OfListing(self, nulls)
+        for told in reader.read(bytes_of(line) if isinstance(line, str) else line for line in lines):
+            yield Listed(reader, told, told.number)
 
     def count(
         self,
@@ -377,6 +373,7 @@ class Problem(Generic[Option]):
         """
         if jobs is not None or executor is not None or progress is not None:
             return self._count_spans(limit, seconds, jobs, executor, progress)
+        check_numbers(limit, 1)
         # Where the time may end first, a few solutions are printed for their numbers.
         words = _words(limit, 0 if seconds is None else _NUMBERED)
         found = 0
@@ -508,170 +505,6 @@ class Options(list[Option]):
         return Options, (list(self),)
 
 
-class _Wire(Generic[Option]):
-    """A problem as it is given to a solver whose listing is read back: with names as short as can be, since each byte
-    of a listing costs time.
-    """
-
-    def __init__(self, problem: Problem[Option]) -> None:
-        code = codes()
-        self._names = {item: next(code) for item in (*problem.items, *problem.secondary)}
-        self._colours = dict(zip(problem.colours, codes()))
-        # Those of the run, whatever becomes of the problem's list meanwhile.
-        self._options = list(problem.options)
-        self._has_nulls = any(low < high for low, high in problem.items.values())
-        lines = [self._line(option, problem) for option in problem.options]
-        self.lines = [problem._item_line(self._names), *lines]
-        self._items = {bytes_of(self._names[item]): item for item in problem.items}
-        numbers: dict[bytes, int | Alike] = {}
-        self._branches: Branches | None = None
-        for number, line in enumerate(lines):
-            if numbers.setdefault(listings.turned(bytes_of(line)), number) != number:
-                numbers[listings.turned(bytes_of(line))] = Alike()
-        if len(numbers) < len(lines):
-            uses = [tuple(problem.pairs(option)) for option in problem.options]
-            self._branches = Branches(uses, {item: high for item, (_, high) in problem.items.items()})
-        self._decoder: Decoder[int | Alike] = Decoder(numbers, self._items)
-
-    def numbers(self, lines: bytes) -> list[int | Null]:
-        """The choices of lines: numbers of options, from 0 on, and choices of none. Raises `UnknownChoice`."""
-        found: Any = self._decoder.read(lines)
-        if self._branches is None or not any(isinstance(choice, Alike) for choice in found):
-            numbers: list[int | Null] = found
-            return numbers
-        parts = lines.split(b"\n")[:-1]
-        items = [
-            choice.item if isinstance(choice, Null) else self._items.get(part.split(b" ", 2)[1])
-            for part, choice in zip(parts, found)
-        ]
-        return self._branches.told_apart(parts, items, found)
-
-    def steps(self, lines: bytes, name: Callable[[Hashable], str]) -> list[Step]:
-        """The steps of lines, by the names of items. Raises `UnknownChoice`."""
-        steps = []
-        for line, choice in zip(lines.split(b"\n"), self.numbers(lines)):
-            word, branch, branches = branch_of(line, isinstance(choice, Null))
-            place = None if isinstance(choice, Null) else choice
-            steps.append(Step(name(self._items[word]), place, branch, branches))
-        return steps
-
-    def read(self, lines: bytes) -> list[Option | Null]:
-        """The choices of lines. Raises `UnknownChoice`."""
-        numbers: Any = self.numbers(lines)
-        if self._has_nulls:
-            return [choice if isinstance(choice, Null) else self._options[choice] for choice in numbers]
-        return list(map(self._options.__getitem__, numbers))
-
-    def _line(self, option: Option, problem: Problem[Option]) -> str:
-        return " ".join(
-            self._names[item] if colour is None else f"{self._names[item]}:{self._colours[colour]}"
-            for item, colour in problem.pairs(option)
-        )
-
-
-class _Source(Generic[Option]):
-    """What reads and draws the solutions of a run."""
-
-    def __init__(self, problem: Problem[Option], wire: _Wire[Option], nulls: bool) -> None:
-        self._problem = problem
-        self._wire = wire
-        self._may_be_null = any(low < high for low, high in problem.items.values())
-        self.options: Callable[[bytes], list[Any]] = (
-            wire.read if nulls or not self._may_be_null else self._without_nulls
-        )
-
-    def _without_nulls(self, lines: bytes) -> list[Any]:
-        return [choice for choice in self._wire.read(lines) if not isinstance(choice, Null)]
-
-    def numbers(self, lines: bytes) -> list[int]:
-        return [number for number in self._wire.numbers(lines) if not isinstance(number, Null)]
-
-    def steps(self, lines: bytes) -> list[Step]:
-        return self._wire.steps(lines, self._problem.name)
-
-    def svg(self, options: Sequence[Any]) -> str | None:
-        try:
-            return self._problem.draw(options).svg()
-        except NoPicture:
-            return None
-
-
-class _Outcome:
-    """How many solutions came, and how the run ended. The run knows this and not its `Solutions`, so no circle keeps
-    either of them alive."""
-
-    ending: Ending | None = None
-    found = 0
-
-    def count(self, more: int) -> None:
-        self.found += more
-
-
-class Solutions(Generic[Option]):
-    """Solutions one by one. As a context manager, or by `close`, it ends the program behind it at once; so it does
-    where a loop over it is left and nothing holds it any longer.
-    """
-
-    def __init__(
-        self,
-        stream: Generator[Solution[Option], None, None],
-        outcome: _Outcome,
-        first: Callable[[int], Solutions[Option]],
-    ) -> None:
-        self._stream = stream
-        self._outcome = outcome
-        self._first = first
-
-    def __iter__(self) -> Iterator[Solution[Option]]:
-        # The generator itself, so that a loop pays no call of Python more for each solution.
-        return self._stream
-
-    def __next__(self) -> Solution[Option]:
-        return next(self._stream)
-
-    @property
-    def total(self) -> int | None:
-        """How many solutions there were, once they came to an end."""
-        return self._outcome.ending.total if self._outcome.ending else None
-
-    @property
-    def complete(self) -> bool | None:
-        """Whether these are all, or a limit was met, once they came to an end."""
-        return self._outcome.ending.complete if self._outcome.ending else None
-
-    def close(self) -> None:
-        """Ends the program, if it runs."""
-        self._stream.close()
-
-    def _repr_html_(self) -> str | None:
-        """Pictures of the first solutions, for notebooks; None where the problem has none.
-
-        They are searched anew for a few seconds, so that these solutions stay as they are.
-        """
-        pictures: list[str] = []
-        told = "no more were found in the time"
-        with self._first(_MOST_PICTURES + 1) as solutions:
-            try:
-                for solution in solutions:
-                    picture = solution._repr_svg_()
-                    if picture is None:
-                        return None
-                    pictures.append(f'<div style="margin: 0 1em 1em 0">{picture}</div>')
-                told = f"{len(pictures)} solution{'' if len(pictures) == 1 else 's'}"
-            except OutOfTime:
-                pass
-        if len(pictures) > _MOST_PICTURES:
-            told = f"the first {_MOST_PICTURES} solutions"
-        shown = "".join(pictures[:_MOST_PICTURES])
-        return f'<div style="display: flex; flex-wrap: wrap">{shown}</div><div>{told}</div>'
-
-    def __enter__(self) -> Solutions[Option]:
-        return self
-
-    def __exit__(self, *_: object) -> None:
-        self.close()
-
-
 def _is_hashable(value: object) -> bool:
     """Whether a value has a hash; a tuple has one only where its parts do."""
     try:
@@ -693,9 +526,7 @@ def _ended(lines: Iterable[str]) -> Iterator[bytes]:
 
 
 def _words(limit: int | None, spacing: int) -> list[str]:
-    """The words of a solver that print each solution whose number is a multiple of `spacing`."""
-    if limit is not None and limit < 1:
-        raise ValueError("limit must be at least 1")
+    """The words of a solver that print each solution whose number is a multiple of `spacing`, none of 0."""
     return ([f"m{spacing}"] if spacing else []) + ([f"t{limit}"] if limit is not None else [])
 
 

@@ -9,14 +9,14 @@ from __future__ import annotations
 import random
 import re
 import time
-from collections.abc import Generator
+from collections.abc import Generator, Sequence
 from typing import Any, TypeVar
 
 from .errors import OutOfTime
 from .problem import Problem
 from .programs import Run
 from .solution import Solution
-from .stream import Chosen, Stream, chosen
+from .stream import Outcome, Solutions, check_numbers, sooner
 
 Option = TypeVar("Option", bound=Any)
 
@@ -45,52 +45,63 @@ def solve(
     spacing: int = 1,
     *,
     seconds: float | None = None,
-) -> Stream[Option]:
+) -> Solutions[Option]:
     """Solutions in a random order. limit, spacing and seconds are those of `Problem.solve`.
 
     With a limit the search begins anew, ever longer, until so many are found in one order; without one all solutions
     come, in one order. Solutions one after another have most of their options in common; those of other seeds have not.
     """
-    rng = random.Random(seed)
+    check_numbers(limit, spacing)
+
+    def begin(outcome: Outcome) -> Generator[Solution[Option], None, None]:
+        rng = random.Random(seed)
+        if limit is None:
+            return _all(problem, rng, spacing, seconds, outcome)
+        return _first(problem, rng, limit, spacing, seconds, outcome)
+
+    def again(most: float) -> Solutions[Option]:
+        return solve(problem, seed, limit, spacing, seconds=sooner(seconds, most))
+
+    return Solutions(begin, again)
+
+
+def _all(
+    problem: Problem[Option], rng: random.Random, spacing: int, seconds: float | None, outcome: Outcome
+) -> Generator[Solution[Option], None, None]:
+    """All solutions in one order."""
+    places = order(len(problem.options), rng)
+    with problem._search(places, spacing=spacing, seconds=seconds) as solutions:
+        yield from solutions
+    outcome.end(solutions.total or 0, True)
+
+
+def _first(
+    problem: Problem[Option], rng: random.Random, limit: int, spacing: int, seconds: float | None, outcome: Outcome
+) -> Generator[Solution[Option], None, None]:
+    """The first solutions, in the first order in which so many come soon."""
     deadline = None if seconds is None else time.monotonic() + seconds
-
-    def left() -> float | None:
-        return None if deadline is None else max(deadline - time.monotonic(), 0.0)
-
-    def all_of_one(stream: Stream[Option]) -> Generator[Chosen[Option], None, None]:
+    steps, most = _FIRST_STEPS, 0
+    while True:
         places = order(len(problem.options), rng)
-        with problem.of_options(places).solve(spacing=spacing, seconds=left()) as solutions:
-            for solution in solutions:
-                yield chosen(problem, places, solution)
-        stream.end(solutions.total or 0, True)
-
-    def begin(stream: Stream[Option]) -> Generator[Chosen[Option], None, None]:
-        assert limit is not None
-        steps, most = _FIRST_STEPS, 0
-        while True:
-            places = order(len(problem.options), rng)
-            try:
-                found, is_whole = _try(problem.of_options(places), steps, limit, left())
-            except OutOfTime as error:
-                error.found = most
-                raise
-            most = max(most, len(found))
-            if is_whole or len(found) == limit:
-                for number, solution in enumerate(found, 1):
-                    if number % spacing == 0:
-                        yield chosen(problem, places, solution)
-                stream.end(len(found), is_whole and len(found) < limit)
-                return
-            steps = min(2 * steps, _MOST_STEPS)
-
-    return Stream(all_of_one if limit is None else begin)
+        left = None if deadline is None else max(deadline - time.monotonic(), 0.0)
+        try:
+            found, is_whole = _try(problem, places, steps, limit, left)
+        except OutOfTime as error:
+            error.found = most
+            raise
+        most = max(most, len(found))
+        if is_whole or len(found) == limit:
+            yield from found[spacing - 1 :: spacing]
+            outcome.end(len(found), is_whole and len(found) < limit)
+            return
+        steps = min(2 * steps, _MOST_STEPS)
 
 
 def _try(
-    problem: Problem[Any], steps: int, limit: int, seconds: float | None
-) -> tuple[list[Solution[Any]], bool]:
+    problem: Problem[Option], places: Sequence[int], steps: int, limit: int, seconds: float | None
+) -> tuple[list[Solution[Option]], bool]:
     """The first solutions in so many steps, and whether these are all there are."""
-    lines, give = problem.wire()
+    lines, give = problem._wire(places)
     chunks: list[bytes] = []
     count, last = 0, b""
     with Run("dlx-span", [str(problem.kind), "m1", str(steps), "-", "-"], lines, seconds) as run:

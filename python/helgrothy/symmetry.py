@@ -18,7 +18,8 @@ from typing import Any, TypeVar
 from .errors import NoPicture, OutOfTime
 from .problem import Problem
 from .shown import shown
-from .stream import Chosen, Stream, chosen
+from .solution import Solution
+from .stream import Outcome, Solutions, check_numbers, sooner
 from .syntax import ONCE
 from .turns import Cell, symmetries
 
@@ -155,29 +156,31 @@ def solve(
     spacing: int = 1,
     *,
     seconds: float | None = None,
-) -> Stream[Option]:
+) -> Solutions[Option]:
     """The solutions up to the symmetries of a plan. limit, spacing and seconds are those of `Problem.solve`."""
+    check_numbers(limit, spacing)
 
-    def begin(stream: Stream[Option]) -> Generator[Chosen[Option], None, None]:
-        count = 0
-        with problem.of_options(plan.places).solve(seconds=seconds) as solutions:
+    def begin(outcome: Outcome) -> Generator[Solution[Option], None, None]:
+        with problem._search(plan.places, seconds=seconds) as solutions:
             try:
                 for solution in solutions:
-                    numbers = [plan.places[number] for number in solution.numbers]
-                    if not _is_first(plan, numbers):
+                    if not _is_first(plan, solution.numbers):
                         continue
-                    count += 1
-                    if count % spacing == 0:
-                        yield chosen(problem, plan.places, solution)
-                    if count == limit:
-                        stream.end(count, False)
+                    outcome.count(1)
+                    if outcome.found % spacing == 0:
+                        yield solution
+                    if outcome.found == limit:
+                        outcome.end(limit, False)
                         return
             except OutOfTime as error:
-                error.found = count
+                error.found = outcome.found
                 raise
-        stream.end(count, True)
+        outcome.end(outcome.found, True)
 
-    return Stream(begin)
+    def again(most: float) -> Solutions[Option]:
+        return solve(problem, plan, limit, spacing, seconds=sooner(seconds, most))
+
+    return Solutions(begin, again)
 
 
 def _is_first(plan: Plan, numbers: Sequence[int]) -> bool:

@@ -16,7 +16,7 @@ PAIR = Problem("abc", options=["ab", "c", "a", "bc"])
 
 class Answers(InFolder):
     def read(self, solver, text, problem=PAIR):
-        return list(solutions(solver, problem, text.encode().splitlines(keepends=True)))
+        return [found.numbers for found in solutions(solver, problem, text.encode().splitlines(keepends=True))]
 
     def test_forms(self):
         for solver, text in (
@@ -87,8 +87,7 @@ class Answers(InFolder):
             command = f"{first} {solver} {' '.join(words)} {'' if first else path}"
             told = subprocess.run(["sh", "-c", command], capture_output=True).stdout
             found = list(solutions(solver, problem, told.splitlines()))
-            options = [[problem.options[place] for place in places] for places in found]
-            self.assertEqual(problem.check(options), [True] * len(found))
+            self.assertEqual(problem.check(found), [True] * len(found))
             self.assertEqual(len(found), 4 if words[:1] == ["0"] else 1)
 
 

@@ -41,7 +41,7 @@ class Cost(unittest.TestCase):
                 if found is not None and problem.options:
                     self.assertEqual(found.by, by)
                     self.assertEqual(found.cost, sum(costs[place] for place in found.numbers))
-                    self.assertEqual(found.options, [problem.options[place] for place in found.numbers])
+                    self.assertEqual(found, [problem.options[place] for place in found.numbers])
 
     def test_board(self):
         rng = random.Random(7)
@@ -79,7 +79,7 @@ class Cost(unittest.TestCase):
                 least(problem, costs, by, 1.0)
             best = raised.exception.best
             if best is not None:
-                self.assertEqual(problem.check([best.options]), [True])
+                self.assertEqual(problem.check([best]), [True])
 
     def test_costs(self):
         self.assertEqual(cost.read("| a comment\n1 -2.5\n\t+0.25 .5 7.\n", 5), [1, Fraction(-5, 2), Fraction(1, 4), Fraction(1, 2), 7])

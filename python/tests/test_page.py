@@ -83,10 +83,9 @@ class Steps(unittest.TestCase):
             told = [
                 (int(k), int(n)) for k, n in re.findall(rb" \(([0-9]+) of ([0-9]+)\)\n", b"".join(lines))
             ]
-            place = {id(option): number for number, option in enumerate(problem.options)}
             steps = [solution.steps for solution in problem.solve()]
             self.assertEqual([(step.branch, step.branches) for one in steps for step in one], told)
-            self.assertEqual([one.steps(lambda options: [place[id(it)] for it in options]) for one in listed], steps)
+            self.assertEqual([one.steps for one in listed], steps)
             for solution, its in zip(problem.solve(), steps):
                 self.assertEqual([step.option for step in its if step.option is not None], solution.numbers)
 

@@ -1,6 +1,5 @@
 """Problems over the real programs."""
 
-import copy
 import glob
 import os
 import pickle
@@ -18,6 +17,7 @@ from helgrothy import (
     ProblemFault,
     ProgramFailed,
     ProgramNotFound,
+    Step,
     listing,
     make,
     programs,
@@ -143,8 +143,6 @@ class Solving(unittest.TestCase):
         self.assertTrue("c" in first and "bc" not in first and first.index("c") == first.count("c") == 1)
         self.assertEqual(sorted(problem.solve()), [second, first])
         self.assertTrue(second < first and first >= second and ["a"] < first)
-        for copied in (copy.copy(first), copy.deepcopy(first), pickle.loads(pickle.dumps(next(problem.solve())))):
-            self.assertEqual((copied.__class__, copied), (list, first))
         self.assertEqual({first: 1, second: 2}[next(problem.solve())], 1)
 
     def test_solutions_that_are_kept(self):
@@ -258,9 +256,18 @@ class Judging(unittest.TestCase):
             self.problem.check([["xy"]])
 
     def test_listed(self):
-        listed = list(self.problem.listed([b"3:\n", b" b a (1 of 2)\n", b" null a (1 of 1)\n", b"4:"]))
-        self.assertEqual([(solution.number, solution.choices) for solution in listed], [(3, ["ab", Null("a")]), (4, [])])
-        self.assertEqual(listed[0].options(), ["ab"])
+        text = "3:\n b a (1 of 2)\n null a (1 of 1)\n4:"
+        bounded = Problem({"a": (0, 2), "b": 1}, options=["ab", "a"])
+        with tempfile.TemporaryFile("w+") as file:
+            file.write(text)
+            file.seek(0)
+            for given in (text, text.encode(), file, text.encode().splitlines(keepends=True)):
+                first, second = bounded.listed(given)
+                self.assertEqual((first.number, first, first.numbers), (3, ["ab"], [0]))
+                self.assertEqual(first.steps, [Step("b", 0, 1, 2), Step("a", None, 1, 1)])
+                self.assertEqual((second.number, second, second.numbers, second.steps), (4, [], [], []))
+        self.assertEqual(list(bounded.listed(text, nulls=True)), [["ab", Null("a")], []])
+        self.assertEqual(list(self.problem.listed("")), [])
 
 
 class Faults(unittest.TestCase):

@@ -32,12 +32,12 @@ class Shuffle(unittest.TestCase):
                 stream = shuffle.solve(problem, number, 1)
                 (one,) = stream
                 self.assertIn(sorted(one.numbers), wanted)
-                self.assertEqual(one.options, [problem.options[place] for place in one.numbers])
+                self.assertEqual(one, [problem.options[place] for place in one.numbers])
                 self.assertEqual((stream.total, stream.complete), (1, False))
 
     def test_seeds(self):
         problem = make.sudoku.problem("." * 81)
-        grids = [str(problem.draw(next(shuffle.solve(problem, seed, 1)).options)) for seed in (1, 2, 3, 1)]
+        grids = [str(problem.draw(next(shuffle.solve(problem, seed, 1)))) for seed in (1, 2, 3, 1)]
         self.assertEqual(grids[0], grids[3])
         self.assertEqual(len(set(grids)), 3)
         # Of one seed this is the board, whatever the machine and the Python.
@@ -47,7 +47,7 @@ class Shuffle(unittest.TestCase):
     def test_restarts(self):
         """A search that is too long in one order comes to an end in another one."""
         problem = make.queens.problem(40)
-        self.assertEqual(len(next(shuffle.solve(problem, 1, 1, seconds=60)).options), 40)
+        self.assertEqual(len(next(shuffle.solve(problem, 1, 1, seconds=60))), 40)
         with self.assertRaises(OutOfTime):
             list(shuffle.solve(make.langford.problem(18), 1, 1, seconds=0.3))
 

@@ -27,9 +27,9 @@ from ..draw import drawing_of
 from ..errors import HelgrothyError, NoPicture, OutOfTime, reason_of
 from ..lint import Remark, lint
 from ..make import KINDS, kind_of
-from ..problem import Problem, Solutions
+from ..problem import Problem
 from ..shown import shown
-from ..stream import Stream
+from ..stream import Solutions
 from ..table import by_patterns
 from . import forms
 from .record import Draw, Record
@@ -177,7 +177,7 @@ class _Solving:
         total = shown if solutions.total is None else solutions.total
         yield record.end(total, bool(solutions.complete), [] if total else self._reasons(problem))
 
-    def _found(self, problem: Problem[Any]) -> Solutions[Any] | Stream[Any]:
+    def _found(self, problem: Problem[Any]) -> Solutions[Any]:
         limit, seconds = self._request.limit, self._left()
         if self._request.way == "random":
             return shuffle.solve(problem, random.SystemRandom().getrandbits(32), limit, seconds=seconds)
