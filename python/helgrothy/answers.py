@@ -13,9 +13,11 @@ from typing import Any, TypeVar
 
 from .errors import AnswerFault
 from .problem import Problem
-from .shown import bytes_of, text_of
+from .shown import text_of
 from .solution import Solution
 from .wire import OfNumbers
+
+__all__ = ["SOLVERS", "solutions"]
 
 Option = TypeVar("Option", bound=Any)
 
@@ -128,10 +130,3 @@ class _Reader:
             taken.append(number - 1)
         self._has_answer = True
         return sorted(set(taken))
-
-
-def listing(problem: Problem[Any], places: Iterable[int], number: int = 1) -> Iterator[bytes]:
-    """The options of these places as a solution of a listing; its branches, (1 of 1), say nothing."""
-    yield b"%d:\n" % number
-    for place in places:
-        yield bytes_of(f" {problem.line(problem.options[place])} (1 of 1)\n")

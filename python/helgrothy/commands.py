@@ -22,8 +22,8 @@ from .errors import HelgrothyError, NoPicture, OutOfTime, TableFault
 from .export import FORMATS
 from .lint import lint
 from .listing import Step, untold
-from .make import KINDS, kind_of
-from .make.kind import Found, Kind, read_text
+from .make import KINDS
+from .make.kind import Found, Kind, kind_of, read_text
 from .page import commands as pages
 from .page.file import MOST_SOLUTIONS, File
 from .problem import Problem
@@ -111,7 +111,7 @@ def _add_make(commands: Any) -> None:
 
 
 def _make(arguments: argparse.Namespace) -> int:
-    write(f"{line}\n" for line in arguments.kind.make(arguments).lines())
+    write(f"{line}\n" for line in arguments.kind.make(arguments)._lines())
     return 0
 
 
@@ -528,8 +528,8 @@ def _import(arguments: argparse.Namespace) -> int:
         raise ValueError("the problem is a file; the answer comes from standard input")
     problem = _problem(arguments.problem)
     shown = 0
-    for shown, taken in enumerate(answers.solutions(arguments.solver, problem, console.input_lines()), 1):
-        console.write_bytes(answers.listing(problem, taken.numbers, shown))
+    for shown, found in enumerate(answers.solutions(arguments.solver, problem, console.input_lines()), 1):
+        console.write_bytes(problem._listing([found], shown))
     return 0 if shown else _fail(f"{arguments.solver} says that there is no solution", 1)
 
 

@@ -24,6 +24,8 @@ from .shown import bytes_of
 from .solution import Solution, Source
 from .wire import OfNumbers
 
+__all__ = ["Cost", "Least", "NotLeast", "least", "read"]
+
 Option = TypeVar("Option", bound=Any)
 Cost = Union[int, float, Fraction]
 
@@ -165,7 +167,7 @@ def _by_bounds(
     surplus, least = _surpluses(problem, [cost * _PARTS for cost in costs])
     best: int | None = None
     # Options of small surplus come first, so that a cheap solution comes early. One without a primary item is in none.
-    is_used = [any(item in problem.items for item, _ in problem.pairs(option)) for option in problem.options]
+    is_used = [any(item in problem.items for item, _ in problem._pairs(option)) for option in problem.options]
     order = sorted((place for place, used in enumerate(is_used) if used), key=lambda place: surplus[place])
     while best is None or best * _PARTS > least:
         room = None if best is None else (best - 1) * _PARTS - least
@@ -196,7 +198,7 @@ def _among(
 
 def _surpluses(problem: Problem[Any], costs: Sequence[int]) -> tuple[list[int], int]:
     """What each option costs beyond the prices of its items, none less than 0, and what a solution costs at least."""
-    rows = [[item for item, _ in problem.pairs(option) if item in problem.items] for option in problem.options]
+    rows = [[item for item, _ in problem._pairs(option) if item in problem.items] for option in problem.options]
     holders: dict[Hashable, list[int]] = {item: [] for item in problem.items}
     for place, row in enumerate(rows):
         for item in row:
@@ -235,7 +237,7 @@ def _narrowed(problem: Problem[Any], places: Sequence[int], surplus: Sequence[in
             marks.append((large, mark))
     narrowed: Problem[Any] = Problem(bounds, list(problem.secondary))
     for place in places:
-        uses: dict[Any, Any] = dict(problem.pairs(problem.options[place]))
+        uses: dict[Any, Any] = dict(problem._pairs(problem.options[place]))
         uses.update((mark, None) for large, mark in marks if surplus[place] >= large)
         narrowed.add_option(uses)
     return narrowed

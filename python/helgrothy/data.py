@@ -14,6 +14,8 @@ from typing import Any, Optional
 
 from .problem import Problem
 
+__all__ = ["FORMATS", "Csv", "Data", "Json"]
+
 Uses = Mapping[str, Optional[str]]
 
 # Lines of CSV are filled up to so many items: one long option doesn't make all others long.
@@ -35,11 +37,11 @@ class Data(ABC):
     def solution(self, number: int, places: Sequence[int]) -> str:
         """A solution of this number, with the options of these places."""
 
-    def uses(self, place: int) -> Uses:
+    def _named(self, place: int) -> Uses:
         """The names of an option's items, each with its colour's name or None."""
         found = self._uses.get(place)
         if found is None:
-            found = self._uses[place] = self._problem.uses(self._problem.options[place])
+            found = self._uses[place] = self._problem._uses(self._problem.options[place])
         return found
 
 
@@ -50,7 +52,7 @@ class Json(Data):
         return ""
 
     def solution(self, number: int, places: Sequence[int]) -> str:
-        uses = [self.uses(place) for place in places]
+        uses = [self._named(place) for place in places]
         told = {
             "number": number,
             "options": [place + 1 for place in places],
@@ -66,7 +68,7 @@ class Csv(Data):
 
     def __init__(self, problem: Problem[Any]) -> None:
         super().__init__(problem)
-        self._width = max((len(list(problem.pairs(option))) for option in problem.options), default=0)
+        self._width = max((len(list(problem._pairs(option))) for option in problem.options), default=0)
 
     def head(self) -> str:
         return self._lines([["solution", "option", *(f"item {place}" for place in range(1, self._width + 1))]])
@@ -78,7 +80,7 @@ class Csv(Data):
         )
 
     def _words(self, place: int) -> Iterator[str]:
-        for item, colour in self.uses(place).items():
+        for item, colour in self._named(place).items():
             yield item if colour is None else f"{item}:{colour}"
 
     @staticmethod

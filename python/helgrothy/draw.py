@@ -20,6 +20,8 @@ from .shown import shown
 if TYPE_CHECKING:
     from .problem import Problem
 
+__all__ = ["Cell", "Drawing", "Pattern", "Picture", "drawing_of"]
+
 Place = tuple[int, int]
 
 _SIDE = 36
@@ -460,7 +462,8 @@ def _number(word: str | None) -> int:
 def drawing_of(problem: Problem[Any]) -> Drawing:
     """The drawing of a problem that `helgrothy.make` made, told by its first comment. Raises `NoPicture`."""
     # The makers make problems, which are drawn here: so they can't be imported with the module.
-    from .make import KINDS, kind_of
+    from .make import KINDS
+    from .make.kind import kind_of
 
     name = kind_of(problem.comments)
     if name not in KINDS:

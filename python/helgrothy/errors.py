@@ -78,6 +78,10 @@ class ProgramNotFound(HelgrothyError, LookupError):
 class ProgramFailed(HelgrothyError, RuntimeError):
     """A program ended otherwise than it should: its name, its status, and what it said on standard error."""
 
+    program: str
+    status: int
+    message: str
+
     def __init__(self, program: str, status: int, message: str) -> None:
         super().__init__(program, status, message)
         self.program = program
@@ -91,6 +95,8 @@ class ProgramFailed(HelgrothyError, RuntimeError):
 
 class UnknownChoice(HelgrothyError, KeyError):
     """A line that a program printed says no option of the problem."""
+
+    line: bytes
 
     def __init__(self, line: bytes) -> None:
         super().__init__(line)

@@ -14,6 +14,8 @@ from typing import Any
 from .counting import Clauses
 from .problem import Problem
 
+__all__ = ["FORMATS", "asp", "cnf", "opb"]
+
 
 @dataclass(frozen=True)
 class _Item:
@@ -35,7 +37,7 @@ def _items(problem: Problem[Any]) -> list[_Item]:
     for item in problem.secondary:
         items[item] = _Item(problem.name(item), 0, 1, {})
     for number, option in enumerate(problem.options, 1):
-        for item, colour in problem.pairs(option):
+        for item, colour in problem._pairs(option):
             items[item].options.setdefault(colour, []).append(number)
     return list(items.values())
 
@@ -45,7 +47,7 @@ def _ignored(problem: Problem[Any]) -> list[int]:
     return [
         number
         for number, option in enumerate(problem.options, 1)
-        if not any(item in problem.items for item, _ in problem.pairs(option))
+        if not any(item in problem.items for item, _ in problem._pairs(option))
     ]
 
 
@@ -65,7 +67,7 @@ def asp(problem: Problem[Any]) -> Iterator[str]:
     yield "% An exact cover problem: x(N) takes option N. Costs: #minimize {C,N : x(N), cost(N,C)}."
     yield f"{{x(1..{len(problem.options)})}}." if problem.options else ""
     for number, option in enumerate(problem.options, 1):
-        for name in problem.uses(option):
+        for name in problem._uses(option):
             yield f"holds({number},{_quoted(name)})."
     for number in _ignored(problem):
         yield f":- x({number})."

@@ -12,6 +12,8 @@ from .shown import shown
 from .sums import search
 from .syntax import Bounds, Sheet, read
 
+__all__ = ["Remark", "lint"]
+
 _LONGEST = 40
 # Of each rule so many remarks are told.
 _MOST = 1_000
@@ -48,7 +50,7 @@ def lint(text: bytes, kind: int = 3, seconds: float = 1.0) -> list[Remark]:
     for rule in (_held, _twins, _ignored):
         remarks += _some(rule(sheet))
     if not sheet.faults and not any(remark.text.endswith("no solution") for remark in remarks):
-        problem = Problem.of(sheet)
+        problem = Problem._of_sheet(sheet)
         found = search(problem, seconds)
         if found is not None:
             remarks.append(Remark(sheet.item_line, "", f"{found.text(problem.name)}: there is no solution"))

@@ -9,7 +9,7 @@ from collections import Counter
 from collections.abc import Callable, Generator, Hashable, Iterable, Iterator, Mapping, Sequence
 from functools import partial
 from numbers import Integral
-from typing import IO, TYPE_CHECKING, Any, Generic, NoReturn, Optional, TypeVar, Union
+from typing import IO, TYPE_CHECKING, Any, Generic, NoReturn, TypeVar, Union
 
 from . import listing as listings
 from .errors import ListingFault, NoPicture, OutOfTime, ProblemFault, ProgramFailed
@@ -29,9 +29,6 @@ if TYPE_CHECKING:
     from .spans import Progress
     from .table import Table
 
-    Drawn = Union[Pattern, Table]
-
-Uses = Mapping[Hashable, Optional[Hashable]]
 _HASHABLE = "items and colours are hashable"
 # One of so many solutions is printed where they are counted for a time.
 _NUMBERED = 1000
@@ -51,16 +48,29 @@ class Problem(Generic[Option]):
     comments: lines of text that stand above the problem when it is written.
 
     Items and colours are any hashable values, equal ones being the same. An option without a primary item is in no
-    solution, which a warning tells.
+    solution, which a warning tells. Raises `ProblemFault` where an item is unknown, twice in an option, named twice,
+    and so on; it says in which option.
 
-    `pattern` may be set to a `Pattern` or a `Table` of `helgrothy.draw` and `helgrothy.table`, by which solutions are
-    drawn from then on.
+    What was given is kept as these attributes:
 
-    Raises `ProblemFault` where an item is unknown, twice in an option, named twice, and so on; it says in which option.
+        items: dict[Hashable, Bounds]
+        secondary: dict[Hashable, None]
+        options: Options[Option]
+        comments: tuple[str, ...]
+        pattern: Pattern | Table | None
+
+    `options` is a list that only `add_option` makes longer. `pattern` may be set to a `Pattern` of `helgrothy.draw` or
+    a `Table` of `helgrothy.table`, by which solutions are drawn from then on.
 
     >>> Problem("abc", options=["ab", "c", "a", "bc"]).count()
     2
     """
+
+    items: dict[Hashable, Bounds]
+    secondary: dict[Hashable, None]
+    options: Options[Option]
+    comments: tuple[str, ...]
+    pattern: Pattern | Table | None
 
     def __init__(
         self,
@@ -70,11 +80,11 @@ class Problem(Generic[Option]):
         *,
         comments: Iterable[str] = (),
     ) -> None:
-        self.comments: tuple[str, ...] = _comment_lines(comments)
-        self.items: dict[Hashable, Bounds] = {}
-        self.secondary: dict[Hashable, None] = {}
-        self.options: Options[Option] = Options()
-        self.pattern: Drawn | None = None
+        self.comments = _comment_lines(comments)
+        self.items = {}
+        self.secondary = {}
+        self.options = Options()
+        self.pattern = None
         others = () if secondary is True else secondary
         for what, given in (("items", items), ("secondary", others), ("options", options)):
             if not isinstance(given, Iterable) and given is not False:
@@ -125,7 +135,7 @@ class Problem(Generic[Option]):
         try:
             rest, colours = self._check_option(option, number)
         except TypeError:
-            for item, colour in self.pairs(option):
+            for item, colour in self._pairs(option):
                 if not _is_hashable(item):
                     raise _fault(item, "unknown item", _HASHABLE, number) from None
                 if not _is_hashable(colour):
@@ -147,7 +157,7 @@ class Problem(Generic[Option]):
         seen = set()
         rest: dict[Hashable, None] = {}
         colours: dict[Hashable, None] = {}
-        for item, colour in self.pairs(option):
+        for item, colour in self._pairs(option):
             is_primary = item in self.items
             if not is_primary and item not in self.secondary:
                 if not self._takes_rest:
@@ -177,7 +187,7 @@ class Problem(Generic[Option]):
         return "a text is an option of its letters; split it" if isinstance(option, str) else ""
 
     @staticmethod
-    def pairs(option: Iterable[Hashable]) -> Iterable[tuple[Hashable, Hashable | None]]:
+    def _pairs(option: Iterable[Hashable]) -> Iterable[tuple[Hashable, Hashable | None]]:
         """An option's items, each with its colour or None."""
         if isinstance(option, (dict, Mapping)):
             return option.items()
@@ -189,10 +199,10 @@ class Problem(Generic[Option]):
 
         Options that are ignored are left out. Raises `ProblemFault`, the one that the program would tell.
         """
-        return cls.of(read(bytes_of(text) if isinstance(text, str) else text, kind, most_faults=1))
+        return cls._of_sheet(read(bytes_of(text) if isinstance(text, str) else text, kind, most_faults=1))
 
     @classmethod
-    def of(cls, sheet: Sheet) -> Problem[dict[str, str | None]]:
+    def _of_sheet(cls, sheet: Sheet) -> Problem[dict[str, str | None]]:
         """The problem of a text that was read. Raises `ProblemFault`, the first one of the sheet."""
         if sheet.faults:
             raise sheet.faults[0]
@@ -242,24 +252,24 @@ class Problem(Generic[Option]):
         """The names of the secondary items."""
         return [self._names[item] for item in self.secondary]
 
-    def uses(self, option: Iterable[Hashable]) -> dict[str, str | None]:
+    def _uses(self, option: Iterable[Hashable]) -> dict[str, str | None]:
         """The names of an option's items, each with its colour's name or None. Raises `ProblemFault`."""
         names, colours = self._names, self.colours
         try:
             return {
-                names[item]: None if colour is None else colours[colour] for item, colour in self.pairs(option)
+                names[item]: None if colour is None else colours[colour] for item, colour in self._pairs(option)
             }
         except KeyError:
-            item, colour = next((i, c) for i, c in self.pairs(option) if i not in names or c not in (None, *colours))
+            item, colour = next((i, c) for i, c in self._pairs(option) if i not in names or c not in (None, *colours))
             if item not in names:
                 raise _fault(item, "unknown item") from None
             raise _fault(item, "unknown colour", str(colour)) from None
 
     def line(self, option: Iterable[Hashable]) -> str:
         """An option as a line of the problem's text. Raises `ProblemFault`."""
-        return " ".join(name if colour is None else f"{name}:{colour}" for name, colour in self.uses(option).items())
+        return " ".join(name if colour is None else f"{name}:{colour}" for name, colour in self._uses(option).items())
 
-    def lines(self) -> Iterator[str]:
+    def _lines(self) -> Iterator[str]:
         """The lines of the problem's text, without their ends."""
         for comment in self.comments:
             yield f"| {comment}"
@@ -276,7 +286,7 @@ class Problem(Generic[Option]):
     @property
     def text(self) -> str:
         """The problem as the programs read it."""
-        return "".join(f"{line}\n" for line in self.lines())
+        return "".join(f"{line}\n" for line in self._lines())
 
     def solve(
         self, limit: int | None = None, spacing: int = 1, *, nulls: bool = False, seconds: float | None = None
@@ -377,7 +387,7 @@ class Problem(Generic[Option]):
         # Where the time may end first, a few solutions are printed for their numbers.
         words = _words(limit, 0 if seconds is None else _NUMBERED)
         found = 0
-        with Run(f"dlx{self.kind}", words, _ended(self.lines()), seconds) as run:
+        with Run(f"dlx{self.kind}", words, _ended(self._lines()), seconds) as run:
             try:
                 line = b""
                 for chunk in run.chunks():
@@ -402,7 +412,7 @@ class Problem(Generic[Option]):
             raise ValueError("a search by jobs or an executor has no limit")
         if jobs is not None and jobs < 1:
             raise ValueError("jobs must be at least 1")
-        return spans.count(b"".join(_ended(self.lines())), self.kind, jobs, executor, progress, seconds)
+        return spans.count(b"".join(_ended(self._lines())), self.kind, jobs, executor, progress, seconds)
 
     def check(self, listing: str | bytes | IO[str] | IO[bytes] | Iterable[Iterable[Any]]) -> list[bool]:
         """Of each solution whether it is one, as dlxcheck judges it, which holds all of them in memory.
@@ -416,7 +426,7 @@ class Problem(Generic[Option]):
             given = b"".join(self._listing(given))
         text = bytes_of(given) if isinstance(given, str) else given
         with tempfile.NamedTemporaryFile(suffix=".dlx") as file:
-            file.writelines(_ended(self.lines()))
+            file.writelines(_ended(self._lines()))
             file.flush()
             with Run("dlxcheck", [file.name, str(self.kind)], [text]) as run:
                 verdicts = b"".join(run.chunks()).splitlines()
@@ -424,15 +434,16 @@ class Problem(Generic[Option]):
                     raise _listing_fault(run.failure(), text)
         return [verdict.endswith(b": cover") for verdict in verdicts]
 
-    def _listing(self, solutions: Iterable[Iterable[Any]]) -> Iterator[bytes]:
-        for number, solution in enumerate(solutions, 1):
+    def _listing(self, solutions: Iterable[Iterable[Any]], first: int = 1) -> Iterator[bytes]:
+        """Solutions as a listing. Its numbers of branches, (1 of 1), say nothing."""
+        for number, solution in enumerate(solutions, first):
             yield b"%d:\n" % number
             for choice in solution:
                 # A choice of none adds nothing, and beside an item named `null` its line may be an option's.
                 if not isinstance(choice, Null):
                     yield bytes_of(f" {self.line(choice)} (1 of 1)\n")
 
-    def draw(self, solution: Iterable[Any] = (), pattern: Drawn | None = None) -> Picture:
+    def draw(self, solution: Iterable[Any] = (), pattern: Pattern | Table | None = None) -> Picture:
         """A picture of a solution, or of the problem as it stands before one. Raises `NoPicture`.
 
         The problems that `helgrothy.make` makes have pictures of their own; others are drawn by a pattern, which may
@@ -440,7 +451,7 @@ class Problem(Generic[Option]):
         """
         return self._drawing(pattern)([self.line(choice) for choice in solution if not isinstance(choice, Null)])
 
-    def _drawing(self, pattern: Drawn | None = None) -> Drawing:
+    def _drawing(self, pattern: Pattern | Table | None = None) -> Drawing:
         """Raises `NoPicture`."""
         from .draw import drawing_of
 

@@ -43,7 +43,7 @@ def path_of(name: str) -> str | None:
 
 def writing_seconds(problem: Problem[Any]) -> float:
     """About how long it takes to write a problem's clauses."""
-    return _WRITING_SECONDS * sum(1 for option in problem.options for _ in problem.pairs(option))
+    return _WRITING_SECONDS * sum(1 for option in problem.options for _ in problem._pairs(option))
 
 
 class Solver:

@@ -18,6 +18,8 @@ from .programs import Run
 from .solution import Solution
 from .stream import Outcome, Solutions, check_numbers, sooner
 
+__all__ = ["solve"]
+
 Option = TypeVar("Option", bound=Any)
 
 _FIRST_STEPS = 1_000

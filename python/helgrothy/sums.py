@@ -96,7 +96,7 @@ class Count:
         self._name = problem.name
         self._bounds = bounds = bounds_of(problem)
         self._rows: list[Row] = [
-            tuple(item for item, _ in problem.pairs(option) if item in bounds) for option in problem.options
+            tuple(item for item, _ in problem._pairs(option) if item in bounds) for option in problem.options
         ]
 
     def by_matching(self, seconds: float) -> Sums | None:

@@ -23,6 +23,8 @@ from .stream import Outcome, Solutions, check_numbers, sooner
 from .syntax import ONCE
 from .turns import Cell, symmetries
 
+__all__ = ["Motion", "Plan", "motions", "plan", "solve"]
+
 Option = TypeVar("Option", bound=Any)
 # Where each option lies after a motion.
 Motion = tuple[int, ...]
@@ -94,7 +96,7 @@ def _holders(problem: Problem[Any]) -> Counter[_Holders]:
     """How many items have the same holders and bounds."""
     held: dict[Hashable, dict[Hashable | None, set[int]]] = {}
     for place, option in enumerate(problem.options):
-        for item, colour in problem.pairs(option):
+        for item, colour in problem._pairs(option):
             held.setdefault(item, {}).setdefault(colour, set()).add(place)
     found: Counter[_Holders] = Counter()
     for item, colours in held.items():
@@ -131,7 +133,7 @@ def plan(problem: Problem[Any], motions: list[Motion]) -> Plan:
     """The item of which most options are left out: as many as there are motions, of one that has few options."""
     holders: dict[Hashable, list[int]] = {item: [] for item, bounds in problem.items.items() if bounds == ONCE}
     for place, option in enumerate(problem.options):
-        for item, _ in problem.pairs(option):
+        for item, _ in problem._pairs(option):
             if item in holders:
                 holders[item].append(place)
     best: tuple[float, int, list[int], dict[int, list[Motion]]] = (1.0, 0, [], {})

@@ -16,6 +16,8 @@ from .draw import Cell, Drawing, Pattern, Picture, Shades, check_size, no_match
 if TYPE_CHECKING:
     from .problem import Problem
 
+__all__ = ["Table"]
+
 _PARTS = "words, and parts of them between signs,"
 
 

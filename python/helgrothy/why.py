@@ -19,6 +19,8 @@ from .problem import Problem
 from .sums import Count, Sums
 from .syntax import Bounds
 
+__all__ = ["Conflict", "find"]
+
 # The largest part of the whole time that one question may take, and the search for weights; and that of the matching.
 _SHARE = 0.1
 _COUNTED = 0.2
@@ -97,7 +99,7 @@ def find(problem: Problem[Any], seconds: float = 10.0) -> Conflict | None:
 def _held(problem: Problem[Any]) -> dict[Hashable, int]:
     times = dict.fromkeys(problem.items, 0)
     for option in problem.options:
-        for item, _ in problem.pairs(option):
+        for item, _ in problem._pairs(option):
             if item in times:
                 times[item] += 1
     return times
@@ -194,7 +196,7 @@ class _Question:
         if not items:
             return True
         options = [
-            option for option in problem.options if any(item in items for item, _ in problem.pairs(option))
+            option for option in problem.options if any(item in items for item, _ in problem._pairs(option))
         ]
         relaxed: Problem[Any] = Problem(items, [*secondary, *problem.secondary], options)
         return relaxed.count(limit=1, seconds=seconds) > 0

@@ -86,7 +86,7 @@ class Wire(Reader[Option]):
             if at.setdefault(listings.turned(bytes_of(line)), number) != number:
                 at[listings.turned(bytes_of(line))] = Alike()
         if len(at) < len(lines):
-            uses = [tuple(problem.pairs(option)) for option in options]
+            uses = [tuple(problem._pairs(option)) for option in options]
             self._branches = Branches(uses, {item: high for item, (_, high) in problem.items.items()})
         self._decoder: Decoder[int | Alike] = Decoder(at, self._items)
 
@@ -114,7 +114,7 @@ class Wire(Reader[Option]):
     def _line(self, option: Option) -> str:
         return " ".join(
             self._names[item] if colour is None else f"{self._names[item]}:{self._colours[colour]}"
-            for item, colour in self._problem.pairs(option)
+            for item, colour in self._problem._pairs(option)
         )
 
 

@@ -10,6 +10,7 @@ import sys
 import unittest
 
 import helgrothy
+from helgrothy import make
 
 PACKAGE = os.path.dirname(os.path.abspath(helgrothy.__file__))
 MODULES = {"answers", "cost", "data", "draw", "export", "lint", "make", "shuffle", "symmetry", "table", "why"}
@@ -57,6 +58,35 @@ class Names(unittest.TestCase):
         (block,) = (it for it in tree.body if isinstance(it, ast.If) and isinstance(it.test, ast.Name))
         named = [it.name for part in block.body if isinstance(part, ast.ImportFrom) for it in part.names]
         self.assertEqual(sorted(named), sorted(helgrothy.__all__))
+
+
+class Help(unittest.TestCase):
+    def test_a_problem(self):
+        told = help_of(helgrothy.Problem)
+        for name, kind in helgrothy.Problem.__annotations__.items():
+            self.assertIn(f"\n    {name}: {kind}\n", told)
+        self.assertEqual(set(helgrothy.Problem.__annotations__), {"items", "secondary", "options", "comments", "pattern"})
+        public = {name for name in dir(helgrothy.Problem) if not name.startswith("_")}
+        self.assertFalse(public & {"wire", "of", "pairs", "uses", "of_options", "lines"})
+        self.assertLess({"add_option", "check", "count", "draw", "listed", "parse", "solve"}, public)
+
+    def test_the_kinds(self):
+        told = help_of(make)
+        for kind in make.KINDS:
+            self.assertRegex(told.partition("PACKAGE CONTENTS")[0], rf"\n +{kind} +\w")
+        self.assertNotIn("CLASSES", told)
+
+    def test_modules_show_what_is_for_callers(self):
+        for name in MODULES:
+            module = getattr(helgrothy, name)
+            self.assertEqual([one for one in module.__all__ if not hasattr(module, one)], [])
+            told = help_of(module)
+            for inside in ("order(", "class Shades", "check_size(", "by_patterns(", "clauses(", "listing("):
+                self.assertNotIn(f"\n    {inside}", told)
+
+
+def help_of(thing: object) -> str:
+    return pydoc.plain(pydoc.render_doc(thing)).replace(" |  ", "")
 
 
 if __name__ == "__main__":

@@ -1,5 +1,27 @@
-"""Makers of problems, one module a kind: `problem(..)` makes one, `drawing(problem)` draws its solutions."""
+"""Problems that people know, by a module for each kind: its `problem(..)` makes one, and `Problem.draw` draws it.
 
+    from helgrothy import make
+
+    board = make.queens.problem(8)
+    print(board.draw(next(board.solve())))
+
+The kinds; `help(make.sudoku)` says what one takes:
+
+    sudoku       a Sudoku from its clues
+    queens       queens on a board, or in coloured regions
+    langford     Langford's pairs
+    polyominoes  pieces of squares that fill a region
+    polycubes    pieces of cubes that fill a box
+    words        words across and down in a grid
+    nonogram     a nonogram from its clues
+    kakuro       a Kakuro from its grid
+    roster       shifts of people on days
+    roundrobin   a round robin at home and away
+    tests        tests in which values of factors come together
+    timetable    lessons or exams in slots and rooms
+
+`KINDS` has them by name; the `cell` of one is the pattern of its cells that `symmetry.motions` takes.
+"""
 
 from . import (
     kakuro,
@@ -15,7 +37,7 @@ from . import (
     timetable,
     words,
 )
-from .kind import Kind, kind_of
+from .kind import Kind
 
 KINDS: dict[str, Kind] = {
     kind.name: kind
@@ -36,8 +58,6 @@ KINDS: dict[str, Kind] = {
 }
 __all__ = [
     "KINDS",
-    "Kind",
-    "kind_of",
     "kakuro",
     "langford",
     "nonogram",

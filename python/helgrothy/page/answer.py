@@ -26,7 +26,8 @@ from ..console import limited
 from ..draw import drawing_of
 from ..errors import HelgrothyError, NoPicture, OutOfTime, reason_of
 from ..lint import Remark, lint
-from ..make import KINDS, kind_of
+from ..make import KINDS
+from ..make.kind import kind_of
 from ..problem import Problem
 from ..shown import shown
 from ..stream import Solutions

@@ -56,7 +56,7 @@ class Record:
         lines: list[str] = []
         left = _MOST_TEXT
         more = False
-        for line in problem.lines():
+        for line in problem._lines():
             left -= len(line) + 1
             if left < 0:
                 more = True
