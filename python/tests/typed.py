@@ -1,0 +1,58 @@
+"""How the types of the package come out for those who use it. Mypy looks at it, and nobody runs it."""
+
+from __future__ import annotations
+
+from fractions import Fraction
+
+import helgrothy
+from helgrothy import Listed, OutOfTime, Problem, Progress, Solution, Solutions, Step, cost
+
+
+def names() -> int:
+    """All public names are there behind `import helgrothy`, and no others."""
+    board: Problem[list[str]] = helgrothy.make.queens.problem(8)
+    pattern: helgrothy.draw.Pattern = helgrothy.draw.Pattern(r"r(\d+) c(\d+)")
+    picture: helgrothy.draw.Picture = board.draw(pattern=pattern)
+    helgrothy.problems  # type: ignore[attr-defined]
+    helgrothy.make.chess  # type: ignore[attr-defined]
+    return len(picture.cells)
+
+
+def solutions() -> None:
+    """A solution has the type of its options, however it was found."""
+    problem: Problem[str] = Problem("abc", options=["ab", "c"])
+    plan: helgrothy.symmetry.Plan = helgrothy.symmetry.plan(problem, helgrothy.symmetry.motions(problem, "(.)"))
+    streams: list[Solutions[str]] = [
+        problem.solve(),
+        helgrothy.shuffle.solve(problem, 3),
+        helgrothy.symmetry.solve(problem, plan),
+    ]
+    for stream in streams:
+        one(next(stream))
+    for answer in helgrothy.answers.solutions("clasp", problem, []):
+        one(answer)
+    for listed in problem.listed(""):
+        same: Listed[str] = listed
+        one(same)
+    try:
+        least: cost.Least[str] | None = cost.least(problem, [1, 2])
+        if least is not None:
+            total: Fraction = least.cost
+            one(least)
+            total += 1
+    except OutOfTime as error:
+        found: int = error.found
+        found += 1
+
+
+def one(solution: Solution[str]) -> None:
+    option: str = solution[0]
+    options: list[str] = [*solution, *solution[:1], option]
+    numbers: list[int] = solution.numbers
+    steps: list[Step] = solution.steps
+    assert len(options) + len(numbers) + len(steps)
+
+
+def told(progress: Progress) -> None:
+    share: float = progress.share
+    assert share
