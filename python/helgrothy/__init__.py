@@ -18,7 +18,8 @@ The modules, which need no import of their own:
     why       says why a problem has no solution
     export    writes problems for other solvers; `answers` reads what they answer
 
-`Problem.count(jobs=..)` searches by many processors. `python3 -m helgrothy --help` has the same as commands.
+`Problem.count(jobs=..)` searches by many processors. `python3 -m helgrothy --help` has the same as commands. Modules
+that aren't named here, and names that begin with an underscore, are the package's own.
 """
 
 # First, since it says where the modules of all that follows may come from.
