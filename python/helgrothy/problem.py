@@ -19,7 +19,7 @@ from .programs import Ending, Run
 from .shown import bytes_of, text_of
 from .solution import Listed, Solution
 from .stream import Outcome, Solutions, check_numbers, sooner
-from .syntax import MOST_ITEMS, MOST_USES, ONCE, Bounds, Sheet, bounds_fault, read
+from .syntax import MOST_ITEMS, MOST_USES, ONCE, Bounds, Nearest, Sheet, bounds_fault, read
 from .wire import OfListing, Wire
 
 if TYPE_CHECKING:
@@ -90,6 +90,7 @@ class Problem(Generic[Option]):
             if not isinstance(given, Iterable) and given is not False:
                 raise _fault("", f"bad {what}", f"{given} is no iterable")
         self._takes_rest = secondary is True
+        self._nearest = Nearest()
         self._use_count = 0
         self._colours: dict[Hashable, None] = {}
         # Names of items and colours are made when they are first asked for.
@@ -184,7 +185,10 @@ class Problem(Generic[Option]):
         other = next((one for one in (*self.items, *self.secondary) if str(one) == str(item)), item)
         if type(other) is not type(item):
             return f"here of type {type(item).__name__}, among the items of type {type(other).__name__}"
-        return "a text is an option of its letters; split it" if isinstance(option, str) else ""
+        if isinstance(option, str):
+            return "a text is an option of its letters; split it"
+        names = [one for one in (*self.items, *self.secondary) if isinstance(one, str)]
+        return self._nearest.question(item, names) if isinstance(item, str) else ""
 
     @staticmethod
     def _pairs(option: Iterable[Hashable]) -> Iterable[tuple[Hashable, Hashable | None]]:

@@ -305,6 +305,9 @@ class Faults(unittest.TestCase):
             Problem([1, 2], options=[[1], ["2"]])
         told = "option 1: 2: unknown item (here of type str, among the items of type int)"
         self.assertEqual(str(raised.exception), told)
+        with self.assertRaises(ProblemFault) as raised:
+            Problem(["maths", "latin", 5], options=[["latim"]])
+        self.assertEqual(str(raised.exception), "option 0: latim: unknown item (is it latin?)")
 
     def test_of_programs(self):
         problem = Problem("a", options=["a"])
