@@ -68,7 +68,16 @@ fn lists(alloc: Global, text: &[u8], limit: u64, room: usize, status: u32, listi
         return false;
     };
     let mut used = 9;
-    let told = helgrothy_list(alloc, 1, text, SEED, 1, limit, buffer.as_mut_slice(), &mut used);
+    let told = helgrothy_list(
+        alloc,
+        1,
+        text,
+        SEED,
+        1,
+        limit,
+        buffer.as_mut_slice(),
+        &mut used,
+    );
     told == status
         && used == listing.len()
         && buffer.starts_with(listing)
