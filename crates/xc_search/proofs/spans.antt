@@ -1,6 +1,7 @@
 pub mod Rows
 pub mod Rising
 pub mod Lies
+pub mod LeftOut
 pub mod Later
 pub mod Numbers
 pub mod Onward
@@ -9,6 +10,7 @@ pub mod Passing
 pub mod Kept
 pub mod Running
 pub mod Runs
+pub mod Reached
 pub mod Advance
 pub mod Told
 pub mod Along

@@ -1,6 +1,5 @@
 pub mod BackAtLevel
 pub mod BegunComesFirst
-pub mod CountedOver
 pub mod Depth
 pub mod EarlyChoice
 pub mod Led

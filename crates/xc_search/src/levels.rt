@@ -1,22 +1,24 @@
-//! The levels of the search.
-ghost use Rattle.std.specs.Prelude.{◌≡◌, ◌+◌, ◌-◌, ◌<◌, ◌≤◌, ◌^◌, List, [], ◌∷◌, length, true, false, None, Bool, ℕ};
-ghost use Rattle.std.specs.Prelude.{IfSome, IsNone};
+//! The levels of the search, and its loop.
+ghost use Rattle.std.specs.Prelude.{◌≡◌, ◌+◌, ◌-◌, ◌<◌, ◌≤◌, ◌^◌, ◌⊎◌, List, [], ◌∷◌, length, true, false, not};
+ghost use Rattle.std.specs.Prelude.{None, Bool, ℕ, Option, option_map, IfSome, IsNone, IsSome};
 ghost use Rattle.xc_input.specs.Problem.{Puzzle};
 ghost use Rattle.xc_dance.specs.Dancing.{moves_made};
 ghost use Rattle.xc_search.specs.inner.MostLevels.{most_levels};
 ghost use Rattle.xc_search.specs.inner.Levels.{AreStacked, IsNext, IsSearchable, IsStanding, IsEntered, begun_level};
-ghost use Rattle.xc_search.specs.inner.Levels.{IsEarlyChoice};
+ghost use Rattle.xc_search.specs.inner.Levels.{AreAllWanted, IsEarlyChoice};
 ghost use Rattle.xc_search.specs.inner.Due.{Pays};
 ghost use Rattle.xc_search.specs.inner.Commits.{oldest};
-ghost use Rattle.xc_search.specs.inner.Ahead.{work_left, GoesOn, EntersBranch, IsDone, branched};
-ghost use Rattle.xc_search.specs.inner.Ahead.{EntersOver, StandsOver, EndsOver, FallsBack};
+ghost use Rattle.xc_search.specs.inner.Ahead.{EntersBranch, IsDone, IsSolved, branched};
+ghost use Rattle.xc_search.specs.inner.Spanning.{Enters, Ends, Falls, IsRest, IsSeenBy, LeavesOut, RunsTo, row_at};
 ghost use Rattle.xc_search.specs.Listing.{listing};
+ghost use Rattle.xc_search.specs.Spans.{is_before};
 ghost use Rattle.xc_search.specs.inner.Residual.{residual_of};
-ghost use Rattle.xc_search.specs.Residuals.{choice_after};
+ghost use Rattle.xc_search.specs.Residuals.{choice_after, wanted_after};
 ghost use Rattle.xc_search.specs.inner.Paths.{KeepsBy, IsChosenBy, AreLater};
 
 use crate::level::{Begun, Level, begin_level};
 use crate::position::Position;
+use crate::rows::{Place, place_of};
 use crate::stack::Stack;
 use xc_dance::Dance;
 
@@ -41,36 +43,34 @@ pub enum Below {
     Solution,
 }
 
-/// Begins a level at an item, the next one, and enters its first branch, since what is left wasn't searched yet. A
-/// level without branches ends at once, and isn't noted. At the branch item it goes on with the search's own path.
-pub fn deepen<D: Dance>(
+/// Begins a level at an item, the next one, since what is left wasn't searched yet, and enters the first of its branches
+/// that isn't left out. A level without such a branch ends at once, and isn't noted. At the branch item it goes on with
+/// the search's own path.
+fn deepen<D: Dance>(
     position: &mut Position<D>,
     stack: &mut Stack,
     next: Option<(u32, usize)>,
+    first: u32,
 ) -> Below
     requires standing { IsStanding position.old.puzzle position.old.trail stack.old.levels true }
     requires levels_fit { most_levels position.old.puzzle ≤ stack.old.room }
     requires next { IsNext position.old.puzzle position.old.trail next }
     requires few { IfSome next (λ c. c.1 < 2 ^ 32) }
+    requires first { 0 < first }
     ensures same { result ≡ Below.Solution → (position.new ≡ position.old) × (stack.new ≡ stack.old) }
     ensures solved { result ≡ Below.Solution → choice_after position.old.puzzle position.old.trail ≡ None }
-    ensures deeper { (b : Entered) → result ≡ Below.Branch b →
-        EntersBranch position.old stack.old true position.new stack.new b.item b.place }
-    ensures deeper_path { (b : Entered) → result ≡ Below.Branch b → (exact : Bool) →
-        IsChosenBy exact position.old.puzzle position.old.trail next →
-        KeepsBy exact position.old stack.old (branched position.new b.item b.place) stack.new }
-    ensures deeper_pays { (b : Entered) → result ≡ Below.Branch b →
+    ensures deeper { (b : Entered) → result ≡ Below.Branch b → (exact : Bool) →
+        IsChosenBy exact position.old.puzzle position.old.trail next → (until : Option (List ℕ)) →
+        LeavesOut until position.old.puzzle stack.old.levels first → (m : ℕ) →
+        Enters exact first until position.old stack.old m position.new stack.new m b.item b.place }
+    ensures deeper_pays { (b : Entered) → result ≡ Below.Branch b → first ≡ 1 →
         IsEarlyChoice position.old.puzzle position.old.trail next → (m : ℕ) →
         Pays position.old stack.old true m (branched position.new b.item b.place) stack.new true m }
     ensures near { (b : Entered) → result ≡ Below.Branch b → b.place < 2 ^ 32 }
-    ensures deeper_row { (b : Entered) → result ≡ Below.Branch b → AreLater stack.old stack.new }
-    ensures nothing { result ≡ Below.Nothing → GoesOn position.old stack.old true position.new stack.new false }
-    ensures nothing_row { result ≡ Below.Nothing → stack.new ≡ stack.old }
-    ensures fewer { result ≡ Below.Nothing →
-        work_left position.new stack.new false < work_left position.old stack.old true }
-    ensures path { result ≡ Below.Nothing → (exact : Bool) →
-        KeepsBy exact position.old stack.old position.new stack.new }
-    ensures nothing_pays { result ≡ Below.Nothing → (m : ℕ) →
+    ensures nothing { result ≡ Below.Nothing → (exact : Bool) → (until : Option (List ℕ)) →
+        LeavesOut until position.old.puzzle stack.old.levels first → (m : ℕ) →
+        Falls exact first until position.old stack.old m position.new stack.new m }
+    ensures nothing_pays { result ≡ Below.Nothing → first ≡ 1 → (m : ℕ) →
         Pays position.old stack.old true m position.new stack.new false m }
 {
     let Some((item, count)) = next else {
@@ -78,16 +78,21 @@ pub fn deepen<D: Dance>(
     };
     let count = count as u32;
     let mut level = position.descend(item, count);
-    if count == 0 {
+    if count < first {
         position.undo_to(level.mark);
         return Below::Nothing;
     }
     let branch = position.enter(&level, 1);
     begin_level(&mut level, branch);
+    // A branch that is left out is entered, and none of its moves is made.
+    while level.begun < first {
+        let branch = position.enter(&level, number_after(level.begun, count));
+        begin_level(&mut level, branch);
+    }
     stack.push(level);
     Below::Branch(Entered {
         item,
-        place: branch.place as usize,
+        place: level.place as usize,
     })
 }
 
@@ -132,13 +137,14 @@ fn enter_next<D: Dance>(position: &mut Position<D>, level: &Level) -> Begun
 /// Enters the next branch of the newest level that has one, and ends the levels above it. None where no level has
 /// another branch, and then all have ended.
 #[inline(always)]
-pub fn resume<D: Dance>(position: &mut Position<D>, stack: &mut Stack) -> Option<Entered>
+fn resume<D: Dance>(position: &mut Position<D>, stack: &mut Stack) -> Option<Entered>
     requires standing { IsStanding position.old.puzzle position.old.trail stack.old.levels false }
     ensures resumed { IfSome result (λ b.
         EntersBranch position.old stack.old false position.new stack.new b.item b.place) }
     ensures resumed_path { IfSome result (λ b. (exact : Bool) →
         KeepsBy exact position.old stack.old (branched position.new b.item b.place) stack.new) }
     ensures resumed_row { IfSome result (λ _. AreLater stack.old stack.new) }
+    ensures resumed_levels { IfSome result (λ _. length stack.new.levels ≤ length stack.old.levels) }
     ensures near { IfSome result (λ b. b.place < 2 ^ 32) }
     ensures resumed_pays { IfSome result (λ b. (m : ℕ) →
         Pays position.old stack.old false m (branched position.new b.item b.place) stack.new true m) }
@@ -167,7 +173,7 @@ pub fn resume<D: Dance>(position: &mut Position<D>, stack: &mut Stack) -> Option
 
 /// What a search goes on with.
 #[derive(Clone, Copy)]
-pub enum Next {
+enum Next {
     /// A branch, which was entered.
     Branch(Entered),
     /// A solution, which the levels' choices are.
@@ -178,7 +184,7 @@ pub enum Next {
 
 /// Skips all that is left, with no move, where its solutions are known to be no more than are to be passed over.
 #[inline(always)]
-pub fn skip_rest<D: Dance>(position: &Position<D>, more: &mut u64) -> bool
+fn skip_rest<D: Dance>(position: &Position<D>, more: &mut u64) -> bool
     requires { IsSearchable position.now.puzzle position.now.trail }
     ensures skipped { result ≡ true →
         more.old ≡ more.new + length (listing (residual_of position.now.puzzle position.now.trail)) }
@@ -195,37 +201,56 @@ pub fn skip_rest<D: Dance>(position: &Position<D>, more: &mut u64) -> bool
     true
 }
 
-/// Goes below the levels: enters a first branch where what is left has any. A solution is passed over where `more` are
-/// to be, and is one of them. `last` is how many levels there were where the last choice led to a solution: where
-/// there are as many again, the solutions may be counted at once.
+/// An item to branch on: the branch item, unless an early choice is to be made.
+#[inline(always)]
+fn choose_by<D: Dance>(position: &Position<D>, early: bool) -> Option<(u32, usize)>
+    requires { AreAllWanted (wanted_after position.now.puzzle position.now.trail) }
+    ensures choice { IsChosenBy (not early) position.now.puzzle position.now.trail result }
+    ensures few { IfSome result (λ c. c.1 < 2 ^ 32) }
+{
+    if early {
+        position.choose_early()
+    } else {
+        position.choose()
+    }
+}
+
+/// Goes below the levels: enters a branch of another level, the first that isn't left out, where what is left has any.
+/// A solution is passed over where `more` are to be, and is one of them. `last` is how many levels there were where the
+/// last choice led to a solution: where there are as many again, and all that is left comes before the end, the
+/// solutions may be counted at once.
 #[inline(always)]
 fn go_below<D: Dance>(
     position: &mut Position<D>,
     stack: &mut Stack,
+    early: bool,
+    first: u32,
     more: &mut u64,
     last: &mut usize,
 ) -> Below
     requires standing { IsStanding position.old.puzzle position.old.trail stack.old.levels true }
     requires levels_fit { most_levels position.old.puzzle ≤ stack.old.room }
-    ensures entered { (b : Entered) → result ≡ Below.Branch b →
-        EntersOver position.old stack.old more.old position.new stack.new more.new b.item b.place }
+    requires first { 0 < first }
+    ensures entered { (b : Entered) → result ≡ Below.Branch b → (until : Option (List ℕ)) →
+        IsRest until position.old.puzzle stack.old.levels last.old first → Enters (not early) first until
+        position.old stack.old more.old position.new stack.new more.new b.item b.place }
     ensures near { (b : Entered) → result ≡ Below.Branch b → b.place < 2 ^ 32 }
-    ensures stands { result ≡ Below.Solution →
-        StandsOver position.old stack.old more.old position.new stack.new more.new }
-    ensures back { result ≡ Below.Nothing →
-        FallsBack position.old stack.old more.old position.new stack.new more.new }
-    ensures entered_pays { (b : Entered) → result ≡ Below.Branch b →
+    ensures same { result ≡ Below.Solution →
+        (position.new ≡ position.old) × (stack.new ≡ stack.old) × (more.old ≡ 0) × (more.new ≡ 0) }
+    ensures solved { result ≡ Below.Solution → IsSolved position.old.puzzle position.old.trail stack.old.levels }
+    ensures back { result ≡ Below.Nothing → (until : Option (List ℕ)) →
+        IsRest until position.old.puzzle stack.old.levels last.old first → Falls (not early) first until
+        position.old stack.old more.old position.new stack.new more.new }
+    ensures entered_pays { (b : Entered) → result ≡ Below.Branch b → first ≡ 1 →
         Pays position.old stack.old true more.old (branched position.new b.item b.place) stack.new true more.new }
-    ensures stands_pays { result ≡ Below.Solution →
-        Pays position.old stack.old true more.old position.new stack.new true more.new }
-    ensures back_pays { result ≡ Below.Nothing →
+    ensures back_pays { result ≡ Below.Nothing → first ≡ 1 →
         Pays position.old stack.old true more.old position.new stack.new false more.new }
 {
     if stack.levels().len() == *last && skip_rest(position, more) {
         return Below::Nothing;
     }
-    let next = position.choose_early();
-    match deepen(position, stack, next) {
+    let next = choose_by(position, early);
+    match deepen(position, stack, next, first) {
         Below::Branch(entered) => Below::Branch(entered),
         Below::Nothing => Below::Nothing,
         Below::Solution => {
@@ -239,32 +264,35 @@ fn go_below<D: Dance>(
     }
 }
 
-/// Enters the next branch, a first one where what is left has any. A solution is passed over where `more` are to be,
-/// and is one of them.
+/// Enters the next branch: one below the levels, or else the next of a level.
 #[inline(always)]
 fn enter_branch<D: Dance>(
     position: &mut Position<D>,
     stack: &mut Stack,
+    early: bool,
+    first: u32,
     more: &mut u64,
     last: &mut usize,
 ) -> Next
     requires standing { IsStanding position.old.puzzle position.old.trail stack.old.levels true }
     requires levels_fit { most_levels position.old.puzzle ≤ stack.old.room }
-    ensures entered { (b : Entered) → result ≡ Next.Branch b →
-        EntersOver position.old stack.old more.old position.new stack.new more.new b.item b.place }
+    requires first { 0 < first }
+    ensures entered { (b : Entered) → result ≡ Next.Branch b → (until : Option (List ℕ)) →
+        IsRest until position.old.puzzle stack.old.levels last.old first → Enters (not early) first until
+        position.old stack.old more.old position.new stack.new more.new b.item b.place }
     ensures near { (b : Entered) → result ≡ Next.Branch b → b.place < 2 ^ 32 }
-    ensures stands { result ≡ Next.Solution →
-        StandsOver position.old stack.old more.old position.new stack.new more.new }
-    ensures done { result ≡ Next.Nothing →
-        EndsOver position.old stack.old more.old position.new stack.new more.new }
-    ensures entered_pays { (b : Entered) → result ≡ Next.Branch b →
+    ensures same { result ≡ Next.Solution →
+        (position.new ≡ position.old) × (stack.new ≡ stack.old) × (more.old ≡ 0) × (more.new ≡ 0) }
+    ensures solved { result ≡ Next.Solution → IsSolved position.old.puzzle position.old.trail stack.old.levels }
+    ensures done { result ≡ Next.Nothing → (until : Option (List ℕ)) →
+        IsRest until position.old.puzzle stack.old.levels last.old first → Ends first until
+        position.old stack.old more.old position.new stack.new more.new }
+    ensures entered_pays { (b : Entered) → result ≡ Next.Branch b → first ≡ 1 →
         Pays position.old stack.old true more.old (branched position.new b.item b.place) stack.new true more.new }
-    ensures stands_pays { result ≡ Next.Solution →
-        Pays position.old stack.old true more.old position.new stack.new true more.new }
-    ensures done_pays { result ≡ Next.Nothing →
+    ensures done_pays { result ≡ Next.Nothing → first ≡ 1 →
         Pays position.old stack.old true more.old position.new stack.new false more.new }
 {
-    match go_below(position, stack, more, last) {
+    match go_below(position, stack, early, first, more, last) {
         Below::Branch(entered) => return Next::Branch(entered),
         Below::Solution => return Next::Solution,
         Below::Nothing => {}
@@ -275,29 +303,105 @@ fn enter_branch<D: Dance>(
     }
 }
 
-/// Passes over so many solutions and stops at the next. Where there is none, all levels have ended, and it returns how
-/// many were not there to be passed over. A search that is at a solution finds that one again, as the first.
-// One loop for all of them, which at each turn first looks at what is below, so that no flag says whether that was
+/// What a run is to do: to pass over so many members that come before `until`, and to stop at the next, unless that
+/// takes more than so many branches to begin. A run without bounds has no end and all the steps that it takes.
+#[derive(Clone, Copy)]
+pub struct Task<'u> {
+    pub until: Option<&'u [u32]>,
+    /// It may branch on another item than the branch item where what is left has no members.
+    pub early: bool,
+    /// The branch that it enters first where it begins a level: those before it are left out.
+    pub first: u32,
+    pub over: u64,
+    pub steps: u64,
+}
+
+/// Where a run halted.
+#[derive(Clone, Copy)]
+pub enum Stop {
+    /// At a member.
+    Member,
+    /// Between two branches, since it has no more steps.
+    Steps,
+    /// At a branch whose row doesn't come before `until`.
+    Row,
+    /// All levels ended.
+    Nothing,
+}
+
+/// What a run came to: of the members that it was to pass over, and of its steps, so many are left.
+#[derive(Clone, Copy)]
+pub struct Ran {
+    pub stop: Stop,
+    pub more: u64,
+    pub steps: u64,
+}
+
+/// Does what a task says. A search that is at a solution finds that one again, as the first.
+// One loop for all searches, which at each turn first looks at what is below, so that no flag says whether that was
 // searched.
-// No wish to be inlined: its one call is, and then after what it calls was taken in.
-pub fn advance<D: Dance>(position: &mut Position<D>, stack: &mut Stack, many: u64) -> Option<u64>
+// No wish to be inlined: its one call for each search is, and then after what it calls was taken in.
+pub fn run<'u, D: Dance, const BOUND: bool>(
+    position: &mut Position<D>,
+    stack: &mut Stack,
+    task: Task<'u>,
+) -> Ran
     requires standing { IsStanding position.old.puzzle position.old.trail stack.old.levels true }
     requires levels_fit { most_levels position.old.puzzle ≤ stack.old.room }
-    ensures stands { IsNone result → StandsOver position.old stack.old many position.new stack.new 0 }
-    ensures ended { IfSome result (λ more. EndsOver position.old stack.old many position.new stack.new more) }
-    ensures stands_pays { IsNone result → Pays position.old stack.old true many position.new stack.new true 0 }
-    ensures ended_pays { IfSome result (λ more.
-        Pays position.old stack.old true many position.new stack.new false more) }
+    requires first { 0 < task.first }
+    requires before { is_before (option_map (λ u. u.now) task.until) (row_at position.old.puzzle stack.old.levels)
+        ≡ true }
+    requires all { IsSome task.until → task.first ≡ 1 }
+    requires free { BOUND ≡ false → task.until ≡ None }
+    ensures ran { (u : Option (List ℕ)) → IsSeenBy BOUND u (option_map (λ u. u.now) task.entry.until) task.entry.first
+        task.entry.steps position.old.puzzle stack.old.levels →
+        RunsTo BOUND (not task.entry.early) task.entry.first u (option_map (λ u. u.now) task.entry.until)
+        position.old stack.old task.entry.over task.entry.steps
+        result.stop position.new stack.new result.more result.steps }
+    ensures stands_pays { result.stop ≡ Stop.Member → task.entry.first ≡ 1 →
+        Pays position.old stack.old true task.entry.over position.new stack.new true result.more }
+    ensures ended_pays { result.stop ≡ Stop.Nothing → task.entry.first ≡ 1 →
+        Pays position.old stack.old true task.entry.over position.new stack.new false result.more }
 {
-    let mut more = many;
+    let Task {
+        until,
+        early,
+        first,
+        over,
+        steps,
+    } = task;
+    let mut more = over;
+    let mut steps = steps;
     let mut last = usize::MAX;
-    loop {
-        match enter_branch(position, stack, &mut more, &mut last) {
+    while !BOUND || steps > 0 {
+        match enter_branch(position, stack, early, first, &mut more, &mut last) {
             Next::Branch(entered) => position.commit_branch(entered.item, entered.place as u32),
-            Next::Solution => return None,
-            Next::Nothing => return Some(more),
+            Next::Solution => return halted(Stop::Member, more, steps),
+            Next::Nothing => return halted(Stop::Nothing, more, steps),
+        }
+        if BOUND {
+            steps -= 1;
+            if let Some(until) = until {
+                match place_of(stack.levels(), until) {
+                    Place::Before => {}
+                    // What is left below may reach the row, so it isn't counted at once.
+                    Place::Begins => last = usize::MAX,
+                    Place::Reached => return halted(Stop::Row, more, steps),
+                }
+            }
         }
     }
+    halted(Stop::Steps, more, steps)
+}
+
+/// What a run came to.
+// A call for its coldness alone: else the compiler takes the end of a run for as likely as a step of its loop.
+#[cold]
+#[inline(never)]
+fn halted(stop: Stop, more: u64, steps: u64) -> Ran
+    ensures { result ≡ record { stop = stop; more = more; steps = steps } }
+{
+    Ran { stop, more, steps }
 }
 
 /// Ends every level, the newest first, and undoes the moves that are left.

@@ -14,7 +14,7 @@ ghost use Rattle.xc_search.specs.inner.Levels.{coming, choices_of, IsStanding};
 use crate::choice::Choice;
 use crate::counts::most_levels;
 use crate::level::Level;
-use crate::levels::{advance, unwind};
+use crate::levels::{Stop, Task, run, unwind};
 use crate::marks::{Mark, Marks};
 use crate::position::Position;
 use crate::stack::Stack;
@@ -267,9 +267,20 @@ impl<'a, D: Dance> Standing<'a, D> {
         } = self;
         // Where it is at a solution, it finds that one again.
         let more = if unsearched { many - 1 } else { many };
-        let passed = match advance(&mut position, &mut stack, more) {
-            None => many,
-            Some(more) => fewer(many, more),
+        let ran = run::<D, false>(
+            &mut position,
+            &mut stack,
+            Task {
+                until: None,
+                early: true,
+                first: 1,
+                over: more,
+                steps: 0,
+            },
+        );
+        let passed = match ran.stop {
+            Stop::Member => many,
+            Stop::Steps | Stop::Row | Stop::Nothing => fewer(many, ran.more),
         };
         (
             Standing {

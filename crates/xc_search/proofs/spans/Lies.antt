@@ -53,19 +53,20 @@ lies_first p = record {
   behind = tt;
 }
 
-each-flat_map : {X Y : Type 0} (P : Y → Type 0) (f : X → List Y) (xs : List X)
+pub each-flat_map : {X Y : Type 0} (P : Y → Type 0) (f : X → List Y) (xs : List X)
     → AllByRecursion (λ x. AllByRecursion P (f x)) xs → AllByRecursion P (flat_map f xs)
 each-flat_map P f [] a = tt
 each-flat_map P f (x ∷ xs) a = each-append P (f x) (flat_map f xs) a.0 (each-flat_map P f xs a.1)
 
 -- of what is numbered by its place the first k, and the rest
-numbered_before : {X : Type 0} (f : X → ℕ) (n k : ℕ) (xs : List X)
-    → ((j : ℕ) (x : X) → slice_get xs j ≡ Some x → f x ≡ n + suc j) → AllByRecursion (λ x. f x ≤ n + k) (take k xs)
+pub numbered_before : {X : Type 0} (f : X → ℕ) (n k : ℕ) (xs : List X)
+    → ((j : ℕ) (x : X) → slice_get xs j ≡ Some x → f x ≡ n + suc j)
+    → AllByRecursion (λ x. (n < f x) × (f x ≤ n + k)) (take k xs)
 numbered_before f n zero xs h = tt
 numbered_before f n (suc k) [] h = tt
 numbered_before f n (suc k) (x ∷ xs) h = (
-  omega (arith, h 0 x refl),
-  each_weaker _ _ (take k xs) (λ y l. omega (arith, l))
+  (omega (arith, h 0 x refl), omega (arith, h 0 x refl)),
+  each_weaker _ _ (take k xs) (λ y l. (omega (arith, l.0), omega (arith, l.1)))
       (numbered_before f (suc n) k xs (λ j y e. omega (arith, h (suc j) y e))),
 )
 
@@ -86,7 +87,7 @@ numbered_behind f n (suc k) (x ∷ xs) h =
     (numbered_behind f (suc n) k xs (λ j y e. omega (arith, h (suc j) y e)))
 
 -- the row of a member below a branch
-branch_row : (path m : List Choice) (c : Choice) → row_of (path ++ c ∷ m) ≡ row_of path ++ c.k ∷ row_of m
+pub branch_row : (path m : List Choice) (c : Choice) → row_of (path ++ c ∷ m) ≡ row_of path ++ c.k ∷ row_of m
 branch_row path m c = map-append (λ c. c.k) path (c ∷ m)
 
 branch_before : (path : List Choice) (k : ℕ) (b : Branch) → b.choice.k < k
@@ -141,7 +142,7 @@ lies_next p path r after l w e k b at number =
           (each_weaker (IsBefore (row_of path)) (IsBefore (row_of path ++ k ∷ [])) l.front
           (λ m h x. rw (append_assoc (row_of path) (k ∷ []) x) (h (k ∷ x))) l.before)
           (each-flat_map _ _ (take (k - 1) bs) (each_weaker _ _ (take (k - 1) bs)
-          (λ x h. branch_before path k x (omega (arith, h, some)))
+          (λ x h. branch_before path k x (omega (arith, h.1, some)))
           (numbered_before (λ (b : Branch). b.choice.k) 0 (k - 1) bs numbers))));
       behind = rw row (each-append _ (branch_members path (drop k bs)) after
           (each-flat_map _ _ (drop k bs) (each_weaker _ _ (drop k bs)

@@ -3,7 +3,8 @@ use Rattle.std.proofs.Common.{arith}
 use Rattle.std.proofs.lemmas.Grind.{common_steps}
 use Rattle.std.proofs.Common.{ℕ, ◌≡◌, ◌<◌, List, [], ◌∷◌, ◌++◌, reverse, drop, sym, ap, ◌∙◌}
 use Rattle.std.proofs.Common.{append_assoc, append-nil}
-use Rattle.std.proofs.lemmas.List.{map-append, reverse-append, reverse-reverse}
+use Rattle.std.proofs.lemmas.List.{map-append, reverse-append, reverse-reverse, length-map, length-reverse}
+use Rattle.std.proofs.Common.{◌≤◌, length, refl, length-append}
 use Rattle.xc_search.specs.declared.level.Level.{Level}
 use Rattle.xc_search.specs.declared.level.Begun.{Begun}
 use Rattle.xc_input.specs.Problem.{Puzzle}
@@ -18,7 +19,7 @@ use Rattle.xc_search.proofs.spans.Rows.{less_before, same_beginning, not_before_
 pub numbers_row : (p : Puzzle) (ls : List Level) → numbers ls ≡ row_at p ls
 numbers_row p ls = row_levels p (reverse ls) ls (reverse-reverse ls)
 
-numbers_more : (l : Level) (ls : List Level) → numbers (l ∷ ls) ≡ numbers ls ++ l.begun ∷ []
+pub numbers_more : (l : Level) (ls : List Level) → numbers (l ∷ ls) ≡ numbers ls ++ l.begun ∷ []
 numbers_more l ls = grind (arith, common_steps, reverse-append, map-append)
 
 -- a level more
@@ -44,6 +45,26 @@ oldest_fewer l ls ks js top e o = grind (arith, numbers, numbers_more, append_as
 pub rises_next : (l : Level) (b : Begun) (ls ks js : Levels) → ks.levels ≡ l ∷ drop 1 ks.levels
     → js.levels ≡ newest_begun b ks.levels → l.begun < b.begun → IsOldest ls ks → AreLater ls js
 rises_next l b ls ks js top e more o = grind (arith, numbers, numbers_more, append_assoc, same_beginning, less_before)
+
+-- and they are no more than before
+pub length-numbers : (ls : List Level) → length (numbers ls) ≡ length ls
+length-numbers ls = length-map (reverse ls) (λ (l : Level). l.begun) ∙ length-reverse ls
+
+begun_length : (b : Begun) (ls : List Level) → length (newest_begun b ls) ≡ length ls
+begun_length b [] = refl
+begun_length b (l ∷ ls) = refl
+
+pub no_more_levels : (b : Begun) (ls ks js : Levels) → js.levels ≡ newest_begun b ks.levels → IsOldest ls ks
+    → length js.levels ≤ length ls.levels
+no_more_levels b ls ks js e o = omega (
+  arith,
+  ap length e,
+  begun_length b ks.levels,
+  ap length o.numbers,
+  length-append (numbers ks.levels) o.behind,
+  length-numbers ks.levels,
+  length-numbers ls.levels,
+)
 
 -- one behind another
 pub rises_on : (ls ks js : Levels) → AreLater ls ks → AreLater ks js → AreLater ls js

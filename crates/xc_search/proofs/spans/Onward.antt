@@ -1,5 +1,5 @@
 -- The steps of a search of a span.
-use Rattle.std.proofs.Common.{ℕ, Bool, true, false, List, Option, refl, arith}
+use Rattle.std.proofs.Common.{ℕ, ◌≤◌, Bool, true, false, List, Option, length, refl, arith, inl}
 use Rattle.xc_dance.specs.Dancing.{Dancing}
 use Rattle.xc_search.specs.inner.Residual.{residual_of}
 use Rattle.xc_search.specs.inner.Levels.{Levels, IsStanding, coming}
@@ -11,7 +11,7 @@ use Rattle.xc_search.proofs.stacked.PassedOver.{stands_behind}
 use Rattle.xc_search.proofs.spans.Passing.{over_none, over_more}
 
 -- what is left below is passed over with no move
-pub falls_over : (x c : Bool) (until : Option (List ℕ)) (d : Dancing) (ls : Levels) (m n : ℕ)
+pub falls_over : (x : Bool) (c : ℕ) (until : Option (List ℕ)) (d : Dancing) (ls : Levels) (m n : ℕ)
     → IsStanding d.puzzle d.trail ls.levels true
     → PassesOver c until m n (coming d.puzzle d.trail ls.levels true) (coming d.puzzle d.trail ls.levels false)
     → Falls x c until d ls m d ls n
@@ -23,29 +23,12 @@ falls_over x c until d ls m n s over = record {
   over = over;
 }
 
--- a branch below is entered
-pub enters_below : {d e : Dancing} {ls ks : Levels} {i q : ℕ} (x c : Bool) (until : Option (List ℕ)) (m : ℕ)
-    → EntersBranch d ls true e ks i q → KeepsBy x d ls (branched e i q) ks → AreLater ls ks
-    → Enters x c until d ls m e ks m i q
-enters_below x c until m b path rises = record {
-  can = b.can;
-  place = b.place;
-  begins = record {
-    still = b.goes_on.still;
-    standing = b.goes_on.standing;
-    path = path;
-    rises = rises;
-    less = b.less;
-    over = over_none c until m _ _ b.goes_on.members;
-  };
-}
-
 -- a branch of a level is entered
-pub enters_back : {x c : Bool} {until : Option (List ℕ)} {d e f : Dancing} {ls ks js : Levels} {m n i q : ℕ}
+pub enters_back : {x : Bool} {c : ℕ} {until : Option (List ℕ)} {d e f : Dancing} {ls ks js : Levels} {m n i q : ℕ}
     → Falls x c until d ls m e ks n → EntersBranch e ks false f js i q → KeepsBy x e ks (branched f i q) js
-    → AreLater ks js
+    → AreLater ks js → length js.levels ≤ length ks.levels
     → Enters x c until d ls m f js n i q
-enters_back {x} {c} {until} {n = n} back b path rises = record {
+enters_back {x} {c} {until} {n = n} back b path rises few = record {
   can = b.can;
   place = b.place;
   begins = record {
@@ -53,13 +36,14 @@ enters_back {x} {c} {until} {n = n} back b path rises = record {
     standing = b.goes_on.standing;
     path = λ u a. path u (back.path u a);
     rises = rw (← back.still.1) rises;
+    down = inl (rw (← back.still.1) few);
     less = omega (arith, back.less, b.less);
     over = over_more back.over (over_none c until n _ _ b.goes_on.members);
   };
 }
 
 -- all levels end
-pub ends_back : {x c : Bool} {until : Option (List ℕ)} {d e f : Dancing} {ls ks js : Levels} {m n : ℕ}
+pub ends_back : {x : Bool} {c : ℕ} {until : Option (List ℕ)} {d e f : Dancing} {ls ks js : Levels} {m n : ℕ}
     → Falls x c until d ls m e ks n → IsDone e ks false f js → Ends c until d ls m f js n
 ends_back {x} {c} {until} {n = n} back done = record {
   still = grind (arith, back.still, done.still);

@@ -11,7 +11,6 @@ use Rattle.xc_input.specs.Problem.{Puzzle}
 use Rattle.xc_search.specs.Cover.{members}
 use Rattle.xc_search.specs.Spans.{row_of, precedes, is_before, between}
 use Rattle.xc_search.specs.inner.Levels.{Levels, AreStacked, IsStanding, coming}
-use Rattle.xc_search.specs.inner.Ahead.{work_left}
 use Rattle.xc_search.specs.inner.Paths.{AreLed, AreLedBy, AreLater}
 use Rattle.xc_search.specs.inner.Spanning.{row_at, BeginsBranch, Ends, PassesOver, Stands, EndsSpan}
 use Rattle.xc_input.proofs.lists.EachElement.{each_of_all}
@@ -22,6 +21,7 @@ use Rattle.xc_search.proofs.spans.Rising.{is_within, keep_none}
 use Rattle.xc_search.proofs.spans.Lies.{lies_from, led_lies}
 use Rattle.xc_search.proofs.spans.Numbers.{rises_on}
 use Rattle.xc_search.proofs.spans.Passing.{over_none, over_more, over_within}
+use Rattle.xc_search.proofs.spans.Exact.{led_by}
 
 -- from the row of levels on stands what comes there
 pub led_from_by : (x : Bool) (p : Puzzle) (t : List Move) (ls : List Level) → AreLedBy x p [] t ls
@@ -32,47 +32,40 @@ pub led_from : (p : Puzzle) (t : List Move) (ls : List Level) → AreLed p [] t 
     → between p (row_at p ls) None ≡ coming p t ls true
 led_from p t ls a = led_from_by true p t ls a
 
-pub stands_first : (x c : Bool) (until : Option (List ℕ)) (d : Dancing) (ls : Levels) (m : ℕ)
-    → IsStanding d.puzzle d.trail ls.levels true → AreLedBy x d.puzzle [] d.trail ls.levels
-    → (none : ℕ) → none ≡ 0 → Stands x c until d ls m d ls m none
-stands_first x c until d ls m s a none zero = record {
+pub stands_first : (x : Bool) (c : ℕ) (u : Option (List ℕ)) (d : Dancing) (ls : Levels) (m : ℕ)
+    → IsStanding d.puzzle d.trail ls.levels true → Stands x c u d ls m d ls m 0
+stands_first x c u d ls m s = record {
   still = (refl, refl);
   standing = s;
-  led = a;
-  over = over_none c until m _ _ refl;
+  path = λ u a. a;
+  over = over_none c u m _ _ refl;
   same = λ _. (refl, refl, refl);
-  later = λ h. absurd (omega (arith, h, zero));
-  less = λ h. absurd (omega (arith, h, zero));
+  later = λ h. absurd (omega (arith, h));
+  down = λ h. absurd (omega (arith, h));
 }
 
-module _ {x c : Bool} {until : Option (List ℕ)} {d e : Dancing} {ls ks : Levels} {m n begun : ℕ}
-    (s : Stands x c until d ls m e ks n begun)
+module _ {x : Bool} {c : ℕ} {u : Option (List ℕ)} {d e : Dancing} {ls ks : Levels} {m n begun : ℕ}
+    (s : Stands x c u d ls m e ks n begun)
   where
-    -- no more is ahead than where it began
-    pub no_more_ahead : work_left e ks true ≤ work_left d ls true
-    no_more_ahead = by_number begun
-        (λ h. let here = s.same h in grind (arith, here))
-        (λ k h. let less = s.less (omega (arith, h)) in omega (arith, less))
-
     -- where it goes on to a later row, that is later than where it began
     later_than : (js : Levels) → AreLater ks js → AreLater ls js
     later_than js b = by_number begun
         (λ h. rw (← (s.same h).1) b)
         (λ k h. rises_on ls ks js (s.later (omega (arith, h))) b)
 
-    pub stands_more : {f : Dancing} {js : Levels} {o : ℕ} → BeginsBranch x c until e ks n f js o
-        → (more : ℕ) → more ≡ begun + 1 → Stands x c until d ls m f js o more
-    stands_more {f} {js} {o} b more one = record {
+    pub stands_more : {f : Dancing} {js : Levels} {o : ℕ} → BeginsBranch x c u e ks n f js o
+        → Stands x c u d ls m f js o (begun + 1)
+    stands_more {f} {js} {o} b = record {
       still = grind (arith, s.still, b.still);
       standing = b.standing;
-      led = b.path [] s.led;
+      path = λ v a. b.path v (s.path v a);
       over = over_more s.over b.over;
-      same = λ h. absurd (omega (arith, h, one));
+      same = λ h. absurd (omega (arith, h));
       later = λ _. later_than js b.rises;
-      less = λ _. omega (arith, b.less, no_more_ahead);
+      down = λ h. let same = s.same (omega (arith, h)) in rw (← same.1) b.down;
     }
 
-    pub ends_on : {f : Dancing} {js : Levels} {o : ℕ} → Ends c until e ks n f js o → Ends c until d ls m f js o
+    pub ends_on : {f : Dancing} {js : Levels} {o : ℕ} → Ends c u e ks n f js o → Ends c u d ls m f js o
     ends_on r = record {
       still = grind (arith, s.still, r.still);
       ended = r.ended;
@@ -130,7 +123,7 @@ module _ {d e : Dancing} {ls ks : Levels} {m n : ℕ} {until : Option (List ℕ)
     -- it passed over all members of its span
     pub ends_span : {ns : List (List Choice)} → (e ≡ record d { trail = e.trail; undone = e.undone })
         × (ks ≡ record ls { levels = ks.levels }) → AreStacked e.puzzle e.trail ks.levels
-        → PassesOver true until m n (coming d.puzzle d.trail ls.levels true) ns
+        → PassesOver 1 until m n (coming d.puzzle d.trail ls.levels true) ns
         → filter (λ m. is_before until (row_of m)) ns ≡ [] → EndsSpan d ls m until e ks n
     ends_span still stacked over none = record {
       still = still;
@@ -139,11 +132,11 @@ module _ {d e : Dancing} {ls ks : Levels} {m n : ℕ} {until : Option (List ℕ)
     }
 
     -- it ends at a row that doesn't come before its end
-    pub ends_at_row : {x : Bool} {begun : ℕ} → Stands x true until d ls m e ks n begun
+    pub ends_at_row : {x : Bool} {begun : ℕ} → Stands x 1 until d ls m e ks n begun
         → is_before until (row_at e.puzzle ks.levels) ≡ false → EndsSpan d ls m until e ks n
     ends_at_row {x} s past =
-        ends_span s.still s.standing.stacked s.over (none_before x e.puzzle e.trail ks.levels until s.led past)
+        ends_span s.still s.standing.stacked s.over (none_before x e.puzzle e.trail ks.levels until (s.path [] (led_by x _ _ _ _ led)) past)
 
     -- or where all levels ended
-    pub ends_all : Ends true until d ls m e ks n → EndsSpan d ls m until e ks n
+    pub ends_all : Ends 1 until d ls m e ks n → EndsSpan d ls m until e ks n
     ends_all s = ends_span s.still (rw s.ended tt) s.over refl

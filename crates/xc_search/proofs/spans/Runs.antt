@@ -1,58 +1,64 @@
 -- How a run of a search of a span goes.
 use Rattle.std.proofs.Common.{ℕ, ◌≡◌, ◌≢◌, ◌-◌, ◌<◌, ◌≤◌, Bool, true, false, List, [], Option, subst, refl, filter}
 use Rattle.std.proofs.Common.{sym, ap, ap₂, ◌∙◌}
-use Rattle.std.proofs.Common.{arith, inl, inr, ◌⊎◌}
+use Rattle.std.proofs.Common.{arith, inl, inr, ◌⊎◌, ◌+◌, None}
+use Rattle.std.specs.Prelude.{◌^◌, drop}
+use Rattle.xc_search.proofs.spans.Passing.{drop_over}
 use Rattle.xc_dance.specs.Dancing.{Dancing}
-use Rattle.xc_search.specs.declared.spanning.Stop.{Stop}
-use Rattle.xc_search.specs.declared.spanning.Stop.TheVariants.{Member, Steps, Row, Nothing}
+use Rattle.xc_search.specs.declared.levels.Stop.{Stop}
+use Rattle.xc_search.specs.declared.levels.Stop.TheVariants.{Member, Steps, Row, Nothing}
 use Rattle.xc_search.specs.Listing.{listing}
 use Rattle.xc_search.specs.Spans.{row_of, is_before}
 use Rattle.xc_search.specs.inner.Residual.{residual_of}
 use Rattle.xc_search.specs.inner.Levels.{Levels, coming}
-use Rattle.xc_search.specs.inner.Ahead.{IsSolved, work_left}
+use Rattle.xc_search.specs.inner.Ahead.{IsSolved}
 use Rattle.xc_search.specs.inner.Paths.{AreLed, numbers}
 use Rattle.xc_search.specs.inner.Spanning.{row_at, BeginsBranch, Ends, PassesOver, Stands, RunsTo, RanTo, Halts}
-use Rattle.xc_search.specs.inner.Spanning.{EndsSpan}
+use Rattle.xc_search.specs.inner.Spanning.{EndsSpan, IsSeenBy, IsRest}
 use Rattle.xc_search.specs.inner.Spanning.{Settles}
 use Rattle.xc_input.proofs.Cases.{by_number}
 use Rattle.xc_search.proofs.spans.Rows.{before_not_before}
 use Rattle.xc_search.proofs.spans.Running.{stands_more, ends_on, ends_span, ends_at_row, ends_all, none_before}
 use Rattle.xc_search.proofs.spans.Advance.{solved_alone}
-use Rattle.xc_search.proofs.spans.Exact.{led_exact}
+use Rattle.xc_search.proofs.spans.Exact.{led_exact, led_by}
 
-module _ {x c : Bool} {until : Option (List ℕ)} {d e : Dancing} {ls ks : Levels} {m most n steps : ℕ}
-    (s : Stands x c until d ls m e ks n (most - steps)) (within : steps ≤ most)
+module _ {bound x : Bool} {c : ℕ} {u until : Option (List ℕ)} {d e : Dancing} {ls ks : Levels}
+    {m most n begun steps : ℕ} (s : Stands x c u d ls m e ks n begun) (count : bound ≡ true → begun + steps ≡ most)
   where
-    pub runs_to_steps : steps ≡ 0 → is_before until (row_at e.puzzle ks.levels) ≡ true
-        → RunsTo x c until d ls m most Steps e ks n steps
-    runs_to_steps zero before = record {
+    pub runs_to_steps : bound ≡ true → steps ≡ 0 → is_before until (row_at e.puzzle ks.levels) ≡ true
+        → RunsTo bound x c u until d ls m most Steps e ks n steps
+    runs_to_steps is zero before = record {
+      begun = begun;
+      bounded = count;
       stands = λ _. s;
       before = λ _. before;
       solved = λ h. absurd (cc h);
-      ran_out = λ _. zero;
+      ran_out = λ _. (is, zero);
       past = λ h. absurd (cc h);
       ended = λ h. absurd (cc h);
-      within = within;
     }
 
     pub runs_to_member : {f : Dancing} {js : Levels} {o : ℕ} → f ≡ e → js ≡ ks → n ≡ 0 → o ≡ 0
         → IsSolved e.puzzle e.trail ks.levels → is_before until (row_at e.puzzle ks.levels) ≡ true
-        → RunsTo x c until d ls m most Member f js o steps
+        → RunsTo bound x c u until d ls m most Member f js o steps
     runs_to_member {f} {js} {o} ef ej zero none solved before =
         let same : o ≡ n = none ∙ sym zero in
         rw (ef, ej) (record {
+          begun = begun;
+          bounded = count;
           stands = λ _. rw same s;
           before = λ _. before;
           solved = λ _. (none, solved);
           ran_out = λ h. absurd (cc h);
           past = λ h. absurd (cc h);
           ended = λ h. absurd (cc h);
-          within = within;
         })
 
-    pub runs_to_end : {f : Dancing} {js : Levels} {o : ℕ} → Ends c until e ks n f js o
-        → RunsTo x c until d ls m most Nothing f js o steps
+    pub runs_to_end : {f : Dancing} {js : Levels} {o : ℕ} → Ends c u e ks n f js o
+        → RunsTo bound x c u until d ls m most Nothing f js o steps
     runs_to_end b = record {
+      begun = begun;
+      bounded = count;
       stands = λ h. absurd (h refl);
       before = λ h. elim h [
         | inl i ↦ absurd (cc i)
@@ -62,32 +68,44 @@ module _ {x c : Bool} {until : Option (List ℕ)} {d e : Dancing} {ls ks : Level
       ran_out = λ h. absurd (cc h);
       past = λ h. absurd (cc h);
       ended = λ _. ends_on s b;
-      within = within;
     }
 
-    pub runs_on : {f : Dancing} {js : Levels} {o : ℕ} → 0 < steps → BeginsBranch x c until e ks n f js o
-        → Stands x c until d ls m f js o (most - (steps - 1))
-    runs_on some b = stands_more s b (most - (steps - 1)) (omega (arith, some, within))
-
-    pub runs_to_row : {f : Dancing} {js : Levels} {o : ℕ} → 0 < steps → BeginsBranch x c until e ks n f js o
+    pub runs_to_row : {f : Dancing} {js : Levels} {o : ℕ} → bound ≡ true → 0 < steps → BeginsBranch x c u e ks n f js o
         → is_before until (row_at f.puzzle js.levels) ≡ false
-        → RunsTo x c until d ls m most Row f js o (steps - 1)
-    runs_to_row some b past = record {
-      stands = λ _. runs_on some b;
+        → RunsTo bound x c u until d ls m most Row f js o (steps - 1)
+    runs_to_row is some b past = record {
+      begun = begun + 1;
+      bounded = λ h. omega (arith, count h, some);
+      stands = λ _. stands_more s b;
       before = λ h. elim h [
         | inl i ↦ absurd (cc i)
         | inr i ↦ absurd (cc i)
       ];
       solved = λ h. absurd (cc h);
       ran_out = λ h. absurd (cc h);
-      past = λ _. past;
+      past = λ _. (is, past);
       ended = λ h. absurd (cc h);
-      within = omega (arith, within);
     }
+
+-- what is known of an end of its own is known of another, where no branch was begun
+pub seen_rest : {bound x : Bool} {first : ℕ} {u until : Option (List ℕ)} {d e : Dancing} {ls ks : Levels}
+    {m most n begun steps last : ℕ} → IsSeenBy bound u until first most d.puzzle ls.levels
+    → Stands x first u d ls m e ks n begun → (bound ≡ true → begun + steps ≡ most) → (bound ≡ true → 0 < steps)
+    → (begun ≡ 0 → 2 ^ 64 - 1 ≤ last) → IsRest until e.puzzle ks.levels last first
+    → IsRest u e.puzzle ks.levels last first
+seen_rest (inl same) s count going far rest = rw same rest
+seen_rest {begun = begun} (inr (is, one, before, leaves)) s count going far rest =
+    let none : begun ≡ 0 = omega (arith, count is, going is, one) in
+    let here = s.same none in
+    rw (here.0, here.1) (record {
+      before = before;
+      all = λ near. absurd (omega (arith, near, far none));
+      leaves = leaves;
+    })
 
 -- a search halts there by branch items alone
 halts_by : {x : Bool} {until : Option (List ℕ)} {d e : Dancing} {ls ks : Levels} {m n begun : ℕ}
-    → Stands x true until d ls m e ks n begun → AreLed e.puzzle [] e.trail ks.levels
+    → Stands x 1 until d ls m e ks n begun → AreLed e.puzzle [] e.trail ks.levels
     → Halts until d ls m e ks n begun
 halts_by s led = record {
   still = s.still;
@@ -99,8 +117,16 @@ halts_by s led = record {
 }
 
 module _ {until : Option (List ℕ)} {d b : Dancing} {ls js : Levels} {m n most steps : ℕ} {stop : Stop}
-    (led : AreLed d.puzzle [] d.trail ls.levels) (r : RunsTo false true until d ls m most stop b js n steps)
+    (led : AreLed d.puzzle [] d.trail ls.levels)
+    (r : RunsTo true false 1 until until d ls m most stop b js n steps)
   where
+    within : steps ≤ most
+    within = omega (arith, r.bounded refl)
+
+    -- so many branches were begun
+    halts_after : Halts until d ls m b js n r.begun → Halts until d ls m b js n (most - steps)
+    halts_after h = let all : r.begun ≡ most - steps = omega (arith, r.bounded refl) in rw (← all) h
+
     -- a run halts at a member, or comes to the end
     pub ran_to : stop ≢ Steps → RanTo d ls m most until stop b js n steps
     ran_to aside = record {
@@ -110,28 +136,32 @@ module _ {until : Option (List ℕ)} {d b : Dancing} {ls js : Levels} {m n most 
             let some : listing (residual_of b.puzzle b.trail) ≢ [] = λ none.
             cc (solved_alone b.puzzle b.trail js.levels at, none) in
             let stands = r.stands (λ e. absurd (cc (i, e))) in
-            halts_by stands (led_exact false b.puzzle [] b.trail js.levels stands.led some)
+            halts_after (halts_by stands (led_exact false b.puzzle [] b.trail js.levels
+            (stands.path [] (led_by false _ _ _ _ led)) some))
         | inr i ↦ absurd (aside i)
       ];
       before = r.before;
       solved = r.solved;
-      ran_out = r.ran_out;
+      ran_out = λ h. (r.ran_out h).1;
       ended = λ h. elim h [
-        | inl i ↦ ends_at_row led (r.stands (λ e. absurd (cc (i, e)))) (r.past i)
+        | inl i ↦ ends_at_row led (r.stands (λ e. absurd (cc (i, e)))) (r.past i).1
         | inr i ↦ ends_all led (r.ended i)
       ];
-      within = r.within;
+      within = within;
     }
 
     -- or it has no more steps, and goes back to a row of the search's tree
     module _ {e : Dancing} {ks : Levels} {found : Bool} (is : stop ≡ Steps) (some : 0 < most)
         (s : Settles b js e ks found)
       where
-        stands : Stands false true until d ls m b js n (most - steps)
+        stands : Stands false 1 until d ls m b js n r.begun
         stands = r.stands (λ e. absurd (cc (is, e)))
 
-        begun : 0 < most - steps
-        begun = omega (arith, some, r.ran_out is)
+        begun : 0 < r.begun
+        begun = omega (arith, some, r.bounded refl, (r.ran_out is).1)
+
+        all : r.begun ≡ most - steps
+        all = omega (arith, r.bounded refl)
 
         still : (e ≡ record d { trail = e.trail; undone = e.undone }) × (ks ≡ record ls { levels = ks.levels })
         still = grind (arith, stands.still, s.still)
@@ -141,8 +171,8 @@ module _ {until : Option (List ℕ)} {d b : Dancing} {ls js : Levels} {m n most 
           still = still;
           standing = s.standing h;
           led = s.led h;
-          over = subst (PassesOver true until m n (coming d.puzzle d.trail ls.levels true)) (s.members h) stands.over;
-          same = λ z. absurd (omega (arith, z, begun));
+          over = subst (PassesOver 1 until m n (coming d.puzzle d.trail ls.levels true)) (s.members h) stands.over;
+          same = λ z. absurd (omega (arith, z, begun, all));
           later = λ _. before_not_before (numbers ls.levels) (numbers js.levels) (numbers ks.levels)
               (stands.later begun) (s.row h);
         }
@@ -153,12 +183,12 @@ module _ {until : Option (List ℕ)} {d b : Dancing} {ls js : Levels} {m n most 
           halts = λ _. halts h;
           before = λ _. before;
           solved = λ i. absurd (cc i);
-          ran_out = λ _. r.ran_out is;
+          ran_out = λ _. (r.ran_out is).1;
           ended = λ i. elim i [
             | inl j ↦ absurd (cc j)
             | inr j ↦ absurd (cc j)
           ];
-          within = r.within;
+          within = within;
         }
 
         -- which may be none of its span
@@ -176,7 +206,7 @@ module _ {until : Option (List ℕ)} {d b : Dancing} {ls js : Levels} {m n most 
           solved = λ i. absurd (a i);
           ran_out = λ i. absurd (c i);
           ended = λ _. ends;
-          within = r.within;
+          within = within;
         }
 
         pub settled_behind : found ≡ true → is_before until (row_at e.puzzle ks.levels) ≡ false
@@ -191,13 +221,13 @@ module _ {until : Option (List ℕ)} {d b : Dancing} {ls js : Levels} {m n most 
             ended (ends_span led still s.stacked stands.over
             (ap (filter (λ m. is_before until (row_of m))) (s.none h))) Nothing (λ i. cc i) (λ i. cc i)
 
--- one step
-module _ {x c : Bool} {until : Option (List ℕ)} {d e : Dancing} {ls ks : Levels} {n steps : ℕ} {stop : Stop}
-    (r : RunsTo x c until d ls 1 1 stop e ks n steps)
+-- one step of a search that passes over one member at most, with no end
+module _ {x : Bool} {c : ℕ} {u : Option (List ℕ)} {d e : Dancing} {ls ks : Levels} {n steps : ℕ} {stop : Stop}
+    (r : RunsTo true x c u None d ls 1 1 stop e ks n steps)
     (goes_on : (stop ≡ Member) ⊎ ((stop ≡ Steps) ⊎ (stop ≡ Row)))
   where
-    pub step_stands : Stands x c until d ls 1 e ks n (1 - steps)
-    step_stands = r.stands (λ e. elim goes_on [
+    stood : Stands x c u d ls 1 e ks n r.begun
+    stood = r.stands (λ e. elim goes_on [
       | inl i ↦ absurd (cc (i, e))
       | inr j ↦ elim j [
         | inl i ↦ absurd (cc (i, e))
@@ -205,17 +235,40 @@ module _ {x c : Bool} {until : Option (List ℕ)} {d e : Dancing} {ls ks : Level
       ]
     ])
 
-    pub step_less : is_before until (row_at d.puzzle ls.levels) ≡ true → work_left e ks true < work_left d ls true
-    step_less before = by_number (1 - steps)
-        (λ h. let same = step_stands.same h in elim goes_on [
-          | inl i ↦ absurd (omega (arith, same.2, (r.solved i).0))
-          | inr j ↦ elim j [
-            | inl i ↦ absurd (omega (arith, h, r.ran_out i))
-            | inr i ↦
-                let row = ap₂ (λ (e : Dancing) (ks : Levels). row_at e.puzzle ks.levels) same.0 same.1 in
-                let past : is_before until (row_at d.puzzle ls.levels) ≡ false =
-                ap (is_before until) (sym row) ∙ r.past i in
-                absurd (cc (past, before))
-          ]
-        ])
-        (λ k h. step_stands.less (omega (arith, h)))
+    -- a branch was begun
+    one : r.begun ≡ 1
+    one = elim goes_on [
+      | inl i ↦ by_number r.begun
+          (λ h. absurd (omega (arith, (stood.same h).2, (r.solved i).0)))
+          (λ k h. omega (arith, h, r.bounded refl))
+      | inr j ↦ elim j [
+        | inl i ↦ omega (arith, r.bounded refl, (r.ran_out i).1)
+        | inr i ↦ absurd (cc ((r.past i).1))
+      ]
+    ]
+
+    pub step_stands : Stands x c u d ls 1 e ks n 1
+    step_stands = subst (Stands x c u d ls 1 e ks n) one stood
+
+-- a run without bounds
+module _ {d e : Dancing} {ls ks : Levels} {m most n steps : ℕ} {stop : Stop}
+    (r : RunsTo false false 1 None None d ls m most stop e ks n steps)
+  where
+    -- is at the member behind those that it was to pass over
+    pub member_behind : stop ≡ Member
+        → ((e ≡ record d { trail = e.trail; undone = e.undone }) × (ks ≡ record ls { levels = ks.levels }))
+        × IsSolved e.puzzle e.trail ks.levels
+        × (drop m (coming d.puzzle d.trail ls.levels true) ≡ coming e.puzzle e.trail ks.levels true)
+    member_behind is =
+        let s = r.stands (λ h. absurd (cc (is, h))) in (
+          s.still,
+          (r.solved is).1,
+          subst (λ n. drop m (coming d.puzzle d.trail ls.levels true)
+              ≡ drop n (coming e.puzzle e.trail ks.levels true)) (r.solved is).0 (drop_over s.over),
+        )
+
+    -- or came to the end
+    pub comes_to_end : (stop ≡ Steps) ⊎ ((stop ≡ Row) ⊎ (stop ≡ Nothing)) → stop ≡ Nothing
+    comes_to_end (inl is) = absurd (cc ((r.ran_out is).0))
+    comes_to_end (inr (inl is)) = absurd (cc ((r.past is).0))
+    comes_to_end (inr (inr is)) = is

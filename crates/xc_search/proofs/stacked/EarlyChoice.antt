@@ -51,3 +51,9 @@ pub chosen_next : (x : Bool) (p : Puzzle) (t : List Move) (o : Option (ℕ × �
     → IsChosenBy x p t o → IsNext p t o
 chosen_next true p t o valid legal e = choice_next p t o legal e
 chosen_next false p t o valid legal e = early_next p t o valid legal e
+
+-- which the branch item is too
+pub chosen_early : (x : Bool) (p : Puzzle) (t : List Move) (o : Option (ℕ × ℕ)) → IsChosenBy x p t o
+    → IsEarlyChoice p t o
+chosen_early true p t o e = inl e
+chosen_early false p t o e = e

@@ -95,46 +95,14 @@ enters_next d f l b vs ks stacked top ef entered ek =
       λ x u first a. led_begun x p u s v l k js entered.begun (rw under first) (rw under a),
     ))
 
--- a new level's first branch is entered
-pub enters_first : {d e : Dancing} {ls : Levels} {i n : ℕ} {l : Level} → Opens d e ls i n l → (f : Dancing)
-    (ks : Levels) (b : Begun) → f ≡ record e { trail = f.trail }
-    → IsEntered e.puzzle e.trail l f.trail (begun_level b l) → ks ≡ with_level (begun_level b l) ls
-    → EntersBranch d ls true f ks i b.place
-    × ((x : Bool) → MayLead x d.puzzle d.trail i → KeepsBy x d ls (branched f i b.place) ks)
-enters_first {d} {e} {ls} {i} {n} {l} o f ks b ef entered ek =
-    let down = deepens o in
-    let item : l.item ≡ i = ap (λ (l : Level). l.item) o.level in
-    let same : e.puzzle ≡ d.puzzle = ap (λ (e : Dancing). e.puzzle) o.spent in
-    let base : oldest l.base e.trail ≡ e.trail = rw (down.3, oldest_all e.trail) refl in
-    let kept : f.undone ≡ e.undone = ap (λ (f : Dancing). f.undone) ef in
-    let still : f ≡ record e { trail = f.trail; undone = f.undone } =
-    ef ∙ ap (λ n. record e { trail = f.trail; undone = n }) (sym kept) in
-    let next = enters_next e f l b (with_level l ls) ks down.0.standing.stacked refl still (rw base entered) ek in
-    let work = ap (λ p. visits p e.trail (l ∷ ls.levels)) same in
-    let enters = goes_on_to d e f ls (with_level l ls) ks _ _ l.item b.place down.0 (omega (arith, down.1, work))
-    next.0 in
-    rw (← item) (enters, λ x first u a. next.1 x u (rw (down.2, same) first) (rw (down.2, same) a))
-
--- where what is left has no solution
-goes_behind : (d e : Dancing) (ls : Levels) → e ≡ record d { undone = e.undone }
-    → IsStanding d.puzzle d.trail ls.levels true → listing (residual_of d.puzzle d.trail) ≡ [] →
-    GoesOn d ls true e ls false × (visits e.puzzle e.trail ls.levels < ahead d.puzzle d.trail ls.levels true)
-goes_behind d e ls same s none = grind (arith, stands_behind, some_work)
-
--- a level without branches ends at once, in the state before
-pub passes_over : {d e : Dancing} {ls : Levels} {i n : ℕ} {l : Level} → Opens d e ls i n l → (f : Dancing) → n ≡ 0
+-- the state before a level that ends with no branch begun
+pub back_before : {d e : Dancing} {ls : Levels} {i n : ℕ} {l : Level} → Opens d e ls i n l → (f : Dancing)
     → f ≡ record e { trail = oldest l.mark e.trail; undone = e.undone + (length e.trail - l.mark) }
-    → GoesOn d ls true f ls false
-    × (work_left f ls false < work_left d ls true) × ((x : Bool) → KeepsBy x d ls f ls)
-passes_over {d} {e} {ls} {i} {n} {l} o f none ef =
-    let r = residual_of d.puzzle d.trail in
+    → f ≡ record d { undone = f.undone }
+back_before {d} {e} {ls} {i} {n} {l} o f ef =
     let took : ℕ = e.undone + (length e.trail - l.mark) in
-    let same : f ≡ record d { undone = f.undone } =
     ef ∙ ap₂ (λ (e : Dancing) t. record e { trail = t; undone = took }) o.spent (deepens o).2
-    ∙ ap (λ n. record d { undone = n }) (sym (ap (λ (f : Dancing). f.undone) ef)) in
-    let listed = none_listed r (wanted_at d.puzzle d.trail i) (open_in d.puzzle d.trail i o.next.item o.next.is_open)
-    (sym o.next.count ∙ none) in
-    let went = goes_behind d f ls same o.standing listed in (went.0, went.1, λ x u a. rw same a)
+    ∙ ap (λ n. record d { undone = n }) (sym (ap (λ (f : Dancing). f.undone) ef))
 
 -- what is asked back at a level
 pub back_at : (p : Puzzle) (t r : List Move) (l : Level) (ls : List Level) → AreStacked p t (l ∷ ls)

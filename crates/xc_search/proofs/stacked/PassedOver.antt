@@ -11,7 +11,7 @@ use Rattle.xc_input.specs.Problem.{Puzzle}
 use Rattle.xc_dance.specs.declared.dance.Move.{Move}
 use Rattle.xc_search.specs.declared.level.Level.{Level}
 use Rattle.xc_search.specs.inner.Levels.{Levels, IsStanding, coming, choices_of}
-use Rattle.xc_search.specs.inner.Ahead.{IsSolved, StandsOver, EndsOver, WentOver, WentPast, WentBy}
+use Rattle.xc_search.specs.inner.Ahead.{IsSolved, WentOver, WentPast, WentBy}
 use Rattle.xc_search.proofs.stacked.NextLevel.{solution}
 use Rattle.xc_input.proofs.Cases.{by_number}
 use Rattle.std.proofs.lemmas.List.{drop-drop, drop_all}
@@ -59,24 +59,30 @@ pub record HasToPass (p : Puzzle) (t : List Move) (ls : List Level) (down : Bool
 
 -- and does so
 pub went_over : {d e : Dancing} {ls ks : Levels} (down : Bool) {many more : ℕ} → 0 < many
-    → HasToPass d.puzzle d.trail ls.levels down many more → StandsOver d ls more e ks 0 → WentOver d ls down many e ks
-went_over {d} {e} {ls} {ks} true {more = more} some has at =
-    grind (arith, went_to d e ls ks true more at.over.still at.solved at.over.members)
-went_over {d} {e} {ls} {ks} false {many} some has at = by_number many (λ h. absurd (omega (arith, some, h))) (λ n h.
+    → HasToPass d.puzzle d.trail ls.levels down many more
+    → (e ≡ record d { trail = e.trail; undone = e.undone }) × (ks ≡ record ls { levels = ks.levels })
+    → IsSolved e.puzzle e.trail ks.levels
+    → drop more (coming d.puzzle d.trail ls.levels true) ≡ coming e.puzzle e.trail ks.levels true
+    → WentOver d ls down many e ks
+went_over {d} {e} {ls} {ks} true {more = more} some has still solved members =
+    grind (arith, went_to d e ls ks true more still solved members)
+went_over {d} {e} {ls} {ks} false {many} some has still solved members =
+    by_number many (λ h. absurd (omega (arith, some, h))) (λ n h.
     let was = (has.again refl).1 in
     let found = solution d.puzzle d.trail ls.levels (was.standing.searchable refl).legal was.none in
     let ms = coming d.puzzle d.trail ls.levels true in
     let over = ap (drop (suc n)) (sym found) ∙ ap (λ n. drop n ms) (sym h ∙ (has.again refl).0) in
     let all : n + 1 ≡ many = omega (arith, h) in
-    subst (λ n. WentOver d ls false n e ks) all
-    (went_to d e ls ks false n at.over.still at.solved (over ∙ at.over.members)))
+    subst (λ n. WentOver d ls false n e ks) all (went_to d e ls ks false n still solved (over ∙ members)))
 
 -- there were no more
 pub went_past : {d e : Dancing} {ls ks : Levels} (down : Bool) {many more : ℕ} (n : ℕ) {lacks : ℕ}
-    → HasToPass d.puzzle d.trail ls.levels down many more → EndsOver d ls more e ks lacks →
+    → HasToPass d.puzzle d.trail ls.levels down many more
+    → (e ≡ record d { trail = e.trail; undone = e.undone }) × (ks ≡ record ls { levels = ks.levels })
+    → ks.levels ≡ [] → more ≡ lacks + length (coming d.puzzle d.trail ls.levels true) →
     (lacks < many) × (n + 1 + lacks ≡ many → WentPast d ls down n e ks)
-went_past true n has ends = grind arith
-went_past false n has ends = grind (arith, solution)
+went_past true n has still ended count = grind arith
+went_past false n has still ended count = grind (arith, solution)
 
 -- a member is shown whatever was shown before
 shown_anyway : (n : ℕ) (ms : List (List Choice)) (s t : List Choice) → 0 < n → n ≤ length ms →

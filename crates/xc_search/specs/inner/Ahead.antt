@@ -78,40 +78,6 @@ pub record IsSolved (p : Puzzle) (t : List Move) (ls : List Level) : Type 0 wher
   pub standing : IsStanding p t ls true
   pub none : choice_after p t ≡ None
 
--- It was to pass over m members, what is left first, and is still to pass over n of them.
-pub record GoesOver (d : Dancing) (ls : Levels) (m : ℕ) (e : Dancing) (ks : Levels) (n : ℕ) : Type 0 where
-  pub still : (e ≡ record d { trail = e.trail; undone = e.undone }) × (ks ≡ record ls { levels = ks.levels })
-  pub standing : IsStanding e.puzzle e.trail ks.levels true
-  pub members : drop m (coming d.puzzle d.trail ls.levels true) ≡ drop n (coming e.puzzle e.trail ks.levels true)
-  pub count : m + length (coming e.puzzle e.trail ks.levels true) ≡ n + length (coming d.puzzle d.trail ls.levels true)
-
--- It entered a branch, whose moves are still to be made.
-pub record EntersOver (d : Dancing) (ls : Levels) (m : ℕ) (e : Dancing) (ks : Levels) (n i q : ℕ) : Type 0 where
-  pub can : CanBranch e.puzzle i (option_at e.puzzle i q) e.trail
-  pub place : IsPlace e.puzzle i q
-  pub over : GoesOver d ls m (branched e i q) ks n
-  pub less : work_left (branched e i q) ks true < work_left d ls true
-
--- It passed over all, and is at the next.
-pub record StandsOver (d : Dancing) (ls : Levels) (m : ℕ) (e : Dancing) (ks : Levels) (n : ℕ) : Type 0 where
-  pub over : GoesOver d ls m e ks n
-  pub none : n ≡ 0
-  pub solved : IsSolved e.puzzle e.trail ks.levels
-
--- It reached its end: so many were not there.
-pub record EndsOver (d : Dancing) (ls : Levels) (m : ℕ) (e : Dancing) (ks : Levels) (n : ℕ) : Type 0 where
-  pub still : (e ≡ record d { trail = e.trail; undone = e.undone }) × (ks ≡ record ls { levels = ks.levels })
-  pub ended : ks.levels ≡ []
-  pub count : m ≡ n + length (coming d.puzzle d.trail ls.levels true)
-
--- Nothing is left below, and members are still to be passed over.
-pub record FallsBack (d : Dancing) (ls : Levels) (m : ℕ) (e : Dancing) (ks : Levels) (n : ℕ) : Type 0 where
-  pub still : (e ≡ record d { trail = e.trail; undone = e.undone }) × (ks ≡ record ls { levels = ks.levels })
-  pub standing : IsStanding e.puzzle e.trail ks.levels false
-  pub members : drop m (coming d.puzzle d.trail ls.levels true) ≡ drop n (coming e.puzzle e.trail ks.levels false)
-  pub count : m + length (coming e.puzzle e.trail ks.levels false) ≡ n + length (coming d.puzzle d.trail ls.levels true)
-  pub less : work_left e ks false ≤ work_left d ls true
-
 -- It went over n members: the choices of ks are the last of them.
 pub record WentOver (d : Dancing) (ls : Levels) (down : Bool) (n : ℕ) (e : Dancing) (ks : Levels) : Type 0 where
   pub still : (e ≡ record d { trail = e.trail; undone = e.undone }) × (ks ≡ record ls { levels = ks.levels })

@@ -49,9 +49,6 @@ abbrev pub KeepsBy : Bool → Dancing → Levels → Dancing → Levels → Type
 KeepsBy exact d ls e ks =
     (u : List Move) → AreLedBy exact d.puzzle u d.trail ls.levels → AreLedBy exact e.puzzle u e.trail ks.levels
 
-abbrev pub KeepsPath : Dancing → Levels → Dancing → Levels → Type 0
-KeepsPath d ls e ks = KeepsBy true d ls e ks
-
 -- the numbers of the levels' branches, from the first level down
 abbrev pub numbers : List Level → List ℕ
 numbers ls = map (λ l. l.begun) (reverse ls)

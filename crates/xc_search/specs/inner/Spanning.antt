@@ -1,11 +1,11 @@
--- No public clause cites this module. A search of a span, step by step.
+-- No public clause cites this module. A search, step by step, of all or of a span.
 use Rattle.std.specs.Prelude.{ℕ, ◌+◌, ◌<◌, ◌≡◌, ◌≢◌, Bool, true, false, List, [], ◌∷◌, ◌++◌, length, Option, ◌-◌}
-use Rattle.std.specs.Prelude.{◌≤◌, ◌⊎◌}
+use Rattle.std.specs.Prelude.{◌≤◌, ◌⊎◌, ◌^◌}
 use Rattle.std.specs.List.{AllByRecursion}
 use Rattle.xc_search.specs.declared.choice.Choice.{Choice}
 use Rattle.xc_search.specs.declared.level.Level.{Level}
-use Rattle.xc_search.specs.declared.spanning.Stop.{Stop}
-use Rattle.xc_search.specs.declared.spanning.Stop.TheVariants.{Member, Steps, Row, Nothing}
+use Rattle.xc_search.specs.declared.levels.Stop.{Stop}
+use Rattle.xc_search.specs.declared.levels.Stop.TheVariants.{Member, Steps, Row, Nothing}
 use Rattle.xc_input.specs.Problem.{Puzzle}
 use Rattle.xc_dance.specs.Dancing.{Dancing}
 use Rattle.xc_dance.specs.Commits.{option_at}
@@ -24,78 +24,96 @@ abbrev pub row_from : Puzzle → List Level → Bool → List ℕ
 row_from p ls true = row_at p ls
 row_from p ls false = row_at p ls ++ 0 ∷ []
 
--- The row of the levels comes before the end of a span, and so does all below them if there are so many levels.
-pub record IsRest (until : Option (List ℕ)) (p : Puzzle) (ls : List Level) (last : ℕ) : Type 0 where
+-- Where the branches of a level are entered from this one on, those before it come before the end of a span.
+abbrev pub LeavesOut : Option (List ℕ) → Puzzle → List Level → ℕ → Type 0
+LeavesOut until p ls first =
+    (k : ℕ) → 0 < k → k < first → (x : List ℕ) → is_before until (row_at p ls ++ k ∷ x) ≡ true
+
+-- The row of the levels comes before the end of a span, and so does all below them if there are so many levels, and
+-- what is left out below.
+pub record IsRest (until : Option (List ℕ)) (p : Puzzle) (ls : List Level) (last first : ℕ) : Type 0 where
   pub before : is_before until (row_at p ls) ≡ true
-  pub all : length ls ≡ last → (x : List ℕ) → is_before until (row_at p ls ++ x) ≡ true
+  pub all : last < 2 ^ 64 - 1 → length ls ≡ last → (x : List ℕ) → is_before until (row_at p ls ++ x) ≡ true
+  pub leaves : LeavesOut until p ls first
 
 -- Of the members ms that were to come it passed over the first, which come before the end of the span, and ns are left.
--- Where it counts them, of m that it was to pass over n are still to be.
-pub record PassesOver (counts : Bool) (until : Option (List ℕ)) (m n : ℕ) (ms ns : List (List Choice)) : Type 0 where
+-- Where it enters the branches of a level from the first on, of m that it was to pass over n are still to be.
+pub record PassesOver (first : ℕ) (until : Option (List ℕ)) (m n : ℕ) (ms ns : List (List Choice)) : Type 0 where
   pub passed : List (List Choice)
   pub members : ms ≡ passed ++ ns
   pub before : AllByRecursion (λ x. is_before until (row_of x) ≡ true) passed
-  pub count : counts ≡ true → m ≡ length passed + n
+  pub count : first ≡ 1 → m ≡ length passed + n
 
 -- Nothing is left below the levels ls in state d, and the search is at them, as levels ks, in state e.
-pub record Falls (exact counts : Bool) (until : Option (List ℕ)) (d : Dancing) (ls : Levels) (m : ℕ) (e : Dancing)
+pub record Falls (exact : Bool) (first : ℕ) (until : Option (List ℕ)) (d : Dancing) (ls : Levels) (m : ℕ) (e : Dancing)
     (ks : Levels) (n : ℕ) : Type 0 where
   pub still : (e ≡ record d { trail = e.trail; undone = e.undone }) × (ks ≡ ls)
   pub standing : IsStanding e.puzzle e.trail ks.levels false
   pub path : KeepsBy exact d ls e ks
   pub less : work_left e ks false ≤ work_left d ls true
-  pub over : PassesOver counts until m n (coming d.puzzle d.trail ls.levels true)
+  pub over : PassesOver first until m n (coming d.puzzle d.trail ls.levels true)
       (coming e.puzzle e.trail ks.levels false)
 
+-- a level was begun by this branch, or there are no more levels than before
+abbrev pub GoesDown : ℕ → Levels → Levels → Type 0
+GoesDown first ls ks =
+    (length ks.levels ≤ length ls.levels) ⊎ (numbers ks.levels ≡ numbers ls.levels ++ first ∷ [])
+
 -- From levels ls in state d it began a branch.
-pub record BeginsBranch (exact counts : Bool) (until : Option (List ℕ)) (d : Dancing) (ls : Levels) (m : ℕ)
-    (e : Dancing)
-    (ks : Levels) (n : ℕ) : Type 0 where
+pub record BeginsBranch (exact : Bool) (first : ℕ) (until : Option (List ℕ)) (d : Dancing) (ls : Levels) (m : ℕ)
+    (e : Dancing) (ks : Levels) (n : ℕ) : Type 0 where
   pub still : (e ≡ record d { trail = e.trail; undone = e.undone }) × (ks ≡ record ls { levels = ks.levels })
   pub standing : IsStanding e.puzzle e.trail ks.levels true
   pub path : KeepsBy exact d ls e ks
   pub rises : AreLater ls ks
+  pub down : GoesDown first ls ks
   pub less : work_left e ks true < work_left d ls true
-  pub over : PassesOver counts until m n (coming d.puzzle d.trail ls.levels true)
+  pub over : PassesOver first until m n (coming d.puzzle d.trail ls.levels true)
       (coming e.puzzle e.trail ks.levels true)
 
 -- It entered a branch, whose moves are still to be made.
-pub record Enters (exact counts : Bool) (until : Option (List ℕ)) (d : Dancing) (ls : Levels) (m : ℕ) (e : Dancing)
+pub record Enters (exact : Bool) (first : ℕ) (until : Option (List ℕ)) (d : Dancing) (ls : Levels) (m : ℕ) (e : Dancing)
     (ks : Levels) (n i q : ℕ) : Type 0 where
   pub can : CanBranch e.puzzle i (option_at e.puzzle i q) e.trail
   pub place : IsPlace e.puzzle i q
-  pub begins : BeginsBranch exact counts until d ls m (branched e i q) ks n
+  pub begins : BeginsBranch exact first until d ls m (branched e i q) ks n
 
 -- All levels ended.
-pub record Ends (counts : Bool) (until : Option (List ℕ)) (d : Dancing) (ls : Levels) (m : ℕ) (e : Dancing)
+pub record Ends (first : ℕ) (until : Option (List ℕ)) (d : Dancing) (ls : Levels) (m : ℕ) (e : Dancing)
     (ks : Levels) (n : ℕ) : Type 0 where
   pub still : (e ≡ record d { trail = e.trail; undone = e.undone }) × (ks ≡ record ls { levels = ks.levels })
   pub ended : ks.levels ≡ []
-  pub over : PassesOver counts until m n (coming d.puzzle d.trail ls.levels true) []
+  pub over : PassesOver first until m n (coming d.puzzle d.trail ls.levels true) []
 
 -- From levels ls in state d it began so many branches, and is at levels ks in state e, where what is left wasn't
 -- looked at yet.
-pub record Stands (exact counts : Bool) (until : Option (List ℕ)) (d : Dancing) (ls : Levels) (m : ℕ) (e : Dancing)
+pub record Stands (exact : Bool) (first : ℕ) (until : Option (List ℕ)) (d : Dancing) (ls : Levels) (m : ℕ) (e : Dancing)
     (ks : Levels) (n begun : ℕ) : Type 0 where
   pub still : (e ≡ record d { trail = e.trail; undone = e.undone }) × (ks ≡ record ls { levels = ks.levels })
   pub standing : IsStanding e.puzzle e.trail ks.levels true
-  pub led : AreLedBy exact e.puzzle [] e.trail ks.levels
-  pub over : PassesOver counts until m n (coming d.puzzle d.trail ls.levels true)
+  pub path : KeepsBy exact d ls e ks
+  pub over : PassesOver first until m n (coming d.puzzle d.trail ls.levels true)
       (coming e.puzzle e.trail ks.levels true)
   pub same : begun ≡ 0 → (e ≡ d) × (ks ≡ ls) × (n ≡ m)
   pub later : 0 < begun → AreLater ls ks
-  pub less : 0 < begun → work_left e ks true < work_left d ls true
+  pub down : begun ≡ 1 → GoesDown first ls ks
 
--- One run came so far.
-pub record RunsTo (exact counts : Bool) (until : Option (List ℕ)) (d : Dancing) (ls : Levels) (m most : ℕ) (stop : Stop)
-    (e : Dancing) (ks : Levels) (n steps : ℕ) : Type 0 where
-  pub stands : stop ≢ Nothing → Stands exact counts until d ls m e ks n (most - steps)
+-- What a run passes over is seen against this end: its own, or any other where it has one step.
+abbrev pub IsSeenBy : Bool → Option (List ℕ) → Option (List ℕ) → ℕ → ℕ → Puzzle → List Level → Type 0
+IsSeenBy bound u until first steps p ls =
+    (u ≡ until) ⊎ ((bound ≡ true) × (steps ≡ 1) × (is_before u (row_at p ls) ≡ true) × LeavesOut u p ls first)
+
+-- One run came so far: it began so many branches, no more than it was to, if that is bound.
+pub record RunsTo (bound exact : Bool) (first : ℕ) (u until : Option (List ℕ)) (d : Dancing) (ls : Levels) (m most : ℕ)
+    (stop : Stop) (e : Dancing) (ks : Levels) (n steps : ℕ) : Type 0 where
+  pub begun : ℕ
+  pub bounded : bound ≡ true → begun + steps ≡ most
+  pub stands : stop ≢ Nothing → Stands exact first u d ls m e ks n begun
   pub before : (stop ≡ Member) ⊎ (stop ≡ Steps) → is_before until (row_at e.puzzle ks.levels) ≡ true
   pub solved : stop ≡ Member → (n ≡ 0) × IsSolved e.puzzle e.trail ks.levels
-  pub ran_out : stop ≡ Steps → steps ≡ 0
-  pub past : stop ≡ Row → is_before until (row_at e.puzzle ks.levels) ≡ false
-  pub ended : stop ≡ Nothing → Ends counts until d ls m e ks n
-  pub within : steps ≤ most
+  pub ran_out : stop ≡ Steps → (bound ≡ true) × (steps ≡ 0)
+  pub past : stop ≡ Row → (bound ≡ true) × (is_before until (row_at e.puzzle ks.levels) ≡ false)
+  pub ended : stop ≡ Nothing → Ends first u d ls m e ks n
 
 -- From the row of levels ls in state d it went back to the first level, and is at that row or at the next one of
 -- the search's tree, with no member between. Or no such row was found, and no member was to come.
@@ -115,7 +133,7 @@ pub record Halts (until : Option (List ℕ)) (d : Dancing) (ls : Levels) (m : �
   pub still : (e ≡ record d { trail = e.trail; undone = e.undone }) × (ks ≡ record ls { levels = ks.levels })
   pub standing : IsStanding e.puzzle e.trail ks.levels true
   pub led : AreLed e.puzzle [] e.trail ks.levels
-  pub over : PassesOver true until m n (coming d.puzzle d.trail ls.levels true)
+  pub over : PassesOver 1 until m n (coming d.puzzle d.trail ls.levels true)
       (coming e.puzzle e.trail ks.levels true)
   pub same : begun ≡ 0 → (e ≡ d) × (ks ≡ ls) × (n ≡ m)
   pub later : 0 < begun → AreLater ls ks

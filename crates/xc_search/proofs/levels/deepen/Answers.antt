@@ -1,10 +1,9 @@
-use Rattle.std.proofs.Common.{arith, ◌≡◌, refl}
+use Rattle.std.proofs.Common.{arith, ◌≡◌, ◌≤◌, refl, sym, ap, ◌∙◌}
 use Rattle.xc_search.proofs.moves.NoTweaks.{plain_above, plain_after_spend}
 use Rattle.xc_search.proofs.stacked.Depth.{depth_at}
 use Rattle.xc_search.proofs.stacked.EarlyChoice.{chosen_leads}
-use Rattle.xc_search.proofs.stacked.LoopSteps.{Opens, node_at, deepens, may_enter, enters_first}
-use Rattle.xc_search.proofs.stacked.LoopSteps.{passes_over}
-use Rattle.xc_search.proofs.spans.Numbers.{rises_below}
+use Rattle.xc_search.proofs.stacked.LoopSteps.{Opens, node_at, deepens, with_level}
+use Rattle.xc_search.proofs.spans.LeftOut.{Stepped, opens_stays, may_go_on, step_on, stays_on, enters_at, ends_at_once}
 use Rattle.xc_search.proofs.ends.Steps.{pays_first, pays_nothing}
 use Rattle.xc_search.proofs.levels.deepen.Goals as goal
 use Rattle.xc_search.proofs.levels.deepen.Goals.{In-Some, After-descend-level}
@@ -27,52 +26,74 @@ descend-level-requires g c = grind (arith, node_at)
 pub push-requires : goal.push-requires
 push-requires g c = grind (arith, opened, depth_at, node_at)
 
-pub undo_to-requires : goal.undo_to-requires
-undo_to-requires g c = grind (arith, opened, plain_above, plain_after_spend, deepens)
+pub undo_to-requires-clause-other : goal.undo_to-requires-clause-other
+undo_to-requires-clause-other g c = grind (arith, opened, plain_above, plain_after_spend, deepens)
 
-pub returns-then-count-eq0-clause-nothing : goal.returns-then-count-eq0-clause-nothing
-returns-then-count-eq0-clause-nothing g c _ = grind (arith, passes_over, opened)
+pub returns-then-count-first-clause-nothing : goal.returns-then-count-first-clause-nothing
+returns-then-count-first-clause-nothing g c _ x until leaves m =
+    ends_at_once (opened g (goal.at.returns-then-count-first-clause-nothing g c).After-descend-level)
+    c.undo_to.new.self c.undo_to.ensures x c.args.first until m c.if-count-first.true leaves
 
-pub returns-then-count-eq0-clause-fewer : goal.returns-then-count-eq0-clause-fewer
-returns-then-count-eq0-clause-fewer g c _ =
-    (passes_over (opened g (goal.at.returns-then-count-eq0-clause-fewer g c).After-descend-level)
-    c.undo_to.new.self c.if-count-eq0.true c.undo_to.ensures).1
+pub returns-then-count-first-clause-nothing_pays : goal.returns-then-count-first-clause-nothing_pays
+returns-then-count-first-clause-nothing_pays g c _ one m =
+    pays_nothing (opened g (goal.at.returns-then-count-first-clause-nothing_pays g c).After-descend-level)
+    (omega (arith, one, c.if-count-first.true)) c.undo_to.new.self c.undo_to.ensures m
 
-pub returns-then-count-eq0-clause-path : goal.returns-then-count-eq0-clause-path
-returns-then-count-eq0-clause-path g c _ = grind (arith, passes_over, opened)
+pub enter-branch-requires-clause-ready : goal.enter-branch-requires-clause-ready
+enter-branch-requires-clause-ready g c =
+    let open_at = opened g (goal.at.enter-branch-requires-clause-ready g c).After-descend-level in
+    may_go_on (opens_stays open_at) (omega (
+      arith,
+      ap (λ l. l.begun) open_at.level,
+      c.if-count-first.false,
+      c.requires.first,
+    ))
 
-pub enter-branch-requires : goal.enter-branch-requires
-enter-branch-requires g c =
-    let ready = may_enter (opened g (goal.at.enter-branch-requires g c).After-descend-level)
-    (omega (arith, c.if-count-eq0.false)) in
-    grind (arith, ready)
+pub loop-level-init : goal.loop-level-init
+loop-level-init g c =
+    let open_at = opened g (goal.at.loop-level-init g c).After-descend-level in
+    let begun = ap (λ l. l.begun) c.begin_level.ensures in
+    let one = c.enter-branch.ensures.entered.begun.begun in
+    record {
+      step = rw c.begin_level.ensures (step_on (opens_stays open_at) c.enter-branch.result
+          c.enter-branch.ensures.still c.enter-branch.ensures.base c.enter-branch.ensures.entered);
+      some = omega (arith, begun, one);
+      within = omega (arith, begun, one, ap (λ l. l.begun) open_at.level, c.requires.first);
+      pays = λ _ early m. rw c.begin_level.ensures (pays_first open_at early c.enter-branch.new.self _
+          c.enter-branch.result c.enter-branch.ensures.still c.enter-branch.ensures.entered refl m);
+    }
+
+pub enter-branch-requires-in-loop-level-clause-ready : goal.enter-branch-requires-in-loop-level-clause-ready
+enter-branch-requires-in-loop-level-clause-ready g c =
+    may_go_on (stays_on c.loop-level.invariant.step) (omega (arith, c.loop-level-test.true, c.if-count-first.false))
+
+pub loop-level-preserved : goal.loop-level-preserved
+loop-level-preserved g c =
+    let was = c.loop-level.invariant in
+    let enter = c.enter-branch-in-loop-level in
+    let begun = ap (λ l. l.begun) c.begin_level-in-loop-level.ensures in
+    let more = enter.ensures.entered.begun.begun in
+    record {
+      step = rw c.begin_level-in-loop-level.ensures (step_on (stays_on was.step) enter.result enter.ensures.still
+          enter.ensures.base enter.ensures.entered);
+      some = omega (arith, begun, more);
+      within = omega (arith, begun, more, c.loop-level-test.true);
+      pays = λ one. absurd (omega (arith, one, begun, more, was.some));
+    }
 
 pub returns-clause-deeper : goal.returns-clause-deeper
-returns-clause-deeper g c b is =
-    rw (← same_branch _ b is) (enters_first (opened g (goal.at.returns-clause-deeper g c).After-descend-level)
-    c.enter-branch.new.self c.push.new.self c.enter-branch.result c.enter-branch.ensures.still
-    c.enter-branch.ensures.entered (rw c.begin_level.ensures at c.push.ensures)).0
-
-pub returns-clause-deeper_row : goal.returns-clause-deeper_row
-returns-clause-deeper_row g c _ _ = grind (arith, rises_below)
-
-pub returns-clause-deeper_path : goal.returns-clause-deeper_path
-returns-clause-deeper_path g c b is x chose =
-    let some = (goal.at.returns-clause-deeper_path g c).In-Some in
+returns-clause-deeper g c b is x chose until leaves m =
+    let some = (goal.at.returns-clause-deeper g c).In-Some in
     let here = c.requires.standing.searchable refl in
-    let first = chosen_leads x _ _ _ _ here.valid here.legal (rw some.in-Some.is at chose) in
-    rw (← same_branch _ b is) ((enters_first (opened g (goal.at.returns-clause-deeper_path g c).After-descend-level)
-    c.enter-branch.new.self c.push.new.self c.enter-branch.result c.enter-branch.ensures.still
-    c.enter-branch.ensures.entered (rw c.begin_level.ensures at c.push.ensures)).1 x first)
+    let leads = chosen_leads x _ _ _ _ here.valid here.legal (rw some.in-Some.is at chose) in
+    let open_at = opened g (goal.at.returns-clause-deeper g c).After-descend-level in
+    let was = c.loop-level.invariant in
+    rw (← same_branch _ b is) (enters_at was.step c.push.new.self c.push.ensures x c.args.first until m open_at.next
+    leads (omega (arith, was.within, c.loop-level-test.false)) leaves)
 
 pub returns-clause-deeper_pays : goal.returns-clause-deeper_pays
-returns-clause-deeper_pays g c b is early m =
+returns-clause-deeper_pays g c b is one early m =
     let some = (goal.at.returns-clause-deeper_pays g c).In-Some in
-    rw (← same_branch _ b is) (pays_first (opened g (goal.at.returns-clause-deeper_pays g c).After-descend-level)
-    (rw some.in-Some.is at early) c.enter-branch.new.self c.push.new.self c.enter-branch.result
-    c.enter-branch.ensures.still c.enter-branch.ensures.entered (rw c.begin_level.ensures at c.push.ensures) m)
-
-pub returns-then-count-eq0-clause-nothing_pays : goal.returns-then-count-eq0-clause-nothing_pays
-returns-then-count-eq0-clause-nothing_pays g c _ m =
-    pays_nothing (opened g (goal.at.returns-then-count-eq0-clause-nothing_pays g c).After-descend-level)
-    c.if-count-eq0.true c.undo_to.new.self c.undo_to.ensures m
+    let was = c.loop-level.invariant in
+    rw (← same_branch _ b is, c.push.ensures) (was.pays (omega (arith, was.within, was.some, one))
+    (rw some.in-Some.is at early) m)

@@ -3,7 +3,7 @@ use Rattle.std.proofs.Common.{◌<◌, ◌≤◌, ◌∷◌, drop, false, ap, ar
 use Rattle.xc_search.specs.inner.Levels.{Levels, AreStacked}
 use Rattle.xc_search.specs.inner.Ahead.{GoesOn, visits}
 use Rattle.xc_search.proofs.stacked.LoopSteps.{GoesOn-trans, goes_on_to}
-use Rattle.xc_search.proofs.spans.Numbers.{oldest_all, oldest_fewer, rises_next}
+use Rattle.xc_search.proofs.spans.Numbers.{oldest_all, oldest_fewer, rises_next, no_more_levels}
 use Rattle.xc_search.proofs.ends.Steps.{Pays-trans, pays_next, pays_back}
 use Rattle.xc_search.proofs.levels.resume.Goals as goal
 use Rattle.xc_search.proofs.levels.resume.Goals.{In-Some, After-pop}
@@ -45,6 +45,9 @@ returns-then-level-clause-resumed_path g c = λ x u a.
 
 pub returns-then-level-clause-resumed_row : goal.returns-then-level-clause-resumed_row
 returns-then-level-clause-resumed_row g c = grind (arith, rises_next)
+
+pub returns-then-level-clause-resumed_levels : goal.returns-then-level-clause-resumed_levels
+returns-then-level-clause-resumed_levels g c = grind (arith, no_more_levels)
 
 pub loop-level-smaller : goal.loop-level-smaller
 loop-level-smaller g c = (back g c).1

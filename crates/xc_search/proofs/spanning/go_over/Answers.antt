@@ -1,4 +1,4 @@
-use Rattle.std.proofs.Common.{◌∙◌, sym, ap, inl, inr}
+use Rattle.std.proofs.Common.{◌∙◌, sym, ap, inl, inr, refl, arith, [], false}
 use Rattle.std.specs.Prelude.{option_map}
 use Rattle.xc_search.specs.Spans.{is_before}
 use Rattle.xc_search.proofs.spans.Kept.{row_levels}
@@ -7,17 +7,17 @@ use Rattle.xc_search.proofs.spans.Runs.{ran_to, settled, settled_behind, settled
 use Rattle.xc_search.proofs.spanning.go_over.Goals as goal
 
 pub replace_with-ran-requires : goal.replace_with-ran-requires
-replace_with-ran-requires g c = (
-  c.requires.standing,
-  (
-    c.requires.levels_fit,
-    (led_by _ _ _ _ _ c.requires.led, (c.requires.before, λ h. absurd (cc h))),
-  ),
-)
+replace_with-ran-requires g c =
+    (c.requires.standing, (c.requires.levels_fit, (omega arith, (c.requires.before, λ _. refl))))
+
+pub settle-requires-clause-led : goal.settle-requires-clause-led
+settle-requires-clause-led g c =
+    let ran = c.replace_with-ran.ensures _ (inl refl) in
+    (ran.stands (λ e. absurd (cc (c.in-Steps.is, e)))).path [] (led_by false _ _ _ _ c.requires.led)
 
 pub returns-in-Member-clause-ran : goal.returns-in-Member-clause-ran
 returns-in-Member-clause-ran g c =
-    ran_to c.requires.led c.replace_with-ran.ensures (λ e. elim c.in-Member.is [
+    ran_to c.requires.led (c.replace_with-ran.ensures _ (inl refl)) (λ e. elim c.in-Member.is [
       | inl i ↦ absurd (cc (i, e))
       | inr j ↦ elim j [
         | inl i ↦ absurd (cc (i, e))
@@ -27,14 +27,14 @@ returns-in-Member-clause-ran g c =
 
 pub returns-then-not-settle-clause-ran : goal.returns-then-not-settle-clause-ran
 returns-then-not-settle-clause-ran g c =
-    settled_nowhere c.requires.led c.replace_with-ran.ensures c.in-Steps.is c.requires.some c.settle.ensures.settles
+    settled_nowhere c.requires.led (c.replace_with-ran.ensures _ (inl refl)) c.in-Steps.is c.requires.some c.settle.ensures.settles
     c.if-not-settle.true
 
 pub returns-then-is_before-clause-ran : goal.returns-then-is_before-clause-ran
 returns-then-is_before-clause-ran g c =
     let row = row_levels c.settle.new.state.position.puzzle c.levels.result.now c.settle.new.state.stack.levels
     c.levels.ensures.levels in
-    settled c.requires.led c.replace_with-ran.ensures c.in-Steps.is c.requires.some c.settle.ensures.settles
+    settled c.requires.led (c.replace_with-ran.ensures _ (inl refl)) c.in-Steps.is c.requires.some c.settle.ensures.settles
     c.if-not-settle.false
     (ap (is_before (option_map (λ u. u.now) c.args.until)) (sym row) ∙ sym c.is_before.ensures ∙ c.if-is_before.true)
 
@@ -42,6 +42,6 @@ pub returns-else-is_before-clause-ran : goal.returns-else-is_before-clause-ran
 returns-else-is_before-clause-ran g c =
     let row = row_levels c.settle.new.state.position.puzzle c.levels.result.now c.settle.new.state.stack.levels
     c.levels.ensures.levels in
-    settled_behind c.requires.led c.replace_with-ran.ensures c.in-Steps.is c.requires.some c.settle.ensures.settles
+    settled_behind c.requires.led (c.replace_with-ran.ensures _ (inl refl)) c.in-Steps.is c.requires.some c.settle.ensures.settles
     c.if-not-settle.false
     (ap (is_before (option_map (λ u. u.now) c.args.until)) (sym row) ∙ sym c.is_before.ensures ∙ c.if-is_before.false)

@@ -1,60 +1,115 @@
-use Rattle.std.proofs.Common.{ℕ, ◌≡◌, ◌++◌, List, [], map, true, refl, sym, ap, ◌∙◌, arith, append-nil}
-use Rattle.xc_dance.specs.Dancing.{Dancing}
+use Rattle.std.proofs.lemmas.Grind.{common_steps}
+use Rattle.std.proofs.lemmas.List.{length-reverse}
+use Rattle.std.proofs.Common.{ℕ, ◌≡◌, ◌<◌, ◌⊎◌, List, Some, None, true, false, length, take, get_or, refl, sym, ap, ◌∙◌, arith}
 use Rattle.xc_search.specs.Spans.{precedes}
-use Rattle.xc_search.specs.inner.Levels.{Levels}
-use Rattle.xc_search.specs.inner.MostLevels.{most_levels}
-use Rattle.xc_search.specs.inner.Spanning.{row_at}
-use Rattle.xc_search.specs.declared.level.Level.{Level}
-use Rattle.xc_search.proofs.spans.Runs.{step_less, step_stands}
-use Rattle.xc_search.proofs.spans.Kept.{row_levels, reaches_on, reaches_none}
+use Rattle.xc_search.specs.declared.levels.Stop.TheVariants.{Member, Steps, Row, Nothing}
+use Rattle.xc_search.specs.inner.Spanning.{RunsTo, Stands}
+use Rattle.xc_search.proofs.spans.Kept.{reaches_on, reaches_none}
+use Rattle.xc_search.proofs.spans.Numbers.{numbers_row}
+use Rattle.xc_search.proofs.spans.Reached.{IsNextNumber, next_number, seen_before, row_past, row_past_zero, row_more}
+use Rattle.xc_search.proofs.spans.Reached.{row_grows}
+use Rattle.xc_search.proofs.spans.Rows.{not_itself}
+use Rattle.xc_search.proofs.spans.Runs.{step_stands}
 use Rattle.xc_search.proofs.spanning.reach.Goals as goal
-use Rattle.xc_search.proofs.spanning.reach.Goals.{in-Before, in-Begins, Joined-place_of}
+use Rattle.xc_search.proofs.spanning.reach.Goals.{After-replace_with}
+use Rattle.xc_search.proofs.spanning.reach.Goals.{then-levels-via-then-levels}
+use Rattle.xc_search.proofs.spanning.reach.Goals.{then-levels-via-else-levels+then-number-eq0}
 
-pub returns-in-Reached-clause-reached : goal.returns-in-Reached-clause-reached
-returns-in-Reached-clause-reached g c _ =
-    rw (← row_levels c.loop-skips.state.position.puzzle c.levels.result.now c.loop-skips.state.stack.levels
-    c.levels.ensures.levels) (c.place_of.ensures.reached c.in-Reached.is)
+module _ (g : _) (c : After-replace_with g) where
+  abbrev number : ℕ
+  number = get_or c.args.from.now c.loop-number.number-index 0
 
-module _ (g : _) (c : Joined-place_of g) where
-  abbrev row : List ℕ
-  row = row_at c.loop-skips.state.position.puzzle c.loop-skips.state.stack.levels
+  next : IsNextNumber c.args.from.now c.loop-number.state.stack number c.max.result
+  next = next_number c.args.from.now c.loop-number.state.stack c.loop-number.number-index number c.max.result
+      c.loop-number.invariant.row c.loop-number-test.true refl
+      (λ h. omega (arith, h, c.max.ensures)) (λ h. omega (arith, h, c.max.ensures))
 
-  is_row : map (λ (l : Level). l.begun) c.levels.result.now ≡ row
-  is_row = row_levels c.loop-skips.state.position.puzzle c.levels.result.now c.loop-skips.state.stack.levels
-      c.levels.ensures.levels
+  ran : RunsTo true true c.max.result (Some c.args.from.now) None c.loop-number.state.position
+      c.loop-number.state.stack 1 1 c.replace_with.result.stop c.replace_with.new.dest.position
+      c.replace_with.new.dest.stack c.replace_with.result.more c.replace_with.result.steps
+  ran = c.replace_with.ensures (Some c.args.from.now) (seen_before next c.loop-number.state.position.puzzle)
 
-  before : precedes row c.args.from.now ≡ true
-  before = elim c.match-place_of.branch [
-    | in-Before w ↦
-        ap (λ r. precedes r c.args.from.now)
-        (sym (append-nil (map (λ (l : Level). l.begun) c.levels.result.now) ∙ is_row))
-        ∙ w.in-Before.ensures.before refl []
-    | in-Begins w ↦ rw (← is_row) (w.in-Begins.ensures.begins refl)
-  ]
+  stands : (c.replace_with.result.stop ≡ Member) ⊎ ((c.replace_with.result.stop ≡ Steps)
+      ⊎ (c.replace_with.result.stop ≡ Row)) → Stands true c.max.result (Some c.args.from.now)
+      c.loop-number.state.position c.loop-number.state.stack 1 c.replace_with.new.dest.position
+      c.replace_with.new.dest.stack c.replace_with.result.more 1
+  stands is = step_stands ran is
 
-  skips : c.match-place_of.skips ≡ true → (x : List ℕ) → precedes (row ++ x) c.args.from.now ≡ true
-  skips h = elim c.match-place_of.branch [
-    | in-Before w ↦ λ x. rw (← is_row) (w.in-Before.ensures.before refl x)
-    | in-Begins w ↦ absurd (cc (w.skips-is, h))
-  ]
+pub returns-in-Nothing-clause-still : goal.returns-in-Nothing-clause-still
+returns-in-Nothing-clause-still g c =
+    (reaches_none c.loop-number.invariant.reaching
+    ((ran g (goal.at.returns-in-Nothing-clause-still g c).After-replace_with).ended c.in-Nothing.is)).still
 
-pub replace_with-requires : goal.replace_with-requires
-replace_with-requires g c =
-    let at = (goal.at.replace_with-requires g c).Joined-place_of in
-    let r = c.loop-skips.invariant in
-    let most = ap (λ (s : Dancing). most_levels s.puzzle) r.still in
-    let room = ap (λ (s : Levels). s.room) r.levels in
-    (r.standing, (omega (arith, c.requires.levels_fit, most, room), (r.led, (before g at, skips g at))))
+pub returns-in-Nothing-clause-levels : goal.returns-in-Nothing-clause-levels
+returns-in-Nothing-clause-levels g c =
+    (reaches_none c.loop-number.invariant.reaching
+    ((ran g (goal.at.returns-in-Nothing-clause-levels g c).After-replace_with).ended c.in-Nothing.is)).levels
 
-pub loop-skips-smaller : goal.loop-skips-smaller
-loop-skips-smaller g c =
-    step_less c.replace_with.ensures c.in-Member.is
-    (before g (goal.at.loop-skips-smaller g c).Joined-place_of)
-
-pub loop-skips-preserved : goal.loop-skips-preserved
-loop-skips-preserved g c =
-    reaches_on c.loop-skips.invariant (step_stands c.replace_with.ensures c.in-Member.is)
+pub returns-in-Nothing-clause-stacked : goal.returns-in-Nothing-clause-stacked
+returns-in-Nothing-clause-stacked g c =
+    let end = reaches_none c.loop-number.invariant.reaching
+    ((ran g (goal.at.returns-in-Nothing-clause-stacked g c).After-replace_with).ended c.in-Nothing.is) in
+    rw end.ended tt
 
 pub returns-in-Nothing-clause-none : goal.returns-in-Nothing-clause-none
 returns-in-Nothing-clause-none g c _ =
-    (reaches_none c.loop-skips.invariant (c.replace_with.ensures.ended c.in-Nothing.is)).none
+    (reaches_none c.loop-number.invariant.reaching
+    ((ran g (goal.at.returns-in-Nothing-clause-none g c).After-replace_with).ended c.in-Nothing.is)).none
+
+pub returns-then-levels : goal.returns-then-levels
+returns-then-levels g c =
+    let at = (goal.at.returns-then-levels g c).After-replace_with in
+    let s = stands g at c.in-Member.is in
+    let on = reaches_on c.loop-number.invariant.reaching s in
+    let p = c.replace_with.new.dest.position.puzzle in
+    let ks = c.replace_with.new.dest.stack in
+    let later = s.later (omega arith) in
+    let past : precedes _ c.args.from.now ≡ false = elim c.then-levels.branch [
+      | then-levels-via-then-levels w ↦ row_past (next g at) ks p later (omega (
+        arith,
+        w.if-levels.true,
+        ap length c.levels.ensures.levels,
+        length-reverse c.levels.result.now,
+        ap length c.levels-levels.ensures.levels,
+        length-reverse c.levels-levels.result.now,
+      ))
+      | then-levels-via-else-levels+then-number-eq0 w ↦
+          row_past_zero (next g at) ks p later (s.down refl) (omega (arith, w.if-number-eq0.true))
+    ] in
+    record {
+      still = on.still;
+      levels = on.levels;
+      stacked = on.standing.stacked;
+      standing = λ _. on.standing;
+      led = λ _. on.led;
+      reached = λ _. past;
+      kept = λ _. on.kept;
+      none = λ h. absurd (cc h);
+    }
+
+pub loop-number-preserved : goal.loop-number-preserved
+loop-number-preserved g c =
+    let at = (goal.at.loop-number-preserved g c).After-replace_with in
+    let s = stands g at c.in-Member.is in
+    let ks = c.replace_with.new.dest.stack in
+    let more : length c.loop-number.state.stack.levels < length ks.levels = omega (
+      arith,
+      c.if-levels.false,
+      ap length c.levels.ensures.levels,
+      length-reverse c.levels.result.now,
+      ap length c.levels-levels.ensures.levels,
+      length-reverse c.levels-levels.result.now,
+    ) in
+    let grown = row_more (next g at) ks (s.down refl) more (omega (arith, c.if-number-eq0.false)) in
+    record {
+      reaching = reaches_on c.loop-number.invariant.reaching s;
+      row = row_grows c.args.from.now c.loop-number.state.stack c.replace_with.new.dest.stack
+          c.loop-number.number-index (number g at) c.loop-number.invariant.row c.loop-number-test.true refl grown;
+    }
+
+pub returns-clause-reached : goal.returns-clause-reached
+returns-clause-reached g c _ =
+    let from = c.args.from.now in
+    let whole : take c.loop-number.number-index from ≡ from = grind (arith, common_steps) in
+    ap (λ r. precedes r from) (sym (numbers_row c.loop-number.state.position.puzzle c.loop-number.state.stack.levels)
+    ∙ c.loop-number.invariant.row ∙ whole) ∙ not_itself from

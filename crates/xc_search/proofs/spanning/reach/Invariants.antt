@@ -1,11 +1,10 @@
-use Rattle.std.proofs.Common.{true}
-use Rattle.xc_search.specs.inner.Ahead.{ahead}
+use Rattle.std.proofs.Common.{◌≡◌, take}
+use Rattle.xc_search.specs.inner.Paths.{numbers}
 use Rattle.xc_search.proofs.spans.Kept.{Reaching}
 use Rattle.xc_search.proofs.spanning.reach.Given as goal
 
-abbrev pub invariant-loop-skips : goal.invariant-loop-skips
-invariant-loop-skips g l =
-    Reaching l.initial.state.position l.initial.state.stack l.state.position l.state.stack l.from
-
-abbrev pub decreases-loop-skips : goal.decreases-loop-skips
-decreases-loop-skips g l = ahead l.state.position.puzzle l.state.position.trail l.state.stack.levels true
+abbrev pub invariant-loop-number : goal.invariant-loop-number
+invariant-loop-number g l = record {
+  reaching : Reaching l.initial.state.position l.initial.state.stack l.state.position l.state.stack l.from;
+  row : numbers l.state.stack.levels ≡ take l.number-index l.from;
+}

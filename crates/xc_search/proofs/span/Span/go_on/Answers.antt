@@ -7,7 +7,7 @@ use Rattle.xc_search.specs.inner.Spanning.{row_at, row_from, Halts, EndsSpan}
 use Rattle.xc_dance.specs.Dancing.{Dancing}
 use Rattle.xc_search.proofs.stacked.ShownLevels.{all_shown}
 use Rattle.xc_search.specs.declared.choice.Choice.{Choice}
-use Rattle.xc_search.specs.declared.spanning.Stop.TheVariants.{Member, Steps, Row, Nothing}
+use Rattle.xc_search.specs.declared.levels.Stop.TheVariants.{Member, Steps, Row, Nothing}
 use Rattle.xc_search.specs.Outlook.{shown_after}
 use Rattle.xc_search.specs.inner.Ahead.{IsSolved}
 use Rattle.xc_search.proofs.spans.Advance.{Advances, IsAt, over_first, ran_out, still_more, at_member, shown_there}

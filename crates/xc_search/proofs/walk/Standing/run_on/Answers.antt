@@ -1,28 +1,45 @@
-use Rattle.std.proofs.Common.{arith, refl, ap}
-use Rattle.xc_search.proofs.stacked.PassedOver.{HasToPass, went_over, went_past}
-use Rattle.xc_search.proofs.ends.Whole.{pays_stands, pays_ends}
+use Rattle.std.proofs.Common.{arith, ℕ, ◌≡◌, true, false, None, subst, refl, ap, inl}
 use Rattle.xc_dance.specs.Dancing.{Dancing}
+use Rattle.xc_search.specs.inner.Due.{Pays}
+use Rattle.xc_search.specs.inner.Spanning.{RunsTo}
+use Rattle.xc_search.proofs.ends.Whole.{pays_stands, pays_ends}
+use Rattle.xc_search.proofs.spans.Passing.{ends_over}
+use Rattle.xc_search.proofs.spans.Runs.{member_behind, comes_to_end}
+use Rattle.xc_search.proofs.stacked.PassedOver.{HasToPass, went_over, went_past}
 use Rattle.xc_search.proofs.walk.Standing.run_on.Goals as goal
-use Rattle.xc_search.proofs.walk.Standing.run_on.Goals.{in-None, in-Some, Joined-unsearched}
+use Rattle.xc_search.proofs.walk.Standing.run_on.Goals.{in-Member, in-Steps, Joined-unsearched, After-run-ran}
 
 has : (g : _) (c : Joined-unsearched g) → HasToPass c.args.self.position.puzzle c.args.self.position.trail
     c.args.self.stack.levels c.args.self.unsearched c.args.many c.if-unsearched.more
 has g c = grind arith
 
+ran : (g : _) (c : After-run-ran g) → RunsTo false false 1 None None c.args.self.position c.args.self.stack
+    c.if-unsearched.more 0 c.run-ran.result.stop c.run-ran.new.position c.run-ran.new.stack c.run-ran.result.more
+    c.run-ran.result.steps
+ran g c = c.run-ran.ensures.ran None (inl refl)
+
 pub fewer-passed-requires : goal.fewer-passed-requires
 fewer-passed-requires g c =
-    (went_past c.args.self.unsearched 0 (has g (goal.at.fewer-passed-requires g c).Joined-unsearched)
-    c.in-Some.ensures.ended).0
+    let ran = ran g (goal.at.fewer-passed-requires g c).After-run-ran in
+    let end = ran.ended (comes_to_end ran c.in-Steps.is) in
+    (went_past {d = c.args.self.position} {e = c.run-ran.new.position} {ls = c.args.self.stack}
+    {ks = c.run-ran.new.stack} c.args.self.unsearched 0 (has g (goal.at.fewer-passed-requires g c).Joined-unsearched)
+    end.still end.ended (ends_over end.over)).0
 
 pub returns-clause-went : goal.returns-clause-went
 returns-clause-went g c =
     let has = has g (goal.at.returns-clause-went g c).Joined-unsearched in
-    elim c.match-advance.branch [
-      | in-None w ↦
-          let over = went_over c.args.self.unsearched c.requires.some has (w.in-None.ensures.stands refl) in
+    let ran = ran g (goal.at.returns-clause-went g c).After-run-ran in
+    elim c.match-ran.branch [
+      | in-Member w ↦
+          let at = member_behind ran w.in-Member.is in
+          let over = went_over {d = c.args.self.position} {e = c.run-ran.new.position} {ls = c.args.self.stack}
+          {ks = c.run-ran.new.stack} c.args.self.unsearched c.requires.some has at.0 at.1 at.2 in
           grind (arith, over, w.passed-is)
-      | in-Some w ↦
-          let past = went_past c.args.self.unsearched c.match-advance.passed has w.in-Some.ensures.ended in
+      | in-Steps w ↦
+          let end = ran.ended (comes_to_end ran w.in-Steps.is) in
+          let past = went_past {d = c.args.self.position} {e = c.run-ran.new.position} {ls = c.args.self.stack}
+          {ks = c.run-ran.new.stack} c.args.self.unsearched c.match-ran.passed has end.still end.ended (ends_over end.over) in
           grind (arith, past, w.passed-is, w.fewer-passed.ensures)
     ]
 
@@ -30,13 +47,17 @@ pub returns-clause-pays : goal.returns-clause-pays
 returns-clause-pays g c =
     let has = has g (goal.at.returns-clause-pays g c).Joined-unsearched in
     let here = c.requires.standing.searchable refl in
-    elim c.match-advance.branch [
-      | in-None w ↦
-          let at = w.in-None.ensures.stands refl in
-          pays_stands c.args.self.unsearched here has (ap (λ (d : Dancing). d.puzzle) at.over.still.0) at.solved
-          (w.in-None.ensures.stands_pays refl)
-      | in-Some w ↦
-          let end = w.in-Some.ensures.ended in
+    let ran = ran g (goal.at.returns-clause-pays g c).After-run-ran in
+    elim c.match-ran.branch [
+      | in-Member w ↦
+          let at = member_behind ran w.in-Member.is in
+          pays_stands c.args.self.unsearched here has (ap (λ (d : Dancing). d.puzzle) at.0.0) at.1
+          (subst (λ n. Pays c.args.self.position c.args.self.stack true c.if-unsearched.more c.run-ran.new.position
+          c.run-ran.new.stack true n) (ran.solved w.in-Member.is).0
+          (c.run-ran.ensures.stands_pays w.in-Member.is refl))
+      | in-Steps w ↦
+          let is = comes_to_end ran w.in-Steps.is in
+          let end = ran.ended is in
           pays_ends c.args.self.unsearched here has (ap (λ (d : Dancing). d.puzzle) end.still.0) end.ended
-          w.in-Some.ensures.ended_pays
+          (c.run-ran.ensures.ended_pays is refl)
     ]
