@@ -1,5 +1,5 @@
 -- On the way to a row.
-use Rattle.std.proofs.Common.{ℕ, ◌≡◌, Bool, true, not, List, [], map, filter, reverse, sym, ap, ◌∙◌, arith}
+use Rattle.std.proofs.Common.{ℕ, ◌≡◌, true, not, List, [], map, filter, reverse, sym, ap, ◌∙◌, arith}
 use Rattle.std.proofs.Common.{Option, Some, ◌∷◌, ◌++◌, ◌-◌, ◌≤◌, append-nil, ap₂}
 use Rattle.std.specs.Prelude.{◌^◌}
 use Rattle.std.proofs.lemmas.List.{reverse-reverse}

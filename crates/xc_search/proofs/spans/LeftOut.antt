@@ -1,16 +1,13 @@
 -- A level that begins with a branch further on.
-use Rattle.std.proofs.Common.{ℕ, ◌≡◌, ◌+◌, ◌-◌, ◌<◌, Bool, true, false, List, [], ◌∷◌, ◌++◌, length, map, take, drop}
+use Rattle.std.proofs.Common.{ℕ, ◌≡◌, ◌+◌, ◌-◌, ◌<◌, Bool, true, List, [], ◌∷◌, ◌++◌, length, map, take, drop}
 use Rattle.std.proofs.Common.{Option, refl, sym, ap, ◌∙◌, arith, subst, append_assoc, inr}
 use Rattle.std.specs.List.{AllByRecursion}
-use Rattle.std.specs.Prelude.{slice_get, Some}
 use Rattle.std.proofs.lemmas.Grind.{flat_map-append}
 use Rattle.std.proofs.lemmas.List.{take-append-drop}
 use Rattle.xc_dance.specs.declared.dance.Move.{Move}
 use Rattle.xc_dance.specs.Dancing.{Dancing}
-use Rattle.xc_dance.specs.Commits.{option_at}
 use Rattle.xc_input.specs.Problem.{Puzzle}
 use Rattle.xc_input.proofs.lists.EachElement.{each-map, each_weaker, each_of_all}
-use Rattle.xc_search.specs.declared.choice.Choice.{Choice}
 use Rattle.xc_search.specs.declared.level.Level.{Level}
 use Rattle.xc_search.specs.declared.level.Begun.{Begun}
 use Rattle.xc_search.specs.Listing.{Branch, branches_of, listing}
@@ -18,10 +15,10 @@ use Rattle.xc_search.specs.Residuals.{wanted_at}
 use Rattle.xc_search.specs.Spans.{row_of, is_before}
 use Rattle.xc_search.specs.inner.Commits.{oldest}
 use Rattle.xc_search.specs.inner.Residual.{residual_of}
-use Rattle.xc_search.specs.inner.Levels.{Levels, AreStacked, IsStanding, MayBegin, MayBranch, IsEntered, begun_level}
+use Rattle.xc_search.specs.inner.Levels.{Levels, AreStacked, MayBegin, MayBranch, IsEntered, begun_level}
 use Rattle.xc_search.specs.inner.Levels.{branches_at, branch_members, choices_of, to_give, coming, after_branch}
 use Rattle.xc_search.specs.inner.Levels.{option_taken}
-use Rattle.xc_search.specs.inner.Ahead.{visits, work_left, branched}
+use Rattle.xc_search.specs.inner.Ahead.{visits, work_left}
 use Rattle.xc_search.specs.inner.Paths.{MayLead}
 use Rattle.xc_search.specs.inner.Spanning.{Enters, Falls, LeavesOut, PassesOver}
 use Rattle.xc_search.proofs.listing.BranchLists.{branches_end, number_at}

@@ -1,6 +1,6 @@
 -- How a run of a search of a span goes.
 use Rattle.std.proofs.Common.{ℕ, ◌≡◌, ◌≢◌, ◌-◌, ◌<◌, ◌≤◌, Bool, true, false, List, [], Option, subst, refl, filter}
-use Rattle.std.proofs.Common.{sym, ap, ap₂, ◌∙◌}
+use Rattle.std.proofs.Common.{sym, ap, ◌∙◌}
 use Rattle.std.proofs.Common.{arith, inl, inr, ◌⊎◌, ◌+◌, None}
 use Rattle.std.specs.Prelude.{◌^◌, drop}
 use Rattle.xc_search.proofs.spans.Passing.{drop_over}

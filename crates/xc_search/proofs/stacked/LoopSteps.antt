@@ -1,6 +1,6 @@
 -- The steps of the search's loop.
 use Rattle.std.proofs.lemmas.Grind.{common_steps}
-use Rattle.std.proofs.Common.{ℕ, ◌≡◌, ◌+◌, ◌-◌, ◌<◌, ◌≤◌, Bool, true, false, List, [], ◌∷◌, length, drop, refl}
+use Rattle.std.proofs.Common.{ℕ, ◌≡◌, ◌+◌, ◌-◌, ◌<◌, ◌≤◌, Bool, true, false, List, ◌∷◌, length, drop, refl}
 use Rattle.std.proofs.Common.{sym, ap, ◌∙◌, arith, subst, ap₂, length-drop}
 use Rattle.xc_dance.specs.declared.dance.Move.{Move}
 use Rattle.xc_search.specs.declared.level.Level.{Level}
@@ -14,22 +14,16 @@ use Rattle.xc_search.specs.inner.Levels.{Levels, IsNode, IsLevel, AreStacked, Is
 use Rattle.xc_search.specs.inner.Levels.{IsEntered, first_level}
 use Rattle.xc_search.specs.inner.Levels.{begun_level, newest_begun}
 use Rattle.xc_search.specs.inner.Ahead.{visits, ahead, GoesOn, EntersBranch, branched}
-use Rattle.xc_search.proofs.moves.OldestMoves.{oldest_all}
-use Rattle.xc_search.proofs.stacked.NextLevel.{descended, open_in, oldest-oldest, length-oldest}
+use Rattle.xc_search.proofs.stacked.NextLevel.{descended, oldest-oldest, length-oldest}
 use Rattle.xc_search.proofs.stacked.BackAtLevel.{returned, closing}
 use Rattle.xc_search.proofs.stacked.BegunComesFirst.{begun_coming}
 use Rattle.xc_search.proofs.stacked.Depth.{shallower}
 use Rattle.xc_search.specs.inner.Levels.{after_branch}
 use Rattle.xc_search.proofs.stacked.NextLevel.{ext_whole, ext_after_spend}
-use Rattle.xc_search.specs.inner.Paths.{KeepsBy, AreLedBy, MayLead}
+use Rattle.xc_search.specs.inner.Paths.{AreLedBy, MayLead}
 use Rattle.xc_search.proofs.stacked.Led.{led_begun}
 use Rattle.xc_search.specs.inner.Ahead.{work_left}
-use Rattle.xc_search.specs.inner.Residual.{residual_of}
-use Rattle.xc_search.specs.Residuals.{wanted_at}
-use Rattle.xc_search.proofs.listing.DeadEnds.{none_listed}
 use Rattle.xc_search.proofs.stacked.PassedOver.{stands_behind}
-use Rattle.xc_search.proofs.stacked.LessWork.{some_work}
-use Rattle.xc_search.specs.Listing.{listing}
 
 pub GoesOn-trans : (d e f : Dancing) (ls ks js : Levels) (x y z : Bool) → GoesOn d ls x e ks y → GoesOn e ks y f js z
     → GoesOn d ls x f js z

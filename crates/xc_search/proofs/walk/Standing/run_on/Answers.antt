@@ -1,4 +1,4 @@
-use Rattle.std.proofs.Common.{arith, ℕ, ◌≡◌, true, false, None, subst, refl, ap, inl}
+use Rattle.std.proofs.Common.{arith, true, false, None, subst, refl, ap, inl}
 use Rattle.xc_dance.specs.Dancing.{Dancing}
 use Rattle.xc_search.specs.inner.Due.{Pays}
 use Rattle.xc_search.specs.inner.Spanning.{RunsTo}
