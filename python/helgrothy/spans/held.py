@@ -178,17 +178,20 @@ class Hold:
         with suppress(OSError):
             if self.has_made_file and self._is_there():
                 os.remove(self.name)
-        with suppress(OSError):
-            if self._has_made_folder:
-                os.rmdir(self.path)
-        self.close()
+        self._end(is_folder_removed=self._has_made_folder)
 
     def remove(self) -> None:
         """Takes the file away, and the folder if nothing else is left there."""
         with suppress(FileNotFoundError):
             os.remove(self.name)
-        with suppress(OSError):
-            os.rmdir(self.path)
+        self._end(is_folder_removed=True)
+
+    def _end(self, is_folder_removed: bool) -> None:
+        # On another machine's disk a file that is open stays in its folder under another name.
+        self.close()
+        if is_folder_removed:
+            with suppress(OSError):
+                os.rmdir(self.path)
 
     def close(self) -> None:
         if self._file >= 0:
