@@ -997,8 +997,8 @@ class Commands(unittest.TestCase):
         with open(self.path, "wb") as file:
             file.write(make.queens.problem(17).text.encode())
         folder = f"{self.path}.search"
-        # A machine that does other things does nothing in half a second.
-        for seconds in ("0.5", "5", "50"):
+        # A machine that does other things does little in two seconds.
+        for seconds in ("2", "10", "50"):
             status, _, told = self.run_it("search", self.path, "--seconds", seconds)
             self.assertEqual(status, NOT_DONE)
             line = r"\Ahelgrothy: not done in {} seconds: [0-9.]+ %; the same command goes on \(.*q.dlx.search\)\n\Z"

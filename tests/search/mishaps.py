@@ -1,6 +1,7 @@
 """What may befall a search. Each takes a try; it answers False where it was left out."""
 
 import os
+import resource
 import shutil
 import signal
 import socket
@@ -179,6 +180,19 @@ def full_disk(trial):
 def mount(folder, size):
     how = ["mount", "-t", "tmpfs", "-o", f"size={size}", "tmpfs", folder]
     return os.geteuid() == 0 and subprocess.run(how, stderr=subprocess.DEVNULL).returncode == 0
+
+
+def few_to_be_had(trial):
+    """Many workers, and few open files or little memory."""
+    words = [word for word in trial.words() if not word.isdigit() and word != "--jobs"]
+    files = resource.RLIMIT_NOFILE, trial.rng.randint(16, 100)
+    limit = trial.rng.choice([files, (resource.RLIMIT_AS, trial.rng.randint(60, 400) << 20)])
+    status = trial.end(trial.start([*words, "--jobs", str(trial.rng.choice([4, 40, 400]))], limit=limit))[0]
+    if status not in (0, 2, 3, 4):
+        raise Wrong(f"status {status}")
+    trial.say("it was done" if status == 0 else "it wasn't done")
+    if status != 0:
+        trial.finish()
 
 
 def full_output(trial):
@@ -491,6 +505,7 @@ NAMES = [
     "stopped_and_continued",
     "two_commands",
     "full_disk",
+    "few_to_be_had",
     "full_output",
     "nobody_reads",
     "times_of_files",

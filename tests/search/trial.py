@@ -112,16 +112,19 @@ class Trial:
         jobs = ["--jobs", str(self.rng.randint(1, 4))]
         return ["search", self.path, "--for", f"dlx{self.kind}", *(["--list"] if self.listed else []), *jobs, *more]
 
-    def start(self, words, size=None, **how):
-        """A command in a group of its own, whose files have at most a size."""
+    def start(self, words, size=None, limit=None, **how):
+        """A command in a group of its own, whose files have at most a size; limit: another resource and how much."""
 
         def bound():
+            if limit is not None:
+                resource.setrlimit(limit[0], (limit[1], limit[1]))
             if size is not None:
                 resource.setrlimit(resource.RLIMIT_FSIZE, (size, size))
                 # As on a full disk a write fails, and no signal comes.
                 signal.signal(signal.SIGXFSZ, signal.SIG_IGN)
 
-        self.say(f"helgrothy {' '.join(words)}{f' (files of {size} bytes)' if size is not None else ''}")
+        bounds = [f" (files of {size} bytes)" if size is not None else "", f" (limit {limit})" if limit else ""]
+        self.say(f"helgrothy {' '.join(words)}{''.join(bounds)}")
         out = tempfile.TemporaryFile()
         process = subprocess.Popen(
             ["helgrothy", *words],
