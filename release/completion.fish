@@ -404,7 +404,7 @@ complete -c helgrothy -n '__helgrothy_is \'helgrothy roundrobin\'' -l up-to-symm
 complete -c helgrothy -n '__helgrothy_is \'helgrothy tests\'' -s h -l help -d 'show this help message and exit'
 complete -c helgrothy -n '__helgrothy_is \'helgrothy tests\'' -l tests -r -f -d 'so many tests'
 complete -c helgrothy -n '__helgrothy_is \'helgrothy tests\'' -l strength -r -f -d 'the values of any T factors come together (default: 2)'
-complete -c helgrothy -n '__helgrothy_is \'helgrothy tests\'' -l least -d 'as few tests as are found in the time of --seconds (default: 10)'
+complete -c helgrothy -n '__helgrothy_is \'helgrothy tests\'' -l least -d 'as few tests as are found, in some ten seconds of a processor or else in the time of --seconds'
 complete -c helgrothy -n '__helgrothy_is \'helgrothy tests\'' -l number -r -f -d 'the K-th solution instead of the first'
 complete -c helgrothy -n '__helgrothy_is \'helgrothy tests\'' -l limit -r -f -d 'the first N solutions'
 complete -c helgrothy -n '__helgrothy_is \'helgrothy tests\'' -l all -d 'all solutions'

@@ -1,10 +1,14 @@
 """Test designs: all that has to come together does, known numbers of designs, as few tests as are known, bad tables."""
 
 import itertools
+import os
+import random
 import unittest
+from unittest import mock
 
-from helgrothy import OutOfTime, Problem, make
-from helgrothy.make import fewest
+from helgrothy import OutOfTime, Problem, make, programs
+from helgrothy.make import fewest, quick
+from helgrothy.make.designs import read_factors
 from folders import InFolder
 from test_commands import run, run_until
 
@@ -69,7 +73,8 @@ class Designs(InFolder):
                 values = [sorted({row[at] for row in rows} - {None}) for at in range(len(rows[0]))]
                 self.assertEqual(len(rows), tests)
                 self.assertTrue(is_design(rows, values, strength))
-                few = make.tests.few(levels, strength, 2)
+                with mock.patch.object(fewest, "_MOST_LOOKS", 100_000_000):
+                    few = make.tests.few(levels, strength)
                 self.assertTrue(is_design(rows_of(few.problem, [few.problem.options[n] for n in few.numbers]), values, strength))
 
     def test_known_numbers_of_designs(self):
@@ -88,15 +93,46 @@ class Designs(InFolder):
         """Ten factors of two values take 6 tests (Katona 1973; Kleitman and Spencer 1973), and 3,3,3,2,2,2 takes 9."""
         for levels, strength, known in (("3,3,3,2,2,2", 2, 9), ("2^10", 2, 6), ("2^4", 2, 5), ("2^4", 3, 8), ("3,2,2", 1, 3)):
             with self.subTest(levels=levels, strength=strength):
-                few = make.tests.few(levels, strength, 60)
-                self.assertEqual(few.tests, known)
+                few = make.tests.few(levels, strength)
+                self.assertEqual((few.tests, few.least), (known, known))
                 self.assertTrue(few.reason)
                 self.assertEqual(few.problem.check([[few.problem.options[number] for number in few.numbers]]), [True])
         self.assertEqual(make.tests.problem("2^10", 5).count(), 0)
-        # Of four factors of three values no search is needed: the quick rule has 9 tests or the first search does.
-        self.assertEqual(make.tests.few("3^4", 2, 60).reason, "f1 and f2 have 9 combinations of values")
+        self.assertEqual(make.tests.few("3^4").reason, "f1 and f2 have 9 combinations of values")
+        # A number of tests may be harder than fewer tests are: 25 are found, and 26 to 30 hardly ever.
+        self.assertEqual(make.tests.few("5^6").tests, 25)
         with self.assertRaises(OutOfTime):
             make.tests.few("4^9", 2, 0.0)
+
+    def test_a_busy_machine_finds_the_same(self):
+        """Each run of a program takes half a second more, as on a machine that does other things."""
+        found = [make.tests.few(levels) for levels in ("4,3^3,2^4", "2^10")]
+        for program in ("dlx2", "dlx-span"):
+            os.chmod(self.file(program, f'#!/bin/sh\nsleep 0.5\nexec {programs.find(program)} "$@"\n'), 0o755)
+        with mock.patch.dict(os.environ, {programs.VARIABLE: self.folder}):
+            again = [make.tests.few(levels) for levels in ("4,3^3,2^4", "2^10")]
+        self.assertEqual([few.tests for few in found], [12, 6])
+        self.assertEqual([few.numbers for few in found], [few.numbers for few in again])
+
+    def test_work_and_time_are_bounds(self):
+        with mock.patch.object(fewest, "_MOST_LOOKS", 100_000_000):
+            few, again = make.tests.few("4^7"), make.tests.few("4^7")
+            told = run("tests", "4^7", "--least")[2]
+        self.assertEqual((few.tests, few.numbers, few.reason), (again.tests, again.numbers, ""))
+        self.assertEqual(told, f"{few.tests} tests; {few.least} to {few.tests - 1} weren't found; --seconds S looks longer.\n")
+        told = r"\A[0-9]+ tests; [0-9]+ to [0-9]+ weren't found in the time\.\n\Z"
+        self.assertRegex(run_until(told, "tests", "3^7", "--least")[2], told)
+        one_less = fewest.Few(few.problem, few.numbers, few.tests, few.tests - 1, "")
+        self.assertEqual(one_less.found("").remark, f"{few.tests} tests; {few.tests - 1} weren't found.")
+
+    def test_a_quick_design(self):
+        for levels, strength, most in (("2^10", 2, 10), ("3^13", 2, 24), ("4^10", 2, 34), ("2^11", 3, 24)):
+            with self.subTest(levels=levels):
+                factors = read_factors(levels)
+                tests = quick.quick(factors, strength, None, random.Random(1))
+                rows = [[test[factor] for factor in range(len(factors))] for test in tests]
+                self.assertTrue(is_design(rows, [range(len(factor.values)) for factor in factors], strength))
+                self.assertLessEqual(len(tests), most)
 
     def test_tries_of_all_lengths(self):
         self.assertEqual([fewest._length(n) for n in range(1, 16)], [1, 1, 2, 1, 1, 2, 4, 1, 1, 2, 1, 1, 2, 4, 8])
@@ -123,8 +159,6 @@ class Designs(InFolder):
         self.assertTrue(run("tests", path, "--least", "--svg")[1].startswith("<svg"))
         self.assertEqual(run("tests", path, "--least", "--json")[1].count('"t1/system": "linux"'), 1)
         self.assertEqual(run("make", "tests", path, "--tests", "5")[1], make.tests.problem(FACTORS, 5).text)
-        told = r"\A[0-9]+ tests; [0-9]+ weren't found in the time\.\n\Z"
-        self.assertRegex(run_until(told, "tests", "4^7", "--least")[2], told)
 
     def test_bad_tables(self):
         for number, (table, words, sentence) in enumerate(BAD):

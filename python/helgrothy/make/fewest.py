@@ -1,7 +1,9 @@
-"""The search for a design of few tests: one that a quick rule makes, and from there on one test fewer each time.
+"""The search for a design of few tests, between one that a quick rule makes and the fewest that may be enough.
 
-Where there is a design, a search mostly finds one in a moment or hardly ever, and the order of options and items
-decides which. So each number of tests is tried in many orders, for a short while each.
+Where there is a design, a search mostly finds one in a moment or hardly ever. The order of options and items decides
+which, and fewer tests may be easier than more. So the fewest that may be enough are tried first, then numbers that
+halve what is left above, and then all that again in other orders. A try ends after a number of steps and not of
+seconds, so that every machine finds the same, however busy it is.
 """
 
 from __future__ import annotations
@@ -13,77 +15,115 @@ from collections.abc import Iterator, Sequence
 from dataclasses import dataclass
 
 from ..errors import OutOfTime
+from ..names import codes
 from ..problem import Problem
+from ..programs import Run
+from ..shown import bytes_of
+from ..shuffle import order
 from .designs import Design, Factor, Meeting, Option
 from .kind import Found
+from .quick import Test, meetings_of, quick
 
-# A test: the values that it has, by the number of the factor.
-Test = dict[int, int]
-
-# The shortest try; others are twice as long, four times and so on.
-_TRY_SECONDS = 0.3
-# So many times as long as a problem takes to be made is kept back of the time.
-_MADE = 3
+_SEED = 1
+# The steps of the shortest try, beside two for each item; others have twice as many, four times and so on.
+_STEPS = 15_000
+# Work is counted in looks at items: a step looks at each, and an option takes so many until it is read.
+_LOOKS_OF_OPTION = 500
+# The work where no time is given: some ten seconds of a processor.
+_MOST_LOOKS = 2_500_000_000
+# So many times as long as the lines take to be made is kept back of the time, for the problem.
+_MADE = 10
 
 
 @dataclass(frozen=True)
 class Few:
     """A design of `tests` tests: its problem and the places of the options that make it up.
 
-    reason: why no fewer tests are enough; empty where that isn't known.
+    least: fewer than these aren't enough. reason: where `tests` are the least, why.
     """
 
     problem: Problem[Option]
     numbers: list[int]
     tests: int
+    least: int
     reason: str
 
-    def found(self) -> Found:
-        told = f"no fewer are enough: {self.reason}" if self.reason else f"{self.tests - 1} weren't found in the time"
-        return Found(self.problem, self.numbers, f"{self.tests} test{'' if self.tests == 1 else 's'}; {told}.")
+    def found(self, hint: str) -> Found:
+        """What a command shows; the hint ends the sentence on what wasn't found."""
+        told = f"{self.tests} test{'' if self.tests == 1 else 's'}"
+        if self.tests == self.least:
+            return Found(self.problem, self.numbers, f"{told}; no fewer are enough: {self.reason}.")
+        fewer = f"{self.least} to {self.tests - 1}" if self.least < self.tests - 1 else f"{self.least}"
+        return Found(self.problem, self.numbers, f"{told}; {fewer} weren't found{hint}.")
 
 
-def fewest(factors: Sequence[Factor], strength: int, seconds: float) -> Few:
-    """The design of the fewest tests that is found in the time.
+def fewest(factors: Sequence[Factor], strength: int, seconds: float | None) -> Few:
+    """The design of the fewest tests that is found in the time; without a time in some ten seconds, and then the same
+    on every machine.
 
     Raises `ValueError` for more than a problem takes, and `OutOfTime` where the time isn't enough for any.
     """
-    deadline = time.monotonic() + seconds
-    design, numbers = _quick(factors, strength, deadline)
-    start = time.monotonic()
-    problem = design.problem()
-    # A problem may be being made when the time is over.
-    deadline -= _MADE * (time.monotonic() - start)
-    reason = design.reason if design.tests == design.least else ""
-    while not reason:
-        fewer = Design(factors, design.tests - 1, strength)
-        try:
-            smaller = fewer.problem()
-            found = _search(smaller, deadline)
-        except OutOfTime:
-            break
-        if found is None:
-            reason = f"there is no design of {fewer.tests}"
-        else:
-            design, problem, numbers = fewer, smaller, found
-            reason = design.reason if design.tests == design.least else ""
-    return Few(problem, numbers, design.tests, reason)
+    rng = random.Random(_SEED)
+    deadline = None if seconds is None else time.monotonic() + seconds
+    tests = quick(factors, strength, deadline, rng)
+    search = _Search(Design(factors, len(tests), strength), tests, deadline, rng)
+    search.run()
+    design = Design(factors, len(search.tests), strength)
+    reason = search.reason if design.tests == search.least else ""
+    return Few(design.problem(), list(_places(design, search.tests)), design.tests, search.least, reason)
 
 
-def _search(problem: Problem[Option], deadline: float) -> list[int] | None:
-    """The places of a solution's options, or None where there is no solution. Raises `OutOfTime`."""
-    tried, order = problem, list(range(len(problem.options)))
-    for number in itertools.count(1):
-        left = deadline - time.monotonic()
-        if left <= 0:
-            break
+class _Search:
+    """A search that begins with a design.
+
+    tests: those of the best design so far. least: the fewest that may be enough. reason: why they are that.
+    """
+
+    def __init__(self, design: Design, tests: list[Test], deadline: float | None, rng: random.Random) -> None:
+        self.tests = tests
+        self.least, self.reason = design.least, design.reason
+        self._rng = rng
+        start = time.monotonic()
+        self._lines = _Lines(design)
+        self._deadline = None if deadline is None else deadline - _MADE * (time.monotonic() - start)
+        self._looks = _MOST_LOOKS
+        self._tried: set[int] = set()
+
+    def run(self) -> None:
+        """Searches until the best is the least, or time or work is over."""
         try:
-            with tried.solve(limit=1, seconds=min(_TRY_SECONDS * _length(number), left)) as solutions:
-                found = next(solutions, None)
-            return None if found is None else [order[place] for place in found.numbers]
+            for turn in itertools.count(1):
+                low = at = self.least
+                while low < len(self.tests):
+                    if not self._finds(at, _length(turn)):
+                        low = at + 1
+                    at = (low + len(self.tests)) // 2
+                if self.least == len(self.tests):
+                    return
         except OutOfTime:
-            tried, order = _shuffled(problem, number)
-    raise OutOfTime("no design was found in the time")
+            pass
+
+    def _finds(self, count: int, length: int) -> bool:
+        """Whether a try of this length finds so many tests. Raises `OutOfTime`."""
+        steps = length * _STEPS + 2 * self._lines.items
+        rng = self._rng if count in self._tried else None
+        self._tried.add(count)
+        text = self._lines.of(count, rng)
+        if self._deadline is None:
+            self._looks -= steps * self._lines.items + len(text) * _LOOKS_OF_OPTION
+            if self._looks < 0:
+                raise OutOfTime("no design was found in so many steps")
+        tests = self._lines.search(text, steps, self._left())
+        if tests is None:
+            return False
+        if not tests:
+            self.least, self.reason = count + 1, f"there is no design of {count}"
+            return False
+        self.tests = [tests.get(number, {}) for number in range(count)]
+        return True
+
+    def _left(self) -> float | None:
+        return None if self._deadline is None else max(self._deadline - time.monotonic(), 0.0)
 
 
 def _length(number: int) -> int:
@@ -93,68 +133,80 @@ def _length(number: int) -> int:
     return (number + 1) >> 1
 
 
-def _shuffled(problem: Problem[Option], seed: int) -> tuple[Problem[Option], list[int]]:
-    """The problem with its items and options in another order, and the places that the options had."""
-    rng = random.Random(seed)
-    items, order = list(problem.items), list(range(len(problem.options)))
-    rng.shuffle(items)
-    rng.shuffle(order)
-    return Problem(items, list(problem.secondary), [problem.options[place] for place in order]), order
+class _Lines:
+    """The lines of a design's problem, and of those of its first tests alone, with names as short as can be."""
+
+    def __init__(self, design: Design) -> None:
+        self.items = len(design.meetings)
+        names = map(bytes_of, codes())
+        self._items = list(itertools.islice(names, self.items))
+        self._places = [
+            {factor: next(names) for factor in range(len(design.factors))} for _ in range(design.tests)
+        ]
+        most = max(len(factor.values) for factor in design.factors)
+        values = [bytes_of(code) for code in itertools.islice(codes(), most)]
+        # What a word of an option says: the test, the factor and its value.
+        self._uses = {
+            name + b":" + value: (test, factor, number)
+            for test, places in enumerate(self._places)
+            for factor, name in places.items()
+            for number, value in enumerate(values[: len(design.factors[factor].values)])
+        }
+        words = {use: word for word, use in self._uses.items()}
+        # The options of each test.
+        self._options: list[list[bytes]] = [[] for _ in range(design.tests)]
+        for item, meeting in zip(self._items, design.meetings):
+            for test in design.tests_for(meeting):
+                held = (words[test, factor, value] for factor, value in meeting)
+                self._options[test].append(b" ".join([item, *held]))
+
+    def of(self, count: int, rng: random.Random | None) -> list[bytes]:
+        """The problem of so many tests, in a random order or in that of the design."""
+        items = _ordered(self._items, rng)
+        places = [name for test in self._places[:count] for name in test.values()]
+        options = _ordered([option for test in self._options[:count] for option in test], rng)
+        return [b" ".join([*items, b"|", *places]), *options]
+
+    def search(self, lines: Sequence[bytes], steps: int, seconds: float | None) -> dict[int, Test] | None:
+        """The tests of a solution by their numbers, none where there is no solution, or None where the steps weren't
+        enough to know. Raises `OutOfTime`."""
+        # Who makes problems alone doesn't wait for these.
+        from ..spans.record import of_text
+        from ..spans.rows import WHOLE
+
+        text = b""
+        with Run("dlx-span", ["2", "m1", str(steps), "-", "-"], (line + b"\n" for line in lines), seconds) as run:
+            for chunk in run.chunks():
+                text += chunk
+                if b"\n2:\n" in text:
+                    break
+            else:
+                if run.status() != 0:
+                    raise run.failure()
+                record = of_text(text, WHOLE, listed=True)
+                if not record.solutions:
+                    return None if record.branches else {}
+        return self._read(text)
+
+    def _read(self, text: bytes) -> dict[int, Test]:
+        """The tests of the first solution of a listing."""
+        tests: dict[int, Test] = {}
+        _, _, listed = text.partition(b"\n1:\n")
+        for line in itertools.takewhile(lambda line: line.startswith(b" "), listed.split(b"\n")):
+            for test, factor, value in filter(None, map(self._uses.get, line.split(b" "))):
+                tests.setdefault(test, {})[factor] = value
+        return tests
 
 
-# ---- a quick design
-
-
-def _quick(factors: Sequence[Factor], strength: int, deadline: float) -> tuple[Design, list[int]]:
-    """A design without a search, each of whose tests takes up much of what is missing, and the places of its options.
-
-    Raises `OutOfTime`.
-    """
-    model = Design(factors, None, strength)
-    missing = set(model.meetings)
-    tests: list[Test] = []
-    for meeting in model.meetings:
-        if meeting in missing:
-            if time.monotonic() > deadline:
-                raise OutOfTime("no design was found in the time")
-            tests.append(_next_test(factors, strength, meeting, missing))
-            missing.difference_update(_held(tests[-1], strength))
-    design = Design(factors, len(tests), strength)
-    return design, list(_places(design, _in_order(design, tests)))
-
-
-def _next_test(factors: Sequence[Factor], strength: int, meeting: Meeting, missing: set[Meeting]) -> Test:
-    """A test with this, and then with that value of each factor by which most that is missing comes together."""
-    test = dict(meeting)
-    for factor in sorted(set(range(len(factors))) - set(test), key=lambda at: (-len(factors[at].values), at)):
-        others = list(itertools.combinations(sorted(test.items()), strength - 1))
-        test[factor] = max(
-            range(len(factors[factor].values)),
-            key=lambda value: sum(tuple(sorted((*chosen, (factor, value)))) in missing for chosen in others),
-        )
-    return test
-
-
-def _held(test: Test, strength: int) -> Iterator[Meeting]:
-    """What comes together in a test."""
-    return itertools.combinations(sorted(test.items()), strength)
-
-
-def _in_order(design: Design, tests: Sequence[Test]) -> list[Test]:
-    """The tests in the order of the model, which begins with one for each of the values of its first tests."""
-    firsts: dict[int, Test] = {}
-    rest: list[Test] = []
-    for test in tests:
-        if firsts.setdefault(design.first_test(test), test) is not test:
-            rest.append(test)
-    return [*(firsts[place] for place in sorted(firsts)), *rest]
+def _ordered(lines: Sequence[bytes], rng: random.Random | None) -> Sequence[bytes]:
+    return lines if rng is None else [lines[place] for place in order(len(lines), rng)]
 
 
 def _places(design: Design, tests: Sequence[Test]) -> Iterator[int]:
     """The places of the options that make up a design: what comes together, in the first test where it does."""
     where: dict[Meeting, int] = {}
     for number, test in enumerate(tests):
-        for meeting in _held(test, design.strength):
+        for meeting in meetings_of(test, design.strength):
             where.setdefault(meeting, number)
     place = 0
     for meeting in design.meetings:

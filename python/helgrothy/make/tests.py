@@ -17,8 +17,6 @@ from .kind import Found, Kind, read_text
 _ITEM = re.compile(r"t([0-9]+)/([^:]+)(?::(.+))?\Z")
 # Where the table begins in the comments of a problem.
 _TABLE_AT = 2
-# The time for as few tests as can be, where none is given.
-_SECONDS = 10.0
 
 
 def problem(factors: str, tests: int, strength: int = 2) -> Problem[Option]:
@@ -37,8 +35,9 @@ def problem(factors: str, tests: int, strength: int = 2) -> Problem[Option]:
     return Design(read_factors(factors), tests, strength).problem()
 
 
-def few(factors: str, strength: int = 2, seconds: float = _SECONDS) -> Few:
-    """The design of the fewest tests that is found in the time.
+def few(factors: str, strength: int = 2, seconds: float | None = None) -> Few:
+    """The design of the fewest tests that is found in the time; without a time in some ten seconds of a processor, and
+    then the same on every machine.
 
     Raises `TableFault`, `ValueError`, or `OutOfTime` where the time isn't enough for any.
     """
@@ -96,7 +95,7 @@ def _add_search_arguments(parser: argparse.ArgumentParser) -> None:
     parser.add_argument(
         "--least",
         action="store_true",
-        help=f"as few tests as are found in the time of --seconds (default: {_SECONDS:g})",
+        help="as few tests as are found, in some ten seconds of a processor or else in the time of --seconds",
     )
 
 
@@ -106,7 +105,8 @@ def _search(arguments: argparse.Namespace) -> Callable[[float | None], Found] | 
     if arguments.tests is not None:
         raise ValueError("either --tests or --least")
     table = _table(arguments)
-    return lambda seconds: few(table, arguments.strength, _SECONDS if seconds is None else seconds).found()
+    hint = "; --seconds S looks longer" if arguments.seconds is None else " in the time"
+    return lambda seconds: few(table, arguments.strength, seconds).found(hint)
 
 
 KIND = Kind(
