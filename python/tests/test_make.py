@@ -75,6 +75,9 @@ class Makers(unittest.TestCase):
         for pieces, region in (("AB\n", "1x2"), ("A\n\nAA\n", "1x2"), ("A\n", "0x2"), ("A\n", "##\n")):
             with self.assertRaises(TableFault):
                 make.polyominoes.problem(pieces, region)
+        for pieces, line in (("BB\n\nA.A\n", 3), ("A\n.A\n", 1), ("B\n\nAAA\n\n..C\nC.C\n", 5)):
+            with self.assertRaisesRegex(TableFault, f"^line {line}: [AC]: a piece whose squares don't hang together$"):
+                make.polyominoes.problem(pieces, "2x3")
 
     def test_words(self):
         # The six words of three letters: of the 12 Latin squares (OEIS A002860) those in which no line comes twice,

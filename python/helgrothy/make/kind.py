@@ -4,7 +4,7 @@ from __future__ import annotations
 
 import argparse
 import re
-from collections.abc import Callable, Sequence, Sized
+from collections.abc import Callable, Iterable, Sequence, Sized
 from dataclasses import dataclass
 from typing import Any, TypeVar
 
@@ -81,6 +81,21 @@ def check_items(items: int) -> None:
     """Raises `ValueError` for more items than a problem may have."""
     if items > MOST_ITEMS:
         raise ValueError(f"the problem would have {items} items, and may have {MOST_ITEMS}")
+
+
+def is_one(cells: Iterable[tuple[int, ...]]) -> bool:
+    """Whether one can go from each of the cells to each other one through their sides, in any number of dimensions."""
+    left = set(cells)
+    reached = [left.pop()]
+    while reached:
+        at = reached.pop()
+        for axis in range(len(at)):
+            for step in (-1, 1):
+                beside = (*at[:axis], at[axis] + step, *at[axis + 1 :])
+                if beside in left:
+                    left.remove(beside)
+                    reached.append(beside)
+    return not left
 
 
 def cut(text: str) -> str:

@@ -15,7 +15,7 @@ from ..solid import Cube, Solid, check_box
 from ..syntax import MOST_USES
 from ..turns import images
 from .cubes import SETS
-from .kind import Counted, Kind, check_items, numbered, read_text
+from .kind import Counted, Kind, check_items, is_one, numbered, read_text
 
 Form = frozenset[tuple[int, ...]]
 Lines = list[tuple[int, str]]
@@ -145,7 +145,7 @@ def _piece(block: Lines) -> tuple[int, str, Form]:
     letters = sorted(set(marks.values()))
     if len(letters) != 1:
         raise TableFault(first, " ".join(letters), "a piece is drawn by one letter")
-    if not _is_one(list(marks)):
+    if not is_one(marks):
         raise TableFault(first, letters[0], "a piece whose cubes don't hang together")
     least = [min(axis) for axis in zip(*marks)]
     return first, letters[0], frozenset(tuple(at - low for at, low in zip(cube, least)) for cube in marks)
@@ -162,26 +162,6 @@ def _cubes(block: Lines) -> Iterator[tuple[int, int, int, str]]:
         for layer, word in enumerate(words, 1):
             for c, mark in enumerate(word, 1):
                 yield layer, r, c, mark
-
-
-def _is_one(cubes: Sequence[Cube]) -> bool:
-    """Whether one can go from each cube to each other one through their sides."""
-    left = set(cubes)
-    reached = [left.pop()]
-    while reached:
-        layer, r, c = reached.pop()
-        for beside in (
-            (layer - 1, r, c),
-            (layer + 1, r, c),
-            (layer, r - 1, c),
-            (layer, r + 1, c),
-            (layer, r, c - 1),
-            (layer, r, c + 1),
-        ):
-            if beside in left:
-                left.remove(beside)
-                reached.append(beside)
-    return not left
 
 
 def _laid(form: Form, cells: Sequence[Cube]) -> Iterator[list[Cube]]:

@@ -12,7 +12,7 @@ from ..draw import Cell, Drawing, Picture, Shades, check_size
 from ..errors import TableFault
 from ..problem import Problem
 from ..syntax import MOST_USES
-from .kind import Counted, Kind, check_items, numbered, picture, read_text
+from .kind import Counted, Kind, check_items, is_one, numbered, picture, read_text
 
 Square = tuple[int, int]
 Form = frozenset[Square]
@@ -104,6 +104,8 @@ def _pieces(text: str) -> Iterator[tuple[int, str, Form]]:
             letters = sorted({block[r][1][c] for r, c in squares})
             if len(letters) != 1:
                 raise TableFault(block[0][0], " ".join(letters), "a piece is drawn by one letter")
+            if not is_one(squares):
+                raise TableFault(block[0][0], letters[0], "a piece whose squares don't hang together")
             yield block[0][0], letters[0], _moved(squares)
             block = []
 
