@@ -261,6 +261,8 @@ def _show(problem: Problem[Any], arguments: argparse.Namespace) -> int:
         console.say(line)
     if page is not None:
         write([page.text(total, bool(solutions.complete), reasons)])
+    if total and not shown:
+        return _fail(f"there is no solution {number}", 1)
     return 0 if shown else 1
 
 
@@ -436,7 +438,7 @@ def _draw(arguments: argparse.Namespace) -> int:
                 break
     if page is not None and shown:
         write([page.text(shown, False)])
-    return 0 if shown else _fail("the listing has no solution to draw", 1)
+    return 0 if shown else _fail(f"the listing has no solution {arguments.number or 'to draw'}", 1)
 
 
 def _drawing(

@@ -116,6 +116,14 @@ class Commands(InFolder):
             self.assertEqual(run(*words)[0], 2)
         self.assertEqual(run("--help")[0], 0)
 
+    def test_no_such_solution(self):
+        for words in ((), ("--json",), ("--shuffle", "3")):
+            told = run("queens", "6", "--number", "9", *words)
+            self.assertEqual(told, (1, "", "Altogether 4 solutions.\nhelgrothy: there is no solution 9\n"))
+        self.assertNotIn("no solution 9", run("queens", "3", "--number", "9")[2])
+        path = self.file("q.dlx", make.queens.problem(6).text)
+        self.assertEqual(run("draw", path, "--number", "9"), (1, "", "helgrothy: the listing has no solution 9\n"))
+
     def test_as_a_program(self):
         how = {"cwd": PACKAGE, "capture_output": True, "text": True}
         told = subprocess.run([sys.executable, "-m", "helgrothy", "--version"], **how)
