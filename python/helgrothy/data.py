@@ -1,6 +1,7 @@
 """Solutions as data: a line of JSON for each solution, or a line of CSV for each choice.
 
-Options are told by their numbers, from 1 on, as the variables of exports are.
+Options are told by their numbers, from 1 on, as the variables of exports are. `of_json` and `of_csv` give back a name
+that isn't written as it is.
 """
 
 from __future__ import annotations
@@ -8,18 +9,53 @@ from __future__ import annotations
 import csv
 import io
 import json
+import re
 from abc import ABC, abstractmethod
 from collections.abc import Callable, Iterable, Iterator, Mapping, Sequence
 from typing import Any, Optional
 
 from .problem import Problem
+from .shown import bytes_of, text_of
 
-__all__ = ["FORMATS", "Csv", "Data", "Json"]
+__all__ = ["FORMATS", "Csv", "Data", "Json", "of_csv", "of_json", "to_csv", "to_json"]
 
 Uses = Mapping[str, Optional[str]]
 
 # Lines of CSV are filled up to so many items: one long option doesn't make all others long.
 _MOST_FILLED = 1_000
+# A byte of a name as JSON has it, behind what stands there for a character that isn't known.
+_BYTE = re.compile("\ufffd([0-9a-f]{2})")
+_NOT_IN_JSON = re.compile("[\ufffd\udc80-\udcff]")
+# What a spreadsheet takes for a formula where it isn't a number, or begins with apostrophes and then so.
+_FORMULA = re.compile(r"'*[=+@-]")
+_NUMBER = re.compile(r"[+-]?[0-9]+(?:\.[0-9]+)?\Z")
+
+
+def to_json(name: str) -> str:
+    """A name of any bytes as a text that JSON may have.
+
+    Each byte that isn't UTF-8 is U+FFFD and its two hexadecimal digits; so are the bytes of a U+FFFD.
+    """
+    return _NOT_IN_JSON.sub(lambda found: "".join(f"\ufffd{byte:02x}" for byte in bytes_of(found.group())), name)
+
+
+def of_json(text: str) -> str:
+    """The name that is written so."""
+    parts = _BYTE.split(text)
+    return text_of(b"".join(bytes.fromhex(part) if place % 2 else bytes_of(part) for place, part in enumerate(parts)))
+
+
+def to_csv(word: str) -> str:
+    """A word as a cell that no spreadsheet takes for a formula.
+
+    One that begins with = + - or @ and isn't a number gets an apostrophe in front; so does one that has it already.
+    """
+    return f"'{word}" if _FORMULA.match(word) and not _NUMBER.match(word) else word
+
+
+def of_csv(cell: str) -> str:
+    """The word that is written so."""
+    return cell[1:] if cell.startswith("'") and _FORMULA.match(cell) else cell
 
 
 class Data(ABC):
@@ -41,8 +77,14 @@ class Data(ABC):
         """The names of an option's items, each with its colour's name or None."""
         found = self._uses.get(place)
         if found is None:
-            found = self._uses[place] = self._problem._uses(self._problem.options[place])
+            uses = self._problem._uses(self._problem.options[place]).items()
+            found = {self._written(item): None if colour is None else self._written(colour) for item, colour in uses}
+            self._uses[place] = found
         return found
+
+    def _written(self, name: str) -> str:
+        """A name as this form has it."""
+        return name
 
 
 class Json(Data):
@@ -50,6 +92,9 @@ class Json(Data):
 
     def head(self) -> str:
         return ""
+
+    def _written(self, name: str) -> str:
+        return to_json(name)
 
     def solution(self, number: int, places: Sequence[int]) -> str:
         uses = [self._named(place) for place in places]
@@ -81,7 +126,7 @@ class Csv(Data):
 
     def _words(self, place: int) -> Iterator[str]:
         for item, colour in self._named(place).items():
-            yield item if colour is None else f"{item}:{colour}"
+            yield to_csv(item if colour is None else f"{item}:{colour}")
 
     @staticmethod
     def _lines(rows: Iterable[Sequence[object]]) -> str:

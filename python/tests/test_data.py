@@ -9,7 +9,7 @@ import re
 import tempfile
 import unittest
 
-from helgrothy import NoPicture, Problem, make
+from helgrothy import NoPicture, Problem, data, make
 from helgrothy.draw import Pattern
 from helgrothy.table import Table
 from test_commands import run
@@ -61,7 +61,18 @@ class Json(unittest.TestCase):
             file.flush()
             text = run("solve", file.name, "--json")[1]
         self.assertTrue(text.isascii() and text.count("\n") == 1 and "\x1b" not in text)
-        self.assertEqual(json.loads(text)["items"], [["a\udcff\x1b"], ["ä"]])
+        self.assertEqual(json.loads(text)["items"], [["a\ufffdff\x1b"], ["ä"]])
+
+    def test_any_bytes_come_back(self):
+        """No text of JSON has half of a character, which strict readers refuse, and no two names are written alike."""
+        names = ["a", "\ufffd", "\ufffdff", "\udcff", "ff", "\udcef\udcbf", "ä\udcc3\ufffd", "\U0001f600\udc80", "\\xff"]
+        written = [data.to_json(name) for name in names]
+        self.assertEqual([data.of_json(text) for text in written], names)
+        self.assertEqual(len(set(written)), len(names))
+        for text in written:
+            text.encode()
+        problem = Problem(names, ["x"], [{name: None, "x": "\udcfe"} for name in names])
+        self.assertEqual(json.loads(data.Json(problem).solution(1, [3]))["colours"], {"x": "\ufffdfe"})
 
     def test_a_listing(self):
         with tempfile.TemporaryDirectory() as folder:
@@ -83,6 +94,17 @@ class Csv(unittest.TestCase):
         self.assertEqual({len(row) for row in rows}, {5})
         for other in ("--json", "--svg"):
             self.assertEqual(run("queens", "6", "--csv", other)[0], 2)
+
+    def test_no_cell_is_a_formula(self):
+        cells = {
+            "=1+1": "'=1+1", "@x": "'@x", "-mon": "'-mon", "--5": "'--5", "+1e9": "'+1e9", "'=1": "''=1", "''-5": "'''-5",
+            **{word: word for word in ("+1", "-5", "-1.5", "5", "'s", "'", "a=1")},
+        }  # fmt: skip
+        self.assertEqual({word: data.to_csv(word) for word in cells}, cells)
+        self.assertEqual({data.of_csv(cell): cell for cell in cells.values()}, cells)
+        text = run("solve", "--csv", given='=CALL("x") -7 | @y\n=CALL("x") @y:=1\n-7\n')[1]
+        rows = list(csv.reader(io.StringIO(text)))[1:]
+        self.assertEqual(sorted(row[2:] for row in rows), [["'=CALL(\"x\")", "'@y:=1"], ["-7", ""]])
 
 
 class Tables(unittest.TestCase):

@@ -181,6 +181,10 @@ class Timetables(unittest.TestCase):
         self.assertEqual(count("lesson,maths,ann", "person,ann,,-tue\n"), 4)
         self.assertEqual(count("lesson,maths,,mon-1 lab"), 1)
 
+    def test_apostrophes_of_spreadsheets(self):
+        plain, written = make.timetable.problem(TABLE), make.timetable.problem(TABLE.replace(",-", ",'-"))
+        self.assertEqual((written.items, written.secondary, written.options), (plain.items, plain.secondary, plain.options))
+
     def test_other_signs(self):
         for text in (TABLE.replace(",", ";"), TABLE.replace(",", "\t"), "\ufeff" + TABLE, TABLE.replace("\n", "\r\n"),
                      TABLE.replace("ann 1a", '"ann 1a"'), TABLE.replace("\n\n", "\n,,,,\n")):  # fmt: skip

@@ -18,6 +18,7 @@ from collections.abc import Iterator
 from dataclasses import dataclass, field
 from typing import NoReturn
 
+from ..data import of_csv
 from ..errors import TableFault
 from ..shown import bytes_of
 from ..syntax import MOST_NAME, MOST_USES, Nearest
@@ -333,7 +334,7 @@ def _lines(text: str) -> Iterator[_Line]:
             raise TableFault(number, "", f"no CSV: {error}") from None
         if row is None:
             return
-        cells = [cell.strip() for cell in row]
+        cells = [of_csv(cell.strip()) for cell in row]
         if any(cells) and not cells[0].startswith("#"):
             yield _line(number, *cells)
 
