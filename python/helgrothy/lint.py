@@ -10,7 +10,7 @@ from itertools import islice
 from .problem import Problem
 from .shown import shown
 from .sums import search
-from .syntax import Bounds, Sheet, read
+from .syntax import COMMENT, Bounds, Sheet, read
 
 __all__ = ["Remark", "lint"]
 
@@ -40,14 +40,17 @@ def lint(text: bytes, kind: int = 3, seconds: float = 1.0) -> list[Remark]:
     isn't read on, and of each kind of slip a thousand are told.
     """
     sheet = read(text, kind)
-    remarks = [Remark(fault.line, fault.token, _reason(fault.reason, fault.hint), True) for fault in sheet.faults]
+    # What is behind all others stands before them.
+    comment = list(_hash(sheet))
+    faults = [Remark(fault.line, fault.token, _reason(fault.reason, fault.hint), True) for fault in sheet.faults]
+    remarks = comment + faults
     for rule in (_mark, _bars, _numbers):
         remarks += _some(rule(sheet))
     if sheet.is_cut:
         rest = f"so many faults ({len(sheet.faults)}) that the rest isn't read"
         remarks.append(Remark(sheet.faults[-1].line, "", rest))
         return sorted(remarks, key=lambda remark: remark.line)
-    for rule in (_held, _twins, _ignored):
+    for rule in (_twins, _ignored) if comment and faults else (_held, _twins, _ignored):
         remarks += _some(rule(sheet))
     if not sheet.faults and not any(remark.text.endswith("no solution") for remark in remarks):
         problem = Problem._of_sheet(sheet)
@@ -69,6 +72,16 @@ def _some(remarks: Iterator[Remark]) -> Iterator[Remark]:
 
 def _reason(reason: str, hint: str) -> str:
     return f"{reason} ({hint})" if hint else reason
+
+
+def _hash(sheet: Sheet) -> Iterator[Remark]:
+    """`# a comment` is the item line where it is the first line."""
+    if sheet.item_tokens and sheet.item_tokens[0].startswith("#"):
+        first, *_ = sheet.item_tokens
+        faulty = {fault.line for fault in sheet.faults}
+        if not any(first in option.uses for option in sheet.options if option.line not in faulty):
+            line = " ".join(sheet.item_tokens)[:_LONGEST]
+            yield Remark(sheet.item_line, line, f"taken for the items; {COMMENT}")
 
 
 def _mark(sheet: Sheet) -> Iterator[Remark]:

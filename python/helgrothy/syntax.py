@@ -24,6 +24,7 @@ MOST_BOUND = 999_999_999
 WHITE = b" \t\v\f\r"
 # Behind so many faults a text isn't read on.
 MOST_FAULTS = 1_000
+COMMENT = "a comment begins with |"
 # The nearest names are looked for so many seconds in all, and among so many names each.
 _HINTING = 0.2
 _MOST_NEAR = 20_000
@@ -124,6 +125,9 @@ class _Reader:
         return self.sheet
 
     def tell(self, line: int, token: bytes, reason: str, hint: str = "") -> None:
+        if not self.sheet.faults and self.sheet.item_tokens[:1] == ["#"]:
+            # What is wrong is what came of it.
+            hint = f"line {self.sheet.item_line} is taken for the items; {COMMENT}"
         self.sheet.faults.append(ProblemFault(line, text_of(token), reason, hint))
         if len(self.sheet.faults) == self.most_faults:
             raise _Enough
@@ -246,7 +250,7 @@ class _Reader:
             return f"a colour has 1 to {MOST_COLOUR} bytes"
         if reason == "unknown item":
             if name.startswith(b"#"):
-                return "a comment begins with |"
+                return COMMENT
             return self.nearest.question(text_of(name), self.sheet.items)
         return ""
 

@@ -4,7 +4,7 @@ import shutil
 import subprocess
 import unittest
 
-from helgrothy import Problem, export, make
+from helgrothy import Problem, ProblemFault, export, make
 from helgrothy.lint import lint
 from helgrothy.sums import search
 
@@ -29,6 +29,22 @@ class Lint(unittest.TestCase):
             with self.subTest(text=text):
                 found = [(remark.line, remark.token) for remark in lint(text.encode(), kind)]
                 self.assertTrue(set(found) <= set(wanted) and bool(found) == bool(wanted), found)
+
+    def test_another_sign_of_a_comment(self):
+        for text, line, others in (
+            ("# a comment\nA B\nA\nB\n", "# a comment", 4),
+            ("#exams\n# by me\nA\nA\n", "#exams", 5),
+            ("# exams\n# of us: all\nA\nA\n", "# exams", 5),
+            ("# A\nA\n", "# A", 1),
+        ):
+            with self.subTest(text=text):
+                first, *rest = map(str, lint(text.encode()))
+                self.assertEqual(first, f"line 1: {line}: taken for the items; a comment begins with |")
+                self.assertEqual(len(rest), others)
+        self.assertEqual(lint(b"#1 #2\n#1\n#2\n"), [])
+        with self.assertRaises(ProblemFault) as raised:
+            Problem.parse("# a comment\nA B\nA\nB\n")
+        self.assertEqual(raised.exception.hint, "line 1 is taken for the items; a comment begins with |")
 
     def test_the_nearest_name(self):
         self.assertIn("is it tuesday?", str(lint(b"tuesday\ntusday\ntuesday\n")[0]))
