@@ -30,15 +30,23 @@ _LAST_LINE = re.compile(r"Altogether (\d+) solutions?( \(limit\))?\.\Z")
 
 def folders(program: str) -> list[str]:
     """The folders in which a program is looked for before the path, in their order."""
-    # No link is followed: the programs are beside the package as it is named.
-    package = os.path.dirname(os.path.abspath(__file__))
-    top = os.path.dirname(os.path.dirname(package))
+    package, top = _package(), _top()
     given = [folder for folder in os.environ.get(VARIABLE, "").split(os.pathsep) if folder]
     beside = [os.path.join(package, "bin")]
     # Anybody may make a `bin` beside a package that lies in a folder of /tmp.
     if _is_anybodys(package) or not _is_anybodys(top):
         beside += [os.path.join(top, "bin"), os.path.join(top, "crates", program, "out")]
     return given + beside
+
+
+def _package() -> str:
+    # No link is followed: the programs are beside the package as it is named.
+    return os.path.dirname(os.path.abspath(__file__))
+
+
+def _top() -> str:
+    """The folder of a repository or a release that the package is of, where it is of one."""
+    return os.path.dirname(os.path.dirname(_package()))
 
 
 def _is_anybodys(folder: str) -> bool:
@@ -53,7 +61,14 @@ def find(program: str) -> str:
         path = os.path.join(folder, program)
         if os.path.isfile(path) and os.access(path, os.X_OK):
             return path
-    raise ProgramNotFound(f"{program} is neither beside the package nor on the path; name its folder by {VARIABLE}")
+    raise ProgramNotFound(_not_found(program))
+
+
+def _not_found(program: str) -> str:
+    top = _top()
+    if os.path.isfile(os.path.join(top, "crates.txt")):
+        return f"{program} isn't built; `make all` in {top} builds all programs, or {VARIABLE} names their folder"
+    return f"{program} is neither beside the package nor on the path; name its folder by {VARIABLE}"
 
 
 def has(program: str) -> bool:

@@ -122,6 +122,18 @@ class Isolated(unittest.TestCase):
         done = command("helgrothy", "queens", "4", environment={"PATH": f"{self.folder}:/usr/bin:/bin"})
         self.assertEqual(done.stdout, BOARD)
 
+    def test_programs_that_are_not_built(self):
+        package = self.file("python/helgrothy/programs.py", "")
+        nowhere = mock.patch.dict(os.environ, {"PATH": "", programs.VARIABLE: ""})
+        with nowhere, mock.patch.object(programs, "__file__", package):
+            with self.assertRaisesRegex(ProgramNotFound, "^dlx1 is neither beside the package nor on the path; name its"):
+                programs.find("dlx1")
+            # As a repository has it, and no release.
+            self.file("crates.txt", "")
+            told = f"^dlx-span isn't built; `make all` in {self.folder} builds all programs"
+            with self.assertRaisesRegex(ProgramNotFound, told):
+                programs.find("dlx-span")
+
     def test_no_program_that_anybody_may_put_there_is_run(self):
         os.chmod(self.folder, 0o1777)
         self.file("bin/dlx1", "#!/bin/sh\n", 0o755)

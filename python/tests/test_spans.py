@@ -1048,6 +1048,12 @@ class Commands(unittest.TestCase):
                 self.assertEqual((status, printed), (2, b""))
                 self.assertNotIn("Traceback", told)
 
+    def test_a_python_without_dask(self):
+        told = f"^--dask needs Dask's package distributed, and {sys.executable} has none: install it there, or put a python3"
+        with mock.patch.object(workers, "import_module", side_effect=ImportError):
+            with self.assertRaisesRegex(SearchFault, told):
+                workers.Dask("tcp://first:8786")
+
     def test_nobody_sees_the_progress(self):
         with open("/dev/full", "w") as full, mock.patch.object(sys, "stderr", full):
             shown = show.Shown(False)

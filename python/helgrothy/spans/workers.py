@@ -176,7 +176,10 @@ class Dask(Workers):
         try:
             distributed: Any = import_module("distributed")
         except ImportError:
-            raise SearchFault("--dask needs Dask's package distributed (python3-distributed of Debian)") from None
+            raise SearchFault(
+                f"--dask needs Dask's package distributed, and {sys.executable} has none: install it there, or put a "
+                "python3 that has it first on the path (python3-distributed of Debian is for /usr/bin/python3)"
+            ) from None
         # What it would tell of lost workers on standard error isn't of the listing's messages.
         logging.disable(logging.CRITICAL)
         try:
