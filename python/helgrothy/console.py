@@ -31,14 +31,62 @@ _MOST_SECONDS = 1e9
 # is on its way, which may take seconds on a machine that does other things: a second one would break off what is done
 # at the end.
 _ON_ITS_WAY, _AT_WORK = 10.0, 0.5
+# Behind a wrong word so many that are as near, as `difflib` reckons, are told, or so many where none is near.
+_MOST_NEAR, _NEAR, _MOST_TOLD = 3, 0.65, 16
 _INPUT, _OUTPUT, _ERROR = "standard input", "standard output", "standard error"
 
 
 class Parser(argparse.ArgumentParser):
-    """A parser whose messages hold no byte that steers a terminal."""
+    """A parser whose messages are a line each, with what is near to a wrong word and no byte that steers a terminal.
 
-    def error(self, message: str) -> Any:
-        super().error(shown(message))
+    Options are written in full: what is short enough for one today may be another one's tomorrow.
+    """
+
+    def __init__(self, *words: Any, **more: Any) -> None:
+        more.setdefault("allow_abbrev", False)
+        super().__init__(*words, **more)
+
+    def error(self, message: str) -> NoReturn:
+        self.exit(2, f"{shown(f'{self.prog}: {message}; see {self.prog} --help')}\n")
+
+    def parse_known_args(self, args: Any = None, namespace: Any = None) -> Any:
+        found, rest = super().parse_known_args(args, namespace)
+        if rest:
+            # The commands of a parser look at their own words first.
+            self.error(self._surplus(rest[0]))
+        return found, rest
+
+    def _surplus(self, word: str) -> str:
+        """What is wrong with a word that no place or option takes."""
+        if not word.startswith("-"):
+            return f"{word}: one word too many"
+        if self._subparsers is not None:
+            return f"{word}: no such option; those of a command stand behind it"
+        name = word.partition("=")[0]
+        options = [option for action in self._actions for option in action.option_strings if option.startswith("--")]
+        return f"{name}: no such option{did_you_mean(name, [one for one in options if one != '--help'])}"
+
+    def _check_value(self, action: argparse.Action, value: Any) -> None:
+        if action.choices is not None and value not in action.choices:
+            what = str(action.metavar or action.dest).lower()
+            raise argparse.ArgumentError(None, f"{value}: no such {what}{did_you_mean(value, action.choices)}")
+
+
+def did_you_mean(word: str, words: Iterable[str]) -> str:
+    """Behind a wrong word those of the right ones that are near to it, or all where none is and they are few."""
+    # A command whose words are right doesn't wait for it.
+    from difflib import get_close_matches
+
+    known = {one.lstrip("-"): one for one in words}
+    given = word.lstrip("-")
+    begun = [one for one in known if len(given) > 1 and one.startswith(given)]
+    near = dict.fromkeys([*begun, *get_close_matches(given, known, _MOST_NEAR, _NEAR)])
+    if near:
+        return f" (is it {' or '.join(known[one] for one in list(near)[:_MOST_NEAR])}?)"
+    if not 0 < len(known) <= _MOST_TOLD:
+        return ""
+    *most, last = known.values()
+    return f" (there are {', '.join(most)} and {last})" if most else f" (there is {last})"
 
 
 def add_problem(parser: argparse.ArgumentParser) -> None:

@@ -13,6 +13,37 @@ from folders import InFolder
 from helgrothy import OutOfTime, commands, make, sums, why
 from helgrothy.__main__ import main
 
+# Each mistake with the line that says what is wrong, and what to do.
+MISTAKES = (
+    (["sudku"], "helgrothy: sudku: no such command (is it sudoku?); see helgrothy --help"),
+    (["xyzzy"], "helgrothy: xyzzy: no such command; see helgrothy --help"),
+    (["--all", "sudoku"], "helgrothy: --all: no such option; those of a command stand behind it; see helgrothy --help"),
+    (["make", "kakoru"], "helgrothy make: kakoru: no such kind (is it kakuro?); see helgrothy make --help"),
+    (["make", "queens", "8", "--all"], "helgrothy make queens: --all: no such option; see helgrothy make queens --help"),
+    (
+        ["queens", "8", "--solutions", "3"],
+        "helgrothy queens: --solutions: no such option (there are --number, --limit, --all, --svg, --html, --json, --csv, --seconds, "
+        "--shuffle and --up-to-symmetry); see helgrothy queens --help",
+    ),
+    (["queens", "8", "--limt=3"], "helgrothy queens: --limt: no such option (is it --limit?); see helgrothy queens --help"),
+    (["queens", "8", "--al"], "helgrothy queens: --al: no such option (is it --all?); see helgrothy queens --help"),
+    (["queens", "8", "9"], "helgrothy queens: 9: one word too many; see helgrothy queens --help"),
+    (["queens"], "helgrothy queens: the following arguments are required: N|REGIONS; see helgrothy queens --help"),
+    (["search", "x.dlx", "--lis"], "helgrothy search: --lis: no such option (is it --list?); see helgrothy search --help"),
+    (["rows", "--fr", "dlx1"], "helgrothy rows: --fr: no such option (is it --for?); see helgrothy rows --help"),
+    (["export", "cmf"], "helgrothy export: cmf: no such format (is it cnf?); see helgrothy export --help"),
+    (["export", "xml"], "helgrothy export: xml: no such format (there are asp, cnf and opb); see helgrothy export --help"),
+    (["queens", "abc"], "helgrothy: abc: neither a number nor a file"),
+    (["tests", "3,3,x", "--least"], "helgrothy: 3,3,x: neither numbers of values nor a file"),
+    (["sudoku", f"{'1' * 299}!"], f"helgrothy: {'1' * 60} ..: neither clues nor a file"),
+    (["polyominoes", "pentomino", "6x10"], "helgrothy: pentomino: neither a set of pieces nor a file (is it pentominoes?)"),
+    (["polyominoes", "pentominoes", "6x"], "helgrothy: 6x: neither ROWSxCOLUMNS nor a file"),
+    (["polycubes", "somma", "3x3x3"], "helgrothy: somma: neither a set of pieces nor a file (is it soma?)"),
+    (["polycubes", "soma", "3x3 x3"], "helgrothy: 3x3 x3: neither LAYERSxROWSxCOLUMNS nor a file"),
+    (["langford", "x"], "helgrothy langford: argument N: x: it has to be a number; see helgrothy langford --help"),
+    (["kakuro", "nowhere"], "helgrothy: nowhere: No such file or directory"),
+)
+
 PACKAGE = os.path.dirname(os.path.dirname(os.path.abspath(__file__)))
 
 
@@ -115,6 +146,11 @@ class Commands(InFolder):
         for words in ((), ("nothing",), ("queens", "4", "--limit", "0")):
             self.assertEqual(run(*words)[0], 2)
         self.assertEqual(run("--help")[0], 0)
+
+    def test_mistakes(self):
+        for words, wanted in MISTAKES:
+            with self.subTest(words=words):
+                self.assertEqual(run(*words), (2, "", f"{wanted}\n"))
 
     def test_no_such_solution(self):
         for words in ((), ("--json",), ("--shuffle", "3")):

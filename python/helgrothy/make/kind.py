@@ -3,12 +3,13 @@
 from __future__ import annotations
 
 import argparse
+import errno
 import re
 from collections.abc import Callable, Iterable, Sequence, Sized
 from dataclasses import dataclass
 from typing import Any, TypeVar
 
-from ..console import read
+from ..console import did_you_mean, read
 from ..draw import Drawing
 from ..errors import TableFault
 from ..problem import Problem
@@ -54,10 +55,20 @@ def kind_of(comments: Sequence[str]) -> str | None:
     return made.group(1) if made else None
 
 
-def read_text(path: str) -> str:
-    """The text of a file, or of standard input where its name is `-`. Raises `OSError` and `ValueError`."""
+def read_text(path: str, otherwise: str = "", words: Iterable[str] = ()) -> str:
+    """The text of a file, or of standard input where its name is `-`.
+
+    otherwise: what a word may be that isn't the name of a file, and `words` are those that it may be.
+
+    Raises `OSError` and `ValueError`.
+    """
     try:
         return read(path).decode()
+    except OSError as error:
+        # A word that was meant as something else may be too long for a name.
+        if not otherwise or error.errno not in (errno.ENOENT, errno.ENAMETOOLONG):
+            raise
+        raise ValueError(f"{cut(path)}: neither {otherwise} nor a file{did_you_mean(path, words)}") from None
     except UnicodeDecodeError as error:
         name = "standard input" if path == "-" else path
         raise ValueError(f"{name}: byte {error.start + 1} isn't UTF-8") from None

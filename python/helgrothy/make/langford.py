@@ -3,12 +3,15 @@
 from __future__ import annotations
 
 import argparse
+import re
 from collections.abc import Sequence
 from typing import Any
 
 from ..draw import Cell, Drawing, Picture, Shades, check_size
 from ..problem import Problem
 from .kind import Counted, Kind, check_items
+
+_NUMBER = re.compile(r"-?[0-9]{1,99}\Z")
 
 
 def problem(pairs: int) -> Problem[list[str]]:
@@ -54,8 +57,14 @@ def drawing(problem: Problem[Any]) -> Drawing:
     return draw
 
 
+def _number(word: str) -> int:
+    if not _NUMBER.match(word):
+        raise argparse.ArgumentTypeError(f"{word}: it has to be a number")
+    return int(word)
+
+
 def _add_arguments(parser: argparse.ArgumentParser) -> None:
-    parser.add_argument("pairs", metavar="N", type=int, help="how many pairs")
+    parser.add_argument("pairs", metavar="N", type=_number, help="how many pairs")
 
 
 KIND = Kind(

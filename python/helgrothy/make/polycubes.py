@@ -226,8 +226,11 @@ def _add_arguments(parser: argparse.ArgumentParser) -> None:
 
 
 def _make(arguments: argparse.Namespace) -> Problem[list[str]]:
-    pieces = arguments.pieces if arguments.pieces in SETS else read_text(arguments.pieces)
-    box = arguments.box if _SIZES.match(arguments.box) else read_text(arguments.box)
+    pieces, box = arguments.pieces, arguments.box
+    if pieces not in SETS:
+        pieces = read_text(pieces, "a set of pieces", SETS)
+    if not _SIZES.match(box):
+        box = read_text(box, "LAYERSxROWSxCOLUMNS")
     return problem(pieces, box, mirrors=arguments.mirrors, some=arguments.some)
 
 

@@ -183,8 +183,11 @@ def _add_arguments(parser: argparse.ArgumentParser) -> None:
 
 
 def _make(arguments: argparse.Namespace) -> Problem[list[str]]:
-    pieces = arguments.pieces if arguments.pieces in SETS else read_text(arguments.pieces)
-    region = arguments.region if _BOX.match(arguments.region) else read_text(arguments.region)
+    pieces, region = arguments.pieces, arguments.region
+    if pieces not in SETS:
+        pieces = read_text(pieces, "a set of pieces", SETS)
+    if not _BOX.match(region):
+        region = read_text(region, "ROWSxCOLUMNS")
     return problem(pieces, region, turns=not arguments.no_turns, mirrors=not arguments.no_mirrors)
 
 

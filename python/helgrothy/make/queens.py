@@ -132,7 +132,7 @@ def _add_arguments(parser: argparse.ArgumentParser) -> None:
 def _make(arguments: argparse.Namespace) -> Problem[list[str]]:
     if _NUMBER.match(arguments.board):
         return problem(int(arguments.board))
-    return problem(regions=read_text(arguments.board))
+    return problem(regions=read_text(arguments.board, "a number"))
 
 
 KIND = Kind(

@@ -261,7 +261,7 @@ def _make(arguments: argparse.Namespace) -> Problem[list[str]]:
     if not given and arguments.regions is None and arguments.cages is None:
         raise ValueError("the clues are missing; only with --regions or --cages there may be none")
     regions, cages = (None if path is None else read_text(path) for path in (arguments.regions, arguments.cages))
-    return problem(read_text(given) if is_file else given, regions=regions, cages=cages)
+    return problem(read_text(given, "clues") if is_file else given, regions=regions, cages=cages)
 
 
 KIND = Kind("sudoku", "a Sudoku from its clues", _add_arguments, _make, drawing)

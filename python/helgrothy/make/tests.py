@@ -82,7 +82,8 @@ def _add_arguments(parser: argparse.ArgumentParser) -> None:
 
 
 def _table(arguments: argparse.Namespace) -> str:
-    return str(arguments.factors) if LEVELS.match(arguments.factors) else read_text(arguments.factors)
+    given: str = arguments.factors
+    return given if LEVELS.match(given) else read_text(given, "numbers of values")
 
 
 def _make(arguments: argparse.Namespace) -> Problem[Option]:
