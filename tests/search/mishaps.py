@@ -9,7 +9,7 @@ import subprocess
 import tempfile
 import time
 
-from .trial import CANT, NOT_DONE, TOP, Wrong
+from .trial import CANT, LONG, MOST_JOBS, NOT_DONE, TOP, Wrong
 
 KILLS = [signal.SIGKILL, signal.SIGTERM, signal.SIGINT, signal.SIGHUP]
 
@@ -101,9 +101,10 @@ def group_is_interrupted(trial):
     time.sleep(trial.rng.uniform(0.2, 1.5))
     if process.poll() is None:
         os.killpg(process.pid, signal.SIGINT)
-    begun = time.monotonic()
+    begun = trial.spans_begun()
     if trial.end(process, may_be_killed=True)[0] != 0:
-        if time.monotonic() - begun > 20:
+        # Each worker may have been about to begin one.
+        if trial.spans_begun() > begun + 2 * MOST_JOBS:
             raise Wrong("it didn't stop at once")
         trial.finish()
 
@@ -368,7 +369,7 @@ def looks(trial):
     """`status` tells something at any time."""
     if not os.path.isdir(trial.folder):
         return
-    done = subprocess.run(["helgrothy", "status", trial.folder], capture_output=True, timeout=60)
+    done = subprocess.run(["helgrothy", "status", trial.folder], capture_output=True, timeout=LONG)
     trial.say(f"status {done.returncode} of helgrothy status: {done.stdout!r} {done.stderr!r}")
     if b"Traceback" in done.stderr or done.returncode not in (0, 2) or (done.returncode == 0) != (done.stderr == b""):
         raise Wrong(f"helgrothy status: {done}")
@@ -470,9 +471,8 @@ def workers_of_dask(trial):
 
     file = ["--no-dashboard", "--scheduler-file", where]
     begin("distributed.cli.dask_scheduler", "--host", "127.0.0.1", "--port", "0", *file)
-    for _ in range(1200):
-        if os.path.exists(where):
-            break
+    until = time.monotonic() + LONG
+    while not os.path.exists(where) and time.monotonic() < until:
         time.sleep(0.1)
 
     def worker():

@@ -18,17 +18,19 @@ from helgrothy.make import langford, queens  # noqa: E402
 from problems import narrow, problem_of  # noqa: E402
 
 NOT_DONE, CANT, STOPPED = 6, 2, (129, 130, 131, 143, -1, -2, -3, -9, -15)
-# So many seconds a command may take.
-LONG = 300
-# A span has few steps and takes a moment, so that a small search has many.
+# A command that doesn't end in so many seconds never ends, whatever else the machine does; a program whose command was ended
+# ends long before so many.
+LONG, SOON = 1800, 120
+# A span has few steps and takes a moment, so that a small search has many. Each notes that it was begun.
 SLOW = """\
 #!/bin/sh
+echo >>{begun}
 sleep 0.0{pause}
 [ "$3" != 0 ] && [ "$3" -le {most} ] && exec {program} "$@"
 exec {program} "$1" "$2" {most} "$4" "$5"
 """
-# A search has about so many spans.
-SPANS = 60
+# A search has about so many spans, and is done by at most so many programs at once.
+SPANS, MOST_JOBS = 60, 4
 
 
 class Wrong(Exception):
@@ -55,7 +57,9 @@ class Trial:
         self.bin = os.path.join(self.top, "bin")
         told = subprocess.run(["dlx-span", str(self.kind), "m0", "0", "-", "-"], input=self.text, capture_output=True)
         most = max(int(told.stdout.split()[-1]) // SPANS, 1)
-        self.slow = SLOW.format(pause=rng.randint(1, 7), most=most, program=shutil.which("dlx-span"))
+        self.begun = os.path.join(self.top, "begun")
+        how = {"begun": self.begun, "pause": rng.randint(1, 7), "most": most, "program": shutil.which("dlx-span")}
+        self.slow = SLOW.format(**how)
         self.stand_in(self.slow)
 
     def __enter__(self):
@@ -83,7 +87,7 @@ class Trial:
             text = problem_of(rng, kind, items, rng.randint(4, 7) * items, rng.uniform(0.12, 0.35))
             if rng.random() < 0.3:
                 text = text.replace(b"\n", b"\r\n")
-            told = subprocess.run([f"dlx{kind}", "t30001"], input=text, capture_output=True, timeout=60)
+            told = subprocess.run([f"dlx{kind}", "t30001"], input=text, capture_output=True, timeout=LONG)
             solutions = int(re.search(rb"Altogether (\d+)", told.stderr).group(1))
             if solutions <= 30_000 and (solutions > 50 or rng.random() < 0.02):
                 return kind, text
@@ -109,7 +113,7 @@ class Trial:
     # ---- commands
 
     def words(self, *more):
-        jobs = ["--jobs", str(self.rng.randint(1, 4))]
+        jobs = ["--jobs", str(self.rng.randint(1, MOST_JOBS))]
         return ["search", self.path, "--for", f"dlx{self.kind}", *(["--list"] if self.listed else []), *jobs, *more]
 
     def start(self, words, size=None, limit=None, **how):
@@ -180,13 +184,16 @@ class Trial:
         self.leaves_none()
 
     def leaves_none(self):
-        """No program of this try is left a moment after."""
-        for _ in range(100):
-            left = [process for process in self.programs()]
-            if not left:
-                return
+        """No program of this try goes on."""
+        until = time.monotonic() + SOON
+        while left := list(self.programs()):
+            if time.monotonic() > until:
+                raise Wrong(f"programs are left: {left}")
             time.sleep(0.05)
-        raise Wrong(f"programs are left: {left}")
+
+    def spans_begun(self):
+        """How many spans were begun."""
+        return os.path.getsize(self.begun) if os.path.exists(self.begun) else 0
 
     def programs(self, name=b"dlx-"):
         """The processes of programs of this try, which know its folder of programs."""
