@@ -10,8 +10,8 @@ import tempfile
 import time
 
 PROGRAMS = ("chromium", "chromium-browser", "google-chrome")
-# So many seconds an answer, or what is waited for, may take on a machine that does other things too.
-PATIENCE = 120
+# An answer, or what is waited for, that doesn't come in so many seconds never comes, whatever else the machine does.
+PATIENCE = 600
 KEYS = {
     "Enter": (13, "\r"), "Escape": (27, ""), "Tab": (9, ""), "Home": (36, ""), "End": (35, ""), "Backspace": (8, ""),
     "ArrowLeft": (37, ""), "ArrowRight": (39, ""), "ArrowUp": (38, ""), "ArrowDown": (40, ""), ".": (190, "."),
@@ -100,6 +100,7 @@ class Tab:
         self.heard = []
         for part in ("Page", "Runtime", "Log", "Network"):
             self.call(f"{part}.enable")
+        self.call("Performance.enable", timeDomain="threadTicks")
         self.call("Page.addScriptToEvaluateOnNewDocument", source=WATCH)
 
     def call(self, method, **given):
@@ -159,6 +160,10 @@ class Tab:
     def text(self, selector):
         """What is to be read in an element."""
         return self.value(f"document.querySelector({json.dumps(selector)}).innerText")
+
+    def worked(self):
+        """The seconds of a processor that the page's own thread has taken since its address was gone to."""
+        return next(it["value"] for it in self.call("Performance.getMetrics")["metrics"] if it["name"] == "TaskDuration")
 
     def is_shown(self, selector):
         return self.value(f"document.querySelector({json.dumps(selector)}).checkVisibility()")
