@@ -1092,7 +1092,7 @@ class Progress(unittest.TestCase):
         given = io.TextIOWrapper(io.BytesIO(b"3:\n a (2 of 2)\n"))
         with mock.patch.object(sys, "stdin", given), contextlib.redirect_stderr(error):
             self.assertEqual(progress_main([]), 0)
-        self.assertRegex(error.getvalue(), r"\A0.0 seconds: solution 3, 50.00% of the tree")
+        self.assertRegex(error.getvalue(), r"\A[0-9.]+ seconds: solution 3, 50.00% of the tree")
 
 
 if __name__ == "__main__":

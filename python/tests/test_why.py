@@ -89,7 +89,7 @@ class Counting(unittest.TestCase):
             asked = {left: rng.randint(0, 3) for left in range(rng.randint(1, 5))}
             room = {right: rng.randint(0, 4) for right in range(rng.randint(1, 5))}
             near = {left: [right for right in room if rng.random() < 0.5] for left in asked}
-            short = Matching(asked, room, near).short(time.monotonic() + 9)
+            short = Matching(asked, room, near).short(time.monotonic() + 300)
 
             def is_short(lefts):
                 beside = {right for left in lefts for right in near[left]}
@@ -197,7 +197,7 @@ class Solvers(unittest.TestCase):
             for name in SOLVERS:
                 command = [sat_solver.shutil.which(name), *sat_solver.SOLVERS[name]]
                 with self.subTest(name=name, problem=problem.text, kept=kept):
-                    self.assertEqual(sat_solver.Solver(problem, command).has_solution(kept, 9), wanted)
+                    self.assertEqual(sat_solver.Solver(problem, command).has_solution(kept, 300), wanted)
 
     @unittest.skipUnless(SOLVERS, "needs cadical or clasp")
     def test_where_the_programs_come_to_no_end(self):
