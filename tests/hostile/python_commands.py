@@ -11,6 +11,7 @@ them, and the local page are processes of their own. A try that goes wrong is to
 
 import collections
 import contextlib
+import functools
 import html.parser
 import io
 import itertools
@@ -41,10 +42,13 @@ from helgrothy.page.document import document  # noqa: E402
 from helgrothy.spans import commands as span_commands  # noqa: E402
 
 SCRIPT = os.path.join(TOP, "scripts", "helgrothy")
-# A try may take so many seconds on a machine that does other things too, and so much memory.
-HANG, MEMORY = 30, 3 << 30
-# A text of 1 MB that is made to hurt takes so many times what an ordinary one takes, and a little more, at most.
-TIMES, MORE = 3, 0.3
+# A try may take so many seconds of a processor, and one that searches by all of them five seconds of each more. What waits
+# for so many seconds, and works at nothing, waits for ever. So a machine that does other things fails nothing.
+BUSY, HANG = 30 + 5 * (os.cpu_count() or 1), 1800
+MEMORY = 3 << 30
+# A text of 1 MB that is made to hurt takes so many times what an ordinary one takes, and a little more, at most: of a
+# processor. A command that is given a second may take so many.
+TIMES, MORE, IN_A_SECOND = 3, 0.3, 4
 # A search that takes a while rewrites a line of its own on a terminal.
 REWRITTEN = b"\r\x1b[K"
 ELEMENTS = {"svg", "title", "rect", "path", "text", "g"}
@@ -510,7 +514,8 @@ def prepare(top: str) -> None:
         folder = os.path.join(top, f"found{number}")
         words = ["search", path, "--folder", folder, *(["--list"] if number % 2 else [])]
         environment = {**os.environ, "PATH": f"{os.path.dirname(sys.executable)}:/usr/bin:/bin"}
-        subprocess.run([SCRIPT, *words], check=True, env=environment, stdout=subprocess.DEVNULL, stderr=subprocess.DEVNULL)
+        how = {"env": environment, "stdout": subprocess.DEVNULL, "stderr": subprocess.DEVNULL}
+        subprocess.run([SCRIPT, *words], check=True, timeout=HANG, **how)
         found = sorted(name for name in os.listdir(folder) if name.endswith(".span"))
         if number > 1:
             os.remove(os.path.join(folder, found[-1]))
@@ -551,15 +556,48 @@ def try_from(start: int, tries: int, seed: int, top: str, writing: int) -> None:
     os._exit(0)
 
 
+def used_by(group: int) -> float:
+    """The seconds of a processor that a group of processes has used, with what those took that have ended."""
+    ticks = 0
+    for process in filter(str.isdigit, os.listdir("/proc")):
+        with contextlib.suppress(OSError), open(f"/proc/{process}/stat") as file:
+            fields = file.read().rpartition(") ")[2].split()
+            if int(fields[2]) == group:
+                ticks += sum(map(int, fields[11:15]))
+    return ticks / os.sysconf("SC_CLK_TCK")
+
+
+class Patience:
+    """How long a group of processes may be silent."""
+
+    def __init__(self, group: int) -> None:
+        self.group = group
+        self.since = None
+
+    def is_over(self) -> bool:
+        """Asked while it is silent: whether that was too long, counted from the first time on."""
+        now = used_by(self.group), time.monotonic()
+        if self.since is None:
+            self.since = now
+        return now[0] > self.since[0] + BUSY or now[1] > self.since[1] + HANG
+
+    def begin_anew(self) -> None:
+        self.since = None
+
+
 def watched(child: int, reading: int, at: int):
     """The number of the try at which a process ended, and how many went wrong."""
     wrong, told, words = 0, b"", ""
+    patience = Patience(child)
     with contextlib.closing(os.fdopen(reading, "rb", buffering=0)) as pipe:
         while True:
-            if not select.select([pipe], [], [], HANG)[0]:
-                print(f"try {at}: no answer in {HANG} seconds: {words}", flush=True)
+            if not select.select([pipe], [], [], 1)[0]:
+                if not patience.is_over():
+                    continue
+                print(f"try {at}: no answer in {BUSY} seconds of a processor, or in {HANG} in all: {words}", flush=True)
                 os.killpg(child, signal.SIGKILL)
                 break
+            patience.begin_anew()
             chunk = pipe.read(1 << 16)
             if not chunk:
                 break
@@ -604,8 +642,12 @@ class Processes:
         """A run of a script by the shell, in which the commands have their names."""
         told = {**self.environment, "PATH": f"{self.bin}:{self.environment['PATH']}", **environment}
         how = {"cwd": cwd or self.top, "env": told, "stdin": subprocess.DEVNULL, "capture_output": True}
-        # What doesn't end by itself has the status 124.
-        return subprocess.run(["timeout", str(4 * HANG), "/bin/sh", "-c", script], **how)
+        words = ["timeout", str(HANG), "/bin/sh", "-c", f"ulimit -t {BUSY}; {script}"]
+        done = subprocess.run(words, **how)
+        # What waits for ever has the status 124, what works for ever that of a signal.
+        if not 0 <= done.returncode < 124:
+            self.tell(False, f"{script}: it doesn't end, status {done.returncode}")
+        return done
 
     def file(self, name: str, content: bytes) -> str:
         path = os.path.join(self.top, name)
@@ -633,7 +675,8 @@ class Processes:
                 done = self.shell(f"{command} {' '.join(streams)}; echo $? >status")
                 told, listed = (self.shell(f"cat {one} 2>/dev/null").stdout for one in ("told", "listing"))
                 is_right = printed is None or listed in (b"", printed)
-                is_said = int(self.shell("cat status").stdout) != 0 or streams[1:] == (">listing", "2>told")
+                status = int(self.shell("cat status").stdout)
+                is_said = 0 < status < 124 or streams[1:] == (">listing", "2>told")
                 is_said = is_said or command in ("helgrothy make langford 1", "helgrothy status f") and streams[1] == ">listing"
                 is_well = is_right and is_said and b"Traceback" not in told + done.stderr
                 self.tell(is_well, f"{command} {streams}: {done.stderr!r} {told!r} {listed!r}")
@@ -672,33 +715,29 @@ class Processes:
                         ["solve", path, "--cell", "(.)(.)"], ["solve", path, "--json"], ["solve", path, "--csv"], ["\x1b[2J"]):  # fmt: skip
             child, terminal = pty.fork()
             if child == 0:
-                os.execve(SCRIPT, ["helgrothy", *command], self.environment)
+                os.execvpe("timeout", ["timeout", "--foreground", str(HANG), SCRIPT, *command], self.environment)
             told = b""
             with contextlib.suppress(OSError):
                 while True:
                     told += os.read(terminal, 1 << 16)
-            os.waitpid(child, 0)
+            status = os.waitstatus_to_exitcode(os.waitpid(child, 0)[1])
             os.close(terminal)
-            self.tell(not steers(told.replace(b"\r\n", b"\n")), f"{command} on a terminal: {told!r}")
+            self.tell(status in (0, 1, 2) and not steers(told.replace(b"\r\n", b"\n")), f"{command} on a terminal: {status} {told!r}")
 
     def large(self) -> None:
         """Texts and listings of 1 MB: none takes much longer than an ordinary one, nor than it is given."""
         hurting = large_texts()
         ordinary = self.file("ordinary.dlx", hurting.pop("ordinary"))
         exports = [f"helgrothy export {form}" for form in ("asp", "cnf", "opb")]
-        for command in ("helgrothy lint", "helgrothy solve --svg --seconds 20", *exports):
-            usual = self.used(f"{command} {ordinary} >/dev/null")
+        for command in ("helgrothy lint", "helgrothy solve --svg --seconds 600", *exports):
             for what, content in hurting.items():
                 path = self.file("large.dlx", content)
-                seconds = self.used(f"{command} {path} >/dev/null")
-                self.tell(seconds <= TIMES * usual + MORE, f"{command}, {what}: {seconds:.1f} seconds, an ordinary text {usual:.1f}")
+                self.compare(f"{command}, {what}", f"{command} {path} >/dev/null", f"{command} {ordinary} >/dev/null")
         for what, content in hurting.items():
             path = self.file("large.dlx", content)
             for command in ("solve --seconds 1", "why --seconds 1"):
-                start = time.monotonic()
-                done = self.shell(f"helgrothy {command} {path}")
-                seconds = time.monotonic() - start
-                is_well = seconds < 4 and b"Traceback" not in done.stderr and b"out of memory" not in done.stderr
+                seconds, done = self.timed(f"helgrothy {command} {path}")
+                is_well = seconds < IN_A_SECOND and b"Traceback" not in done.stderr and b"out of memory" not in done.stderr
                 self.tell(is_well, f"{command}, {what}: {seconds:.1f} seconds, {done.stderr[-200:]!r}")
         self.large_listings()
 
@@ -707,7 +746,6 @@ class Processes:
         one = b"1:\n" + b" r1 c1 b8 (1 of 1)\n" * 8
         ordinary = self.file("listing", one * (1_000_000 // len(one)))
         for command in (f"helgrothy draw {problem}", f"helgrothy draw {problem} --json", "dlx-progress"):
-            usual = self.used(f"{command} <{ordinary} >/dev/null")
             for what, content in {
                 "no choices": b"".join(b"%d:\n" % number for number in range(1, 130_000)),
                 "one solution": b"1:\n" + b" r1 c1 b8 (1 of 1)\n" * 50_000,
@@ -718,10 +756,9 @@ class Processes:
                 "blank lines": b"\n" * 1_000_000,
             }.items():
                 path = self.file("large", content)
-                seconds = self.used(f"{command} <{path} >/dev/null")
                 # 130,000 solutions are as many boards or lines.
-                is_well = seconds <= TIMES * usual + MORE or what == "no choices" and seconds < 60
-                self.tell(is_well, f"{command}, {what}: {seconds:.1f} seconds, an ordinary listing {usual:.1f}")
+                most = 60 if what == "no choices" else 0
+                self.compare(f"{command}, {what}", f"{command} <{path} >/dev/null", f"{command} <{ordinary} >/dev/null", most)
 
     def makers(self) -> None:
         """Tables and numbers that ask for more than there can be."""
@@ -768,13 +805,13 @@ class Processes:
             "sudoku, large cages": f"sudoku {'.' * 625} --cages {self.file('cages2', chr(10).join('160 ' + ' '.join(f'r{r}c{c}' for c in range(1, 13)) for r in range(1, 26)).encode())}",
         }.items():
             seconds, done = self.timed(f"ulimit -v {MEMORY >> 10}; helgrothy make {command} >/dev/null")
-            is_well = done.returncode in (0, 2) and seconds < HANG and b"Traceback" not in done.stderr and b"memory" not in done.stderr
+            is_well = done.returncode in (0, 2) and seconds < BUSY and b"Traceback" not in done.stderr and b"memory" not in done.stderr
             self.tell(is_well, f"make, {what}: {seconds:.1f} seconds, {done.returncode}, {done.stderr[-300:]!r}")
 
     def page(self) -> None:
         """The local page: whatever it is asked it answers in lines of JSON, and nothing of it is left behind."""
         command = {"stdout": subprocess.PIPE, "stderr": subprocess.PIPE, "text": True, "env": self.environment}
-        with subprocess.Popen([SCRIPT, "page"], **command) as server:
+        with subprocess.Popen([SCRIPT, "page"], preexec_fn=lambda: signal.alarm(HANG), **command) as server:
             address = urllib.parse.urlsplit(server.stdout.readline().strip())
             for number in range(60):
                 request = asked(random.Random(f"page {number}"))
@@ -790,10 +827,28 @@ class Processes:
             ):  # fmt: skip
                 status, told = said(address.port, raw)
                 self.tell(status in (0, 400, 404, 414, 431, 501, 505) and told in (b"", b"nothing is here"), f"page, {raw[:30]!r}: {status} {told[:200]!r}")
-            left = subprocess.run(["ps", "--ppid", str(server.pid)], capture_output=True, text=True).stdout.splitlines()[1:]
+            left = left_by(server.pid)
             server.terminate()
             error = server.communicate()[1]
             self.tell(not left and server.returncode == 143 and "Traceback" not in error, f"page at its end: {left} {server.returncode} {error}")
+
+    def compare(self, what: str, script: str, ordinary: str, most: float = 0) -> None:
+        """Tells whether a script takes not much more of a processor than an ordinary one, or less than so many seconds.
+
+        Beside other things the same work takes up to twice as long: where it is more, both are taken again.
+        """
+        seconds, usual = self.used(script), self.usual(ordinary)
+        for _ in range(3):
+            if seconds <= TIMES * usual + MORE or seconds < most:
+                break
+            seconds, usual = min(seconds, self.used(script)), max(usual, self.used(ordinary))
+        is_well = seconds <= TIMES * usual + MORE or seconds < most
+        self.tell(is_well, f"{what}: {seconds:.1f} seconds, an ordinary one {usual:.1f}")
+
+    @functools.lru_cache(maxsize=None)
+    def usual(self, ordinary: str) -> float:
+        """The seconds of a processor that an ordinary script takes, taken once."""
+        return self.used(ordinary)
 
     def used(self, script: str) -> float:
         """The seconds of a processor that a script takes."""
@@ -805,6 +860,16 @@ class Processes:
         done = self.shell(script)
         after = resource.getrusage(resource.RUSAGE_CHILDREN)
         return after.ru_utime + after.ru_stime - before.ru_utime - before.ru_stime, done
+
+
+def left_by(server: int):
+    """The processes of a server that are still there, and stay."""
+    until = time.monotonic() + HANG
+    while True:
+        left = subprocess.run(["ps", "--ppid", str(server)], capture_output=True, text=True).stdout.splitlines()[1:]
+        if not left or time.monotonic() > until:
+            return left
+        time.sleep(0.2)
 
 
 def asked(rng: random.Random):
