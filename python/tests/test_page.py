@@ -9,7 +9,6 @@ import http.client
 import json
 import os
 import re
-import shutil
 import signal
 import socket
 import subprocess
@@ -19,10 +18,11 @@ import threading
 import time
 import unittest
 import urllib.parse
+from unittest import mock
 
 from helgrothy import HelgrothyError, Problem, make
 from helgrothy.listing import branch_of
-from helgrothy.page import answer, forms, server
+from helgrothy.page import answer, folders, forms, server
 from helgrothy.page.record import Record
 from helgrothy.programs import Run
 from test_commands import run
@@ -375,34 +375,30 @@ class Served(unittest.TestCase):
             self.wait(lambda: len(members(group)) == 2)
             connection.shutdown(socket.SHUT_WR) if end == "shutdown" else connection.close()
             self.wait(lambda: not self.server._answers and not members(group))
-            self.assertFalse(os.path.exists(going._folder))
+            self.assertFalse(os.path.exists(going._folder.path))
             connection.close()
 
     def test_a_search_ends_with_the_server(self):
-        """Whichever way it ends: by ^C, by a signal, or at once."""
-        for number, status in ((signal.SIGINT, 130), (signal.SIGTERM, 143), (signal.SIGKILL, -9)):
-            command = [sys.executable, "-m", "helgrothy", "page"]
-            how = {"stdout": subprocess.PIPE, "stderr": subprocess.DEVNULL, "text": True, "preexec_fn": heed_interrupt}
-            top = os.path.dirname(os.path.dirname(os.path.abspath(__file__)))
-            with subprocess.Popen(command, cwd=top, **how) as process, contextlib.ExitStack() as stack:
-                # It is waited for, whatever goes wrong here.
-                stack.callback(process.kill)
-                address = urllib.parse.urlsplit(process.stdout.readline().strip())
-                word = address.path.strip("/")
-                self.assertRegex(word, r"[\w-]{43}\Z")
-                request = {"what": "solve", "text": make.langford.problem(14).text, "seconds": 600}
-                connection = self.asked(request, address.port, word)
-                self.wait(lambda: children(process.pid))
-                (group,) = children(process.pid)
-                # The process that answers, and the program.
-                self.wait(lambda: len(members(group)) == 2)
-                folder = os.readlink(f"/proc/{group}/cwd")
-                process.send_signal(number)
-                self.assertEqual(process.wait(120), status)
-                self.wait(lambda: not members(group))
-                self.assertEqual(os.path.exists(folder), number == signal.SIGKILL)
-                shutil.rmtree(folder, ignore_errors=True)
-                connection.close()
+        """Whichever way it ends: at once, by ^C or by a signal. What the first leaves is removed by the next one."""
+        with tempfile.TemporaryDirectory() as place:
+            for number, status in ((signal.SIGKILL, -9), (signal.SIGINT, 130), (signal.SIGTERM, 143)):
+                with command(place) as (process, address):
+                    self.assertEqual(os.listdir(place), [])
+                    word = address.path.strip("/")
+                    self.assertRegex(word, r"[\w-]{43}\Z")
+                    request = {"what": "solve", "text": make.langford.problem(14).text, "seconds": 600}
+                    connection = self.asked(request, address.port, word)
+                    self.wait(lambda: children(process.pid))
+                    (group,) = children(process.pid)
+                    # The process that answers, and the program.
+                    self.wait(lambda: len(members(group)) == 2)
+                    (name,) = os.listdir(place)
+                    self.assertEqual(os.readlink(f"/proc/{group}/cwd"), os.path.join(place, name, "work"))
+                    process.send_signal(number)
+                    self.assertEqual(process.wait(120), status)
+                    self.wait(lambda: not members(group))
+                    self.assertEqual(os.listdir(place), [name] if number == signal.SIGKILL else [])
+                    connection.close()
 
     def test_a_pattern_without_an_end(self):
         """One that keeps Python from everything else is ended all the same."""
@@ -419,6 +415,146 @@ class Served(unittest.TestCase):
         while not holds():
             self.assertLess(time.monotonic(), deadline, "it never came to it")
             time.sleep(0.05)
+
+
+class Folders(unittest.TestCase):
+    """The folders of answers, and what is left over of them where a page was killed."""
+
+    def setUp(self):
+        place = tempfile.TemporaryDirectory()
+        self.addCleanup(place.cleanup)
+        self.place = os.path.join(place.name, "place")
+        self.other = os.path.join(place.name, "other")
+        for path in (self.place, self.other):
+            os.mkdir(path)
+        self.write(self.other, "file")
+        here = mock.patch.object(tempfile, "tempdir", self.place)
+        here.start()
+        self.addCleanup(here.stop)
+
+    def write(self, *names):
+        with open(os.path.join(*names), "w") as file:
+            file.write("x")
+
+    def left(self):
+        """A folder that nobody holds any longer."""
+        folder = folders.Folder()
+        os.close(folder.lock)
+        return folder.path
+
+    def test_what_is_left_over_goes(self):
+        for what in ("as it was", "files", "a link", "before all was made", "before anything was"):
+            with self.subTest(what=what):
+                path = self.left()
+                if what == "files":
+                    os.makedirs(os.path.join(path, "work", "a", "b"))
+                    self.write(path, "work", "file")
+                    self.write(path, "work", "a", "b", "file")
+                elif what == "a link":
+                    os.symlink(self.other, os.path.join(path, "work", "link"))
+                elif what.startswith("before"):
+                    os.rmdir(os.path.join(path, "work"))
+                if what == "before anything was":
+                    os.unlink(os.path.join(path, "lock"))
+                folders.sweep()
+                self.assertEqual(os.listdir(self.place), [])
+                self.assertEqual(os.listdir(self.other), ["file"])
+
+    def test_what_is_held_stays(self):
+        """By the page, or by a process that answers."""
+        folder = folders.Folder()
+        folders.sweep()
+        self.assertEqual(sorted(os.listdir(folder.path)), ["lock", "work"])
+        with subprocess.Popen(["sleep", "600"], pass_fds=[folder.lock]) as process:
+            os.close(folder.lock)
+            folders.sweep()
+            self.assertEqual(sorted(os.listdir(folder.path)), ["lock", "work"])
+            process.kill()
+        folders.sweep()
+        self.assertEqual(os.listdir(self.place), [])
+        folder = folders.Folder()
+        self.write(folder.work, "file")
+        folder.remove()
+        self.assertEqual(os.listdir(self.place), [])
+
+    def test_what_is_not_certainly_left_over_stays(self):
+        def spoil(path, what):
+            lock, work, name = os.path.join(path, "lock"), os.path.join(path, "work"), path
+            if what in ("no lock", "a link as lock", "a pipe as lock"):
+                os.unlink(lock)
+            if what == "a link as lock":
+                os.symlink(os.path.join(self.other, "file"), lock)
+            elif what == "a pipe as lock":
+                os.mkfifo(lock, 0o600)
+            elif what == "more":
+                self.write(path, "thesis.tex")
+            elif what == "a link to what is elsewhere":
+                os.rmdir(work)
+                os.symlink(self.other, work)
+            elif what == "other rights":
+                os.chmod(path, 0o755)
+            elif what == "another user's":
+                os.chown(path, 1, 1)
+            elif what == "a link to such a folder":
+                name = os.path.join(self.other, "folder")
+                os.rename(path, name)
+                os.symlink(name, path)
+            elif what == "another name":
+                name = os.path.join(self.place, "helgrothy-page-of-mine")
+                os.rename(path, name)
+            return name
+
+        cases = ["no lock", "a link as lock", "a pipe as lock", "more", "a link to what is elsewhere", "other rights",
+                 "a link to such a folder", "another name", *(["another user's"] if os.geteuid() == 0 else [])]  # fmt: skip
+        for what in cases:
+            with self.subTest(what=what):
+                path = spoil(self.left(), what)
+                before = sorted(os.listdir(path))
+                folders.sweep()
+                self.assertEqual(sorted(os.listdir(path)), before)
+                self.assertTrue(os.path.exists(os.path.join(self.other, "file")))
+
+    def test_pages_that_begin_at_once(self):
+        """Some make folders while others look for what is left over: none loses one, and nothing is left."""
+        ended = time.monotonic() + 1
+        lost, made = [], []
+
+        def make_some():
+            while time.monotonic() < ended:
+                folder = folders.Folder()
+                time.sleep(0)
+                made.append(folder)
+                if sorted(os.listdir(folder.path)) != ["lock", "work"]:
+                    lost.append(folder)
+                folder.remove()
+                self.left()
+
+        def look():
+            while time.monotonic() < ended:
+                folders.sweep()
+
+        threads = [threading.Thread(target=what) for what in (make_some, look) * 3]
+        for thread in threads:
+            thread.start()
+        for thread in threads:
+            thread.join()
+        folders.sweep()
+        self.assertEqual((lost, os.listdir(self.place)), ([], []))
+        self.assertGreater(len(made), 3)
+
+
+@contextlib.contextmanager
+def command(place):
+    """The command `helgrothy page` with its temporary files in this place, and its address."""
+    words = [sys.executable, "-m", "helgrothy", "page"]
+    how = {"stdout": subprocess.PIPE, "stderr": subprocess.DEVNULL, "text": True, "preexec_fn": heed_interrupt}
+    top = os.path.dirname(os.path.dirname(os.path.abspath(__file__)))
+    with subprocess.Popen(words, cwd=top, env={**os.environ, "TMPDIR": place}, **how) as process:
+        try:
+            yield process, urllib.parse.urlsplit(process.stdout.readline().strip())
+        finally:
+            # It is waited for, whatever goes wrong.
+            process.kill()
 
 
 def heed_interrupt():

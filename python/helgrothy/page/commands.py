@@ -34,10 +34,12 @@ def _port(word: str) -> int:
 
 def _page(arguments: argparse.Namespace) -> int:
     # Other commands need no server.
+    from .folders import sweep
     from .server import Server
 
     find("dlx1")
     end_by_signals()
+    sweep()
     server = Server(arguments.port, json.dumps(forms()))
     try:
         write([f"{server.address}\n"])

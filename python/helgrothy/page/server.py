@@ -11,12 +11,10 @@ import hmac
 import os
 import secrets
 import select
-import shutil
 import signal
 import socketserver
 import subprocess
 import sys
-import tempfile
 import threading
 import time
 from contextlib import suppress
@@ -26,6 +24,7 @@ from typing import Any
 
 from .answer import MOST_SECONDS
 from .document import document, policy
+from .folders import Folder
 
 HOST = "127.0.0.1"
 _BODIES, _SCRIPTS = ["ask.html", "viewer.html"], ["viewer.js", "ask.js"]
@@ -208,7 +207,7 @@ class Handler(BaseHTTPRequestHandler):
             if not chunk:
                 break
             self.wfile.write(chunk)
-        if answer.status() != 0:
+        if not answer.is_whole():
             self.wfile.write(b'{"error":"it took more time or memory than it may"}\n')
 
     def send_error(self, code: int, message: Any = None, explain: Any = None) -> None:
@@ -225,23 +224,27 @@ class Handler(BaseHTTPRequestHandler):
 
 
 class Answer:
-    """A process that answers a request, in a folder of its own, and in a group with the programs that it runs."""
+    """A process that answers a request, in a folder of its own, and in a group with the programs that it runs.
+
+    Raises `OSError`.
+    """
 
     def __init__(self, request: bytes) -> None:
         self._lock = threading.Lock()
-        self._folder = tempfile.mkdtemp(prefix="helgrothy-page-")
+        self._folder = Folder()
         try:
             self._process = subprocess.Popen(
                 [sys.executable, "-I", *_BYTECODE, "-c", _ANSWER, _PACKAGE],
                 stdin=subprocess.PIPE,
                 stdout=subprocess.PIPE,
                 stderr=subprocess.DEVNULL,
-                cwd=self._folder,
+                cwd=self._folder.work,
+                pass_fds=[self._folder.lock],
                 start_new_session=True,
                 bufsize=0,
             )
         except BaseException:
-            shutil.rmtree(self._folder, ignore_errors=True)
+            self._folder.remove()
             raise
         assert self._process.stdin is not None and self._process.stdout is not None
         self.out = self._process.stdout.fileno()
@@ -254,8 +257,11 @@ class Answer:
         """What the process says next; nothing at its end."""
         return os.read(self.out, _CHUNK)
 
-    def status(self) -> int:
-        return self._process.wait(_PATIENCE)
+    def is_whole(self) -> bool:
+        """Whether the process, which says no more, ended by itself."""
+        with suppress(subprocess.TimeoutExpired):
+            return self._process.wait(_PATIENCE) == 0
+        return False
 
     def close(self) -> None:
         """Ends the process and its programs, if they still run, and removes the folder."""
@@ -270,4 +276,4 @@ class Answer:
             for pipe in (self._process.stdin, self._process.stdout):
                 if pipe is not None:
                     pipe.close()
-            shutil.rmtree(self._folder, ignore_errors=True)
+            self._folder.remove()
