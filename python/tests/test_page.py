@@ -2,6 +2,7 @@
 
 import base64
 import contextlib
+import errno
 import glob
 import hashlib
 import html.parser
@@ -9,6 +10,8 @@ import http.client
 import json
 import os
 import re
+import resource
+import selectors
 import signal
 import socket
 import subprocess
@@ -22,7 +25,7 @@ from unittest import mock
 
 from helgrothy import HelgrothyError, Problem, make
 from helgrothy.listing import branch_of
-from helgrothy.page import answer, folders, forms, server
+from helgrothy.page import answer, folders, forms, lobby, server
 from helgrothy.page.record import Record
 from helgrothy.programs import Run
 from test_commands import run
@@ -350,6 +353,7 @@ class Served(unittest.TestCase):
         self.assertEqual(self.ask(leave_out=["Content-Length"])[0], 411)
         for length in ("-1", "x", "+5", "", "1" * 30):
             self.assertEqual(self.ask(Content_Length=length)[0], 411)
+        self.assertEqual(self.ask(content_length="2")[0], 411)
         self.assertEqual(self.ask(Content_Length="99999999")[0], 413)
         self.assertEqual(self.ask(Transfer_Encoding="chunked")[0], 411)
         self.assertEqual(json.loads(self.ask(body=b"[]")[1]), {"error": "a request that isn't one"})
@@ -378,6 +382,97 @@ class Served(unittest.TestCase):
             self.assertFalse(os.path.exists(going._folder.path))
             connection.close()
 
+    def connect(self, said=b""):
+        """A connection on which this is said."""
+        connection = socket.create_connection(("127.0.0.1", self.server.port), 60)
+        self.addCleanup(connection.close)
+        connection.sendall(said)
+        return connection
+
+    def begun(self, said=""):
+        """The head of a request whose text doesn't come."""
+        head = f"POST /{self.server.word}/answer HTTP/1.1\r\nHost: 127.0.0.1:{self.server.port}\r\n{said}"
+        head += f"Origin: http://127.0.0.1:{self.server.port}\r\nContent-Type: application/json\r\nContent-Length: 9\r\n\r\n"
+        return self.connect(head.encode())
+
+    def be_patient(self, seconds):
+        """Requests have so many seconds to come."""
+        for module in (lobby, server):
+            patience = mock.patch.object(module, "PATIENCE", seconds)
+            patience.start()
+            self.addCleanup(patience.stop)
+
+    def test_who_says_nothing_shuts_nobody_out(self):
+        with tempfile.TemporaryDirectory() as place, command(place) as (process, address):
+            with Strangers(address.port, 300) as strangers:
+                for _ in range(30):
+                    connection = http.client.HTTPConnection(address.netloc, timeout=60)
+                    connection.request("GET", address.path)
+                    self.assertEqual(connection.getresponse().status, 200)
+                    connection.close()
+                connection = self.asked({"what": "lint", "text": "a\na\n"}, address.port, address.path.strip("/"))
+                with connection, connection.makefile("rb") as told:
+                    self.assertTrue(told.read().endswith(b'\r\n\r\n{"remarks":[]}\n'))
+            self.assertGreaterEqual(strangers.came, 300)
+
+    def test_who_says_nothing_has_no_thread(self):
+        """Nor who doesn't know the word."""
+        self.be_patient(600)
+        self.wait(lambda: threading.active_count() == 2)
+        known = self.begun()
+        self.wait(lambda: threading.active_count() == 3)
+        for said in (b"", b"GET / HTTP/1.1\r\n", b"GET / HTTP/1.1\r\n\r\n"):
+            for _ in range(10):
+                self.connect(said)
+        self.assertEqual(self.ask("GET", "/", b"")[0], 404)
+        self.assertEqual(threading.active_count(), 3)
+        known.close()
+
+    def test_a_request_has_a_few_seconds(self):
+        """Whether nothing comes, or a byte now and then, and of its head or of what follows that."""
+        self.be_patient(0.5)
+        for connection, drop in ((self.connect(), b""), (self.connect(b"GET /"), b"x"), (self.begun(), b"x")):
+            with self.subTest(drop=drop):
+                ended = time.monotonic() + 60
+                told = b""
+                connection.settimeout(0.1)
+                while not told and time.monotonic() < ended:
+                    with contextlib.suppress(socket.timeout):
+                        told = connection.recv(1 << 16)
+                    with contextlib.suppress(OSError):
+                        connection.sendall(drop)
+                self.assertIn(b" 408 ", told)
+                self.assertIn(b"\r\n\r\na request comes within 5 seconds", told)
+
+    def test_who_comes_too_many_is_told(self):
+        self.be_patient(600)
+        with mock.patch.object(self.server._lobby, "_most", 3):
+            first, *_ = [self.connect() for _ in range(4)]
+            self.assertIn(b"\r\n\r\ntoo much is asked at once", first.recv(1 << 16))
+        known = [self.begun() for _ in range(server._MOST_AT_ONCE)]
+        self.wait(lambda: not self.server._requests._value)
+        self.assertEqual(self.ask()[:2], (503, "too much is asked at once"))
+        # Those who don't know the word don't count.
+        self.assertEqual(self.ask("GET", "/", b"")[:2], (404, "nothing is here"))
+        for connection in known:
+            connection.close()
+        self.wait(lambda: self.server._requests._value)
+        self.assertEqual(self.ask()[0], 200)
+
+    def test_what_is_no_request(self):
+        for raw in (b"\x16\x03\x01\x02", b"\r\n\r\n", b"GET\r\n\r\n", b"GET / HTTP/9.9\r\n\r\n", b"GET / HTTP/1.1\r\n" + b"a: b\r\n" * 200 + b"\r\n", b"a" * 70_000):
+            with self.subTest(raw=raw[:20]):
+                told = self.connect(raw).recv(1 << 16)
+                self.assertTrue(told.startswith(b"HTTP/1.1 400 ") and told.endswith(b"\r\n\r\n"), told)
+
+    def test_where_no_answer_can_be_made(self):
+        fault = OSError(errno.ENOSPC, os.strerror(errno.ENOSPC))
+        with mock.patch.object(server, "Folder", side_effect=fault):
+            self.assertEqual(self.ask()[:2], (503, "no answer can be made: No space left on device"))
+        with mock.patch.object(threading.Thread, "start", side_effect=RuntimeError):
+            self.assertEqual(self.ask()[:2], (503, "too much is asked at once"))
+        self.assertEqual(self.ask()[0], 200)
+
     def test_a_search_ends_with_the_server(self):
         """Whichever way it ends: at once, by ^C or by a signal. What the first leaves is removed by the next one."""
         with tempfile.TemporaryDirectory() as place:
@@ -399,6 +494,16 @@ class Served(unittest.TestCase):
                     self.wait(lambda: not members(group))
                     self.assertEqual(os.listdir(place), [name] if number == signal.SIGKILL else [])
                     connection.close()
+
+    def test_few_files(self):
+        """A process that may open 64 files answers all the same."""
+        with tempfile.TemporaryDirectory() as place, command(place, files=64) as (process, address):
+            with Strangers(address.port, 100):
+                connection = self.asked({"what": "lint", "text": "a\na\n"}, address.port, address.path.strip("/"))
+                with connection, connection.makefile("rb") as told:
+                    self.assertTrue(told.read().endswith(b'\r\n\r\n{"remarks":[]}\n'))
+            process.terminate()
+            self.assertEqual(process.wait(120), 143)
 
     def test_a_pattern_without_an_end(self):
         """One that keeps Python from everything else is ended all the same."""
@@ -543,11 +648,53 @@ class Folders(unittest.TestCase):
         self.assertGreater(len(made), 3)
 
 
+class Strangers:
+    """Connections that say nothing, or a byte now and then. One that is ended comes again, while this is entered."""
+
+    def __init__(self, port, count):
+        self.came = 0
+        self._port, self._count = port, count
+        self._is_over = threading.Event()
+        self._thread = threading.Thread(target=self._stay)
+
+    def __enter__(self):
+        self._thread.start()
+        while self.came < self._count:
+            time.sleep(0.01)
+        return self
+
+    def __exit__(self, *_):
+        self._is_over.set()
+        self._thread.join()
+
+    def _stay(self):
+        with selectors.DefaultSelector() as selector:
+            while not self._is_over.wait(0.01):
+                for key, _ in selector.select(0):
+                    selector.unregister(key.fileobj).fileobj.close()
+                there = [key.fileobj for key in selector.get_map().values()]
+                for connection in there[::2]:
+                    with contextlib.suppress(OSError):
+                        connection.send(b"x")
+                for _ in range(self._count - len(there)):
+                    self.came += 1
+                    with contextlib.suppress(OSError):
+                        selector.register(socket.create_connection(("127.0.0.1", self._port), 10), selectors.EVENT_READ)
+            for key in list(selector.get_map().values()):
+                key.fileobj.close()
+
+
 @contextlib.contextmanager
-def command(place):
+def command(place, files=0):
     """The command `helgrothy page` with its temporary files in this place, and its address."""
+
+    def prepare():
+        heed_interrupt()
+        if files:
+            resource.setrlimit(resource.RLIMIT_NOFILE, (files, files))
+
     words = [sys.executable, "-m", "helgrothy", "page"]
-    how = {"stdout": subprocess.PIPE, "stderr": subprocess.DEVNULL, "text": True, "preexec_fn": heed_interrupt}
+    how = {"stdout": subprocess.PIPE, "stderr": subprocess.DEVNULL, "text": True, "preexec_fn": prepare}
     top = os.path.dirname(os.path.dirname(os.path.abspath(__file__)))
     with subprocess.Popen(words, cwd=top, env={**os.environ, "TMPDIR": place}, **how) as process:
         try:

@@ -9,30 +9,37 @@ from __future__ import annotations
 
 import hmac
 import os
+import re
 import secrets
 import select
 import signal
-import socketserver
+import socket
 import subprocess
 import sys
 import threading
 import time
+from collections.abc import Callable
 from contextlib import suppress
-from http.server import BaseHTTPRequestHandler, ThreadingHTTPServer
 from pathlib import Path
-from typing import Any
 
+from ..errors import reason_of
+from ..shown import shown
 from .answer import MOST_SECONDS
 from .document import document, policy
 from .folders import Folder
+from .heads import Head, head, message
+from .lobby import BUSY, LATE, PATIENCE, Lobby
 
 HOST = "127.0.0.1"
 _BODIES, _SCRIPTS = ["ask.html", "viewer.html"], ["viewer.js", "ask.js"]
 _REQUESTS = ("answer",)
-# Bytes of a request; requests at once, and processes that answer them; seconds for what is read or written.
+# Connections that the system keeps until they are let in.
+_BACKLOG = 128
+# Bytes of a request; requests at once of those who know the word, and processes that answer them.
 _MOST_BYTES = 1 << 20
 _MOST_AT_ONCE, _MOST_PROCESSES = 32, 6
-_PATIENCE = 20
+# Seconds for a piece of an answer to be taken, and for a process to end.
+_PATIENCE = 20.0
 _MORE_SECONDS = 30.0
 _CHUNK = 1 << 16
 # What a process that answers runs, from where this package lies. Where other packages lie beside it, as in
@@ -46,67 +53,44 @@ run()
 """
 _BYTECODE = ["-B"] if sys.dont_write_bytecode else []
 _PACKAGE = str(Path(__file__).absolute().parents[2])
+_LENGTH = re.compile(r"[0-9]{1,9}\Z")
+_NOTHING = message(404, "nothing is here")
+_NO_END = b'{"error":"it took more time or memory than it may"}\n'
 
 
-class Server(ThreadingHTTPServer):
-    """A server of the page, at a port that is free or a given one. `close` ends all that it started."""
+class Server:
+    """A server of the page, at a port that is free (0) or a given one. `close` ends all that it started.
 
-    daemon_threads = True
-    request_queue_size = 64
+    Raises `OSError`.
+    """
 
     def __init__(self, port: int, data: str) -> None:
         self.word = secrets.token_urlsafe(32)
-        self.page = document(_BODIES, "Helgrothy", _SCRIPTS, [data], connects=True)
-        self.policy = f"{policy(_SCRIPTS, connects=True)}; frame-ancestors 'none'"
+        page = document(_BODIES, "Helgrothy", _SCRIPTS, [data], connects=True).encode()
+        rules = f"{policy(_SCRIPTS, connects=True)}; frame-ancestors 'none'"
+        self._page = head(200, "text/html", rules, len(page)) + page
         self._answers: set[Answer] = set()
         self._lock = threading.Lock()
         self._is_closed = False
+        self._is_over = False
         self._requests = threading.BoundedSemaphore(_MOST_AT_ONCE)
-        self.processes = threading.BoundedSemaphore(_MOST_PROCESSES)
-        super().__init__((HOST, port), Handler)
-
-    @property
-    def port(self) -> int:
-        return int(self.server_address[1])
+        self._processes = threading.BoundedSemaphore(_MOST_PROCESSES)
+        self._listener = socket.create_server((HOST, port), backlog=_BACKLOG)
+        self.port = int(self._listener.getsockname()[1])
+        self._lobby = Lobby(self._listener, self._take)
 
     @property
     def address(self) -> str:
         return f"http://{HOST}:{self.port}/{self.word}/"
 
-    def server_bind(self) -> None:
-        """Without asking anybody for the name of the host."""
-        socketserver.TCPServer.server_bind(self)
-        self.server_name, self.server_port = HOST, self.port
+    def serve_forever(self, poll_interval: float) -> None:
+        """Answers until `shutdown` was called, which is seen after so many seconds."""
+        while not self._is_over:
+            self._lobby.step(poll_interval)
 
-    def process_request(self, request: Any, client_address: Any) -> None:
-        if not self._requests.acquire(blocking=False):
-            self.shutdown_request(request)
-            return
-        try:
-            super().process_request(request, client_address)
-        except BaseException:
-            self._requests.release()
-            raise
-
-    def process_request_thread(self, request: Any, client_address: Any) -> None:
-        try:
-            super().process_request_thread(request, client_address)
-        finally:
-            self._requests.release()
-
-    def handle_error(self, request: Any, client_address: Any) -> None:
-        """What goes wrong with one who asks is said to nobody else."""
-
-    def begin(self, answer: Answer) -> None:
-        with self._lock:
-            if self._is_closed:
-                answer.close()
-            self._answers.add(answer)
-
-    def end(self, answer: Answer) -> None:
-        with self._lock:
-            self._answers.discard(answer)
-        answer.close()
+    def shutdown(self) -> None:
+        """Has `serve_forever` return."""
+        self._is_over = True
 
     def close(self) -> None:
         """Ends the processes that answer, with all that they run."""
@@ -115,112 +99,138 @@ class Server(ThreadingHTTPServer):
             answers = list(self._answers)
         for answer in answers:
             answer.close()
-        self.server_close()
+        self._lobby.close()
+        self._listener.close()
 
+    # ---- who is welcome
 
-class Handler(BaseHTTPRequestHandler):
-    """A request. Who isn't welcome learns nothing but that."""
+    def _take(self, connection: socket.socket, raw: bytes, begun: bytes) -> bytes:
+        """Has a request answered by a thread, or gives why not. Who isn't welcome learns nothing but that."""
+        try:
+            asked = Head.of(raw)
+        except ValueError:
+            return message(400)
+        rest = self._rest(asked)
+        if asked.method == "GET" and rest == "":
+            return self._begin(connection, self._send_page)
+        if asked.method == "POST" and rest in _REQUESTS and _is_of_page(asked):
+            length = _length(asked)
+            if length < 0:
+                return message(411, "a request says how long it is")
+            if length > _MOST_BYTES:
+                return message(413, f"a request has at most {_MOST_BYTES} bytes")
+            return self._begin(connection, lambda its: self._answer(its, begun, length))
+        return _NOTHING if asked.method in ("GET", "POST") else message(501)
 
-    server: Server
-    timeout = _PATIENCE
-
-    def do_GET(self) -> None:
-        if self._rest() == "":
-            self._send(200, self.server.page, "text/html")
-        else:
-            self._refuse()
-
-    def do_POST(self) -> None:
-        # A browser says from where a page sends something, and asks before it sends JSON elsewhere.
-        is_own = self.headers.get("Origin") == f"http://{self.headers.get('Host')}"
-        is_near = self.headers.get("Sec-Fetch-Site", "same-origin") == "same-origin"
-        is_json = self.headers.get("Content-Type") == "application/json"
-        if self._rest() not in _REQUESTS or not (is_own and is_near and is_json):
-            self._refuse()
-            return
-        length = self.headers.get("Content-Length", "")
-        if not (length.isascii() and length.isdigit()) or len(length) > 9 or self.headers.get("Transfer-Encoding"):
-            self._send(411, "a request says how long it is")
-        elif int(length) > _MOST_BYTES:
-            self._send(413, f"a request has at most {_MOST_BYTES} bytes")
-        else:
-            self._answer(self.rfile.read(int(length)))
-
-    def _rest(self) -> str:
+    def _rest(self, asked: Head) -> str:
         """What stands behind the word in the address; something that is nothing where the word isn't there."""
-        word, slash, rest = self.path[1:].partition("/")
-        is_known = hmac.compare_digest(word.encode("latin-1", "replace"), self.server.word.encode())
-        is_here = self.headers.get_all("Host") in ([f"{HOST}:{self.server.port}"], [f"localhost:{self.server.port}"])
-        return rest if is_known and is_here and slash else "/"
+        start, *words = asked.path.split("/", 2)
+        is_known = not start and len(words) == 2 and hmac.compare_digest(words[0], self.word)
+        is_here = asked.fields.get_all("Host") in ([f"{HOST}:{self.port}"], [f"localhost:{self.port}"])
+        return words[1] if is_known and is_here else "/"
 
-    def _refuse(self) -> None:
-        self._send(404, "nothing is here")
+    def _begin(self, connection: socket.socket, act: Callable[[socket.socket], None]) -> bytes:
+        """Has a thread act on a connection, or gives why not."""
+        if not self._requests.acquire(blocking=False):
+            return BUSY
+        try:
+            threading.Thread(target=self._act, args=[connection, act], daemon=True).start()
+        except RuntimeError:
+            # The system gives no more threads.
+            self._requests.release()
+            return BUSY
+        return b""
 
-    def _send(self, status: int, text: str, kind: str = "text/plain") -> None:
-        raw = text.encode()
-        self._begin(status, kind)
-        self.send_header("Content-Length", str(len(raw)))
-        self.end_headers()
-        self.wfile.write(raw)
+    # ---- what is answered, by a thread of its own
 
-    def _begin(self, status: int, kind: str) -> None:
-        self.send_response(status)
-        for name, value in {
-            "Content-Type": f"{kind}; charset=utf-8",
-            "Content-Security-Policy": self.server.policy if kind == "text/html" else "default-src 'none'",
-            "Cache-Control": "no-store",
-            "Referrer-Policy": "no-referrer",
-            "X-Content-Type-Options": "nosniff",
-            "X-Frame-Options": "DENY",
-            "Cross-Origin-Opener-Policy": "same-origin",
-            "Cross-Origin-Resource-Policy": "same-origin",
-            "Connection": "close",
-        }.items():
-            self.send_header(name, value)
+    def _act(self, connection: socket.socket, act: Callable[[socket.socket], None]) -> None:
+        try:
+            with connection, suppress(OSError):
+                connection.settimeout(_PATIENCE)
+                act(connection)
+                connection.shutdown(socket.SHUT_WR)
+        finally:
+            self._requests.release()
 
-    def _answer(self, request: bytes) -> None:
-        if not self.server.processes.acquire(blocking=False):
-            self._send(503, "too much is asked at once")
+    def _send_page(self, connection: socket.socket) -> None:
+        connection.sendall(self._page)
+
+    def _answer(self, connection: socket.socket, begun: bytes, length: int) -> None:
+        try:
+            request = _body(connection, begun, length)
+        except socket.timeout:
+            connection.sendall(LATE)
+            return
+        if not self._processes.acquire(blocking=False):
+            connection.sendall(BUSY)
             return
         try:
-            answer = Answer(request)
-            self.server.begin(answer)
-            try:
-                self._begin(200, "application/x-ndjson")
-                self.end_headers()
-                self._pass_on(answer)
-            finally:
-                self.server.end(answer)
+            self._answer_by_process(connection, request)
         finally:
-            self.server.processes.release()
+            self._processes.release()
 
-    def _pass_on(self, answer: Answer) -> None:
-        """Passes an answer on as it comes, as long as anybody is there for it."""
-        deadline = time.monotonic() + MOST_SECONDS + _MORE_SECONDS
-        while True:
-            left = deadline - time.monotonic()
-            ready = select.select([answer.out, self.connection], [], [], max(left, 0))[0]
+    def _answer_by_process(self, connection: socket.socket, request: bytes) -> None:
+        try:
+            answer = Answer(request)
+        except OSError as error:
+            connection.sendall(message(503, f"no answer can be made: {shown(reason_of(error))}"))
+            return
+        with self._lock:
+            is_closed = self._is_closed
+            self._answers.add(answer)
+        try:
+            if not is_closed:
+                connection.sendall(head(200, "application/x-ndjson"))
+                _pass_on(connection, answer)
+        finally:
+            answer.close()
+            with self._lock:
+                self._answers.discard(answer)
+
+
+def _is_of_page(asked: Head) -> bool:
+    """Whether the page sent it: a browser says from where a page sends something, and asks before it sends JSON."""
+    fields = asked.fields
+    is_own = fields.get("Origin") == f"http://{fields.get('Host')}"
+    is_near = fields.get("Sec-Fetch-Site", "same-origin") == "same-origin"
+    return is_own and is_near and fields.get("Content-Type") == "application/json"
+
+
+def _length(asked: Head) -> int:
+    """How many bytes follow the head; -1 where it doesn't say that."""
+    told: list[str] = asked.fields.get_all("Content-Length", [])
+    is_told = len(told) == 1 and _LENGTH.match(told[0]) and not asked.fields.get("Transfer-Encoding")
+    return int(told[0]) if is_told else -1
+
+
+def _body(connection: socket.socket, begun: bytes, length: int) -> bytes:
+    """What follows the head. Raises `socket.timeout` where that takes too long, and `OSError` where it doesn't come."""
+    deadline = time.monotonic() + PATIENCE
+    body = bytearray(begun[:length])
+    while len(body) < length:
+        connection.settimeout(max(deadline - time.monotonic(), 0.001))
+        piece = connection.recv(min(length - len(body), _CHUNK))
+        if not piece:
+            raise ConnectionResetError
+        body += piece
+    connection.settimeout(_PATIENCE)
+    return bytes(body)
+
+
+def _pass_on(connection: socket.socket, answer: Answer) -> None:
+    """Passes an answer on as it comes, as long as anybody is there for it."""
+    deadline = time.monotonic() + MOST_SECONDS + _MORE_SECONDS
+    while True:
+        ready = select.select([answer.out, connection], [], [], max(deadline - time.monotonic(), 0))[0]
+        if connection in ready:
             # Whoever asked is gone, or says more than is wanted.
-            if self.connection in ready or not ready:
-                return
-            chunk = answer.read()
-            if not chunk:
-                break
-            self.wfile.write(chunk)
-        if not answer.is_whole():
-            self.wfile.write(b'{"error":"it took more time or memory than it may"}\n')
-
-    def send_error(self, code: int, message: Any = None, explain: Any = None) -> None:
-        """A request that is none gets no more than a status: nothing of it is repeated."""
-        with suppress(OSError):
-            self._begin(code, "text/plain")
-            self.end_headers()
-
-    def version_string(self) -> str:
-        return "helgrothy"
-
-    def log_message(self, format: str, *words: Any) -> None:
-        pass
+            return
+        chunk = answer.read() if ready else b""
+        if not chunk:
+            break
+        connection.sendall(chunk)
+    if not (ready and answer.is_whole()):
+        connection.sendall(_NO_END)
 
 
 class Answer:
