@@ -505,6 +505,11 @@ class Served(unittest.TestCase):
             process.terminate()
             self.assertEqual(process.wait(120), 143)
 
+    def test_a_port_in_use(self):
+        port = self.server.port
+        wanted = f"helgrothy: port {port}: it is in use; name another one by --port, or none for one that is free\n"
+        self.assertEqual(run("page", "--port", str(port)), (2, "", wanted))
+
     def test_a_pattern_without_an_end(self):
         """One that keeps Python from everything else is ended all the same."""
         text = f"{'a' * 30}\n{'a' * 30}\n"

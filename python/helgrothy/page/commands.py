@@ -3,12 +3,17 @@
 from __future__ import annotations
 
 import argparse
+import errno
 import json
-from typing import Any
+from typing import TYPE_CHECKING, Any
 
 from ..console import end_by_signals, say, write
+from ..errors import HelgrothyError
 from ..programs import find
 from .forms import forms
+
+if TYPE_CHECKING:
+    from .server import Server
 
 _MOST_PORT = 65535
 
@@ -33,14 +38,9 @@ def _port(word: str) -> int:
 
 
 def _page(arguments: argparse.Namespace) -> int:
-    # Other commands need no server.
-    from .folders import sweep
-    from .server import Server
-
     find("dlx1")
     end_by_signals()
-    sweep()
-    server = Server(arguments.port, json.dumps(forms()))
+    server = _server(arguments.port)
     try:
         write([f"{server.address}\n"])
         say("The page is for whoever has this address. ^C ends it.")
@@ -48,3 +48,19 @@ def _page(arguments: argparse.Namespace) -> int:
     finally:
         server.close()
     return 0
+
+
+def _server(port: int) -> Server:
+    # Other commands need no server.
+    from .folders import sweep
+    from .server import Server
+
+    sweep()
+    try:
+        return Server(port, json.dumps(forms()))
+    except OSError as error:
+        if port and error.errno in (errno.EADDRINUSE, errno.EACCES):
+            reason = "it is in use" if error.errno == errno.EADDRINUSE else "this user may not use it"
+            message = f"port {port}: {reason}; name another one by --port, or none for one that is free"
+            raise HelgrothyError(message) from None
+        raise
