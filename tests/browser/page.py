@@ -463,18 +463,23 @@ class Page(Pages):
         self.assertIn("line 1: /etc/passwd:", self.tab.text("#state"))
         self.is_quiet()
 
-    def test_solutions_come_as_they_are_found_and_it_stops(self):
-        # Its first option is a solution; for others it searches long, and there are none.
+    def type_one_that_is_found(self):
+        """A problem whose first option is a solution; for others it searches long, and there are none."""
         items, *options = make.langford.problem(14).text.splitlines()[2:]
         self.type_problem("\n".join([items, items, *options, ""]))
         self.tab.value("document.querySelector('#seconds').value = 600")
         self.tab.press("Enter", ctrl=True)
         self.tab.wait("document.querySelector('#count').innerText === '1'")
         self.assertEqual(self.tab.text("#summary"), "1 solution; and it searches on.")
+        return items
+
+    def test_solutions_come_as_they_are_found_and_it_stops(self):
+        items = self.type_one_that_is_found()
         self.assertEqual(sorted(self.tab.text("#steps .items").split()), sorted(items.split()))
         self.wait(lambda: [len(it) for it in self.running()] == [1, 1])
         self.tab.press(".", ctrl=True)
         self.assertEqual(self.tab.text("#state"), "Stopped.")
+        self.assertEqual(self.tab.text("#summary"), "1 solution; there may be more. It was stopped.")
         self.wait(lambda: self.running() == ([], []))
         self.assertTrue(self.tab.is_shown("#steps"))
         # Another one ends the one before; a page that goes ends its own.
@@ -484,6 +489,11 @@ class Page(Pages):
         before = self.running()
         self.tab.press("Enter", ctrl=True)
         self.wait(lambda: [len(it) for it in self.running()] == [1, 1] and self.running() != before)
+        self.tab.press(".", ctrl=True)
+        self.assertEqual(self.tab.text("#none"), "No solution was found.\nit was stopped")
+        self.tab.press("Enter", ctrl=True)
+        self.assertEqual(self.tab.text("#none"), "Solutions come here as they are found.")
+        self.wait(lambda: [len(it) for it in self.running()] == [1, 1])
         self.is_quiet()
         self.tab.call("Page.navigate", url="data:text/html,gone")
         self.wait(lambda: self.running() == ([], []))
@@ -531,10 +541,15 @@ class Page(Pages):
             # It is waited for, whatever goes wrong here.
             stack.callback(other.kill)
             self.tab.go(other.stdout.readline().strip())
+            self.type_one_that_is_found()
             other.send_signal(signal.SIGTERM)
             self.assertEqual(other.wait(PATIENCE), 143)
+        ended = "document.querySelector('#state').innerText.startsWith('The page\\'s server has ended')"
+        self.tab.wait(ended)
+        self.assertEqual(self.tab.text("#summary"), "1 solution; there may be more.")
+        self.tab.value("document.querySelector('#state').textContent = ''")
         self.tab.press("Enter", ctrl=True)
-        self.tab.wait("document.querySelector('#state').innerText.startsWith('The page\\'s server has ended')")
+        self.tab.wait(ended)
 
 
 if __name__ == "__main__":

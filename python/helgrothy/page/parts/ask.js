@@ -4,6 +4,7 @@
 const EXAMPLE = "ann bob cat | mon tue wed\nann mon\nann tue\nbob tue\nbob wed\ncat mon\ncat wed\n";
 const QUIET = 250;
 const SEEN_AT_MOST = 50;
+const GONE = "The page's server has ended: helgrothy page begins another.";
 
 const viewer = new Viewer("Solutions come here as they are found.");
 
@@ -208,13 +209,16 @@ class Search {
           if (line.error) tell(line.error, true);
         }
       }
-      if (get("state").textContent === "Searching ..") tell("");
+      // Each answer ends with an end or an error.
+      if (get("state").textContent === "Searching ..") tell(viewer.ended ? "" : GONE, !viewer.ended);
     } catch (error) {
       if (this.going === going) tell(told(error), true);
     }
     if (this.going === going) {
       this.going = null;
       this.ready(true);
+      // One that was broken off told none, and why it was stands in the state.
+      if (viewer.solutions.length) viewer.end();
     }
   }
 
@@ -224,6 +228,7 @@ class Search {
     this.going = null;
     this.ready(true);
     tell("Stopped.");
+    viewer.end("it was stopped");
   }
 
   ready(is) {
@@ -238,7 +243,7 @@ function tell(text, isWrong = false) {
 }
 
 function told(error) {
-  return error instanceof TypeError ? "The page's server has ended: helgrothy page begins another." : error.message;
+  return error instanceof TypeError ? GONE : error.message;
 }
 
 function show(isKind) {

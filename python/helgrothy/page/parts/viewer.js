@@ -65,6 +65,11 @@ class Viewer {
     this.refreshCount();
   }
 
+  // Ends what is told, if nothing else has: there may be more.
+  end(...notes) {
+    if (!this.ended) this.take([{ end: { total: this.solutions.length, complete: false, notes } }]);
+  }
+
   takeProblem(problem) {
     this.problem = problem;
     const secondary = problem.secondary ? `, ${counted(problem.secondary, "secondary one")}` : "";
