@@ -22,6 +22,10 @@ esac
 """
 
 
+# `make` says which folder it is in where another one calls it, as `make test` does.
+ENVIRONMENT = {name: value for name, value in os.environ.items() if not name.startswith("MAKE") and name != "MFLAGS"}
+
+
 class Build(unittest.TestCase):
     def setUp(self) -> None:
         self.top = Path(tempfile.mkdtemp())
@@ -90,7 +94,7 @@ class Whole(unittest.TestCase):
         (self.top / "kit" / "rt").chmod(0o755)
 
     def make(self) -> list[str]:
-        environment = {**os.environ, "PATH": f"{self.top / 'kit'}:{os.environ['PATH']}", "MAKEFLAGS": ""}
+        environment = {**ENVIRONMENT, "PATH": f"{self.top / 'kit'}:{os.environ['PATH']}"}
         ran = subprocess.run(["make", "all"], cwd=self.top, capture_output=True, text=True, env=environment)
         self.assertEqual((ran.returncode, ran.stderr), (0, ""))
         return ran.stdout.splitlines()
@@ -116,14 +120,14 @@ class Whole(unittest.TestCase):
         (self.top / "bin" / "dlx1").unlink()
         (self.top / "bin" / "dlx1").symlink_to("../crates/dlx1/out/dlx1")
         (self.top / "bin" / "left").symlink_to("nowhere")
-        subprocess.run(["make", "-s", "bin"], cwd=self.top, check=True, env={**os.environ, "MAKEFLAGS": ""})
+        subprocess.run(["make", "-s", "bin"], cwd=self.top, check=True, env=ENVIRONMENT)
         self.assertEqual((self.top / "bin" / "dlx-join").read_text(), "another program")
         self.assertEqual([it for it in (self.top / "bin").iterdir() if it.is_symlink()], [])
         self.assertTrue((self.top / "bin" / "dlx1").is_file())
 
     def test_nothing_is_installed_before_it_is_built(self) -> None:
         words = ["make", "install", f"DESTDIR={self.top / 'to'}"]
-        ran = subprocess.run(words, cwd=self.top, capture_output=True, text=True, env={**os.environ, "MAKEFLAGS": ""})
+        ran = subprocess.run(words, cwd=self.top, capture_output=True, text=True, env=ENVIRONMENT)
         self.assertIn("bin/dlx1 isn't built: run make all\n", ran.stderr)
         self.assertFalse((self.top / "to").exists())
 
@@ -147,7 +151,8 @@ class Help(unittest.TestCase):
         lines = (TOP / "Makefile").read_text().splitlines()
         targets = {word for line in lines if line.startswith(".PHONY:") for word in line.split()[1:]}
         targets -= {"help", "$(PROGRAMS)", "$(SPAN_CRATES)", "install-lib", "uninstall-lib"}
-        ran = subprocess.run(["make", "-s", "-C", TOP, "help"], capture_output=True, text=True, check=True)
+        words = ["make", "-s", "-C", TOP, "help"]
+        ran = subprocess.run(words, capture_output=True, text=True, check=True, env=ENVIRONMENT)
         told = [line.partition(": ")[0] for line in ran.stdout.splitlines()]
         self.assertEqual(told, sorted(told, key=lambda name: f"{name}:"))
         self.assertEqual({name for name in targets if not name.startswith("dlx")}, set(told))
