@@ -8,10 +8,9 @@ by --c, and, where they are installed, clasp and Gecode (fzn-gecode), as 0-1 pro
 and Sage's dancing links (sage), for problems of kind 1. All take turns, on one core where --core gives its number. Told
 are ratios of CPU time, ours to theirs, the median of K runs (3), or of at most 3 where one of each took more than 15
 seconds together: below 1 ours is faster. A run of theirs may take so many seconds (60); where it takes longer, the
-ratio is at most the one told. --c-alone leaves all but C out. Then come the ratios of the most memory held, those of
-printing (the time of a run that prints each solution less that of one that counts them), and how time and memory grow
-with the problem. Each run has to end with the problem's number of solutions. With --page the tables take the places of
-those with the same heads in a page, once all are there.
+ratio is at most the one told. --c-alone leaves all but C out. Then come the ratios of the most memory held, and how
+time and memory grow with the problem. Each run has to end with the problem's number of solutions. With --page the
+tables take the places of those with the same heads in a page, once all are there.
 """
 
 import argparse
@@ -36,17 +35,14 @@ TOP = os.path.dirname(os.path.dirname(HERE))
 MEAN = "geometric mean"
 # Of turns of more than so many seconds of CPU time so few are taken.
 LONG, FEW = 15, 3
-# Problems with many solutions, for the time of printing.
-PRINTED = ("matchings14", "latin5", "prism20", "two_factors6x8")
 
 
 class Run:
-    def __init__(self, command, most, text=None, listing=False):
-        """Runs a command over a file; `seconds` is None where it took too long. A listing goes nowhere."""
+    def __init__(self, command, most, text=None):
+        """Runs a command over a file; `seconds` is None where it took too long."""
         self.seconds, self.memory, self.output = None, None, ""
-        with tempfile.TemporaryFile() as told, open(text or os.devnull) as given, open(os.devnull, "w") as nowhere:
-            out = nowhere if listing else told
-            process = subprocess.Popen(command, stdin=given, stdout=out, stderr=told, preexec_fn=limits(most))
+        with tempfile.TemporaryFile() as told, open(text or os.devnull) as given:
+            process = subprocess.Popen(command, stdin=given, stdout=told, stderr=told, preexec_fn=limits(most))
             _, status, used = os.wait4(process.pid, 0)
             process.returncode = 0
             told.seek(0)
@@ -69,9 +65,9 @@ class Exact:
     def __init__(self, name, folder):
         self.name, self.folder = name, folder
 
-    def run(self, problem, text, most, words=()):
+    def run(self, problem, text, most):
         program = os.path.join(self.folder.format(problem.kind), f"dlx{problem.kind}")
-        done = Run([program, *words], most, text, listing=bool(words))
+        done = Run([program], most, text)
         return done, re.search(r"^Altogether (\d+) ", done.output, re.M)
 
 
@@ -161,8 +157,8 @@ class Sage:
         return done, re.search(r"^Solutions: (\d+)$", done.output, re.M)
 
 
-def measured(solver, problem, text, most, times, memory, words=()):
-    done, found = solver.run(problem, text, most, *([words] if words else []))
+def measured(solver, problem, text, most, times, memory):
+    done, found = solver.run(problem, text, most)
     if done.seconds is None:
         return False
     if not found or int(found.group(1)) != problem.count:
@@ -245,27 +241,6 @@ def line(cells):
     return ["|" + "|".join(f" {cell} " if cell else " " for cell in cells) + "|"]
 
 
-def list_all(folder, ours, in_c, only, repeat, most):
-    """The table of the ratios of printing."""
-    lines = line(["Printing"] + [other.name for other in in_c]) + ["|---|" + "---|" * len(in_c)]
-    for problem in problems.PROBLEMS:
-        if problem.name not in PRINTED or (only and problem.name not in only):
-            continue
-        text = os.path.join(folder, problem.name + ".dlx")
-        times = defaultdict(list)
-        for _ in turns(repeat):
-            for solver in (ours, *in_c):
-                for words in ((), ("m1",)):
-                    if not measured(solver, problem, text, most, times[solver.name, words], [], words):
-                        raise SystemExit(f"{solver.name} on {problem.name}: it took more than {most} seconds")
-        cost = {
-            s.name: statistics.median(times[s.name, ("m1",)]) - statistics.median(times[s.name, ()])
-            for s in (ours, *in_c)
-        }
-        lines += line([problem.name] + [f"{cost[ours.name] / max(cost[o.name], 0.001):.2f}" for o in in_c])
-    return lines
-
-
 def grow(ours, in_c, most):
     """How time and memory for each use grow from 100,000 uses to 10,000,000, nearly all of it reading."""
     solvers = [ours, *in_c]
@@ -316,8 +291,6 @@ def main():
         made.append(lines)
         print("\n".join(lines), end="\n\n", flush=True)
     if in_c:
-        made.append(list_all(given.folder, ours, in_c, only, given.repeat, given.most))
-        print("\n".join(made[-1]), end="\n\n", flush=True)
         made.append(grow(ours, in_c, given.most))
         print("\n".join(made[-1]), flush=True)
     for lines in made if given.page else ():
