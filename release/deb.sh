@@ -40,13 +40,14 @@ Depends: libc6 (>= 2.34)
 Recommends: python3 (>= 3.9)
 Section: math
 Priority: optional
-Description: exact cover solvers by dancing links, as proved software
- dlx1 finds all ways to choose options so that each primary item is held
- exactly once and each secondary item at most once; dlx2 adds colours on
+Description: exact cover solvers by dancing links, whose code is proved
+ dlx1 finds all ways to choose options so that each primary item is in exactly
+ one of them and each secondary item in at most one; dlx2 adds colours on
  secondary items, dlx3 bounds on primary items. dlxcheck judges a listing of
- solutions, wherever it is from. People use such solvers for puzzles, tilings,
- timetables and test designs. The Python package helgrothy makes problems and
- draws their solutions, and searches by all processors or many machines.
+ solutions, whichever solver wrote it. They are for puzzles, tilings,
+ timetables and test designs. The Python package helgrothy, of which nothing
+ is proved, makes problems and draws their solutions, and searches by all
+ processors or many machines.
 END
 mkdir -p dist
 dpkg-deb --root-owner-group -Zxz -b "$root" "dist/helgrothy_${version}_amd64.deb" >/dev/null
