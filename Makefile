@@ -50,10 +50,11 @@ test-search: bin ## 500 searches by helgrothy search, with mishaps
 	@PATH=$$PWD/bin:$$PATH python3 tests/search/search.py 500 1
 test-page: bin ## the pages in a headless Chromium
 	@PATH=$$PWD/bin:$$PATH python3 tests/browser/page.py
-test-docs: bin ## the commands, pictures and tables of the pages
+test-docs: bin ## the commands, pictures, tables and names of the pages
 	@sh tests/pages.sh . man/*.[15]
 	@scripts/pictures/pictures compare
 	@scripts/believed --page | diff docs/BELIEVED.md -
+	@scripts/cited
 	@scripts/faults --check
 	@scripts/bench/forms.py --check
 
