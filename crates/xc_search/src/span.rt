@@ -84,7 +84,7 @@ pub struct Span<'a, D: Dance> {
 }
 
 impl<'a, D: Dance> Model for Span<'a, D> {
-    ghost use Rattle.std.specs.Prelude.{◌≡◌, ◌≤◌, [], true, false, Some, None, option_map, vec_capacity, if◌then◌else◌};
+    ghost use Rattle.std.specs.Prelude.{◌≡◌, [], true, false, Some, None, option_map, vec_capacity, if◌then◌else◌};
     ghost use Rattle.xc_search.specs.InSpan.{InSpan};
     ghost use Rattle.xc_dance.specs.Dancing.{moves_made};
     ghost use Rattle.xc_search.specs.Spans.{is_before};
@@ -114,8 +114,8 @@ impl<'a, D: Dance> Model for Span<'a, D> {
       before : s.ended ≡ false →
           is_before (option_map (λ u. u.now) s.until) (row_at s.state.position.puzzle s.state.stack.levels) ≡ true;
       levels_fit : s.state.stack.room ≡ most_levels s.state.position.puzzle;
-      choices_fit : most_levels s.state.position.puzzle ≤ vec_capacity s.choices;
-      numbers_fit : most_levels s.state.position.puzzle ≤ vec_capacity s.numbers;
+      choices_fit : vec_capacity s.choices ≡ most_levels s.state.position.puzzle;
+      numbers_fit : vec_capacity s.numbers ≡ most_levels s.state.position.puzzle;
     } };
 }
 
