@@ -7,6 +7,7 @@ ghost use Rattle.xc_search.specs.Room.{room_for};
 ghost use Rattle.xc_search.specs.Listing.{whole};
 ghost use Rattle.xc_search.specs.Spans.{precedes, is_before, between};
 ghost use Rattle.xc_search.specs.InSpan.{left_of, reached, branches_along};
+ghost use Rattle.xc_search.specs.Nodes.{IsRow};
 
 use crate::choice::Choice;
 use crate::counts::most_levels;
@@ -147,6 +148,7 @@ impl<'a, D: Dance> Span<'a, D> {
         ensures left { IfOk result (λ s. left_of s ≡ between problem.now.puzzle from.now s.until) }
         ensures row { IfOk result (λ s. IfSome s.row (λ row.
             (precedes row from.now ≡ false) × (between problem.now.puzzle from.now (Some row) ≡ []))) }
+        ensures node { IfOk result (λ s. IfSome s.row (λ row. IsRow (whole problem.now.puzzle) row)) }
         ensures back { IfErr result (λ e. e.0 ≡ dance) }
     {
         let most = most_levels(problem);
@@ -203,6 +205,7 @@ impl<'a, D: Dance> Span<'a, D> {
 
         ensures fewer { 0 < many → result.halt ≡ Halt.End → result.members < many }
         ensures stays { steps ≡ 0 → self.new.row ≡ self.old.row }
+        ensures node { IfSome self.new.row (λ row. IsRow (whole self.new.puzzle) row) }
 
         // The row where it halted isn't after the span's end, and comes before it where it ran out of steps.
         ensures stands { (result.halt ≡ Halt.Member) ⊎ (result.halt ≡ Halt.Steps) → IsSomeAnd self.new.row (λ row.
