@@ -68,14 +68,18 @@ fn solutions_one_by_one(rt: HostRuntime) {
 /// How many choices a search visits, of at most so many, and whether all solutions were; and how often it called.
 fn visit(search: &mut Search<Links>, most: usize) -> (usize, bool, usize) {
     let mut left = most;
-    let mut calls = 0;
+    let mut calls = 0usize;
     let mut visitor = |choices: &[Choice]| {
         calls = calls.saturating_add(1);
         left = left.saturating_sub(choices.len());
         left > 0
     };
     let all = search.for_each(&mut visitor);
-    (most - left.min(most), all && search.choices().is_empty(), calls)
+    (
+        most - left.min(most),
+        all && search.choices().is_empty(),
+        calls,
+    )
 }
 
 /// How many solutions of a problem are visited, of at most so many, and whether all are.

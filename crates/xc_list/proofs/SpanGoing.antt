@@ -36,7 +36,8 @@ pub record Called (p : Puzzle) (until r q : Option (List ℕ)) (was shown : List
       → IsSomeAnd q (λ b. IfSome until (λ u. precedes u b ≡ false))
 
 -- what a call of a search promises
-pub called : (o n : InSpan) (many steps : ℕ) (w : Went) → n ≡ record o { row = n.row; shown = n.shown; made = n.made }
+pub called : (o n : InSpan) (many steps : ℕ) (w : Went)
+    → n ≡ record o { row = n.row; shown = n.shown; made = n.made; begun = n.begun }
     → IfSome o.row (λ a. left_of o ≡ between o.puzzle a (reached n) ++ left_of n)
     → IfSome o.row (λ a. length (between o.puzzle a (reached n)) ≡ w.members)
     → (0 < many → 0 < steps → IfSome o.row (λ a. IfSome n.row (λ b. precedes a b ≡ true)))

@@ -1,3 +1,4 @@
+pub mod Moves
 pub mod Rows
 pub mod Rising
 pub mod Lies

@@ -1,5 +1,6 @@
 -- The rows at which a search of a span may be.
-use Rattle.std.specs.Prelude.{ℕ, zero, suc, ◌≤◌, ◌≡◌, List, [], ◌∷◌, length, None}
+use Rattle.std.specs.Prelude.{ℕ, zero, suc, ◌+◌, ◌≤◌, ◌≡◌, List, [], ◌∷◌, length, None}
+use Rattle.xc_input.specs.Problem.{Puzzle, option_count, primary_count}
 use Rattle.xc_search.specs.Listing.{Residual, branch_item}
 use Rattle.xc_search.specs.InSpan.{branches_left, left_by_number}
 
@@ -9,3 +10,7 @@ abbrev pub IsRow : Residual → List ℕ → Type 0
 IsRow r [] = Unit {0}
 IsRow r (zero ∷ row) = (branch_item r ≡ None) × (row ≡ [])
 IsRow r (suc k ∷ row) = (suc k ≤ length (branches_left r)) × IsRow (left_by_number (suc k) r) row
+
+-- No row has more branches: each takes an option or a primary item away.
+abbrev pub longest_row : Puzzle → ℕ
+longest_row p = option_count p + primary_count p

@@ -1,13 +1,14 @@
 //! A search of a span: of the members from one row of numbers on and before another.
-ghost use Rattle.std.specs.Prelude.{ℕ, ◌≡◌, ◌-◌, ◌^◌, ◌<◌, ◌≤◌, ◌⊎◌, List, [], ◌∷◌, ◌++◌, length, map, true};
+ghost use Rattle.std.specs.Prelude.{ℕ, ◌≡◌, ◌+◌, ◌*◌, ◌-◌, ◌^◌, ◌<◌, ◌≤◌, ◌⊎◌, List, [], ◌∷◌, ◌++◌, length, map, true};
 ghost use Rattle.std.specs.Prelude.{false, if◌then◌else◌, Some, None, IfSome, IsSome, IsSomeAnd, IfOk, IfErr};
 ghost use Rattle.std.specs.Prelude.{option_map, option_and_then, slice_get};
 ghost use Rattle.xc_search.specs.Outlook.{shown_after};
 ghost use Rattle.xc_search.specs.Room.{room_for};
 ghost use Rattle.xc_search.specs.Listing.{whole};
 ghost use Rattle.xc_search.specs.Spans.{precedes, is_before, between};
-ghost use Rattle.xc_search.specs.InSpan.{left_of, reached, branches_along};
-ghost use Rattle.xc_search.specs.Nodes.{IsRow};
+ghost use Rattle.xc_search.specs.InSpan.{left_of, reached, branches_along, MovesFew};
+ghost use Rattle.xc_search.specs.Nodes.{IsRow, longest_row};
+ghost use Rattle.xc_dance.specs.Dancing.{moves_made};
 
 use crate::choice::Choice;
 use crate::counts::most_levels;
@@ -104,6 +105,7 @@ impl<'a, D: Dance> Model for Span<'a, D> {
       shown = s.choices.items;
       room = s.state.position.room;
       made = moves_made s.state.position;
+      begun = s.state.stack.begun;
     } };
 
     ghost invariant = { λ s. record {
@@ -144,7 +146,11 @@ impl<'a, D: Dance> Span<'a, D> {
           shown = [];
           room = (D.state dance).room;
           made = s.made;
+          begun = s.begun;
         }) }
+        ensures way { IfOk result (λ s. s.begun ≤ length from.now) }
+        ensures moves { IfOk result (λ s.
+            s.made ≤ moves_made (D.state dance) + room_for problem.now.puzzle * (s.begun + 1)) }
         ensures left { IfOk result (λ s. left_of s ≡ between problem.now.puzzle from.now s.until) }
         ensures row { IfOk result (λ s. IfSome s.row (λ row.
             (precedes row from.now ≡ false) × (between problem.now.puzzle from.now (Some row) ≡ []))) }
@@ -188,7 +194,10 @@ impl<'a, D: Dance> Span<'a, D> {
     /// After `End` it returns `End` again.
     pub fn go_on(&mut self, many: u64, steps: u64) -> Went
         ensures still { self.new ≡ record self.old
-            { row = self.new.row; shown = self.new.shown; made = self.new.made } }
+            { row = self.new.row; shown = self.new.shown; made = self.new.made; begun = self.new.begun } }
+        ensures begun { (again : ℕ) × (self.new.begun ≡ self.old.begun + result.steps + again)
+            × (again ≤ longest_row self.old.puzzle) × (result.steps < steps → again ≡ 0) }
+        ensures moves { MovesFew self.old self.new }
         ensures passed { IfSome self.old.row (λ from. left_of self.old
             ≡ between self.old.puzzle from (reached self.new) ++ left_of self.new) }
         ensures count { IfSome self.old.row (λ from.

@@ -5,7 +5,7 @@ ghost use Rattle.xc_search.specs.Spans.{precedes, row_of, is_before};
 ghost use Rattle.xc_search.specs.inner.MostLevels.{most_levels};
 ghost use Rattle.xc_search.specs.inner.Levels.{AreStacked, IsStanding, coming};
 ghost use Rattle.xc_search.specs.inner.Paths.{AreLed, AreLedBy};
-ghost use Rattle.xc_search.specs.inner.Spanning.{IsSeenBy, RunsTo, RanTo, Settles, row_at};
+ghost use Rattle.xc_search.specs.inner.Spanning.{IsSeenBy, RunsTo, RanTo, Settles, TakesWay, row_at};
 
 use crate::level::Level;
 use crate::levels::{Ran, Stop, Task, run, unwind};
@@ -57,7 +57,8 @@ pub fn reach<'a, D: Dance>(state: &mut State<'a, D>, from: &[u32]) -> bool
     requires none { state.old.stack.levels ≡ [] }
     ensures still { state.new.position ≡ record state.old.position
         { trail = state.new.position.trail; undone = state.new.position.undone } }
-    ensures levels { state.new.stack ≡ record state.old.stack { levels = state.new.stack.levels } }
+    ensures levels { state.new.stack ≡ record state.old.stack
+        { levels = state.new.stack.levels; begun = state.new.stack.begun } }
     ensures stacked { AreStacked state.new.position.puzzle state.new.position.trail state.new.stack.levels }
     ensures standing { result ≡ true →
         IsStanding state.new.position.puzzle state.new.position.trail state.new.stack.levels true }
@@ -70,6 +71,8 @@ pub fn reach<'a, D: Dance>(state: &mut State<'a, D>, from: &[u32]) -> bool
         (coming state.old.position.puzzle state.old.position.trail state.old.stack.levels true)
         ≡ filter (λ m. not (precedes (row_of m) from.now))
         (coming state.new.position.puzzle state.new.position.trail state.new.stack.levels true) }
+    ensures way { TakesWay (length from.now) state.old.position state.old.stack
+        state.new.position state.new.stack }
     ensures none { result ≡ false →
         filter (λ m. not (precedes (row_of m) from.now))
         (coming state.old.position.puzzle state.old.position.trail state.old.stack.levels true) ≡ [] }

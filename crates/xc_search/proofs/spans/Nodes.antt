@@ -1,6 +1,6 @@
 -- The rows that a search of a span stands at are rows of its tree.
-use Rattle.std.proofs.Common.{ℕ, zero, suc, ◌≡◌, ◌-◌, Bool, true, false, not, List, [], ◌∷◌, ◌++◌, cond, Some, None, refl, arith, subst}
-use Rattle.std.proofs.Common.{append-nil}
+use Rattle.std.proofs.Common.{ℕ, zero, suc, ◌≡◌, ◌-◌, Bool, true, false, not, List, [], ◌∷◌, ◌++◌, cond, Some, None}
+use Rattle.std.proofs.Common.{refl, arith, subst, append-nil}
 use Rattle.std.specs.Prelude.{◌||◌, IfSome}
 use Rattle.std.proofs.lemmas.Option.{slice_get_within}
 use Rattle.xc_dance.specs.declared.dance.Move.{Move}

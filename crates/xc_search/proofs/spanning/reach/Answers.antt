@@ -1,10 +1,11 @@
 use Rattle.std.proofs.lemmas.Grind.{common_steps}
 use Rattle.std.proofs.lemmas.List.{length-reverse}
-use Rattle.std.proofs.Common.{ℕ, ◌≡◌, ◌<◌, ◌⊎◌, Some, None, true, false, length, take, get_or, refl, sym, ap, ◌∙◌, arith}
+use Rattle.std.proofs.Common.{ℕ, ◌≡◌, ◌+◌, ◌<◌, ◌⊎◌, Some, None, true, false, length, take, get_or, refl, sym, ap}
+use Rattle.std.proofs.Common.{◌∙◌, arith}
 use Rattle.xc_search.specs.Spans.{precedes}
 use Rattle.xc_search.specs.declared.levels.Stop.TheVariants.{Member, Steps, Row}
 use Rattle.xc_search.specs.inner.Spanning.{RunsTo, Stands}
-use Rattle.xc_search.proofs.spans.Kept.{reaches_on, reaches_none}
+use Rattle.xc_search.proofs.spans.Kept.{reaches_on, reaches_none, starts_reaching, way_there, way_past}
 use Rattle.xc_search.proofs.spans.Numbers.{numbers_row}
 use Rattle.xc_search.proofs.spans.Reached.{IsNextNumber, next_number, seen_before, row_past, row_past_zero, row_more}
 use Rattle.xc_search.proofs.spans.Reached.{row_grows}
@@ -84,6 +85,7 @@ returns-then-levels g c =
       led = λ _. on.led;
       reached = λ _. past;
       kept = λ _. on.kept;
+      way = way_there on (length c.args.from.now) (omega (arith, c.loop-number.invariant.few, c.loop-number-test.true));
       none = λ h. absurd (cc h);
     }
 
@@ -102,9 +104,11 @@ loop-number-preserved g c =
     ) in
     let grown = row_more (next g at) ks (s.down refl) more (omega (arith, c.if-number-eq0.false)) in
     record {
+      begun = c.loop-number.invariant.begun + 1;
       reaching = reaches_on c.loop-number.invariant.reaching s;
       row = row_grows c.args.from.now c.loop-number.state.stack c.replace_with.new.dest.stack
           c.loop-number.number-index (number g at) c.loop-number.invariant.row c.loop-number-test.true refl grown;
+      few = omega (arith, c.loop-number.invariant.few);
     }
 
 pub returns-clause-reached : goal.returns-clause-reached
@@ -113,3 +117,21 @@ returns-clause-reached g c _ =
     let whole : take c.loop-number.number-index from ≡ from = grind (arith, common_steps) in
     ap (λ r. precedes r from) (sym (numbers_row c.loop-number.state.position.puzzle c.loop-number.state.stack.levels)
     ∙ c.loop-number.invariant.row ∙ whole) ∙ not_itself from
+
+pub loop-number-init : goal.loop-number-init
+loop-number-init g c = record {
+  begun = 0;
+  reaching = starts_reaching _ _ _ c.requires.standing c.requires.led;
+  row = rw c.requires.none refl;
+  few = omega arith;
+}
+
+pub returns-in-Nothing-clause-way : goal.returns-in-Nothing-clause-way
+returns-in-Nothing-clause-way g c =
+    let at = (goal.at.returns-in-Nothing-clause-way g c).After-replace_with in
+    way_past c.loop-number.invariant.reaching (length c.args.from.now) (ran g at)
+    (omega (arith, c.loop-number.invariant.few, c.loop-number-test.true, (ran g at).bounded refl))
+
+pub returns-clause-way : goal.returns-clause-way
+returns-clause-way g c =
+    way_there c.loop-number.invariant.reaching (length c.args.from.now) (omega (arith, c.loop-number.invariant.few))

@@ -1,10 +1,12 @@
-use Rattle.std.proofs.Common.{◌≡◌, take}
+use Rattle.std.proofs.Common.{ℕ, ◌≡◌, ◌≤◌, take}
 use Rattle.xc_search.specs.inner.Paths.{numbers}
 use Rattle.xc_search.proofs.spans.Kept.{Reaching}
 use Rattle.xc_search.proofs.spanning.reach.Given as goal
 
 abbrev pub invariant-loop-number : goal.invariant-loop-number
 invariant-loop-number g l = record {
-  reaching : Reaching l.initial.state.position l.initial.state.stack l.state.position l.state.stack l.from;
+  begun : ℕ;
+  reaching : Reaching l.initial.state.position l.initial.state.stack l.state.position l.state.stack l.from begun;
   row : numbers l.state.stack.levels ≡ take l.number-index l.from;
+  few : begun ≤ l.number-index;
 }

@@ -1,12 +1,13 @@
-use Rattle.std.proofs.Common.{ℕ, ◌≡◌, true, List, None, refl, sym, ap, ap₂, ◌∙◌, arith}
-use Rattle.xc_dance.specs.Dancing.{Dancing}
+use Rattle.std.proofs.Common.{ℕ, ◌≡◌, ◌+◌, ◌*◌, ◌≤◌, true, List, None, length, refl, sym, ap, ap₂, ◌∙◌, arith}
+use Rattle.xc_dance.specs.Dancing.{Dancing, moves_made}
+use Rattle.xc_search.specs.Room.{room_for}
 use Rattle.xc_search.specs.Cover.{members}
 use Rattle.xc_search.specs.Spans.{precedes, between}
 use Rattle.xc_search.specs.inner.Levels.{Levels, coming}
 use Rattle.xc_search.specs.inner.Spanning.{row_at}
 use Rattle.xc_search.proofs.stacked.Start.{starts_standing, starts_coming}
 use Rattle.xc_search.proofs.spans.Kept.{row_levels}
-use Rattle.xc_search.proofs.spans.Numbers.{numbers_row}
+use Rattle.xc_search.proofs.spans.Numbers.{numbers_row, length-numbers}
 use Rattle.xc_search.proofs.spans.Running.{led_from, led_from_by}
 use Rattle.xc_search.proofs.spans.Advance.{begins_from, none_from}
 use Rattle.xc_search.proofs.spanning.settle.Goals as goal
@@ -36,6 +37,10 @@ returns-clause-settles g c =
     let here : coming d.puzzle d.trail ls true ≡ between e.puzzle from None =
     sym (led_from_by _ d.puzzle d.trail ls c.requires.led)
     ∙ ap₂ (λ p (r : List ℕ). between p r None) (sym puzzle) (sym is) in
+    let long : length from ≡ length ls = ap length (is ∙ sym (numbers_row d.puzzle ls)) ∙ length-numbers ls in
+    let unwound : moves_made f ≡ moves_made d = grind (arith, c.unwind.ensures.position) in
+    let same : f.puzzle ≡ d.puzzle = ap (λ (d : Dancing). d.puzzle) c.unwind.ensures.position in
+    let made : moves_made e ≤ moves_made f + room_for d.puzzle * (reach.way.begun + 1) = rw same at reach.way.made in
     record {
       still = grind (
         arith,
@@ -50,5 +55,11 @@ returns-clause-settles g c =
       row = λ h. ap₂ precedes (numbers_row e.puzzle ks) (numbers_row d.puzzle ls ∙ sym is) ∙ reach.reached h;
       members = λ h. here ∙ begins_from e.puzzle e.trail ks from _ (reach.led h) (reach.reached h) all (reach.kept h)
           ∙ led_from e.puzzle e.trail ks (reach.led h);
+      way = record {
+        begun = reach.way.begun;
+        counted = omega (arith, reach.way.counted, ap (λ (s : Levels). s.begun) c.unwind.ensures.stack);
+        few = omega (arith, reach.way.few, long);
+        made = omega (arith, unwound, made);
+      };
       none = λ h. here ∙ none_from e.puzzle from _ None all (reach.none h);
     }

@@ -1,10 +1,12 @@
-use Rattle.std.proofs.Common.{ℕ, ◌≡◌, ◌-◌, ◌<◌, ◌⊎◌, Bool, true, false, List, [], Option, length, refl, sym, ap, ◌∙◌}
-use Rattle.std.proofs.Common.{arith, inl, inr}
+use Rattle.std.proofs.Common.{ℕ, ◌≡◌, ◌+◌, ◌*◌, ◌-◌, ◌<◌, ◌≤◌, ◌⊎◌, Bool, true, false, List, [], Option, length, refl}
+use Rattle.std.proofs.Common.{sym, ap, ◌∙◌, arith, inl, inr}
 use Rattle.std.specs.Prelude.{option_map, IfSome}
+use Rattle.xc_search.specs.InSpan.{InSpan}
 use Rattle.xc_search.specs.Spans.{precedes, is_before, between}
 use Rattle.xc_search.specs.inner.Levels.{choices_of}
 use Rattle.xc_search.specs.inner.Spanning.{row_at, row_from, Halts, EndsSpan}
-use Rattle.xc_dance.specs.Dancing.{Dancing}
+use Rattle.xc_dance.specs.Dancing.{Dancing, moves_made}
+use Rattle.xc_search.specs.Room.{room_for}
 use Rattle.xc_search.proofs.stacked.ShownLevels.{all_shown}
 use Rattle.xc_search.specs.declared.choice.Choice.{Choice}
 use Rattle.xc_search.specs.declared.levels.Stop.TheVariants.{Member, Steps, Row, Nothing}
@@ -14,6 +16,7 @@ use Rattle.xc_search.proofs.spans.Advance.{Advances, IsAt, over_first, ran_out, 
 use Rattle.xc_search.proofs.spans.Advance.{at_end, end_not_before, end_not_right_behind}
 use Rattle.xc_search.proofs.spans.Told.{told_passed, told_count, told_later, told_shown, told_same, told_still}
 use Rattle.xc_search.proofs.spans.Told.{told_none, told_end}
+use Rattle.xc_search.proofs.spans.Moves.{few_moves}
 use Rattle.xc_search.proofs.spans.Nodes.{is_row}
 use Rattle.xc_input.specs.Problem.{Puzzle}
 use Rattle.xc_search.specs.declared.level.Level.{Level}
@@ -23,17 +26,17 @@ use Rattle.xc_search.proofs.span.Span.go_on.Goals.{then-self-2, else-self-2}
 
 pub returns-then-many-eq0-clause-passed : goal.returns-then-many-eq0-clause-passed
 returns-then-many-eq0-clause-passed g c =
-    (told_same c.args.self.now _ _ _ _ _ _ _ c.self.view_is c.if-self.false).0
+    (told_same c.args.self.now _ _ _ _ _ _ _ _ c.self.view_is c.if-self.false).0
 
 pub returns-then-many-eq0-clause-count : goal.returns-then-many-eq0-clause-count
 returns-then-many-eq0-clause-count g c =
-    (told_same c.args.self.now _ _ _ _ _ _ _ c.self.view_is c.if-self.false).1
+    (told_same c.args.self.now _ _ _ _ _ _ _ _ c.self.view_is c.if-self.false).1
 
 pub returns-then-steps-eq0-clause-passed : goal.returns-then-steps-eq0-clause-passed
-returns-then-steps-eq0-clause-passed g c = told_still c.args.self.now _ _ _ _ _ _ _ c.self.view_is c.if-self.false []
+returns-then-steps-eq0-clause-passed g c = told_still c.args.self.now _ _ _ _ _ _ _ _ c.self.view_is c.if-self.false []
 
 pub returns-then-steps-eq0-clause-count : goal.returns-then-steps-eq0-clause-count
-returns-then-steps-eq0-clause-count g c = told_none c.args.self.now _ _ _ _ _ _ _ c.self.view_is c.if-self.false []
+returns-then-steps-eq0-clause-count g c = told_none c.args.self.now _ _ _ _ _ _ _ _ c.self.view_is c.if-self.false []
 
 at : (g : _) (c : After-go_over-ran g)
     → IsAt c.self.inside.state.position.puzzle c.self.inside.state.position.trail
@@ -64,7 +67,7 @@ module _ (g : _) (c : After-go_over-ran g) where
       Halts until c.self.inside.state.position c.self.inside.state.stack (over_first c.args.many
       c.self.inside.unsearched)
       c.go_over-ran.new.state.position c.go_over-ran.new.state.stack c.go_over-ran.result.more
-      (c.args.steps - c.go_over-ran.result.steps)
+      c.go_over-ran.ensures.ran.begun
   stands h = rw (over g c) at (c.go_over-ran.ensures.ran.halts h)
 
   moved : (c.go_over-ran.result.stop ≡ Member) ⊎ (c.go_over-ran.result.stop ≡ Steps) →
@@ -74,6 +77,19 @@ module _ (g : _) (c : After-go_over-ran g) where
   before : (h : (c.go_over-ran.result.stop ≡ Member) ⊎ (c.go_over-ran.result.stop ≡ Steps)) →
       is_before until (row_at c.self.inside.state.position.puzzle c.go_over-ran.new.state.stack.levels) ≡ true
   before h = rw (moved h) at (c.go_over-ran.ensures.ran.before h)
+
+  -- with few moves
+  few : moves_made c.go_over-ran.new.state.position
+      + room_for c.self.inside.state.position.puzzle * c.self.inside.state.stack.begun
+      ≤ moves_made c.self.inside.state.position
+      + room_for c.self.inside.state.position.puzzle * (c.go_over-ran.new.state.stack.begun + 2)
+  few =
+      let ran = c.go_over-ran.ensures.ran in
+      let was = c.self.inside.state in
+      let now = c.go_over-ran.new.state in
+      few_moves was.position.puzzle (ran.begun + ran.again) was.stack.begun
+      now.stack.begun (moves_made was.position) (moves_made now.position) (omega (arith, ran.made))
+      (omega (arith, ran.counted))
 
   -- how it went on to a member
   module _ (h : c.go_over-ran.result.stop ≡ Member) where
@@ -98,8 +114,8 @@ module _ (g : _) (c : After-go_over-ran g) where
 
   -- or until it ran out of steps
   module _ (h : c.go_over-ran.result.stop ≡ Steps) (more : 0 < c.args.steps) where
-    taken : 0 < c.args.steps - c.go_over-ran.result.steps
-    taken = omega (arith, more, c.go_over-ran.ensures.ran.ran_out h)
+    taken : 0 < c.go_over-ran.ensures.ran.begun
+    taken = omega (arith, more, c.go_over-ran.ensures.ran.ran_out h, c.go_over-ran.ensures.ran.bounded)
 
     fewer : c.go_over-ran.result.more < c.args.many
     fewer = still_more (at g c) (stands (inr h)) (some g c) taken
@@ -143,21 +159,21 @@ overflow_sub-result-in-Steps-2 g c =
 pub returns-in-Member-clause-passed : goal.returns-in-Member-clause-passed
 returns-in-Member-clause-passed g c =
     let r = (goal.at.returns-in-Member-clause-passed g c).After-go_over-ran in
-    told_passed c.args.self.now _ _ _ _ _ _ _ c.self.view_is c.if-self.false c.go_over-ran.new.state.position.puzzle
+    told_passed c.args.self.now _ _ _ _ _ _ _ _ c.self.view_is c.if-self.false c.go_over-ran.new.state.position.puzzle
     _ c.args.many
     c.show.new.shown.items (moved g r (inl c.in-Member.is)) (to_member g r c.in-Member.is)
 
 pub returns-in-Member-clause-count : goal.returns-in-Member-clause-count
 returns-in-Member-clause-count g c =
     let r = (goal.at.returns-in-Member-clause-count g c).After-go_over-ran in
-    told_count c.args.self.now _ _ _ _ _ _ _ c.self.view_is c.if-self.false c.go_over-ran.new.state.position.puzzle
+    told_count c.args.self.now _ _ _ _ _ _ _ _ c.self.view_is c.if-self.false c.go_over-ran.new.state.position.puzzle
     _ c.args.many
     c.show.new.shown.items (moved g r (inl c.in-Member.is)) (to_member g r c.in-Member.is)
 
 pub returns-in-Member-clause-later : goal.returns-in-Member-clause-later
 returns-in-Member-clause-later g c _ _ =
     let r = (goal.at.returns-in-Member-clause-later g c).After-go_over-ran in
-    told_later c.args.self.now _ _ _ _ _ _ _ c.self.view_is c.if-self.false c.go_over-ran.new.state.position.puzzle
+    told_later c.args.self.now _ _ _ _ _ _ _ _ c.self.view_is c.if-self.false c.go_over-ran.new.state.position.puzzle
     _ c.args.many
     c.show.new.shown.items (moved g r (inl c.in-Member.is)) (to_member g r c.in-Member.is)
 
@@ -166,34 +182,34 @@ returns-in-Member-clause-member g c _ =
     let r = (goal.at.returns-in-Member-clause-member g c).After-go_over-ran in (
       refl,
       c.show.ensures.items
-          ∙ told_shown c.args.self.now _ _ _ _ _ _ _ c.self.view_is c.if-self.false c.args.many _
+          ∙ told_shown c.args.self.now _ _ _ _ _ _ _ _ c.self.view_is c.if-self.false c.args.many _
           (there g r c.in-Member.is),
     )
 
 pub returns-in-Row-clause-count : goal.returns-in-Row-clause-count
 returns-in-Row-clause-count g c =
     let r = (goal.at.returns-in-Row-clause-count g c).After-go_over-ran in
-    told_end c.args.self.now _ _ _ _ _ _ _ c.self.view_is c.if-self.false c.go_over-ran.new.state.position.puzzle
+    told_end c.args.self.now _ _ _ _ _ _ _ _ c.self.view_is c.if-self.false c.go_over-ran.new.state.position.puzzle
     c.clear-in-Row.new.self.items _ (to_end g r c.in-Row.is).1
 
 pub returns-in-Steps-clause-passed : goal.returns-in-Steps-clause-passed
 returns-in-Steps-clause-passed g c =
     let r = (goal.at.returns-in-Steps-clause-passed g c).After-go_over-ran in
-    told_passed c.args.self.now _ _ _ _ _ _ _ c.self.view_is c.if-self.false c.go_over-ran.new.state.position.puzzle
+    told_passed c.args.self.now _ _ _ _ _ _ _ _ c.self.view_is c.if-self.false c.go_over-ran.new.state.position.puzzle
     _ _
     c.clear-in-Steps.new.self.items (moved g r (inr c.in-Steps.is)) (to_row g r c.in-Steps.is (omega arith))
 
 pub returns-in-Steps-clause-count : goal.returns-in-Steps-clause-count
 returns-in-Steps-clause-count g c =
     let r = (goal.at.returns-in-Steps-clause-count g c).After-go_over-ran in
-    told_count c.args.self.now _ _ _ _ _ _ _ c.self.view_is c.if-self.false c.go_over-ran.new.state.position.puzzle
+    told_count c.args.self.now _ _ _ _ _ _ _ _ c.self.view_is c.if-self.false c.go_over-ran.new.state.position.puzzle
     _ _
     c.clear-in-Steps.new.self.items (moved g r (inr c.in-Steps.is)) (to_row g r c.in-Steps.is (omega arith))
 
 pub returns-in-Steps-clause-later : goal.returns-in-Steps-clause-later
 returns-in-Steps-clause-later g c _ _ =
     let r = (goal.at.returns-in-Steps-clause-later g c).After-go_over-ran in
-    told_later c.args.self.now _ _ _ _ _ _ _ c.self.view_is c.if-self.false c.go_over-ran.new.state.position.puzzle
+    told_later c.args.self.now _ _ _ _ _ _ _ _ c.self.view_is c.if-self.false c.go_over-ran.new.state.position.puzzle
     _ _
     c.clear-in-Steps.new.self.items (moved g r (inr c.in-Steps.is)) (to_row g r c.in-Steps.is (omega arith))
 
@@ -239,10 +255,30 @@ pub returns-in-Member-clause-node : goal.returns-in-Member-clause-node
 returns-in-Member-clause-node g c =
     let at = c.go_over-ran.new.state in
     rw c.if-self.false (is_row at.position.puzzle at.position.trail at.stack.levels false
-    (c.go_over-ran.ensures.ran.halts (inl c.in-Member.is)).led (λ _. (c.go_over-ran.ensures.ran.solved c.in-Member.is).1))
+    (c.go_over-ran.ensures.ran.halts (inl c.in-Member.is)).led
+    (λ _. (c.go_over-ran.ensures.ran.solved c.in-Member.is).1))
 
 pub returns-in-Steps-clause-node : goal.returns-in-Steps-clause-node
 returns-in-Steps-clause-node g c =
     let at = c.go_over-ran.new.state in
     rw c.if-self.false (is_row at.position.puzzle at.position.trail at.stack.levels true
     (c.go_over-ran.ensures.ran.halts (inr c.in-Steps.is)).led (λ h. absurd (cc h)))
+
+pub returns-then-many-eq0-clause-begun : goal.returns-then-many-eq0-clause-begun
+returns-then-many-eq0-clause-begun g c = (0, omega arith, omega arith, λ _. refl)
+
+pub returns-then-steps-eq0-clause-begun : goal.returns-then-steps-eq0-clause-begun
+returns-then-steps-eq0-clause-begun g c =
+    (0, omega (arith, ap (λ (s : InSpan). s.begun) c.self.view_is), omega arith, λ _. refl)
+
+pub returns-in-Member-clause-moves : goal.returns-in-Member-clause-moves
+returns-in-Member-clause-moves g c =
+    rw (← c.self.view_is) (few g (goal.at.returns-in-Member-clause-moves g c).After-go_over-ran)
+
+pub returns-in-Row-clause-moves : goal.returns-in-Row-clause-moves
+returns-in-Row-clause-moves g c =
+    rw (← c.self.view_is) (few g (goal.at.returns-in-Row-clause-moves g c).After-go_over-ran)
+
+pub returns-in-Steps-clause-moves : goal.returns-in-Steps-clause-moves
+returns-in-Steps-clause-moves g c =
+    rw (← c.self.view_is) (few g (goal.at.returns-in-Steps-clause-moves g c).After-go_over-ran)
