@@ -16,3 +16,4 @@ pub mod Advance
 pub mod Told
 pub mod Along
 pub mod Nodes
+pub mod Ranks
