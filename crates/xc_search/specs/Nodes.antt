@@ -7,10 +7,10 @@ use Rattle.xc_search.specs.InSpan.{branches_left, left_by_number}
 
 -- A row of the search's tree, below what is left: each number is that of a branch of its level, from 1 on. A last 0
 -- may be right after a member, where no item is left.
-abbrev pub IsRow : Residual → List ℕ → Type 0
-IsRow r [] = Unit {0}
-IsRow r (zero ∷ row) = (branch_item r ≡ None) × (row ≡ [])
-IsRow r (suc k ∷ row) = (suc k ≤ length (branches_left r)) × IsRow (left_by_number (suc k) r) row
+abbrev pub IsRowOf : Residual → List ℕ → Type 0
+IsRowOf r [] = Unit {0}
+IsRowOf r (zero ∷ row) = (branch_item r ≡ None) × (row ≡ [])
+IsRowOf r (suc k ∷ row) = (suc k ≤ length (branches_left r)) × IsRowOf (left_by_number (suc k) r) row
 
 -- No row has more branches: each takes an option or a primary item away.
 abbrev pub longest_row : Puzzle → ℕ
@@ -19,7 +19,7 @@ longest_row p = option_count p + primary_count p
 -- these are rows of the tree, each after the one in front of it
 abbrev pub RowsGoOn : Puzzle → List ℕ → List (List ℕ) → Type 0
 RowsGoOn p from [] = Unit {0}
-RowsGoOn p from (next ∷ rows) = IsRow (whole p) next × (precedes from next ≡ true) × RowsGoOn p next rows
+RowsGoOn p from (next ∷ rows) = IsRowOf (whole p) next × (precedes from next ≡ true) × RowsGoOn p next rows
 
 -- One level of the tree, over the numbers of rows of what is left: with no item left a member's row and the one right
 -- after it; else its own row and those of the branches of the branch item

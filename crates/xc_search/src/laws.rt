@@ -9,7 +9,7 @@ ghost use Rattle.xc_search.specs.Worked.{missing_item, one_colour, up_to_twice, 
 ghost use Rattle.xc_search.specs.Worked.{both_options, blank_secondary, bounds_and_colours, bound_beside_one};
 ghost use Rattle.xc_search.specs.Cover.{members, IsCover, HasSetAt, EachMemberCovers, EachCoverIsListedOnce};
 ghost use Rattle.xc_search.specs.Spans.{row_of, precedes, between, spans_from, RowsRise};
-ghost use Rattle.xc_search.specs.Nodes.{IsRow, RowsGoOn, row_count};
+ghost use Rattle.xc_search.specs.Nodes.{IsRowOf, RowsGoOn, row_count};
 
 use crate::choice::Choice;
 use crate::search::Step;
@@ -95,7 +95,7 @@ pub fn spans_join()
 /// the end: `Span::new` is at no row before the one that it was asked for, and `Span::go_on` ends or is at a later one
 /// of the tree (`row`, `later`, `node`).
 pub fn rows_come_to_an_end()
-    ensures { (p : Puzzle) (from : List ℕ) (rows : List (List ℕ)) → IsRow (whole p) from → RowsGoOn p from rows →
+    ensures { (p : Puzzle) (from : List ℕ) (rows : List (List ℕ)) → IsRowOf (whole p) from → RowsGoOn p from rows →
         length rows < row_count (whole p) }
 {}
 

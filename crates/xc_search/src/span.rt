@@ -7,7 +7,8 @@ ghost use Rattle.xc_search.specs.Room.{room_for};
 ghost use Rattle.xc_search.specs.Listing.{whole};
 ghost use Rattle.xc_search.specs.Spans.{precedes, is_before, between};
 ghost use Rattle.xc_search.specs.InSpan.{left_of, reached, branches_along, MovesFew};
-ghost use Rattle.xc_search.specs.Nodes.{IsRow, longest_row};
+ghost use Rattle.xc_search.specs.Nodes.{IsRowOf};
+ghost use Rattle.xc_search.specs.Going.{WentOnBy};
 ghost use Rattle.xc_dance.specs.Dancing.{moves_made};
 
 use crate::choice::Choice;
@@ -154,7 +155,7 @@ impl<'a, D: Dance> Span<'a, D> {
         ensures left { IfOk result (λ s. left_of s ≡ between problem.now.puzzle from.now s.until) }
         ensures row { IfOk result (λ s. IfSome s.row (λ row.
             (precedes row from.now ≡ false) × (between problem.now.puzzle from.now (Some row) ≡ []))) }
-        ensures node { IfOk result (λ s. IfSome s.row (λ row. IsRow (whole problem.now.puzzle) row)) }
+        ensures node { IfOk result (λ s. IfSome s.row (λ row. IsRowOf (whole problem.now.puzzle) row)) }
         ensures back { IfErr result (λ e. e.0 ≡ dance) }
     {
         let most = most_levels(problem);
@@ -193,34 +194,7 @@ impl<'a, D: Dance> Span<'a, D> {
     /// of the search's tree: where it is at one of these and has no more steps, it goes on to the tree's next row.
     /// After `End` it returns `End` again.
     pub fn go_on(&mut self, many: u64, steps: u64) -> Went
-        ensures still { self.new ≡ record self.old
-            { row = self.new.row; shown = self.new.shown; made = self.new.made; begun = self.new.begun } }
-        ensures begun { (again : ℕ) × (self.new.begun ≡ self.old.begun + result.steps + again)
-            × (again ≤ longest_row self.old.puzzle) × (result.steps < steps → again ≡ 0) }
-        ensures moves { MovesFew self.old self.new }
-        ensures passed { IfSome self.old.row (λ from. left_of self.old
-            ≡ between self.old.puzzle from (reached self.new) ++ left_of self.new) }
-        ensures count { IfSome self.old.row (λ from.
-            length (between self.old.puzzle from (reached self.new)) ≡ result.members) }
-        ensures later { 0 < many → 0 < steps → IfSome self.old.row (λ from. IfSome self.new.row (λ row.
-            precedes from row ≡ true)) }
-        ensures member { result.halt ≡ Halt.Member → (result.members ≡ many)
-            × (self.new.shown ≡ shown_after many (left_of self.old) self.old.shown) }
-        ensures end { result.halt ≡ Halt.End → (self.new.row ≡ None) × (self.new.shown ≡ []) }
-        ensures ran_out { result.halt ≡ Halt.Steps → IsSome self.new.row × (self.new.shown ≡ [])
-            × (result.steps ≡ steps) × (result.members < many) }
-        ensures within { (result.steps ≤ steps) × (result.members ≤ many) }
-        ensures ended { self.old.row ≡ None → (result.halt ≡ Halt.End) × (result.members ≡ 0) × (self.new.row ≡ None) }
-
-        ensures fewer { 0 < many → result.halt ≡ Halt.End → result.members < many }
-        ensures stays { steps ≡ 0 → self.new.row ≡ self.old.row }
-        ensures node { IfSome self.new.row (λ row. IsRow (whole self.new.puzzle) row) }
-
-        // The row where it halted isn't after the span's end, and comes before it where it ran out of steps.
-        ensures stands { (result.halt ≡ Halt.Member) ⊎ (result.halt ≡ Halt.Steps) → IsSomeAnd self.new.row (λ row.
-            IfSome self.new.until (λ until. precedes until row ≡ false)) }
-        ensures before { 0 < steps → result.halt ≡ Halt.Steps → IfSome self.new.row (λ row.
-            is_before self.new.until row ≡ true) }
+        ensures { WentOnBy many steps result self.old self.new }
     {
         if self.ended {
             self.choices.clear();

@@ -9,7 +9,7 @@ use Rattle.xc_input.specs.Problem.{Puzzle}
 use Rattle.xc_input.proofs.Cases.{by_bool, mapped_none}
 use Rattle.xc_search.specs.Listing.{Residual, whole, branch_item, branches_of}
 use Rattle.xc_search.specs.InSpan.{left_by_number}
-use Rattle.xc_search.specs.Nodes.{IsRow}
+use Rattle.xc_search.specs.Nodes.{IsRowOf}
 use Rattle.xc_search.specs.inner.Ahead.{IsSolved}
 use Rattle.xc_search.specs.inner.Paths.{AreLed}
 use Rattle.xc_search.specs.inner.Residual.{residual_of}
@@ -19,7 +19,7 @@ use Rattle.xc_search.proofs.spans.Along.{left_here}
 use Rattle.xc_search.proofs.spans.Later.{Leads, led_leads}
 
 -- what follows a row that leads to s is a row there
-leads_row : (r : Residual) (x : List ℕ) (s : Residual) (y : List ℕ) → Leads r x s → IsRow s y → IsRow r (x ++ y)
+leads_row : (r : Residual) (x : List ℕ) (s : Residual) (y : List ℕ) → Leads r x s → IsRowOf s y → IsRowOf r (x ++ y)
 leads_row r [] s y l h = rw l at h
 leads_row r (zero ∷ x) s y l h = absurd (omega (arith, l.4))
 leads_row r (suc k ∷ x) s y l h =
@@ -29,10 +29,10 @@ leads_row r (suc k ∷ x) s y l h =
     (rw here (omega (arith, within)), rw next (leads_row l.1.next x s y l.5 h))
 
 pub is_row : (p : Puzzle) (t : List Move) (ls : List Level) (down : Bool) → AreLed p [] t ls
-    → (down ≡ false → IsSolved p t ls) → IsRow (whole p) (row_from p ls down)
+    → (down ≡ false → IsSolved p t ls) → IsRowOf (whole p) (row_from p ls down)
 is_row p t ls true a solved =
     let row = row_at p ls in
-    subst (IsRow (whole p)) (append-nil row) (leads_row (whole p) row (residual_of p t) [] (led_leads p t ls a) tt)
+    subst (IsRowOf (whole p)) (append-nil row) (leads_row (whole p) row (residual_of p t) [] (led_leads p t ls a) tt)
 is_row p t ls false a solved =
     let at = solved refl in
     let none : branch_item (residual_of p t) ≡ None =
@@ -42,7 +42,7 @@ is_row p t ls false a solved =
 -- and so is that where a search begins
 pub first_node : (p : Puzzle) (t : List Move) (ls : List Level) (reaches within : Bool)
     → (reaches ≡ true → AreLed p [] t ls) → (ended : Bool) → ended ≡ not reaches || not within
-    → IfSome (cond ended None (Some (row_at p ls))) (λ row. IsRow (whole p) row)
+    → IfSome (cond ended None (Some (row_at p ls))) (λ row. IsRowOf (whole p) row)
 first_node p t ls true within led ended e = by_bool ended (λ h. rw h tt) (λ h.
     rw h (is_row p t ls true (led refl) (λ i. absurd (cc i))))
 first_node p t ls false within led ended e = rw e tt

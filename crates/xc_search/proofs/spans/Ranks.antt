@@ -9,7 +9,7 @@ use Rattle.xc_input.proofs.Cases.{by_option}
 use Rattle.xc_search.specs.Listing.{Wanted, Residual, Branch, whole, branch_item, branches_of}
 use Rattle.xc_search.specs.Spans.{precedes}
 use Rattle.xc_search.specs.InSpan.{branches_left, left_by_number}
-use Rattle.xc_search.specs.Nodes.{IsRow, RowsGoOn, level_rows, rows_to, row_count}
+use Rattle.xc_search.specs.Nodes.{IsRowOf, RowsGoOn, level_rows, rows_to, row_count}
 use Rattle.xc_search.proofs.listing.ByDepth.{by_depth}
 use Rattle.xc_search.proofs.spans.Along.{left_here}
 use Rattle.xc_search.proofs.spans.Rows.{before_first}
@@ -102,7 +102,7 @@ branch_at r k h =
     record { branch = x.0; at = x.1; next = rw (number, x.1) refl }
 
 -- it is below the number of rows
-rank_within : (r : Residual) (row : List ℕ) → IsRow r row → rank r row < row_count r
+rank_within : (r : Residual) (row : List ℕ) → IsRowOf r row → rank r row < row_count r
 rank_within r [] h = some_rows r
 rank_within r (zero ∷ row) h = omega (arith, rows_at r None h.0)
 rank_within r (suc k ∷ row) h =
@@ -116,7 +116,7 @@ rank_within r (suc k ∷ row) h =
     )
 
 -- and rises with the row
-rank_rises : (r : Residual) (a b : List ℕ) → IsRow r a → IsRow r b → precedes a b ≡ true → rank r a < rank r b
+rank_rises : (r : Residual) (a b : List ℕ) → IsRowOf r a → IsRowOf r b → precedes a b ≡ true → rank r a < rank r b
 rank_rises r a [] h i e = absurd (cc e)
 rank_rises r [] (zero ∷ b) h i e = omega arith
 rank_rises r [] (suc k ∷ b) h i e = omega arith
@@ -142,7 +142,7 @@ rank_rises r (suc j ∷ a) (suc k ∷ b) h i e = elim (before_first (suc j) (suc
   | inr rest ↦
       let same : suc j ≡ suc k = rest.0 in
       let number : j ≡ k = omega (arith, same) in
-      let there : IsRow (left_by_number (suc j) r) b = rw number i.1 in
+      let there : IsRowOf (left_by_number (suc j) r) b = rw number i.1 in
       omega (
         arith,
         rank_rises (left_by_number (suc j) r) a b h.1 there rest.1,
@@ -153,11 +153,11 @@ rank_rises r (suc j ∷ a) (suc k ∷ b) h i e = elim (before_first (suc j) (suc
 
 -- ---- rows that rise are no more
 
-pub rows_end : (p : Puzzle) (from : List ℕ) (rows : List (List ℕ)) → IsRow (whole p) from → RowsGoOn p from rows
+pub rows_end : (p : Puzzle) (from : List ℕ) (rows : List (List ℕ)) → IsRowOf (whole p) from → RowsGoOn p from rows
     → length rows < row_count (whole p)
 rows_end p from rows h on = omega (arith, ranked from rows h on)
   where
-    ranked : (from : List ℕ) (rows : List (List ℕ)) → IsRow (whole p) from → RowsGoOn p from rows
+    ranked : (from : List ℕ) (rows : List (List ℕ)) → IsRowOf (whole p) from → RowsGoOn p from rows
         → rank (whole p) from + length rows < row_count (whole p)
     ranked from [] h on = omega (arith, rank_within (whole p) from h)
     ranked from (next ∷ rows) h on =
