@@ -6,6 +6,7 @@ pub mod LeftOut
 pub mod Later
 pub mod Numbers
 pub mod Onward
+pub mod Stuck
 pub mod Exact
 pub mod Passing
 pub mod Kept

@@ -149,9 +149,9 @@ impl<'a, D: Dance> Span<'a, D> {
           made = s.made;
           begun = s.begun;
         }) }
-        ensures way { IfOk result (λ s. s.begun ≤ length from.now) }
+        ensures way { IfOk result (λ s. s.begun ≤ 2 * length from.now) }
         ensures moves { IfOk result (λ s.
-            s.made ≤ moves_made (D.state dance) + room_for problem.now.puzzle * (s.begun + 1)) }
+            s.made ≤ moves_made (D.state dance) + room_for problem.now.puzzle * (s.begun + 2)) }
         ensures left { IfOk result (λ s. left_of s ≡ between problem.now.puzzle from.now s.until) }
         ensures row { IfOk result (λ s. IfSome s.row (λ row.
             (precedes row from.now ≡ false) × (between problem.now.puzzle from.now (Some row) ≡ []))) }

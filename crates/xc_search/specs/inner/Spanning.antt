@@ -128,12 +128,12 @@ pub record RunsTo (bound exact : Bool) (first : ℕ) (u until : Option (List ℕ
   pub counted : ks.begun ≡ ls.begun + begun
   pub made : moves_made e ≤ d.undone + room_for d.puzzle * (begun + 1)
 
--- On its way to a row it began branches, so many at most.
-pub record TakesWay (most : ℕ) (d : Dancing) (ls : Levels) (e : Dancing) (ks : Levels) : Type 0 where
+-- On so many ways to a row it began branches, so many at most on each.
+pub record TakesWays (ways most : ℕ) (d : Dancing) (ls : Levels) (e : Dancing) (ks : Levels) : Type 0 where
   pub begun : ℕ
   pub counted : ks.begun ≡ ls.begun + begun
-  pub few : begun ≤ most
-  pub made : moves_made e ≤ moves_made d + room_for d.puzzle * (begun + 1)
+  pub few : begun ≤ ways * most
+  pub made : moves_made e ≤ moves_made d + room_for d.puzzle * (begun + ways)
 
 -- From the row of levels ls in state d it went back to the first level, and is at that row or at the next one of
 -- the search's tree, with no member between. Or no such row was found, and no member was to come.
@@ -146,7 +146,7 @@ pub record Settles (d : Dancing) (ls : Levels) (e : Dancing) (ks : Levels) (foun
   pub row : found ≡ true → precedes (numbers ks.levels) (numbers ls.levels) ≡ false
   pub members : found ≡ true → coming d.puzzle d.trail ls.levels true ≡ coming e.puzzle e.trail ks.levels true
   pub none : found ≡ false → coming d.puzzle d.trail ls.levels true ≡ []
-  pub way : TakesWay (length ls.levels) d ls e ks
+  pub way : TakesWays 1 (length ls.levels) d ls e ks
 
 -- From levels ls in state d it began so many branches, and halts at levels ks in state e, at a row of the search's
 -- tree.

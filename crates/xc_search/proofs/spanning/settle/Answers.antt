@@ -4,16 +4,19 @@ use Rattle.xc_search.specs.Room.{room_for}
 use Rattle.xc_search.specs.Cover.{members}
 use Rattle.xc_search.specs.Spans.{precedes, between}
 use Rattle.xc_search.specs.inner.Levels.{Levels, coming}
+use Rattle.xc_search.specs.inner.Paths.{numbers}
 use Rattle.xc_search.specs.inner.Spanning.{row_at}
 use Rattle.xc_search.proofs.stacked.Start.{starts_standing, starts_coming}
 use Rattle.xc_search.proofs.spans.Kept.{row_levels}
 use Rattle.xc_search.proofs.spans.Numbers.{numbers_row, length-numbers}
 use Rattle.xc_search.proofs.spans.Running.{led_from, led_from_by}
 use Rattle.xc_search.proofs.spans.Advance.{begins_from, none_from}
+use Rattle.xc_search.proofs.spans.Rows.{not_itself}
+use Rattle.xc_search.proofs.spans.Stuck.{led_free, never_stuck}
 use Rattle.xc_search.proofs.spanning.settle.Goals as goal
 
-pub reach-requires-clause-standing : goal.reach-requires-clause-standing
-reach-requires-clause-standing g c =
+pub reach_by-requires-clause-standing : goal.reach_by-requires-clause-standing
+reach_by-requires-clause-standing g c =
     starts_standing c.args.state.now.position.puzzle (c.requires.standing.searchable refl).valid _ _ _
     (ap (λ (d : Dancing). d.puzzle) c.unwind.ensures.position)
     (ap (λ (d : Dancing). d.trail) c.unwind.ensures.position)
@@ -24,10 +27,10 @@ returns-clause-settles g c =
     let d = c.args.state.now.position in
     let ls = c.args.state.now.stack.levels in
     let f = c.unwind.new.position in
-    let e = c.reach.new.state.position in
-    let ks = c.reach.new.state.stack.levels in
+    let e = c.reach_by.new.state.position in
+    let ks = c.reach_by.new.state.stack.levels in
     let from = c.deref.result.now in
-    let reach = c.reach.ensures in
+    let reach = c.reach_by.ensures in
     let is : from ≡ row_at d.puzzle ls = grind (arith, row_levels) in
     let moved : e.puzzle ≡ f.puzzle = ap (λ (d : Dancing). d.puzzle) reach.still in
     let puzzle : e.puzzle ≡ d.puzzle = moved ∙ ap (λ (d : Dancing). d.puzzle) c.unwind.ensures.position in
@@ -62,4 +65,18 @@ returns-clause-settles g c =
         made = omega (arith, unwound, made);
       };
       none = λ h. here ∙ none_from e.puzzle from _ None all (reach.none h);
+    }
+
+pub returns-then-not-is_stuck-clause-settles : goal.returns-then-not-is_stuck-clause-settles
+returns-then-not-is_stuck-clause-settles g c =
+    let legal = (c.requires.standing.searchable refl).legal in
+    record {
+      still = (refl, refl);
+      stacked = c.requires.standing.stacked;
+      standing = λ _. c.requires.standing;
+      led = λ _. led_free _ _ _ _ c.requires.led (never_stuck _ _ legal (c.is_stuck.ensures c.if-not-is_stuck.true));
+      row = λ _. not_itself (numbers c.args.state.now.stack.levels);
+      members = λ _. refl;
+      none = λ h. absurd (cc h);
+      way = record { begun = 0; counted = omega arith; few = omega arith; made = omega arith };
     }
