@@ -109,8 +109,8 @@ fn is_stuck<'a, D: Dance>(position: &Position<'a, D>) -> bool
     matches!(position.choose(), Some((_, 0)))
 }
 
-/// Goes from where there are no levels to the row `from`, or to the next one that the search's tree has. False where all
-/// levels ended, since no branch has a row that late.
+/// Goes from where there are no levels to the row `from`, or to the next one that the search's tree has. False where
+/// all levels ended, since no branch has a row that late.
 // By early choices, which look at few items. Each was the branch item where each item that is left in the end has
 // branches: one without any keeps none.
 pub fn reach<'a, D: Dance>(state: &mut State<'a, D>, from: &[u32]) -> bool

@@ -47,7 +47,8 @@ rest_about p vs ls u until last first e some begins far leaves = record {
 }
 
 -- On the way to a row it began so many branches, and passed over no member from that row on.
-pub record Reaching (exact : Bool) (d : Dancing) (ls : Levels) (e : Dancing) (ks : Levels) (from : List ℕ) (begun : ℕ) : Type 0 where
+pub record Reaching (exact : Bool) (d : Dancing) (ls : Levels) (e : Dancing) (ks : Levels) (from : List ℕ)
+    (begun : ℕ) : Type 0 where
   pub still : e ≡ record d { trail = e.trail; undone = e.undone }
   pub levels : ks ≡ record ls { levels = ks.levels; begun = ks.begun }
   pub standing : IsStanding e.puzzle e.trail ks.levels true
@@ -65,7 +66,8 @@ pub record Unreached (d : Dancing) (ls : Levels) (e : Dancing) (ks : Levels) (fr
   pub none : filter (λ m. not (precedes (row_of m) from)) (coming d.puzzle d.trail ls.levels true) ≡ []
 
 -- it began no branch there
-pub starts_reaching : (exact : Bool) (d : Dancing) (ls : Levels) (from : List ℕ) → IsStanding d.puzzle d.trail ls.levels true
+pub starts_reaching : (exact : Bool) (d : Dancing) (ls : Levels) (from : List ℕ)
+    → IsStanding d.puzzle d.trail ls.levels true
     → AreLedBy exact d.puzzle [] d.trail ls.levels → Reaching exact d ls d ls from 0
 starts_reaching exact d ls from s a = record {
   still = refl;

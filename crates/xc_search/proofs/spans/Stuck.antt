@@ -7,7 +7,8 @@ use Rattle.xc_input.proofs.lists.Members.{IsIn, in-contains, contains-in, filter
 use Rattle.xc_dance.specs.declared.dance.Move.{Move}
 use Rattle.xc_dance.specs.Moves.{AreLegal, open_items}
 use Rattle.xc_search.specs.declared.level.Level.{Level}
-use Rattle.xc_search.specs.Listing.{Wanted, Residual, Branch, branch_count, first_least, branches_of, spend_one, listing}
+use Rattle.xc_search.specs.Listing.{Wanted, Residual, Branch, branch_count, first_least, branches_of, spend_one}
+use Rattle.xc_search.specs.Listing.{listing}
 use Rattle.xc_search.specs.Residuals.{wanted_at, choice_after}
 use Rattle.xc_search.specs.inner.Commits.{oldest}
 use Rattle.xc_search.specs.inner.Residual.{residual_of}

@@ -1,6 +1,7 @@
 use Rattle.std.proofs.lemmas.Grind.{common_steps}
 use Rattle.std.proofs.lemmas.List.{length-reverse}
-use Rattle.std.proofs.Common.{ℕ, ◌≡◌, ◌+◌, ◌<◌, ◌⊎◌, Some, None, true, false, not, length, take, get_or, refl, sym, ap, ◌∙◌, arith}
+use Rattle.std.proofs.Common.{ℕ, ◌≡◌, ◌+◌, ◌<◌, ◌⊎◌, Some, None, true, false, not, length, take, get_or}
+use Rattle.std.proofs.Common.{refl, sym, ap, ◌∙◌, arith}
 use Rattle.xc_search.specs.Spans.{precedes}
 use Rattle.xc_search.specs.declared.levels.Stop.TheVariants.{Member, Steps, Row}
 use Rattle.xc_search.specs.inner.Spanning.{RunsTo, Stands}
