@@ -13,6 +13,7 @@ use Rattle.xc_search.specs.declared.span.Halt.TheVariants.{Member, End, Steps}
 use Rattle.xc_search.specs.Outlook.{shown_after}
 use Rattle.xc_search.specs.Spans.{precedes, between}
 use Rattle.xc_search.specs.InSpan.{InSpan, left_of, reached, row_or_end}
+use Rattle.xc_search.specs.Going.{WentOnBy}
 use Rattle.xc_search.proofs.spans.Rows.{not_itself, not_before_before, before_either_way}
 use Rattle.xc_search.proofs.spans.Advance.{none_long}
 use Rattle.xc_search.proofs.spans.Rising.{spans_meet}
@@ -36,32 +37,23 @@ pub record Called (p : Puzzle) (until r q : Option (List ℕ)) (was shown : List
       → IsSomeAnd q (λ b. IfSome until (λ u. precedes u b ≡ false))
 
 -- what a call of a search promises
-pub called : (o n : InSpan) (many steps : ℕ) (w : Went) → n ≡ record o { row = n.row; shown = n.shown; made = n.made }
-    → IfSome o.row (λ a. left_of o ≡ between o.puzzle a (reached n) ++ left_of n)
-    → IfSome o.row (λ a. length (between o.puzzle a (reached n)) ≡ w.members)
-    → (0 < many → 0 < steps → IfSome o.row (λ a. IfSome n.row (λ b. precedes a b ≡ true)))
-    → (w.halt ≡ Member → (w.members ≡ many) × (n.shown ≡ shown_after many (left_of o) o.shown))
-    → (w.halt ≡ End → (n.row ≡ None) × (n.shown ≡ []))
-    → (w.halt ≡ Steps → IsSome n.row × (n.shown ≡ []) × (w.steps ≡ steps) × (w.members < many))
-    → (w.steps ≤ steps) × (w.members ≤ many)
-    → (o.row ≡ None → (w.halt ≡ End) × (w.members ≡ 0) × (n.row ≡ None))
-    → (0 < many → w.halt ≡ End → w.members < many) → (steps ≡ 0 → n.row ≡ o.row)
-    → ((w.halt ≡ Member) ⊎ (w.halt ≡ Steps) → IsSomeAnd n.row (λ b. IfSome n.until (λ u. precedes u b ≡ false)))
+pub called : (o n : InSpan) (many steps : ℕ) (w : Went) → WentOnBy many steps w o n
     → Called o.puzzle o.until o.row n.row o.shown n.shown many steps w
-called o n many steps w still passed count later member end ran_out within ended fewer stays stands = record {
-  passed = subst (λ (s : InSpan). IfSome o.row (λ a. left_of o ≡ between o.puzzle a (reached s) ++ left_of s)) still
-      passed;
-  count = subst (λ (s : InSpan). IfSome o.row (λ a. length (between o.puzzle a (reached s)) ≡ w.members)) still count;
-  later = later;
-  member = member;
-  end = λ is. (end is).0;
-  ran_out = λ is. ((ran_out is).2, (ran_out is).3);
-  within = within.0;
-  ended = λ is. ((ended is).0, (ended is).1);
-  fewer = fewer;
-  stays = stays;
-  stands = λ is. subst (λ (s : InSpan). IsSomeAnd n.row (λ b. IfSome s.until (λ u. precedes u b ≡ false))) still
-      (stands is);
+called o n many steps w h = record {
+  passed = subst (λ (s : InSpan). IfSome o.row (λ a. left_of o ≡ between o.puzzle a (reached s) ++ left_of s)) h.still
+      h.passed;
+  count = subst (λ (s : InSpan). IfSome o.row (λ a. length (between o.puzzle a (reached s)) ≡ w.members)) h.still
+      h.count;
+  later = h.later;
+  member = h.member;
+  end = λ is. (h.end is).0;
+  ran_out = λ is. ((h.ran_out is).2, (h.ran_out is).3);
+  within = h.within.0;
+  ended = λ is. ((h.ended is).0, (h.ended is).1);
+  fewer = h.fewer;
+  stays = h.stays;
+  stands = λ is. subst (λ (s : InSpan). IsSomeAnd n.row (λ b. IfSome s.until (λ u. precedes u b ≡ false))) h.still
+      (h.stands is);
 }
 
 -- what it passed is the front of what was left

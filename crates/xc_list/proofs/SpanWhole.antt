@@ -137,7 +137,7 @@ module _ (a : Named) (asked : AskedSpan) (w : Went) where
   module _ (R : SinkState → SinkState → List ℕ → Type 0) {x y z : SinkState}
       (join : (s t : List ℕ) → Took x y s → R y z t → R x z (s ++ t)) (s n : InSpan)
       (begun : BeginsAt p asked.from (end_at asked.until) s)
-      (still : n ≡ record s { row = n.row; shown = n.shown; made = n.made })
+      (still : n ≡ record s { row = n.row; shown = n.shown; made = n.made; begun = n.begun })
       (o : WentOn s.puzzle s.until s.row n.row (most_steps asked.steps) w)
       (listing : Took x y (written_text a asked.listed asked.from (take w.members (left_of s))))
       (told : R y z (told_text n asked.from asked.until w))

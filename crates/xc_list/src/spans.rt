@@ -171,6 +171,7 @@ fn write_each<'a, D: Dance, S: Sink>(
       row = span.new.row;
       shown = span.new.shown;
       made = span.new.made;
+      begun = span.new.begun;
     } }
     ensures wrote { MatchResult result
         (λ went. WentOn span.old.puzzle span.old.until span.old.row span.new.row most went ×
@@ -215,6 +216,7 @@ fn write_listing<'a, D: Dance, S: Sink>(
       row = span.new.row;
       shown = span.new.shown;
       made = span.new.made;
+      begun = span.new.begun;
     } }
     ensures wrote { MatchResult result
         (λ went. WentOn span.old.puzzle span.old.until span.old.row span.new.row most went ×
@@ -235,6 +237,7 @@ fn count<'a, D: Dance>(span: &mut Span<'a, D>, most: u64) -> Went
       row = span.new.row;
       shown = span.new.shown;
       made = span.new.made;
+      begun = span.new.begun;
     } }
     ensures went { WentOn span.old.puzzle span.old.until span.old.row span.new.row most result }
 {
@@ -253,6 +256,7 @@ fn write_members<'a, D: Dance, S: Sink>(
       row = span.new.row;
       shown = span.new.shown;
       made = span.new.made;
+      begun = span.new.begun;
     } }
     ensures wrote { MatchResult result
         (λ went. WentOn span.old.puzzle span.old.until span.old.row span.new.row
@@ -289,6 +293,7 @@ fn write_span<'a, D: Dance, S: Sink>(
       row = span.new.row;
       shown = span.new.shown;
       made = span.new.made;
+      begun = span.new.begun;
     } }
     ensures wrote { SpanWritten bodies.now (asked_of words.now) (S.state sink.old) (S.state sink.new) result }
 {

@@ -1,3 +1,4 @@
+pub mod Moves
 pub mod Rows
 pub mod Rising
 pub mod Lies
@@ -5,6 +6,7 @@ pub mod LeftOut
 pub mod Later
 pub mod Numbers
 pub mod Onward
+pub mod Stuck
 pub mod Exact
 pub mod Passing
 pub mod Kept
@@ -14,3 +16,5 @@ pub mod Reached
 pub mod Advance
 pub mod Told
 pub mod Along
+pub mod Nodes
+pub mod Ranks

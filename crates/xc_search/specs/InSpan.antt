@@ -1,13 +1,15 @@
 -- What a search of a span stands for.
-use Rattle.std.specs.Prelude.{ℕ, ◌-◌, List, [], ◌∷◌, length, Option, Some, None, unwrap_or, option_map, slice_get}
+use Rattle.std.specs.Prelude.{ℕ, ◌+◌, ◌*◌, ◌-◌, ◌≤◌, List, [], ◌∷◌, length, Option, Some, None, unwrap_or, option_map}
+use Rattle.std.specs.Prelude.{slice_get}
 use Rattle.xc_search.specs.declared.choice.Choice.{Choice}
 use Rattle.xc_input.specs.Problem.{Puzzle}
 use Rattle.xc_search.specs.Listing.{Residual, Branch, branch_item, branches_of}
+use Rattle.xc_search.specs.Room.{room_for}
 use Rattle.xc_search.specs.Spans.{between}
 
 -- A search of a span of this problem's listing: the row from which on its members are left, if any are, the row before
 -- which it ends, if not at the listing's end, the member that it is at, as long as it is, how many moves the
--- trail has room for, and how many were ever made on its dance.
+-- trail has room for, how many were ever made on its dance, and how many branches it ever began.
 pub record InSpan : Type 0 where
   pub puzzle : Puzzle
   pub row : Option (List ℕ)
@@ -15,6 +17,12 @@ pub record InSpan : Type 0 where
   pub shown : List Choice
   pub room : ℕ
   pub made : ℕ
+  pub begun : ℕ
+
+-- From s to n it made, for each branch that it began and two more, at most as many moves as can be on the trail at
+-- once.
+abbrev pub MovesFew : InSpan → InSpan → Type 0
+MovesFew s n = n.made + room_for s.puzzle * s.begun ≤ s.made + room_for s.puzzle * (n.begun + 2)
 
 -- the members that are left
 abbrev pub left_of : InSpan → List (List Choice)

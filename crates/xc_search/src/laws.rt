@@ -1,14 +1,15 @@
 //! Laws of the listing: its members are the covers, each once, and those of its spans in turn.
-ghost use Rattle.std.specs.Prelude.{ℕ, ◌≡◌, ◌↔◌, List, [], ◌∷◌, ◌++◌, map, count_by, length, Some, None};
+ghost use Rattle.std.specs.Prelude.{ℕ, ◌≡◌, ◌<◌, ◌↔◌, List, [], ◌∷◌, ◌++◌, map, count_by, length, Some, None};
 ghost use Rattle.std.specs.Prelude.{Option, IfSome, AllPairs, true, false};
 ghost use Rattle.xc_input.specs.Problem.{Puzzle, IsValid};
-ghost use Rattle.xc_search.specs.Listing.{Residual, branch_item, level, listing};
+ghost use Rattle.xc_search.specs.Listing.{Residual, whole, branch_item, level, listing};
 ghost use Rattle.xc_search.specs.Ends.{ends};
 ghost use Rattle.xc_search.specs.Worked.{choice, seven_items, two_colours, once_or_twice, equal_options};
 ghost use Rattle.xc_search.specs.Worked.{missing_item, one_colour, up_to_twice, no_options, largest_bound};
 ghost use Rattle.xc_search.specs.Worked.{both_options, blank_secondary, bounds_and_colours, bound_beside_one};
 ghost use Rattle.xc_search.specs.Cover.{members, IsCover, HasSetAt, EachMemberCovers, EachCoverIsListedOnce};
 ghost use Rattle.xc_search.specs.Spans.{row_of, precedes, between, spans_from, RowsRise};
+ghost use Rattle.xc_search.specs.Nodes.{IsRowOf, RowsGoOn, row_count};
 
 use crate::choice::Choice;
 use crate::search::Step;
@@ -88,6 +89,16 @@ pub fn spans_join()
     ensures { (p : Puzzle) (rows : List (List ℕ)) → RowsRise [] rows → spans_from p [] rows ≡ members p }
 {}
 
+/// Of rows of a problem's tree that each come after the one in front there are no more than the tree has.
+///
+/// So searches of spans that each begin at the row where the last one halted, with a member and a step to go, come to
+/// the end: `Span::new` is at no row before the one that it was asked for, and `Span::go_on` ends or is at a later one
+/// of the tree (`row`, `later`, `node`).
+pub fn rows_come_to_an_end()
+    ensures { (p : Puzzle) (from : List ℕ) (rows : List (List ℕ)) → IsRowOf (whole p) from → RowsGoOn p from rows →
+        length rows < row_count (whole p) }
+{}
+
 /// The listings of worked problems, computed by the definitions.
 pub fn worked_listings()
     ensures seven_items { members seven_items
@@ -131,4 +142,5 @@ pub fn worked_spans()
     ensures until { map row_of (between up_to_twice (1 ∷ 2 ∷ []) (Some (3 ∷ [])))
         ≡ (1 ∷ 2 ∷ []) ∷ (2 ∷ 1 ∷ []) ∷ [] }
     ensures nothing { between up_to_twice (1 ∷ 2 ∷ []) (Some (1 ∷ 2 ∷ [])) ≡ [] }
+    ensures all_rows { row_count (whole up_to_twice) ≡ 11 }
 {}

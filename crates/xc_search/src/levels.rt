@@ -11,6 +11,7 @@ ghost use Rattle.xc_search.specs.inner.Commits.{oldest};
 ghost use Rattle.xc_search.specs.inner.Ahead.{EntersBranch, IsDone, IsSolved, branched};
 ghost use Rattle.xc_search.specs.inner.Spanning.{Enters, Ends, Falls, IsRest, IsSeenBy, LeavesOut, RunsTo, row_at};
 ghost use Rattle.xc_search.specs.Listing.{listing};
+ghost use Rattle.xc_search.specs.Room.{room_for};
 ghost use Rattle.xc_search.specs.Spans.{is_before};
 ghost use Rattle.xc_search.specs.inner.Residual.{residual_of};
 ghost use Rattle.xc_search.specs.Residuals.{choice_after, wanted_after};
@@ -43,9 +44,9 @@ pub enum Below {
     Solution,
 }
 
-/// Begins a level at an item, the next one, since what is left wasn't searched yet, and enters the first of its branches
-/// that isn't left out. A level without such a branch ends at once, and isn't noted. At the branch item it goes on with
-/// the search's own path.
+/// Begins a level at an item, the next one, since what is left wasn't searched yet, and enters the first of its
+/// branches that isn't left out. A level without such a branch ends at once, and isn't noted. At the branch item it
+/// goes on with the search's own path.
 fn deepen<D: Dance>(
     position: &mut Position<D>,
     stack: &mut Stack,
@@ -287,6 +288,8 @@ fn enter_branch<D: Dance>(
     ensures done { result ≡ Next.Nothing → (until : Option (List ℕ)) →
         IsRest until position.old.puzzle stack.old.levels last.old first → Ends first until
         position.old stack.old more.old position.new stack.new more.new }
+    ensures done_made { result ≡ Next.Nothing → (stack.new.begun ≡ stack.old.begun)
+        × (moves_made position.new ≤ position.old.undone + room_for position.old.puzzle) }
     ensures entered_pays { (b : Entered) → result ≡ Next.Branch b → first ≡ 1 →
         Pays position.old stack.old true more.old (branched position.new b.item b.place) stack.new true more.new }
     ensures done_pays { result ≡ Next.Nothing → first ≡ 1 →

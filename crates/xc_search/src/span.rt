@@ -1,12 +1,15 @@
 //! A search of a span: of the members from one row of numbers on and before another.
-ghost use Rattle.std.specs.Prelude.{ℕ, ◌≡◌, ◌-◌, ◌^◌, ◌<◌, ◌≤◌, ◌⊎◌, List, [], ◌∷◌, ◌++◌, length, map, true};
+ghost use Rattle.std.specs.Prelude.{ℕ, ◌≡◌, ◌+◌, ◌*◌, ◌-◌, ◌^◌, ◌<◌, ◌≤◌, ◌⊎◌, List, [], ◌∷◌, ◌++◌, length, map, true};
 ghost use Rattle.std.specs.Prelude.{false, if◌then◌else◌, Some, None, IfSome, IsSome, IsSomeAnd, IfOk, IfErr};
 ghost use Rattle.std.specs.Prelude.{option_map, option_and_then, slice_get};
 ghost use Rattle.xc_search.specs.Outlook.{shown_after};
 ghost use Rattle.xc_search.specs.Room.{room_for};
 ghost use Rattle.xc_search.specs.Listing.{whole};
 ghost use Rattle.xc_search.specs.Spans.{precedes, is_before, between};
-ghost use Rattle.xc_search.specs.InSpan.{left_of, reached, branches_along};
+ghost use Rattle.xc_search.specs.InSpan.{left_of, reached, branches_along, MovesFew};
+ghost use Rattle.xc_search.specs.Nodes.{IsRowOf};
+ghost use Rattle.xc_search.specs.Going.{WentOnBy};
+ghost use Rattle.xc_dance.specs.Dancing.{moves_made};
 
 use crate::choice::Choice;
 use crate::counts::most_levels;
@@ -84,7 +87,7 @@ pub struct Span<'a, D: Dance> {
 }
 
 impl<'a, D: Dance> Model for Span<'a, D> {
-    ghost use Rattle.std.specs.Prelude.{◌≡◌, ◌≤◌, [], true, false, Some, None, option_map, vec_capacity, if◌then◌else◌};
+    ghost use Rattle.std.specs.Prelude.{◌≡◌, [], true, false, Some, None, option_map, vec_capacity, if◌then◌else◌};
     ghost use Rattle.xc_search.specs.InSpan.{InSpan};
     ghost use Rattle.xc_dance.specs.Dancing.{moves_made};
     ghost use Rattle.xc_search.specs.Spans.{is_before};
@@ -103,6 +106,7 @@ impl<'a, D: Dance> Model for Span<'a, D> {
       shown = s.choices.items;
       room = s.state.position.room;
       made = moves_made s.state.position;
+      begun = s.state.stack.begun;
     } };
 
     ghost invariant = { λ s. record {
@@ -114,8 +118,8 @@ impl<'a, D: Dance> Model for Span<'a, D> {
       before : s.ended ≡ false →
           is_before (option_map (λ u. u.now) s.until) (row_at s.state.position.puzzle s.state.stack.levels) ≡ true;
       levels_fit : s.state.stack.room ≡ most_levels s.state.position.puzzle;
-      choices_fit : most_levels s.state.position.puzzle ≤ vec_capacity s.choices;
-      numbers_fit : most_levels s.state.position.puzzle ≤ vec_capacity s.numbers;
+      choices_fit : vec_capacity s.choices ≡ most_levels s.state.position.puzzle;
+      numbers_fit : vec_capacity s.numbers ≡ most_levels s.state.position.puzzle;
     } };
 }
 
@@ -143,10 +147,15 @@ impl<'a, D: Dance> Span<'a, D> {
           shown = [];
           room = (D.state dance).room;
           made = s.made;
+          begun = s.begun;
         }) }
+        ensures way { IfOk result (λ s. s.begun ≤ 2 * length from.now) }
+        ensures moves { IfOk result (λ s.
+            s.made ≤ moves_made (D.state dance) + room_for problem.now.puzzle * (s.begun + 2)) }
         ensures left { IfOk result (λ s. left_of s ≡ between problem.now.puzzle from.now s.until) }
         ensures row { IfOk result (λ s. IfSome s.row (λ row.
             (precedes row from.now ≡ false) × (between problem.now.puzzle from.now (Some row) ≡ []))) }
+        ensures node { IfOk result (λ s. IfSome s.row (λ row. IsRowOf (whole problem.now.puzzle) row)) }
         ensures back { IfErr result (λ e. e.0 ≡ dance) }
     {
         let most = most_levels(problem);
@@ -185,30 +194,7 @@ impl<'a, D: Dance> Span<'a, D> {
     /// of the search's tree: where it is at one of these and has no more steps, it goes on to the tree's next row.
     /// After `End` it returns `End` again.
     pub fn go_on(&mut self, many: u64, steps: u64) -> Went
-        ensures still { self.new ≡ record self.old
-            { row = self.new.row; shown = self.new.shown; made = self.new.made } }
-        ensures passed { IfSome self.old.row (λ from. left_of self.old
-            ≡ between self.old.puzzle from (reached self.new) ++ left_of self.new) }
-        ensures count { IfSome self.old.row (λ from.
-            length (between self.old.puzzle from (reached self.new)) ≡ result.members) }
-        ensures later { 0 < many → 0 < steps → IfSome self.old.row (λ from. IfSome self.new.row (λ row.
-            precedes from row ≡ true)) }
-        ensures member { result.halt ≡ Halt.Member → (result.members ≡ many)
-            × (self.new.shown ≡ shown_after many (left_of self.old) self.old.shown) }
-        ensures end { result.halt ≡ Halt.End → (self.new.row ≡ None) × (self.new.shown ≡ []) }
-        ensures ran_out { result.halt ≡ Halt.Steps → IsSome self.new.row × (self.new.shown ≡ [])
-            × (result.steps ≡ steps) × (result.members < many) }
-        ensures within { (result.steps ≤ steps) × (result.members ≤ many) }
-        ensures ended { self.old.row ≡ None → (result.halt ≡ Halt.End) × (result.members ≡ 0) × (self.new.row ≡ None) }
-
-        ensures fewer { 0 < many → result.halt ≡ Halt.End → result.members < many }
-        ensures stays { steps ≡ 0 → self.new.row ≡ self.old.row }
-
-        // The row where it halted isn't after the span's end, and comes before it where it ran out of steps.
-        ensures stands { (result.halt ≡ Halt.Member) ⊎ (result.halt ≡ Halt.Steps) → IsSomeAnd self.new.row (λ row.
-            IfSome self.new.until (λ until. precedes until row ≡ false)) }
-        ensures before { 0 < steps → result.halt ≡ Halt.Steps → IfSome self.new.row (λ row.
-            is_before self.new.until row ≡ true) }
+        ensures { WentOnBy many steps result self.old self.new }
     {
         if self.ended {
             self.choices.clear();

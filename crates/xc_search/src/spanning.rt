@@ -1,11 +1,12 @@
 //! The steps of a search of a span.
 ghost use Rattle.std.specs.Prelude.{◌≡◌, ◌<◌, ◌≤◌, List, ℕ, Option, [], true, false, not};
-ghost use Rattle.std.specs.Prelude.{filter, map, length, option_map, IfSome, IsSome, vec_capacity};
+ghost use Rattle.std.specs.Prelude.{filter, map, length, option_map, IfSome, IsSome, Some, vec_capacity};
 ghost use Rattle.xc_search.specs.Spans.{precedes, row_of, is_before};
 ghost use Rattle.xc_search.specs.inner.MostLevels.{most_levels};
-ghost use Rattle.xc_search.specs.inner.Levels.{AreStacked, IsStanding, coming};
+ghost use Rattle.xc_search.specs.Residuals.{choice_after, wanted_after};
+ghost use Rattle.xc_search.specs.inner.Levels.{AreAllWanted, AreStacked, IsStanding, coming};
 ghost use Rattle.xc_search.specs.inner.Paths.{AreLed, AreLedBy};
-ghost use Rattle.xc_search.specs.inner.Spanning.{IsSeenBy, RunsTo, RanTo, Settles, row_at};
+ghost use Rattle.xc_search.specs.inner.Spanning.{IsSeenBy, RunsTo, RanTo, Settles, TakesWays, row_at};
 
 use crate::level::Level;
 use crate::levels::{Ran, Stop, Task, run, unwind};
@@ -48,21 +49,23 @@ pub fn run_on<'a, 'u, D: Dance>(state: State<'a, D>, task: Task<'u>) -> (State<'
 }
 
 /// Goes from where there are no levels to the row `from`, or to the next one that the search's tree has, and enters no
-/// branch but those of that row. False where all levels ended, since no branch has a row that late.
+/// branch but those of that row. False where all levels ended, since no branch has a row that late. `early`: by early
+/// choices, which may be others than the branch items where what is left has no solution.
 // By the search's loop, step by step, so that this has the one call of each large function and takes it in.
-pub fn reach<'a, D: Dance>(state: &mut State<'a, D>, from: &[u32]) -> bool
+fn reach_by<'a, D: Dance>(state: &mut State<'a, D>, from: &[u32], early: bool) -> bool
     requires standing { IsStanding state.old.position.puzzle state.old.position.trail state.old.stack.levels true }
     requires levels_fit { most_levels state.old.position.puzzle ≤ state.old.stack.room }
-    requires led { AreLed state.old.position.puzzle [] state.old.position.trail state.old.stack.levels }
     requires none { state.old.stack.levels ≡ [] }
+    requires unmoved { state.old.position.trail ≡ [] }
     ensures still { state.new.position ≡ record state.old.position
         { trail = state.new.position.trail; undone = state.new.position.undone } }
-    ensures levels { state.new.stack ≡ record state.old.stack { levels = state.new.stack.levels } }
+    ensures levels { state.new.stack ≡ record state.old.stack
+        { levels = state.new.stack.levels; begun = state.new.stack.begun } }
     ensures stacked { AreStacked state.new.position.puzzle state.new.position.trail state.new.stack.levels }
     ensures standing { result ≡ true →
         IsStanding state.new.position.puzzle state.new.position.trail state.new.stack.levels true }
     ensures led { result ≡ true →
-        AreLed state.new.position.puzzle [] state.new.position.trail state.new.stack.levels }
+        AreLedBy (not early) state.new.position.puzzle [] state.new.position.trail state.new.stack.levels }
     ensures reached { result ≡ true →
         precedes (row_at state.new.position.puzzle state.new.stack.levels) from.now ≡ false }
     ensures kept { result ≡ true →
@@ -70,6 +73,8 @@ pub fn reach<'a, D: Dance>(state: &mut State<'a, D>, from: &[u32]) -> bool
         (coming state.old.position.puzzle state.old.position.trail state.old.stack.levels true)
         ≡ filter (λ m. not (precedes (row_of m) from.now))
         (coming state.new.position.puzzle state.new.position.trail state.new.stack.levels true) }
+    ensures way { TakesWays 1 (length from.now) state.old.position state.old.stack
+        state.new.position state.new.stack }
     ensures none { result ≡ false →
         filter (λ m. not (precedes (row_of m) from.now))
         (coming state.old.position.puzzle state.old.position.trail state.old.stack.levels true) ≡ [] }
@@ -79,7 +84,7 @@ pub fn reach<'a, D: Dance>(state: &mut State<'a, D>, from: &[u32]) -> bool
         // One step passes over no more than one member.
         let task = Task {
             until: None,
-            early: false,
+            early,
             first: (*number).max(1),
             over: 1,
             steps: 1,
@@ -96,6 +101,55 @@ pub fn reach<'a, D: Dance>(state: &mut State<'a, D>, from: &[u32]) -> bool
     true
 }
 
+/// Whether some item that is left has no branches.
+fn is_stuck<'a, D: Dance>(position: &Position<'a, D>) -> bool
+    requires { AreAllWanted (wanted_after position.now.puzzle position.now.trail) }
+    ensures { result ≡ false → (i : ℕ) → choice_after position.now.puzzle position.now.trail ≡ Some (i, 0) → ⊥ }
+{
+    matches!(position.choose(), Some((_, 0)))
+}
+
+/// Goes from where there are no levels to the row `from`, or to the next one that the search's tree has. False where
+/// all levels ended, since no branch has a row that late.
+// By early choices, which look at few items. Each was the branch item where each item that is left in the end has
+// branches: one without any keeps none.
+pub fn reach<'a, D: Dance>(state: &mut State<'a, D>, from: &[u32]) -> bool
+    requires standing { IsStanding state.old.position.puzzle state.old.position.trail state.old.stack.levels true }
+    requires levels_fit { most_levels state.old.position.puzzle ≤ state.old.stack.room }
+    requires none { state.old.stack.levels ≡ [] }
+    requires unmoved { state.old.position.trail ≡ [] }
+    ensures still { state.new.position ≡ record state.old.position
+        { trail = state.new.position.trail; undone = state.new.position.undone } }
+    ensures levels { state.new.stack ≡ record state.old.stack
+        { levels = state.new.stack.levels; begun = state.new.stack.begun } }
+    ensures stacked { AreStacked state.new.position.puzzle state.new.position.trail state.new.stack.levels }
+    ensures standing { result ≡ true →
+        IsStanding state.new.position.puzzle state.new.position.trail state.new.stack.levels true }
+    ensures led { result ≡ true →
+        AreLed state.new.position.puzzle [] state.new.position.trail state.new.stack.levels }
+    ensures reached { result ≡ true →
+        precedes (row_at state.new.position.puzzle state.new.stack.levels) from.now ≡ false }
+    ensures kept { result ≡ true →
+        filter (λ m. not (precedes (row_of m) from.now))
+        (coming state.old.position.puzzle state.old.position.trail state.old.stack.levels true)
+        ≡ filter (λ m. not (precedes (row_of m) from.now))
+        (coming state.new.position.puzzle state.new.position.trail state.new.stack.levels true) }
+    ensures way { TakesWays 2 (length from.now) state.old.position state.old.stack
+        state.new.position state.new.stack }
+    ensures none { result ≡ false →
+        filter (λ m. not (precedes (row_of m) from.now))
+        (coming state.old.position.puzzle state.old.position.trail state.old.stack.levels true) ≡ [] }
+{
+    if !reach_by(state, from, true) {
+        return false;
+    }
+    if !is_stuck(&state.position) {
+        return true;
+    }
+    unwind(&mut state.position, &mut state.stack);
+    reach_by(state, from, false)
+}
+
 /// Puts the numbers of the levels' row in the place of those in `row`.
 fn note_row(levels: &[Level], row: &mut Vec<u32>)
     requires { length levels.now ≤ vec_capacity row.old }
@@ -108,8 +162,9 @@ fn note_row(levels: &[Level], row: &mut Vec<u32>)
     }
 }
 
-/// Goes back to the first level, and from there to the row of the levels by branch items alone, or to the next one that
-/// the search's tree has. No member is between. False where it has none. `row` is memory for that row.
+/// Goes to the row of the levels by branch items alone, or to the next one that the search's tree has: from the first
+/// level on, unless the levels' items were those. No member is between. False where it has none. `row` is memory for
+/// that row.
 fn settle<'a, D: Dance>(state: &mut State<'a, D>, row: &mut Vec<u32>) -> bool
     requires standing { IsStanding state.old.position.puzzle state.old.position.trail state.old.stack.levels true }
     requires levels_fit { most_levels state.old.position.puzzle ≤ state.old.stack.room }
@@ -118,9 +173,12 @@ fn settle<'a, D: Dance>(state: &mut State<'a, D>, row: &mut Vec<u32>) -> bool
     ensures settles { Settles state.old.position state.old.stack state.new.position state.new.stack result }
     ensures capacity { vec_capacity row.new ≡ vec_capacity row.old }
 {
+    if !is_stuck(&state.position) {
+        return true;
+    }
     note_row(state.stack.levels(), row);
     unwind(&mut state.position, &mut state.stack);
-    reach(state, row)
+    reach_by(state, row, false)
 }
 
 /// Passes over so many members of a span that ends before `until`, and stops at the next, unless that takes more than

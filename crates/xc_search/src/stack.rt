@@ -9,7 +9,7 @@ use crate::position::Position;
 use core::mem::replace_with;
 use std::alloc::{AllocError, Global};
 use std::marker::Model;
-use xc_dance::Dance;
+use xc_dance::{Dance, Tally};
 
 /// The levels of a search.
 #[derive(Drop)]
@@ -17,6 +17,8 @@ pub struct Stack {
     /// The oldest first.
     levels: Vec<Level>,
     room: usize,
+    /// How many branches were ever begun: one for each that a level noted, since by these alone a search goes on.
+    begun: Tally,
 }
 
 impl Model for Stack {
@@ -28,6 +30,7 @@ impl Model for Stack {
     ghost view = { λ a. record {
       levels = reverse a.levels.items;
       room = a.room;
+      begun = a.begun.count;
     } };
 
     ghost invariant = { λ a. record {
@@ -39,19 +42,24 @@ impl Model for Stack {
 impl Stack {
     /// No levels, and room for `room` of them. No later call takes memory.
     pub fn new(alloc: Global, room: usize) -> Result<Stack, AllocError>
-        ensures { IfOk result (λ s. s ≡ record { levels = []; room = room }) }
+        ensures { IfOk result (λ s. s ≡ record { levels = []; room = room; begun = 0 }) }
     {
         let levels = Vec::with_capacity(alloc, room)?;
-        Ok(Stack { levels, room })
+        Ok(Stack {
+            levels,
+            room,
+            begun: Tally::new(),
+        })
     }
 
-    /// Puts a level on top.
+    /// Puts a level on top, which began a branch.
     #[inline(always)]
     pub fn push(&mut self, level: Level)
         requires { length self.old.levels < self.old.room }
-        ensures { self.new ≡ record self.old { levels = level ∷ self.old.levels } }
+        ensures { self.new ≡ record self.old { levels = level ∷ self.old.levels; begun = self.old.begun + 1 } }
     {
         self.levels.push_reserved(level);
+        self.begun = Tally::one_more(&self.begun);
     }
 
     /// The newest level, if there is one.
@@ -67,10 +75,12 @@ impl Stack {
     #[inline(always)]
     pub fn note_branch(&mut self, branch: Begun)
         requires { 0 < length self.old.levels }
-        ensures { self.new ≡ record self.old { levels = newest_begun branch self.old.levels } }
+        ensures { self.new ≡ record self.old
+            { levels = newest_begun branch self.old.levels; begun = self.old.begun + 1 } }
     {
         let top = self.levels.len() - 1;
         begin_level(&mut self.levels[top], branch);
+        self.begun = Tally::one_more(&self.begun);
     }
 
     /// Takes the newest level off, if there is one.

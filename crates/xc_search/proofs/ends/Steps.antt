@@ -33,7 +33,7 @@ use Rattle.xc_search.proofs.moves.LegalTweaks.{legal_branch}
 use Rattle.xc_search.proofs.residual.BranchItemLeft.{counts_same, choice_is_branch_item}
 use Rattle.xc_search.proofs.room.FewMoves.{has_room}
 use Rattle.xc_search.proofs.room.SparingMoves.{sparing_after_spend}
-use Rattle.xc_search.proofs.stacked.LoopSteps.{Opens, deepens, with_level}
+use Rattle.xc_search.proofs.stacked.LoopSteps.{Opens, deepens, with_begun}
 use Rattle.xc_search.proofs.stacked.NextLevel.{open_in, chosen_item, oldest-oldest, length-oldest}
 use Rattle.std.proofs.Common.{length-drop}
 
@@ -50,7 +50,7 @@ pub room_in : (p : Puzzle) (t : List Move) → IsSearchable p t → length t ≤
 room_in p t s = has_room p t s.legal (omega (arith, s.sparing))
 
 -- what an item's own moves come to
-room_spent : (p : Puzzle) (t : List Move) (i : ℕ) → IsNode p t i → length (after_spend p i t) ≤ room_for p
+pub room_spent : (p : Puzzle) (t : List Move) (i : ℕ) → IsNode p t i → length (after_spend p i t) ≤ room_for p
 room_spent p t i n =
     let known = open_in p t i n.item n.is_open in
     has_room p (after_spend p i t) (legal_branch p 0 i t n (omega arith))
@@ -113,7 +113,7 @@ pub pays_next : (d f : Dancing) (l : Level) (b : Begun) (vs ks : Levels) → Are
     → vs.levels ≡ l ∷ drop 1 vs.levels → f ≡ record d { trail = f.trail; undone = f.undone }
     → f.undone ≡ d.undone + (length d.trail - l.base)
     → IsEntered d.puzzle (oldest l.base d.trail) l f.trail (begun_level b l)
-    → ks ≡ record vs { levels = newest_begun b vs.levels } → (m : ℕ)
+    → ks ≡ record vs { levels = newest_begun b vs.levels; begun = vs.begun + 1 } → (m : ℕ)
     → Pays d vs false m (branched f l.item b.place) ks true m
 pays_next d f l b vs ks stacked top ef undone entered ek m =
     let p = d.puzzle in
@@ -158,7 +158,7 @@ early_ends p t i n here (inr d) some =
 pub pays_first : {d e : Dancing} {ls : Levels} {i n : ℕ} {l : Level} → Opens d e ls i n l
     → IsEarlyChoice d.puzzle d.trail (Some (i, n)) → (f : Dancing) (ks : Levels) (b : Begun)
     → f ≡ record e { trail = f.trail } → IsEntered e.puzzle e.trail l f.trail (begun_level b l)
-    → ks ≡ with_level (begun_level b l) ls → (m : ℕ) → Pays d ls true m (branched f i b.place) ks true m
+    → ks ≡ with_begun (begun_level b l) ls → (m : ℕ) → Pays d ls true m (branched f i b.place) ks true m
 pays_first {d} {e} {ls} {i} {n} {l} o early f ks b ef entered ek m =
     let p = d.puzzle in
     let t = d.trail in

@@ -1,6 +1,6 @@
 -- Where what is left has members, each level is of the branch item.
 use Rattle.std.proofs.Common.{ℕ, zero, suc, ◌≡◌, ◌≢◌, ◌-◌, Bool, true, false, List, [], ◌∷◌, ◌++◌, map, Some, refl, sym}
-use Rattle.std.proofs.Common.{ap, ◌∙◌}
+use Rattle.std.proofs.Common.{ap, ◌∙◌, inl, inr}
 use Rattle.std.specs.Prelude.{slice_get, flat_map}
 use Rattle.xc_dance.specs.declared.dance.Move.{Move}
 use Rattle.xc_search.specs.declared.level.Level.{Level}
@@ -12,6 +12,7 @@ use Rattle.xc_search.specs.inner.Residual.{residual_of}
 use Rattle.xc_search.specs.inner.Levels.{branches_at}
 use Rattle.xc_search.specs.inner.Paths.{AreLed, AreLedBy}
 use Rattle.xc_search.proofs.spans.Lies.{lists_by}
+use Rattle.xc_search.proofs.spans.Stuck.{stuck_lists}
 
 first_nothing : {X : Type 0} (xs ys : List X) → xs ++ ys ≡ [] → (xs ≡ []) × (ys ≡ [])
 first_nothing [] ys e = (refl, e)
@@ -47,7 +48,10 @@ led_exact false p u t (l ∷ ls) a some =
     some (ap listing a.0.next
     ∙ nothing_below (residual_of p s) (wanted_at p s l.item) (l.begun - 1) a.0.branch a.0.leads.0 a.0.at none) in (
       record {
-        leads = a.0.leads.1 here;
+        leads = elim a.0.leads.1 [
+          | inl is ↦ is
+          | inr stuck ↦ absurd (here (stuck_lists (residual_of p s) stuck))
+        ];
         branch = a.0.branch;
         at = a.0.at;
         choice = a.0.choice;
@@ -62,7 +66,7 @@ led_by true p u t ls a = a
 led_by false p u t [] a = a
 led_by false p u t (l ∷ ls) a = (
   record {
-    leads = (lists_by true p (oldest l.mark t) l.item a.0.leads, λ _. a.0.leads);
+    leads = (lists_by true p (oldest l.mark t) l.item a.0.leads, inl a.0.leads);
     branch = a.0.branch;
     at = a.0.at;
     choice = a.0.choice;

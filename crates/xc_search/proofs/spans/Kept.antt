@@ -1,15 +1,21 @@
 -- On the way to a row.
-use Rattle.std.proofs.Common.{ℕ, ◌≡◌, true, not, List, [], map, filter, reverse, sym, ap, ◌∙◌, arith}
+use Rattle.std.proofs.Common.{ℕ, ◌≡◌, ◌+◌, ◌*◌, Bool, true, not, List, [], map, filter, reverse, refl, sym, ap}
+use Rattle.std.proofs.Common.{◌∙◌, arith}
 use Rattle.std.proofs.Common.{Option, Some, ◌∷◌, ◌++◌, ◌-◌, ◌≤◌, append-nil, ap₂}
 use Rattle.std.specs.Prelude.{◌^◌}
 use Rattle.std.proofs.lemmas.List.{reverse-reverse}
-use Rattle.xc_dance.specs.Dancing.{Dancing}
+use Rattle.xc_dance.specs.declared.dance.Move.{Move}
+use Rattle.xc_dance.specs.Dancing.{Dancing, moves_made}
 use Rattle.xc_search.specs.declared.level.Level.{Level}
 use Rattle.xc_input.specs.Problem.{Puzzle}
 use Rattle.xc_search.specs.Spans.{row_of, precedes, is_before}
 use Rattle.xc_search.specs.inner.Levels.{Levels, IsStanding, chosen, coming}
-use Rattle.xc_search.specs.inner.Paths.{AreLed}
-use Rattle.xc_search.specs.inner.Spanning.{row_at, Ends, IsRest, LeavesOut, Stands}
+use Rattle.xc_search.specs.inner.Paths.{AreLedBy}
+use Rattle.xc_search.specs.inner.Spanning.{row_at, Ends, IsRest, LeavesOut, RunsTo, Stands, TakesWays}
+use Rattle.xc_search.specs.declared.levels.Stop.{Stop}
+use Rattle.xc_search.specs.Room.{room_for}
+use Rattle.xc_search.proofs.ends.Steps.{room_in}
+use Rattle.xc_search.proofs.spans.Moves.{more_moves}
 use Rattle.xc_input.proofs.lists.Filters.{map-map}
 use Rattle.xc_search.proofs.spans.Passing.{over_keeps}
 
@@ -40,38 +46,115 @@ rest_about p vs ls u until last first e some begins far leaves = record {
   leaves = leaves;
 }
 
--- On the way to a row no member from that row on was passed over.
-pub record Reaching (d : Dancing) (ls : Levels) (e : Dancing) (ks : Levels) (from : List ℕ) : Type 0 where
+-- On the way to a row it began so many branches, and passed over no member from that row on.
+pub record Reaching (exact : Bool) (d : Dancing) (ls : Levels) (e : Dancing) (ks : Levels) (from : List ℕ)
+    (begun : ℕ) : Type 0 where
   pub still : e ≡ record d { trail = e.trail; undone = e.undone }
-  pub levels : ks ≡ record ls { levels = ks.levels }
+  pub levels : ks ≡ record ls { levels = ks.levels; begun = ks.begun }
   pub standing : IsStanding e.puzzle e.trail ks.levels true
-  pub led : AreLed e.puzzle [] e.trail ks.levels
+  pub led : AreLedBy exact e.puzzle [] e.trail ks.levels
   pub kept : filter (λ m. not (precedes (row_of m) from)) (coming d.puzzle d.trail ls.levels true)
       ≡ filter (λ m. not (precedes (row_of m) from)) (coming e.puzzle e.trail ks.levels true)
+  pub counted : ks.begun ≡ ls.begun + begun
+  pub undone : e.undone ≤ d.undone + room_for d.puzzle * begun
 
 -- All levels ended, and no member from the row on is left.
 pub record Unreached (d : Dancing) (ls : Levels) (e : Dancing) (ks : Levels) (from : List ℕ) : Type 0 where
   pub still : e ≡ record d { trail = e.trail; undone = e.undone }
-  pub levels : ks ≡ record ls { levels = ks.levels }
+  pub levels : ks ≡ record ls { levels = ks.levels; begun = ks.begun }
   pub ended : ks.levels ≡ []
   pub none : filter (λ m. not (precedes (row_of m) from)) (coming d.puzzle d.trail ls.levels true) ≡ []
 
-module _ {d e : Dancing} {ls ks : Levels} {from : List ℕ} (r : Reaching d ls e ks from) where
-  pub reaches_on : {c : ℕ} {f : Dancing} {js : Levels} {m n begun : ℕ}
-      → Stands true c (Some from) e ks m f js n begun → Reaching d ls f js from
-  reaches_on s = record {
-    still = grind (arith, r.still, s.still);
-    levels = grind (arith, r.levels, s.still);
-    standing = s.standing;
-    led = s.path [] r.led;
-    kept = r.kept ∙ over_keeps s.over;
+-- it began no branch there
+pub starts_reaching : (exact : Bool) (d : Dancing) (ls : Levels) (from : List ℕ)
+    → IsStanding d.puzzle d.trail ls.levels true
+    → AreLedBy exact d.puzzle [] d.trail ls.levels → Reaching exact d ls d ls from 0
+starts_reaching exact d ls from s a = record {
+  still = refl;
+  levels = refl;
+  standing = s;
+  led = a;
+  kept = refl;
+  counted = omega arith;
+  undone = omega arith;
+}
+
+module _ {exact : Bool} {d e : Dancing} {ls ks : Levels} {from : List ℕ} {before : ℕ}
+    (r : Reaching exact d ls e ks from before)
+  where
+    pub reaches_on : {c : ℕ} {f : Dancing} {js : Levels} {m n begun : ℕ}
+        → Stands exact c (Some from) e ks m f js n begun → Reaching exact d ls f js from (before + begun)
+    reaches_on {f = f} {begun = begun} s = record {
+      still = grind (arith, r.still, s.still);
+      levels = grind (arith, r.levels, s.still);
+      standing = s.standing;
+      led = s.path [] r.led;
+      kept = r.kept ∙ over_keeps s.over;
+      counted = omega (arith, r.counted, s.counted);
+      undone = more_moves d.puzzle e.puzzle before begun e.undone f.undone d.undone
+          (ap (λ (e : Dancing). e.puzzle) r.still) r.undone s.undone;
+    }
+
+    -- the way to where it stands
+    pub way_there : (most : ℕ) → before ≤ most → TakesWays 1 most d ls e ks
+    way_there most few = record {
+      begun = before;
+      counted = r.counted;
+      few = omega (arith, few);
+      made = omega (
+        arith,
+        more_moves d.puzzle e.puzzle before 1 e.undone (moves_made e) d.undone
+            (ap (λ (e : Dancing). e.puzzle) r.still) r.undone
+            (omega (arith, room_in e.puzzle e.trail (r.standing.searchable refl))),
+      );
+    }
+
+    -- or to where all levels ended, by one branch at most
+    pub way_past : (most : ℕ) {b x : Bool} {c : ℕ} {u until : Option (List ℕ)} {f : Dancing} {js : Levels}
+        {m n many steps : ℕ} {stop : Stop} (run : RunsTo b x c u until e ks m many stop f js n steps)
+        → before + run.begun ≤ most → TakesWays 1 most d ls f js
+    way_past most {f = f} run few =
+        let all : before + (run.begun + 1) ≡ (before + run.begun) + 1 = omega arith in
+        record {
+          begun = before + run.begun;
+          counted = omega (arith, r.counted, run.counted);
+          few = omega (arith, few);
+          made = rw (← all) (omega (
+            arith,
+            more_moves d.puzzle e.puzzle before (run.begun + 1) e.undone (moves_made f)
+                d.undone (ap (λ (e : Dancing). e.puzzle) r.still) r.undone run.made,
+          ));
+        }
+
+    pub reaches_none : {c : ℕ} {f : Dancing} {js : Levels} {m n : ℕ} → Ends c (Some from) e ks m f js n
+        → Unreached d ls f js from
+    reaches_none s = record {
+      still = grind (arith, r.still, s.still);
+      levels = grind (arith, r.levels, s.still);
+      ended = s.ended;
+      none = r.kept ∙ over_keeps s.over;
+    }
+
+-- where there are no levels, they lead to no moves
+pub led_nowhere : (exact : Bool) (p : Puzzle) {t : List Move} {ls : List Level} → ls ≡ [] → t ≡ []
+    → AreLedBy exact p [] t ls
+led_nowhere exact p levels moves = rw (levels, moves) refl
+
+-- one way or two, and one way after another
+module _ {most : ℕ} {d e : Dancing} {ls ks : Levels} (w : TakesWays 1 most d ls e ks) where
+  pub one_of_two : TakesWays 2 most d ls e ks
+  one_of_two = record {
+    begun = w.begun;
+    counted = w.counted;
+    few = omega (arith, w.few);
+    made = omega (arith, w.made);
   }
 
-  pub reaches_none : {c : ℕ} {f : Dancing} {js : Levels} {m n : ℕ} → Ends c (Some from) e ks m f js n
-      → Unreached d ls f js from
-  reaches_none s = record {
-    still = grind (arith, r.still, s.still);
-    levels = grind (arith, r.levels, s.still);
-    ended = s.ended;
-    none = r.kept ∙ over_keeps s.over;
+  pub two_ways : {f g : Dancing} {js is : Levels} → f.puzzle ≡ d.puzzle → moves_made f ≤ moves_made e
+      → js.begun ≡ ks.begun → TakesWays 1 most f js g is → TakesWays 2 most d ls g is
+  two_ways same back kept v = record {
+    begun = w.begun + v.begun;
+    counted = omega (arith, w.counted, kept, v.counted);
+    few = omega (arith, w.few, v.few);
+    made = omega (arith, w.made, back, rw same at v.made);
   }

@@ -1,6 +1,6 @@
 -- A level that begins with a branch further on.
 use Rattle.std.proofs.Common.{ℕ, ◌≡◌, ◌+◌, ◌-◌, ◌<◌, Bool, true, List, [], ◌∷◌, ◌++◌, length, map, take, drop}
-use Rattle.std.proofs.Common.{Option, refl, sym, ap, ◌∙◌, arith, subst, append_assoc, inr}
+use Rattle.std.proofs.Common.{Option, refl, sym, ap, ◌∙◌, arith, subst, append_assoc, inr, length-drop}
 use Rattle.std.specs.List.{AllByRecursion}
 use Rattle.std.proofs.lemmas.Grind.{flat_map-append}
 use Rattle.std.proofs.lemmas.List.{take-append-drop}
@@ -22,10 +22,11 @@ use Rattle.xc_search.specs.inner.Ahead.{visits, work_left}
 use Rattle.xc_search.specs.inner.Paths.{MayLead}
 use Rattle.xc_search.specs.inner.Spanning.{Enters, Falls, LeavesOut, PassesOver}
 use Rattle.xc_search.proofs.listing.BranchLists.{branches_end, number_at}
+use Rattle.xc_search.proofs.ends.Steps.{room_spent}
 use Rattle.xc_search.proofs.moves.OldestMoves.{oldest_all}
 use Rattle.xc_search.proofs.stacked.BackAtLevel.{returned}
 use Rattle.xc_search.proofs.stacked.BegunComesFirst.{begun_coming}
-use Rattle.xc_search.proofs.stacked.LoopSteps.{Opens, deepens, enters_next, with_level, back_before}
+use Rattle.xc_search.proofs.stacked.LoopSteps.{Opens, deepens, enters_next, with_level, with_begun, back_before}
 use Rattle.xc_search.proofs.stacked.NextLevel.{members_all, ext_whole, ext_after_branch, oldest-oldest}
 use Rattle.xc_search.proofs.stacked.PassedOver.{stands_behind}
 use Rattle.xc_search.proofs.spans.Lies.{each-flat_map, branch_row, numbered_before}
@@ -153,7 +154,7 @@ module _ {d : Dancing} {ls : Levels} {i n : ℕ} {g : Dancing} {k : Level} (s : 
   pub stays_on : Stays d ls i n g k
   stays_on = rw s.is (stays_next s.stays g s.branch s.still (rw s.is at s.base) (rw s.is at s.entered))
 
-  module _ (ks : Levels) (levels : ks ≡ with_level k ls) where
+  module _ (ks : Levels) (levels : ks ≡ with_begun k ls) where
     pub enters_at : (x : Bool) (first : ℕ) (u : Option (List ℕ)) (m : ℕ) → MayBranch d.puzzle d.trail i n
         → MayLead x d.puzzle d.trail i → k.begun ≡ first → LeavesOut u d.puzzle ls.levels first
         → Enters x first u d ls m g ks m i k.place
@@ -166,8 +167,8 @@ module _ {d : Dancing} {ls : Levels} {i n : ℕ} {g : Dancing} {k : Level} (s : 
         let kept : g.undone ≡ f.undone = ap (λ (g : Dancing). g.undone) s.still in
         let still : g ≡ record f { trail = g.trail; undone = g.undone } =
         s.still ∙ ap (λ n. record f { trail = g.trail; undone = n }) (sym kept) in
-        let next = enters_next f g l s.branch (with_level l ls) ks s.stays.stacked refl still (rw base entered)
-        (levels ∙ ap (λ k. with_level k ls) s.is) in
+        let next = enters_next f g l s.branch (with_level l ls) ks s.stays.stacked refl still (omega (arith, kept))
+        (rw base entered) (levels ∙ ap (λ k. with_begun k ls) s.is) in
         let begun : l.begun + 1 ≡ first =
         omega (arith, number, s.entered.begun.begun) in
         let over = over_branches first u d.puzzle d.trail ls.levels i n may leaves l.begun
@@ -190,6 +191,8 @@ module _ {d : Dancing} {ls : Levels} {i n : ℕ} {g : Dancing} {k : Level} (s : 
             less = omega (arith, next.0.less, s.stays.less);
             over = subst (PassesOver first u m m (coming d.puzzle d.trail ls.levels true))
                 (give ∙ next.0.goes_on.members) over;
+            counted = ap (λ (ks : Levels). ks.begun) levels;
+            undone = omega (arith, kept, ap (λ (f : Dancing). f.undone) s.stays.still);
           };
         })
 
@@ -214,4 +217,15 @@ ends_at_once {d} {e} {ls} {i} {n} {l} o f ef x first u m less leaves =
       path = λ v a. rw (fp, ft) a;
       less = rw (fp, ft) (omega arith);
       over = rw (fp, ft) (rw none at over);
+      made = omega (
+        arith,
+        ap (λ (f : Dancing). f.undone) ef,
+        ap (λ (e : Dancing). e.undone) o.spent,
+        ap length ft,
+        ap length (deepens o).2,
+        length-drop (length e.trail - l.mark) e.trail,
+        ap (λ (e : Dancing). length e.trail) o.spent,
+        room_spent d.puzzle d.trail i (record
+            { searchable = o.standing.searchable refl; item = o.next.item; is_open = o.next.is_open }),
+      );
     }

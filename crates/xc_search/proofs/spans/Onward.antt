@@ -1,11 +1,12 @@
 -- The steps of a search of a span.
-use Rattle.std.proofs.Common.{ℕ, ◌≤◌, Bool, true, false, List, Option, length, refl, arith, inl}
+use Rattle.std.proofs.Common.{ℕ, ◌≤◌, Bool, true, false, List, Option, length, refl, ap, arith, inl}
 use Rattle.xc_dance.specs.Dancing.{Dancing}
 use Rattle.xc_search.specs.inner.Residual.{residual_of}
 use Rattle.xc_search.specs.inner.Levels.{Levels, IsStanding, coming}
 use Rattle.xc_search.specs.inner.Ahead.{EntersBranch, IsDone, branched}
 use Rattle.xc_search.specs.inner.Paths.{KeepsBy, AreLater}
 use Rattle.xc_search.specs.inner.Spanning.{Enters, Ends, Falls, PassesOver}
+use Rattle.xc_search.proofs.ends.Steps.{room_in}
 use Rattle.xc_search.proofs.stacked.LessWork.{some_work}
 use Rattle.xc_search.proofs.stacked.PassedOver.{stands_behind}
 use Rattle.xc_search.proofs.spans.Passing.{over_none, over_more}
@@ -21,6 +22,7 @@ falls_over x c until d ls m n s over = record {
   path = λ u a. a;
   less = omega (arith, some_work (residual_of d.puzzle d.trail));
   over = over;
+  made = omega (arith, room_in d.puzzle d.trail (s.searchable refl));
 }
 
 -- a branch of a level is entered
@@ -39,6 +41,8 @@ enters_back {x} {c} {until} {n = n} back b path rises few = record {
     down = inl (rw (← back.still.1) few);
     less = omega (arith, back.less, b.less);
     over = over_more back.over (over_none c until n _ _ b.goes_on.members);
+    counted = omega (arith, b.counted, ap (λ (ls : Levels). ls.begun) back.still.1);
+    undone = omega (arith, b.undone, back.made);
   };
 }
 

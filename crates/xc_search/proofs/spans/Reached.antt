@@ -29,7 +29,8 @@ no_longer (y ∷ a) (z ∷ b) x e h = elim (before_first y z a b e) [
   | inr same ↦ same_before y z (a ++ x) b same.0 (no_longer a b x same.1 (omega (arith, h)))
 ]
 
--- The row of the levels ls begins the row from, with k as the number behind it, and no branch before this one is entered.
+-- The row of the levels ls begins the row from, with k as the number behind it, and no branch before this one is
+-- entered.
 pub record IsNextNumber (from : List ℕ) (ls : Levels) (k first : ℕ) : Type 0 where
   pub behind : List ℕ
   pub is : from ≡ numbers ls.levels ++ k ∷ behind

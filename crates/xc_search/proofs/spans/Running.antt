@@ -1,10 +1,13 @@
 -- A search of a span runs on.
 use Rattle.std.proofs.lemmas.Bool.Decides.{nat_tests}
-use Rattle.std.proofs.Common.{ℕ, ◌≡◌, ◌+◌, Bool, true, false, not, ◌&&◌, List, [], filter, length}
+use Rattle.std.proofs.Common.{ℕ, ◌≡◌, ◌+◌, ◌*◌, ◌≤◌, Bool, true, false, not, ◌&&◌, List, [], filter, length}
 use Rattle.std.proofs.Common.{Option, Some, None, refl, sym, ap, ◌∙◌, arith}
 use Rattle.std.proofs.lemmas.List.Elements.{filter_agree}
 use Rattle.xc_dance.specs.declared.dance.Move.{Move}
-use Rattle.xc_dance.specs.Dancing.{Dancing}
+use Rattle.xc_dance.specs.Dancing.{Dancing, moves_made}
+use Rattle.xc_search.specs.Room.{room_for}
+use Rattle.xc_search.proofs.ends.Steps.{room_in}
+use Rattle.xc_search.proofs.spans.Moves.{more_moves}
 use Rattle.xc_search.specs.declared.choice.Choice.{Choice}
 use Rattle.xc_search.specs.declared.level.Level.{Level}
 use Rattle.xc_input.specs.Problem.{Puzzle}
@@ -42,6 +45,8 @@ stands_first x c u d ls m s = record {
   same = λ _. (refl, refl, refl);
   later = λ h. absurd (omega (arith, h));
   down = λ h. absurd (omega (arith, h));
+  counted = omega arith;
+  undone = omega arith;
 }
 
 module _ {x : Bool} {c : ℕ} {u : Option (List ℕ)} {d e : Dancing} {ls ks : Levels} {m n begun : ℕ}
@@ -63,7 +68,19 @@ module _ {x : Bool} {c : ℕ} {u : Option (List ℕ)} {d e : Dancing} {ls ks : L
       same = λ h. absurd (omega (arith, h));
       later = λ _. later_than js b.rises;
       down = λ h. let same = s.same (omega (arith, h)) in rw (← same.1) b.down;
+      counted = omega (arith, s.counted, b.counted);
+      undone = more_moves d.puzzle e.puzzle begun 1 e.undone f.undone d.undone
+          (ap (λ (e : Dancing). e.puzzle) s.still.0) s.undone (omega (arith, b.undone));
     }
+
+    -- and as many moves may stand once more
+    pub ends_made : (made : ℕ) → made ≤ e.undone + room_for e.puzzle
+        → made ≤ d.undone + room_for d.puzzle * (begun + 1)
+    ends_made made h = more_moves d.puzzle e.puzzle begun 1 e.undone made d.undone
+        (ap (λ (e : Dancing). e.puzzle) s.still.0) s.undone (omega (arith, h))
+
+    pub stands_made : moves_made e ≤ d.undone + room_for d.puzzle * (begun + 1)
+    stands_made = ends_made (moves_made e) (omega (arith, room_in e.puzzle e.trail (s.standing.searchable refl)))
 
     pub ends_on : {f : Dancing} {js : Levels} {o : ℕ} → Ends c u e ks n f js o → Ends c u d ls m f js o
     ends_on r = record {
@@ -122,7 +139,7 @@ module _ {d e : Dancing} {ls ks : Levels} {m n : ℕ} {until : Option (List ℕ)
   where
     -- it passed over all members of its span
     pub ends_span : {ns : List (List Choice)} → (e ≡ record d { trail = e.trail; undone = e.undone })
-        × (ks ≡ record ls { levels = ks.levels }) → AreStacked e.puzzle e.trail ks.levels
+        × (ks ≡ record ls { levels = ks.levels; begun = ks.begun }) → AreStacked e.puzzle e.trail ks.levels
         → PassesOver 1 until m n (coming d.puzzle d.trail ls.levels true) ns
         → filter (λ m. is_before until (row_of m)) ns ≡ [] → EndsSpan d ls m until e ks n
     ends_span still stacked over none = record {
@@ -135,7 +152,8 @@ module _ {d e : Dancing} {ls ks : Levels} {m n : ℕ} {until : Option (List ℕ)
     pub ends_at_row : {x : Bool} {begun : ℕ} → Stands x 1 until d ls m e ks n begun
         → is_before until (row_at e.puzzle ks.levels) ≡ false → EndsSpan d ls m until e ks n
     ends_at_row {x} s past =
-        ends_span s.still s.standing.stacked s.over (none_before x e.puzzle e.trail ks.levels until (s.path [] (led_by x _ _ _ _ led)) past)
+        ends_span s.still s.standing.stacked s.over
+        (none_before x e.puzzle e.trail ks.levels until (s.path [] (led_by x _ _ _ _ led)) past)
 
     -- or where all levels ended
     pub ends_all : Ends 1 until d ls m e ks n → EndsSpan d ls m until e ks n

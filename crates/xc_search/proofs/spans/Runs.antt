@@ -1,10 +1,13 @@
 -- How a run of a search of a span goes.
 use Rattle.std.proofs.Common.{ℕ, ◌≡◌, ◌≢◌, ◌-◌, ◌<◌, ◌≤◌, Bool, true, false, List, [], Option, subst, refl, filter}
 use Rattle.std.proofs.Common.{sym, ap, ◌∙◌}
-use Rattle.std.proofs.Common.{arith, inl, inr, ◌⊎◌, ◌+◌, None}
+use Rattle.std.proofs.Common.{arith, inl, inr, ◌⊎◌, ◌+◌, ◌*◌, None}
 use Rattle.std.specs.Prelude.{◌^◌, drop}
 use Rattle.xc_search.proofs.spans.Passing.{drop_over}
-use Rattle.xc_dance.specs.Dancing.{Dancing}
+use Rattle.xc_dance.specs.Dancing.{Dancing, moves_made}
+use Rattle.std.proofs.Math.Nat.{mul-add}
+use Rattle.xc_search.specs.Room.{room_for}
+use Rattle.xc_search.specs.Nodes.{longest_row}
 use Rattle.xc_search.specs.declared.levels.Stop.{Stop}
 use Rattle.xc_search.specs.declared.levels.Stop.TheVariants.{Member, Steps, Row, Nothing}
 use Rattle.xc_search.specs.Listing.{listing}
@@ -19,6 +22,7 @@ use Rattle.xc_search.specs.inner.Spanning.{Settles}
 use Rattle.xc_input.proofs.Cases.{by_number}
 use Rattle.xc_search.proofs.spans.Rows.{before_not_before}
 use Rattle.xc_search.proofs.spans.Running.{stands_more, ends_on, ends_span, ends_at_row, ends_all, none_before}
+use Rattle.xc_search.proofs.spans.Running.{stands_made, ends_made}
 use Rattle.xc_search.proofs.spans.Advance.{solved_alone}
 use Rattle.xc_search.proofs.spans.Exact.{led_exact, led_by}
 
@@ -36,6 +40,8 @@ module _ {bound x : Bool} {c : ℕ} {u until : Option (List ℕ)} {d e : Dancing
       ran_out = λ _. (is, zero);
       past = λ h. absurd (cc h);
       ended = λ h. absurd (cc h);
+      counted = s.counted;
+      made = stands_made s;
     }
 
     pub runs_to_member : {f : Dancing} {js : Levels} {o : ℕ} → f ≡ e → js ≡ ks → n ≡ 0 → o ≡ 0
@@ -52,11 +58,14 @@ module _ {bound x : Bool} {c : ℕ} {u until : Option (List ℕ)} {d e : Dancing
           ran_out = λ h. absurd (cc h);
           past = λ h. absurd (cc h);
           ended = λ h. absurd (cc h);
+          counted = s.counted;
+          made = stands_made s;
         })
 
     pub runs_to_end : {f : Dancing} {js : Levels} {o : ℕ} → Ends c u e ks n f js o
+        → (js.begun ≡ ks.begun) × (moves_made f ≤ e.undone + room_for e.puzzle)
         → RunsTo bound x c u until d ls m most Nothing f js o steps
-    runs_to_end b = record {
+    runs_to_end {f} b made = record {
       begun = begun;
       bounded = count;
       stands = λ h. absurd (h refl);
@@ -68,6 +77,8 @@ module _ {bound x : Bool} {c : ℕ} {u until : Option (List ℕ)} {d e : Dancing
       ran_out = λ h. absurd (cc h);
       past = λ h. absurd (cc h);
       ended = λ _. ends_on s b;
+      counted = omega (arith, made.0, s.counted);
+      made = ends_made s (moves_made f) made.1;
     }
 
     pub runs_to_row : {f : Dancing} {js : Levels} {o : ℕ} → bound ≡ true → 0 < steps → BeginsBranch x c u e ks n f js o
@@ -85,6 +96,8 @@ module _ {bound x : Bool} {c : ℕ} {u until : Option (List ℕ)} {d e : Dancing
       ran_out = λ h. absurd (cc h);
       past = λ _. (is, past);
       ended = λ h. absurd (cc h);
+      counted = (stands_more s b).counted;
+      made = stands_made (stands_more s b);
     }
 
 -- what is known of an end of its own is known of another, where no branch was begun
@@ -120,24 +133,28 @@ module _ {until : Option (List ℕ)} {d b : Dancing} {ls js : Levels} {m n most 
     (led : AreLed d.puzzle [] d.trail ls.levels)
     (r : RunsTo true false 1 until until d ls m most stop b js n steps)
   where
-    within : steps ≤ most
-    within = omega (arith, r.bounded refl)
-
-    -- so many branches were begun
-    halts_after : Halts until d ls m b js n r.begun → Halts until d ls m b js n (most - steps)
-    halts_after h = let all : r.begun ≡ most - steps = omega (arith, r.bounded refl) in rw (← all) h
+    -- so many moves were made
+    all_made : (again made : ℕ)
+        → made ≤ (d.undone + room_for d.puzzle * (r.begun + 1)) + room_for d.puzzle * (again + 1)
+        → made ≤ moves_made d + room_for d.puzzle * (r.begun + again + 2)
+    all_made again made h =
+        let all : (r.begun + 1) + (again + 1) ≡ r.begun + again + 2 = omega arith in
+        let more = mul-add (room_for d.puzzle) (r.begun + 1) (again + 1) in
+        rw (← all) (omega (arith, more, h))
 
     -- a run halts at a member, or comes to the end
     pub ran_to : stop ≢ Steps → RanTo d ls m most until stop b js n steps
     ran_to aside = record {
+      begun = r.begun;
+      bounded = r.bounded refl;
       halts = λ h. elim h [
         | inl i ↦
             let at = (r.solved i).1 in
             let some : listing (residual_of b.puzzle b.trail) ≢ [] = λ none.
             cc (solved_alone b.puzzle b.trail js.levels at, none) in
             let stands = r.stands (λ e. absurd (cc (i, e))) in
-            halts_after (halts_by stands (led_exact false b.puzzle [] b.trail js.levels
-            (stands.path [] (led_by false _ _ _ _ led)) some))
+            halts_by stands (led_exact false b.puzzle [] b.trail js.levels
+            (stands.path [] (led_by false _ _ _ _ led)) some)
         | inr i ↦ absurd (aside i)
       ];
       before = r.before;
@@ -147,7 +164,11 @@ module _ {until : Option (List ℕ)} {d b : Dancing} {ls js : Levels} {m n most 
         | inl i ↦ ends_at_row led (r.stands (λ e. absurd (cc (i, e)))) (r.past i).1
         | inr i ↦ ends_all led (r.ended i)
       ];
-      within = within;
+      again = 0;
+      counted = omega (arith, r.counted);
+      few = omega arith;
+      none = λ _. refl;
+      made = all_made 0 (moves_made b) (omega (arith, r.made));
     }
 
     -- or it has no more steps, and goes back to a row of the search's tree
@@ -160,26 +181,41 @@ module _ {until : Option (List ℕ)} {d b : Dancing} {ls js : Levels} {m n most 
         begun : 0 < r.begun
         begun = omega (arith, some, r.bounded refl, (r.ran_out is).1)
 
-        all : r.begun ≡ most - steps
-        all = omega (arith, r.bounded refl)
-
-        still : (e ≡ record d { trail = e.trail; undone = e.undone }) × (ks ≡ record ls { levels = ks.levels })
+        still : (e ≡ record d { trail = e.trail; undone = e.undone })
+            × (ks ≡ record ls { levels = ks.levels; begun = ks.begun })
         still = grind (arith, stands.still, s.still)
 
-        halts : found ≡ true → Halts until d ls m e ks n (most - steps)
+        halts : found ≡ true → Halts until d ls m e ks n r.begun
         halts h = record {
           still = still;
           standing = s.standing h;
           led = s.led h;
           over = subst (PassesOver 1 until m n (coming d.puzzle d.trail ls.levels true)) (s.members h) stands.over;
-          same = λ z. absurd (omega (arith, z, begun, all));
+          same = λ z. absurd (omega (arith, z, begun));
           later = λ _. before_not_before (numbers ls.levels) (numbers js.levels) (numbers ks.levels)
               (stands.later begun) (s.row h);
         }
 
+        -- and on its way back began some again
+        counted : ks.begun ≡ ls.begun + r.begun + s.way.begun
+        counted = omega (arith, stands.counted, s.way.counted)
+
+        few : s.way.begun ≤ longest_row d.puzzle
+        few =
+            let puzzle = ap (λ (b : Dancing). longest_row b.puzzle) stands.still.0 in
+            omega (arith, s.way.few, stands.standing.shallow refl, puzzle)
+
+        made : moves_made e ≤ moves_made d + room_for d.puzzle * (r.begun + s.way.begun + 2)
+        made =
+            let puzzle = ap (λ (b : Dancing). b.puzzle) stands.still.0 in
+            let way : moves_made e ≤ moves_made b + room_for d.puzzle * (s.way.begun + 1) = rw puzzle at s.way.made in
+            all_made s.way.begun (moves_made e) (omega (arith, r.made, way))
+
         pub settled : found ≡ true → is_before until (row_at e.puzzle ks.levels) ≡ true
             → RanTo d ls m most until Steps e ks n steps
         settled h before = record {
+          begun = r.begun;
+          bounded = r.bounded refl;
           halts = λ _. halts h;
           before = λ _. before;
           solved = λ i. absurd (cc i);
@@ -188,13 +224,19 @@ module _ {until : Option (List ℕ)} {d b : Dancing} {ls js : Levels} {m n most 
             | inl j ↦ absurd (cc j)
             | inr j ↦ absurd (cc j)
           ];
-          within = within;
+          again = s.way.begun;
+          counted = counted;
+          few = few;
+          none = λ i. absurd (omega (arith, i, (r.ran_out is).1));
+          made = made;
         }
 
         -- which may be none of its span
         ended : EndsSpan d ls m until e ks n → (end : Stop) → end ≢ Member → end ≢ Steps
             → RanTo d ls m most until end e ks n steps
         ended ends end a c = record {
+          begun = r.begun;
+          bounded = r.bounded refl;
           halts = λ i. elim i [
             | inl j ↦ absurd (a j)
             | inr j ↦ absurd (c j)
@@ -206,7 +248,11 @@ module _ {until : Option (List ℕ)} {d b : Dancing} {ls js : Levels} {m n most 
           solved = λ i. absurd (a i);
           ran_out = λ i. absurd (c i);
           ended = λ _. ends;
-          within = within;
+          again = s.way.begun;
+          counted = counted;
+          few = few;
+          none = λ i. absurd (omega (arith, i, (r.ran_out is).1));
+          made = made;
         }
 
         pub settled_behind : found ≡ true → is_before until (row_at e.puzzle ks.levels) ≡ false
@@ -256,7 +302,8 @@ module _ {d e : Dancing} {ls ks : Levels} {m most n steps : ℕ} {stop : Stop}
   where
     -- is at the member behind those that it was to pass over
     pub member_behind : stop ≡ Member
-        → ((e ≡ record d { trail = e.trail; undone = e.undone }) × (ks ≡ record ls { levels = ks.levels }))
+        → ((e ≡ record d { trail = e.trail; undone = e.undone })
+        × (ks ≡ record ls { levels = ks.levels; begun = ks.begun }))
         × IsSolved e.puzzle e.trail ks.levels
         × (drop m (coming d.puzzle d.trail ls.levels true) ≡ coming e.puzzle e.trail ks.levels true)
     member_behind is =

@@ -4,12 +4,12 @@ use Rattle.xc_dance.specs.declared.dance.Move.{Move}
 use Rattle.xc_dance.specs.Moves.{AreLegal}
 use Rattle.xc_dance.proofs.LinkedTables.Laid.FirstTables.{low_most}
 use Rattle.xc_input.specs.Problem.{Puzzle, IsValid}
-use Rattle.xc_input.proofs.lists.Members.{each_in}
+use Rattle.xc_input.proofs.lists.Members.{each_in, contains-in}
 use Rattle.xc_search.specs.Residuals.{wanted_at}
 use Rattle.xc_search.specs.inner.Residual.{residual_of}
 use Rattle.xc_search.specs.inner.Levels.{IsNext, MayBranch, IsDeadEnd, IsEarlyChoice}
-use Rattle.xc_search.specs.inner.Paths.{IsChosenBy, MayLead}
-use Rattle.xc_search.proofs.listing.DeadEnds.{dead_end, none_listed}
+use Rattle.xc_search.specs.inner.Paths.{IsChosenBy, IsStuck, MayLead}
+use Rattle.xc_search.proofs.listing.DeadEnds.{dead_end}
 use Rattle.xc_search.proofs.residual.BranchItemLeft.{counts_same}
 use Rattle.xc_search.proofs.stacked.NextLevel.{open_in, choice_next, chosen_item, may_choose}
 
@@ -39,13 +39,17 @@ pub chosen_leads : (x : Bool) (p : Puzzle) (t : List Move) (i n : ℕ) → IsVal
     → IsChosenBy x p t (Some (i, n)) → MayLead x p t i
 chosen_leads true p t i n valid legal e = (chosen_item p t i n legal (sym e)).branch
 chosen_leads false p t i n valid legal (inl e) =
-    ((may_choose p t i n legal (sym e)).lists, λ _. (chosen_item p t i n legal (sym e)).branch)
+    ((may_choose p t i n legal (sym e)).lists, inl (chosen_item p t i n legal (sym e)).branch)
 chosen_leads false p t i n valid legal (inr d) =
     let next : MayBranch p t i n = (dead_next p t (Some (i, n)) valid legal d).some in
     let short = open_in p t d.short d.short_open.0 d.short_open.1 in
-    let none = none_listed (residual_of p t) (wanted_at p t d.short) short
-    (sym (each_in _ _ _ (counts_same p t legal) short) ∙ d.without) in
-    (next.lists, λ some. absurd (some none))
+    let stuck : IsStuck (residual_of p t) = record {
+      item = wanted_at p t d.short;
+      known = contains-in _ _ short;
+      sound = omega (arith, low_most d.short valid);
+      without = sym (each_in _ _ _ (counts_same p t legal) short) ∙ d.without;
+    } in
+    (next.lists, inr stuck)
 
 pub chosen_next : (x : Bool) (p : Puzzle) (t : List Move) (o : Option (ℕ × ℕ)) → IsValid p → AreLegal p t
     → IsChosenBy x p t o → IsNext p t o

@@ -37,6 +37,10 @@ node_at p t ls i n s may = record { searchable = s.searchable refl; item = may.i
 abbrev pub with_level : Level → Levels → Levels
 with_level l ls = record ls { levels = l ∷ ls.levels }
 
+-- and that one began a branch
+abbrev pub with_begun : Level → Levels → Levels
+with_begun l ls = record ls { levels = l ∷ ls.levels; begun = ls.begun + 1 }
+
 -- State e has the own moves of level l, which begins on levels ls in state d at item i with n branches.
 pub record Opens (d e : Dancing) (ls : Levels) (i n : ℕ) (l : Level) : Type 0 where
   pub spent : e ≡ record d { trail = after_spend d.puzzle i d.trail }
@@ -58,19 +62,21 @@ may_enter o some = grind (arith, deepens o)
 -- the newest of the levels ended
 -- what goes on and then enters a branch enters it
 pub goes_on_to : (d e f : Dancing) (ls ks js : Levels) (x y : Bool) (i q : ℕ) → GoesOn d ls x e ks y →
-    ahead e.puzzle e.trail ks.levels y ≤ ahead d.puzzle d.trail ls.levels x → EntersBranch e ks y f js i q
+    ahead e.puzzle e.trail ks.levels y ≤ ahead d.puzzle d.trail ls.levels x → ks.begun ≡ ls.begun
+    → moves_made e ≤ moves_made d → EntersBranch e ks y f js i q
     → EntersBranch d ls x f js i q
-goes_on_to d e f ls ks js x y i q on less enters = grind (arith)
+goes_on_to d e f ls ks js x y i q on less begun made enters = grind (arith)
 
 -- the next branch of the newest level is entered, and goes on with the path below the level
 pub enters_next : (d f : Dancing) (l : Level) (b : Begun) (vs ks : Levels) → AreStacked d.puzzle d.trail vs.levels
     → vs.levels ≡ l ∷ drop 1 vs.levels → f ≡ record d { trail = f.trail; undone = f.undone }
-    → IsEntered d.puzzle (oldest l.base d.trail) l f.trail (begun_level b l)
-    → ks ≡ record vs { levels = newest_begun b vs.levels } → EntersBranch d vs false f ks l.item b.place
+    → f.undone ≤ moves_made d → IsEntered d.puzzle (oldest l.base d.trail) l f.trail (begun_level b l)
+    → ks ≡ record vs { levels = newest_begun b vs.levels; begun = vs.begun + 1 }
+    → EntersBranch d vs false f ks l.item b.place
     × ((x : Bool) (u : List Move) → MayLead x d.puzzle (oldest l.mark d.trail) l.item
     → AreLedBy x d.puzzle u (oldest l.mark d.trail) (drop 1 vs.levels)
     → AreLedBy x f.puzzle u (branched f l.item b.place).trail ks.levels)
-enters_next d f l b vs ks stacked top ef entered ek =
+enters_next d f l b vs ks stacked top ef undid entered ek =
     let p = d.puzzle in
     let k = begun_level b l in
     let js = drop 1 vs.levels in
@@ -80,8 +86,10 @@ enters_next d f l b vs ks stacked top ef entered ek =
     let back = returned p d.trail l js here in
     let all = begun_coming p s v l k js back.0 entered.begun in
     let under = oldest-oldest l.mark l.base d.trail here.0.within.0 here.0.within.1 in
-    let levels : ks ≡ record vs { levels = k ∷ js } = ek ∙ ap (λ ls. record vs { levels = newest_begun b ls }) top in
-    rw levels (subst (λ (f : Dancing). EntersBranch d vs false f (record vs { levels = k ∷ js }) l.item b.place
+    let levels : ks ≡ record vs { levels = k ∷ js; begun = vs.begun + 1 } =
+    ek ∙ ap (λ ls. record vs { levels = newest_begun b ls; begun = vs.begun + 1 }) top in
+    rw levels (subst (λ (f : Dancing).
+    EntersBranch d vs false f (record vs { levels = k ∷ js; begun = vs.begun + 1 }) l.item b.place
     × ((x : Bool) (u : List Move) → MayLead x p (oldest l.mark d.trail) l.item
     → AreLedBy x p u (oldest l.mark d.trail) js → AreLedBy x f.puzzle u (branched f l.item b.place).trail (k ∷ js)))
     (sym ef) (

@@ -47,7 +47,7 @@ stands_behind p t ls a = record { stacked = a; searchable = λ e. cc; shallow = 
 -- it stands at the member behind the first n
 pub went_to : (d e : Dancing) (ls ks : Levels) (down : Bool) (n : ℕ)
     → (e ≡ record d { trail = e.trail; undone = e.undone })
-    × (ks ≡ record ls { levels = ks.levels }) → IsSolved e.puzzle e.trail ks.levels →
+    × (ks ≡ record ls { levels = ks.levels; begun = ks.begun }) → IsSolved e.puzzle e.trail ks.levels →
     drop n (coming d.puzzle d.trail ls.levels down) ≡ coming e.puzzle e.trail ks.levels true
     → WentOver d ls down (n + 1) e ks
 went_to d e ls ks down n still at come = grind (arith, common_steps, solution, rest_behind, shown_next)
@@ -60,7 +60,7 @@ pub record HasToPass (p : Puzzle) (t : List Move) (ls : List Level) (down : Bool
 -- and does so
 pub went_over : {d e : Dancing} {ls ks : Levels} (down : Bool) {many more : ℕ} → 0 < many
     → HasToPass d.puzzle d.trail ls.levels down many more
-    → (e ≡ record d { trail = e.trail; undone = e.undone }) × (ks ≡ record ls { levels = ks.levels })
+    → (e ≡ record d { trail = e.trail; undone = e.undone }) × (ks ≡ record ls { levels = ks.levels; begun = ks.begun })
     → IsSolved e.puzzle e.trail ks.levels
     → drop more (coming d.puzzle d.trail ls.levels true) ≡ coming e.puzzle e.trail ks.levels true
     → WentOver d ls down many e ks
@@ -78,7 +78,7 @@ went_over {d} {e} {ls} {ks} false {many} some has still solved members =
 -- there were no more
 pub went_past : {d e : Dancing} {ls ks : Levels} (down : Bool) {many more : ℕ} (n : ℕ) {lacks : ℕ}
     → HasToPass d.puzzle d.trail ls.levels down many more
-    → (e ≡ record d { trail = e.trail; undone = e.undone }) × (ks ≡ record ls { levels = ks.levels })
+    → (e ≡ record d { trail = e.trail; undone = e.undone }) × (ks ≡ record ls { levels = ks.levels; begun = ks.begun })
     → ks.levels ≡ [] → more ≡ lacks + length (coming d.puzzle d.trail ls.levels true) →
     (lacks < many) × (n + 1 + lacks ≡ many → WentPast d ls down n e ks)
 went_past true n has still ended count = grind arith

@@ -9,7 +9,7 @@ use Rattle.xc_search.specs.Listing.{Residual, Branch}
 use Rattle.xc_search.specs.inner.Residual.{residual_of}
 use Rattle.xc_search.specs.Outlook.{shown_after}
 use Rattle.xc_search.specs.Residuals.{choice_after}
-use Rattle.xc_dance.specs.Dancing.{Dancing}
+use Rattle.xc_dance.specs.Dancing.{Dancing, moves_made}
 use Rattle.xc_dance.specs.Commits.{option_at}
 use Rattle.xc_search.specs.inner.Commits.{oldest}
 use Rattle.xc_search.specs.inner.Levels.{Levels, IsStanding, coming, choices_of, branches_at}
@@ -52,7 +52,8 @@ work_left d ls down = ahead d.puzzle d.trail ls.levels down
 -- From levels ls in state d a search goes on at levels ks in state e, with nothing lost.
 pub record GoesOn (d : Dancing) (ls : Levels) (down : Bool) (e : Dancing) (ks : Levels) (below : Bool) : Type 0 where
   -- only the moves and the levels changed
-  pub still : (e ≡ record d { trail = e.trail; undone = e.undone }) × (ks ≡ record ls { levels = ks.levels })
+  pub still : (e ≡ record d { trail = e.trail; undone = e.undone })
+      × (ks ≡ record ls { levels = ks.levels; begun = ks.begun })
   pub standing : IsStanding e.puzzle e.trail ks.levels below
   pub members : coming d.puzzle d.trail ls.levels down ≡ coming e.puzzle e.trail ks.levels below
 
@@ -66,12 +67,17 @@ pub record EntersBranch (d : Dancing) (ls : Levels) (down : Bool) (e : Dancing) 
   pub place : IsPlace e.puzzle i q
   pub goes_on : GoesOn d ls down (branched e i q) ks true
   pub less : work_left (branched e i q) ks true < work_left d ls down
+  pub counted : ks.begun ≡ ls.begun + 1
+  pub undone : e.undone ≤ moves_made d
 
 -- It reached its end: nothing was left.
 pub record IsDone (d : Dancing) (ls : Levels) (down : Bool) (e : Dancing) (ks : Levels) : Type 0 where
-  pub still : (e ≡ record d { trail = e.trail; undone = e.undone }) × (ks ≡ record ls { levels = ks.levels })
+  pub still : (e ≡ record d { trail = e.trail; undone = e.undone })
+      × (ks ≡ record ls { levels = ks.levels; begun = ks.begun })
   pub ended : ks.levels ≡ []
   pub members : coming d.puzzle d.trail ls.levels down ≡ []
+  pub counted : ks.begun ≡ ls.begun
+  pub made : moves_made e ≤ moves_made d
 
 -- a solution is left: the choices of the levels are a member
 pub record IsSolved (p : Puzzle) (t : List Move) (ls : List Level) : Type 0 where
@@ -80,7 +86,8 @@ pub record IsSolved (p : Puzzle) (t : List Move) (ls : List Level) : Type 0 wher
 
 -- It went over n members: the choices of ks are the last of them.
 pub record WentOver (d : Dancing) (ls : Levels) (down : Bool) (n : ℕ) (e : Dancing) (ks : Levels) : Type 0 where
-  pub still : (e ≡ record d { trail = e.trail; undone = e.undone }) × (ks ≡ record ls { levels = ks.levels })
+  pub still : (e ≡ record d { trail = e.trail; undone = e.undone })
+      × (ks ≡ record ls { levels = ks.levels; begun = ks.begun })
   pub solved : IsSolved e.puzzle e.trail ks.levels
   pub come : coming e.puzzle e.trail ks.levels false ≡ drop n (coming d.puzzle d.trail ls.levels down)
   pub shown : choices_of e.puzzle ks.levels ≡ shown_after n (coming d.puzzle d.trail ls.levels down)
@@ -89,7 +96,8 @@ pub record WentOver (d : Dancing) (ls : Levels) (down : Bool) (n : ℕ) (e : Dan
 
 -- It went over n members, and reached its end.
 pub record WentPast (d : Dancing) (ls : Levels) (down : Bool) (n : ℕ) (e : Dancing) (ks : Levels) : Type 0 where
-  pub still : (e ≡ record d { trail = e.trail; undone = e.undone }) × (ks ≡ record ls { levels = ks.levels })
+  pub still : (e ≡ record d { trail = e.trail; undone = e.undone })
+      × (ks ≡ record ls { levels = ks.levels; begun = ks.begun })
   pub ended : ks.levels ≡ []
   pub count : n ≡ length (coming d.puzzle d.trail ls.levels down)
 

@@ -30,6 +30,8 @@ pub record Levels : Type 0 where
   pub levels : List Level
   -- how many levels there is room for
   pub room : ℕ
+  -- how many branches were ever begun
+  pub begun : ℕ
 
 -- something is left of each bound
 abbrev pub AreAllWanted : List Wanted → Type 0

@@ -1,9 +1,10 @@
 -- No public clause cites this module. The paths that the levels of a search stand for.
-use Rattle.std.specs.Prelude.{ℕ, ◌-◌, ◌≡◌, ◌≢◌, Bool, true, false, List, [], ◌∷◌, Option, Some, slice_get, map, reverse}
+use Rattle.std.specs.Prelude.{ℕ, ◌-◌, ◌≡◌, ◌≤◌, ◌⊎◌, Bool, true, false, List, [], ◌∷◌, Option, Some, slice_get, map}
+use Rattle.std.specs.Prelude.{reverse, Contains}
 use Rattle.xc_dance.specs.declared.dance.Move.{Move}
 use Rattle.xc_search.specs.declared.level.Level.{Level}
 use Rattle.xc_input.specs.Problem.{Puzzle}
-use Rattle.xc_search.specs.Listing.{Branch, branch_item, level, listing}
+use Rattle.xc_search.specs.Listing.{Wanted, Residual, Branch, branch_count, branch_item, level, listing}
 use Rattle.xc_search.specs.Residuals.{wanted_at, choice_after}
 use Rattle.xc_search.specs.Spans.{precedes}
 use Rattle.xc_dance.specs.Dancing.{Dancing}
@@ -15,12 +16,19 @@ use Rattle.xc_search.specs.inner.Levels.{Levels, IsEarlyChoice, branches_at, cho
 abbrev pub IsBranchItem : Puzzle → List Move → ℕ → Type 0
 IsBranchItem p t i = branch_item (residual_of p t) ≡ Some (wanted_at p t i)
 
--- exactly: item i is the branch item; else it lists what is left, and is the branch item where that has members
+-- An item that is left has no branches, so what is left has no solution.
+pub record IsStuck (r : Residual) : Type 0 where
+  pub item : Wanted
+  pub known : Contains r.items item
+  pub sound : item.low ≤ item.high
+  pub without : branch_count r item ≡ 0
+
+-- exactly: item i is the branch item; else it lists what is left, and is the branch item where each item has branches
 abbrev pub MayLead : Bool → Puzzle → List Move → ℕ → Type 0
 MayLead true p t i = IsBranchItem p t i
 MayLead false p t i =
     (listing (residual_of p t) ≡ level listing (Some (wanted_at p t i)) (residual_of p t))
-    × (listing (residual_of p t) ≢ [] → IsBranchItem p t i)
+    × (IsBranchItem p t i ⊎ IsStuck (residual_of p t))
 
 -- the branch item was chosen; or else an early choice was made
 abbrev pub IsChosenBy : Bool → Puzzle → List Move → Option (ℕ × ℕ) → Type 0

@@ -1,5 +1,5 @@
 -- No public clause cites this module. A search, step by step, of all or of a span.
-use Rattle.std.specs.Prelude.{ℕ, ◌+◌, ◌<◌, ◌≡◌, ◌≢◌, Bool, true, false, List, [], ◌∷◌, ◌++◌, length, Option, ◌-◌}
+use Rattle.std.specs.Prelude.{ℕ, ◌+◌, ◌*◌, ◌<◌, ◌≡◌, ◌≢◌, Bool, true, false, List, [], ◌∷◌, ◌++◌, length, Option, ◌-◌}
 use Rattle.std.specs.Prelude.{◌≤◌, ◌⊎◌, ◌^◌}
 use Rattle.std.specs.List.{AllByRecursion}
 use Rattle.xc_search.specs.declared.choice.Choice.{Choice}
@@ -7,8 +7,10 @@ use Rattle.xc_search.specs.declared.level.Level.{Level}
 use Rattle.xc_search.specs.declared.levels.Stop.{Stop}
 use Rattle.xc_search.specs.declared.levels.Stop.TheVariants.{Member, Steps, Row, Nothing}
 use Rattle.xc_input.specs.Problem.{Puzzle}
-use Rattle.xc_dance.specs.Dancing.{Dancing}
+use Rattle.xc_dance.specs.Dancing.{Dancing, moves_made}
+use Rattle.xc_search.specs.Room.{room_for}
 use Rattle.xc_dance.specs.Commits.{option_at}
+use Rattle.xc_search.specs.Nodes.{longest_row}
 use Rattle.xc_search.specs.Spans.{row_of, precedes, is_before, between}
 use Rattle.xc_search.specs.inner.Levels.{Levels, IsStanding, AreStacked, IsPlace, CanBranch, choices_of, coming}
 use Rattle.xc_search.specs.inner.Ahead.{IsSolved, work_left, branched}
@@ -53,6 +55,7 @@ pub record Falls (exact : Bool) (first : ℕ) (until : Option (List ℕ)) (d : D
   pub less : work_left e ks false ≤ work_left d ls true
   pub over : PassesOver first until m n (coming d.puzzle d.trail ls.levels true)
       (coming e.puzzle e.trail ks.levels false)
+  pub made : moves_made e ≤ d.undone + room_for d.puzzle
 
 -- a level was begun by this branch, or there are no more levels than before
 abbrev pub GoesDown : ℕ → Levels → Levels → Type 0
@@ -62,7 +65,8 @@ GoesDown first ls ks =
 -- From levels ls in state d it began a branch.
 pub record BeginsBranch (exact : Bool) (first : ℕ) (until : Option (List ℕ)) (d : Dancing) (ls : Levels) (m : ℕ)
     (e : Dancing) (ks : Levels) (n : ℕ) : Type 0 where
-  pub still : (e ≡ record d { trail = e.trail; undone = e.undone }) × (ks ≡ record ls { levels = ks.levels })
+  pub still : (e ≡ record d { trail = e.trail; undone = e.undone })
+      × (ks ≡ record ls { levels = ks.levels; begun = ks.begun })
   pub standing : IsStanding e.puzzle e.trail ks.levels true
   pub path : KeepsBy exact d ls e ks
   pub rises : AreLater ls ks
@@ -70,6 +74,9 @@ pub record BeginsBranch (exact : Bool) (first : ℕ) (until : Option (List ℕ))
   pub less : work_left e ks true < work_left d ls true
   pub over : PassesOver first until m n (coming d.puzzle d.trail ls.levels true)
       (coming e.puzzle e.trail ks.levels true)
+  pub counted : ks.begun ≡ ls.begun + 1
+  -- all that it undid was on the trail at once
+  pub undone : e.undone ≤ d.undone + room_for d.puzzle
 
 -- It entered a branch, whose moves are still to be made.
 pub record Enters (exact : Bool) (first : ℕ) (until : Option (List ℕ)) (d : Dancing) (ls : Levels) (m : ℕ) (e : Dancing)
@@ -81,7 +88,8 @@ pub record Enters (exact : Bool) (first : ℕ) (until : Option (List ℕ)) (d : 
 -- All levels ended.
 pub record Ends (first : ℕ) (until : Option (List ℕ)) (d : Dancing) (ls : Levels) (m : ℕ) (e : Dancing)
     (ks : Levels) (n : ℕ) : Type 0 where
-  pub still : (e ≡ record d { trail = e.trail; undone = e.undone }) × (ks ≡ record ls { levels = ks.levels })
+  pub still : (e ≡ record d { trail = e.trail; undone = e.undone })
+      × (ks ≡ record ls { levels = ks.levels; begun = ks.begun })
   pub ended : ks.levels ≡ []
   pub over : PassesOver first until m n (coming d.puzzle d.trail ls.levels true) []
 
@@ -89,7 +97,8 @@ pub record Ends (first : ℕ) (until : Option (List ℕ)) (d : Dancing) (ls : Le
 -- looked at yet.
 pub record Stands (exact : Bool) (first : ℕ) (until : Option (List ℕ)) (d : Dancing) (ls : Levels) (m : ℕ) (e : Dancing)
     (ks : Levels) (n begun : ℕ) : Type 0 where
-  pub still : (e ≡ record d { trail = e.trail; undone = e.undone }) × (ks ≡ record ls { levels = ks.levels })
+  pub still : (e ≡ record d { trail = e.trail; undone = e.undone })
+      × (ks ≡ record ls { levels = ks.levels; begun = ks.begun })
   pub standing : IsStanding e.puzzle e.trail ks.levels true
   pub path : KeepsBy exact d ls e ks
   pub over : PassesOver first until m n (coming d.puzzle d.trail ls.levels true)
@@ -97,6 +106,8 @@ pub record Stands (exact : Bool) (first : ℕ) (until : Option (List ℕ)) (d : 
   pub same : begun ≡ 0 → (e ≡ d) × (ks ≡ ls) × (n ≡ m)
   pub later : 0 < begun → AreLater ls ks
   pub down : begun ≡ 1 → GoesDown first ls ks
+  pub counted : ks.begun ≡ ls.begun + begun
+  pub undone : e.undone ≤ d.undone + room_for d.puzzle * begun
 
 -- What a run passes over is seen against this end: its own, or any other where it has one step.
 abbrev pub IsSeenBy : Bool → Option (List ℕ) → Option (List ℕ) → ℕ → ℕ → Puzzle → List Level → Type 0
@@ -114,23 +125,35 @@ pub record RunsTo (bound exact : Bool) (first : ℕ) (u until : Option (List ℕ
   pub ran_out : stop ≡ Steps → (bound ≡ true) × (steps ≡ 0)
   pub past : stop ≡ Row → (bound ≡ true) × (is_before until (row_at e.puzzle ks.levels) ≡ false)
   pub ended : stop ≡ Nothing → Ends first u d ls m e ks n
+  pub counted : ks.begun ≡ ls.begun + begun
+  pub made : moves_made e ≤ d.undone + room_for d.puzzle * (begun + 1)
+
+-- On so many ways to a row it began branches, so many at most on each.
+pub record TakesWays (ways most : ℕ) (d : Dancing) (ls : Levels) (e : Dancing) (ks : Levels) : Type 0 where
+  pub begun : ℕ
+  pub counted : ks.begun ≡ ls.begun + begun
+  pub few : begun ≤ ways * most
+  pub made : moves_made e ≤ moves_made d + room_for d.puzzle * (begun + ways)
 
 -- From the row of levels ls in state d it went back to the first level, and is at that row or at the next one of
 -- the search's tree, with no member between. Or no such row was found, and no member was to come.
 pub record Settles (d : Dancing) (ls : Levels) (e : Dancing) (ks : Levels) (found : Bool) : Type 0 where
-  pub still : (e ≡ record d { trail = e.trail; undone = e.undone }) × (ks ≡ record ls { levels = ks.levels })
+  pub still : (e ≡ record d { trail = e.trail; undone = e.undone })
+      × (ks ≡ record ls { levels = ks.levels; begun = ks.begun })
   pub stacked : AreStacked e.puzzle e.trail ks.levels
   pub standing : found ≡ true → IsStanding e.puzzle e.trail ks.levels true
   pub led : found ≡ true → AreLed e.puzzle [] e.trail ks.levels
   pub row : found ≡ true → precedes (numbers ks.levels) (numbers ls.levels) ≡ false
   pub members : found ≡ true → coming d.puzzle d.trail ls.levels true ≡ coming e.puzzle e.trail ks.levels true
   pub none : found ≡ false → coming d.puzzle d.trail ls.levels true ≡ []
+  pub way : TakesWays 1 (length ls.levels) d ls e ks
 
 -- From levels ls in state d it began so many branches, and halts at levels ks in state e, at a row of the search's
 -- tree.
 pub record Halts (until : Option (List ℕ)) (d : Dancing) (ls : Levels) (m : ℕ) (e : Dancing) (ks : Levels)
     (n begun : ℕ) : Type 0 where
-  pub still : (e ≡ record d { trail = e.trail; undone = e.undone }) × (ks ≡ record ls { levels = ks.levels })
+  pub still : (e ≡ record d { trail = e.trail; undone = e.undone })
+      × (ks ≡ record ls { levels = ks.levels; begun = ks.begun })
   pub standing : IsStanding e.puzzle e.trail ks.levels true
   pub led : AreLed e.puzzle [] e.trail ks.levels
   pub over : PassesOver 1 until m n (coming d.puzzle d.trail ls.levels true)
@@ -141,16 +164,24 @@ pub record Halts (until : Option (List ℕ)) (d : Dancing) (ls : Levels) (m : �
 -- It came to the end of its span: of m members n weren't there.
 pub record EndsSpan (d : Dancing) (ls : Levels) (m : ℕ) (until : Option (List ℕ)) (e : Dancing) (ks : Levels) (n : ℕ) :
     Type 0 where
-  pub still : (e ≡ record d { trail = e.trail; undone = e.undone }) × (ks ≡ record ls { levels = ks.levels })
+  pub still : (e ≡ record d { trail = e.trail; undone = e.undone })
+      × (ks ≡ record ls { levels = ks.levels; begun = ks.begun })
   pub stacked : AreStacked e.puzzle e.trail ks.levels
   pub count : m ≡ n + length (between d.puzzle (row_at d.puzzle ls.levels) until)
 
--- It went on so: it is at a member, ran out of steps, or came to the end.
+-- It began so many branches: it is at a member, ran out of steps, or came to the end.
 pub record RanTo (d : Dancing) (ls : Levels) (m most : ℕ) (until : Option (List ℕ)) (stop : Stop) (e : Dancing)
     (ks : Levels) (n steps : ℕ) : Type 0 where
-  pub halts : (stop ≡ Member) ⊎ (stop ≡ Steps) → Halts until d ls m e ks n (most - steps)
+  pub begun : ℕ
+  pub bounded : begun + steps ≡ most
+  pub halts : (stop ≡ Member) ⊎ (stop ≡ Steps) → Halts until d ls m e ks n begun
   pub before : (stop ≡ Member) ⊎ (stop ≡ Steps) → is_before until (row_at e.puzzle ks.levels) ≡ true
   pub solved : stop ≡ Member → (n ≡ 0) × IsSolved e.puzzle e.trail ks.levels
   pub ran_out : stop ≡ Steps → steps ≡ 0
   pub ended : (stop ≡ Row) ⊎ (stop ≡ Nothing) → EndsSpan d ls m until e ks n
-  pub within : steps ≤ most
+  -- so many it began again on its way back
+  pub again : ℕ
+  pub counted : ks.begun ≡ ls.begun + begun + again
+  pub few : again ≤ longest_row d.puzzle
+  pub none : 0 < steps → again ≡ 0
+  pub made : moves_made e ≤ moves_made d + room_for d.puzzle * (begun + again + 2)

@@ -9,7 +9,8 @@ use Rattle.xc_list.proofs.spans.write_each.Given as goal
 -- the members so far were written, and the others are left
 abbrev pub invariant-loop-members : goal.invariant-loop-members
 invariant-loop-members g l = record {
-  still : l.span ≡ record l.fn.span { row = l.span.row; shown = l.span.shown; made = l.span.made };
+  still : l.span ≡ record l.fn.span
+      { row = l.span.row; shown = l.span.shown; made = l.span.made; begun = l.span.begun };
   ahead : IsAhead l.fn.span.puzzle l.fn.span.until l.fn.span.row l.span.row l.most l.members l.steps;
   taken : Took (g.S.Sink.state l.fn.sink) (g.S.Sink.state l.sink)
       (first_texts (member_text l.bodies) (left_of l.fn.span) l.members);

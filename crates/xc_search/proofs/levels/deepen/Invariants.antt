@@ -2,7 +2,7 @@ use Rattle.std.proofs.Common.{ℕ, ◌≡◌, ◌≤◌, ◌-◌, true, Some}
 use Rattle.xc_search.specs.inner.Levels.{IsEarlyChoice}
 use Rattle.xc_search.specs.inner.Ahead.{branched}
 use Rattle.xc_search.specs.inner.Due.{Pays}
-use Rattle.xc_search.proofs.stacked.LoopSteps.{with_level}
+use Rattle.xc_search.proofs.stacked.LoopSteps.{with_begun}
 use Rattle.xc_search.proofs.spans.LeftOut.{Stepped}
 use Rattle.xc_search.proofs.levels.deepen.Given as goal
 
@@ -13,7 +13,7 @@ invariant-loop-level g l = record {
   within : l.level.begun ≤ l.first;
   pays : l.level.begun ≡ 1 → IsEarlyChoice l.fn.position.puzzle l.fn.position.trail (Some (l.item, l.count)) →
       (m : ℕ) → Pays l.fn.position l.fn.stack true m (branched l.position l.item l.level.place)
-      (with_level l.level l.fn.stack) true m;
+      (with_begun l.level l.fn.stack) true m;
 }
 
 abbrev pub decreases-loop-level : goal.decreases-loop-level

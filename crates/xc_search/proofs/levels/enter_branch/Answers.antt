@@ -1,4 +1,5 @@
-use Rattle.std.proofs.Common.{◌≡◌, ◌∙◌, ap, refl, None}
+use Rattle.std.proofs.Common.{◌≡◌, ◌∙◌, ap, refl, arith, None}
+use Rattle.xc_search.specs.inner.Levels.{Levels}
 use Rattle.xc_search.specs.declared.levels.Entered.{Entered}
 use Rattle.xc_search.specs.declared.levels.Below.TheVariants.{Branch}
 use Rattle.xc_search.specs.declared.levels.Next.TheVariants as next
@@ -43,3 +44,10 @@ pub returns-in-None-clause-done_pays : goal.returns-in-None-clause-done_pays
 returns-in-None-clause-done_pays g c _ one =
     Pays-trans (c.go_below.ensures.back_pays c.in-Nothing.is one)
     (c.resume.ensures.done_pays (rw c.in-None.is refl) _)
+
+pub returns-in-None-clause-done_made : goal.returns-in-None-clause-done_made
+returns-in-None-clause-done_made g c _ =
+    let back = c.go_below.ensures.back c.in-Nothing.is None
+    (rest_of_all c.args.position.now.puzzle c.args.stack.now.levels c.args.last.now c.args.first) in
+    let done = c.resume.ensures.done (rw c.in-None.is refl) in
+    (done.counted ∙ ap (λ (s : Levels). s.begun) back.still.1, omega (arith, done.made, back.made))

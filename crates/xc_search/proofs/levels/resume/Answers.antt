@@ -1,8 +1,8 @@
 use Rattle.xc_search.proofs.stacked.BackAtLevel.{finished}
-use Rattle.std.proofs.Common.{◌<◌, ◌≤◌, ◌∷◌, drop, false, ap, arith}
+use Rattle.std.proofs.Common.{◌<◌, ◌≤◌, ◌∷◌, ◌∙◌, drop, false, refl, ap, arith}
 use Rattle.xc_search.specs.inner.Levels.{Levels, AreStacked}
 use Rattle.xc_search.specs.inner.Ahead.{GoesOn, visits}
-use Rattle.xc_search.proofs.stacked.LoopSteps.{GoesOn-trans, goes_on_to}
+use Rattle.xc_search.proofs.stacked.LoopSteps.{GoesOn-trans, goes_on_to, unwound}
 use Rattle.xc_search.proofs.spans.Numbers.{oldest_all, oldest_fewer, rises_next, no_more_levels}
 use Rattle.xc_search.proofs.ends.Steps.{Pays-trans, pays_next, pays_back}
 use Rattle.xc_search.proofs.levels.resume.Goals as goal
@@ -31,15 +31,18 @@ back g c = grind (arith, finished)
 pub returns-then-level-clause-resumed : goal.returns-then-level-clause-resumed
 returns-then-level-clause-resumed g c =
     goes_on_to _ _ _ _ _ _ false false _ _ c.loop-level.invariant.goes_on c.loop-level.invariant.less
+    c.loop-level.invariant.begun c.loop-level.invariant.made
     (enters_next c.loop-level.position c.enter_next-branch.new.position c.in-Some.level.now c.enter_next-branch.result
     c.loop-level.stack c.note_branch.new.self c.loop-level.invariant.goes_on.standing.stacked c.in-Some.ensures.some
-    c.enter_next-branch.ensures.still c.enter_next-branch.ensures.entered c.note_branch.ensures).0
+    c.enter_next-branch.ensures.still (omega (arith, c.enter_next-branch.ensures.undone))
+    c.enter_next-branch.ensures.entered c.note_branch.ensures).0
 
 pub returns-then-level-clause-resumed_path : goal.returns-then-level-clause-resumed_path
 returns-then-level-clause-resumed_path g c = λ x u a.
     (enters_next c.loop-level.position c.enter_next-branch.new.position c.in-Some.level.now c.enter_next-branch.result
     c.loop-level.stack c.note_branch.new.self c.loop-level.invariant.goes_on.standing.stacked c.in-Some.ensures.some
-    c.enter_next-branch.ensures.still c.enter_next-branch.ensures.entered c.note_branch.ensures).1 x u
+    c.enter_next-branch.ensures.still (omega (arith, c.enter_next-branch.ensures.undone))
+    c.enter_next-branch.ensures.entered c.note_branch.ensures).1 x u
     (rw c.in-Some.ensures.some at (c.loop-level.invariant.path x u a)).0.leads
     (rw c.in-Some.ensures.some at (c.loop-level.invariant.path x u a)).1
 
@@ -65,6 +68,14 @@ loop-level-preserved g c =
           c.in-Some.level.now c.loop-level.stack c.pop.new.self is.goes_on.standing.stacked c.in-Some.ensures.some
           ended c.end_level.ensures c.pop.ensures m);
       less = omega (arith, is.less, (back g c).1);
+      begun = ap (λ (s : Levels). s.begun) c.pop.ensures ∙ is.begun;
+      made = omega (
+        arith,
+        is.made,
+        (unwound c.loop-level.position c.loop-level.position c.end_level.new.position
+            c.in-Some.level.now c.loop-level.stack c.pop.new.self refl refl is.goes_on.standing.stacked
+            c.in-Some.ensures.some c.end_level.ensures c.pop.ensures).1,
+      );
     }
 
 pub returns-then-level-clause-resumed_pays : goal.returns-then-level-clause-resumed_pays

@@ -1,4 +1,5 @@
-use Rattle.std.proofs.Common.{ℕ, ◌≤◌, Bool, false}
+use Rattle.std.proofs.Common.{ℕ, ◌≡◌, ◌≤◌, Bool, false}
+use Rattle.xc_dance.specs.Dancing.{moves_made}
 use Rattle.xc_search.specs.inner.Ahead.{visits, GoesOn}
 use Rattle.xc_search.specs.inner.Paths.{KeepsBy}
 use Rattle.xc_search.proofs.spans.Numbers.{IsOldest}
@@ -14,6 +15,8 @@ invariant-loop-level g l = record {
   pays : (m : ℕ) → Pays l.initial.position l.initial.stack false m l.position l.stack false m;
   less : visits l.position.puzzle l.position.trail l.stack.levels ≤ visits l.initial.position.puzzle
       l.initial.position.trail l.initial.stack.levels;
+  begun : l.stack.begun ≡ l.initial.stack.begun;
+  made : moves_made l.position ≤ moves_made l.initial.position;
 }
 
 abbrev pub decreases-loop-level : goal.decreases-loop-level

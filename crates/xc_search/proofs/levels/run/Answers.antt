@@ -82,7 +82,8 @@ pub returns-in-Nothing-clause-ran : goal.returns-in-Nothing-clause-ran
 returns-in-Nothing-clause-ran g c u is =
     let s = c.loop-until.invariant in
     rw c.halted-in-Nothing.ensures (runs_to_end (s.stands u is) s.count (c.enter_branch.ensures.done c.in-Nothing.is u
-    (rest g (goal.at.returns-in-Nothing-clause-ran g c).After-enter_branch u is)))
+    (rest g (goal.at.returns-in-Nothing-clause-ran g c).After-enter_branch u is))
+    (c.enter_branch.ensures.done_made c.in-Nothing.is))
 
 pub returns-in-Nothing-clause-ended_pays : goal.returns-in-Nothing-clause-ended_pays
 returns-in-Nothing-clause-ended_pays g c _ one =
@@ -113,7 +114,8 @@ loop-until-smaller-in_default g c =
     (begins g (goal.at.loop-until-smaller-in_default g c).After-commit_branch _ c.loop-until.invariant.rest).less
 
 pub loop-until-smaller : goal.loop-until-smaller
-loop-until-smaller g c = (begins g (goal.at.loop-until-smaller g c).After-commit_branch _ c.loop-until.invariant.rest).less
+loop-until-smaller g c =
+    (begins g (goal.at.loop-until-smaller g c).After-commit_branch _ c.loop-until.invariant.rest).less
 
 pub loop-until-preserved-in-Before : goal.loop-until-preserved-in-Before
 loop-until-preserved-in-Before g c =

@@ -27,14 +27,16 @@ returns-in-Member-clause-ran g c =
 
 pub returns-then-not-settle-clause-ran : goal.returns-then-not-settle-clause-ran
 returns-then-not-settle-clause-ran g c =
-    settled_nowhere c.requires.led (c.replace_with-ran.ensures _ (inl refl)) c.in-Steps.is c.requires.some c.settle.ensures.settles
+    settled_nowhere c.requires.led (c.replace_with-ran.ensures _ (inl refl)) c.in-Steps.is c.requires.some
+    c.settle.ensures.settles
     c.if-not-settle.true
 
 pub returns-then-is_before-clause-ran : goal.returns-then-is_before-clause-ran
 returns-then-is_before-clause-ran g c =
     let row = row_levels c.settle.new.state.position.puzzle c.levels.result.now c.settle.new.state.stack.levels
     c.levels.ensures.levels in
-    settled c.requires.led (c.replace_with-ran.ensures _ (inl refl)) c.in-Steps.is c.requires.some c.settle.ensures.settles
+    settled c.requires.led (c.replace_with-ran.ensures _ (inl refl)) c.in-Steps.is c.requires.some
+    c.settle.ensures.settles
     c.if-not-settle.false
     (ap (is_before (option_map (λ u. u.now) c.args.until)) (sym row) ∙ sym c.is_before.ensures ∙ c.if-is_before.true)
 
@@ -42,6 +44,7 @@ pub returns-else-is_before-clause-ran : goal.returns-else-is_before-clause-ran
 returns-else-is_before-clause-ran g c =
     let row = row_levels c.settle.new.state.position.puzzle c.levels.result.now c.settle.new.state.stack.levels
     c.levels.ensures.levels in
-    settled_behind c.requires.led (c.replace_with-ran.ensures _ (inl refl)) c.in-Steps.is c.requires.some c.settle.ensures.settles
+    settled_behind c.requires.led (c.replace_with-ran.ensures _ (inl refl)) c.in-Steps.is c.requires.some
+    c.settle.ensures.settles
     c.if-not-settle.false
     (ap (is_before (option_map (λ u. u.now) c.args.until)) (sym row) ∙ sym c.is_before.ensures ∙ c.if-is_before.false)

@@ -1,18 +1,22 @@
-use Rattle.std.proofs.Common.{ℕ, ◌≡◌, true, List, None, refl, sym, ap, ap₂, ◌∙◌, arith}
-use Rattle.xc_dance.specs.Dancing.{Dancing}
+use Rattle.std.proofs.Common.{ℕ, ◌≡◌, ◌+◌, ◌*◌, ◌≤◌, true, List, None, length, refl, sym, ap, ap₂, ◌∙◌, arith}
+use Rattle.xc_dance.specs.Dancing.{Dancing, moves_made}
+use Rattle.xc_search.specs.Room.{room_for}
 use Rattle.xc_search.specs.Cover.{members}
 use Rattle.xc_search.specs.Spans.{precedes, between}
 use Rattle.xc_search.specs.inner.Levels.{Levels, coming}
+use Rattle.xc_search.specs.inner.Paths.{numbers}
 use Rattle.xc_search.specs.inner.Spanning.{row_at}
 use Rattle.xc_search.proofs.stacked.Start.{starts_standing, starts_coming}
 use Rattle.xc_search.proofs.spans.Kept.{row_levels}
-use Rattle.xc_search.proofs.spans.Numbers.{numbers_row}
+use Rattle.xc_search.proofs.spans.Numbers.{numbers_row, length-numbers}
 use Rattle.xc_search.proofs.spans.Running.{led_from, led_from_by}
 use Rattle.xc_search.proofs.spans.Advance.{begins_from, none_from}
+use Rattle.xc_search.proofs.spans.Rows.{not_itself}
+use Rattle.xc_search.proofs.spans.Stuck.{led_free, never_stuck}
 use Rattle.xc_search.proofs.spanning.settle.Goals as goal
 
-pub reach-requires-clause-standing : goal.reach-requires-clause-standing
-reach-requires-clause-standing g c =
+pub reach_by-requires-clause-standing : goal.reach_by-requires-clause-standing
+reach_by-requires-clause-standing g c =
     starts_standing c.args.state.now.position.puzzle (c.requires.standing.searchable refl).valid _ _ _
     (ap (λ (d : Dancing). d.puzzle) c.unwind.ensures.position)
     (ap (λ (d : Dancing). d.trail) c.unwind.ensures.position)
@@ -23,10 +27,10 @@ returns-clause-settles g c =
     let d = c.args.state.now.position in
     let ls = c.args.state.now.stack.levels in
     let f = c.unwind.new.position in
-    let e = c.reach.new.state.position in
-    let ks = c.reach.new.state.stack.levels in
+    let e = c.reach_by.new.state.position in
+    let ks = c.reach_by.new.state.stack.levels in
     let from = c.deref.result.now in
-    let reach = c.reach.ensures in
+    let reach = c.reach_by.ensures in
     let is : from ≡ row_at d.puzzle ls = grind (arith, row_levels) in
     let moved : e.puzzle ≡ f.puzzle = ap (λ (d : Dancing). d.puzzle) reach.still in
     let puzzle : e.puzzle ≡ d.puzzle = moved ∙ ap (λ (d : Dancing). d.puzzle) c.unwind.ensures.position in
@@ -36,6 +40,10 @@ returns-clause-settles g c =
     let here : coming d.puzzle d.trail ls true ≡ between e.puzzle from None =
     sym (led_from_by _ d.puzzle d.trail ls c.requires.led)
     ∙ ap₂ (λ p (r : List ℕ). between p r None) (sym puzzle) (sym is) in
+    let long : length from ≡ length ls = ap length (is ∙ sym (numbers_row d.puzzle ls)) ∙ length-numbers ls in
+    let unwound : moves_made f ≡ moves_made d = grind (arith, c.unwind.ensures.position) in
+    let same : f.puzzle ≡ d.puzzle = ap (λ (d : Dancing). d.puzzle) c.unwind.ensures.position in
+    let made : moves_made e ≤ moves_made f + room_for d.puzzle * (reach.way.begun + 1) = rw same at reach.way.made in
     record {
       still = grind (
         arith,
@@ -50,5 +58,25 @@ returns-clause-settles g c =
       row = λ h. ap₂ precedes (numbers_row e.puzzle ks) (numbers_row d.puzzle ls ∙ sym is) ∙ reach.reached h;
       members = λ h. here ∙ begins_from e.puzzle e.trail ks from _ (reach.led h) (reach.reached h) all (reach.kept h)
           ∙ led_from e.puzzle e.trail ks (reach.led h);
+      way = record {
+        begun = reach.way.begun;
+        counted = omega (arith, reach.way.counted, ap (λ (s : Levels). s.begun) c.unwind.ensures.stack);
+        few = omega (arith, reach.way.few, long);
+        made = omega (arith, unwound, made);
+      };
       none = λ h. here ∙ none_from e.puzzle from _ None all (reach.none h);
+    }
+
+pub returns-then-not-is_stuck-clause-settles : goal.returns-then-not-is_stuck-clause-settles
+returns-then-not-is_stuck-clause-settles g c =
+    let legal = (c.requires.standing.searchable refl).legal in
+    record {
+      still = (refl, refl);
+      stacked = c.requires.standing.stacked;
+      standing = λ _. c.requires.standing;
+      led = λ _. led_free _ _ _ _ c.requires.led (never_stuck _ _ legal (c.is_stuck.ensures c.if-not-is_stuck.true));
+      row = λ _. not_itself (numbers c.args.state.now.stack.levels);
+      members = λ _. refl;
+      none = λ h. absurd (cc h);
+      way = record { begun = 0; counted = omega arith; few = omega arith; made = omega arith };
     }

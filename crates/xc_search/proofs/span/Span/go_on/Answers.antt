@@ -1,10 +1,12 @@
-use Rattle.std.proofs.Common.{ℕ, ◌≡◌, ◌-◌, ◌<◌, ◌⊎◌, Bool, true, false, List, [], Option, length, refl, sym, ap, ◌∙◌}
-use Rattle.std.proofs.Common.{arith, inl, inr}
+use Rattle.std.proofs.Common.{ℕ, ◌≡◌, ◌+◌, ◌*◌, ◌-◌, ◌<◌, ◌≤◌, ◌⊎◌, Bool, true, false, List, [], Option, length, refl}
+use Rattle.std.proofs.Common.{sym, ap, ◌∙◌, arith, inl, inr, rules}
 use Rattle.std.specs.Prelude.{option_map, IfSome}
+use Rattle.xc_search.specs.InSpan.{InSpan}
 use Rattle.xc_search.specs.Spans.{precedes, is_before, between}
 use Rattle.xc_search.specs.inner.Levels.{choices_of}
 use Rattle.xc_search.specs.inner.Spanning.{row_at, row_from, Halts, EndsSpan}
-use Rattle.xc_dance.specs.Dancing.{Dancing}
+use Rattle.xc_dance.specs.Dancing.{Dancing, moves_made}
+use Rattle.xc_search.specs.Room.{room_for}
 use Rattle.xc_search.proofs.stacked.ShownLevels.{all_shown}
 use Rattle.xc_search.specs.declared.choice.Choice.{Choice}
 use Rattle.xc_search.specs.declared.levels.Stop.TheVariants.{Member, Steps, Row, Nothing}
@@ -14,25 +16,13 @@ use Rattle.xc_search.proofs.spans.Advance.{Advances, IsAt, over_first, ran_out, 
 use Rattle.xc_search.proofs.spans.Advance.{at_end, end_not_before, end_not_right_behind}
 use Rattle.xc_search.proofs.spans.Told.{told_passed, told_count, told_later, told_shown, told_same, told_still}
 use Rattle.xc_search.proofs.spans.Told.{told_none, told_end}
+use Rattle.xc_search.proofs.spans.Moves.{few_moves}
+use Rattle.xc_search.proofs.spans.Nodes.{is_row}
 use Rattle.xc_input.specs.Problem.{Puzzle}
 use Rattle.xc_search.specs.declared.level.Level.{Level}
 use Rattle.xc_search.proofs.span.Span.go_on.Goals as goal
 use Rattle.xc_search.proofs.span.Span.go_on.Goals.{After-go_over-ran}
 use Rattle.xc_search.proofs.span.Span.go_on.Goals.{then-self-2, else-self-2}
-
-pub returns-then-many-eq0-clause-passed : goal.returns-then-many-eq0-clause-passed
-returns-then-many-eq0-clause-passed g c =
-    (told_same c.args.self.now _ _ _ _ _ _ _ c.self.view_is c.if-self.false).0
-
-pub returns-then-many-eq0-clause-count : goal.returns-then-many-eq0-clause-count
-returns-then-many-eq0-clause-count g c =
-    (told_same c.args.self.now _ _ _ _ _ _ _ c.self.view_is c.if-self.false).1
-
-pub returns-then-steps-eq0-clause-passed : goal.returns-then-steps-eq0-clause-passed
-returns-then-steps-eq0-clause-passed g c = told_still c.args.self.now _ _ _ _ _ _ _ c.self.view_is c.if-self.false []
-
-pub returns-then-steps-eq0-clause-count : goal.returns-then-steps-eq0-clause-count
-returns-then-steps-eq0-clause-count g c = told_none c.args.self.now _ _ _ _ _ _ _ c.self.view_is c.if-self.false []
 
 at : (g : _) (c : After-go_over-ran g)
     → IsAt c.self.inside.state.position.puzzle c.self.inside.state.position.trail
@@ -63,7 +53,7 @@ module _ (g : _) (c : After-go_over-ran g) where
       Halts until c.self.inside.state.position c.self.inside.state.stack (over_first c.args.many
       c.self.inside.unsearched)
       c.go_over-ran.new.state.position c.go_over-ran.new.state.stack c.go_over-ran.result.more
-      (c.args.steps - c.go_over-ran.result.steps)
+      c.go_over-ran.ensures.ran.begun
   stands h = rw (over g c) at (c.go_over-ran.ensures.ran.halts h)
 
   moved : (c.go_over-ran.result.stop ≡ Member) ⊎ (c.go_over-ran.result.stop ≡ Steps) →
@@ -73,6 +63,19 @@ module _ (g : _) (c : After-go_over-ran g) where
   before : (h : (c.go_over-ran.result.stop ≡ Member) ⊎ (c.go_over-ran.result.stop ≡ Steps)) →
       is_before until (row_at c.self.inside.state.position.puzzle c.go_over-ran.new.state.stack.levels) ≡ true
   before h = rw (moved h) at (c.go_over-ran.ensures.ran.before h)
+
+  -- with few moves
+  few : moves_made c.go_over-ran.new.state.position
+      + room_for c.self.inside.state.position.puzzle * c.self.inside.state.stack.begun
+      ≤ moves_made c.self.inside.state.position
+      + room_for c.self.inside.state.position.puzzle * (c.go_over-ran.new.state.stack.begun + 2)
+  few =
+      let ran = c.go_over-ran.ensures.ran in
+      let was = c.self.inside.state in
+      let now = c.go_over-ran.new.state in
+      few_moves was.position.puzzle (ran.begun + ran.again) was.stack.begun
+      now.stack.begun (moves_made was.position) (moves_made now.position) (omega (arith, ran.made))
+      (omega (arith, ran.counted))
 
   -- how it went on to a member
   module _ (h : c.go_over-ran.result.stop ≡ Member) where
@@ -97,8 +100,8 @@ module _ (g : _) (c : After-go_over-ran g) where
 
   -- or until it ran out of steps
   module _ (h : c.go_over-ran.result.stop ≡ Steps) (more : 0 < c.args.steps) where
-    taken : 0 < c.args.steps - c.go_over-ran.result.steps
-    taken = omega (arith, more, c.go_over-ran.ensures.ran.ran_out h)
+    taken : 0 < c.go_over-ran.ensures.ran.begun
+    taken = omega (arith, more, c.go_over-ran.ensures.ran.ran_out h, c.go_over-ran.ensures.ran.bounded)
 
     fewer : c.go_over-ran.result.more < c.args.many
     fewer = still_more (at g c) (stands (inr h)) (some g c) taken
@@ -139,85 +142,164 @@ overflow_sub-result-in-Steps-2 g c =
           (omega arith),
     )
 
-pub returns-in-Member-clause-passed : goal.returns-in-Member-clause-passed
-returns-in-Member-clause-passed g c =
-    let r = (goal.at.returns-in-Member-clause-passed g c).After-go_over-ran in
-    told_passed c.args.self.now _ _ _ _ _ _ _ c.self.view_is c.if-self.false c.go_over-ran.new.state.position.puzzle
-    _ c.args.many
-    c.show.new.shown.items (moved g r (inl c.in-Member.is)) (to_member g r c.in-Member.is)
+pub returns-then-many-eq0 : goal.returns-then-many-eq0
+returns-then-many-eq0 g c =
+    record {
+      still = search rules;
+      passed = (told_same c.args.self.now _ _ _ _ _ _ _ _ c.self.view_is c.if-self.false).0;
+      count = (told_same c.args.self.now _ _ _ _ _ _ _ _ c.self.view_is c.if-self.false).1;
+      within = search rules;
+      begun = (0, omega arith, omega arith, λ _. refl);
+      moves = search rules;
+      member = search rules;
+      end = search rules;
+      fewer = search rules;
+      ran_out = search rules;
+      ended = search rules;
+      node = let s = c.self.inside in
+          rw (← c.self.view_is) (rw c.if-self.false (is_row s.state.position.puzzle s.state.position.trail
+          s.state.stack.levels s.unsearched (c.self.invariant.led c.if-self.false)
+          (c.self.invariant.solved c.if-self.false)));
+      later = search rules;
+      stays = search rules;
+      stands = λ _. let s = c.self.inside in
+          rw (← c.self.view_is)
+          (rw c.if-self.false (end_not_from (option_map (λ u. u.now) s.until) s.state.position.puzzle
+          s.state.stack.levels s.unsearched (c.self.invariant.before c.if-self.false)));
+      before = search rules;
+    }
 
-pub returns-in-Member-clause-count : goal.returns-in-Member-clause-count
-returns-in-Member-clause-count g c =
-    let r = (goal.at.returns-in-Member-clause-count g c).After-go_over-ran in
-    told_count c.args.self.now _ _ _ _ _ _ _ c.self.view_is c.if-self.false c.go_over-ran.new.state.position.puzzle
-    _ c.args.many
-    c.show.new.shown.items (moved g r (inl c.in-Member.is)) (to_member g r c.in-Member.is)
+pub returns-then-steps-eq0 : goal.returns-then-steps-eq0
+returns-then-steps-eq0 g c =
+    record {
+      still = search rules;
+      passed = told_still c.args.self.now _ _ _ _ _ _ _ _ c.self.view_is c.if-self.false [];
+      count = told_none c.args.self.now _ _ _ _ _ _ _ _ c.self.view_is c.if-self.false [];
+      within = search rules;
+      begun = (0, omega (arith, ap (λ (s : InSpan). s.begun) c.self.view_is), omega arith, λ _. refl);
+      moves = search rules;
+      member = search rules;
+      end = search rules;
+      fewer = search rules;
+      ran_out = search rules;
+      ended = search rules;
+      node = let s = c.self.inside in
+          rw c.if-self.false (is_row s.state.position.puzzle s.state.position.trail
+          s.state.stack.levels s.unsearched (c.self.invariant.led c.if-self.false)
+          (c.self.invariant.solved c.if-self.false));
+      later = search rules;
+      stays = search rules;
+      stands = λ _. let s = c.self.inside in
+          rw c.if-self.false
+          (end_not_from (option_map (λ u. u.now) s.until) s.state.position.puzzle s.state.stack.levels
+          s.unsearched (c.self.invariant.before c.if-self.false));
+      before = search rules;
+    }
 
-pub returns-in-Member-clause-later : goal.returns-in-Member-clause-later
-returns-in-Member-clause-later g c _ _ =
-    let r = (goal.at.returns-in-Member-clause-later g c).After-go_over-ran in
-    told_later c.args.self.now _ _ _ _ _ _ _ c.self.view_is c.if-self.false c.go_over-ran.new.state.position.puzzle
-    _ c.args.many
-    c.show.new.shown.items (moved g r (inl c.in-Member.is)) (to_member g r c.in-Member.is)
+pub returns-in-Member : goal.returns-in-Member
+returns-in-Member g c =
+    record {
+      still = search rules;
+      passed = let r = (goal.at.returns-in-Member g c).After-go_over-ran in
+          told_passed c.args.self.now _ _ _ _ _ _ _ _ c.self.view_is c.if-self.false
+          c.go_over-ran.new.state.position.puzzle
+          _ c.args.many
+          c.show.new.shown.items (moved g r (inl c.in-Member.is)) (to_member g r c.in-Member.is);
+      count = let r = (goal.at.returns-in-Member g c).After-go_over-ran in
+          told_count c.args.self.now _ _ _ _ _ _ _ _ c.self.view_is c.if-self.false
+          c.go_over-ran.new.state.position.puzzle
+          _ c.args.many
+          c.show.new.shown.items (moved g r (inl c.in-Member.is)) (to_member g r c.in-Member.is);
+      within = search rules;
+      begun = search rules;
+      moves = rw (← c.self.view_is) (few g (goal.at.returns-in-Member g c).After-go_over-ran);
+      member = λ _. let r = (goal.at.returns-in-Member g c).After-go_over-ran in (
+        refl,
+        c.show.ensures.items
+            ∙ told_shown c.args.self.now _ _ _ _ _ _ _ _ c.self.view_is c.if-self.false c.args.many _
+            (there g r c.in-Member.is),
+      );
+      end = search rules;
+      fewer = search rules;
+      ran_out = search rules;
+      ended = search rules;
+      node = let at = c.go_over-ran.new.state in
+          rw c.if-self.false (is_row at.position.puzzle at.position.trail at.stack.levels false
+          (c.go_over-ran.ensures.ran.halts (inl c.in-Member.is)).led
+          (λ _. (c.go_over-ran.ensures.ran.solved c.in-Member.is).1));
+      later = λ _ _. let r = (goal.at.returns-in-Member g c).After-go_over-ran in
+          told_later c.args.self.now _ _ _ _ _ _ _ _ c.self.view_is c.if-self.false
+          c.go_over-ran.new.state.position.puzzle
+          _ c.args.many
+          c.show.new.shown.items (moved g r (inl c.in-Member.is)) (to_member g r c.in-Member.is);
+      stays = search rules;
+      stands = λ _. let r = (goal.at.returns-in-Member g c).After-go_over-ran in
+          let p = c.go_over-ran.new.state.position.puzzle in
+          let ls = c.go_over-ran.new.state.stack.levels in
+          rw c.if-self.false
+          (end_not_from (until g r) p ls false (c.go_over-ran.ensures.ran.before (inl c.in-Member.is)));
+      before = search rules;
+    }
 
-pub returns-in-Member-clause-member : goal.returns-in-Member-clause-member
-returns-in-Member-clause-member g c _ =
-    let r = (goal.at.returns-in-Member-clause-member g c).After-go_over-ran in (
-      refl,
-      c.show.ensures.items
-          ∙ told_shown c.args.self.now _ _ _ _ _ _ _ c.self.view_is c.if-self.false c.args.many _
-          (there g r c.in-Member.is),
-    )
+pub returns-in-Row : goal.returns-in-Row
+returns-in-Row g c =
+    record {
+      still = search rules;
+      passed = search rules;
+      count = let r = (goal.at.returns-in-Row g c).After-go_over-ran in
+          told_end c.args.self.now _ _ _ _ _ _ _ _ c.self.view_is c.if-self.false
+          c.go_over-ran.new.state.position.puzzle
+          c.clear-in-Row.new.self.items _ (to_end g r c.in-Row.is).1;
+      within = search rules;
+      begun = search rules;
+      moves = rw (← c.self.view_is) (few g (goal.at.returns-in-Row g c).After-go_over-ran);
+      member = search rules;
+      end = search rules;
+      fewer = search rules;
+      ran_out = search rules;
+      ended = search rules;
+      node = search rules;
+      later = search rules;
+      stays = search rules;
+      stands = search rules;
+      before = search rules;
+    }
 
-pub returns-in-Row-clause-count : goal.returns-in-Row-clause-count
-returns-in-Row-clause-count g c =
-    let r = (goal.at.returns-in-Row-clause-count g c).After-go_over-ran in
-    told_end c.args.self.now _ _ _ _ _ _ _ c.self.view_is c.if-self.false c.go_over-ran.new.state.position.puzzle
-    c.clear-in-Row.new.self.items _ (to_end g r c.in-Row.is).1
-
-pub returns-in-Steps-clause-passed : goal.returns-in-Steps-clause-passed
-returns-in-Steps-clause-passed g c =
-    let r = (goal.at.returns-in-Steps-clause-passed g c).After-go_over-ran in
-    told_passed c.args.self.now _ _ _ _ _ _ _ c.self.view_is c.if-self.false c.go_over-ran.new.state.position.puzzle
-    _ _
-    c.clear-in-Steps.new.self.items (moved g r (inr c.in-Steps.is)) (to_row g r c.in-Steps.is (omega arith))
-
-pub returns-in-Steps-clause-count : goal.returns-in-Steps-clause-count
-returns-in-Steps-clause-count g c =
-    let r = (goal.at.returns-in-Steps-clause-count g c).After-go_over-ran in
-    told_count c.args.self.now _ _ _ _ _ _ _ c.self.view_is c.if-self.false c.go_over-ran.new.state.position.puzzle
-    _ _
-    c.clear-in-Steps.new.self.items (moved g r (inr c.in-Steps.is)) (to_row g r c.in-Steps.is (omega arith))
-
-pub returns-in-Steps-clause-later : goal.returns-in-Steps-clause-later
-returns-in-Steps-clause-later g c _ _ =
-    let r = (goal.at.returns-in-Steps-clause-later g c).After-go_over-ran in
-    told_later c.args.self.now _ _ _ _ _ _ _ c.self.view_is c.if-self.false c.go_over-ran.new.state.position.puzzle
-    _ _
-    c.clear-in-Steps.new.self.items (moved g r (inr c.in-Steps.is)) (to_row g r c.in-Steps.is (omega arith))
-
-pub returns-then-many-eq0-clause-stands : goal.returns-then-many-eq0-clause-stands
-returns-then-many-eq0-clause-stands g c _ =
-    let s = c.self.inside in
-    rw (← c.self.view_is) (rw c.if-self.false (end_not_from (option_map (λ u. u.now) s.until) s.state.position.puzzle
-    s.state.stack.levels s.unsearched (c.self.invariant.before c.if-self.false)))
-
-pub returns-then-steps-eq0-clause-stands : goal.returns-then-steps-eq0-clause-stands
-returns-then-steps-eq0-clause-stands g c _ =
-    let s = c.self.inside in
-    rw c.if-self.false (end_not_from (option_map (λ u. u.now) s.until) s.state.position.puzzle s.state.stack.levels
-    s.unsearched (c.self.invariant.before c.if-self.false))
-
-pub returns-in-Member-clause-stands : goal.returns-in-Member-clause-stands
-returns-in-Member-clause-stands g c _ =
-    let r = (goal.at.returns-in-Member-clause-stands g c).After-go_over-ran in
-    let p = c.go_over-ran.new.state.position.puzzle in
-    let ls = c.go_over-ran.new.state.stack.levels in
-    rw c.if-self.false (end_not_from (until g r) p ls false (c.go_over-ran.ensures.ran.before (inl c.in-Member.is)))
-
-pub returns-in-Steps-clause-stands : goal.returns-in-Steps-clause-stands
-returns-in-Steps-clause-stands g c _ =
-    let r = (goal.at.returns-in-Steps-clause-stands g c).After-go_over-ran in
-    let p = c.go_over-ran.new.state.position.puzzle in
-    let ls = c.go_over-ran.new.state.stack.levels in
-    rw c.if-self.false (end_not_from (until g r) p ls true (c.go_over-ran.ensures.ran.before (inr c.in-Steps.is)))
+pub returns-in-Steps : goal.returns-in-Steps
+returns-in-Steps g c =
+    record {
+      still = search rules;
+      passed = let r = (goal.at.returns-in-Steps g c).After-go_over-ran in
+          told_passed c.args.self.now _ _ _ _ _ _ _ _ c.self.view_is c.if-self.false
+          c.go_over-ran.new.state.position.puzzle
+          _ _
+          c.clear-in-Steps.new.self.items (moved g r (inr c.in-Steps.is)) (to_row g r c.in-Steps.is (omega arith));
+      count = let r = (goal.at.returns-in-Steps g c).After-go_over-ran in
+          told_count c.args.self.now _ _ _ _ _ _ _ _ c.self.view_is c.if-self.false
+          c.go_over-ran.new.state.position.puzzle
+          _ _
+          c.clear-in-Steps.new.self.items (moved g r (inr c.in-Steps.is)) (to_row g r c.in-Steps.is (omega arith));
+      within = search rules;
+      begun = search rules;
+      moves = rw (← c.self.view_is) (few g (goal.at.returns-in-Steps g c).After-go_over-ran);
+      member = search rules;
+      end = search rules;
+      fewer = search rules;
+      ran_out = search rules;
+      ended = search rules;
+      node = let at = c.go_over-ran.new.state in
+          rw c.if-self.false (is_row at.position.puzzle at.position.trail at.stack.levels true
+          (c.go_over-ran.ensures.ran.halts (inr c.in-Steps.is)).led (λ h. absurd (cc h)));
+      later = λ _ _. let r = (goal.at.returns-in-Steps g c).After-go_over-ran in
+          told_later c.args.self.now _ _ _ _ _ _ _ _ c.self.view_is c.if-self.false
+          c.go_over-ran.new.state.position.puzzle
+          _ _
+          c.clear-in-Steps.new.self.items (moved g r (inr c.in-Steps.is)) (to_row g r c.in-Steps.is (omega arith));
+      stays = search rules;
+      stands = λ _. let r = (goal.at.returns-in-Steps g c).After-go_over-ran in
+          let p = c.go_over-ran.new.state.position.puzzle in
+          let ls = c.go_over-ran.new.state.stack.levels in
+          rw c.if-self.false
+          (end_not_from (until g r) p ls true (c.go_over-ran.ensures.ran.before (inr c.in-Steps.is)));
+      before = search rules;
+    }

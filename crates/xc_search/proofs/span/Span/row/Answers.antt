@@ -58,9 +58,9 @@ module _ (g : _) (c : Joined-not-self g) where
       (sym (reverse-reverse c.levels-levels.result.now) ∙ ap reverse c.levels-levels.ensures.levels))
 
 pub returns-clause-numbers : goal.returns-clause-numbers
-returns-clause-numbers g c = told_row c.args.self.now _ _ _ _ _ _ _ c.self.view_is c.if-self.false _ (numbers g c)
+returns-clause-numbers g c = told_row c.args.self.now _ _ _ _ _ _ _ _ c.self.view_is c.if-self.false _ (numbers g c)
 
 pub returns-clause-branches : goal.returns-clause-branches
 returns-clause-branches g c =
     let puzzle = ap (λ (s : InSpan). s.puzzle) c.self.view_is in
-    told_row c.args.self.now _ _ _ _ _ _ _ c.self.view_is c.if-self.false _ (rw (← puzzle) (branches g c))
+    told_row c.args.self.now _ _ _ _ _ _ _ _ c.self.view_is c.if-self.false _ (rw (← puzzle) (branches g c))

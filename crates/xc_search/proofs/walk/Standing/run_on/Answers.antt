@@ -39,7 +39,8 @@ returns-clause-went g c =
       | in-Steps w ↦
           let end = ran.ended (comes_to_end ran w.in-Steps.is) in
           let past = went_past {d = c.args.self.position} {e = c.run-ran.new.position} {ls = c.args.self.stack}
-          {ks = c.run-ran.new.stack} c.args.self.unsearched c.match-ran.passed has end.still end.ended (ends_over end.over) in
+          {ks = c.run-ran.new.stack} c.args.self.unsearched c.match-ran.passed has end.still end.ended
+          (ends_over end.over) in
           grind (arith, past, w.passed-is, w.fewer-passed.ensures)
     ]
 
