@@ -65,18 +65,21 @@ fn solutions_one_by_one(rt: HostRuntime) {
     }
 }
 
-/// How many solutions a search visits, of at most so many, and whether all were.
-fn visit(search: &mut Search<Links>, most: usize) -> (usize, bool) {
+/// How many choices a search visits, of at most so many, and whether all solutions were; and how often it called.
+fn visit(search: &mut Search<Links>, most: usize) -> (usize, bool, usize) {
     let mut left = most;
-    let all = search.for_each(|choices| {
+    let mut calls = 0;
+    let mut visitor = |choices: &[Choice]| {
+        calls = calls.saturating_add(1);
         left = left.saturating_sub(choices.len());
         left > 0
-    });
-    (most - left.min(most), all && search.choices().is_empty())
+    };
+    let all = search.for_each(&mut visitor);
+    (most - left.min(most), all && search.choices().is_empty(), calls)
 }
 
 /// How many solutions of a problem are visited, of at most so many, and whether all are.
-fn visited(alloc: Global, problem: &Problem, most: usize) -> Option<(usize, bool)> {
+fn visited(alloc: Global, problem: &Problem, most: usize) -> Option<(usize, bool, usize)> {
     let mut search = begun(alloc, problem)?;
     let visited = visit(&mut search, most);
     drop(search);
@@ -88,8 +91,8 @@ fn solutions_until_enough(rt: HostRuntime) {
     let alloc = rt.alloc();
     assert!(rt;
         on_problem(alloc, Kind::Plain, THREE_ALIKE, |problem| {
-            visited(alloc, problem, 2) == Some((2, false))
-                && visited(alloc, problem, 9) == Some((3, true))
+            visited(alloc, problem, 2) == Some((2, false, 2))
+                && visited(alloc, problem, 9) == Some((3, true, 3))
         })
     );
 }

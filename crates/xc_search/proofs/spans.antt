@@ -14,3 +14,4 @@ pub mod Reached
 pub mod Advance
 pub mod Told
 pub mod Along
+pub mod Nodes

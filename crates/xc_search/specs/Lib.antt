@@ -7,6 +7,7 @@ pub mod Outlook
 pub mod Visited
 pub mod Spans
 pub mod InSpan
+pub mod Nodes
 pub mod Marks
 pub mod Worked
 pub mod inner

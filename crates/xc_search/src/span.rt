@@ -7,6 +7,7 @@ ghost use Rattle.xc_search.specs.Room.{room_for};
 ghost use Rattle.xc_search.specs.Listing.{whole};
 ghost use Rattle.xc_search.specs.Spans.{precedes, is_before, between};
 ghost use Rattle.xc_search.specs.InSpan.{left_of, reached, branches_along};
+ghost use Rattle.xc_search.specs.Nodes.{IsRow};
 
 use crate::choice::Choice;
 use crate::counts::most_levels;
@@ -84,7 +85,7 @@ pub struct Span<'a, D: Dance> {
 }
 
 impl<'a, D: Dance> Model for Span<'a, D> {
-    ghost use Rattle.std.specs.Prelude.{◌≡◌, ◌≤◌, [], true, false, Some, None, option_map, vec_capacity, if◌then◌else◌};
+    ghost use Rattle.std.specs.Prelude.{◌≡◌, [], true, false, Some, None, option_map, vec_capacity, if◌then◌else◌};
     ghost use Rattle.xc_search.specs.InSpan.{InSpan};
     ghost use Rattle.xc_dance.specs.Dancing.{moves_made};
     ghost use Rattle.xc_search.specs.Spans.{is_before};
@@ -114,8 +115,8 @@ impl<'a, D: Dance> Model for Span<'a, D> {
       before : s.ended ≡ false →
           is_before (option_map (λ u. u.now) s.until) (row_at s.state.position.puzzle s.state.stack.levels) ≡ true;
       levels_fit : s.state.stack.room ≡ most_levels s.state.position.puzzle;
-      choices_fit : most_levels s.state.position.puzzle ≤ vec_capacity s.choices;
-      numbers_fit : most_levels s.state.position.puzzle ≤ vec_capacity s.numbers;
+      choices_fit : vec_capacity s.choices ≡ most_levels s.state.position.puzzle;
+      numbers_fit : vec_capacity s.numbers ≡ most_levels s.state.position.puzzle;
     } };
 }
 
@@ -147,6 +148,7 @@ impl<'a, D: Dance> Span<'a, D> {
         ensures left { IfOk result (λ s. left_of s ≡ between problem.now.puzzle from.now s.until) }
         ensures row { IfOk result (λ s. IfSome s.row (λ row.
             (precedes row from.now ≡ false) × (between problem.now.puzzle from.now (Some row) ≡ []))) }
+        ensures node { IfOk result (λ s. IfSome s.row (λ row. IsRow (whole problem.now.puzzle) row)) }
         ensures back { IfErr result (λ e. e.0 ≡ dance) }
     {
         let most = most_levels(problem);
@@ -203,6 +205,7 @@ impl<'a, D: Dance> Span<'a, D> {
 
         ensures fewer { 0 < many → result.halt ≡ Halt.End → result.members < many }
         ensures stays { steps ≡ 0 → self.new.row ≡ self.old.row }
+        ensures node { IfSome self.new.row (λ row. IsRow (whole self.new.puzzle) row) }
 
         // The row where it halted isn't after the span's end, and comes before it where it ran out of steps.
         ensures stands { (result.halt ≡ Halt.Member) ⊎ (result.halt ≡ Halt.Steps) → IsSomeAnd self.new.row (λ row.

@@ -13,13 +13,13 @@ impl<'a, D: Dance> Search<'a, D> {
     /// true where no call did, and then no solution is left; else the search is at the last one.
     // With what the closure was called can be said over its states alone: so the contract goes from one to the next,
     // by `Visits`.
-    pub fn for_each<F: FnMut(&[Choice]) -> bool>(&mut self, mut visit: F) -> bool
-        requires { F.IsAlwaysCallable visit }
+    pub fn for_each<F: FnMut(&[Choice]) -> bool>(&mut self, visit: &mut F) -> bool
+        requires { F.IsAlwaysCallable visit.old }
         ensures still { self.new ≡ record self.old
             { to_come = self.new.to_come; shown = self.new.shown; ahead = self.new.ahead; made = self.new.made } }
         ensures moves { MakesFew self.old self.new }
-        ensures visits { Visits (λ f m more g. CalledAt F.FnMut f m more g) visit self.old.to_come
-            result self.new.to_come self.new.shown }
+        ensures visits { Visits (λ f m more g. CalledAt F.FnMut f m more g) visit.old self.old.to_come
+            result self.new.to_come self.new.shown visit.new }
     {
         while let Step::Solution = self.next() {
             if !visit(self.choices()) {

@@ -38,7 +38,7 @@ length-branches r w =
     omega_le : (bs : List Branch) (n : ℕ) → drop n bs ≡ [] → length bs ≤ n
     omega_le bs n e = omega (arith, ap length e, length-drop n bs)
 
-left_here : (r : Residual) (w : Wanted) → branch_item r ≡ Some w → branches_left r ≡ branches_of r w
+pub left_here : (r : Residual) (w : Wanted) → branch_item r ≡ Some w → branches_left r ≡ branches_of r w
 left_here r w e = rw e refl
 
 along_more : (r : Residual) (x : List ℕ) (s : Residual) (k : ℕ) → Leads r x s

@@ -16,9 +16,9 @@ invariant-loop-visit g l = record {
   };
   moves : MakesFew l.initial.self l.self;
   -- what calls with the members to come do follows the calls that were made
-  goes_on : (all : Bool) (left : List (List Choice)) (shown : List Choice) →
-      Visits (λ f m more h. CalledAt g.F.FnMut f m more h) l.visit l.self.to_come all left shown →
-      Visits (λ f m more h. CalledAt g.F.FnMut f m more h) l.initial.visit l.initial.self.to_come all left shown;
+  goes_on : (all : Bool) (left : List (List Choice)) (shown : List Choice) (last : _) →
+      Visits (λ f m more h. CalledAt g.F.FnMut f m more h) l.visit l.self.to_come all left shown last →
+      Visits (λ f m more h. CalledAt g.F.FnMut f m more h) l.initial.visit l.initial.self.to_come all left shown last;
 }
 
 abbrev pub decreases-loop-visit : goal.decreases-loop-visit

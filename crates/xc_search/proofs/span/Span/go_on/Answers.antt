@@ -14,6 +14,7 @@ use Rattle.xc_search.proofs.spans.Advance.{Advances, IsAt, over_first, ran_out, 
 use Rattle.xc_search.proofs.spans.Advance.{at_end, end_not_before, end_not_right_behind}
 use Rattle.xc_search.proofs.spans.Told.{told_passed, told_count, told_later, told_shown, told_same, told_still}
 use Rattle.xc_search.proofs.spans.Told.{told_none, told_end}
+use Rattle.xc_search.proofs.spans.Nodes.{is_row}
 use Rattle.xc_input.specs.Problem.{Puzzle}
 use Rattle.xc_search.specs.declared.level.Level.{Level}
 use Rattle.xc_search.proofs.span.Span.go_on.Goals as goal
@@ -221,3 +222,27 @@ returns-in-Steps-clause-stands g c _ =
     let p = c.go_over-ran.new.state.position.puzzle in
     let ls = c.go_over-ran.new.state.stack.levels in
     rw c.if-self.false (end_not_from (until g r) p ls true (c.go_over-ran.ensures.ran.before (inr c.in-Steps.is)))
+
+pub returns-then-many-eq0-clause-node : goal.returns-then-many-eq0-clause-node
+returns-then-many-eq0-clause-node g c =
+    let s = c.self.inside in
+    rw (← c.self.view_is) (rw c.if-self.false (is_row s.state.position.puzzle s.state.position.trail
+    s.state.stack.levels s.unsearched (c.self.invariant.led c.if-self.false) (c.self.invariant.solved c.if-self.false)))
+
+pub returns-then-steps-eq0-clause-node : goal.returns-then-steps-eq0-clause-node
+returns-then-steps-eq0-clause-node g c =
+    let s = c.self.inside in
+    rw c.if-self.false (is_row s.state.position.puzzle s.state.position.trail
+    s.state.stack.levels s.unsearched (c.self.invariant.led c.if-self.false) (c.self.invariant.solved c.if-self.false))
+
+pub returns-in-Member-clause-node : goal.returns-in-Member-clause-node
+returns-in-Member-clause-node g c =
+    let at = c.go_over-ran.new.state in
+    rw c.if-self.false (is_row at.position.puzzle at.position.trail at.stack.levels false
+    (c.go_over-ran.ensures.ran.halts (inl c.in-Member.is)).led (λ _. (c.go_over-ran.ensures.ran.solved c.in-Member.is).1))
+
+pub returns-in-Steps-clause-node : goal.returns-in-Steps-clause-node
+returns-in-Steps-clause-node g c =
+    let at = c.go_over-ran.new.state in
+    rw c.if-self.false (is_row at.position.puzzle at.position.trail at.stack.levels true
+    (c.go_over-ran.ensures.ran.halts (inr c.in-Steps.is)).led (λ h. absurd (cc h)))

@@ -10,6 +10,7 @@ use Rattle.xc_search.specs.inner.Spanning.{row_at}
 use Rattle.xc_search.proofs.stacked.Start.{starts_standing, starts_coming}
 use Rattle.xc_search.proofs.spans.Kept.{row_levels}
 use Rattle.xc_search.proofs.spans.Advance.{first_left, first_row}
+use Rattle.xc_search.proofs.spans.Nodes.{first_node}
 use Rattle.xc_search.proofs.span.Span.new.Goals as goal
 use Rattle.xc_search.proofs.span.Span.new.Goals.{Joined-not-reached, then-not-reached, else-not-reached}
 
@@ -67,8 +68,8 @@ invariant_of-result g c =
       solved = λ h i. absurd (cc i);
       before = λ h. sym (within g c) ∙ (open_at h).1;
       levels_fit = omega (arith, c.most_levels-most.ensures.value, room, most);
-      choices_fit = omega (arith, c.most_levels-most.ensures.value, c.in-Ok.ensures.capacity, most);
-      numbers_fit = omega (arith, c.most_levels-most.ensures.value, c.in-Ok-with_capacity.ensures.capacity, most);
+      choices_fit = omega (arith, c.most_levels-most.ensures.value, c.in-Ok.ensures.exact, most);
+      numbers_fit = omega (arith, c.most_levels-most.ensures.value, c.in-Ok-with_capacity.ensures.exact, most);
     }
 
 pub returns-clause-left : goal.returns-clause-left
@@ -84,3 +85,9 @@ returns-clause-row g c =
     rw (← puzzle g c) (first_row (at g c).puzzle (at g c).trail c.reach-reached.new.state.stack.levels c.args.from.now
     (until g c) _ c.reach-reached.result c.is_before-within.result reach.led (all g c) reach.reached reach.kept
     reach.none (within g c) c.if-not-reached.result (ended g c))
+
+pub returns-clause-node : goal.returns-clause-node
+returns-clause-node g c =
+    let reach = c.reach-reached.ensures in
+    rw (← puzzle g c) (first_node (at g c).puzzle (at g c).trail c.reach-reached.new.state.stack.levels
+    c.reach-reached.result c.is_before-within.result reach.led c.if-not-reached.result (ended g c))
