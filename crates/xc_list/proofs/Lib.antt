@@ -6,6 +6,7 @@ pub mod NextPrinted
 pub mod Outputs
 pub mod KeptLines
 pub mod PageLemmas
+pub mod ProblemLines
 pub mod RowTexts
 pub mod SpanGoing
 pub mod SpanLemmas
