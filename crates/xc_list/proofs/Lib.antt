@@ -8,6 +8,7 @@ pub mod KeptLines
 pub mod PageLemmas
 pub mod ProblemLines
 pub mod RowTexts
+pub mod SmallRows
 pub mod SpanGoing
 pub mod SpanLemmas
 pub mod SpanWhole

@@ -1,5 +1,5 @@
 -- How far a run over a span comes, and what it wrote.
-use Rattle.std.specs.Prelude.{ℕ, ◌^◌, ◌-◌, ◌≤◌, ◌≡◌, ◌⊎◌, ◌==◌, false, List, Option, Some, None, IfSome, length}
+use Rattle.std.specs.Prelude.{ℕ, ◌^◌, ◌-◌, ◌<◌, ◌≤◌, ◌≡◌, ◌⊎◌, ◌==◌, false, List, Option, Some, None, IfSome, length}
 use Rattle.std.specs.Prelude.{true, Result, Ok, Err, if◌then◌else◌}
 use Rattle.xc_input.specs.Problem.{Puzzle}
 use Rattle.xc_input.specs.Named.{Named}
@@ -37,8 +37,8 @@ abbrev pub searched : AskedSpan → List ℕ → Option (List ℕ) → Went → 
 searched asked row branches went =
     record { from = asked.from; until = row; branches = branches; steps = went.steps }
 
--- This is so of a sink and the text of the span up to where a search went, in no more steps than the words allow. If
--- the words ask for a span, it is one.
+-- This is so of a sink and the text of the span up to where a search went, in no more steps than the words allow. It is
+-- a span if the words ask for one and its members can be counted.
 pub record OfSpan (a : Named) (asked : AskedSpan) (went : Went)
     (says : SinkState → SinkState → List ℕ → Type 0) (old new : SinkState) : Type 0 where
   pub row : List ℕ
@@ -46,7 +46,8 @@ pub record OfSpan (a : Named) (asked : AskedSpan) (went : Went)
   pub goes : GoesTo a.puzzle asked row branches went
   pub few : went.steps ≤ most_steps asked.steps
   pub members : length (between a.puzzle asked.from (end_at row)) ≡ went.members
-  pub is_one : is_span asked.from asked.until ≡ true → IsSpan a (searched asked row branches went)
+  pub is_one : is_span asked.from asked.until ≡ true → went.members < 2 ^ 64
+      → IsSpan a (searched asked row branches went)
   pub said : says old new (text_of a asked.listed (searched asked row branches went))
 
 -- What a run over a span returns: the sink took the text up to where it went; or it broke off in such a text; or, where
