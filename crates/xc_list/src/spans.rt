@@ -15,7 +15,8 @@ ghost use Rattle.xc_list.specs.SearchedSpans.{AreSmall};
 ghost use Rattle.xc_list.specs.SpanWords.{asked_of};
 ghost use Rattle.xc_list.specs.SpanRuns.{most_steps, OfSpan, AnswersSpan};
 ghost use Rattle.xc_list.specs.inner.SpanSteps.{dotted, numbers_text, text_at, row_in, branches_in, until_text};
-ghost use Rattle.xc_list.specs.inner.SpanSteps.{counts_text, rows_text, told_text, WentOn, BeginsAt, written_text, SpanWritten};
+ghost use Rattle.xc_list.specs.inner.SpanSteps.{counts_text, rows_text, told_text, WentOn, BeginsAt, written_text};
+ghost use Rattle.xc_list.specs.inner.SpanSteps.{SpanWritten};
 
 use crate::bodies::Bodies;
 use crate::digest::problem_digest;
