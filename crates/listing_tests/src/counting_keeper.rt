@@ -7,8 +7,8 @@ use fixtures::{ALONE, COLOURED, SEVEN, THREE_ALIKE, TWICE, on_one, on_problem};
 use std::alloc::Global;
 use xc_dance::{Count, Dance, Full, Links, Move};
 use xc_input::{Kind, Problem};
-use xc_list::{Tray, Words, run_over};
-use xc_search::{Search, most_moves};
+use xc_list::{SpanWords, Tray, VecSink, Words, list_span_over, run_over};
+use xc_search::{Halt, Search, Span, most_moves};
 
 /// How often a keeper was called.
 #[derive(Clone, Copy, Debug, PartialEq, Eq)]
@@ -297,6 +297,57 @@ const PAIRS: [(&[u8], usize, u64, u64); 2] = [
     (PAIRS_OF_4, 3, 20, 20 - 2 * 4),
     (PAIRS_OF_6, 15, 112, 112 - 14 * 4),
 ];
+
+/// Words for a whole listing, or its count, as a span.
+fn all_as_span(alloc: Global, listed: bool) -> SpanWords {
+    SpanWords {
+        listed,
+        steps: 0,
+        from: Vec::new(alloc),
+        until: Vec::new(alloc),
+    }
+}
+
+/// The calls that the search of a listing as a span makes; None where there is no memory.
+fn calls_of_listed_span(alloc: Global, problem: &Problem, listed: bool) -> Option<Calls> {
+    let links = Links::new(alloc, problem, most_moves(problem)).ok()?;
+    let counting = Counting { links, calls: NONE };
+    let words = all_as_span(alloc, listed);
+    let mut sink = VecSink::new(alloc);
+    let (back, went) = list_span_over(alloc, counting, problem, &words, &mut sink);
+    if went.is_ok() { Some(back.calls) } else { None }
+}
+
+/// The calls of a span of all that goes on by so many members at a time, to its end.
+fn calls_of_span(alloc: Global, problem: &Problem, many: u64) -> Option<Calls> {
+    let links = Links::new(alloc, problem, most_moves(problem)).ok()?;
+    let counting = Counting { links, calls: NONE };
+    let mut span = Span::new(alloc, counting, problem, &[], None).ok()?;
+    for _member in 0..100 {
+        if span.go_on(many, u64::MAX).halt == Halt::End {
+            break;
+        }
+    }
+    Some(span.close().calls)
+}
+
+/// Whether a span is searched once, be it listed or counted.
+fn searches_once(alloc: Global, problem: &Problem) -> bool {
+    let listed = calls_of_listed_span(alloc, problem, true);
+    let counted = calls_of_listed_span(alloc, problem, false);
+    listed.is_some()
+        && listed == calls_of_span(alloc, problem, 1)
+        && counted.is_some()
+        && counted == calls_of_span(alloc, problem, u64::MAX)
+}
+
+#[test]
+fn a_span_is_searched_once(rt: HostRuntime) {
+    let alloc = rt.alloc();
+    for (kind, text, _solutions) in &KINDS {
+        assert!(rt; on_problem(alloc, *kind, *text, |problem| searches_once(alloc, problem)));
+    }
+}
 
 /// So many moves, each undone by itself.
 fn each_undone(made: u64) -> Calls {

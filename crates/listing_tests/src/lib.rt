@@ -1,6 +1,6 @@
 //! Tests of listings: runs over live lists, over linked tables and over a keeper that counts, what they list, how they
-//! end and which moves they make; lines and solutions; and what is there for callers. They use public calls alone, so
-//! they are on top, where no library is proved a second time for them.
+//! end and which moves they make; lines, problems, solutions and spans; and what is there for callers. They use public
+//! calls alone, so they are on top, where no library is proved a second time for them.
 #![tactic(auto)]
 
 // Helpers.
@@ -17,9 +17,11 @@ mod listing;
 #[cfg(test)]
 mod counting_keeper;
 
-// Lines, solutions and spans.
+// Lines, problems, solutions and spans.
 #[cfg(test)]
 mod lines;
+#[cfg(test)]
+mod problem_texts;
 #[cfg(test)]
 mod spans;
 #[cfg(test)]

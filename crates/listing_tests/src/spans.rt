@@ -1,8 +1,10 @@
 //! Spans of listings, and the words that mean them.
 use fixtures::{THREE_ALIKE, TWICE, gathered, on_none, on_one, on_problem};
 use std::alloc::Global;
+use xc_dance::{Dance, Lists};
 use xc_input::{Kind, Problem};
-use xc_list::{SpanFault, SpanWords, Tray, VecSink, list_span};
+use xc_list::{SpanFault, SpanWords, Tray, VecSink, list_span, list_span_over};
+use xc_search::most_moves;
 
 /// What words mean; None where there is no memory.
 fn asked(alloc: Global, words: &[&[u8]]) -> Option<Option<SpanWords>> {
@@ -10,10 +12,36 @@ fn asked(alloc: Global, words: &[&[u8]]) -> Option<Option<SpanWords>> {
     SpanWords::read(alloc, &all).ok()
 }
 
-/// Whether a span of a problem is written so.
-fn is_written(alloc: Global, problem: &Problem, words: &SpanWords, wanted: &[u8]) -> bool {
+/// Whether a span of a problem is written so over linked tables.
+fn by_links(alloc: Global, problem: &Problem, words: &SpanWords, wanted: &[u8]) -> bool {
     let mut sink = VecSink::new(alloc);
     list_span(alloc, problem, words, &mut sink).is_ok() && sink.bytes() == wanted
+}
+
+/// The live lists that come back from a search of a span; None where there is no memory, or a write fails.
+fn lists_after(
+    alloc: Global,
+    problem: &Problem,
+    words: &SpanWords,
+    sink: &mut VecSink,
+) -> Option<Lists> {
+    let lists = Lists::new(alloc, problem, most_moves(problem)).ok()?;
+    let (back, went) = list_span_over(alloc, lists, problem, words, sink);
+    if went.is_ok() { Some(back) } else { None }
+}
+
+/// Whether it is written so over live lists, which come back without moves.
+fn by_lists(alloc: Global, problem: &Problem, words: &SpanWords, wanted: &[u8]) -> bool {
+    let mut sink = VecSink::new(alloc);
+    on_one(
+        lists_after(alloc, problem, words, &mut sink),
+        |lists| lists.moves().is_empty(),
+    ) && sink.bytes() == wanted
+}
+
+/// Whether it is written so over each of the two.
+fn is_written(alloc: Global, problem: &Problem, words: &SpanWords, wanted: &[u8]) -> bool {
+    by_links(alloc, problem, words, wanted) && by_lists(alloc, problem, words, wanted)
 }
 
 /// Whether the span that words mean is written so, of the problem of a text.
@@ -26,31 +54,44 @@ fn are_written(alloc: Global, kind: Kind, text: &[u8], words: &[&[u8]], wanted: 
     })
 }
 
-/// Words, and what is written of three equal options.
-const SPANS: [(&[&[u8]], &[u8]); 6] = [
+/// Words, and what is written of three equal options. The digest is that of their problem's text, computed elsewhere:
+/// `problem_texts.rt` has it.
+const SPANS: [(&[&[u8]], &[u8]); 8] = [
     (
         &[b"m1", b"0", b"-", b"-"],
-        b"from -\n1:\n A (1 of 3)\n2:\n A (2 of 3)\n3:\n A (3 of 3)\nfrom - until - solutions 3 steps 3\n",
+        b"from - problem f398ce4ab5e57227\n1:\n A (1 of 3)\n2:\n A (2 of 3)\n3:\n A (3 of 3)\n\
+        from - until - solutions 3 steps 3 problem f398ce4ab5e57227\n",
     ),
     (
         &[b"m1", b"0", b"02", b"3"],
-        b"from 2\n1:\n A (2 of 3)\nfrom 2 until 3 solutions 1 steps 1\n",
+        b"from 2 problem f398ce4ab5e57227\n1:\n A (2 of 3)\n\
+        from 2 until 3 solutions 1 steps 1 problem f398ce4ab5e57227\n",
+    ),
+    (
+        &[b"m1", b"2", b"-", b"-"],
+        b"from - problem f398ce4ab5e57227\n1:\n A (1 of 3)\n\
+        from - until 2 of 3 solutions 1 steps 2 problem f398ce4ab5e57227\n",
+    ),
+    (
+        &[b"m1", b"1", b"-", b"-"],
+        b"from - problem f398ce4ab5e57227\n\
+        from - until 1 of 3 solutions 0 steps 1 problem f398ce4ab5e57227\n",
     ),
     (
         &[b"m0", b"2", b"-", b"-"],
-        b"from - until 2 of 3 solutions 1 steps 2\n",
+        b"from - until 2 of 3 solutions 1 steps 2 problem f398ce4ab5e57227\n",
     ),
     (
         &[b"m0", b"0", b"1.0", b"1.0"],
-        b"from 1.0 until 1.0 solutions 0 steps 0\n",
+        b"from 1.0 until 1.0 solutions 0 steps 0 problem f398ce4ab5e57227\n",
     ),
     (
         &[b"m0", b"0", b"1.4294967295", b"-"],
-        b"from 1.4294967295 until - solutions 2 steps 1\n",
+        b"from 1.4294967295 until - solutions 2 steps 1 problem f398ce4ab5e57227\n",
     ),
     (
         &[b"m0", b"0", b"4", b"-"],
-        b"from 4 until - solutions 0 steps 0\n",
+        b"from 4 until - solutions 0 steps 0 problem f398ce4ab5e57227\n",
     ),
 ];
 
@@ -64,7 +105,7 @@ fn spans_of_three(rt: HostRuntime) {
 
 #[test]
 fn rows_of_two_choices(rt: HostRuntime) {
-    let record = b"from 1.2 until 2.1 of 2.1 solutions 1 steps 3\n";
+    let record = b"from 1.2 until 2.1 of 2.1 solutions 1 steps 3 problem 0a70bcc497137bc6\n";
     assert!(rt;
         are_written(
             rt.alloc(),
@@ -98,6 +139,7 @@ fn spans_that_break_off(rt: HostRuntime) {
     assert!(rt; breaks_off_at(rt.alloc(), 0));
     assert!(rt; breaks_off_at(rt.alloc(), 20));
     assert!(rt; breaks_off_at(rt.alloc(), 80));
+    assert!(rt; breaks_off_at(rt.alloc(), 130));
 }
 
 /// Words that mean no span.

@@ -6,7 +6,9 @@ pub mod NextPrinted
 pub mod Outputs
 pub mod KeptLines
 pub mod PageLemmas
+pub mod ProblemLines
 pub mod RowTexts
+pub mod SmallRows
 pub mod SpanGoing
 pub mod SpanLemmas
 pub mod SpanWhole

@@ -1,9 +1,12 @@
+pub mod Digests
 pub mod Known
 pub mod Listed
 pub mod ListingLines
 pub mod Messages
 pub mod Output
+pub mod ProblemTexts
 pub mod Runs
+pub mod SearchedSpans
 pub mod Settings
 pub mod SpanRuns
 pub mod SpanTexts

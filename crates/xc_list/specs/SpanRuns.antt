@@ -1,5 +1,5 @@
 -- How far a run over a span comes, and what it wrote.
-use Rattle.std.specs.Prelude.{ℕ, ◌^◌, ◌-◌, ◌≤◌, ◌≡◌, ◌⊎◌, ◌==◌, false, List, Option, Some, None, IfSome, length}
+use Rattle.std.specs.Prelude.{ℕ, ◌^◌, ◌-◌, ◌<◌, ◌≤◌, ◌≡◌, ◌⊎◌, ◌==◌, false, List, Option, Some, None, IfSome, length}
 use Rattle.std.specs.Prelude.{true, Result, Ok, Err, if◌then◌else◌}
 use Rattle.xc_input.specs.Problem.{Puzzle}
 use Rattle.xc_input.specs.Named.{Named}
@@ -8,8 +8,9 @@ use Rattle.xc_search.specs.Spans.{precedes, between}
 use Rattle.xc_search.specs.InSpan.{branches_along}
 use Rattle.xc_search.specs.declared.span.Went.{Went}
 use Rattle.xc_search.specs.declared.span.Halt.TheVariants.{Member, End, Steps}
-use Rattle.xc_list.specs.SpanTexts.{end_at, span_text}
-use Rattle.xc_list.specs.SpanWords.{AskedSpan}
+use Rattle.xc_list.specs.SpanTexts.{end_at}
+use Rattle.xc_list.specs.SearchedSpans.{SearchedSpan, IsSpan, text_of}
+use Rattle.xc_list.specs.SpanWords.{AskedSpan, is_span}
 use Rattle.xc_list.specs.Texts.{Seen, SinkState, Took, BrokeOff}
 use Rattle.xc_list.specs.declared.spans.SpanFault.{SpanFault}
 use Rattle.xc_list.specs.declared.spans.SpanFault.TheVariants.{Memory, WriteFailed}
@@ -31,7 +32,13 @@ abbrev pub GoesTo : Puzzle → AskedSpan → List ℕ → Option (List ℕ) → 
 GoesTo p asked row None went = (went.halt ≡ End) × (row ≡ asked.until)
 GoesTo p asked row (Some branches) went = StopsAt asked row went × (branches ≡ branches_along (whole p) row)
 
--- This is so of a sink and the text of the span up to where a search went, in no more steps than the words allow.
+-- the span up to where it went
+abbrev pub searched : AskedSpan → List ℕ → Option (List ℕ) → Went → SearchedSpan
+searched asked row branches went =
+    record { from = asked.from; until = row; branches = branches; steps = went.steps }
+
+-- This is so of a sink and the text of the span up to where a search went, in no more steps than the words allow. It is
+-- a span if the words ask for one and its members can be counted.
 pub record OfSpan (a : Named) (asked : AskedSpan) (went : Went)
     (says : SinkState → SinkState → List ℕ → Type 0) (old new : SinkState) : Type 0 where
   pub row : List ℕ
@@ -39,7 +46,9 @@ pub record OfSpan (a : Named) (asked : AskedSpan) (went : Went)
   pub goes : GoesTo a.puzzle asked row branches went
   pub few : went.steps ≤ most_steps asked.steps
   pub members : length (between a.puzzle asked.from (end_at row)) ≡ went.members
-  pub said : says old new (span_text a asked.listed asked.from row branches went.steps)
+  pub is_one : is_span asked.from asked.until ≡ true → went.members < 2 ^ 64
+      → IsSpan a (searched asked row branches went)
+  pub said : says old new (text_of a asked.listed (searched asked row branches went))
 
 -- What a run over a span returns: the sink took the text up to where it went; or it broke off in such a text; or, where
 -- there was no memory for the search, the sink wasn't touched.

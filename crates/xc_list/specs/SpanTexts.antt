@@ -7,6 +7,7 @@ use Rattle.xc_input.specs.Named.{Named}
 use Rattle.xc_search.specs.declared.choice.Choice.{Choice}
 use Rattle.xc_search.specs.Spans.{between}
 use Rattle.xc_list.specs.Output.{member_text}
+use Rattle.xc_list.specs.Digests.{digest_of}
 
 -- no more members are numbered or counted
 abbrev pub most_counted : ℕ
@@ -27,21 +28,31 @@ abbrev pub branches_text : Option (List ℕ) → List ℕ
 branches_text None = []
 branches_text (Some branches) = codes " of " ++ row_text branches
 
--- the record of a span: its first row and the one before which it ends, and how many solutions and steps it took
-abbrev pub record_text : List ℕ → List ℕ → Option (List ℕ) → ℕ → ℕ → List ℕ
-record_text from until branches solutions steps =
+-- of which problem a text is, by its digest, to the end of the line
+abbrev pub problem_part : List ℕ → List ℕ
+problem_part digest = codes " problem " ++ digest ++ codes "\n"
+
+-- the record of a span: its first row and the one before which it ends, how many solutions and steps it took, and the
+-- digest of the problem
+abbrev pub record_text : List ℕ → List ℕ → Option (List ℕ) → ℕ → ℕ → List ℕ → List ℕ
+record_text from until branches solutions steps digest =
     codes "from " ++ row_text from ++ codes " until " ++ row_text until ++ branches_text branches
-    ++ codes " solutions " ++ decimal solutions ++ codes " steps " ++ decimal steps ++ codes "\n"
+    ++ codes " solutions " ++ decimal solutions ++ codes " steps " ++ decimal steps ++ problem_part digest
+
+-- the heading of a listed span: its first row, and the digest of the problem
+abbrev pub heading_text : List ℕ → List ℕ → List ℕ
+heading_text from digest = codes "from " ++ row_text from ++ problem_part digest
 
 -- the texts of these members, numbered from 1
 abbrev pub members_text : Named → List (List Choice) → List ℕ
 members_text a ms = flat_map (member_text a) (enumerate_from 1 ms)
 
--- the line that names where a listed span begins, and its members
+-- the listing of these members: its heading, and their texts
 abbrev pub listing_text : Named → List ℕ → List (List Choice) → List ℕ
-listing_text a from ms = codes "from " ++ row_text from ++ codes "\n" ++ members_text a ms
+listing_text a from ms = heading_text from (digest_of a) ++ members_text a ms
 
 -- the text of the span between two rows: its listing, if it is listed, and its record
 abbrev pub span_text : Named → Bool → List ℕ → List ℕ → Option (List ℕ) → ℕ → List ℕ
 span_text a listed from until branches steps = let found = between a.puzzle from (end_at until) in
-    (if listed then listing_text a from found else []) ++ record_text from until branches (length found) steps
+    (if listed then listing_text a from found else [])
+    ++ record_text from until branches (length found) steps (digest_of a)

@@ -3,6 +3,7 @@ pub mod Checking
 pub mod Classes
 pub mod CoverCounts
 pub mod Ends
+pub mod Hashed
 pub mod Layout
 pub mod OptionIndex
 pub mod Pages

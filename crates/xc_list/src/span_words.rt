@@ -2,6 +2,7 @@
 ghost use Rattle.std.specs.Prelude.{◌≡◌, ◌==◌, IfOk, IsTrue, OnErr, map, option_map};
 ghost use Rattle.std.specs.List.{slice_split};
 ghost use Rattle.xc_search.specs.Spans.{precedes};
+ghost use Rattle.xc_list.specs.SearchedSpans.{AreSmall};
 ghost use Rattle.xc_list.specs.SpanTexts.{end_at};
 ghost use Rattle.xc_list.specs.SpanWords.{asked_of, listing_word, row_number, row_numbers, row_word, is_span};
 ghost use Rattle.xc_list.specs.SpanWords.{asked_rows, asked_words, read_span_words, take_memory};
@@ -155,13 +156,25 @@ impl SpanWords {
         }
     }
 
+    /// The row at which the span begins.
+    pub(crate) fn start(&self) -> &[u32]
+        ensures value { result.now ≡ self.now.from.items }
+        ensures small { AreSmall self.now.from.items }
+    {
+        // With a name it shows to the proof that its numbers fit their type.
+        let from = self.from.as_slice();
+        from
+    }
+
     /// The row before which the span ends, if not at the listing's end.
     pub fn end(&self) -> Option<&[u32]>
-        ensures { option_map (λ u. u.now) result ≡ end_at self.now.until.items }
+        ensures value { option_map (λ u. u.now) result ≡ end_at self.now.until.items }
+        ensures small { AreSmall self.now.until.items }
     {
-        if self.until.is_empty() {
+        let until = self.until.as_slice();
+        if until.is_empty() {
             return None;
         }
-        Some(&self.until)
+        Some(until)
     }
 }

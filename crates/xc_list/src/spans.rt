@@ -1,22 +1,30 @@
 //! A span of a listing, as far as a search of it goes.
-ghost use Rattle.std.specs.Prelude.{◌≡◌, ◌++◌, ◌-◌, ◌^◌, ◌<◌, ◌≤◌, [], All, MatchResult, map, flat_map};
+ghost use Rattle.std.specs.Prelude.{◌≡◌, ◌++◌, ◌-◌, ◌^◌, ◌<◌, ◌≤◌, [], All, MatchResult, map, flat_map, IfSome};
 ghost use Rattle.std.specs.Prelude.{take, codes};
 ghost use Rattle.xc_search.specs.Room.{room_for};
 ghost use Rattle.xc_search.specs.InSpan.{left_of};
+ghost use Rattle.xc_search.specs.Listing.{whole};
+ghost use Rattle.xc_search.specs.Nodes.{IsRowOf};
+ghost use Rattle.xc_input.specs.Named.{IsSound};
 ghost use Rattle.xc_list.specs.Known.{IsKnownChoice};
 ghost use Rattle.xc_list.specs.Texts.{seen, Writes, Took, BrokeOff};
-ghost use Rattle.xc_list.specs.SpanTexts.{row_text, end_at, members_text, listing_text};
+ghost use Rattle.xc_list.specs.SpanTexts.{row_text, end_at, members_text, listing_text, heading_text};
+ghost use Rattle.xc_list.specs.SpanTexts.{problem_part};
+ghost use Rattle.xc_list.specs.Digests.{digest_of};
+ghost use Rattle.xc_list.specs.SearchedSpans.{AreSmall};
 ghost use Rattle.xc_list.specs.SpanWords.{asked_of};
 ghost use Rattle.xc_list.specs.SpanRuns.{most_steps, OfSpan, AnswersSpan};
 ghost use Rattle.xc_list.specs.inner.SpanSteps.{dotted, numbers_text, text_at, row_in, branches_in, until_text};
-ghost use Rattle.xc_list.specs.inner.SpanSteps.{counts_text, told_text, WentOn, BeginsAt, written_text, SpanWritten};
+ghost use Rattle.xc_list.specs.inner.SpanSteps.{counts_text, rows_text, told_text, WentOn, BeginsAt, written_text};
+ghost use Rattle.xc_list.specs.inner.SpanSteps.{SpanWritten};
 
 use crate::bodies::Bodies;
+use crate::digest::problem_digest;
 use crate::page::ROOM;
 use crate::print::write_afresh;
 use crate::sink::Sink;
 use crate::span_words::SpanWords;
-use crate::write::{SinkFault, write_all, write_number, write_two_numbers};
+use crate::write::{SinkFault, write_all, write_number, write_numbered};
 use std::alloc::Global;
 use xc_dance::{Dance, Links};
 use xc_input::Problem;
@@ -29,6 +37,27 @@ pub enum SpanFault {
     Memory,
     /// A write of its text failed.
     WriteFailed,
+}
+
+/// What the text of a span has of its problem: the options as they are printed, and the digest.
+#[derive(Drop)]
+struct Texts<'a> {
+    bodies: Bodies<'a>,
+    digest: [u8; 16],
+    ghost same: { digest ≡ digest_of bodies },
+}
+
+impl<'a> Texts<'a> {
+    /// Those of a problem, whose solutions are listed or not.
+    fn new(alloc: Global, problem: &'a Problem, listed: bool) -> Texts<'a>
+        ensures value { result.bodies ≡ problem.now }
+        ensures whole { IsSound problem.now }
+    {
+        Texts {
+            bodies: Bodies::for_printing(alloc, problem, listed),
+            digest: problem_digest(problem),
+        }
+    }
 }
 
 /// Writes a number of a row after a point.
@@ -120,18 +149,21 @@ fn write_until<'a, D: Dance, S: Sink>(
     }
 }
 
-/// Writes the counts of a record, to the end of its line.
+/// Writes the counts of a record.
 fn write_counts<S: Sink>(went: &Went, sink: &mut S) -> Result<(), SinkFault>
     ensures { Writes (S.state sink.old) (S.state sink.new) result (counts_text went.now) }
 {
-    write_two_numbers(
-        sink,
-        b" solutions ",
-        went.members,
-        b" steps ",
-        went.steps,
-        b"\n",
-    )
+    write_numbered(sink, b" solutions ", went.members, b" steps ")?;
+    write_number(sink, went.steps)
+}
+
+/// Writes of which problem a text is, to the end of the line.
+fn write_problem_part<S: Sink>(digest: &[u8], sink: &mut S) -> Result<(), SinkFault>
+    ensures { Writes (S.state sink.old) (S.state sink.new) result (problem_part digest.now) }
+{
+    write_all(sink, b" problem ")?;
+    write_all(sink, digest)?;
+    write_all(sink, b"\n")
 }
 
 /// Writes where a span begins.
@@ -142,20 +174,43 @@ fn write_from<S: Sink>(from: &[u32], sink: &mut S) -> Result<(), SinkFault>
     write_row(from, sink)
 }
 
+/// Writes the heading of a listed span.
+fn write_heading<S: Sink>(from: &[u32], digest: &[u8], sink: &mut S) -> Result<(), SinkFault>
+    ensures { Writes (S.state sink.old) (S.state sink.new) result (heading_text from.now digest.now) }
+{
+    write_from(from, sink)?;
+    write_problem_part(digest, sink)
+}
+
+/// Writes a span's two rows, as far as its search went.
+fn write_rows<'a, D: Dance, S: Sink>(
+    span: &Span<'a, D>,
+    halt: Halt,
+    words: &SpanWords,
+    sink: &mut S,
+) -> Result<(), SinkFault>
+    ensures { Writes (S.state sink.old) (S.state sink.new)
+        result (rows_text span.now words.now.from.items words.now.until.items halt) }
+{
+    write_from(&words.from, sink)?;
+    write_all(sink, b" until ")?;
+    write_until(span, halt, &words.until, sink)
+}
+
 /// Writes the record of a span.
 fn write_record<'a, D: Dance, S: Sink>(
     span: &Span<'a, D>,
     went: &Went,
-    from: &[u32],
-    until: &[u32],
+    words: &SpanWords,
+    digest: &[u8],
     sink: &mut S,
 ) -> Result<(), SinkFault>
-    ensures { Writes (S.state sink.old) (S.state sink.new) result (told_text span.now from.now until.now went.now) }
+    ensures { Writes (S.state sink.old) (S.state sink.new)
+        result (told_text span.now words.now.from.items words.now.until.items went.now digest.now) }
 {
-    write_from(from, sink)?;
-    write_all(sink, b" until ")?;
-    write_until(span, went.halt, until, sink)?;
-    write_counts(went, sink)
+    write_rows(span, went.halt, words, sink)?;
+    write_counts(went, sink)?;
+    write_problem_part(digest, sink)
 }
 
 /// Writes the members of a span that its search comes to, numbered from 1, and answers how far it went.
@@ -167,12 +222,14 @@ fn write_each<'a, D: Dance, S: Sink>(
 ) -> Result<Went, SinkFault>
     requires known { All (All (IsKnownChoice bodies.now.puzzle)) (left_of span.old) }
     requires some { 0 < most }
+    requires node { IfSome span.old.row (λ row. IsRowOf (whole span.old.puzzle) row) }
     ensures still { span.new ≡ record span.old {
       row = span.new.row;
       shown = span.new.shown;
       made = span.new.made;
       begun = span.new.begun;
     } }
+    ensures node { IfSome span.new.row (λ row. IsRowOf (whole span.new.puzzle) row) }
     ensures wrote { MatchResult result
         (λ went. WentOn span.old.puzzle span.old.until span.old.row span.new.row most went ×
         Took (S.state sink.old) (S.state sink.new)
@@ -202,32 +259,33 @@ fn write_each<'a, D: Dance, S: Sink>(
     })
 }
 
-/// Writes where a span begins and the members that its search comes to, and answers how far it went.
+/// Writes the heading of a span and the members that its search comes to, and answers how far it went.
 fn write_listing<'a, D: Dance, S: Sink>(
     span: &mut Span<'a, D>,
-    bodies: &Bodies,
+    texts: &Texts,
     from: &[u32],
     most: u64,
     sink: &mut S,
 ) -> Result<Went, SinkFault>
-    requires known { All (All (IsKnownChoice bodies.now.puzzle)) (left_of span.old) }
+    requires known { All (All (IsKnownChoice texts.now.bodies.puzzle)) (left_of span.old) }
     requires some { 0 < most }
+    requires node { IfSome span.old.row (λ row. IsRowOf (whole span.old.puzzle) row) }
     ensures still { span.new ≡ record span.old {
       row = span.new.row;
       shown = span.new.shown;
       made = span.new.made;
       begun = span.new.begun;
     } }
+    ensures node { IfSome span.new.row (λ row. IsRowOf (whole span.new.puzzle) row) }
     ensures wrote { MatchResult result
         (λ went. WentOn span.old.puzzle span.old.until span.old.row span.new.row most went ×
         Took (S.state sink.old) (S.state sink.new)
-        (listing_text bodies.now from.now (take went.members (left_of span.old))))
+        (listing_text texts.now.bodies from.now (take went.members (left_of span.old))))
         (λ _. BrokeOff (S.state sink.old) (S.state sink.new)
-        (listing_text bodies.now from.now (left_of span.old))) }
+        (listing_text texts.now.bodies from.now (left_of span.old))) }
 {
-    write_from(from, sink)?;
-    write_all(sink, b"\n")?;
-    write_each(span, bodies, most, sink)
+    write_heading(from, &texts.digest, sink)?;
+    write_each(span, &texts.bodies, most, sink)
 }
 
 /// Passes over the members of a span that its search comes to, and answers how far it went.
@@ -239,6 +297,7 @@ fn count<'a, D: Dance>(span: &mut Span<'a, D>, most: u64) -> Went
       made = span.new.made;
       begun = span.new.begun;
     } }
+    ensures node { IfSome span.new.row (λ row. IsRowOf (whole span.new.puzzle) row) }
     ensures went { WentOn span.old.puzzle span.old.until span.old.row span.new.row most result }
 {
     span.go_on(u64::MAX, most)
@@ -247,27 +306,30 @@ fn count<'a, D: Dance>(span: &mut Span<'a, D>, most: u64) -> Went
 /// Goes on as far as the words allow, writes the listing if it is wanted, and returns how far it went.
 fn write_members<'a, D: Dance, S: Sink>(
     span: &mut Span<'a, D>,
-    bodies: &Bodies,
+    texts: &Texts,
     words: &SpanWords,
     sink: &mut S,
 ) -> Result<Went, SinkFault>
-    requires known { All (All (IsKnownChoice bodies.now.puzzle)) (left_of span.old) }
+    requires known { All (All (IsKnownChoice texts.now.bodies.puzzle)) (left_of span.old) }
+    requires node { IfSome span.old.row (λ row. IsRowOf (whole span.old.puzzle) row) }
     ensures still { span.new ≡ record span.old {
       row = span.new.row;
       shown = span.new.shown;
       made = span.new.made;
       begun = span.new.begun;
     } }
+    ensures node { IfSome span.new.row (λ row. IsRowOf (whole span.new.puzzle) row) }
+    ensures small { words.now.steps < 2 ^ 64 }
     ensures wrote { MatchResult result
         (λ went. WentOn span.old.puzzle span.old.until span.old.row span.new.row
         (most_steps words.now.steps) went × Took (S.state sink.old) (S.state sink.new)
-        (written_text bodies.now words.now.listed words.now.from.items (take went.members (left_of span.old))))
+        (written_text texts.now.bodies words.now.listed words.now.from.items (take went.members (left_of span.old))))
         (λ _. BrokeOff (S.state sink.old) (S.state sink.new)
-        (written_text bodies.now words.now.listed words.now.from.items (left_of span.old))) }
+        (written_text texts.now.bodies words.now.listed words.now.from.items (left_of span.old))) }
 {
     let most = most_steps(words.steps);
     if words.listed {
-        write_listing(span, bodies, &words.from, most, sink)
+        write_listing(span, texts, &words.from, most, sink)
     } else {
         Ok(count(span, most))
     }
@@ -277,6 +339,7 @@ fn write_members<'a, D: Dance, S: Sink>(
 fn most_steps(steps: u64) -> u64
     ensures most { result ≡ most_steps steps }
     ensures some { 0 < result }
+    ensures small { steps < 2 ^ 64 }
 {
     if steps == 0 { u64::MAX } else { steps }
 }
@@ -284,21 +347,24 @@ fn most_steps(steps: u64) -> u64
 /// Writes the text of a span whose search was just begun, up to where it goes.
 fn write_span<'a, D: Dance, S: Sink>(
     span: &mut Span<'a, D>,
-    bodies: &Bodies,
+    texts: &Texts,
     words: &SpanWords,
     sink: &mut S,
 ) -> Result<Went, SinkFault>
-    requires begun { BeginsAt bodies.now.puzzle words.now.from.items (end_at words.now.until.items) span.old }
+    requires sound { IsSound texts.now.bodies }
+    requires from { AreSmall words.now.from.items }
+    requires until { AreSmall words.now.until.items }
+    requires begun { BeginsAt texts.now.bodies.puzzle words.now.from.items (end_at words.now.until.items) span.old }
     ensures still { span.new ≡ record span.old {
       row = span.new.row;
       shown = span.new.shown;
       made = span.new.made;
       begun = span.new.begun;
     } }
-    ensures wrote { SpanWritten bodies.now (asked_of words.now) (S.state sink.old) (S.state sink.new) result }
+    ensures wrote { SpanWritten texts.now.bodies (asked_of words.now) (S.state sink.old) (S.state sink.new) result }
 {
-    let went = write_members(span, bodies, words, sink)?;
-    write_record(span, &went, &words.from, &words.until, sink)?;
+    let went = write_members(span, texts, words, sink)?;
+    write_record(span, &went, words, &texts.digest, sink)?;
     Ok(went)
 }
 
@@ -324,12 +390,12 @@ pub fn list_span_over<D: Dance, S: Sink>(
     ensures span { AnswersSpan problem.now (asked_of words.now)
         (seen S.state sink.old) (seen S.state sink.new) result.1 }
 {
-    let mut span = match Span::new(alloc, dance, problem, &words.from, words.end()) {
+    let mut span = match Span::new(alloc, dance, problem, words.start(), words.end()) {
         Ok(span) => span,
         Err((dance, _)) => return (dance, Err(SpanFault::Memory)),
     };
-    let bodies = Bodies::for_printing(alloc, problem, words.listed);
-    let wrote = write_span(&mut span, &bodies, words, sink);
+    let texts = Texts::new(alloc, problem, words.listed);
+    let wrote = write_span(&mut span, &texts, words, sink);
     let dance = span.close();
     match wrote {
         Ok(went) => (dance, Ok(went)),

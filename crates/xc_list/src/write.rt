@@ -67,7 +67,7 @@ pub fn write_number<S: Sink>(sink: &mut S, n: u64) -> Result<(), SinkFault>
 }
 
 /// Writes a number in decimal between two texts.
-fn write_numbered<S: Sink>(
+pub fn write_numbered<S: Sink>(
     sink: &mut S,
     before: &[u8],
     n: u64,

@@ -4,6 +4,7 @@ use Rattle.std.specs.Prelude.{Option, Some, None, IfSome, IsSomeAnd, unwrap_or, 
 use Rattle.xc_input.specs.Problem.{Puzzle}
 use Rattle.xc_search.specs.Listing.{whole}
 use Rattle.xc_search.specs.Spans.{precedes, between}
+use Rattle.xc_search.specs.Nodes.{IsRowOf}
 use Rattle.xc_search.specs.InSpan.{InSpan, left_of, row_or_end, branches_along}
 use Rattle.xc_search.specs.declared.span.Halt.{Halt}
 use Rattle.xc_search.specs.declared.span.Went.{Went}
@@ -11,7 +12,7 @@ use Rattle.xc_search.specs.declared.span.Halt.TheVariants.{Member, End, Steps}
 use Rattle.std.specs.Prelude.{Bool, IsSome, option_map, Result, MatchResult}
 use Rattle.xc_input.specs.Named.{Named}
 use Rattle.xc_search.specs.declared.choice.Choice.{Choice}
-use Rattle.xc_list.specs.SpanTexts.{row_text, listing_text}
+use Rattle.xc_list.specs.SpanTexts.{row_text, listing_text, problem_part}
 use Rattle.xc_list.specs.SpanWords.{AskedSpan}
 use Rattle.xc_list.specs.SpanRuns.{OfSpan}
 use Rattle.xc_list.specs.Texts.{SinkState, Took, BrokeOff}
@@ -41,15 +42,17 @@ abbrev pub until_text : InSpan → List ℕ → Halt → List ℕ
 until_text s until End = row_text until
 until_text s until _ = numbers_text (row_in s) ++ codes " of " ++ numbers_text (branches_in s)
 
--- the counts of a record, to the end of its line
+-- the counts of a record
 abbrev pub counts_text : Went → List ℕ
-counts_text went =
-    codes " solutions " ++ decimal went.members ++ codes " steps " ++ decimal went.steps ++ codes "\n"
+counts_text went = codes " solutions " ++ decimal went.members ++ codes " steps " ++ decimal went.steps
 
--- the record of a search that went so
-abbrev pub told_text : InSpan → List ℕ → List ℕ → Went → List ℕ
-told_text s from until went =
-    codes "from " ++ row_text from ++ codes " until " ++ until_text s until went.halt ++ counts_text went
+-- the two rows of a record, of a search that halted so
+abbrev pub rows_text : InSpan → List ℕ → List ℕ → Halt → List ℕ
+rows_text s from until halt = codes "from " ++ row_text from ++ codes " until " ++ until_text s until halt
+
+-- the record of a search that went so, of the problem of this digest
+abbrev pub told_text : InSpan → List ℕ → List ℕ → Went → List ℕ → List ℕ
+told_text s from until went digest = rows_text s from until went.halt ++ counts_text went ++ problem_part digest
 
 -- what is written of members, if they are listed
 abbrev pub written_text : Named → Bool → List ℕ → List (List Choice) → List ℕ
@@ -78,6 +81,7 @@ pub record BeginsAt (p : Puzzle) (from : List ℕ) (end : Option (List ℕ)) (s 
   pub until : s.until ≡ end
   pub left : left_of s ≡ between p from end
   pub row : IfSome s.row (λ row. (precedes row from ≡ false) × (between p from (Some row) ≡ []))
+  pub node : IfSome s.row (λ row. IsRowOf (whole p) row)
 
 -- What the text of a span came to.
 abbrev pub SpanWritten : {E : Type 0} → Named → AskedSpan → SinkState → SinkState → Result Went E → Type 0

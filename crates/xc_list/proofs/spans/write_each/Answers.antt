@@ -26,7 +26,7 @@ next g c is = (to_member _ _ _ _ _ _ _ _ _ _ _ c.loop-members.invariant.ahead (w
 
 pub loop-members-init : goal.loop-members-init
 loop-members-init g c =
-    record { still = refl; ahead = none_passed _ _ _ _; taken = took_nothing _ }
+    record { still = refl; node = c.requires.node; ahead = none_passed _ _ _ _; taken = took_nothing _ }
 
 pub write_afresh-requires-clause-known : goal.write_afresh-requires-clause-known
 write_afresh-requires-clause-known g c =
@@ -48,6 +48,7 @@ returns-in_default g c =
     let ahead = c.loop-members.invariant.ahead in
     record {
       still = grind arith;
+      node = c.go_on-went.ensures.node;
       wrote = (
         elim (halts c.go_on-went.result.halt c.in_default.not-Member) [
           | inl is ↦ to_end _ _ _ _ _ _ _ _ _ _ _ ahead went is
@@ -64,6 +65,7 @@ loop-members-preserved g c =
     let text = rw c.choices.ensures at c.in_ok-write_afresh-in-Member.ensures.written in
     record {
       still = grind arith;
+      node = at.go_on-went.ensures.node;
       ahead = (to_member _ _ _ _ _ _ _ _ _ _ _ c.loop-members.invariant.ahead (went g at)
           c.in-Member.is).1;
       taken = rw (texts_next (member_text c.args.bodies.now) ms c.loop-members.members (next g at c.in-Member.is))

@@ -1,3 +1,6 @@
+use Rattle.std.specs.Prelude.{IfSome}
+use Rattle.xc_search.specs.Listing.{whole}
+use Rattle.xc_search.specs.Nodes.{IsRowOf}
 use Rattle.xc_search.specs.InSpan.{left_of}
 use Rattle.xc_list.specs.Output.{member_text}
 use Rattle.xc_list.specs.Texts.{Took}
@@ -11,6 +14,7 @@ abbrev pub invariant-loop-members : goal.invariant-loop-members
 invariant-loop-members g l = record {
   still : l.span ≡ record l.fn.span
       { row = l.span.row; shown = l.span.shown; made = l.span.made; begun = l.span.begun };
+  node : IfSome l.span.row (λ row. IsRowOf (whole l.span.puzzle) row);
   ahead : IsAhead l.fn.span.puzzle l.fn.span.until l.fn.span.row l.span.row l.most l.members l.steps;
   taken : Took (g.S.Sink.state l.fn.sink) (g.S.Sink.state l.sink)
       (first_texts (member_text l.bodies) (left_of l.fn.span) l.members);
