@@ -12,6 +12,7 @@ import subprocess
 import sys
 import tempfile
 import threading
+import time
 import unittest
 from concurrent.futures import Executor, Future, ProcessPoolExecutor, ThreadPoolExecutor
 from unittest import mock
@@ -122,6 +123,34 @@ class Rows(unittest.TestCase):
         self.assertEqual([piece.start for piece in cut(WHOLE._replace(start=(1,)), (8,), 4)], [(1,), (3,), (5,), (7,)])
         self.assertEqual(len(cut(WHOLE._replace(start=(1, 1)), (2, 3), 9)), 4)
         self.assertEqual(len(cut(WHOLE._replace(start=(1,)), (1,), 9)), 1)
+
+    def test_a_level_of_many_branches_is_cut(self):
+        """Though each branch is a small part of the span, some of them together aren't."""
+        rest = Span((2831,), None, place((2831,), (9000,)), PARTS)
+        pieces = cut(rest, (9000,), 8)
+        self.assertEqual([len(piece.start) for piece in pieces], [1] * 8)
+        sizes = [piece.ends - piece.begins for piece in pieces]
+        self.assertLess(max(sizes) / min(sizes), 1.01)
+        # No level is cut whose branches are a small part of it even together.
+        self.assertEqual(cut(rest._replace(start=(2831, 1, 5)), (9000, 1, 9), 8)[0].until, (3603,))
+        last = Span((8999, 2000), None, place((8999, 2000), (9000, 2001)), PARTS)
+        self.assertEqual([piece.start for piece in cut(last, (9000, 2001), 8)], [(8999, 2000), (9000,)])
+
+    def test_rows_of_many_numbers_are_cheap(self):
+        """What is done for a record takes twice as long where its rows are twice as long."""
+
+        def used(levels):
+            row, branches = (1,) * levels, (2,) * levels
+            line = f"from {word_of(row)} until {word_of((*row[1:], 2))} of {word_of(branches)} solutions 7 steps 9\n"
+            part = Span(row, None, place(row, branches), PARTS)
+            begun = time.process_time()
+            found = record.of_text(line.encode(), part, False)
+            at = place(found.until, found.branches)
+            cut(Span(found.until, None, at, PARTS), found.branches, 8)
+            return time.process_time() - begun
+
+        short, long = (min(used(levels) for _ in range(5)) for levels in (10_000, 40_000))
+        self.assertLess(long / short, 10)
 
     def test_gaps(self):
         self.assertEqual(folders.gaps([]), [WHOLE])

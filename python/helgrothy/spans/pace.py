@@ -3,7 +3,7 @@
 from __future__ import annotations
 
 # The first run takes so many, and tells the numbers of branches by which the rest is cut.
-_FIRST = 5_000
+_FIRST = 500
 # Before anything was measured, steps of a second.
 _GUESS = 1_000_000.0
 _MOST_STEPS = 1 << 62
