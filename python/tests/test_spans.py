@@ -210,15 +210,26 @@ class Paces(unittest.TestCase):
         def seconds(elapsed, rest, left=float("inf")):
             return pace.steps(elapsed, rest, left) / 500_000
 
-        # Half of the time that it has taken, where nothing is known of the rest, and else a third of that.
+        # Half of the time that it has taken, where nothing is known of the rest, and else a third of that; and not all
+        # of what is left of the time that it may take.
         self.assertAlmostEqual(seconds(2.0, None), 1.0, delta=0.1)
         self.assertAlmostEqual(seconds(2.0, 100.0), 1.0, delta=0.1)
         self.assertAlmostEqual(seconds(2.0, 1.5), 0.5, delta=0.05)
         self.assertAlmostEqual(seconds(20.0, 0.0), 0.5, delta=0.05)
         self.assertAlmostEqual(seconds(0.0, None), 0.1, delta=0.01)
         self.assertAlmostEqual(seconds(1e6, 1e6), 10, delta=1)
-        self.assertLessEqual(seconds(1e6, 1e6, 0.5), 0.6)
+        self.assertLessEqual(seconds(1e6, 1e6, 0.5), 0.45)
         self.assertEqual(pace.steps(1e6, None, -1.0), 1)
+
+    def test_little_is_lost_where_a_run_is_stopped(self):
+        """A second, of a search of hours a 3600th of its time, and no more than 33 times what it takes to start."""
+        for start, elapsed, least, most in ((0.001, 12.0, 0.9, 1.1), (0.001, 7200.0, 1.8, 2.2), (0.1, 12.0, 2.5, 3.4)):
+            pace = Pace(0, workers.Own.longest)
+            for _ in range(30):
+                steps = pace.steps(elapsed, None, float("inf"))
+                pace.took(steps, start + steps / 500_000, 50)
+            seconds = pace.steps(elapsed, 1e6, float("inf")) / 500_000
+            self.assertTrue(least < seconds < most, (start, elapsed, seconds))
 
     def test_a_slow_start(self):
         pace = Pace(0)

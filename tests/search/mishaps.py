@@ -9,7 +9,7 @@ import subprocess
 import tempfile
 import time
 
-from .trial import CANT, LONG, MOST_JOBS, NOT_DONE, TOP, Wrong
+from .trial import CANT, LONG, MOST_JOBS, NOT_DONE, TOP, Look, Wrong, queens
 
 KILLS = [signal.SIGKILL, signal.SIGTERM, signal.SIGINT, signal.SIGHUP]
 
@@ -107,6 +107,33 @@ def group_is_interrupted(trial):
         if trial.spans_begun() > begun + 2 * MOST_JOBS:
             raise Wrong("it didn't stop at once")
         trial.finish()
+
+
+def interrupted_late(trial):
+    """Of what the programs have done little is in no record, after ^C, SIGTERM or the end of the time."""
+    trial.kind, trial.listed, trial.text = 1, False, queens.problem(20).text.encode()
+    trial.write(trial.text)
+    trial.stand_in(f'#!/bin/sh\nexec {shutil.which("dlx-span")} "$@"\n')
+    seconds, jobs = trial.rng.uniform(3, 15), trial.rng.randint(1, MOST_JOBS)
+    way = trial.rng.choice([signal.SIGINT, signal.SIGTERM, None])
+    words = ["search", trial.path, "--jobs", str(jobs), *(["--seconds", str(seconds)] if way is None else [])]
+    process = trial.start(words)
+    if way is not None:
+        while not trial.has_begun() and process.poll() is None:
+            time.sleep(0.01)
+        time.sleep(seconds)
+        os.killpg(process.pid, way)
+    told = process.stderr.read()
+    used = os.wait4(process.pid, 0)[2]
+    process.returncode = 0
+    if way is None and not trial.has_begun():
+        return False
+    kept = sum(entry.seconds for entry in Look(trial.folder).entries.values())
+    lost = used.ru_utime + used.ru_stime - kept
+    trial.say(f"{jobs} workers, {seconds:.1f} seconds, {way}: {lost:.2f} of {kept + lost:.2f} are lost; {told!r}")
+    # Python itself takes some, and where the steps are slower than those before them a span takes longer.
+    if b"the same command goes on" not in told or lost > 1 + 1.5 * jobs:
+        raise Wrong("much is lost")
 
 
 def workers_are_killed(trial):
@@ -501,6 +528,7 @@ NAMES = [
     "killed_as_it_begins",
     "folders_of_others",
     "group_is_interrupted",
+    "interrupted_late",
     "workers_are_killed",
     "stopped_and_continued",
     "two_commands",

@@ -172,7 +172,8 @@ class _Searching:
         if not todo:
             return 0
         with self._workers() as workers:
-            self._loop = Loop(self._job, workers.submit, workers.count, self._keep, self._tell, workers.ahead)
+            own = self._keep, self._tell
+            self._loop = Loop(self._job, workers.submit, workers.count, *own, workers.ahead, workers.longest)
             self._loop.done_before(self._folder.parts, self._folder.solutions)
             try:
                 is_done = self._loop.search(list(todo), self._seconds())
