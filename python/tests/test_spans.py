@@ -26,9 +26,10 @@ from helgrothy.spans.folder import Folder
 from helgrothy.spans.loop import Job, Kept, Loop
 from helgrothy.spans.pace import Pace
 from helgrothy.spans.rows import PARTS, WHOLE, Span, cut, place, read, share_of, word_of
-from tests.problems import narrow, problem_of
+from tests.problems import digest_of, narrow, problem_of
 
 QUEENS = make.queens.problem(7).text.encode()
+DIGEST = digest_of(QUEENS)
 FIFTH = PARTS // 5
 
 
@@ -141,7 +142,7 @@ class Rows(unittest.TestCase):
 
         def used(levels):
             row, branches = (1,) * levels, (2,) * levels
-            line = f"from {word_of(row)} until {word_of((*row[1:], 2))} of {word_of(branches)} solutions 7 steps 9\n"
+            line = f"from {word_of(row)} until {word_of((*row[1:], 2))} of {word_of(branches)} solutions 7 steps 9 problem {DIGEST}\n"
             part = Span(row, None, place(row, branches), PARTS)
             begun = time.process_time()
             found = record.of_text(line.encode(), part, False)
@@ -173,29 +174,54 @@ class Records(unittest.TestCase):
     def test_what_is_refused(self):
         part = Span((3,), (4, 1), 0, PARTS)
         right = [
-            (b"from 3 until 4.1 solutions 7 steps 9\n", False, ((4, 1), (), 7)),
-            (b"from 3 until 3.2.1 of 8.9.2 solutions 0 steps 9\n", False, ((3, 2, 1), (8, 9, 2), 0)),
-            (b"from 3\n1:\n a (1 of 1)\nfrom 3 until 4.1 solutions 1 steps 9\n", True, ((4, 1), (), 1)),
+            (b"from 3 until 4.1 solutions 7 steps 9%s\n", False, ((4, 1), (), 7)),
+            (b"from 3 until 3.2.1 of 8.9.2 solutions 0 steps 9%s\n", False, ((3, 2, 1), (8, 9, 2), 0)),
+            (b"from 3%s\n1:\n a (1 of 1)\nfrom 3 until 4.1 solutions 1 steps 9%s\n", True, ((4, 1), (), 1)),
         ]
-        for given, listed, wanted in right:
-            found = record.of_text(given, part, listed)
-            self.assertEqual((found.until, found.branches, found.solutions), wanted)
+        digest = "0123456789abcdef"
+        of, other = (b" problem " + word.encode() for word in (digest, "f" * 16))
+        for line, listed, wanted in right:
+            given = line.replace(b"%s", of)
+            for known in ("", digest):
+                found = record.of_text(given, part, listed, known)
+                self.assertEqual((found.until, found.branches, found.solutions, found.digest), (*wanted, digest))
+            with self.assertRaisesRegex(SearchFault, "a text of another problem"):
+                record.of_text(given, part, listed, "f" * 16)
+            # Some of it, all without a digest, and one of another problem in a line of two.
+            for wrong in (line.replace(b"%s", b""), given.replace(digest.encode(), digest.upper().encode()), given[:-2] + b"\n"):
+                with self.assertRaises(SearchFault):
+                    record.of_text(wrong, part, listed)
+            if listed:
+                with self.assertRaises(SearchFault):
+                    record.of_text(given.replace(of, other, 1), part, listed)
             for at in range(len(given)):
                 with self.assertRaises(SearchFault):
                     record.of_text(given[:at], part, listed)
         for given in (
-            b"from 3 until 4 solutions 7 steps 9\n",
-            b"from 2 until 4.1 solutions 7 steps 9\n",
-            b"from 3 until 4.1 of 8.8 solutions 7 steps 9\n",
-            b"from 3 until 3 of 8 solutions 7 steps 9\n",
-            b"from 3 until 5 of 8 solutions 7 steps 9\n",
-            b"from 3 until 3.1 of 8 solutions 7 steps 9\n",
-            b"from 3 until 4.1 solutions -7 steps 9\n",
-            b"from 3\nfrom 3 until 4.1 solutions 7 steps 9\n",
+            b"from 3 until 4 solutions 7 steps 9%s\n",
+            b"from 2 until 4.1 solutions 7 steps 9%s\n",
+            b"from 3 until 4.1 of 8.8 solutions 7 steps 9%s\n",
+            b"from 3 until 3 of 8 solutions 7 steps 9%s\n",
+            b"from 3 until 5 of 8 solutions 7 steps 9%s\n",
+            b"from 3 until 3.1 of 8 solutions 7 steps 9%s\n",
+            b"from 3 until 4.1 solutions -7 steps 9%s\n",
+            b"from 3%s\nfrom 3 until 4.1 solutions 7 steps 9%s\n",
             b"\n",
         ):
             with self.subTest(given=given), self.assertRaises(SearchFault):
-                record.of_text(given, part, False)
+                record.of_text(given.replace(b"%s", of), part, False)
+
+    def test_the_digest_of_a_problem(self):
+        """It is that of the problem as it was read, and not of its text."""
+        rng = random.Random(12)
+        for kind in (1, 2, 3):
+            for _ in range(20):
+                problem = problem_of(rng, kind)
+                for listed in (False, True):
+                    ran = span.run(span.Task(kind, listed, problem, "-", "-", rng.randint(0, 9), 0))
+                    self.assertEqual(record.of_text(ran.text, WHOLE, listed).digest, digest_of(problem), problem)
+        self.assertEqual(digest_of(b"| a remark\n\nA  | x\n\tx A\r\nx\n"), digest_of(b"A |x\nx A"))
+        self.assertNotEqual(digest_of(b"A B\nA B\n"), digest_of(b"A B\nB A\n"))
 
 
 class Paces(unittest.TestCase):
@@ -435,6 +461,21 @@ class Loops(unittest.TestCase):
         with mock.patch.object(loop, "__version__", "0.0.9"), self.assertRaisesRegex(SearchFault, "version"):
             make.queens.problem(6).count(jobs=1)
 
+    def test_texts_of_another_problem(self):
+        """As by a worker that reads another file; the first text says which it is, or who began the search."""
+        others = iter([QUEENS, b"A\nA\n"])
+
+        def submit(task, done):
+            done(span.run(task._replace(problem=next(others))))
+            return lambda: None
+
+        for job, count in ((Job(QUEENS, 1, False), 1), (Job(b"", 1, False, digest_of(b"A\nA\nA\n")), 0)):
+            kept: list = []
+            with mock.patch.object(Pace, "steps", lambda *_: 50), self.assertRaisesRegex(SearchFault, "of another problem"):
+                Loop(job, submit, lambda: 1, kept.append, None).search([WHOLE])
+            self.assertEqual(len(kept), count)
+            others = iter([QUEENS])
+
     def test_a_fault_comes_at_once(self):
         job = Job(b"A\nB\n", 1, False)
         search = Loop(job, loop.submitting(Reversed(0.0, 1)), lambda: 1, lambda _: None, None)
@@ -560,7 +601,7 @@ class Folders(unittest.TestCase):
         top = tempfile.TemporaryDirectory()
         self.addCleanup(top.cleanup)
         self.path = os.path.join(top.name, "q.search")
-        self.job = Job(QUEENS, 1, listed=False)
+        self.job = Job(QUEENS, 1, False, DIGEST, "q.dlx")
 
     def fill(self, job=None, flushes=1):
         """Some spans that are done, of which the second is left."""
@@ -618,20 +659,35 @@ class Folders(unittest.TestCase):
         self.assertIn("99.9 % done", out.getvalue())
 
     def test_a_listing_stays_in_files(self):
-        self.assertEqual(len(self.fill(Job(QUEENS, 1, True), flushes=3)), 3)
+        self.assertEqual(len(self.fill(self.job._replace(listed=True), flushes=3)), 3)
 
     def test_another_search_is_refused(self):
         self.fill()
-        for job, what in (
-            (Job(QUEENS + b"\n", 1, False), "another problem"),
-            (Job(QUEENS, 2, False), "the program dlx1, not dlx2"),
-            (Job(QUEENS, 1, True), "a search that counts solutions"),
+        for change, what in (
+            ({"problem": b"A\nA\n", "digest": digest_of(b"A\nA\n"), "name": "a.dlx"}, "another problem than a.dlx"),
+            ({"kind": 2}, "the program dlx1, not dlx2"),
+            ({"listed": True}, "a search that counts solutions"),
         ):
+            job = self.job._replace(**change)
             with self.assertRaisesRegex(SearchFault, f"{self.path}: it is of {what}"):
                 Folder(self.path, job)
         told = "of version 0.1.0"
         with mock.patch.object(about, "__version__", "0.0.9"), self.assertRaisesRegex(SearchFault, told):
             Folder(self.path, self.job)
+
+    def test_a_text_with_other_remarks_is_the_same_problem(self):
+        self.fill()
+        changed = self.job._replace(problem=b"| a remark\n" + QUEENS)
+        for job in (changed, self.job):
+            with Folder(self.path, job) as folder:
+                self.assertEqual((folder.problem(), len(folder.todo())), (QUEENS, 1))
+                folder.check()
+        path = os.path.join(self.path, "problem.dlx")
+        os.remove(path)
+        with self.assertRaisesRegex(SearchFault, f"{path}: it is gone, and q.dlx isn't as it was"):
+            Folder(self.path, changed)
+        with Folder(self.path, self.job) as folder:
+            self.assertEqual(folder.problem(), QUEENS)
 
     def test_a_folder_of_another_form(self):
         """As an earlier version wrote it, whose number may be the same."""
@@ -639,7 +695,7 @@ class Folders(unittest.TestCase):
         path = os.path.join(self.path, "helgrothy.search")
         with open(path) as file:
             right = file.read()
-        for first in ("helgrothy search", "helgrothy search, form 1", "helgrothy search, form 3"):
+        for first in ("helgrothy search", "helgrothy search, form 2", "helgrothy search, form 4"):
             with open(path, "w") as file:
                 file.write(right.replace(right.partition("\n")[0], first))
             for how in ({"job": self.job}, {"is_read": True}):
@@ -786,7 +842,7 @@ class Folders(unittest.TestCase):
         mine = {name: b"mine" for name in ("20261128.tmp", "search.tmp", "problem.dlx.tmp", "lock", "search", "notes")}
         other = self.path + ".other"
         self.path, path = other, self.path
-        name = self.fill(Job(QUEENS, 1, listed=True), flushes=2)[-1]
+        name = self.fill(self.job._replace(listed=True), flushes=2)[-1]
         self.path = path
         for one, given in mine.items():
             with open(os.path.join(self.path, one), "wb") as file:
@@ -879,7 +935,7 @@ class Folders(unittest.TestCase):
         name = self.fill()[0]
         other = f"{self.path}.other"
         shutil.move(self.path, other)
-        with Folder(self.path, Job(QUEENS + b"| the same\n", 1, False)):
+        with Folder(self.path, self.job._replace(problem=QUEENS + b"| the same\n")):
             pass
         shutil.copy(os.path.join(other, name), self.path)
         with self.assertRaisesRegex(SearchFault, f"{name}: it is damaged, or of another search"):

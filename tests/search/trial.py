@@ -57,7 +57,7 @@ class Trial:
         self.whole = done.stdout, done.stderr
         self.bin = os.path.join(self.top, "bin")
         told = subprocess.run(["dlx-span", str(self.kind), "m0", "0", "-", "-"], input=self.text, capture_output=True)
-        most = max(int(told.stdout.split()[-1]) // SPANS, 1)
+        most = max(int(told.stdout.split()[-3]) // SPANS, 1)
         self.begun = os.path.join(self.top, "begun")
         how = {"begun": self.begun, "pause": rng.randint(1, 7), "most": most, "program": shutil.which("dlx-span")}
         self.slow = SLOW.format(**how)
@@ -215,7 +215,7 @@ class Trial:
         """Whether the folder is that of a search: its first file is whole."""
         try:
             with open(os.path.join(self.folder, "helgrothy.search"), "rb") as file:
-                return file.read().count(b"\n") == 6
+                return file.read().count(b"\n") == 7
         except OSError:
             return False
 

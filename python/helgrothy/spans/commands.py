@@ -103,8 +103,7 @@ def _search(arguments: argparse.Namespace) -> int:
     except ProgramFailed as error:
         return _failed(error)
     except OutOfTime:
-        name = "standard input" if arguments.problem == "-" else arguments.problem
-        console.say(f"helgrothy: not done in {arguments.most:g} seconds: {name} wasn't read by then")
+        console.say(f"helgrothy: not done in {arguments.most:g} seconds: {_name(arguments)} wasn't read by then")
         return NOT_DONE
     is_beside = arguments.folder is None
     path = f"{arguments.problem}.search" if is_beside else arguments.folder
@@ -122,11 +121,11 @@ def _search(arguments: argparse.Namespace) -> int:
 def _read_job(arguments: argparse.Namespace) -> Job:
     """What is to be searched. Raises `ProgramFailed` for a text with a fault, before there is a folder."""
     problem = console.read(arguments.problem)
-    job = Job(problem, _kind(arguments, problem), arguments.list)
-    # The first step tells of a fault.
-    first = run(Task(job.kind, listed=False, problem=problem, start="-", until="-", steps=1, most=0))
-    records.of_text(first.text, WHOLE, listed=False)
-    return job
+    kind = _kind(arguments, problem)
+    # The first step tells of a fault, and the problem's digest.
+    first = run(Task(kind, listed=False, problem=problem, start="-", until="-", steps=1, most=0))
+    digest = records.of_text(first.text, WHOLE, listed=False).digest
+    return Job(problem, kind, arguments.list, digest, _name(arguments))
 
 
 class _Searching:
@@ -385,6 +384,11 @@ def _jobs(word: str) -> int:
     if not word.isascii() or not word.isdigit() or len(word) > 20 or not 1 <= int(word) <= MOST_JOBS:
         raise argparse.ArgumentTypeError(f"{word}: it has to be a number from 1 to {MOST_JOBS}")
     return int(word)
+
+
+def _name(arguments: argparse.Namespace) -> str:
+    """What messages call the problem."""
+    return "standard input" if arguments.problem == "-" else str(arguments.problem)
 
 
 def _kind(arguments: argparse.Namespace, problem: bytes) -> int:

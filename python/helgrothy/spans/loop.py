@@ -71,11 +71,16 @@ class Progress(NamedTuple):
 
 
 class Job(NamedTuple):
-    """What is searched: a problem's text, the program for it, and whether the solutions are listed."""
+    """What is searched: a problem's text, the program for it, and whether the solutions are listed.
+
+    digest: the problem's, as records have it; empty where no program has told it yet. name: what messages call it.
+    """
 
     problem: bytes
     kind: int
     listed: bool
+    digest: str = ""
+    name: str = "the problem"
 
 
 class _Todo(NamedTuple):
@@ -122,6 +127,7 @@ class Loop:
         self._tell = tell
         self._ahead = ahead
         self._pace = Pace(MOST_TEXT if job.listed else 0, longest)
+        self._digest = job.digest
         self._ready: list[tuple[tuple[int, ...], int, _Todo]] = []
         self._number = itertools.count()
         self._came: queue.SimpleQueue[tuple[int, Outcome] | None] = queue.SimpleQueue()
@@ -237,7 +243,8 @@ class Loop:
 
     def _take_text(self, todo: _Todo, ran: Ran) -> None:
         span = todo.span
-        record = records.of_text(ran.text, span, self._job.listed)
+        record = records.of_text(ran.text, span, self._job.listed, self._digest)
+        self._digest = record.digest
         self._pace.took(record.steps, ran.seconds, len(ran.text))
         if not record.branches:
             self._done(Kept(span, ran.text, record.solutions, ran.seconds))
