@@ -16,7 +16,7 @@ os.environ["PYTHONDONTWRITEBYTECODE"] = "1"
 
 from helgrothy.make import langford, queens  # noqa: E402
 from helgrothy.spans.folder import Look  # noqa: E402, F401
-from problems import narrow, problem_of  # noqa: E402
+from problems import digest_of, narrow, problem_of  # noqa: E402, F401
 
 NOT_DONE, CANT, STOPPED = 6, 2, (129, 130, 131, 143, -1, -2, -3, -9, -15)
 # A command that doesn't end in so many seconds never ends, whatever else the machine does; a program whose command was ended
