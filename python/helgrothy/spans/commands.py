@@ -38,24 +38,9 @@ _SEARCH = "helgrothy search"
 _BAD_PROBLEM = 2
 
 
-def main(words: Sequence[str]) -> int:
-    """Does what words say of which the first is one of these commands, and gives its status."""
-    return console.run("helgrothy", lambda: _act(words), unread=0)
-
-
-def _act(words: Sequence[str]) -> int:
-    parser = console.Parser(prog="helgrothy")
-    # The other commands' parsers take as long as this one's.
-    _ADDS[words[0]](parser.add_subparsers(metavar="COMMAND", required=True))
-    arguments = parser.parse_args(words)
-    status: int = arguments.command(arguments)
-    return status
-
-
-def add(commands: Any) -> None:
-    """The commands, for the parser of `helgrothy`."""
-    for add_one in _ADDS.values():
-        add_one(commands)
+def add(commands: Any, name: str) -> None:
+    """The command of this name, for the parser of `helgrothy`."""
+    _ADDS[name](commands)
 
 
 # ---- search
@@ -340,8 +325,6 @@ _ADDS: dict[str, Callable[[Any], None]] = {
     "result": _add_result,
     "rows": _add_rows,
 }
-# The commands that `add` adds.
-NAMES = tuple(_ADDS)
 
 
 # ---- dlx-progress
